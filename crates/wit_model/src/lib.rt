@@ -1,0 +1,24 @@
+//! The tables of a resolved WIT world, and the containers that contracts see as plain data.
+#![tactic(auto)]
+
+mod boxed;
+mod function;
+mod list;
+mod memory;
+mod name;
+mod resolve;
+mod size;
+mod text;
+mod types;
+mod world;
+
+pub use boxed::Boxed;
+pub use function::{Function, FunctionKind, Param};
+pub use list::List;
+pub use memory::OutOfMemory;
+pub use name::{Docs, InterfaceId, Name, PackageId, TypeId, WorldId};
+pub use resolve::{Resolve, Rule, Table, WorldFault};
+pub use size::{Alignment, ArchitectureSize, WasmType};
+pub use text::Text;
+pub use types::{Case, Field, Handle, Member, TypeDef, TypeDefKind, TypeOwner, WitType};
+pub use world::{Interface, Package, World, WorldItem, WorldKey};
