@@ -2,6 +2,7 @@
 #![tactic(auto)]
 
 mod boxed;
+mod distinct;
 mod function;
 mod list;
 mod memory;
@@ -13,6 +14,7 @@ mod types;
 mod world;
 
 pub use boxed::Boxed;
+pub use distinct::are_distinct;
 pub use function::{Function, FunctionKind, Param};
 pub use list::List;
 pub use memory::OutOfMemory;

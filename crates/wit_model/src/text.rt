@@ -1,7 +1,8 @@
-ghost use Rattle.std.specs.Prelude.{◌≡◌, [], ◌++◌, length, IfOk, OnOk, OnErr};
+ghost use Rattle.std.specs.Prelude.{◌≡◌, [], ◌++◌, length, IfOk, OnOk, OnErr, decimal};
 
 use crate::memory::OutOfMemory;
 use std::alloc::Global;
+use std::fmt::Write;
 use std::marker::Model;
 
 /// A text that contracts see as its bytes, in UTF-8.
@@ -65,6 +66,16 @@ impl Text {
     {
         self.inner.push_str(s)?;
         Ok(())
+    }
+
+    /// Puts a number behind this text, in decimal. After a refusal the text is given up.
+    pub fn push_number(&mut self, n: u64) -> Result<(), OutOfMemory>
+        ensures { OnOk result (self.new ≡ self.old ++ decimal n) }
+    {
+        match write!(self.inner, "{n}") {
+            Ok(()) => Ok(()),
+            Err(_) => Err(OutOfMemory),
+        }
     }
 }
 
