@@ -19,10 +19,10 @@ pub record Tree : Type 0 where
 abbrev pub tree_code : Coded Tree
 tree_code =
     code_by (List Bytes × (List Item × List FuncPlace))
-      (coded× (coded_list (coded_list coded_ℕ)) (coded× (coded_list item.the_row.coded) (coded_list place.the_row.coded)))
-      (λ t. (t.options, (t.items, t.places)))
-      (λ p. record { options = p.0; items = p.1.0; places = p.1.1 })
-      (λ _. refl)
+    (coded× (coded_list (coded_list coded_ℕ)) (coded× (coded_list item.the_row.coded) (coded_list place.the_row.coded)))
+    (λ t. (t.options, (t.items, t.places)))
+    (λ p. record { options = p.0; items = p.1.0; places = p.1.1 })
+    (λ _. refl)
 
 -- how many numbers an item takes: its own, and those of the items in it
 abbrev pub item_count : Item → ℕ

@@ -2,7 +2,8 @@ ghost use Rattle.std.specs.Prelude.{◌≡◌, IfOk, length};
 ghost use Rattle.rust_tree.specs.Tree.{wrappers_of, wrapper_count};
 
 use crate::item::Item;
-use crate::place::{FuncPlace, ItemId, WrapperInfo};
+use crate::place::{FuncPlace, WrapperInfo};
+use crate::wrappers::wrappers_of;
 use std::alloc::Global;
 use std::marker::Model;
 use wit_model::{List, OutOfMemory, Text};
@@ -30,6 +31,27 @@ impl Model for Bindings {
 }
 
 impl Bindings {
+    /// The tree with these preamble lines and these root items, whose wrappers wrap the functions at these places, in
+    /// the order of the text. There is no memory also where the items' numbers would pass a `u32`.
+    pub fn new(
+        alloc: Global,
+        options: List<Text>,
+        items: List<Item>,
+        places: List<FuncPlace>,
+    ) -> Result<Bindings, OutOfMemory>
+        requires { length places ≡ wrapper_count items }
+        ensures { IfOk result
+            (λ t. t ≡ record { options = options; items = items; places = places }) }
+    {
+        let wrappers = wrappers_of(alloc, items.as_slice(), places.as_slice())?;
+        Ok(Bindings {
+            options,
+            items,
+            places,
+            wrappers,
+        })
+    }
+
     /// The root items, in the order of the text.
     pub fn items(&self) -> &[Item]
         ensures { result.now ≡ self.now.items }
