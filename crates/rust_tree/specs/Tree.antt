@@ -1,0 +1,46 @@
+-- What a bindings file is: its option lines, its root items, and the functions that its wrappers wrap.
+use Rattle.std.specs.Prelude.{ℕ, suc, ◌+◌, List, [], ◌∷◌, length, true, refl}
+use Rattle.std.specs.Coded.{Coded, code_by, coded×, coded_list, coded_ℕ}
+use Rattle.rust_tree.specs.declared.item.Item.{Item}
+use Rattle.rust_tree.specs.declared.item.Item.TheVariants.{Import, Runtime}
+use Rattle.rust_tree.specs.declared.place.FuncPlace.{FuncPlace}
+use Rattle.rust_tree.specs.declared.place.WrapperInfo.{WrapperInfo}
+use Rattle.rust_tree.specs.contracts.item.Item as item
+use Rattle.rust_tree.specs.contracts.place.FuncPlace as place
+
+abbrev pub Bytes : Type 0
+Bytes = List ℕ
+
+pub record Tree : Type 0 where
+  pub options : List Bytes
+  pub items : List Item
+  pub places : List FuncPlace
+
+abbrev pub tree_code : Coded Tree
+tree_code =
+    code_by (List Bytes × (List Item × List FuncPlace))
+    (coded× (coded_list (coded_list coded_ℕ)) (coded× (coded_list item.the_row.coded) (coded_list place.the_row.coded)))
+    (λ t. (t.options, (t.items, t.places)))
+    (λ p. record { options = p.0; items = p.1.0; places = p.1.1 })
+    (λ _. refl)
+
+-- how many numbers an item takes: its own, and those of the items in it
+abbrev pub item_count : Item → ℕ
+item_count (Import f) = 1
+item_count (Runtime items) = suc (length items)
+
+-- the wrappers among items that are numbered from `next`, with the places of the functions that they wrap
+abbrev pub wrappers_from : ℕ → List Item → List FuncPlace → List WrapperInfo
+wrappers_from next [] places = []
+wrappers_from next (Import f ∷ items) [] = []
+wrappers_from next (Import f ∷ items) (p ∷ places) = record { item = record { 0 = next }; place = p; import = true } ∷ wrappers_from (next + 1) items places
+wrappers_from next (Runtime parts ∷ items) places = wrappers_from (next + suc (length parts)) items places
+
+abbrev pub wrappers_of : Tree → List WrapperInfo
+wrappers_of t = wrappers_from 1 t.items t.places
+
+-- how many wrappers there are among items
+abbrev pub wrapper_count : List Item → ℕ
+wrapper_count [] = 0
+wrapper_count (Import f ∷ items) = suc (wrapper_count items)
+wrapper_count (Runtime parts ∷ items) = wrapper_count items

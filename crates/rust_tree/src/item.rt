@@ -1,0 +1,31 @@
+use crate::runtime_item::RuntimeItem;
+use crate::stmt::Block;
+use crate::type_expr::TypeExpr;
+use wit_model::{List, Text};
+
+/// A parameter of a function: `name: T`.
+#[derive(Debug, PartialEq, Drop)]
+pub struct FnParam {
+    pub name: Text,
+    pub ty: TypeExpr,
+}
+
+/// A public function, with its doc lines.
+#[derive(Debug, PartialEq, Drop)]
+pub struct FnItem {
+    /// The doc comment, a line each.
+    pub docs: List<Text>,
+    pub name: Text,
+    pub params: List<FnParam>,
+    pub result: TypeExpr,
+    pub body: Block,
+}
+
+/// An item of the file.
+#[derive(Debug, PartialEq, Drop)]
+pub enum Item {
+    /// The wrapper of an imported function.
+    Import(FnItem),
+    /// The module `_rt`.
+    Runtime(List<RuntimeItem>),
+}

@@ -1,0 +1,23 @@
+//! The typed tree of a bindings file, and its exact text.
+#![tactic(auto)]
+
+mod bindings;
+mod expr;
+mod ident;
+mod item;
+mod path;
+mod place;
+mod runtime_item;
+mod stmt;
+mod type_expr;
+mod wrappers;
+
+pub use bindings::Bindings;
+pub use expr::{CastType, Expr};
+pub use ident::{is_ident, to_rust_ident};
+pub use item::{FnItem, FnParam, Item};
+pub use path::Path;
+pub use place::{FuncPlace, ItemId, WrapperId, WrapperInfo};
+pub use runtime_item::RuntimeItem;
+pub use stmt::{Block, ImportDecl, Stmt};
+pub use type_expr::{Primitive, TypeExpr};

@@ -1,0 +1,35 @@
+use crate::expr::Expr;
+use wit_model::{List, Text, WasmType};
+
+/// The declaration of a core import, in its form for WebAssembly and in its form for every other target.
+#[derive(Debug, PartialEq, Drop)]
+pub struct ImportDecl {
+    /// The core import module.
+    pub module: Text,
+    /// The name of the import in that module.
+    pub link_name: Text,
+    /// The local name of the declared function.
+    pub name: Text,
+    /// The core parameters' types, in order.
+    pub params: List<WasmType>,
+    /// The core result's type, if there is one.
+    pub result: Option<WasmType>,
+}
+
+/// A statement.
+#[derive(Debug, PartialEq, Drop)]
+pub enum Stmt {
+    /// The declaration of a core import.
+    Import(ImportDecl),
+    /// `let x = e;`
+    Let(Text, Expr),
+    /// `e;`
+    Expr(Expr),
+}
+
+/// Statements, and the expression behind them that is the block's value.
+#[derive(Debug, PartialEq, Drop)]
+pub struct Block {
+    pub stmts: List<Stmt>,
+    pub tail: Option<Expr>,
+}
