@@ -2,10 +2,14 @@
 #![tactic(auto)]
 
 mod boxed;
+mod check;
 mod function;
+mod index_range;
 mod list;
+mod lookup;
 mod memory;
 mod name;
+mod numbered;
 mod resolve;
 mod size;
 mod text;
