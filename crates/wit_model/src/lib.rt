@@ -2,11 +2,15 @@
 #![tactic(auto)]
 
 mod boxed;
+mod check;
 mod distinct;
 mod function;
+mod index_range;
 mod list;
+mod lookup;
 mod memory;
 mod name;
+mod numbered;
 mod resolve;
 mod size;
 mod text;
