@@ -2,6 +2,7 @@ ghost use Rattle.std.specs.Prelude.{◌≡◌, IfOk, map};
 ghost use Rattle.wit_model.specs.Distinct.{is_distinct};
 
 use crate::memory::OutOfMemory;
+use crate::text::Text;
 use std::alloc::Global;
 use std::collections::HashSet;
 
@@ -19,4 +20,21 @@ pub fn are_distinct(alloc: Global, texts: &[&str]) -> Result<bool, OutOfMemory>
         }
     }
     Ok(true)
+}
+
+fn as_strs(alloc: Global, texts: &[Text]) -> Result<Vec<&str>, OutOfMemory>
+    ensures { IfOk result (λ strs. map (λ s. s.now) strs.items ≡ texts.now) }
+{
+    let mut strs = Vec::new(alloc);
+    for text in texts {
+        strs.push(text.as_str())?;
+    }
+    Ok(strs)
+}
+
+/// Whether no two of these texts are equal.
+pub fn are_distinct_texts(alloc: Global, texts: &[Text]) -> Result<bool, OutOfMemory>
+    ensures { IfOk result (λ b. b ≡ is_distinct texts.now) }
+{
+    are_distinct(alloc, as_strs(alloc, texts)?.as_slice())
 }

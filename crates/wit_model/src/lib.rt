@@ -18,7 +18,7 @@ mod types;
 mod world;
 
 pub use boxed::Boxed;
-pub use distinct::are_distinct;
+pub use distinct::{are_distinct, are_distinct_texts};
 pub use function::{Function, FunctionKind, Param};
 pub use list::List;
 pub use memory::OutOfMemory;

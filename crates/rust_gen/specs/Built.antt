@@ -1,0 +1,76 @@
+-- Which tables and options hold only what the generator builds so far.
+use Rattle.std.specs.Prelude.{Bool, true, false, not, ◌&&◌, nat_le, List, [], ◌∷◌, length, Option, None, Some, is_none}
+use Rattle.std.specs.List.{list_all}
+use Rattle.wit_model.specs.declared.types.WitType.{WitType}
+use Rattle.wit_model.specs.declared.types.WitType.TheVariants as wit
+use Rattle.wit_model.specs.declared.function.Function.{Function}
+use Rattle.wit_model.specs.declared.function.FunctionKind.{FunctionKind}
+use Rattle.wit_model.specs.declared.function.FunctionKind.TheVariants as kind
+use Rattle.wit_model.specs.declared.world.WorldItem.{WorldItem}
+use Rattle.wit_model.specs.declared.world.WorldItem.TheVariants as item
+use Rattle.wit_model.specs.declared.world.World.{World}
+use Rattle.wit_model.specs.declared.resolve.Resolve.{Resolve}
+use Rattle.rust_gen.specs.declared.opts.Opts.{Opts}
+use Rattle.rust_gen.specs.declared.opts.Ownership.{Ownership}
+use Rattle.rust_gen.specs.declared.opts.Ownership.TheVariants as ownership
+
+abbrev pub is_whole_number : WitType → Bool
+is_whole_number wit.U8 = true
+is_whole_number wit.U16 = true
+is_whole_number wit.U32 = true
+is_whole_number wit.U64 = true
+is_whole_number wit.S8 = true
+is_whole_number wit.S16 = true
+is_whole_number wit.S32 = true
+is_whole_number wit.S64 = true
+is_whole_number _ = false
+
+-- no result, or a whole number
+abbrev pub is_built_result : Option WitType → Bool
+is_built_result None = true
+is_built_result (Some ty) = is_whole_number ty
+
+abbrev pub is_freestanding : FunctionKind → Bool
+is_freestanding kind.Freestanding = true
+is_freestanding _ = false
+
+-- sixteen core values are passed one by one
+abbrev pub is_built_function : Function → Bool
+is_built_function f =
+    is_freestanding f.kind && nat_le (length f.params) 16 && list_all (λ p. is_whole_number p.ty) f.params && is_built_result f.result
+
+abbrev pub is_built_import : WorldItem → Bool
+is_built_import (item.Function f) = is_built_function f
+is_built_import _ = false
+
+abbrev pub is_empty : {A : Type 0} → List A → Bool
+is_empty [] = true
+is_empty (_ ∷ _) = false
+
+unfoldable pub is_built_world : World → Bool
+is_built_world world = list_all (λ entry. is_built_import entry.1) world.imports && is_empty world.exports
+
+unfoldable pub are_built_tables : Resolve → Bool
+are_built_tables r = is_empty r.interfaces && is_empty r.types && list_all is_built_world r.worlds
+
+abbrev pub is_owning : Ownership → Bool
+is_owning ownership.Owning = true
+is_owning (ownership.Borrowing _) = false
+
+abbrev pub are_flags_off : Opts → Bool
+are_flags_off o =
+    not o.std_feature && not o.raw_strings && not o.stubs && not o.generate_all && not o.pub_export_macro && not o.generate_unused_types
+
+abbrev pub are_lists_empty : Opts → Bool
+are_lists_empty o =
+    is_empty o.skip && is_empty o.additional_derive_ignore && is_empty o.additional_derive_attributes && is_empty o.additional_type_attributes
+    && is_empty o.additional_member_attributes && is_empty o.with && is_empty o.chainable_methods
+
+abbrev pub are_values_absent : Opts → Bool
+are_values_absent o =
+    is_none o.export_prefix && is_none o.runtime_path && is_none o.map_type && is_none o.bitflags_path && is_none o.default_bindings_module
+    && is_none o.export_macro_name && is_none o.merge_structurally_equal_types
+
+-- every option is at its default
+unfoldable pub are_built_options : Opts → Bool
+are_built_options o = are_flags_off o && are_lists_empty o && are_values_absent o && is_owning o.ownership

@@ -1,0 +1,42 @@
+-- Why `generate` makes no file: the first cause, if there is one.
+use Rattle.std.specs.Prelude.{◌≡◌, ℕ, Bool, ◌&&◌, List, Option, None, Some, Result, Ok, Err, slice_get, if◌then◌else◌, ⊤}
+use Rattle.std.specs.List.{list_all}
+use Rattle.std.specs.Option.{option_map, option_or}
+use Rattle.wit_model.specs.declared.name.WorldId.{WorldId}
+use Rattle.wit_model.specs.declared.resolve.Resolve.{Resolve}
+use Rattle.wit_model.specs.declared.resolve.Rule.{Rule}
+use Rattle.wit_model.specs.declared.resolve.Rule.TheVariants.{IndexRange}
+use Rattle.wit_model.specs.declared.resolve.Table.TheVariants as table
+use Rattle.wit_model.specs.declared.world.World.{World}
+use Rattle.wit_model.specs.IndexRange.{Place}
+use Rattle.wit_model.specs.WellFormed.{first_fault}
+use Rattle.rust_gen.specs.declared.error.GenError.{GenError}
+use Rattle.rust_gen.specs.declared.error.GenError.TheVariants.{InvalidWorld, Unsupported, OutOfMemory}
+use Rattle.rust_gen.specs.declared.error.Lack.TheVariants.{Unbuilt}
+use Rattle.rust_gen.specs.declared.opts.Opts.{Opts}
+use Rattle.rust_gen.specs.Built.{are_built_tables, are_built_options}
+use Rattle.rust_gen.specs.DeclaredNames.{declares_well, has_distinct_names}
+use Rattle.rust_gen.specs.NameText.{are_written_tables}
+
+abbrev pub invalid : Rule × Place → GenError
+invalid f = InvalidWorld f.0 f.1.0 f.1.1
+
+-- all is built, and the finished generator would refuse nothing
+unfoldable pub is_accepted : Opts → Resolve → World → Bool
+is_accepted opts r world =
+    are_built_tables r && are_built_options opts && are_written_tables r && list_all has_distinct_names r.worlds && declares_well world
+
+-- the cause that lies in the world, which is that of the id, if the id names one
+abbrev pub world_cause : Opts → Resolve → WorldId → Option World → Option GenError
+world_cause opts r id None = Some (InvalidWorld IndexRange table.World id.0)
+world_cause opts r id (Some world) = if is_accepted opts r world then None else Some (Unsupported Unbuilt world.name.wit)
+
+-- first the tables' own faults, and then those of the world
+unfoldable pub cause : Opts → Resolve → WorldId → Option GenError
+cause opts r id = option_or (option_map invalid (first_fault r)) (world_cause opts r id (slice_get r.worlds id.0))
+
+-- an answer is given only where there is no cause, and a refusal only for its cause; want of memory is free
+abbrev pub IsAnswer : {T : Type 0} → Result T GenError → Option GenError → Type 0
+IsAnswer (Ok _) c = c ≡ None
+IsAnswer (Err OutOfMemory) c = ⊤
+IsAnswer (Err e) c = c ≡ Some e

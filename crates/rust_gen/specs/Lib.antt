@@ -1,0 +1,11 @@
+pub mod Bound
+pub mod Body
+pub mod Built
+pub mod Cause
+pub mod DeclaredNames
+pub mod Docs
+pub mod Emitted
+pub mod NameText
+pub mod Printed
+pub mod Runtime
+pub mod Wrapper

@@ -1,0 +1,42 @@
+-- How a WIT type is printed, and which core types it flattens to. So far this covers what is one core value; every other
+-- type is refused before it is printed.
+use Rattle.std.specs.Prelude.{List, [], ◌∷◌, Option, None, Some}
+use Rattle.wit_model.specs.declared.types.WitType.{WitType}
+use Rattle.wit_model.specs.declared.types.WitType.TheVariants as wit
+use Rattle.wit_model.specs.declared.size.WasmType.{WasmType}
+use Rattle.wit_model.specs.declared.size.WasmType.TheVariants as core
+use Rattle.rust_tree.specs.declared.type_expr.Primitive.TheVariants as prim
+use Rattle.rust_tree.specs.declared.type_expr.TypeExpr.{TypeExpr}
+use Rattle.rust_tree.specs.declared.type_expr.TypeExpr.TheVariants as type
+
+abbrev pub printed_type : WitType → TypeExpr
+printed_type wit.Bool = type.Primitive prim.Bool
+printed_type wit.U8 = type.Primitive prim.U8
+printed_type wit.U16 = type.Primitive prim.U16
+printed_type wit.U32 = type.Primitive prim.U32
+printed_type wit.U64 = type.Primitive prim.U64
+printed_type wit.S8 = type.Primitive prim.I8
+printed_type wit.S16 = type.Primitive prim.I16
+printed_type wit.S32 = type.Primitive prim.I32
+printed_type wit.S64 = type.Primitive prim.I64
+printed_type wit.F32 = type.Primitive prim.F32
+printed_type wit.F64 = type.Primitive prim.F64
+printed_type wit.Char = type.Primitive prim.Char
+printed_type _ = type.Unit
+
+-- a function without a result answers `()`
+abbrev pub printed_result : Option WitType → TypeExpr
+printed_result None = type.Unit
+printed_result (Some ty) = printed_type ty
+
+-- the core type of a value that is one core value
+abbrev pub core_type : WitType → WasmType
+core_type wit.U64 = core.I64
+core_type wit.S64 = core.I64
+core_type wit.F32 = core.F32
+core_type wit.F64 = core.F64
+core_type _ = core.I32
+
+abbrev pub core_result : Option WitType → Option WasmType
+core_result None = None
+core_result (Some ty) = Some (core_type ty)

@@ -1,0 +1,41 @@
+-- Which items the module `_rt` holds: each that a wrapper asks for, once, in the order in which they are first asked for.
+use Rattle.std.specs.Prelude.{Bool, true, false, List, [], ◌∷◌, ◌++◌, if◌then◌else◌, fold, map}
+use Rattle.std.specs.List.{list_any, flat_map}
+use Rattle.wit_model.specs.declared.types.WitType.{WitType}
+use Rattle.wit_model.specs.declared.types.WitType.TheVariants as wit
+use Rattle.wit_model.specs.declared.function.Function.{Function}
+use Rattle.rust_tree.specs.declared.item.Item.{Item}
+use Rattle.rust_tree.specs.declared.item.Item.TheVariants as item
+use Rattle.rust_tree.specs.declared.runtime_item.RuntimeItem.{RuntimeItem}
+use Rattle.rust_tree.specs.declared.runtime_item.RuntimeItem.TheVariants.{AsI32, AsI64, AsF32, AsF64}
+
+abbrev pub is_same_item : RuntimeItem → RuntimeItem → Bool
+is_same_item AsI32 AsI32 = true
+is_same_item AsI64 AsI64 = true
+is_same_item AsF32 AsF32 = true
+is_same_item AsF64 AsF64 = true
+is_same_item _ _ = false
+
+-- the item that makes a value of this type a core value
+abbrev pub lowering_item : WitType → RuntimeItem
+lowering_item wit.U64 = AsI64
+lowering_item wit.S64 = AsI64
+lowering_item wit.F32 = AsF32
+lowering_item wit.F64 = AsF64
+lowering_item _ = AsI32
+
+-- the items, and one more that is asked for
+abbrev pub with_asked : List RuntimeItem → RuntimeItem → List RuntimeItem
+with_asked items asked = if list_any (λ i. is_same_item i asked) items then items else items ++ asked ∷ []
+
+-- what the wrappers of these functions ask for: each parameter is made a core value
+abbrev pub asked_items : List Function → List RuntimeItem
+asked_items functions = flat_map (λ f. map (λ p. lowering_item p.ty) f.params) functions
+
+abbrev pub runtime_items : List Function → List RuntimeItem
+runtime_items functions = fold with_asked [] (asked_items functions)
+
+-- the module stands where an item is asked for
+abbrev pub runtime_module : List RuntimeItem → List Item
+runtime_module [] = []
+runtime_module (i ∷ items) = item.Runtime (i ∷ items) ∷ []

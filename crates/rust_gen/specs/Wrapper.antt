@@ -1,0 +1,36 @@
+-- How the wrapper of an imported function looks from outside: its signature, and the one core import that it declares.
+use Rattle.std.specs.Prelude.{◌≡◌, ℕ, List, [], ◌∷◌, codes, map}
+use Rattle.wit_model.specs.declared.function.Function.{Function}
+use Rattle.wit_model.specs.declared.function.Param.{Param}
+use Rattle.rust_tree.specs.declared.item.FnItem.{FnItem}
+use Rattle.rust_tree.specs.declared.item.FnParam.{FnParam}
+use Rattle.rust_tree.specs.declared.stmt.ImportDecl.{ImportDecl}
+use Rattle.rust_tree.specs.declared.stmt.Stmt.{Stmt}
+use Rattle.rust_tree.specs.declared.stmt.Stmt.TheVariants as stmt
+use Rattle.rust_tree.specs.Ident.{rust_ident}
+use Rattle.rust_gen.specs.Docs.{doc_lines}
+use Rattle.rust_gen.specs.Printed.{printed_type, printed_result, core_type, core_result}
+
+abbrev pub printed_param : Param → FnParam
+printed_param p = record { name = rust_ident p.name; ty = printed_type p.ty }
+
+-- the core imports that statements declare
+abbrev pub declared : List Stmt → List ImportDecl
+declared [] = []
+declared (stmt.Import decl ∷ stmts) = decl ∷ declared stmts
+declared (stmt.Let _ _ ∷ stmts) = declared stmts
+declared (stmt.Expr _ ∷ stmts) = declared stmts
+
+-- a declaration of the core import of a function of the world
+pub record Declares (f : Function) (decl : ImportDecl) : Type 0 where
+  pub of_root : decl.module ≡ codes "$root"
+  pub of_name : decl.link_name ≡ f.name.wit
+  pub params : decl.params ≡ map (λ p. core_type p.ty) f.params
+  pub answer : decl.result ≡ core_result f.result
+
+pub record Wraps (f : Function) (item : FnItem) : Type 0 where
+  pub docs : item.docs ≡ doc_lines f.docs
+  pub name : item.name ≡ rust_ident f.name
+  pub params : item.params ≡ map printed_param f.params
+  pub answer : item.result ≡ printed_result f.result
+  pub declares : (decl : ImportDecl) × (declared item.body.stmts ≡ decl ∷ []) × Declares f decl

@@ -1,0 +1,150 @@
+//! Which tables and options hold only what the generator builds so far.
+
+ghost use Rattle.std.specs.Prelude.{◌≡◌};
+ghost use Rattle.std.specs.List.{list_all};
+ghost use Rattle.rust_gen.specs.Built.{is_whole_number, is_built_result, is_freestanding, is_built_function, is_built_import, is_empty, is_built_world, are_built_tables, are_flags_off, are_lists_empty, are_values_absent, is_owning, are_built_options};
+
+use crate::opts::{Opts, Ownership};
+use wit_model::{Function, FunctionKind, List, Param, Resolve, WitType, World, WorldItem, WorldKey};
+
+fn is_whole_number(ty: WitType) -> bool
+    ensures { result ≡ is_whole_number ty }
+{
+    matches!(
+        ty,
+        WitType::U8
+            | WitType::U16
+            | WitType::U32
+            | WitType::U64
+            | WitType::S8
+            | WitType::S16
+            | WitType::S32
+            | WitType::S64
+    )
+}
+
+fn is_built_result(answer: &Option<WitType>) -> bool
+    ensures { result ≡ is_built_result answer.now }
+{
+    match answer {
+        None => true,
+        Some(ty) => is_whole_number(*ty),
+    }
+}
+
+fn is_freestanding(kind: FunctionKind) -> bool
+    ensures { result ≡ is_freestanding kind }
+{
+    matches!(kind, FunctionKind::Freestanding)
+}
+
+fn are_whole_numbers(params: &[Param]) -> bool
+    ensures { result ≡ list_all (λ p. is_whole_number p.ty) params.now }
+{
+    params.iter().all(|p| is_whole_number(p.ty))
+}
+
+fn is_built_function(f: &Function) -> bool
+    ensures { result ≡ is_built_function f.now }
+{
+    is_freestanding(f.kind)
+        && f.params.len() <= 16
+        && are_whole_numbers(f.params.as_slice())
+        && is_built_result(&f.result)
+}
+
+fn is_built_import(item: &WorldItem) -> bool
+    ensures { result ≡ is_built_import item.now }
+{
+    match item {
+        WorldItem::Function(f) => is_built_function(f),
+        _ => false,
+    }
+}
+
+fn is_empty<T>(list: &List<T>) -> bool
+    ensures { result ≡ is_empty list.now }
+{
+    match list.as_slice() {
+        [] => true,
+        _ => false,
+    }
+}
+
+fn are_built_imports(entries: &[(WorldKey, WorldItem)]) -> bool
+    ensures { result ≡ list_all (λ entry. is_built_import entry.1) entries.now }
+{
+    entries.iter().all(|entry| is_built_import(&entry.1))
+}
+
+#[tactic(auto, unfolding(crate::specs::Built::is_built_world))]
+fn is_built_world(world: &World) -> bool
+    ensures { result ≡ is_built_world world.now }
+{
+    are_built_imports(world.imports.as_slice()) && is_empty(&world.exports)
+}
+
+fn are_built_worlds(worlds: &[World]) -> bool
+    ensures { result ≡ list_all is_built_world worlds.now }
+{
+    worlds.iter().all(|world| is_built_world(world))
+}
+
+/// Whether the tables hold only worlds that import functions over whole numbers.
+#[tactic(auto, unfolding(crate::specs::Built::are_built_tables))]
+pub(crate) fn are_built_tables(resolve: &Resolve) -> bool
+    ensures { result ≡ are_built_tables resolve.now }
+{
+    is_empty(&resolve.interfaces)
+        && is_empty(&resolve.types)
+        && are_built_worlds(resolve.worlds.as_slice())
+}
+
+fn is_owning(ownership: Ownership) -> bool
+    ensures { result ≡ is_owning ownership }
+{
+    matches!(ownership, Ownership::Owning)
+}
+
+fn are_flags_off(opts: &Opts) -> bool
+    ensures { result ≡ are_flags_off opts.now }
+{
+    !opts.std_feature
+        && !opts.raw_strings
+        && !opts.stubs
+        && !opts.generate_all
+        && !opts.pub_export_macro
+        && !opts.generate_unused_types
+}
+
+fn are_lists_empty(opts: &Opts) -> bool
+    ensures { result ≡ are_lists_empty opts.now }
+{
+    is_empty(&opts.skip)
+        && is_empty(&opts.additional_derive_ignore)
+        && is_empty(&opts.additional_derive_attributes)
+        && is_empty(&opts.additional_type_attributes)
+        && is_empty(&opts.additional_member_attributes)
+        && is_empty(&opts.with)
+        && is_empty(&opts.chainable_methods)
+}
+
+fn are_values_absent(opts: &Opts) -> bool
+    ensures { result ≡ are_values_absent opts.now }
+{
+    opts.export_prefix.is_none()
+        && opts.runtime_path.is_none()
+        && opts.map_type.is_none()
+        && opts.bitflags_path.is_none()
+        && opts.default_bindings_module.is_none()
+        && opts.export_macro_name.is_none()
+        && opts.merge_structurally_equal_types.is_none()
+}
+
+/// Whether every option is at its default.
+#[tactic(auto, unfolding(crate::specs::Built::are_built_options))]
+pub(crate) fn are_built_options(opts: &Opts) -> bool
+    ensures { result ≡ are_built_options opts.now }
+{
+    are_flags_off(opts) && are_lists_empty(opts) && are_values_absent(opts) && is_owning(opts.ownership)
+}

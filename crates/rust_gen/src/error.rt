@@ -1,0 +1,95 @@
+use std::fmt;
+use wit_model::{List, OutOfMemory, Rule, Table, Text, TypeId};
+
+/// What a world or the options ask for that is not supported.
+#[derive(Clone, Copy, Debug, PartialEq, Eq)]
+pub enum Lack {
+    Async,
+    Future,
+    Stream,
+    ErrorContext,
+    /// More than 128 flags.
+    Flags,
+    /// A method, a static function or a constructor among the world's exports.
+    WorldResource,
+    RemappedExport,
+    RemappedImport,
+    BorrowInFixedList,
+    BorrowInList,
+    OwningChain,
+    /// Whatever the generator does not build yet.
+    Unbuilt,
+}
+
+impl fmt::Display for Lack {
+    fn fmt<W: fmt::Write>(&self, f: &mut fmt::Formatter<W>) -> fmt::Result {
+        f.write_str(match self {
+            Lack::Async => "async",
+            Lack::Future => "future",
+            Lack::Stream => "stream",
+            Lack::ErrorContext => "error-context",
+            Lack::Flags => "flags",
+            Lack::WorldResource => "world resource",
+            Lack::RemappedExport => "remapped export",
+            Lack::RemappedImport => "remapped import",
+            Lack::BorrowInFixedList => "borrow in fixed list",
+            Lack::BorrowInList => "borrow in list",
+            Lack::OwningChain => "owning chain",
+            Lack::Unbuilt => "unbuilt",
+        })
+    }
+}
+
+/// The key of an imported interface that no option maps.
+#[derive(Debug, PartialEq, Drop)]
+pub struct MissingWith(pub Text);
+
+/// What is too large to be built: a type of the table, or the function of that full name.
+#[derive(Debug, PartialEq, Drop)]
+pub enum TooLarge {
+    Type_(TypeId),
+    Func(Text),
+}
+
+/// A name that the file declares: in a module, given by its path from the root or as `$root`, and in a scope of it, or
+/// in the module itself where the scope is empty.
+#[derive(Debug, PartialEq, Drop)]
+pub struct Entry {
+    pub module: Text,
+    pub scope: Text,
+    pub name: Text,
+}
+
+/// A declared name that an earlier one equals, or that is no identifier.
+#[derive(Debug, PartialEq, Drop)]
+pub enum Clash {
+    Twice(Entry),
+    NotIdent(Entry),
+}
+
+/// Why no file is made, in the order in which the causes are tried. Want of memory may come at any point.
+#[derive(Debug, PartialEq, Drop)]
+pub enum GenError {
+    /// The tables break a rule, first at this entry of this table.
+    InvalidWorld { rule: Rule, table: Table, index: u32 },
+    /// An option, by its field and its entry's place, is not in its written form.
+    InvalidOption { field: Text, index: u32 },
+    MissingWith(MissingWith),
+    TooLarge(TooLarge),
+    /// The function or type at this place needs what is not supported.
+    Unsupported { what: Lack, place: Text },
+    NameClash(Clash),
+    /// Keys of `with` that name nothing.
+    UnusedWith(List<Text>),
+    /// Selectors that match nothing.
+    UnusedSelector(List<Text>),
+    /// A chaining entry that applies to nothing.
+    UnusedChainable(Text),
+    OutOfMemory,
+}
+
+impl From<OutOfMemory> for GenError {
+    fn from(_error: OutOfMemory) -> GenError {
+        GenError::OutOfMemory
+    }
+}

@@ -1,0 +1,19 @@
+//! The generator: from a checked world and options to the tree of its bindings file and the file's text.
+#![tactic(auto)]
+
+mod built;
+mod core_signature;
+mod docs;
+mod emitted;
+mod error;
+mod lists;
+mod locals;
+mod name_text;
+mod names;
+mod opts;
+mod printed;
+mod runtime;
+mod wrapper;
+
+pub use error::{Clash, Entry, GenError, Lack, MissingWith, TooLarge};
+pub use opts::{ChainingMode, Opts, Ownership, WithOption};

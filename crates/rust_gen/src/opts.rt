@@ -1,0 +1,72 @@
+use std::alloc::Global;
+use wit_model::{List, Text};
+
+/// Whether printed types own what they hold or borrow it where they can.
+#[derive(Clone, Copy, Debug, PartialEq, Eq)]
+pub enum Ownership {
+    Owning,
+    Borrowing {
+        /// Whether a type that is used both ways gets two definitions.
+        duplicate_if_necessary: bool,
+    },
+}
+
+/// What stands in for an imported interface or a type of one: a path outside the file, or generated code.
+#[derive(Debug, PartialEq, Drop)]
+pub enum WithOption {
+    Path(Text),
+    Generate,
+}
+
+/// How a method without a result answers its `self`, so that calls chain.
+#[derive(Clone, Copy, Debug, PartialEq, Eq)]
+pub enum ChainingMode {
+    Owning,
+    Borrowing,
+}
+
+/// The options of the generator.
+#[derive(Debug, PartialEq, Drop)]
+pub struct Opts {
+    /// Whether the implementations of `Error` stand behind the feature `std`.
+    pub std_feature: bool,
+    /// Whether texts are vectors of bytes.
+    pub raw_strings: bool,
+    /// Whether stub implementations of the exports are printed.
+    pub stubs: bool,
+    /// Whether imported interfaces without a mapping of their own are generated.
+    pub generate_all: bool,
+    /// Whether the export macro is public.
+    pub pub_export_macro: bool,
+    /// Whether types that no function uses are printed.
+    pub generate_unused_types: bool,
+    /// The full names of functions to leave out.
+    pub skip: List<Text>,
+    /// The WIT names of types that get no additional derives.
+    pub additional_derive_ignore: List<Text>,
+    /// What stands in front of each export's name.
+    pub export_prefix: Option<Text>,
+    pub ownership: Ownership,
+    /// The path of the runtime crate: `wit_bindgen::rt` if it is not set.
+    pub runtime_path: Option<Text>,
+    /// The path of the map type: the runtime's `Map` if it is not set.
+    pub map_type: Option<Text>,
+    /// The path of the bitflags crate: the runtime's `bitflags` if it is not set.
+    pub bitflags_path: Option<Text>,
+    /// The path of the module that holds the file: `self` if it is not set.
+    pub default_bindings_module: Option<Text>,
+    /// The paths of further derives of each type.
+    pub additional_derive_attributes: List<Text>,
+    /// Selectors of types, each with an attribute for them.
+    pub additional_type_attributes: List<(Text, Text)>,
+    /// Selectors of fields, cases and members, each with an attribute for them.
+    pub additional_member_attributes: List<(Text, Text)>,
+    /// The names of interfaces and types, each with what stands in for it.
+    pub with: List<(Text, WithOption)>,
+    /// The name of the export macro: `export` if it is not set.
+    pub export_macro_name: Option<Text>,
+    /// Whether types of equal structure are one type: not if it is absent, and yes if it has no value.
+    pub merge_structurally_equal_types: Option<Option<bool>>,
+    /// The full names of methods, each with how it chains.
+    pub chainable_methods: List<(Text, ChainingMode)>,
+}
