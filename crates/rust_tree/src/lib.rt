@@ -10,6 +10,8 @@ mod place;
 mod print;
 mod runtime_item;
 mod stmt;
+#[cfg(test)]
+mod tests;
 mod type_expr;
 mod wrappers;
 

@@ -49,7 +49,7 @@ fn push_items(out: &mut Text, items: &[Item]) -> Result<(), OutOfMemory>
     Ok(())
 }
 
-/// The text of a bindings file. Every line ends with one line feed, and none is indented or empty.
+/// The exact text of a bindings file.
 pub fn text_of(alloc: Global, tree: &Bindings) -> Result<Text, OutOfMemory>
     ensures { IfOk result (λ t. t ≡ text tree.now) }
 {
