@@ -52,6 +52,13 @@ impl Bindings {
         })
     }
 
+    /// The option lines of the preamble.
+    pub fn options(&self) -> &[Text]
+        ensures { result.now ≡ self.now.options }
+    {
+        self.options.as_slice()
+    }
+
     /// The root items, in the order of the text.
     pub fn items(&self) -> &[Item]
         ensures { result.now ≡ self.now.items }

@@ -7,8 +7,11 @@ mod ident;
 mod item;
 mod path;
 mod place;
+mod print;
 mod runtime_item;
 mod stmt;
+#[cfg(test)]
+mod tests;
 mod type_expr;
 mod wrappers;
 
@@ -18,6 +21,7 @@ pub use ident::{is_ident, to_rust_ident};
 pub use item::{FnItem, FnParam, Item};
 pub use path::Path;
 pub use place::{FuncPlace, ItemId, WrapperId, WrapperInfo};
+pub use print::text_of;
 pub use runtime_item::RuntimeItem;
 pub use stmt::{Block, ImportDecl, Stmt};
 pub use type_expr::{Primitive, TypeExpr};

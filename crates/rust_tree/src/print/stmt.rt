@@ -1,0 +1,64 @@
+ghost use Rattle.std.specs.Prelude.{◌≡◌, ◌++◌, OnOk};
+ghost use Rattle.std.specs.List.{flat_map};
+ghost use Rattle.rust_tree.specs.Text.{block_text, let_text, stmt_text, tail_text};
+
+use crate::expr::Expr;
+use crate::print::core_import::{push_linked, push_unlinked};
+use crate::print::expr::push_expr;
+use crate::print::word::{Word, put};
+use crate::stmt::{Block, Stmt};
+use wit_model::{OutOfMemory, Text};
+
+fn push_let(out: &mut Text, name: &Text, e: &Expr) -> Result<(), OutOfMemory>
+    ensures { OnOk result (out.new ≡ out.old ++ let_text name.now e.now) }
+{
+    put(out, Word::Let)?;
+    out.push_str(name.as_str())?;
+    put(out, Word::Equals)?;
+    push_expr(out, e)?;
+    put(out, Word::StatementEnd)
+}
+
+fn push_stmt(out: &mut Text, stmt: &Stmt) -> Result<(), OutOfMemory>
+    ensures { OnOk result (out.new ≡ out.old ++ stmt_text stmt.now) }
+{
+    match stmt {
+        Stmt::Import(decl) => {
+            push_linked(out, decl)?;
+            push_unlinked(out, decl)
+        }
+        Stmt::Let(name, e) => push_let(out, name, e),
+        Stmt::Expr(e) => {
+            push_expr(out, e)?;
+            put(out, Word::StatementEnd)
+        }
+    }
+}
+
+fn push_stmts(out: &mut Text, stmts: &[Stmt]) -> Result<(), OutOfMemory>
+    ensures { OnOk result (out.new ≡ out.old ++ flat_map stmt_text stmts.now) }
+{
+    for stmt in stmts {
+        push_stmt(out, stmt)?;
+    }
+    Ok(())
+}
+
+fn push_tail(out: &mut Text, tail: &Option<Expr>) -> Result<(), OutOfMemory>
+    ensures { OnOk result (out.new ≡ out.old ++ tail_text tail.now) }
+{
+    match tail {
+        None => Ok(()),
+        Some(e) => {
+            push_expr(out, e)?;
+            put(out, Word::LineEnd)
+        }
+    }
+}
+
+pub(crate) fn push_block(out: &mut Text, block: &Block) -> Result<(), OutOfMemory>
+    ensures { OnOk result (out.new ≡ out.old ++ block_text block.now) }
+{
+    push_stmts(out, block.stmts.as_slice())?;
+    push_tail(out, &block.tail)
+}
