@@ -33,3 +33,6 @@ impl Resolve {
         }
     }
 }
+
+#[cfg(test)]
+mod tests;
