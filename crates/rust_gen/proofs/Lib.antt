@@ -1,1 +1,2 @@
 pub mod EmittedLemmas
+pub mod TreeLemmas

@@ -13,6 +13,7 @@ mod names;
 mod opts;
 mod printed;
 mod runtime;
+mod tree;
 mod wrapper;
 
 pub use error::{Clash, Entry, GenError, Lack, MissingWith, TooLarge};

@@ -1,16 +1,14 @@
 //! The tree of a world's file.
 
-ghost use Rattle.std.specs.Prelude.{◌≡◌, ◌++◌, List, IfOk, map};
+ghost use Rattle.std.specs.Prelude.{◌≡◌, ◌++◌, List, IfOk, OnOk, map};
 ghost use Rattle.std.specs.List.{AllZip};
 ghost use Rattle.rust_tree.specs.declared.item.FnItem.{FnItem};
 ghost use Rattle.rust_tree.specs.declared.item.Item.TheVariants as item;
 ghost use Rattle.rust_gen.specs.Body.{IsWritten};
-ghost use Rattle.rust_gen.specs.Bound.{Binds, HasWrappers};
-ghost use Rattle.rust_gen.specs.Emitted.{emitted_functions};
+ghost use Rattle.rust_gen.specs.Bound.{Binds};
 ghost use Rattle.rust_gen.specs.Runtime.{runtime_items, runtime_module};
 
 use crate::emitted::{functions_in, places_in};
-use crate::lists::one;
 use crate::runtime::runtime_items;
 use crate::wrapper::import_wrapper;
 use rust_tree::{Bindings, Item};
@@ -34,8 +32,20 @@ fn push_runtime(alloc: Global, items: &mut List<Item>, functions: &[&Function]) 
         (items.new ≡ items.old ++ runtime_module (runtime_items (map (λ f. f.now) functions.now))) }
 {
     let asked = runtime_items(alloc, functions)?;
-    match asked.as_slice() {
-        [] => Ok(()),
-        _ => items.push(Item::Runtime(asked)),
+    if asked.is_empty() {
+        return Ok(());
     }
+    items.push(Item::Runtime(asked))
+}
+
+/// The tree of a world that imports functions over whole numbers, with the options at their defaults.
+pub(crate) fn bindings_of(alloc: Global, world: &World) -> Result<Bindings, OutOfMemory>
+    ensures { IfOk result (Binds IsWritten world.now) }
+{
+    let functions = functions_in(alloc, world.imports.as_slice())?;
+    let mut items = import_items(alloc, functions.as_slice())?;
+    push_runtime(alloc, &mut items, functions.as_slice())?;
+    let places = places_in(alloc, world.imports.as_slice())?;
+    let tree = Bindings::new(alloc, List::new(alloc), items, places)?;
+    Ok(tree)
 }

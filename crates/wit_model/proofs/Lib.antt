@@ -1,2 +1,1 @@
 pub mod DistinctLemmas
-pub mod InRange
