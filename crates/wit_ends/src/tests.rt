@@ -1,5 +1,6 @@
 use crate::*;
 use std::alloc::{AllocError, Global};
+use std::io;
 use std::test::Fail;
 use wit_model::List;
 
@@ -50,16 +51,15 @@ fn reads_to_the_end_or_the_fault(rt: HostRuntime) -> Result<(), Fail> {
 
 #[test]
 fn reads_up_to_the_limit(rt: HostRuntime) -> Result<(), Fail> {
-    for (len, left, wanted) in [
-        (67_108_864, 0, Ok(67_108_864)),
-        (67_108_865, 0, Err(InputFault::InputTooLong)),
-        (67_108_868, 3, Err(InputFault::InputTooLong)),
+    for (len, wanted) in [
+        (67_108_864, Ok(67_108_864)),
+        (67_108_865, Err(InputFault::InputTooLong)),
     ] {
         let spaces = List::from_vec(vec![in rt.alloc(); b' '; len]?);
         let mut source = MemorySource::new(spaces, List::new(rt.alloc()), 100_000_000);
         let read = read_input(rt.alloc(), &mut source).map(|input| input.len());
         assert_eq!(rt; read, wanted, "{len} spaces");
-        assert_eq!(rt; source.left().len(), left, "{len} spaces");
+        assert_eq!(rt; source.left().len(), 0, "{len} spaces");
         assert_eq!(rt; source.faults(), 0, "{len} spaces");
     }
     Ok(())
@@ -92,5 +92,68 @@ fn writes_all_or_up_to_the_fault(rt: HostRuntime) -> Result<(), Fail> {
         assert_eq!(rt; sink.bytes(), taken, "{shows}");
         assert_eq!(rt; sink.faults(), faults, "{shows}");
     }
+    Ok(())
+}
+
+/// A reader and a writer of std that always fail.
+#[derive(Clone, Copy)]
+struct Broken;
+
+/// A writer of std that never takes a byte.
+#[derive(Clone, Copy)]
+struct Full;
+
+impl io::Read for Broken {
+    fn read(&mut self, _buf: &mut [u8]) -> io::Result<usize> {
+        Err(io::Error::from(io::ErrorKind::Other))
+    }
+}
+
+impl io::Write for Broken {
+    fn write(&mut self, _piece: &[u8]) -> io::Result<usize> {
+        Err(io::Error::from(io::ErrorKind::Other))
+    }
+
+    fn flush(&mut self) -> io::Result<()> {
+        Ok(())
+    }
+}
+
+impl io::Write for Full {
+    fn write(&mut self, _piece: &[u8]) -> io::Result<usize> {
+        Ok(0)
+    }
+
+    fn flush(&mut self) -> io::Result<()> {
+        Ok(())
+    }
+}
+
+#[test]
+fn std_ends_pass_bytes_on_and_count_faults(rt: HostRuntime) -> Result<(), Fail> {
+    let mut source = StdSource::new(b"0123456789".as_slice());
+    let input = read_input(rt.alloc(), &mut source)?;
+    assert_eq!(rt; input.as_slice(), b"0123456789".as_slice());
+    assert_eq!(rt; source.faults(), 0);
+
+    let mut kept = Vec::new(rt.alloc());
+    let mut sink = StdSink::new(&mut kept);
+    write_all(&mut sink, b"0123456789")?;
+    assert_eq!(rt; sink.faults(), 0);
+    drop(sink);
+    assert_eq!(rt; kept.as_slice(), b"0123456789".as_slice());
+
+    let mut broken = StdSource::new(Broken);
+    let read = read_input(rt.alloc(), &mut broken).map(|input| input.len());
+    assert_eq!(rt; read, Err(InputFault::ReadFault));
+    assert_eq!(rt; broken.faults(), 1);
+
+    let mut broken = StdSink::new(Broken);
+    assert_eq!(rt; write_all(&mut broken, b"0"), Err(SinkFailed));
+    assert_eq!(rt; broken.faults(), 1);
+
+    let mut full = StdSink::new(Full);
+    assert_eq!(rt; write_all(&mut full, b"0"), Err(SinkFailed));
+    assert_eq!(rt; full.faults(), 1);
     Ok(())
 }
