@@ -1,4 +1,4 @@
 pub mod Faults
 pub mod Input
-pub mod SourceState
 pub mod SinkState
+pub mod SourceState

@@ -50,7 +50,8 @@ impl From<SourceFailed> for InputFault {
     }
 }
 
-/// Reads all bytes to the end of the source. It takes no byte behind the one that shows that there are too many.
+/// Reads all bytes to the end of the source. Each turn but the last takes at least one byte, and none takes a byte
+/// behind the one that shows that there are too many. What it took is lost after a fault.
 ///
 /// `ReadFault` comes only where the source's count of faults rose in this call, and `InputTooLong` exactly where more
 /// than `INPUT_LIMIT` bytes came; `OutOfMemory` may come at any point.
