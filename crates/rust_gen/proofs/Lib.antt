@@ -1,2 +1,3 @@
 pub mod EmittedLemmas
 pub mod TreeLemmas
+pub mod WrapperLemmas

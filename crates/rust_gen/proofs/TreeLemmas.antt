@@ -12,7 +12,9 @@ use Rattle.rust_tree.specs.declared.item.FnItem.{FnItem}
 use Rattle.rust_tree.specs.declared.item.Item.{Item}
 use Rattle.rust_tree.specs.declared.item.Item.TheVariants as item
 use Rattle.rust_tree.specs.declared.runtime_item.RuntimeItem.{RuntimeItem}
+use Rattle.rust_tree.specs.declared.place.FuncPlace.{FuncPlace}
 use Rattle.rust_tree.specs.Tree.{wrapper_count}
+use Rattle.rust_gen.specs.Body.{IsWritten}
 use Rattle.rust_gen.specs.Emitted.{Entries, functions_in, places_from}
 use Rattle.rust_gen.specs.Runtime.{runtime_module}
 
@@ -40,3 +42,11 @@ length-places_from n [] = refl
 length-places_from n ((k, entry.Interface _) ∷ es) = length-places_from (n + 1) es
 length-places_from n ((k, entry.Function f) ∷ es) = ap suc (length-places_from (n + 1) es)
 length-places_from n ((k, entry.Named _) ∷ es) = length-places_from (n + 1) es
+
+-- there is a place for each wrapper
+pub places_fit : (es : Entries) (asked : List RuntimeItem) {functions : List Function} {items all : List Item} {places : List FuncPlace}
+    → functions ≡ functions_in es → (ws : List FnItem) × (items ≡ map item.Import ws) × AllZip IsWritten functions ws
+    → all ≡ items ++ runtime_module asked → places ≡ places_from 0 es → length places ≡ wrapper_count all
+places_fit es asked {functions = functions} e (ws, is, z) p q =
+    ap length q ∙ length-places_from 0 es ∙ ap length (sym e) ∙ sym (AllZip-long IsWritten functions ws z)
+    ∙ sym (wrapper_count-imports ws asked) ∙ ap (λ i. wrapper_count (i ++ runtime_module asked)) (sym is) ∙ ap wrapper_count (sym p)
