@@ -13,11 +13,12 @@ use Rattle.wit_model.specs.declared.function.Param.{Param}
 use Rattle.wit_model.specs.declared.function.Function.{Function}
 use Rattle.wit_model.specs.declared.world.WorldKey.{WorldKey}
 use Rattle.wit_model.specs.declared.world.WorldItem.{WorldItem}
+use Rattle.wit_model.specs.declared.world.WorldItem.TheVariants as item
 use Rattle.wit_model.specs.declared.world.World.{World}
 use Rattle.wit_model.specs.declared.world.Interface.{Interface}
 use Rattle.wit_model.specs.declared.resolve.Resolve.{Resolve}
 use Rattle.wit_model.specs.declared.resolve.Table.{Table}
-use Rattle.wit_model.specs.IndexRange.{first_failing, first_out_of_range, type_in_range, payload_in_range, function_in_range, interface_in_range, type_def_in_range, listed_in_range, item_in_range, key_in_range, world_in_range}
+use Rattle.wit_model.specs.IndexRange.{first_failing, first_out_of_range, type_in_range, payload_in_range, function_in_range, interface_in_range, owner_in_range, kind_in_range, type_def_in_range, listed_in_range, item_in_range, key_in_range, world_in_range}
 use Rattle.wit_model.specs.WellFormed.{first_fault}
 
 both_true : (a b : Bool) → (a && b) ≡ true → (a ≡ true) × (b ≡ true)
@@ -71,6 +72,11 @@ unfolding first_out_of_range
 world_in_range_at r k w h e =
     passes_at _ (world_in_range r) r.worlds k w (neither _ _ (neither _ _ (none_out_of_range r h)).1).1 e
 
+-- what an entry of the table of types holds
+pub owner_and_kind_in_range : (r : Resolve) (t : TypeDef) → type_def_in_range r t ≡ true → (owner_in_range r t.owner ≡ true) × (kind_in_range r t.kind ≡ true)
+unfolding type_def_in_range
+owner_and_kind_in_range r t h = both_true _ _ h
+
 -- a function that an interface holds
 pub function_in_range_at : (r : Resolve) (i : Interface) (k : ℕ) (f : Function) → interface_in_range r i ≡ true → slice_get i.functions k ≡ Some f → function_in_range r f ≡ true
 unfolding interface_in_range
@@ -86,6 +92,11 @@ pub listed_in_range_at : (r : Resolve) (ls : List (WorldKey × WorldItem)) (k : 
 unfolding listed_in_range
 listed_in_range_at r ls k l h e =
     both_true _ _ (all_at (λ (x : WorldKey × WorldItem). key_in_range r x.0 && item_in_range r x.1) ls k l h e)
+
+-- a function that a world imports or exports
+pub function_item_in_range : (r : Resolve) (f : Function) → item_in_range r (item.Function f) ≡ true → function_in_range r f ≡ true
+unfolding item_in_range
+function_item_in_range r f h = h
 
 pub param_in_range_at : (r : Resolve) (f : Function) (k : ℕ) (p : Param) → function_in_range r f ≡ true → slice_get f.params k ≡ Some p → type_in_range r p.ty ≡ true
 unfolding function_in_range
