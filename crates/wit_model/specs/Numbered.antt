@@ -1,5 +1,5 @@
 -- Whether each table, and each list in it, is so short that a `u32` numbers its entries.
-use Rattle.std.specs.Prelude.{ℕ, Bool, true, ◌&&◌, ◌^◌, nat_lt, List, length}
+use Rattle.std.specs.Prelude.{Bool, true, ◌&&◌, ◌^◌, nat_lt, List, length}
 use Rattle.std.specs.List.{list_all}
 use Rattle.wit_model.specs.declared.types.TypeDefKind.{TypeDefKind}
 use Rattle.wit_model.specs.declared.types.TypeDefKind.TheVariants as kind

@@ -1,5 +1,5 @@
 -- Which rule of well-formed tables is broken first, and by which entry.
-use Rattle.std.specs.Prelude.{◌≡◌, ℕ, false, List, [], ◌∷◌, Option, None, Some}
+use Rattle.std.specs.Prelude.{◌≡◌, false, List, [], ◌∷◌, Option, None, Some}
 use Rattle.std.specs.Option.{option_map, option_or}
 use Rattle.wit_model.specs.declared.resolve.Resolve.{Resolve}
 use Rattle.wit_model.specs.declared.resolve.Rule.{Rule}

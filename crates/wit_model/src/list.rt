@@ -88,6 +88,17 @@ impl<T: Drop> List<T> {
     }
 }
 
+impl<T: Copy> List<T> {
+    /// Puts copies of some values last, in their order. After a refusal the list is as it was.
+    pub fn extend_from_slice(&mut self, values: &[T]) -> Result<(), OutOfMemory>
+        ensures ok { OnOk result (self.new ≡ self.old ++ values.now) }
+        ensures err { OnErr result (self.new ≡ self.old) }
+    {
+        self.items.extend_from_slice(values)?;
+        Ok(())
+    }
+}
+
 impl<T: PartialEq> PartialEq for List<T> {
     ghost use Rattle.std.specs.Cmp.Lexicographic.{pointwise, lists_per};
 
@@ -97,5 +108,27 @@ impl<T: PartialEq> PartialEq for List<T> {
 
     fn eq(&self, other: &List<T>) -> bool {
         self.items == other.items
+    }
+}
+
+#[cfg(test)]
+mod tests {
+    use super::*;
+    use std::test::Fail;
+
+    #[test]
+    fn keeps_values_in_order(rt: HostRuntime) -> Result<(), Fail> {
+        let mut list = List::new(rt.alloc());
+        assert!(rt; list.is_empty());
+        list.push(3u8)?;
+        list.push(1)?;
+        list.extend_from_slice(&[4, 1])?;
+        assert_eq!(rt; list.len(), 4);
+        assert_eq!(rt; list.get(2), Some(&4));
+        assert_eq!(rt; list.get(4), None);
+        assert_eq!(rt; list.as_slice(), [3, 1, 4, 1].as_slice());
+        let same = List::from_vec(list.into_vec());
+        assert_eq!(rt; same.as_slice(), [3, 1, 4, 1].as_slice());
+        Ok(())
     }
 }

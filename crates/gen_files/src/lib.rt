@@ -1,0 +1,7 @@
+//! The generated files: names in byte order, each with its bytes.
+#![tactic(auto)]
+
+mod entries;
+mod files;
+
+pub use files::Files;
