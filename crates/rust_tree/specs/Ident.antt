@@ -18,9 +18,11 @@ escaped_words =
 abbrev pub is_escaped : Bytes → Bool
 is_escaped t = list_any (λ w. bytes_eq w t) escaped_words
 
+-- an ASCII letter, small or capital
 abbrev pub is_letter : ℕ → Bool
 is_letter c = (nat_le 97 c && nat_le c 122) || (nat_le 65 c && nat_le c 90)
 
+-- an ASCII digit
 abbrev pub is_digit : ℕ → Bool
 is_digit c = nat_le 48 c && nat_le c 57
 

@@ -7,14 +7,16 @@ use Rattle.rust_tree.specs.declared.print.word.Word.TheVariants.{LineEnd, Statem
 use Rattle.rust_tree.specs.Tree.{Bytes}
 use Rattle.rust_tree.specs.Word.{word}
 
--- the method that gives the core type
+-- the method that gives the core type `ty`
 abbrev pub conversion_method_text : Bytes → Bytes
 conversion_method_text ty = word ConversionMethod ++ ty ++ word TakesSelf ++ ty
 
+-- the function over every type with the trait
 unfoldable pub conversion_fn_text : Bytes → Bytes → Bytes
 conversion_fn_text ty upper =
     word ConversionFn ++ ty ++ word ConversionBound ++ upper ++ word ConversionParam ++ ty ++ word OpenBlock ++ word ConvertParam ++ ty ++ word CallEnd ++ word CloseBlock
 
+-- the trait, which has the core type's name in upper case
 unfoldable pub conversion_trait_text : Bytes → Bytes → Bytes
 conversion_trait_text ty upper =
     word ConversionTrait ++ upper ++ word OpenBlock ++ conversion_method_text ty ++ word StatementEnd ++ word CloseBlock

@@ -33,10 +33,12 @@ abbrev pub supers_text : ℕ → Bytes
 supers_text zero = []
 supers_text (suc n) = word Super ++ supers_text n
 
+-- `::`, or nothing
 abbrev pub lead_text : Bool → Bytes
 lead_text true = word PathMark
 lead_text false = []
 
+-- `::super::a::b`
 abbrev pub path_text : Path → Bytes
 path_text p = lead_text p.lead ++ supers_text p.supers ++ joined (word PathMark) p.names
 
@@ -91,9 +93,11 @@ expr_text = fold-Expr Bytes expr_step
 
 -- statements
 
+-- `_: T, `
 abbrev pub core_param_text : WasmType → Bytes
 core_param_text ty = word CoreParam ++ core_type_text ty ++ word Comma
 
+-- ` -> T`, or nothing
 abbrev pub core_result_text : Option WasmType → Bytes
 core_result_text None = []
 core_result_text (Some ty) = word Arrow ++ core_type_text ty
@@ -111,6 +115,7 @@ linked_text d =
 abbrev pub unlinked_text : ImportDecl → Bytes
 unlinked_text d = word OtherFn ++ core_signature_text d ++ word Unreachable
 
+-- `let x = e;`
 abbrev pub let_text : Bytes → Expr → Bytes
 let_text name e = word Let ++ name ++ word Equals ++ expr_text e ++ word StatementEnd
 
@@ -119,6 +124,7 @@ stmt_text (stmt.Import d) = linked_text d ++ unlinked_text d
 stmt_text (stmt.Let name e) = let_text name e
 stmt_text (stmt.Expr e) = expr_text e ++ word StatementEnd
 
+-- the last expression, as a line of its own, or nothing
 abbrev pub tail_text : Option Expr → Bytes
 tail_text None = []
 tail_text (Some e) = expr_text e ++ word LineEnd
@@ -128,13 +134,16 @@ block_text b = flat_map stmt_text b.stmts ++ tail_text b.tail
 
 -- items and the file
 
+-- `///`, or `/// ` and the line
 abbrev pub doc_text : Bytes → Bytes
 doc_text [] = word EmptyDoc
 doc_text (c ∷ cs) = word Doc ++ (c ∷ cs) ++ word LineEnd
 
+-- `name: T`
 abbrev pub param_text : FnParam → Bytes
 param_text p = p.name ++ word Colon ++ type_text p.ty
 
+-- the attribute, the name, the parameters and the result
 abbrev pub signature_text : FnItem → Bytes
 signature_text f =
     word PublicFn ++ f.name ++ word Open ++ joined (word Comma) (map param_text f.params) ++ word Close ++ word Arrow ++ type_text f.result
@@ -143,6 +152,7 @@ abbrev pub fn_text : FnItem → Bytes
 fn_text f =
     flat_map doc_text f.docs ++ signature_text f ++ word OpenUnsafe ++ block_text f.body ++ word CloseBlock ++ word CloseBlock
 
+-- the module `_rt`
 abbrev pub runtime_text : List RuntimeItem → Bytes
 runtime_text items = word RuntimeModule ++ flat_map runtime_item_text items ++ word CloseBlock
 

@@ -1,3 +1,4 @@
+-- The text computes once the item is known.
 use Rattle.rust_tree.proofs.print.runtime.push_runtime_item.Goals as goal
 
 pub returns-in-AsI32 : goal.returns-in-AsI32
