@@ -20,12 +20,12 @@ declares t f = record { of_root = refl; of_name = refl; params = refl; answer = 
 
 pub wraps : (f : Function) (item : FnItem) → IsWritten f item → Wraps f item
 wraps f item w = record {
-    docs = ap (λ i. i.docs) w.is;
-    name = ap (λ i. i.name) w.is;
-    params = ap (λ i. i.params) w.is;
-    answer = ap (λ i. i.result) w.is;
-    declares = (import_decl w.number f, ap (λ i. declared i.body.stmts) w.is ∙ declared-import_body w.number f f.result, declares w.number f)
-  }
+  docs = ap (λ i. i.docs) w.is;
+  name = ap (λ i. i.name) w.is;
+  params = ap (λ i. i.params) w.is;
+  answer = ap (λ i. i.result) w.is;
+  declares = (import_decl w.number f, ap (λ i. declared i.body.stmts) w.is ∙ declared-import_body w.number f f.result, declares w.number f);
+}
 
 pub AllZip-map : {A B : Type 0} (R S : A → B → Type 0) → ((a : A) (b : B) → R a b → S a b) → (xs : List A) (ys : List B) → AllZip R xs ys → AllZip S xs ys
 AllZip-map R S h [] [] z = tt

@@ -88,12 +88,12 @@ lifted _ name = expr.Local name
 
 abbrev pub import_decl : ℕ → Function → ImportDecl
 import_decl t f = record {
-    «module» = root_module;
-    link_name = f.name.wit;
-    name = import_name t;
-    params = map (λ p. core_type p.ty) f.params;
-    result = core_result f.result
-  }
+  «module» = root_module;
+  link_name = f.name.wit;
+  name = import_name t;
+  params = map (λ p. core_type p.ty) f.params;
+  result = core_result f.result;
+}
 
 abbrev pub import_call : ℕ → Function → Expr
 import_call t f = expr.Call (local_path (import_name t)) (map lowered f.params)
@@ -102,18 +102,18 @@ import_call t f = expr.Call (local_path (import_name t)) (map lowered f.params)
 abbrev pub import_body : ℕ → Function → Option WitType → Block
 import_body t f None = record { stmts = stmt.Import (import_decl t f) ∷ stmt.Expr (import_call t f) ∷ []; tail = None }
 import_body t f (Some ty) = record {
-    stmts = stmt.Import (import_decl t f) ∷ stmt.Let (result_name t) (import_call t f) ∷ [];
-    tail = Some (lifted ty (result_name t))
-  }
+  stmts = stmt.Import (import_decl t f) ∷ stmt.Let (result_name t) (import_call t f) ∷ [];
+  tail = Some (lifted ty (result_name t));
+}
 
 abbrev pub written_at : ℕ → Function → FnItem
 written_at t f = record {
-    docs = doc_lines f.docs;
-    name = rust_ident f.name;
-    params = map printed_param f.params;
-    result = printed_result f.result;
-    body = import_body t f f.result
-  }
+  docs = doc_lines f.docs;
+  name = rust_ident f.name;
+  params = map printed_param f.params;
+  result = printed_result f.result;
+  body = import_body t f f.result;
+}
 
 pub record IsWritten (f : Function) (item : FnItem) : Type 0 where
   pub number : ℕ

@@ -40,3 +40,8 @@ abbrev pub IsAnswer : {T : Type 0} → Result T GenError → Option GenError →
 IsAnswer (Ok _) c = c ≡ None
 IsAnswer (Err OutOfMemory) c = ⊤
 IsAnswer (Err e) c = c ≡ Some e
+
+-- the refusal of a world that is not built
+abbrev pub IsUnbuilt : World → GenError → Type 0
+IsUnbuilt world OutOfMemory = ⊤
+IsUnbuilt world e = e ≡ Unsupported Unbuilt world.name.wit

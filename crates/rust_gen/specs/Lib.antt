@@ -3,8 +3,10 @@ pub mod Body
 pub mod Built
 pub mod Cause
 pub mod DeclaredNames
+pub mod Default
 pub mod Docs
 pub mod Emitted
+pub mod Generated
 pub mod NameText
 pub mod Printed
 pub mod Runtime

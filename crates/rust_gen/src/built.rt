@@ -5,7 +5,9 @@ ghost use Rattle.std.specs.List.{list_all};
 ghost use Rattle.rust_gen.specs.Built.{is_whole_number, is_built_result, is_freestanding, is_built_function, is_built_import, is_empty, is_built_world, are_built_tables, are_flags_off, are_lists_empty, are_values_absent, is_owning, are_built_options};
 
 use crate::opts::{Opts, Ownership};
-use wit_model::{Function, FunctionKind, List, Param, Resolve, WitType, World, WorldItem, WorldKey};
+use wit_model::{
+    Function, FunctionKind, List, Param, Resolve, WitType, World, WorldItem, WorldKey,
+};
 
 fn is_whole_number(ty: WitType) -> bool
     ensures { result ≡ is_whole_number ty }
@@ -146,5 +148,8 @@ fn are_values_absent(opts: &Opts) -> bool
 pub(crate) fn are_built_options(opts: &Opts) -> bool
     ensures { result ≡ are_built_options opts.now }
 {
-    are_flags_off(opts) && are_lists_empty(opts) && are_values_absent(opts) && is_owning(opts.ownership)
+    are_flags_off(opts)
+        && are_lists_empty(opts)
+        && are_values_absent(opts)
+        && is_owning(opts.ownership)
 }

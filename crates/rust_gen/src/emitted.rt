@@ -7,7 +7,10 @@ use rust_tree::FuncPlace;
 use std::alloc::Global;
 use wit_model::{Function, List, OutOfMemory, WorldItem, WorldKey};
 
-fn push_function<'a>(functions: &mut Vec<&'a Function>, item: &'a WorldItem) -> Result<(), OutOfMemory>
+fn push_function<'a>(
+    functions: &mut Vec<&'a Function>,
+    item: &'a WorldItem,
+) -> Result<(), OutOfMemory>
     ensures { OnOk result
         (map (λ f. f.now) functions.new.items ≡ map (λ f. f.now) functions.old.items ++ function_at item.now) }
 {
@@ -40,7 +43,10 @@ fn push_place(places: &mut List<FuncPlace>, nth: usize, item: &WorldItem) -> Res
 {
     match item {
         WorldItem::Function(_) => match u32::try_from(nth) {
-            Ok(nth) => places.push(FuncPlace { interface: None, nth }),
+            Ok(nth) => places.push(FuncPlace {
+                interface: None,
+                nth,
+            }),
             Err(_) => Err(OutOfMemory),
         },
         WorldItem::Interface(_) => Ok(()),

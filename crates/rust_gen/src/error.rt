@@ -71,13 +71,23 @@ pub enum Clash {
 #[derive(Debug, PartialEq, Drop)]
 pub enum GenError {
     /// The tables break a rule, first at this entry of this table.
-    InvalidWorld { rule: Rule, table: Table, index: u32 },
+    InvalidWorld {
+        rule: Rule,
+        table: Table,
+        index: u32,
+    },
     /// An option, by its field and its entry's place, is not in its written form.
-    InvalidOption { field: Text, index: u32 },
+    InvalidOption {
+        field: Text,
+        index: u32,
+    },
     MissingWith(MissingWith),
     TooLarge(TooLarge),
     /// The function or type at this place needs what is not supported.
-    Unsupported { what: Lack, place: Text },
+    Unsupported {
+        what: Lack,
+        place: Text,
+    },
     NameClash(Clash),
     /// Keys of `with` that name nothing.
     UnusedWith(List<Text>),
@@ -89,6 +99,11 @@ pub enum GenError {
 }
 
 impl From<OutOfMemory> for GenError {
+    ghost use Rattle.std.specs.Prelude.{◌≡◌};
+    ghost use Rattle.rust_gen.specs.declared.error.GenError.TheVariants as error;
+
+    ghost from_gives = { λ _ e. e ≡ error.OutOfMemory };
+
     fn from(_error: OutOfMemory) -> GenError {
         GenError::OutOfMemory
     }

@@ -1,11 +1,13 @@
 //! The generator: from a checked world and options to the tree of its bindings file and the file's text.
 #![tactic(auto)]
 
+mod accept;
 mod built;
 mod core_signature;
 mod docs;
 mod emitted;
 mod error;
+mod generate;
 mod lists;
 mod locals;
 mod name_text;
@@ -17,4 +19,6 @@ mod tree;
 mod wrapper;
 
 pub use error::{Clash, Entry, GenError, Lack, MissingWith, TooLarge};
+pub use gen_files::Files;
+pub use generate::RustWasm;
 pub use opts::{ChainingMode, Opts, Ownership, WithOption};

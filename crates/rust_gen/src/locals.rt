@@ -38,7 +38,12 @@ fn is_used(used: &[Text], name: &Text) -> bool
     used.iter().any(|u| u.as_str() == name.as_str())
 }
 
-fn is_free(alloc: Global, used: &[Text], answer: &Option<WitType>, t: u32) -> Result<bool, OutOfMemory>
+fn is_free(
+    alloc: Global,
+    used: &[Text],
+    answer: &Option<WitType>,
+    t: u32,
+) -> Result<bool, OutOfMemory>
     ensures { IfOk result (λ b. b ≡ is_free used.now answer.now t) }
 {
     let import = import_name(alloc, t)?;
@@ -53,7 +58,11 @@ fn is_free(alloc: Global, used: &[Text], answer: &Option<WitType>, t: u32) -> Re
 
 /// The least number at which no local of the body has a name that is used. There is no memory also where a `u32` holds
 /// no such number.
-pub(crate) fn free_number(alloc: Global, used: &[Text], answer: &Option<WitType>) -> Result<u32, OutOfMemory>
+pub(crate) fn free_number(
+    alloc: Global,
+    used: &[Text],
+    answer: &Option<WitType>,
+) -> Result<u32, OutOfMemory>
     ensures { IfOk result (λ t. IsLeastFree used.now answer.now t) }
 {
     for t in 0..u32::MAX {

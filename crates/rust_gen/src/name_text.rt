@@ -57,7 +57,8 @@ fn is_version(version: &Option<Text>) -> bool
 {
     match version {
         None => true,
-        Some(text) => is_nonempty(text.as_str().as_bytes()) && are_version_chars(text.as_str().as_bytes()),
+        Some(text) => is_nonempty(text.as_str().as_bytes())
+            && are_version_chars(text.as_str().as_bytes()),
     }
 }
 
@@ -135,5 +136,6 @@ fn are_written_worlds(worlds: &[World]) -> bool
 pub(crate) fn are_written_tables(resolve: &Resolve) -> bool
     ensures { result ≡ are_written_tables resolve.now }
 {
-    are_written_packages(resolve.packages.as_slice()) && are_written_worlds(resolve.worlds.as_slice())
+    are_written_packages(resolve.packages.as_slice())
+        && are_written_worlds(resolve.worlds.as_slice())
 }

@@ -8,7 +8,9 @@ ghost use Rattle.rust_gen.specs.DeclaredNames.{are_names, declares_well, has_dis
 use crate::emitted::functions_in;
 use rust_tree::{is_ident, to_rust_ident};
 use std::alloc::Global;
-use wit_model::{Function, List, OutOfMemory, Param, Text, World, are_distinct, are_distinct_texts};
+use wit_model::{
+    Function, List, OutOfMemory, Param, Text, World, are_distinct, are_distinct_texts,
+};
 
 fn wit_names<'a>(alloc: Global, functions: &[&'a Function]) -> Result<Vec<&'a str>, OutOfMemory>
     ensures { IfOk result

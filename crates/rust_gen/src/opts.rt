@@ -70,3 +70,37 @@ pub struct Opts {
     /// The full names of methods, each with how it chains.
     pub chainable_methods: List<(Text, ChainingMode)>,
 }
+
+impl Opts {
+    ghost use Rattle.std.specs.Prelude.{◌≡◌};
+    ghost use Rattle.rust_gen.specs.Default.{default_opts};
+
+    /// Every flag off, every list empty, every value absent, and owning types. It takes no memory.
+    pub fn default(alloc: Global) -> Opts
+        ensures { result ≡ default_opts }
+    {
+        Opts {
+            std_feature: false,
+            raw_strings: false,
+            stubs: false,
+            generate_all: false,
+            pub_export_macro: false,
+            generate_unused_types: false,
+            skip: List::new(alloc),
+            additional_derive_ignore: List::new(alloc),
+            export_prefix: None,
+            ownership: Ownership::Owning,
+            runtime_path: None,
+            map_type: None,
+            bitflags_path: None,
+            default_bindings_module: None,
+            additional_derive_attributes: List::new(alloc),
+            additional_type_attributes: List::new(alloc),
+            additional_member_attributes: List::new(alloc),
+            with: List::new(alloc),
+            export_macro_name: None,
+            merge_structurally_equal_types: None,
+            chainable_methods: List::new(alloc),
+        }
+    }
+}

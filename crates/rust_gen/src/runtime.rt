@@ -60,7 +60,10 @@ fn ask_for_params(items: &mut List<RuntimeItem>, params: &[Param]) -> Result<(),
 }
 
 /// The items that the wrappers of these functions ask for, each once, in the order in which they are first asked for.
-pub(crate) fn runtime_items(alloc: Global, functions: &[&Function]) -> Result<List<RuntimeItem>, OutOfMemory>
+pub(crate) fn runtime_items(
+    alloc: Global,
+    functions: &[&Function],
+) -> Result<List<RuntimeItem>, OutOfMemory>
     ensures { IfOk result (λ items. items ≡ runtime_items (map (λ f. f.now) functions.now)) }
 {
     let mut items = List::new(alloc);

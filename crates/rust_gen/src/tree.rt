@@ -27,7 +27,11 @@ fn import_items(alloc: Global, functions: &[&Function]) -> Result<List<Item>, Ou
     Ok(items)
 }
 
-fn push_runtime(alloc: Global, items: &mut List<Item>, functions: &[&Function]) -> Result<(), OutOfMemory>
+fn push_runtime(
+    alloc: Global,
+    items: &mut List<Item>,
+    functions: &[&Function],
+) -> Result<(), OutOfMemory>
     ensures { OnOk result
         (items.new ≡ items.old ++ runtime_module (runtime_items (map (λ f. f.now) functions.now))) }
 {

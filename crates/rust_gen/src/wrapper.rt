@@ -12,7 +12,9 @@ use crate::locals::{free_number, import_name, result_name};
 use crate::names::param_idents;
 use crate::printed::{printed_params, printed_result};
 use crate::runtime::lowering_item;
-use rust_tree::{Block, CastType, Expr, FnItem, ImportDecl, Path, RuntimeItem, Stmt, to_rust_ident};
+use rust_tree::{
+    Block, CastType, Expr, FnItem, ImportDecl, Path, RuntimeItem, Stmt, to_rust_ident,
+};
 use std::alloc::Global;
 use wit_model::{Boxed, Function, List, OutOfMemory, Param, Text, WitType};
 

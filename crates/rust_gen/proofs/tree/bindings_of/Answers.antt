@@ -11,9 +11,9 @@ pub new-requires-2 : goal.new-requires-2
 new-requires-2 c =
     let gathered = c.in_ok-functions.ensures ∙ ap functions_in c.as_slice.ensures in
     places_fit c.args.world.now.imports _
-      (ap (map (λ f. f.now)) c.as_slice-2.ensures.value ∙ gathered)
-      c.in_ok-items.ensures c.in_ok-push_runtime.ensures
-      (c.in_ok-places.ensures ∙ ap (places_from 0) c.as_slice-4.ensures)
+    (ap (map (λ f. f.now)) c.as_slice-2.ensures.value ∙ gathered)
+    c.in_ok-items.ensures c.in_ok-push_runtime.ensures
+    (c.in_ok-places.ensures ∙ ap (places_from 0) c.as_slice-4.ensures)
 
 pub returns : goal.returns
 returns c =
@@ -22,8 +22,8 @@ returns c =
     record {
       wrappers = ws;
       items = ap (λ t. t.items) c.in_ok-tree.ensures ∙ c.in_ok-push_runtime.ensures
-        ∙ ap (λ is. is ++ runtime_module (runtime_items (map (λ f. f.now) c.as_slice-3.result.now))) c.in_ok-items.ensures.1
-        ∙ ap (λ fs. map item.Import ws ++ runtime_module (runtime_items fs)) (ap (map (λ f. f.now)) c.as_slice-3.ensures.value ∙ gathered);
+          ∙ ap (λ is. is ++ runtime_module (runtime_items (map (λ f. f.now) c.as_slice-3.result.now))) c.in_ok-items.ensures.1
+          ∙ ap (λ fs. map item.Import ws ++ runtime_module (runtime_items fs)) (ap (map (λ f. f.now)) c.as_slice-3.ensures.value ∙ gathered);
       wraps = subst (λ fs. AllZip IsWritten fs ws) (ap (map (λ f. f.now)) c.as_slice-2.ensures.value ∙ gathered) c.in_ok-items.ensures.2;
       places = ap (λ t. t.places) c.in_ok-tree.ensures ∙ c.in_ok-places.ensures ∙ ap (places_from 0) c.as_slice-4.ensures;
       options = ap (λ t. t.options) c.in_ok-tree.ensures ∙ c.new.ensures;

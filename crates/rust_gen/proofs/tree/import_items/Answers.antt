@@ -8,8 +8,8 @@ use Rattle.rust_gen.proofs.tree.import_items.Goals as goal
 pub loop-function-preserved : goal.loop-function-preserved
 loop-function-preserved c =
     let before = c.loop-function.invariant.0 in
-    let w = c.in_ok-wrapper.wrapper in
-    ( before ++ w ∷ []
-    , c.in_ok-push.ensures.ok ∙ ap (λ is. is ++ item.Import w ∷ []) c.loop-function.invariant.1 ∙ sym (map-append item.Import before (w ∷ []))
-    , wraps-more IsWritten c.args.functions.now c.loop-function.function-index c.function-item.result before w (omega arith) c.function-item.is c.loop-function.invariant.2 c.in_ok-wrapper.ensures
+    let w = c.in_ok-wrapper.wrapper in (
+      before ++ w ∷ [],
+      c.in_ok-push.ensures.ok ∙ ap (λ is. is ++ item.Import w ∷ []) c.loop-function.invariant.1 ∙ sym (map-append item.Import before (w ∷ [])),
+      wraps-more IsWritten c.args.functions.now c.loop-function.function-index c.function-item.result before w (omega arith) c.function-item.is c.loop-function.invariant.2 c.in_ok-wrapper.ensures,
     )

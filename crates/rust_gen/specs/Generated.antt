@@ -1,0 +1,29 @@
+-- What a call of `generate` that makes a file leaves: the tree of the world, and its text in the file of the world's name.
+use Rattle.std.specs.Prelude.{◌≡◌, ◌≢◌, ℕ, List, [], ◌++◌, Some, codes, slice_get, unwrap_or}
+use Rattle.wit_model.specs.declared.name.WorldId.{WorldId}
+use Rattle.wit_model.specs.declared.resolve.Resolve.{Resolve}
+use Rattle.wit_model.specs.declared.world.World.{World}
+use Rattle.gen_files.specs.Entries.{Bytes, Entry, entry_of, with_pushed}
+use Rattle.rust_tree.specs.Text.{text}
+use Rattle.rust_tree.specs.Tree.{Tree}
+use Rattle.rust_gen.specs.Bound.{Binds}
+use Rattle.rust_gen.specs.Wrapper.{Wraps}
+
+unfoldable pub rust_ending : Bytes
+rust_ending = codes ".rs"
+
+-- the world's name in snake case, and `.rs`
+abbrev pub file_name : World → Bytes
+file_name world = world.name.snake ++ rust_ending
+
+-- the file of a name has gained bytes, and every other file is as it was
+pub record Gains (old new : List Entry) (name bytes : Bytes) : Type 0 where
+  pub exact : new ≡ with_pushed old name bytes
+  pub gained : entry_of new name ≡ Some (unwrap_or (entry_of old name) [] ++ bytes)
+  pub others : (other : Bytes) → other ≢ name → entry_of new other ≡ entry_of old other
+
+pub record Generates (resolve : Resolve) (id : WorldId) (old new : List Entry) (tree : Tree) : Type 0 where
+  pub world : World
+  pub named : slice_get resolve.worlds id.0 ≡ Some world
+  pub bound : Binds Wraps world tree
+  pub gains : Gains old new (file_name world) (text tree)

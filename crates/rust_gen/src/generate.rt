@@ -1,0 +1,89 @@
+ghost use Rattle.std.specs.Prelude.{◌≡◌, IfOk, OnErr};
+ghost use Rattle.rust_tree.specs.Text.{text};
+ghost use Rattle.rust_gen.specs.Body.{IsWritten};
+ghost use Rattle.rust_gen.specs.Bound.{Binds};
+ghost use Rattle.rust_gen.specs.Cause.{IsAnswer, cause};
+ghost use Rattle.rust_gen.specs.Generated.{Gains, Generates, file_name};
+
+use crate::accept::accepted_world;
+use crate::error::GenError;
+use crate::opts::Opts;
+use crate::tree::bindings_of;
+use gen_files::Files;
+use rust_tree::{Bindings, text_of};
+use std::alloc::Global;
+use std::marker::Model;
+use wit_model::{OutOfMemory, Resolve, Text, World, WorldId};
+
+/// A generator of Rust bindings, with its options.
+#[derive(Debug, Drop)]
+pub struct RustWasm {
+    alloc: Global,
+    opts: Opts,
+}
+
+impl Model for RustWasm {
+    ghost use Rattle.rust_gen.specs.declared.opts.Opts.{Opts};
+
+    ghost Value = { Opts };
+
+    ghost view = { λ g. g.opts };
+}
+
+impl Opts {
+    /// A generator with exactly these options.
+    pub fn build(self, alloc: Global) -> Result<RustWasm, OutOfMemory>
+        ensures { IfOk result (λ g. g ≡ self) }
+    {
+        Ok(RustWasm { alloc, opts: self })
+    }
+}
+
+#[tactic(auto, unfolding(crate::specs::Generated::rust_ending))]
+fn file_name(alloc: Global, world: &World) -> Result<Text, OutOfMemory>
+    ensures { IfOk result (λ name. name ≡ file_name world.now) }
+{
+    let mut name = world.name.snake.copy(alloc)?;
+    name.push_str(".rs")?;
+    Ok(name)
+}
+
+fn push_file(files: &mut Files, name: &Text, content: &Text) -> Result<(), OutOfMemory>
+    ensures ok { IfOk result (λ _. Gains files.old files.new name.now content.now) }
+    ensures err { OnErr result (files.new ≡ files.old) }
+{
+    files.push(name.as_str(), content.as_str().as_bytes())
+}
+
+fn write_file(alloc: Global, world: &World, files: &mut Files) -> Result<Bindings, OutOfMemory>
+    ensures bound { IfOk result (Binds IsWritten world.now) }
+    ensures gains { IfOk result (λ tree. Gains files.old files.new (file_name world.now) (text tree)) }
+    ensures err { OnErr result (files.new ≡ files.old) }
+{
+    let tree = bindings_of(alloc, world)?;
+    let name = file_name(alloc, world)?;
+    let content = text_of(alloc, &tree)?;
+    push_file(files, &name, &content)?;
+    Ok(tree)
+}
+
+impl RustWasm {
+    /// Makes the bindings file of a world: the text of the tree that is answered is put behind what `files` holds under
+    /// the world's name in snake case and `.rs`. After an error `files` are as they were, and the generator may be used
+    /// again.
+    pub fn generate(
+        &mut self,
+        resolve: &Resolve,
+        world: WorldId,
+        files: &mut Files,
+    ) -> Result<Bindings, GenError>
+        ensures answer { IsAnswer result (cause self.old resolve.now world) }
+        ensures ok { IfOk result (Generates resolve.now world files.old files.new) }
+        ensures err { OnErr result (files.new ≡ files.old) }
+        ensures options { self.new ≡ self.old }
+    {
+        let accepted = accepted_world(self.alloc, &self.opts, resolve, world)?;
+        let tree = write_file(self.alloc, accepted, files)?;
+        Ok(tree)
+    }
+}
