@@ -54,3 +54,20 @@ if_present read (Some d) = unless_null read d
 -- the member at a key, or nothing where it is null or absent
 unfoldable pub optional : {T : Type 0} → (Data → Option T) → List ℕ → Data → Option (Option T)
 optional read key d = if_present read (get key d)
+
+abbrev pub none_of : {T : Type 0} → Items → Option (List T)
+none_of no_items = Some []
+none_of (item d ds) = None
+
+-- the items of an array that has none
+unfoldable pub empty_of : {T : Type 0} → Data → Option (List T)
+empty_of d = option_and_then none_of (as_array d)
+
+abbrev pub sole : Members → Option (List ℕ × Data)
+sole no_members = None
+sole (member k d no_members) = Some (k, d)
+sole (member k d (member l e ms)) = None
+
+-- the key and the value of an object that has one member
+unfoldable pub sole_member : Data → Option (List ℕ × Data)
+sole_member d = option_and_then sole (as_object d)

@@ -1,5 +1,5 @@
 -- Which name is a JSON value?
-use Rattle.std.specs.Prelude.{[], ◌∷◌, codes, Option, Some, option_and_then}
+use Rattle.std.specs.Prelude.{[], ◌∷◌, codes, Option, Some}
 use Rattle.wit_model.specs.declared.name.Name.{Name}
 use Rattle.serde_json.specs.Data.{Data}
 use Rattle.wit_document.specs.Members.{◌>>=◌, text_of, only, required}
