@@ -7,6 +7,8 @@ mod function;
 mod members;
 mod name;
 mod reading;
+#[cfg(test)]
+mod tests;
 mod types;
 mod world;
 
