@@ -1,5 +1,6 @@
-use crate::{Document, DocumentFault, document_of};
-use std::alloc::{AllocError, Global};
+use crate::{DocumentFault, document_of};
+use std::alloc::Global;
+use std::process::Abort;
 use std::test::Fail;
 
 const REFERENCE: &str = concat!(
@@ -35,14 +36,6 @@ const TABLES: &str = concat!(
     r#", version: None, module: Text { inner: "p" } }] }, "#,
     "interfaces: List { items: [] }, types: List { items: [] } }, world: WorldId(0) }",
 );
-
-fn text_of(alloc: Global, document: &Document) -> Result<String, AllocError> {
-    format!(in alloc; "{document:?}")
-}
-
-fn is_refused(alloc: Global, bytes: &[u8]) -> bool {
-    matches!(document_of(alloc, bytes), Err(DocumentFault::BadJson))
-}
 
 /// Documents that are none: what a row shows, what of the reference document is replaced, and by what.
 const WRONG: &[(&str, &str, &str)] = &[
@@ -275,7 +268,8 @@ const WRONG: &[(&str, &str, &str)] = &[
     ),
 ];
 
-/// Documents: what a row shows, what of the reference document is replaced, and by what, and what of the reference document's tables is then another, and what it is.
+/// Documents: what a row shows, what of the reference document is replaced, and by what; and what of its tables is
+/// then another, and what it is.
 const RIGHT: &[(&str, &str, &str, &str, &str)] = &[
     (
         "a version of null",
@@ -510,21 +504,41 @@ const RIGHT: &[(&str, &str, &str, &str, &str)] = &[
     ),
 ];
 
-#[test]
-fn refuses_what_is_no_document(rt: HostRuntime) -> Result<(), Fail> {
-    let alloc = rt.alloc();
-    for (shows, old, new) in WRONG {
-        let text = REFERENCE.replacen(alloc, *old, new, 1)?;
-        assert!(rt; text.as_str() != REFERENCE, "{shows}");
+fn text_of(alloc: Global, text: &str) -> Result<String, Fail> {
+    let document = document_of(alloc, text.as_bytes())?;
+    Ok(format!(in alloc; "{document:?}")?)
+}
+
+fn is_refused(alloc: Global, bytes: &[u8]) -> bool {
+    matches!(document_of(alloc, bytes), Err(DocumentFault::BadJson))
+}
+
+fn refuses_rows(
+    rt: &impl Abort,
+    alloc: Global,
+    reference: &str,
+    rows: &[(&str, &str, &str)],
+) -> Result<(), Fail> {
+    for (shows, old, new) in rows {
+        let text = reference.replacen(alloc, *old, new, 1)?;
+        assert!(rt; text.as_str() != reference, "{shows}");
         assert!(rt; is_refused(alloc, text.as_bytes()), "{shows}");
     }
-    let bytes = REFERENCE.as_bytes();
+    Ok(())
+}
+
+fn refuses_cuts(rt: &impl Abort, alloc: Global, bytes: &[u8]) {
     for end in 0..bytes.len() {
         assert!(rt; is_refused(alloc, &bytes[..end]), "cut at {end}");
     }
+}
+
+fn refuses_other_bytes(rt: &impl Abort, alloc: Global, bytes: &[u8]) -> Result<(), Fail> {
     let mut bytes = bytes.to_vec(alloc)?;
-    if let Some(byte) = bytes.iter_mut().find(|byte| **byte == b'W') {
-        *byte = 0xff;
+    for byte in bytes.iter_mut() {
+        if *byte == b'W' {
+            *byte = 0xff;
+        }
     }
     assert!(rt;
         is_refused(alloc, bytes.as_slice()),
@@ -533,17 +547,33 @@ fn refuses_what_is_no_document(rt: HostRuntime) -> Result<(), Fail> {
     Ok(())
 }
 
+fn reads_rows(
+    rt: &impl Abort,
+    alloc: Global,
+    reference: &str,
+    tables: &str,
+    rows: &[(&str, &str, &str, &str, &str)],
+) -> Result<(), Fail> {
+    for (shows, old, new, old_part, new_part) in rows {
+        let text = reference.replacen(alloc, *old, new, 1)?;
+        assert!(rt; text.as_str() != reference, "{shows}");
+        let wanted = tables.replacen(alloc, *old_part, new_part, 1)?;
+        assert!(rt; text_of(alloc, text.as_str())? == wanted, "{shows}");
+    }
+    Ok(())
+}
+
+#[test]
+fn refuses_what_is_no_document(rt: HostRuntime) -> Result<(), Fail> {
+    let alloc = rt.alloc();
+    refuses_rows(&rt, alloc, REFERENCE, WRONG)?;
+    refuses_cuts(&rt, alloc, REFERENCE.as_bytes());
+    refuses_other_bytes(&rt, alloc, REFERENCE.as_bytes())
+}
+
 #[test]
 fn reads_each_form(rt: HostRuntime) -> Result<(), Fail> {
     let alloc = rt.alloc();
-    let document = document_of(alloc, REFERENCE.as_bytes())?;
-    assert!(rt; text_of(alloc, &document)?.as_str() == TABLES);
-    for (shows, old, new, old_part, new_part) in RIGHT {
-        let text = REFERENCE.replacen(alloc, *old, new, 1)?;
-        assert!(rt; text.as_str() != REFERENCE, "{shows}");
-        let wanted = TABLES.replacen(alloc, *old_part, new_part, 1)?;
-        let document = document_of(alloc, text.as_bytes())?;
-        assert!(rt; text_of(alloc, &document)? == wanted, "{shows}");
-    }
-    Ok(())
+    assert!(rt; text_of(alloc, REFERENCE)?.as_str() == TABLES);
+    reads_rows(&rt, alloc, REFERENCE, TABLES, RIGHT)
 }
