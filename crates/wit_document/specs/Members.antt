@@ -2,7 +2,7 @@
 use Rattle.std.specs.Prelude.{ℕ, List, [], ◌∷◌, Bool, true, ◌&&◌, if◌then◌else◌, Option, Some, None, option_map, option_and_then, ⊤}
 use Rattle.std.specs.List.{list_any}
 use Rattle.std.specs.Str.{bytes_eq}
-use Rattle.serde_json.specs.Data.{Data, null, boolean, number, string, array, object, Items, no_items, item, Members, no_members, member}
+use Rattle.serde_json.specs.Data.{Data, null, Items, no_items, item, Members, no_members, member}
 use Rattle.serde_json.specs.Find.{get, as_str, as_array, as_object}
 
 infixl 10 ◌>>=◌
@@ -29,7 +29,7 @@ abbrev pub keys_are_among : List (List ℕ) → Members → Bool
 keys_are_among keys no_members = true
 keys_are_among keys (member k d ms) = list_any (λ key. bytes_eq key k) keys && keys_are_among keys ms
 
--- an object that has no keys but these
+-- an object that has no keys but these; where JSON text has a key twice, the later value is the one that it has
 unfoldable pub only : List (List ℕ) → Data → Option ⊤
 only keys d = do
   members ← as_object d
@@ -41,11 +41,7 @@ required read key d = option_and_then read (get key d)
 
 abbrev unless_null : {T : Type 0} → (Data → Option T) → Data → Option (Option T)
 unless_null read null = Some None
-unless_null read (boolean b) = option_map Some (read (boolean b))
-unless_null read (number n) = option_map Some (read (number n))
-unless_null read (string s) = option_map Some (read (string s))
-unless_null read (array ds) = option_map Some (read (array ds))
-unless_null read (object ms) = option_map Some (read (object ms))
+unless_null read d = option_map Some (read d)
 
 abbrev if_present : {T : Type 0} → (Data → Option T) → Option Data → Option (Option T)
 if_present read None = Some None

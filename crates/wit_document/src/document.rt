@@ -12,7 +12,9 @@ use wit_model::{Resolve, WorldId};
 /// The tables of a resolved world, and the world that is meant.
 #[derive(Debug, PartialEq, Drop)]
 pub struct Document {
+    /// The tables. Their ids are not checked: an id may lie outside its table.
     pub resolve: Resolve,
+    /// The world to be generated, by its place in the table of worlds.
     pub world: WorldId,
 }
 
