@@ -1,0 +1,59 @@
+-- Which function is a JSON value?
+use Rattle.std.specs.Prelude.{ℕ, List, [], ◌∷◌, codes, Option, Some}
+use Rattle.std.specs.Map.{lookup}
+use Rattle.std.specs.Option.{option_map_or}
+use Rattle.std.specs.Str.{bytes_eq}
+use Rattle.wit_model.specs.declared.name.TypeId.{TypeId}
+use Rattle.wit_model.specs.declared.function.Param.{Param}
+use Rattle.wit_model.specs.declared.function.Function.{Function}
+use Rattle.wit_model.specs.declared.function.FunctionKind.{FunctionKind}
+use Rattle.wit_model.specs.declared.function.FunctionKind.TheVariants.{Freestanding, Method, Static, Constructor, AsyncFreestanding, AsyncMethod, AsyncStatic}
+use Rattle.serde_json.specs.Data.{Data}
+use Rattle.serde_json.specs.Find.{as_str}
+use Rattle.wit_document.specs.Members.{◌>>=◌, text_of, all_of, only, required, optional, sole_member}
+use Rattle.wit_document.specs.Name.{name_of}
+use Rattle.wit_document.specs.Types.{type_id_of, type_of}
+
+-- of a function that stands alone
+unfoldable pub free_kind : List ℕ → Option FunctionKind
+free_kind word = lookup (bytes_eq word) (
+    (codes "freestanding", Freestanding)
+    ∷ (codes "async-freestanding", AsyncFreestanding)
+    ∷ [])
+
+-- of a function of the resource `id`
+unfoldable pub bound_kind : List ℕ → TypeId → Option FunctionKind
+bound_kind word id = lookup (bytes_eq word) (
+    (codes "method", Method id)
+    ∷ (codes "static", Static id)
+    ∷ (codes "constructor", Constructor id)
+    ∷ (codes "async-method", AsyncMethod id)
+    ∷ (codes "async-static", AsyncStatic id)
+    ∷ [])
+
+unfoldable pub bound_kind_of : Data → Option FunctionKind
+bound_kind_of d = do
+  only_one ← sole_member d
+  id ← type_id_of only_one.1
+  bound_kind only_one.0 id
+
+-- a word, or an object whose one key is a word
+unfoldable pub kind_of : Data → Option FunctionKind
+kind_of d = option_map_or free_kind (as_str d) (bound_kind_of d)
+
+unfoldable pub param_of : Data → Option Param
+param_of d = do
+  _ ← only (codes "name" ∷ codes "ty" ∷ []) d
+  name ← required name_of (codes "name") d
+  ty ← required type_of (codes "ty") d
+  Some (record { name = name; ty = ty })
+
+unfoldable pub function_of : Data → Option Function
+function_of d = do
+  _ ← only (codes "name" ∷ codes "kind" ∷ codes "params" ∷ codes "result" ∷ codes "docs" ∷ []) d
+  name ← required name_of (codes "name") d
+  kind ← required kind_of (codes "kind") d
+  params ← required (all_of param_of) (codes "params") d
+  ty ← optional type_of (codes "result") d
+  contents ← optional text_of (codes "docs") d
+  Some (record { name = name; kind = kind; params = params; result = ty; docs = record { contents = contents } })

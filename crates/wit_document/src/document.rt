@@ -1,0 +1,72 @@
+ghost use Rattle.serde_json.specs.View.{view};
+ghost use Rattle.wit_document.specs.Reads.{Reads};
+ghost use Rattle.wit_document.specs.Document.{resolve_of, options_of, document, document_in};
+
+use crate::fault::DocumentFault;
+use crate::members::{empty_list, only, required};
+use crate::reading::Readable;
+use serde_json::Value;
+use std::alloc::Global;
+use wit_model::{Resolve, WorldId};
+
+/// The tables of a resolved world, and the world that is meant.
+#[derive(Debug, PartialEq, Drop)]
+pub struct Document {
+    /// The tables. Their ids are not checked: an id may lie outside its table.
+    pub resolve: Resolve,
+    /// The world to be generated, by its place in the table of worlds.
+    pub world: WorldId,
+}
+
+/// The document that the bytes are, in JSON.
+///
+/// It is `BadJson` where the bytes are not UTF-8, are not one JSON value, or that value is not a document, and
+/// `OutOfMemory` only for want of memory.
+pub fn document_of(alloc: Global, bytes: &[u8]) -> Result<Document, DocumentFault>
+    ensures { Reads result (document_in bytes.now) }
+{
+    match Value::from_slice(alloc, bytes) {
+        Ok(value) => Document::read(alloc, &value),
+        Err(error) if error.is_memory() => Err(DocumentFault::OutOfMemory),
+        Err(_) => Err(DocumentFault::BadJson),
+    }
+}
+
+#[tactic(auto, unfolding(crate::specs::Document::document))]
+impl Readable for Document {
+    ghost read_of = { document };
+
+    fn read(alloc: Global, value: &Value) -> Result<Document, DocumentFault> {
+        only(value, &["resolve", "world", "options"])?;
+        let resolve = required(alloc, value, "resolve")?;
+        let world = required(alloc, value, "world")?;
+        read_options(value)?;
+        Ok(Document { resolve, world })
+    }
+}
+
+#[tactic(auto, unfolding(crate::specs::Document::resolve_of))]
+impl Readable for Resolve {
+    ghost read_of = { resolve_of };
+
+    fn read(alloc: Global, value: &Value) -> Result<Resolve, DocumentFault> {
+        only(value, &["worlds", "packages", "interfaces", "types"])?;
+        Ok(Resolve {
+            worlds: required(alloc, value, "worlds")?,
+            packages: required(alloc, value, "packages")?,
+            interfaces: empty_list(alloc, value, "interfaces")?,
+            types: empty_list(alloc, value, "types")?,
+        })
+    }
+}
+
+/// That the options are an object with no key, or absent.
+#[tactic(auto, unfolding(crate::specs::Document::options_of))]
+fn read_options(value: &Value) -> Result<(), DocumentFault>
+    ensures { Reads result (options_of (view value.now)) }
+{
+    match value.get("options") {
+        Some(options) => only(options, &[]),
+        None => Ok(()),
+    }
+}

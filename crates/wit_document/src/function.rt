@@ -1,0 +1,90 @@
+ghost use Rattle.std.specs.Prelude.{◌≡◌};
+ghost use Rattle.wit_document.specs.Function.{free_kind, bound_kind, bound_kind_of, kind_of, param_of, function_of};
+ghost use Rattle.serde_json.specs.View.{view};
+ghost use Rattle.wit_document.specs.Reads.{Reads};
+
+use crate::fault::DocumentFault;
+use crate::members::{only, optional, required, sole_member};
+use crate::reading::Readable;
+use serde_json::Value;
+use std::alloc::Global;
+use wit_model::{Docs, Function, FunctionKind, Param, TypeId};
+
+#[tactic(auto, unfolding(crate::specs::Function::kind_of))]
+impl Readable for FunctionKind {
+    ghost read_of = { kind_of };
+
+    fn read(alloc: Global, value: &Value) -> Result<FunctionKind, DocumentFault> {
+        match value.as_str() {
+            Some(word) => free_kind(word).ok_or(DocumentFault::BadJson),
+            None => read_bound_kind(alloc, value),
+        }
+    }
+}
+
+#[tactic(auto, unfolding(crate::specs::Function::free_kind))]
+fn free_kind(word: &str) -> Option<FunctionKind>
+    ensures { result ≡ free_kind word.now }
+{
+    match word {
+        "freestanding" => Some(FunctionKind::Freestanding),
+        "async-freestanding" => Some(FunctionKind::AsyncFreestanding),
+        _ => None,
+    }
+}
+
+#[tactic(auto, unfolding(crate::specs::Function::bound_kind_of))]
+fn read_bound_kind(alloc: Global, value: &Value) -> Result<FunctionKind, DocumentFault>
+    ensures { Reads result (bound_kind_of (view value.now)) }
+{
+    let Some((word, member)) = sole_member(value) else {
+        return Err(DocumentFault::BadJson);
+    };
+    let id = TypeId::read(alloc, member)?;
+    bound_kind(word, id).ok_or(DocumentFault::BadJson)
+}
+
+#[tactic(auto, unfolding(crate::specs::Function::bound_kind))]
+fn bound_kind(word: &str, id: TypeId) -> Option<FunctionKind>
+    ensures { result ≡ bound_kind word.now id }
+{
+    match word {
+        "method" => Some(FunctionKind::Method(id)),
+        "static" => Some(FunctionKind::Static(id)),
+        "constructor" => Some(FunctionKind::Constructor(id)),
+        "async-method" => Some(FunctionKind::AsyncMethod(id)),
+        "async-static" => Some(FunctionKind::AsyncStatic(id)),
+        _ => None,
+    }
+}
+
+#[tactic(auto, unfolding(crate::specs::Function::param_of))]
+impl Readable for Param {
+    ghost read_of = { param_of };
+
+    fn read(alloc: Global, value: &Value) -> Result<Param, DocumentFault> {
+        only(value, &["name", "ty"])?;
+        Ok(Param {
+            name: required(alloc, value, "name")?,
+            ty: required(alloc, value, "ty")?,
+        })
+    }
+}
+
+#[tactic(auto, unfolding(crate::specs::Function::function_of))]
+impl Readable for Function {
+    ghost read_of = { function_of };
+
+    fn read(alloc: Global, value: &Value) -> Result<Function, DocumentFault> {
+        only(value, &["name", "kind", "params", "result", "docs"])?;
+        Ok(Function {
+            name: required(alloc, value, "name")?,
+            kind: required(alloc, value, "kind")?,
+            params: required(alloc, value, "params")?,
+            result: optional(alloc, value, "result")?,
+            docs: Docs {
+                contents: optional(alloc, value, "docs")?,
+            },
+        })
+    }
+}

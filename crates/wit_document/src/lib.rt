@@ -1,0 +1,16 @@
+//! The reader of the JSON document of a resolved world.
+#![tactic(auto)]
+
+mod document;
+mod fault;
+mod function;
+mod members;
+mod name;
+mod reading;
+#[cfg(test)]
+mod tests;
+mod types;
+mod world;
+
+pub use document::{Document, document_of};
+pub use fault::DocumentFault;

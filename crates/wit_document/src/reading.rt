@@ -1,0 +1,46 @@
+ghost use Rattle.std.specs.Prelude.{◌≡◌, Option, Some, None};
+ghost use Rattle.serde_json.specs.Data.{Data};
+ghost use Rattle.serde_json.specs.View.{view};
+ghost use Rattle.wit_document.specs.Reads.{Reads};
+ghost use Rattle.wit_document.specs.Members.{text_of, all_of};
+
+use crate::fault::DocumentFault;
+use serde_json::Value;
+use std::alloc::Global;
+use wit_model::{List, Text};
+
+/// What a JSON value can be read as.
+pub(crate) trait Readable: Drop {
+    ghost read_of: { Data → Option Self };
+
+    fn read(alloc: Global, value: &Value) -> Result<Self, DocumentFault>
+        ensures { Reads result (read_of (view value.now)) };
+}
+
+#[tactic(auto, unfolding(crate::specs::Members::text_of))]
+impl Readable for Text {
+    ghost read_of = { text_of };
+
+    fn read(alloc: Global, value: &Value) -> Result<Text, DocumentFault> {
+        match value.as_str() {
+            Some(text) => Ok(Text::from_str(alloc, text)?),
+            None => Err(DocumentFault::BadJson),
+        }
+    }
+}
+
+#[tactic(auto, unfolding(crate::specs::Members::all_of))]
+impl<T: Readable> Readable for List<T> {
+    ghost read_of = { all_of T.read_of };
+
+    fn read(alloc: Global, value: &Value) -> Result<List<T>, DocumentFault> {
+        let Some(values) = value.as_array() else {
+            return Err(DocumentFault::BadJson);
+        };
+        let mut items = List::new(alloc);
+        for value in values {
+            items.push(T::read(alloc, value)?)?;
+        }
+        Ok(items)
+    }
+}

@@ -1,0 +1,69 @@
+ghost use Rattle.wit_document.specs.World.{world_id_of, package_id_of, package_of, import_of, world_of};
+
+use crate::fault::DocumentFault;
+use crate::members::{empty_list, only, optional, required};
+use crate::name::copy_of_name;
+use crate::reading::Readable;
+use serde_json::Value;
+use std::alloc::Global;
+use wit_model::{Function, Package, PackageId, World, WorldId, WorldItem, WorldKey};
+
+#[tactic(auto, unfolding(crate::specs::World::world_id_of))]
+impl Readable for WorldId {
+    ghost read_of = { world_id_of };
+
+    fn read(alloc: Global, value: &Value) -> Result<WorldId, DocumentFault> {
+        Ok(WorldId(u32::read(alloc, value)?))
+    }
+}
+
+#[tactic(auto, unfolding(crate::specs::World::package_id_of))]
+impl Readable for PackageId {
+    ghost read_of = { package_id_of };
+
+    fn read(alloc: Global, value: &Value) -> Result<PackageId, DocumentFault> {
+        Ok(PackageId(u32::read(alloc, value)?))
+    }
+}
+
+#[tactic(auto, unfolding(crate::specs::World::package_of))]
+impl Readable for Package {
+    ghost read_of = { package_of };
+
+    fn read(alloc: Global, value: &Value) -> Result<Package, DocumentFault> {
+        only(value, &["namespace", "name", "version", "module"])?;
+        Ok(Package {
+            namespace: required(alloc, value, "namespace")?,
+            name: required(alloc, value, "name")?,
+            version: optional(alloc, value, "version")?,
+            module: required(alloc, value, "module")?,
+        })
+    }
+}
+
+#[tactic(auto, unfolding(crate::specs::World::import_of))]
+impl Readable for (WorldKey, WorldItem) {
+    ghost read_of = { import_of };
+
+    fn read(alloc: Global, value: &Value) -> Result<(WorldKey, WorldItem), DocumentFault> {
+        only(value, &["function"])?;
+        let function: Function = required(alloc, value, "function")?;
+        let name = copy_of_name(alloc, &function.name)?;
+        Ok((WorldKey::Name(name), WorldItem::Function(function)))
+    }
+}
+
+#[tactic(auto, unfolding(crate::specs::World::world_of))]
+impl Readable for World {
+    ghost read_of = { world_of };
+
+    fn read(alloc: Global, value: &Value) -> Result<World, DocumentFault> {
+        only(value, &["name", "package", "imports", "exports"])?;
+        Ok(World {
+            name: required(alloc, value, "name")?,
+            package: required(alloc, value, "package")?,
+            imports: required(alloc, value, "imports")?,
+            exports: empty_list(alloc, value, "exports")?,
+        })
+    }
+}
