@@ -1,0 +1,30 @@
+ghost use Rattle.wit_document.specs.Reads.{Reads};
+ghost use Rattle.wit_program.specs.Input.{input_in};
+
+use rust_gen::Opts;
+use std::alloc::Global;
+use wit_document::{Document, DocumentFault, document_of};
+use wit_model::{Resolve, WorldId};
+
+/// What a document asks for: the tables of a resolved world, the world to generate, and the options.
+#[derive(Debug, PartialEq, Drop)]
+pub struct Input {
+    pub resolve: Resolve,
+    pub world: WorldId,
+    pub opts: Opts,
+}
+
+/// The input that the bytes of a JSON document are. It is `BadJson` exactly where the bytes are no document, and there
+/// may be no memory for it.
+#[tactic(auto, unfolding(crate::specs::Input::input_in))]
+pub fn input_of(alloc: Global, bytes: &[u8]) -> Result<Input, DocumentFault>
+    ensures { Reads result (input_in bytes.now) }
+{
+    let Document { resolve, world } = document_of(alloc, bytes)?;
+    let opts = Opts::default(alloc);
+    Ok(Input {
+        resolve,
+        world,
+        opts,
+    })
+}
