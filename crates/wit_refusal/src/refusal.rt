@@ -1,0 +1,64 @@
+use crate::status::gen_status;
+use rust_gen::GenError;
+use wit_model::OutOfMemory;
+
+/// Why the program makes no file.
+#[derive(Debug, PartialEq, Drop)]
+pub enum Refusal {
+    /// The command line is none that the program knows.
+    Usage,
+    /// A read of the input failed.
+    ReadFault,
+    /// The input has more bytes than an input may have.
+    InputTooLong,
+    /// The input is not a bindings document.
+    BadJson,
+    /// The generator refuses what the document asks for.
+    Gen(GenError),
+    /// A write of the output failed.
+    WriteFault,
+    /// There was no memory.
+    OutOfMemory,
+}
+
+impl From<GenError> for Refusal {
+    ghost use Rattle.std.specs.Prelude.{◌≡◌};
+    ghost use Rattle.wit_refusal.specs.declared.refusal.Refusal.TheVariants.{Gen};
+
+    ghost from_gives = { λ error refusal. refusal ≡ Gen error };
+
+    fn from(error: GenError) -> Refusal {
+        Refusal::Gen(error)
+    }
+}
+
+impl From<OutOfMemory> for Refusal {
+    ghost use Rattle.std.specs.Prelude.{◌≡◌};
+    ghost use Rattle.wit_refusal.specs.declared.refusal.Refusal.TheVariants as refusal;
+
+    ghost from_gives = { λ _ made. made ≡ refusal.OutOfMemory };
+
+    fn from(_error: OutOfMemory) -> Refusal {
+        Refusal::OutOfMemory
+    }
+}
+
+impl Refusal {
+    ghost use Rattle.std.specs.Prelude.{◌≡◌};
+    ghost use Rattle.wit_refusal.specs.Status.{status_of};
+
+    /// The exit status. Each cause has its own, and every want of memory has one.
+    pub fn status(&self) -> u8
+        ensures { result ≡ status_of self.now }
+    {
+        match self {
+            Refusal::Usage => 2,
+            Refusal::ReadFault => 3,
+            Refusal::InputTooLong => 4,
+            Refusal::BadJson => 5,
+            Refusal::Gen(error) => gen_status(error),
+            Refusal::WriteFault => 15,
+            Refusal::OutOfMemory => 16,
+        }
+    }
+}
