@@ -1,4 +1,2 @@
 pub mod Input
 pub mod Made
-pub mod Outcome
-pub mod Words
