@@ -1,4 +1,4 @@
-ghost use Rattle.std.specs.Prelude.{◌≡◌, ◌<◌, ◌≤◌, length, vec_len, IfOk, OnOk, OnErr};
+ghost use Rattle.std.specs.Prelude.{◌≡◌, ◌<◌, vec_len, IfOk, OnOk, OnErr};
 ghost use Rattle.gen_files.specs.Entries.{with_pushed};
 ghost use Rattle.gen_files.specs.Places.{is_before, place_of, has_name_at, with_bytes_at};
 

@@ -15,7 +15,7 @@ pub struct Files {
 }
 
 impl Model for Files {
-    ghost use Rattle.gen_files.specs.Entries.{Entry, IsAscending};
+    ghost use Rattle.gen_files.specs.Entries.{IsAscending};
     ghost use Rattle.std.specs.Prelude as std;
 
     ghost Value = { std.List (std.List std.ℕ × std.List std.ℕ) };
