@@ -1,1 +1,4 @@
+pub mod Line
+pub mod Names
 pub mod Status
+pub mod Word

@@ -1,6 +1,9 @@
+use crate::gen_line::push_gen_line;
 use crate::status::gen_status;
+use crate::word::{Word, put};
 use rust_gen::GenError;
-use wit_model::OutOfMemory;
+use std::alloc::Global;
+use wit_model::{OutOfMemory, Text};
 
 /// Why the program makes no file.
 #[derive(Debug, PartialEq, Drop)]
@@ -44,7 +47,8 @@ impl From<OutOfMemory> for Refusal {
 }
 
 impl Refusal {
-    ghost use Rattle.std.specs.Prelude.{◌≡◌};
+    ghost use Rattle.std.specs.Prelude.{◌≡◌, IfOk};
+    ghost use Rattle.wit_refusal.specs.Line.{line_of};
     ghost use Rattle.wit_refusal.specs.Status.{status_of};
 
     /// The exit status. Each cause has its own, and every want of memory has one.
@@ -60,5 +64,21 @@ impl Refusal {
             Refusal::WriteFault => 15,
             Refusal::OutOfMemory => 16,
         }
+    }
+    /// The line that says why, with its line feed.
+    pub fn line(&self, alloc: Global) -> Result<Text, OutOfMemory>
+        ensures { IfOk result (λ t. t ≡ line_of self.now) }
+    {
+        let mut out = Text::new(alloc);
+        match self {
+            Refusal::Usage => put(&mut out, Word::UsageLine)?,
+            Refusal::ReadFault => put(&mut out, Word::ReadFaultLine)?,
+            Refusal::InputTooLong => put(&mut out, Word::InputTooLongLine)?,
+            Refusal::BadJson => put(&mut out, Word::BadJsonLine)?,
+            Refusal::Gen(error) => push_gen_line(&mut out, error)?,
+            Refusal::WriteFault => put(&mut out, Word::WriteFaultLine)?,
+            Refusal::OutOfMemory => put(&mut out, Word::OutOfMemoryLine)?,
+        }
+        Ok(out)
     }
 }
