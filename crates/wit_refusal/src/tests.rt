@@ -38,6 +38,51 @@ fn shows(
     Ok(())
 }
 
+fn gen_shows(
+    rt: &impl Abort,
+    alloc: Global,
+    error: GenError,
+    status: u8,
+    line: &str,
+) -> Result<(), OutOfMemory> {
+    shows(rt, alloc, &Refusal::from(error), status, line)
+}
+
+fn rule_shows(
+    rt: &impl Abort,
+    alloc: Global,
+    rule: Rule,
+    table: Table,
+    line: &str,
+) -> Result<(), OutOfMemory> {
+    let error = GenError::InvalidWorld {
+        rule,
+        table,
+        index: 20,
+    };
+    gen_shows(rt, alloc, error, 6, line)
+}
+
+fn lack_shows(rt: &impl Abort, alloc: Global, what: Lack, line: &str) -> Result<(), OutOfMemory> {
+    let place = text(alloc, "my:dep/a/t")?;
+    gen_shows(rt, alloc, GenError::Unsupported { what, place }, 10, line)
+}
+
+fn keys_show(rt: &impl Abort, alloc: Global, keys: &[&str], line: &str) -> Result<(), OutOfMemory> {
+    let error = GenError::UnusedWith(texts(alloc, keys)?);
+    gen_shows(rt, alloc, error, 12, line)
+}
+
+fn selectors_show(
+    rt: &impl Abort,
+    alloc: Global,
+    selectors: &[&str],
+    line: &str,
+) -> Result<(), OutOfMemory> {
+    let error = GenError::UnusedSelector(texts(alloc, selectors)?);
+    gen_shows(rt, alloc, error, 13, line)
+}
+
 #[test]
 fn causes_outside_the_generator(rt: HostRuntime) -> Result<(), Fail> {
     let alloc = rt.alloc();
@@ -65,159 +110,132 @@ fn lines_that_take_no_memory(rt: HostRuntime) {
 }
 
 #[test]
-fn refusals_with_numbers_and_places(rt: HostRuntime) -> Result<(), Fail> {
+fn faulty_options(rt: HostRuntime) -> Result<(), Fail> {
     let alloc = rt.alloc();
-    let table = [
-        (
-            GenError::InvalidOption {
-                field: text(alloc, "with")?,
-                index: 4294967295,
-            },
-            7,
-            "invalid option: with 4294967295\n",
-        ),
-        (
-            GenError::MissingWith(MissingWith(text(alloc, "my:dep/a@1.0.0")?)),
-            8,
-            "missing `with` mapping for the key `my:dep/a@1.0.0`\n",
-        ),
-        (
-            GenError::TooLarge(TooLarge::Type_(TypeId(0))),
-            9,
-            "too large: type 0\n",
-        ),
-        (
-            GenError::TooLarge(TooLarge::Func(text(alloc, "my:dep/a#run")?)),
-            9,
-            "too large: function my:dep/a#run\n",
-        ),
-        (
-            GenError::Unsupported {
-                what: Lack::Async,
-                place: text(alloc, "run")?,
-            },
-            10,
-            "unsupported: async at run\n",
-        ),
-        (
-            GenError::NameClash(Clash::Twice(entry(alloc)?)),
-            11,
-            "name clash: arg0 in $root\n",
-        ),
-        (
-            GenError::NameClash(Clash::NotIdent(entry(alloc)?)),
-            11,
-            "name clash: arg0 in $root\n",
-        ),
-        (
-            GenError::UnusedChainable(text(alloc, "frob")?),
-            14,
-            "unused chaining entry: frob\n",
-        ),
-        (GenError::OutOfMemory, 16, "out of memory\n"),
-    ];
-    for (error, status, line) in table {
-        shows(&rt, alloc, &Refusal::from(error), status, line)?;
-    }
+    let error = GenError::InvalidOption {
+        field: text(alloc, "with")?,
+        index: 4294967295,
+    };
+    gen_shows(&rt, alloc, error, 7, "invalid option: with 4294967295\n")?;
+    let error = GenError::MissingWith(MissingWith(text(alloc, "my:dep/a@1.0.0")?));
+    let line = "missing `with` mapping for the key `my:dep/a@1.0.0`\n";
+    gen_shows(&rt, alloc, error, 8, line)?;
+    let error = GenError::UnusedChainable(text(alloc, "frob")?);
+    gen_shows(&rt, alloc, error, 14, "unused chaining entry: frob\n")?;
     Ok(())
 }
 
 #[test]
-fn keys_and_selectors_in_quotes(rt: HostRuntime) -> Result<(), Fail> {
+fn faults_of_the_world(rt: HostRuntime) -> Result<(), Fail> {
     let alloc = rt.alloc();
-    let table = [
-        (texts(alloc, &[])?, "[]\n"),
-        (texts(alloc, &["a"])?, "[\"a\"]\n"),
-        (texts(alloc, &["a", "b", ""])?, "[\"a\", \"b\", \"\"]\n"),
-        (
-            texts(alloc, &["a\"b\\", "é\\\"ü"])?,
-            "[\"a\\\"b\\\\\", \"é\\\\\\\"ü\"]\n",
-        ),
-    ];
-    for (keys, list) in table {
-        let refusal = Refusal::Gen(GenError::UnusedWith(keys));
-        let line = format!(in alloc; "unused remappings provided via `with`: {list}")?;
-        shows(&rt, alloc, &refusal, 12, line.as_str())?;
-    }
-    let refusal = Refusal::Gen(GenError::UnusedSelector(texts(alloc, &["a/b.c", "\""])?));
+    let error = GenError::TooLarge(TooLarge::Type_(TypeId(0)));
+    gen_shows(&rt, alloc, error, 9, "too large: type 0\n")?;
+    let error = GenError::TooLarge(TooLarge::Func(text(alloc, "my:dep/a#run")?));
+    gen_shows(&rt, alloc, error, 9, "too large: function my:dep/a#run\n")?;
+    let error = GenError::NameClash(Clash::Twice(entry(alloc)?));
+    gen_shows(&rt, alloc, error, 11, "name clash: arg0 in $root\n")?;
+    let error = GenError::NameClash(Clash::NotIdent(entry(alloc)?));
+    gen_shows(&rt, alloc, error, 11, "name clash: arg0 in $root\n")?;
+    gen_shows(&rt, alloc, GenError::OutOfMemory, 16, "out of memory\n")?;
+    Ok(())
+}
+
+#[test]
+fn keys_in_quotes(rt: HostRuntime) -> Result<(), Fail> {
+    let alloc = rt.alloc();
+    let line = "unused remappings provided via `with`: []\n";
+    keys_show(&rt, alloc, &[], line)?;
+    let line = "unused remappings provided via `with`: [\"a\", \"b\", \"\"]\n";
+    keys_show(&rt, alloc, &["a", "b", ""], line)?;
+    let line = "unused remappings provided via `with`: [\"a\\\"b\\\\\", \"é\\\\\\\"ü\"]\n";
+    keys_show(&rt, alloc, &["a\"b\\", "é\\\"ü"], line)?;
+    Ok(())
+}
+
+#[test]
+fn selectors_in_quotes(rt: HostRuntime) -> Result<(), Fail> {
     let line =
         "unused selectors provided via `additional_type_attributes` / `additional_member_attributes`: [\"a/b.c\", \"\\\"\"]\n";
-    shows(&rt, alloc, &refusal, 13, line)?;
+    selectors_show(&rt, rt.alloc(), &["a/b.c", "\""], line)?;
     Ok(())
 }
 
 #[test]
 fn rules_by_their_numbers(rt: HostRuntime) -> Result<(), Fail> {
-    let alloc = rt.alloc();
     let table = [
-        (Rule::IndexRange, "1"),
-        (Rule::TypeOrder, "2"),
-        (Rule::Members, "3"),
-        (Rule::MapKey, "4"),
-        (Rule::HandleTarget, "5"),
-        (Rule::BorrowPlace, "6"),
-        (Rule::SelfParam, "7"),
-        (Rule::Constructor, "8"),
-        (Rule::MissingName, "9"),
-        (Rule::Owner, "10"),
-        (Rule::Listing, "11"),
-        (Rule::UnknownKind, "12"),
-        (Rule::NameText, "13"),
+        (Rule::IndexRange, "invalid world: rule 1 at type 20\n"),
+        (Rule::TypeOrder, "invalid world: rule 2 at type 20\n"),
+        (Rule::Members, "invalid world: rule 3 at type 20\n"),
+        (Rule::MapKey, "invalid world: rule 4 at type 20\n"),
+        (Rule::HandleTarget, "invalid world: rule 5 at type 20\n"),
+        (Rule::BorrowPlace, "invalid world: rule 6 at type 20\n"),
+        (Rule::SelfParam, "invalid world: rule 7 at type 20\n"),
+        (Rule::Constructor, "invalid world: rule 8 at type 20\n"),
+        (Rule::MissingName, "invalid world: rule 9 at type 20\n"),
+        (Rule::Owner, "invalid world: rule 10 at type 20\n"),
+        (Rule::Listing, "invalid world: rule 11 at type 20\n"),
+        (Rule::UnknownKind, "invalid world: rule 12 at type 20\n"),
+        (Rule::NameText, "invalid world: rule 13 at type 20\n"),
     ];
-    for (rule, number) in table {
-        let refusal = Refusal::Gen(GenError::InvalidWorld {
-            rule,
-            table: Table::Type_,
-            index: 20,
-        });
-        let line = format!(in alloc; "invalid world: rule {number} at type 20\n")?;
-        shows(&rt, alloc, &refusal, 6, line.as_str())?;
+    for (rule, line) in table {
+        rule_shows(&rt, rt.alloc(), rule, Table::Type_, line)?;
     }
     Ok(())
 }
 
 #[test]
 fn tables_by_their_words(rt: HostRuntime) -> Result<(), Fail> {
-    let alloc = rt.alloc();
     let table = [
-        (Table::Package, "invalid world: rule 13 at package 3\n"),
-        (Table::Interface, "invalid world: rule 13 at interface 3\n"),
-        (Table::Type_, "invalid world: rule 13 at type 3\n"),
-        (Table::World, "invalid world: rule 13 at world 3\n"),
+        (Table::Package, "invalid world: rule 13 at package 20\n"),
+        (Table::Interface, "invalid world: rule 13 at interface 20\n"),
+        (Table::Type_, "invalid world: rule 13 at type 20\n"),
+        (Table::World, "invalid world: rule 13 at world 20\n"),
     ];
     for (table, line) in table {
-        let refusal = Refusal::Gen(GenError::InvalidWorld {
-            rule: Rule::NameText,
-            table,
-            index: 3,
-        });
-        shows(&rt, alloc, &refusal, 6, line)?;
+        rule_shows(&rt, rt.alloc(), Rule::NameText, table, line)?;
     }
     Ok(())
 }
 
 #[test]
 fn words_for_what_is_not_supported(rt: HostRuntime) -> Result<(), Fail> {
-    let alloc = rt.alloc();
     let table = [
-        (Lack::Async, "async"),
-        (Lack::Future, "future"),
-        (Lack::Stream, "stream"),
-        (Lack::ErrorContext, "error-context"),
-        (Lack::Flags, "flags"),
-        (Lack::WorldResource, "world resource"),
-        (Lack::RemappedExport, "remapped export"),
-        (Lack::RemappedImport, "remapped import"),
-        (Lack::BorrowInFixedList, "borrow in fixed list"),
-        (Lack::BorrowInList, "borrow in list"),
-        (Lack::OwningChain, "owning chain"),
-        (Lack::Unbuilt, "unbuilt"),
+        (Lack::Async, "unsupported: async at my:dep/a/t\n"),
+        (Lack::Future, "unsupported: future at my:dep/a/t\n"),
+        (Lack::Stream, "unsupported: stream at my:dep/a/t\n"),
+        (
+            Lack::ErrorContext,
+            "unsupported: error-context at my:dep/a/t\n",
+        ),
+        (Lack::Flags, "unsupported: flags at my:dep/a/t\n"),
+        (
+            Lack::WorldResource,
+            "unsupported: world resource at my:dep/a/t\n",
+        ),
+        (
+            Lack::RemappedExport,
+            "unsupported: remapped export at my:dep/a/t\n",
+        ),
+        (
+            Lack::RemappedImport,
+            "unsupported: remapped import at my:dep/a/t\n",
+        ),
+        (
+            Lack::BorrowInFixedList,
+            "unsupported: borrow in fixed list at my:dep/a/t\n",
+        ),
+        (
+            Lack::BorrowInList,
+            "unsupported: borrow in list at my:dep/a/t\n",
+        ),
+        (
+            Lack::OwningChain,
+            "unsupported: owning chain at my:dep/a/t\n",
+        ),
+        (Lack::Unbuilt, "unsupported: unbuilt at my:dep/a/t\n"),
     ];
-    for (what, word) in table {
-        let place = text(alloc, "my:dep/a/t")?;
-        let refusal = Refusal::Gen(GenError::Unsupported { what, place });
-        let line = format!(in alloc; "unsupported: {word} at my:dep/a/t\n")?;
-        shows(&rt, alloc, &refusal, 10, line.as_str())?;
+    for (what, line) in table {
+        lack_shows(&rt, rt.alloc(), what, line)?;
     }
     Ok(())
 }
