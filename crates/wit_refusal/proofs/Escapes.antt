@@ -28,17 +28,17 @@ char_plain c n m =
       λ e. m (inside_one c [] (encode_utf8 c) k (sym (append-nil _)) below (omega (arith, e)) ∙ e),
     ))
 
-plain_byte : (c : ℕ) → c ≢ 34 → c ≢ 92 → flat_map escaped (encode_utf8 c) ≡ (if c == 34 || c == 92 then word Backslash ++ encode_utf8 c else encode_utf8 c)
-plain_byte c n m = let plain = char_plain c n m in grind (arith, nat_tests, plain)
+unmarked : (c : ℕ) → c ≢ 34 → c ≢ 92 → flat_map escaped (encode_utf8 c) ≡ (if c == 34 || c == 92 then word Backslash ++ encode_utf8 c else encode_utf8 c)
+unmarked c n m = let plain = char_plain c n m in grind (arith, nat_tests, plain)
 
-marked : flat_map escaped (encode_utf8 34) ≡ word Backslash ++ encode_utf8 34
-marked = rw (encode_ascii 34 (omega arith)) (append-nil _)
+marked_quote : flat_map escaped (encode_utf8 34) ≡ word Backslash ++ encode_utf8 34
+marked_quote = rw (encode_ascii 34 (omega arith)) (append-nil _)
 
 marked_backslash : flat_map escaped (encode_utf8 92) ≡ word Backslash ++ encode_utf8 92
 marked_backslash = rw (encode_ascii 92 (omega arith)) (append-nil _)
 
 pub escaped_char : (c : ℕ) → flat_map escaped (encode_utf8 c) ≡ (if c == 34 || c == 92 then word Backslash ++ encode_utf8 c else encode_utf8 c)
 escaped_char c = elim (cases_eq c 34) [
-  | inl e ↦ rw e marked
-  | inr n ↦ elim (cases_eq c 92) [ inl e ↦ rw e marked_backslash | inr m ↦ plain_byte c n m ]
+  | inl e ↦ rw e marked_quote
+  | inr n ↦ elim (cases_eq c 92) [ inl e ↦ rw e marked_backslash | inr m ↦ unmarked c n m ]
 ]
