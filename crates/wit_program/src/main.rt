@@ -5,6 +5,8 @@ mod input;
 mod made;
 mod outcome;
 mod run;
+#[cfg(test)]
+mod tests;
 
 use run::run_words;
 use std::process::ExitCode;
