@@ -6,6 +6,7 @@ use Rattle.wit_model.specs.declared.world.World.{World}
 use Rattle.gen_files.specs.Entries.{Bytes, Entry, entry_of, with_pushed}
 use Rattle.rust_tree.specs.Text.{text}
 use Rattle.rust_tree.specs.Tree.{Tree}
+use Rattle.rust_gen.specs.Body.{IsWritten}
 use Rattle.rust_gen.specs.Bound.{Binds}
 use Rattle.rust_gen.specs.Wrapper.{Wraps}
 
@@ -22,8 +23,10 @@ pub record Gains (old new : List Entry) (name bytes : Bytes) : Type 0 where
   pub gained : entry_of new name ≡ Some (unwrap_or (entry_of old name) [] ++ bytes)
   pub others : (other : Bytes) → other ≢ name → entry_of new other ≡ entry_of old other
 
+-- the tree holds each wrapper as it is written, which from outside has the signature and the core import of its function
 pub record Generates (resolve : Resolve) (id : WorldId) (old new : List Entry) (tree : Tree) : Type 0 where
   pub world : World
   pub named : slice_get resolve.worlds id.0 ≡ Some world
+  pub written : Binds IsWritten world tree
   pub bound : Binds Wraps world tree
   pub gains : Gains old new (file_name world) (text tree)

@@ -7,6 +7,7 @@ pub mod Default
 pub mod Docs
 pub mod Emitted
 pub mod Generated
+pub mod LackText
 pub mod NameText
 pub mod Printed
 pub mod Runtime

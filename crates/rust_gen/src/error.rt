@@ -1,3 +1,6 @@
+ghost use Rattle.std.specs.Prelude.{◌≡◌};
+ghost use Rattle.rust_gen.specs.LackText.{lack_text};
+
 use std::fmt;
 use wit_model::{List, OutOfMemory, Rule, Table, Text, TypeId};
 
@@ -21,9 +24,12 @@ pub enum Lack {
     Unbuilt,
 }
 
-impl fmt::Display for Lack {
-    fn fmt<W: fmt::Write>(&self, f: &mut fmt::Formatter<W>) -> fmt::Result {
-        f.write_str(match self {
+impl Lack {
+    #[tactic(auto, unfolding(crate::specs::LackText::lack_text))]
+    fn words(self) -> &'static str
+        ensures { result.now ≡ lack_text self }
+    {
+        match self {
             Lack::Async => "async",
             Lack::Future => "future",
             Lack::Stream => "stream",
@@ -36,7 +42,18 @@ impl fmt::Display for Lack {
             Lack::BorrowInList => "borrow in list",
             Lack::OwningChain => "owning chain",
             Lack::Unbuilt => "unbuilt",
-        })
+        }
+    }
+}
+
+impl fmt::Display for Lack {
+    ghost use Rattle.std.specs.Prelude.{Some};
+    ghost use Rattle.rust_gen.specs.LackText.{lack_text};
+
+    ghost output = { λ lack. Some (lack_text lack) };
+
+    fn fmt<W: fmt::Write>(&self, f: &mut fmt::Formatter<W>) -> fmt::Result {
+        f.write_str(self.words())
     }
 }
 
