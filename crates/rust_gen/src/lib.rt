@@ -15,6 +15,8 @@ mod names;
 mod opts;
 mod printed;
 mod runtime;
+#[cfg(test)]
+mod tests;
 mod tree;
 mod wrapper;
 

@@ -7,6 +7,8 @@ mod outcome;
 mod run;
 #[cfg(test)]
 mod tests;
+#[cfg(test)]
+mod whole_numbers;
 
 use run::run_words;
 use std::process::ExitCode;
