@@ -2,6 +2,7 @@
 #![tactic(auto)]
 
 mod answer;
+mod block;
 mod choice;
 mod heap;
 mod run;
