@@ -1,7 +1,8 @@
 ghost use Rattle.std.specs.Prelude.{◌≡◌, ◌+◌};
-ghost use Rattle.wrapper_data.specs.Heap.{are_cells, covers, is_block, overlaps, overlaps_any};
+ghost use Rattle.std.specs.List.{list_all};
+ghost use Rattle.wrapper_data.specs.Heap.{are_apart, are_cells, covers, is_block, is_heap, overlaps, overlaps_any};
 
-use crate::heap::Block;
+use crate::heap::{Block, Heap};
 
 impl Block {
     /// Whether the block is well formed: its size and its address are above 0, it ends at or below 2^32, and its cells
@@ -42,6 +43,33 @@ impl Block {
     {
         u64::from(self.address) + u64::from(self.size)
     }
+}
+
+impl Heap {
+    /// Whether the heap is well formed: each of its blocks is, and no two of them overlap.
+    pub fn is_well_formed(&self) -> bool
+        ensures { result ≡ is_heap self.now }
+    {
+        let blocks = self.blocks.as_slice();
+        are_blocks(blocks) && are_apart(blocks)
+    }
+}
+
+fn are_blocks(blocks: &[Block]) -> bool
+    ensures { result ≡ list_all is_block blocks.now }
+{
+    blocks.iter().all(|block| block.is_well_formed())
+}
+
+fn are_apart(blocks: &[Block]) -> bool
+    ensures { result ≡ are_apart blocks.now }
+{
+    for (i, block) in blocks.iter().enumerate() {
+        if block.overlaps_any(&blocks[i + 1..]) {
+            return false;
+        }
+    }
+    true
 }
 
 fn ascend(cells: &[(u32, u8)], size: u32) -> bool

@@ -2,6 +2,7 @@
 #![tactic(auto)]
 
 mod answer;
+mod answered;
 mod block;
 mod choice;
 mod heap;
