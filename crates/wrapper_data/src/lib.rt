@@ -7,6 +7,8 @@ mod block;
 mod choice;
 mod heap;
 mod run;
+#[cfg(test)]
+mod tests;
 mod value;
 mod word;
 
