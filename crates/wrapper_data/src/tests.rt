@@ -41,32 +41,36 @@ fn copies_are_equal(rt: HostRuntime) -> Result<(), Fail> {
     let value = nested_value(alloc)?;
     assert_eq!(rt; value.copy(alloc)?, value);
     assert_eq!(rt; value, nested_value(alloc)?);
-    let heap = Heap {
-        blocks: List::from_vec(vec![in alloc;
-            block(alloc, 8, 4, &[(0, 1), (3, 255)])?,
-            block(alloc, 12, 1, &[])?,
-        ]?),
-    };
+    let heap = one_block(alloc, &[(0, 1), (3, 255)])?;
     assert_eq!(rt; heap.copy(alloc)?, heap);
     Ok(())
 }
 
-/// Whether a heap of one block, of 8 bytes at 16 with the cells 1 and 4, is answered with these blocks.
-fn expect_answered(
+/// The blocks of these addresses and sizes, with no cells.
+fn blocks(alloc: Global, places: &[(u32, u32)]) -> Result<List<Block>, OutOfMemory> {
+    let mut blocks = List::new(alloc);
+    for place in places {
+        blocks.push(block(alloc, place.0, place.1, &[])?)?;
+    }
+    Ok(blocks)
+}
+
+fn one_block(alloc: Global, cells: &[(u32, u8)]) -> Result<Heap, OutOfMemory> {
+    let mut blocks = List::new(alloc);
+    blocks.push(block(alloc, 16, 8, cells)?)?;
+    Ok(Heap { blocks })
+}
+
+fn expect_written(
     rt: &impl Abort,
     alloc: Global,
     writes: &[(u32, u8)],
-    new: &[Block],
-    expected: Vec<Block>,
+    cells: &[(u32, u8)],
 ) -> Result<(), Fail> {
-    let heap = Heap {
-        blocks: List::from_vec(vec![in alloc; block(alloc, 16, 8, &[(1, 5), (4, 6)])?]?),
-    };
+    let heap = one_block(alloc, &[(1, 5), (4, 6)])?;
     assert_eq!(rt;
-        heap.answered(alloc, writes, new)?,
-        Heap {
-            blocks: List::from_vec(expected)
-        }
+        heap.answered(alloc, writes, &[])?,
+        one_block(alloc, cells)?
     );
     Ok(())
 }
@@ -74,80 +78,68 @@ fn expect_answered(
 #[test]
 fn writes_go_to_their_cells(rt: HostRuntime) -> Result<(), Fail> {
     let alloc = rt.alloc();
-    let as_it_was = vec![in alloc; block(alloc, 16, 8, &[(1, 5), (4, 6)])?]?;
-    expect_answered(&rt, alloc, &[], &[], as_it_was)?;
-    let outside = vec![in alloc; block(alloc, 16, 8, &[(1, 5), (4, 6)])?]?;
-    expect_answered(&rt, alloc, &[(15, 1), (24, 1), (0, 1)], &[], outside)?;
-    let replaced = vec![in alloc; block(alloc, 16, 8, &[(1, 7), (4, 6)])?]?;
-    expect_answered(&rt, alloc, &[(17, 9), (17, 7)], &[], replaced)?;
-    let between = vec![in alloc; block(alloc, 16, 8, &[(0, 1), (1, 5), (2, 3), (4, 6), (7, 8)])?]?;
-    expect_answered(&rt, alloc, &[(18, 3), (23, 8), (16, 1)], &[], between)?;
-    let added = [block(alloc, 32, 2, &[(0, 9)])?];
-    let in_the_added = vec![in alloc;
-        block(alloc, 16, 8, &[(1, 5), (4, 6)])?,
-        block(alloc, 32, 2, &[(0, 9), (1, 2)])?,
-    ]?;
-    expect_answered(&rt, alloc, &[(33, 2)], &added, in_the_added)
+    expect_written(&rt, alloc, &[], &[(1, 5), (4, 6)])?;
+    expect_written(&rt, alloc, &[(15, 1), (24, 1), (0, 1)], &[(1, 5), (4, 6)])?;
+    expect_written(&rt, alloc, &[(17, 9), (17, 7)], &[(1, 7), (4, 6)])?;
+    expect_written(
+        &rt,
+        alloc,
+        &[(18, 3), (23, 8), (16, 1)],
+        &[(0, 1), (1, 5), (2, 3), (4, 6), (7, 8)],
+    )
+}
+
+fn expect_added(
+    rt: &impl Abort,
+    alloc: Global,
+    new: &[(u32, u32)],
+    all: &[(u32, u32)],
+) -> Result<(), Fail> {
+    let heap = Heap {
+        blocks: blocks(alloc, &[(16, 8)])?,
+    };
+    let new = blocks(alloc, new)?;
+    let answered = heap.answered(alloc, &[], new.as_slice())?;
+    assert!(rt; answered.is_well_formed());
+    assert_eq!(rt; answered.blocks, blocks(alloc, all)?);
+    Ok(())
 }
 
 #[test]
 fn blocks_are_added_where_they_fit(rt: HostRuntime) -> Result<(), Fail> {
     let alloc = rt.alloc();
-    let touching = [
-        block(alloc, 8, 8, &[])?,
-        block(alloc, 24, 1, &[])?,
-        block(alloc, 0xffff_fffc, 4, &[])?,
-    ];
-    let all = vec![in alloc;
-        block(alloc, 16, 8, &[(1, 5), (4, 6)])?,
-        block(alloc, 8, 8, &[])?,
-        block(alloc, 24, 1, &[])?,
-        block(alloc, 0xffff_fffc, 4, &[])?,
-    ]?;
-    expect_answered(&rt, alloc, &[], &touching, all)?;
-    let overlapping = [
-        block(alloc, 23, 4, &[])?,
-        block(alloc, 30, 4, &[])?,
-        block(alloc, 33, 1, &[])?,
-    ];
-    let first = vec![in alloc;
-        block(alloc, 16, 8, &[(1, 5), (4, 6)])?,
-        block(alloc, 30, 4, &[])?,
-    ]?;
-    expect_answered(&rt, alloc, &[], &overlapping, first)
+    expect_added(&rt, alloc, &[], &[(16, 8)])?;
+    expect_added(&rt, alloc, &[(8, 8), (24, 1)], &[(16, 8), (8, 8), (24, 1)])?;
+    expect_added(
+        &rt,
+        alloc,
+        &[(23, 4), (30, 4), (33, 1), (8, 9)],
+        &[(16, 8), (30, 4)],
+    )?;
+    expect_added(&rt, alloc, &[(0, 4), (32, 0), (0xffff_fffd, 4)], &[(16, 8)])?;
+    expect_added(
+        &rt,
+        alloc,
+        &[(0xffff_fffc, 4)],
+        &[(16, 8), (0xffff_fffc, 4)],
+    )
 }
 
-#[test]
-fn what_is_no_block_is_left_out(rt: HostRuntime) -> Result<(), Fail> {
-    let alloc = rt.alloc();
-    let none = [
-        block(alloc, 0, 4, &[])?,
-        block(alloc, 0xffff_fffd, 4, &[])?,
-        block(alloc, 32, 0, &[])?,
-        block(alloc, 32, 4, &[(2, 0), (1, 0)])?,
-        block(alloc, 32, 4, &[(2, 0), (2, 0)])?,
-        block(alloc, 32, 4, &[(4, 0)])?,
-    ];
-    let as_it_was = vec![in alloc; block(alloc, 16, 8, &[(1, 5), (4, 6)])?]?;
-    expect_answered(&rt, alloc, &[], &none, as_it_was)
-}
-
-#[test]
-fn heaps_overlap_nowhere(rt: HostRuntime) -> Result<(), Fail> {
-    let alloc = rt.alloc();
-    let apart = Heap {
-        blocks: List::from_vec(vec![in alloc;
-            block(alloc, 16, 8, &[(7, 1)])?,
-            block(alloc, 8, 8, &[])?,
-        ]?),
-    };
-    assert!(rt; apart.is_well_formed());
-    let overlapping = Heap {
-        blocks: List::from_vec(vec![in alloc;
-            block(alloc, 16, 8, &[])?,
-            block(alloc, 8, 9, &[])?,
-        ]?),
-    };
-    assert!(rt; !overlapping.is_well_formed());
+fn expect_cells(
+    rt: &impl Abort,
+    alloc: Global,
+    cells: &[(u32, u8)],
+    fit: bool,
+) -> Result<(), Fail> {
+    assert_eq!(rt; one_block(alloc, cells)?.is_well_formed(), fit);
     Ok(())
+}
+
+#[test]
+fn cells_ascend_inside_their_block(rt: HostRuntime) -> Result<(), Fail> {
+    let alloc = rt.alloc();
+    expect_cells(&rt, alloc, &[(0, 3), (7, 3)], true)?;
+    expect_cells(&rt, alloc, &[(2, 3), (1, 3)], false)?;
+    expect_cells(&rt, alloc, &[(2, 3), (2, 3)], false)?;
+    expect_cells(&rt, alloc, &[(8, 3)], false)
 }
