@@ -1,0 +1,28 @@
+use crate::heap::{Block, Heap};
+use crate::value::RustValue;
+use crate::word::Word;
+use wit_model::List;
+
+/// Whether the printed code tests what comes in.
+#[derive(Clone, Copy, Debug, PartialEq, Eq)]
+pub enum Form {
+    Debug,
+    Release,
+}
+
+/// What the other side answers.
+#[derive(Debug, PartialEq, Drop)]
+pub enum Answer {
+    /// The peer of an import: its result word, if the core function has one, the bytes that it writes, by address, and
+    /// the blocks that it makes.
+    Words {
+        result: Option<Word>,
+        writes: List<(u32, u8)>,
+        blocks: List<Block>,
+    },
+    /// The implementation of an export: its value, and the heap that it leaves.
+    Value {
+        value: Option<RustValue>,
+        heap: Heap,
+    },
+}

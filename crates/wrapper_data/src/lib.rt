@@ -1,0 +1,20 @@
+//! What a run of a wrapper is about: heaps, words, Rust values, choices, answers, and the run itself.
+#![tactic(auto)]
+
+mod answer;
+mod answered;
+mod block;
+mod choice;
+mod heap;
+mod run;
+#[cfg(test)]
+mod tests;
+mod value;
+mod word;
+
+pub use answer::{Answer, Form};
+pub use choice::{Choice, Choices, Request};
+pub use heap::{Block, Heap};
+pub use run::{CallPoint, Run, Stop, Target, TrapKind};
+pub use value::RustValue;
+pub use word::Word;
