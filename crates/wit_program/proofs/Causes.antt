@@ -1,6 +1,5 @@
 -- The cause of a refusal, carried from the call that finds it to the whole run.
-use Rattle.std.proofs.Common.{◌≡◌, ◌≢◌, ◌∙◌, ap, ℕ, List, [], true, Result, Err, Some, refl, subst, sym}
-use Rattle.std.specs.Prelude.{◌⊎◌}
+use Rattle.std.proofs.Common.{◌≡◌, ◌≢◌, ◌∙◌, ap, ℕ, List, [], true, Err, Some, refl, subst, sym}
 use Rattle.std.proofs.Common.{inl, inr}
 use Rattle.rust_gen.specs.declared.error.GenError.{GenError}
 use Rattle.rust_gen.specs.declared.error.GenError.TheVariants as error

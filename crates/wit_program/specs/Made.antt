@@ -1,5 +1,5 @@
 -- What is made of the bytes of a document: the tree of the world that it asks for, or a refusal for its cause.
-use Rattle.std.specs.Prelude.{◌≡◌, ℕ, List, [], ◌∷◌, Option, Some, None, slice_get, ⊤}
+use Rattle.std.specs.Prelude.{◌≡◌, ℕ, List, [], ◌∷◌, Some, None, slice_get, ⊤}
 use Rattle.gen_files.specs.Entries.{Entry}
 use Rattle.wit_model.specs.declared.world.World.{World}
 use Rattle.rust_tree.specs.Tree.{Tree}
