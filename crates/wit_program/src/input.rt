@@ -6,6 +6,9 @@ use std::alloc::Global;
 use wit_document::{Document, DocumentFault, document_of};
 use wit_model::{Resolve, WorldId};
 
+/// Why the bytes give no input: they are no document, or there was no memory.
+pub type InputFault2 = DocumentFault;
+
 /// What a document asks for: the tables of a resolved world, the world to generate, and the options.
 #[derive(Debug, PartialEq, Drop)]
 pub struct Input {
@@ -17,7 +20,7 @@ pub struct Input {
 /// The input that the bytes of a JSON document are. It is `BadJson` exactly where the bytes are no document, and there
 /// may be no memory for it.
 #[tactic(auto, unfolding(crate::specs::Input::input_in))]
-pub fn input_of(alloc: Global, bytes: &[u8]) -> Result<Input, DocumentFault>
+pub fn input_of(alloc: Global, bytes: &[u8]) -> Result<Input, InputFault2>
     ensures { Reads result (input_in bytes.now) }
 {
     let Document { resolve, world } = document_of(alloc, bytes)?;

@@ -8,11 +8,10 @@ ghost use Rattle.rust_gen.specs.Wrapper.{Wraps};
 ghost use Rattle.wit_program.specs.Input.{input_in};
 ghost use Rattle.wit_program.specs.Made.{IsBoundFor, IsBytesCause, Makes, only_bytes};
 
-use crate::input::{Input, input_of};
+use crate::input::{Input, InputFault2, input_of};
 use rust_gen::{Files, GenError};
 use rust_tree::Bindings;
 use std::alloc::Global;
-use wit_document::DocumentFault;
 use wit_refusal::Refusal;
 
 /// A tree, and the one file that holds its text.
@@ -38,8 +37,8 @@ fn read(alloc: Global, bytes: &[u8]) -> Result<Input, Refusal>
 {
     match input_of(alloc, bytes) {
         Ok(input) => Ok(input),
-        Err(DocumentFault::BadJson) => Err(Refusal::BadJson),
-        Err(DocumentFault::OutOfMemory) => Err(Refusal::OutOfMemory),
+        Err(InputFault2::BadJson) => Err(Refusal::BadJson),
+        Err(InputFault2::OutOfMemory) => Err(Refusal::OutOfMemory),
     }
 }
 
