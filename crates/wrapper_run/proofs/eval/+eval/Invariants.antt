@@ -1,0 +1,9 @@
+use Rattle.std.proofs.Common.{◌≡◌, ◌++◌, map, drop}
+use Rattle.wrapper_run.specs.Act.{◌>>=◌, all, pure}
+use Rattle.wrapper_run.specs.Run.{eval, setting}
+use Rattle.wrapper_run.proofs.eval.+eval.Given as goal
+
+-- the rest of the list, with the values so far in front
+abbrev pub invariant-eval_all-loop-e : goal.invariant-eval_all-loop-e
+invariant-eval_all-loop-e l =
+    (all (map (eval (setting l.world)) (drop l.e-index l.es)) >>= (λ vs. pure (l.vs ++ vs))) l.state ≡ all (map (eval (setting l.world)) l.es) l.initial.state

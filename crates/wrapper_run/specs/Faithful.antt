@@ -1,0 +1,51 @@
+-- What it means that the wrapper of an import is faithful to its function.
+use Rattle.std.specs.Prelude.{◌≡◌, ℕ, List, [], ◌∷◌, ◌++◌, Option, None, Some, codes, map}
+use Rattle.wit_model.specs.declared.function.Function.{Function}
+use Rattle.wit_model.specs.declared.types.WitType.{WitType}
+use Rattle.rust_tree.specs.declared.item.FnItem.{FnItem}
+use Rattle.rust_tree.specs.declared.item.Item.{Item}
+use Rattle.wrapper_data.specs.declared.answer.Answer.{Answer}
+use Rattle.wrapper_data.specs.declared.answer.Form.{Form}
+use Rattle.wrapper_data.specs.declared.choice.Choices.{Choices}
+use Rattle.wrapper_data.specs.declared.heap.Heap.{Heap}
+use Rattle.wrapper_data.specs.declared.run.CallPoint.{CallPoint}
+use Rattle.wrapper_data.specs.declared.run.Run.{Run}
+use Rattle.wrapper_data.specs.declared.run.Stop.TheVariants as stop
+use Rattle.wrapper_data.specs.declared.run.Target.{Target}
+use Rattle.wrapper_data.specs.declared.run.Target.TheVariants as target
+use Rattle.wrapper_data.specs.declared.value.RustValue.{RustValue}
+use Rattle.wrapper_data.specs.declared.word.Word.{Word}
+use Rattle.wrapper_run.specs.Honest.{HonestPeer}
+use Rattle.wrapper_run.specs.Represents.{LendsAll}
+use Rattle.wrapper_run.specs.Run.{run_item}
+use Rattle.wrapper_run.specs.StandsFor.{StandAll, StandsResult}
+use Rattle.wrapper_run.specs.Value.{WitValue, AreValues, IsResult}
+
+abbrev pub param_types : Function → List WitType
+param_types f = map (λ p. p.ty) f.params
+
+-- the core import of a function of the world
+abbrev pub import_target : Function → Target
+import_target f = target.Core (codes "$root") f.name.wit
+
+-- the run made this call
+abbrev pub Made : CallPoint → Run → Type 0
+Made c run = (before : List CallPoint) × (later : List CallPoint) × (run.calls ≡ before ++ (c ∷ later))
+
+-- a run that is done: one call of the function's own import, with words that represent the given values; a value that
+-- stands for the peer's; the heap that was given; and no request
+pub record Carries (f : Function) (vs : List WitValue) (v : Option WitValue) (heap : Heap) (run : Run) : Type 0 where
+  pub done : run.stop ≡ stop.Done
+  pub words : List Word
+  pub call : run.calls ≡ record { target = import_target f; words = words; values = []; heap = heap } ∷ []
+  pub represents : LendsAll (param_types f) vs words
+  pub gives : StandsResult f.result v run.value
+  pub account : run.heap ≡ heap
+  pub requests : run.requests ≡ []
+
+-- in both forms, for all values, every heap, all choices, and every answer that is honest at the call that the run makes
+pub record IsFaithful (items : List Item) (number : ℕ) (item : FnItem) (f : Function) : Type 0 where
+  pub faithful : (form : Form) (vs : List WitValue) (v : Option WitValue) (args : List RustValue) (heap : Heap) (choices : Choices) (a : Answer)
+      → AreValues (param_types f) vs → IsResult f.result v → StandAll (param_types f) vs args
+      → ((c : CallPoint) → Made c (run_item (record { items = items; item = number; answer = a; form = form }) item args heap choices) → HonestPeer f.result v a c.heap)
+      → Carries f vs v heap (run_item (record { items = items; item = number; answer = a; form = form }) item args heap choices)

@@ -1,0 +1,10 @@
+pub mod Act
+pub mod Effect
+pub mod Faithful
+pub mod Honest
+pub mod Locals
+pub mod Represents
+pub mod Run
+pub mod Seen
+pub mod StandsFor
+pub mod Value

@@ -1,0 +1,232 @@
+-- What a wrapper's run is: structural over the finished tree, with an answer for the other side.
+use Rattle.std.specs.Prelude.{ℕ, zero, suc, Bool, false, List, [], ◌∷◌, ◌++◌, codes, Option, None, Some, option_and_then, if◌then◌else◌, find, slice_get}
+use Rattle.std.specs.Option.{option_map, option_or}
+use Rattle.std.specs.Str.{bytes_eq}
+use Rattle.wit_model.specs.declared.size.WasmType.{WasmType}
+use Rattle.rust_tree.specs.declared.expr.Expr.{Expr, Expr-F, fold-Expr}
+use Rattle.rust_tree.specs.declared.item.FnItem.{FnItem}
+use Rattle.rust_tree.specs.declared.item.FnParam.{FnParam}
+use Rattle.rust_tree.specs.declared.item.Item.{Item}
+use Rattle.rust_tree.specs.declared.item.Item.TheVariants as item
+use Rattle.rust_tree.specs.declared.path.Path.{Path}
+use Rattle.rust_tree.specs.declared.runtime_item.RuntimeItem.{RuntimeItem}
+use Rattle.rust_tree.specs.declared.stmt.Block.{Block}
+use Rattle.rust_tree.specs.declared.stmt.ImportDecl.{ImportDecl}
+use Rattle.rust_tree.specs.declared.stmt.Stmt.{Stmt}
+use Rattle.rust_tree.specs.declared.stmt.Stmt.TheVariants as stmt
+use Rattle.rust_tree.specs.Tree.{Tree, wrappers_of}
+use Rattle.wrapper_data.specs.Answered.{answered}
+use Rattle.wrapper_data.specs.declared.answer.Answer.{Answer}
+use Rattle.wrapper_data.specs.declared.answer.Answer.TheVariants as answer
+use Rattle.wrapper_data.specs.declared.answer.Form.{Form}
+use Rattle.wrapper_data.specs.declared.choice.Choices.{Choices}
+use Rattle.wrapper_data.specs.declared.heap.Heap.{Heap}
+use Rattle.wrapper_data.specs.declared.run.CallPoint.{CallPoint}
+use Rattle.wrapper_data.specs.declared.run.Run.{Run}
+use Rattle.wrapper_data.specs.declared.run.Stop.{Stop}
+use Rattle.wrapper_data.specs.declared.run.Stop.TheVariants as stop_of
+use Rattle.wrapper_data.specs.declared.run.Target.TheVariants as target
+use Rattle.wrapper_data.specs.declared.value.RustValue.{RustValue}
+use Rattle.wrapper_data.specs.declared.value.RustValue.TheVariants as value
+use Rattle.wrapper_data.specs.declared.word.Word.{Word}
+use Rattle.wrapper_run.specs.declared.state.Local.{Local}
+use Rattle.wrapper_run.specs.declared.state.State.{State}
+use Rattle.wrapper_run.specs.declared.state.World.{World}
+use Rattle.wrapper_run.specs.declared.state.Val.{Val}
+use Rattle.wrapper_run.specs.declared.state.Val.TheVariants as val
+use Rattle.wrapper_run.specs.Act.{Act, Outcome, Done, Stopped, ◌>>=◌, ◌>>◌, all, or_stop, pure, stop}
+use Rattle.wrapper_run.specs.Effect.{answer_of, cast_to, converted, is_word_of, runtime_function, word_of}
+use Rattle.wrapper_run.specs.Locals.{Bytes, bind, declare, import_named, local_named, read_local}
+
+-- what a run does not change: the items of the file, the number of the wrapper's item, the answer of the other side, and
+-- whether the code tests what comes in
+pub record Setting : Type 0 where
+  pub items : List Item
+  pub item : ℕ
+  pub answer : Answer
+  pub form : Form
+
+abbrev pub setting : World → Setting
+setting w = record { items = w.items.now; item = w.item; answer = w.answer.now; form = w.form }
+
+-- the code does what has no meaning
+abbrev pub stuck : Setting → Stop
+stuck w = stop_of.Stuck w.item
+
+-- names
+
+abbrev pub runtime_item_in : List RuntimeItem → Bytes → Option RuntimeItem
+runtime_item_in parts name = find (λ i. bytes_eq (runtime_function i) name) parts
+
+abbrev pub found_in : Item → Bytes → Option RuntimeItem
+found_in (item.Import _) name = None
+found_in (item.Runtime parts) name = runtime_item_in parts name
+
+-- the runtime item with a function of this name, in the first `_rt` that has one
+abbrev pub runtime_item_named : List Item → Bytes → Option RuntimeItem
+runtime_item_named [] name = None
+runtime_item_named (i ∷ items) name = option_or (found_in i name) (runtime_item_named items name)
+
+-- what a path of a call names: a name alone, a function of `_rt`, or nothing
+pub data Callee : Type 0 where
+  alone : Bytes → Callee
+  of_runtime : Bytes → Callee
+  unknown : Callee
+
+unfoldable pub runtime_module_name : Bytes
+runtime_module_name = codes "_rt"
+
+abbrev pub names_callee : List Bytes → Callee
+names_callee [] = unknown
+names_callee (name ∷ []) = alone name
+names_callee (first ∷ name ∷ []) = if bytes_eq first runtime_module_name then of_runtime name else unknown
+names_callee (_ ∷ _ ∷ _ ∷ _) = unknown
+
+abbrev pub path_callee : Bool → ℕ → List Bytes → Callee
+path_callee false zero names = names_callee names
+path_callee _ _ names = unknown
+
+unfoldable pub callee : Path → Callee
+callee path = path_callee path.lead path.supers path.names
+
+-- the call of a core import
+
+-- the words of the arguments, each of its parameter's type
+abbrev pub words_of : List WasmType → List Val → Option (List Word)
+words_of [] [] = Some []
+words_of [] (_ ∷ _) = None
+words_of (_ ∷ _) [] = None
+words_of (ty ∷ types) (v ∷ vs) = option_and_then (λ w. option_map (λ ws. w ∷ ws) (words_of types vs)) (word_of ty v)
+
+abbrev pub point_of : ImportDecl → Heap → List Word → CallPoint
+point_of d heap words = record { target = target.Core d.module d.link_name; words = words; values = []; heap = heap }
+
+-- the value of a core result
+abbrev pub result_of : Option WasmType → Option Word → Option Val
+result_of None None = Some (val.Value value.Unit)
+result_of None (Some _) = None
+result_of (Some ty) None = None
+result_of (Some ty) (Some w) = if is_word_of ty w then Some (val.Word w) else None
+
+-- the peer adds its blocks and writes its bytes, and its word is the call's value
+abbrev pub answer_act : Setting → Option WasmType → Answer → Act Val
+answer_act w ty (answer.Words result writes blocks) = λ s. or_stop (stuck w) (result_of ty result) (record s { heap = answered blocks writes s.heap })
+answer_act w ty (answer.Value _ _) = stop (stuck w)
+
+unfoldable pub take_answer : Setting → Option WasmType → Act Val
+take_answer w ty = answer_act w ty w.answer
+
+-- a declared import, unless a local hides it
+abbrev pub unhidden : Option Local → Option ImportDecl → Option ImportDecl
+unhidden None d = d
+unhidden (Some _) d = None
+
+abbrev pub called_with : State → List Val → ImportDecl → Option (CallPoint × Option WasmType)
+called_with s vs d = option_map (λ ws. (point_of d s.heap ws, d.result)) (words_of d.params vs)
+
+-- the call of a declared import, with the heap at the call, and the type of its result
+unfoldable pub call_point : State → Bytes → List Val → Option (CallPoint × Option WasmType)
+call_point s name vs = option_and_then (called_with s vs) (unhidden (local_named name s.locals) (import_named name s.imports))
+
+-- a call is recorded before it is answered
+abbrev pub record_call : CallPoint → Act (Unit {0})
+record_call p = λ s. Done tt (record s { calls = s.calls ++ p ∷ [] })
+
+abbrev pub call_import : Setting → Bytes → List Val → Act Val
+call_import w name vs = λ s. (or_stop (stuck w) (call_point s name vs) >>= (λ p. record_call p.0 >> take_answer w p.1)) s
+
+-- the call of a function of `_rt`
+
+abbrev pub convert_one : Option RuntimeItem → List Val → Option Word
+convert_one i [] = None
+convert_one i (v ∷ []) = option_and_then (λ f. converted f v) i
+convert_one i (_ ∷ _ ∷ _) = None
+
+unfoldable pub call_runtime : Setting → Bytes → List Val → Act Val
+call_runtime w name vs = or_stop (stuck w) (option_map val.Word (convert_one (runtime_item_named w.items name) vs))
+
+abbrev pub call_callee : Setting → Callee → List Val → Act Val
+call_callee w (alone name) vs = call_import w name vs
+call_callee w (of_runtime name) vs = call_runtime w name vs
+call_callee w unknown vs = stop (stuck w)
+
+abbrev pub call : Setting → Path → List Val → Act Val
+call w path vs = call_callee w (callee path) vs
+
+-- expressions, statements, blocks
+
+-- one level of an expression, with the acts of the expressions in it
+abbrev pub eval_step : Setting → Expr-F (Act Val) → Act Val
+eval_step w (Expr-F.Local name) = read_local (stuck w) name
+eval_step w (Expr-F.Ref name) = read_local (stuck w) name
+eval_step w (Expr-F.Cast e to) = e >>= (λ v. or_stop (stuck w) (cast_to to v))
+eval_step w (Expr-F.Call path arguments) = all arguments >>= (λ vs. call w path vs)
+
+abbrev pub eval : Setting → Expr → Act Val
+eval w = fold-Expr (Act Val) (eval_step w)
+
+abbrev pub run_stmt : Setting → Stmt → Act (Unit {0})
+run_stmt w (stmt.Import d) = declare d
+run_stmt w (stmt.Let name e) = eval w e >>= bind name
+run_stmt w (stmt.Expr e) = eval w e >> pure tt
+
+abbrev pub run_stmts : Setting → List Stmt → Act (Unit {0})
+run_stmts w [] = pure tt
+run_stmts w (s ∷ stmts) = run_stmt w s >> run_stmts w stmts
+
+-- a block without a tail is `()`
+abbrev pub run_tail : Setting → Option Expr → Act Val
+run_tail w None = pure (val.Value value.Unit)
+run_tail w (Some e) = eval w e
+
+abbrev pub run_block : Setting → Block → Act Val
+run_block w b = run_stmts w b.stmts >> run_tail w b.tail
+
+-- the whole run of an import's wrapper
+
+-- the parameters with their arguments
+abbrev pub bound_args : List FnParam → List RustValue → List Local
+bound_args [] args = []
+bound_args (p ∷ params) [] = []
+bound_args (p ∷ params) (a ∷ args) = record { name = p.name; value = Some (val.Value a) } ∷ bound_args params args
+
+abbrev pub run_fn : Setting → FnItem → Act (Option RustValue)
+run_fn w f = run_block w f.body >>= (λ v. or_stop (stuck w) (answer_of f.result v))
+
+abbrev pub start : FnItem → List RustValue → Heap → Choices → State
+start f args heap choices = record {
+  locals = bound_args f.params args;
+  imports = [];
+  heap = heap;
+  choices = choices.list;
+  requests = [];
+  calls = [];
+}
+
+-- the run that ends at a state
+abbrev pub run_at : Stop → Option RustValue → State → Run
+run_at e v s = record { stop = e; calls = s.calls; requests = s.requests; heap = s.heap; words = []; value = v }
+
+abbrev pub ended : Outcome (Option RustValue) → Run
+ended (Done v s) = run_at stop_of.Done v s
+ended (Stopped e s) = run_at e None s
+
+-- the run of a wrapper
+unfoldable pub run_item : Setting → FnItem → List RustValue → Heap → Choices → Run
+run_item w f args heap choices = ended (run_fn w f (start f args heap choices))
+
+-- the import wrapper of a place among the import wrappers, counted from 0
+abbrev pub import_nth : ℕ → List Item → Option FnItem
+import_nth nth [] = None
+import_nth zero (item.Import f ∷ items) = Some f
+import_nth (suc nth) (item.Import f ∷ items) = import_nth nth items
+import_nth nth (item.Runtime parts ∷ items) = import_nth nth items
+
+-- the item of a wrapper, with its number
+abbrev pub wrapper_of : Tree → ℕ → Option (ℕ × FnItem)
+wrapper_of t nth = option_and_then (λ f. option_map (λ w. (w.item.0, f)) (slice_get (wrappers_of t) nth)) (import_nth nth t.items)
+
+-- the run of a tree's wrapper
+abbrev pub import_run : Tree → ℕ → List RustValue → Heap → Choices → Answer → Form → Option Run
+import_run t nth args heap choices a form =
+    option_map (λ w. run_item (record { items = t.items; item = w.0; answer = a; form = form }) w.1 args heap choices) (wrapper_of t nth)

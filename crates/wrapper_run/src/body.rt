@@ -1,0 +1,64 @@
+//! What a body does.
+
+ghost use Rattle.std.specs.Prelude.{◌≡◌};
+ghost use Rattle.wrapper_run.specs.Act.{Runs};
+ghost use Rattle.wrapper_run.specs.Run as spec;
+
+use crate::eval::eval;
+use crate::locals::{bind, declare};
+use crate::state::{Halt, State, Val, World};
+use rust_tree::{Block, Expr, Stmt};
+use std::alloc::Global;
+use wrapper_data::RustValue;
+
+fn run_stmt(alloc: Global, world: &World, state: &mut State, s: &Stmt) -> Result<(), Halt>
+    ensures { Runs (spec.run_stmt (spec.setting world.now) s.now state.old) result state.new }
+{
+    match s {
+        Stmt::Import(d) => declare(alloc, state, d),
+        Stmt::Let(name, e) => {
+            let v = eval(alloc, world, state, e)?;
+            bind(alloc, state, name, v)
+        }
+        Stmt::Expr(e) => {
+            eval(alloc, world, state, e)?;
+            Ok(())
+        }
+    }
+}
+
+fn run_stmts(alloc: Global, world: &World, state: &mut State, stmts: &[Stmt]) -> Result<(), Halt>
+    ensures { Runs (spec.run_stmts (spec.setting world.now) stmts.now state.old) result state.new }
+{
+    for s in stmts {
+        run_stmt(alloc, world, state, s)?;
+    }
+    Ok(())
+}
+
+fn run_tail(
+    alloc: Global,
+    world: &World,
+    state: &mut State,
+    tail: &Option<Expr>,
+) -> Result<Val, Halt>
+    ensures { Runs (spec.run_tail (spec.setting world.now) tail.now state.old) result state.new }
+{
+    match tail {
+        None => Ok(Val::Value(RustValue::Unit)),
+        Some(e) => eval(alloc, world, state, e),
+    }
+}
+
+/// Runs a block, and gives its value.
+pub(crate) fn run_block(
+    alloc: Global,
+    world: &World,
+    state: &mut State,
+    b: &Block,
+) -> Result<Val, Halt>
+    ensures { Runs (spec.run_block (spec.setting world.now) b.now state.old) result state.new }
+{
+    run_stmts(alloc, world, state, b.stmts.as_slice())?;
+    run_tail(alloc, world, state, &b.tail)
+}

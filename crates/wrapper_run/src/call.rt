@@ -1,0 +1,275 @@
+//! Calls: of a declared core import, and of the functions of `_rt`.
+
+ghost use Rattle.std.specs.Prelude.{◌≡◌, ◌++◌, IfOk, OnOk, Some, None, if◌then◌else◌};
+ghost use Rattle.std.specs.Option.{option_map};
+ghost use Rattle.wrapper_data.specs.Answered.{answered};
+ghost use Rattle.wrapper_run.specs.Act.{Runs};
+ghost use Rattle.wrapper_run.specs.Effect.{is_word_of, word_of};
+ghost use Rattle.wrapper_run.specs.Run as spec;
+ghost use Rattle.wrapper_run.specs.Seen.{seen};
+
+use crate::effect::{converted, runtime_function};
+use crate::locals::{import_named, local_named};
+use crate::state::{Halt, State, Val, World};
+use rust_tree::{ImportDecl, Item, Path, RuntimeItem};
+use std::alloc::Global;
+use std::mem;
+use wit_model::{List, OutOfMemory, Text, WasmType};
+use wrapper_data::{Answer, Block, CallPoint, Heap, RustValue, Target, Word};
+
+/// Whether a word is a core value of a type.
+fn is_word_of(ty: WasmType, w: Word) -> bool
+    ensures { result ≡ is_word_of ty w }
+{
+    match (ty, w) {
+        (WasmType::I32, Word::I32(_)) => true,
+        (WasmType::I64, Word::I64(_)) => true,
+        (WasmType::F32, Word::F32(_)) => true,
+        (WasmType::F64, Word::F64(_)) => true,
+        (WasmType::Pointer, Word::Pointer(_)) => true,
+        (WasmType::PointerOrI64, Word::Slot(Some(_))) => true,
+        (WasmType::Length, Word::Length(_)) => true,
+        _ => false,
+    }
+}
+
+fn word_of(ty: WasmType, v: &Val) -> Option<Word>
+    ensures { result ≡ word_of ty v.now }
+{
+    match v {
+        Val::Word(w) => { if is_word_of(ty, *w) { Some(*w) } else { None } }
+        Val::Value(_) => None,
+    }
+}
+
+/// Puts the words of the arguments behind others, and tells whether each is of its parameter's type.
+fn push_words(words: &mut List<Word>, types: &[WasmType], vs: &[Val]) -> Result<bool, OutOfMemory>
+    ensures { IfOk result
+        (λ all. (if all then Some words.new else None) ≡ option_map (λ ws. words.old ++ ws) (spec.words_of types.now vs.now)) }
+{
+    match (types.split_first(), vs.split_first()) {
+        (None, None) => Ok(true),
+        (Some((ty, types)), Some((v, vs))) => match word_of(*ty, v) {
+            None => Ok(false),
+            Some(w) => {
+                words.push(w)?;
+                push_words(words, types, vs)
+            }
+        },
+        _ => Ok(false),
+    }
+}
+
+/// The words of the arguments, each of its parameter's type, if they are that.
+fn words_of(
+    alloc: Global,
+    types: &[WasmType],
+    vs: &[Val],
+) -> Result<Option<List<Word>>, OutOfMemory>
+    ensures { IfOk result (λ words. words ≡ spec.words_of types.now vs.now) }
+{
+    let mut words = List::new(alloc);
+    if push_words(&mut words, types, vs)? {
+        Ok(Some(words))
+    } else {
+        Ok(None)
+    }
+}
+
+fn point_of(
+    alloc: Global,
+    d: &ImportDecl,
+    heap: &Heap,
+    words: List<Word>,
+) -> Result<CallPoint, OutOfMemory>
+    ensures { IfOk result (λ point. point ≡ spec.point_of d.now heap.now words) }
+{
+    Ok(CallPoint {
+        target: Target::Core(d.module.copy(alloc)?, d.link_name.copy(alloc)?),
+        words,
+        values: List::new(alloc),
+        heap: heap.copy(alloc)?,
+    })
+}
+
+fn result_of(ty: Option<WasmType>, answered: Option<Word>) -> Option<Val>
+    ensures { result ≡ spec.result_of ty answered }
+{
+    match (ty, answered) {
+        (None, None) => Some(Val::Value(RustValue::Unit)),
+        (Some(ty), Some(w)) if is_word_of(ty, w) => Some(Val::Word(w)),
+        _ => None,
+    }
+}
+
+/// The runtime item whose function has a name, among the file's items.
+fn runtime_item_in(parts: &[RuntimeItem], name: &str) -> Option<RuntimeItem>
+    ensures { result ≡ spec.runtime_item_in parts.now name.now }
+{
+    parts
+        .iter()
+        .copied()
+        .find(|part| runtime_function(*part) == name)
+}
+
+fn found_in(item: &Item, name: &str) -> Option<RuntimeItem>
+    ensures { result ≡ spec.found_in item.now name.now }
+{
+    match item {
+        Item::Import(_) => None,
+        Item::Runtime(parts) => runtime_item_in(parts.as_slice(), name),
+    }
+}
+
+/// The runtime item whose function has a name, if the file has one.
+fn runtime_item_named(items: &[Item], name: &str) -> Option<RuntimeItem>
+    ensures { result ≡ spec.runtime_item_named items.now name.now }
+{
+    for item in items {
+        if let Some(found) = found_in(item, name) {
+            return Some(found);
+        }
+    }
+    None
+}
+
+/// What a path of a call names.
+enum Callee<'a> {
+    Alone(&'a Text),
+    Runtime(&'a Text),
+    Unknown,
+}
+
+#[tactic(auto, unfolding(crate::specs::Run::callee, crate::specs::Run::runtime_module_name))]
+fn callee_of(path: &Path) -> Callee<'_>
+    ensures { spec.callee path.now ≡ seen result }
+{
+    if path.lead || path.supers != 0 {
+        return Callee::Unknown;
+    }
+    match path.names.as_slice() {
+        [name] => Callee::Alone(name),
+        [first, name] if first.as_str() == "_rt" => Callee::Runtime(name),
+        _ => Callee::Unknown,
+    }
+}
+
+fn convert_one(item: Option<RuntimeItem>, vs: &[Val]) -> Option<Word>
+    ensures { result ≡ spec.convert_one item vs.now }
+{
+    match (item, vs) {
+        (Some(item), [v]) => converted(item, v),
+        _ => None,
+    }
+}
+
+/// Calls a function of `_rt`.
+#[tactic(auto, unfolding(crate::specs::Run::call_runtime))]
+fn call_runtime(world: &World, state: &State, name: &Text, vs: &[Val]) -> Result<Val, Halt>
+    ensures { Runs (spec.call_runtime (spec.setting world.now) name.now vs.now state.now) result state.now }
+{
+    match convert_one(runtime_item_named(world.items, name.as_str()), vs) {
+        None => Err(Halt::Stopped(world.stuck())),
+        Some(w) => Ok(Val::Word(w)),
+    }
+}
+
+/// The call of a declared import, with the heap at the call, and the type of its result.
+#[tactic(auto, unfolding(crate::specs::Run::call_point))]
+fn call_point(
+    alloc: Global,
+    state: &State,
+    name: &Text,
+    vs: &[Val],
+) -> Result<Option<(CallPoint, Option<WasmType>)>, OutOfMemory>
+    ensures { IfOk result (λ point. point ≡ spec.call_point state.now name.now vs.now) }
+{
+    if local_named(state.locals.as_slice(), name.as_str()).is_some() {
+        return Ok(None);
+    }
+    match import_named(state.imports.as_slice(), name.as_str()) {
+        None => Ok(None),
+        Some(d) => match words_of(alloc, d.params.as_slice(), vs)? {
+            None => Ok(None),
+            Some(words) => Ok(Some((point_of(alloc, d, &state.heap, words)?, d.result))),
+        },
+    }
+}
+
+/// The peer adds its blocks and writes its bytes, and its word is the call's value.
+#[tactic(auto, unfolding(crate::specs::Run::take_answer))]
+fn take_answer(
+    alloc: Global,
+    world: &World,
+    state: &mut State,
+    ty: Option<WasmType>,
+) -> Result<Val, Halt>
+    ensures { Runs (spec.take_answer (spec.setting world.now) ty state.old) result state.new }
+{
+    match world.answer {
+        Answer::Value { .. } => Err(Halt::Stopped(world.stuck())),
+        Answer::Words {
+            result: answered,
+            writes,
+            blocks,
+        } => {
+            change_heap(alloc, state, writes, blocks)?;
+            match result_of(ty, *answered) {
+                None => Err(Halt::Stopped(world.stuck())),
+                Some(v) => Ok(v),
+            }
+        }
+    }
+}
+
+fn change_heap(
+    alloc: Global,
+    state: &mut State,
+    writes: &List<(u32, u8)>,
+    blocks: &List<Block>,
+) -> Result<(), OutOfMemory>
+    ensures { OnOk result
+        (state.new ≡ record state.old { heap = answered blocks.now writes.now state.old.heap }) }
+{
+    let empty = Heap {
+        blocks: List::new(alloc),
+    };
+    let heap = mem::replace(&mut state.heap, empty);
+    state.heap = heap.answered(alloc, writes.as_slice(), blocks.as_slice())?;
+    Ok(())
+}
+
+fn call_import(
+    alloc: Global,
+    world: &World,
+    state: &mut State,
+    name: &Text,
+    vs: &[Val],
+) -> Result<Val, Halt>
+    ensures { Runs (spec.call_import (spec.setting world.now) name.now vs.now state.old) result state.new }
+{
+    match call_point(alloc, state, name, vs)? {
+        None => Err(Halt::Stopped(world.stuck())),
+        Some((point, ty)) => {
+            state.calls.push(point)?;
+            take_answer(alloc, world, state, ty)
+        }
+    }
+}
+
+/// Calls what a path names.
+pub(crate) fn call(
+    alloc: Global,
+    world: &World,
+    state: &mut State,
+    path: &Path,
+    vs: &[Val],
+) -> Result<Val, Halt>
+    ensures { Runs (spec.call (spec.setting world.now) path.now vs.now state.old) result state.new }
+{
+    match callee_of(path) {
+        Callee::Alone(name) => call_import(alloc, world, state, name, vs),
+        Callee::Runtime(name) => call_runtime(world, state, name, vs),
+        Callee::Unknown => Err(Halt::Stopped(world.stuck())),
+    }
+}

@@ -1,0 +1,18 @@
+//! The statement machine: runs of wrappers, over the finished tree.
+#![tactic(auto)]
+
+mod body;
+mod call;
+mod effect;
+mod eval;
+mod locals;
+mod run;
+mod state;
+#[cfg(test)]
+mod tests;
+
+pub use run::run_import;
+pub use wrapper_data::{
+    Answer, Block, CallPoint, Choice, Choices, Form, Heap, Request, Run, RustValue, Stop, Target,
+    TrapKind, Word,
+};

@@ -1,0 +1,187 @@
+ghost use Rattle.std.specs.Prelude.{◌≡◌, ◌++◌, ◌<◌, IfOk, IsSome, OnOk, Some, option_map, slice_get};
+ghost use Rattle.std.specs.Option.{option_copied};
+ghost use Rattle.wrapper_run.specs.Act.{Runs};
+ghost use Rattle.wrapper_run.specs.Run as spec;
+
+use crate::body::run_block;
+use crate::effect::answer_of;
+use crate::state::{Halt, Local, State, Val, World};
+use rust_tree::{Bindings, FnItem, FnParam, Item, WrapperId};
+use std::alloc::Global;
+use wit_model::{List, OutOfMemory};
+use wrapper_data::{Answer, Choice, Choices, Form, Heap, Run, RustValue, Stop};
+
+/// Puts the parameters, with their arguments, behind other locals.
+fn push_args(
+    alloc: Global,
+    locals: &mut List<Local>,
+    params: &[FnParam],
+    args: &[RustValue],
+) -> Result<(), OutOfMemory>
+    ensures { OnOk result (locals.new ≡ locals.old ++ spec.bound_args params.now args.now) }
+{
+    match (params.split_first(), args.split_first()) {
+        (Some((p, params)), Some((a, args))) => {
+            let name = p.name.copy(alloc)?;
+            let value = Some(Val::Value(a.copy(alloc)?));
+            locals.push(Local { name, value })?;
+            push_args(alloc, locals, params, args)
+        }
+        _ => Ok(()),
+    }
+}
+
+fn bound_args(
+    alloc: Global,
+    params: &[FnParam],
+    args: &[RustValue],
+) -> Result<List<Local>, OutOfMemory>
+    ensures { IfOk result (λ locals. locals ≡ spec.bound_args params.now args.now) }
+{
+    let mut locals = List::new(alloc);
+    push_args(alloc, &mut locals, params, args)?;
+    Ok(locals)
+}
+
+fn copy_choices(alloc: Global, choices: &Choices) -> Result<List<Choice>, OutOfMemory>
+    ensures { IfOk result (λ copied. copied ≡ choices.now.list) }
+{
+    Ok(List::from_vec(Vec::from_slice(alloc, choices.list.as_slice())?))
+}
+
+fn start(
+    alloc: Global,
+    f: &FnItem,
+    args: &List<RustValue>,
+    heap: &Heap,
+    choices: &Choices,
+) -> Result<State, OutOfMemory>
+    ensures { IfOk result (λ state. state ≡ spec.start f.now args.now heap.now choices.now) }
+{
+    Ok(State {
+        locals: bound_args(alloc, f.params.as_slice(), args.as_slice())?,
+        imports: List::new(alloc),
+        heap: heap.copy(alloc)?,
+        choices: copy_choices(alloc, choices)?,
+        requests: List::new(alloc),
+        calls: List::new(alloc),
+    })
+}
+
+fn run_fn(
+    alloc: Global,
+    world: &World,
+    state: &mut State,
+    f: &FnItem,
+) -> Result<Option<RustValue>, Halt>
+    ensures { Runs (spec.run_fn (spec.setting world.now) f.now state.old) result state.new }
+{
+    let v = run_block(alloc, world, state, &f.body)?;
+    match answer_of(f.result, &v) {
+        None => Err(Halt::Stopped(world.stuck())),
+        Some(answer) => Ok(answer),
+    }
+}
+
+fn ended(alloc: Global, state: State, stop: Stop, value: Option<RustValue>) -> Run
+    ensures { result ≡ spec.run_at stop value state }
+{
+    let State {
+        locals: _,
+        imports: _,
+        heap,
+        choices: _,
+        requests,
+        calls,
+    } = state;
+    Run {
+        stop,
+        calls,
+        requests,
+        heap,
+        words: List::new(alloc),
+        value,
+    }
+}
+
+/// The run of an import's wrapper that is this item, by its number.
+#[tactic(auto, unfolding(crate::specs::Run::run_item))]
+fn run_item(
+    alloc: Global,
+    world: &World,
+    f: &FnItem,
+    args: &List<RustValue>,
+    heap: &Heap,
+    choices: &Choices,
+) -> Result<Run, OutOfMemory>
+    ensures { IfOk result
+        (λ run. run ≡ spec.run_item (spec.setting world.now) f.now args.now heap.now choices.now) }
+{
+    let mut state = start(alloc, f, args, heap, choices)?;
+    match run_fn(alloc, world, &mut state, f) {
+        Ok(value) => Ok(ended(alloc, state, Stop::Done, value)),
+        Err(Halt::Stopped(stop)) => Ok(ended(alloc, state, stop, None)),
+        Err(Halt::OutOfMemory) => Err(OutOfMemory),
+    }
+}
+
+/// The import wrapper of a place among the import wrappers, counted from 0.
+fn import_nth(items: &[Item], nth: u32) -> Option<&FnItem>
+    ensures { option_copied result ≡ spec.import_nth nth items.now }
+{
+    let mut left = nth;
+    for item in items {
+        if let Item::Import(f) = item {
+            if left == 0 {
+                return Some(f);
+            }
+            left -= 1;
+        }
+    }
+    None
+}
+
+/// The item of a wrapper, with its number.
+fn wrapper_of(tree: &Bindings, wrapper: WrapperId) -> Option<(u32, &FnItem)>
+    ensures { option_map (λ w. (w.0, w.1.now)) result ≡ spec.wrapper_of tree.now wrapper.0 }
+{
+    match import_nth(tree.items(), wrapper.0) {
+        None => None,
+        Some(f) => match tree.wrappers().get(wrapper.0 as usize) {
+            None => None,
+            Some(info) => Some((info.item.0, f)),
+        },
+    }
+}
+
+/// Runs the wrapper of an imported function: from these arguments and this heap, with an allocator that answers by these
+/// choices and a peer that answers thus. The wrapper must be one of the tree.
+///
+/// The run is the one that the definition gives. `OutOfMemory` is the machine's own want of memory.
+pub fn run_import(
+    alloc: Global,
+    tree: &Bindings,
+    wrapper: WrapperId,
+    args: &List<RustValue>,
+    heap: &Heap,
+    choices: &Choices,
+    answer: &Answer,
+    form: Form,
+) -> Result<Run, OutOfMemory>
+    requires { IsSome (spec.wrapper_of tree.now wrapper.0) }
+    ensures { IfOk result
+        (λ run. Some run ≡ spec.import_run tree.now wrapper.0 args.now heap.now choices.now answer.now form) }
+{
+    match wrapper_of(tree, wrapper) {
+        None => unreachable!(),
+        Some((item, f)) => {
+            let world = World {
+                items: tree.items(),
+                item,
+                answer,
+                form,
+            };
+            run_item(alloc, &world, f, args, heap, choices)
+        }
+    }
+}

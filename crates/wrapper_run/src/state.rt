@@ -1,0 +1,73 @@
+//! The state of a run, and what its locals hold.
+
+use rust_tree::{ImportDecl, Item};
+use wit_model::{List, OutOfMemory, Text};
+use wrapper_data::{Answer, CallPoint, Choice, Form, Heap, Request, RustValue, Stop, Word};
+
+/// What a run does not change: the items of the file, the number of the wrapper's item, the other side's answer, and
+/// whether the code tests what comes in.
+#[derive(Clone, Copy)]
+pub(crate) struct World<'a> {
+    pub(crate) items: &'a [Item],
+    pub(crate) item: u32,
+    pub(crate) answer: &'a Answer,
+    pub(crate) form: Form,
+}
+
+impl World<'_> {
+    ghost use Rattle.std.specs.Prelude.{◌≡◌};
+    ghost use Rattle.wrapper_run.specs.Run.{setting, stuck};
+
+    /// The stop where the code does what has no meaning.
+    pub(crate) fn stuck(&self) -> Stop
+        ensures { result ≡ stuck (setting self.now) }
+    {
+        Stop::Stuck(self.item)
+    }
+}
+
+/// What a local holds: a core word, or a value of the Rust side.
+#[derive(Debug, PartialEq, Drop)]
+pub(crate) enum Val {
+    Word(Word),
+    Value(RustValue),
+}
+
+/// A local, by its name. One that was moved has no value.
+#[derive(Debug, PartialEq, Drop)]
+pub(crate) struct Local {
+    pub(crate) name: Text,
+    pub(crate) value: Option<Val>,
+}
+
+/// The state of a run.
+#[derive(Debug, PartialEq, Drop)]
+pub(crate) struct State {
+    /// The locals, the newest last.
+    pub(crate) locals: List<Local>,
+    /// The core imports that were declared, the newest last.
+    pub(crate) imports: List<ImportDecl>,
+    pub(crate) heap: Heap,
+    /// The choices that are left.
+    pub(crate) choices: List<Choice>,
+    pub(crate) requests: List<Request>,
+    pub(crate) calls: List<CallPoint>,
+}
+
+/// Why the machine does not go on: the run is stopped, or the machine itself has no memory.
+#[derive(Debug, PartialEq, Drop)]
+pub(crate) enum Halt {
+    Stopped(Stop),
+    OutOfMemory,
+}
+
+impl From<OutOfMemory> for Halt {
+    ghost use Rattle.std.specs.Prelude.{◌≡◌};
+    ghost use Rattle.wrapper_run.specs.declared.state.Halt.TheVariants as halt;
+
+    ghost from_gives = { λ _ made. made ≡ halt.OutOfMemory };
+
+    fn from(_error: OutOfMemory) -> Halt {
+        Halt::OutOfMemory
+    }
+}

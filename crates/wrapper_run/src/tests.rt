@@ -1,0 +1,4 @@
+//! Runs of wrappers as they are printed, against values from outside.
+
+mod made;
+mod runs;
