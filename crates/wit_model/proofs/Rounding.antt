@@ -1,0 +1,34 @@
+-- A number at the next multiple of another one.
+use Rattle.std.proofs.Common.{◌≡◌, ℕ, zero, suc, ◌+◌, ◌-◌, ◌*◌, ◌/◌, ◌%◌, ◌<◌, ◌≤◌, refl, sym, ap, ◌∙◌, subst, arith}
+use Rattle.std.proofs.Math.Nat.{lt-div-mul-add, mul-mod_left}
+use Rattle.std.proofs.lemmas.Nat.{div-mul-add, div-add-mod', div_below, mod_below, mul-le}
+use Rattle.wit_model.specs.Size.{rounded_up}
+
+-- the same number, written with its quotient and rest
+pub rounded_from_rest : (m n q r : ℕ) → r < m → n + (m - 1) ≡ q * m + r → rounded_up m n ≡ q * m
+rounded_from_rest m n q r below e = ap (λ k. k / m * m) e ∙ ap (λ k. k * m) (div-mul-add q m r below)
+
+-- a multiple stays
+pub rounded_multiple : (m n : ℕ) → 0 < m → n % m ≡ 0 → n ≡ rounded_up m n
+rounded_multiple m n some none =
+    let split = div-add-mod' n m in
+    sym (rounded_from_rest m n (n / m) (m - 1) (omega arith) (omega (arith, split, none)) ∙ omega (arith, split, none))
+
+-- and any other number goes to the next
+pub rounded_other : (m n : ℕ) → 0 < m → 0 < n % m → n + (m - n % m) ≡ rounded_up m n
+rounded_other m n some past =
+    let split = div-add-mod' n m in
+    let below = mod_below n m some in
+    sym (rounded_from_rest m n (n / m + 1) (n % m - 1) (omega arith) (omega (arith, split, below)) ∙ omega (arith, split, below))
+
+pub le-rounded : (m n : ℕ) → 0 < m → n ≤ rounded_up m n
+le-rounded m n some = let l = lt-div-mul-add {a = n + (m - 1)} {b = m} some in omega (arith, l)
+
+pub rounded-lt : (m n : ℕ) → 0 < m → rounded_up m n < n + m
+rounded-lt m n some = omega (arith, div-add-mod' (n + (m - 1)) m, some)
+
+-- no lesser multiple is at least the number
+pub rounded-le : (m n k : ℕ) → 0 < m → n ≤ k * m → rounded_up m n ≤ k * m
+rounded-le m n k some within =
+    let q : (n + (m - 1)) / m < k + 1 = div_below (n + (m - 1)) m (k + 1) some (omega (arith, within, some)) in
+    mul-le ((n + (m - 1)) / m) m k m (omega (arith, q)) (omega arith)

@@ -1,0 +1,124 @@
+ghost use Rattle.std.specs.Prelude.{◌≡◌, ◌++◌, IfOk, OnOk, false, decimal};
+ghost use Rattle.wit_model.specs.SizeText.{mark_text, pointers_text, bracketed, size_text, alignment_text};
+
+use crate::memory::OutOfMemory;
+use crate::size::{Alignment, ArchitectureSize};
+use crate::text::Text;
+use std::alloc::Global;
+
+/// The fixed words of a size as a Rust expression.
+#[derive(Clone, Copy)]
+enum Mark {
+    PointerSize,
+    Plus,
+    Times,
+    Open,
+    Close,
+}
+
+#[tactic(auto, unfolding(crate::specs::SizeText::mark_text))]
+fn spelled(mark: Mark) -> &'static str
+    ensures { result.now ≡ mark_text mark }
+{
+    match mark {
+        Mark::PointerSize => "::core::mem::size_of::<*const u8>()",
+        Mark::Plus => "+",
+        Mark::Times => "*",
+        Mark::Open => "(",
+        Mark::Close => ")",
+    }
+}
+
+fn put(out: &mut Text, mark: Mark) -> Result<(), OutOfMemory>
+    ensures { OnOk result (out.new ≡ out.old ++ mark_text mark) }
+{
+    out.push_str(spelled(mark))
+}
+
+fn push_pointers(out: &mut Text, n: u64) -> Result<(), OutOfMemory>
+    ensures { OnOk result (out.new ≡ out.old ++ pointers_text n) }
+{
+    out.push_number(n)?;
+    put(out, Mark::Times)?;
+    put(out, Mark::PointerSize)
+}
+
+fn pointers_of(alloc: Global, n: u64) -> Result<Text, OutOfMemory>
+    ensures { IfOk result (λ t. t ≡ pointers_text n) }
+{
+    let mut out = Text::new(alloc);
+    push_pointers(&mut out, n)?;
+    Ok(out)
+}
+
+fn sum_of(alloc: Global, bytes: u64, pointers: u64) -> Result<Text, OutOfMemory>
+    ensures { IfOk result (λ t. t ≡ decimal bytes ++ mark_text Mark.Plus ++ pointers_text pointers) }
+{
+    let mut out = Text::new(alloc);
+    out.push_number(bytes)?;
+    put(&mut out, Mark::Plus)?;
+    push_pointers(&mut out, pointers)?;
+    Ok(out)
+}
+
+fn bracketed(alloc: Global, plain: bool, term: Text) -> Result<Text, OutOfMemory>
+    ensures { IfOk result (λ t. t ≡ bracketed plain term) }
+{
+    if plain {
+        return Ok(term);
+    }
+    let mut out = Text::new(alloc);
+    put(&mut out, Mark::Open)?;
+    out.push_str(term.as_str())?;
+    put(&mut out, Mark::Close)?;
+    Ok(out)
+}
+
+fn text_of(alloc: Global, mark: Mark) -> Result<Text, OutOfMemory>
+    ensures { IfOk result (λ t. t ≡ mark_text mark) }
+{
+    Text::from_str(alloc, spelled(mark))
+}
+
+fn number_of(alloc: Global, n: u64) -> Result<Text, OutOfMemory>
+    ensures { IfOk result (λ t. t ≡ decimal n) }
+{
+    let mut out = Text::new(alloc);
+    out.push_number(n)?;
+    Ok(out)
+}
+
+impl ArchitectureSize {
+    /// The size as a Rust expression. With `PS` for the size of a pointer, it is the number of bytes where there is no
+    /// pointer, `PS` for one pointer alone, `n*PS` for several, and else `bytes+n*PS`. The last two stand in brackets,
+    /// unless `plain` is asked for.
+    pub fn format_term(&self, alloc: Global, plain: bool) -> Result<Text, OutOfMemory>
+        ensures { IfOk result (λ t. t ≡ size_text plain self.now) }
+    {
+        match (self.bytes, self.pointers) {
+            (bytes, 0) => number_of(alloc, bytes),
+            (0, 1) => text_of(alloc, Mark::PointerSize),
+            (0, n) => bracketed(alloc, plain, pointers_of(alloc, n)?),
+            (bytes, n) => bracketed(alloc, plain, sum_of(alloc, bytes, n)?),
+        }
+    }
+
+    /// The size as a Rust expression that may stand in a product.
+    pub fn format(&self, alloc: Global) -> Result<Text, OutOfMemory>
+        ensures { IfOk result (λ t. t ≡ size_text false self.now) }
+    {
+        self.format_term(alloc, false)
+    }
+}
+
+impl Alignment {
+    /// The alignment as a Rust expression: the number of bytes, or the size of a pointer.
+    pub fn format(&self, alloc: Global) -> Result<Text, OutOfMemory>
+        ensures { IfOk result (λ t. t ≡ alignment_text self.now) }
+    {
+        match self {
+            Alignment::Pointer => text_of(alloc, Mark::PointerSize),
+            Alignment::Bytes(n) => number_of(alloc, u64::from(*n)),
+        }
+    }
+}
