@@ -1,2 +1,6 @@
+pub mod AliasLemmas
+pub mod AllLemmas
 pub mod DistinctLemmas
 pub mod InRange
+pub mod ReachLemmas
+pub mod WellFormedLemmas

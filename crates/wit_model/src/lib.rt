@@ -1,6 +1,7 @@
 //! The tables of a resolved WIT world, and the containers that contracts see as plain data.
 #![tactic(auto)]
 
+mod alias;
 mod boxed;
 mod check;
 mod distinct;
@@ -8,12 +9,17 @@ mod function;
 mod index_range;
 mod list;
 mod lookup;
+mod map_key;
+mod members;
 mod memory;
 mod name;
 mod numbered;
+mod parts;
+mod place;
 mod resolve;
 mod size;
 mod text;
+mod type_order;
 mod types;
 mod world;
 
