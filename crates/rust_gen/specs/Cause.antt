@@ -1,5 +1,5 @@
 -- Why `generate` makes no file: the first cause, if there is one.
-use Rattle.std.specs.Prelude.{◌≡◌, ℕ, Bool, ◌&&◌, List, Option, None, Some, Result, Ok, Err, slice_get, if◌then◌else◌, ⊤}
+use Rattle.std.specs.Prelude.{◌≡◌, ℕ, Bool, true, false, ◌&&◌, List, Option, None, Some, Result, Ok, Err, slice_get, if◌then◌else◌, ⊤}
 use Rattle.std.specs.List.{list_all}
 use Rattle.std.specs.Option.{option_map, option_or}
 use Rattle.wit_model.specs.declared.name.WorldId.{WorldId}
@@ -8,7 +8,7 @@ use Rattle.wit_model.specs.declared.resolve.Rule.{Rule}
 use Rattle.wit_model.specs.declared.resolve.Rule.TheVariants.{IndexRange}
 use Rattle.wit_model.specs.declared.resolve.Table.TheVariants as table
 use Rattle.wit_model.specs.declared.world.World.{World}
-use Rattle.wit_model.specs.IndexRange.{Place}
+use Rattle.wit_model.specs.Place.{Place}
 use Rattle.wit_model.specs.WellFormed.{first_fault}
 use Rattle.rust_gen.specs.declared.error.GenError.{GenError}
 use Rattle.rust_gen.specs.declared.error.GenError.TheVariants.{InvalidWorld, Unsupported, OutOfMemory}
@@ -21,19 +21,37 @@ use Rattle.rust_gen.specs.NameText.{are_written_tables}
 abbrev pub invalid : Rule × Place → GenError
 invalid f = InvalidWorld f.0 f.1.0 f.1.1
 
--- all is built, and the finished generator would refuse nothing
-unfoldable pub is_accepted : Opts → Resolve → World → Bool
-is_accepted opts r world =
-    are_built_tables r && are_built_options opts && are_written_tables r && list_all has_distinct_names r.worlds && declares_well world
+abbrev pub unbuilt : World → GenError
+unbuilt world = Unsupported Unbuilt world.name.wit
+
+abbrev pub is_index_range : Rule → Bool
+is_index_range IndexRange = true
+is_index_range _ = false
+
+-- a fault of the tables that is an id out of range
+abbrev pub is_out_of_range : Option (Rule × Place) → Bool
+is_out_of_range None = false
+is_out_of_range (Some fault) = is_index_range fault.0
+
+unfoldable pub is_built : Opts → Resolve → Bool
+is_built opts r = are_built_tables r && are_built_options opts
+
+-- the finished generator would refuse nothing for its names
+unfoldable pub is_well_named : Resolve → World → Bool
+is_well_named r world = are_written_tables r && list_all has_distinct_names r.worlds && declares_well world
+
+-- the cause that lies in what is built: a fault of the tables, or a name
+abbrev pub built_cause : Resolve → World → Option GenError
+built_cause r world = option_or (option_map invalid (first_fault r)) (if is_well_named r world then None else Some (unbuilt world))
 
 -- the cause that lies in the world, which is that of the id, if the id names one
 abbrev pub world_cause : Opts → Resolve → WorldId → Option World → Option GenError
 world_cause opts r id None = Some (InvalidWorld IndexRange table.World id.0)
-world_cause opts r id (Some world) = if is_accepted opts r world then None else Some (Unsupported Unbuilt world.name.wit)
+world_cause opts r id (Some world) = if is_built opts r then built_cause r world else Some (unbuilt world)
 
--- first the tables' own faults, and then those of the world
+-- an id out of range comes first, that of the world last among them, and then what is not built
 unfoldable pub cause : Opts → Resolve → WorldId → Option GenError
-cause opts r id = option_or (option_map invalid (first_fault r)) (world_cause opts r id (slice_get r.worlds id.0))
+cause opts r id = if is_out_of_range (first_fault r) then option_map invalid (first_fault r) else world_cause opts r id (slice_get r.worlds id.0)
 
 -- an answer is given only where there is no cause, and a refusal only for its cause; want of memory is free
 abbrev pub IsAnswer : {T : Type 0} → Result T GenError → Option GenError → Type 0
@@ -44,4 +62,4 @@ IsAnswer (Err e) c = c ≡ Some e
 -- the refusal of a world that is not built
 abbrev pub IsUnbuilt : World → GenError → Type 0
 IsUnbuilt world OutOfMemory = ⊤
-IsUnbuilt world e = e ≡ Unsupported Unbuilt world.name.wit
+IsUnbuilt world e = e ≡ unbuilt world

@@ -1,9 +1,8 @@
 //! For which cause no file is made.
 
 ghost use Rattle.std.specs.Prelude.{◌≡◌, Some, IfOk, slice_get};
-ghost use Rattle.std.specs.Option.{option_map};
 ghost use Rattle.wit_model.specs.WellFormed.{first_fault};
-ghost use Rattle.rust_gen.specs.Cause.{IsAnswer, IsUnbuilt, cause, invalid, is_accepted, world_cause};
+ghost use Rattle.rust_gen.specs.Cause.{IsAnswer, IsUnbuilt, cause, invalid, is_built, is_index_range, is_well_named, built_cause, world_cause};
 
 use crate::built::{are_built_options, are_built_tables};
 use crate::error::{GenError, Lack};
@@ -13,16 +12,44 @@ use crate::opts::Opts;
 use std::alloc::Global;
 use wit_model::{OutOfMemory, Resolve, Rule, Table, World, WorldFault, WorldId};
 
-#[tactic(auto, unfolding(crate::specs::Cause::is_accepted))]
-fn is_accepted(
-    alloc: Global,
-    opts: &Opts,
-    resolve: &Resolve,
-    world: &World,
-) -> Result<bool, OutOfMemory>
-    ensures { IfOk result (λ b. b ≡ is_accepted opts.now resolve.now world.now) }
+/// A rule that the tables break, and the first entry that breaks it.
+type Fault = (Rule, (Table, u32));
+
+fn fault_of(alloc: Global, resolve: &Resolve) -> Result<Option<Fault>, OutOfMemory>
+    ensures { IfOk result (λ fault. fault ≡ first_fault resolve.now) }
 {
-    if !(are_built_tables(resolve) && are_built_options(opts) && are_written_tables(resolve)) {
+    match resolve.check(alloc) {
+        Ok(()) => Ok(None),
+        Err(WorldFault::InvalidWorld { rule, table, index }) => Ok(Some((rule, (table, index)))),
+        Err(WorldFault::OutOfMemory) => Err(OutOfMemory),
+    }
+}
+
+fn is_index_range(rule: Rule) -> bool
+    ensures { result ≡ is_index_range rule }
+{
+    matches!(rule, Rule::IndexRange)
+}
+
+fn invalid(fault: Fault) -> GenError
+    ensures { result ≡ invalid fault }
+{
+    let (rule, (table, index)) = fault;
+    GenError::InvalidWorld { rule, table, index }
+}
+
+#[tactic(auto, unfolding(crate::specs::Cause::is_built))]
+fn is_built(opts: &Opts, resolve: &Resolve) -> bool
+    ensures { result ≡ is_built opts.now resolve.now }
+{
+    are_built_tables(resolve) && are_built_options(opts)
+}
+
+#[tactic(auto, unfolding(crate::specs::Cause::is_well_named))]
+fn is_well_named(alloc: Global, resolve: &Resolve, world: &World) -> Result<bool, OutOfMemory>
+    ensures { IfOk result (λ b. b ≡ is_well_named resolve.now world.now) }
+{
+    if !are_written_tables(resolve) {
         return Ok(false);
     }
     if !have_distinct_names(alloc, resolve.worlds.as_slice())? {
@@ -31,19 +58,7 @@ fn is_accepted(
     declares_well(alloc, world)
 }
 
-fn checked(alloc: Global, resolve: &Resolve) -> Result<(), GenError>
-    ensures { IsAnswer result (option_map invalid (first_fault resolve.now)) }
-{
-    match resolve.check(alloc) {
-        Ok(()) => Ok(()),
-        Err(WorldFault::InvalidWorld { rule, table, index }) => {
-            Err(GenError::InvalidWorld { rule, table, index })
-        }
-        Err(WorldFault::OutOfMemory) => Err(GenError::OutOfMemory),
-    }
-}
-
-fn refused(alloc: Global, world: &World) -> GenError
+fn unbuilt(alloc: Global, world: &World) -> GenError
     ensures { IsUnbuilt world.now result }
 {
     match world.name.wit.copy(alloc) {
@@ -55,26 +70,40 @@ fn refused(alloc: Global, world: &World) -> GenError
     }
 }
 
+fn named(alloc: Global, resolve: &Resolve, world: &World, fault: Option<Fault>) -> Result<(), GenError>
+    requires { fault ≡ first_fault resolve.now }
+    ensures { IsAnswer result (built_cause resolve.now world.now) }
+{
+    if let Some(fault) = fault {
+        return Err(invalid(fault));
+    }
+    match is_well_named(alloc, resolve, world) {
+        Ok(true) => Ok(()),
+        Ok(false) => Err(unbuilt(alloc, world)),
+        Err(OutOfMemory) => Err(GenError::OutOfMemory),
+    }
+}
+
 fn accepted<'a>(
     alloc: Global,
     opts: &Opts,
     resolve: &'a Resolve,
     id: WorldId,
+    fault: Option<Fault>,
 ) -> Result<&'a World, GenError>
+    requires { fault ≡ first_fault resolve.now }
     ensures answer { IsAnswer result (world_cause opts.now resolve.now id (slice_get resolve.now.worlds id.0)) }
     ensures world { IfOk result (λ world. slice_get resolve.now.worlds id.0 ≡ Some world.now) }
 {
-    match resolve.world(id) {
-        None => Err(GenError::InvalidWorld {
-            rule: Rule::IndexRange,
-            table: Table::World,
-            index: id.0,
-        }),
-        Some(world) => match is_accepted(alloc, opts, resolve, world) {
-            Ok(true) => Ok(world),
-            Ok(false) => Err(refused(alloc, world)),
-            Err(OutOfMemory) => Err(GenError::OutOfMemory),
-        },
+    let Some(world) = resolve.world(id) else {
+        return Err(invalid((Rule::IndexRange, (Table::World, id.0))));
+    };
+    if !is_built(opts, resolve) {
+        return Err(unbuilt(alloc, world));
+    }
+    match named(alloc, resolve, world, fault) {
+        Ok(()) => Ok(world),
+        Err(e) => Err(e),
     }
 }
 
@@ -89,8 +118,15 @@ pub(crate) fn accepted_world<'a>(
     ensures answer { IsAnswer result (cause opts.now resolve.now id) }
     ensures world { IfOk result (λ world. slice_get resolve.now.worlds id.0 ≡ Some world.now) }
 {
-    match checked(alloc, resolve) {
-        Ok(()) => accepted(alloc, opts, resolve, id),
-        Err(e) => Err(e),
+    let fault = match fault_of(alloc, resolve) {
+        Ok(fault) => fault,
+        Err(OutOfMemory) => return Err(GenError::OutOfMemory),
+    };
+    let Some(first) = fault else {
+        return accepted(alloc, opts, resolve, id, None);
+    };
+    if is_index_range(first.0) {
+        return Err(invalid(first));
     }
+    accepted(alloc, opts, resolve, id, fault)
 }

@@ -18,7 +18,9 @@ use Rattle.wit_model.specs.declared.world.World.{World}
 use Rattle.wit_model.specs.declared.world.Interface.{Interface}
 use Rattle.wit_model.specs.declared.resolve.Resolve.{Resolve}
 use Rattle.wit_model.specs.declared.resolve.Table.{Table}
-use Rattle.wit_model.specs.IndexRange.{first_failing, first_out_of_range, type_in_range, payload_in_range, function_in_range, interface_in_range, owner_in_range, kind_in_range, type_def_in_range, listed_in_range, item_in_range, key_in_range, world_in_range}
+use Rattle.wit_model.specs.IndexRange.{first_out_of_range, type_in_range, payload_in_range, function_in_range, interface_in_range, owner_in_range, kind_in_range, type_def_in_range, listed_in_range, item_in_range, key_in_range, world_in_range}
+use Rattle.wit_model.specs.Place.{first_failing}
+use Rattle.wit_model.specs.TypeOrder.{type_below, payload_below}
 use Rattle.wit_model.specs.WellFormed.{first_fault}
 
 both_true : (a b : Bool) → (a && b) ≡ true → (a ≡ true) × (b ≡ true)
@@ -34,11 +36,11 @@ not_false : (b : Bool) → not b ≡ false → b ≡ true
 not_false true h = refl
 not_false false h = sym h
 
-unmapped : {A B : Type 0} (f : A → B) (o : Option A) → option_map f o ≡ None → o ≡ None
+pub unmapped : {A B : Type 0} (f : A → B) (o : Option A) → option_map f o ≡ None → o ≡ None
 unmapped f None h = refl
 unmapped f (Some x) h = cc
 
-neither : {A : Type 0} (a b : Option A) → option_or a b ≡ None → (a ≡ None) × (b ≡ None)
+pub neither : {A : Type 0} (a b : Option A) → option_or a b ≡ None → (a ≡ None) × (b ≡ None)
 neither None b h = (refl, h)
 neither (Some x) b h = cc
 
@@ -46,7 +48,7 @@ past_the_end : (m n : ℕ) → cond (nat_lt m n) (Some m) None ≡ None → n �
 past_the_end m n h = grind (arith, common_steps)
 
 -- where no entry of a table is the first to fail, each passes
-passes_at : {A : Type 0} (table : Table) (p : A → Bool) (xs : List A) (k : ℕ) (x : A) → first_failing table p xs ≡ None → slice_get xs k ≡ Some x → p x ≡ true
+pub passes_at : {A : Type 0} (table : Table) (p : A → Bool) (xs : List A) (k : ℕ) (x : A) → first_failing table p xs ≡ None → slice_get xs k ≡ Some x → p x ≡ true
 passes_at {A} table p xs k x h e =
     let test : A → Bool = λ y. not (p y) in
     let late : length xs ≤ position_or_len test xs = past_the_end _ _ (unmapped _ _ h) in
@@ -103,10 +105,10 @@ unfolding function_in_range
 param_in_range_at r f k p h e = all_at (λ (x : Param). type_in_range r x.ty) f.params k p (both_true _ _ (both_true _ _ h).0).1 e
 
 pub result_in_range : (r : Resolve) (f : Function) (ty : WitType) → function_in_range r f ≡ true → f.result ≡ Some ty → type_in_range r ty ≡ true
-unfolding function_in_range payload_in_range
+unfolding function_in_range payload_below
 result_in_range r f ty h e = subst (λ o. payload_in_range r o ≡ true) e (both_true _ _ h).1
 
 -- an id that a parameter, a result or a part names is a place of the table of types
 pub below_types : (r : Resolve) (id : TypeId) → type_in_range r (Id id) ≡ true → id.0 < length r.types
-unfolding type_in_range
+unfolding type_below
 below_types r id h = grind (arith, common_steps)

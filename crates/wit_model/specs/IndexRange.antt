@@ -1,17 +1,13 @@
 -- Whether each id that an entry of the tables holds is a place of its table, and which entry first holds one that is not.
-use Rattle.std.specs.Prelude.{ℕ, Bool, true, not, ◌&&◌, nat_lt, List, length, position, Option, None, Some}
+use Rattle.std.specs.Prelude.{Bool, true, ◌&&◌, nat_lt, List, length, Option, None, Some}
 use Rattle.std.specs.List.{list_all}
-use Rattle.std.specs.Option.{option_map, option_or}
+use Rattle.std.specs.Option.{option_or}
 use Rattle.wit_model.specs.declared.name.PackageId.{PackageId}
 use Rattle.wit_model.specs.declared.name.InterfaceId.{InterfaceId}
 use Rattle.wit_model.specs.declared.name.TypeId.{TypeId}
 use Rattle.wit_model.specs.declared.name.WorldId.{WorldId}
 use Rattle.wit_model.specs.declared.types.WitType.{WitType}
-use Rattle.wit_model.specs.declared.types.WitType.TheVariants.{Id}
-use Rattle.wit_model.specs.declared.types.Handle.{Handle}
-use Rattle.wit_model.specs.declared.types.Handle.TheVariants.{Own, Borrow}
 use Rattle.wit_model.specs.declared.types.TypeDefKind.{TypeDefKind}
-use Rattle.wit_model.specs.declared.types.TypeDefKind.TheVariants as kind
 use Rattle.wit_model.specs.declared.types.TypeOwner.{TypeOwner}
 use Rattle.wit_model.specs.declared.types.TypeOwner.TheVariants as owner
 use Rattle.wit_model.specs.declared.types.TypeDef.{TypeDef}
@@ -25,8 +21,9 @@ use Rattle.wit_model.specs.declared.world.WorldItem.TheVariants as item
 use Rattle.wit_model.specs.declared.world.World.{World}
 use Rattle.wit_model.specs.declared.world.Interface.{Interface}
 use Rattle.wit_model.specs.declared.resolve.Resolve.{Resolve}
-use Rattle.wit_model.specs.declared.resolve.Table.{Table}
 use Rattle.wit_model.specs.declared.resolve.Table.TheVariants as table
+use Rattle.wit_model.specs.Place.{Place, first_failing}
+use Rattle.wit_model.specs.TypeOrder.{type_below, payload_below, parts_below}
 
 abbrev pub package_id_in_range : Resolve → PackageId → Bool
 package_id_in_range r id = nat_lt id.0 (length r.packages)
@@ -41,37 +38,16 @@ abbrev pub world_id_in_range : Resolve → WorldId → Bool
 world_id_in_range r id = nat_lt id.0 (length r.worlds)
 
 -- a type as a parameter or a part names it
-unfoldable pub type_in_range : Resolve → WitType → Bool
-type_in_range r (Id id) = type_id_in_range r id
-type_in_range r _ = true
+abbrev pub type_in_range : Resolve → WitType → Bool
+type_in_range r ty = type_below (length r.types) ty
 
 -- a payload or a result, where there is one
-unfoldable pub payload_in_range : Resolve → Option WitType → Bool
-payload_in_range r None = true
-payload_in_range r (Some ty) = type_in_range r ty
-
-unfoldable pub handle_in_range : Resolve → Handle → Bool
-handle_in_range r (Own id) = type_id_in_range r id
-handle_in_range r (Borrow id) = type_id_in_range r id
+abbrev pub payload_in_range : Resolve → Option WitType → Bool
+payload_in_range r payload = payload_below (length r.types) payload
 
 -- each type that a kind names
-unfoldable pub kind_in_range : Resolve → TypeDefKind → Bool
-kind_in_range r (kind.Alias ty) = type_in_range r ty
-kind_in_range r (kind.Handle handle) = handle_in_range r handle
-kind_in_range r (kind.List element) = type_in_range r element
-kind_in_range r (kind.Map k v) = type_in_range r k && type_in_range r v
-kind_in_range r (kind.FixedLengthList element _) = type_in_range r element
-kind_in_range r (kind.Tuple members) = list_all (λ ty. type_in_range r ty) members
-kind_in_range r (kind.Option payload) = type_in_range r payload
-kind_in_range r (kind.Result ok err) = payload_in_range r ok && payload_in_range r err
-kind_in_range r (kind.Record fields) = list_all (λ f. type_in_range r f.ty) fields
-kind_in_range r (kind.Variant cases) = list_all (λ c. payload_in_range r c.ty) cases
-kind_in_range r (kind.Enum _) = true
-kind_in_range r (kind.Flags _) = true
-kind_in_range r kind.Resource = true
-kind_in_range r (kind.Future payload) = payload_in_range r payload
-kind_in_range r (kind.Stream payload) = payload_in_range r payload
-kind_in_range r kind.Unknown = true
+abbrev pub kind_in_range : Resolve → TypeDefKind → Bool
+kind_in_range r kind = parts_below (length r.types) kind
 
 unfoldable pub owner_in_range : Resolve → TypeOwner → Bool
 owner_in_range r (owner.World id) = world_id_in_range r id
@@ -123,14 +99,6 @@ listed_in_range r listed = list_all (λ l. key_in_range r l.0 && item_in_range r
 unfoldable pub world_in_range : Resolve → World → Bool
 world_in_range r entry =
     package_id_in_range r entry.package && listed_in_range r entry.imports && listed_in_range r entry.exports
-
--- a place of the tables
-abbrev pub Place : Type 0
-Place = Table × ℕ
-
--- the first entry of a table that fails a test
-abbrev pub first_failing : {A : Type 0} → Table → (A → Bool) → List A → Option Place
-first_failing table passes entries = option_map (λ index. (table, index)) (position (λ entry. not (passes entry)) entries)
 
 -- the first entry with an id that is out of range: of the interfaces, then of the types, then of the worlds; a package
 -- holds no id

@@ -3,15 +3,20 @@ use Rattle.std.specs.Prelude.{◌≡◌, false, List, [], ◌∷◌, Option, Non
 use Rattle.std.specs.Option.{option_map, option_or}
 use Rattle.wit_model.specs.declared.resolve.Resolve.{Resolve}
 use Rattle.wit_model.specs.declared.resolve.Rule.{Rule}
-use Rattle.wit_model.specs.declared.resolve.Rule.TheVariants.{IndexRange}
+use Rattle.wit_model.specs.declared.resolve.Rule.TheVariants.{IndexRange, TypeOrder, Members, MapKey}
 use Rattle.wit_model.specs.declared.resolve.WorldFault.{WorldFault}
 use Rattle.wit_model.specs.declared.resolve.WorldFault.TheVariants.{InvalidWorld, OutOfMemory}
-use Rattle.wit_model.specs.IndexRange.{Place, first_out_of_range}
+use Rattle.wit_model.specs.IndexRange.{first_out_of_range}
+use Rattle.wit_model.specs.TypeOrder.{first_out_of_order}
+use Rattle.wit_model.specs.Members.{first_without_members}
+use Rattle.wit_model.specs.MapKey.{first_bad_key}
 use Rattle.wit_model.specs.Numbered.{is_numbered}
+use Rattle.wit_model.specs.Place.{Place}
 
 -- the rules in their order, each with the first entry that breaks it
 abbrev pub broken_rules : Resolve → List (Rule × Option Place)
-broken_rules r = (IndexRange, first_out_of_range r) ∷ []
+broken_rules r =
+    (IndexRange, first_out_of_range r) ∷ (TypeOrder, first_out_of_order r) ∷ (Members, first_without_members r) ∷ (MapKey, first_bad_key r) ∷ []
 
 -- the first rule that some entry breaks, with that entry
 abbrev pub first_broken : List (Rule × Option Place) → Option (Rule × Place)

@@ -8,8 +8,6 @@ ghost use Rattle.wit_model.specs.IndexRange.{
   world_id_in_range,
   type_in_range,
   payload_in_range,
-  handle_in_range,
-  kind_in_range,
   owner_in_range,
   type_def_in_range,
   function_kind_in_range,
@@ -27,8 +25,10 @@ ghost use Rattle.wit_model.specs.Numbered.{tables_short};
 use crate::function::{Function, FunctionKind, Param};
 use crate::list::List;
 use crate::name::{InterfaceId, PackageId, TypeId, WorldId};
+use crate::place::placed;
 use crate::resolve::{Resolve, Table};
-use crate::types::{Case, Field, Handle, TypeDef, TypeDefKind, TypeOwner, WitType};
+use crate::type_order::{parts_below, payload_below, type_below};
+use crate::types::{TypeDef, TypeOwner, WitType};
 use crate::world::{Interface, World, WorldItem, WorldKey};
 
 fn package_id_in_range(resolve: &Resolve, id: PackageId) -> bool
@@ -55,84 +55,16 @@ fn world_id_in_range(resolve: &Resolve, id: WorldId) -> bool
     (id.0 as usize) < resolve.worlds.len()
 }
 
-#[tactic(auto, unfolding(crate::specs::IndexRange::type_in_range))]
 fn type_in_range(resolve: &Resolve, ty: WitType) -> bool
     ensures { result ≡ type_in_range resolve.now ty }
 {
-    match ty {
-        WitType::Id(id) => type_id_in_range(resolve, id),
-        _ => true,
-    }
+    type_below(resolve.types.len(), ty)
 }
 
-#[tactic(auto, unfolding(crate::specs::IndexRange::payload_in_range))]
 fn payload_in_range(resolve: &Resolve, payload: Option<WitType>) -> bool
     ensures { result ≡ payload_in_range resolve.now payload }
 {
-    match payload {
-        None => true,
-        Some(ty) => type_in_range(resolve, ty),
-    }
-}
-
-#[tactic(auto, unfolding(crate::specs::IndexRange::handle_in_range))]
-fn handle_in_range(resolve: &Resolve, handle: Handle) -> bool
-    ensures { result ≡ handle_in_range resolve.now handle }
-{
-    match handle {
-        Handle::Own(id) | Handle::Borrow(id) => type_id_in_range(resolve, id),
-    }
-}
-
-fn members_in_range(resolve: &Resolve, members: &List<WitType>) -> bool
-    ensures { result ≡ list_all (λ ty. type_in_range resolve.now ty) members.now }
-{
-    members
-        .as_slice()
-        .iter()
-        .all(|ty| type_in_range(resolve, *ty))
-}
-
-fn fields_in_range(resolve: &Resolve, fields: &List<Field>) -> bool
-    ensures { result ≡ list_all (λ field. type_in_range resolve.now field.ty) fields.now }
-{
-    fields
-        .as_slice()
-        .iter()
-        .all(|field| type_in_range(resolve, field.ty))
-}
-
-fn cases_in_range(resolve: &Resolve, cases: &List<Case>) -> bool
-    ensures { result ≡ list_all (λ case. payload_in_range resolve.now case.ty) cases.now }
-{
-    cases
-        .as_slice()
-        .iter()
-        .all(|case| payload_in_range(resolve, case.ty))
-}
-
-#[tactic(auto, unfolding(crate::specs::IndexRange::kind_in_range))]
-fn kind_in_range(resolve: &Resolve, kind: &TypeDefKind) -> bool
-    ensures { result ≡ kind_in_range resolve.now kind.now }
-{
-    match kind {
-        TypeDefKind::Alias(ty) => type_in_range(resolve, *ty),
-        TypeDefKind::Handle(handle) => handle_in_range(resolve, *handle),
-        TypeDefKind::List(element) => type_in_range(resolve, *element),
-        TypeDefKind::Map(k, v) => type_in_range(resolve, *k) && type_in_range(resolve, *v),
-        TypeDefKind::FixedLengthList(element, _) => type_in_range(resolve, *element),
-        TypeDefKind::Tuple(members) => members_in_range(resolve, members),
-        TypeDefKind::Option(payload) => type_in_range(resolve, *payload),
-        TypeDefKind::Result(ok, err) => {
-            payload_in_range(resolve, *ok) && payload_in_range(resolve, *err)
-        }
-        TypeDefKind::Record(fields) => fields_in_range(resolve, fields),
-        TypeDefKind::Variant(cases) => cases_in_range(resolve, cases),
-        TypeDefKind::Future(payload) => payload_in_range(resolve, *payload),
-        TypeDefKind::Stream(payload) => payload_in_range(resolve, *payload),
-        TypeDefKind::Enum(_) | TypeDefKind::Flags(_) => true,
-        TypeDefKind::Resource | TypeDefKind::Unknown => true,
-    }
+    payload_below(resolve.types.len(), payload)
 }
 
 #[tactic(auto, unfolding(crate::specs::IndexRange::owner_in_range))]
@@ -150,7 +82,7 @@ fn owner_in_range(resolve: &Resolve, owner: TypeOwner) -> bool
 fn type_def_in_range(resolve: &Resolve, entry: &TypeDef) -> bool
     ensures { result ≡ type_def_in_range resolve.now entry.now }
 {
-    owner_in_range(resolve, entry.owner) && kind_in_range(resolve, &entry.kind)
+    owner_in_range(resolve, entry.owner) && parts_below(resolve.types.len(), &entry.kind)
 }
 
 #[tactic(auto, unfolding(crate::specs::IndexRange::function_kind_in_range))]
@@ -299,23 +231,13 @@ fn first_world(resolve: &Resolve) -> Option<usize>
         .position(|entry| !world_in_range(resolve, entry))
 }
 
-fn place(table: Table, index: Option<usize>) -> Option<(Table, u32)>
-    requires { ForSome index (λ i. i < 2 ^ 32) }
-    ensures { result ≡ option_map (λ i. (table, i)) index }
-{
-    match index {
-        None => None,
-        Some(i) => Some((table, i as u32)),
-    }
-}
-
 /// The first entry, in the order of [`Table`] and then by place, that holds an id outside its table.
 #[tactic(auto, unfolding(crate::specs::IndexRange::first_out_of_range, crate::specs::Numbered::tables_short, crate::specs::Numbered::is_short))]
 pub fn first_out_of_range(resolve: &Resolve) -> Option<(Table, u32)>
     requires { IsTrue (tables_short resolve.now) }
     ensures { result ≡ first_out_of_range resolve.now }
 {
-    place(Table::Interface, first_interface(resolve))
-        .or_else(|| place(Table::Type_, first_type(resolve)))
-        .or_else(|| place(Table::World, first_world(resolve)))
+    placed(Table::Interface, first_interface(resolve))
+        .or_else(|| placed(Table::Type_, first_type(resolve)))
+        .or_else(|| placed(Table::World, first_world(resolve)))
 }

@@ -1,6 +1,7 @@
 //! The tables of a resolved WIT world, and the containers that contracts see as plain data.
 #![tactic(auto)]
 
+mod alias;
 mod boxed;
 mod check;
 mod distinct;
@@ -8,13 +9,18 @@ mod function;
 mod index_range;
 mod list;
 mod lookup;
+mod map_key;
+mod members;
 mod memory;
 mod name;
 mod numbered;
+mod parts;
+mod place;
 mod resolve;
 mod size;
 mod size_text;
 mod text;
+mod type_order;
 mod types;
 mod world;
 

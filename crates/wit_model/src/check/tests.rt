@@ -48,6 +48,11 @@ fn type_id(wrong: &[Place], place: Place) -> TypeId {
     TypeId(id(wrong, place, 3))
 }
 
+/// The first type, or one that is not there.
+fn handle_target(wrong: &[Place]) -> TypeId {
+    TypeId(if wrong.contains(&Place::Handle) { 3 } else { 0 })
+}
+
 fn name(alloc: Global) -> Result<Name, OutOfMemory> {
     Ok(Name {
         wit: Text::from_str(alloc, "a-b")?,
@@ -142,7 +147,7 @@ fn types(alloc: Global, wrong: &[Place], last: TypeDefKind) -> Result<List<TypeD
     let world = WorldId(id(wrong, Place::OwnerWorld, 2));
     let resource = type_def(TypeOwner::World(world), TypeDefKind::Resource);
     let interface = interface_id(wrong, Place::OwnerInterface);
-    let own = TypeDefKind::Handle(Handle::Own(type_id(wrong, Place::Handle)));
+    let own = TypeDefKind::Handle(Handle::Own(handle_target(wrong)));
     let handle = type_def(TypeOwner::Interface(interface), own);
     let mut types = two(alloc, resource, handle)?;
     types.push(type_def(TypeOwner::None, last))?;
@@ -280,7 +285,7 @@ fn names_the_first_of_two_entries(rt: HostRuntime) {
 #[test]
 fn takes_the_highest_ids(rt: HostRuntime) -> Result<(), Fail> {
     let alloc = rt.alloc();
-    let last = TypeDefKind::Alias(WitType::Id(TypeId(2)));
+    let last = TypeDefKind::Alias(WitType::Id(TypeId(1)));
     let resolve = sample(alloc, &[], last)?;
     assert_eq!(rt; resolve.check(alloc), Ok(()));
     assert!(rt; resolve.package(PackageId(0)).is_some());

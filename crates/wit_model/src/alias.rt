@@ -1,0 +1,37 @@
+ghost use Rattle.std.specs.Prelude.{◌≡◌};
+ghost use Rattle.wit_model.specs.Dealias.{aliased, next_alias, dealias};
+ghost use Rattle.wit_model.specs.TypeOrder.{GoesDown};
+
+use crate::name::TypeId;
+use crate::types::{TypeDef, TypeDefKind, WitType};
+
+fn aliased(kind: &TypeDefKind) -> Option<TypeId>
+    ensures { result ≡ aliased kind.now }
+{
+    match kind {
+        TypeDefKind::Alias(WitType::Id(id)) => Some(*id),
+        _ => None,
+    }
+}
+
+fn next_alias(types: &[TypeDef], id: TypeId) -> Option<TypeId>
+    ensures { result ≡ next_alias types.now id }
+{
+    match types.get(id.0 as usize) {
+        None => None,
+        Some(entry) => aliased(&entry.kind),
+    }
+}
+
+/// The type of the table behind all aliases that lead on to another type of it. It takes no memory.
+#[tactic(auto, unfolding(crate::specs::Dealias::dealias))]
+pub(crate) fn behind_aliases(types: &[TypeDef], id: TypeId) -> TypeId
+    requires { GoesDown types.now }
+    ensures { result ≡ dealias types.now id }
+{
+    let mut end = id;
+    while let Some(next) = next_alias(types, end) {
+        end = next;
+    }
+    end
+}
