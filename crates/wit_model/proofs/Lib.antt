@@ -1,3 +1,4 @@
+pub mod AliasEnds
 pub mod AliasLemmas
 pub mod AllLemmas
 pub mod DistinctLemmas

@@ -21,14 +21,14 @@ rounded_other m n some past =
     let below = mod_below n m some in
     sym (rounded_from_rest m n (n / m + 1) (n % m - 1) (omega arith) (omega (arith, split, below)) ∙ omega (arith, split, below))
 
-pub le-rounded : (m n : ℕ) → 0 < m → n ≤ rounded_up m n
-le-rounded m n some = let l = lt-div-mul-add {a = n + (m - 1)} {b = m} some in omega (arith, l)
+pub rounded_above : (m n : ℕ) → 0 < m → n ≤ rounded_up m n
+rounded_above m n some = let l = lt-div-mul-add {a = n + (m - 1)} {b = m} some in omega (arith, l)
 
-pub rounded-lt : (m n : ℕ) → 0 < m → rounded_up m n < n + m
-rounded-lt m n some = omega (arith, div-add-mod' (n + (m - 1)) m, some)
+pub rounded_below : (m n : ℕ) → 0 < m → rounded_up m n < n + m
+rounded_below m n some = omega (arith, div-add-mod' (n + (m - 1)) m, some)
 
 -- no lesser multiple is at least the number
-pub rounded-le : (m n k : ℕ) → 0 < m → n ≤ k * m → rounded_up m n ≤ k * m
-rounded-le m n k some within =
+pub rounded_least : (m n k : ℕ) → 0 < m → n ≤ k * m → rounded_up m n ≤ k * m
+rounded_least m n k some within =
     let q : (n + (m - 1)) / m < k + 1 = div_below (n + (m - 1)) m (k + 1) some (omega (arith, within, some)) in
     mul-le ((n + (m - 1)) / m) m k m (omega (arith, q)) (omega arith)

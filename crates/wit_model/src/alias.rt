@@ -1,8 +1,9 @@
-ghost use Rattle.std.specs.Prelude.{◌≡◌};
+ghost use Rattle.std.specs.Prelude.{◌≡◌, None};
 ghost use Rattle.wit_model.specs.Dealias.{aliased, next_alias, dealias};
 ghost use Rattle.wit_model.specs.TypeOrder.{GoesDown};
 
 use crate::name::TypeId;
+use crate::resolve::Resolve;
 use crate::types::{TypeDef, TypeDefKind, WitType};
 
 fn aliased(kind: &TypeDefKind) -> Option<TypeId>
@@ -34,4 +35,13 @@ pub(crate) fn behind_aliases(types: &[TypeDef], id: TypeId) -> TypeId
         end = next;
     }
     end
+}
+
+/// The type of the table behind all aliases of types of it. It takes no memory.
+pub fn dealias(resolve: &Resolve, id: TypeId) -> TypeId
+    requires { GoesDown resolve.now.types }
+    ensures end { result ≡ dealias resolve.now.types id }
+    ensures last { next_alias resolve.now.types result ≡ None }
+{
+    behind_aliases(resolve.types.as_slice(), id)
 }

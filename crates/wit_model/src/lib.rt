@@ -4,6 +4,7 @@
 mod alias;
 mod boxed;
 mod check;
+mod constructor;
 mod distinct;
 mod function;
 mod index_range;
@@ -24,7 +25,9 @@ mod type_order;
 mod types;
 mod world;
 
+pub use alias::dealias;
 pub use boxed::Boxed;
+pub use constructor::{ConstructorReturn, classify_constructor};
 pub use distinct::{are_distinct, are_distinct_texts};
 pub use function::{Function, FunctionKind, Param};
 pub use list::List;
