@@ -1,10 +1,8 @@
 -- The functions and places among the first entries, one entry at a time.
-use Rattle.std.proofs.Common.{◌≡◌, ℕ, ◌+◌, ◌<◌, ◌≤◌, List, [], ◌∷◌, ◌++◌, length, get_or, take, refl, sym, ap, ◌∙◌, subst, arith, append_assoc, append-nil, zero-add, length-take}
+use Rattle.std.proofs.Common.{◌≡◌, ℕ, ◌+◌, ◌<◌, [], ◌∷◌, ◌++◌, length, get_or, take, sym, ap, ◌∙◌, arith, append_assoc, append-nil, length-take}
 use Rattle.std.proofs.lemmas.List.{take_more}
-use Rattle.wit_model.specs.declared.function.Function.{Function}
 use Rattle.wit_model.specs.declared.world.WorldKey.{WorldKey}
 use Rattle.wit_model.specs.declared.world.WorldItem.{WorldItem}
-use Rattle.rust_tree.specs.declared.place.FuncPlace.{FuncPlace}
 use Rattle.rust_gen.specs.Emitted.{Entries, function_at, functions_in, place_at, places_from}
 
 pub functions_in-append : (xs : Entries) (e : WorldKey × WorldItem) → functions_in (xs ++ e ∷ []) ≡ functions_in xs ++ function_at e.1

@@ -1,3 +1,7 @@
+mod AskedLemmas
 pub mod EmittedLemmas
+mod FaithfulLemmas
+mod RunLemmas
 pub mod TreeLemmas
+mod WordLemmas
 pub mod WrapperLemmas

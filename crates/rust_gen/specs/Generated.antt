@@ -1,13 +1,13 @@
 -- What a call of `generate` that makes a file leaves: the tree of the world, and its text in the file of the world's name.
-use Rattle.std.specs.Prelude.{◌≡◌, ◌≢◌, ℕ, List, [], ◌++◌, Some, codes, slice_get, unwrap_or}
+use Rattle.std.specs.Prelude.{◌≡◌, ◌≢◌, List, [], ◌++◌, Some, codes, slice_get, unwrap_or}
 use Rattle.wit_model.specs.declared.name.WorldId.{WorldId}
 use Rattle.wit_model.specs.declared.resolve.Resolve.{Resolve}
 use Rattle.wit_model.specs.declared.world.World.{World}
 use Rattle.gen_files.specs.Entries.{Bytes, Entry, entry_of, with_pushed}
 use Rattle.rust_tree.specs.Text.{text}
 use Rattle.rust_tree.specs.Tree.{Tree}
-use Rattle.rust_gen.specs.Body.{IsWritten}
 use Rattle.rust_gen.specs.Bound.{Binds}
+use Rattle.rust_gen.specs.Faithful.{AreFaithful}
 use Rattle.rust_gen.specs.Wrapper.{Wraps}
 
 unfoldable pub rust_ending : Bytes
@@ -23,10 +23,11 @@ pub record Gains (old new : List Entry) (name bytes : Bytes) : Type 0 where
   pub gained : entry_of new name ≡ Some (unwrap_or (entry_of old name) [] ++ bytes)
   pub others : (other : Bytes) → other ≢ name → entry_of new other ≡ entry_of old other
 
--- the tree holds each wrapper as it is written, which from outside has the signature and the core import of its function
+-- the tree holds a wrapper for each function, which from outside has the signature and the core import of its function, and
+-- carries each call of it
 pub record Generates (resolve : Resolve) (id : WorldId) (old new : List Entry) (tree : Tree) : Type 0 where
   pub world : World
   pub named : slice_get resolve.worlds id.0 ≡ Some world
-  pub written : Binds IsWritten world tree
   pub bound : Binds Wraps world tree
+  pub faithful : AreFaithful world tree
   pub gains : Gains old new (file_name world) (text tree)

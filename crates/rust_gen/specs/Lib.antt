@@ -6,6 +6,7 @@ pub mod DeclaredNames
 pub mod Default
 pub mod Docs
 pub mod Emitted
+pub mod Faithful
 pub mod Generated
 pub mod LackText
 pub mod NameText

@@ -1,6 +1,6 @@
 -- How a WIT type is printed, and which core types it flattens to. So far this covers what is one core value; every other
 -- type is refused before it is printed.
-use Rattle.std.specs.Prelude.{List, [], ◌∷◌, Option, None, Some}
+use Rattle.std.specs.Prelude.{Option, None, Some}
 use Rattle.wit_model.specs.declared.types.WitType.{WitType}
 use Rattle.wit_model.specs.declared.types.WitType.TheVariants as wit
 use Rattle.wit_model.specs.declared.size.WasmType.{WasmType}

@@ -1,5 +1,5 @@
 -- How the wrapper of an imported function looks from outside: its signature, and the one core import that it declares.
-use Rattle.std.specs.Prelude.{◌≡◌, ℕ, List, [], ◌∷◌, codes, map}
+use Rattle.std.specs.Prelude.{◌≡◌, List, [], ◌∷◌, codes, map}
 use Rattle.wit_model.specs.declared.function.Function.{Function}
 use Rattle.wit_model.specs.declared.function.Param.{Param}
 use Rattle.rust_tree.specs.declared.item.FnItem.{FnItem}

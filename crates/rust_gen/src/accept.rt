@@ -1,6 +1,6 @@
 //! For which cause no file is made.
 
-ghost use Rattle.std.specs.Prelude.{◌≡◌, Some, IfOk, slice_get};
+ghost use Rattle.std.specs.Prelude.{◌≡◌, true, Some, IfOk, slice_get};
 ghost use Rattle.wit_model.specs.WellFormed.{first_fault};
 ghost use Rattle.rust_gen.specs.Cause.{IsAnswer, IsUnbuilt, cause, invalid, is_built, is_index_range, is_well_named, built_cause, world_cause};
 
@@ -70,9 +70,15 @@ fn unbuilt(alloc: Global, world: &World) -> GenError
     }
 }
 
-fn named(alloc: Global, resolve: &Resolve, world: &World, fault: Option<Fault>) -> Result<(), GenError>
+fn named(
+    alloc: Global,
+    resolve: &Resolve,
+    world: &World,
+    fault: Option<Fault>,
+) -> Result<(), GenError>
     requires { fault ≡ first_fault resolve.now }
-    ensures { IsAnswer result (built_cause resolve.now world.now) }
+    ensures answer { IsAnswer result (built_cause resolve.now world.now) }
+    ensures named { IfOk result (λ _. is_well_named resolve.now world.now ≡ true) }
 {
     if let Some(fault) = fault {
         return Err(invalid(fault));
@@ -94,6 +100,8 @@ fn accepted<'a>(
     requires { fault ≡ first_fault resolve.now }
     ensures answer { IsAnswer result (world_cause opts.now resolve.now id (slice_get resolve.now.worlds id.0)) }
     ensures world { IfOk result (λ world. slice_get resolve.now.worlds id.0 ≡ Some world.now) }
+    ensures built { IfOk result (λ _. is_built opts.now resolve.now ≡ true) }
+    ensures named { IfOk result (λ world. is_well_named resolve.now world.now ≡ true) }
 {
     let Some(world) = resolve.world(id) else {
         return Err(invalid((Rule::IndexRange, (Table::World, id.0))));
@@ -117,6 +125,8 @@ pub(crate) fn accepted_world<'a>(
 ) -> Result<&'a World, GenError>
     ensures answer { IsAnswer result (cause opts.now resolve.now id) }
     ensures world { IfOk result (λ world. slice_get resolve.now.worlds id.0 ≡ Some world.now) }
+    ensures built { IfOk result (λ _. is_built opts.now resolve.now ≡ true) }
+    ensures named { IfOk result (λ world. is_well_named resolve.now world.now ≡ true) }
 {
     let fault = match fault_of(alloc, resolve) {
         Ok(fault) => fault,

@@ -1,0 +1,3 @@
+pub mod LocalLemmas
+pub mod NumberLemmas
+pub mod StepLemmas

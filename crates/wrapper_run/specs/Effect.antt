@@ -1,6 +1,6 @@
 -- What the forms of the tree do to values: casts, the functions of `_rt`, and what counts as a core word or as a value of a
 -- printed type. A form that has no meaning at a value gives nothing.
-use Rattle.std.specs.Prelude.{ℕ, ◌-◌, ◌^◌, Bool, true, false, ◌&&◌, ℤ, pos, negsuc, int_lt, int_le, unsigned_abs, List, [], ◌∷◌, codes, Option, None, Some, option_and_then, if◌then◌else◌}
+use Rattle.std.specs.Prelude.{ℕ, ◌-◌, ◌^◌, Bool, true, false, ◌&&◌, ℤ, pos, negsuc, int_lt, int_le, unsigned_abs, List, codes, Option, None, Some, option_and_then, if◌then◌else◌}
 use Rattle.std.specs.Int.{w8, w16, w32, w64, cast_signed, int_rem_euclid}
 use Rattle.std.specs.Option.{option_map}
 use Rattle.wit_model.specs.declared.size.WasmType.{WasmType}

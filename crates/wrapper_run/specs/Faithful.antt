@@ -1,9 +1,8 @@
 -- What it means that the wrapper of an import is faithful to its function.
-use Rattle.std.specs.Prelude.{◌≡◌, ℕ, List, [], ◌∷◌, ◌++◌, Option, None, Some, codes, map}
+use Rattle.std.specs.Prelude.{◌≡◌, ℕ, List, [], ◌∷◌, ◌++◌, Option, Some, IsSome, codes, map}
 use Rattle.wit_model.specs.declared.function.Function.{Function}
 use Rattle.wit_model.specs.declared.types.WitType.{WitType}
-use Rattle.rust_tree.specs.declared.item.FnItem.{FnItem}
-use Rattle.rust_tree.specs.declared.item.Item.{Item}
+use Rattle.rust_tree.specs.Tree.{Tree}
 use Rattle.wrapper_data.specs.declared.answer.Answer.{Answer}
 use Rattle.wrapper_data.specs.declared.answer.Form.{Form}
 use Rattle.wrapper_data.specs.declared.choice.Choices.{Choices}
@@ -17,7 +16,7 @@ use Rattle.wrapper_data.specs.declared.value.RustValue.{RustValue}
 use Rattle.wrapper_data.specs.declared.word.Word.{Word}
 use Rattle.wrapper_run.specs.Honest.{HonestPeer}
 use Rattle.wrapper_run.specs.Represents.{LendsAll}
-use Rattle.wrapper_run.specs.Run.{run_item}
+use Rattle.wrapper_run.specs.Run.{import_run, wrapper_of}
 use Rattle.wrapper_run.specs.StandsFor.{StandAll, StandsResult}
 use Rattle.wrapper_run.specs.Value.{WitValue, AreValues, IsResult}
 
@@ -43,9 +42,10 @@ pub record Carries (f : Function) (vs : List WitValue) (v : Option WitValue) (he
   pub account : run.heap ≡ heap
   pub requests : run.requests ≡ []
 
--- in both forms, for all values, every heap, all choices, and every answer that is honest at the call that the run makes
-pub record IsFaithful (items : List Item) (number : ℕ) (item : FnItem) (f : Function) : Type 0 where
-  pub faithful : (form : Form) (vs : List WitValue) (v : Option WitValue) (args : List RustValue) (heap : Heap) (choices : Choices) (a : Answer)
-      → AreValues (param_types f) vs → IsResult f.result v → StandAll (param_types f) vs args
-      → ((c : CallPoint) → Made c (run_item (record { items = items; item = number; answer = a; form = form }) item args heap choices) → HonestPeer f.result v a c.heap)
-      → Carries f vs v heap (run_item (record { items = items; item = number; answer = a; form = form }) item args heap choices)
+-- the import wrapper of a place is there; and in both forms, for all values, every heap, all choices, and every answer that
+-- is honest at the call that the run makes, its run carries them
+pub record IsFaithful (tree : Tree) (nth : ℕ) (f : Function) : Type 0 where
+  pub there : IsSome (wrapper_of tree nth)
+  pub carries : (form : Form) (vs : List WitValue) (v : Option WitValue) (args : List RustValue) (heap : Heap) (choices : Choices) (a : Answer) (run : Run)
+      → import_run tree nth args heap choices a form ≡ Some run → AreValues (param_types f) vs → IsResult f.result v → StandAll (param_types f) vs args
+      → ((c : CallPoint) → Made c run → HonestPeer f.result v a c.heap) → Carries f vs v heap run

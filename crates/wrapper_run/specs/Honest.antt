@@ -1,6 +1,6 @@
 -- When the peer of an import is honest at a call: its word represents a value of the result type, and it adds and writes
 -- nothing that the result does not hold. A result of the types so far is one word, and holds no block.
-use Rattle.std.specs.Prelude.{◌≡◌, List, [], Option, None, Some}
+use Rattle.std.specs.Prelude.{◌≡◌, [], Option, None, Some}
 use Rattle.wit_model.specs.declared.types.WitType.{WitType}
 use Rattle.wrapper_data.specs.declared.answer.Answer.{Answer}
 use Rattle.wrapper_data.specs.declared.answer.Answer.TheVariants as answer

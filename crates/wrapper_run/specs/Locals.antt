@@ -1,23 +1,20 @@
 -- What a name stands for in a state: the newest local of that name, or a declared core import.
 use Rattle.std.specs.Prelude.{ℕ, Bool, List, [], ◌∷◌, ◌++◌, Option, None, Some, if◌then◌else◌}
+use Rattle.std.specs.Option.{option_or}
 use Rattle.std.specs.Str.{bytes_eq}
 use Rattle.rust_tree.specs.declared.stmt.ImportDecl.{ImportDecl}
 use Rattle.wrapper_data.specs.declared.run.Stop.{Stop}
 use Rattle.wrapper_run.specs.declared.state.Local.{Local}
-use Rattle.wrapper_run.specs.declared.state.State.{State}
 use Rattle.wrapper_run.specs.declared.state.Val.{Val}
 use Rattle.wrapper_run.specs.Act.{Act, Done, or_stop}
 
 abbrev pub Bytes : Type 0
 Bytes = List ℕ
 
--- the last of these that passes, or else the one before them
-abbrev pub last_after : {A : Type 0} → Option A → (A → Bool) → List A → Option A
-last_after found passes [] = found
-last_after found passes (x ∷ xs) = last_after (if passes x then Some x else found) passes xs
-
+-- the last of these that passes
 abbrev pub last : {A : Type 0} → (A → Bool) → List A → Option A
-last passes xs = last_after None passes xs
+last passes [] = None
+last passes (x ∷ xs) = option_or (last passes xs) (if passes x then Some x else None)
 
 abbrev pub local_named : Bytes → List Local → Option Local
 local_named name locals = last (λ l. bytes_eq l.name name) locals

@@ -1,6 +1,6 @@
 -- Which core words represent a value: as an import's argument (lend), and as its result (take).
-use Rattle.std.specs.Prelude.{◌≡◌, ◌^◌, ℤ, pos, unsigned_abs, List, [], ◌∷◌, ◌++◌, Option, None, Some}
-use Rattle.std.specs.Int.{w8, w16, w32, w64, cast_signed, int_rem_euclid}
+use Rattle.std.specs.Prelude.{◌≡◌, ℤ, unsigned_abs, List, [], ◌∷◌}
+use Rattle.std.specs.Int.{w8, w16, cast_signed}
 use Rattle.wit_model.specs.declared.types.WitType.{WitType}
 use Rattle.wit_model.specs.declared.types.WitType.TheVariants as wit
 use Rattle.wrapper_data.specs.declared.word.Word.{Word}

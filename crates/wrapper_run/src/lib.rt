@@ -12,6 +12,7 @@ mod state;
 mod tests;
 
 pub use run::run_import;
+pub use state::{Local, State, Val};
 pub use wrapper_data::{
     Answer, Block, CallPoint, Choice, Choices, Form, Heap, Request, Run, RustValue, Stop, Target,
     TrapKind, Word,

@@ -28,30 +28,30 @@ impl World<'_> {
 
 /// What a local holds: a core word, or a value of the Rust side.
 #[derive(Debug, PartialEq, Drop)]
-pub(crate) enum Val {
+pub enum Val {
     Word(Word),
     Value(RustValue),
 }
 
 /// A local, by its name. One that was moved has no value.
 #[derive(Debug, PartialEq, Drop)]
-pub(crate) struct Local {
-    pub(crate) name: Text,
-    pub(crate) value: Option<Val>,
+pub struct Local {
+    pub name: Text,
+    pub value: Option<Val>,
 }
 
 /// The state of a run.
 #[derive(Debug, PartialEq, Drop)]
-pub(crate) struct State {
+pub struct State {
     /// The locals, the newest last.
-    pub(crate) locals: List<Local>,
+    pub locals: List<Local>,
     /// The core imports that were declared, the newest last.
-    pub(crate) imports: List<ImportDecl>,
-    pub(crate) heap: Heap,
+    pub imports: List<ImportDecl>,
+    pub heap: Heap,
     /// The choices that are left.
-    pub(crate) choices: List<Choice>,
-    pub(crate) requests: List<Request>,
-    pub(crate) calls: List<CallPoint>,
+    pub choices: List<Choice>,
+    pub requests: List<Request>,
+    pub calls: List<CallPoint>,
 }
 
 /// Why the machine does not go on: the run is stopped, or the machine itself has no memory.

@@ -253,6 +253,52 @@ fn kinds_are_carried_in_64_bits(rt: HostRuntime) -> Result<(), Fail> {
     )
 }
 
+const LETTERS: [&str; 16] = [
+    "a", "b", "c", "d", "e", "f", "g", "h", "i", "j", "k", "l", "m", "n", "o", "p",
+];
+
+/// Sixteen numbers, the first of them 0, and each one more than the one before it.
+fn sixteen(alloc: Global) -> Result<List<RustValue>, OutOfMemory> {
+    let mut args = List::new(alloc);
+    for i in 0..16_u8 {
+        args.push(RustValue::Num(WitType::U32, i128::from(i)))?;
+    }
+    Ok(args)
+}
+
+fn sixteen_words(alloc: Global) -> Result<List<Word>, OutOfMemory> {
+    let mut words = List::new(alloc);
+    for i in 0..16_u8 {
+        words.push(Word::I32(i32::from(i)))?;
+    }
+    Ok(words)
+}
+
+fn many(alloc: Global) -> Result<Run, OutOfMemory> {
+    let args = sixteen(alloc)?;
+    let answer = word(alloc, Word::I32(120));
+    run_in_heap(
+        alloc,
+        wrapper(alloc, "many", U32, &LETTERS)?,
+        &args,
+        &answer,
+    )
+}
+
+fn wanted_many(alloc: Global) -> Result<Run, OutOfMemory> {
+    let words = sixteen_words(alloc)?;
+    let call = call_of(alloc, "many", words.as_slice(), heap(alloc, 9)?)?;
+    let value = Some(RustValue::Num(WitType::U32, 120));
+    run_of(alloc, Stop::Done, Some(call), heap(alloc, 9)?, value)
+}
+
+#[test]
+fn sixteen_numbers_are_carried_in_order(rt: HostRuntime) -> Result<(), Fail> {
+    let alloc = rt.alloc();
+    assert_eq!(rt; many(alloc)?, wanted_many(alloc)?);
+    Ok(())
+}
+
 fn written_by_the_peer(alloc: Global) -> Result<Run, OutOfMemory> {
     let answer = Answer::Words {
         result: Some(Word::I32(1)),

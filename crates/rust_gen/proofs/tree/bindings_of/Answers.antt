@@ -1,4 +1,4 @@
-use Rattle.std.proofs.Common.{◌≡◌, ◌++◌, ◌∙◌, ap, subst, map}
+use Rattle.std.proofs.Common.{◌++◌, ◌∙◌, ap, subst, map}
 use Rattle.std.specs.List.{AllZip}
 use Rattle.rust_tree.specs.declared.item.Item.TheVariants as item
 use Rattle.rust_gen.specs.Body.{IsWritten}

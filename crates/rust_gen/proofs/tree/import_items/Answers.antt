@@ -1,4 +1,4 @@
-use Rattle.std.proofs.Common.{[], ◌∷◌, ◌++◌, ◌∙◌, ap, sym, map, arith}
+use Rattle.std.proofs.Common.{[], ◌∷◌, ◌++◌, ◌∙◌, ap, sym, arith}
 use Rattle.std.proofs.lemmas.List.{map-append}
 use Rattle.rust_tree.specs.declared.item.Item.TheVariants as item
 use Rattle.rust_gen.specs.Body.{IsWritten}

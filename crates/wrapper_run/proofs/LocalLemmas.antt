@@ -1,0 +1,113 @@
+-- What the machine reads by a name.
+use Rattle.std.proofs.Common.{◌≡◌, Bool, true, false, not, cond, ◌&&◌, ◌||◌, List, [], ◌∷◌, ◌++◌, Option, None, Some, map, refl, sym, ap, ◌∙◌}
+use Rattle.std.specs.List.{list_any}
+use Rattle.std.specs.Option.{option_or}
+use Rattle.std.specs.Str.{bytes_eq}
+use Rattle.std.proofs.lemmas.Slice.Eq.{bytes_eq-Decides}
+use Rattle.wit_model.specs.Distinct.{is_distinct}
+use Rattle.rust_tree.specs.declared.item.FnParam.{FnParam}
+use Rattle.rust_tree.specs.declared.stmt.ImportDecl.{ImportDecl}
+use Rattle.wrapper_data.specs.declared.value.RustValue.{RustValue}
+use Rattle.wrapper_run.specs.declared.state.Local.{Local}
+use Rattle.wrapper_run.specs.declared.state.Val.{Val}
+use Rattle.wrapper_run.specs.declared.state.Val.TheVariants as val
+use Rattle.wrapper_run.specs.Locals.{Bytes, import_named, last, local_named, value_of}
+use Rattle.wrapper_run.specs.Run.{bound_args}
+
+-- the last of a list
+
+option_or-None : {A : Type 0} (o : Option A) → option_or o None ≡ o
+option_or-None None = refl
+option_or-None (Some x) = refl
+
+option_or-assoc : {A : Type 0} (o p q : Option A) → option_or (option_or o p) q ≡ option_or o (option_or p q)
+option_or-assoc None p q = refl
+option_or-assoc (Some x) p q = refl
+
+pub last-append : {A : Type 0} (passes : A → Bool) (xs : List A) (x : A) → last passes (xs ++ x ∷ []) ≡ option_or (cond (passes x) (Some x) None) (last passes xs)
+last-append passes [] x = sym (option_or-None (cond (passes x) (Some x) None))
+last-append passes (y ∷ xs) x =
+    ap (λ o. option_or o (cond (passes y) (Some y) None)) (last-append passes xs x)
+    ∙ option_or-assoc (cond (passes x) (Some x) None) (last passes xs) (cond (passes y) (Some y) None)
+
+neither : (a b : Bool) → (a || b) ≡ false → (a ≡ false) × (b ≡ false)
+neither true b e = absurd (cc)
+neither false true e = absurd (cc)
+neither false false e = (refl, refl)
+
+last-skips : {A : Type 0} (passes : A → Bool) (x : A) (xs : List A) → last passes xs ≡ None → passes x ≡ false → last passes (x ∷ xs) ≡ None
+last-skips passes x xs h e = ap (λ o. option_or o (cond (passes x) (Some x) None)) h ∙ ap (λ b. cond b (Some x) None) e
+
+-- names
+
+pub bytes_eq-same : (name : Bytes) → bytes_eq name name ≡ true
+bytes_eq-same name = (bytes_eq-Decides name name).1 refl
+
+-- the newest local is read by its name
+pub reads-new : (name : Bytes) (v : Option Val) (locals : List Local) → value_of (local_named name (locals ++ record { name = name; value = v } ∷ [])) ≡ v
+reads-new name v locals =
+    ap value_of (last-append (λ l. bytes_eq l.name name) locals (record { name = name; value = v })
+    ∙ ap (λ b. option_or (cond b (Some (record { name = name; value = v })) None) (local_named name locals)) (bytes_eq-same name))
+
+-- a core import that was declared alone
+pub declared-alone : (d : ImportDecl) → import_named d.name (d ∷ []) ≡ Some d
+declared-alone d = ap (λ b. cond b (Some d) None) (bytes_eq-same d.name)
+
+-- parameters
+
+abbrev pub names_of : List FnParam → List Bytes
+names_of params = map (λ p. p.name) params
+
+-- a name that is no parameter's reads nothing
+pub unbound : (params : List FnParam) (args : List RustValue) (name : Bytes) → list_any (λ u. bytes_eq u name) (names_of params) ≡ false → local_named name (bound_args params args) ≡ None
+unbound [] args name e = refl
+unbound (p ∷ params) [] name e = refl
+unbound (p ∷ params) (a ∷ args) name e =
+    let parts = neither (bytes_eq p.name name) (list_any (λ u. bytes_eq u name) (names_of params)) e in
+    last-skips (λ (l : Local). bytes_eq l.name name) (record { name = p.name; value = Some (val.Value a) }) (bound_args params args) (unbound params args name parts.1) parts.0
+
+-- each name reads its value
+abbrev pub ReadsAll : List Bytes → List RustValue → List Local → Type 0
+ReadsAll [] rs locals = rs ≡ []
+ReadsAll (name ∷ names) [] locals = ⊥
+ReadsAll (name ∷ names) (r ∷ rs) locals = (value_of (local_named name locals) ≡ Some (val.Value r)) × ReadsAll names rs locals
+
+value-stays : (o p : Option Local) (v : Val) → value_of o ≡ Some v → value_of (option_or o p) ≡ Some v
+value-stays None p v e = absurd (cc)
+value-stays (Some l) p v e = e
+
+reads-older : (names : List Bytes) (rs : List RustValue) (l : Local) (locals : List Local) → ReadsAll names rs locals → ReadsAll names rs (l ∷ locals)
+reads-older [] rs l locals h = h
+reads-older (name ∷ names) [] l locals h = h
+reads-older (name ∷ names) (r ∷ rs) l locals h =
+    (value-stays (local_named name locals) (cond (bytes_eq l.name name) (Some l) None) (val.Value r) h.0, reads-older names rs l locals h.1)
+
+-- an argument for each parameter
+abbrev pub SameLength : List FnParam → List RustValue → Type 0
+SameLength [] [] = Unit {0}
+SameLength [] (a ∷ args) = ⊥
+SameLength (p ∷ params) [] = ⊥
+SameLength (p ∷ params) (a ∷ args) = SameLength params args
+
+both : (a b : Bool) → (a && b) ≡ true → (a ≡ true) × (b ≡ true)
+both true true e = (refl, refl)
+both true false e = absurd (cc)
+both false b e = absurd (cc)
+
+not-true : (b : Bool) → not b ≡ true → b ≡ false
+not-true true e = absurd (cc)
+not-true false e = refl
+
+-- parameters of distinct names read their arguments
+pub reads_args : (params : List FnParam) (args : List RustValue) → is_distinct (names_of params) ≡ true → SameLength params args → ReadsAll (names_of params) args (bound_args params args)
+reads_args [] [] d s = refl
+reads_args [] (a ∷ args) d s = absurd s
+reads_args (p ∷ params) [] d s = s
+reads_args (p ∷ params) (a ∷ args) d s =
+    let bound : Local = record { name = p.name; value = Some (val.Value a) } in
+    let parts = both (not (list_any (λ u. bytes_eq u p.name) (names_of params))) (is_distinct (names_of params)) d in
+    let free = not-true (list_any (λ u. bytes_eq u p.name) (names_of params)) parts.0 in (
+      ap (λ o. value_of (option_or o (cond (bytes_eq p.name p.name) (Some bound) None))) (unbound params args p.name free)
+          ∙ ap (λ b. value_of (cond b (Some bound) None)) (bytes_eq-same p.name),
+      reads-older (names_of params) args bound (bound_args params args) (reads_args params args parts.1 s),
+    )

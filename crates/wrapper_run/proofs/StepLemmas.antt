@@ -1,0 +1,161 @@
+-- Single steps of the machine, and what leaves the calls as they are.
+use Rattle.std.proofs.Common.{◌≡◌, List, [], ◌∷◌, ◌++◌, Option, None, Some, map, refl, sym, ap, subst, true, cond, ◌∙◌, rules}
+use Rattle.std.specs.Prelude.{ℤ}
+use Rattle.std.specs.List.{AllZip}
+use Rattle.std.specs.Option.{option_map}
+use Rattle.wit_model.specs.declared.size.WasmType.{WasmType}
+use Rattle.rust_tree.specs.declared.expr.CastType.{CastType}
+use Rattle.rust_tree.specs.declared.expr.Expr.{Expr, Expr-F, fold-roll-Expr, the_lemmas}
+use Rattle.rust_tree.specs.declared.expr.Expr.TheVariants as expr
+use Rattle.rust_tree.specs.declared.expr.Expr.TheVariants.{rolls-Call, rolls-Cast}
+use Rattle.rust_tree.specs.declared.path.Path.{Path}
+use Rattle.rust_tree.specs.declared.runtime_item.RuntimeItem.{RuntimeItem}
+use Rattle.wrapper_data.specs.Answered.{answered}
+use Rattle.wrapper_data.specs.declared.answer.Answer.{Answer}
+use Rattle.wrapper_data.specs.declared.answer.Answer.TheVariants as answer
+use Rattle.wrapper_data.specs.declared.run.CallPoint.{CallPoint}
+use Rattle.wrapper_data.specs.declared.run.Stop.{Stop}
+use Rattle.wrapper_data.specs.declared.value.RustValue.{RustValue}
+use Rattle.wrapper_data.specs.declared.value.RustValue.TheVariants as value
+use Rattle.wrapper_data.specs.declared.word.Word.{Word}
+use Rattle.wrapper_run.specs.declared.state.State.{State}
+use Rattle.wrapper_run.specs.declared.state.Val.{Val}
+use Rattle.wrapper_run.specs.declared.state.Val.TheVariants as val
+use Rattle.wrapper_run.specs.Act.{Act, Outcome, Done, Stopped, ◌>>=◌, ◌>>◌, all, and_then, or_stop, pure}
+use Rattle.wrapper_run.specs.Effect.{cast_integer, cast_to, converted, integer_of_word, is_word_of}
+use Rattle.wrapper_run.specs.Locals.{Bytes, bind, local_named, read_local, value_of}
+use Rattle.wrapper_run.specs.Run.{Setting, alone, of_runtime, call, call_callee, call_point, call_runtime, callee, answer_act, convert_one, ended, eval, eval_step, record_call, result_of, runtime_item_named, stuck, take_answer}
+
+-- values
+
+pub reads : (e : Stop) (name : Bytes) (v : Val) (s : State) → value_of (local_named name s.locals) ≡ Some v → read_local e name s ≡ Done v s
+unfolding read_local
+reads e name v s h = ap (λ o. or_stop e o s) h
+
+-- expressions that give these values, one by one, and change nothing
+abbrev pub Give : Setting → State → List Expr → List Val → Type 0
+Give w s es vs = AllZip (λ e v. eval w e s ≡ Done v s) es vs
+
+abbrev then_cons : Val → Outcome (List Val) → Outcome (List Val)
+then_cons v (Done us t) = Done (v ∷ us) t
+then_cons v (Stopped e t) = Stopped e t
+
+all_cons : (a : Act Val) (more : List (Act Val)) (v : Val) (s : State) → a s ≡ Done v s → all (a ∷ more) s ≡ then_cons v (all more s)
+all_cons a more v s h = ap (λ o. and_then o (λ x. all more >>= (λ xs. pure (x ∷ xs)))) h ∙ go (all more s)
+  where
+    go : (o : Outcome (List Val)) → and_then o (λ xs. pure (v ∷ xs)) ≡ then_cons v o
+    go (Done us t) = refl
+    go (Stopped e t) = refl
+
+pub all_give : (w : Setting) (s : State) (es : List Expr) (vs : List Val) → Give w s es vs → all (map (eval w) es) s ≡ Done vs s
+all_give w s [] [] h = refl
+all_give w s [] (v ∷ vs) h = absurd h
+all_give w s (e ∷ es) [] h = absurd h
+all_give w s (e ∷ es) (v ∷ vs) h = all_cons (eval w e) (map (eval w) es) v s h.0 ∙ ap (then_cons v) (all_give w s es vs h.1)
+
+-- one level of an expression
+pub eval-call : (w : Setting) (path : Path) (es : List Expr) → eval w (expr.Call path es) ≡ (all (map (eval w) es) >>= (λ vs. call w path vs))
+eval-call w path es = ap (eval w) (sym (rolls-Call path es)) ∙ fold-roll-Expr (Act Val) (eval_step w) (Expr-F.Call path es)
+
+pub eval-cast : (w : Setting) (e : Expr) (to : CastType) → eval w (expr.Cast e to) ≡ (eval w e >>= (λ v. or_stop (stuck w) (cast_to to v)))
+eval-cast w e to = ap (eval w) (sym (rolls-Cast e to)) ∙ fold-roll-Expr (Act Val) (eval_step w) (Expr-F.Cast e to)
+
+pub eval-local : (w : Setting) (name : Bytes) → eval w (expr.Local name) ≡ read_local (stuck w) name
+eval-local w name = search (rules, the_lemmas)
+
+pub eval-ref : (w : Setting) (name : Bytes) → eval w (expr.Ref name) ≡ read_local (stuck w) name
+eval-ref w name = search (rules, the_lemmas)
+
+pub call_gives : (w : Setting) (path : Path) (es : List Expr) (vs : List Val) (s : State) → Give w s es vs → eval w (expr.Call path es) s ≡ call w path vs s
+call_gives w path es vs s h = ap (λ act. act s) (eval-call w path es) ∙ ap (λ o. and_then o (λ vs. call w path vs)) (all_give w s es vs h)
+
+pub local_gives : (w : Setting) (name : Bytes) (v : Val) (s : State) → value_of (local_named name s.locals) ≡ Some v → eval w (expr.Local name) s ≡ Done v s
+local_gives w name v s h = ap (λ act. act s) (eval-local w name) ∙ reads (stuck w) name v s h
+
+pub ref_gives : (w : Setting) (name : Bytes) (v : Val) (s : State) → value_of (local_named name s.locals) ≡ Some v → eval w (expr.Ref name) s ≡ Done v s
+ref_gives w name v s h = ap (λ act. act s) (eval-ref w name) ∙ reads (stuck w) name v s h
+
+pub cast_gives : (w : Setting) (name : Bytes) (to : CastType) (x : Word) (z : ℤ) (s : State)
+    → value_of (local_named name s.locals) ≡ Some (val.Word x) → integer_of_word x ≡ Some z → eval w (expr.Cast (expr.Local name) to) s ≡ Done (val.Value (cast_integer to z)) s
+unfolding cast_to
+cast_gives w name to x z s h k =
+    ap (λ act. act s) (eval-cast w (expr.Local name) to)
+    ∙ ap (λ o. and_then o (λ v. or_stop (stuck w) (cast_to to v))) (local_gives w name (val.Word x) s h)
+    ∙ ap (λ o. or_stop (stuck w) (option_map (λ z. val.Value (cast_integer to z)) o) s) k
+
+-- a call of a function of `_rt` on one value
+pub runtime_gives : (w : Setting) (path : Path) (function : Bytes) (i : RuntimeItem) (v : Val) (x : Word) (s : State)
+    → callee path ≡ of_runtime function → runtime_item_named w.items function ≡ Some i → converted i v ≡ Some x → call w path (v ∷ []) s ≡ Done (val.Word x) s
+unfolding call_runtime
+runtime_gives w path function i v x s c r k =
+    ap (λ k. call_callee w k (v ∷ []) s) c
+    ∙ ap (λ o. or_stop (stuck w) (option_map val.Word (convert_one o (v ∷ []))) s) r
+    ∙ ap (λ o. or_stop (stuck w) (option_map val.Word o) s) k
+
+-- a call of a core import is recorded and then answered
+pub import_gives : (w : Setting) (path : Path) (name : Bytes) (vs : List Val) (s : State) (p : CallPoint) (ty : Option WasmType)
+    → callee path ≡ alone name → call_point s name vs ≡ Some (p, ty) → call w path vs s ≡ take_answer w ty (record s { calls = s.calls ++ p ∷ [] })
+import_gives w path name vs s p ty c h =
+    ap (λ k. call_callee w k vs s) c ∙ ap (λ o. and_then (or_stop (stuck w) o s) (λ p. record_call p.0 >> take_answer w p.1)) h
+
+-- what leaves the calls as they are
+
+abbrev pub calls_at : {A : Type 0} → Outcome A → List CallPoint
+calls_at (Done a s) = s.calls
+calls_at (Stopped e s) = s.calls
+
+pub record Quiet {A : Type 0} (act : Act A) : Type 0 where
+  pub quiet : (s : State) → calls_at (act s) ≡ s.calls
+
+pub quiet_pure : {A : Type 0} (a : A) → Quiet (pure a)
+quiet_pure a = record { quiet = λ s. refl }
+
+pub quiet_or_stop : {A : Type 0} (e : Stop) (o : Option A) → Quiet (or_stop e o)
+quiet_or_stop e None = record { quiet = λ s. refl }
+quiet_or_stop e (Some a) = record { quiet = λ s. refl }
+
+pub quiet_then : {A B : Type 0} (act : Act A) (f : A → Act B) → Quiet act → ((a : A) → Quiet (f a)) → Quiet (act >>= f)
+quiet_then {A = A} {B = B} act f h k = record { quiet = λ s. go s (act s) (h.quiet s) }
+  where
+    go : (s : State) (o : Outcome A) → calls_at o ≡ s.calls → calls_at (and_then o f) ≡ s.calls
+    go s (Done a t) e = (k a).quiet t ∙ e
+    go s (Stopped x t) e = e
+
+pub quiet_read : (e : Stop) (name : Bytes) → Quiet (read_local e name)
+unfolding read_local
+quiet_read e name = record { quiet = λ s. (quiet_or_stop e (value_of (local_named name s.locals))).quiet s }
+
+pub quiet_bind : (name : Bytes) (v : Val) → Quiet (bind name v)
+unfolding bind
+quiet_bind name v = record { quiet = λ s. refl }
+
+pub quiet_answer : (w : Setting) (ty : Option WasmType) → Quiet (take_answer w ty)
+unfolding take_answer
+quiet_answer w ty = go w.answer
+  where
+    go : (a : Answer) → Quiet (answer_act w ty a)
+    go (answer.Words r writes blocks) = record { quiet = λ s. (quiet_or_stop (stuck w) (result_of ty r)).quiet (record s { heap = answered blocks writes s.heap }) }
+    go (answer.Value v h) = record { quiet = λ s. refl }
+
+pub quiet_local : (w : Setting) (name : Bytes) → Quiet (eval w (expr.Local name))
+quiet_local w name = subst Quiet (sym (eval-local w name)) (quiet_read (stuck w) name)
+
+pub quiet_cast : (w : Setting) (name : Bytes) (to : CastType) → Quiet (eval w (expr.Cast (expr.Local name) to))
+quiet_cast w name to =
+    subst Quiet (sym (eval-cast w (expr.Local name) to))
+    (quiet_then (eval w (expr.Local name)) (λ v. or_stop (stuck w) (cast_to to v)) (quiet_local w name) (λ v. quiet_or_stop (stuck w) (cast_to to v)))
+
+-- a word of the result's type is the call's value, and an answer of no blocks and no bytes leaves the heap
+pub answer_gives : (w : Setting) (ty : WasmType) (x : Word) (s : State) → w.answer ≡ answer.Words (Some x) [] [] → is_word_of ty x ≡ true → take_answer w (Some ty) s ≡ Done (val.Word x) s
+unfolding take_answer
+answer_gives w ty x s h k =
+    ap (λ a. answer_act w (Some ty) a s) h ∙ ap (λ b. or_stop (stuck w) (cond b (Some (val.Word x)) None) s) k
+
+pub no_answer_gives : (w : Setting) (s : State) → w.answer ≡ answer.Words None [] [] → take_answer w None s ≡ Done (val.Value value.Unit) s
+unfolding take_answer
+no_answer_gives w s h = ap (λ a. answer_act w None a s) h
+
+-- what the ended run shows of an outcome
+pub ended-calls : (o : Outcome (Option RustValue)) → (ended o).calls ≡ calls_at o
+ended-calls (Done v s) = refl
+ended-calls (Stopped e s) = refl
