@@ -54,7 +54,7 @@ fn declared(
     alloc: Global,
     link_name: &str,
     kind: Kind,
-    params: &[&str],
+    params: &[Text],
 ) -> Result<Stmt, OutOfMemory> {
     let mut types = List::new(alloc);
     for _ in params {
@@ -69,13 +69,24 @@ fn declared(
     }))
 }
 
-fn called(alloc: Global, kind: Kind, params: &[&str]) -> Result<Stmt, OutOfMemory> {
+fn called(alloc: Global, kind: Kind, params: &[Text]) -> Result<Stmt, OutOfMemory> {
     let mut arguments = List::new(alloc);
     for name in params {
-        arguments.push(lowered(alloc, kind, name)?)?;
+        arguments.push(lowered(alloc, kind, name.as_str())?)?;
     }
     let call = Expr::Call(path(alloc, &["wit_import0"])?, arguments);
     Ok(Stmt::Let(Text::from_str(alloc, "ret0")?, call))
+}
+
+/// So many names of parameters: `x0`, `x1` and so on.
+pub(crate) fn names(alloc: Global, count: u8) -> Result<List<Text>, OutOfMemory> {
+    let mut names = List::new(alloc);
+    for i in 0..count {
+        let mut name = Text::from_str(alloc, "x")?;
+        name.push_number(u64::from(i))?;
+        names.push(name)?;
+    }
+    Ok(names)
 }
 
 /// The wrapper of a function whose parameters and result are of one kind.
@@ -83,12 +94,12 @@ pub(crate) fn wrapper(
     alloc: Global,
     name: &str,
     kind: Kind,
-    params: &[&str],
+    params: &[Text],
 ) -> Result<FnItem, OutOfMemory> {
     let ty = TypeExpr::Primitive(kind.printed);
     let mut printed = List::new(alloc);
     for param in params {
-        let name = Text::from_str(alloc, param)?;
+        let name = param.copy(alloc)?;
         printed.push(FnParam { name, ty })?;
     }
     let mut stmts = List::new(alloc);

@@ -1,4 +1,4 @@
-use crate::tests::made::{Kind, file, heap, numbers, word, wrapper};
+use crate::tests::made::{Kind, file, heap, names, numbers, word, wrapper};
 use crate::{
     Answer, CallPoint, Choices, Form, Heap, Run, RustValue, Stop, Target, Word, run_import,
 };
@@ -88,7 +88,10 @@ fn run_in_heap(
 }
 
 fn sum(alloc: Global, form: Form) -> Result<Run, OutOfMemory> {
-    let tree = file(alloc, wrapper(alloc, "add", U32, &["a", "b"])?)?;
+    let tree = file(
+        alloc,
+        wrapper(alloc, "add", U32, names(alloc, 2)?.as_slice())?,
+    )?;
     let args = numbers(alloc, U32, &[7, 4_294_967_295])?;
     let before = empty(alloc);
     let choices = no_choices(alloc);
@@ -122,7 +125,12 @@ fn a_sum_is_asked_for_once(rt: HostRuntime) -> Result<(), Fail> {
 fn turned(alloc: Global, kind: Kind, given: i128, back: Word) -> Result<Run, OutOfMemory> {
     let args = numbers(alloc, kind, &[given])?;
     let answer = word(alloc, back);
-    run_in_heap(alloc, wrapper(alloc, "turn", kind, &["x"])?, &args, &answer)
+    run_in_heap(
+        alloc,
+        wrapper(alloc, "turn", kind, names(alloc, 1)?.as_slice())?,
+        &args,
+        &answer,
+    )
 }
 
 fn wanted_turn(alloc: Global, kind: Kind, out: Word, value: i128) -> Result<Run, OutOfMemory> {
@@ -253,10 +261,6 @@ fn kinds_are_carried_in_64_bits(rt: HostRuntime) -> Result<(), Fail> {
     )
 }
 
-const LETTERS: [&str; 16] = [
-    "a", "b", "c", "d", "e", "f", "g", "h", "i", "j", "k", "l", "m", "n", "o", "p",
-];
-
 /// Sixteen numbers, the first of them 0, and each one more than the one before it.
 fn sixteen(alloc: Global) -> Result<List<RustValue>, OutOfMemory> {
     let mut args = List::new(alloc);
@@ -279,7 +283,7 @@ fn many(alloc: Global) -> Result<Run, OutOfMemory> {
     let answer = word(alloc, Word::I32(120));
     run_in_heap(
         alloc,
-        wrapper(alloc, "many", U32, &LETTERS)?,
+        wrapper(alloc, "many", U32, names(alloc, 16)?.as_slice())?,
         &args,
         &answer,
     )
@@ -306,7 +310,12 @@ fn written_by_the_peer(alloc: Global) -> Result<Run, OutOfMemory> {
         blocks: List::new(alloc),
     };
     let args = numbers(alloc, U32, &[0])?;
-    run_in_heap(alloc, wrapper(alloc, "turn", U32, &["x"])?, &args, &answer)
+    run_in_heap(
+        alloc,
+        wrapper(alloc, "turn", U32, names(alloc, 1)?.as_slice())?,
+        &args,
+        &answer,
+    )
 }
 
 #[test]
@@ -323,7 +332,12 @@ fn the_peer_writes_after_the_call(rt: HostRuntime) -> Result<(), Fail> {
 fn left_without(alloc: Global) -> Result<Run, OutOfMemory> {
     let none = List::new(alloc);
     let answer = word(alloc, Word::I32(1));
-    run_in_heap(alloc, wrapper(alloc, "turn", U32, &["x"])?, &none, &answer)
+    run_in_heap(
+        alloc,
+        wrapper(alloc, "turn", U32, names(alloc, 1)?.as_slice())?,
+        &none,
+        &answer,
+    )
 }
 
 #[test]
