@@ -4,17 +4,17 @@ use Rattle.std.specs.Prelude.{find, fold, slice_get}
 use Rattle.std.specs.List.{list_any}
 use Rattle.std.specs.Option.{option_or}
 use Rattle.std.specs.Str.{bytes_eq}
+use Rattle.std.proofs.lemmas.Bool.{or_cases, or_left, or_right}
 use Rattle.std.proofs.lemmas.List.Folds.{list_any-append}
 use Rattle.wit_model.specs.declared.function.Function.{Function}
-use Rattle.wit_model.specs.declared.function.Param.{Param}
 use Rattle.rust_tree.specs.declared.item.FnItem.{FnItem}
 use Rattle.rust_tree.specs.declared.item.Item.{Item}
 use Rattle.rust_tree.specs.declared.item.Item.TheVariants as item
 use Rattle.rust_tree.specs.declared.runtime_item.RuntimeItem.{RuntimeItem}
-use Rattle.rust_tree.specs.declared.runtime_item.RuntimeItem.TheVariants.{AsI32, AsI64, AsF32, AsF64}
-use Rattle.wrapper_run.specs.Effect.{runtime_function}
+use Rattle.rust_tree.specs.declared.runtime_item.RuntimeItem.TheVariants.{AsI32, AsI64, AsF32, AsF64, AllocCrate, StringType, VecType, BoolLift, CharLift, StringLift}
+use Rattle.rust_tree.specs.Runtime.{item_name}
 use Rattle.wrapper_run.specs.Run.{runtime_item_named}
-use Rattle.rust_gen.specs.Runtime.{asked_items, is_same_item, lowering_item, runtime_items, runtime_module, with_asked}
+use Rattle.rust_gen.specs.Runtime.{asked_by, asked_items, is_same_item, runtime_items, runtime_module, with_asked}
 
 abbrev IsAmong : RuntimeItem → List RuntimeItem → Type 0
 IsAmong x items = list_any (λ i. is_same_item i x) items ≡ true
@@ -24,14 +24,26 @@ same-refl AsI32 = refl
 same-refl AsI64 = refl
 same-refl AsF32 = refl
 same-refl AsF64 = refl
+same-refl AllocCrate = refl
+same-refl StringType = refl
+same-refl VecType = refl
+same-refl BoolLift = refl
+same-refl CharLift = refl
+same-refl StringLift = refl
 
 -- each has a name of its own
-same-function : (i x : RuntimeItem) → bytes_eq (runtime_function i) (runtime_function x) ≡ is_same_item i x
-unfolding runtime_function
+same-function : (i x : RuntimeItem) → bytes_eq (item_name i) (item_name x) ≡ is_same_item i x
+unfolding item_name
 same-function AsI32 AsI32 = refl
 same-function AsI64 AsI64 = refl
 same-function AsF32 AsF32 = refl
 same-function AsF64 AsF64 = refl
+same-function AllocCrate AllocCrate = refl
+same-function StringType StringType = refl
+same-function VecType VecType = refl
+same-function BoolLift BoolLift = refl
+same-function CharLift CharLift = refl
+same-function StringLift StringLift = refl
 same-function _ _ = refl
 
 is-same : (i x : RuntimeItem) → is_same_item i x ≡ true → i ≡ x
@@ -39,24 +51,18 @@ is-same AsI32 AsI32 e = refl
 is-same AsI64 AsI64 e = refl
 is-same AsF32 AsF32 e = refl
 is-same AsF64 AsF64 e = refl
+is-same AllocCrate AllocCrate e = refl
+is-same StringType StringType e = refl
+is-same VecType VecType e = refl
+is-same BoolLift BoolLift e = refl
+is-same CharLift CharLift e = refl
+is-same StringLift StringLift e = refl
 is-same _ _ e = absurd (cc)
-
-either : (a b : Bool) → (a || b) ≡ true → (a ≡ true) ⊎ (b ≡ true)
-either true b e = inl refl
-either false b e = inr e
-
-or-left : (a b : Bool) → a ≡ true → (a || b) ≡ true
-or-left true b e = refl
-or-left false b e = absurd (cc)
-
-or-right : (a b : Bool) → b ≡ true → (a || b) ≡ true
-or-right true b e = refl
-or-right false b e = e
 
 -- in a module
 
 abbrev found_by : RuntimeItem → RuntimeItem → Bool
-found_by x i = bytes_eq (runtime_function i) (runtime_function x)
+found_by x i = bytes_eq (item_name i) (item_name x)
 
 find-here : (x i : RuntimeItem) (items : List RuntimeItem) (b : Bool) → is_same_item i x ≡ b → (b ≡ false → find (found_by x) items ≡ Some x) → find (found_by x) (i ∷ items) ≡ Some x
 find-here x i items true e h = ap (λ b. cond b (Some i) (find (found_by x) items)) (same-function i x ∙ e) ∙ ap Some (is-same i x e)
@@ -73,7 +79,7 @@ option_or-None : {A : Type 0} (o : Option A) → option_or o None ≡ o
 option_or-None None = refl
 option_or-None (Some x) = refl
 
-found-in_module : (x : RuntimeItem) (items : List RuntimeItem) → IsAmong x items → runtime_item_named (runtime_module items) (runtime_function x) ≡ Some x
+found-in_module : (x : RuntimeItem) (items : List RuntimeItem) → IsAmong x items → runtime_item_named (runtime_module items) (item_name x) ≡ Some x
 found-in_module x [] h = absurd (cc)
 found-in_module x (i ∷ items) h = option_or-None (find (found_by x) (i ∷ items)) ∙ find-among x (i ∷ items) h
 
@@ -88,7 +94,7 @@ asked-stays x y items h = go (list_any (λ i. is_same_item i y) items)
   where
     go : (b : Bool) → IsAmong x (cond b items (items ++ y ∷ []))
     go true = h
-    go false = list_any-append (λ i. is_same_item i x) items (y ∷ []) ∙ or-left (list_any (λ i. is_same_item i x) items) _ h
+    go false = list_any-append (λ i. is_same_item i x) items (y ∷ []) ∙ or_left (list_any (λ i. is_same_item i x) items) _ h
 
 asked-new : (x y : RuntimeItem) (items : List RuntimeItem) → is_same_item y x ≡ true → IsAmong x (with_asked items y)
 asked-new x y items e = go (list_any (λ i. is_same_item i y) items) refl
@@ -98,42 +104,39 @@ asked-new x y items e = go (list_any (λ i. is_same_item i y) items) refl
 
     go : (b : Bool) → list_any (λ i. is_same_item i y) items ≡ b → IsAmong x (cond b items (items ++ y ∷ []))
     go true h = ap (λ z. list_any (λ i. is_same_item i z) items) (sym is) ∙ h
-    go false h = list_any-append (λ i. is_same_item i x) items (y ∷ []) ∙ or-right (list_any (λ i. is_same_item i x) items) _ (or-left (is_same_item y x) false e)
+    go false h = list_any-append (λ i. is_same_item i x) items (y ∷ []) ∙ or_right (list_any (λ i. is_same_item i x) items) _ (or_left (is_same_item y x) false e)
 
 asked-all : (x : RuntimeItem) (asked items : List RuntimeItem) → IsAmong x items ⊎ IsAmong x asked → IsAmong x (fold with_asked items asked)
 asked-all x [] items (inl h) = h
 asked-all x [] items (inr h) = absurd (cc)
 asked-all x (y ∷ asked) items (inl h) = asked-all x asked (with_asked items y) (inl (asked-stays x y items h))
-asked-all x (y ∷ asked) items (inr h) = asked-all x asked (with_asked items y) (go (either (is_same_item y x) _ h))
+asked-all x (y ∷ asked) items (inr h) = asked-all x asked (with_asked items y) (go (or_cases (is_same_item y x) _ h))
   where
     go : (is_same_item y x ≡ true) ⊎ IsAmong x asked → IsAmong x (with_asked items y) ⊎ IsAmong x asked
     go (inl e) = inl (asked-new x y items e)
     go (inr e) = inr e
 
-abbrev lowerings : List Param → List RuntimeItem
-lowerings params = map (λ p. lowering_item p.ty) params
-
-asked-by : (x : RuntimeItem) (fs : List Function) (nth : ℕ) (f : Function) → slice_get fs nth ≡ Some f → IsAmong x (lowerings f.params) → IsAmong x (asked_items fs)
-asked-by x [] nth f e h = absurd (cc)
-asked-by x (g ∷ fs) zero f e h =
+asked_by-at : (x : RuntimeItem) (fs : List Function) (nth : ℕ) (f : Function) → slice_get fs nth ≡ Some f → IsAmong x (asked_by f) → IsAmong x (asked_items fs)
+asked_by-at x [] nth f e h = absurd (cc)
+asked_by-at x (g ∷ fs) zero f e h =
     let is : g ≡ f = cc in
-    list_any-append (λ i. is_same_item i x) (lowerings g.params) (asked_items fs) ∙ or-left _ _ (ap (λ g. list_any (λ i. is_same_item i x) (lowerings g.params)) is ∙ h)
-asked-by x (g ∷ fs) (suc nth) f e h =
-    list_any-append (λ i. is_same_item i x) (lowerings g.params) (asked_items fs) ∙ or-right (list_any (λ i. is_same_item i x) (lowerings g.params)) _ (asked-by x fs nth f e h)
+    list_any-append (λ i. is_same_item i x) (asked_by g) (asked_items fs) ∙ or_left _ _ (ap (λ g. list_any (λ i. is_same_item i x) (asked_by g)) is ∙ h)
+asked_by-at x (g ∷ fs) (suc nth) f e h =
+    list_any-append (λ i. is_same_item i x) (asked_by g) (asked_items fs) ∙ or_right (list_any (λ i. is_same_item i x) (asked_by g)) _ (asked_by-at x fs nth f e h)
 
--- the function that each parameter's lowering calls is found
-abbrev pub FoundAll : List Item → List Param → Type 0
-FoundAll items [] = Unit {0}
-FoundAll items (p ∷ params) = (runtime_item_named items (runtime_function (lowering_item p.ty)) ≡ Some (lowering_item p.ty)) × FoundAll items params
+-- what a function asks for is found
+abbrev pub Found : List Item → List RuntimeItem → Type 0
+Found items asked = (x : RuntimeItem) → IsAmong x asked → runtime_item_named items (item_name x) ≡ Some x
 
-found-each : (items : List Item) (params : List Param) → ((x : RuntimeItem) → IsAmong x (lowerings params) → runtime_item_named items (runtime_function x) ≡ Some x) → FoundAll items params
-found-each items [] h = tt
-found-each items (p ∷ params) h = (
-  h (lowering_item p.ty) (or-left (is_same_item (lowering_item p.ty) (lowering_item p.ty)) _ (same-refl (lowering_item p.ty))),
-  found-each items params (λ x k. h x (or-right (is_same_item (lowering_item p.ty) x) _ k)),
-)
+pub found-left : (items : List Item) (xs ys : List RuntimeItem) → Found items (xs ++ ys) → Found items xs
+found-left items xs ys h x k = h x (list_any-append (λ i. is_same_item i x) xs ys ∙ or_left _ _ k)
 
-pub found_all : (ws : List FnItem) (fs : List Function) (nth : ℕ) (f : Function) → slice_get fs nth ≡ Some f → FoundAll (map item.Import ws ++ runtime_module (runtime_items fs)) f.params
-found_all ws fs nth f e =
-    found-each (map item.Import ws ++ runtime_module (runtime_items fs)) f.params
-    (λ x h. found-behind ws (runtime_module (runtime_items fs)) (runtime_function x) ∙ found-in_module x (runtime_items fs) (asked-all x (asked_items fs) [] (inr (asked-by x fs nth f e h))))
+pub found-right : (items : List Item) (xs ys : List RuntimeItem) → Found items (xs ++ ys) → Found items ys
+found-right items xs ys h x k = h x (list_any-append (λ i. is_same_item i x) xs ys ∙ or_right (list_any (λ i. is_same_item i x) xs) _ k)
+
+pub found-first : (items : List Item) (x : RuntimeItem) (xs : List RuntimeItem) → Found items (x ∷ xs) → runtime_item_named items (item_name x) ≡ Some x
+found-first items x xs h = h x (or_left (is_same_item x x) _ (same-refl x))
+
+pub found_all : (ws : List FnItem) (fs : List Function) (nth : ℕ) (f : Function) → slice_get fs nth ≡ Some f → Found (map item.Import ws ++ runtime_module (runtime_items fs)) (asked_by f)
+found_all ws fs nth f e x h =
+    found-behind ws (runtime_module (runtime_items fs)) (item_name x) ∙ found-in_module x (runtime_items fs) (asked-all x (asked_items fs) [] (inr (asked_by-at x fs nth f e h)))

@@ -1,15 +1,13 @@
 -- The wrappers of a tree that is made as it is written are faithful.
-use Rattle.std.proofs.Common.{◌≡◌, ℕ, zero, suc, ◌+◌, Bool, true, ◌&&◌, List, [], ◌∷◌, ◌++◌, length, Some, map, refl, sym, ap, subst, ◌∙◌, arith}
+use Rattle.std.proofs.Common.{◌≡◌, ℕ, zero, suc, ◌+◌, Bool, true, List, [], ◌∷◌, ◌++◌, length, Some, map, refl, sym, ap, subst, ◌∙◌, arith}
 use Rattle.std.specs.Prelude.{IsSome, option_and_then, slice_get}
 use Rattle.std.specs.Option.{option_map}
 use Rattle.std.specs.List.{AllZip, list_all}
 use Rattle.std.proofs.lemmas.Slice.Zip.{AllZip-long}
 use Rattle.wit_model.specs.declared.function.Function.{Function}
-use Rattle.wit_model.specs.declared.name.WorldId.{WorldId}
 use Rattle.wit_model.specs.declared.resolve.Resolve.{Resolve}
 use Rattle.wit_model.specs.declared.world.World.{World}
 use Rattle.wit_model.specs.Distinct.{is_distinct}
-use Rattle.wit_model.specs.declared.world.WorldItem.TheVariants as entry
 use Rattle.rust_tree.specs.declared.item.FnItem.{FnItem}
 use Rattle.rust_tree.specs.declared.item.Item.{Item}
 use Rattle.rust_tree.specs.declared.item.Item.TheVariants as item
@@ -19,24 +17,23 @@ use Rattle.rust_tree.specs.declared.runtime_item.RuntimeItem.{RuntimeItem}
 use Rattle.rust_tree.specs.Tree.{Tree, wrappers_from, wrappers_of}
 use Rattle.wrapper_run.specs.Faithful.{Carries, IsFaithful, Made}
 use Rattle.wrapper_run.specs.Run.{Setting, import_nth, import_run, run_item, wrapper_of}
-use Rattle.rust_gen.specs.Body.{IsWritten, written_at}
+use Rattle.rust_gen.specs.Body.{IsWritten}
 use Rattle.rust_gen.specs.Bound.{Binds}
-use Rattle.rust_gen.specs.Built.{are_built_options, are_built_tables, is_built_function, is_built_import, is_built_result, is_built_world, is_empty, is_whole_number}
-use Rattle.rust_gen.specs.Cause.{is_built, is_well_named}
+use Rattle.rust_gen.specs.Cause.{is_well_named}
 use Rattle.rust_gen.specs.DeclaredNames.{are_names, declares_well, function_idents, param_idents}
-use Rattle.rust_gen.specs.Emitted.{Entries, emitted_functions, emitted_places, functions_in}
+use Rattle.rust_gen.specs.Emitted.{emitted_functions, emitted_places}
 use Rattle.rust_gen.specs.Faithful.{AreFaithful}
-use Rattle.rust_gen.specs.declared.opts.Opts.{Opts}
-use Rattle.rust_gen.specs.Runtime.{runtime_items, runtime_module}
-use Rattle.rust_gen.proofs.AskedLemmas.{FoundAll, found_all}
-use Rattle.rust_gen.proofs.RunLemmas.{Fits, both, carries_written}
+use Rattle.rust_gen.specs.Runtime.{asked_by, runtime_items, runtime_module}
+use Rattle.rust_gen.proofs.AskedLemmas.{Found, found_all}
+use Rattle.std.proofs.lemmas.Bool.{and_parts}
+use Rattle.rust_gen.proofs.RunLemmas.{Fits, carries_written}
 use Rattle.rust_gen.proofs.TreeLemmas.{length-places_from}
 
 -- what holds of all holds of each
 list_all-at : {A : Type 0} (p : A → Bool) (xs : List A) (nth : ℕ) (x : A) → list_all p xs ≡ true → slice_get xs nth ≡ Some x → p x ≡ true
 list_all-at p [] nth x h e = absurd (cc)
-list_all-at p (y ∷ xs) zero x h e = let is : y ≡ x = cc in ap p (sym is) ∙ (both (p y) (list_all p xs) h).0
-list_all-at p (y ∷ xs) (suc nth) x h e = list_all-at p xs nth x (both (p y) (list_all p xs) h).1 e
+list_all-at p (y ∷ xs) zero x h e = let is : y ≡ x = cc in ap p (sym is) ∙ (and_parts (p y) (list_all p xs) h).0
+list_all-at p (y ∷ xs) (suc nth) x h e = list_all-at p xs nth x (and_parts (p y) (list_all p xs) h).1 e
 
 zip-at : {A B : Type 0} (R : A → B → Type 0) (xs : List A) (ys : List B) (nth : ℕ) (x : A) → AllZip R xs ys → slice_get xs nth ≡ Some x → (y : B) × (slice_get ys nth ≡ Some y) × R x y
 zip-at R [] [] nth x z e = absurd (cc)
@@ -47,26 +44,11 @@ zip-at R (a ∷ xs) (y ∷ ys) (suc nth) x z e = zip-at R xs ys nth x z.1 e
 
 -- the functions of a world that is accepted
 
-functions-built : (es : Entries) → list_all (λ e. is_built_import e.1) es ≡ true → list_all is_built_function (functions_in es) ≡ true
-functions-built [] h = refl
-functions-built ((k, entry.Interface i) ∷ es) h = absurd (cc)
-functions-built ((k, entry.Named t) ∷ es) h = absurd (cc)
-functions-built ((k, entry.Function f) ∷ es) h =
-    let parts = both (is_built_function f) (list_all (λ e. is_built_import e.1) es) h in
-    ap (λ b. b && list_all is_built_function (functions_in es)) parts.0 ∙ functions-built es parts.1
-
-built-at : (world : World) (nth : ℕ) (f : Function) → is_built_world world ≡ true → slice_get (emitted_functions world) nth ≡ Some f → is_built_function f ≡ true
-unfolding is_built_world
-built-at world nth f h e = list_all-at is_built_function (emitted_functions world) nth f (functions-built world.imports (both _ (is_empty world.exports) h).0) e
-
-numbers-at : (f : Function) → is_built_function f ≡ true → list_all (λ p. is_whole_number p.ty) f.params ≡ true
-numbers-at f h = (both _ (list_all (λ p. is_whole_number p.ty) f.params) (both _ (is_built_result f.result) h).0).1
-
 distinct-at : (world : World) (nth : ℕ) (f : Function) → declares_well world ≡ true → slice_get (emitted_functions world) nth ≡ Some f → is_distinct (param_idents f) ≡ true
 unfolding declares_well
 distinct-at world nth f h e =
-    let named = list_all-at (λ f. are_names (param_idents f)) (emitted_functions world) nth f (both (are_names (function_idents world)) _ h).1 e in
-    (both _ (is_distinct (param_idents f)) named).1
+    let named = list_all-at (λ f. are_names (param_idents f)) (emitted_functions world) nth f (and_parts (are_names (function_idents world)) _ h).1 e in
+    (and_parts _ (is_distinct (param_idents f)) named).1
 
 -- the wrappers of a tree
 
@@ -90,7 +72,7 @@ wrappers-places next [] asked (p ∷ places) l = absurd (omega arith)
 wrappers-places next (f ∷ ws) asked [] l = absurd (omega arith)
 wrappers-places next (f ∷ ws) asked (p ∷ places) l = ap (λ ps. p ∷ ps) (wrappers-places (next + 1) ws asked places (omega arith))
 
-module _ (world : World) (tree : Tree) (b : Binds IsWritten world tree) (built : is_built_world world ≡ true) (named : declares_well world ≡ true) where
+module _ (world : World) (tree : Tree) (b : Binds IsWritten world tree) (named : declares_well world ≡ true) where
   as_many : length tree.places ≡ length b.wrappers
   as_many = ap length b.places ∙ length-places_from 0 world.imports ∙ sym (AllZip-long IsWritten (emitted_functions world) b.wrappers b.wraps)
 
@@ -119,32 +101,22 @@ module _ (world : World) (tree : Tree) (b : Binds IsWritten world tree) (built :
     there = subst IsSome (sym (there nth f e)) refl;
     carries = λ form vs v args heap choices a run is good is_result stand honest.
         let w : Setting = record { items = tree.items; item = (info nth f e).0.item.0; answer = a; form = form } in
-        let written = (wrapper nth f e).2 in
-        let fits : Fits written.number f w = record {
-          numbers = numbers-at f (built-at world nth f built e);
+        let i = (wrapper nth f e).0 in
+        let fits : Fits f w = record {
           distinct = distinct-at world nth f named e;
-          free = written.least.free;
-          found = subst (λ is. FoundAll is f.params) (sym b.items) (found_all b.wrappers (emitted_functions world) nth f e);
+          found = subst (λ is. Found is (asked_by f)) (sym b.items) (found_all b.wrappers (emitted_functions world) nth f e);
         } in
-        let run_of : import_run tree nth args heap choices a form ≡ Some (run_item w (written_at written.number f) args heap choices) =
-        ap (option_map (λ p. run_item (record { items = tree.items; item = p.0; answer = a; form = form }) p.1 args heap choices)) (there nth f e)
-        ∙ ap (λ i. Some (run_item w i args heap choices)) written.is in
-        let same : run_item w (written_at written.number f) args heap choices ≡ run = cc in
+        let run_of : import_run tree nth args heap choices a form ≡ Some (run_item w i args heap choices) =
+        ap (option_map (λ p. run_item (record { items = tree.items; item = p.0; answer = a; form = form }) p.1 args heap choices)) (there nth f e) in
+        let same : run_item w i args heap choices ≡ run = cc in
         subst (Carries f vs v heap) same
-        (carries_written written.number f w fits vs v args heap choices good is_result stand (λ c made. honest c (subst (Made c) same made)));
+        (carries_written f i (wrapper nth f e).2 w fits vs v args heap choices good is_result stand (λ c made. honest c (subst (Made c) same made)));
   }
 
   pub are_faithful : AreFaithful world tree
   are_faithful = record { places = placed; faithful = faithful-at }
 
--- a world of tables that are built is built
-pub built_world : (opts : Opts) (resolve : Resolve) (id : WorldId) (world : World)
-    → is_built opts resolve ≡ true → slice_get resolve.worlds id.0 ≡ Some world → is_built_world world ≡ true
-unfolding is_built are_built_tables
-built_world opts resolve id world h e =
-    let tables = both (are_built_tables resolve) (are_built_options opts) h in
-    list_all-at is_built_world resolve.worlds id.0 world (both _ (list_all is_built_world resolve.worlds) tables.0).1 e
-
+-- a world whose names are accepted declares them well
 pub named_world : (resolve : Resolve) (world : World) → is_well_named resolve world ≡ true → declares_well world ≡ true
 unfolding is_well_named
-named_world resolve world h = (both _ (declares_well world) h).1
+named_world resolve world h = (and_parts _ (declares_well world) h).1

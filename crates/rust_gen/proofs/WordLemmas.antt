@@ -1,6 +1,6 @@
 -- Whole numbers as the words that a wrapper lends, and as those that it takes.
-use Rattle.std.proofs.Common.{◌≡◌, ℕ, List, true, Some, refl, sym, ap, ◌∙◌, subst}
-use Rattle.std.specs.Prelude.{ℤ, unsigned_abs}
+use Rattle.std.proofs.Common.{◌≡◌, ℕ, List, true, Some, refl, sym, ap, ◌∙◌, subst, ◌≢◌}
+use Rattle.std.specs.Prelude.{ℤ, unsigned_abs, ◌++◌, Bool, None, Ok, [], false, pos, ◌∷◌}
 use Rattle.std.specs.Int.{cast_signed, w8, w16}
 use Rattle.wit_model.specs.declared.types.WitType.{WitType}
 use Rattle.wit_model.specs.declared.types.WitType.TheVariants as wit
@@ -16,82 +16,174 @@ use Rattle.wrapper_data.specs.declared.word.Word.TheVariants as word
 use Rattle.wrapper_run.specs.declared.state.State.{State}
 use Rattle.wrapper_run.specs.declared.state.Val.{Val}
 use Rattle.wrapper_run.specs.declared.state.Val.TheVariants as val
-use Rattle.wrapper_run.specs.Act.{Done}
-use Rattle.wrapper_run.specs.Effect.{answer_of, cast_integer, converted, integer_of_word, is_printed_as, is_word_of, low, low_i32, low_i64}
-use Rattle.wrapper_run.specs.Locals.{local_named, value_of}
-use Rattle.wrapper_run.specs.Represents.{Lends, Takes}
-use Rattle.wrapper_run.specs.Run.{Setting, eval}
-use Rattle.wrapper_run.specs.Value.{IsValue}
-use Rattle.wrapper_run.proofs.NumberLemmas.{answered-i32, answered-i64, answered-number, converted-narrow, converted-wide, low_i32-u8, low_i32-u16, low_i32-s8, low_i32-s16, low_i32-s32, low_i64-s64}
-use Rattle.wrapper_run.proofs.StepLemmas.{Quiet, cast_gives, local_gives, quiet_cast, quiet_local}
-use Rattle.rust_gen.specs.Body.{lifted}
-use Rattle.rust_gen.specs.Built.{is_whole_number}
+use Rattle.wrapper_run.specs.Act.{Done, and_then, pure}
+use Rattle.wrapper_run.specs.Effect.{answer_of, cast_integer, converted, integer_of_word, is_printed_as, is_word_of, low, low_i32, low_i64, bit, is_narrow, is_of_kind, is_scalar, lift_of}
+use Rattle.wrapper_run.specs.Locals.{local_named, value_of, bind}
+use Rattle.wrapper_run.specs.Represents.{Lends, Takes, TakesNumber}
+use Rattle.wrapper_run.specs.Run.{Setting, eval, run_stmts, runtime_item_named}
+use Rattle.wrapper_run.specs.Value.{IsValue, WitValue, char, f32, f64, number, truth}
+use Rattle.wrapper_run.proofs.NumberLemmas.{answered-i32, answered-i64, answered-number, converted-narrow, converted-wide, low_i32-u8, low_i32-u16, low_i32-s8, low_i32-s16, low_i32-s32, low_i64-s64, answered-bool, answered-char, answered-f32, answered-f64, converted-char, converted-f32, converted-f64, lifted-bool, lifted-char, not-converted}
+use Rattle.wrapper_run.proofs.StepLemmas.{cast_gives, local_gives, call_gives, lift_gives}
+use Rattle.wit_model.specs.declared.size.WasmType.TheVariants as core
+use Rattle.rust_tree.specs.declared.runtime_item.RuntimeItem.TheVariants as item
+use Rattle.rust_gen.specs.declared.scope.LocalKind.TheVariants as kind
+use Rattle.rust_gen.specs.Body.{LiftsAs, LiftsBy, runtime_call, runtime_path}
 use Rattle.rust_gen.specs.Printed.{core_type, printed_type}
-use Rattle.rust_gen.specs.Runtime.{lowering_item}
+use Rattle.rust_gen.specs.Runtime.{lowering_item, lifting_items}
+use Rattle.rust_tree.specs.declared.runtime_item.RuntimeItem.TheVariants.{BoolLift, CharLift}
+use Rattle.rust_tree.specs.declared.expr.Expr.{Expr}
+use Rattle.rust_gen.proofs.AskedLemmas.{Found, found-first}
+use Rattle.wrapper_run.specs.declared.state.Local.{Local}
+use Rattle.rust_gen.specs.declared.scope.LocalKind.{LocalKind}
+use Rattle.rust_tree.specs.declared.runtime_item.RuntimeItem.{RuntimeItem}
+use Rattle.rust_gen.specs.declared.scope.Scope.{Scope}
+use Rattle.rust_tree.specs.declared.stmt.Stmt.{Stmt}
+use Rattle.rust_gen.proofs.PathLemmas.{calls_runtime}
+use Rattle.rust_tree.specs.Runtime.{item_name}
+use Rattle.rust_gen.specs.Scope.{numbered}
+use Rattle.wrapper_run.proofs.LocalLemmas.{reads-new}
+use Rattle.wrapper_run.specs.StandsFor.{rust_value}
 
--- a number's word, as the function of `_rt` gives it
-pub record Lent (ty : WitType) (v : ℤ) : Type 0 where
+-- the word of a value that a conversion gives
+pub record Lent (ty : WitType) (v : WitValue) : Type 0 where
   pub word : Word
-  pub converts : converted (lowering_item ty) (val.Value (value.Num ty v)) ≡ Some word
+  pub converts : converted (lowering_item ty) (val.Value (rust_value ty v)) ≡ Some word
   pub lends : Lends ty v word
   pub is_word : is_word_of (core_type ty) word ≡ true
 
-pub lent : (ty : WitType) (v : ℤ) → is_whole_number ty ≡ true → IsValue ty v → Lent ty v
-lent wit.U8 v b e = record { word = word.I32 (low_i32 v); converts = converted-narrow wit.U8 v refl e; lends = ap word.I32 (low_i32-u8 v e); is_word = refl }
-lent wit.U16 v b e = record { word = word.I32 (low_i32 v); converts = converted-narrow wit.U16 v refl e; lends = ap word.I32 (low_i32-u16 v e); is_word = refl }
-lent wit.U32 v b e = record { word = word.I32 (low_i32 v); converts = converted-narrow wit.U32 v refl e; lends = refl; is_word = refl }
-lent wit.U64 v b e = record { word = word.I64 (low_i64 v); converts = converted-wide wit.U64 v refl e; lends = refl; is_word = refl }
-lent wit.S8 v b e = record { word = word.I32 (low_i32 v); converts = converted-narrow wit.S8 v refl e; lends = ap word.I32 (low_i32-s8 v e); is_word = refl }
-lent wit.S16 v b e = record { word = word.I32 (low_i32 v); converts = converted-narrow wit.S16 v refl e; lends = ap word.I32 (low_i32-s16 v e); is_word = refl }
-lent wit.S32 v b e = record { word = word.I32 (low_i32 v); converts = converted-narrow wit.S32 v refl e; lends = ap word.I32 (low_i32-s32 v e); is_word = refl }
-lent wit.S64 v b e = record { word = word.I64 (low_i64 v); converts = converted-wide wit.S64 v refl e; lends = ap word.I64 (low_i64-s64 v e); is_word = refl }
-lent _ v b e = absurd (cc)
+narrow : (ty : WitType) (z : ℤ) → lowering_item ty ≡ item.AsI32 → core_type ty ≡ core.I32 → is_narrow ty ≡ true → is_of_kind ty z ≡ true → Lends ty (number z) (word.I32 (low_i32 z)) → Lent ty (number z)
+narrow ty z l c n e h = record {
+  word = word.I32 (low_i32 z);
+  converts = ap (λ i. converted i (val.Value (value.Num ty z))) l ∙ converted-narrow ty z n e;
+  lends = h;
+  is_word = ap (λ t. is_word_of t (word.I32 (low_i32 z))) c;
+}
 
--- what the lifting of a word gives, from a local that holds it
-pub record Lifts (ty : WitType) (v : ℤ) (x : Word) (w : Setting) (name : List ℕ) (s : State) : Type 0 where
+wide : (ty : WitType) (z : ℤ) → lowering_item ty ≡ item.AsI64 → core_type ty ≡ core.I64 → is_narrow ty ≡ false → is_of_kind ty z ≡ true → Lends ty (number z) (word.I64 (low_i64 z)) → Lent ty (number z)
+wide ty z l c n e h = record {
+  word = word.I64 (low_i64 z);
+  converts = ap (λ i. converted i (val.Value (value.Num ty z))) l ∙ converted-wide ty z n e;
+  lends = h;
+  is_word = ap (λ t. is_word_of t (word.I64 (low_i64 z))) c;
+}
+
+lent-number : (ty : WitType) (z : ℤ) → is_of_kind ty z ≡ true → Lent ty (number z)
+lent-number wit.U8 z e = narrow wit.U8 z refl refl refl e (ap word.I32 (low_i32-u8 z e))
+lent-number wit.U16 z e = narrow wit.U16 z refl refl refl e (ap word.I32 (low_i32-u16 z e))
+lent-number wit.U32 z e = narrow wit.U32 z refl refl refl e refl
+lent-number wit.U64 z e = wide wit.U64 z refl refl refl e refl
+lent-number wit.S8 z e = narrow wit.S8 z refl refl refl e (ap word.I32 (low_i32-s8 z e))
+lent-number wit.S16 z e = narrow wit.S16 z refl refl refl e (ap word.I32 (low_i32-s16 z e))
+lent-number wit.S32 z e = narrow wit.S32 z refl refl refl e (ap word.I32 (low_i32-s32 z e))
+lent-number wit.S64 z e = wide wit.S64 z refl refl refl e (ap word.I64 (low_i64-s64 z e))
+lent-number _ z e = absurd (cc)
+
+-- a value of any type but bool
+pub lent : (ty : WitType) (v : WitValue) → IsValue ty v → ty ≢ wit.Bool → Lent ty v
+lent ty (truth b) e n = absurd (n e)
+lent ty (number z) e n = lent-number ty z e
+lent ty (f32 bits) (e, k) n = subst (λ t. Lent t (f32 bits)) (sym e) (record { word = word.F32 bits; converts = converted-f32 bits; lends = refl; is_word = refl })
+lent ty (f64 bits) (e, k) n = subst (λ t. Lent t (f64 bits)) (sym e) (record { word = word.F64 bits; converts = converted-f64 bits; lends = refl; is_word = refl })
+lent ty (char c) (e, k) n = subst (λ t. Lent t (char c)) (sym e) (record { word = word.I32 (pos c); converts = converted-char c k; lends = refl; is_word = refl })
+
+-- what the lifting of a word gives: its statements declare locals, and its expression is then the value
+pub record LiftsTo (ty : WitType) (v : WitValue) (w : Setting) (stmts : List Stmt) (e : Expr) (s : State) : Type 0 where
+  pub locals : List Local
+  pub runs : run_stmts w stmts s ≡ Done tt (record s { locals = locals })
   pub given : Val
-  pub gives : eval w (lifted ty name) s ≡ Done given s
-  pub answers : answer_of (printed_type ty) given ≡ Some (Some (value.Num ty v))
+  pub gives : eval w e (record s { locals = locals }) ≡ Done given (record s { locals = locals })
+  pub answers : answer_of (printed_type ty) given ≡ Some (Some (rust_value ty v))
 
-pub record Taken (ty : WitType) (v : ℤ) (x : Word) : Type 0 where
+-- no statements, and an expression that gives the value
+at_once : (ty : WitType) (v : WitValue) (w : Setting) (stmts : List Stmt) (e f : Expr) (s : State) (given : Val) → stmts ≡ [] → e ≡ f → eval w f s ≡ Done given s
+    → answer_of (printed_type ty) given ≡ Some (Some (rust_value ty v)) → LiftsTo ty v w stmts e s
+at_once ty v w stmts e f s given n q g a = record {
+  locals = s.locals;
+  runs = ap (λ stmts. run_stmts w stmts s) n;
+  given = given;
+  gives = ap (λ e. eval w e s) q ∙ g;
+  answers = a;
+}
+
+-- a local that holds what a lift makes of a cast word
+by_item : (ty : WitType) (v : WitValue) (w : Setting) (k : LocalKind) (i : RuntimeItem) (to : CastType) (name : List ℕ) (x : Word) (z : ℤ) (before : Scope) (stmts : List Stmt) (e : Expr) (s : State)
+    → LiftsBy k i (expr.Cast (expr.Local name) to) before stmts e → value_of (local_named name s.locals) ≡ Some (val.Word x) → integer_of_word x ≡ Some z
+    → runtime_item_named w.items (item_name i) ≡ Some i → converted i (val.Value (cast_integer to z)) ≡ None → lift_of w.form i (val.Value (cast_integer to z)) ≡ Some (Ok (rust_value ty v))
+    → answer_of (printed_type ty) (val.Value (rust_value ty v)) ≡ Some (Some (rust_value ty v)) → LiftsTo ty v w stmts e s
+unfolding bind
+by_item ty v w k i to name x z before stmts e s (t, after, declares, is, tail) at n f c l a =
+    let made : Local = record { name = numbered k t; value = Some (val.Value (rust_value ty v)) } in
+    let ends : State = record s { locals = s.locals ++ made ∷ [] } in
+    let call : eval w (runtime_call i (expr.Cast (expr.Local name) to)) s ≡ Done (val.Value (rust_value ty v)) s =
+    call_gives w (runtime_path i) (expr.Cast (expr.Local name) to ∷ []) (val.Value (cast_integer to z) ∷ []) s (cast_gives w name to x z s at n, tt)
+    ∙ lift_gives w (runtime_path i) (item_name i) i (val.Value (cast_integer to z)) (rust_value ty v) s (calls_runtime i) f c l in
+    record {
+      locals = s.locals ++ made ∷ [];
+      runs =
+          ap (λ stmts. run_stmts w stmts s) is
+          ∙ ap (λ o. and_then (and_then o (bind (numbered k t))) (λ _. pure {A = Unit {0}} tt)) call;
+      given = val.Value (rust_value ty v);
+      gives = ap (λ e. eval w e ends) tail ∙ local_gives w (numbered k t) (val.Value (rust_value ty v)) ends (reads-new (numbered k t) (Some (val.Value (rust_value ty v))) s.locals);
+      answers = a;
+    }
+
+-- a word that is taken for a value is one of the core type, and is lifted to it
+pub record Taken (ty : WitType) (v : WitValue) (x : Word) : Type 0 where
   pub is_word : is_word_of (core_type ty) x ≡ true
-  pub lifts : (w : Setting) (name : List ℕ) (s : State) → value_of (local_named name s.locals) ≡ Some (val.Word x) → Lifts ty v x w name s
+  pub lifts : (w : Setting) (name : List ℕ) (before : Scope) (stmts : List Stmt) (e : Expr) (s : State) → LiftsAs ty name before stmts e
+      → Found w.items (lifting_items (Some ty)) → value_of (local_named name s.locals) ≡ Some (val.Word x) → LiftsTo ty v w stmts e s
 
--- a lifting by a cast
-taken_by : (ty : WitType) (v : ℤ) (x : Word) (p : Primitive) (to : CastType) (z u : ℤ) → ((name : List ℕ) → lifted ty name ≡ expr.Cast (expr.Local name) to)
-    → printed_type ty ≡ type.Primitive p → is_printed_as p ty ≡ true → integer_of_word x ≡ Some z → cast_integer to z ≡ value.Num ty u → v ≡ u → IsValue ty v → is_word_of (core_type ty) x ≡ true → Taken ty v x
+taken_by : (ty : WitType) (v : ℤ) (x : Word) (p : Primitive) (to : CastType) (z u : ℤ)
+    → ((name : List ℕ) (before : Scope) (stmts : List Stmt) (e : Expr) → LiftsAs ty name before stmts e → (stmts ≡ []) × (e ≡ expr.Cast (expr.Local name) to))
+    → printed_type ty ≡ type.Primitive p → is_printed_as p ty ≡ true → integer_of_word x ≡ Some z → cast_integer to z ≡ value.Num ty u → v ≡ u → is_of_kind ty v ≡ true → is_word_of (core_type ty) x ≡ true → Taken ty (number v) x
 taken_by ty v x p to z u l q r i c e h k = record {
   is_word = k;
-  lifts = λ w name s at. record {
-    given = val.Value (value.Num ty v);
-    gives = ap (λ e. eval w e s) (l name) ∙ cast_gives w name to x z s at i ∙ ap (λ r. Done (val.Value r) s) (c ∙ ap (value.Num ty) (sym e));
-    answers = ap (λ t. answer_of t (val.Value (value.Num ty v))) q ∙ answered-number p ty v r h;
-  };
+  lifts = λ w name before stmts f s lifts found at.
+      at_once ty (number v) w stmts f (expr.Cast (expr.Local name) to) s (val.Value (value.Num ty v)) (l name before stmts f lifts).0 (l name before stmts f lifts).1
+      (cast_gives w name to x z s at i ∙ ap (λ r. Done (val.Value r) s) (c ∙ ap (value.Num ty) (sym e)))
+      (ap (λ t. answer_of t (val.Value (value.Num ty v))) q ∙ answered-number p ty v r h);
 }
 
 -- a word that is the value already
-taken_as : (ty : WitType) (v : ℤ) (x : Word) → ((name : List ℕ) → lifted ty name ≡ expr.Local name) → answer_of (printed_type ty) (val.Word x) ≡ Some (Some (value.Num ty v)) → is_word_of (core_type ty) x ≡ true → Taken ty v x
+taken_as : (ty : WitType) (v : WitValue) (x : Word)
+    → ((name : List ℕ) (before : Scope) (stmts : List Stmt) (e : Expr) → LiftsAs ty name before stmts e → (stmts ≡ []) × (e ≡ expr.Local name))
+    → answer_of (printed_type ty) (val.Word x) ≡ Some (Some (rust_value ty v)) → is_word_of (core_type ty) x ≡ true → Taken ty v x
 taken_as ty v x l a k = record {
   is_word = k;
-  lifts = λ w name s at. record { given = val.Word x; gives = ap (λ e. eval w e s) (l name) ∙ local_gives w name (val.Word x) s at; answers = a };
+  lifts = λ w name before stmts f s lifts found at.
+      at_once ty v w stmts f (expr.Local name) s (val.Word x) (l name before stmts f lifts).0 (l name before stmts f lifts).1 (local_gives w name (val.Word x) s at) a;
 }
 
-pub taken : (ty : WitType) (v : ℤ) (x : Word) → IsValue ty v → Takes ty v x → Taken ty v x
-taken wit.U8 v x h (z, e, q) = subst (Taken wit.U8 v) (sym e) (taken_by wit.U8 v (word.I32 z) prim.U8 cast.U8 z (low 8 z) (λ n. refl) refl refl refl refl q h refl)
-taken wit.U16 v x h (z, e, q) = subst (Taken wit.U16 v) (sym e) (taken_by wit.U16 v (word.I32 z) prim.U16 cast.U16 z (low 16 z) (λ n. refl) refl refl refl refl q h refl)
-taken wit.U32 v x h (z, e, q) = subst (Taken wit.U32 v) (sym e) (taken_by wit.U32 v (word.I32 z) prim.U32 cast.U32 z (low 32 z) (λ n. refl) refl refl refl refl q h refl)
-taken wit.U64 v x h (z, e, q) = subst (Taken wit.U64 v) (sym e) (taken_by wit.U64 v (word.I64 z) prim.U64 cast.U64 z (low 64 z) (λ n. refl) refl refl refl refl q h refl)
-taken wit.S8 v x h (z, e, q) = subst (Taken wit.S8 v) (sym e) (taken_by wit.S8 v (word.I32 z) prim.I8 cast.I8 z (cast_signed w8 (unsigned_abs (low 8 z))) (λ n. refl) refl refl refl refl q h refl)
-taken wit.S16 v x h (z, e, q) = subst (Taken wit.S16 v) (sym e) (taken_by wit.S16 v (word.I32 z) prim.I16 cast.I16 z (cast_signed w16 (unsigned_abs (low 16 z))) (λ n. refl) refl refl refl refl q h refl)
-taken wit.S32 v x h e = subst (Taken wit.S32 v) (sym e) (taken_as wit.S32 v (word.I32 v) (λ n. refl) (answered-i32 v) refl)
-taken wit.S64 v x h e = subst (Taken wit.S64 v) (sym e) (taken_as wit.S64 v (word.I64 v) (λ n. refl) (answered-i64 v) refl)
-taken _ v x h e = absurd e
+taken-number : (ty : WitType) (v : ℤ) (x : Word) → is_of_kind ty v ≡ true → TakesNumber ty v x → Taken ty (number v) x
+taken-number wit.U8 v x h (z, e, q) = subst (Taken wit.U8 (number v)) (sym e) (taken_by wit.U8 v (word.I32 z) prim.U8 cast.U8 z (low 8 z) (λ n b t e l. l) refl refl refl refl q h refl)
+taken-number wit.U16 v x h (z, e, q) = subst (Taken wit.U16 (number v)) (sym e) (taken_by wit.U16 v (word.I32 z) prim.U16 cast.U16 z (low 16 z) (λ n b t e l. l) refl refl refl refl q h refl)
+taken-number wit.U32 v x h (z, e, q) = subst (Taken wit.U32 (number v)) (sym e) (taken_by wit.U32 v (word.I32 z) prim.U32 cast.U32 z (low 32 z) (λ n b t e l. l) refl refl refl refl q h refl)
+taken-number wit.U64 v x h (z, e, q) = subst (Taken wit.U64 (number v)) (sym e) (taken_by wit.U64 v (word.I64 z) prim.U64 cast.U64 z (low 64 z) (λ n b t e l. l) refl refl refl refl q h refl)
+taken-number wit.S8 v x h (z, e, q) = subst (Taken wit.S8 (number v)) (sym e) (taken_by wit.S8 v (word.I32 z) prim.I8 cast.I8 z (cast_signed w8 (unsigned_abs (low 8 z))) (λ n b t e l. l) refl refl refl refl q h refl)
+taken-number wit.S16 v x h (z, e, q) = subst (Taken wit.S16 (number v)) (sym e) (taken_by wit.S16 v (word.I32 z) prim.I16 cast.I16 z (cast_signed w16 (unsigned_abs (low 16 z))) (λ n b t e l. l) refl refl refl refl q h refl)
+taken-number wit.S32 v x h e = subst (Taken wit.S32 (number v)) (sym e) (taken_as wit.S32 (number v) (word.I32 v) (λ n b t e l. l) (answered-i32 v) refl)
+taken-number wit.S64 v x h e = subst (Taken wit.S64 (number v)) (sym e) (taken_as wit.S64 (number v) (word.I64 v) (λ n b t e l. l) (answered-i64 v) refl)
+taken-number _ v x h e = absurd e
 
-pub quiet_lifted : (w : Setting) (ty : WitType) (name : List ℕ) → Quiet (eval w (lifted ty name))
-quiet_lifted w wit.U8 name = quiet_cast w name cast.U8
-quiet_lifted w wit.U16 name = quiet_cast w name cast.U16
-quiet_lifted w wit.U32 name = quiet_cast w name cast.U32
-quiet_lifted w wit.U64 name = quiet_cast w name cast.U64
-quiet_lifted w wit.S8 name = quiet_cast w name cast.I8
-quiet_lifted w wit.S16 name = quiet_cast w name cast.I16
-quiet_lifted w _ name = quiet_local w name
+taken-bool : (b : Bool) (z : ℤ) → bit b ≡ low 8 z → Taken wit.Bool (truth b) (word.I32 z)
+taken-bool b z q = record {
+  is_word = refl;
+  lifts = λ w name before stmts e s l found at.
+      by_item wit.Bool (truth b) w kind.Bool BoolLift cast.U8 name (word.I32 z) z before stmts e s l at refl (found-first w.items BoolLift [] found)
+      (not-converted (val.Value (cast_integer cast.U8 z))).0 (ap (λ n. lift_of w.form BoolLift (val.Value (value.Num wit.U8 n))) (sym q) ∙ lifted-bool w.form b) (answered-bool b);
+}
+
+taken-char : (c : ℕ) (z : ℤ) → is_scalar c ≡ true → pos c ≡ low 32 z → Taken wit.Char (char c) (word.I32 z)
+taken-char c z k q = record {
+  is_word = refl;
+  lifts = λ w name before stmts e s l found at.
+      by_item wit.Char (char c) w kind.Char CharLift cast.U32 name (word.I32 z) z before stmts e s l at refl (found-first w.items CharLift [] found)
+      (not-converted (val.Value (cast_integer cast.U32 z))).1 (ap (λ n. lift_of w.form CharLift (val.Value (value.Num wit.U32 n))) (sym q) ∙ lifted-char w.form c k) (answered-char c k);
+}
+
+pub taken : (ty : WitType) (v : WitValue) (x : Word) → IsValue ty v → Takes ty v x → Taken ty v x
+taken ty (number z) x h t = taken-number ty z x h t
+taken ty (truth b) x h (z, e, q) = subst (λ t. Taken t (truth b) x) (sym h) (subst (Taken wit.Bool (truth b)) (sym e) (taken-bool b z q))
+taken ty (char c) x (h, k) (z, e, q) = subst (λ t. Taken t (char c) x) (sym h) (subst (Taken wit.Char (char c)) (sym e) (taken-char c z k q))
+taken ty (f32 bits) x (h, k) e = subst (λ t. Taken t (f32 bits) x) (sym h) (subst (Taken wit.F32 (f32 bits)) (sym e) (taken_as wit.F32 (f32 bits) (word.F32 bits) (λ n b t e l. l) (answered-f32 bits) refl))
+taken ty (f64 bits) x (h, k) e = subst (λ t. Taken t (f64 bits) x) (sym h) (subst (Taken wit.F64 (f64 bits)) (sym e) (taken_as wit.F64 (f64 bits) (word.F64 bits) (λ n b t e l. l) (answered-f64 bits) refl))

@@ -1,31 +1,72 @@
 -- What is written is a wrapper, seen from outside.
-use Rattle.std.proofs.Common.{◌≡◌, ℕ, List, [], ◌∷◌, Option, None, Some, refl, ap, ◌∙◌}
+use Rattle.std.proofs.Common.{◌≡◌, ℕ, List, [], ◌∷◌, ◌++◌, Option, None, Some, refl, ap, ◌∙◌}
 use Rattle.std.specs.List.{AllZip}
 use Rattle.wit_model.specs.declared.function.Function.{Function}
+use Rattle.wit_model.specs.declared.function.Param.{Param}
 use Rattle.wit_model.specs.declared.types.WitType.{WitType}
+use Rattle.wit_model.specs.declared.types.WitType.TheVariants as wit
 use Rattle.wit_model.specs.declared.world.World.{World}
+use Rattle.rust_tree.specs.declared.expr.Expr.{Expr}
 use Rattle.rust_tree.specs.declared.item.FnItem.{FnItem}
+use Rattle.rust_tree.specs.declared.stmt.Stmt.{Stmt}
+use Rattle.rust_tree.specs.declared.stmt.Stmt.TheVariants as stmt
 use Rattle.rust_tree.specs.Tree.{Tree}
-use Rattle.rust_gen.specs.Body.{IsWritten, import_body, import_decl, root_module}
+use Rattle.rust_gen.specs.Body.{IsWritten, LiftsAs, Lifts, LowersAll, LowersAs, call_stmt, import_decl, result_name, root_module}
 use Rattle.rust_gen.specs.Bound.{Binds}
+use Rattle.rust_gen.specs.declared.scope.Scope.{Scope}
+use Rattle.rust_gen.specs.Scope.{Bytes, first_scope}
 use Rattle.rust_gen.specs.Wrapper.{Declares, Wraps, declared}
 
-declared-import_body : (t : ℕ) (f : Function) (answer : Option WitType) → declared (import_body t f answer).stmts ≡ import_decl t f ∷ []
-declared-import_body t f None = refl
-declared-import_body t f (Some ty) = refl
+declared-append : (a b : List Stmt) → declared (a ++ b) ≡ declared a ++ declared b
+declared-append [] b = refl
+declared-append (stmt.Import d ∷ a) b = ap (λ ds. d ∷ ds) (declared-append a b)
+declared-append (stmt.Let n e ∷ a) b = declared-append a b
+declared-append (stmt.Expr e ∷ a) b = declared-append a b
+declared-append (stmt.Area r ∷ a) b = declared-append a b
+
+lowers-none : (ty : WitType) (before : Scope) (p : Param) (stmts : List Stmt) (word : Expr) (after : Scope) → LowersAs ty before p stmts word after → declared stmts ≡ []
+lowers-none wit.Bool before p stmts word after (t, d, is, wd) = ap declared is
+lowers-none _ before p stmts word after l = ap declared l.0
+
+lowering-none : (before : Scope) (params : List Param) (stmts : List Stmt) (words : List Expr) (after : Scope) → LowersAll before params stmts words after → declared stmts ≡ []
+lowering-none before [] stmts words after (is, ws, same) = ap declared is
+lowering-none before (p ∷ params) stmts words after (first, word, between, later, more, l, ls, is, ws) =
+    ap declared is ∙ declared-append first later ∙ ap (λ ds. ds ++ declared later) (lowers-none p.ty before p first word between l) ∙ lowering-none between params later more after ls
+
+lifts-none : (ty : WitType) (name : Bytes) (before : Scope) (stmts : List Stmt) (e : Expr) → LiftsAs ty name before stmts e → declared stmts ≡ []
+lifts-none wit.Bool name before stmts e (t, after, d, is, tail) = ap declared is
+lifts-none wit.Char name before stmts e (t, after, d, is, tail) = ap declared is
+lifts-none _ name before stmts e l = ap declared l.0
+
+lifting-none : (r : Option WitType) (name : Bytes) (before : Scope) (stmts : List Stmt) (tail : Option Expr) → Lifts r name before stmts tail → declared stmts ≡ []
+lifting-none None name before stmts tail l = ap declared l.0
+lifting-none (Some ty) name before stmts tail (e, q, l) = lifts-none ty name before stmts e l
+
+called-none : (r : Option WitType) (t : ℕ) (words : List Expr) (stmts : List Stmt) → declared (call_stmt r t words ∷ stmts) ≡ declared stmts
+called-none None t words stmts = refl
+called-none (Some ty) t words stmts = refl
 
 declares : (t : ℕ) (f : Function) → Declares f (import_decl t f)
 unfolding root_module
 declares t f = record { of_root = refl; of_name = refl; params = refl; answer = refl }
 
 pub wraps : (f : Function) (item : FnItem) → IsWritten f item → Wraps f item
-wraps f item w = record {
-  docs = ap (λ i. i.docs) w.is;
-  name = ap (λ i. i.name) w.is;
-  params = ap (λ i. i.params) w.is;
-  answer = ap (λ i. i.result) w.is;
-  declares = (import_decl w.number f, ap (λ i. declared i.body.stmts) w.is ∙ declared-import_body w.number f f.result, declares w.number f);
-}
+wraps f item w =
+    let b = w.body in
+    record {
+      docs = w.docs;
+      name = w.name;
+      params = w.params;
+      answer = w.answer;
+      declares = (
+        import_decl b.number f,
+        ap declared b.stmts
+            ∙ declared-append b.lowering (stmt.Import (import_decl b.number f) ∷ call_stmt f.result b.number b.words ∷ b.lifting)
+            ∙ ap (λ ds. ds ++ declared (stmt.Import (import_decl b.number f) ∷ call_stmt f.result b.number b.words ∷ b.lifting)) (lowering-none (first_scope f) f.params b.lowering b.words b.lowered b.lowers)
+            ∙ ap (λ ds. import_decl b.number f ∷ ds) (called-none f.result b.number b.words b.lifting ∙ lifting-none f.result (result_name b.number) b.called b.lifting item.body.tail b.lifts),
+        declares b.number f,
+      );
+    }
 
 pub AllZip-map : {A B : Type 0} (R S : A → B → Type 0) → ((a : A) (b : B) → R a b → S a b) → (xs : List A) (ys : List B) → AllZip R xs ys → AllZip S xs ys
 AllZip-map R S h [] [] z = tt

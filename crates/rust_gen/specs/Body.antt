@@ -1,8 +1,6 @@
--- The wrapper of an imported function as it is written, with all its parts: a number for its locals, the declaration of the
--- core import, and the call of it.
-use Rattle.std.specs.Prelude.{◌≡◌, ℕ, ◌<◌, Bool, true, false, not, List, [], ◌∷◌, ◌++◌, Option, None, Some, codes, decimal, map}
-use Rattle.std.specs.List.{list_any}
-use Rattle.std.specs.Str.{bytes_eq}
+-- The wrapper of an imported function as it is written, with all its parts: the arguments are lowered to words, the core
+-- import is declared and called, and the result is lifted.
+use Rattle.std.specs.Prelude.{◌≡◌, ℕ, false, List, [], ◌∷◌, ◌++◌, Option, None, Some, codes, map}
 use Rattle.wit_model.specs.declared.function.Function.{Function}
 use Rattle.wit_model.specs.declared.function.Param.{Param}
 use Rattle.wit_model.specs.declared.types.WitType.{WitType}
@@ -13,78 +11,71 @@ use Rattle.rust_tree.specs.declared.expr.Expr.TheVariants as expr
 use Rattle.rust_tree.specs.declared.item.FnItem.{FnItem}
 use Rattle.rust_tree.specs.declared.path.Path.{Path}
 use Rattle.rust_tree.specs.declared.runtime_item.RuntimeItem.{RuntimeItem}
-use Rattle.rust_tree.specs.declared.runtime_item.RuntimeItem.TheVariants.{AsI32, AsI64, AsF32, AsF64}
+use Rattle.rust_tree.specs.declared.runtime_item.RuntimeItem.TheVariants.{BoolLift, CharLift}
 use Rattle.rust_tree.specs.declared.stmt.Block.{Block}
 use Rattle.rust_tree.specs.declared.stmt.ImportDecl.{ImportDecl}
+use Rattle.rust_tree.specs.declared.stmt.Stmt.{Stmt}
 use Rattle.rust_tree.specs.declared.stmt.Stmt.TheVariants as stmt
 use Rattle.rust_tree.specs.Ident.{rust_ident}
-use Rattle.rust_gen.specs.DeclaredNames.{param_idents}
+use Rattle.rust_tree.specs.Runtime.{item_name}
+use Rattle.rust_gen.specs.declared.scope.LocalKind.{LocalKind}
+use Rattle.rust_gen.specs.declared.scope.LocalKind.TheVariants as kind
 use Rattle.rust_gen.specs.Docs.{doc_lines}
 use Rattle.rust_gen.specs.Printed.{printed_result, core_type, core_result}
 use Rattle.rust_gen.specs.Runtime.{lowering_item}
+use Rattle.rust_gen.specs.declared.scope.Scope.{Scope}
+use Rattle.rust_gen.specs.Scope.{Bytes, Declares, first_scope, numbered}
 use Rattle.rust_gen.specs.Wrapper.{printed_param}
 
 -- the fixed words of a body
-unfoldable pub root_module : List ℕ
+
+unfoldable pub root_module : Bytes
 root_module = codes "$root"
 
-unfoldable pub import_prefix : List ℕ
-import_prefix = codes "wit_import"
-
-unfoldable pub result_prefix : List ℕ
-result_prefix = codes "ret"
-
-unfoldable pub runtime_name : List ℕ
+unfoldable pub runtime_name : Bytes
 runtime_name = codes "_rt"
 
-unfoldable pub item_function : RuntimeItem → List ℕ
-item_function AsI32 = codes "as_i32"
-item_function AsI64 = codes "as_i64"
-item_function AsF32 = codes "as_f32"
-item_function AsF64 = codes "as_f64"
+abbrev pub runtime_path : RuntimeItem → Path
+runtime_path i = record { lead = false; supers = 0; names = runtime_name ∷ item_name i ∷ [] }
 
-abbrev pub import_name : ℕ → List ℕ
-import_name t = import_prefix ++ decimal t
-
-abbrev pub result_name : ℕ → List ℕ
-result_name t = result_prefix ++ decimal t
-
--- the locals that a body declares under a number
-abbrev pub local_names : Option WitType → ℕ → List (List ℕ)
-local_names None t = import_name t ∷ []
-local_names (Some _) t = import_name t ∷ result_name t ∷ []
-
-abbrev pub is_used : List (List ℕ) → List ℕ → Bool
-is_used used name = list_any (λ u. bytes_eq u name) used
-
--- none of the locals has a name that is used already
-abbrev pub is_free : List (List ℕ) → Option WitType → ℕ → Bool
-is_free used answer t = not (list_any (is_used used) (local_names answer t))
-
--- the least number at which the locals hide nothing
-pub record IsLeastFree (used : List (List ℕ)) (answer : Option WitType) (t : ℕ) : Type 0 where
-  pub free : is_free used answer t ≡ true
-  pub least : (k : ℕ) → k < t → is_free used answer k ≡ false
-
-abbrev pub runtime_path : List ℕ → Path
-runtime_path name = record { lead = false; supers = 0; names = runtime_name ∷ name ∷ [] }
-
-abbrev pub local_path : List ℕ → Path
+abbrev pub local_path : Bytes → Path
 local_path name = record { lead = false; supers = 0; names = name ∷ [] }
 
--- a parameter as a core value
-abbrev pub lowered : Param → Expr
-lowered p = expr.Call (runtime_path (item_function (lowering_item p.ty))) (expr.Ref (rust_ident p.name) ∷ [])
+abbrev pub runtime_call : RuntimeItem → Expr → Expr
+runtime_call i e = expr.Call (runtime_path i) (e ∷ [])
 
--- a core value as a value of the type
-abbrev pub lifted : WitType → List ℕ → Expr
-lifted wit.U8 name = expr.Cast (expr.Local name) cast.U8
-lifted wit.U16 name = expr.Cast (expr.Local name) cast.U16
-lifted wit.U32 name = expr.Cast (expr.Local name) cast.U32
-lifted wit.U64 name = expr.Cast (expr.Local name) cast.U64
-lifted wit.S8 name = expr.Cast (expr.Local name) cast.I8
-lifted wit.S16 name = expr.Cast (expr.Local name) cast.I16
-lifted _ name = expr.Local name
+-- lowering
+
+-- a parameter as a core value by a conversion
+abbrev pub converted : Param → Expr
+converted p = runtime_call (lowering_item p.ty) (expr.Ref (rust_ident p.name))
+
+-- statements and a word for a parameter, between two scopes
+abbrev pub LowersAs : WitType → Scope → Param → List Stmt → Expr → Scope → Type 0
+LowersAs wit.Bool before p stmts word after =
+    (t : ℕ) × Declares before (kind.Bool ∷ []) t after
+    × (stmts ≡ stmt.Let (numbered kind.Bool t) (expr.I32FromBool (expr.Ref (rust_ident p.name))) ∷ [])
+    × (word ≡ expr.Local (numbered kind.Bool t))
+LowersAs _ before p stmts word after = (stmts ≡ []) × (word ≡ converted p) × (after ≡ before)
+
+-- the parameters in their order
+abbrev pub LowersAll : Scope → List Param → List Stmt → List Expr → Scope → Type 0
+LowersAll before [] stmts words after = (stmts ≡ []) × (words ≡ []) × (after ≡ before)
+LowersAll before (p ∷ params) stmts words after =
+    (first : List Stmt) × (word : Expr) × (between : Scope) × (later : List Stmt) × (more : List Expr)
+    × LowersAs p.ty before p first word between × LowersAll between params later more after × (stmts ≡ first ++ later) × (words ≡ word ∷ more)
+
+-- the call
+
+abbrev pub import_name : ℕ → Bytes
+import_name t = numbered kind.Import t
+
+abbrev pub result_name : ℕ → Bytes
+result_name t = numbered kind.Returned t
+
+abbrev pub call_kinds : Option WitType → List LocalKind
+call_kinds None = kind.Import ∷ []
+call_kinds (Some _) = kind.Import ∷ kind.Returned ∷ []
 
 abbrev pub import_decl : ℕ → Function → ImportDecl
 import_decl t f = record {
@@ -95,27 +86,57 @@ import_decl t f = record {
   result = core_result f.result;
 }
 
-abbrev pub import_call : ℕ → Function → Expr
-import_call t f = expr.Call (local_path (import_name t)) (map lowered f.params)
+abbrev pub import_call : ℕ → List Expr → Expr
+import_call t words = expr.Call (local_path (import_name t)) words
 
--- the declaration, the call, and the call's answer as the body's value
-abbrev pub import_body : ℕ → Function → Option WitType → Block
-import_body t f None = record { stmts = stmt.Import (import_decl t f) ∷ stmt.Expr (import_call t f) ∷ []; tail = None }
-import_body t f (Some ty) = record {
-  stmts = stmt.Import (import_decl t f) ∷ stmt.Let (result_name t) (import_call t f) ∷ [];
-  tail = Some (lifted ty (result_name t));
-}
+abbrev pub call_stmt : Option WitType → ℕ → List Expr → Stmt
+call_stmt None t words = stmt.Expr (import_call t words)
+call_stmt (Some _) t words = stmt.Let (result_name t) (import_call t words)
 
-abbrev pub written_at : ℕ → Function → FnItem
-written_at t f = record {
-  docs = doc_lines f.docs;
-  name = rust_ident f.name;
-  params = map printed_param f.params;
-  result = printed_result f.result;
-  body = import_body t f f.result;
-}
+-- lifting
+
+-- a core value as a value of the type, where no local is declared for it
+abbrev pub lifted : WitType → Bytes → Expr
+lifted wit.U8 name = expr.Cast (expr.Local name) cast.U8
+lifted wit.U16 name = expr.Cast (expr.Local name) cast.U16
+lifted wit.U32 name = expr.Cast (expr.Local name) cast.U32
+lifted wit.U64 name = expr.Cast (expr.Local name) cast.U64
+lifted wit.S8 name = expr.Cast (expr.Local name) cast.I8
+lifted wit.S16 name = expr.Cast (expr.Local name) cast.I16
+lifted _ name = expr.Local name
+
+-- a local that holds what a function of `_rt` makes of the result
+abbrev pub LiftsBy : LocalKind → RuntimeItem → Expr → Scope → List Stmt → Expr → Type 0
+LiftsBy k i word before stmts tail =
+    (t : ℕ) × (after : Scope) × Declares before (k ∷ []) t after
+    × (stmts ≡ stmt.Let (numbered k t) (runtime_call i word) ∷ []) × (tail ≡ expr.Local (numbered k t))
+
+abbrev pub LiftsAs : WitType → Bytes → Scope → List Stmt → Expr → Type 0
+LiftsAs wit.Bool name before stmts tail = LiftsBy kind.Bool BoolLift (expr.Cast (expr.Local name) cast.U8) before stmts tail
+LiftsAs wit.Char name before stmts tail = LiftsBy kind.Char CharLift (expr.Cast (expr.Local name) cast.U32) before stmts tail
+LiftsAs ty name before stmts tail = (stmts ≡ []) × (tail ≡ lifted ty name)
+
+abbrev pub Lifts : Option WitType → Bytes → Scope → List Stmt → Option Expr → Type 0
+Lifts None name before stmts tail = (stmts ≡ []) × (tail ≡ None)
+Lifts (Some ty) name before stmts tail = (e : Expr) × (tail ≡ Some e) × LiftsAs ty name before stmts e
+
+-- whole
+
+pub record IsBody (f : Function) (body : Block) : Type 0 where
+  pub lowering : List Stmt
+  pub words : List Expr
+  pub lowered : Scope
+  pub lowers : LowersAll (first_scope f) f.params lowering words lowered
+  pub number : ℕ
+  pub called : Scope
+  pub calls : Declares lowered (call_kinds f.result) number called
+  pub lifting : List Stmt
+  pub lifts : Lifts f.result (result_name number) called lifting body.tail
+  pub stmts : body.stmts ≡ lowering ++ stmt.Import (import_decl number f) ∷ call_stmt f.result number words ∷ lifting
 
 pub record IsWritten (f : Function) (item : FnItem) : Type 0 where
-  pub number : ℕ
-  pub least : IsLeastFree (param_idents f) f.result number
-  pub is : item ≡ written_at number f
+  pub docs : item.docs ≡ doc_lines f.docs
+  pub name : item.name ≡ rust_ident f.name
+  pub params : item.params ≡ map printed_param f.params
+  pub answer : item.result ≡ printed_result f.result
+  pub body : IsBody f item.body

@@ -14,21 +14,26 @@ use Rattle.rust_gen.specs.declared.opts.Opts.{Opts}
 use Rattle.rust_gen.specs.declared.opts.Ownership.{Ownership}
 use Rattle.rust_gen.specs.declared.opts.Ownership.TheVariants as ownership
 
-abbrev pub is_whole_number : WitType → Bool
-is_whole_number wit.U8 = true
-is_whole_number wit.U16 = true
-is_whole_number wit.U32 = true
-is_whole_number wit.U64 = true
-is_whole_number wit.S8 = true
-is_whole_number wit.S16 = true
-is_whole_number wit.S32 = true
-is_whole_number wit.S64 = true
-is_whole_number _ = false
+-- numbers, bools and chars
+abbrev pub is_built_type : WitType → Bool
+is_built_type wit.Bool = true
+is_built_type wit.Char = true
+is_built_type wit.F32 = true
+is_built_type wit.F64 = true
+is_built_type wit.U8 = true
+is_built_type wit.U16 = true
+is_built_type wit.U32 = true
+is_built_type wit.U64 = true
+is_built_type wit.S8 = true
+is_built_type wit.S16 = true
+is_built_type wit.S32 = true
+is_built_type wit.S64 = true
+is_built_type _ = false
 
--- no result, or a whole number
+-- no result, or one of a built type
 abbrev pub is_built_result : Option WitType → Bool
 is_built_result None = true
-is_built_result (Some ty) = is_whole_number ty
+is_built_result (Some ty) = is_built_type ty
 
 abbrev pub is_freestanding : FunctionKind → Bool
 is_freestanding kind.Freestanding = true
@@ -37,7 +42,7 @@ is_freestanding _ = false
 -- sixteen core values are passed one by one
 abbrev pub is_built_function : Function → Bool
 is_built_function f =
-    is_freestanding f.kind && nat_le (length f.params) 16 && list_all (λ p. is_whole_number p.ty) f.params && is_built_result f.result
+    is_freestanding f.kind && nat_le (length f.params) 16 && list_all (λ p. is_built_type p.ty) f.params && is_built_result f.result
 
 abbrev pub is_built_import : WorldItem → Bool
 is_built_import (item.Function f) = is_built_function f

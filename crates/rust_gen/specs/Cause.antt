@@ -1,5 +1,5 @@
 -- Why `generate` makes no file: the first cause, if there is one.
-use Rattle.std.specs.Prelude.{◌≡◌, ℕ, Bool, true, false, ◌&&◌, List, Option, None, Some, Result, Ok, Err, slice_get, if◌then◌else◌, ⊤}
+use Rattle.std.specs.Prelude.{◌≡◌, Bool, true, false, ◌&&◌, Option, None, Some, Result, Ok, Err, slice_get, if◌then◌else◌, ⊤}
 use Rattle.std.specs.List.{list_all}
 use Rattle.std.specs.Option.{option_map, option_or}
 use Rattle.wit_model.specs.declared.name.WorldId.{WorldId}

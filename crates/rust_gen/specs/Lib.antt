@@ -9,7 +9,9 @@ pub mod Emitted
 pub mod Faithful
 pub mod Generated
 pub mod LackText
+pub mod Lowering
 pub mod NameText
 pub mod Printed
 pub mod Runtime
+pub mod Scope
 pub mod Wrapper

@@ -1,5 +1,5 @@
 -- Which items the module `_rt` holds: each that a wrapper asks for, once, in the order in which they are first asked for.
-use Rattle.std.specs.Prelude.{Bool, true, false, List, [], ◌∷◌, ◌++◌, if◌then◌else◌, fold, map}
+use Rattle.std.specs.Prelude.{Bool, true, false, List, [], ◌∷◌, ◌++◌, Option, Some, if◌then◌else◌, fold}
 use Rattle.std.specs.List.{list_any, flat_map}
 use Rattle.wit_model.specs.declared.types.WitType.{WitType}
 use Rattle.wit_model.specs.declared.types.WitType.TheVariants as wit
@@ -7,16 +7,22 @@ use Rattle.wit_model.specs.declared.function.Function.{Function}
 use Rattle.rust_tree.specs.declared.item.Item.{Item}
 use Rattle.rust_tree.specs.declared.item.Item.TheVariants as item
 use Rattle.rust_tree.specs.declared.runtime_item.RuntimeItem.{RuntimeItem}
-use Rattle.rust_tree.specs.declared.runtime_item.RuntimeItem.TheVariants.{AsI32, AsI64, AsF32, AsF64}
+use Rattle.rust_tree.specs.declared.runtime_item.RuntimeItem.TheVariants.{AsI32, AsI64, AsF32, AsF64, AllocCrate, StringType, VecType, BoolLift, CharLift, StringLift}
 
 abbrev pub is_same_item : RuntimeItem → RuntimeItem → Bool
 is_same_item AsI32 AsI32 = true
 is_same_item AsI64 AsI64 = true
 is_same_item AsF32 AsF32 = true
 is_same_item AsF64 AsF64 = true
+is_same_item AllocCrate AllocCrate = true
+is_same_item StringType StringType = true
+is_same_item VecType VecType = true
+is_same_item BoolLift BoolLift = true
+is_same_item CharLift CharLift = true
+is_same_item StringLift StringLift = true
 is_same_item _ _ = false
 
--- the item that makes a value of this type a core value
+-- the item that makes a value of this type a core value, where one does
 abbrev pub lowering_item : WitType → RuntimeItem
 lowering_item wit.U64 = AsI64
 lowering_item wit.S64 = AsI64
@@ -28,9 +34,22 @@ lowering_item _ = AsI32
 abbrev pub with_asked : List RuntimeItem → RuntimeItem → List RuntimeItem
 with_asked items asked = if list_any (λ i. is_same_item i asked) items then items else items ++ asked ∷ []
 
--- what the wrappers of these functions ask for: each parameter is made a core value
+-- a bool is made a word by no item
+abbrev pub lowering_items : WitType → List RuntimeItem
+lowering_items wit.Bool = []
+lowering_items ty = lowering_item ty ∷ []
+
+abbrev pub lifting_items : Option WitType → List RuntimeItem
+lifting_items (Some wit.Bool) = BoolLift ∷ []
+lifting_items (Some wit.Char) = CharLift ∷ []
+lifting_items _ = []
+
+-- what the wrapper of a function asks for, in the order of its text
+abbrev pub asked_by : Function → List RuntimeItem
+asked_by f = flat_map (λ p. lowering_items p.ty) f.params ++ lifting_items f.result
+
 abbrev pub asked_items : List Function → List RuntimeItem
-asked_items functions = flat_map (λ f. map (λ p. lowering_item p.ty) f.params) functions
+asked_items functions = flat_map asked_by functions
 
 abbrev pub runtime_items : List Function → List RuntimeItem
 runtime_items functions = fold with_asked [] (asked_items functions)

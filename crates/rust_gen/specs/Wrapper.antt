@@ -20,6 +20,7 @@ declared [] = []
 declared (stmt.Import decl ∷ stmts) = decl ∷ declared stmts
 declared (stmt.Let _ _ ∷ stmts) = declared stmts
 declared (stmt.Expr _ ∷ stmts) = declared stmts
+declared (stmt.Area _ ∷ stmts) = declared stmts
 
 -- a declaration of the core import of a function of the world
 pub record Declares (f : Function) (decl : ImportDecl) : Type 0 where

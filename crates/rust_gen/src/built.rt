@@ -2,19 +2,23 @@
 
 ghost use Rattle.std.specs.Prelude.{◌≡◌};
 ghost use Rattle.std.specs.List.{list_all};
-ghost use Rattle.rust_gen.specs.Built.{is_whole_number, is_built_result, is_freestanding, is_built_function, is_built_import, is_empty, is_built_world, are_built_tables, are_flags_off, are_lists_empty, are_values_absent, is_owning, are_built_options};
+ghost use Rattle.rust_gen.specs.Built.{is_built_type, is_built_result, is_freestanding, is_built_function, is_built_import, is_empty, is_built_world, are_built_tables, are_flags_off, are_lists_empty, are_values_absent, is_owning, are_built_options};
 
 use crate::opts::{Opts, Ownership};
 use wit_model::{
     Function, FunctionKind, List, Param, Resolve, WitType, World, WorldItem, WorldKey,
 };
 
-fn is_whole_number(ty: WitType) -> bool
-    ensures { result ≡ is_whole_number ty }
+fn is_built_type(ty: WitType) -> bool
+    ensures { result ≡ is_built_type ty }
 {
     matches!(
         ty,
-        WitType::U8
+        WitType::Bool
+            | WitType::Char
+            | WitType::F32
+            | WitType::F64
+            | WitType::U8
             | WitType::U16
             | WitType::U32
             | WitType::U64
@@ -30,7 +34,7 @@ fn is_built_result(answer: &Option<WitType>) -> bool
 {
     match answer {
         None => true,
-        Some(ty) => is_whole_number(*ty),
+        Some(ty) => is_built_type(*ty),
     }
 }
 
@@ -40,10 +44,10 @@ fn is_freestanding(kind: FunctionKind) -> bool
     matches!(kind, FunctionKind::Freestanding)
 }
 
-fn are_whole_numbers(params: &[Param]) -> bool
-    ensures { result ≡ list_all (λ p. is_whole_number p.ty) params.now }
+fn are_built_types(params: &[Param]) -> bool
+    ensures { result ≡ list_all (λ p. is_built_type p.ty) params.now }
 {
-    params.iter().all(|p| is_whole_number(p.ty))
+    params.iter().all(|p| is_built_type(p.ty))
 }
 
 fn is_built_function(f: &Function) -> bool
@@ -51,7 +55,7 @@ fn is_built_function(f: &Function) -> bool
 {
     is_freestanding(f.kind)
         && f.params.len() <= 16
-        && are_whole_numbers(f.params.as_slice())
+        && are_built_types(f.params.as_slice())
         && is_built_result(&f.result)
 }
 
@@ -92,7 +96,7 @@ fn are_built_worlds(worlds: &[World]) -> bool
     worlds.iter().all(|world| is_built_world(world))
 }
 
-/// Whether the tables hold only worlds that import functions over whole numbers.
+/// Whether the tables hold only worlds that import functions over numbers, bools and chars.
 #[tactic(auto, unfolding(crate::specs::Built::are_built_tables))]
 pub(crate) fn are_built_tables(resolve: &Resolve) -> bool
     ensures { result ≡ are_built_tables resolve.now }

@@ -7,14 +7,17 @@ mod core_signature;
 mod docs;
 mod emitted;
 mod error;
+mod forms;
 mod generate;
+mod lift;
 mod lists;
-mod locals;
+mod lower;
 mod name_text;
 mod names;
 mod opts;
 mod printed;
 mod runtime;
+mod scope;
 #[cfg(test)]
 mod tests;
 mod tree;

@@ -1,8 +1,8 @@
 //! Which items the module `_rt` holds.
 
 ghost use Rattle.std.specs.Prelude.{◌≡◌, IfOk, OnOk, fold, map};
-ghost use Rattle.std.specs.List.{list_any};
-ghost use Rattle.rust_gen.specs.Runtime.{is_same_item, lowering_item, runtime_items, with_asked};
+ghost use Rattle.std.specs.List.{flat_map, list_any};
+ghost use Rattle.rust_gen.specs.Runtime.{asked_by, is_same_item, lifting_items, lowering_item, lowering_items, runtime_items, with_asked};
 
 use rust_tree::RuntimeItem;
 use std::alloc::Global;
@@ -16,11 +16,17 @@ fn is_same_item(a: RuntimeItem, b: RuntimeItem) -> bool
         (RuntimeItem::AsI64, RuntimeItem::AsI64) => true,
         (RuntimeItem::AsF32, RuntimeItem::AsF32) => true,
         (RuntimeItem::AsF64, RuntimeItem::AsF64) => true,
+        (RuntimeItem::AllocCrate, RuntimeItem::AllocCrate) => true,
+        (RuntimeItem::StringType, RuntimeItem::StringType) => true,
+        (RuntimeItem::VecType, RuntimeItem::VecType) => true,
+        (RuntimeItem::BoolLift, RuntimeItem::BoolLift) => true,
+        (RuntimeItem::CharLift, RuntimeItem::CharLift) => true,
+        (RuntimeItem::StringLift, RuntimeItem::StringLift) => true,
         _ => false,
     }
 }
 
-/// The item that makes a value of this type a core value.
+/// The item that makes a value of this type a core value, where one does.
 pub(crate) fn lowering_item(ty: WitType) -> RuntimeItem
     ensures { result ≡ lowering_item ty }
 {
@@ -49,14 +55,43 @@ fn ask(items: &mut List<RuntimeItem>, asked: RuntimeItem) -> Result<(), OutOfMem
     }
 }
 
+fn ask_for_param(items: &mut List<RuntimeItem>, ty: WitType) -> Result<(), OutOfMemory>
+    ensures { OnOk result (items.new ≡ fold with_asked items.old (lowering_items ty)) }
+{
+    match ty {
+        WitType::Bool => Ok(()),
+        _ => ask(items, lowering_item(ty)),
+    }
+}
+
 fn ask_for_params(items: &mut List<RuntimeItem>, params: &[Param]) -> Result<(), OutOfMemory>
     ensures { OnOk result
-        (items.new ≡ fold with_asked items.old (map (λ p. lowering_item p.ty) params.now)) }
+        (items.new ≡ fold with_asked items.old (flat_map (λ p. lowering_items p.ty) params.now)) }
 {
     for p in params {
-        ask(items, lowering_item(p.ty))?;
+        ask_for_param(items, p.ty)?;
     }
     Ok(())
+}
+
+fn ask_for_result(
+    items: &mut List<RuntimeItem>,
+    answer: &Option<WitType>,
+) -> Result<(), OutOfMemory>
+    ensures { OnOk result (items.new ≡ fold with_asked items.old (lifting_items answer.now)) }
+{
+    match answer {
+        Some(WitType::Bool) => ask(items, RuntimeItem::BoolLift),
+        Some(WitType::Char) => ask(items, RuntimeItem::CharLift),
+        _ => Ok(()),
+    }
+}
+
+fn ask_for(items: &mut List<RuntimeItem>, f: &Function) -> Result<(), OutOfMemory>
+    ensures { OnOk result (items.new ≡ fold with_asked items.old (asked_by f.now)) }
+{
+    ask_for_params(items, f.params.as_slice())?;
+    ask_for_result(items, &f.result)
 }
 
 /// The items that the wrappers of these functions ask for, each once, in the order in which they are first asked for.
@@ -68,7 +103,7 @@ pub(crate) fn runtime_items(
 {
     let mut items = List::new(alloc);
     for function in functions {
-        ask_for_params(&mut items, function.params.as_slice())?;
+        ask_for(&mut items, function)?;
     }
     Ok(items)
 }

@@ -42,7 +42,7 @@ fn push_runtime(
     items.push(Item::Runtime(asked))
 }
 
-/// The tree of a world that imports functions over whole numbers, with the options at their defaults.
+/// The tree of a world that imports functions over numbers, bools and chars, with the options at their defaults.
 pub(crate) fn bindings_of(alloc: Global, world: &World) -> Result<Bindings, OutOfMemory>
     ensures { IfOk result (Binds IsWritten world.now) }
 {

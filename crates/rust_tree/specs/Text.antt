@@ -1,8 +1,12 @@
 -- The text of a tree: what each of its forms prints.
-use Rattle.std.specs.Prelude.{ℕ, zero, suc, Bool, true, false, List, [], ◌∷◌, ◌++◌, Option, Some, None, codes, map}
+use Rattle.std.specs.Prelude.{ℕ, zero, suc, Bool, true, false, List, [], ◌∷◌, ◌++◌, Option, Some, None, if◌then◌else◌, codes, decimal, map}
 use Rattle.std.specs.List.{flat_map}
+use Rattle.wit_model.specs.declared.size.Alignment.{Alignment}
+use Rattle.wit_model.specs.declared.size.Alignment.TheVariants as align
+use Rattle.wit_model.specs.declared.size.ArchitectureSize.{ArchitectureSize}
 use Rattle.wit_model.specs.declared.size.WasmType.{WasmType}
 use Rattle.wit_model.specs.declared.size.WasmType.TheVariants as core
+use Rattle.wit_model.specs.SizeText.{size_text}
 use Rattle.rust_tree.specs.declared.expr.CastType.{CastType}
 use Rattle.rust_tree.specs.declared.expr.CastType.TheVariants as cast
 use Rattle.rust_tree.specs.declared.expr.Expr.{Expr, Expr-F, fold-Expr}
@@ -14,13 +18,14 @@ use Rattle.rust_tree.specs.declared.path.Path.{Path}
 use Rattle.rust_tree.specs.declared.runtime_item.RuntimeItem.{RuntimeItem}
 use Rattle.rust_tree.specs.declared.stmt.Block.{Block}
 use Rattle.rust_tree.specs.declared.stmt.ImportDecl.{ImportDecl}
+use Rattle.rust_tree.specs.declared.stmt.ReturnArea.{ReturnArea}
 use Rattle.rust_tree.specs.declared.stmt.Stmt.{Stmt}
 use Rattle.rust_tree.specs.declared.stmt.Stmt.TheVariants as stmt
 use Rattle.rust_tree.specs.declared.type_expr.Primitive.{Primitive}
 use Rattle.rust_tree.specs.declared.type_expr.Primitive.TheVariants as primitive
-use Rattle.rust_tree.specs.declared.type_expr.TypeExpr.{TypeExpr}
-use Rattle.rust_tree.specs.declared.type_expr.TypeExpr.TheVariants as type_expr
-use Rattle.rust_tree.specs.declared.print.word.Word.TheVariants.{Preamble, LineEnd, StatementEnd, CloseBlock, Open, Close, Comma, Colon, Arrow, UnitType, PathMark, Super, Reference, As, Let, Equals, EmptyDoc, Doc, PublicFn, OpenUnsafe, WasmLink, ExternBlock, LinkedFn, OtherFn, Unreachable, CoreParam, RuntimeModule}
+use Rattle.rust_tree.specs.declared.type_expr.TypeExpr.{TypeExpr, TypeExpr-F, fold-TypeExpr}
+use Rattle.rust_tree.specs.declared.print.word.Word.{Word}
+use Rattle.rust_tree.specs.declared.print.word.Word.TheVariants.{Preamble, LineEnd, StatementEnd, CloseBlock, Open, Close, Comma, Colon, Arrow, UnitType, PathMark, Super, Reference, As, Let, Equals, EmptyDoc, Doc, PublicFn, OpenUnsafe, WasmLink, ExternBlock, LinkedFn, OtherFn, Unreachable, CoreParam, StrType, StringName, Match, BoolArms, AsPtr, Len, CastMut, AreaPointer, Dereference, Add, CastTo, CastEnd, FromRawParts, PointerCast, PointerAlign, Align, AlignEnd, AreaType, AreaValue, AreaEnd, LetMut, RuntimeModule}
 use Rattle.rust_tree.specs.Pieces.{joined}
 use Rattle.rust_tree.specs.RuntimeText.{runtime_item_text}
 use Rattle.rust_tree.specs.Tree.{Bytes, Tree}
@@ -58,9 +63,16 @@ primitive_text primitive.F32 = codes "f32"
 primitive_text primitive.F64 = codes "f64"
 primitive_text primitive.Char = codes "char"
 
+-- one level of a type, with the text of the type in it
+abbrev pub type_step : TypeExpr-F Bytes → Bytes
+type_step (TypeExpr-F.Primitive p) = primitive_text p
+type_step TypeExpr-F.Unit = word UnitType
+type_step TypeExpr-F.Str = word StrType
+type_step TypeExpr-F.String = word StringName
+type_step (TypeExpr-F.Ref ty) = word Reference ++ ty
+
 abbrev pub type_text : TypeExpr → Bytes
-type_text (type_expr.Primitive p) = primitive_text p
-type_text type_expr.Unit = word UnitType
+type_text = fold-TypeExpr Bytes type_step
 
 abbrev pub cast_type_text : CastType → Bytes
 cast_type_text cast.U8 = codes "u8"
@@ -79,17 +91,57 @@ core_type_text core.Pointer = codes "*mut u8"
 core_type_text core.PointerOrI64 = codes "::core::mem::MaybeUninit::<u64>"
 core_type_text core.Length = codes "usize"
 
+-- sizes
+
+-- a size as an argument, and as a length: without brackets
+unfoldable pub term_text : ArchitectureSize → Bytes
+term_text size = size_text true size
+
 -- expressions
 
--- one level of an expression, with the texts of the expressions in it
-abbrev pub expr_step : Expr-F Bytes → Bytes
-expr_step (Expr-F.Local name) = name
-expr_step (Expr-F.Ref name) = word Reference ++ name
-expr_step (Expr-F.Cast e to) = e ++ word As ++ cast_type_text to
-expr_step (Expr-F.Call path arguments) = path_text path ++ word Open ++ joined (word Comma) arguments ++ word Close
+-- the text of an expression, and whether it is a local
+pub record Spelled : Type 0 where
+  pub text : Bytes
+  pub is_local : Bool
+
+-- the text of what is no local
+abbrev pub compound : Bytes → Spelled
+compound t = record { text = t; is_local = false }
+
+-- a bracket round an expression on which a method is called, unless it is a local
+abbrev pub bracket : Spelled → Word → Bytes
+bracket e w = if e.is_local then [] else word w
+
+abbrev pub receiver_text : Spelled → Bytes
+receiver_text e = bracket e Open ++ e.text ++ bracket e Close
+
+-- `.add(offset).cast::<T>()`, behind an address
+abbrev pub place_text : ArchitectureSize → WasmType → Bytes
+place_text offset ty = word Add ++ term_text offset ++ word CastTo ++ core_type_text ty ++ word CastEnd
+
+-- `.cast(), len, len)`, behind a pointer
+abbrev pub capacity_text : Bytes → Bytes
+capacity_text len = word PointerCast ++ len ++ word Comma ++ len ++ word Close
+
+-- one level of an expression, with the expressions in it as they are spelled
+abbrev pub expr_step : Expr-F Spelled → Spelled
+expr_step (Expr-F.Local name) = record { text = name; is_local = true }
+expr_step (Expr-F.Ref name) = compound (word Reference ++ name)
+expr_step (Expr-F.Cast e to) = compound (e.text ++ word As ++ cast_type_text to)
+expr_step (Expr-F.Call path arguments) = compound (path_text path ++ word Open ++ joined (word Comma) (map (λ e. e.text) arguments) ++ word Close)
+expr_step (Expr-F.I32FromBool e) = compound (word Match ++ e.text ++ word BoolArms)
+expr_step (Expr-F.AsPtr name) = compound (name ++ word AsPtr)
+expr_step (Expr-F.Len name) = compound (name ++ word Len)
+expr_step (Expr-F.CastMut name) = compound (name ++ word CastMut)
+expr_step (Expr-F.ReturnPointer name) = compound (name ++ word AreaPointer)
+expr_step (Expr-F.Load address offset ty) = compound (word Dereference ++ receiver_text address ++ place_text offset ty)
+expr_step (Expr-F.FromRawParts pointer len) = compound (word FromRawParts ++ receiver_text pointer ++ capacity_text len)
+
+abbrev pub expr_spelled : Expr → Spelled
+expr_spelled = fold-Expr Spelled expr_step
 
 abbrev pub expr_text : Expr → Bytes
-expr_text = fold-Expr Bytes expr_step
+expr_text e = (expr_spelled e).text
 
 -- statements
 
@@ -119,10 +171,27 @@ unlinked_text d = word OtherFn ++ core_signature_text d ++ word Unreachable
 abbrev pub let_text : Bytes → Expr → Bytes
 let_text name e = word Let ++ name ++ word Equals ++ expr_text e ++ word StatementEnd
 
+-- the attribute lines of an alignment
+abbrev pub align_text : Alignment → Bytes
+align_text align.Pointer = word PointerAlign
+align_text (align.Bytes n) = word Align ++ decimal n ++ word AlignEnd
+
+-- the type `_RetArea` of this size and alignment, and its value
+abbrev pub area_type_text : ArchitectureSize → Alignment → Bytes
+area_type_text size align = align_text align ++ word AreaType ++ term_text size ++ word AreaEnd
+
+abbrev pub area_value_text : ArchitectureSize → Bytes
+area_value_text size = word AreaValue ++ term_text size ++ word AreaEnd
+
+-- the type, and the local that is the area
+abbrev pub area_text : ReturnArea → Bytes
+area_text a = area_type_text a.size a.align ++ word LetMut ++ a.name ++ word Equals ++ area_value_text a.size
+
 abbrev pub stmt_text : Stmt → Bytes
 stmt_text (stmt.Import d) = linked_text d ++ unlinked_text d
 stmt_text (stmt.Let name e) = let_text name e
 stmt_text (stmt.Expr e) = expr_text e ++ word StatementEnd
+stmt_text (stmt.Area a) = area_text a
 
 -- the last expression, as a line of its own, or nothing
 abbrev pub tail_text : Option Expr → Bytes

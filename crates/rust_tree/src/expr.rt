@@ -1,5 +1,5 @@
 use crate::path::Path;
-use wit_model::{Boxed, List, Text};
+use wit_model::{ArchitectureSize, Boxed, List, Text, WasmType};
 
 /// The type behind `as` in a cast.
 #[derive(Clone, Copy, Debug, PartialEq, Eq)]
@@ -12,7 +12,7 @@ pub enum CastType {
     U64,
 }
 
-/// An expression.
+/// An expression. Where a method is called on another expression, that one stands in brackets unless it is a local.
 #[derive(Debug, PartialEq, Drop)]
 pub enum Expr {
     /// A local or a parameter: `x`.
@@ -23,4 +23,18 @@ pub enum Expr {
     Cast(Boxed<Expr>, CastType),
     /// `path(e, e)`.
     Call(Path, List<Expr>),
+    /// The word of a bool: `match e { true => 1i32, false => 0i32 }`.
+    I32FromBool(Boxed<Expr>),
+    /// The address of the text or list in a local: `x.as_ptr().cast::<u8>()`.
+    AsPtr(Text),
+    /// The length of the text or list in a local: `x.len()`.
+    Len(Text),
+    /// The same address, to be written through: `x.cast_mut()`.
+    CastMut(Text),
+    /// The address of the body's return area: `area.0.as_mut_ptr().cast::<u8>()`.
+    ReturnPointer(Text),
+    /// A core value in memory, at an offset from an address: `*e.add(8).cast::<T>()`.
+    Load(Boxed<Expr>, ArchitectureSize, WasmType),
+    /// The bytes at an address, taken over with the length that a local holds: `_rt::Vec::from_raw_parts(e.cast(), n, n)`.
+    FromRawParts(Boxed<Expr>, Text),
 }

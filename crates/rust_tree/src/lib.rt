@@ -23,5 +23,5 @@ pub use path::Path;
 pub use place::{FuncPlace, ItemId, WrapperId, WrapperInfo};
 pub use print::text_of;
 pub use runtime_item::RuntimeItem;
-pub use stmt::{Block, ImportDecl, Stmt};
+pub use stmt::{Block, ImportDecl, ReturnArea, Stmt};
 pub use type_expr::{Primitive, TypeExpr};

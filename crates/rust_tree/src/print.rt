@@ -1,10 +1,13 @@
 //! The exact text of a tree.
 
+mod area;
+mod conversion;
 mod core_import;
 mod expr;
 mod function;
 mod path;
 mod runtime;
+mod size;
 mod stmt;
 mod type_name;
 mod word;

@@ -1,5 +1,5 @@
 use crate::expr::Expr;
-use wit_model::{List, Text, WasmType};
+use wit_model::{Alignment, ArchitectureSize, List, Text, WasmType};
 
 /// The declaration of a core import, in its form for WebAssembly and in its form for every other target.
 #[derive(Debug, PartialEq, Drop)]
@@ -16,6 +16,16 @@ pub struct ImportDecl {
     pub result: Option<WasmType>,
 }
 
+/// The stack area of a body, for what passes through memory: the type `_RetArea`, and a local of that type.
+#[derive(Debug, PartialEq, Drop)]
+pub struct ReturnArea {
+    /// The name of the local.
+    pub name: Text,
+    /// How many bytes the area has.
+    pub size: ArchitectureSize,
+    pub align: Alignment,
+}
+
 /// A statement.
 #[derive(Debug, PartialEq, Drop)]
 pub enum Stmt {
@@ -25,6 +35,8 @@ pub enum Stmt {
     Let(Text, Expr),
     /// `e;`
     Expr(Expr),
+    /// The declaration of a return area.
+    Area(ReturnArea),
 }
 
 /// Statements, and the expression behind them that is the block's value.

@@ -43,35 +43,72 @@ fn push_pointers(out: &mut Text, n: u64) -> Result<(), OutOfMemory>
     put(out, Mark::PointerSize)
 }
 
-fn pointers_of(alloc: Global, n: u64) -> Result<Text, OutOfMemory>
-    ensures { IfOk result (λ t. t ≡ pointers_text n) }
+fn push_sum(out: &mut Text, bytes: u64, pointers: u64) -> Result<(), OutOfMemory>
+    ensures { OnOk result (out.new ≡ out.old ++ (decimal bytes ++ mark_text Mark.Plus ++ pointers_text pointers)) }
 {
-    let mut out = Text::new(alloc);
-    push_pointers(&mut out, n)?;
-    Ok(out)
-}
-
-fn sum_of(alloc: Global, bytes: u64, pointers: u64) -> Result<Text, OutOfMemory>
-    ensures { IfOk result (λ t. t ≡ decimal bytes ++ mark_text Mark.Plus ++ pointers_text pointers) }
-{
-    let mut out = Text::new(alloc);
     out.push_number(bytes)?;
-    put(&mut out, Mark::Plus)?;
-    push_pointers(&mut out, pointers)?;
-    Ok(out)
+    put(out, Mark::Plus)?;
+    push_pointers(out, pointers)
 }
 
-fn bracketed(alloc: Global, plain: bool, term: Text) -> Result<Text, OutOfMemory>
-    ensures { IfOk result (λ t. t ≡ bracketed plain term) }
+fn push_bracketed_pointers(out: &mut Text, plain: bool, n: u64) -> Result<(), OutOfMemory>
+    ensures { OnOk result (out.new ≡ out.old ++ bracketed plain (pointers_text n)) }
 {
     if plain {
-        return Ok(term);
+        return push_pointers(out, n);
     }
-    let mut out = Text::new(alloc);
-    put(&mut out, Mark::Open)?;
-    out.push_str(term.as_str())?;
-    put(&mut out, Mark::Close)?;
-    Ok(out)
+    put(out, Mark::Open)?;
+    push_pointers(out, n)?;
+    put(out, Mark::Close)
+}
+
+fn push_bracketed_sum(
+    out: &mut Text,
+    plain: bool,
+    bytes: u64,
+    pointers: u64,
+) -> Result<(), OutOfMemory>
+    ensures { OnOk result
+        (out.new ≡ out.old ++ bracketed plain (decimal bytes ++ mark_text Mark.Plus ++ pointers_text pointers)) }
+{
+    if plain {
+        return push_sum(out, bytes, pointers);
+    }
+    put(out, Mark::Open)?;
+    push_sum(out, bytes, pointers)?;
+    put(out, Mark::Close)
+}
+
+impl ArchitectureSize {
+    /// Puts the size behind a text, as `format_term` gives it.
+    pub fn push_term(&self, out: &mut Text, plain: bool) -> Result<(), OutOfMemory>
+        ensures { OnOk result (out.new ≡ out.old ++ size_text plain self.now) }
+    {
+        match (self.bytes, self.pointers) {
+            (bytes, 0) => out.push_number(bytes),
+            (0, 1) => put(out, Mark::PointerSize),
+            (0, n) => push_bracketed_pointers(out, plain, n),
+            (bytes, n) => push_bracketed_sum(out, plain, bytes, n),
+        }
+    }
+
+    /// The size as a Rust expression. With `PS` for the size of a pointer, it is the number of bytes where there is no
+    /// pointer, `PS` for one pointer alone, `n*PS` for several, and else `bytes+n*PS`. The last two stand in brackets,
+    /// unless `plain` is asked for.
+    pub fn format_term(&self, alloc: Global, plain: bool) -> Result<Text, OutOfMemory>
+        ensures { IfOk result (λ t. t ≡ size_text plain self.now) }
+    {
+        let mut out = Text::new(alloc);
+        self.push_term(&mut out, plain)?;
+        Ok(out)
+    }
+
+    /// The size as a Rust expression that may stand in a product.
+    pub fn format(&self, alloc: Global) -> Result<Text, OutOfMemory>
+        ensures { IfOk result (λ t. t ≡ size_text false self.now) }
+    {
+        self.format_term(alloc, false)
+    }
 }
 
 fn text_of(alloc: Global, mark: Mark) -> Result<Text, OutOfMemory>
@@ -86,29 +123,6 @@ fn number_of(alloc: Global, n: u64) -> Result<Text, OutOfMemory>
     let mut out = Text::new(alloc);
     out.push_number(n)?;
     Ok(out)
-}
-
-impl ArchitectureSize {
-    /// The size as a Rust expression. With `PS` for the size of a pointer, it is the number of bytes where there is no
-    /// pointer, `PS` for one pointer alone, `n*PS` for several, and else `bytes+n*PS`. The last two stand in brackets,
-    /// unless `plain` is asked for.
-    pub fn format_term(&self, alloc: Global, plain: bool) -> Result<Text, OutOfMemory>
-        ensures { IfOk result (λ t. t ≡ size_text plain self.now) }
-    {
-        match (self.bytes, self.pointers) {
-            (bytes, 0) => number_of(alloc, bytes),
-            (0, 1) => text_of(alloc, Mark::PointerSize),
-            (0, n) => bracketed(alloc, plain, pointers_of(alloc, n)?),
-            (bytes, n) => bracketed(alloc, plain, sum_of(alloc, bytes, n)?),
-        }
-    }
-
-    /// The size as a Rust expression that may stand in a product.
-    pub fn format(&self, alloc: Global) -> Result<Text, OutOfMemory>
-        ensures { IfOk result (λ t. t ≡ size_text false self.now) }
-    {
-        self.format_term(alloc, false)
-    }
 }
 
 impl Alignment {

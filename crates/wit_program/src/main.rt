@@ -6,6 +6,8 @@ mod made;
 mod outcome;
 mod run;
 #[cfg(test)]
+mod scalars;
+#[cfg(test)]
 mod tests;
 #[cfg(test)]
 mod whole_numbers;

@@ -161,9 +161,9 @@ const REFUSED: &[(&str, &str, &str, u8, &str)] = &[
         "invalid world: rule 1 at world 0\n",
     ),
     (
-        "a bool",
+        "a string as parameter",
         r#""ty":"u32""#,
-        r#""ty":"bool""#,
+        r#""ty":"string""#,
         10,
         "unsupported: unbuilt at w\n",
     ),

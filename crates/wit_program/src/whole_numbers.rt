@@ -335,7 +335,8 @@ const FILE: &str = concat!(
     "}\n",
 );
 
-fn printed(alloc: Global, document: &str) -> Result<(u8, List<u8>), Fail> {
+/// The status of a run over a document, and what it prints.
+pub(crate) fn printed(alloc: Global, document: &str) -> Result<(u8, List<u8>), Fail> {
     let mut words = List::new(alloc);
     words.push(Text::from_str(alloc, "generate")?)?;
     let bytes = Vec::from_slice(alloc, document.as_bytes())?;

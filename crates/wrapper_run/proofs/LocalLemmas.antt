@@ -1,8 +1,9 @@
 -- What the machine reads by a name.
-use Rattle.std.proofs.Common.{◌≡◌, Bool, true, false, not, cond, ◌&&◌, ◌||◌, List, [], ◌∷◌, ◌++◌, Option, None, Some, map, refl, sym, ap, ◌∙◌}
+use Rattle.std.proofs.Common.{◌≡◌, Bool, true, false, not, cond, List, [], ◌∷◌, ◌++◌, Option, None, Some, map, refl, sym, ap, ◌∙◌}
 use Rattle.std.specs.List.{list_any}
 use Rattle.std.specs.Option.{option_or}
 use Rattle.std.specs.Str.{bytes_eq}
+use Rattle.std.proofs.lemmas.Bool.{and_parts, not-true, or_parts}
 use Rattle.std.proofs.lemmas.Slice.Eq.{bytes_eq-Decides}
 use Rattle.wit_model.specs.Distinct.{is_distinct}
 use Rattle.rust_tree.specs.declared.item.FnParam.{FnParam}
@@ -29,11 +30,6 @@ last-append passes [] x = sym (option_or-None (cond (passes x) (Some x) None))
 last-append passes (y ∷ xs) x =
     ap (λ o. option_or o (cond (passes y) (Some y) None)) (last-append passes xs x)
     ∙ option_or-assoc (cond (passes x) (Some x) None) (last passes xs) (cond (passes y) (Some y) None)
-
-neither : (a b : Bool) → (a || b) ≡ false → (a ≡ false) × (b ≡ false)
-neither true b e = absurd (cc)
-neither false true e = absurd (cc)
-neither false false e = (refl, refl)
 
 last-skips : {A : Type 0} (passes : A → Bool) (x : A) (xs : List A) → last passes xs ≡ None → passes x ≡ false → last passes (x ∷ xs) ≡ None
 last-skips passes x xs h e = ap (λ o. option_or o (cond (passes x) (Some x) None)) h ∙ ap (λ b. cond b (Some x) None) e
@@ -63,7 +59,7 @@ pub unbound : (params : List FnParam) (args : List RustValue) (name : Bytes) →
 unbound [] args name e = refl
 unbound (p ∷ params) [] name e = refl
 unbound (p ∷ params) (a ∷ args) name e =
-    let parts = neither (bytes_eq p.name name) (list_any (λ u. bytes_eq u name) (names_of params)) e in
+    let parts = or_parts (bytes_eq p.name name) (list_any (λ u. bytes_eq u name) (names_of params)) e in
     last-skips (λ (l : Local). bytes_eq l.name name) (record { name = p.name; value = Some (val.Value a) }) (bound_args params args) (unbound params args name parts.1) parts.0
 
 -- each name reads its value
@@ -89,15 +85,6 @@ SameLength [] (a ∷ args) = ⊥
 SameLength (p ∷ params) [] = ⊥
 SameLength (p ∷ params) (a ∷ args) = SameLength params args
 
-both : (a b : Bool) → (a && b) ≡ true → (a ≡ true) × (b ≡ true)
-both true true e = (refl, refl)
-both true false e = absurd (cc)
-both false b e = absurd (cc)
-
-not-true : (b : Bool) → not b ≡ true → b ≡ false
-not-true true e = absurd (cc)
-not-true false e = refl
-
 -- parameters of distinct names read their arguments
 pub reads_args : (params : List FnParam) (args : List RustValue) → is_distinct (names_of params) ≡ true → SameLength params args → ReadsAll (names_of params) args (bound_args params args)
 reads_args [] [] d s = refl
@@ -105,7 +92,7 @@ reads_args [] (a ∷ args) d s = absurd s
 reads_args (p ∷ params) [] d s = s
 reads_args (p ∷ params) (a ∷ args) d s =
     let bound : Local = record { name = p.name; value = Some (val.Value a) } in
-    let parts = both (not (list_any (λ u. bytes_eq u p.name) (names_of params))) (is_distinct (names_of params)) d in
+    let parts = and_parts (not (list_any (λ u. bytes_eq u p.name) (names_of params))) (is_distinct (names_of params)) d in
     let free = not-true (list_any (λ u. bytes_eq u p.name) (names_of params)) parts.0 in (
       ap (λ o. value_of (option_or o (cond (bytes_eq p.name p.name) (Some bound) None))) (unbound params args p.name free)
           ∙ ap (λ b. value_of (cond b (Some bound) None)) (bytes_eq-same p.name),

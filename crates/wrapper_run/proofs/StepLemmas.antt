@@ -1,13 +1,13 @@
 -- Single steps of the machine, and what leaves the calls as they are.
 use Rattle.std.proofs.Common.{◌≡◌, List, [], ◌∷◌, ◌++◌, Option, None, Some, map, refl, sym, ap, subst, true, cond, ◌∙◌, rules}
-use Rattle.std.specs.Prelude.{ℤ}
+use Rattle.std.specs.Prelude.{ℤ, Result, Ok, Err}
 use Rattle.std.specs.List.{AllZip}
 use Rattle.std.specs.Option.{option_map}
 use Rattle.wit_model.specs.declared.size.WasmType.{WasmType}
 use Rattle.rust_tree.specs.declared.expr.CastType.{CastType}
 use Rattle.rust_tree.specs.declared.expr.Expr.{Expr, Expr-F, fold-roll-Expr, the_lemmas}
 use Rattle.rust_tree.specs.declared.expr.Expr.TheVariants as expr
-use Rattle.rust_tree.specs.declared.expr.Expr.TheVariants.{rolls-Call, rolls-Cast}
+use Rattle.rust_tree.specs.declared.expr.Expr.TheVariants.{rolls-Call, rolls-Cast, rolls-I32FromBool}
 use Rattle.rust_tree.specs.declared.path.Path.{Path}
 use Rattle.rust_tree.specs.declared.runtime_item.RuntimeItem.{RuntimeItem}
 use Rattle.wrapper_data.specs.Answered.{answered}
@@ -15,6 +15,7 @@ use Rattle.wrapper_data.specs.declared.answer.Answer.{Answer}
 use Rattle.wrapper_data.specs.declared.answer.Answer.TheVariants as answer
 use Rattle.wrapper_data.specs.declared.run.CallPoint.{CallPoint}
 use Rattle.wrapper_data.specs.declared.run.Stop.{Stop}
+use Rattle.wrapper_data.specs.declared.run.TrapKind.{TrapKind}
 use Rattle.wrapper_data.specs.declared.value.RustValue.{RustValue}
 use Rattle.wrapper_data.specs.declared.value.RustValue.TheVariants as value
 use Rattle.wrapper_data.specs.declared.word.Word.{Word}
@@ -22,9 +23,9 @@ use Rattle.wrapper_run.specs.declared.state.State.{State}
 use Rattle.wrapper_run.specs.declared.state.Val.{Val}
 use Rattle.wrapper_run.specs.declared.state.Val.TheVariants as val
 use Rattle.wrapper_run.specs.Act.{Act, Outcome, Done, Stopped, ◌>>=◌, ◌>>◌, all, and_then, or_stop, pure}
-use Rattle.wrapper_run.specs.Effect.{cast_integer, cast_to, converted, integer_of_word, is_word_of}
+use Rattle.wrapper_run.specs.Effect.{cast_integer, cast_to, converted, integer_of_word, is_word_of, lift_of, word_of_bool}
 use Rattle.wrapper_run.specs.Locals.{Bytes, bind, local_named, read_local, value_of}
-use Rattle.wrapper_run.specs.Run.{Setting, alone, of_runtime, call, call_callee, call_point, call_runtime, callee, answer_act, convert_one, ended, eval, eval_step, record_call, result_of, runtime_item_named, stuck, take_answer}
+use Rattle.wrapper_run.specs.Run.{Setting, alone, of_runtime, call, call_callee, call_point, call_runtime, callee, answer_act, apply_one, converted_or_lifted, lift_act, ended, eval, eval_step, record_call, result_of, runtime_item_named, stuck, take_answer}
 
 -- values
 
@@ -60,6 +61,9 @@ eval-call w path es = ap (eval w) (sym (rolls-Call path es)) ∙ fold-roll-Expr 
 pub eval-cast : (w : Setting) (e : Expr) (to : CastType) → eval w (expr.Cast e to) ≡ (eval w e >>= (λ v. or_stop (stuck w) (cast_to to v)))
 eval-cast w e to = ap (eval w) (sym (rolls-Cast e to)) ∙ fold-roll-Expr (Act Val) (eval_step w) (Expr-F.Cast e to)
 
+pub eval-bool : (w : Setting) (e : Expr) → eval w (expr.I32FromBool e) ≡ (eval w e >>= (λ v. or_stop (stuck w) (option_map val.Word (word_of_bool v))))
+eval-bool w e = ap (eval w) (sym (rolls-I32FromBool e)) ∙ fold-roll-Expr (Act Val) (eval_step w) (Expr-F.I32FromBool e)
+
 pub eval-local : (w : Setting) (name : Bytes) → eval w (expr.Local name) ≡ read_local (stuck w) name
 eval-local w name = search (rules, the_lemmas)
 
@@ -83,14 +87,24 @@ cast_gives w name to x z s h k =
     ∙ ap (λ o. and_then o (λ v. or_stop (stuck w) (cast_to to v))) (local_gives w name (val.Word x) s h)
     ∙ ap (λ o. or_stop (stuck w) (option_map (λ z. val.Value (cast_integer to z)) o) s) k
 
--- a call of a function of `_rt` on one value
+pub bool_gives : (w : Setting) (e : Expr) (v : Val) (x : Word) (s : State) → eval w e s ≡ Done v s → word_of_bool v ≡ Some x → eval w (expr.I32FromBool e) s ≡ Done (val.Word x) s
+bool_gives w e v x s h k =
+    ap (λ act. act s) (eval-bool w e)
+    ∙ ap (λ o. and_then o (λ v. or_stop (stuck w) (option_map val.Word (word_of_bool v)))) h
+    ∙ ap (λ o. or_stop (stuck w) (option_map val.Word o) s) k
+
+-- a call of a function of `_rt` on one value: a conversion, or a lift
 pub runtime_gives : (w : Setting) (path : Path) (function : Bytes) (i : RuntimeItem) (v : Val) (x : Word) (s : State)
     → callee path ≡ of_runtime function → runtime_item_named w.items function ≡ Some i → converted i v ≡ Some x → call w path (v ∷ []) s ≡ Done (val.Word x) s
 unfolding call_runtime
 runtime_gives w path function i v x s c r k =
-    ap (λ k. call_callee w k (v ∷ []) s) c
-    ∙ ap (λ o. or_stop (stuck w) (option_map val.Word (convert_one o (v ∷ []))) s) r
-    ∙ ap (λ o. or_stop (stuck w) (option_map val.Word o) s) k
+    ap (λ k. call_callee w k (v ∷ []) s) c ∙ ap (λ o. apply_one w o (v ∷ []) s) r ∙ ap (λ o. converted_or_lifted w o (lift_of w.form i v) s) k
+
+pub lift_gives : (w : Setting) (path : Path) (function : Bytes) (i : RuntimeItem) (v : Val) (r : RustValue) (s : State)
+    → callee path ≡ of_runtime function → runtime_item_named w.items function ≡ Some i → converted i v ≡ None → lift_of w.form i v ≡ Some (Ok r) → call w path (v ∷ []) s ≡ Done (val.Value r) s
+unfolding call_runtime
+lift_gives w path function i v r s c n k l =
+    ap (λ k. call_callee w k (v ∷ []) s) c ∙ ap (λ o. apply_one w o (v ∷ []) s) n ∙ ap (λ o. converted_or_lifted w o (lift_of w.form i v) s) k ∙ ap (λ o. lift_act w o s) l
 
 -- a call of a core import is recorded and then answered
 pub import_gives : (w : Setting) (path : Path) (name : Bytes) (vs : List Val) (s : State) (p : CallPoint) (ty : Option WasmType)
@@ -144,6 +158,32 @@ pub quiet_cast : (w : Setting) (name : Bytes) (to : CastType) → Quiet (eval w 
 quiet_cast w name to =
     subst Quiet (sym (eval-cast w (expr.Local name) to))
     (quiet_then (eval w (expr.Local name)) (λ v. or_stop (stuck w) (cast_to to v)) (quiet_local w name) (λ v. quiet_or_stop (stuck w) (cast_to to v)))
+
+quiet_one : {A : Type 0} (act : Act A) → Quiet act → Quiet (all (act ∷ []))
+quiet_one act h = quiet_then act (λ x. pure [] >>= (λ xs. pure (x ∷ xs))) h (λ x. quiet_then (pure []) (λ xs. pure (x ∷ xs)) (quiet_pure []) (λ xs. quiet_pure (x ∷ xs)))
+
+quiet_lift_act : (w : Setting) (o : Option (Result RustValue TrapKind)) → Quiet (lift_act w o)
+quiet_lift_act w None = record { quiet = λ s. refl }
+quiet_lift_act w (Some (Ok v)) = record { quiet = λ s. refl }
+quiet_lift_act w (Some (Err kind)) = record { quiet = λ s. refl }
+
+quiet_apply : (w : Setting) (o : Option Word) (l : Option (Result RustValue TrapKind)) → Quiet (converted_or_lifted w o l)
+quiet_apply w None l = quiet_lift_act w l
+quiet_apply w (Some x) l = record { quiet = λ s. refl }
+
+quiet_apply_one : (w : Setting) (i : Option RuntimeItem) (vs : List Val) → Quiet (apply_one w i vs)
+quiet_apply_one w (Some i) (v ∷ []) = quiet_apply w (converted i v) (lift_of w.form i v)
+quiet_apply_one w None vs = record { quiet = λ s. refl }
+quiet_apply_one w (Some i) [] = record { quiet = λ s. refl }
+quiet_apply_one w (Some i) (v ∷ u ∷ vs) = record { quiet = λ s. refl }
+
+-- a call of a function of `_rt` is no call of a core import
+pub quiet_runtime : (w : Setting) (path : Path) (function : Bytes) (e : Expr) → callee path ≡ of_runtime function → Quiet (eval w e) → Quiet (eval w (expr.Call path (e ∷ [])))
+unfolding call_runtime
+quiet_runtime w path function e c h =
+    subst Quiet (sym (eval-call w path (e ∷ [])))
+    (quiet_then (all (eval w e ∷ [])) (λ vs. call w path vs) (quiet_one (eval w e) h)
+    (λ vs. subst Quiet (sym (ap (λ k. call_callee w k vs) c)) (quiet_apply_one w (runtime_item_named w.items function) vs)))
 
 -- a word of the result's type is the call's value, and an answer of no blocks and no bytes leaves the heap
 pub answer_gives : (w : Setting) (ty : WasmType) (x : Word) (s : State) → w.answer ≡ answer.Words (Some x) [] [] → is_word_of ty x ≡ true → take_answer w (Some ty) s ≡ Done (val.Word x) s

@@ -1,8 +1,8 @@
 -- What the forms of the tree do to values: casts, the functions of `_rt`, and what counts as a core word or as a value of a
 -- printed type. A form that has no meaning at a value gives nothing.
-use Rattle.std.specs.Prelude.{ℕ, ◌-◌, ◌^◌, Bool, true, false, ◌&&◌, ℤ, pos, negsuc, int_lt, int_le, unsigned_abs, List, codes, Option, None, Some, option_and_then, if◌then◌else◌}
+use Rattle.std.specs.Prelude.{ℕ, zero, suc, ◌-◌, ◌^◌, Bool, true, false, ◌&&◌, ◌||◌, nat_lt, nat_le, ℤ, pos, negsuc, int_lt, int_le, unsigned_abs, Option, None, Some, Result, Ok, Err, option_and_then, if◌then◌else◌}
 use Rattle.std.specs.Int.{w8, w16, w32, w64, cast_signed, int_rem_euclid}
-use Rattle.std.specs.Option.{option_map}
+use Rattle.std.specs.Option.{option_map, option_or}
 use Rattle.wit_model.specs.declared.size.WasmType.{WasmType}
 use Rattle.wit_model.specs.declared.size.WasmType.TheVariants as core
 use Rattle.wit_model.specs.declared.types.WitType.{WitType}
@@ -13,8 +13,11 @@ use Rattle.rust_tree.specs.declared.runtime_item.RuntimeItem.{RuntimeItem}
 use Rattle.rust_tree.specs.declared.runtime_item.RuntimeItem.TheVariants as item
 use Rattle.rust_tree.specs.declared.type_expr.Primitive.{Primitive}
 use Rattle.rust_tree.specs.declared.type_expr.Primitive.TheVariants as prim
-use Rattle.rust_tree.specs.declared.type_expr.TypeExpr.{TypeExpr}
-use Rattle.rust_tree.specs.declared.type_expr.TypeExpr.TheVariants as type
+use Rattle.rust_tree.specs.declared.type_expr.TypeExpr.{TypeExpr, TypeExpr-F, out-TypeExpr}
+use Rattle.wrapper_data.specs.declared.answer.Form.{Form}
+use Rattle.wrapper_data.specs.declared.answer.Form.TheVariants as form
+use Rattle.wrapper_data.specs.declared.run.TrapKind.{TrapKind}
+use Rattle.wrapper_data.specs.declared.run.TrapKind.TheVariants as trap
 use Rattle.wrapper_data.specs.declared.value.RustValue.{RustValue, RustValue-F, out-RustValue}
 use Rattle.wrapper_data.specs.declared.value.RustValue.TheVariants as value
 use Rattle.wrapper_data.specs.declared.word.Word.{Word}
@@ -68,6 +71,37 @@ abbrev pub num_of : Val → Option (WitType × ℤ)
 num_of (val.Word _) = None
 num_of (val.Value v) = num_of_level (out-RustValue v)
 
+-- a Unicode scalar value: a code below 0xD800, or from 0xE000 to 0x10FFFF
+abbrev pub is_scalar : ℕ → Bool
+is_scalar c = nat_lt c 0xD800 || (nat_le 0xE000 c && nat_lt c 0x110000)
+
+abbrev pub bool_of_level : RustValue-F RustValue → Option Bool
+bool_of_level (RustValue-F.Bool b) = Some b
+bool_of_level _ = None
+
+abbrev pub char_of_level : RustValue-F RustValue → Option ℕ
+char_of_level (RustValue-F.Char c) = if is_scalar c then Some c else None
+char_of_level _ = None
+
+abbrev pub f32_of_level : RustValue-F RustValue → Option ℕ
+f32_of_level (RustValue-F.F32 bits) = Some bits
+f32_of_level _ = None
+
+abbrev pub f64_of_level : RustValue-F RustValue → Option ℕ
+f64_of_level (RustValue-F.F64 bits) = Some bits
+f64_of_level _ = None
+
+-- the value of the Rust side that something is
+abbrev pub seen_as : {A : Type 0} → (RustValue-F RustValue → Option A) → Val → Option A
+seen_as view (val.Word _) = None
+seen_as view (val.Value v) = view (out-RustValue v)
+
+abbrev pub bool_of : Val → Option Bool
+bool_of v = seen_as bool_of_level v
+
+abbrev pub char_of : Val → Option ℕ
+char_of v = seen_as char_of_level v
+
 -- the number that a word is
 abbrev pub integer_of_word : Word → Option ℤ
 integer_of_word (word.I32 z) = Some z
@@ -98,24 +132,50 @@ cast_to to v = option_map (λ z. val.Value (cast_integer to z)) (integer_of v)
 
 -- the functions of `_rt`
 
-unfoldable pub runtime_function : RuntimeItem → List ℕ
-runtime_function item.AsI32 = codes "as_i32"
-runtime_function item.AsI64 = codes "as_i64"
-runtime_function item.AsF32 = codes "as_f32"
-runtime_function item.AsF64 = codes "as_f64"
-
 abbrev pub i32_of_number : WitType × ℤ → Option Word
 i32_of_number k = if is_narrow k.0 then Some (word.I32 (low_i32 k.1)) else None
 
 abbrev pub i64_of_number : WitType × ℤ → Option Word
 i64_of_number k = if is_narrow k.0 then None else Some (word.I64 (low_i64 k.1))
 
--- a value, or a reference to one, as the core value that the function gives
+abbrev pub i32_of_char : ℕ → Word
+i32_of_char c = word.I32 (pos c)
+
+-- a value, or a reference to one, as the core value that a conversion gives; a lift is no conversion
 unfoldable pub converted : RuntimeItem → Val → Option Word
-converted item.AsI32 v = option_and_then i32_of_number (num_of v)
+converted item.AsI32 v = option_or (option_and_then i32_of_number (num_of v)) (option_map i32_of_char (char_of v))
 converted item.AsI64 v = option_and_then i64_of_number (num_of v)
-converted item.AsF32 v = None
-converted item.AsF64 v = None
+converted item.AsF32 v = option_map word.F32 (seen_as f32_of_level v)
+converted item.AsF64 v = option_map word.F64 (seen_as f64_of_level v)
+converted _ v = None
+
+-- the word of a bool
+abbrev pub bit : Bool → ℤ
+bit true = pos 1
+bit false = pos 0
+
+unfoldable pub word_of_bool : Val → Option Word
+word_of_bool v = option_map (λ b. word.I32 (bit b)) (bool_of v)
+
+-- what a lift gives of the number behind `as u8` or `as u32`: a value, or the reason for which it is refused; the release
+-- form takes each number but 0 for true
+abbrev pub bool_of_number : Form → ℤ → Result RustValue TrapKind
+bool_of_number f (pos zero) = Ok (value.Bool false)
+bool_of_number f (pos (suc zero)) = Ok (value.Bool true)
+bool_of_number form.Debug _ = Err trap.Bool
+bool_of_number form.Release _ = Ok (value.Bool true)
+
+abbrev pub char_of_number : ℤ → Result RustValue TrapKind
+char_of_number (pos c) = if is_scalar c then Ok (value.Char c) else Err trap.Char
+char_of_number (negsuc _) = Err trap.Char
+
+abbrev pub lift_of_number : Form → RuntimeItem → WitType × ℤ → Option (Result RustValue TrapKind)
+lift_of_number f item.BoolLift (wit.U8, z) = Some (bool_of_number f z)
+lift_of_number f item.CharLift (wit.U32, z) = Some (char_of_number z)
+lift_of_number _ _ _ = None
+
+unfoldable pub lift_of : Form → RuntimeItem → Val → Option (Result RustValue TrapKind)
+lift_of f i v = option_and_then (lift_of_number f i) (num_of v)
 
 -- words and results
 
@@ -134,11 +194,13 @@ abbrev pub word_of : WasmType → Val → Option Word
 word_of ty (val.Word w) = if is_word_of ty w then Some w else None
 word_of ty (val.Value v) = None
 
--- the value that a word of a printed whole number type is
-abbrev pub number_of_word : Primitive → Word → Option RustValue
-number_of_word prim.I32 (word.I32 z) = Some (value.Num wit.S32 z)
-number_of_word prim.I64 (word.I64 z) = Some (value.Num wit.S64 z)
-number_of_word _ _ = None
+-- the value that a word of a printed type is: an `i32`, an `i64` and a float are core values as they are
+abbrev pub value_of_word : Primitive → Word → Option RustValue
+value_of_word prim.I32 (word.I32 z) = Some (value.Num wit.S32 z)
+value_of_word prim.I64 (word.I64 z) = Some (value.Num wit.S64 z)
+value_of_word prim.F32 (word.F32 bits) = Some (value.F32 bits)
+value_of_word prim.F64 (word.F64 bits) = Some (value.F64 bits)
+value_of_word _ _ = None
 
 -- the printed type of a kind
 abbrev pub is_printed_as : Primitive → WitType → Bool
@@ -155,8 +217,13 @@ is_printed_as _ _ = false
 abbrev pub number_as : Primitive → WitType × ℤ → Option RustValue
 number_as p k = if is_printed_as p k.0 then Some (value.Num k.0 k.1) else None
 
+-- a value of a printed type
 abbrev pub value_as : Primitive → Val → Option RustValue
-value_as p (val.Word w) = number_of_word p w
+value_as p (val.Word w) = value_of_word p w
+value_as prim.Bool (val.Value v) = option_map value.Bool (bool_of (val.Value v))
+value_as prim.Char (val.Value v) = option_map value.Char (char_of (val.Value v))
+value_as prim.F32 (val.Value v) = option_map value.F32 (f32_of_level (out-RustValue v))
+value_as prim.F64 (val.Value v) = option_map value.F64 (f64_of_level (out-RustValue v))
 value_as p (val.Value v) = option_and_then (number_as p) (num_of (val.Value v))
 
 abbrev pub is_unit_level : RustValue-F RustValue → Bool
@@ -168,6 +235,10 @@ is_unit (val.Word _) = false
 is_unit (val.Value v) = is_unit_level (out-RustValue v)
 
 -- what a function of this printed type answers: no value for `()`
+abbrev pub answer_as : TypeExpr-F TypeExpr → Val → Option (Option RustValue)
+answer_as TypeExpr-F.Unit v = if is_unit v then Some None else None
+answer_as (TypeExpr-F.Primitive p) v = option_map Some (value_as p v)
+answer_as _ v = None
+
 unfoldable pub answer_of : TypeExpr → Val → Option (Option RustValue)
-answer_of type.Unit v = if is_unit v then Some None else None
-answer_of (type.Primitive p) v = option_map Some (value_as p v)
+answer_of ty v = answer_as (out-TypeExpr ty) v

@@ -1,38 +1,54 @@
 -- Which core words represent a value: as an import's argument (lend), and as its result (take).
-use Rattle.std.specs.Prelude.{◌≡◌, ℤ, unsigned_abs, List, [], ◌∷◌}
+use Rattle.std.specs.Prelude.{◌≡◌, ℤ, pos, unsigned_abs, List, [], ◌∷◌}
 use Rattle.std.specs.Int.{w8, w16, cast_signed}
 use Rattle.wit_model.specs.declared.types.WitType.{WitType}
 use Rattle.wit_model.specs.declared.types.WitType.TheVariants as wit
 use Rattle.wrapper_data.specs.declared.word.Word.{Word}
 use Rattle.wrapper_data.specs.declared.word.Word.TheVariants as word
-use Rattle.wrapper_run.specs.Effect.{low, low_i32, low_i64}
-use Rattle.wrapper_run.specs.Value.{WitValue}
+use Rattle.wrapper_run.specs.Effect.{bit, low, low_i32, low_i64}
+use Rattle.wrapper_run.specs.Value.{WitValue, truth, number, f32, f64, char}
 
--- lend: a number of up to 32 bits is extended by its own sign, or by zeros if it is unsigned
+-- lend, of a number: one of up to 32 bits is extended by its own sign, or by zeros if it is unsigned
+abbrev pub LendsNumber : WitType → ℤ → Word → Type 0
+LendsNumber wit.U8 v w = w ≡ word.I32 v
+LendsNumber wit.U16 v w = w ≡ word.I32 v
+LendsNumber wit.U32 v w = w ≡ word.I32 (low_i32 v)
+LendsNumber wit.U64 v w = w ≡ word.I64 (low_i64 v)
+LendsNumber wit.S8 v w = w ≡ word.I32 v
+LendsNumber wit.S16 v w = w ≡ word.I32 v
+LendsNumber wit.S32 v w = w ≡ word.I32 v
+LendsNumber wit.S64 v w = w ≡ word.I64 v
+LendsNumber _ v w = ⊥
+
+-- lend: a bool is 0 or 1, a float is its bits, a char is its code
 abbrev pub Lends : WitType → WitValue → Word → Type 0
-Lends wit.U8 v w = w ≡ word.I32 v
-Lends wit.U16 v w = w ≡ word.I32 v
-Lends wit.U32 v w = w ≡ word.I32 (low_i32 v)
-Lends wit.U64 v w = w ≡ word.I64 (low_i64 v)
-Lends wit.S8 v w = w ≡ word.I32 v
-Lends wit.S16 v w = w ≡ word.I32 v
-Lends wit.S32 v w = w ≡ word.I32 v
-Lends wit.S64 v w = w ≡ word.I64 v
-Lends _ v w = ⊥
+Lends ty (truth b) w = w ≡ word.I32 (bit b)
+Lends ty (number z) w = LendsNumber ty z w
+Lends ty (f32 bits) w = w ≡ word.F32 bits
+Lends ty (f64 bits) w = w ≡ word.F64 bits
+Lends ty (char c) w = w ≡ word.I32 (pos c)
 
 abbrev pub LendsAll : List WitType → List WitValue → List Word → Type 0
 LendsAll [] [] ws = ws ≡ []
 LendsAll (ty ∷ types) (v ∷ vs) ws = (w : Word) × (rest : List Word) × (ws ≡ w ∷ rest) × Lends ty v w × LendsAll types vs rest
 LendsAll _ _ ws = ⊥
 
--- take: a number is read by the low bits of its word
+-- take, of a number: it is read by the low bits of its word
+abbrev pub TakesNumber : WitType → ℤ → Word → Type 0
+TakesNumber wit.U8 v w = (z : ℤ) × (w ≡ word.I32 z) × (v ≡ low 8 z)
+TakesNumber wit.U16 v w = (z : ℤ) × (w ≡ word.I32 z) × (v ≡ low 16 z)
+TakesNumber wit.U32 v w = (z : ℤ) × (w ≡ word.I32 z) × (v ≡ low 32 z)
+TakesNumber wit.U64 v w = (z : ℤ) × (w ≡ word.I64 z) × (v ≡ low 64 z)
+TakesNumber wit.S8 v w = (z : ℤ) × (w ≡ word.I32 z) × (v ≡ cast_signed w8 (unsigned_abs (low 8 z)))
+TakesNumber wit.S16 v w = (z : ℤ) × (w ≡ word.I32 z) × (v ≡ cast_signed w16 (unsigned_abs (low 16 z)))
+TakesNumber wit.S32 v w = w ≡ word.I32 v
+TakesNumber wit.S64 v w = w ≡ word.I64 v
+TakesNumber _ v w = ⊥
+
+-- take: a bool is read by the low eight bits of its word, a char by all of them
 abbrev pub Takes : WitType → WitValue → Word → Type 0
-Takes wit.U8 v w = (z : ℤ) × (w ≡ word.I32 z) × (v ≡ low 8 z)
-Takes wit.U16 v w = (z : ℤ) × (w ≡ word.I32 z) × (v ≡ low 16 z)
-Takes wit.U32 v w = (z : ℤ) × (w ≡ word.I32 z) × (v ≡ low 32 z)
-Takes wit.U64 v w = (z : ℤ) × (w ≡ word.I64 z) × (v ≡ low 64 z)
-Takes wit.S8 v w = (z : ℤ) × (w ≡ word.I32 z) × (v ≡ cast_signed w8 (unsigned_abs (low 8 z)))
-Takes wit.S16 v w = (z : ℤ) × (w ≡ word.I32 z) × (v ≡ cast_signed w16 (unsigned_abs (low 16 z)))
-Takes wit.S32 v w = w ≡ word.I32 v
-Takes wit.S64 v w = w ≡ word.I64 v
-Takes _ v w = ⊥
+Takes ty (truth b) w = (z : ℤ) × (w ≡ word.I32 z) × (bit b ≡ low 8 z)
+Takes ty (number z) w = TakesNumber ty z w
+Takes ty (f32 bits) w = w ≡ word.F32 bits
+Takes ty (f64 bits) w = w ≡ word.F64 bits
+Takes ty (char c) w = (z : ℤ) × (w ≡ word.I32 z) × (pos c ≡ low 32 z)

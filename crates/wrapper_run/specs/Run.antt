@@ -1,5 +1,5 @@
 -- What a wrapper's run is: structural over the finished tree, with an answer for the other side.
-use Rattle.std.specs.Prelude.{ℕ, zero, suc, Bool, false, List, [], ◌∷◌, ◌++◌, codes, Option, None, Some, option_and_then, if◌then◌else◌, find, slice_get}
+use Rattle.std.specs.Prelude.{ℕ, zero, suc, Bool, false, List, [], ◌∷◌, ◌++◌, codes, Option, None, Some, Result, Ok, Err, option_and_then, if◌then◌else◌, find, slice_get}
 use Rattle.std.specs.Option.{option_map, option_or}
 use Rattle.std.specs.Str.{bytes_eq}
 use Rattle.wit_model.specs.declared.size.WasmType.{WasmType}
@@ -14,11 +14,13 @@ use Rattle.rust_tree.specs.declared.stmt.Block.{Block}
 use Rattle.rust_tree.specs.declared.stmt.ImportDecl.{ImportDecl}
 use Rattle.rust_tree.specs.declared.stmt.Stmt.{Stmt}
 use Rattle.rust_tree.specs.declared.stmt.Stmt.TheVariants as stmt
+use Rattle.rust_tree.specs.Runtime.{item_name}
 use Rattle.rust_tree.specs.Tree.{Tree, wrappers_of}
 use Rattle.wrapper_data.specs.Answered.{answered}
 use Rattle.wrapper_data.specs.declared.answer.Answer.{Answer}
 use Rattle.wrapper_data.specs.declared.answer.Answer.TheVariants as answer
 use Rattle.wrapper_data.specs.declared.answer.Form.{Form}
+use Rattle.wrapper_data.specs.declared.answer.Form.TheVariants as form
 use Rattle.wrapper_data.specs.declared.choice.Choices.{Choices}
 use Rattle.wrapper_data.specs.declared.heap.Heap.{Heap}
 use Rattle.wrapper_data.specs.declared.run.CallPoint.{CallPoint}
@@ -26,6 +28,7 @@ use Rattle.wrapper_data.specs.declared.run.Run.{Run}
 use Rattle.wrapper_data.specs.declared.run.Stop.{Stop}
 use Rattle.wrapper_data.specs.declared.run.Stop.TheVariants as stop_of
 use Rattle.wrapper_data.specs.declared.run.Target.TheVariants as target
+use Rattle.wrapper_data.specs.declared.run.TrapKind.{TrapKind}
 use Rattle.wrapper_data.specs.declared.value.RustValue.{RustValue}
 use Rattle.wrapper_data.specs.declared.value.RustValue.TheVariants as value
 use Rattle.wrapper_data.specs.declared.word.Word.{Word}
@@ -35,7 +38,7 @@ use Rattle.wrapper_run.specs.declared.state.World.{World}
 use Rattle.wrapper_run.specs.declared.state.Val.{Val}
 use Rattle.wrapper_run.specs.declared.state.Val.TheVariants as val
 use Rattle.wrapper_run.specs.Act.{Act, Outcome, Done, Stopped, ◌>>=◌, ◌>>◌, all, or_stop, pure, stop}
-use Rattle.wrapper_run.specs.Effect.{answer_of, cast_to, converted, is_word_of, runtime_function, word_of}
+use Rattle.wrapper_run.specs.Effect.{answer_of, cast_to, converted, is_word_of, lift_of, word_of, word_of_bool}
 use Rattle.wrapper_run.specs.Locals.{Bytes, bind, declare, import_named, local_named, read_local}
 
 -- what a run does not change: the items of the file, the number of the wrapper's item, the answer of the other side, and
@@ -49,6 +52,11 @@ pub record Setting : Type 0 where
 abbrev pub setting : World → Setting
 setting w = record { items = w.items.now; item = w.item; answer = w.answer.now; form = w.form }
 
+-- what a test of incoming data ends the run with
+abbrev pub fails : Form → Stop → TrapKind → Stop
+fails form.Debug stuck kind = stop_of.Trap kind
+fails form.Release stuck kind = stuck
+
 -- the code does what has no meaning
 abbrev pub stuck : Setting → Stop
 stuck w = stop_of.Stuck w.item
@@ -56,13 +64,13 @@ stuck w = stop_of.Stuck w.item
 -- names
 
 abbrev pub runtime_item_in : List RuntimeItem → Bytes → Option RuntimeItem
-runtime_item_in parts name = find (λ i. bytes_eq (runtime_function i) name) parts
+runtime_item_in parts name = find (λ i. bytes_eq (item_name i) name) parts
 
 abbrev pub found_in : Item → Bytes → Option RuntimeItem
 found_in (item.Import _) name = None
 found_in (item.Runtime parts) name = runtime_item_in parts name
 
--- the runtime item with a function of this name, in the first `_rt` that has one
+-- the runtime item of this name, in the first `_rt` that has one
 abbrev pub runtime_item_named : List Item → Bytes → Option RuntimeItem
 runtime_item_named [] name = None
 runtime_item_named (i ∷ items) name = option_or (found_in i name) (runtime_item_named items name)
@@ -137,13 +145,29 @@ call_import w name vs = λ s. (or_stop (stuck w) (call_point s name vs) >>= (λ 
 
 -- the call of a function of `_rt`
 
-abbrev pub convert_one : Option RuntimeItem → List Val → Option Word
-convert_one i [] = None
-convert_one i (v ∷ []) = option_and_then (λ f. converted f v) i
-convert_one i (_ ∷ _ ∷ _) = None
+-- incoming data that stands for no value: the code tests for it in the debug form alone
+abbrev pub failed : Setting → TrapKind → Stop
+failed w kind = fails w.form (stuck w) kind
+
+abbrev pub lift_act : Setting → Option (Result RustValue TrapKind) → Act Val
+lift_act w None = stop (stuck w)
+lift_act w (Some (Ok v)) = pure (val.Value v)
+lift_act w (Some (Err kind)) = stop (failed w kind)
+
+-- a conversion to a core value, or a lift
+abbrev pub converted_or_lifted : Setting → Option Word → Option (Result RustValue TrapKind) → Act Val
+converted_or_lifted w (Some x) lifted = pure (val.Word x)
+converted_or_lifted w None lifted = lift_act w lifted
+
+abbrev pub apply_item : Setting → RuntimeItem → Val → Act Val
+apply_item w i v = converted_or_lifted w (converted i v) (lift_of w.form i v)
+
+abbrev pub apply_one : Setting → Option RuntimeItem → List Val → Act Val
+apply_one w (Some i) (v ∷ []) = apply_item w i v
+apply_one w _ _ = stop (stuck w)
 
 unfoldable pub call_runtime : Setting → Bytes → List Val → Act Val
-call_runtime w name vs = or_stop (stuck w) (option_map val.Word (convert_one (runtime_item_named w.items name) vs))
+call_runtime w name vs = apply_one w (runtime_item_named w.items name) vs
 
 abbrev pub call_callee : Setting → Callee → List Val → Act Val
 call_callee w (alone name) vs = call_import w name vs
@@ -161,6 +185,8 @@ eval_step w (Expr-F.Local name) = read_local (stuck w) name
 eval_step w (Expr-F.Ref name) = read_local (stuck w) name
 eval_step w (Expr-F.Cast e to) = e >>= (λ v. or_stop (stuck w) (cast_to to v))
 eval_step w (Expr-F.Call path arguments) = all arguments >>= (λ vs. call w path vs)
+eval_step w (Expr-F.I32FromBool e) = e >>= (λ v. or_stop (stuck w) (option_map val.Word (word_of_bool v)))
+eval_step w _ = stop (stuck w)
 
 abbrev pub eval : Setting → Expr → Act Val
 eval w = fold-Expr (Act Val) (eval_step w)
@@ -169,6 +195,7 @@ abbrev pub run_stmt : Setting → Stmt → Act (Unit {0})
 run_stmt w (stmt.Import d) = declare d
 run_stmt w (stmt.Let name e) = eval w e >>= bind name
 run_stmt w (stmt.Expr e) = eval w e >> pure tt
+run_stmt w (stmt.Area _) = stop (stuck w)
 
 abbrev pub run_stmts : Setting → List Stmt → Act (Unit {0})
 run_stmts w [] = pure tt

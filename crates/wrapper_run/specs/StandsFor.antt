@@ -3,11 +3,18 @@ use Rattle.std.specs.Prelude.{◌≡◌, List, [], ◌∷◌, Option, None, Some
 use Rattle.wit_model.specs.declared.types.WitType.{WitType}
 use Rattle.wrapper_data.specs.declared.value.RustValue.{RustValue}
 use Rattle.wrapper_data.specs.declared.value.RustValue.TheVariants as value
-use Rattle.wrapper_run.specs.Value.{WitValue}
+use Rattle.wrapper_run.specs.Value.{WitValue, truth, number, f32, f64, char}
 
--- a whole number stands for itself
+-- the one value of the Rust side that a value of a type is
+abbrev pub rust_value : WitType → WitValue → RustValue
+rust_value ty (truth b) = value.Bool b
+rust_value ty (number z) = value.Num ty z
+rust_value ty (f32 bits) = value.F32 bits
+rust_value ty (f64 bits) = value.F64 bits
+rust_value ty (char c) = value.Char c
+
 abbrev pub Stands : WitType → WitValue → RustValue → Type 0
-Stands ty v r = r ≡ value.Num ty v
+Stands ty v r = r ≡ rust_value ty v
 
 abbrev pub StandAll : List WitType → List WitValue → List RustValue → Type 0
 StandAll [] [] rs = rs ≡ []

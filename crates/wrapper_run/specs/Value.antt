@@ -1,14 +1,23 @@
--- What a WIT value is: of the types so far, a whole number in its kind's range.
-use Rattle.std.specs.Prelude.{◌≡◌, true, ℤ, List, [], ◌∷◌, Option, None, Some}
+-- What a WIT value is, of the types so far.
+use Rattle.std.specs.Prelude.{◌≡◌, ℕ, ◌^◌, ◌<◌, Bool, true, ℤ, List, [], ◌∷◌, Option, None, Some}
 use Rattle.wit_model.specs.declared.types.WitType.{WitType}
-use Rattle.wrapper_run.specs.Effect.{is_of_kind}
+use Rattle.wit_model.specs.declared.types.WitType.TheVariants as wit
+use Rattle.wrapper_run.specs.Effect.{is_of_kind, is_scalar}
 
--- a value of a type; a type is said beside it, so that a value is its number
-abbrev pub WitValue : Type 0
-WitValue = ℤ
+-- a bool; a whole number; a float, as its bits; a char, as its code
+pub data WitValue : Type 0 where
+  truth : Bool → WitValue
+  number : ℤ → WitValue
+  f32 : ℕ → WitValue
+  f64 : ℕ → WitValue
+  char : ℕ → WitValue
 
 abbrev pub IsValue : WitType → WitValue → Type 0
-IsValue ty v = is_of_kind ty v ≡ true
+IsValue ty (truth b) = ty ≡ wit.Bool
+IsValue ty (number z) = is_of_kind ty z ≡ true
+IsValue ty (f32 bits) = (ty ≡ wit.F32) × (bits < 2 ^ 32)
+IsValue ty (f64 bits) = (ty ≡ wit.F64) × (bits < 2 ^ 64)
+IsValue ty (char c) = (ty ≡ wit.Char) × (is_scalar c ≡ true)
 
 -- values of types, one by one
 abbrev pub AreValues : List WitType → List WitValue → Type 0

@@ -24,6 +24,7 @@ fn run_stmt(alloc: Global, world: &World, state: &mut State, s: &Stmt) -> Result
             eval(alloc, world, state, e)?;
             Ok(())
         }
+        Stmt::Area(_) => Err(Halt::Stopped(world.stuck())),
     }
 }
 

@@ -8,14 +8,14 @@ ghost use Rattle.wrapper_run.specs.Effect.{is_word_of, word_of};
 ghost use Rattle.wrapper_run.specs.Run as spec;
 ghost use Rattle.wrapper_run.specs.Seen.{seen};
 
-use crate::effect::{converted, runtime_function};
+use crate::effect::{converted, lift_of};
 use crate::locals::{import_named, local_named};
 use crate::state::{Halt, State, Val, World};
 use rust_tree::{ImportDecl, Item, Path, RuntimeItem};
 use std::alloc::Global;
 use std::mem;
 use wit_model::{List, OutOfMemory, Text, WasmType};
-use wrapper_data::{Answer, Block, CallPoint, Heap, RustValue, Target, Word};
+use wrapper_data::{Answer, Block, CallPoint, Heap, RustValue, Target, TrapKind, Word};
 
 /// Whether a word is a core value of a type.
 fn is_word_of(ty: WasmType, w: Word) -> bool
@@ -106,10 +106,7 @@ fn result_of(ty: Option<WasmType>, answered: Option<Word>) -> Option<Val>
 fn runtime_item_in(parts: &[RuntimeItem], name: &str) -> Option<RuntimeItem>
     ensures { result ≡ spec.runtime_item_in parts.now name.now }
 {
-    parts
-        .iter()
-        .copied()
-        .find(|part| runtime_function(*part) == name)
+    parts.iter().copied().find(|part| part.name() == name)
 }
 
 fn found_in(item: &Item, name: &str) -> Option<RuntimeItem>
@@ -154,12 +151,27 @@ fn callee_of(path: &Path) -> Callee<'_>
     }
 }
 
-fn convert_one(item: Option<RuntimeItem>, vs: &[Val]) -> Option<Word>
-    ensures { result ≡ spec.convert_one item vs.now }
+fn lift_act(
+    world: &World,
+    state: &State,
+    lifted: Option<Result<RustValue, TrapKind>>,
+) -> Result<Val, Halt>
+    ensures { Runs (spec.lift_act (spec.setting world.now) lifted state.now) result state.now }
 {
-    match (item, vs) {
-        (Some(item), [v]) => converted(item, v),
-        _ => None,
+    match lifted {
+        None => Err(Halt::Stopped(world.stuck())),
+        Some(Ok(v)) => Ok(Val::Value(v)),
+        Some(Err(kind)) => Err(Halt::Stopped(world.failed(kind))),
+    }
+}
+
+/// Applies a function of `_rt` to a value.
+fn apply_item(world: &World, state: &State, item: RuntimeItem, v: &Val) -> Result<Val, Halt>
+    ensures { Runs (spec.apply_item (spec.setting world.now) item v.now state.now) result state.now }
+{
+    match converted(item, v) {
+        Some(w) => Ok(Val::Word(w)),
+        None => lift_act(world, state, lift_of(world.form, item, v)),
     }
 }
 
@@ -168,9 +180,9 @@ fn convert_one(item: Option<RuntimeItem>, vs: &[Val]) -> Option<Word>
 fn call_runtime(world: &World, state: &State, name: &Text, vs: &[Val]) -> Result<Val, Halt>
     ensures { Runs (spec.call_runtime (spec.setting world.now) name.now vs.now state.now) result state.now }
 {
-    match convert_one(runtime_item_named(world.items, name.as_str()), vs) {
-        None => Err(Halt::Stopped(world.stuck())),
-        Some(w) => Ok(Val::Word(w)),
+    match (runtime_item_named(world.items, name.as_str()), vs) {
+        (Some(item), [v]) => apply_item(world, state, item, v),
+        _ => Err(Halt::Stopped(world.stuck())),
     }
 }
 

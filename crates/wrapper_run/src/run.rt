@@ -77,7 +77,7 @@ fn run_fn(
     ensures { Runs (spec.run_fn (spec.setting world.now) f.now state.old) result state.new }
 {
     let v = run_block(alloc, world, state, &f.body)?;
-    match answer_of(f.result, &v) {
+    match answer_of(&f.result, &v) {
         None => Err(Halt::Stopped(world.stuck())),
         Some(answer) => Ok(answer),
     }

@@ -2,7 +2,9 @@
 
 use rust_tree::{ImportDecl, Item};
 use wit_model::{List, OutOfMemory, Text};
-use wrapper_data::{Answer, CallPoint, Choice, Form, Heap, Request, RustValue, Stop, Word};
+use wrapper_data::{
+    Answer, CallPoint, Choice, Form, Heap, Request, RustValue, Stop, TrapKind, Word,
+};
 
 /// What a run does not change: the items of the file, the number of the wrapper's item, the other side's answer, and
 /// whether the code tests what comes in.
@@ -16,13 +18,23 @@ pub(crate) struct World<'a> {
 
 impl World<'_> {
     ghost use Rattle.std.specs.Prelude.{◌≡◌};
-    ghost use Rattle.wrapper_run.specs.Run.{setting, stuck};
+    ghost use Rattle.wrapper_run.specs.Run.{failed, setting, stuck};
 
     /// The stop where the code does what has no meaning.
     pub(crate) fn stuck(&self) -> Stop
         ensures { result ≡ stuck (setting self.now) }
     {
         Stop::Stuck(self.item)
+    }
+
+    /// The stop where incoming data stands for no value.
+    pub(crate) fn failed(&self, kind: TrapKind) -> Stop
+        ensures { result ≡ failed (setting self.now) kind }
+    {
+        match self.form {
+            Form::Debug => Stop::Trap(kind),
+            Form::Release => self.stuck(),
+        }
     }
 }
 

@@ -2,3 +2,4 @@
 
 mod made;
 mod runs;
+mod scalars;

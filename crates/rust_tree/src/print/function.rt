@@ -41,7 +41,7 @@ fn push_params(out: &mut Text, params: &[FnParam]) -> Result<(), OutOfMemory>
         }
         out.push_str(param.name.as_str())?;
         put(out, Word::Colon)?;
-        push_type(out, param.ty)?;
+        push_type(out, &param.ty)?;
     }
     Ok(())
 }
@@ -55,7 +55,7 @@ fn push_signature(out: &mut Text, function: &FnItem) -> Result<(), OutOfMemory>
     push_params(out, function.params.as_slice())?;
     put(out, Word::Close)?;
     put(out, Word::Arrow)?;
-    push_type(out, function.result)
+    push_type(out, &function.result)
 }
 
 pub(crate) fn push_function(out: &mut Text, function: &FnItem) -> Result<(), OutOfMemory>

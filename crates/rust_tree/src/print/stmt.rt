@@ -3,6 +3,7 @@ ghost use Rattle.std.specs.List.{flat_map};
 ghost use Rattle.rust_tree.specs.Text.{block_text, let_text, stmt_text, tail_text};
 
 use crate::expr::Expr;
+use crate::print::area::push_area;
 use crate::print::core_import::{push_linked, push_unlinked};
 use crate::print::expr::push_expr;
 use crate::print::word::{Word, put};
@@ -32,6 +33,7 @@ fn push_stmt(out: &mut Text, stmt: &Stmt) -> Result<(), OutOfMemory>
             push_expr(out, e)?;
             put(out, Word::StatementEnd)
         }
+        Stmt::Area(area) => push_area(out, area),
     }
 }
 

@@ -52,12 +52,18 @@ fn core_type_name(ty: WasmType) -> &'static str
     }
 }
 
-pub(crate) fn push_type(out: &mut Text, ty: TypeExpr) -> Result<(), OutOfMemory>
-    ensures { OnOk result (out.new ≡ out.old ++ type_text ty) }
+pub(crate) fn push_type(out: &mut Text, ty: &TypeExpr) -> Result<(), OutOfMemory>
+    ensures { OnOk result (out.new ≡ out.old ++ type_text ty.now) }
 {
     match ty {
-        TypeExpr::Primitive(primitive) => out.push_str(primitive_name(primitive)),
+        TypeExpr::Primitive(primitive) => out.push_str(primitive_name(*primitive)),
         TypeExpr::Unit => put(out, Word::UnitType),
+        TypeExpr::Str => put(out, Word::StrType),
+        TypeExpr::String => put(out, Word::StringName),
+        TypeExpr::Ref(ty) => {
+            put(out, Word::Reference)?;
+            push_type(out, ty.get())
+        }
     }
 }
 

@@ -1,13 +1,11 @@
 //! Parts of trees for the tests.
 
-ghost use Rattle.std.specs.Prelude.{◌≡◌, IfOk};
-
 use crate::{
-    Bindings, Block, CastType, Expr, FnItem, FnParam, FuncPlace, ImportDecl, Item, Path, Primitive,
+    Bindings, CastType, Expr, FnItem, FnParam, FuncPlace, ImportDecl, Item, Path, ReturnArea,
     RuntimeItem, Stmt, TypeExpr,
 };
 use std::alloc::Global;
-use wit_model::{Boxed, List, OutOfMemory, Text, WasmType};
+use wit_model::{Alignment, ArchitectureSize, Boxed, List, OutOfMemory, Text, WasmType};
 
 pub(crate) fn texts(alloc: Global, lines: &[&str]) -> Result<List<Text>, OutOfMemory> {
     let mut list = List::new(alloc);
@@ -53,6 +51,85 @@ pub(crate) fn path(
     })
 }
 
+pub(crate) fn call(
+    alloc: Global,
+    names: &[&str],
+    arguments: List<Expr>,
+) -> Result<Expr, OutOfMemory> {
+    Ok(Expr::Call(path(alloc, false, 0, names)?, arguments))
+}
+
+/// A call with one argument.
+pub(crate) fn applied(alloc: Global, names: &[&str], argument: Expr) -> Result<Expr, OutOfMemory> {
+    let mut arguments = List::new(alloc);
+    arguments.push(argument)?;
+    call(alloc, names, arguments)
+}
+
+pub(crate) fn lent_text(alloc: Global) -> Result<TypeExpr, OutOfMemory> {
+    Ok(TypeExpr::Ref(Boxed::new(alloc, TypeExpr::Str)?))
+}
+
+pub(crate) fn load(
+    alloc: Global,
+    address: Expr,
+    offset: (u64, u64),
+    ty: WasmType,
+) -> Result<Expr, OutOfMemory> {
+    let offset = ArchitectureSize {
+        bytes: offset.0,
+        pointers: offset.1,
+    };
+    Ok(Expr::Load(Boxed::new(alloc, address)?, offset, ty))
+}
+
+/// The bytes at a pointer, with the length that a local holds.
+pub(crate) fn raw_parts(alloc: Global, pointer: Expr, len: &str) -> Result<Expr, OutOfMemory> {
+    let pointer = Boxed::new(alloc, pointer)?;
+    Ok(Expr::FromRawParts(pointer, Text::from_str(alloc, len)?))
+}
+
+pub(crate) fn area(
+    alloc: Global,
+    name: &str,
+    size: (u64, u64),
+    align: Alignment,
+) -> Result<Stmt, OutOfMemory> {
+    Ok(Stmt::Area(ReturnArea {
+        name: Text::from_str(alloc, name)?,
+        size: ArchitectureSize {
+            bytes: size.0,
+            pointers: size.1,
+        },
+        align,
+    }))
+}
+
+/// The three lines that lend a text, with a number of the locals.
+pub(crate) fn lend(
+    alloc: Global,
+    stmts: &mut List<Stmt>,
+    param: &str,
+    names: (&str, &str, &str),
+) -> Result<(), OutOfMemory> {
+    stmts.push(bound(alloc, names.0, local(alloc, param)?)?)?;
+    let address = Expr::AsPtr(Text::from_str(alloc, names.0)?);
+    stmts.push(bound(alloc, names.1, address)?)?;
+    let len = Expr::Len(Text::from_str(alloc, names.0)?);
+    stmts.push(bound(alloc, names.2, len)?)
+}
+
+/// The two arguments of a core import that are a lent text.
+pub(crate) fn push_lent(
+    alloc: Global,
+    arguments: &mut List<Expr>,
+    pointer: &str,
+    len: &str,
+) -> Result<(), OutOfMemory> {
+    arguments.push(Expr::CastMut(Text::from_str(alloc, pointer)?))?;
+    arguments.push(local(alloc, len)?)
+}
+
 pub(crate) fn bound(alloc: Global, name: &str, e: Expr) -> Result<Stmt, OutOfMemory> {
     Ok(Stmt::Let(Text::from_str(alloc, name)?, e))
 }
@@ -88,4 +165,16 @@ pub(crate) fn file(
         nth: 0,
     })?;
     Bindings::new(alloc, options, items, places)
+}
+
+/// A file of one wrapper alone.
+pub(crate) fn lone(alloc: Global, function: FnItem) -> Result<Bindings, OutOfMemory> {
+    let mut items = List::new(alloc);
+    items.push(Item::Import(function))?;
+    let mut places = List::new(alloc);
+    places.push(FuncPlace {
+        interface: None,
+        nth: 0,
+    })?;
+    Bindings::new(alloc, List::new(alloc), items, places)
 }

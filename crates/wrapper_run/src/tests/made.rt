@@ -20,7 +20,7 @@ pub(crate) struct Kind {
     pub(crate) cast: Option<CastType>,
 }
 
-fn path(alloc: Global, names: &[&str]) -> Result<Path, OutOfMemory> {
+pub(crate) fn path(alloc: Global, names: &[&str]) -> Result<Path, OutOfMemory> {
     let mut list = List::new(alloc);
     for name in names {
         list.push(Text::from_str(alloc, name)?)?;
@@ -96,34 +96,54 @@ pub(crate) fn wrapper(
     kind: Kind,
     params: &[Text],
 ) -> Result<FnItem, OutOfMemory> {
-    let ty = TypeExpr::Primitive(kind.printed);
-    let mut printed = List::new(alloc);
-    for param in params {
-        let name = param.copy(alloc)?;
-        printed.push(FnParam { name, ty })?;
-    }
     let mut stmts = List::new(alloc);
     stmts.push(declared(alloc, name, kind, params)?)?;
     stmts.push(called(alloc, kind, params)?)?;
+    let body = Block {
+        stmts,
+        tail: Some(lifted(alloc, kind)?),
+    };
+    written(alloc, name, kind.printed, params, body)
+}
+
+/// A function whose parameters and result are of one printed type.
+pub(crate) fn written(
+    alloc: Global,
+    name: &str,
+    printed: Primitive,
+    names: &[Text],
+    body: Block,
+) -> Result<FnItem, OutOfMemory> {
+    let mut params = List::new(alloc);
+    for name in names {
+        params.push(FnParam {
+            name: name.copy(alloc)?,
+            ty: TypeExpr::Primitive(printed),
+        })?;
+    }
     Ok(FnItem {
         docs: List::new(alloc),
         name: Text::from_str(alloc, name)?,
-        params: printed,
-        result: ty,
-        body: Block {
-            stmts,
-            tail: Some(lifted(alloc, kind)?),
-        },
+        params,
+        result: TypeExpr::Primitive(printed),
+        body,
     })
 }
 
-/// A file of one wrapper and the runtime module.
+/// A file of one wrapper, and the runtime module with every function.
 pub(crate) fn file(alloc: Global, f: FnItem) -> Result<Bindings, OutOfMemory>
     ensures { IfOk result (λ t. IsSome (wrapper_of t 0)) }
 {
     let mut items = List::new(alloc);
     items.push(Item::Import(f))?;
-    let parts = List::from_vec(vec![in alloc; RuntimeItem::AsI64, RuntimeItem::AsI32]?);
+    let parts = List::from_vec(vec![in alloc;
+        RuntimeItem::AsI64,
+        RuntimeItem::AsI32,
+        RuntimeItem::AsF32,
+        RuntimeItem::AsF64,
+        RuntimeItem::BoolLift,
+        RuntimeItem::CharLift,
+    ]?);
     items.push(Item::Runtime(parts))?;
     let mut places = List::new(alloc);
     places.push(FuncPlace {

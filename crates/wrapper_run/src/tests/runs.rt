@@ -15,19 +15,19 @@ const U32: Kind = Kind {
     cast: Some(CastType::U32),
 };
 
-fn empty(alloc: Global) -> Heap {
+pub(crate) fn empty(alloc: Global) -> Heap {
     Heap {
         blocks: List::new(alloc),
     }
 }
 
-fn no_choices(alloc: Global) -> Choices {
+pub(crate) fn no_choices(alloc: Global) -> Choices {
     Choices {
         list: List::new(alloc),
     }
 }
 
-fn call_of(
+pub(crate) fn call_of(
     alloc: Global,
     name: &str,
     words: &[Word],
@@ -44,7 +44,7 @@ fn call_of(
     })
 }
 
-fn run_of(
+pub(crate) fn run_of(
     alloc: Global,
     stop: Stop,
     call: Option<CallPoint>,

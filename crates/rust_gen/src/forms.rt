@@ -1,0 +1,65 @@
+//! The forms of the tree that wrappers are made of.
+
+ghost use Rattle.std.specs.Prelude.{◌≡◌, IfOk};
+ghost use Rattle.rust_gen.specs.Body.{local_path, root_module, runtime_call, runtime_name, runtime_path};
+ghost use Rattle.rust_tree.specs.declared.expr.Expr.TheVariants as expr;
+
+use crate::lists::{one, two};
+use rust_tree::{CastType, Expr, Path, RuntimeItem};
+use std::alloc::Global;
+use wit_model::{Boxed, OutOfMemory, Text};
+
+#[tactic(auto, unfolding(crate::specs::Body::runtime_name))]
+fn runtime_name(alloc: Global) -> Result<Text, OutOfMemory>
+    ensures { IfOk result (λ name. name ≡ runtime_name) }
+{
+    Text::from_str(alloc, "_rt")
+}
+
+/// The module of the world's own core imports.
+#[tactic(auto, unfolding(crate::specs::Body::root_module))]
+pub(crate) fn root_module(alloc: Global) -> Result<Text, OutOfMemory>
+    ensures { IfOk result (λ name. name ≡ root_module) }
+{
+    Text::from_str(alloc, "$root")
+}
+
+fn runtime_path(alloc: Global, item: RuntimeItem) -> Result<Path, OutOfMemory>
+    ensures { IfOk result (λ path. path ≡ runtime_path item) }
+{
+    let name = Text::from_str(alloc, item.name())?;
+    let names = two(alloc, runtime_name(alloc)?, name)?;
+    Ok(Path {
+        lead: false,
+        supers: 0,
+        names,
+    })
+}
+
+pub(crate) fn local_path(alloc: Global, name: Text) -> Result<Path, OutOfMemory>
+    ensures { IfOk result (λ path. path ≡ local_path name) }
+{
+    let names = one(alloc, name)?;
+    Ok(Path {
+        lead: false,
+        supers: 0,
+        names,
+    })
+}
+
+/// The call of a function of `_rt` on one operand.
+pub(crate) fn runtime_call(alloc: Global, item: RuntimeItem, e: Expr) -> Result<Expr, OutOfMemory>
+    ensures { IfOk result (λ call. call ≡ runtime_call item e) }
+{
+    let path = runtime_path(alloc, item)?;
+    let operands = one(alloc, e)?;
+    Ok(Expr::Call(path, operands))
+}
+
+/// A local, cast to a type.
+pub(crate) fn cast(alloc: Global, name: Text, to: CastType) -> Result<Expr, OutOfMemory>
+    ensures { IfOk result (λ e. e ≡ expr.Cast (expr.Local name) to) }
+{
+    let local = Boxed::new(alloc, Expr::Local(name))?;
+    Ok(Expr::Cast(local, to))
+}

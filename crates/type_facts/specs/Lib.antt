@@ -1,0 +1,4 @@
+pub mod Facts
+pub mod Own
+pub mod Passes
+pub mod Roots

@@ -1,0 +1,15 @@
+//! Facts on the types of a world: what each reaches, and where it is used.
+#![tactic(auto)]
+
+mod end;
+mod info;
+mod marks;
+mod reach;
+mod side;
+#[cfg(test)]
+mod tests;
+mod types;
+mod uses;
+
+pub use info::TypeInfo;
+pub use types::Types;

@@ -1,0 +1,11 @@
+use Rattle.std.proofs.Common.{List, sym, subst}
+use Rattle.wit_model.specs.declared.size.ArchitectureSize.{ArchitectureSize}
+use Rattle.wit_layout.specs.Sizes.{field_offsets}
+use Rattle.wit_layout.specs.Stored.{ArePairsOf}
+use Rattle.wit_layout.specs.Tree.{tree_at}
+use Rattle.wit_layout.proofs.size_align.SizeAlign.field_offsets_of.Goals as goal
+
+pub returns : goal.returns
+returns c = λ types entry filled is own.
+    let id = c.args.id.0 in
+    subst (λ (ps : List ArchitectureSize). ArePairsOf ps (λ w. field_offsets w (tree_at types id))) (sym c.as_slice.ensures) (filled.offsets id c.layout.result.now entry c.layout.ensures is own)

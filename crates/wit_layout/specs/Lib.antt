@@ -1,0 +1,12 @@
+pub mod Cast
+pub mod Extent
+pub mod Filled
+pub mod Grain
+pub mod Join
+pub mod Kind
+pub mod Memo
+pub mod Sizes
+pub mod Spread
+pub mod Stored
+pub mod Tree
+pub mod Words
