@@ -16,7 +16,8 @@ use Rattle.rust_tree.specs.declared.place.WrapperInfo.{WrapperInfo}
 use Rattle.rust_tree.specs.declared.runtime_item.RuntimeItem.{RuntimeItem}
 use Rattle.rust_tree.specs.Tree.{Tree, wrappers_from, wrappers_of}
 use Rattle.wrapper_run.specs.Faithful.{Carries, IsFaithful, Made}
-use Rattle.wrapper_run.specs.Run.{Setting, import_nth, import_run, run_item, wrapper_of}
+use Rattle.wrapper_run.specs.Setting.{Setting}
+use Rattle.wrapper_run.specs.Run.{import_nth, import_run, run_item, wrapper_of}
 use Rattle.rust_gen.specs.Body.{IsWritten}
 use Rattle.rust_gen.specs.Bound.{Binds}
 use Rattle.rust_gen.specs.Cause.{is_well_named}

@@ -1,18 +1,17 @@
 -- The run of a wrapper as it is written: it lends its arguments, calls its import once, and gives what the answer stands for.
-use Rattle.std.proofs.Common.{◌≡◌, ℕ, Bool, true, false, cond, ◌||◌, List, [], ◌∷◌, ◌++◌, Option, None, Some, map, refl, sym, ap, subst, ◌∙◌, append_assoc, ◌≢◌}
+use Rattle.std.proofs.Common.{◌≡◌, ℕ, true, false, List, [], ◌∷◌, ◌++◌, Option, None, Some, map, refl, sym, ap, subst, ◌∙◌, append_assoc}
 use Rattle.std.specs.Prelude.{option_and_then}
 use Rattle.std.specs.List.{list_any, flat_map}
-use Rattle.std.specs.Option.{option_map, option_or}
+use Rattle.std.specs.Option.{option_map}
 use Rattle.std.specs.Str.{bytes_eq}
-use Rattle.std.proofs.lemmas.Bool.{not-true, or_left, or_parts, or_right}
+use Rattle.std.proofs.lemmas.Bool.{or_left, or_parts, or_right}
 use Rattle.wit_model.specs.declared.function.Function.{Function}
 use Rattle.wit_model.specs.declared.function.Param.{Param}
 use Rattle.wit_model.specs.declared.types.WitType.TheVariants as wit
 use Rattle.rust_tree.specs.declared.expr.CastType.TheVariants as cast
 use Rattle.rust_tree.specs.declared.stmt.Stmt.TheVariants as stmt
-use Rattle.wrapper_data.specs.declared.word.Word.TheVariants as word
 use Rattle.rust_gen.specs.declared.scope.LocalKind.TheVariants as kind
-use Rattle.rust_gen.specs.Body.{converted, IsBody, IsWritten, Lifts, LiftsAs, LiftsBy, LowersAll, LowersAs, call_kinds, call_stmt, import_call, import_decl, import_name, local_path, result_name, root_module, runtime_call, runtime_path}
+use Rattle.rust_gen.specs.Body.{IsBody, IsWritten, Lifts, LiftsAs, LiftsBy, call_kinds, call_stmt, import_call, import_decl, import_name, local_path, result_name, root_module, runtime_call, runtime_path}
 use Rattle.wit_model.specs.declared.types.WitType.{WitType}
 use Rattle.wit_model.specs.Distinct.{is_distinct}
 use Rattle.rust_tree.specs.declared.expr.Expr.TheVariants as expr
@@ -31,274 +30,86 @@ use Rattle.wrapper_data.specs.declared.word.Word.{Word}
 use Rattle.wrapper_run.specs.declared.state.State.{State}
 use Rattle.wrapper_run.specs.declared.state.Val.{Val}
 use Rattle.wrapper_run.specs.declared.state.Val.TheVariants as val
-use Rattle.wrapper_run.specs.Act.{Act, Outcome, Done, Stopped, ◌>>=◌, and_then, or_stop, pure, ◌>>◌}
+use Rattle.wrapper_run.specs.Act.{Act, Outcome, Done, Stopped, ◌>>=◌, and_then, pure, ◌>>◌}
 use Rattle.wrapper_run.specs.Faithful.{Carries, Made, import_target, param_types}
 use Rattle.wrapper_run.specs.Honest.{HonestPeer}
-use Rattle.wrapper_run.specs.Locals.{bind, declare, import_named, local_named, value_of}
-use Rattle.wrapper_run.specs.Represents.{LendsAll, Lends}
-use Rattle.wrapper_run.specs.Run.{Setting, call_point, called_with, ended, eval, point_of, run_at, run_fn, run_item, runtime_item_named, start, stuck, take_answer, unhidden, words_of, run_stmt, run_stmts, run_tail}
+use Rattle.wrapper_run.specs.Locals.{bind, declare, import_named, local_named}
+use Rattle.wrapper_run.specs.Setting.{Setting}
+use Rattle.wrapper_run.specs.Blocks.{drop_value, free_owned}
+use Rattle.wrapper_run.specs.Owning.{owned}
+use Rattle.rust_tree.specs.declared.item.FnParam.{FnParam}
+use Rattle.wrapper_run.proofs.OwningLemmas.{ArePlain, no_buffer, no_unit_buffer, owned-none, plain-append}
+use Rattle.wrapper_run.specs.Run.{answer_and_leave, bound_args, call_point, called_with, ended, eval, point_of, run_at, run_fn, run_item, start, take_answer, unhidden, words_of, run_stmt, run_stmts, run_tail}
 use Rattle.wrapper_run.specs.StandsFor.{StandAll, StandsResult, rust_value}
-use Rattle.wrapper_run.specs.Value.{WitValue, AreValues, IsResult, IsValue, char, f32, f64, number, truth}
-use Rattle.wrapper_run.proofs.LocalLemmas.{ReadsAll, SameLength, declared-alone, names_of, reads-new, reads_args, unbound, bytes_eq-same, last-append}
-use Rattle.wrapper_run.proofs.NumberLemmas.{answered-unit, word_of-bool}
-use Rattle.wrapper_run.proofs.StepLemmas.{Give, Quiet, answer_gives, call_gives, ended-calls, import_gives, no_answer_gives, quiet_answer, quiet_bind, quiet_or_stop, quiet_then, ref_gives, runtime_gives, bool_gives, local_gives, quiet_cast, quiet_local, quiet_pure, quiet_runtime}
+use Rattle.wrapper_run.specs.Value.{WitValue, AreValues, IsResult}
+use Rattle.wrapper_run.proofs.LocalLemmas.{ReadsAll, SameLength, declared-alone, names_of, reads-new, reads_args, unbound, bytes_eq-same}
+use Rattle.wrapper_run.proofs.NumberLemmas.{answered-unit}
+use Rattle.wrapper_run.proofs.StepLemmas.{Quiet, answer_gives, call_gives, ended-calls, import_gives, no_answer_gives, quiet_answer, quiet_bind, quiet_then, quiet_cast, quiet_local, quiet_pure, quiet_runtime, answers_plain, quiet_answers, quiet_drop}
 use Rattle.rust_gen.specs.DeclaredNames.{param_idents}
 use Rattle.rust_gen.specs.Printed.{core_result, core_type, printed_result, printed_type}
-use Rattle.rust_gen.specs.Runtime.{lowering_item, asked_by, lifting_items, lowering_items}
+use Rattle.rust_gen.specs.Runtime.{asked_by, lifting_items, lowering_items}
 use Rattle.rust_gen.specs.Wrapper.{printed_param}
 use Rattle.rust_tree.specs.declared.expr.CastType.{CastType}
-use Rattle.rust_gen.specs.Scope.{Bytes, Declares, cleanup_list, first_scope, is_free, is_used, names_at, numbered, ret_area}
+use Rattle.rust_gen.specs.Scope.{Bytes, cleanup_list, first_scope, is_free, is_used, numbered, ret_area}
 use Rattle.rust_tree.specs.declared.expr.Expr.{Expr}
 use Rattle.rust_tree.specs.declared.item.FnItem.{FnItem}
-use Rattle.rust_gen.proofs.AskedLemmas.{Found, found-first, found-left, found-right}
-use Rattle.wrapper_run.specs.declared.state.Local.{Local}
+use Rattle.rust_gen.proofs.AskedLemmas.{Found, found-left, found-right}
 use Rattle.rust_gen.specs.declared.scope.LocalKind.{LocalKind}
 use Rattle.rust_gen.specs.declared.scope.Scope.{Scope}
 use Rattle.rust_tree.specs.declared.stmt.Stmt.{Stmt}
 use Rattle.rust_tree.specs.declared.type_expr.TypeExpr.{TypeExpr}
-use Rattle.wrapper_run.specs.Effect.{answer_of, bit, is_word_of}
-use Rattle.std.proofs.lemmas.Slice.Eq.{bytes_eq-Decides}
 use Rattle.rust_gen.proofs.PathLemmas.{calls_alone, calls_runtime}
 use Rattle.rust_tree.specs.Runtime.{item_name}
-use Rattle.std.proofs.lemmas.List.Folds.{list_any-append}
-use Rattle.rust_gen.proofs.WordLemmas.{lent, taken}
+use Rattle.rust_gen.proofs.WordLemmas.{taken}
+use Rattle.rust_gen.proofs.LowerLemmas.{Lowered, idents_of, lower_all, run_stmts-append, types_of}
+use Rattle.rust_gen.proofs.ScopeLemmas.{UsedAll, Within, free-one, is_used-append}
+use Rattle.rust_gen.specs.Printed.{core_params}
+use Rattle.wrapper_run.specs.StandsFor.{Stands}
+use Rattle.wrapper_run.specs.Value.{scalar, text}
+use Rattle.wrapper_run.proofs.OwningLemmas.{owned-lent}
+use Rattle.std.proofs.Common.{length}
 
 -- parameters
-
-abbrev types_of : List Param → List WitType
-types_of params = map (λ p. p.ty) params
-
-abbrev idents_of : List Param → List (List ℕ)
-idents_of params = map (λ p. rust_ident p.name) params
 
 names-printed : (params : List Param) → names_of (map printed_param params) ≡ idents_of params
 names-printed [] = refl
 names-printed (p ∷ params) = ap (λ ns. rust_ident p.name ∷ ns) (names-printed params)
 
-same-length : (params : List Param) (vs : List WitValue) (args : List RustValue) → StandAll (types_of params) vs args → SameLength (map printed_param params) args
-same-length [] [] args h = subst (λ rs. SameLength [] rs) (sym h) tt
-same-length [] (v ∷ vs) args h = absurd h
-same-length (p ∷ params) [] args h = absurd h
-same-length (p ∷ params) (v ∷ vs) args (r, rest, e, one, more) =
-    subst (λ rs. SameLength (map printed_param (p ∷ params)) rs) (sym e) (same-length params vs rest more)
+same-length : (heap : Heap) (params : List Param) (vs : List WitValue) (args : List RustValue) → StandAll heap (types_of params) vs args → SameLength (map printed_param params) args
+same-length heap [] [] args h = subst (λ rs. SameLength [] rs) (sym h) tt
+same-length heap [] (v ∷ vs) args h = absurd h
+same-length heap (p ∷ params) [] args h = absurd h
+same-length heap (p ∷ params) (v ∷ vs) args (r, rest, e, one, more) =
+    subst (λ rs. SameLength (map printed_param (p ∷ params)) rs) (sym e) (same-length heap params vs rest more)
 
--- names of a scope
+-- arguments of these types own nothing
 
--- the names that are used read as before
-abbrev Keeps : List Bytes → List Local → List Local → Type 0
-Keeps used old new = (name : Bytes) → is_used used name ≡ true → local_named name new ≡ local_named name old
+plain_arg : (heap : Heap) (ty : WitType) (v : WitValue) (r : RustValue) → Stands heap ty v r → owned (val.Value r) ≡ None
+plain_arg heap ty (scalar v) r is = ap (λ r. owned (val.Value r)) is ∙ owned-none (rust_value ty v) (no_buffer ty v)
+plain_arg heap ty (text bytes) r (p, pos, is, lies) = ap (λ r. owned (val.Value r)) is ∙ owned-lent p (length bytes)
 
--- a name that is not used reads nothing
-abbrev Within : List Bytes → List Local → Type 0
-Within used locals = (name : Bytes) → is_used used name ≡ false → local_named name locals ≡ None
-
-abbrev Grows : List Bytes → List Bytes → Type 0
-Grows old new = (name : Bytes) → is_used old name ≡ true → is_used new name ≡ true
-
--- what the lowering of parameters leaves: locals beside those that are there, and words that are read later
-record Lowered (w : Setting) (s : State) (params : List Param) (vs : List WitValue) (before after : Scope) (stmts : List Stmt) (words : List Expr) : Type 0 where
-  pub locals : List Local
-  pub runs : run_stmts w stmts s ≡ Done tt (record s { locals = locals })
-  pub keeps : Keeps before.used s.locals locals
-  pub within : Within after.used locals
-  pub grows : Grows before.used after.used
-  pub lent : List Word
-  pub gives : (t : State) → Keeps after.used locals t.locals → Give w t words (map val.Word lent)
-  pub represents : LendsAll (types_of params) vs lent
-  pub typed : words_of (map (λ p. core_type p.ty) params) (map val.Word lent) ≡ Some lent
-
--- lemmas on names
-
-is_used-append : (used more : List Bytes) (name : Bytes) → is_used (used ++ more) name ≡ (is_used used name || is_used more name)
-is_used-append used more name = list_any-append (λ u. bytes_eq u name) used more
-
-grows-append : (used more : List Bytes) → Grows used (used ++ more)
-grows-append used more name h = is_used-append used more name ∙ ap (λ b. b || is_used more name) h
-
-grows-declared : (before after : Scope) (kinds : List LocalKind) (t : ℕ) → Declares before kinds t after → Grows before.used after.used
-grows-declared before after kinds t d name h = ap (λ s. is_used s.used name) d.leaves ∙ grows-append before.used (names_at kinds t) name h
-
--- the name of an operation that declares one local
-free-one : (used : List Bytes) (k : LocalKind) (more : List LocalKind) (t : ℕ) → is_free used (k ∷ more) t ≡ true → is_used used (numbered k t) ≡ false
-free-one used k more t e = (or_parts (is_used used (numbered k t)) _ (not-true (list_any (λ name. is_used used name) (names_at (k ∷ more) t)) e)).0
-
--- a new local of a name that is not used hides none
-bound-other : (used : List Bytes) (locals : List Local) (n name : Bytes) (v : Option Val) → is_used used n ≡ false → is_used used name ≡ true
-    → local_named name (locals ++ record { name = n; value = v } ∷ []) ≡ local_named name locals
-bound-other used locals n name v free h =
-    last-append (λ l. bytes_eq l.name name) locals (record { name = n; value = v })
-    ∙ ap (λ b. option_or (cond b (Some (record { name = n; value = v })) None) (local_named name locals)) (apart (bytes_eq n name) refl)
-  where
-    apart : (b : Bool) → bytes_eq n name ≡ b → bytes_eq n name ≡ false
-    apart true e =
-        let same : n ≡ name = (bytes_eq-Decides n name).0 e in
-        let twice : is_used used n ≡ true = ap (is_used used) same ∙ h in
-        absurd (cc)
-    apart false e = e
-
-keeps-bound : (used : List Bytes) (locals : List Local) (n : Bytes) (v : Option Val) → is_used used n ≡ false → Keeps used locals (locals ++ record { name = n; value = v } ∷ [])
-keeps-bound used locals n v free name h = bound-other used locals n name v free h
-
-within-bound : (before after : Scope) (k : LocalKind) (t : ℕ) (locals : List Local) (v : Option Val) → Declares before (k ∷ []) t after → Within before.used locals
-    → Within after.used (locals ++ record { name = numbered k t; value = v } ∷ [])
-within-bound before after k t locals v d w name h =
-    let parts = or_parts (is_used before.used name) (is_used (names_at (k ∷ []) t) name) (sym (is_used-append before.used (names_at (k ∷ []) t) name) ∙ ap (λ s. is_used s.used name) (sym d.leaves) ∙ h) in
-    let here : bytes_eq (numbered k t) name ≡ false = (or_parts (bytes_eq (numbered k t) name) false parts.1).0 in
-    last-append (λ l. bytes_eq l.name name) locals (record { name = numbered k t; value = v })
-    ∙ ap (λ b. option_or (cond b (Some (record { name = numbered k t; value = v })) None) (local_named name locals)) here
-    ∙ w name parts.0
-
--- one parameter
-
-read-later : (used : List Bytes) (old new : List Local) (name : Bytes) (v : Val) → Keeps used old new → is_used used name ≡ true → value_of (local_named name old) ≡ Some v → value_of (local_named name new) ≡ Some v
-read-later used old new name v k h e = ap value_of (k name h) ∙ e
-
-record LoweredOne (w : Setting) (s : State) (p : Param) (v : WitValue) (before after : Scope) (stmts : List Stmt) (word : Expr) : Type 0 where
-  pub locals : List Local
-  pub runs : run_stmts w stmts s ≡ Done tt (record s { locals = locals })
-  pub keeps : Keeps before.used s.locals locals
-  pub within : Within after.used locals
-  pub grows : Grows before.used after.used
-  pub lent : Word
-  pub gives : (t : State) → Keeps after.used locals t.locals → eval w word t ≡ Done (val.Word lent) t
-  pub lends : Lends p.ty v lent
-  pub is_word : is_word_of (core_type p.ty) lent ≡ true
-
-used-here : (before after : Scope) (k : LocalKind) (t : ℕ) → Declares before (k ∷ []) t after → is_used after.used (numbered k t) ≡ true
-used-here before after k t d =
-    ap (λ s. is_used s.used (numbered k t)) d.leaves ∙ is_used-append before.used (names_at (k ∷ []) t) (numbered k t)
-    ∙ or_right (is_used before.used (numbered k t)) _ (or_left (bytes_eq (numbered k t) (numbered k t)) false (bytes_eq-same (numbered k t)))
-
-lower-bool : (w : Setting) (s : State) (p : Param) (b : Bool) (before after : Scope) (stmts : List Stmt) (word : Expr) → p.ty ≡ wit.Bool → LowersAs wit.Bool before p stmts word after
-    → value_of (local_named (rust_ident p.name) s.locals) ≡ Some (val.Value (value.Bool b)) → Within before.used s.locals → LoweredOne w s p (truth b) before after stmts word
-unfolding bind
-lower-bool w s p b before after stmts e is_bool (t, d, is, wd) at within =
-    let n = numbered kind.Bool t in
-    let x : Word = word.I32 (bit b) in
-    let free = free-one before.used kind.Bool [] t d.number.free in
-    record {
-      locals = s.locals ++ record { name = n; value = Some (val.Word x) } ∷ [];
-      runs =
-          ap (λ stmts. run_stmts w stmts s) is
-          ∙ ap (λ o. and_then (and_then o (bind n)) (λ _. pure {A = Unit {0}} tt))
-          (bool_gives w (expr.Ref (rust_ident p.name)) (val.Value (value.Bool b)) x s (ref_gives w (rust_ident p.name) (val.Value (value.Bool b)) s at) (word_of-bool b));
-      keeps = keeps-bound before.used s.locals n (Some (val.Word x)) free;
-      within = within-bound before after kind.Bool t s.locals (Some (val.Word x)) d within;
-      grows = grows-declared before after (kind.Bool ∷ []) t d;
-      lent = x;
-      gives = λ u k. ap (λ e. eval w e u) wd ∙ local_gives w n (val.Word x) u (ap value_of (k n (used-here before after kind.Bool t d)) ∙ reads-new n (Some (val.Word x)) s.locals);
-      lends = refl;
-      is_word = ap (λ t. is_word_of (core_type t) x) is_bool;
-    }
-
--- a parameter that a conversion makes a word
-lower-converted : (w : Setting) (s : State) (p : Param) (v : WitValue) (before after : Scope) (stmts : List Stmt) (word : Expr) → p.ty ≢ wit.Bool → IsValue p.ty v
-    → (stmts ≡ []) × (word ≡ converted p) × (after ≡ before) → runtime_item_named w.items (item_name (lowering_item p.ty)) ≡ Some (lowering_item p.ty)
-    → is_used before.used (rust_ident p.name) ≡ true → value_of (local_named (rust_ident p.name) s.locals) ≡ Some (val.Value (rust_value p.ty v)) → Within before.used s.locals → LoweredOne w s p v before after stmts word
-lower-converted w s p v before after stmts e other good (is, wd, same) found used at within =
-    let l = lent p.ty v good other in
-    let i = lowering_item p.ty in
-    record {
-      locals = s.locals;
-      runs = ap (λ stmts. run_stmts w stmts s) is;
-      keeps = λ name h. refl;
-      within = λ name h. within name (ap (λ s. is_used s.used name) (sym same) ∙ h);
-      grows = λ name h. ap (λ s. is_used s.used name) same ∙ h;
-      lent = l.word;
-      gives = λ u k.
-          let here : value_of (local_named (rust_ident p.name) u.locals) ≡ Some (val.Value (rust_value p.ty v)) =
-          ap value_of (k (rust_ident p.name) (ap (λ s. is_used s.used (rust_ident p.name)) same ∙ used)) ∙ at in
-          ap (λ e. eval w e u) wd
-          ∙ call_gives w (runtime_path i) (expr.Ref (rust_ident p.name) ∷ []) (val.Value (rust_value p.ty v) ∷ []) u (ref_gives w (rust_ident p.name) (val.Value (rust_value p.ty v)) u here, tt)
-          ∙ runtime_gives w (runtime_path i) (item_name i) i (val.Value (rust_value p.ty v)) l.word u (calls_runtime i) found l.converts;
-      lends = l.lends;
-      is_word = l.is_word;
-    }
-
--- what a parameter asks for is found: nothing for a bool
-lower-one : (w : Setting) (s : State) (p : Param) (v : WitValue) (before after : Scope) (stmts : List Stmt) (word : Expr) (ty : WitType) → p.ty ≡ ty → IsValue ty v
-    → LowersAs ty before p stmts word after → Found w.items (lowering_items ty) → is_used before.used (rust_ident p.name) ≡ true
-    → value_of (local_named (rust_ident p.name) s.locals) ≡ Some (val.Value (rust_value ty v)) → Within before.used s.locals → LoweredOne w s p v before after stmts word
-lower-one w s p (truth b) before after stmts word wit.Bool e good l found used at within = lower-bool w s p b before after stmts word e l at within
-lower-one w s p (number z) before after stmts word wit.Bool e good l found used at within = absurd (cc)
-lower-one w s p (f32 bits) before after stmts word wit.Bool e good l found used at within = absurd (cc)
-lower-one w s p (f64 bits) before after stmts word wit.Bool e good l found used at within = absurd (cc)
-lower-one w s p (char c) before after stmts word wit.Bool e good l found used at within = absurd (cc)
-lower-one w s p v before after stmts word ty e good l found used at within =
-    lower-converted w s p v before after stmts word (λ k. cc) (subst (λ t. IsValue t v) (sym e) good) l (ap (λ t. runtime_item_named w.items (item_name (lowering_item t))) e ∙ found-first w.items (lowering_item ty) [] found ∙ ap (λ t. Some (lowering_item t)) (sym e))
-    used (at ∙ ap (λ t. Some (val.Value (rust_value t v))) (sym e)) within
-
-run_stmts-append : (w : Setting) (a b : List Stmt) (s : State) → run_stmts w (a ++ b) s ≡ and_then (run_stmts w a s) (λ _. run_stmts w b)
-run_stmts-append w [] b s = refl
-run_stmts-append w (c ∷ a) b s = go (run_stmt w c s) (λ t. run_stmts-append w a b t)
-  where
-    go : (o : Outcome (Unit {0})) → ((t : State) → run_stmts w (a ++ b) t ≡ and_then (run_stmts w a t) (λ _. run_stmts w b))
-        → and_then o (λ _. run_stmts w (a ++ b)) ≡ and_then (and_then o (λ _. run_stmts w a)) (λ _. run_stmts w b)
-    go (Done u t) h = h t
-    go (Stopped e t) h = refl
+plain_args : (heap : Heap) (types : List WitType) (vs : List WitValue) (params : List FnParam) (args : List RustValue) → StandAll heap types vs args → ArePlain (bound_args params args)
+plain_args heap types vs [] args h = tt
+plain_args heap types vs (p ∷ params) [] h = tt
+plain_args heap [] [] (p ∷ params) (a ∷ args) h = absurd (cc)
+plain_args heap [] (v ∷ vs) (p ∷ params) (a ∷ args) h = absurd h
+plain_args heap (ty ∷ types) [] (p ∷ params) (a ∷ args) h = absurd h
+plain_args heap (ty ∷ types) (v ∷ vs) (p ∷ params) (a ∷ args) (r, rest, e, one, more) =
+    let is : a ≡ r = cc in
+    let same : args ≡ rest = cc in
+    (ap (λ r. owned (val.Value r)) is ∙ plain_arg heap ty v r one, plain_args heap types vs params args (subst (StandAll heap types vs) (sym same) more))
 
 and_then-assoc : {A B C : Type 0} (o : Outcome A) (f : A → Act B) (g : B → Act C) → and_then (and_then o f) g ≡ and_then o (λ a. f a >>= g)
 and_then-assoc (Done a s) f g = refl
 and_then-assoc (Stopped e s) f g = refl
 
--- the identifiers are used
-abbrev UsedAll : List Bytes → List Bytes → Type 0
-UsedAll used [] = Unit {0}
-UsedAll used (name ∷ names) = (is_used used name ≡ true) × UsedAll used names
-
-used-grows : (old new : List Bytes) (names : List Bytes) → Grows old new → UsedAll old names → UsedAll new names
-used-grows old new [] g h = tt
-used-grows old new (name ∷ names) g h = (g name h.0, used-grows old new names g h.1)
-
-reads-kept : (used : List Bytes) (old new : List Local) (names : List Bytes) (rs : List RustValue) → Keeps used old new → UsedAll used names → ReadsAll names rs old → ReadsAll names rs new
-reads-kept used old new [] rs k u h = h
-reads-kept used old new (name ∷ names) [] k u h = h
-reads-kept used old new (name ∷ names) (r ∷ rs) k u h = (ap value_of (k name u.0) ∙ h.0, reads-kept used old new names rs k u.1 h.1)
-
-lower_all : (w : Setting) (s : State) (params : List Param) (vs : List WitValue) (args : List RustValue) (before after : Scope) (stmts : List Stmt) (words : List Expr)
-    → LowersAll before params stmts words after → AreValues (types_of params) vs → StandAll (types_of params) vs args → Found w.items (flat_map (λ p. lowering_items p.ty) params)
-    → UsedAll before.used (idents_of params) → ReadsAll (idents_of params) args s.locals → Within before.used s.locals → Lowered w s params vs before after stmts words
-lower_all w s [] [] args before after stmts words (is, ws, same) good stand found used at within = record {
-  locals = s.locals;
-  runs = ap (λ stmts. run_stmts w stmts s) is;
-  keeps = λ name h. refl;
-  within = λ name h. within name (ap (λ s. is_used s.used name) (sym same) ∙ h);
-  grows = λ name h. ap (λ s. is_used s.used name) same ∙ h;
-  lent = [];
-  gives = λ t k. subst (λ ws. Give w t ws []) (sym ws) tt;
-  represents = refl;
-  typed = refl;
-}
-lower_all w s [] (v ∷ vs) args before after stmts words l good stand found used at within = absurd good
-lower_all w s (p ∷ params) [] args before after stmts words l good stand found used at within = absurd good
-lower_all w s (p ∷ params) (v ∷ vs) args before after stmts words (first, word, between, later, more, l, ls, is, ws) good (r, rest, e, one, stand) found used at within =
-    let here = subst (λ rs. ReadsAll (idents_of (p ∷ params)) rs s.locals) e at in
-    let a = lower-one w s p v before between first word p.ty refl good.0 l (found-left w.items (lowering_items p.ty) (flat_map (λ p. lowering_items p.ty) params) found) used.0
-    (here.0 ∙ ap (λ r. Some (val.Value r)) one) within in
-    let mid : State = record s { locals = a.locals } in
-    let b = lower_all w mid params vs rest between after later more ls good.1 stand (found-right w.items (lowering_items p.ty) (flat_map (λ p. lowering_items p.ty) params) found)
-    (used-grows before.used between.used (idents_of params) a.grows used.1) (reads-kept before.used s.locals a.locals (idents_of params) rest a.keeps used.1 here.1) a.within in
-    record {
-      locals = b.locals;
-      runs = ap (λ stmts. run_stmts w stmts s) is ∙ run_stmts-append w first later s ∙ ap (λ o. and_then o (λ _. run_stmts w later)) a.runs ∙ b.runs;
-      keeps = λ name h. b.keeps name (a.grows name h) ∙ a.keeps name h;
-      within = b.within;
-      grows = λ name h. b.grows name (a.grows name h);
-      lent = a.lent ∷ b.lent;
-      gives = λ t k. subst (λ ws. Give w t ws (map val.Word (a.lent ∷ b.lent))) (sym ws) (a.gives t (λ name h. k name (b.grows name h) ∙ b.keeps name h), b.gives t k);
-      represents = (a.lent, b.lent, refl, a.lends, b.represents);
-      typed =
-          ap (λ c. option_and_then (λ w. option_map (λ ws. w ∷ ws) (words_of (map (λ p. core_type p.ty) params) (map val.Word b.lent))) (cond c (Some a.lent) None)) a.is_word
-          ∙ ap (option_map (λ ws. a.lent ∷ ws)) b.typed;
-    }
-
 -- what follows the call
 
 abbrev after_result : Setting → List Stmt → Option Expr → TypeExpr → Act (Option RustValue)
-after_result w stmts tail result = run_stmts w stmts >> (run_tail w tail >>= (λ v. or_stop (stuck w) (answer_of result v)))
+after_result w stmts tail result = run_stmts w stmts >> (run_tail w tail >>= (answer_and_leave w result))
 
 abbrev finish : Setting → ℕ → Option WitType → List Stmt → Option Expr → Val → Act (Option RustValue)
-finish w t None lifting tail v = after_result w lifting tail type.Unit
+finish w t None lifting tail v = drop_value w v >> after_result w lifting tail type.Unit
 finish w t (Some ty) lifting tail v = bind (result_name t) v >> after_result w lifting tail (printed_type ty)
 
 quiet_lift_by : (w : Setting) (k : LocalKind) (i : RuntimeItem) (to : CastType) (name : Bytes) (before : Scope) (stmts : List Stmt) (e : Expr)
@@ -328,15 +139,16 @@ quiet_lifts w _ name before stmts e l = quiet_at_once w stmts e (expr.Local name
 
 quiet_after : (w : Setting) (stmts : List Stmt) (e : Expr) (result : TypeExpr) → Quiet (run_stmts w stmts) × Quiet (eval w e) → Quiet (after_result w stmts (Some e) result)
 quiet_after w stmts e result (h, k) =
-    quiet_then (run_stmts w stmts) (λ _. eval w e >>= (λ v. or_stop (stuck w) (answer_of result v))) h
-    (λ _. quiet_then (eval w e) (λ v. or_stop (stuck w) (answer_of result v)) k (λ v. quiet_or_stop (stuck w) (answer_of result v)))
+    quiet_then (run_stmts w stmts) (λ _. eval w e >>= (answer_and_leave w result)) h
+    (λ _. quiet_then (eval w e) (answer_and_leave w result) k (quiet_answers w result))
 
 quiet_finish : (w : Setting) (t : ℕ) (r : Option WitType) (before : Scope) (lifting : List Stmt) (tail : Option Expr) → Lifts r (result_name t) before lifting tail → (v : Val) → Quiet (finish w t r lifting tail v)
 quiet_finish w t None before lifting tail (n, q) v =
-    subst (λ stmts. Quiet (after_result w stmts tail type.Unit)) (sym n)
+    quiet_then (drop_value w v) (λ _. after_result w lifting tail type.Unit) (quiet_drop w v)
+    (λ _. subst (λ stmts. Quiet (after_result w stmts tail type.Unit)) (sym n)
     (subst (λ tail. Quiet (after_result w [] tail type.Unit)) (sym q)
-    (quiet_then (run_stmts w []) (λ _. pure (val.Value value.Unit) >>= (λ v. or_stop (stuck w) (answer_of type.Unit v))) (quiet_pure tt)
-    (λ _. quiet_then (pure (val.Value value.Unit)) (λ v. or_stop (stuck w) (answer_of type.Unit v)) (quiet_pure (val.Value value.Unit)) (λ v. quiet_or_stop (stuck w) (answer_of type.Unit v)))))
+    (quiet_then (run_stmts w []) (λ _. pure (val.Value value.Unit) >>= (answer_and_leave w type.Unit)) (quiet_pure tt)
+    (λ _. quiet_then (pure (val.Value value.Unit)) (answer_and_leave w type.Unit) (quiet_pure (val.Value value.Unit)) (quiet_answers w type.Unit)))))
 quiet_finish w t (Some ty) before lifting tail (e, q, l) v =
     subst (λ tail. Quiet (bind (result_name t) v >> after_result w lifting tail (printed_type ty))) (sym q)
     (quiet_then (bind (result_name t) v) (λ _. after_result w lifting (Some e) (printed_type ty)) (quiet_bind (result_name t) v)
@@ -351,20 +163,20 @@ tail_stmts t f words lifting = stmt.Import (import_decl t f) ∷ call_stmt f.res
 
 abbrev run_tail_stmts : Setting → ℕ → Function → Option WitType → List Expr → List Stmt → Option Expr → Act (Option RustValue)
 run_tail_stmts w t f r words lifting tail =
-    run_stmts w (stmt.Import (import_decl t f) ∷ call_stmt r t words ∷ lifting) >> (run_tail w tail >>= (λ v. or_stop (stuck w) (answer_of (printed_result r) v)))
+    run_stmts w (stmt.Import (import_decl t f) ∷ call_stmt r t words ∷ lifting) >> (run_tail w tail >>= (answer_and_leave w (printed_result r)))
 
 tail_is : (w : Setting) (t : ℕ) (f : Function) (r : Option WitType) (words : List Expr) (lifting : List Stmt) (tail : Option Expr) (s : State)
     → run_tail_stmts w t f r words lifting tail s ≡ and_then (eval w (import_call t words) (declared t f s)) (finish w t r lifting tail)
 unfolding declare bind
 tail_is w t f None words lifting tail s = go (eval w (import_call t words) (declared t f s))
   where
-    go : (o : Outcome Val) → and_then (and_then (and_then o (λ _. pure {A = Unit {0}} tt)) (λ _. run_stmts w lifting)) (λ _. run_tail w tail >>= (λ v. or_stop (stuck w) (answer_of type.Unit v)))
+    go : (o : Outcome Val) → and_then (and_then (and_then o (drop_value w)) (λ _. run_stmts w lifting)) (λ _. run_tail w tail >>= (answer_and_leave w type.Unit))
         ≡ and_then o (finish w t None lifting tail)
-    go (Done v u) = refl
+    go (Done v u) = and_then-assoc (drop_value w v u) (λ _. run_stmts w lifting) (λ _. run_tail w tail >>= (answer_and_leave w type.Unit))
     go (Stopped e u) = refl
 tail_is w t f (Some ty) words lifting tail s = go (eval w (import_call t words) (declared t f s))
   where
-    go : (o : Outcome Val) → and_then (and_then (and_then o (bind (result_name t))) (λ _. run_stmts w lifting)) (λ _. run_tail w tail >>= (λ v. or_stop (stuck w) (answer_of (printed_type ty) v)))
+    go : (o : Outcome Val) → and_then (and_then (and_then o (bind (result_name t))) (λ _. run_stmts w lifting)) (λ _. run_tail w tail >>= (answer_and_leave w (printed_type ty)))
         ≡ and_then o (finish w t (Some ty) lifting tail)
     go (Done v u) = refl
     go (Stopped e u) = refl
@@ -379,35 +191,39 @@ record Finishes (w : Setting) (t : ℕ) (r : Option WitType) (v : Option WitValu
   pub requests : state.requests ≡ s.requests
 
 finishes : (w : Setting) (t : ℕ) (r : Option WitType) (v : Option WitValue) (before : Scope) (lifting : List Stmt) (tail : Option Expr) (s : State)
-    → Lifts r (result_name t) before lifting tail → Found w.items (lifting_items r) → IsResult r v → HonestPeer r v w.answer s.heap → Finishes w t r v lifting tail s
+    → Lifts r (result_name t) before lifting tail → Found w.items (lifting_items r) → IsResult r v → HonestPeer r v w.answer s.heap → ArePlain s.locals → Finishes w t r v lifting tail s
 unfolding bind
-finishes w t None None before lifting tail s (n, q) found good h = record {
+finishes w t None None before lifting tail s (n, q) found good h plain = record {
   value = None;
-  state = s;
+  state = record s { locals = [] };
   runs =
       ap (λ o. and_then o (finish w t None lifting tail)) (no_answer_gives w s h)
-      ∙ ap (λ stmts. after_result w stmts tail type.Unit s) n ∙ ap (λ tail. after_result w [] tail type.Unit s) q ∙ ap (λ o. or_stop (stuck w) o s) answered-unit;
+      ∙ ap (λ o. and_then (free_owned w o s) (λ _. after_result w lifting tail type.Unit)) (owned-none value.Unit no_unit_buffer)
+      ∙ ap (λ stmts. after_result w stmts tail type.Unit s) n ∙ ap (λ tail. after_result w [] tail type.Unit s) q
+      ∙ answers_plain w type.Unit (val.Value value.Unit) None s answered-unit plain;
   stands = refl;
   account = refl;
   requests = refl;
 }
-finishes w t None (Some v) before lifting tail s l found good h = absurd good
-finishes w t (Some ty) None before lifting tail s l found good h = absurd good
-finishes w t (Some ty) (Some v) before lifting tail s (e, q, l) found good (x, a, takes) =
+finishes w t None (Some v) before lifting tail s l found good h plain = absurd good
+finishes w t (Some ty) None before lifting tail s l found good h plain = absurd good
+finishes w t (Some ty) (Some (text bytes)) before lifting tail s l found good h plain = absurd h
+finishes w t (Some ty) (Some (scalar v)) before lifting tail s (e, q, l) found good (x, a, takes) plain =
     let tk = taken ty v x good takes in
     let bound : State = record s { locals = s.locals ++ record { name = result_name t; value = Some (val.Word x) } ∷ [] } in
-    let li = tk.lifts w (result_name t) before lifting e bound l found (reads-new (result_name t) (Some (val.Word x)) s.locals) in
+    let li = tk.lifts w (result_name t) before lifting e bound l found (reads-new (result_name t) (Some (val.Word x)) s.locals)
+    (plain-append s.locals (record { name = result_name t; value = Some (val.Word x) } ∷ []) plain (refl, tt)) in
     let ends : State = record bound { locals = li.locals } in
     record {
       value = Some (rust_value ty v);
-      state = ends;
+      state = record ends { locals = [] };
       runs =
           ap (λ o. and_then o (finish w t (Some ty) lifting tail)) (answer_gives w (core_type ty) x s a tk.is_word)
           ∙ ap (λ tail. after_result w lifting tail (printed_type ty) bound) q
-          ∙ ap (λ o. and_then o (λ _. eval w e >>= (λ v. or_stop (stuck w) (answer_of (printed_type ty) v)))) li.runs
-          ∙ ap (λ o. and_then o (λ v. or_stop (stuck w) (answer_of (printed_type ty) v))) li.gives
-          ∙ ap (λ o. or_stop (stuck w) o ends) li.answers;
-      stands = (rust_value ty v, refl, refl);
+          ∙ ap (λ o. and_then o (λ _. eval w e >>= (answer_and_leave w (printed_type ty)))) li.runs
+          ∙ ap (λ o. and_then o (answer_and_leave w (printed_type ty))) li.gives
+          ∙ answers_plain w (printed_type ty) li.given (Some (rust_value ty v)) ends li.answers li.plain;
+      stands = refl;
       account = refl;
       requests = refl;
     }
@@ -418,7 +234,7 @@ abbrev point : Function → Heap → List Word → CallPoint
 point f heap words = record { target = import_target f; words = words; values = []; heap = heap }
 
 call_is : (t : ℕ) (f : Function) (s : State) (words : List Word) → local_named (import_name t) s.locals ≡ None → s.imports ≡ import_decl t f ∷ []
-    → words_of (map (λ p. core_type p.ty) f.params) (map val.Word words) ≡ Some words → call_point s (import_name t) (map val.Word words) ≡ Some (point f s.heap words, core_result f.result)
+    → words_of (core_params f.params) (map val.Word words) ≡ Some words → call_point s (import_name t) (map val.Word words) ≡ Some (point f s.heap words, core_result f.result)
 unfolding call_point root_module
 call_is t f s words free imports typed =
     ap (λ l. option_and_then (called_with s (map val.Word words)) (unhidden l (import_named (import_name t) s.imports))) free
@@ -449,7 +265,7 @@ pub record Fits (f : Function) (w : Setting) : Type 0 where
   pub found : Found w.items (asked_by f)
 
 module _ (f : Function) (i : FnItem) (written : IsWritten f i) (w : Setting) (fits : Fits f w) (vs : List WitValue) (v : Option WitValue) (args : List RustValue) (heap : Heap) (choices : Choices)
-    (good : AreValues (param_types f) vs) (is_result : IsResult f.result v) (stand : StandAll (param_types f) vs args) where
+    (good : AreValues (param_types f) vs) (is_result : IsResult f.result v) (stand : StandAll heap (param_types f) vs args) where
   abbrev begin : State
   begin = start i args heap choices
 
@@ -462,16 +278,16 @@ module _ (f : Function) (i : FnItem) (written : IsWritten f i) (w : Setting) (fi
   arguments : ReadsAll (param_idents f) args begin.locals
   arguments =
       subst (λ ns. ReadsAll ns args begin.locals) names
-      (reads_args i.params args (ap is_distinct names ∙ fits.distinct) (subst (λ ps. SameLength ps args) (sym written.params) (same-length f.params vs args stand)))
+      (reads_args i.params args (ap is_distinct names ∙ fits.distinct) (subst (λ ps. SameLength ps args) (sym written.params) (same-length heap f.params vs args stand)))
 
   abbrev body : IsBody f i.body
   body = written.body
 
-  lowering : Lowered w begin f.params vs (first_scope f) body.lowered body.lowering body.words
+  lowering : Lowered w begin heap f.params vs (first_scope f) body.lowered body.lowering body.words
   lowering =
-      lower_all w begin f.params vs args (first_scope f) body.lowered body.lowering body.words body.lowers good stand
+      lower_all w begin heap f.params vs args (first_scope f) body.lowered body.lowering body.words body.lowers good stand
       (found-left w.items (flat_map (λ p. lowering_items p.ty) f.params) (lifting_items f.result) fits.found)
-      (all-used [] (param_idents f) (cleanup_list ∷ ret_area ∷ [])) arguments within_first
+      (all-used [] (param_idents f) (cleanup_list ∷ ret_area ∷ [])) arguments within_first (plain_args heap (param_types f) vs i.params args stand)
 
   abbrev lowered_state : State
   lowered_state = record begin { locals = lowering.locals }
@@ -502,11 +318,11 @@ module _ (f : Function) (i : FnItem) (written : IsWritten f i) (w : Setting) (fi
 
   runs_to : run_fn w i begin ≡ and_then (take_answer w (core_result f.result) recorded) end
   runs_to =
-      ap (λ stmts. and_then (and_then (run_stmts w stmts begin) (λ _. run_tail w i.body.tail)) (λ v. or_stop (stuck w) (answer_of i.result v))) body.stmts
-      ∙ ap (λ o. and_then (and_then o (λ _. run_tail w i.body.tail)) (λ v. or_stop (stuck w) (answer_of i.result v)))
+      ap (λ stmts. and_then (and_then (run_stmts w stmts begin) (λ _. run_tail w i.body.tail)) (answer_and_leave w i.result)) body.stmts
+      ∙ ap (λ o. and_then (and_then o (λ _. run_tail w i.body.tail)) (answer_and_leave w i.result))
       (run_stmts-append w body.lowering (tail_stmts body.number f body.words body.lifting) begin ∙ ap (λ o. and_then o (λ _. run_stmts w (tail_stmts body.number f body.words body.lifting))) lowering.runs)
-      ∙ ap (λ r. and_then (and_then (run_stmts w (tail_stmts body.number f body.words body.lifting) lowered_state) (λ _. run_tail w i.body.tail)) (λ v. or_stop (stuck w) (answer_of r v))) written.answer
-      ∙ and_then-assoc (run_stmts w (tail_stmts body.number f body.words body.lifting) lowered_state) (λ _. run_tail w i.body.tail) (λ v. or_stop (stuck w) (answer_of (printed_result f.result) v))
+      ∙ ap (λ r. and_then (and_then (run_stmts w (tail_stmts body.number f body.words body.lifting) lowered_state) (λ _. run_tail w i.body.tail)) (answer_and_leave w r)) written.answer
+      ∙ and_then-assoc (run_stmts w (tail_stmts body.number f body.words body.lifting) lowered_state) (λ _. run_tail w i.body.tail) (answer_and_leave w (printed_result f.result))
       ∙ tail_is w body.number f f.result body.words body.lifting i.body.tail lowered_state
       ∙ ap (λ o. and_then o end) calls_out
 
@@ -523,7 +339,7 @@ module _ (f : Function) (i : FnItem) (written : IsWritten f i) (w : Setting) (fi
   unfolding run
   carries_written honest =
       let g = finishes w body.number f.result v body.called body.lifting i.body.tail recorded body.lifts
-      (found-right w.items (flat_map (λ p. lowering_items p.ty) f.params) (lifting_items f.result) fits.found) is_result (honest here ([], [], calls_once)) in
+      (found-right w.items (flat_map (λ p. lowering_items p.ty) f.params) (lifting_items f.result) fits.found) is_result (honest here ([], [], calls_once)) lowering.plain in
       let e : run ≡ run_at stop_of.Done g.value g.state = ends ∙ ap ended g.runs in
       record {
         done = ap (λ r. r.stop) e;

@@ -20,8 +20,10 @@ use Rattle.wrapper_run.specs.Act.{Done, and_then, pure}
 use Rattle.wrapper_run.specs.Effect.{answer_of, cast_integer, converted, integer_of_word, is_printed_as, is_word_of, low, low_i32, low_i64, bit, is_narrow, is_of_kind, is_scalar, lift_of}
 use Rattle.wrapper_run.specs.Locals.{local_named, value_of, bind}
 use Rattle.wrapper_run.specs.Represents.{Lends, Takes, TakesNumber}
-use Rattle.wrapper_run.specs.Run.{Setting, eval, run_stmts, runtime_item_named}
-use Rattle.wrapper_run.specs.Value.{IsValue, WitValue, char, f32, f64, number, truth}
+use Rattle.wrapper_run.specs.Setting.{Setting}
+use Rattle.wrapper_run.proofs.OwningLemmas.{ArePlain, no_buffer, owned-none, plain-append}
+use Rattle.wrapper_run.specs.Run.{eval, run_stmts, runtime_item_named}
+use Rattle.wrapper_run.specs.Value.{IsScalar, Scalar, char, f32, f64, number, truth}
 use Rattle.wrapper_run.proofs.NumberLemmas.{answered-i32, answered-i64, answered-number, converted-narrow, converted-wide, low_i32-u8, low_i32-u16, low_i32-s8, low_i32-s16, low_i32-s32, low_i64-s64, answered-bool, answered-char, answered-f32, answered-f64, converted-char, converted-f32, converted-f64, lifted-bool, lifted-char, not-converted}
 use Rattle.wrapper_run.proofs.StepLemmas.{cast_gives, local_gives, call_gives, lift_gives}
 use Rattle.wit_model.specs.declared.size.WasmType.TheVariants as core
@@ -45,7 +47,7 @@ use Rattle.wrapper_run.proofs.LocalLemmas.{reads-new}
 use Rattle.wrapper_run.specs.StandsFor.{rust_value}
 
 -- the word of a value that a conversion gives
-pub record Lent (ty : WitType) (v : WitValue) : Type 0 where
+pub record Lent (ty : WitType) (v : Scalar) : Type 0 where
   pub word : Word
   pub converts : converted (lowering_item ty) (val.Value (rust_value ty v)) ≡ Some word
   pub lends : Lends ty v word
@@ -79,7 +81,7 @@ lent-number wit.S64 z e = wide wit.S64 z refl refl refl e (ap word.I64 (low_i64-
 lent-number _ z e = absurd (cc)
 
 -- a value of any type but bool
-pub lent : (ty : WitType) (v : WitValue) → IsValue ty v → ty ≢ wit.Bool → Lent ty v
+pub lent : (ty : WitType) (v : Scalar) → IsScalar ty v → ty ≢ wit.Bool → Lent ty v
 lent ty (truth b) e n = absurd (n e)
 lent ty (number z) e n = lent-number ty z e
 lent ty (f32 bits) (e, k) n = subst (λ t. Lent t (f32 bits)) (sym e) (record { word = word.F32 bits; converts = converted-f32 bits; lends = refl; is_word = refl })
@@ -87,31 +89,33 @@ lent ty (f64 bits) (e, k) n = subst (λ t. Lent t (f64 bits)) (sym e) (record { 
 lent ty (char c) (e, k) n = subst (λ t. Lent t (char c)) (sym e) (record { word = word.I32 (pos c); converts = converted-char c k; lends = refl; is_word = refl })
 
 -- what the lifting of a word gives: its statements declare locals, and its expression is then the value
-pub record LiftsTo (ty : WitType) (v : WitValue) (w : Setting) (stmts : List Stmt) (e : Expr) (s : State) : Type 0 where
+pub record LiftsTo (ty : WitType) (v : Scalar) (w : Setting) (stmts : List Stmt) (e : Expr) (s : State) : Type 0 where
   pub locals : List Local
   pub runs : run_stmts w stmts s ≡ Done tt (record s { locals = locals })
+  pub plain : ArePlain locals
   pub given : Val
   pub gives : eval w e (record s { locals = locals }) ≡ Done given (record s { locals = locals })
   pub answers : answer_of (printed_type ty) given ≡ Some (Some (rust_value ty v))
 
 -- no statements, and an expression that gives the value
-at_once : (ty : WitType) (v : WitValue) (w : Setting) (stmts : List Stmt) (e f : Expr) (s : State) (given : Val) → stmts ≡ [] → e ≡ f → eval w f s ≡ Done given s
-    → answer_of (printed_type ty) given ≡ Some (Some (rust_value ty v)) → LiftsTo ty v w stmts e s
-at_once ty v w stmts e f s given n q g a = record {
+at_once : (ty : WitType) (v : Scalar) (w : Setting) (stmts : List Stmt) (e f : Expr) (s : State) (given : Val) → stmts ≡ [] → e ≡ f → eval w f s ≡ Done given s
+    → answer_of (printed_type ty) given ≡ Some (Some (rust_value ty v)) → ArePlain s.locals → LiftsTo ty v w stmts e s
+at_once ty v w stmts e f s given n q g a plain = record {
   locals = s.locals;
   runs = ap (λ stmts. run_stmts w stmts s) n;
+  plain = plain;
   given = given;
   gives = ap (λ e. eval w e s) q ∙ g;
   answers = a;
 }
 
 -- a local that holds what a lift makes of a cast word
-by_item : (ty : WitType) (v : WitValue) (w : Setting) (k : LocalKind) (i : RuntimeItem) (to : CastType) (name : List ℕ) (x : Word) (z : ℤ) (before : Scope) (stmts : List Stmt) (e : Expr) (s : State)
+by_item : (ty : WitType) (v : Scalar) (w : Setting) (k : LocalKind) (i : RuntimeItem) (to : CastType) (name : List ℕ) (x : Word) (z : ℤ) (before : Scope) (stmts : List Stmt) (e : Expr) (s : State)
     → LiftsBy k i (expr.Cast (expr.Local name) to) before stmts e → value_of (local_named name s.locals) ≡ Some (val.Word x) → integer_of_word x ≡ Some z
     → runtime_item_named w.items (item_name i) ≡ Some i → converted i (val.Value (cast_integer to z)) ≡ None → lift_of w.form i (val.Value (cast_integer to z)) ≡ Some (Ok (rust_value ty v))
-    → answer_of (printed_type ty) (val.Value (rust_value ty v)) ≡ Some (Some (rust_value ty v)) → LiftsTo ty v w stmts e s
+    → answer_of (printed_type ty) (val.Value (rust_value ty v)) ≡ Some (Some (rust_value ty v)) → ArePlain s.locals → LiftsTo ty v w stmts e s
 unfolding bind
-by_item ty v w k i to name x z before stmts e s (t, after, declares, is, tail) at n f c l a =
+by_item ty v w k i to name x z before stmts e s (t, after, declares, is, tail) at n f c l a plain =
     let made : Local = record { name = numbered k t; value = Some (val.Value (rust_value ty v)) } in
     let ends : State = record s { locals = s.locals ++ made ∷ [] } in
     let call : eval w (runtime_call i (expr.Cast (expr.Local name) to)) s ≡ Done (val.Value (rust_value ty v)) s =
@@ -122,36 +126,37 @@ by_item ty v w k i to name x z before stmts e s (t, after, declares, is, tail) a
       runs =
           ap (λ stmts. run_stmts w stmts s) is
           ∙ ap (λ o. and_then (and_then o (bind (numbered k t))) (λ _. pure {A = Unit {0}} tt)) call;
+      plain = plain-append s.locals (made ∷ []) plain (owned-none (rust_value ty v) (no_buffer ty v), tt);
       given = val.Value (rust_value ty v);
-      gives = ap (λ e. eval w e ends) tail ∙ local_gives w (numbered k t) (val.Value (rust_value ty v)) ends (reads-new (numbered k t) (Some (val.Value (rust_value ty v))) s.locals);
+      gives = ap (λ e. eval w e ends) tail ∙ local_gives w (numbered k t) (val.Value (rust_value ty v)) ends (reads-new (numbered k t) (Some (val.Value (rust_value ty v))) s.locals) (owned-none (rust_value ty v) (no_buffer ty v));
       answers = a;
     }
 
 -- a word that is taken for a value is one of the core type, and is lifted to it
-pub record Taken (ty : WitType) (v : WitValue) (x : Word) : Type 0 where
+pub record Taken (ty : WitType) (v : Scalar) (x : Word) : Type 0 where
   pub is_word : is_word_of (core_type ty) x ≡ true
   pub lifts : (w : Setting) (name : List ℕ) (before : Scope) (stmts : List Stmt) (e : Expr) (s : State) → LiftsAs ty name before stmts e
-      → Found w.items (lifting_items (Some ty)) → value_of (local_named name s.locals) ≡ Some (val.Word x) → LiftsTo ty v w stmts e s
+      → Found w.items (lifting_items (Some ty)) → value_of (local_named name s.locals) ≡ Some (val.Word x) → ArePlain s.locals → LiftsTo ty v w stmts e s
 
 taken_by : (ty : WitType) (v : ℤ) (x : Word) (p : Primitive) (to : CastType) (z u : ℤ)
     → ((name : List ℕ) (before : Scope) (stmts : List Stmt) (e : Expr) → LiftsAs ty name before stmts e → (stmts ≡ []) × (e ≡ expr.Cast (expr.Local name) to))
     → printed_type ty ≡ type.Primitive p → is_printed_as p ty ≡ true → integer_of_word x ≡ Some z → cast_integer to z ≡ value.Num ty u → v ≡ u → is_of_kind ty v ≡ true → is_word_of (core_type ty) x ≡ true → Taken ty (number v) x
 taken_by ty v x p to z u l q r i c e h k = record {
   is_word = k;
-  lifts = λ w name before stmts f s lifts found at.
+  lifts = λ w name before stmts f s lifts found at plain.
       at_once ty (number v) w stmts f (expr.Cast (expr.Local name) to) s (val.Value (value.Num ty v)) (l name before stmts f lifts).0 (l name before stmts f lifts).1
       (cast_gives w name to x z s at i ∙ ap (λ r. Done (val.Value r) s) (c ∙ ap (value.Num ty) (sym e)))
-      (ap (λ t. answer_of t (val.Value (value.Num ty v))) q ∙ answered-number p ty v r h);
+      (ap (λ t. answer_of t (val.Value (value.Num ty v))) q ∙ answered-number p ty v r h) plain;
 }
 
 -- a word that is the value already
-taken_as : (ty : WitType) (v : WitValue) (x : Word)
+taken_as : (ty : WitType) (v : Scalar) (x : Word)
     → ((name : List ℕ) (before : Scope) (stmts : List Stmt) (e : Expr) → LiftsAs ty name before stmts e → (stmts ≡ []) × (e ≡ expr.Local name))
     → answer_of (printed_type ty) (val.Word x) ≡ Some (Some (rust_value ty v)) → is_word_of (core_type ty) x ≡ true → Taken ty v x
 taken_as ty v x l a k = record {
   is_word = k;
-  lifts = λ w name before stmts f s lifts found at.
-      at_once ty v w stmts f (expr.Local name) s (val.Word x) (l name before stmts f lifts).0 (l name before stmts f lifts).1 (local_gives w name (val.Word x) s at) a;
+  lifts = λ w name before stmts f s lifts found at plain.
+      at_once ty v w stmts f (expr.Local name) s (val.Word x) (l name before stmts f lifts).0 (l name before stmts f lifts).1 (local_gives w name (val.Word x) s at refl) a plain;
 }
 
 taken-number : (ty : WitType) (v : ℤ) (x : Word) → is_of_kind ty v ≡ true → TakesNumber ty v x → Taken ty (number v) x
@@ -168,20 +173,20 @@ taken-number _ v x h e = absurd e
 taken-bool : (b : Bool) (z : ℤ) → bit b ≡ low 8 z → Taken wit.Bool (truth b) (word.I32 z)
 taken-bool b z q = record {
   is_word = refl;
-  lifts = λ w name before stmts e s l found at.
+  lifts = λ w name before stmts e s l found at plain.
       by_item wit.Bool (truth b) w kind.Bool BoolLift cast.U8 name (word.I32 z) z before stmts e s l at refl (found-first w.items BoolLift [] found)
-      (not-converted (val.Value (cast_integer cast.U8 z))).0 (ap (λ n. lift_of w.form BoolLift (val.Value (value.Num wit.U8 n))) (sym q) ∙ lifted-bool w.form b) (answered-bool b);
+      (not-converted (val.Value (cast_integer cast.U8 z))).0 (ap (λ n. lift_of w.form BoolLift (val.Value (value.Num wit.U8 n))) (sym q) ∙ lifted-bool w.form b) (answered-bool b) plain;
 }
 
 taken-char : (c : ℕ) (z : ℤ) → is_scalar c ≡ true → pos c ≡ low 32 z → Taken wit.Char (char c) (word.I32 z)
 taken-char c z k q = record {
   is_word = refl;
-  lifts = λ w name before stmts e s l found at.
+  lifts = λ w name before stmts e s l found at plain.
       by_item wit.Char (char c) w kind.Char CharLift cast.U32 name (word.I32 z) z before stmts e s l at refl (found-first w.items CharLift [] found)
-      (not-converted (val.Value (cast_integer cast.U32 z))).1 (ap (λ n. lift_of w.form CharLift (val.Value (value.Num wit.U32 n))) (sym q) ∙ lifted-char w.form c k) (answered-char c k);
+      (not-converted (val.Value (cast_integer cast.U32 z))).1 (ap (λ n. lift_of w.form CharLift (val.Value (value.Num wit.U32 n))) (sym q) ∙ lifted-char w.form c k) (answered-char c k) plain;
 }
 
-pub taken : (ty : WitType) (v : WitValue) (x : Word) → IsValue ty v → Takes ty v x → Taken ty v x
+pub taken : (ty : WitType) (v : Scalar) (x : Word) → IsScalar ty v → Takes ty v x → Taken ty v x
 taken ty (number z) x h t = taken-number ty z x h t
 taken ty (truth b) x h (z, e, q) = subst (λ t. Taken t (truth b) x) (sym h) (subst (Taken wit.Bool (truth b)) (sym e) (taken-bool b z q))
 taken ty (char c) x (h, k) (z, e, q) = subst (λ t. Taken t (char c) x) (sym h) (subst (Taken wit.Char (char c)) (sym e) (taken-char c z k q))

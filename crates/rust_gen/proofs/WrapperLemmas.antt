@@ -24,9 +24,10 @@ declared-append (stmt.Let n e ∷ a) b = declared-append a b
 declared-append (stmt.Expr e ∷ a) b = declared-append a b
 declared-append (stmt.Area r ∷ a) b = declared-append a b
 
-lowers-none : (ty : WitType) (before : Scope) (p : Param) (stmts : List Stmt) (word : Expr) (after : Scope) → LowersAs ty before p stmts word after → declared stmts ≡ []
-lowers-none wit.Bool before p stmts word after (t, d, is, wd) = ap declared is
-lowers-none _ before p stmts word after l = ap declared l.0
+lowers-none : (ty : WitType) (before : Scope) (p : Param) (stmts : List Stmt) (words : List Expr) (after : Scope) → LowersAs ty before p stmts words after → declared stmts ≡ []
+lowers-none wit.Bool before p stmts words after (t, d, is, wd) = ap declared is
+lowers-none wit.String before p stmts words after (t, d, is, wd) = ap declared is
+lowers-none _ before p stmts words after l = ap declared l.0
 
 lowering-none : (before : Scope) (params : List Param) (stmts : List Stmt) (words : List Expr) (after : Scope) → LowersAll before params stmts words after → declared stmts ≡ []
 lowering-none before [] stmts words after (is, ws, same) = ap declared is

@@ -21,7 +21,7 @@ use Rattle.rust_tree.specs.Runtime.{item_name}
 use Rattle.rust_gen.specs.declared.scope.LocalKind.{LocalKind}
 use Rattle.rust_gen.specs.declared.scope.LocalKind.TheVariants as kind
 use Rattle.rust_gen.specs.Docs.{doc_lines}
-use Rattle.rust_gen.specs.Printed.{printed_result, core_type, core_result}
+use Rattle.rust_gen.specs.Printed.{printed_result, core_params, core_result}
 use Rattle.rust_gen.specs.Runtime.{lowering_item}
 use Rattle.rust_gen.specs.declared.scope.Scope.{Scope}
 use Rattle.rust_gen.specs.Scope.{Bytes, Declares, first_scope, numbered}
@@ -50,20 +50,35 @@ runtime_call i e = expr.Call (runtime_path i) (e ∷ [])
 abbrev pub converted : Param → Expr
 converted p = runtime_call (lowering_item p.ty) (expr.Ref (rust_ident p.name))
 
--- statements and a word for a parameter, between two scopes
-abbrev pub LowersAs : WitType → Scope → Param → List Stmt → Expr → Scope → Type 0
-LowersAs wit.Bool before p stmts word after =
+-- the locals of a text: the text itself, its address and its length
+abbrev pub text_kinds : List LocalKind
+text_kinds = kind.Vec ∷ kind.Pointer ∷ kind.Length ∷ []
+
+abbrev pub text_stmts : ℕ → Bytes → List Stmt
+text_stmts t name =
+    stmt.Let (numbered kind.Vec t) (expr.Local name)
+    ∷ stmt.Let (numbered kind.Pointer t) (expr.AsPtr (numbered kind.Vec t))
+    ∷ stmt.Let (numbered kind.Length t) (expr.Len (numbered kind.Vec t)) ∷ []
+
+abbrev pub text_words : ℕ → List Expr
+text_words t = expr.CastMut (numbered kind.Pointer t) ∷ expr.Local (numbered kind.Length t) ∷ []
+
+-- statements and words for a parameter, between two scopes
+abbrev pub LowersAs : WitType → Scope → Param → List Stmt → List Expr → Scope → Type 0
+LowersAs wit.Bool before p stmts words after =
     (t : ℕ) × Declares before (kind.Bool ∷ []) t after
     × (stmts ≡ stmt.Let (numbered kind.Bool t) (expr.I32FromBool (expr.Ref (rust_ident p.name))) ∷ [])
-    × (word ≡ expr.Local (numbered kind.Bool t))
-LowersAs _ before p stmts word after = (stmts ≡ []) × (word ≡ converted p) × (after ≡ before)
+    × (words ≡ expr.Local (numbered kind.Bool t) ∷ [])
+LowersAs wit.String before p stmts words after =
+    (t : ℕ) × Declares before text_kinds t after × (stmts ≡ text_stmts t (rust_ident p.name)) × (words ≡ text_words t)
+LowersAs _ before p stmts words after = (stmts ≡ []) × (words ≡ converted p ∷ []) × (after ≡ before)
 
 -- the parameters in their order
 abbrev pub LowersAll : Scope → List Param → List Stmt → List Expr → Scope → Type 0
 LowersAll before [] stmts words after = (stmts ≡ []) × (words ≡ []) × (after ≡ before)
 LowersAll before (p ∷ params) stmts words after =
-    (first : List Stmt) × (word : Expr) × (between : Scope) × (later : List Stmt) × (more : List Expr)
-    × LowersAs p.ty before p first word between × LowersAll between params later more after × (stmts ≡ first ++ later) × (words ≡ word ∷ more)
+    (first : List Stmt) × (ws : List Expr) × (between : Scope) × (later : List Stmt) × (more : List Expr)
+    × LowersAs p.ty before p first ws between × LowersAll between params later more after × (stmts ≡ first ++ later) × (words ≡ ws ++ more)
 
 -- the call
 
@@ -82,7 +97,7 @@ import_decl t f = record {
   «module» = root_module;
   link_name = f.name.wit;
   name = import_name t;
-  params = map (λ p. core_type p.ty) f.params;
+  params = core_params f.params;
   result = core_result f.result;
 }
 

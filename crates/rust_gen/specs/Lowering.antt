@@ -1,5 +1,5 @@
--- What the lowering of parameters adds to the code before it: statements, and a word for each parameter.
-use Rattle.std.specs.Prelude.{◌≡◌, List, [], ◌∷◌, ◌++◌}
+-- What the lowering of parameters adds to the code before it: statements, and the words of each parameter.
+use Rattle.std.specs.Prelude.{◌≡◌, List, ◌++◌}
 use Rattle.wit_model.specs.declared.function.Param.{Param}
 use Rattle.rust_tree.specs.declared.expr.Expr.{Expr}
 use Rattle.rust_tree.specs.declared.stmt.Stmt.{Stmt}
@@ -9,7 +9,7 @@ use Rattle.rust_gen.specs.Body.{LowersAll, LowersAs}
 
 abbrev pub LowersOne : Scope → Lowered → Param → Scope → Lowered → Type 0
 LowersOne before old p after new =
-    (stmts : List Stmt) × (word : Expr) × LowersAs p.ty before p stmts word after × (new.stmts ≡ old.stmts ++ stmts) × (new.words ≡ old.words ++ word ∷ [])
+    (stmts : List Stmt) × (words : List Expr) × LowersAs p.ty before p stmts words after × (new.stmts ≡ old.stmts ++ stmts) × (new.words ≡ old.words ++ words)
 
 abbrev pub LowersParams : Scope → Lowered → List Param → Scope → Lowered → Type 0
 LowersParams before old params after new =

@@ -1,6 +1,8 @@
--- How a WIT type is printed, and which core types it flattens to. So far this covers what is one core value; every other
--- type is refused before it is printed.
-use Rattle.std.specs.Prelude.{Option, None, Some}
+-- How a WIT type is printed, and which core types it flattens to. So far this covers scalars and texts; every other type is
+-- refused before it is printed.
+use Rattle.std.specs.Prelude.{List, [], ◌∷◌, Option, None, Some}
+use Rattle.std.specs.List.{flat_map}
+use Rattle.wit_model.specs.declared.function.Param.{Param}
 use Rattle.wit_model.specs.declared.types.WitType.{WitType}
 use Rattle.wit_model.specs.declared.types.WitType.TheVariants as wit
 use Rattle.wit_model.specs.declared.size.WasmType.{WasmType}
@@ -22,7 +24,13 @@ printed_type wit.S64 = type.Primitive prim.I64
 printed_type wit.F32 = type.Primitive prim.F32
 printed_type wit.F64 = type.Primitive prim.F64
 printed_type wit.Char = type.Primitive prim.Char
+printed_type wit.String = type.String
 printed_type _ = type.Unit
+
+-- a parameter's type: a text is lent
+abbrev pub param_type : WitType → TypeExpr
+param_type wit.String = type.Ref type.Str
+param_type ty = printed_type ty
 
 -- a function without a result answers `()`
 abbrev pub printed_result : Option WitType → TypeExpr
@@ -36,6 +44,14 @@ core_type wit.S64 = core.I64
 core_type wit.F32 = core.F32
 core_type wit.F64 = core.F64
 core_type _ = core.I32
+
+-- the core types of a parameter: a text is an address and a length
+abbrev pub core_words : WitType → List WasmType
+core_words wit.String = core.Pointer ∷ core.Length ∷ []
+core_words ty = core_type ty ∷ []
+
+abbrev pub core_params : List Param → List WasmType
+core_params params = flat_map (λ p. core_words p.ty) params
 
 abbrev pub core_result : Option WitType → Option WasmType
 core_result None = None

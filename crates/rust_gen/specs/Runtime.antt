@@ -34,9 +34,10 @@ lowering_item _ = AsI32
 abbrev pub with_asked : List RuntimeItem → RuntimeItem → List RuntimeItem
 with_asked items asked = if list_any (λ i. is_same_item i asked) items then items else items ++ asked ∷ []
 
--- a bool is made a word by no item
+-- a bool and a text are made words by no item
 abbrev pub lowering_items : WitType → List RuntimeItem
 lowering_items wit.Bool = []
+lowering_items wit.String = []
 lowering_items ty = lowering_item ty ∷ []
 
 abbrev pub lifting_items : Option WitType → List RuntimeItem

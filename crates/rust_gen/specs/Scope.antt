@@ -16,6 +16,9 @@ unfoldable pub prefix_of : LocalKind → Bytes
 prefix_of kind.Import = codes "wit_import"
 prefix_of kind.Returned = codes "ret"
 prefix_of kind.Bool = codes "b"
+prefix_of kind.Vec = codes "vec"
+prefix_of kind.Pointer = codes "ptr"
+prefix_of kind.Length = codes "len"
 prefix_of kind.Char = codes "c"
 
 abbrev pub numbered : LocalKind → ℕ → Bytes

@@ -9,10 +9,10 @@ use Rattle.rust_tree.specs.declared.stmt.Stmt.{Stmt}
 use Rattle.rust_tree.specs.declared.stmt.Stmt.TheVariants as stmt
 use Rattle.rust_tree.specs.Ident.{rust_ident}
 use Rattle.rust_gen.specs.Docs.{doc_lines}
-use Rattle.rust_gen.specs.Printed.{printed_type, printed_result, core_type, core_result}
+use Rattle.rust_gen.specs.Printed.{param_type, printed_result, core_params, core_result}
 
 abbrev pub printed_param : Param → FnParam
-printed_param p = record { name = rust_ident p.name; ty = printed_type p.ty }
+printed_param p = record { name = rust_ident p.name; ty = param_type p.ty }
 
 -- the core imports that statements declare
 abbrev pub declared : List Stmt → List ImportDecl
@@ -26,7 +26,7 @@ declared (stmt.Area _ ∷ stmts) = declared stmts
 pub record Declares (f : Function) (decl : ImportDecl) : Type 0 where
   pub of_root : decl.module ≡ codes "$root"
   pub of_name : decl.link_name ≡ f.name.wit
-  pub params : decl.params ≡ map (λ p. core_type p.ty) f.params
+  pub params : decl.params ≡ core_params f.params
   pub answer : decl.result ≡ core_result f.result
 
 pub record Wraps (f : Function) (item : FnItem) : Type 0 where

@@ -1,7 +1,7 @@
-//! The core signature of an imported function whose parameters and result are one core value each.
+//! The core signature of an imported function whose result is one core value.
 
-ghost use Rattle.std.specs.Prelude.{◌≡◌, IfOk, map};
-ghost use Rattle.rust_gen.specs.Printed.{core_type, core_result};
+ghost use Rattle.std.specs.Prelude.{◌≡◌, ◌++◌, IfOk, OnOk, length, nat_le};
+ghost use Rattle.rust_gen.specs.Printed.{core_params, core_result, core_type, core_words};
 
 use std::alloc::Global;
 use wit_model::{List, OutOfMemory, Param, WasmType, WitType};
@@ -18,15 +18,47 @@ fn core_type(ty: WitType) -> WasmType
     }
 }
 
+/// Puts the core types of a parameter behind others.
+fn push_words(types: &mut List<WasmType>, ty: WitType) -> Result<(), OutOfMemory>
+    ensures { OnOk result (types.new ≡ types.old ++ core_words ty) }
+{
+    match ty {
+        WitType::String => types.extend_from_slice(&[WasmType::Pointer, WasmType::Length]),
+        _ => types.push(core_type(ty)),
+    }
+}
+
 /// The core parameters, in order.
 pub(crate) fn core_params(alloc: Global, params: &[Param]) -> Result<List<WasmType>, OutOfMemory>
-    ensures { IfOk result (λ types. types ≡ map (λ p. core_type p.ty) params.now) }
+    ensures { IfOk result (λ types. types ≡ core_params params.now) }
 {
     let mut types = List::new(alloc);
     for p in params {
-        types.push(core_type(p.ty))?;
+        push_words(&mut types, p.ty)?;
     }
     Ok(types)
+}
+
+fn word_count(ty: WitType) -> usize
+    ensures { result ≡ length (core_words ty) }
+{
+    match ty {
+        WitType::String => 2,
+        _ => 1,
+    }
+}
+
+/// Whether the core parameters are at most so many.
+pub(crate) fn are_at_most(params: &[Param], most: usize) -> bool
+    ensures { result ≡ nat_le (length (core_params params.now)) most }
+{
+    match params.split_first() {
+        None => true,
+        Some((p, params)) => {
+            let count = word_count(p.ty);
+            count <= most && are_at_most(params, most - count)
+        }
+    }
 }
 
 /// The core result, if there is one.

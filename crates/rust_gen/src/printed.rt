@@ -1,12 +1,12 @@
 //! How WIT types are printed.
 
 ghost use Rattle.std.specs.Prelude.{◌≡◌, IfOk, map};
-ghost use Rattle.rust_gen.specs.Printed.{printed_type, printed_result};
+ghost use Rattle.rust_gen.specs.Printed.{param_type, printed_type, printed_result};
 ghost use Rattle.rust_gen.specs.Wrapper.{printed_param};
 
 use rust_tree::{FnParam, Primitive, TypeExpr, to_rust_ident};
 use std::alloc::Global;
-use wit_model::{List, OutOfMemory, Param, WitType};
+use wit_model::{Boxed, List, OutOfMemory, Param, WitType};
 
 fn printed_type(ty: WitType) -> TypeExpr
     ensures { result ≡ printed_type ty }
@@ -24,7 +24,7 @@ fn printed_type(ty: WitType) -> TypeExpr
         WitType::F32 => TypeExpr::Primitive(Primitive::F32),
         WitType::F64 => TypeExpr::Primitive(Primitive::F64),
         WitType::Char => TypeExpr::Primitive(Primitive::Char),
-        WitType::String => TypeExpr::Unit,
+        WitType::String => TypeExpr::String,
         WitType::ErrorContext => TypeExpr::Unit,
         WitType::Id(_) => TypeExpr::Unit,
     }
@@ -40,12 +40,22 @@ pub(crate) fn printed_result(answer: &Option<WitType>) -> TypeExpr
     }
 }
 
+/// A parameter's type: a text is lent.
+fn param_type(alloc: Global, ty: WitType) -> Result<TypeExpr, OutOfMemory>
+    ensures { IfOk result (λ printed. printed ≡ param_type ty) }
+{
+    match ty {
+        WitType::String => Ok(TypeExpr::Ref(Boxed::new(alloc, TypeExpr::Str)?)),
+        _ => Ok(printed_type(ty)),
+    }
+}
+
 fn printed_param(alloc: Global, p: &Param) -> Result<FnParam, OutOfMemory>
     ensures { IfOk result (λ printed. printed ≡ printed_param p.now) }
 {
     Ok(FnParam {
         name: to_rust_ident(alloc, &p.name)?,
-        ty: printed_type(p.ty),
+        ty: param_type(alloc, p.ty)?,
     })
 }
 

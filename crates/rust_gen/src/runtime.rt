@@ -59,7 +59,7 @@ fn ask_for_param(items: &mut List<RuntimeItem>, ty: WitType) -> Result<(), OutOf
     ensures { OnOk result (items.new ≡ fold with_asked items.old (lowering_items ty)) }
 {
     match ty {
-        WitType::Bool => Ok(()),
+        WitType::Bool | WitType::String => Ok(()),
         _ => ask(items, lowering_item(ty)),
     }
 }

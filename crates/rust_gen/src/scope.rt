@@ -15,6 +15,12 @@ pub(crate) enum LocalKind {
     Returned,
     Bool,
     Char,
+    /// A text that is lent.
+    Vec,
+    /// Its address.
+    Pointer,
+    /// Its length.
+    Length,
 }
 
 impl LocalKind {
@@ -26,6 +32,9 @@ impl LocalKind {
             LocalKind::Import => "wit_import",
             LocalKind::Returned => "ret",
             LocalKind::Bool => "b",
+            LocalKind::Vec => "vec",
+            LocalKind::Pointer => "ptr",
+            LocalKind::Length => "len",
             LocalKind::Char => "c",
         }
     }

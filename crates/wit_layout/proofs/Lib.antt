@@ -1,6 +1,10 @@
 pub mod FillSteps
+pub mod FlattenSteps
+pub mod KeptWords
 pub mod KindLemmas
 pub mod PartSteps
 pub mod RecordSteps
 pub mod Repeats
+pub mod SignatureSteps
 pub mod TreeLemmas
+pub mod WordLists

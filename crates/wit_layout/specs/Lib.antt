@@ -1,10 +1,13 @@
 pub mod Cast
 pub mod Extent
 pub mod Filled
+pub mod Flat
 pub mod Grain
 pub mod Join
+pub mod Kept
 pub mod Kind
 pub mod Memo
+pub mod Signature
 pub mod Sizes
 pub mod Spread
 pub mod Stored

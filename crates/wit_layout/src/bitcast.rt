@@ -38,7 +38,7 @@ pub enum Bitcast {
     },
 }
 
-/// How a word of one core type is cast to another, of which one is the join of both.
+/// How a word of one core type is cast to another, of which one is the join of both, after `cast` of wit-bindgen-core.
 pub fn cast(from: WasmType, to: WasmType) -> Bitcast
     requires { AreInOrder from to }
     ensures cast { result ≡ cast from to }

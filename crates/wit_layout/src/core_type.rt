@@ -3,7 +3,8 @@ ghost use Rattle.wit_layout.specs.Join.{join};
 
 use wit_model::WasmType;
 
-/// The core type whose words hold the words of both types, as cases of a variant share their slots.
+/// The core type whose words hold the words of both types, as cases of a variant share their slots: the Canonical ABI's
+/// `join`, in which a word also tells whether it is a pointer or a length.
 pub fn join(a: WasmType, b: WasmType) -> WasmType
     ensures join { result ≡ join a b }
     ensures holds_first { join a result ≡ result }

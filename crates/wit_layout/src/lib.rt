@@ -1,22 +1,28 @@
-//! Where values stand in linear memory, and how their core words share slots: sizes, alignments and offsets, joins of core
-//! types and casts between words.
+//! Where values stand in linear memory: sizes, alignments and offsets. Which core words they are as parameters and results:
+//! flat types, joins of core types, casts between words, core signatures.
 #![tactic(auto)]
 
 mod bitcast;
 mod core_type;
 mod fault;
+mod flat;
+mod flatten;
 mod grain;
 mod kind;
 mod parts;
 mod record;
+mod signature;
 mod size_align;
 mod spread;
 mod stored;
 #[cfg(test)]
 mod tests;
 mod type_layout;
+mod words;
 
 pub use bitcast::{Bitcast, cast};
 pub use core_type::join;
 pub use fault::LayoutFault;
+pub use flat::{Flat, flat_types};
+pub use signature::{AbiVariant, WasmSignature, wasm_signature};
 pub use size_align::SizeAlign;

@@ -12,7 +12,8 @@ use crate::type_layout::TypeLayout;
 use std::alloc::Global;
 use wit_model::{Alignment, ArchitectureSize, List, Resolve, TypeId, WitType};
 
-/// The sizes, alignments and offsets of all types of a table.
+/// The sizes, alignments and offsets of all types of a table, in bytes and pointers, after the Canonical ABI
+/// (`elem_size`, `alignment`).
 #[derive(Debug, Drop)]
 pub struct SizeAlign {
     pub(crate) layouts: List<TypeLayout>,
@@ -26,7 +27,7 @@ impl SizeAlign {
     /// The sizes of all types of tables in which no rule is broken.
     ///
     /// `TooLarge` comes exactly where a type has more than 2^31 - 1 bytes where pointers have 8, and names the first
-    /// such type.
+    /// such type. `OutOfMemory` comes where there is no memory for what is kept of each type.
     pub fn fill(alloc: Global, resolve: &Resolve) -> Result<SizeAlign, LayoutFault>
         requires goes_down { GoesDown resolve.now.types }
         requires numbered { IsTrue (is_numbered resolve.now) }
@@ -55,7 +56,7 @@ impl SizeAlign {
         }
     }
 
-    /// The size of a type, which is right where pointers have 4 bytes and where they have 8.
+    /// The size of a type in bytes and pointers, which is right where pointers have 4 bytes and where they have 8.
     pub fn size(&self, ty: &WitType) -> ArchitectureSize
         requires { IsTrue (has_size self.now ty.now) }
         ensures { (types : List TypeDef) → IsFilledFor self.now types
@@ -81,8 +82,8 @@ impl SizeAlign {
         &self.layouts.as_slice()[id.0 as usize]
     }
 
-    /// Where the payload stands in a variant, an option or a result; for a type that is none of them it is no place at
-    /// all.
+    /// How many bytes and pointers stand before the payload in a variant, an option or a result; for a type that is none
+    /// of them it is no place at all.
     pub fn payload_offset(&self, id: TypeId) -> ArchitectureSize
         requires { IsTrue (has_size self.now (WitType.Id id)) }
         ensures { (types : List TypeDef) (entry : TypeDef) → IsFilledFor self.now types
@@ -92,8 +93,8 @@ impl SizeAlign {
         self.layout(id).payload
     }
 
-    /// Where the fields stand in a record or a tuple, and the key and the value in an entry of a map; for a type that is
-    /// none of them, no place.
+    /// How many bytes and pointers stand before each field in a record or a tuple, and before the key and the value in an
+    /// entry of a map; for a type that is none of them, no place.
     pub fn field_offsets_of(&self, id: TypeId) -> &[ArchitectureSize]
         requires { IsTrue (has_size self.now (WitType.Id id)) }
         ensures { (types : List TypeDef) (entry : TypeDef) → IsFilledFor self.now types

@@ -1,6 +1,8 @@
-//! Rows that the public standard fixes: sizes, offsets, refusals, joins and casts.
+//! Rows that the public standard fixes: sizes, offsets, refusals, joins and casts, core words and signatures.
 
+mod flat;
 mod large;
+mod signature;
 mod sizes;
 mod tables;
 mod words;

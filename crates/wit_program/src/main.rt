@@ -10,6 +10,8 @@ mod scalars;
 #[cfg(test)]
 mod tests;
 #[cfg(test)]
+mod texts;
+#[cfg(test)]
 mod whole_numbers;
 
 use run::run_words;

@@ -161,9 +161,9 @@ const REFUSED: &[(&str, &str, &str, u8, &str)] = &[
         "invalid world: rule 1 at world 0\n",
     ),
     (
-        "a string as parameter",
+        "an error context as parameter",
         r#""ty":"u32""#,
-        r#""ty":"string""#,
+        r#""ty":"error-context""#,
         10,
         "unsupported: unbuilt at w\n",
     ),

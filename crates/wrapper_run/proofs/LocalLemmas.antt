@@ -1,5 +1,5 @@
 -- What the machine reads by a name.
-use Rattle.std.proofs.Common.{◌≡◌, Bool, true, false, not, cond, List, [], ◌∷◌, ◌++◌, Option, None, Some, map, refl, sym, ap, ◌∙◌}
+use Rattle.std.proofs.Common.{◌≡◌, ◌||◌, Bool, true, false, not, cond, List, [], ◌∷◌, ◌++◌, Option, None, Some, map, refl, sym, ap, ◌∙◌}
 use Rattle.std.specs.List.{list_any}
 use Rattle.std.specs.Option.{option_or}
 use Rattle.std.specs.Str.{bytes_eq}
@@ -12,7 +12,9 @@ use Rattle.wrapper_data.specs.declared.value.RustValue.{RustValue}
 use Rattle.wrapper_run.specs.declared.state.Local.{Local}
 use Rattle.wrapper_run.specs.declared.state.Val.{Val}
 use Rattle.wrapper_run.specs.declared.state.Val.TheVariants as val
-use Rattle.wrapper_run.specs.Locals.{Bytes, import_named, last, local_named, value_of}
+use Rattle.std.proofs.Math.Bool.{or-false, or-true}
+use Rattle.std.proofs.lemmas.List.Folds.{list_any-append}
+use Rattle.wrapper_run.specs.Locals.{Bytes, emptied, import_named, last, local_named, moved, value_of}
 use Rattle.wrapper_run.specs.Run.{bound_args}
 
 -- the last of a list
@@ -98,3 +100,28 @@ reads_args (p ∷ params) (a ∷ args) d s =
           ∙ ap (λ b. value_of (cond b (Some bound) None)) (bytes_eq-same p.name),
       reads-older (names_of params) args bound (bound_args params args) (reads_args params args parts.1 s),
     )
+
+-- a value that is moved out
+
+any-last : (name : Bytes) (locals : List Local) (l : Local) (here : Bool) → bytes_eq l.name name ≡ here → list_any (λ m. bytes_eq m.name name) (locals ++ l ∷ []) ≡ (list_any (λ m. bytes_eq m.name name) locals || here)
+any-last name locals l here e =
+    list_any-append (λ m. bytes_eq m.name name) locals (l ∷ []) ∙ ap (λ b. list_any (λ m. bytes_eq m.name name) locals || (b || false)) e
+    ∙ ap (λ b. list_any (λ m. bytes_eq m.name name) locals || b) (or-false here)
+
+pub moved_last : (name : Bytes) (locals : List Local) (l : Local) → bytes_eq l.name name ≡ true → moved name (locals ++ l ∷ []) ≡ locals ++ emptied l ∷ []
+moved_last name [] l e = ap (λ b. cond b (emptied l) l ∷ []) e
+moved_last name (x ∷ locals) l e =
+    ap (λ b. cond b (x ∷ moved name (locals ++ l ∷ [])) (cond (bytes_eq x.name name) (emptied x) x ∷ locals ++ l ∷ []))
+    (any-last name locals l true e ∙ or-true (list_any (λ m. bytes_eq m.name name) locals))
+    ∙ ap (λ ls. x ∷ ls) (moved_last name locals l e)
+
+pub moved_other : (name : Bytes) (locals : List Local) (l : Local) → bytes_eq l.name name ≡ false → moved name (locals ++ l ∷ []) ≡ moved name locals ++ l ∷ []
+moved_other name [] l e = ap (λ b. cond b (emptied l) l ∷ []) e
+moved_other name (x ∷ locals) l e =
+    ap (λ b. cond b (x ∷ moved name (locals ++ l ∷ [])) (cond (bytes_eq x.name name) (emptied x) x ∷ locals ++ l ∷ []))
+    (any-last name locals l false e ∙ or-false (list_any (λ m. bytes_eq m.name name) locals))
+    ∙ go (list_any (λ m. bytes_eq m.name name) locals) (moved_other name locals l e)
+  where
+    go : (b : Bool) → moved name (locals ++ l ∷ []) ≡ moved name locals ++ l ∷ [] → cond b (x ∷ moved name (locals ++ l ∷ [])) (cond (bytes_eq x.name name) (emptied x) x ∷ locals ++ l ∷ []) ≡ cond b (x ∷ moved name locals) (cond (bytes_eq x.name name) (emptied x) x ∷ locals) ++ l ∷ []
+    go true h = ap (λ ls. x ∷ ls) h
+    go false h = refl

@@ -134,6 +134,15 @@ lifted-char f c e =
     let refused : Result RustValue TrapKind = Err trap.Char in
     ap (option_and_then (lift_of_number f item.CharLift)) (num_of-number wit.U32 (pos c) (scalar-u32 c e)) ∙ ap (λ b. Some (cond b given refused)) e
 
+-- a text is lifted by its bytes
+pub no_text : (f : Form) (v : Val) → lift_of f item.StringLift v ≡ None
+unfolding lift_of
+no_text f v = go (num_of v)
+  where
+    go : (o : Option (WitType × ℤ)) → option_and_then (lift_of_number f item.StringLift) o ≡ None
+    go None = refl
+    go (Some k) = refl
+
 -- what a function of a type answers
 
 opened-primitive : (p : Primitive) → out-TypeExpr (type.Primitive p) ≡ TypeExpr-F.Primitive p

@@ -1,6 +1,6 @@
 -- Single steps of the machine, and what leaves the calls as they are.
 use Rattle.std.proofs.Common.{◌≡◌, List, [], ◌∷◌, ◌++◌, Option, None, Some, map, refl, sym, ap, subst, true, cond, ◌∙◌, rules}
-use Rattle.std.specs.Prelude.{ℤ, Result, Ok, Err}
+use Rattle.std.specs.Prelude.{ℕ, ℤ, Result, Ok, Err, option_and_then}
 use Rattle.std.specs.List.{AllZip}
 use Rattle.std.specs.Option.{option_map}
 use Rattle.wit_model.specs.declared.size.WasmType.{WasmType}
@@ -10,6 +10,25 @@ use Rattle.rust_tree.specs.declared.expr.Expr.TheVariants as expr
 use Rattle.rust_tree.specs.declared.expr.Expr.TheVariants.{rolls-Call, rolls-Cast, rolls-I32FromBool}
 use Rattle.rust_tree.specs.declared.path.Path.{Path}
 use Rattle.rust_tree.specs.declared.runtime_item.RuntimeItem.{RuntimeItem}
+use Rattle.rust_tree.specs.declared.runtime_item.RuntimeItem.TheVariants.{StringLift}
+use Rattle.std.specs.Str.{is_utf8}
+use Rattle.std.proofs.Common.{Bool, false}
+use Rattle.wrapper_data.specs.declared.run.TrapKind.TheVariants as trap
+use Rattle.wrapper_run.specs.declared.state.Local.{Local}
+use Rattle.wrapper_run.specs.Act.{stop}
+use Rattle.wrapper_run.specs.Blocks.{without_block}
+use Rattle.wrapper_run.specs.Owning.{buffer_of}
+use Rattle.wrapper_run.proofs.NumberLemmas.{no_text}
+use Rattle.wrapper_run.proofs.OwningLemmas.{ArePlain, buffer-text, drops_plain}
+use Rattle.wrapper_run.specs.declared.owning.View.{View}
+use Rattle.wrapper_run.specs.declared.owning.View.TheVariants as view_of
+use Rattle.wrapper_data.specs.declared.word.Word.TheVariants as word
+use Rattle.wrapper_run.specs.Owning.{view}
+use Rattle.wrapper_run.specs.Locals.{ask_local}
+use Rattle.rust_tree.specs.declared.type_expr.TypeExpr.{TypeExpr}
+use Rattle.wrapper_run.specs.Effect.{answer_of}
+use Rattle.wrapper_run.specs.Run.{answer_and_leave}
+use Rattle.wrapper_run.specs.Blocks.{drop_value}
 use Rattle.wrapper_data.specs.Answered.{answered}
 use Rattle.wrapper_data.specs.declared.answer.Answer.{Answer}
 use Rattle.wrapper_data.specs.declared.answer.Answer.TheVariants as answer
@@ -24,14 +43,21 @@ use Rattle.wrapper_run.specs.declared.state.Val.{Val}
 use Rattle.wrapper_run.specs.declared.state.Val.TheVariants as val
 use Rattle.wrapper_run.specs.Act.{Act, Outcome, Done, Stopped, ◌>>=◌, ◌>>◌, all, and_then, or_stop, pure}
 use Rattle.wrapper_run.specs.Effect.{cast_integer, cast_to, converted, integer_of_word, is_word_of, lift_of, word_of_bool}
-use Rattle.wrapper_run.specs.Locals.{Bytes, bind, local_named, read_local, value_of}
-use Rattle.wrapper_run.specs.Run.{Setting, alone, of_runtime, call, call_callee, call_point, call_runtime, callee, answer_act, apply_one, converted_or_lifted, lift_act, ended, eval, eval_step, record_call, result_of, runtime_item_named, stuck, take_answer}
+use Rattle.wrapper_run.specs.Locals.{Bytes, bind, lend_local, local_named, use_local, used, value_of}
+use Rattle.wrapper_run.specs.Owning.{lent, owned, owned_in}
+use Rattle.wrapper_run.specs.Setting.{Setting, failed, stuck}
+use Rattle.wrapper_run.specs.Blocks.{drop_local, drop_locals, free, free_owned, is_owned, leave, lift_buffer, lift_text, owned_bytes, tested}
+use Rattle.wrapper_run.specs.Run.{alone, of_runtime, call, call_callee, call_point, call_runtime, callee, answer_act, apply_one, converted_or_lifted, lift_act, ended, eval, eval_step, record_call, result_of, runtime_item_named, take_answer, apply_item}
 
 -- values
 
-pub reads : (e : Stop) (name : Bytes) (v : Val) (s : State) → value_of (local_named name s.locals) ≡ Some v → read_local e name s ≡ Done v s
-unfolding read_local
-reads e name v s h = ap (λ o. or_stop e o s) h
+pub uses : (e : Stop) (name : Bytes) (v : Val) (s : State) → value_of (local_named name s.locals) ≡ Some v → owned v ≡ None → use_local e name s ≡ Done v s
+unfolding use_local
+uses e name v s h o = ap (λ x. and_then (or_stop e x s) (λ v. used name v (owned v))) h ∙ ap (λ x. used name v x s) o
+
+pub lends : (e : Stop) (name : Bytes) (v u : Val) (s : State) → value_of (local_named name s.locals) ≡ Some v → lent v ≡ Some u → lend_local e name s ≡ Done u s
+unfolding lend_local
+lends e name v u s h l = ap (λ o. or_stop e (option_and_then lent o) s) h ∙ ap (λ o. or_stop e o s) l
 
 -- expressions that give these values, one by one, and change nothing
 abbrev pub Give : Setting → State → List Expr → List Val → Type 0
@@ -64,27 +90,55 @@ eval-cast w e to = ap (eval w) (sym (rolls-Cast e to)) ∙ fold-roll-Expr (Act V
 pub eval-bool : (w : Setting) (e : Expr) → eval w (expr.I32FromBool e) ≡ (eval w e >>= (λ v. or_stop (stuck w) (option_map val.Word (word_of_bool v))))
 eval-bool w e = ap (eval w) (sym (rolls-I32FromBool e)) ∙ fold-roll-Expr (Act Val) (eval_step w) (Expr-F.I32FromBool e)
 
-pub eval-local : (w : Setting) (name : Bytes) → eval w (expr.Local name) ≡ read_local (stuck w) name
+pub eval-local : (w : Setting) (name : Bytes) → eval w (expr.Local name) ≡ use_local (stuck w) name
 eval-local w name = search (rules, the_lemmas)
 
-pub eval-ref : (w : Setting) (name : Bytes) → eval w (expr.Ref name) ≡ read_local (stuck w) name
+pub eval-ref : (w : Setting) (name : Bytes) → eval w (expr.Ref name) ≡ lend_local (stuck w) name
 eval-ref w name = search (rules, the_lemmas)
 
 pub call_gives : (w : Setting) (path : Path) (es : List Expr) (vs : List Val) (s : State) → Give w s es vs → eval w (expr.Call path es) s ≡ call w path vs s
 call_gives w path es vs s h = ap (λ act. act s) (eval-call w path es) ∙ ap (λ o. and_then o (λ vs. call w path vs)) (all_give w s es vs h)
 
-pub local_gives : (w : Setting) (name : Bytes) (v : Val) (s : State) → value_of (local_named name s.locals) ≡ Some v → eval w (expr.Local name) s ≡ Done v s
-local_gives w name v s h = ap (λ act. act s) (eval-local w name) ∙ reads (stuck w) name v s h
+pub local_gives : (w : Setting) (name : Bytes) (v : Val) (s : State) → value_of (local_named name s.locals) ≡ Some v → owned v ≡ None → eval w (expr.Local name) s ≡ Done v s
+local_gives w name v s h o = ap (λ act. act s) (eval-local w name) ∙ uses (stuck w) name v s h o
 
-pub ref_gives : (w : Setting) (name : Bytes) (v : Val) (s : State) → value_of (local_named name s.locals) ≡ Some v → eval w (expr.Ref name) s ≡ Done v s
-ref_gives w name v s h = ap (λ act. act s) (eval-ref w name) ∙ reads (stuck w) name v s h
+pub ref_gives : (w : Setting) (name : Bytes) (v : Val) (s : State) → value_of (local_named name s.locals) ≡ Some v → lent v ≡ Some v → eval w (expr.Ref name) s ≡ Done v s
+ref_gives w name v s h l = ap (λ act. act s) (eval-ref w name) ∙ lends (stuck w) name v v s h l
+
+-- what a method tells of a local
+
+pub ask_gives : (e : Stop) (of : View) (name : Bytes) (v : Val) (x : Word) (s : State) → value_of (local_named name s.locals) ≡ Some v → view of v ≡ Some x → ask_local e of name s ≡ Done (val.Word x) s
+unfolding ask_local
+ask_gives e of name v x s h k = ap (λ o. or_stop e (option_map val.Word (option_and_then (view of) o)) s) h ∙ ap (λ o. or_stop e (option_map val.Word o) s) k
+
+eval-as_ptr : (w : Setting) (name : Bytes) → eval w (expr.AsPtr name) ≡ ask_local (stuck w) view_of.TextAddress name
+eval-as_ptr w name = search (rules, the_lemmas)
+
+eval-len : (w : Setting) (name : Bytes) → eval w (expr.Len name) ≡ ask_local (stuck w) view_of.TextLength name
+eval-len w name = search (rules, the_lemmas)
+
+eval-cast_mut : (w : Setting) (name : Bytes) → eval w (expr.CastMut name) ≡ ask_local (stuck w) view_of.Pointer name
+eval-cast_mut w name = search (rules, the_lemmas)
+
+pub as_ptr_gives : (w : Setting) (name : Bytes) (p n : ℕ) (o : Bool) (s : State) → value_of (local_named name s.locals) ≡ Some (val.Value (value.Buffer p n o)) → eval w (expr.AsPtr name) s ≡ Done (val.Word (word.Pointer p)) s
+as_ptr_gives w name p n o s h =
+    ap (λ act. act s) (eval-as_ptr w name)
+    ∙ ask_gives (stuck w) view_of.TextAddress name (val.Value (value.Buffer p n o)) (word.Pointer p) s h (ap (option_map (λ b. word.Pointer b.0)) (buffer-text p n o))
+
+pub len_gives : (w : Setting) (name : Bytes) (p n : ℕ) (o : Bool) (s : State) → value_of (local_named name s.locals) ≡ Some (val.Value (value.Buffer p n o)) → eval w (expr.Len name) s ≡ Done (val.Word (word.Length n)) s
+len_gives w name p n o s h =
+    ap (λ act. act s) (eval-len w name)
+    ∙ ask_gives (stuck w) view_of.TextLength name (val.Value (value.Buffer p n o)) (word.Length n) s h (ap (option_map (λ b. word.Length b.1)) (buffer-text p n o))
+
+pub cast_mut_gives : (w : Setting) (name : Bytes) (p : ℕ) (s : State) → value_of (local_named name s.locals) ≡ Some (val.Word (word.Pointer p)) → eval w (expr.CastMut name) s ≡ Done (val.Word (word.Pointer p)) s
+cast_mut_gives w name p s h = ap (λ act. act s) (eval-cast_mut w name) ∙ ask_gives (stuck w) view_of.Pointer name (val.Word (word.Pointer p)) (word.Pointer p) s h refl
 
 pub cast_gives : (w : Setting) (name : Bytes) (to : CastType) (x : Word) (z : ℤ) (s : State)
     → value_of (local_named name s.locals) ≡ Some (val.Word x) → integer_of_word x ≡ Some z → eval w (expr.Cast (expr.Local name) to) s ≡ Done (val.Value (cast_integer to z)) s
 unfolding cast_to
 cast_gives w name to x z s h k =
     ap (λ act. act s) (eval-cast w (expr.Local name) to)
-    ∙ ap (λ o. and_then o (λ v. or_stop (stuck w) (cast_to to v))) (local_gives w name (val.Word x) s h)
+    ∙ ap (λ o. and_then o (λ v. or_stop (stuck w) (cast_to to v))) (local_gives w name (val.Word x) s h refl)
     ∙ ap (λ o. or_stop (stuck w) (option_map (λ z. val.Value (cast_integer to z)) o) s) k
 
 pub bool_gives : (w : Setting) (e : Expr) (v : Val) (x : Word) (s : State) → eval w e s ≡ Done v s → word_of_bool v ≡ Some x → eval w (expr.I32FromBool e) s ≡ Done (val.Word x) s
@@ -93,18 +147,27 @@ bool_gives w e v x s h k =
     ∙ ap (λ o. and_then o (λ v. or_stop (stuck w) (option_map val.Word (word_of_bool v)))) h
     ∙ ap (λ o. or_stop (stuck w) (option_map val.Word o) s) k
 
+converts : (w : Setting) (i : RuntimeItem) (v : Val) (x : Word) (s : State) → converted i v ≡ Some x → apply_item w i v s ≡ Done (val.Word x) s
+unfolding converted
+converts w StringLift v x s e = absurd (cc)
+converts w i v x s e = ap (λ o. converted_or_lifted w o (lift_of w.form i v) s) e
+
+lifts : (w : Setting) (i : RuntimeItem) (v : Val) (r : RustValue) (s : State) → converted i v ≡ None → lift_of w.form i v ≡ Some (Ok r) → apply_item w i v s ≡ Done (val.Value r) s
+lifts w StringLift v r s e f = let none : lift_of w.form StringLift v ≡ None = no_text w.form v in absurd (cc)
+lifts w i v r s e f = ap (λ o. converted_or_lifted w o (lift_of w.form i v) s) e ∙ ap (λ o. lift_act w o s) f
+
 -- a call of a function of `_rt` on one value: a conversion, or a lift
 pub runtime_gives : (w : Setting) (path : Path) (function : Bytes) (i : RuntimeItem) (v : Val) (x : Word) (s : State)
     → callee path ≡ of_runtime function → runtime_item_named w.items function ≡ Some i → converted i v ≡ Some x → call w path (v ∷ []) s ≡ Done (val.Word x) s
 unfolding call_runtime
 runtime_gives w path function i v x s c r k =
-    ap (λ k. call_callee w k (v ∷ []) s) c ∙ ap (λ o. apply_one w o (v ∷ []) s) r ∙ ap (λ o. converted_or_lifted w o (lift_of w.form i v) s) k
+    ap (λ k. call_callee w k (v ∷ []) s) c ∙ ap (λ o. apply_one w o (v ∷ []) s) r ∙ converts w i v x s k
 
 pub lift_gives : (w : Setting) (path : Path) (function : Bytes) (i : RuntimeItem) (v : Val) (r : RustValue) (s : State)
     → callee path ≡ of_runtime function → runtime_item_named w.items function ≡ Some i → converted i v ≡ None → lift_of w.form i v ≡ Some (Ok r) → call w path (v ∷ []) s ≡ Done (val.Value r) s
 unfolding call_runtime
 lift_gives w path function i v r s c n k l =
-    ap (λ k. call_callee w k (v ∷ []) s) c ∙ ap (λ o. apply_one w o (v ∷ []) s) n ∙ ap (λ o. converted_or_lifted w o (lift_of w.form i v) s) k ∙ ap (λ o. lift_act w o s) l
+    ap (λ k. call_callee w k (v ∷ []) s) c ∙ ap (λ o. apply_one w o (v ∷ []) s) n ∙ lifts w i v r s k l
 
 -- a call of a core import is recorded and then answered
 pub import_gives : (w : Setting) (path : Path) (name : Bytes) (vs : List Val) (s : State) (p : CallPoint) (ty : Option WasmType)
@@ -135,9 +198,14 @@ quiet_then {A = A} {B = B} act f h k = record { quiet = λ s. go s (act s) (h.qu
     go s (Done a t) e = (k a).quiet t ∙ e
     go s (Stopped x t) e = e
 
-pub quiet_read : (e : Stop) (name : Bytes) → Quiet (read_local e name)
-unfolding read_local
-quiet_read e name = record { quiet = λ s. (quiet_or_stop e (value_of (local_named name s.locals))).quiet s }
+quiet_used : (name : Bytes) (v : Val) (o : Option (ℕ × ℕ)) → Quiet (used name v o)
+quiet_used name v None = quiet_pure v
+quiet_used name v (Some b) = record { quiet = λ s. refl }
+
+pub quiet_use : (e : Stop) (name : Bytes) → Quiet (use_local e name)
+unfolding use_local
+quiet_use e name =
+    record { quiet = λ s. (quiet_then (or_stop e (value_of (local_named name s.locals))) (λ v. used name v (owned v)) (quiet_or_stop e (value_of (local_named name s.locals))) (λ v. quiet_used name v (owned v))).quiet s }
 
 pub quiet_bind : (name : Bytes) (v : Val) → Quiet (bind name v)
 unfolding bind
@@ -152,7 +220,7 @@ quiet_answer w ty = go w.answer
     go (answer.Value v h) = record { quiet = λ s. refl }
 
 pub quiet_local : (w : Setting) (name : Bytes) → Quiet (eval w (expr.Local name))
-quiet_local w name = subst Quiet (sym (eval-local w name)) (quiet_read (stuck w) name)
+quiet_local w name = subst Quiet (sym (eval-local w name)) (quiet_use (stuck w) name)
 
 pub quiet_cast : (w : Setting) (name : Bytes) (to : CastType) → Quiet (eval w (expr.Cast (expr.Local name) to))
 quiet_cast w name to =
@@ -171,8 +239,26 @@ quiet_apply : (w : Setting) (o : Option Word) (l : Option (Result RustValue Trap
 quiet_apply w None l = quiet_lift_act w l
 quiet_apply w (Some x) l = record { quiet = λ s. refl }
 
+quiet_tested : (w : Setting) (v : Val) (o : Option (List ℕ)) → Quiet (tested w v o)
+quiet_tested w v None = record { quiet = λ s. refl }
+quiet_tested w v (Some bytes) = go (is_utf8 bytes)
+  where
+    go : (b : Bool) → Quiet (cond b (pure v) (stop (failed w trap.Utf8)))
+    go true = record { quiet = λ s. refl }
+    go false = record { quiet = λ s. refl }
+
+quiet_lift : (w : Setting) (v : Val) (o : Option (ℕ × ℕ × Bool)) → Quiet (lift_buffer w v o)
+quiet_lift w v None = record { quiet = λ s. refl }
+quiet_lift w v (Some (address, size, false)) = record { quiet = λ s. refl }
+quiet_lift w v (Some (address, size, true)) = record { quiet = λ s. (quiet_tested w v (owned_bytes address size s)).quiet s }
+
+quiet_item : (w : Setting) (i : RuntimeItem) (v : Val) → Quiet (apply_item w i v)
+unfolding lift_text
+quiet_item w StringLift v = quiet_lift w v (buffer_of v)
+quiet_item w i v = quiet_apply w (converted i v) (lift_of w.form i v)
+
 quiet_apply_one : (w : Setting) (i : Option RuntimeItem) (vs : List Val) → Quiet (apply_one w i vs)
-quiet_apply_one w (Some i) (v ∷ []) = quiet_apply w (converted i v) (lift_of w.form i v)
+quiet_apply_one w (Some i) (v ∷ []) = quiet_item w i v
 quiet_apply_one w None vs = record { quiet = λ s. refl }
 quiet_apply_one w (Some i) [] = record { quiet = λ s. refl }
 quiet_apply_one w (Some i) (v ∷ u ∷ vs) = record { quiet = λ s. refl }
@@ -199,3 +285,38 @@ no_answer_gives w s h = ap (λ a. answer_act w None a s) h
 pub ended-calls : (o : Outcome (Option RustValue)) → (ended o).calls ≡ calls_at o
 ended-calls (Done v s) = refl
 ended-calls (Stopped e s) = refl
+
+-- the end of a scope calls nothing
+
+quiet_free : (w : Setting) (o : Option (ℕ × ℕ)) → Quiet (free_owned w o)
+unfolding free
+quiet_free w None = quiet_pure tt
+quiet_free w (Some b) = record { quiet = λ s. go s (is_owned b s) }
+  where
+    go : (s : State) (t : Bool) → calls_at {A = Unit {0}} (cond t (Done tt (without_block b s)) (Stopped (stuck w) s)) ≡ s.calls
+    go s true = refl
+    go s false = refl
+
+quiet_drops : (w : Setting) (locals : List Local) → Quiet (drop_locals w locals)
+quiet_drops w [] = quiet_pure tt
+quiet_drops w (l ∷ locals) = quiet_then (drop_locals w locals) (λ _. drop_local w l.value) (quiet_drops w locals) (λ _. quiet_free w (owned_in l.value))
+
+pub quiet_leave : (w : Setting) → Quiet (leave w)
+unfolding leave
+quiet_leave w = record { quiet = λ s. (quiet_drops w s.locals).quiet (record s { locals = [] }) }
+
+-- the answer of a body, and the end of its scope
+
+pub quiet_answers : (w : Setting) (ty : TypeExpr) (v : Val) → Quiet (answer_and_leave w ty v)
+quiet_answers w ty v =
+    quiet_then (or_stop (stuck w) (answer_of ty v)) (λ r. leave w >> pure r) (quiet_or_stop (stuck w) (answer_of ty v))
+    (λ r. quiet_then (leave w) (λ _. pure r) (quiet_leave w) (λ _. quiet_pure r))
+
+pub quiet_drop : (w : Setting) (v : Val) → Quiet (drop_value w v)
+quiet_drop w v = quiet_free w (owned v)
+
+-- where no local owns anything, nothing is freed
+pub answers_plain : (w : Setting) (ty : TypeExpr) (v : Val) (r : Option RustValue) (s : State) → answer_of ty v ≡ Some r → ArePlain s.locals → answer_and_leave w ty v s ≡ Done r (record s { locals = [] })
+unfolding leave
+answers_plain w ty v r s e p =
+    ap (λ o. and_then (or_stop (stuck w) o s) (λ r. leave w >> pure r)) e ∙ ap (λ o. and_then o (λ _. pure r)) (drops_plain w s.locals (record s { locals = [] }) p)

@@ -68,8 +68,8 @@ num_of_level (RustValue-F.Num kind z) = if is_of_kind kind z then Some (kind, z)
 num_of_level _ = None
 
 abbrev pub num_of : Val → Option (WitType × ℤ)
-num_of (val.Word _) = None
 num_of (val.Value v) = num_of_level (out-RustValue v)
+num_of _ = None
 
 -- a Unicode scalar value: a code below 0xD800, or from 0xE000 to 0x10FFFF
 abbrev pub is_scalar : ℕ → Bool
@@ -93,8 +93,8 @@ f64_of_level _ = None
 
 -- the value of the Rust side that something is
 abbrev pub seen_as : {A : Type 0} → (RustValue-F RustValue → Option A) → Val → Option A
-seen_as view (val.Word _) = None
 seen_as view (val.Value v) = view (out-RustValue v)
+seen_as view _ = None
 
 abbrev pub bool_of : Val → Option Bool
 bool_of v = seen_as bool_of_level v
@@ -113,6 +113,7 @@ integer_of_word _ = None
 abbrev pub integer_of : Val → Option ℤ
 integer_of (val.Word w) = integer_of_word w
 integer_of (val.Value v) = option_map (λ k. k.1) (num_of (val.Value v))
+integer_of (val.Area _ _) = None
 
 -- casts: a narrower type keeps the low bits, and a wider one extends by the source's sign
 
@@ -192,7 +193,7 @@ is_word_of _ _ = false
 
 abbrev pub word_of : WasmType → Val → Option Word
 word_of ty (val.Word w) = if is_word_of ty w then Some w else None
-word_of ty (val.Value v) = None
+word_of ty _ = None
 
 -- the value that a word of a printed type is: an `i32`, an `i64` and a float are core values as they are
 abbrev pub value_of_word : Primitive → Word → Option RustValue
@@ -225,19 +226,26 @@ value_as prim.Char (val.Value v) = option_map value.Char (char_of (val.Value v))
 value_as prim.F32 (val.Value v) = option_map value.F32 (f32_of_level (out-RustValue v))
 value_as prim.F64 (val.Value v) = option_map value.F64 (f64_of_level (out-RustValue v))
 value_as p (val.Value v) = option_and_then (number_as p) (num_of (val.Value v))
+value_as p (val.Area _ _) = None
 
 abbrev pub is_unit_level : RustValue-F RustValue → Bool
 is_unit_level RustValue-F.Unit = true
 is_unit_level _ = false
 
 abbrev pub is_unit : Val → Bool
-is_unit (val.Word _) = false
 is_unit (val.Value v) = is_unit_level (out-RustValue v)
+is_unit _ = false
+
+-- a text that owns its bytes
+abbrev pub text_of_level : RustValue-F RustValue → Option RustValue
+text_of_level (RustValue-F.Buffer address len true) = Some (value.Buffer address len true)
+text_of_level _ = None
 
 -- what a function of this printed type answers: no value for `()`
 abbrev pub answer_as : TypeExpr-F TypeExpr → Val → Option (Option RustValue)
 answer_as TypeExpr-F.Unit v = if is_unit v then Some None else None
 answer_as (TypeExpr-F.Primitive p) v = option_map Some (value_as p v)
+answer_as TypeExpr-F.String v = option_map Some (seen_as text_of_level v)
 answer_as _ v = None
 
 unfoldable pub answer_of : TypeExpr → Val → Option (Option RustValue)

@@ -37,7 +37,7 @@ pub record Carries (f : Function) (vs : List WitValue) (v : Option WitValue) (he
   pub done : run.stop ≡ stop.Done
   pub words : List Word
   pub call : run.calls ≡ record { target = import_target f; words = words; values = []; heap = heap } ∷ []
-  pub represents : LendsAll (param_types f) vs words
+  pub represents : LendsAll heap (param_types f) vs words
   pub gives : StandsResult f.result v run.value
   pub account : run.heap ≡ heap
   pub requests : run.requests ≡ []
@@ -47,5 +47,5 @@ pub record Carries (f : Function) (vs : List WitValue) (v : Option WitValue) (he
 pub record IsFaithful (tree : Tree) (nth : ℕ) (f : Function) : Type 0 where
   pub there : IsSome (wrapper_of tree nth)
   pub carries : (form : Form) (vs : List WitValue) (v : Option WitValue) (args : List RustValue) (heap : Heap) (choices : Choices) (a : Answer) (run : Run)
-      → import_run tree nth args heap choices a form ≡ Some run → AreValues (param_types f) vs → IsResult f.result v → StandAll (param_types f) vs args
+      → import_run tree nth args heap choices a form ≡ Some run → AreValues (param_types f) vs → IsResult f.result v → StandAll heap (param_types f) vs args
       → ((c : CallPoint) → Made c run → HonestPeer f.result v a c.heap) → Carries f vs v heap run

@@ -7,10 +7,10 @@ use Rattle.wrapper_data.specs.declared.answer.Answer.TheVariants as answer
 use Rattle.wrapper_data.specs.declared.heap.Heap.{Heap}
 use Rattle.wrapper_data.specs.declared.word.Word.{Word}
 use Rattle.wrapper_run.specs.Represents.{Takes}
-use Rattle.wrapper_run.specs.Value.{WitValue}
+use Rattle.wrapper_run.specs.Value.{WitValue, scalar}
 
 -- at a call with this heap
 abbrev pub HonestPeer : Option WitType → Option WitValue → Answer → Heap → Type 0
 HonestPeer None None a heap = a ≡ answer.Words None [] []
-HonestPeer (Some ty) (Some v) a heap = (w : Word) × (a ≡ answer.Words (Some w) [] []) × Takes ty v w
+HonestPeer (Some ty) (Some (scalar v)) a heap = (w : Word) × (a ≡ answer.Words (Some w) [] []) × Takes ty v w
 HonestPeer _ _ a heap = ⊥

@@ -2,9 +2,13 @@ pub mod Act
 pub mod Effect
 pub mod Faithful
 pub mod Honest
+pub mod Blocks
 pub mod Locals
+pub mod Memory
+pub mod Owning
 pub mod Represents
 pub mod Run
 pub mod Seen
+pub mod Setting
 pub mod StandsFor
 pub mod Value

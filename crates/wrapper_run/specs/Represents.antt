@@ -1,12 +1,14 @@
 -- Which core words represent a value: as an import's argument (lend), and as its result (take).
-use Rattle.std.specs.Prelude.{◌≡◌, ℤ, pos, unsigned_abs, List, [], ◌∷◌}
+use Rattle.std.specs.Prelude.{◌≡◌, ℕ, ℤ, pos, unsigned_abs, List, [], ◌∷◌, ◌++◌, length, Some}
 use Rattle.std.specs.Int.{w8, w16, cast_signed}
 use Rattle.wit_model.specs.declared.types.WitType.{WitType}
 use Rattle.wit_model.specs.declared.types.WitType.TheVariants as wit
 use Rattle.wrapper_data.specs.declared.word.Word.{Word}
 use Rattle.wrapper_data.specs.declared.word.Word.TheVariants as word
 use Rattle.wrapper_run.specs.Effect.{bit, low, low_i32, low_i64}
-use Rattle.wrapper_run.specs.Value.{WitValue, truth, number, f32, f64, char}
+use Rattle.wrapper_run.specs.Value.{Scalar, WitValue, truth, number, f32, f64, char, scalar, text}
+use Rattle.wrapper_run.specs.Memory.{bytes_at}
+use Rattle.wrapper_data.specs.declared.heap.Heap.{Heap}
 
 -- lend, of a number: one of up to 32 bits is extended by its own sign, or by zeros if it is unsigned
 abbrev pub LendsNumber : WitType → ℤ → Word → Type 0
@@ -21,17 +23,27 @@ LendsNumber wit.S64 v w = w ≡ word.I64 v
 LendsNumber _ v w = ⊥
 
 -- lend: a bool is 0 or 1, a float is its bits, a char is its code
-abbrev pub Lends : WitType → WitValue → Word → Type 0
+abbrev pub Lends : WitType → Scalar → Word → Type 0
 Lends ty (truth b) w = w ≡ word.I32 (bit b)
 Lends ty (number z) w = LendsNumber ty z w
 Lends ty (f32 bits) w = w ≡ word.F32 bits
 Lends ty (f64 bits) w = w ≡ word.F64 bits
 Lends ty (char c) w = w ≡ word.I32 (pos c)
 
-abbrev pub LendsAll : List WitType → List WitValue → List Word → Type 0
-LendsAll [] [] ws = ws ≡ []
-LendsAll (ty ∷ types) (v ∷ vs) ws = (w : Word) × (rest : List Word) × (ws ≡ w ∷ rest) × Lends ty v w × LendsAll types vs rest
-LendsAll _ _ ws = ⊥
+-- a text lies in one block of the heap; an empty one lies anywhere
+abbrev pub LiesAt : Heap → ℕ → List ℕ → Type 0
+LiesAt heap address [] = Unit {0}
+LiesAt heap address (b ∷ bytes) = bytes_at address (length (b ∷ bytes)) heap.blocks ≡ Some (b ∷ bytes)
+
+-- a text is an address and a length
+abbrev pub LendsWords : Heap → WitType → WitValue → List Word → Type 0
+LendsWords heap ty (scalar v) ws = (w : Word) × (ws ≡ w ∷ []) × Lends ty v w
+LendsWords heap ty (text bytes) ws = (p : ℕ) × (ws ≡ word.Pointer p ∷ word.Length (length bytes) ∷ []) × LiesAt heap p bytes
+
+abbrev pub LendsAll : Heap → List WitType → List WitValue → List Word → Type 0
+LendsAll heap [] [] ws = ws ≡ []
+LendsAll heap (ty ∷ types) (v ∷ vs) ws = (first : List Word) × (rest : List Word) × (ws ≡ first ++ rest) × LendsWords heap ty v first × LendsAll heap types vs rest
+LendsAll heap _ _ ws = ⊥
 
 -- take, of a number: it is read by the low bits of its word
 abbrev pub TakesNumber : WitType → ℤ → Word → Type 0
@@ -46,7 +58,7 @@ TakesNumber wit.S64 v w = w ≡ word.I64 v
 TakesNumber _ v w = ⊥
 
 -- take: a bool is read by the low eight bits of its word, a char by all of them
-abbrev pub Takes : WitType → WitValue → Word → Type 0
+abbrev pub Takes : WitType → Scalar → Word → Type 0
 Takes ty (truth b) w = (z : ℤ) × (w ≡ word.I32 z) × (bit b ≡ low 8 z)
 Takes ty (number z) w = TakesNumber ty z w
 Takes ty (f32 bits) w = w ≡ word.F32 bits

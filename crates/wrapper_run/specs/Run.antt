@@ -1,8 +1,10 @@
 -- What a wrapper's run is: structural over the finished tree, with an answer for the other side.
-use Rattle.std.specs.Prelude.{ℕ, zero, suc, Bool, false, List, [], ◌∷◌, ◌++◌, codes, Option, None, Some, Result, Ok, Err, option_and_then, if◌then◌else◌, find, slice_get}
+use Rattle.std.specs.Prelude.{◌+◌, ℕ, zero, suc, Bool, false, List, [], ◌∷◌, ◌++◌, codes, Option, None, Some, Result, Ok, Err, option_and_then, if◌then◌else◌, find, slice_get}
 use Rattle.std.specs.Option.{option_map, option_or}
 use Rattle.std.specs.Str.{bytes_eq}
+use Rattle.wit_model.specs.declared.size.ArchitectureSize.{ArchitectureSize}
 use Rattle.wit_model.specs.declared.size.WasmType.{WasmType}
+use Rattle.wit_model.specs.Size.{bytes_at}
 use Rattle.rust_tree.specs.declared.expr.Expr.{Expr, Expr-F, fold-Expr}
 use Rattle.rust_tree.specs.declared.item.FnItem.{FnItem}
 use Rattle.rust_tree.specs.declared.item.FnParam.{FnParam}
@@ -10,17 +12,18 @@ use Rattle.rust_tree.specs.declared.item.Item.{Item}
 use Rattle.rust_tree.specs.declared.item.Item.TheVariants as item
 use Rattle.rust_tree.specs.declared.path.Path.{Path}
 use Rattle.rust_tree.specs.declared.runtime_item.RuntimeItem.{RuntimeItem}
+use Rattle.rust_tree.specs.declared.runtime_item.RuntimeItem.TheVariants.{StringLift}
 use Rattle.rust_tree.specs.declared.stmt.Block.{Block}
 use Rattle.rust_tree.specs.declared.stmt.ImportDecl.{ImportDecl}
 use Rattle.rust_tree.specs.declared.stmt.Stmt.{Stmt}
 use Rattle.rust_tree.specs.declared.stmt.Stmt.TheVariants as stmt
+use Rattle.rust_tree.specs.declared.type_expr.TypeExpr.{TypeExpr}
 use Rattle.rust_tree.specs.Runtime.{item_name}
 use Rattle.rust_tree.specs.Tree.{Tree, wrappers_of}
 use Rattle.wrapper_data.specs.Answered.{answered}
 use Rattle.wrapper_data.specs.declared.answer.Answer.{Answer}
 use Rattle.wrapper_data.specs.declared.answer.Answer.TheVariants as answer
 use Rattle.wrapper_data.specs.declared.answer.Form.{Form}
-use Rattle.wrapper_data.specs.declared.answer.Form.TheVariants as form
 use Rattle.wrapper_data.specs.declared.choice.Choices.{Choices}
 use Rattle.wrapper_data.specs.declared.heap.Heap.{Heap}
 use Rattle.wrapper_data.specs.declared.run.CallPoint.{CallPoint}
@@ -32,34 +35,20 @@ use Rattle.wrapper_data.specs.declared.run.TrapKind.{TrapKind}
 use Rattle.wrapper_data.specs.declared.value.RustValue.{RustValue}
 use Rattle.wrapper_data.specs.declared.value.RustValue.TheVariants as value
 use Rattle.wrapper_data.specs.declared.word.Word.{Word}
+use Rattle.wrapper_data.specs.declared.word.Word.TheVariants as word
+use Rattle.wrapper_data.specs.declared.run.TrapKind.TheVariants as trap
 use Rattle.wrapper_run.specs.declared.state.Local.{Local}
 use Rattle.wrapper_run.specs.declared.state.State.{State}
-use Rattle.wrapper_run.specs.declared.state.World.{World}
+use Rattle.wrapper_run.specs.declared.owning.View.TheVariants as view_of
 use Rattle.wrapper_run.specs.declared.state.Val.{Val}
 use Rattle.wrapper_run.specs.declared.state.Val.TheVariants as val
+use Rattle.wrapper_run.specs.Setting.{Setting, failed, stuck}
+use Rattle.wrapper_run.specs.Blocks.{declare_area, drop_value, leave, lift_text, take_over}
+use Rattle.wrapper_run.specs.Memory.{loaded}
+use Rattle.wrapper_run.specs.Owning.{taken_by}
 use Rattle.wrapper_run.specs.Act.{Act, Outcome, Done, Stopped, ◌>>=◌, ◌>>◌, all, or_stop, pure, stop}
 use Rattle.wrapper_run.specs.Effect.{answer_of, cast_to, converted, is_word_of, lift_of, word_of, word_of_bool}
-use Rattle.wrapper_run.specs.Locals.{Bytes, bind, declare, import_named, local_named, read_local}
-
--- what a run does not change: the items of the file, the number of the wrapper's item, the answer of the other side, and
--- whether the code tests what comes in
-pub record Setting : Type 0 where
-  pub items : List Item
-  pub item : ℕ
-  pub answer : Answer
-  pub form : Form
-
-abbrev pub setting : World → Setting
-setting w = record { items = w.items.now; item = w.item; answer = w.answer.now; form = w.form }
-
--- what a test of incoming data ends the run with
-abbrev pub fails : Form → Stop → TrapKind → Stop
-fails form.Debug stuck kind = stop_of.Trap kind
-fails form.Release stuck kind = stuck
-
--- the code does what has no meaning
-abbrev pub stuck : Setting → Stop
-stuck w = stop_of.Stuck w.item
+use Rattle.wrapper_run.specs.Locals.{Bytes, ask_local, bind, declare, import_named, lend_local, local_named, use_local, value_of}
 
 -- names
 
@@ -145,21 +134,18 @@ call_import w name vs = λ s. (or_stop (stuck w) (call_point s name vs) >>= (λ 
 
 -- the call of a function of `_rt`
 
--- incoming data that stands for no value: the code tests for it in the debug form alone
-abbrev pub failed : Setting → TrapKind → Stop
-failed w kind = fails w.form (stuck w) kind
-
 abbrev pub lift_act : Setting → Option (Result RustValue TrapKind) → Act Val
 lift_act w None = stop (stuck w)
 lift_act w (Some (Ok v)) = pure (val.Value v)
 lift_act w (Some (Err kind)) = stop (failed w kind)
 
--- a conversion to a core value, or a lift
+-- a conversion to a core value, or a lift to a value without blocks
 abbrev pub converted_or_lifted : Setting → Option Word → Option (Result RustValue TrapKind) → Act Val
 converted_or_lifted w (Some x) lifted = pure (val.Word x)
 converted_or_lifted w None lifted = lift_act w lifted
 
 abbrev pub apply_item : Setting → RuntimeItem → Val → Act Val
+apply_item w StringLift v = lift_text w v
 apply_item w i v = converted_or_lifted w (converted i v) (lift_of w.form i v)
 
 abbrev pub apply_one : Setting → Option RuntimeItem → List Val → Act Val
@@ -179,14 +165,30 @@ call w path vs = call_callee w (callee path) vs
 
 -- expressions, statements, blocks
 
+-- a load of incoming data
+abbrev pub load_word : Setting → ArchitectureSize → WasmType → Val → Act Val
+load_word w offset ty (val.Word (word.Pointer address)) =
+    λ s. or_stop (failed w trap.Pointer) (option_map val.Word (loaded ty (address + bytes_at offset 4) s.heap.blocks)) s
+load_word w offset ty _ = stop (stuck w)
+
+-- the take-over of as many bytes as a local says
+abbrev pub take_bytes : Setting → Option Val → Val → Act Val
+take_bytes w (Some (val.Word (word.Length n))) (val.Word (word.Pointer address)) = take_over w address n
+take_bytes w _ _ = stop (stuck w)
+
 -- one level of an expression, with the acts of the expressions in it
 abbrev pub eval_step : Setting → Expr-F (Act Val) → Act Val
-eval_step w (Expr-F.Local name) = read_local (stuck w) name
-eval_step w (Expr-F.Ref name) = read_local (stuck w) name
+eval_step w (Expr-F.Local name) = use_local (stuck w) name
+eval_step w (Expr-F.Ref name) = lend_local (stuck w) name
 eval_step w (Expr-F.Cast e to) = e >>= (λ v. or_stop (stuck w) (cast_to to v))
 eval_step w (Expr-F.Call path arguments) = all arguments >>= (λ vs. call w path vs)
 eval_step w (Expr-F.I32FromBool e) = e >>= (λ v. or_stop (stuck w) (option_map val.Word (word_of_bool v)))
-eval_step w _ = stop (stuck w)
+eval_step w (Expr-F.AsPtr name) = ask_local (stuck w) view_of.TextAddress name
+eval_step w (Expr-F.Len name) = ask_local (stuck w) view_of.TextLength name
+eval_step w (Expr-F.CastMut name) = ask_local (stuck w) view_of.Pointer name
+eval_step w (Expr-F.ReturnPointer name) = ask_local (stuck w) view_of.AreaAddress name
+eval_step w (Expr-F.Load e offset ty) = e >>= load_word w offset ty
+eval_step w (Expr-F.FromRawParts e length) = e >>= (λ v. λ s. take_bytes w (value_of (local_named length s.locals)) v s)
 
 abbrev pub eval : Setting → Expr → Act Val
 eval w = fold-Expr (Act Val) (eval_step w)
@@ -194,8 +196,8 @@ eval w = fold-Expr (Act Val) (eval_step w)
 abbrev pub run_stmt : Setting → Stmt → Act (Unit {0})
 run_stmt w (stmt.Import d) = declare d
 run_stmt w (stmt.Let name e) = eval w e >>= bind name
-run_stmt w (stmt.Expr e) = eval w e >> pure tt
-run_stmt w (stmt.Area _) = stop (stuck w)
+run_stmt w (stmt.Expr e) = eval w e >>= drop_value w
+run_stmt w (stmt.Area a) = declare_area w a
 
 abbrev pub run_stmts : Setting → List Stmt → Act (Unit {0})
 run_stmts w [] = pure tt
@@ -217,8 +219,12 @@ bound_args [] args = []
 bound_args (p ∷ params) [] = []
 bound_args (p ∷ params) (a ∷ args) = record { name = p.name; value = Some (val.Value a) } ∷ bound_args params args
 
+-- the locals are dropped once the value is there
+abbrev pub answer_and_leave : Setting → TypeExpr → Val → Act (Option RustValue)
+answer_and_leave w ty v = or_stop (stuck w) (answer_of ty v) >>= (λ r. leave w >> pure r)
+
 abbrev pub run_fn : Setting → FnItem → Act (Option RustValue)
-run_fn w f = run_block w f.body >>= (λ v. or_stop (stuck w) (answer_of f.result v))
+run_fn w f = run_block w f.body >>= answer_and_leave w f.result
 
 abbrev pub start : FnItem → List RustValue → Heap → Choices → State
 start f args heap choices = record {
@@ -228,6 +234,7 @@ start f args heap choices = record {
   choices = choices.list;
   requests = [];
   calls = [];
+  taken = taken_by args;
 }
 
 -- the run that ends at a state

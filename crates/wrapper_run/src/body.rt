@@ -3,7 +3,9 @@
 ghost use Rattle.std.specs.Prelude.{◌≡◌};
 ghost use Rattle.wrapper_run.specs.Act.{Runs};
 ghost use Rattle.wrapper_run.specs.Run as spec;
+ghost use Rattle.wrapper_run.specs.Setting.{setting};
 
+use crate::blocks::{declare_area, drop_value};
 use crate::eval::eval;
 use crate::locals::{bind, declare};
 use crate::state::{Halt, State, Val, World};
@@ -12,7 +14,7 @@ use std::alloc::Global;
 use wrapper_data::RustValue;
 
 fn run_stmt(alloc: Global, world: &World, state: &mut State, s: &Stmt) -> Result<(), Halt>
-    ensures { Runs (spec.run_stmt (spec.setting world.now) s.now state.old) result state.new }
+    ensures { Runs (spec.run_stmt (setting world.now) s.now state.old) result state.new }
 {
     match s {
         Stmt::Import(d) => declare(alloc, state, d),
@@ -21,15 +23,15 @@ fn run_stmt(alloc: Global, world: &World, state: &mut State, s: &Stmt) -> Result
             bind(alloc, state, name, v)
         }
         Stmt::Expr(e) => {
-            eval(alloc, world, state, e)?;
-            Ok(())
+            let v = eval(alloc, world, state, e)?;
+            drop_value(alloc, world, state, &v)
         }
-        Stmt::Area(_) => Err(Halt::Stopped(world.stuck())),
+        Stmt::Area(a) => declare_area(alloc, world, state, a),
     }
 }
 
 fn run_stmts(alloc: Global, world: &World, state: &mut State, stmts: &[Stmt]) -> Result<(), Halt>
-    ensures { Runs (spec.run_stmts (spec.setting world.now) stmts.now state.old) result state.new }
+    ensures { Runs (spec.run_stmts (setting world.now) stmts.now state.old) result state.new }
 {
     for s in stmts {
         run_stmt(alloc, world, state, s)?;
@@ -43,7 +45,7 @@ fn run_tail(
     state: &mut State,
     tail: &Option<Expr>,
 ) -> Result<Val, Halt>
-    ensures { Runs (spec.run_tail (spec.setting world.now) tail.now state.old) result state.new }
+    ensures { Runs (spec.run_tail (setting world.now) tail.now state.old) result state.new }
 {
     match tail {
         None => Ok(Val::Value(RustValue::Unit)),
@@ -58,7 +60,7 @@ pub(crate) fn run_block(
     state: &mut State,
     b: &Block,
 ) -> Result<Val, Halt>
-    ensures { Runs (spec.run_block (spec.setting world.now) b.now state.old) result state.new }
+    ensures { Runs (spec.run_block (setting world.now) b.now state.old) result state.new }
 {
     run_stmts(alloc, world, state, b.stmts.as_slice())?;
     run_tail(alloc, world, state, &b.tail)

@@ -4,10 +4,13 @@ ghost use Rattle.std.specs.Prelude.{◌≡◌, ◌++◌, IfOk, OnOk, Some, None,
 ghost use Rattle.std.specs.Option.{option_map};
 ghost use Rattle.wrapper_data.specs.Answered.{answered};
 ghost use Rattle.wrapper_run.specs.Act.{Runs};
+ghost use Rattle.wrapper_run.specs.Effect as effect;
 ghost use Rattle.wrapper_run.specs.Effect.{is_word_of, word_of};
 ghost use Rattle.wrapper_run.specs.Run as spec;
+ghost use Rattle.wrapper_run.specs.Setting.{setting};
 ghost use Rattle.wrapper_run.specs.Seen.{seen};
 
+use crate::blocks::lift_text;
 use crate::effect::{converted, lift_of};
 use crate::locals::{import_named, local_named};
 use crate::state::{Halt, State, Val, World};
@@ -38,7 +41,7 @@ fn word_of(ty: WasmType, v: &Val) -> Option<Word>
 {
     match v {
         Val::Word(w) => { if is_word_of(ty, *w) { Some(*w) } else { None } }
-        Val::Value(_) => None,
+        _ => None,
     }
 }
 
@@ -156,7 +159,7 @@ fn lift_act(
     state: &State,
     lifted: Option<Result<RustValue, TrapKind>>,
 ) -> Result<Val, Halt>
-    ensures { Runs (spec.lift_act (spec.setting world.now) lifted state.now) result state.now }
+    ensures { Runs (spec.lift_act (setting world.now) lifted state.now) result state.now }
 {
     match lifted {
         None => Err(Halt::Stopped(world.stuck())),
@@ -165,9 +168,9 @@ fn lift_act(
     }
 }
 
-/// Applies a function of `_rt` to a value.
-fn apply_item(world: &World, state: &State, item: RuntimeItem, v: &Val) -> Result<Val, Halt>
-    ensures { Runs (spec.apply_item (spec.setting world.now) item v.now state.now) result state.now }
+/// A conversion to a core value, or a lift to a value without blocks.
+fn convert_or_lift(world: &World, state: &State, item: RuntimeItem, v: &Val) -> Result<Val, Halt>
+    ensures { Runs (spec.converted_or_lifted (setting world.now) (effect.converted item v.now) (effect.lift_of world.now.form item v.now) state.now) result state.now }
 {
     match converted(item, v) {
         Some(w) => Ok(Val::Word(w)),
@@ -175,13 +178,35 @@ fn apply_item(world: &World, state: &State, item: RuntimeItem, v: &Val) -> Resul
     }
 }
 
+/// Applies a function of `_rt` to a value.
+fn apply_item(
+    alloc: Global,
+    world: &World,
+    state: &State,
+    item: RuntimeItem,
+    v: &Val,
+) -> Result<Val, Halt>
+    ensures { Runs (spec.apply_item (setting world.now) item v.now state.now) result state.now }
+{
+    match item {
+        RuntimeItem::StringLift => lift_text(alloc, world, state, v),
+        _ => convert_or_lift(world, state, item, v),
+    }
+}
+
 /// Calls a function of `_rt`.
 #[tactic(auto, unfolding(crate::specs::Run::call_runtime))]
-fn call_runtime(world: &World, state: &State, name: &Text, vs: &[Val]) -> Result<Val, Halt>
-    ensures { Runs (spec.call_runtime (spec.setting world.now) name.now vs.now state.now) result state.now }
+fn call_runtime(
+    alloc: Global,
+    world: &World,
+    state: &State,
+    name: &Text,
+    vs: &[Val],
+) -> Result<Val, Halt>
+    ensures { Runs (spec.call_runtime (setting world.now) name.now vs.now state.now) result state.now }
 {
     match (runtime_item_named(world.items, name.as_str()), vs) {
-        (Some(item), [v]) => apply_item(world, state, item, v),
+        (Some(item), [v]) => apply_item(alloc, world, state, item, v),
         _ => Err(Halt::Stopped(world.stuck())),
     }
 }
@@ -216,7 +241,7 @@ fn take_answer(
     state: &mut State,
     ty: Option<WasmType>,
 ) -> Result<Val, Halt>
-    ensures { Runs (spec.take_answer (spec.setting world.now) ty state.old) result state.new }
+    ensures { Runs (spec.take_answer (setting world.now) ty state.old) result state.new }
 {
     match world.answer {
         Answer::Value { .. } => Err(Halt::Stopped(world.stuck())),
@@ -258,7 +283,7 @@ fn call_import(
     name: &Text,
     vs: &[Val],
 ) -> Result<Val, Halt>
-    ensures { Runs (spec.call_import (spec.setting world.now) name.now vs.now state.old) result state.new }
+    ensures { Runs (spec.call_import (setting world.now) name.now vs.now state.old) result state.new }
 {
     match call_point(alloc, state, name, vs)? {
         None => Err(Halt::Stopped(world.stuck())),
@@ -277,11 +302,11 @@ pub(crate) fn call(
     path: &Path,
     vs: &[Val],
 ) -> Result<Val, Halt>
-    ensures { Runs (spec.call (spec.setting world.now) path.now vs.now state.old) result state.new }
+    ensures { Runs (spec.call (setting world.now) path.now vs.now state.old) result state.new }
 {
     match callee_of(path) {
         Callee::Alone(name) => call_import(alloc, world, state, name, vs),
-        Callee::Runtime(name) => call_runtime(world, state, name, vs),
+        Callee::Runtime(name) => call_runtime(alloc, world, state, name, vs),
         Callee::Unknown => Err(Halt::Stopped(world.stuck())),
     }
 }

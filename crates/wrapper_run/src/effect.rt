@@ -36,7 +36,6 @@ fn num_of(v: &Val) -> Option<(WitType, i128)>
     ensures { result ≡ spec.num_of v.now }
 {
     match v {
-        Val::Word(_) => None,
         Val::Value(RustValue::Num(kind, z)) => {
             if is_of_kind(*kind, *z) {
                 Some((*kind, *z))
@@ -44,7 +43,7 @@ fn num_of(v: &Val) -> Option<(WitType, i128)>
                 None
             }
         }
-        Val::Value(_) => None,
+        _ => None,
     }
 }
 
@@ -111,6 +110,7 @@ fn integer_of(v: &Val) -> Option<i128>
             None => None,
             Some((_, z)) => Some(z),
         },
+        Val::Area(_, _) => None,
     }
 }
 
@@ -317,6 +317,27 @@ fn value_as(p: Primitive, v: &Val) -> Option<RustValue>
             Primitive::F64 => Some(RustValue::F64(f64_of(v)?)),
             _ => number_in(p, v),
         },
+        Val::Area(_, _) => None,
+    }
+}
+
+/// A text that owns its bytes.
+fn text_of(v: &Val) -> Option<RustValue>
+    ensures { result ≡ spec.seen_as spec.text_of_level v.now }
+{
+    match v {
+        Val::Value(
+            RustValue::Buffer {
+                address,
+                len,
+                owned: true,
+            },
+        ) => Some(RustValue::Buffer {
+            address: *address,
+            len: *len,
+            owned: true,
+        }),
+        _ => None,
     }
 }
 
@@ -324,9 +345,8 @@ fn is_unit(v: &Val) -> bool
     ensures { result ≡ spec.is_unit v.now }
 {
     match v {
-        Val::Word(_) => false,
         Val::Value(RustValue::Unit) => true,
-        Val::Value(_) => false,
+        _ => false,
     }
 }
 
@@ -341,6 +361,7 @@ pub(crate) fn answer_of(ty: &TypeExpr, v: &Val) -> Option<Option<RustValue>>
             None => None,
             Some(value) => Some(Some(value)),
         },
+        TypeExpr::String => Some(Some(text_of(v)?)),
         _ => None,
     }
 }

@@ -4,19 +4,25 @@ ghost use Rattle.std.specs.Prelude.{◌≡◌, map};
 ghost use Rattle.std.specs.Option.{option_map};
 ghost use Rattle.wrapper_run.specs.Act.{Runs, all, or_stop};
 ghost use Rattle.wrapper_run.specs.Effect as effect;
+ghost use Rattle.wrapper_run.specs.Locals.{local_named, value_of};
 ghost use Rattle.wrapper_run.specs.Run as spec;
+ghost use Rattle.wrapper_run.specs.Setting.{setting, stuck};
 ghost use Rattle.wrapper_run.specs.declared.state.Val.TheVariants as val;
 
+use crate::blocks::{at_four, take_over};
 use crate::call::call;
 use crate::effect::{self, cast_to};
-use crate::locals::read_local;
+use crate::locals::{ask_local, lend_local, use_local, value_named};
+use crate::memory::loaded;
+use crate::owning::View;
 use crate::state::{Halt, State, Val, World};
 use rust_tree::{CastType, Expr};
 use std::alloc::Global;
-use wit_model::List;
+use wit_model::{ArchitectureSize, List, Text, WasmType};
+use wrapper_data::{TrapKind, Word};
 
 fn word_of_bool(world: &World, state: &State, v: &Val) -> Result<Val, Halt>
-    ensures { Runs (or_stop (spec.stuck (spec.setting world.now)) (option_map val.Word (effect.word_of_bool v.now)) state.now) result state.now }
+    ensures { Runs (or_stop (stuck (setting world.now)) (option_map val.Word (effect.word_of_bool v.now)) state.now) result state.now }
 {
     match effect::word_of_bool(v) {
         None => Err(Halt::Stopped(world.stuck())),
@@ -25,7 +31,7 @@ fn word_of_bool(world: &World, state: &State, v: &Val) -> Result<Val, Halt>
 }
 
 fn cast(world: &World, state: &State, to: CastType, v: &Val) -> Result<Val, Halt>
-    ensures { Runs (or_stop (spec.stuck (spec.setting world.now)) (effect.cast_to to v.now) state.now) result state.now }
+    ensures { Runs (or_stop (stuck (setting world.now)) (effect.cast_to to v.now) state.now) result state.now }
 {
     match cast_to(to, v) {
         None => Err(Halt::Stopped(world.stuck())),
@@ -33,14 +39,61 @@ fn cast(world: &World, state: &State, to: CastType, v: &Val) -> Result<Val, Halt
     }
 }
 
+/// A core value at an offset from an address.
+fn load_word(
+    alloc: Global,
+    world: &World,
+    state: &State,
+    offset: &ArchitectureSize,
+    ty: WasmType,
+    v: &Val,
+) -> Result<Val, Halt>
+    ensures { Runs (spec.load_word (setting world.now) offset.now ty v.now state.now) result state.now }
+{
+    match v {
+        Val::Word(Word::Pointer(address)) => {
+            let address = u128::from(*address) + at_four(offset);
+            match loaded(alloc, ty, address, state.heap.blocks.as_slice())? {
+                None => Err(Halt::Stopped(world.failed(TrapKind::Pointer))),
+                Some(w) => Ok(Val::Word(w)),
+            }
+        }
+        _ => Err(Halt::Stopped(world.stuck())),
+    }
+}
+
+/// The take-over of as many bytes as a local says.
+fn take_bytes(
+    alloc: Global,
+    world: &World,
+    state: &mut State,
+    length: &Text,
+    v: &Val,
+) -> Result<Val, Halt>
+    ensures { Runs (spec.take_bytes (setting world.now) (value_of (local_named length.now state.old.locals)) v.now state.old) result state.new }
+{
+    let size = match value_named(state, length) {
+        Some(Val::Word(Word::Length(n))) => *n,
+        _ => return Err(Halt::Stopped(world.stuck())),
+    };
+    match v {
+        Val::Word(Word::Pointer(address)) => take_over(alloc, world, state, *address, size),
+        _ => Err(Halt::Stopped(world.stuck())),
+    }
+}
+
 /// Computes an expression.
 #[cycle(eval)]
 pub(crate) fn eval(alloc: Global, world: &World, state: &mut State, e: &Expr) -> Result<Val, Halt>
-    ensures { Runs (spec.eval (spec.setting world.now) e.now state.old) result state.new }
+    ensures { Runs (spec.eval (setting world.now) e.now state.old) result state.new }
 {
     match e {
-        Expr::Local(name) => read_local(alloc, world.stuck(), state, name),
-        Expr::Ref(name) => read_local(alloc, world.stuck(), state, name),
+        Expr::Local(name) => use_local(alloc, world.stuck(), state, name),
+        Expr::Ref(name) => lend_local(alloc, world.stuck(), state, name),
+        Expr::AsPtr(name) => ask_local(world.stuck(), state, View::TextAddress, name),
+        Expr::Len(name) => ask_local(world.stuck(), state, View::TextLength, name),
+        Expr::CastMut(name) => ask_local(world.stuck(), state, View::Pointer, name),
+        Expr::ReturnPointer(name) => ask_local(world.stuck(), state, View::AreaAddress, name),
         Expr::Cast(e, to) => {
             let v = eval(alloc, world, state, e.get())?;
             cast(world, state, *to, &v)
@@ -53,13 +106,20 @@ pub(crate) fn eval(alloc: Global, world: &World, state: &mut State, e: &Expr) ->
             let v = eval(alloc, world, state, e.get())?;
             word_of_bool(world, state, &v)
         }
-        _ => Err(Halt::Stopped(world.stuck())),
+        Expr::Load(e, offset, ty) => {
+            let v = eval(alloc, world, state, e.get())?;
+            load_word(alloc, world, state, offset, *ty, &v)
+        }
+        Expr::FromRawParts(e, length) => {
+            let v = eval(alloc, world, state, e.get())?;
+            take_bytes(alloc, world, state, length, &v)
+        }
     }
 }
 
 #[cycle(eval)]
 fn eval_all(alloc: Global, world: &World, state: &mut State, es: &[Expr]) -> Result<List<Val>, Halt>
-    ensures { Runs (all (map (spec.eval (spec.setting world.now)) es.now) state.old) result state.new }
+    ensures { Runs (all (map (spec.eval (setting world.now)) es.now) state.old) result state.new }
 {
     let mut vs = List::new(alloc);
     for e in es {

@@ -1,11 +1,14 @@
 //! The statement machine: runs of wrappers, over the finished tree.
 #![tactic(auto)]
 
+mod blocks;
 mod body;
 mod call;
 mod effect;
 mod eval;
 mod locals;
+mod memory;
+mod owning;
 mod run;
 mod state;
 #[cfg(test)]

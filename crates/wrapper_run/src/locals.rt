@@ -1,27 +1,17 @@
 //! What a name stands for in a state.
 
-ghost use Rattle.std.specs.Prelude.{◌≡◌, IfOk};
+ghost use Rattle.std.specs.Prelude.{◌≡◌, IfOk, OnOk};
 ghost use Rattle.std.specs.Option.{option_copied};
 ghost use Rattle.wrapper_run.specs.Act.{Runs};
 ghost use Rattle.wrapper_run.specs.Locals as spec;
 
+use crate::owning::View;
 use crate::state::{Halt, Local, State, Val};
 use rust_tree::ImportDecl;
 use std::alloc::Global;
+use std::mem;
 use wit_model::{List, OutOfMemory, Text, WasmType};
 use wrapper_data::Stop;
-
-impl Val {
-    /// An equal value.
-    pub(crate) fn copy(&self, alloc: Global) -> Result<Val, OutOfMemory>
-        ensures { IfOk result (λ v. v ≡ self.now) }
-    {
-        match self {
-            Val::Word(word) => Ok(Val::Word(*word)),
-            Val::Value(value) => Ok(Val::Value(value.copy(alloc)?)),
-        }
-    }
-}
 
 /// The newest local of a name.
 pub(crate) fn local_named<'a>(locals: &'a [Local], name: &str) -> Option<&'a Local>
@@ -49,21 +39,97 @@ pub(crate) fn import_named<'a>(imports: &'a [ImportDecl], name: &str) -> Option<
     found
 }
 
-/// The value of a local, which is lent or copied.
-#[tactic(auto, unfolding(crate::specs::Locals::read_local))]
-pub(crate) fn read_local(
+/// The value of a local, if it is there and was not moved.
+pub(crate) fn value_named<'a>(state: &'a State, name: &Text) -> Option<&'a Val>
+    ensures { option_copied result ≡ spec.value_of (spec.local_named name.now state.now.locals) }
+{
+    match local_named(state.locals.as_slice(), name.as_str()) {
+        None => None,
+        Some(l) => l.value.as_ref(),
+    }
+}
+
+/// Takes the value out of the newest local of a name.
+#[tactic(auto, using(crate::proofs::LocalLemmas::moved_last, crate::proofs::LocalLemmas::moved_other))]
+fn move_out(locals: &mut Vec<Local>, name: &str) -> Result<(), OutOfMemory>
+    ensures { OnOk result (locals.new.items ≡ spec.moved name.now locals.old.items) }
+{
+    match locals.pop() {
+        None => Ok(()),
+        Some(l) => {
+            if l.name.as_str() == name {
+                locals.push(Local {
+                    name: l.name,
+                    value: None,
+                })?;
+            } else {
+                move_out(locals, name)?;
+                locals.push(l)?;
+            }
+            Ok(())
+        }
+    }
+}
+
+fn move_local(alloc: Global, state: &mut State, name: &Text) -> Result<(), OutOfMemory>
+    ensures { OnOk result
+        (state.new ≡ record state.old { locals = spec.moved name.now state.old.locals }) }
+{
+    let mut locals = mem::replace(&mut state.locals, List::new(alloc)).into_vec();
+    move_out(&mut locals, name.as_str())?;
+    state.locals = List::from_vec(locals);
+    Ok(())
+}
+
+/// The value of a local that is used: one that owns a block is moved.
+#[tactic(auto, unfolding(crate::specs::Locals::use_local))]
+pub(crate) fn use_local(
+    alloc: Global,
+    stuck: Stop,
+    state: &mut State,
+    name: &Text,
+) -> Result<Val, Halt>
+    ensures { Runs (spec.use_local stuck name.now state.old) result state.new }
+{
+    let value = match value_named(state, name) {
+        None => return Err(Halt::Stopped(stuck)),
+        Some(value) => value.copy(alloc)?,
+    };
+    if value.owned().is_some() {
+        move_local(alloc, state, name)?;
+    }
+    Ok(value)
+}
+
+/// The value of a local behind a reference.
+#[tactic(auto, unfolding(crate::specs::Locals::lend_local))]
+pub(crate) fn lend_local(
     alloc: Global,
     stuck: Stop,
     state: &State,
     name: &Text,
 ) -> Result<Val, Halt>
-    ensures { Runs (spec.read_local stuck name.now state.now) result state.now }
+    ensures { Runs (spec.lend_local stuck name.now state.now) result state.now }
 {
-    match local_named(state.locals.as_slice(), name.as_str()) {
+    match value_named(state, name) {
         None => Err(Halt::Stopped(stuck)),
-        Some(l) => match &l.value {
+        Some(value) => match value.lent(alloc)? {
             None => Err(Halt::Stopped(stuck)),
-            Some(value) => Ok(value.copy(alloc)?),
+            Some(lent) => Ok(lent),
+        },
+    }
+}
+
+/// What a method tells of a local's value.
+#[tactic(auto, unfolding(crate::specs::Locals::ask_local))]
+pub(crate) fn ask_local(stuck: Stop, state: &State, view: View, name: &Text) -> Result<Val, Halt>
+    ensures { Runs (spec.ask_local stuck view name.now state.now) result state.now }
+{
+    match value_named(state, name) {
+        None => Err(Halt::Stopped(stuck)),
+        Some(value) => match view.of(value) {
+            None => Err(Halt::Stopped(stuck)),
+            Some(w) => Ok(Val::Word(w)),
         },
     }
 }

@@ -2,9 +2,12 @@ ghost use Rattle.std.specs.Prelude.{◌≡◌, ◌++◌, ◌<◌, IfOk, IsSome, 
 ghost use Rattle.std.specs.Option.{option_copied};
 ghost use Rattle.wrapper_run.specs.Act.{Runs};
 ghost use Rattle.wrapper_run.specs.Run as spec;
+ghost use Rattle.wrapper_run.specs.Setting.{setting};
 
+use crate::blocks::leave;
 use crate::body::run_block;
 use crate::effect::answer_of;
+use crate::owning::taken_by;
 use crate::state::{Halt, Local, State, Val, World};
 use rust_tree::{Bindings, FnItem, FnParam, Item, WrapperId};
 use std::alloc::Global;
@@ -65,6 +68,7 @@ fn start(
         choices: copy_choices(alloc, choices)?,
         requests: List::new(alloc),
         calls: List::new(alloc),
+        taken: taken_by(alloc, args.as_slice())?,
     })
 }
 
@@ -74,13 +78,15 @@ fn run_fn(
     state: &mut State,
     f: &FnItem,
 ) -> Result<Option<RustValue>, Halt>
-    ensures { Runs (spec.run_fn (spec.setting world.now) f.now state.old) result state.new }
+    ensures { Runs (spec.run_fn (setting world.now) f.now state.old) result state.new }
 {
     let v = run_block(alloc, world, state, &f.body)?;
-    match answer_of(&f.result, &v) {
-        None => Err(Halt::Stopped(world.stuck())),
-        Some(answer) => Ok(answer),
-    }
+    let answer = match answer_of(&f.result, &v) {
+        None => return Err(Halt::Stopped(world.stuck())),
+        Some(answer) => answer,
+    };
+    leave(alloc, world, state)?;
+    Ok(answer)
 }
 
 fn ended(alloc: Global, state: State, stop: Stop, value: Option<RustValue>) -> Run
@@ -93,6 +99,7 @@ fn ended(alloc: Global, state: State, stop: Stop, value: Option<RustValue>) -> R
         choices: _,
         requests,
         calls,
+        taken: _,
     } = state;
     Run {
         stop,
@@ -115,7 +122,7 @@ fn run_item(
     choices: &Choices,
 ) -> Result<Run, OutOfMemory>
     ensures { IfOk result
-        (λ run. run ≡ spec.run_item (spec.setting world.now) f.now args.now heap.now choices.now) }
+        (λ run. run ≡ spec.run_item (setting world.now) f.now args.now heap.now choices.now) }
 {
     let mut state = start(alloc, f, args, heap, choices)?;
     match run_fn(alloc, world, &mut state, f) {

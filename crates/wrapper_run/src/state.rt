@@ -18,7 +18,7 @@ pub(crate) struct World<'a> {
 
 impl World<'_> {
     ghost use Rattle.std.specs.Prelude.{◌≡◌};
-    ghost use Rattle.wrapper_run.specs.Run.{failed, setting, stuck};
+    ghost use Rattle.wrapper_run.specs.Setting.{failed, setting, stuck};
 
     /// The stop where the code does what has no meaning.
     pub(crate) fn stuck(&self) -> Stop
@@ -38,11 +38,12 @@ impl World<'_> {
     }
 }
 
-/// What a local holds: a core word, or a value of the Rust side.
+/// What a local holds: a core word, a value of the Rust side, or a return area by its address and its size in bytes.
 #[derive(Debug, PartialEq, Drop)]
 pub enum Val {
     Word(Word),
     Value(RustValue),
+    Area(u32, u32),
 }
 
 /// A local, by its name. One that was moved has no value.
@@ -64,6 +65,8 @@ pub struct State {
     pub choices: List<Choice>,
     pub requests: List<Request>,
     pub calls: List<CallPoint>,
+    /// The addresses of the blocks that an owner has: a text that owns its bytes, or a return area.
+    pub taken: List<u32>,
 }
 
 /// Why the machine does not go on: the run is stopped, or the machine itself has no memory.

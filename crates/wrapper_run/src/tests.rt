@@ -3,3 +3,4 @@
 mod made;
 mod runs;
 mod scalars;
+mod texts;

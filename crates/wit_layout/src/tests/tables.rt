@@ -14,7 +14,7 @@ pub fn docs() -> Docs {
     Docs { contents: None }
 }
 
-fn no_name(alloc: Global) -> Name {
+pub fn no_name(alloc: Global) -> Name {
     Name {
         wit: Text::new(alloc),
         snake: Text::new(alloc),

@@ -54,7 +54,6 @@ fn casts_to_wider_slots(rt: HostRuntime) {
     assert_eq!(rt; cast(Length, Pointer), Bitcast::LToP);
     assert_eq!(rt; cast(I32, Length), Bitcast::I32ToL);
     assert_eq!(rt; cast(Length, I64), Bitcast::LToI64);
-    assert_eq!(rt; cast(I32, I32), Bitcast::None);
 }
 
 #[test]
@@ -71,42 +70,43 @@ fn casts_back_from_wider_slots(rt: HostRuntime) {
     assert_eq!(rt; cast(Pointer, Length), Bitcast::PToL);
 }
 
+const fn sequence(from: WasmType, through: WasmType, to: WasmType) -> Bitcast {
+    Bitcast::Sequence { from, through, to }
+}
+
 #[test]
 fn casts_in_two_steps(rt: HostRuntime) {
-    let words = cast(F32, Pointer);
+    assert_eq!(rt; cast(F32, Pointer), sequence(F32, I32, Pointer));
+    assert_eq!(rt; cast(F32, Length), sequence(F32, I32, Length));
+    assert_eq!(rt; cast(I32, PointerOrI64), sequence(I32, I64, PointerOrI64));
+    assert_eq!(rt; cast(F32, PointerOrI64), sequence(F32, I64, PointerOrI64));
+    assert_eq!(rt; cast(F64, PointerOrI64), sequence(F64, I64, PointerOrI64));
     assert_eq!(rt;
-        words,
-        Bitcast::Sequence {
-            from: F32,
-            through: I32,
-            to: Pointer
-        }
+        cast(Length, PointerOrI64),
+        sequence(Length, I64, PointerOrI64)
     );
-    let back = cast(Length, F32);
+}
+
+#[test]
+fn casts_back_in_two_steps(rt: HostRuntime) {
+    assert_eq!(rt; cast(Pointer, F32), sequence(Pointer, I32, F32));
+    assert_eq!(rt; cast(Length, F32), sequence(Length, I32, F32));
+    assert_eq!(rt; cast(PointerOrI64, I32), sequence(PointerOrI64, I64, I32));
+    assert_eq!(rt; cast(PointerOrI64, F32), sequence(PointerOrI64, I64, F32));
+    assert_eq!(rt; cast(PointerOrI64, F64), sequence(PointerOrI64, I64, F64));
     assert_eq!(rt;
-        back,
-        Bitcast::Sequence {
-            from: Length,
-            through: I32,
-            to: F32
-        }
+        cast(PointerOrI64, Length),
+        sequence(PointerOrI64, I64, Length)
     );
-    let wide = cast(Length, PointerOrI64);
-    assert_eq!(rt;
-        wide,
-        Bitcast::Sequence {
-            from: Length,
-            through: I64,
-            to: PointerOrI64
-        }
-    );
-    let narrow = cast(PointerOrI64, F64);
-    assert_eq!(rt;
-        narrow,
-        Bitcast::Sequence {
-            from: PointerOrI64,
-            through: I64,
-            to: F64
-        }
-    );
+}
+
+#[test]
+fn casts_to_the_same_type(rt: HostRuntime) {
+    assert_eq!(rt; cast(I32, I32), Bitcast::None);
+    assert_eq!(rt; cast(I64, I64), Bitcast::None);
+    assert_eq!(rt; cast(F32, F32), Bitcast::None);
+    assert_eq!(rt; cast(F64, F64), Bitcast::None);
+    assert_eq!(rt; cast(Pointer, Pointer), Bitcast::None);
+    assert_eq!(rt; cast(PointerOrI64, PointerOrI64), Bitcast::None);
+    assert_eq!(rt; cast(Length, Length), Bitcast::None);
 }

@@ -143,6 +143,7 @@ pub(crate) fn file(alloc: Global, f: FnItem) -> Result<Bindings, OutOfMemory>
         RuntimeItem::AsF64,
         RuntimeItem::BoolLift,
         RuntimeItem::CharLift,
+        RuntimeItem::StringLift,
     ]?);
     items.push(Item::Runtime(parts))?;
     let mut places = List::new(alloc);

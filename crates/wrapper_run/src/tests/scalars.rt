@@ -9,17 +9,17 @@ use std::process::Abort;
 use std::test::Fail;
 use wit_model::{Boxed, List, OutOfMemory, Text, WasmType};
 
-fn local(alloc: Global, name: &str) -> Result<Expr, OutOfMemory> {
+pub(crate) fn local(alloc: Global, name: &str) -> Result<Expr, OutOfMemory> {
     Ok(Expr::Local(Text::from_str(alloc, name)?))
 }
 
-fn call(alloc: Global, names: &[&str], argument: Expr) -> Result<Expr, OutOfMemory> {
+pub(crate) fn call(alloc: Global, names: &[&str], argument: Expr) -> Result<Expr, OutOfMemory> {
     let mut arguments = List::new(alloc);
     arguments.push(argument)?;
     Ok(Expr::Call(path(alloc, names)?, arguments))
 }
 
-fn set(alloc: Global, name: &str, e: Expr) -> Result<Stmt, OutOfMemory> {
+pub(crate) fn set(alloc: Global, name: &str, e: Expr) -> Result<Stmt, OutOfMemory> {
     Ok(Stmt::Let(Text::from_str(alloc, name)?, e))
 }
 

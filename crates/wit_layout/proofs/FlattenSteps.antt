@@ -1,0 +1,158 @@
+-- On the ways down from a type, each part has a lower place in the table; and which words a type has by its kind.
+use Rattle.std.proofs.Common.{◌≡◌, ℕ, ◌+◌, ◌≤◌, ◌<◌, ◌⊎◌, ⊎_elim, true, List, [], ◌∷◌, ◌++◌, length, take, Option, None, Some, refl, sym, ap, ◌∙◌, arith}
+use Rattle.std.specs.List.{slice_get}
+use Rattle.std.proofs.lemmas.Grind.{common_steps}
+use borrow.Author.Tests.{ltb-true}
+use Rattle.wit_model.specs.declared.size.WasmType.{WasmType}
+use Rattle.wit_model.specs.declared.size.WasmType.TheVariants.{I32}
+use Rattle.wit_model.specs.declared.types.Handle.{Handle}
+use Rattle.wit_model.specs.declared.types.Field.{Field}
+use Rattle.wit_model.specs.declared.types.Case.{Case}
+use Rattle.wit_model.specs.declared.types.Member.{Member}
+use Rattle.wit_model.specs.declared.types.WitType.{WitType}
+use Rattle.wit_model.specs.declared.types.WitType.TheVariants as wit
+use Rattle.wit_model.specs.declared.types.TypeDefKind.{TypeDefKind}
+use Rattle.wit_model.specs.declared.types.TypeDefKind.TheVariants as kind
+use Rattle.wit_model.specs.declared.types.TypeDef.{TypeDef}
+use Rattle.wit_model.specs.Parts.{parts}
+use Rattle.wit_model.specs.TypeOrder.{type_below, payload_below, GoesDown}
+use Rattle.wit_layout.specs.Tree.{Tree, payloads_in, bare, tree_in, tree_by, tree_at, trees}
+use Rattle.wit_layout.specs.Flat.{flat, flats, slots, repeated, pointer_and_length, words_of_flags}
+use Rattle.wit_layout.proofs.TreeLemmas.{tree_at_by}
+use Rattle.wit_layout.proofs.PartSteps.{part_below}
+
+-- one more than the place of a type in the table, and 0 for a primitive
+abbrev pub rank : WitType → ℕ
+rank (wit.Id id) = id.0 + 1
+rank _ = 0
+
+abbrev pub payload_rank : Option WitType → ℕ
+payload_rank None = 0
+payload_rank (Some ty) = rank ty
+
+rank_below : (bound : ℕ) (ty : WitType) → type_below bound ty ≡ true → rank ty ≤ bound
+unfolding type_below
+rank_below bound (wit.Id id) h = let low = ltb-true id.0 bound h in omega arith
+rank_below bound wit.Bool h = omega arith
+rank_below bound wit.U8 h = omega arith
+rank_below bound wit.U16 h = omega arith
+rank_below bound wit.U32 h = omega arith
+rank_below bound wit.U64 h = omega arith
+rank_below bound wit.S8 h = omega arith
+rank_below bound wit.S16 h = omega arith
+rank_below bound wit.S32 h = omega arith
+rank_below bound wit.S64 h = omega arith
+rank_below bound wit.F32 h = omega arith
+rank_below bound wit.F64 h = omega arith
+rank_below bound wit.Char h = omega arith
+rank_below bound wit.String h = omega arith
+rank_below bound wit.ErrorContext h = omega arith
+
+type_below_more : (low high : ℕ) (ty : WitType) → low ≤ high → type_below low ty ≡ true → type_below high ty ≡ true
+unfolding type_below
+type_below_more low high (wit.Id id) le h =
+    let less = ltb-true id.0 low h in let more : id.0 < high = omega arith in grind (arith, common_steps)
+type_below_more low high wit.Bool le h = refl
+type_below_more low high wit.U8 le h = refl
+type_below_more low high wit.U16 le h = refl
+type_below_more low high wit.U32 le h = refl
+type_below_more low high wit.U64 le h = refl
+type_below_more low high wit.S8 le h = refl
+type_below_more low high wit.S16 le h = refl
+type_below_more low high wit.S32 le h = refl
+type_below_more low high wit.S64 le h = refl
+type_below_more low high wit.F32 le h = refl
+type_below_more low high wit.F64 le h = refl
+type_below_more low high wit.Char le h = refl
+type_below_more low high wit.String le h = refl
+type_below_more low high wit.ErrorContext le h = refl
+
+payload_rank_below : (bound : ℕ) (p : Option WitType) → payload_below bound p ≡ true → payload_rank p ≤ bound
+unfolding payload_below
+payload_rank_below bound None h = omega arith
+payload_rank_below bound (Some ty) h = rank_below bound ty h
+
+payload_below_more : (low high : ℕ) (p : Option WitType) → low ≤ high → payload_below low p ≡ true → payload_below high p ≡ true
+unfolding payload_below
+payload_below_more low high None le h = refl
+payload_below_more low high (Some ty) le h = type_below_more low high ty le h
+
+type_of_payload : (bound : ℕ) (ty : WitType) → payload_below bound (Some ty) ≡ true → type_below bound ty ≡ true
+unfolding payload_below
+type_of_payload bound ty h = h
+
+slots-bare : {A : Type 0} (members : List A) → slots (bare members) ≡ []
+slots-bare [] = refl
+slots-bare (m ∷ members) = slots-bare members
+
+-- the words of each kind, by those of its parts
+module _ (ts : List Tree) (k : TypeDefKind) where
+  abbrev words : List WasmType
+  words = flat (tree_by ts k)
+
+  pub words_of_alias : (ty : WitType) → k ≡ kind.Alias ty → words ≡ flat (tree_in ts ty)
+  words_of_alias ty e = ap (λ k. flat (tree_by ts k)) e
+
+  pub words_of_lists : ((x : WitType) × (k ≡ kind.List x)) ⊎ ((x : WitType) × (x' : WitType) × (k ≡ kind.Map x x')) → words ≡ pointer_and_length
+  words_of_lists is = ⊎_elim (λ (x, e). ap (λ k. flat (tree_by ts k)) e) (λ (x, x', e). ap (λ k. flat (tree_by ts k)) e) is
+
+  pub words_of_fixed : (element : WitType) (n : ℕ) → k ≡ kind.FixedLengthList element n → words ≡ repeated n (flat (tree_in ts element))
+  words_of_fixed element n e = ap (λ k. flat (tree_by ts k)) e
+
+  pub words_of_flag_kind : (members : List Member) → k ≡ kind.Flags members → words ≡ words_of_flags (length members)
+  words_of_flag_kind members e = ap (λ k. flat (tree_by ts k)) e
+
+  pub words_of_handles : ((x : Handle) × (k ≡ kind.Handle x)) ⊎ (k ≡ kind.Resource) → words ≡ I32 ∷ []
+  words_of_handles is = ⊎_elim (λ (x, e). ap (λ k. flat (tree_by ts k)) e) (λ e. ap (λ k. flat (tree_by ts k)) e) is
+
+  pub words_of_async : ((x : Option WitType) × (k ≡ kind.Future x)) ⊎ ((x : Option WitType) × (k ≡ kind.Stream x)) → words ≡ I32 ∷ []
+  words_of_async is = ⊎_elim (λ (x, e). ap (λ k. flat (tree_by ts k)) e) (λ (x, e). ap (λ k. flat (tree_by ts k)) e) is
+
+  pub words_of_unknown : k ≡ kind.Unknown → words ≡ I32 ∷ []
+  words_of_unknown e = ap (λ k. flat (tree_by ts k)) e
+
+  pub words_of_payloads : ((x : WitType) × (k ≡ kind.Option x)) ⊎ ((x : Option WitType) × (x' : Option WitType) × (k ≡ kind.Result x x')) → words ≡ I32 ∷ slots (payloads_in ts (parts k))
+  unfolding parts
+  words_of_payloads is =
+      ⊎_elim (λ (x, e). ap (λ k. flat (tree_by ts k)) e ∙ sym (ap (λ k. I32 ∷ slots (payloads_in ts (parts k))) e)) (λ (x, x', e). ap (λ k. flat (tree_by ts k)) e ∙ sym (ap (λ k. I32 ∷ slots (payloads_in ts (parts k))) e)) is
+
+  pub words_of_fields : ((x : List WitType) × (k ≡ kind.Tuple x)) ⊎ ((x : List Field) × (k ≡ kind.Record x)) → words ≡ flats (payloads_in ts (parts k))
+  unfolding parts
+  words_of_fields is =
+      ⊎_elim (λ (x, e). ap (λ k. flat (tree_by ts k)) e ∙ sym (ap (λ k. flats (payloads_in ts (parts k))) e)) (λ (x, e). ap (λ k. flat (tree_by ts k)) e ∙ sym (ap (λ k. flats (payloads_in ts (parts k))) e)) is
+
+  pub words_of_cases : ((x : List Case) × (k ≡ kind.Variant x)) ⊎ ((x : List Member) × (k ≡ kind.Enum x)) → words ≡ I32 ∷ slots (payloads_in ts (parts k))
+  unfolding parts
+  words_of_cases is =
+      ⊎_elim (λ (x, e). ap (λ k. flat (tree_by ts k)) e ∙ sym (ap (λ k. I32 ∷ slots (payloads_in ts (parts k))) e)) (λ (x, e). ap (λ k. flat (tree_by ts k)) e ∙ ap (λ cs. I32 ∷ cs) (slots-bare x) ∙ sym (ap (λ k. I32 ∷ slots (payloads_in ts (parts k))) e)) is
+
+pub part_of_alias : (k : TypeDefKind) (ty : WitType) → k ≡ kind.Alias ty → slice_get (parts k) 0 ≡ Some (Some ty)
+unfolding parts
+part_of_alias k ty e = ap (λ k. slice_get (parts k) 0) e
+
+pub part_of_fixed : (k : TypeDefKind) (ty : WitType) (n : ℕ) → k ≡ kind.FixedLengthList ty n → slice_get (parts k) 0 ≡ Some (Some ty)
+unfolding parts
+part_of_fixed k ty n e = ap (λ k. slice_get (parts k) 0) e
+
+-- a type in the table, whose kind names lower ones
+module _ (types : List TypeDef) (down : GoesDown types) (at : ℕ) (entry : TypeDef) (here : slice_get types at ≡ Some entry) where
+  pub by_kind : (r : ℕ) (before after cs : List WasmType) → flat (tree_by (trees types) entry.kind) ≡ cs → after ≡ take r (before ++ cs) → after ≡ take r (before ++ flat (tree_at types at))
+  by_kind r before after cs same put =
+      put ∙ sym (ap (λ t. take r (before ++ flat t)) (tree_at_by types at entry down here) ∙ ap (λ ws. take r (before ++ ws)) same)
+
+  module _ (p : Option WitType) (nth : ℕ) (is : slice_get (parts entry.kind) nth ≡ Some p) where
+    low : payload_below at p ≡ true
+    low = part_below at entry.kind nth p (down at entry here) is
+
+    pub part_rank : payload_rank p ≤ at
+    part_rank = payload_rank_below at p low
+
+    pub part_in_table : at < length types → payload_below (length types) p ≡ true
+    part_in_table l = payload_below_more at (length types) p (omega arith) low
+
+  module _ (ty : WitType) (is : slice_get (parts entry.kind) 0 ≡ Some (Some ty)) where
+    pub type_rank : rank ty ≤ at
+    type_rank = part_rank (Some ty) 0 is
+
+    pub type_in_table : at < length types → type_below (length types) ty ≡ true
+    type_in_table l = type_of_payload (length types) ty (part_in_table (Some ty) 0 is l)

@@ -1,0 +1,165 @@
+//! The first words of a type, by going through the table down from it.
+
+ghost use Rattle.std.specs.Prelude.{◌≡◌, ◌<◌, ◌≤◌, ◌++◌, ◌∷◌, IsTrue, Some, length, slice_get, take};
+ghost use Rattle.wit_model.specs.declared.types.TypeDef.{TypeDef};
+ghost use Rattle.wit_model.specs.Parts.{parts};
+ghost use Rattle.wit_model.specs.TypeOrder.{GoesDown, type_below, payload_below};
+ghost use Rattle.wit_layout.specs.Flat.{flat, flats, pointer_and_length, repeated, slots, words_of_flags};
+ghost use Rattle.wit_layout.specs.Kept.{kept};
+ghost use Rattle.wit_layout.specs.Tree.{trees, tree_at, tree_of, payload_in, payloads_in};
+
+use crate::words::Words;
+use wit_model::{TypeDef, TypeDefKind, WasmType, WitType};
+
+/// A pointer and a length behind the words.
+fn flatten_text(words: Words) -> Words
+    ensures words { kept result ≡ take words.room (kept words ++ pointer_and_length) }
+    ensures room { result.room ≡ words.room }
+{
+    words.with(WasmType::Pointer).with(WasmType::Length)
+}
+
+/// A word for each 32 flags behind the words.
+fn flatten_flags(count: usize, words: Words) -> Words
+    ensures words { kept result ≡ take words.room (kept words ++ words_of_flags count) }
+    ensures room { result.room ≡ words.room }
+{
+    let mut all = words;
+    for _word in 0..count.div_ceil(32) {
+        if all.left() == 0 {
+            return all;
+        }
+        all = all.with(WasmType::I32);
+    }
+    all
+}
+
+/// So many times the words of an element behind the words.
+fn flatten_elements(element: Words, n: u32, words: Words) -> Words
+    ensures words { kept result ≡ take words.room (kept words ++ repeated n (kept element)) }
+    ensures room { result.room ≡ words.room }
+{
+    let mut all = words;
+    for _element in 0..n {
+        if all.left() == 0 {
+            return all;
+        }
+        all = all.followed_by(element);
+    }
+    all
+}
+
+/// The first words of a type, behind others.
+#[cycle(flatten)]
+#[tactic(auto, unfolding(wit_model::specs::TypeOrder::type_below))]
+pub(crate) fn flatten_type(types: &[TypeDef], ty: WitType, words: Words) -> Words
+    requires down { GoesDown types.now }
+    requires below { IsTrue (type_below (length types.now) ty) }
+    ensures words { kept result ≡ take words.room (kept words ++ flat (tree_of types.now ty)) }
+    ensures room { result.room ≡ words.room }
+{
+    match ty {
+        WitType::U64 | WitType::S64 => words.with(WasmType::I64),
+        WitType::F32 => words.with(WasmType::F32),
+        WitType::F64 => words.with(WasmType::F64),
+        WitType::String => flatten_text(words),
+        WitType::Id(id) => flatten_kind(types, id.0 as usize, words),
+        _ => words.with(WasmType::I32),
+    }
+}
+
+/// The same of a payload, which may be left out.
+#[cycle(flatten)]
+#[tactic(auto, unfolding(wit_model::specs::TypeOrder::payload_below))]
+pub(crate) fn flatten_payload(types: &[TypeDef], payload: Option<WitType>, words: Words) -> Words
+    requires down { GoesDown types.now }
+    requires below { IsTrue (payload_below (length types.now) payload) }
+    ensures words { kept result ≡ take words.room (kept words ++ flat (payload_in (trees types.now) payload)) }
+    ensures room { result.room ≡ words.room }
+{
+    match payload {
+        None => words,
+        Some(ty) => flatten_type(types, ty, words),
+    }
+}
+
+/// The same of the type at a place of the table.
+#[cycle(flatten)]
+fn flatten_kind(types: &[TypeDef], at: usize, words: Words) -> Words
+    requires down { GoesDown types.now }
+    requires within { at < length types.now }
+    ensures words { kept result ≡ take words.room (kept words ++ flat (tree_at types.now at)) }
+    ensures room { result.room ≡ words.room }
+{
+    match &types[at].kind {
+        TypeDefKind::Alias(ty) => flatten_type(types, *ty, words),
+        TypeDefKind::List(_) | TypeDefKind::Map(_, _) => flatten_text(words),
+        TypeDefKind::FixedLengthList(element, n) => {
+            let one = flatten_type(types, *element, Words::none(words.left()));
+            flatten_elements(one, *n, words)
+        }
+        TypeDefKind::Tuple(_) | TypeDefKind::Record(_) => flatten_record(types, at, words),
+        TypeDefKind::Option(_) | TypeDefKind::Result(_, _) => flatten_variant(types, at, words),
+        TypeDefKind::Variant(_) | TypeDefKind::Enum(_) => flatten_variant(types, at, words),
+        TypeDefKind::Flags(members) => flatten_flags(members.len(), words),
+        TypeDefKind::Handle(_) | TypeDefKind::Resource => words.with(WasmType::I32),
+        TypeDefKind::Future(_) | TypeDefKind::Stream(_) => words.with(WasmType::I32),
+        TypeDefKind::Unknown => words.with(WasmType::I32),
+    }
+}
+
+/// The words of the parts of a type, one after another.
+#[cycle(flatten)]
+fn flatten_record(types: &[TypeDef], at: usize, words: Words) -> Words
+    requires down { GoesDown types.now }
+    requires within { at < length types.now }
+    ensures words { (entry : TypeDef) → slice_get types.now at ≡ Some entry
+        → kept result ≡ take words.room (kept words ++ flats (payloads_in (trees types.now) (parts entry.kind))) }
+    ensures room { result.room ≡ words.room }
+{
+    let kind = &types[at].kind;
+    let mut all = words;
+    for nth in 0..kind.part_count() {
+        if all.left() == 0 {
+            return all;
+        }
+        all = flatten_payload(types, kind.part(nth), all);
+    }
+    all
+}
+
+/// A word for the case, and the slots that the parts of a type share as payloads.
+#[cycle(flatten)]
+fn flatten_variant(types: &[TypeDef], at: usize, words: Words) -> Words
+    requires down { GoesDown types.now }
+    requires within { at < length types.now }
+    ensures words { (entry : TypeDef) → slice_get types.now at ≡ Some entry
+        → kept result ≡ take words.room (kept words ++ WasmType.I32 ∷ slots (payloads_in (trees types.now) (parts entry.kind))) }
+    ensures room { result.room ≡ words.room }
+{
+    let tagged = words.with(WasmType::I32);
+    if tagged.left() == 0 {
+        return tagged;
+    }
+    tagged.followed_by(flatten_cases(types, at, tagged.left()))
+}
+
+/// The slots that the parts of a type share as payloads, as far as there is room.
+#[cycle(flatten)]
+fn flatten_cases(types: &[TypeDef], at: usize, room: usize) -> Words
+    requires down { GoesDown types.now }
+    requires within { at < length types.now }
+    requires room { room ≤ 17 }
+    ensures { (entry : TypeDef) → slice_get types.now at ≡ Some entry
+        → kept result ≡ take room (slots (payloads_in (trees types.now) (parts entry.kind))) }
+{
+    let kind = &types[at].kind;
+    let mut slots = Words::none(room);
+    let mut left = kind.part_count();
+    while left > 0 {
+        left -= 1;
+        let case = flatten_payload(types, kind.part(left), Words::none(room));
+        slots = case.joined_with(slots);
+    }
+    slots
+}

@@ -1,0 +1,120 @@
+//! What values own, and what is asked of them.
+
+ghost use Rattle.std.specs.Prelude.{◌≡◌, IfOk};
+ghost use Rattle.wrapper_run.specs.Owning as spec;
+
+use crate::state::Val;
+use std::alloc::Global;
+use wit_model::{List, OutOfMemory};
+use wrapper_data::{RustValue, Word};
+
+impl Val {
+    /// An equal value.
+    pub(crate) fn copy(&self, alloc: Global) -> Result<Val, OutOfMemory>
+        ensures { IfOk result (λ v. v ≡ self.now) }
+    {
+        match self {
+            Val::Word(word) => Ok(Val::Word(*word)),
+            Val::Value(value) => Ok(Val::Value(value.copy(alloc)?)),
+            Val::Area(address, size) => Ok(Val::Area(*address, *size)),
+        }
+    }
+
+    /// A text's address and length, and whether it owns its block.
+    pub(crate) fn buffer(&self) -> Option<(u32, u32, bool)>
+        ensures { result ≡ spec.buffer_of self.now }
+    {
+        match self {
+            Val::Value(
+                RustValue::Buffer {
+                    address,
+                    len,
+                    owned,
+                },
+            ) => Some((*address, *len, *owned)),
+            _ => None,
+        }
+    }
+
+    /// The block that a value owns, by its address and size.
+    pub(crate) fn owned(&self) -> Option<(u32, u32)>
+        ensures { result ≡ spec.owned self.now }
+    {
+        match self {
+            Val::Area(address, size) => Some((*address, *size)),
+            _ => match self.buffer() {
+                Some((address, len, true)) if len != 0 => Some((address, len)),
+                _ => None,
+            },
+        }
+    }
+
+    /// The value behind a reference, which owns nothing.
+    pub(crate) fn lent(&self, alloc: Global) -> Result<Option<Val>, OutOfMemory>
+        ensures { IfOk result (λ v. v ≡ spec.lent self.now) }
+    {
+        match self {
+            Val::Area(_, _) => Ok(None),
+            Val::Value(RustValue::Buffer { address, len, .. }) => {
+                Ok(Some(Val::Value(RustValue::Buffer {
+                    address: *address,
+                    len: *len,
+                    owned: false,
+                })))
+            }
+            _ => Ok(Some(self.copy(alloc)?)),
+        }
+    }
+}
+
+/// The addresses of the blocks that values own.
+pub(crate) fn taken_by(alloc: Global, values: &[RustValue]) -> Result<List<u32>, OutOfMemory>
+    ensures { IfOk result (λ taken. taken ≡ spec.taken_by values.now) }
+{
+    let mut taken = List::new(alloc);
+    for value in values {
+        let value = Val::Value(value.copy(alloc)?);
+        if let Some((address, _)) = value.owned() {
+            taken.push(address)?;
+        }
+    }
+    Ok(taken)
+}
+
+pub(crate) fn is_taken(address: u32, taken: &[u32]) -> bool
+    ensures { result ≡ spec.is_taken address taken.now }
+{
+    taken.iter().any(|t| *t == address)
+}
+
+/// What a method tells of a value.
+#[derive(Clone, Copy)]
+pub(crate) enum View {
+    /// The address of a text.
+    TextAddress,
+    /// Its length.
+    TextLength,
+    /// The same address.
+    Pointer,
+    /// The address of a return area.
+    AreaAddress,
+}
+
+impl View {
+    pub(crate) fn of(self, v: &Val) -> Option<Word>
+        ensures { result ≡ spec.view self v.now }
+    {
+        match self {
+            View::TextAddress => Some(Word::Pointer(v.buffer()?.0)),
+            View::TextLength => Some(Word::Length(v.buffer()?.1)),
+            View::Pointer => match v {
+                Val::Word(Word::Pointer(address)) => Some(Word::Pointer(*address)),
+                _ => None,
+            },
+            View::AreaAddress => match v {
+                Val::Area(address, _) => Some(Word::Pointer(*address)),
+                _ => None,
+            },
+        }
+    }
+}
