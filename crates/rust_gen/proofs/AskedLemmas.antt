@@ -1,7 +1,7 @@
 -- A function of `_rt` that a wrapper asks for is found in the file.
 use Rattle.std.proofs.Common.{◌≡◌, ℕ, zero, suc, Bool, true, false, cond, ◌||◌, List, [], ◌∷◌, ◌++◌, Option, None, Some, ◌⊎◌, inl, inr, map, refl, sym, ap, ◌∙◌}
 use Rattle.std.specs.Prelude.{find, fold, slice_get}
-use Rattle.std.specs.List.{list_any}
+use Rattle.std.specs.List.{flat_map, list_any}
 use Rattle.std.specs.Option.{option_or}
 use Rattle.std.specs.Str.{bytes_eq}
 use Rattle.std.proofs.lemmas.Bool.{or_cases, or_left, or_right}
@@ -12,7 +12,7 @@ use Rattle.rust_tree.specs.declared.item.Item.{Item}
 use Rattle.rust_tree.specs.declared.item.Item.TheVariants as item
 use Rattle.rust_tree.specs.declared.runtime_item.RuntimeItem.{RuntimeItem}
 use Rattle.rust_tree.specs.declared.runtime_item.RuntimeItem.TheVariants.{AsI32, AsI64, AsF32, AsF64, AllocCrate, StringType, VecType, BoolLift, CharLift, StringLift}
-use Rattle.rust_tree.specs.Runtime.{item_name}
+use Rattle.rust_tree.specs.Runtime.{item_name, needed_items}
 use Rattle.wrapper_run.specs.Run.{runtime_item_named}
 use Rattle.rust_gen.specs.Runtime.{asked_by, asked_items, is_same_item, runtime_items, runtime_module, with_asked}
 
@@ -139,4 +139,5 @@ found-first items x xs h = h x (or_left (is_same_item x x) _ (same-refl x))
 
 pub found_all : (ws : List FnItem) (fs : List Function) (nth : ℕ) (f : Function) → slice_get fs nth ≡ Some f → Found (map item.Import ws ++ runtime_module (runtime_items fs)) (asked_by f)
 found_all ws fs nth f e x h =
-    found-behind ws (runtime_module (runtime_items fs)) (item_name x) ∙ found-in_module x (runtime_items fs) (asked-all x (asked_items fs) [] (inr (asked_by-at x fs nth f e h)))
+    found-behind ws (runtime_module (runtime_items fs)) (item_name x) ∙ found-in_module x (runtime_items fs)
+    (asked-all x (flat_map needed_items (fold with_asked [] (asked_items fs))) (fold with_asked [] (asked_items fs)) (inl (asked-all x (asked_items fs) [] (inr (asked_by-at x fs nth f e h)))))

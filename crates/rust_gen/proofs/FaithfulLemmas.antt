@@ -15,7 +15,8 @@ use Rattle.rust_tree.specs.declared.place.FuncPlace.{FuncPlace}
 use Rattle.rust_tree.specs.declared.place.WrapperInfo.{WrapperInfo}
 use Rattle.rust_tree.specs.declared.runtime_item.RuntimeItem.{RuntimeItem}
 use Rattle.rust_tree.specs.Tree.{Tree, wrappers_from, wrappers_of}
-use Rattle.wrapper_run.specs.Faithful.{Carries, IsFaithful, Made}
+use Rattle.wrapper_run.specs.Faithful.{Carries, IsFaithful, Made, MissesArea}
+use Rattle.std.proofs.Common.{◌⊎◌}
 use Rattle.wrapper_run.specs.Setting.{Setting}
 use Rattle.wrapper_run.specs.Run.{import_nth, import_run, run_item, wrapper_of}
 use Rattle.rust_gen.specs.Body.{IsWritten}
@@ -27,7 +28,8 @@ use Rattle.rust_gen.specs.Faithful.{AreFaithful}
 use Rattle.rust_gen.specs.Runtime.{asked_by, runtime_items, runtime_module}
 use Rattle.rust_gen.proofs.AskedLemmas.{Found, found_all}
 use Rattle.std.proofs.lemmas.Bool.{and_parts}
-use Rattle.rust_gen.proofs.RunLemmas.{Fits, carries_written}
+use Rattle.rust_gen.proofs.RunLemmas.{Fits}
+use Rattle.rust_gen.proofs.TextLemmas.{carries_written}
 use Rattle.rust_gen.proofs.TreeLemmas.{length-places_from}
 
 -- what holds of all holds of each
@@ -100,7 +102,7 @@ module _ (world : World) (tree : Tree) (b : Binds IsWritten world tree) (named :
   faithful-at : (nth : ℕ) (f : Function) → slice_get (emitted_functions world) nth ≡ Some f → IsFaithful tree nth f
   faithful-at nth f e = record {
     there = subst IsSome (sym (there nth f e)) refl;
-    carries = λ form vs v args heap choices a run is good is_result stand honest.
+    carries = λ form vs v args heap choices a run is well good is_result stand honest.
         let w : Setting = record { items = tree.items; item = (info nth f e).0.item.0; answer = a; form = form } in
         let i = (wrapper nth f e).0 in
         let fits : Fits f w = record {
@@ -110,8 +112,8 @@ module _ (world : World) (tree : Tree) (b : Binds IsWritten world tree) (named :
         let run_of : import_run tree nth args heap choices a form ≡ Some (run_item w i args heap choices) =
         ap (option_map (λ p. run_item (record { items = tree.items; item = p.0; answer = a; form = form }) p.1 args heap choices)) (there nth f e) in
         let same : run_item w i args heap choices ≡ run = cc in
-        subst (Carries f vs v heap) same
-        (carries_written f i (wrapper nth f e).2 w fits vs v args heap choices good is_result stand (λ c made. honest c (subst (Made c) same made)));
+        subst (λ run. Carries f vs v heap choices run ⊎ MissesArea f run) same
+        (carries_written f i (wrapper nth f e).2 w fits vs args heap choices good stand well v is_result (λ c made. honest c (subst (Made c) same made)));
   }
 
   pub are_faithful : AreFaithful world tree

@@ -32,12 +32,12 @@ use Rattle.wrapper_run.specs.StandsFor.{StandAll, Stands, rust_value}
 use Rattle.wrapper_run.specs.Value.{AreValues, IsScalar, IsValue, Scalar, WitValue, char, f32, f64, number, scalar, text, truth}
 use Rattle.wrapper_run.proofs.LocalLemmas.{ReadsAll, reads-new}
 use Rattle.wrapper_run.proofs.NumberLemmas.{word_of-bool}
-use Rattle.wrapper_run.proofs.OwningLemmas.{ArePlain, lent-same, no_buffer, owned-lent, plain-append}
+use Rattle.wrapper_run.proofs.OwningLemmas.{Adds, adds-none, adds-one, adds-then, lent-same, no_buffer, owned-lent}
 use Rattle.wrapper_run.proofs.StepLemmas.{Give, as_ptr_gives, bool_gives, call_gives, cast_mut_gives, len_gives, local_gives, ref_gives, runtime_gives}
 use Rattle.rust_gen.specs.declared.scope.LocalKind.TheVariants as kind
 use Rattle.rust_gen.specs.declared.scope.Scope.{Scope}
 use Rattle.rust_gen.specs.Body.{LowersAll, LowersAs, converted, runtime_path, text_kinds}
-use Rattle.rust_gen.specs.Printed.{core_params, core_type, core_words}
+use Rattle.rust_gen.specs.Printed.{core_type, core_words, param_words}
 use Rattle.rust_gen.specs.Runtime.{lowering_item, lowering_items}
 use Rattle.rust_gen.specs.Scope.{is_used, numbered}
 use Rattle.rust_gen.proofs.AskedLemmas.{Found, found-first, found-left, found-right}
@@ -53,13 +53,13 @@ idents_of params = map (λ p. rust_ident p.name) params
 
 -- lists of words
 
-give-append : (w : Setting) (s : State) (es fs : List Expr) (vs us : List Val) → Give w s es vs → Give w s fs us → Give w s (es ++ fs) (vs ++ us)
+pub give-append : (w : Setting) (s : State) (es fs : List Expr) (vs us : List Val) → Give w s es vs → Give w s fs us → Give w s (es ++ fs) (vs ++ us)
 give-append w s [] fs [] us h k = k
 give-append w s [] fs (v ∷ vs) us h k = absurd h
 give-append w s (e ∷ es) fs [] us h k = absurd h
 give-append w s (e ∷ es) fs (v ∷ vs) us h k = (h.0, give-append w s es fs vs us h.1 k)
 
-words-append : (a b : List Word) → map val.Word (a ++ b) ≡ map val.Word a ++ map val.Word b
+pub words-append : (a b : List Word) → map val.Word (a ++ b) ≡ map val.Word a ++ map val.Word b
 words-append [] b = refl
 words-append (x ∷ a) b = ap (λ vs. val.Word x ∷ vs) (words-append a b)
 
@@ -69,7 +69,7 @@ first_word None p q a b h e = absurd (cc)
 first_word (Some x) None q a b h e = absurd (cc)
 first_word (Some x) (Some c) q a b h e = let is : x ∷ c ≡ a = cc in ap (option_map (λ ws. x ∷ ws)) (h c refl) ∙ ap (λ a. Some (a ++ b)) is
 
-words_of-append : (ts us : List WasmType) (vs ws : List Val) (a b : List Word) → words_of ts vs ≡ Some a → words_of us ws ≡ Some b → words_of (ts ++ us) (vs ++ ws) ≡ Some (a ++ b)
+pub words_of-append : (ts us : List WasmType) (vs ws : List Val) (a b : List Word) → words_of ts vs ≡ Some a → words_of us ws ≡ Some b → words_of (ts ++ us) (vs ++ ws) ≡ Some (a ++ b)
 words_of-append [] us [] ws a b e f = let is : [] ≡ a = cc in f ∙ ap (λ a. Some (a ++ b)) is
 words_of-append [] us (v ∷ vs) ws a b e f = absurd (cc)
 words_of-append (t ∷ ts) us [] ws a b e f = absurd (cc)
@@ -90,7 +90,7 @@ record LoweredOne (w : Setting) (s : State) (heap : Heap) (p : Param) (v : WitVa
   pub runs : run_stmts w stmts s ≡ Done tt (record s { locals = locals })
   pub keeps : Keeps before.used s.locals locals
   pub within : Within after.used locals
-  pub plain : ArePlain locals
+  pub adds : Adds s.locals locals
   pub grows : Grows before.used after.used
   pub lent : List Word
   pub gives : (t : State) → Keeps after.used locals t.locals → Give w t words (map val.Word lent)
@@ -98,9 +98,9 @@ record LoweredOne (w : Setting) (s : State) (heap : Heap) (p : Param) (v : WitVa
   pub typed : words_of (core_words p.ty) (map val.Word lent) ≡ Some lent
 
 lower-bool : (w : Setting) (s : State) (heap : Heap) (p : Param) (b : Bool) (before after : Scope) (stmts : List Stmt) (words : List Expr) → p.ty ≡ wit.Bool → LowersAs wit.Bool before p stmts words after
-    → value_of (local_named (rust_ident p.name) s.locals) ≡ Some (val.Value (value.Bool b)) → Within before.used s.locals → ArePlain s.locals → LoweredOne w s heap p (scalar (truth b)) before after stmts words
+    → value_of (local_named (rust_ident p.name) s.locals) ≡ Some (val.Value (value.Bool b)) → Within before.used s.locals → LoweredOne w s heap p (scalar (truth b)) before after stmts words
 unfolding bind
-lower-bool w s heap p b before after stmts words is_bool (t, d, is, wd) at within plain =
+lower-bool w s heap p b before after stmts words is_bool (t, d, is, wd) at within =
     let n = numbered kind.Bool t in
     let x : Word = word.I32 (bit b) in
     let made : Local = record { name = n; value = Some (val.Word x) } in
@@ -113,7 +113,7 @@ lower-bool w s heap p b before after stmts words is_bool (t, d, is, wd) at withi
           (bool_gives w (expr.Ref (rust_ident p.name)) (val.Value (value.Bool b)) x s (ref_gives w (rust_ident p.name) (val.Value (value.Bool b)) s at (lent-same (value.Bool b) (no_buffer wit.Bool (truth b)))) (word_of-bool b));
       keeps = keeps-bound before.used s.locals n (Some (val.Word x)) free;
       within = subst (λ us. Within us (s.locals ++ made ∷ [])) (sym (ap (λ s. s.used) d.leaves)) (within-bound before.used s.locals n (Some (val.Word x)) within);
-      plain = plain-append s.locals (made ∷ []) plain (refl, tt);
+      adds = adds-one s.locals made refl;
       grows = grows-declared before after (kind.Bool ∷ []) t d;
       lent = x ∷ [];
       gives = λ u k.
@@ -125,10 +125,10 @@ lower-bool w s heap p b before after stmts words is_bool (t, d, is, wd) at withi
 
 -- the text itself is a local, and so are its address and its length
 lower-text : (w : Setting) (s : State) (heap : Heap) (p : Param) (bytes : List ℕ) (a : ℕ) (before after : Scope) (stmts : List Stmt) (words : List Expr) → p.ty ≡ wit.String → LiesAt heap a bytes
-    → LowersAs wit.String before p stmts words after → value_of (local_named (rust_ident p.name) s.locals) ≡ Some (val.Value (value.Buffer a (length bytes) false)) → Within before.used s.locals → ArePlain s.locals
+    → LowersAs wit.String before p stmts words after → value_of (local_named (rust_ident p.name) s.locals) ≡ Some (val.Value (value.Buffer a (length bytes) false)) → Within before.used s.locals
     → LoweredOne w s heap p (text bytes) before after stmts words
 unfolding bind
-lower-text w s heap p bytes a before after stmts words is_text lies (t, d, is, wd) at within plain =
+lower-text w s heap p bytes a before after stmts words is_text lies (t, d, is, wd) at within =
     let size = length bytes in
     let lent : Val = val.Value (value.Buffer a size false) in
     let v = numbered kind.Vec t in
@@ -163,8 +163,9 @@ lower-text w s heap p bytes a before after stmts words is_text lies (t, d, is, w
       within =
           subst (λ us. Within us l3) names
           (within-bound ((before.used ++ v ∷ []) ++ q ∷ []) l2 n on (within-bound (before.used ++ v ∷ []) l1 q oq (within-bound before.used s.locals v ov within)));
-      plain =
-          plain-append l2 (record { name = n; value = on } ∷ []) (plain-append l1 (record { name = q; value = oq } ∷ []) (plain-append s.locals (record { name = v; value = ov } ∷ []) plain (owned-lent a size, tt)) (refl, tt)) (refl, tt);
+      adds =
+          adds-then s.locals l1 l3 (adds-one s.locals (record { name = v; value = ov }) (owned-lent a size))
+          (adds-then l1 l2 l3 (adds-one l1 (record { name = q; value = oq }) refl) (adds-one l2 (record { name = n; value = on }) refl));
       grows = grows-declared before after text_kinds t d;
       lent = word.Pointer a ∷ word.Length size ∷ [];
       gives = λ u k.
@@ -185,9 +186,9 @@ lower-text w s heap p bytes a before after stmts words is_text lies (t, d, is, w
 -- a scalar that a conversion makes a word
 lower-converted : (w : Setting) (s : State) (heap : Heap) (p : Param) (v : Scalar) (before after : Scope) (stmts : List Stmt) (words : List Expr) → p.ty ≢ wit.Bool → (p.ty ≡ wit.String → ⊥) → IsScalar p.ty v
     → (stmts ≡ []) × (words ≡ converted p ∷ []) × (after ≡ before) → runtime_item_named w.items (item_name (lowering_item p.ty)) ≡ Some (lowering_item p.ty)
-    → is_used before.used (rust_ident p.name) ≡ true → value_of (local_named (rust_ident p.name) s.locals) ≡ Some (val.Value (rust_value p.ty v)) → Within before.used s.locals → ArePlain s.locals
+    → is_used before.used (rust_ident p.name) ≡ true → value_of (local_named (rust_ident p.name) s.locals) ≡ Some (val.Value (rust_value p.ty v)) → Within before.used s.locals
     → LoweredOne w s heap p (scalar v) before after stmts words
-lower-converted w s heap p v before after stmts words no_bool no_text good (is, wd, same) found used at within plain =
+lower-converted w s heap p v before after stmts words no_bool no_text good (is, wd, same) found used at within =
     let l = lent p.ty v good no_bool in
     let i = lowering_item p.ty in
     let name = rust_ident p.name in
@@ -197,7 +198,7 @@ lower-converted w s heap p v before after stmts words no_bool no_text good (is, 
       runs = ap (λ stmts. run_stmts w stmts s) is;
       keeps = λ name h. refl;
       within = λ name h. within name (ap (λ s. is_used s.used name) (sym same) ∙ h);
-      plain = plain;
+      adds = adds-none s.locals;
       grows = λ name h. ap (λ s. is_used s.used name) same ∙ h;
       lent = l.word ∷ [];
       gives = λ u k.
@@ -214,29 +215,29 @@ lower-converted w s heap p v before after stmts words no_bool no_text good (is, 
 -- what a parameter asks for is found: nothing for a bool
 lower-scalar : (w : Setting) (s : State) (heap : Heap) (p : Param) (v : Scalar) (before after : Scope) (stmts : List Stmt) (words : List Expr) (ty : WitType) → p.ty ≡ ty → IsScalar ty v
     → LowersAs ty before p stmts words after → Found w.items (lowering_items ty) → is_used before.used (rust_ident p.name) ≡ true
-    → value_of (local_named (rust_ident p.name) s.locals) ≡ Some (val.Value (rust_value ty v)) → Within before.used s.locals → ArePlain s.locals → LoweredOne w s heap p (scalar v) before after stmts words
-lower-scalar w s heap p (truth b) before after stmts words wit.Bool e good l found used at within plain = lower-bool w s heap p b before after stmts words e l at within plain
-lower-scalar w s heap p (number z) before after stmts words wit.Bool e good l found used at within plain = absurd (cc)
-lower-scalar w s heap p (f32 bits) before after stmts words wit.Bool e good l found used at within plain = absurd (cc)
-lower-scalar w s heap p (f64 bits) before after stmts words wit.Bool e good l found used at within plain = absurd (cc)
-lower-scalar w s heap p (char c) before after stmts words wit.Bool e good l found used at within plain = absurd (cc)
-lower-scalar w s heap p (truth b) before after stmts words wit.String e good l found used at within plain = absurd (cc)
-lower-scalar w s heap p (number z) before after stmts words wit.String e good l found used at within plain = absurd (cc)
-lower-scalar w s heap p (f32 bits) before after stmts words wit.String e good l found used at within plain = absurd (cc)
-lower-scalar w s heap p (f64 bits) before after stmts words wit.String e good l found used at within plain = absurd (cc)
-lower-scalar w s heap p (char c) before after stmts words wit.String e good l found used at within plain = absurd (cc)
-lower-scalar w s heap p v before after stmts words ty e good l found used at within plain =
+    → value_of (local_named (rust_ident p.name) s.locals) ≡ Some (val.Value (rust_value ty v)) → Within before.used s.locals → LoweredOne w s heap p (scalar v) before after stmts words
+lower-scalar w s heap p (truth b) before after stmts words wit.Bool e good l found used at within = lower-bool w s heap p b before after stmts words e l at within
+lower-scalar w s heap p (number z) before after stmts words wit.Bool e good l found used at within = absurd (cc)
+lower-scalar w s heap p (f32 bits) before after stmts words wit.Bool e good l found used at within = absurd (cc)
+lower-scalar w s heap p (f64 bits) before after stmts words wit.Bool e good l found used at within = absurd (cc)
+lower-scalar w s heap p (char c) before after stmts words wit.Bool e good l found used at within = absurd (cc)
+lower-scalar w s heap p (truth b) before after stmts words wit.String e good l found used at within = absurd (cc)
+lower-scalar w s heap p (number z) before after stmts words wit.String e good l found used at within = absurd (cc)
+lower-scalar w s heap p (f32 bits) before after stmts words wit.String e good l found used at within = absurd (cc)
+lower-scalar w s heap p (f64 bits) before after stmts words wit.String e good l found used at within = absurd (cc)
+lower-scalar w s heap p (char c) before after stmts words wit.String e good l found used at within = absurd (cc)
+lower-scalar w s heap p v before after stmts words ty e good l found used at within =
     lower-converted w s heap p v before after stmts words (λ k. cc) (λ k. cc) (subst (λ t. IsScalar t v) (sym e) good) l
     (ap (λ t. runtime_item_named w.items (item_name (lowering_item t))) e ∙ found-first w.items (lowering_item ty) [] found ∙ ap (λ t. Some (lowering_item t)) (sym e))
-    used (at ∙ ap (λ t. Some (val.Value (rust_value t v))) (sym e)) within plain
+    used (at ∙ ap (λ t. Some (val.Value (rust_value t v))) (sym e)) within
 
 lower-one : (w : Setting) (s : State) (heap : Heap) (p : Param) (v : WitValue) (r : RustValue) (before after : Scope) (stmts : List Stmt) (words : List Expr) → IsValue p.ty v → Stands heap p.ty v r
     → LowersAs p.ty before p stmts words after → Found w.items (lowering_items p.ty) → is_used before.used (rust_ident p.name) ≡ true
-    → value_of (local_named (rust_ident p.name) s.locals) ≡ Some (val.Value r) → Within before.used s.locals → ArePlain s.locals → LoweredOne w s heap p v before after stmts words
-lower-one w s heap p (scalar v) r before after stmts words good stand l found used at within plain =
-    lower-scalar w s heap p v before after stmts words p.ty refl good l found used (at ∙ ap (λ r. Some (val.Value r)) stand) within plain
-lower-one w s heap p (text bytes) r before after stmts words good (a, pos, stand, lies) l found used at within plain =
-    lower-text w s heap p bytes a before after stmts words good.0 lies (subst (λ ty. LowersAs ty before p stmts words after) good.0 l) (at ∙ ap (λ r. Some (val.Value r)) stand) within plain
+    → value_of (local_named (rust_ident p.name) s.locals) ≡ Some (val.Value r) → Within before.used s.locals → LoweredOne w s heap p v before after stmts words
+lower-one w s heap p (scalar v) r before after stmts words good stand l found used at within =
+    lower-scalar w s heap p v before after stmts words p.ty refl good l found used (at ∙ ap (λ r. Some (val.Value r)) stand) within
+lower-one w s heap p (text bytes) r before after stmts words good (a, pos, stand, lies) l found used at within =
+    lower-text w s heap p bytes a before after stmts words good.0 lies (subst (λ ty. LowersAs ty before p stmts words after) good.0 l) (at ∙ ap (λ r. Some (val.Value r)) stand) within
 
 -- all parameters
 
@@ -245,12 +246,12 @@ pub record Lowered (w : Setting) (s : State) (heap : Heap) (params : List Param)
   pub runs : run_stmts w stmts s ≡ Done tt (record s { locals = locals })
   pub keeps : Keeps before.used s.locals locals
   pub within : Within after.used locals
-  pub plain : ArePlain locals
+  pub adds : Adds s.locals locals
   pub grows : Grows before.used after.used
   pub lent : List Word
   pub gives : (t : State) → Keeps after.used locals t.locals → Give w t words (map val.Word lent)
   pub represents : LendsAll heap (types_of params) vs lent
-  pub typed : words_of (core_params params) (map val.Word lent) ≡ Some lent
+  pub typed : words_of (param_words params) (map val.Word lent) ≡ Some lent
 
 pub run_stmts-append : (w : Setting) (a b : List Stmt) (s : State) → run_stmts w (a ++ b) s ≡ and_then (run_stmts w a s) (λ _. run_stmts w b)
 run_stmts-append w [] b s = refl
@@ -263,33 +264,33 @@ run_stmts-append w (c ∷ a) b s = go (run_stmt w c s) (λ t. run_stmts-append w
 
 pub lower_all : (w : Setting) (s : State) (heap : Heap) (params : List Param) (vs : List WitValue) (args : List RustValue) (before after : Scope) (stmts : List Stmt) (words : List Expr)
     → LowersAll before params stmts words after → AreValues (types_of params) vs → StandAll heap (types_of params) vs args → Found w.items (flat_map (λ p. lowering_items p.ty) params)
-    → UsedAll before.used (idents_of params) → ReadsAll (idents_of params) args s.locals → Within before.used s.locals → ArePlain s.locals → Lowered w s heap params vs before after stmts words
-lower_all w s heap [] [] args before after stmts words (is, ws, same) good stand found used at within plain = record {
+    → UsedAll before.used (idents_of params) → ReadsAll (idents_of params) args s.locals → Within before.used s.locals → Lowered w s heap params vs before after stmts words
+lower_all w s heap [] [] args before after stmts words (is, ws, same) good stand found used at within = record {
   locals = s.locals;
   runs = ap (λ stmts. run_stmts w stmts s) is;
   keeps = λ name h. refl;
   within = λ name h. within name (ap (λ s. is_used s.used name) (sym same) ∙ h);
-  plain = plain;
+  adds = adds-none s.locals;
   grows = λ name h. ap (λ s. is_used s.used name) same ∙ h;
   lent = [];
   gives = λ t k. subst (λ ws. Give w t ws []) (sym ws) tt;
   represents = refl;
   typed = refl;
 }
-lower_all w s heap [] (v ∷ vs) args before after stmts words l good stand found used at within plain = absurd good
-lower_all w s heap (p ∷ params) [] args before after stmts words l good stand found used at within plain = absurd good
-lower_all w s heap (p ∷ params) (v ∷ vs) args before after stmts words (first, ws, between, later, more, l, ls, is, wd) good (r, rest, e, one, stand) found used at within plain =
+lower_all w s heap [] (v ∷ vs) args before after stmts words l good stand found used at within = absurd good
+lower_all w s heap (p ∷ params) [] args before after stmts words l good stand found used at within = absurd good
+lower_all w s heap (p ∷ params) (v ∷ vs) args before after stmts words (first, ws, between, later, more, l, ls, is, wd) good (r, rest, e, one, stand) found used at within =
     let here = subst (λ rs. ReadsAll (idents_of (p ∷ params)) rs s.locals) e at in
-    let a = lower-one w s heap p v r before between first ws good.0 one l (found-left w.items (lowering_items p.ty) (flat_map (λ p. lowering_items p.ty) params) found) used.0 here.0 within plain in
+    let a = lower-one w s heap p v r before between first ws good.0 one l (found-left w.items (lowering_items p.ty) (flat_map (λ p. lowering_items p.ty) params) found) used.0 here.0 within in
     let mid : State = record s { locals = a.locals } in
     let b = lower_all w mid heap params vs rest between after later more ls good.1 stand (found-right w.items (lowering_items p.ty) (flat_map (λ p. lowering_items p.ty) params) found)
-    (used-grows before.used between.used (idents_of params) a.grows used.1) (reads-kept before.used s.locals a.locals (idents_of params) rest a.keeps used.1 here.1) a.within a.plain in
+    (used-grows before.used between.used (idents_of params) a.grows used.1) (reads-kept before.used s.locals a.locals (idents_of params) rest a.keeps used.1 here.1) a.within in
     record {
       locals = b.locals;
       runs = ap (λ stmts. run_stmts w stmts s) is ∙ run_stmts-append w first later s ∙ ap (λ o. and_then o (λ _. run_stmts w later)) a.runs ∙ b.runs;
       keeps = λ name h. b.keeps name (a.grows name h) ∙ a.keeps name h;
       within = b.within;
-      plain = b.plain;
+      adds = adds-then s.locals a.locals b.locals a.adds b.adds;
       grows = λ name h. b.grows name (a.grows name h);
       lent = a.lent ++ b.lent;
       gives = λ t k.
@@ -298,6 +299,6 @@ lower_all w s heap (p ∷ params) (v ∷ vs) args before after stmts words (firs
           (give-append w t ws more (map val.Word a.lent) (map val.Word b.lent) (a.gives t (λ name h. k name (b.grows name h) ∙ b.keeps name h)) (b.gives t k)));
       represents = (a.lent, b.lent, refl, a.represents, b.represents);
       typed =
-          ap (words_of (core_words p.ty ++ core_params params)) (words-append a.lent b.lent)
-          ∙ words_of-append (core_words p.ty) (core_params params) (map val.Word a.lent) (map val.Word b.lent) a.lent b.lent a.typed b.typed;
+          ap (words_of (core_words p.ty ++ param_words params)) (words-append a.lent b.lent)
+          ∙ words_of-append (core_words p.ty) (param_words params) (map val.Word a.lent) (map val.Word b.lent) a.lent b.lent a.typed b.typed;
     }

@@ -5,8 +5,17 @@ use Rattle.wit_model.specs.declared.types.WitType.{WitType}
 use Rattle.wit_model.specs.declared.types.WitType.TheVariants as wit
 use Rattle.rust_gen.specs.declared.lower.Lowered.{Lowered}
 use Rattle.rust_gen.specs.declared.scope.Scope.{Scope}
-use Rattle.rust_gen.specs.Body.{LowersAll, LowersAs, converted}
-use Rattle.rust_gen.specs.Lowering.{LowersOne, LowersParams}
+use Rattle.rust_gen.specs.Body.{LowersAll, LowersAs, Points, converted}
+use Rattle.rust_gen.specs.Scope.{Bytes}
+use Rattle.std.proofs.Common.{ℕ, Option, Some}
+use Rattle.rust_gen.specs.Lowering.{LowersOne, LowersParams, PointsTo}
+use Rattle.wit_model.specs.declared.size.WasmType.TheVariants as core
+use Rattle.rust_tree.specs.declared.expr.Expr.TheVariants as expr
+use Rattle.rust_tree.specs.declared.stmt.Stmt.{Stmt}
+use Rattle.rust_tree.specs.declared.stmt.Stmt.TheVariants as stmt
+use Rattle.rust_gen.specs.declared.scope.LocalKind.TheVariants as kind
+use Rattle.rust_gen.specs.Body.{LiftsText, lift_kinds, text_lift, text_taken, word_at}
+use Rattle.rust_gen.specs.Scope.{Declares, numbered}
 
 pub lowers_converted : (s : Scope) (b d : Lowered) (p : Param) → (p.ty ≡ wit.Bool → ⊥) → (p.ty ≡ wit.String → ⊥) → d ≡ record b { words = b.words ++ converted p ∷ [] } → LowersOne s b p s d
 lowers_converted s b d p no_bool no_text is = subst (LowersOne s b p s) (sym is) ([], converted p ∷ [], go p.ty no_bool no_text, sym (append-nil b.stmts), refl)
@@ -27,4 +36,24 @@ lowers_next s t u b c d p params all e (first, ws, one, es, ew) (later, words, m
   subst (λ ps. LowersAll s ps (first ++ later) (ws ++ words) u) (sym e) (first, ws, t, later, words, one, more, refl, refl),
   fs ∙ ap (λ ss. ss ++ later) es ∙ append_assoc b.stmts first later,
   fw ∙ ap (λ us. us ++ words) ew ∙ append_assoc b.words ws words,
+)
+
+-- no area, and no local for its address
+pub points_nowhere : (answer : Option WitType) (area : Bytes) (p : ℕ) (s : Scope) (b : Lowered) → (answer ≡ Some wit.String → ⊥) → PointsTo answer area p s b s b
+points_nowhere answer area p s b n = ([], [], go answer n, sym (append-nil b.stmts), sym (append-nil b.words))
+  where
+    go : (answer : Option WitType) → (answer ≡ Some wit.String → ⊥) → Points answer area p s [] [] s
+    go (Some wit.String) n = absurd (n refl)
+    go _ n = (refl, refl, refl)
+
+-- the statements of a text that is lifted
+pub lifted_text : (base : Bytes) (before next later after : Scope) (a b c : ℕ) (old one two new : List Stmt) → Declares before (kind.Loaded ∷ []) a next → one ≡ old ++ stmt.Let (numbered kind.Loaded a) (word_at base 0 core.Pointer) ∷ []
+    → Declares next (kind.Loaded ∷ []) b later → two ≡ one ++ stmt.Let (numbered kind.Loaded b) (word_at base 1 core.Length) ∷ [] → Declares later lift_kinds c after → new ≡ two ++ text_taken a b c
+    → (more : List Stmt) × LiftsText base before more (expr.Local (numbered kind.Text c)) × (new ≡ old ++ more)
+lifted_text base before next later after a b c old one two new d e f g h k = (
+  text_lift base a b c,
+  record { first = a; then = next; loads = d; second = b; later = later; loads_length = f; third = c; last = after; lifts = h; is = refl; ends = refl },
+  k ∙ ap (λ ss. ss ++ text_taken a b c) (g ∙ ap (λ ss. ss ++ stmt.Let (numbered kind.Loaded b) (word_at base 1 core.Length) ∷ []) e)
+      ∙ append_assoc (old ++ stmt.Let (numbered kind.Loaded a) (word_at base 0 core.Pointer) ∷ []) (stmt.Let (numbered kind.Loaded b) (word_at base 1 core.Length) ∷ []) (text_taken a b c)
+      ∙ append_assoc old (stmt.Let (numbered kind.Loaded a) (word_at base 0 core.Pointer) ∷ []) (stmt.Let (numbered kind.Loaded b) (word_at base 1 core.Length) ∷ text_taken a b c),
 )

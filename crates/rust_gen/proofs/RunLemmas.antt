@@ -50,7 +50,7 @@ use Rattle.rust_gen.specs.Printed.{core_result, core_type, printed_result, print
 use Rattle.rust_gen.specs.Runtime.{asked_by, lifting_items, lowering_items}
 use Rattle.rust_gen.specs.Wrapper.{printed_param}
 use Rattle.rust_tree.specs.declared.expr.CastType.{CastType}
-use Rattle.rust_gen.specs.Scope.{Bytes, cleanup_list, first_scope, is_free, is_used, numbered, ret_area}
+use Rattle.rust_gen.specs.Scope.{Bytes, cleanup_list, first_scope, is_free, is_used, numbered}
 use Rattle.rust_tree.specs.declared.expr.Expr.{Expr}
 use Rattle.rust_tree.specs.declared.item.FnItem.{FnItem}
 use Rattle.rust_gen.proofs.AskedLemmas.{Found, found-left, found-right}
@@ -68,14 +68,24 @@ use Rattle.wrapper_run.specs.StandsFor.{Stands}
 use Rattle.wrapper_run.specs.Value.{scalar, text}
 use Rattle.wrapper_run.proofs.OwningLemmas.{owned-lent}
 use Rattle.std.proofs.Common.{length}
+use Rattle.wrapper_run.specs.Areas.{areas, due, pointers}
+use Rattle.wrapper_data.specs.declared.choice.Choice.{Choice}
+use Rattle.wit_model.specs.declared.size.WasmType.{WasmType}
+use Rattle.rust_tree.specs.declared.stmt.Block.{Block}
+use Rattle.rust_gen.specs.Body.{LowersAll, Points, area_stmts}
+use Rattle.rust_gen.specs.Scope.{Declares}
+use Rattle.rust_gen.specs.Printed.{param_words, pointer_words}
+use Rattle.rust_gen.specs.Runtime.{signature_items}
+use Rattle.std.proofs.Common.{append-nil}
+use Rattle.wrapper_run.proofs.OwningLemmas.{adds-plain}
 
 -- parameters
 
-names-printed : (params : List Param) → names_of (map printed_param params) ≡ idents_of params
+pub names-printed : (params : List Param) → names_of (map printed_param params) ≡ idents_of params
 names-printed [] = refl
 names-printed (p ∷ params) = ap (λ ns. rust_ident p.name ∷ ns) (names-printed params)
 
-same-length : (heap : Heap) (params : List Param) (vs : List WitValue) (args : List RustValue) → StandAll heap (types_of params) vs args → SameLength (map printed_param params) args
+pub same-length : (heap : Heap) (params : List Param) (vs : List WitValue) (args : List RustValue) → StandAll heap (types_of params) vs args → SameLength (map printed_param params) args
 same-length heap [] [] args h = subst (λ rs. SameLength [] rs) (sym h) tt
 same-length heap [] (v ∷ vs) args h = absurd h
 same-length heap (p ∷ params) [] args h = absurd h
@@ -84,11 +94,11 @@ same-length heap (p ∷ params) (v ∷ vs) args (r, rest, e, one, more) =
 
 -- arguments of these types own nothing
 
-plain_arg : (heap : Heap) (ty : WitType) (v : WitValue) (r : RustValue) → Stands heap ty v r → owned (val.Value r) ≡ None
+pub plain_arg : (heap : Heap) (ty : WitType) (v : WitValue) (r : RustValue) → Stands heap ty v r → owned (val.Value r) ≡ None
 plain_arg heap ty (scalar v) r is = ap (λ r. owned (val.Value r)) is ∙ owned-none (rust_value ty v) (no_buffer ty v)
 plain_arg heap ty (text bytes) r (p, pos, is, lies) = ap (λ r. owned (val.Value r)) is ∙ owned-lent p (length bytes)
 
-plain_args : (heap : Heap) (types : List WitType) (vs : List WitValue) (params : List FnParam) (args : List RustValue) → StandAll heap types vs args → ArePlain (bound_args params args)
+pub plain_args : (heap : Heap) (types : List WitType) (vs : List WitValue) (params : List FnParam) (args : List RustValue) → StandAll heap types vs args → ArePlain (bound_args params args)
 plain_args heap types vs [] args h = tt
 plain_args heap types vs (p ∷ params) [] h = tt
 plain_args heap [] [] (p ∷ params) (a ∷ args) h = absurd (cc)
@@ -99,9 +109,87 @@ plain_args heap (ty ∷ types) (v ∷ vs) (p ∷ params) (a ∷ args) (r, rest, 
     let same : args ≡ rest = cc in
     (ap (λ r. owned (val.Value r)) is ∙ plain_arg heap ty v r one, plain_args heap types vs params args (subst (StandAll heap types vs) (sym same) more))
 
-and_then-assoc : {A B C : Type 0} (o : Outcome A) (f : A → Act B) (g : B → Act C) → and_then (and_then o f) g ≡ and_then o (λ a. f a >>= g)
+pub and_then-assoc : {A B C : Type 0} (o : Outcome A) (f : A → Act B) (g : B → Act C) → and_then (and_then o f) g ≡ and_then o (λ a. f a >>= g)
 and_then-assoc (Done a s) f g = refl
 and_then-assoc (Stopped e s) f g = refl
+
+-- a result that is no text
+
+abbrev pub NoText : Option WitType → Type 0
+NoText r = r ≡ Some wit.String → ⊥
+
+abbrev scalar_result : Option WitType → Option WasmType
+scalar_result None = None
+scalar_result (Some ty) = Some (core_type ty)
+
+core-scalar : (r : Option WitType) → NoText r → core_result r ≡ scalar_result r
+core-scalar None n = refl
+core-scalar (Some wit.String) n = absurd (n refl)
+core-scalar (Some _) n = refl
+
+area-none : (r : Option WitType) (area : Bytes) → NoText r → area_stmts r area ≡ []
+area-none None area n = refl
+area-none (Some wit.String) area n = absurd (n refl)
+area-none (Some _) area n = refl
+
+pointer-none : (r : Option WitType) → NoText r → pointer_words r ≡ []
+pointer-none None n = refl
+pointer-none (Some wit.String) n = absurd (n refl)
+pointer-none (Some _) n = refl
+
+points-none : (r : Option WitType) (area : Bytes) (p : ℕ) (before : Scope) (stmts : List Stmt) (words : List Expr) (after : Scope) → NoText r → Points r area p before stmts words after → (stmts ≡ []) × (words ≡ []) × (after ≡ before)
+points-none None area p before stmts words after n l = l
+points-none (Some wit.String) area p before stmts words after n l = absurd (n refl)
+points-none (Some _) area p before stmts words after n l = l
+
+areas-none : (r : Option WitType) (choices : List Choice) → NoText r → areas r choices ≡ []
+areas-none None choices n = refl
+areas-none (Some wit.String) choices n = absurd (n refl)
+areas-none (Some _) choices n = refl
+
+due-none : (r : Option WitType) → NoText r → due r ≡ []
+due-none None n = refl
+due-none (Some wit.String) n = absurd (n refl)
+due-none (Some _) n = refl
+
+-- a body without an area
+record PlainBody (f : Function) (body : Block) : Type 0 where
+  pub area : Bytes
+  pub lowering : List Stmt
+  pub words : List Expr
+  pub lowered : Scope
+  pub lowers : LowersAll (first_scope f area) f.params lowering words lowered
+  pub base : Bytes
+  pub number : ℕ
+  pub called : Scope
+  pub calls : Declares lowered (call_kinds (scalar_result f.result)) number called
+  pub lifting : List Stmt
+  pub lifts : Lifts f.result base (result_name number) called lifting body.tail
+  pub stmts : body.stmts ≡ lowering ++ stmt.Import (import_decl number f) ∷ call_stmt (scalar_result f.result) number words ∷ lifting
+
+plain_body : (f : Function) (body : Block) → NoText f.result → IsBody f body → PlainBody f body
+plain_body f body n b =
+    let p = points-none f.result b.area b.pointer b.lowered b.pointing b.address b.pointed n b.points in
+    record {
+      area = b.area;
+      lowering = b.lowering;
+      words = b.words;
+      lowered = b.lowered;
+      lowers = b.lowers;
+      base = numbered kind.Pointer b.pointer;
+      number = b.number;
+      called = b.called;
+      calls = subst (λ s. Declares s (call_kinds (scalar_result f.result)) b.number b.called) p.2 (subst (λ c. Declares b.pointed (call_kinds c) b.number b.called) (core-scalar f.result n) b.calls);
+      lifting = b.lifting;
+      lifts = b.lifts;
+      stmts =
+          b.stmts
+          ∙ ap (λ ar. ar ++ (b.lowering ++ (b.pointing ++ stmt.Import (import_decl b.number f) ∷ call_stmt (core_result f.result) b.number (b.words ++ b.address) ∷ b.lifting))) (area-none f.result b.area n)
+          ∙ ap (λ pt. b.lowering ++ (pt ++ stmt.Import (import_decl b.number f) ∷ call_stmt (core_result f.result) b.number (b.words ++ b.address) ∷ b.lifting)) p.0
+          ∙ ap (λ ws. b.lowering ++ stmt.Import (import_decl b.number f) ∷ call_stmt (core_result f.result) b.number (b.words ++ ws) ∷ b.lifting) p.1
+          ∙ ap (λ c. b.lowering ++ stmt.Import (import_decl b.number f) ∷ call_stmt c b.number (b.words ++ []) ∷ b.lifting) (core-scalar f.result n)
+          ∙ ap (λ ws. b.lowering ++ stmt.Import (import_decl b.number f) ∷ call_stmt (scalar_result f.result) b.number ws ∷ b.lifting) (append-nil b.words);
+    }
 
 -- what follows the call
 
@@ -126,44 +214,45 @@ quiet_lift_by w k i to name before stmts e (t, after, d, is, tail) = (
 quiet_at_once : (w : Setting) (stmts : List Stmt) (e f : Expr) → stmts ≡ [] → e ≡ f → Quiet (eval w f) → Quiet (run_stmts w stmts) × Quiet (eval w e)
 quiet_at_once w stmts e f n q h = (subst (λ stmts. Quiet (run_stmts w stmts)) (sym n) (quiet_pure tt), subst (λ e. Quiet (eval w e)) (sym q) h)
 
-quiet_lifts : (w : Setting) (ty : WitType) (name : Bytes) (before : Scope) (stmts : List Stmt) (e : Expr) → LiftsAs ty name before stmts e → Quiet (run_stmts w stmts) × Quiet (eval w e)
-quiet_lifts w wit.Bool name before stmts e l = quiet_lift_by w kind.Bool BoolLift cast.U8 name before stmts e l
-quiet_lifts w wit.Char name before stmts e l = quiet_lift_by w kind.Char CharLift cast.U32 name before stmts e l
-quiet_lifts w wit.U8 name before stmts e l = quiet_at_once w stmts e (expr.Cast (expr.Local name) cast.U8) l.0 l.1 (quiet_cast w name cast.U8)
-quiet_lifts w wit.U16 name before stmts e l = quiet_at_once w stmts e (expr.Cast (expr.Local name) cast.U16) l.0 l.1 (quiet_cast w name cast.U16)
-quiet_lifts w wit.U32 name before stmts e l = quiet_at_once w stmts e (expr.Cast (expr.Local name) cast.U32) l.0 l.1 (quiet_cast w name cast.U32)
-quiet_lifts w wit.U64 name before stmts e l = quiet_at_once w stmts e (expr.Cast (expr.Local name) cast.U64) l.0 l.1 (quiet_cast w name cast.U64)
-quiet_lifts w wit.S8 name before stmts e l = quiet_at_once w stmts e (expr.Cast (expr.Local name) cast.I8) l.0 l.1 (quiet_cast w name cast.I8)
-quiet_lifts w wit.S16 name before stmts e l = quiet_at_once w stmts e (expr.Cast (expr.Local name) cast.I16) l.0 l.1 (quiet_cast w name cast.I16)
-quiet_lifts w _ name before stmts e l = quiet_at_once w stmts e (expr.Local name) l.0 l.1 (quiet_local w name)
+quiet_lifts : (w : Setting) (ty : WitType) (base name : Bytes) (before : Scope) (stmts : List Stmt) (e : Expr) → (ty ≡ wit.String → ⊥) → LiftsAs ty base name before stmts e → Quiet (run_stmts w stmts) × Quiet (eval w e)
+quiet_lifts w wit.String base name before stmts e n l = absurd (n refl)
+quiet_lifts w wit.Bool base name before stmts e n l = quiet_lift_by w kind.Bool BoolLift cast.U8 name before stmts e l
+quiet_lifts w wit.Char base name before stmts e n l = quiet_lift_by w kind.Char CharLift cast.U32 name before stmts e l
+quiet_lifts w wit.U8 base name before stmts e n l = quiet_at_once w stmts e (expr.Cast (expr.Local name) cast.U8) l.0 l.1 (quiet_cast w name cast.U8)
+quiet_lifts w wit.U16 base name before stmts e n l = quiet_at_once w stmts e (expr.Cast (expr.Local name) cast.U16) l.0 l.1 (quiet_cast w name cast.U16)
+quiet_lifts w wit.U32 base name before stmts e n l = quiet_at_once w stmts e (expr.Cast (expr.Local name) cast.U32) l.0 l.1 (quiet_cast w name cast.U32)
+quiet_lifts w wit.U64 base name before stmts e n l = quiet_at_once w stmts e (expr.Cast (expr.Local name) cast.U64) l.0 l.1 (quiet_cast w name cast.U64)
+quiet_lifts w wit.S8 base name before stmts e n l = quiet_at_once w stmts e (expr.Cast (expr.Local name) cast.I8) l.0 l.1 (quiet_cast w name cast.I8)
+quiet_lifts w wit.S16 base name before stmts e n l = quiet_at_once w stmts e (expr.Cast (expr.Local name) cast.I16) l.0 l.1 (quiet_cast w name cast.I16)
+quiet_lifts w _ base name before stmts e n l = quiet_at_once w stmts e (expr.Local name) l.0 l.1 (quiet_local w name)
 
 quiet_after : (w : Setting) (stmts : List Stmt) (e : Expr) (result : TypeExpr) → Quiet (run_stmts w stmts) × Quiet (eval w e) → Quiet (after_result w stmts (Some e) result)
 quiet_after w stmts e result (h, k) =
     quiet_then (run_stmts w stmts) (λ _. eval w e >>= (answer_and_leave w result)) h
     (λ _. quiet_then (eval w e) (answer_and_leave w result) k (quiet_answers w result))
 
-quiet_finish : (w : Setting) (t : ℕ) (r : Option WitType) (before : Scope) (lifting : List Stmt) (tail : Option Expr) → Lifts r (result_name t) before lifting tail → (v : Val) → Quiet (finish w t r lifting tail v)
-quiet_finish w t None before lifting tail (n, q) v =
+quiet_finish : (w : Setting) (t : ℕ) (r : Option WitType) (base : Bytes) (before : Scope) (lifting : List Stmt) (tail : Option Expr) → NoText r → Lifts r base (result_name t) before lifting tail → (v : Val) → Quiet (finish w t r lifting tail v)
+quiet_finish w t None base before lifting tail nt (n, q) v =
     quiet_then (drop_value w v) (λ _. after_result w lifting tail type.Unit) (quiet_drop w v)
     (λ _. subst (λ stmts. Quiet (after_result w stmts tail type.Unit)) (sym n)
     (subst (λ tail. Quiet (after_result w [] tail type.Unit)) (sym q)
     (quiet_then (run_stmts w []) (λ _. pure (val.Value value.Unit) >>= (answer_and_leave w type.Unit)) (quiet_pure tt)
     (λ _. quiet_then (pure (val.Value value.Unit)) (answer_and_leave w type.Unit) (quiet_pure (val.Value value.Unit)) (quiet_answers w type.Unit)))))
-quiet_finish w t (Some ty) before lifting tail (e, q, l) v =
+quiet_finish w t (Some ty) base before lifting tail nt (e, q, l) v =
     subst (λ tail. Quiet (bind (result_name t) v >> after_result w lifting tail (printed_type ty))) (sym q)
     (quiet_then (bind (result_name t) v) (λ _. after_result w lifting (Some e) (printed_type ty)) (quiet_bind (result_name t) v)
-    (λ _. quiet_after w lifting e (printed_type ty) (quiet_lifts w ty (result_name t) before lifting e l)))
+    (λ _. quiet_after w lifting e (printed_type ty) (quiet_lifts w ty base (result_name t) before lifting e (λ h. nt (ap Some h)) l)))
 
-abbrev declared : ℕ → Function → State → State
+abbrev pub declared : ℕ → Function → State → State
 declared t f s = record s { imports = s.imports ++ import_decl t f ∷ [] }
 
 -- behind the lowering
 abbrev tail_stmts : ℕ → Function → List Expr → List Stmt → List Stmt
-tail_stmts t f words lifting = stmt.Import (import_decl t f) ∷ call_stmt f.result t words ∷ lifting
+tail_stmts t f words lifting = stmt.Import (import_decl t f) ∷ call_stmt (scalar_result f.result) t words ∷ lifting
 
 abbrev run_tail_stmts : Setting → ℕ → Function → Option WitType → List Expr → List Stmt → Option Expr → Act (Option RustValue)
 run_tail_stmts w t f r words lifting tail =
-    run_stmts w (stmt.Import (import_decl t f) ∷ call_stmt r t words ∷ lifting) >> (run_tail w tail >>= (answer_and_leave w (printed_result r)))
+    run_stmts w (stmt.Import (import_decl t f) ∷ call_stmt (scalar_result r) t words ∷ lifting) >> (run_tail w tail >>= (answer_and_leave w (printed_result r)))
 
 tail_is : (w : Setting) (t : ℕ) (f : Function) (r : Option WitType) (words : List Expr) (lifting : List Stmt) (tail : Option Expr) (s : State)
     → run_tail_stmts w t f r words lifting tail s ≡ and_then (eval w (import_call t words) (declared t f s)) (finish w t r lifting tail)
@@ -185,15 +274,15 @@ tail_is w t f (Some ty) words lifting tail s = go (eval w (import_call t words) 
 record Finishes (w : Setting) (t : ℕ) (r : Option WitType) (v : Option WitValue) (lifting : List Stmt) (tail : Option Expr) (s : State) : Type 0 where
   pub value : Option RustValue
   pub state : State
-  pub runs : and_then (take_answer w (core_result r) s) (finish w t r lifting tail) ≡ Done value state
-  pub stands : StandsResult r v value
+  pub runs : and_then (take_answer w (scalar_result r) s) (finish w t r lifting tail) ≡ Done value state
+  pub stands : StandsResult r v value []
   pub account : state.heap ≡ s.heap
   pub requests : state.requests ≡ s.requests
 
-finishes : (w : Setting) (t : ℕ) (r : Option WitType) (v : Option WitValue) (before : Scope) (lifting : List Stmt) (tail : Option Expr) (s : State)
-    → Lifts r (result_name t) before lifting tail → Found w.items (lifting_items r) → IsResult r v → HonestPeer r v w.answer s.heap → ArePlain s.locals → Finishes w t r v lifting tail s
+finishes : (w : Setting) (t : ℕ) (r : Option WitType) (v : Option WitValue) (base : Bytes) (before : Scope) (lifting : List Stmt) (tail : Option Expr) (s : State) (c : CallPoint)
+    → NoText r → Lifts r base (result_name t) before lifting tail → Found w.items (lifting_items r) → IsResult r v → HonestPeer r v w.answer c → ArePlain s.locals → Finishes w t r v lifting tail s
 unfolding bind
-finishes w t None None before lifting tail s (n, q) found good h plain = record {
+finishes w t None None base before lifting tail s c nt (n, q) found good h plain = record {
   value = None;
   state = record s { locals = [] };
   runs =
@@ -201,17 +290,17 @@ finishes w t None None before lifting tail s (n, q) found good h plain = record 
       ∙ ap (λ o. and_then (free_owned w o s) (λ _. after_result w lifting tail type.Unit)) (owned-none value.Unit no_unit_buffer)
       ∙ ap (λ stmts. after_result w stmts tail type.Unit s) n ∙ ap (λ tail. after_result w [] tail type.Unit s) q
       ∙ answers_plain w type.Unit (val.Value value.Unit) None s answered-unit plain;
-  stands = refl;
+  stands = (refl, refl);
   account = refl;
   requests = refl;
 }
-finishes w t None (Some v) before lifting tail s l found good h plain = absurd good
-finishes w t (Some ty) None before lifting tail s l found good h plain = absurd good
-finishes w t (Some ty) (Some (text bytes)) before lifting tail s l found good h plain = absurd h
-finishes w t (Some ty) (Some (scalar v)) before lifting tail s (e, q, l) found good (x, a, takes) plain =
+finishes w t None (Some v) base before lifting tail s c nt l found good h plain = absurd good
+finishes w t (Some ty) None base before lifting tail s c nt l found good h plain = absurd good
+finishes w t (Some ty) (Some (text bytes)) base before lifting tail s c nt l found good h plain = absurd (nt (ap Some good.0))
+finishes w t (Some ty) (Some (scalar v)) base before lifting tail s c nt (e, q, l) found good (x, a, takes) plain =
     let tk = taken ty v x good takes in
     let bound : State = record s { locals = s.locals ++ record { name = result_name t; value = Some (val.Word x) } ∷ [] } in
-    let li = tk.lifts w (result_name t) before lifting e bound l found (reads-new (result_name t) (Some (val.Word x)) s.locals)
+    let li = tk.lifts w base (result_name t) before lifting e bound l found (reads-new (result_name t) (Some (val.Word x)) s.locals)
     (plain-append s.locals (record { name = result_name t; value = Some (val.Word x) } ∷ []) plain (refl, tt)) in
     let ends : State = record bound { locals = li.locals } in
     record {
@@ -223,18 +312,18 @@ finishes w t (Some ty) (Some (scalar v)) before lifting tail s (e, q, l) found g
           ∙ ap (λ o. and_then o (λ _. eval w e >>= (answer_and_leave w (printed_type ty)))) li.runs
           ∙ ap (λ o. and_then o (answer_and_leave w (printed_type ty))) li.gives
           ∙ answers_plain w (printed_type ty) li.given (Some (rust_value ty v)) ends li.answers li.plain;
-      stands = refl;
+      stands = (refl, refl);
       account = refl;
       requests = refl;
     }
 
 -- the call
 
-abbrev point : Function → Heap → List Word → CallPoint
+abbrev pub point : Function → Heap → List Word → CallPoint
 point f heap words = record { target = import_target f; words = words; values = []; heap = heap }
 
-call_is : (t : ℕ) (f : Function) (s : State) (words : List Word) → local_named (import_name t) s.locals ≡ None → s.imports ≡ import_decl t f ∷ []
-    → words_of (core_params f.params) (map val.Word words) ≡ Some words → call_point s (import_name t) (map val.Word words) ≡ Some (point f s.heap words, core_result f.result)
+pub call_is : (t : ℕ) (f : Function) (s : State) (words : List Word) → local_named (import_name t) s.locals ≡ None → s.imports ≡ import_decl t f ∷ []
+    → words_of (core_params f) (map val.Word words) ≡ Some words → call_point s (import_name t) (map val.Word words) ≡ Some (point f s.heap words, core_result f.result)
 unfolding call_point root_module
 call_is t f s words free imports typed =
     ap (λ l. option_and_then (called_with s (map val.Word words)) (unhidden l (import_named (import_name t) s.imports))) free
@@ -242,16 +331,16 @@ call_is t f s words free imports typed =
     ∙ ap (option_and_then (called_with s (map val.Word words))) (declared-alone (import_decl t f))
     ∙ ap (option_map (λ ws. (point_of (import_decl t f) s.heap ws, core_result f.result))) typed
 
-free-import : (used : List Bytes) (r : Option WitType) (t : ℕ) → is_free used (call_kinds r) t ≡ true → is_used used (import_name t) ≡ false
+free-import : (used : List Bytes) (r : Option WasmType) (t : ℕ) → is_free used (call_kinds r) t ≡ true → is_used used (import_name t) ≡ false
 free-import used None t e = free-one used kind.Import [] t e
 free-import used (Some ty) t e = free-one used kind.Import (kind.Returned ∷ []) t e
 
 -- whole
 
-used-prefix : (names more : List Bytes) (name : Bytes) → is_used (names ++ more) name ≡ false → is_used names name ≡ false
+pub used-prefix : (names more : List Bytes) (name : Bytes) → is_used (names ++ more) name ≡ false → is_used names name ≡ false
 used-prefix names more name h = (or_parts (is_used names name) (is_used more name) (sym (is_used-append names more name) ∙ h)).0
 
-all-used : (front names more : List Bytes) → UsedAll ((front ++ names) ++ more) names
+pub all-used : (front names more : List Bytes) → UsedAll ((front ++ names) ++ more) names
 all-used front [] more = tt
 all-used front (name ∷ names) more = (
   is_used-append (front ++ name ∷ names) more name
@@ -264,7 +353,7 @@ pub record Fits (f : Function) (w : Setting) : Type 0 where
   pub distinct : is_distinct (param_idents f) ≡ true
   pub found : Found w.items (asked_by f)
 
-module _ (f : Function) (i : FnItem) (written : IsWritten f i) (w : Setting) (fits : Fits f w) (vs : List WitValue) (v : Option WitValue) (args : List RustValue) (heap : Heap) (choices : Choices)
+module _ (f : Function) (i : FnItem) (written : IsWritten f i) (nt : NoText f.result) (w : Setting) (fits : Fits f w) (vs : List WitValue) (v : Option WitValue) (args : List RustValue) (heap : Heap) (choices : Choices)
     (good : AreValues (param_types f) vs) (is_result : IsResult f.result v) (stand : StandAll heap (param_types f) vs args) where
   abbrev begin : State
   begin = start i args heap choices
@@ -272,7 +361,10 @@ module _ (f : Function) (i : FnItem) (written : IsWritten f i) (w : Setting) (fi
   names : names_of i.params ≡ param_idents f
   names = ap names_of written.params ∙ names-printed f.params
 
-  within_first : Within (first_scope f).used begin.locals
+  abbrev body : PlainBody f i.body
+  body = plain_body f i.body nt written.body
+
+  within_first : Within (first_scope f body.area).used begin.locals
   within_first name h = unbound i.params args name (ap (λ ns. list_any (λ u. bytes_eq u name) ns) names ∙ used-prefix (param_idents f) _ name h)
 
   arguments : ReadsAll (param_idents f) args begin.locals
@@ -280,14 +372,20 @@ module _ (f : Function) (i : FnItem) (written : IsWritten f i) (w : Setting) (fi
       subst (λ ns. ReadsAll ns args begin.locals) names
       (reads_args i.params args (ap is_distinct names ∙ fits.distinct) (subst (λ ps. SameLength ps args) (sym written.params) (same-length heap f.params vs args stand)))
 
-  abbrev body : IsBody f i.body
-  body = written.body
-
-  lowering : Lowered w begin heap f.params vs (first_scope f) body.lowered body.lowering body.words
+  lowering : Lowered w begin heap f.params vs (first_scope f body.area) body.lowered body.lowering body.words
   lowering =
-      lower_all w begin heap f.params vs args (first_scope f) body.lowered body.lowering body.words body.lowers good stand
-      (found-left w.items (flat_map (λ p. lowering_items p.ty) f.params) (lifting_items f.result) fits.found)
-      (all-used [] (param_idents f) (cleanup_list ∷ ret_area ∷ [])) arguments within_first (plain_args heap (param_types f) vs i.params args stand)
+      lower_all w begin heap f.params vs args (first_scope f body.area) body.lowered body.lowering body.words body.lowers good stand
+      (found-right w.items (signature_items f.result) (flat_map (λ p. lowering_items p.ty) f.params)
+      (found-left w.items (signature_items f.result ++ flat_map (λ p. lowering_items p.ty) f.params) (lifting_items f.result) fits.found))
+      (all-used [] (param_idents f) (cleanup_list ∷ body.area ∷ [])) arguments within_first
+
+  plain : ArePlain lowering.locals
+  plain = adds-plain begin.locals lowering.locals (plain_args heap (param_types f) vs i.params args stand) lowering.adds
+
+  typed : words_of (core_params f) (map val.Word lowering.lent) ≡ Some lowering.lent
+  typed =
+      ap (λ ps. words_of (param_words f.params ++ ps) (map val.Word lowering.lent)) (pointer-none f.result nt)
+      ∙ ap (λ ts. words_of ts (map val.Word lowering.lent)) (append-nil (param_words f.params)) ∙ lowering.typed
 
   abbrev lowered_state : State
   lowered_state = record begin { locals = lowering.locals }
@@ -308,15 +406,16 @@ module _ (f : Function) (i : FnItem) (written : IsWritten f i) (w : Setting) (fi
   run = run_item w i args heap choices
 
   free_name : local_named (import_name body.number) lowering.locals ≡ None
-  free_name = lowering.within (import_name body.number) (free-import body.lowered.used f.result body.number body.calls.number.free)
+  free_name = lowering.within (import_name body.number) (free-import body.lowered.used (scalar_result f.result) body.number body.calls.number.free)
 
-  calls_out : eval w (import_call body.number body.words) calling ≡ take_answer w (core_result f.result) recorded
+  calls_out : eval w (import_call body.number body.words) calling ≡ take_answer w (scalar_result f.result) recorded
   calls_out =
       call_gives w (local_path (import_name body.number)) body.words (map val.Word lowering.lent) calling (lowering.gives calling (λ name h. refl))
       ∙ import_gives w (local_path (import_name body.number)) (import_name body.number) (map val.Word lowering.lent) calling here (core_result f.result) (calls_alone (import_name body.number))
-      (call_is body.number f calling lowering.lent free_name refl lowering.typed)
+      (call_is body.number f calling lowering.lent free_name refl typed)
+      ∙ ap (λ r. take_answer w r recorded) (core-scalar f.result nt)
 
-  runs_to : run_fn w i begin ≡ and_then (take_answer w (core_result f.result) recorded) end
+  runs_to : run_fn w i begin ≡ and_then (take_answer w (scalar_result f.result) recorded) end
   runs_to =
       ap (λ stmts. and_then (and_then (run_stmts w stmts begin) (λ _. run_tail w i.body.tail)) (answer_and_leave w i.result)) body.stmts
       ∙ ap (λ o. and_then (and_then o (λ _. run_tail w i.body.tail)) (answer_and_leave w i.result))
@@ -326,27 +425,42 @@ module _ (f : Function) (i : FnItem) (written : IsWritten f i) (w : Setting) (fi
       ∙ tail_is w body.number f f.result body.words body.lifting i.body.tail lowered_state
       ∙ ap (λ o. and_then o end) calls_out
 
-  ends : run ≡ ended (and_then (take_answer w (core_result f.result) recorded) end)
+  ends : run ≡ ended (and_then (take_answer w (scalar_result f.result) recorded) end)
   unfolding run run_item
   ends = ap ended runs_to
 
   calls_once : run.calls ≡ here ∷ []
   calls_once =
-      ap (λ r. r.calls) ends ∙ ended-calls (and_then (take_answer w (core_result f.result) recorded) end)
-      ∙ (quiet_then (take_answer w (core_result f.result)) end (quiet_answer w (core_result f.result)) (quiet_finish w body.number f.result body.called body.lifting i.body.tail body.lifts)).quiet recorded
+      ap (λ r. r.calls) ends ∙ ended-calls (and_then (take_answer w (scalar_result f.result) recorded) end)
+      ∙ (quiet_then (take_answer w (scalar_result f.result)) end (quiet_answer w (scalar_result f.result)) (quiet_finish w body.number f.result body.base body.called body.lifting i.body.tail nt body.lifts)).quiet recorded
 
-  pub carries_written : ((c : CallPoint) → Made c (run_item w i args heap choices) → HonestPeer f.result v w.answer c.heap) → Carries f vs v heap (run_item w i args heap choices)
+  -- there is no area
+  abbrev called_as : CallPoint → Type 0
+  called_as c = c ≡ record {
+    target = import_target f;
+    words = lowering.lent ++ pointers (areas f.result choices.list);
+    values = [];
+    heap = record heap { blocks = heap.blocks ++ areas f.result choices.list };
+  }
+
+  here_is : called_as here
+  here_is =
+      ap (λ ws. record here { words = ws }) (sym (append-nil lowering.lent)) ∙ ap (λ bs. record here { words = lowering.lent ++ []; heap = record heap { blocks = bs } }) (sym (append-nil heap.blocks))
+      ∙ ap (λ more. record here { words = lowering.lent ++ pointers more; heap = record heap { blocks = heap.blocks ++ more } }) (sym (areas-none f.result choices.list nt))
+
+  pub carries_plain : ((c : CallPoint) → Made c (run_item w i args heap choices) → HonestPeer f.result v w.answer c) → Carries f vs v heap choices (run_item w i args heap choices)
   unfolding run
-  carries_written honest =
-      let g = finishes w body.number f.result v body.called body.lifting i.body.tail recorded body.lifts
-      (found-right w.items (flat_map (λ p. lowering_items p.ty) f.params) (lifting_items f.result) fits.found) is_result (honest here ([], [], calls_once)) lowering.plain in
+  carries_plain honest =
+      let g = finishes w body.number f.result v body.base body.called body.lifting i.body.tail recorded here nt body.lifts
+      (found-right w.items (signature_items f.result ++ flat_map (λ p. lowering_items p.ty) f.params) (lifting_items f.result) fits.found) is_result (honest here ([], [], calls_once)) plain in
       let e : run ≡ run_at stop_of.Done g.value g.state = ends ∙ ap ended g.runs in
       record {
         done = ap (λ r. r.stop) e;
         words = lowering.lent;
-        call = calls_once;
+        call = calls_once ∙ ap (λ c. c ∷ []) here_is;
         represents = lowering.represents;
-        gives = subst (StandsResult f.result v) (sym (ap (λ r. r.value) e)) g.stands;
-        account = ap (λ r. r.heap) e ∙ g.account;
-        requests = ap (λ r. r.requests) e ∙ g.requests;
+        blocks = [];
+        gives = subst (λ r. StandsResult f.result v r []) (sym (ap (λ r. r.value) e)) g.stands;
+        account = ap (λ r. r.heap) e ∙ g.account ∙ ap (λ bs. record heap { blocks = bs }) (sym (append-nil heap.blocks));
+        requests = ap (λ r. r.requests) e ∙ g.requests ∙ sym (due-none f.result nt);
       }

@@ -135,45 +135,45 @@ by_item ty v w k i to name x z before stmts e s (t, after, declares, is, tail) a
 -- a word that is taken for a value is one of the core type, and is lifted to it
 pub record Taken (ty : WitType) (v : Scalar) (x : Word) : Type 0 where
   pub is_word : is_word_of (core_type ty) x ≡ true
-  pub lifts : (w : Setting) (name : List ℕ) (before : Scope) (stmts : List Stmt) (e : Expr) (s : State) → LiftsAs ty name before stmts e
+  pub lifts : (w : Setting) (base name : List ℕ) (before : Scope) (stmts : List Stmt) (e : Expr) (s : State) → LiftsAs ty base name before stmts e
       → Found w.items (lifting_items (Some ty)) → value_of (local_named name s.locals) ≡ Some (val.Word x) → ArePlain s.locals → LiftsTo ty v w stmts e s
 
 taken_by : (ty : WitType) (v : ℤ) (x : Word) (p : Primitive) (to : CastType) (z u : ℤ)
-    → ((name : List ℕ) (before : Scope) (stmts : List Stmt) (e : Expr) → LiftsAs ty name before stmts e → (stmts ≡ []) × (e ≡ expr.Cast (expr.Local name) to))
+    → ((base name : List ℕ) (before : Scope) (stmts : List Stmt) (e : Expr) → LiftsAs ty base name before stmts e → (stmts ≡ []) × (e ≡ expr.Cast (expr.Local name) to))
     → printed_type ty ≡ type.Primitive p → is_printed_as p ty ≡ true → integer_of_word x ≡ Some z → cast_integer to z ≡ value.Num ty u → v ≡ u → is_of_kind ty v ≡ true → is_word_of (core_type ty) x ≡ true → Taken ty (number v) x
 taken_by ty v x p to z u l q r i c e h k = record {
   is_word = k;
-  lifts = λ w name before stmts f s lifts found at plain.
-      at_once ty (number v) w stmts f (expr.Cast (expr.Local name) to) s (val.Value (value.Num ty v)) (l name before stmts f lifts).0 (l name before stmts f lifts).1
+  lifts = λ w base name before stmts f s lifts found at plain.
+      at_once ty (number v) w stmts f (expr.Cast (expr.Local name) to) s (val.Value (value.Num ty v)) (l base name before stmts f lifts).0 (l base name before stmts f lifts).1
       (cast_gives w name to x z s at i ∙ ap (λ r. Done (val.Value r) s) (c ∙ ap (value.Num ty) (sym e)))
       (ap (λ t. answer_of t (val.Value (value.Num ty v))) q ∙ answered-number p ty v r h) plain;
 }
 
 -- a word that is the value already
 taken_as : (ty : WitType) (v : Scalar) (x : Word)
-    → ((name : List ℕ) (before : Scope) (stmts : List Stmt) (e : Expr) → LiftsAs ty name before stmts e → (stmts ≡ []) × (e ≡ expr.Local name))
+    → ((base name : List ℕ) (before : Scope) (stmts : List Stmt) (e : Expr) → LiftsAs ty base name before stmts e → (stmts ≡ []) × (e ≡ expr.Local name))
     → answer_of (printed_type ty) (val.Word x) ≡ Some (Some (rust_value ty v)) → is_word_of (core_type ty) x ≡ true → Taken ty v x
 taken_as ty v x l a k = record {
   is_word = k;
-  lifts = λ w name before stmts f s lifts found at plain.
-      at_once ty v w stmts f (expr.Local name) s (val.Word x) (l name before stmts f lifts).0 (l name before stmts f lifts).1 (local_gives w name (val.Word x) s at refl) a plain;
+  lifts = λ w base name before stmts f s lifts found at plain.
+      at_once ty v w stmts f (expr.Local name) s (val.Word x) (l base name before stmts f lifts).0 (l base name before stmts f lifts).1 (local_gives w name (val.Word x) s at refl) a plain;
 }
 
 taken-number : (ty : WitType) (v : ℤ) (x : Word) → is_of_kind ty v ≡ true → TakesNumber ty v x → Taken ty (number v) x
-taken-number wit.U8 v x h (z, e, q) = subst (Taken wit.U8 (number v)) (sym e) (taken_by wit.U8 v (word.I32 z) prim.U8 cast.U8 z (low 8 z) (λ n b t e l. l) refl refl refl refl q h refl)
-taken-number wit.U16 v x h (z, e, q) = subst (Taken wit.U16 (number v)) (sym e) (taken_by wit.U16 v (word.I32 z) prim.U16 cast.U16 z (low 16 z) (λ n b t e l. l) refl refl refl refl q h refl)
-taken-number wit.U32 v x h (z, e, q) = subst (Taken wit.U32 (number v)) (sym e) (taken_by wit.U32 v (word.I32 z) prim.U32 cast.U32 z (low 32 z) (λ n b t e l. l) refl refl refl refl q h refl)
-taken-number wit.U64 v x h (z, e, q) = subst (Taken wit.U64 (number v)) (sym e) (taken_by wit.U64 v (word.I64 z) prim.U64 cast.U64 z (low 64 z) (λ n b t e l. l) refl refl refl refl q h refl)
-taken-number wit.S8 v x h (z, e, q) = subst (Taken wit.S8 (number v)) (sym e) (taken_by wit.S8 v (word.I32 z) prim.I8 cast.I8 z (cast_signed w8 (unsigned_abs (low 8 z))) (λ n b t e l. l) refl refl refl refl q h refl)
-taken-number wit.S16 v x h (z, e, q) = subst (Taken wit.S16 (number v)) (sym e) (taken_by wit.S16 v (word.I32 z) prim.I16 cast.I16 z (cast_signed w16 (unsigned_abs (low 16 z))) (λ n b t e l. l) refl refl refl refl q h refl)
-taken-number wit.S32 v x h e = subst (Taken wit.S32 (number v)) (sym e) (taken_as wit.S32 (number v) (word.I32 v) (λ n b t e l. l) (answered-i32 v) refl)
-taken-number wit.S64 v x h e = subst (Taken wit.S64 (number v)) (sym e) (taken_as wit.S64 (number v) (word.I64 v) (λ n b t e l. l) (answered-i64 v) refl)
+taken-number wit.U8 v x h (z, e, q) = subst (Taken wit.U8 (number v)) (sym e) (taken_by wit.U8 v (word.I32 z) prim.U8 cast.U8 z (low 8 z) (λ a n b t e l. l) refl refl refl refl q h refl)
+taken-number wit.U16 v x h (z, e, q) = subst (Taken wit.U16 (number v)) (sym e) (taken_by wit.U16 v (word.I32 z) prim.U16 cast.U16 z (low 16 z) (λ a n b t e l. l) refl refl refl refl q h refl)
+taken-number wit.U32 v x h (z, e, q) = subst (Taken wit.U32 (number v)) (sym e) (taken_by wit.U32 v (word.I32 z) prim.U32 cast.U32 z (low 32 z) (λ a n b t e l. l) refl refl refl refl q h refl)
+taken-number wit.U64 v x h (z, e, q) = subst (Taken wit.U64 (number v)) (sym e) (taken_by wit.U64 v (word.I64 z) prim.U64 cast.U64 z (low 64 z) (λ a n b t e l. l) refl refl refl refl q h refl)
+taken-number wit.S8 v x h (z, e, q) = subst (Taken wit.S8 (number v)) (sym e) (taken_by wit.S8 v (word.I32 z) prim.I8 cast.I8 z (cast_signed w8 (unsigned_abs (low 8 z))) (λ a n b t e l. l) refl refl refl refl q h refl)
+taken-number wit.S16 v x h (z, e, q) = subst (Taken wit.S16 (number v)) (sym e) (taken_by wit.S16 v (word.I32 z) prim.I16 cast.I16 z (cast_signed w16 (unsigned_abs (low 16 z))) (λ a n b t e l. l) refl refl refl refl q h refl)
+taken-number wit.S32 v x h e = subst (Taken wit.S32 (number v)) (sym e) (taken_as wit.S32 (number v) (word.I32 v) (λ a n b t e l. l) (answered-i32 v) refl)
+taken-number wit.S64 v x h e = subst (Taken wit.S64 (number v)) (sym e) (taken_as wit.S64 (number v) (word.I64 v) (λ a n b t e l. l) (answered-i64 v) refl)
 taken-number _ v x h e = absurd e
 
 taken-bool : (b : Bool) (z : ℤ) → bit b ≡ low 8 z → Taken wit.Bool (truth b) (word.I32 z)
 taken-bool b z q = record {
   is_word = refl;
-  lifts = λ w name before stmts e s l found at plain.
+  lifts = λ w base name before stmts e s l found at plain.
       by_item wit.Bool (truth b) w kind.Bool BoolLift cast.U8 name (word.I32 z) z before stmts e s l at refl (found-first w.items BoolLift [] found)
       (not-converted (val.Value (cast_integer cast.U8 z))).0 (ap (λ n. lift_of w.form BoolLift (val.Value (value.Num wit.U8 n))) (sym q) ∙ lifted-bool w.form b) (answered-bool b) plain;
 }
@@ -181,7 +181,7 @@ taken-bool b z q = record {
 taken-char : (c : ℕ) (z : ℤ) → is_scalar c ≡ true → pos c ≡ low 32 z → Taken wit.Char (char c) (word.I32 z)
 taken-char c z k q = record {
   is_word = refl;
-  lifts = λ w name before stmts e s l found at plain.
+  lifts = λ w base name before stmts e s l found at plain.
       by_item wit.Char (char c) w kind.Char CharLift cast.U32 name (word.I32 z) z before stmts e s l at refl (found-first w.items CharLift [] found)
       (not-converted (val.Value (cast_integer cast.U32 z))).1 (ap (λ n. lift_of w.form CharLift (val.Value (value.Num wit.U32 n))) (sym q) ∙ lifted-char w.form c k) (answered-char c k) plain;
 }
@@ -190,5 +190,5 @@ pub taken : (ty : WitType) (v : Scalar) (x : Word) → IsScalar ty v → Takes t
 taken ty (number z) x h t = taken-number ty z x h t
 taken ty (truth b) x h (z, e, q) = subst (λ t. Taken t (truth b) x) (sym h) (subst (Taken wit.Bool (truth b)) (sym e) (taken-bool b z q))
 taken ty (char c) x (h, k) (z, e, q) = subst (λ t. Taken t (char c) x) (sym h) (subst (Taken wit.Char (char c)) (sym e) (taken-char c z k q))
-taken ty (f32 bits) x (h, k) e = subst (λ t. Taken t (f32 bits) x) (sym h) (subst (Taken wit.F32 (f32 bits)) (sym e) (taken_as wit.F32 (f32 bits) (word.F32 bits) (λ n b t e l. l) (answered-f32 bits) refl))
-taken ty (f64 bits) x (h, k) e = subst (λ t. Taken t (f64 bits) x) (sym h) (subst (Taken wit.F64 (f64 bits)) (sym e) (taken_as wit.F64 (f64 bits) (word.F64 bits) (λ n b t e l. l) (answered-f64 bits) refl))
+taken ty (f32 bits) x (h, k) e = subst (λ t. Taken t (f32 bits) x) (sym h) (subst (Taken wit.F32 (f32 bits)) (sym e) (taken_as wit.F32 (f32 bits) (word.F32 bits) (λ a n b t e l. l) (answered-f32 bits) refl))
+taken ty (f64 bits) x (h, k) e = subst (λ t. Taken t (f64 bits) x) (sym h) (subst (Taken wit.F64 (f64 bits)) (sym e) (taken_as wit.F64 (f64 bits) (word.F64 bits) (λ a n b t e l. l) (answered-f64 bits) refl))

@@ -11,10 +11,14 @@ use Rattle.rust_tree.specs.declared.item.FnItem.{FnItem}
 use Rattle.rust_tree.specs.declared.stmt.Stmt.{Stmt}
 use Rattle.rust_tree.specs.declared.stmt.Stmt.TheVariants as stmt
 use Rattle.rust_tree.specs.Tree.{Tree}
-use Rattle.rust_gen.specs.Body.{IsWritten, LiftsAs, Lifts, LowersAll, LowersAs, call_stmt, import_decl, result_name, root_module}
+use Rattle.rust_gen.specs.Body.{IsBody, IsWritten, LiftsAs, Points, area_stmts, Lifts, LowersAll, LowersAs, call_stmt, import_decl, result_name, root_module}
 use Rattle.rust_gen.specs.Bound.{Binds}
 use Rattle.rust_gen.specs.declared.scope.Scope.{Scope}
-use Rattle.rust_gen.specs.Scope.{Bytes, first_scope}
+use Rattle.wit_model.specs.declared.size.WasmType.{WasmType}
+use Rattle.rust_tree.specs.declared.stmt.Block.{Block}
+use Rattle.rust_gen.specs.Printed.{core_result}
+use Rattle.rust_gen.specs.declared.scope.LocalKind.TheVariants as kind
+use Rattle.rust_gen.specs.Scope.{Bytes, first_scope, numbered}
 use Rattle.rust_gen.specs.Wrapper.{Declares, Wraps, declared}
 
 declared-append : (a b : List Stmt) → declared (a ++ b) ≡ declared a ++ declared b
@@ -34,22 +38,37 @@ lowering-none before [] stmts words after (is, ws, same) = ap declared is
 lowering-none before (p ∷ params) stmts words after (first, word, between, later, more, l, ls, is, ws) =
     ap declared is ∙ declared-append first later ∙ ap (λ ds. ds ++ declared later) (lowers-none p.ty before p first word between l) ∙ lowering-none between params later more after ls
 
-lifts-none : (ty : WitType) (name : Bytes) (before : Scope) (stmts : List Stmt) (e : Expr) → LiftsAs ty name before stmts e → declared stmts ≡ []
-lifts-none wit.Bool name before stmts e (t, after, d, is, tail) = ap declared is
-lifts-none wit.Char name before stmts e (t, after, d, is, tail) = ap declared is
-lifts-none _ name before stmts e l = ap declared l.0
+area-none : (r : Option WitType) (area : Bytes) → declared (area_stmts r area) ≡ []
+area-none (Some wit.String) area = refl
+area-none None area = refl
+area-none (Some _) area = refl
 
-lifting-none : (r : Option WitType) (name : Bytes) (before : Scope) (stmts : List Stmt) (tail : Option Expr) → Lifts r name before stmts tail → declared stmts ≡ []
-lifting-none None name before stmts tail l = ap declared l.0
-lifting-none (Some ty) name before stmts tail (e, q, l) = lifts-none ty name before stmts e l
+points-none : (r : Option WitType) (area : Bytes) (p : ℕ) (before : Scope) (stmts : List Stmt) (words : List Expr) (after : Scope) → Points r area p before stmts words after → declared stmts ≡ []
+points-none (Some wit.String) area p before stmts words after (d, is, ws) = ap declared is
+points-none None area p before stmts words after l = ap declared l.0
+points-none (Some _) area p before stmts words after l = ap declared l.0
 
-called-none : (r : Option WitType) (t : ℕ) (words : List Expr) (stmts : List Stmt) → declared (call_stmt r t words ∷ stmts) ≡ declared stmts
+lifts-none : (ty : WitType) (base name : Bytes) (before : Scope) (stmts : List Stmt) (e : Expr) → LiftsAs ty base name before stmts e → declared stmts ≡ []
+lifts-none wit.Bool base name before stmts e (t, after, d, is, tail) = ap declared is
+lifts-none wit.Char base name before stmts e (t, after, d, is, tail) = ap declared is
+lifts-none wit.String base name before stmts e l = ap declared l.is
+lifts-none _ base name before stmts e l = ap declared l.0
+
+lifting-none : (r : Option WitType) (base name : Bytes) (before : Scope) (stmts : List Stmt) (tail : Option Expr) → Lifts r base name before stmts tail → declared stmts ≡ []
+lifting-none None base name before stmts tail l = ap declared l.0
+lifting-none (Some ty) base name before stmts tail (e, q, l) = lifts-none ty base name before stmts e l
+
+called-none : (r : Option WasmType) (t : ℕ) (words : List Expr) (stmts : List Stmt) → declared (call_stmt r t words ∷ stmts) ≡ declared stmts
 called-none None t words stmts = refl
 called-none (Some ty) t words stmts = refl
 
 declares : (t : ℕ) (f : Function) → Declares f (import_decl t f)
 unfolding root_module
 declares t f = record { of_root = refl; of_name = refl; params = refl; answer = refl }
+
+-- the declaration, the call, and what follows
+abbrev called : {f : Function} {body : Block} → IsBody f body → List Stmt
+called {f = f} b = stmt.Import (import_decl b.number f) ∷ call_stmt (core_result f.result) b.number (b.words ++ b.address) ∷ b.lifting
 
 pub wraps : (f : Function) (item : FnItem) → IsWritten f item → Wraps f item
 wraps f item w =
@@ -61,10 +80,14 @@ wraps f item w =
       answer = w.answer;
       declares = (
         import_decl b.number f,
-        ap declared b.stmts
-            ∙ declared-append b.lowering (stmt.Import (import_decl b.number f) ∷ call_stmt f.result b.number b.words ∷ b.lifting)
-            ∙ ap (λ ds. ds ++ declared (stmt.Import (import_decl b.number f) ∷ call_stmt f.result b.number b.words ∷ b.lifting)) (lowering-none (first_scope f) f.params b.lowering b.words b.lowered b.lowers)
-            ∙ ap (λ ds. import_decl b.number f ∷ ds) (called-none f.result b.number b.words b.lifting ∙ lifting-none f.result (result_name b.number) b.called b.lifting item.body.tail b.lifts),
+        ap declared b.stmts ∙ declared-append (area_stmts f.result b.area) (b.lowering ++ (b.pointing ++ called b))
+            ∙ ap (λ ds. ds ++ declared (b.lowering ++ (b.pointing ++ called b))) (area-none f.result b.area)
+            ∙ declared-append b.lowering (b.pointing ++ called b)
+            ∙ ap (λ ds. ds ++ declared (b.pointing ++ called b)) (lowering-none (first_scope f b.area) f.params b.lowering b.words b.lowered b.lowers)
+            ∙ declared-append b.pointing (called b)
+            ∙ ap (λ ds. ds ++ declared (called b)) (points-none f.result b.area b.pointer b.lowered b.pointing b.address b.pointed b.points)
+            ∙ ap (λ ds. import_decl b.number f ∷ ds)
+            (called-none (core_result f.result) b.number (b.words ++ b.address) b.lifting ∙ lifting-none f.result (numbered kind.Pointer b.pointer) (result_name b.number) b.called b.lifting item.body.tail b.lifts),
         declares b.number f,
       );
     }

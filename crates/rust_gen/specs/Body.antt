@@ -11,7 +11,7 @@ use Rattle.rust_tree.specs.declared.expr.Expr.TheVariants as expr
 use Rattle.rust_tree.specs.declared.item.FnItem.{FnItem}
 use Rattle.rust_tree.specs.declared.path.Path.{Path}
 use Rattle.rust_tree.specs.declared.runtime_item.RuntimeItem.{RuntimeItem}
-use Rattle.rust_tree.specs.declared.runtime_item.RuntimeItem.TheVariants.{BoolLift, CharLift}
+use Rattle.rust_tree.specs.declared.runtime_item.RuntimeItem.TheVariants.{BoolLift, CharLift, StringLift}
 use Rattle.rust_tree.specs.declared.stmt.Block.{Block}
 use Rattle.rust_tree.specs.declared.stmt.ImportDecl.{ImportDecl}
 use Rattle.rust_tree.specs.declared.stmt.Stmt.{Stmt}
@@ -24,7 +24,12 @@ use Rattle.rust_gen.specs.Docs.{doc_lines}
 use Rattle.rust_gen.specs.Printed.{printed_result, core_params, core_result}
 use Rattle.rust_gen.specs.Runtime.{lowering_item}
 use Rattle.rust_gen.specs.declared.scope.Scope.{Scope}
-use Rattle.rust_gen.specs.Scope.{Bytes, Declares, first_scope, numbered}
+use Rattle.rust_gen.specs.Scope.{Bytes, Declares, IsFixedName, first_scope, numbered, ret_area}
+use Rattle.rust_gen.specs.DeclaredNames.{param_idents}
+use Rattle.wit_model.specs.declared.size.Alignment.TheVariants as alignment
+use Rattle.wit_model.specs.declared.size.WasmType.{WasmType}
+use Rattle.wit_model.specs.declared.size.WasmType.TheVariants as core
+use Rattle.rust_tree.specs.declared.stmt.ReturnArea.{ReturnArea}
 use Rattle.rust_gen.specs.Wrapper.{printed_param}
 
 -- the fixed words of a body
@@ -80,6 +85,23 @@ LowersAll before (p ∷ params) stmts words after =
     (first : List Stmt) × (ws : List Expr) × (between : Scope) × (later : List Stmt) × (more : List Expr)
     × LowersAs p.ty before p first ws between × LowersAll between params later more after × (stmts ≡ first ++ later) × (words ≡ ws ++ more)
 
+-- the return area
+
+-- two words of pointer width
+abbrev pub text_area : Bytes → ReturnArea
+text_area name = record { name = name; size = record { bytes = 0; pointers = 2 }; align = alignment.Pointer }
+
+abbrev pub area_stmts : Option WitType → Bytes → List Stmt
+area_stmts (Some wit.String) name = stmt.Area (text_area name) ∷ []
+area_stmts _ name = []
+
+-- the local that holds the area's address, and the call's last word
+abbrev pub Points : Option WitType → Bytes → ℕ → Scope → List Stmt → List Expr → Scope → Type 0
+Points (Some wit.String) area p before stmts words after =
+    Declares before (kind.Pointer ∷ []) p after
+    × (stmts ≡ stmt.Let (numbered kind.Pointer p) (expr.ReturnPointer area) ∷ []) × (words ≡ expr.Local (numbered kind.Pointer p) ∷ [])
+Points _ area p before stmts words after = (stmts ≡ []) × (words ≡ []) × (after ≡ before)
+
 -- the call
 
 abbrev pub import_name : ℕ → Bytes
@@ -88,7 +110,7 @@ import_name t = numbered kind.Import t
 abbrev pub result_name : ℕ → Bytes
 result_name t = numbered kind.Returned t
 
-abbrev pub call_kinds : Option WitType → List LocalKind
+abbrev pub call_kinds : Option WasmType → List LocalKind
 call_kinds None = kind.Import ∷ []
 call_kinds (Some _) = kind.Import ∷ kind.Returned ∷ []
 
@@ -97,14 +119,14 @@ import_decl t f = record {
   «module» = root_module;
   link_name = f.name.wit;
   name = import_name t;
-  params = core_params f.params;
+  params = core_params f;
   result = core_result f.result;
 }
 
 abbrev pub import_call : ℕ → List Expr → Expr
 import_call t words = expr.Call (local_path (import_name t)) words
 
-abbrev pub call_stmt : Option WitType → ℕ → List Expr → Stmt
+abbrev pub call_stmt : Option WasmType → ℕ → List Expr → Stmt
 call_stmt None t words = stmt.Expr (import_call t words)
 call_stmt (Some _) t words = stmt.Let (result_name t) (import_call t words)
 
@@ -126,28 +148,69 @@ LiftsBy k i word before stmts tail =
     (t : ℕ) × (after : Scope) × Declares before (k ∷ []) t after
     × (stmts ≡ stmt.Let (numbered k t) (runtime_call i word) ∷ []) × (tail ≡ expr.Local (numbered k t))
 
-abbrev pub LiftsAs : WitType → Bytes → Scope → List Stmt → Expr → Type 0
-LiftsAs wit.Bool name before stmts tail = LiftsBy kind.Bool BoolLift (expr.Cast (expr.Local name) cast.U8) before stmts tail
-LiftsAs wit.Char name before stmts tail = LiftsBy kind.Char CharLift (expr.Cast (expr.Local name) cast.U32) before stmts tail
-LiftsAs ty name before stmts tail = (stmts ≡ []) × (tail ≡ lifted ty name)
+-- a text: its address and its length are loaded, its bytes are taken over and tested
 
-abbrev pub Lifts : Option WitType → Bytes → Scope → List Stmt → Option Expr → Type 0
-Lifts None name before stmts tail = (stmts ≡ []) × (tail ≡ None)
-Lifts (Some ty) name before stmts tail = (e : Expr) × (tail ≡ Some e) × LiftsAs ty name before stmts e
+abbrev pub word_at : Bytes → ℕ → WasmType → Expr
+word_at base pointers ty = expr.Load (expr.Local base) (record { bytes = 0; pointers = pointers }) ty
+
+abbrev pub lift_kinds : List LocalKind
+lift_kinds = kind.Length ∷ kind.Bytes ∷ kind.Text ∷ []
+
+abbrev pub text_taken : ℕ → ℕ → ℕ → List Stmt
+text_taken a b c =
+    stmt.Let (numbered kind.Length c) (expr.Local (numbered kind.Loaded b))
+    ∷ stmt.Let (numbered kind.Bytes c) (expr.FromRawParts (expr.Local (numbered kind.Loaded a)) (numbered kind.Length c))
+    ∷ stmt.Let (numbered kind.Text c) (runtime_call StringLift (expr.Local (numbered kind.Bytes c))) ∷ []
+
+abbrev pub text_lift : Bytes → ℕ → ℕ → ℕ → List Stmt
+text_lift base a b c =
+    stmt.Let (numbered kind.Loaded a) (word_at base 0 core.Pointer) ∷ stmt.Let (numbered kind.Loaded b) (word_at base 1 core.Length) ∷ text_taken a b c
+
+pub record LiftsText (base : Bytes) (before : Scope) (stmts : List Stmt) (tail : Expr) : Type 0 where
+  pub first : ℕ
+  pub then : Scope
+  pub loads : Declares before (kind.Loaded ∷ []) first then
+  pub second : ℕ
+  pub later : Scope
+  pub loads_length : Declares then (kind.Loaded ∷ []) second later
+  pub third : ℕ
+  pub last : Scope
+  pub lifts : Declares later lift_kinds third last
+  pub is : stmts ≡ text_lift base first second third
+  pub ends : tail ≡ expr.Local (numbered kind.Text third)
+
+-- by the local that holds the result, or that of the area's address
+abbrev pub LiftsAs : WitType → Bytes → Bytes → Scope → List Stmt → Expr → Type 0
+LiftsAs wit.Bool base name before stmts tail = LiftsBy kind.Bool BoolLift (expr.Cast (expr.Local name) cast.U8) before stmts tail
+LiftsAs wit.Char base name before stmts tail = LiftsBy kind.Char CharLift (expr.Cast (expr.Local name) cast.U32) before stmts tail
+LiftsAs wit.String base name before stmts tail = LiftsText base before stmts tail
+LiftsAs ty base name before stmts tail = (stmts ≡ []) × (tail ≡ lifted ty name)
+
+abbrev pub Lifts : Option WitType → Bytes → Bytes → Scope → List Stmt → Option Expr → Type 0
+Lifts None base name before stmts tail = (stmts ≡ []) × (tail ≡ None)
+Lifts (Some ty) base name before stmts tail = (e : Expr) × (tail ≡ Some e) × LiftsAs ty base name before stmts e
 
 -- whole
 
+-- the area is declared, the arguments are lowered, the import is declared and called, and the result is lifted
 pub record IsBody (f : Function) (body : Block) : Type 0 where
+  pub area : Bytes
+  pub named : IsFixedName (param_idents f) ret_area area
   pub lowering : List Stmt
   pub words : List Expr
   pub lowered : Scope
-  pub lowers : LowersAll (first_scope f) f.params lowering words lowered
+  pub lowers : LowersAll (first_scope f area) f.params lowering words lowered
+  pub pointer : ℕ
+  pub pointing : List Stmt
+  pub address : List Expr
+  pub pointed : Scope
+  pub points : Points f.result area pointer lowered pointing address pointed
   pub number : ℕ
   pub called : Scope
-  pub calls : Declares lowered (call_kinds f.result) number called
+  pub calls : Declares pointed (call_kinds (core_result f.result)) number called
   pub lifting : List Stmt
-  pub lifts : Lifts f.result (result_name number) called lifting body.tail
-  pub stmts : body.stmts ≡ lowering ++ stmt.Import (import_decl number f) ∷ call_stmt f.result number words ∷ lifting
+  pub lifts : Lifts f.result (numbered kind.Pointer pointer) (result_name number) called lifting body.tail
+  pub stmts : body.stmts ≡ area_stmts f.result area ++ (lowering ++ (pointing ++ stmt.Import (import_decl number f) ∷ call_stmt (core_result f.result) number (words ++ address) ∷ lifting))
 
 pub record IsWritten (f : Function) (item : FnItem) : Type 0 where
   pub docs : item.docs ≡ doc_lines f.docs

@@ -10,14 +10,15 @@ use Rattle.wit_model.specs.declared.world.WorldItem.{WorldItem}
 use Rattle.wit_model.specs.declared.world.WorldItem.TheVariants as item
 use Rattle.wit_model.specs.declared.world.World.{World}
 use Rattle.wit_model.specs.declared.resolve.Resolve.{Resolve}
-use Rattle.rust_gen.specs.Printed.{core_params}
+use Rattle.rust_gen.specs.Printed.{param_words}
 use Rattle.rust_gen.specs.declared.opts.Opts.{Opts}
 use Rattle.rust_gen.specs.declared.opts.Ownership.{Ownership}
 use Rattle.rust_gen.specs.declared.opts.Ownership.TheVariants as ownership
 
--- numbers, bools and chars
+-- scalars and texts
 abbrev pub is_built_type : WitType → Bool
 is_built_type wit.Bool = true
+is_built_type wit.String = true
 is_built_type wit.Char = true
 is_built_type wit.F32 = true
 is_built_type wit.F64 = true
@@ -31,11 +32,6 @@ is_built_type wit.S32 = true
 is_built_type wit.S64 = true
 is_built_type _ = false
 
--- a parameter may be a text too
-abbrev pub is_built_param : WitType → Bool
-is_built_param wit.String = true
-is_built_param ty = is_built_type ty
-
 -- no result, or one of a built type
 abbrev pub is_built_result : Option WitType → Bool
 is_built_result None = true
@@ -48,7 +44,7 @@ is_freestanding _ = false
 -- sixteen core values are passed one by one
 abbrev pub is_built_function : Function → Bool
 is_built_function f =
-    is_freestanding f.kind && nat_le (length (core_params f.params)) 16 && list_all (λ p. is_built_param p.ty) f.params && is_built_result f.result
+    is_freestanding f.kind && nat_le (length (param_words f.params)) 16 && list_all (λ p. is_built_type p.ty) f.params && is_built_result f.result
 
 abbrev pub is_built_import : WorldItem → Bool
 is_built_import (item.Function f) = is_built_function f

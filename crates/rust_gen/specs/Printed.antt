@@ -1,7 +1,8 @@
 -- How a WIT type is printed, and which core types it flattens to. So far this covers scalars and texts; every other type is
 -- refused before it is printed.
-use Rattle.std.specs.Prelude.{List, [], ◌∷◌, Option, None, Some}
+use Rattle.std.specs.Prelude.{List, [], ◌∷◌, ◌++◌, Option, None, Some}
 use Rattle.std.specs.List.{flat_map}
+use Rattle.wit_model.specs.declared.function.Function.{Function}
 use Rattle.wit_model.specs.declared.function.Param.{Param}
 use Rattle.wit_model.specs.declared.types.WitType.{WitType}
 use Rattle.wit_model.specs.declared.types.WitType.TheVariants as wit
@@ -50,9 +51,18 @@ abbrev pub core_words : WitType → List WasmType
 core_words wit.String = core.Pointer ∷ core.Length ∷ []
 core_words ty = core_type ty ∷ []
 
-abbrev pub core_params : List Param → List WasmType
-core_params params = flat_map (λ p. core_words p.ty) params
+abbrev pub param_words : List Param → List WasmType
+param_words params = flat_map (λ p. core_words p.ty) params
+
+-- a text comes back by a pointer, which stands behind the parameters
+abbrev pub pointer_words : Option WitType → List WasmType
+pointer_words (Some wit.String) = core.Pointer ∷ []
+pointer_words _ = []
+
+abbrev pub core_params : Function → List WasmType
+core_params f = param_words f.params ++ pointer_words f.result
 
 abbrev pub core_result : Option WitType → Option WasmType
 core_result None = None
+core_result (Some wit.String) = None
 core_result (Some ty) = Some (core_type ty)

@@ -1,4 +1,5 @@
--- Which items the module `_rt` holds: each that a wrapper asks for, once, in the order in which they are first asked for.
+-- Which items the module `_rt` holds: each that a wrapper asks for, once, in the order in which they are first asked for;
+-- and behind them those that they need.
 use Rattle.std.specs.Prelude.{Bool, true, false, List, [], ◌∷◌, ◌++◌, Option, Some, if◌then◌else◌, fold}
 use Rattle.std.specs.List.{list_any, flat_map}
 use Rattle.wit_model.specs.declared.types.WitType.{WitType}
@@ -7,6 +8,7 @@ use Rattle.wit_model.specs.declared.function.Function.{Function}
 use Rattle.rust_tree.specs.declared.item.Item.{Item}
 use Rattle.rust_tree.specs.declared.item.Item.TheVariants as item
 use Rattle.rust_tree.specs.declared.runtime_item.RuntimeItem.{RuntimeItem}
+use Rattle.rust_tree.specs.Runtime.{needed_items}
 use Rattle.rust_tree.specs.declared.runtime_item.RuntimeItem.TheVariants.{AsI32, AsI64, AsF32, AsF64, AllocCrate, StringType, VecType, BoolLift, CharLift, StringLift}
 
 abbrev pub is_same_item : RuntimeItem → RuntimeItem → Bool
@@ -43,17 +45,27 @@ lowering_items ty = lowering_item ty ∷ []
 abbrev pub lifting_items : Option WitType → List RuntimeItem
 lifting_items (Some wit.Bool) = BoolLift ∷ []
 lifting_items (Some wit.Char) = CharLift ∷ []
+lifting_items (Some wit.String) = VecType ∷ StringLift ∷ []
 lifting_items _ = []
+
+-- a signature names the type of a text that comes back
+abbrev pub signature_items : Option WitType → List RuntimeItem
+signature_items (Some wit.String) = StringType ∷ []
+signature_items _ = []
 
 -- what the wrapper of a function asks for, in the order of its text
 abbrev pub asked_by : Function → List RuntimeItem
-asked_by f = flat_map (λ p. lowering_items p.ty) f.params ++ lifting_items f.result
+asked_by f = signature_items f.result ++ flat_map (λ p. lowering_items p.ty) f.params ++ lifting_items f.result
 
 abbrev pub asked_items : List Function → List RuntimeItem
 asked_items functions = flat_map asked_by functions
 
+-- a round: behind the items stand those that they need
+abbrev pub with_needed : List RuntimeItem → List RuntimeItem
+with_needed items = fold with_asked items (flat_map needed_items items)
+
 abbrev pub runtime_items : List Function → List RuntimeItem
-runtime_items functions = fold with_asked [] (asked_items functions)
+runtime_items functions = with_needed (fold with_asked [] (asked_items functions))
 
 -- the module stands where an item is asked for
 abbrev pub runtime_module : List RuntimeItem → List Item

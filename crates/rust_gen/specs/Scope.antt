@@ -1,5 +1,5 @@
 -- How the locals of a wrapper are numbered.
-use Rattle.std.specs.Prelude.{◌≡◌, ℕ, ◌+◌, ◌<◌, ◌≤◌, Bool, true, false, not, List, [], ◌∷◌, ◌++◌, codes, decimal, map}
+use Rattle.std.specs.Prelude.{◌≡◌, ◌⊎◌, ℕ, ◌+◌, ◌<◌, ◌≤◌, Bool, true, false, not, List, [], ◌∷◌, ◌++◌, codes, decimal, map}
 use Rattle.std.specs.List.{list_any}
 use Rattle.std.specs.Str.{bytes_eq}
 use Rattle.wit_model.specs.declared.function.Function.{Function}
@@ -19,6 +19,9 @@ prefix_of kind.Bool = codes "b"
 prefix_of kind.Vec = codes "vec"
 prefix_of kind.Pointer = codes "ptr"
 prefix_of kind.Length = codes "len"
+prefix_of kind.Loaded = codes "l"
+prefix_of kind.Bytes = codes "bytes"
+prefix_of kind.Text = codes "text"
 prefix_of kind.Char = codes "c"
 
 abbrev pub numbered : LocalKind → ℕ → Bytes
@@ -52,6 +55,20 @@ cleanup_list = codes "cleanup_list"
 unfoldable pub ret_area : Bytes
 ret_area = codes "ret_area"
 
+-- a fixed name, with the least number behind it that frees it where a parameter has it
+abbrev pub fixed : Bytes → ℕ → Bytes
+fixed base n = base ++ decimal n
+
+pub record IsNumbered (params : List Bytes) (base name : Bytes) : Type 0 where
+  pub hidden : is_used params base ≡ true
+  pub number : ℕ
+  pub is : name ≡ fixed base number
+  pub free : is_used params name ≡ false
+  pub least : (k : ℕ) → k < number → is_used params (fixed base k) ≡ true
+
+abbrev pub IsFixedName : List Bytes → Bytes → Bytes → Type 0
+IsFixedName params base name = ((is_used params base ≡ false) × (name ≡ base)) ⊎ IsNumbered params base name
+
 -- at first the parameters' names and the fixed names are used
-abbrev pub first_scope : Function → Scope
-first_scope f = record { used = param_idents f ++ cleanup_list ∷ ret_area ∷ []; next = 0 }
+abbrev pub first_scope : Function → Bytes → Scope
+first_scope f area = record { used = param_idents f ++ cleanup_list ∷ area ∷ []; next = 0 }

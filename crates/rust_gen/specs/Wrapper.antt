@@ -26,7 +26,7 @@ declared (stmt.Area _ ∷ stmts) = declared stmts
 pub record Declares (f : Function) (decl : ImportDecl) : Type 0 where
   pub of_root : decl.module ≡ codes "$root"
   pub of_name : decl.link_name ≡ f.name.wit
-  pub params : decl.params ≡ core_params f.params
+  pub params : decl.params ≡ core_params f
   pub answer : decl.result ≡ core_result f.result
 
 pub record Wraps (f : Function) (item : FnItem) : Type 0 where

@@ -2,7 +2,7 @@
 
 ghost use Rattle.std.specs.Prelude.{◌≡◌};
 ghost use Rattle.std.specs.List.{list_all};
-ghost use Rattle.rust_gen.specs.Built.{is_built_param, is_built_type, is_built_result, is_freestanding, is_built_function, is_built_import, is_empty, is_built_world, are_built_tables, are_flags_off, are_lists_empty, are_values_absent, is_owning, are_built_options};
+ghost use Rattle.rust_gen.specs.Built.{is_built_type, is_built_result, is_freestanding, is_built_function, is_built_import, is_empty, is_built_world, are_built_tables, are_flags_off, are_lists_empty, are_values_absent, is_owning, are_built_options};
 
 use crate::core_signature::are_at_most;
 use crate::opts::{Opts, Ownership};
@@ -16,6 +16,7 @@ fn is_built_type(ty: WitType) -> bool
     matches!(
         ty,
         WitType::Bool
+            | WitType::String
             | WitType::Char
             | WitType::F32
             | WitType::F64
@@ -45,20 +46,10 @@ fn is_freestanding(kind: FunctionKind) -> bool
     matches!(kind, FunctionKind::Freestanding)
 }
 
-/// Whether a parameter's type is built: a text too.
-fn is_built_param(ty: WitType) -> bool
-    ensures { result ≡ is_built_param ty }
+fn are_built_types(params: &[Param]) -> bool
+    ensures { result ≡ list_all (λ p. is_built_type p.ty) params.now }
 {
-    match ty {
-        WitType::String => true,
-        _ => is_built_type(ty),
-    }
-}
-
-fn are_built_params(params: &[Param]) -> bool
-    ensures { result ≡ list_all (λ p. is_built_param p.ty) params.now }
-{
-    params.iter().all(|p| is_built_param(p.ty))
+    params.iter().all(|p| is_built_type(p.ty))
 }
 
 fn is_built_function(f: &Function) -> bool
@@ -66,7 +57,7 @@ fn is_built_function(f: &Function) -> bool
 {
     is_freestanding(f.kind)
         && are_at_most(f.params.as_slice(), 16)
-        && are_built_params(f.params.as_slice())
+        && are_built_types(f.params.as_slice())
         && is_built_result(&f.result)
 }
 

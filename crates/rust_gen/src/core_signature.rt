@@ -1,10 +1,10 @@
-//! The core signature of an imported function whose result is one core value.
+//! The core signature of an imported function over scalars and texts.
 
 ghost use Rattle.std.specs.Prelude.{◌≡◌, ◌++◌, IfOk, OnOk, length, nat_le};
-ghost use Rattle.rust_gen.specs.Printed.{core_params, core_result, core_type, core_words};
+ghost use Rattle.rust_gen.specs.Printed.{core_params, core_result, core_type, core_words, param_words, pointer_words};
 
 use std::alloc::Global;
-use wit_model::{List, OutOfMemory, Param, WasmType, WitType};
+use wit_model::{Function, List, OutOfMemory, Param, WasmType, WitType};
 
 fn core_type(ty: WitType) -> WasmType
     ensures { result ≡ core_type ty }
@@ -28,14 +28,32 @@ fn push_words(types: &mut List<WasmType>, ty: WitType) -> Result<(), OutOfMemory
     }
 }
 
-/// The core parameters, in order.
-pub(crate) fn core_params(alloc: Global, params: &[Param]) -> Result<List<WasmType>, OutOfMemory>
-    ensures { IfOk result (λ types. types ≡ core_params params.now) }
+/// The core types of the parameters, in order.
+fn param_words(alloc: Global, params: &[Param]) -> Result<List<WasmType>, OutOfMemory>
+    ensures { IfOk result (λ types. types ≡ param_words params.now) }
 {
     let mut types = List::new(alloc);
     for p in params {
         push_words(&mut types, p.ty)?;
     }
+    Ok(types)
+}
+
+fn push_pointer(types: &mut List<WasmType>, answer: &Option<WitType>) -> Result<(), OutOfMemory>
+    ensures { OnOk result (types.new ≡ types.old ++ pointer_words answer.now) }
+{
+    match answer {
+        Some(WitType::String) => types.push(WasmType::Pointer),
+        _ => Ok(()),
+    }
+}
+
+/// The core parameters of a function: those of its parameters, and a pointer where a text comes back.
+pub(crate) fn core_params(alloc: Global, f: &Function) -> Result<List<WasmType>, OutOfMemory>
+    ensures { IfOk result (λ types. types ≡ core_params f.now) }
+{
+    let mut types = param_words(alloc, f.params.as_slice())?;
+    push_pointer(&mut types, &f.result)?;
     Ok(types)
 }
 
@@ -50,7 +68,7 @@ fn word_count(ty: WitType) -> usize
 
 /// Whether the core parameters are at most so many.
 pub(crate) fn are_at_most(params: &[Param], most: usize) -> bool
-    ensures { result ≡ nat_le (length (core_params params.now)) most }
+    ensures { result ≡ nat_le (length (param_words params.now)) most }
 {
     match params.split_first() {
         None => true,
@@ -66,7 +84,7 @@ pub(crate) fn core_result(answer: &Option<WitType>) -> Option<WasmType>
     ensures { result ≡ core_result answer.now }
 {
     match answer {
-        None => None,
+        None | Some(WitType::String) => None,
         Some(ty) => Some(core_type(*ty)),
     }
 }

@@ -2,6 +2,7 @@
 #![tactic(auto)]
 
 mod accept;
+mod area;
 mod built;
 mod core_signature;
 mod docs;

@@ -1,14 +1,17 @@
 //! How the result of a core import is made a value.
 
-ghost use Rattle.std.specs.Prelude.{◌≡◌, ◌++◌, List, IfOk};
+ghost use Rattle.std.specs.Prelude.{◌≡◌, ◌++◌, ◌∷◌, [], List, IfOk, OnOk};
 ghost use Rattle.rust_tree.specs.declared.stmt.Stmt.{Stmt};
-ghost use Rattle.rust_gen.specs.Body.{Lifts, LiftsAs, LiftsBy, lifted};
+ghost use Rattle.rust_tree.specs.declared.stmt.Stmt.TheVariants as stmt;
+ghost use Rattle.rust_gen.specs.Body.{Lifts, LiftsAs, LiftsBy, LiftsText, lifted, text_taken, word_at};
+ghost use Rattle.rust_gen.specs.Scope.{numbered};
+ghost use Rattle.rust_gen.specs.declared.scope.LocalKind.TheVariants as kind;
 
 use crate::forms::{cast, runtime_call};
 use crate::scope::{LocalKind, Scope, numbered};
 use rust_tree::{CastType, Expr, RuntimeItem, Stmt};
 use std::alloc::Global;
-use wit_model::{List, OutOfMemory, Text, WitType};
+use wit_model::{ArchitectureSize, Boxed, List, OutOfMemory, Text, WasmType, WitType};
 
 /// A core value as a value of the type, where no local is declared for it.
 fn lifted(alloc: Global, ty: WitType, name: Text) -> Result<Expr, OutOfMemory>
@@ -43,16 +46,76 @@ fn lift_by(
     Ok(Expr::Local(numbered(alloc, kind, t)?))
 }
 
+fn push_load(
+    alloc: Global,
+    stmts: &mut List<Stmt>,
+    t: u32,
+    base: &Text,
+    pointers: u64,
+    ty: WasmType,
+) -> Result<(), OutOfMemory>
+    ensures { OnOk result (stmts.new ≡ stmts.old ++ stmt.Let (numbered kind.Loaded t) (word_at base.now pointers ty) ∷ []) }
+{
+    let local = Boxed::new(alloc, Expr::Local(base.copy(alloc)?))?;
+    let offset = ArchitectureSize { bytes: 0, pointers };
+    let load = Expr::Load(local, offset, ty);
+    stmts.push(Stmt::Let(numbered(alloc, LocalKind::Loaded, t)?, load))
+}
+
+/// The locals of a text that is taken over: its length, its bytes, and the text.
+fn push_taken(
+    alloc: Global,
+    stmts: &mut List<Stmt>,
+    a: u32,
+    b: u32,
+    c: u32,
+) -> Result<(), OutOfMemory>
+    ensures { OnOk result (stmts.new ≡ stmts.old ++ text_taken a b c) }
+{
+    let size = Expr::Local(numbered(alloc, LocalKind::Loaded, b)?);
+    stmts.push(Stmt::Let(numbered(alloc, LocalKind::Length, c)?, size))?;
+    let address = Boxed::new(alloc, Expr::Local(numbered(alloc, LocalKind::Loaded, a)?))?;
+    let bytes = Expr::FromRawParts(address, numbered(alloc, LocalKind::Length, c)?);
+    stmts.push(Stmt::Let(numbered(alloc, LocalKind::Bytes, c)?, bytes))?;
+    let bytes = Expr::Local(numbered(alloc, LocalKind::Bytes, c)?);
+    let text = runtime_call(alloc, RuntimeItem::StringLift, bytes)?;
+    stmts.push(Stmt::Let(numbered(alloc, LocalKind::Text, c)?, text))
+}
+
+/// Lifts a text by the local that holds the area's address.
+#[tactic(auto, using(crate::proofs::LoweringLemmas::lifted_text))]
+fn lift_text(
+    alloc: Global,
+    scope: &mut Scope,
+    base: &Text,
+    stmts: &mut List<Stmt>,
+) -> Result<Expr, OutOfMemory>
+    ensures { IfOk result
+        (λ e. (more : List Stmt) × LiftsText base.now scope.old more e × (stmts.new ≡ stmts.old ++ more)) }
+{
+    let a = scope.declare(alloc, &[LocalKind::Loaded])?;
+    push_load(alloc, stmts, a, base, 0, WasmType::Pointer)?;
+    let b = scope.declare(alloc, &[LocalKind::Loaded])?;
+    push_load(alloc, stmts, b, base, 1, WasmType::Length)?;
+    let c = scope.declare(
+        alloc,
+        &[LocalKind::Length, LocalKind::Bytes, LocalKind::Text],
+    )?;
+    push_taken(alloc, stmts, a, b, c)?;
+    Ok(Expr::Local(numbered(alloc, LocalKind::Text, c)?))
+}
+
 /// Lifts the result that a local holds: statements behind others, and the body's value.
 fn lift_as(
     alloc: Global,
     scope: &mut Scope,
     ty: WitType,
+    base: &Text,
     name: Text,
     stmts: &mut List<Stmt>,
 ) -> Result<Expr, OutOfMemory>
     ensures { IfOk result
-        (λ e. (more : List Stmt) × LiftsAs ty name scope.old more e × (stmts.new ≡ stmts.old ++ more)) }
+        (λ e. (more : List Stmt) × LiftsAs ty base.now name scope.old more e × (stmts.new ≡ stmts.old ++ more)) }
 {
     match ty {
         WitType::Bool => {
@@ -77,6 +140,7 @@ fn lift_as(
                 stmts,
             )
         }
+        WitType::String => lift_text(alloc, scope, base, stmts),
         _ => lifted(alloc, ty, name),
     }
 }
@@ -86,16 +150,17 @@ pub(crate) fn lift_result(
     alloc: Global,
     scope: &mut Scope,
     answer: &Option<WitType>,
+    base: &Text,
     name: Text,
     stmts: &mut List<Stmt>,
 ) -> Result<Option<Expr>, OutOfMemory>
     ensures { IfOk result
-        (λ tail. (more : List Stmt) × Lifts answer.now name scope.old more tail × (stmts.new ≡ stmts.old ++ more)) }
+        (λ tail. (more : List Stmt) × Lifts answer.now base.now name scope.old more tail × (stmts.new ≡ stmts.old ++ more)) }
 {
     match answer {
         None => Ok(None),
         Some(ty) => {
-            let e = lift_as(alloc, scope, *ty, name, stmts)?;
+            let e = lift_as(alloc, scope, *ty, base, name, stmts)?;
             Ok(Some(e))
         }
     }

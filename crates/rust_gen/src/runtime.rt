@@ -2,7 +2,8 @@
 
 ghost use Rattle.std.specs.Prelude.{◌≡◌, IfOk, OnOk, fold, map};
 ghost use Rattle.std.specs.List.{flat_map, list_any};
-ghost use Rattle.rust_gen.specs.Runtime.{asked_by, is_same_item, lifting_items, lowering_item, lowering_items, runtime_items, with_asked};
+ghost use Rattle.rust_tree.specs.Runtime.{needed_items};
+ghost use Rattle.rust_gen.specs.Runtime.{asked_by, is_same_item, lifting_items, lowering_item, lowering_items, runtime_items, signature_items, with_asked, with_needed};
 
 use rust_tree::RuntimeItem;
 use std::alloc::Global;
@@ -83,13 +84,59 @@ fn ask_for_result(
     match answer {
         Some(WitType::Bool) => ask(items, RuntimeItem::BoolLift),
         Some(WitType::Char) => ask(items, RuntimeItem::CharLift),
+        Some(WitType::String) => {
+            ask(items, RuntimeItem::VecType)?;
+            ask(items, RuntimeItem::StringLift)
+        }
         _ => Ok(()),
     }
+}
+
+/// What a signature names: the type of a text that comes back.
+fn ask_for_signature(
+    items: &mut List<RuntimeItem>,
+    answer: &Option<WitType>,
+) -> Result<(), OutOfMemory>
+    ensures { OnOk result (items.new ≡ fold with_asked items.old (signature_items answer.now)) }
+{
+    match answer {
+        Some(WitType::String) => ask(items, RuntimeItem::StringType),
+        _ => Ok(()),
+    }
+}
+
+fn ask_all(items: &mut List<RuntimeItem>, asked: &[RuntimeItem]) -> Result<(), OutOfMemory>
+    ensures { OnOk result (items.new ≡ fold with_asked items.old asked.now) }
+{
+    for item in asked {
+        ask(items, *item)?;
+    }
+    Ok(())
+}
+
+/// Puts what items need behind others.
+fn ask_for_needs(items: &mut List<RuntimeItem>, parts: &[RuntimeItem]) -> Result<(), OutOfMemory>
+    ensures { OnOk result (items.new ≡ fold with_asked items.old (flat_map needed_items parts.now)) }
+{
+    for part in parts {
+        ask_all(items, part.needs())?;
+    }
+    Ok(())
+}
+
+/// The items, and behind them those that they need.
+fn with_needed(alloc: Global, asked: List<RuntimeItem>) -> Result<List<RuntimeItem>, OutOfMemory>
+    ensures { IfOk result (λ items. items ≡ with_needed asked) }
+{
+    let mut items = List::from_vec(Vec::from_slice(alloc, asked.as_slice())?);
+    ask_for_needs(&mut items, asked.as_slice())?;
+    Ok(items)
 }
 
 fn ask_for(items: &mut List<RuntimeItem>, f: &Function) -> Result<(), OutOfMemory>
     ensures { OnOk result (items.new ≡ fold with_asked items.old (asked_by f.now)) }
 {
+    ask_for_signature(items, &f.result)?;
     ask_for_params(items, f.params.as_slice())?;
     ask_for_result(items, &f.result)
 }
@@ -105,5 +152,5 @@ pub(crate) fn runtime_items(
     for function in functions {
         ask_for(&mut items, function)?;
     }
-    Ok(items)
+    with_needed(alloc, items)
 }

@@ -1,7 +1,7 @@
 //! The numbers of a wrapper's locals.
 
 ghost use Rattle.std.specs.Prelude.{◌≡◌, ◌+◌, ◌^◌, ◌<◌, ◌++◌, IfOk, OnOk};
-ghost use Rattle.rust_gen.specs.Scope.{Declares, IsLeastFree, is_free, is_used, names_at, numbered, prefix_of};
+ghost use Rattle.rust_gen.specs.Scope.{Declares, IsFixedName, IsLeastFree, fixed, is_free, is_used, names_at, numbered, prefix_of};
 
 use std::alloc::Global;
 use wit_model::{List, OutOfMemory, Text};
@@ -21,6 +21,12 @@ pub(crate) enum LocalKind {
     Pointer,
     /// Its length.
     Length,
+    /// A core value that was loaded.
+    Loaded,
+    /// The bytes of a text that is taken over.
+    Bytes,
+    /// The text of these bytes.
+    Text,
 }
 
 impl LocalKind {
@@ -35,6 +41,9 @@ impl LocalKind {
             LocalKind::Vec => "vec",
             LocalKind::Pointer => "ptr",
             LocalKind::Length => "len",
+            LocalKind::Loaded => "l",
+            LocalKind::Bytes => "bytes",
+            LocalKind::Text => "text",
             LocalKind::Char => "c",
         }
     }
@@ -116,4 +125,31 @@ impl Scope {
         self.next = t + 1;
         Ok(t)
     }
+}
+
+fn fixed(alloc: Global, base: &str, n: u32) -> Result<Text, OutOfMemory>
+    ensures { IfOk result (λ name. name ≡ fixed base.now n) }
+{
+    let mut name = Text::from_str(alloc, base)?;
+    name.push_number(u64::from(n))?;
+    Ok(name)
+}
+
+/// A fixed name of a body, with the least number behind it that frees it where a parameter has it. There is no memory also
+/// where a `u32` holds no such number.
+#[tactic(auto, using(crate::proofs::FixedLemmas::unhidden, crate::proofs::FixedLemmas::numbered_name))]
+pub(crate) fn fixed_name(alloc: Global, params: &[Text], base: &str) -> Result<Text, OutOfMemory>
+    ensures { IfOk result (IsFixedName params.now base.now) }
+{
+    let name = Text::from_str(alloc, base)?;
+    if !is_used(params, &name) {
+        return Ok(name);
+    }
+    for n in 0..u32::MAX {
+        let name = fixed(alloc, base, n)?;
+        if !is_used(params, &name) {
+            return Ok(name);
+        }
+    }
+    Err(OutOfMemory)
 }

@@ -5,8 +5,11 @@ ghost use Rattle.rust_tree.specs.declared.expr.Expr.{Expr};
 ghost use Rattle.rust_tree.specs.declared.stmt.Stmt.{Stmt};
 ghost use Rattle.rust_tree.specs.declared.stmt.Stmt.TheVariants as stmt;
 ghost use Rattle.rust_gen.specs.Body.{IsBody, IsWritten, call_kinds, call_stmt, import_call, import_decl, import_name, result_name};
-ghost use Rattle.rust_gen.specs.Scope.{Declares, first_scope};
+ghost use Rattle.rust_gen.specs.DeclaredNames.{param_idents};
+ghost use Rattle.rust_gen.specs.Printed.{core_result};
+ghost use Rattle.rust_gen.specs.Scope.{Declares, IsFixedName, first_scope, ret_area};
 
+use crate::area::{area_stmts, point};
 use crate::core_signature::{core_params, core_result};
 use crate::docs::doc_lines;
 use crate::forms::{local_path, root_module};
@@ -14,7 +17,7 @@ use crate::lift::lift_result;
 use crate::lower::{Lowered, lower_all};
 use crate::names::param_idents;
 use crate::printed::{printed_params, printed_result};
-use crate::scope::{LocalKind, Scope, numbered};
+use crate::scope::{LocalKind, Scope, fixed_name, numbered};
 use rust_tree::{Block, Expr, FnItem, ImportDecl, Stmt, to_rust_ident};
 use std::alloc::Global;
 use wit_model::{Function, List, OutOfMemory, Text};
@@ -32,14 +35,23 @@ fn result_name(alloc: Global, t: u32) -> Result<Text, OutOfMemory>
 }
 
 /// At first the parameters' names and the fixed names are used.
-#[tactic(auto, unfolding(crate::specs::Scope::cleanup_list, crate::specs::Scope::ret_area))]
-fn first_scope(alloc: Global, f: &Function) -> Result<Scope, OutOfMemory>
-    ensures { IfOk result (λ scope. scope ≡ first_scope f.now) }
+#[tactic(auto, unfolding(crate::specs::Scope::cleanup_list))]
+fn first_scope(alloc: Global, f: &Function, area: &Text) -> Result<Scope, OutOfMemory>
+    ensures { IfOk result (λ scope. scope ≡ first_scope f.now area.now) }
 {
     let mut used = param_idents(alloc, f.params.as_slice())?;
     used.push(Text::from_str(alloc, "cleanup_list")?)?;
-    used.push(Text::from_str(alloc, "ret_area")?)?;
+    used.push(area.copy(alloc)?)?;
     Ok(Scope { used, next: 0 })
+}
+
+/// The name of the return area.
+#[tactic(auto, unfolding(crate::specs::Scope::ret_area))]
+fn area_name(alloc: Global, f: &Function) -> Result<Text, OutOfMemory>
+    ensures { IfOk result (IsFixedName (param_idents f.now) ret_area) }
+{
+    let params = param_idents(alloc, f.params.as_slice())?;
+    fixed_name(alloc, params.as_slice(), "ret_area")
 }
 
 fn import_decl(alloc: Global, t: u32, f: &Function) -> Result<ImportDecl, OutOfMemory>
@@ -49,7 +61,7 @@ fn import_decl(alloc: Global, t: u32, f: &Function) -> Result<ImportDecl, OutOfM
         module: root_module(alloc)?,
         link_name: f.name.wit.copy(alloc)?,
         name: import_name(alloc, t)?,
-        params: core_params(alloc, f.params.as_slice())?,
+        params: core_params(alloc, f)?,
         result: core_result(&f.result),
     })
 }
@@ -62,10 +74,10 @@ fn import_call(alloc: Global, t: u32, words: List<Expr>) -> Result<Expr, OutOfMe
 }
 
 fn call_stmt(alloc: Global, t: u32, f: &Function, words: List<Expr>) -> Result<Stmt, OutOfMemory>
-    ensures { IfOk result (λ s. s ≡ call_stmt f.now.result t words) }
+    ensures { IfOk result (λ s. s ≡ call_stmt (core_result f.now.result) t words) }
 {
     let call = import_call(alloc, t, words)?;
-    match f.result {
+    match core_result(&f.result) {
         None => Ok(Stmt::Expr(call)),
         Some(_) => Ok(Stmt::Let(result_name(alloc, t)?, call)),
     }
@@ -73,9 +85,9 @@ fn call_stmt(alloc: Global, t: u32, f: &Function, words: List<Expr>) -> Result<S
 
 /// The number of the call, whose core import and result are locals of that number.
 fn call_number(alloc: Global, scope: &mut Scope, f: &Function) -> Result<u32, OutOfMemory>
-    ensures { IfOk result (λ t. Declares scope.old (call_kinds f.now.result) t scope.new) }
+    ensures { IfOk result (λ t. Declares scope.old (call_kinds (core_result f.now.result)) t scope.new) }
 {
-    match f.result {
+    match core_result(&f.result) {
         None => scope.declare(alloc, &[LocalKind::Import]),
         Some(_) => scope.declare(alloc, &[LocalKind::Import, LocalKind::Returned]),
     }
@@ -84,23 +96,21 @@ fn call_number(alloc: Global, scope: &mut Scope, f: &Function) -> Result<u32, Ou
 fn import_body(alloc: Global, f: &Function) -> Result<Block, OutOfMemory>
     ensures { IfOk result (IsBody f.now) }
 {
-    let mut scope = first_scope(alloc, f)?;
+    let area = area_name(alloc, f)?;
+    let mut scope = first_scope(alloc, f, &area)?;
     let mut body = Lowered {
-        stmts: List::new(alloc),
+        stmts: area_stmts(alloc, &f.result, &area)?,
         words: List::new(alloc),
     };
     lower_all(alloc, &mut scope, f.params.as_slice(), &mut body)?;
+    let p = point(alloc, &mut scope, &f.result, area, &mut body)?;
     let Lowered { mut stmts, words } = body;
     let t = call_number(alloc, &mut scope, f)?;
     stmts.push(Stmt::Import(import_decl(alloc, t, f)?))?;
     stmts.push(call_stmt(alloc, t, f, words)?)?;
-    let tail = lift_result(
-        alloc,
-        &mut scope,
-        &f.result,
-        result_name(alloc, t)?,
-        &mut stmts,
-    )?;
+    let base = numbered(alloc, LocalKind::Pointer, p)?;
+    let name = result_name(alloc, t)?;
+    let tail = lift_result(alloc, &mut scope, &f.result, &base, name, &mut stmts)?;
     Ok(Block { stmts, tail })
 }
 

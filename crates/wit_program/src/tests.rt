@@ -168,9 +168,9 @@ const REFUSED: &[(&str, &str, &str, u8, &str)] = &[
         "unsupported: unbuilt at w\n",
     ),
     (
-        "a string as result",
+        "an error context as result",
         r#""result":"u32""#,
-        r#""result":"string""#,
+        r#""result":"error-context""#,
         10,
         "unsupported: unbuilt at w\n",
     ),

@@ -1,5 +1,5 @@
 -- What values without blocks own, lend and leave behind.
-use Rattle.std.proofs.Common.{◌≡◌, ℕ, zero, suc, Bool, false, List, [], ◌∷◌, ◌++◌, None, Some, refl, ap, ◌∙◌, rules}
+use Rattle.std.proofs.Common.{◌≡◌, ℕ, zero, suc, Bool, false, List, [], ◌∷◌, ◌++◌, None, Some, refl, sym, subst, ap, ◌∙◌, append-nil, append_assoc, rules}
 use Rattle.std.specs.Prelude.{option_and_then}
 use Rattle.wit_model.specs.declared.types.WitType.{WitType}
 use Rattle.wrapper_data.specs.declared.value.RustValue.{RustValue, RustValue-F, out-RustValue, the_lemmas}
@@ -7,7 +7,7 @@ use Rattle.wrapper_data.specs.declared.value.RustValue.TheVariants as value
 use Rattle.wrapper_run.specs.declared.state.Local.{Local}
 use Rattle.wrapper_run.specs.declared.state.State.{State}
 use Rattle.wrapper_run.specs.declared.state.Val.TheVariants as val
-use Rattle.wrapper_run.specs.Act.{Done, and_then}
+use Rattle.wrapper_run.specs.Act.{Outcome, Done, Stopped, and_then, pure}
 use Rattle.wrapper_run.specs.Blocks.{drop_local, drop_locals, free_owned}
 use Rattle.wrapper_run.specs.Owning.{block_of_buffer, buffer_of, buffer_of_level, lent, lent_value, owned, owned_in}
 use Rattle.wrapper_run.specs.Setting.{Setting}
@@ -57,6 +57,45 @@ pub plain-append : (xs ys : List Local) → ArePlain xs → ArePlain ys → AreP
 plain-append [] ys p q = q
 plain-append (l ∷ xs) ys p q = (p.0, plain-append xs ys p.1 q)
 
+-- locals that own nothing stand behind others
+abbrev pub Adds : List Local → List Local → Type 0
+Adds old new = (more : List Local) × (new ≡ old ++ more) × ArePlain more
+
+pub adds-none : (locals : List Local) → Adds locals locals
+adds-none locals = ([], sym (append-nil locals), tt)
+
+pub adds-one : (locals : List Local) (l : Local) → owned_in l.value ≡ None → Adds locals (locals ++ l ∷ [])
+adds-one locals l h = (l ∷ [], refl, (h, tt))
+
+pub adds-then : (a b c : List Local) → Adds a b → Adds b c → Adds a c
+adds-then a b c (m, e, p) (n, f, q) = (m ++ n, f ∙ ap (λ ls. ls ++ n) e ∙ append_assoc a m n, plain-append m n p q)
+
+pub adds-plain : (old new : List Local) → ArePlain old → Adds old new → ArePlain new
+adds-plain old new p (more, e, q) = subst ArePlain (sym e) (plain-append old more p q)
+
 pub drops_plain : (w : Setting) (locals : List Local) (s : State) → ArePlain locals → drop_locals w locals s ≡ Done tt s
 drops_plain w [] s p = refl
 drops_plain w (l ∷ locals) s p = ap (λ o. and_then o (λ _. drop_local w l.value)) (drops_plain w locals s p.1) ∙ ap (λ o. free_owned w o s) p.0
+
+pub drops-append : (w : Setting) (xs ys : List Local) (s : State) → drop_locals w (xs ++ ys) s ≡ and_then (drop_locals w ys s) (λ _. drop_locals w xs)
+drops-append w [] ys s = go (drop_locals w ys s)
+  where
+    go : (o : Outcome (Unit {0})) → o ≡ and_then o (λ _. pure tt)
+    go (Done tt t) = refl
+    go (Stopped e t) = refl
+drops-append w (l ∷ xs) ys s = ap (λ o. and_then o (λ _. drop_local w l.value)) (drops-append w xs ys s) ∙ go (drop_locals w ys s)
+  where
+    go : (o : Outcome (Unit {0})) → and_then (and_then o (λ _. drop_locals w xs)) (λ _. drop_local w l.value) ≡ and_then o (λ _. drop_locals w (l ∷ xs))
+    go (Done u t) = refl
+    go (Stopped e t) = refl
+
+-- one local owns a block, and none in front of it or behind it owns any
+pub drops_one : (w : Setting) (front : List Local) (l : Local) (more : List Local) (b : ℕ × ℕ) (s : State) → ArePlain front → owned_in l.value ≡ Some b → ArePlain more
+    → drop_locals w ((front ++ l ∷ []) ++ more) s ≡ and_then (free_owned w (Some b) s) (λ _ t. Done tt t)
+drops_one w front l more b s p o q =
+    drops-append w (front ++ l ∷ []) more s ∙ ap (λ o. and_then o (λ _. drop_locals w (front ++ l ∷ []))) (drops_plain w more s q)
+    ∙ drops-append w front (l ∷ []) s ∙ ap (λ o. and_then (free_owned w o s) (λ _. drop_locals w front)) o ∙ go (free_owned w (Some b) s)
+  where
+    go : (o : Outcome (Unit {0})) → and_then o (λ _. drop_locals w front) ≡ and_then o (λ _ t. Done tt t)
+    go (Done u t) = drops_plain w front t p
+    go (Stopped e t) = refl

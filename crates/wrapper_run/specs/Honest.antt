@@ -1,16 +1,53 @@
--- When the peer of an import is honest at a call: its word represents a value of the result type, and it adds and writes
--- nothing that the result does not hold. A result of the types so far is one word, and holds no block.
-use Rattle.std.specs.Prelude.{◌≡◌, [], Option, None, Some}
+-- When the peer of an import is honest at a call: its answer represents a value of the result type, and it adds and writes
+-- nothing that the result does not hold. A scalar is one word. A text is written to the area that the call's last word names,
+-- as an address and a length, and comes with its block.
+use Rattle.std.specs.Prelude.{◌≡◌, ℕ, ◌+◌, ◌<◌, ◌≤◌, Bool, true, not, ◌&&◌, List, [], ◌∷◌, length, Option, None, Some}
+use Rattle.std.specs.List.{list_all}
+use Rattle.wit_model.specs.declared.size.WasmType.TheVariants as core
 use Rattle.wit_model.specs.declared.types.WitType.{WitType}
 use Rattle.wrapper_data.specs.declared.answer.Answer.{Answer}
 use Rattle.wrapper_data.specs.declared.answer.Answer.TheVariants as answer
+use Rattle.wrapper_data.specs.declared.heap.Block.{Block}
 use Rattle.wrapper_data.specs.declared.heap.Heap.{Heap}
+use Rattle.wrapper_data.specs.declared.run.CallPoint.{CallPoint}
 use Rattle.wrapper_data.specs.declared.word.Word.{Word}
+use Rattle.wrapper_data.specs.declared.word.Word.TheVariants as word
+use Rattle.wrapper_data.specs.Answered.{answered}
+use Rattle.wrapper_data.specs.Heap.{are_apart, is_block, overlaps_any}
+use Rattle.wrapper_run.specs.Locals.{last}
+use Rattle.wrapper_run.specs.Memory.{loaded}
 use Rattle.wrapper_run.specs.Represents.{Takes}
-use Rattle.wrapper_run.specs.Value.{WitValue, scalar}
+use Rattle.wrapper_run.specs.StandsFor.{IsTextBlock}
+use Rattle.wrapper_run.specs.Value.{WitValue, scalar, text}
 
--- at a call with this heap
-abbrev pub HonestPeer : Option WitType → Option WitValue → Answer → Heap → Type 0
-HonestPeer None None a heap = a ≡ answer.Words None [] []
-HonestPeer (Some ty) (Some (scalar v)) a heap = (w : Word) × (a ≡ answer.Words (Some w) [] []) × Takes ty v w
-HonestPeer _ _ a heap = ⊥
+-- the bytes are written from an address on, and behind the last of so many
+abbrev pub WritesIn : ℕ → ℕ → List (ℕ × ℕ) → Type 0
+WritesIn address size [] = Unit {0}
+WritesIn address size (w ∷ writes) = (address ≤ w.0) × (w.0 < address + size) × WritesIn address size writes
+
+-- blocks that are none of the heap's, and overlap none
+abbrev pub are_new : List Block → Heap → Bool
+are_new blocks heap = list_all (λ b. is_block b && not (overlaps_any b heap.blocks)) blocks && are_apart blocks
+
+pub record AnswersText (bytes : List ℕ) (a : Answer) (c : CallPoint) : Type 0 where
+  -- the area of the result, which the last word names
+  pub area : ℕ
+  pub named : last (λ w. true) c.words ≡ Some (word.Pointer area)
+  pub writes : List (ℕ × ℕ)
+  pub blocks : List Block
+  pub answers : a ≡ answer.Words None writes blocks
+  pub inside : WritesIn area 8 writes
+  -- the text's address and its block
+  pub place : ℕ
+  pub nonzero : 0 < place
+  pub holds : IsTextBlock place bytes blocks
+  pub fresh : are_new blocks c.heap ≡ true
+  -- what stands in the area afterwards
+  pub address : loaded core.Pointer area (answered blocks writes c.heap).blocks ≡ Some (word.Pointer place)
+  pub size : loaded core.Length (area + 4) (answered blocks writes c.heap).blocks ≡ Some (word.Length (length bytes))
+
+abbrev pub HonestPeer : Option WitType → Option WitValue → Answer → CallPoint → Type 0
+HonestPeer None None a c = a ≡ answer.Words None [] []
+HonestPeer (Some ty) (Some (scalar v)) a c = (w : Word) × (a ≡ answer.Words (Some w) [] []) × Takes ty v w
+HonestPeer (Some ty) (Some (text bytes)) a c = AnswersText bytes a c
+HonestPeer _ _ a c = ⊥

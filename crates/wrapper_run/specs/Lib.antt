@@ -2,6 +2,7 @@ pub mod Act
 pub mod Effect
 pub mod Faithful
 pub mod Honest
+pub mod Areas
 pub mod Blocks
 pub mod Locals
 pub mod Memory

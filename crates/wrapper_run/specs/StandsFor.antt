@@ -1,9 +1,11 @@
 -- Which value a value of the Rust side stands for.
-use Rattle.std.specs.Prelude.{◌≡◌, ℕ, ◌<◌, false, List, [], ◌∷◌, length, Option, None, Some}
+use Rattle.std.specs.Prelude.{◌≡◌, ℕ, ◌<◌, true, false, List, [], ◌∷◌, length, Option, None, Some}
 use Rattle.wit_model.specs.declared.types.WitType.{WitType}
 use Rattle.wrapper_data.specs.declared.value.RustValue.{RustValue}
 use Rattle.wrapper_data.specs.declared.value.RustValue.TheVariants as value
 use Rattle.wrapper_run.specs.Value.{Scalar, WitValue, truth, number, f32, f64, char, scalar, text}
+use Rattle.wrapper_data.specs.declared.heap.Block.{Block}
+use Rattle.wrapper_run.specs.Memory.{bytes_from}
 use Rattle.wrapper_run.specs.Represents.{LiesAt}
 use Rattle.wrapper_data.specs.declared.heap.Heap.{Heap}
 
@@ -25,8 +27,15 @@ StandAll heap [] [] rs = rs ≡ []
 StandAll heap (ty ∷ types) (v ∷ vs) rs = (r : RustValue) × (rest : List RustValue) × (rs ≡ r ∷ rest) × Stands heap ty v r × StandAll heap types vs rest
 StandAll heap _ _ rs = ⊥
 
--- what a run gives stands for a result; so far no result is a text
-abbrev pub StandsResult : Option WitType → Option WitValue → Option RustValue → Type 0
-StandsResult None None r = r ≡ None
-StandsResult (Some ty) (Some (scalar v)) r = r ≡ Some (rust_value ty v)
-StandsResult _ _ r = ⊥
+-- the block of a text: none where it is empty
+abbrev pub IsTextBlock : ℕ → List ℕ → List Block → Type 0
+IsTextBlock p [] blocks = blocks ≡ []
+IsTextBlock p (b ∷ bytes) blocks =
+    (t : Block) × (blocks ≡ t ∷ []) × (t.address ≡ p) × (t.size ≡ length (b ∷ bytes)) × (bytes_from t.cells 0 (length (b ∷ bytes)) ≡ Some (b ∷ bytes))
+
+-- what a run gives stands for a result, and owns exactly these blocks: a text owns its own, and never stands at address 0
+abbrev pub StandsResult : Option WitType → Option WitValue → Option RustValue → List Block → Type 0
+StandsResult None None r blocks = (r ≡ None) × (blocks ≡ [])
+StandsResult (Some ty) (Some (scalar v)) r blocks = (r ≡ Some (rust_value ty v)) × (blocks ≡ [])
+StandsResult (Some ty) (Some (text bytes)) r blocks = (p : ℕ) × (0 < p) × (r ≡ Some (value.Buffer p (length bytes) true)) × IsTextBlock p bytes blocks
+StandsResult _ _ r blocks = ⊥

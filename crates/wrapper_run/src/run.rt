@@ -162,9 +162,12 @@ fn wrapper_of(tree: &Bindings, wrapper: WrapperId) -> Option<(u32, &FnItem)>
 }
 
 /// Runs the wrapper of an imported function: from these arguments and this heap, with an allocator that answers by these
-/// choices and a peer that answers thus. The wrapper must be one of the tree.
+/// choices and a peer that answers thus. The wrapper must be one of the tree. Addresses, sizes and lengths are in bytes, and
+/// pointers have four of them; values cross as the Canonical ABI of the Component Model says.
 ///
-/// The run is the one that the definition gives. `OutOfMemory` is the machine's own want of memory.
+/// The run is the one that the definition gives. It ends Done; or BadChoice, where a choice does not fit a return area; or, in
+/// the debug form, with the Trap that names why incoming data stands for no value; or Stuck, with the number of the wrapper's
+/// item, where the code does what has no meaning. `OutOfMemory` is the machine's own want of memory.
 pub fn run_import(
     alloc: Global,
     tree: &Bindings,

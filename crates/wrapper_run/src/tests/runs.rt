@@ -262,7 +262,7 @@ fn kinds_are_carried_in_64_bits(rt: HostRuntime) -> Result<(), Fail> {
 }
 
 /// Sixteen numbers, the first of them 0, and each one more than the one before it.
-fn sixteen(alloc: Global) -> Result<List<RustValue>, OutOfMemory> {
+pub(crate) fn sixteen(alloc: Global) -> Result<List<RustValue>, OutOfMemory> {
     let mut args = List::new(alloc);
     for i in 0..16_u8 {
         args.push(RustValue::Num(WitType::U32, i128::from(i)))?;
@@ -270,7 +270,7 @@ fn sixteen(alloc: Global) -> Result<List<RustValue>, OutOfMemory> {
     Ok(args)
 }
 
-fn sixteen_words(alloc: Global) -> Result<List<Word>, OutOfMemory> {
+pub(crate) fn sixteen_words(alloc: Global) -> Result<List<Word>, OutOfMemory> {
     let mut words = List::new(alloc);
     for i in 0..16_u8 {
         words.push(Word::I32(i32::from(i)))?;

@@ -1,13 +1,15 @@
 //! Texts: lent as arguments, and taken over as results.
 
-use crate::tests::made::{file, path};
-use crate::tests::runs::{call_of, empty, no_choices, run_of};
+use crate::tests::made::{file, names, path, written};
+use crate::tests::runs::{call_of, empty, no_choices, run_of, sixteen, sixteen_words};
 use crate::tests::scalars::{call, local, set};
 use crate::{
     Answer, Block as Memory, Choice, Choices, Form, Heap, Request, Run, RustValue, Stop, TrapKind,
     Word, run_import,
 };
-use rust_tree::{Block, Expr, FnItem, FnParam, ImportDecl, ReturnArea, Stmt, TypeExpr, WrapperId};
+use rust_tree::{
+    Block, Expr, FnItem, FnParam, ImportDecl, Primitive, ReturnArea, Stmt, TypeExpr, WrapperId,
+};
 use std::alloc::Global;
 use std::process::Abort;
 use std::test::Fail;
@@ -177,8 +179,19 @@ const SECOND: ArchitectureSize = ArchitectureSize {
     pointers: 1,
 };
 
-/// `name`, which answers a text by its area.
-fn name(alloc: Global) -> Result<FnItem, OutOfMemory> {
+/// The words of whole numbers, and of the area behind them.
+fn area_words(alloc: Global, params: &[Text]) -> Result<List<Expr>, OutOfMemory> {
+    let mut words = List::new(alloc);
+    for param in params {
+        let given = Expr::Ref(param.copy(alloc)?);
+        words.push(call(alloc, &["_rt", "as_i32"], given)?)?;
+    }
+    words.push(local(alloc, "ptr0")?)?;
+    Ok(words)
+}
+
+/// The area, the call of the import with so many numbers, and the loads of what it wrote.
+fn asked(alloc: Global, link_name: &str, params: &[Text]) -> Result<List<Stmt>, OutOfMemory> {
     let mut stmts = List::new(alloc);
     stmts.push(Stmt::Area(ReturnArea {
         name: text(alloc, "ret_area")?,
@@ -190,27 +203,35 @@ fn name(alloc: Global) -> Result<FnItem, OutOfMemory> {
     }))?;
     let pointer = Expr::ReturnPointer(text(alloc, "ret_area")?);
     stmts.push(set(alloc, "ptr0", pointer)?)?;
-    stmts.push(declared(alloc, "name", "wit_import1", &[WasmType::Pointer])?)?;
-    let called = call(alloc, &["wit_import1"], local(alloc, "ptr0")?)?;
-    stmts.push(Stmt::Expr(called))?;
+    let mut types = List::new(alloc);
+    for _ in params {
+        types.push(WasmType::I32)?;
+    }
+    types.push(WasmType::Pointer)?;
+    stmts.push(declared(alloc, link_name, "wit_import1", types.as_slice())?)?;
+    let words = area_words(alloc, params)?;
+    stmts.push(Stmt::Expr(Expr::Call(path(alloc, &["wit_import1"])?, words)))?;
     stmts.push(loaded(alloc, "l2", START, WasmType::Pointer)?)?;
     stmts.push(loaded(alloc, "l3", SECOND, WasmType::Length)?)?;
+    Ok(stmts)
+}
+
+/// A function of whole numbers that answers a text by its area.
+fn answers_text(alloc: Global, name: &str, params: &[Text]) -> Result<FnItem, OutOfMemory> {
+    let mut stmts = asked(alloc, name, params)?;
     stmts.push(set(alloc, "len4", local(alloc, "l3")?)?)?;
     let address = Boxed::new(alloc, local(alloc, "l2")?)?;
     let bytes = Expr::FromRawParts(address, text(alloc, "len4")?);
     stmts.push(set(alloc, "bytes4", bytes)?)?;
     let lifted = call(alloc, &["_rt", "string_lift"], local(alloc, "bytes4")?)?;
     stmts.push(set(alloc, "text4", lifted)?)?;
-    Ok(FnItem {
-        docs: List::new(alloc),
-        name: text(alloc, "name")?,
-        params: List::new(alloc),
-        result: TypeExpr::String,
-        body: Block {
-            stmts,
-            tail: Some(local(alloc, "text4")?),
-        },
-    })
+    let body = Block {
+        stmts,
+        tail: Some(local(alloc, "text4")?),
+    };
+    let mut f = written(alloc, name, Primitive::U32, params, body)?;
+    f.result = TypeExpr::String;
+    Ok(f)
 }
 
 /// An answer that writes these bytes from 512 on, and brings these blocks.
@@ -234,14 +255,16 @@ fn one_block(alloc: Global, address: u32, bytes: &[u8]) -> Result<List<Memory>, 
     Ok(blocks)
 }
 
-fn named(
+/// The run of a function of these numbers, in an empty heap.
+fn run_of_text(
     alloc: Global,
+    f: FnItem,
+    args: &List<RustValue>,
     answer: &Answer,
     choices: &[Choice],
     form: Form,
 ) -> Result<Run, OutOfMemory> {
-    let tree = file(alloc, name(alloc)?)?;
-    let args = List::new(alloc);
+    let tree = file(alloc, f)?;
     let heap = empty(alloc);
     let choices = Choices {
         list: List::from_vec(Vec::from_slice(alloc, choices)?),
@@ -250,7 +273,7 @@ fn named(
         alloc,
         &tree,
         WrapperId(0),
-        &args,
+        args,
         &heap,
         &choices,
         answer,
@@ -258,11 +281,22 @@ fn named(
     )
 }
 
-/// The run that is done with an owned text, in a heap of these blocks.
-fn wanted_name(
+fn named(
     alloc: Global,
-    address: u32,
-    len: u32,
+    answer: &Answer,
+    choices: &[Choice],
+    form: Form,
+) -> Result<Run, OutOfMemory> {
+    let f = answers_text(alloc, "name", List::new(alloc).as_slice())?;
+    run_of_text(alloc, f, &List::new(alloc), answer, choices, form)
+}
+
+/// The run that is done after one call with these words, with an owned text and in a heap of these blocks.
+fn wanted_text(
+    alloc: Global,
+    name: &str,
+    words: &[Word],
+    buffer: (u32, u32),
     blocks: List<Memory>,
 ) -> Result<Run, OutOfMemory> {
     let mut area = List::new(alloc);
@@ -271,15 +305,47 @@ fn wanted_name(
         size: 8,
         cells: List::new(alloc),
     })?;
-    let call = call_of(alloc, "name", &[Word::Pointer(512)], Heap { blocks: area })?;
+    let call = call_of(alloc, name, words, Heap { blocks: area })?;
     let value = Some(RustValue::Buffer {
-        address,
-        len,
+        address: buffer.0,
+        len: buffer.1,
         owned: true,
     });
     let mut run = run_of(alloc, Stop::Done, Some(call), Heap { blocks }, value)?;
     run.requests.push(Request { size: 8, align: 4 })?;
     Ok(run)
+}
+
+fn wanted_name(
+    alloc: Global,
+    address: u32,
+    len: u32,
+    blocks: List<Memory>,
+) -> Result<Run, OutOfMemory> {
+    wanted_text(alloc, "name", &[Word::Pointer(512)], (address, len), blocks)
+}
+
+/// Sixteen numbers go as they are, and the address of the area behind them.
+fn many(alloc: Global, brings: &Answer) -> Result<Run, OutOfMemory> {
+    let f = answers_text(alloc, "many", names(alloc, 16)?.as_slice())?;
+    let args = sixteen(alloc)?;
+    run_of_text(alloc, f, &args, brings, &[Choice::At(512)], Form::Debug)
+}
+
+#[test]
+fn sixteen_numbers_ask_for_a_text(rt: HostRuntime) -> Result<(), Fail> {
+    let alloc = rt.alloc();
+    let brings = answer(
+        alloc,
+        &[0, 16, 0, 0, 2, 0, 0, 0],
+        one_block(alloc, 4096, b"ok")?,
+    )?;
+    let mut words = sixteen_words(alloc)?;
+    words.push(Word::Pointer(512))?;
+    let blocks = one_block(alloc, 4096, b"ok")?;
+    let wanted = wanted_text(alloc, "many", words.as_slice(), (4096, 2), blocks)?;
+    assert_eq!(rt; many(alloc, &brings)?, wanted);
+    Ok(())
 }
 
 #[test]

@@ -1,0 +1,763 @@
+-- The run of a wrapper whose result is a text: the area is placed, the arguments are lent, the import is called with the
+-- area's address, and the text that it wrote there is taken over.
+use Rattle.std.proofs.Common.{◌≡◌, ◌⊎◌, inl, inr, ℕ, suc, ◌+◌, ◌<◌, ◌^◌, ◌%◌, Bool, true, false, cond, not, ◌&&◌, ◌||◌, List, [], ◌∷◌, ◌++◌, length, Option, None, Some, map, refl, sym, ap, subst, ◌∙◌, append_assoc, arith}
+use Rattle.std.specs.Prelude.{is_some, nat_eq, nat_lt, option_and_then}
+use Rattle.std.specs.List.{flat_map, list_all, list_any}
+use Rattle.std.specs.Option.{option_or}
+use Rattle.std.specs.Str.{bytes_eq, is_utf8}
+use Rattle.std.proofs.lemmas.Bool.{and_from, and_parts, not-true, or_from, or_parts, or_right}
+use Rattle.std.proofs.lemmas.Bool.Decides.{nat_tests}
+use Rattle.std.proofs.lemmas.List.Folds.{list_any-append}
+use Rattle.std.proofs.lemmas.Slice.Eq.{bytes_eq-Decides}
+use Rattle.std.proofs.lemmas.Str.{IsUtf8-nil, is_utf8-from_IsUtf8}
+use Rattle.wit_model.specs.declared.function.Function.{Function}
+use Rattle.wit_model.specs.declared.size.WasmType.TheVariants as core
+use Rattle.wit_model.specs.declared.types.WitType.{WitType}
+use Rattle.wit_model.specs.declared.types.WitType.TheVariants as wit
+use Rattle.wit_model.specs.Distinct.{is_distinct}
+use Rattle.rust_tree.specs.declared.expr.Expr.{Expr}
+use Rattle.rust_tree.specs.declared.expr.Expr.TheVariants as expr
+use Rattle.rust_tree.specs.declared.item.FnItem.{FnItem}
+use Rattle.rust_tree.specs.declared.runtime_item.RuntimeItem.TheVariants.{StringLift, VecType}
+use Rattle.rust_tree.specs.declared.stmt.Stmt.{Stmt}
+use Rattle.rust_tree.specs.declared.stmt.Stmt.TheVariants as stmt
+use Rattle.rust_tree.specs.declared.type_expr.TypeExpr.TheVariants as type
+use Rattle.rust_tree.specs.Runtime.{item_name}
+use Rattle.wrapper_data.specs.Answered.{answered, with_blocks, with_writes}
+use Rattle.wrapper_data.specs.Heap.{is_block, is_heap, overlaps, overlaps_any}
+use Rattle.wrapper_data.specs.declared.choice.Choice.{Choice}
+use Rattle.wrapper_data.specs.declared.choice.Choice.TheVariants as choice
+use Rattle.wrapper_data.specs.declared.choice.Choices.{Choices}
+use Rattle.wrapper_data.specs.declared.heap.Block.{Block}
+use Rattle.wrapper_data.specs.declared.heap.Heap.{Heap}
+use Rattle.wrapper_data.specs.declared.run.CallPoint.{CallPoint}
+use Rattle.wrapper_data.specs.declared.run.Run.{Run}
+use Rattle.wrapper_data.specs.declared.run.Stop.TheVariants as stop_of
+use Rattle.wrapper_data.specs.declared.value.RustValue.{RustValue}
+use Rattle.wrapper_data.specs.declared.value.RustValue.TheVariants as value
+use Rattle.wrapper_data.specs.declared.word.Word.{Word}
+use Rattle.wrapper_data.specs.declared.word.Word.TheVariants as word
+use Rattle.wrapper_run.specs.declared.state.Local.{Local}
+use Rattle.wrapper_run.specs.declared.state.State.{State}
+use Rattle.wrapper_run.specs.declared.state.Val.{Val}
+use Rattle.wrapper_run.specs.declared.state.Val.TheVariants as val
+use Rattle.wrapper_run.specs.Act.{Act, Outcome, Done, Stopped, ◌>>=◌, ◌>>◌, and_then, or_stop, pure}
+use Rattle.wrapper_run.specs.Areas.{areas, due, needs_area, pointers, text_area, text_areas}
+use Rattle.wrapper_run.specs.Blocks.{declare_area, drop_value, free_owned, is_fitting, is_owned, leave, owned_bytes, place_area, without_block}
+use Rattle.wrapper_run.specs.Faithful.{Carries, Made, MissesArea, import_target, param_types}
+use Rattle.wrapper_run.specs.Honest.{AnswersText, HonestPeer, WritesIn, are_new}
+use Rattle.wrapper_run.specs.Locals.{bind, declare, last, local_named, value_of}
+use Rattle.wrapper_run.specs.Memory.{block_at, bytes_from, loaded, without}
+use Rattle.wrapper_run.specs.Owning.{address_of, is_taken, taken_by}
+use Rattle.wrapper_run.specs.Run.{answer_and_leave, ended, eval, run_at, run_fn, run_item, run_stmt, run_stmts, run_tail, runtime_item_named, start, take_answer, words_of}
+use Rattle.wrapper_run.specs.Setting.{Setting, stuck}
+use Rattle.wrapper_run.specs.StandsFor.{IsTextBlock, StandAll, StandsResult}
+use Rattle.wrapper_run.specs.Value.{AreValues, IsResult, IsValue, WitValue, char, f32, f64, number, scalar, text, truth}
+use Rattle.wrapper_run.proofs.HeapLemmas.{SamePlace, added, area_found, area_removed, found_behind, size-positive, writes_in_area}
+use Rattle.wrapper_run.proofs.LocalLemmas.{ReadsAll, SameLength, last-append, names_of, reads-new, reads_args, unbound}
+use Rattle.wrapper_run.proofs.OwningLemmas.{Adds, ArePlain, adds-one, adds-then, no_unit_buffer, owned-none}
+use Rattle.wrapper_run.proofs.StepLemmas.{Give, Quiet, call_gives, ended-calls, import_gives, local_gives, quiet_answer, quiet_answers, quiet_bind, quiet_drop, quiet_local, quiet_pure, quiet_runtime, quiet_then}
+use Rattle.wrapper_run.proofs.TakeLemmas.{answered-text, area_gives, leaves_one, lifts_text, load_gives, moves_last, owned-empty, quiet_load, quiet_raw, raw_gives, takes_block, takes_empty, words_give}
+use Rattle.rust_gen.specs.Body.{IsBody, IsWritten, LiftsText, Lifts, Points, area_stmts, call_kinds, call_stmt, import_call, import_decl, import_name, local_path, result_name, runtime_call, runtime_path, word_at, text_area as area_of}
+use Rattle.rust_gen.specs.DeclaredNames.{param_idents}
+use Rattle.rust_gen.specs.Printed.{core_params, core_result, param_words, pointer_words, printed_result}
+use Rattle.rust_gen.specs.Runtime.{lifting_items, lowering_items, signature_items}
+use Rattle.rust_gen.specs.Scope.{Bytes, Declares, IsFixedName, cleanup_list, first_scope, is_used, numbered, ret_area}
+use Rattle.rust_gen.specs.declared.scope.LocalKind.TheVariants as kind
+use Rattle.rust_gen.proofs.AskedLemmas.{Found, found-first, found-left, found-right}
+use Rattle.rust_gen.proofs.LowerLemmas.{Lowered, give-append, lower_all, run_stmts-append, words-append, words_of-append}
+use Rattle.rust_gen.proofs.PathLemmas.{calls_alone, calls_runtime}
+use Rattle.rust_gen.proofs.RunLemmas.{Fits, all-used, and_then-assoc, call_is, carries_plain, declared, names-printed, plain_arg, plain_args, point, same-length}
+use Rattle.rust_gen.proofs.ScopeLemmas.{Within, free-one, grows-declared, is_used-append, keeps-bound, reads-past, used-declared, used-first, used-next, within-bound}
+
+-- the last statements: the bytes are taken over, tested and moved out
+
+abbrev take_stmts : Bytes → Bytes → Bytes → Bytes → List Stmt
+take_stmts from size bytes named =
+    stmt.Let bytes (expr.FromRawParts (expr.Local from) size) ∷ stmt.Let named (runtime_call StringLift (expr.Local bytes)) ∷ []
+
+-- what they leave: the text as the body's value, plain locals beside those that are there, and its block taken
+record TakesText (w : Setting) (s : State) (p n : ℕ) (from size bytes named : Bytes) : Type 0 where
+  pub locals : List Local
+  pub taken : List ℕ
+  pub runs : and_then (run_stmts w (take_stmts from size bytes named) s) (λ _. eval w (expr.Local named)) ≡ Done (val.Value (value.Buffer p n true)) (record s { locals = locals; taken = taken })
+  pub adds : Adds s.locals locals
+  pub keeps : (a : ℕ) → is_taken a s.taken ≡ true → is_taken a taken ≡ true
+
+taken-last : (taken : List ℕ) (p : ℕ) → is_taken p (taken ++ p ∷ []) ≡ true
+taken-last [] p = grind (arith, nat_tests)
+taken-last (t ∷ taken) p = or_right (nat_eq t p) _ (taken-last taken p)
+
+taken-stays : (taken : List ℕ) (p a : ℕ) → is_taken a taken ≡ true → is_taken a (taken ++ p ∷ []) ≡ true
+taken-stays [] p a h = absurd (cc)
+taken-stays (t ∷ taken) p a h = go (nat_eq t a) h (taken-stays taken p a)
+  where
+    go : (b : Bool) → (b || is_taken a taken) ≡ true → (is_taken a taken ≡ true → is_taken a (taken ++ p ∷ []) ≡ true) → (b || is_taken a (taken ++ p ∷ [])) ≡ true
+    go true h k = refl
+    go false h k = k h
+
+-- an empty text
+takes_nothing : (w : Setting) (s : State) (p : ℕ) (from size bytes named : Bytes) → 0 < p → runtime_item_named w.items (item_name StringLift) ≡ Some StringLift
+    → value_of (local_named from s.locals) ≡ Some (val.Word (word.Pointer p)) → value_of (local_named size s.locals) ≡ Some (val.Word (word.Length 0)) → TakesText w s p 0 from size bytes named
+unfolding bind
+takes_nothing w s p from size bytes named pos found at_from at_size =
+    let v : Val = val.Value (value.Buffer p 0 true) in
+    let b : Local = record { name = bytes; value = Some v } in
+    let t : Local = record { name = named; value = Some v } in
+    let l1 : List Local = s.locals ++ b ∷ [] in
+    let s1 : State = record s { locals = l1 } in
+    let s2 : State = record s { locals = l1 ++ t ∷ [] } in
+    let tail : Act Val = eval w (expr.Local named) in
+    record {
+      locals = l1 ++ t ∷ [];
+      taken = s.taken;
+      runs =
+          ap (λ o. and_then (and_then (and_then o (bind bytes)) (λ _. run_stmts w (stmt.Let named (runtime_call StringLift (expr.Local bytes)) ∷ []))) (λ _. tail))
+          (raw_gives w (expr.Local from) size p 0 s (local_gives w from (val.Word (word.Pointer p)) s at_from refl) at_size ∙ takes_empty w p s pos)
+          ∙ ap (λ o. and_then (and_then (and_then o (bind named)) (λ _. pure {A = Unit {0}} tt)) (λ _. tail))
+          (lifts_text w (runtime_path StringLift) (item_name StringLift) bytes p 0 [] s1 s1 (calls_runtime StringLift) found (local_gives w bytes v s1 (reads-new bytes (Some v) s.locals) (owned-empty p)) refl (is_utf8-from_IsUtf8 [] IsUtf8-nil))
+          ∙ local_gives w named v s2 (reads-new named (Some v) l1) (owned-empty p);
+      adds = adds-then s.locals l1 (l1 ++ t ∷ []) (adds-one s.locals b (owned-empty p)) (adds-one l1 t (owned-empty p));
+      keeps = λ a h. h;
+    }
+
+-- a text with a block
+takes_bytes : (w : Setting) (s : State) (p n : ℕ) (t : Block) (content : List ℕ) (from size bytes named : Bytes) → 0 < p → suc n < 2 ^ 31 → runtime_item_named w.items (item_name StringLift) ≡ Some StringLift
+    → value_of (local_named from s.locals) ≡ Some (val.Word (word.Pointer p)) → value_of (local_named size s.locals) ≡ Some (val.Word (word.Length (suc n)))
+    → is_taken p s.taken ≡ false → block_at p (suc n) s.heap.blocks ≡ Some t → bytes_from t.cells 0 (suc n) ≡ Some content → is_utf8 content ≡ true → TakesText w s p (suc n) from size bytes named
+unfolding bind
+takes_bytes w s p n t content from size bytes named pos small found at_from at_size free block read utf8 =
+    let v : Val = val.Value (value.Buffer p (suc n) true) in
+    let taken : List ℕ = s.taken ++ p ∷ [] in
+    let gone : Local = record { name = bytes; value = None } in
+    let left : Local = record { name = named; value = None } in
+    let l1 : List Local = s.locals ++ record { name = bytes; value = Some v } ∷ [] in
+    let l2 : List Local = s.locals ++ gone ∷ [] in
+    let s1 : State = record s { locals = l1; taken = taken } in
+    let s2 : State = record s { locals = l2; taken = taken } in
+    let s3 : State = record s { locals = l2 ++ record { name = named; value = Some v } ∷ []; taken = taken } in
+    let tail : Act Val = eval w (expr.Local named) in
+    let owns : owned_bytes p (suc n) s2 ≡ Some content =
+    ap (λ b. cond b (option_and_then (λ b. bytes_from b.cells 0 (suc n)) (block_at p (suc n) s.heap.blocks)) None) (taken-last s.taken p) ∙ ap (option_and_then (λ b. bytes_from b.cells 0 (suc n))) block ∙ read in
+    record {
+      locals = l2 ++ left ∷ [];
+      taken = taken;
+      runs =
+          ap (λ o. and_then (and_then (and_then o (bind bytes)) (λ _. run_stmts w (stmt.Let named (runtime_call StringLift (expr.Local bytes)) ∷ []))) (λ _. tail))
+          (raw_gives w (expr.Local from) size p (suc n) s (local_gives w from (val.Word (word.Pointer p)) s at_from refl) at_size ∙ takes_block w p n t content s pos small free block read)
+          ∙ ap (λ o. and_then (and_then (and_then o (bind named)) (λ _. pure {A = Unit {0}} tt)) (λ _. tail))
+          (lifts_text w (runtime_path StringLift) (item_name StringLift) bytes p (suc n) content s1 s2 (calls_runtime StringLift) found (moves_last w bytes p n s.locals s1 refl) owns utf8)
+          ∙ moves_last w named p n l2 s3 refl;
+      adds = adds-then s.locals l2 (l2 ++ left ∷ []) (adds-one s.locals gone refl) (adds-one l2 left refl);
+      keeps = λ a h. taken-stays s.taken p a h;
+    }
+
+takes_text : (w : Setting) (s : State) (p : ℕ) (bytes : List ℕ) (blocks : List Block) (from size name named : Bytes) → 0 < p → length bytes < 2 ^ 31 → runtime_item_named w.items (item_name StringLift) ≡ Some StringLift
+    → value_of (local_named from s.locals) ≡ Some (val.Word (word.Pointer p)) → value_of (local_named size s.locals) ≡ Some (val.Word (word.Length (length bytes))) → is_utf8 bytes ≡ true → IsTextBlock p bytes blocks
+    → ((t : Block) → blocks ≡ t ∷ [] → t.address ≡ p → (is_taken p s.taken ≡ false) × (block_at t.address t.size s.heap.blocks ≡ Some t)) → TakesText w s p (length bytes) from size name named
+takes_text w s p [] blocks from size name named pos small found at_from at_size utf8 holds has = takes_nothing w s p from size name named pos found at_from at_size
+takes_text w s p (x ∷ bytes) blocks from size name named pos small found at_from at_size utf8 (t, one, at, n, read) has =
+    takes_bytes w s p (length bytes) t (x ∷ bytes) from size name named pos small found at_from at_size (has t one at).0
+    (ap (λ a. block_at a (length (x ∷ bytes)) s.heap.blocks) (sym at) ∙ ap (λ n. block_at t.address n s.heap.blocks) (sym n) ∙ (has t one at).1) read utf8
+
+-- blocks of one place overlap the same
+overlaps_of : (x y b : Block) → SamePlace x y → overlaps x b ≡ overlaps y b
+overlaps_of x y b s =
+    ap (λ p. nat_lt p (b.address + b.size) && nat_lt b.address (p + x.size)) s.0 ∙ ap (λ n. nat_lt y.address (b.address + b.size) && nat_lt b.address (y.address + n)) s.1
+
+same_apart : (x y : Block) (hs : List Block) → SamePlace x y → overlaps_any y hs ≡ false → overlaps_any x hs ≡ false
+same_apart x y [] s h = refl
+same_apart x y (b ∷ hs) s h =
+    let parts = or_parts (overlaps y b) (overlaps_any y hs) h in
+    or_from (overlaps x b) (overlaps_any x hs) (overlaps_of x y b s ∙ parts.0) (same_apart x y hs s parts.1)
+
+-- what the answer leaves in the heap: the area, and behind it the text's block
+
+record Answered (hs : List Block) (area : Block) (bytes : List ℕ) (p : ℕ) (writes : List (ℕ × ℕ)) (blocks : List Block) : Type 0 where
+  pub area' : Block
+  pub same : SamePlace area' area
+  pub blocks_are : with_writes (with_blocks (hs ++ area ∷ []) blocks) writes ≡ hs ++ area' ∷ blocks
+
+new-block : (t : Block) (heap : Heap) → are_new (t ∷ []) heap ≡ true → (is_block t ≡ true) × (overlaps_any t heap.blocks ≡ false)
+new-block t heap e =
+    let all = (and_parts (list_all (λ b. is_block b && not (overlaps_any b heap.blocks)) (t ∷ [])) _ e).0 in
+    let one = (and_parts (is_block t && not (overlaps_any t heap.blocks)) true all).0 in
+    let parts = and_parts (is_block t) (not (overlaps_any t heap.blocks)) one in
+    (parts.0, not-true (overlaps_any t heap.blocks) parts.1)
+
+answered-blocks : (hs : List Block) (area : Block) (bytes : List ℕ) (p : ℕ) (writes : List (ℕ × ℕ)) (blocks : List Block) (heap : Heap) → heap.blocks ≡ hs ++ area ∷ []
+    → overlaps_any area hs ≡ false → WritesIn area.address area.size writes → IsTextBlock p bytes blocks → are_new blocks heap ≡ true → Answered hs area bytes p writes blocks
+answered-blocks hs area [] p writes blocks heap is apart inside holds fresh =
+    let wr = writes_in_area hs [] area writes apart inside in
+    record { area' = wr.0; same = wr.2; blocks_are = ap (λ bs. with_writes (with_blocks (hs ++ area ∷ []) bs) writes) holds ∙ wr.1 ∙ ap (λ bs. hs ++ wr.0 ∷ bs) (sym holds) }
+answered-blocks hs area (b ∷ bytes) p writes blocks heap is apart inside (t, one, at, size, read) fresh =
+    let new = new-block t heap (ap (λ bs. are_new bs heap) (sym one) ∙ fresh) in
+    let wr = writes_in_area hs (t ∷ []) area writes apart inside in
+    record {
+      area' = wr.0;
+      same = wr.2;
+      blocks_are =
+          ap (λ bs. with_writes (with_blocks (hs ++ area ∷ []) bs) writes) one
+          ∙ ap (λ bs. with_writes bs writes) (added (hs ++ area ∷ []) t new.0 (ap (overlaps_any t) (sym is) ∙ new.1) ∙ append_assoc hs (area ∷ []) (t ∷ []))
+          ∙ wr.1 ∙ ap (λ bs. hs ++ wr.0 ∷ bs) (sym one);
+    }
+
+-- small facts
+
+apart-addresses : (area t : Block) → overlaps_any t (area ∷ []) ≡ false → 0 < area.size → 0 < t.size → (t.address ≡ area.address → ⊥)
+apart-addresses area t o n m h =
+    let no = (or_parts (overlaps t area) false o).0 in
+    let p : nat_lt t.address (area.address + area.size) ≡ true = grind (arith, nat_tests) in
+    let r : nat_lt area.address (t.address + t.size) ≡ true = grind (arith, nat_tests) in
+    let yes : overlaps t area ≡ true = and_from (nat_lt t.address (area.address + area.size)) (nat_lt area.address (t.address + t.size)) p r in
+    absurd (cc)
+
+overlaps-behind : (t : Block) (hs ts : List Block) → overlaps_any t (hs ++ ts) ≡ false → (overlaps_any t hs ≡ false) × (overlaps_any t ts ≡ false)
+overlaps-behind t hs ts h = or_parts (overlaps_any t hs) (overlaps_any t ts) (sym (list_any-append (overlaps t) hs ts) ∙ h)
+
+fixed-free : (params : List Bytes) (base name : Bytes) → IsFixedName params base name → is_used params name ≡ false
+fixed-free params base name (inl (h, is)) = ap (is_used params) is ∙ h
+fixed-free params base name (inr n) = n.free
+
+flipped : (a b : Bytes) → bytes_eq a b ≡ false → bytes_eq b a ≡ false
+flipped a b h = go (bytes_eq b a) refl
+  where
+    go : (t : Bool) → bytes_eq b a ≡ t → bytes_eq b a ≡ false
+    go true e =
+        let same : b ≡ a = (bytes_eq-Decides b a).0 e in
+        let twice : bytes_eq a b ≡ true = (bytes_eq-Decides a b).1 (sym same) in
+        absurd (cc)
+    go false e = e
+
+reads-behind : (names : List Bytes) (rs : List RustValue) (locals : List Local) (n : Bytes) (o : Option Val) → is_used names n ≡ false → ReadsAll names rs locals → ReadsAll names rs (locals ++ record { name = n; value = o } ∷ [])
+reads-behind [] rs locals n o h r = r
+reads-behind (name ∷ names) [] locals n o h r = r
+reads-behind (name ∷ names) (x ∷ rs) locals n o h r =
+    let parts = or_parts (bytes_eq name n) (is_used names n) h in
+    (reads-past locals (record { name = n; value = o }) name (Some (val.Value x)) (flipped name n parts.0) r.0, reads-behind names rs locals n o parts.1 r.1)
+
+-- arguments of these types take nothing
+taken_args : (heap : Heap) (types : List WitType) (vs : List WitValue) (args : List RustValue) → StandAll heap types vs args → taken_by args ≡ []
+taken_args heap [] [] args h = ap taken_by h
+taken_args heap [] (v ∷ vs) args h = absurd h
+taken_args heap (ty ∷ types) [] args h = absurd h
+taken_args heap (ty ∷ types) (v ∷ vs) args (r, rest, e, one, more) =
+    ap taken_by e ∙ ap (λ o. address_of o ++ taken_by rest) (plain_arg heap ty v r one) ∙ taken_args heap types vs rest more
+
+-- the area is placed, or the choice does not fit
+
+abbrev area_local : Bytes → ℕ → Local
+area_local name a = record { name = name; value = Some (val.Area a 8) }
+
+abbrev area_block : ℕ → Block
+area_block a = record { address = a; size = 8; cells = [] }
+
+-- a state with the area
+abbrev placed : Bytes → ℕ → List Choice → State → State
+placed name a choices s =
+    record s {
+      locals = s.locals ++ area_local name a ∷ [];
+      heap = record s.heap { blocks = s.heap.blocks ++ area_block a ∷ [] };
+      choices = choices;
+      requests = s.requests ++ text_area ∷ [];
+      taken = s.taken ++ a ∷ [];
+    }
+
+record Placing (w : Setting) (name : Bytes) (s : State) : Type 0 where
+  pub address : ℕ
+  pub left : List Choice
+  pub chosen : s.choices ≡ choice.At address ∷ left
+  pub fits : is_fitting address text_area s.heap.blocks ≡ true
+  pub runs : declare_area w (area_of name) s ≡ Done tt (placed name address left s)
+
+places : (w : Setting) (name : Bytes) (s : State) → Placing w name s ⊎ (declare_area w (area_of name) s ≡ Stopped stop_of.BadChoice (record s { requests = s.requests ++ text_area ∷ [] }))
+unfolding declare_area bind
+places w name s = go s.choices refl
+  where
+    go : (cs : List Choice) → s.choices ≡ cs → Placing w name s ⊎ (declare_area w (area_of name) s ≡ Stopped stop_of.BadChoice (record s { requests = s.requests ++ text_area ∷ [] }))
+    go [] e = inr (ap (λ cs. place_area name text_area cs (record s { requests = s.requests ++ text_area ∷ [] })) e)
+    go (choice.Refuse ∷ cs) e = inr (ap (λ cs. place_area name text_area cs (record s { requests = s.requests ++ text_area ∷ [] })) e)
+    go (choice.At a ∷ cs) e = test (is_fitting a text_area s.heap.blocks) refl
+      where
+        after : Bool → Outcome (Unit {0})
+        after t = cond t (Done tt (placed name a cs s)) (Stopped stop_of.BadChoice (record s { requests = s.requests ++ text_area ∷ [] }))
+
+        test : (t : Bool) → is_fitting a text_area s.heap.blocks ≡ t → Placing w name s ⊎ (declare_area w (area_of name) s ≡ Stopped stop_of.BadChoice (record s { requests = s.requests ++ text_area ∷ [] }))
+        test true h = inl (record {
+          address = a;
+          left = cs;
+          chosen = e;
+          fits = h;
+          runs = ap (λ cs. place_area name text_area cs (record s { requests = s.requests ++ text_area ∷ [] })) e ∙ ap after h;
+        })
+        test false h = inr (ap (λ cs. place_area name text_area cs (record s { requests = s.requests ++ text_area ∷ [] })) e ∙ ap after h)
+
+-- what stands behind the lowering, and what stands behind the call
+
+quiet_let : (w : Setting) (n : Bytes) (e : Expr) (more : List Stmt) → Quiet (eval w e) → Quiet (run_stmts w more) → Quiet (run_stmts w (stmt.Let n e ∷ more))
+quiet_let w n e more h k =
+    quiet_then (run_stmt w (stmt.Let n e)) (λ _. run_stmts w more) (quiet_then (eval w e) (bind n) h (quiet_bind n)) (λ _. k)
+
+abbrev lift_stmts : Bytes → Bytes → Bytes → Bytes → Bytes → Bytes → List Stmt
+lift_stmts base la lb ln by tx =
+    stmt.Let la (word_at base 0 core.Pointer) ∷ stmt.Let lb (word_at base 1 core.Length) ∷ stmt.Let ln (expr.Local lb) ∷ take_stmts la ln by tx
+
+quiet_lift_stmts : (w : Setting) (base la lb ln by tx : Bytes) → Quiet (run_stmts w (lift_stmts base la lb ln by tx))
+quiet_lift_stmts w base la lb ln by tx =
+    quiet_let w la (word_at base 0 core.Pointer) (stmt.Let lb (word_at base 1 core.Length) ∷ stmt.Let ln (expr.Local lb) ∷ take_stmts la ln by tx)
+    (quiet_load w (expr.Local base) (record { bytes = 0; pointers = 0 }) core.Pointer (quiet_local w base))
+    (quiet_let w lb (word_at base 1 core.Length) (stmt.Let ln (expr.Local lb) ∷ take_stmts la ln by tx) (quiet_load w (expr.Local base) (record { bytes = 0; pointers = 1 }) core.Length (quiet_local w base))
+    (quiet_let w ln (expr.Local lb) (take_stmts la ln by tx) (quiet_local w lb)
+    (quiet_let w by (expr.FromRawParts (expr.Local la) ln) (stmt.Let tx (runtime_call StringLift (expr.Local by)) ∷ []) (quiet_raw w (expr.Local la) ln (quiet_local w la))
+    (quiet_let w tx (runtime_call StringLift (expr.Local by)) [] (quiet_runtime w (runtime_path StringLift) (item_name StringLift) (expr.Local by) (calls_runtime StringLift) (quiet_local w by)) (quiet_pure tt)))))
+
+-- the end of a body whose value is a local
+abbrev finish : Setting → List Stmt → Bytes → Val → Act (Option RustValue)
+finish w stmts tx v = drop_value w v >> (run_stmts w stmts >> (eval w (expr.Local tx) >>= answer_and_leave w type.String))
+
+quiet_finish : (w : Setting) (stmts : List Stmt) (tx : Bytes) → Quiet (run_stmts w stmts) → (v : Val) → Quiet (finish w stmts tx v)
+quiet_finish w stmts tx h v =
+    quiet_then (drop_value w v) (λ _. run_stmts w stmts >> (eval w (expr.Local tx) >>= answer_and_leave w type.String)) (quiet_drop w v)
+    (λ _. quiet_then (run_stmts w stmts) (λ _. eval w (expr.Local tx) >>= answer_and_leave w type.String) h
+    (λ _. quiet_then (eval w (expr.Local tx)) (answer_and_leave w type.String) (quiet_local w tx) (quiet_answers w type.String)))
+
+regroup : (w : Setting) (stmts : List Stmt) (tx : Bytes) (o : Outcome Val)
+    → and_then (and_then (and_then (and_then o (drop_value w)) (λ _. run_stmts w stmts)) (λ _. eval w (expr.Local tx))) (answer_and_leave w type.String) ≡ and_then o (finish w stmts tx)
+regroup w stmts tx (Stopped e s) = refl
+regroup w stmts tx (Done v s) = go (drop_value w v s)
+  where
+    go : (o : Outcome (Unit {0})) → and_then (and_then (and_then o (λ _. run_stmts w stmts)) (λ _. eval w (expr.Local tx))) (answer_and_leave w type.String)
+        ≡ and_then o (λ _. run_stmts w stmts >> (eval w (expr.Local tx) >>= answer_and_leave w type.String))
+    go (Stopped e t) = refl
+    go (Done u t) = and_then-assoc (run_stmts w stmts t) (λ _. eval w (expr.Local tx)) (answer_and_leave w type.String)
+
+-- a wrapper whose result is a text
+
+module _ (f : Function) (i : FnItem) (written : IsWritten f i) (is_text : f.result ≡ Some wit.String) (w : Setting) (fits : Fits f w) (vs : List WitValue) (bytes : List ℕ) (args : List RustValue) (heap : Heap) (choices : Choices)
+    (good : AreValues (param_types f) vs) (text_good : IsValue wit.String (text bytes)) (stand : StandAll heap (param_types f) vs args) where
+  abbrev begin : State
+  begin = start i args heap choices
+
+  abbrev b : IsBody f i.body
+  b = written.body
+
+  abbrev q : Bytes
+  q = numbered kind.Pointer b.pointer
+
+  abbrev imp : Bytes
+  imp = import_name b.number
+
+  points : Declares b.lowered (kind.Pointer ∷ []) b.pointer b.pointed × (b.pointing ≡ stmt.Let q (expr.ReturnPointer b.area) ∷ []) × (b.address ≡ expr.Local q ∷ [])
+  points = subst (λ r. Points r b.area b.pointer b.lowered b.pointing b.address b.pointed) is_text b.points
+
+  calls : Declares b.pointed (kind.Import ∷ []) b.number b.called
+  calls = subst (λ r. Declares b.pointed (call_kinds (core_result r)) b.number b.called) is_text b.calls
+
+  lifts : (e : Expr) × (i.body.tail ≡ Some e) × LiftsText q b.called b.lifting e
+  lifts = subst (λ r. Lifts r q (result_name b.number) b.called b.lifting i.body.tail) is_text b.lifts
+
+  abbrev l : LiftsText q b.called b.lifting lifts.0
+  l = lifts.2
+
+  abbrev la : Bytes
+  la = numbered kind.Loaded l.first
+
+  abbrev lb : Bytes
+  lb = numbered kind.Loaded l.second
+
+  abbrev ln : Bytes
+  ln = numbered kind.Length l.third
+
+  abbrev by : Bytes
+  by = numbered kind.Bytes l.third
+
+  abbrev tx : Bytes
+  tx = numbered kind.Text l.third
+
+  abbrev lifting : List Stmt
+  lifting = lift_stmts q la lb ln by tx
+
+  abbrev call_words : List Expr
+  call_words = b.words ++ expr.Local q ∷ []
+
+  abbrev rest : List Stmt
+  rest = stmt.Let q (expr.ReturnPointer b.area) ∷ stmt.Import (import_decl b.number f) ∷ stmt.Expr (import_call b.number call_words) ∷ lifting
+
+  stmts_are : i.body.stmts ≡ stmt.Area (area_of b.area) ∷ (b.lowering ++ rest)
+  stmts_are =
+      b.stmts
+      ∙ ap (λ r. area_stmts r b.area ++ (b.lowering ++ (b.pointing ++ stmt.Import (import_decl b.number f) ∷ call_stmt (core_result r) b.number (b.words ++ b.address) ∷ b.lifting))) is_text
+      ∙ ap (λ ss. stmt.Area (area_of b.area) ∷ (b.lowering ++ (ss ++ stmt.Import (import_decl b.number f) ∷ stmt.Expr (import_call b.number (b.words ++ b.address)) ∷ b.lifting))) points.1
+      ∙ ap (λ ws. stmt.Area (area_of b.area) ∷ (b.lowering ++ stmt.Let q (expr.ReturnPointer b.area) ∷ stmt.Import (import_decl b.number f) ∷ stmt.Expr (import_call b.number (b.words ++ ws)) ∷ b.lifting)) points.2
+      ∙ ap (λ ss. stmt.Area (area_of b.area) ∷ (b.lowering ++ stmt.Let q (expr.ReturnPointer b.area) ∷ stmt.Import (import_decl b.number f) ∷ stmt.Expr (import_call b.number call_words) ∷ ss)) l.is
+
+  tail_is : i.body.tail ≡ Some (expr.Local tx)
+  tail_is = lifts.1 ∙ ap Some l.ends
+
+  result_is : i.result ≡ type.String
+  result_is = written.answer ∙ ap printed_result is_text
+
+  -- the whole run, up to the area
+  runs_from : run_fn w i begin
+      ≡ and_then (and_then (and_then (declare_area w (area_of b.area) begin) (λ _. run_stmts w (b.lowering ++ rest))) (λ _. eval w (expr.Local tx))) (answer_and_leave w type.String)
+  runs_from =
+      ap (λ stmts. and_then (and_then (run_stmts w stmts begin) (λ _. run_tail w i.body.tail)) (answer_and_leave w i.result)) stmts_are
+      ∙ ap (λ tail. and_then (and_then (run_stmts w (stmt.Area (area_of b.area) ∷ (b.lowering ++ rest)) begin) (λ _. run_tail w tail)) (answer_and_leave w i.result)) tail_is
+      ∙ ap (λ r. and_then (and_then (run_stmts w (stmt.Area (area_of b.area) ∷ (b.lowering ++ rest)) begin) (λ _. eval w (expr.Local tx))) (answer_and_leave w r)) result_is
+
+  run : Run
+  run = run_item w i args heap choices
+
+  -- the choice does not fit
+  misses : declare_area w (area_of b.area) begin ≡ Stopped stop_of.BadChoice (record begin { requests = text_area ∷ [] }) → MissesArea f (run_item w i args heap choices)
+  unfolding run_item
+  misses e =
+      let is : run_item w i args heap choices ≡ run_at stop_of.BadChoice None (record begin { requests = text_area ∷ [] }) =
+      ap ended (runs_from ∙ ap (λ o. and_then (and_then (and_then o (λ _. run_stmts w (b.lowering ++ rest))) (λ _. eval w (expr.Local tx))) (answer_and_leave w type.String)) e) in
+      record { needed = ap needs_area is_text; stopped = ap (λ r. r.stop) is; requests = ap (λ r. r.requests) is ∙ sym (ap due is_text); calls = ap (λ r. r.calls) is }
+
+  names : names_of i.params ≡ param_idents f
+  names = ap names_of written.params ∙ names-printed f.params
+
+  area_free : is_used (param_idents f) b.area ≡ false
+  area_free = fixed-free (param_idents f) ret_area b.area b.named
+
+  area_used : is_used (first_scope f b.area).used b.area ≡ true
+  area_used =
+      is_used-append (param_idents f) (cleanup_list ∷ b.area ∷ []) b.area
+      ∙ or_right (is_used (param_idents f) b.area) _ (used-next cleanup_list b.area (b.area ∷ []) (used-first b.area []))
+
+  plain_begin : ArePlain begin.locals
+  plain_begin = plain_args heap (param_types f) vs i.params args stand
+
+  module _ (a : ℕ) (cs : List Choice) (chosen : choices.list ≡ choice.At a ∷ cs) (fit : is_fitting a text_area heap.blocks ≡ true) (area_runs : declare_area w (area_of b.area) begin ≡ Done tt (placed b.area a cs begin)) where
+    abbrev area : Block
+    area = area_block a
+
+    is_area : is_block area ≡ true
+    is_area = (and_parts (is_block area) (not (overlaps_any area heap.blocks)) (and_parts (is_block area && not (overlaps_any area heap.blocks)) (nat_eq (a % 4) 0) fit).0).0
+
+    area_apart : overlaps_any area heap.blocks ≡ false
+    area_apart = not-true (overlaps_any area heap.blocks) (and_parts (is_block area) (not (overlaps_any area heap.blocks)) (and_parts (is_block area && not (overlaps_any area heap.blocks)) (nat_eq (a % 4) 0) fit).0).1
+
+    abbrev s0 : State
+    s0 = placed b.area a cs begin
+
+    within0 : Within (first_scope f b.area).used s0.locals
+    within0 name h =
+        let parts = or_parts (is_used (param_idents f) name) (is_used (cleanup_list ∷ b.area ∷ []) name) (sym (is_used-append (param_idents f) (cleanup_list ∷ b.area ∷ []) name) ∙ h) in
+        let behind = or_parts (bytes_eq cleanup_list name) (is_used (b.area ∷ []) name) parts.1 in
+        let here : bytes_eq b.area name ≡ false = (or_parts (bytes_eq b.area name) false behind.1).0 in
+        last-append (λ l. bytes_eq l.name name) begin.locals (area_local b.area a) ∙ ap (λ t. option_or (cond t (Some (area_local b.area a)) None) (local_named name begin.locals)) here
+        ∙ unbound i.params args name (ap (λ ns. list_any (λ u. bytes_eq u name) ns) names ∙ parts.0)
+
+    arguments0 : ReadsAll (param_idents f) args s0.locals
+    arguments0 =
+        reads-behind (param_idents f) args begin.locals b.area (Some (val.Area a 8)) area_free
+        (subst (λ ns. ReadsAll ns args begin.locals) names
+        (reads_args i.params args (ap is_distinct names ∙ fits.distinct) (subst (λ ps. SameLength ps args) (sym written.params) (same-length heap f.params vs args stand))))
+
+    lowering : Lowered w s0 heap f.params vs (first_scope f b.area) b.lowered b.lowering b.words
+    lowering =
+        lower_all w s0 heap f.params vs args (first_scope f b.area) b.lowered b.lowering b.words b.lowers good stand
+        (found-right w.items (signature_items f.result) (flat_map (λ p. lowering_items p.ty) f.params)
+        (found-left w.items (signature_items f.result ++ flat_map (λ p. lowering_items p.ty) f.params) (lifting_items f.result) fits.found))
+        (all-used [] (param_idents f) (cleanup_list ∷ b.area ∷ [])) arguments0 within0
+
+    abbrev s1 : State
+    s1 = record s0 { locals = lowering.locals }
+
+    abbrev pointer : Val
+    pointer = val.Word (word.Pointer a)
+
+    abbrev l2 : List Local
+    l2 = lowering.locals ++ record { name = q; value = Some pointer } ∷ []
+
+    abbrev s2 : State
+    s2 = record s0 { locals = l2 }
+
+    abbrev s3 : State
+    s3 = declared b.number f s2
+
+    abbrev given : List Word
+    given = lowering.lent ++ word.Pointer a ∷ []
+
+    abbrev here : CallPoint
+    here = point f s0.heap given
+
+    abbrev s4 : State
+    s4 = record s3 { calls = here ∷ [] }
+
+    q_free : is_used b.lowered.used q ≡ false
+    q_free = free-one b.lowered.used kind.Pointer [] b.pointer points.0.number.free
+
+    area_at : value_of (local_named b.area lowering.locals) ≡ Some (val.Area a 8)
+    area_at = ap value_of (lowering.keeps b.area area_used) ∙ reads-new b.area (Some (val.Area a 8)) begin.locals
+
+    free_name : local_named imp l2 ≡ None
+    free_name =
+        within-bound b.lowered.used lowering.locals q (Some pointer) lowering.within imp
+        (ap (λ s. is_used s.used imp) (sym points.0.leaves) ∙ free-one b.pointed.used kind.Import [] b.number calls.number.free)
+
+    gives : Give w s3 call_words (map val.Word given)
+    gives =
+        subst (λ vs. Give w s3 call_words vs) (sym (words-append lowering.lent (word.Pointer a ∷ [])))
+        (give-append w s3 b.words (expr.Local q ∷ []) (map val.Word lowering.lent) (pointer ∷ []) (lowering.gives s3 (keeps-bound b.lowered.used lowering.locals q (Some pointer) q_free))
+        (local_gives w q pointer s3 (reads-new q (Some pointer) lowering.locals) refl, tt))
+
+    typed : words_of (core_params f) (map val.Word given) ≡ Some given
+    typed =
+        ap (λ r. words_of (param_words f.params ++ pointer_words r) (map val.Word given)) is_text
+        ∙ ap (words_of (param_words f.params ++ core.Pointer ∷ [])) (words-append lowering.lent (word.Pointer a ∷ []))
+        ∙ words_of-append (param_words f.params) (core.Pointer ∷ []) (map val.Word lowering.lent) (pointer ∷ []) lowering.lent (word.Pointer a ∷ []) lowering.typed refl
+
+    calls_out : eval w (import_call b.number call_words) s3 ≡ take_answer w None s4
+    calls_out =
+        call_gives w (local_path imp) call_words (map val.Word given) s3 gives
+        ∙ import_gives w (local_path imp) imp (map val.Word given) s3 here (core_result f.result) (calls_alone imp) (call_is b.number f s3 given free_name refl typed)
+        ∙ ap (λ r. take_answer w (core_result r) s4) is_text
+
+    runs_to : run_fn w i begin ≡ and_then (take_answer w None s4) (finish w lifting tx)
+    unfolding bind declare
+    runs_to =
+        runs_from
+        ∙ ap (λ o. and_then (and_then (and_then o (λ _. run_stmts w (b.lowering ++ rest))) (λ _. eval w (expr.Local tx))) (answer_and_leave w type.String)) area_runs
+        ∙ ap (λ o. and_then (and_then o (λ _. eval w (expr.Local tx))) (answer_and_leave w type.String)) (run_stmts-append w b.lowering rest s0 ∙ ap (λ o. and_then o (λ _. run_stmts w rest)) lowering.runs)
+        ∙ ap (λ o. and_then (and_then (and_then (and_then o (bind q)) (λ _. run_stmts w (stmt.Import (import_decl b.number f) ∷ stmt.Expr (import_call b.number call_words) ∷ lifting))) (λ _. eval w (expr.Local tx))) (answer_and_leave w type.String))
+        (area_gives w b.area a 8 s1 area_at)
+        ∙ ap (λ o. and_then (and_then (and_then (and_then o (drop_value w)) (λ _. run_stmts w lifting)) (λ _. eval w (expr.Local tx))) (answer_and_leave w type.String)) calls_out
+        ∙ regroup w lifting tx (take_answer w None s4)
+
+    ends : run_item w i args heap choices ≡ ended (and_then (take_answer w None s4) (finish w lifting tx))
+    unfolding run_item
+    ends = ap ended runs_to
+
+    calls_once : (run_item w i args heap choices).calls ≡ here ∷ []
+    calls_once =
+        ap (λ r. r.calls) ends ∙ ended-calls (and_then (take_answer w None s4) (finish w lifting tx))
+        ∙ (quiet_then (take_answer w None) (finish w lifting tx) (quiet_answer w None) (quiet_finish w lifting tx (quiet_lift_stmts w q la lb ln by tx))).quiet s4
+
+    -- the peer is honest: its text is taken over, and the area goes
+    module _ (h : AnswersText bytes w.answer here) where
+      same : a ≡ h.area
+      same =
+          let shown : last (λ w. true) given ≡ Some (word.Pointer a) = last-append (λ w. true) lowering.lent (word.Pointer a) in
+          let both : word.Pointer a ≡ word.Pointer h.area = cc in
+          cc
+
+      abbrev s5 : State
+      s5 = record s4 { heap = answered h.blocks h.writes s0.heap }
+
+      abbrev address : Val
+      address = val.Word (word.Pointer h.place)
+
+      abbrev size : Val
+      size = val.Word (word.Length (length bytes))
+
+      abbrev l6 : List Local
+      l6 = l2 ++ record { name = la; value = Some address } ∷ []
+
+      abbrev l7 : List Local
+      l7 = l6 ++ record { name = lb; value = Some size } ∷ []
+
+      abbrev l8 : List Local
+      l8 = l7 ++ record { name = ln; value = Some size } ∷ []
+
+      abbrev s6 : State
+      s6 = record s5 { locals = l6 }
+
+      abbrev s7 : State
+      s7 = record s5 { locals = l7 }
+
+      abbrev s8 : State
+      s8 = record s5 { locals = l8 }
+
+      la_free : is_used b.called.used la ≡ false
+      la_free = free-one b.called.used kind.Loaded [] l.first l.loads.number.free
+
+      lb_free : is_used l.then.used lb ≡ false
+      lb_free = free-one l.then.used kind.Loaded [] l.second l.loads_length.number.free
+
+      ln_free : is_used l.later.used ln ≡ false
+      ln_free = free-one l.later.used kind.Length (kind.Bytes ∷ kind.Text ∷ []) l.third l.lifts.number.free
+
+      q_used : is_used b.called.used q ≡ true
+      q_used =
+          grows-declared b.pointed b.called (kind.Import ∷ []) b.number calls q (used-declared b.lowered b.pointed (kind.Pointer ∷ []) b.pointer q points.0 (used-first q []))
+
+      la_used : is_used l.then.used la ≡ true
+      la_used = used-declared b.called l.then (kind.Loaded ∷ []) l.first la l.loads (used-first la [])
+
+      q_at : value_of (local_named q l6) ≡ Some pointer
+      q_at = ap value_of (keeps-bound b.called.used l2 la (Some address) la_free q q_used) ∙ reads-new q (Some pointer) lowering.locals
+
+      la_at : value_of (local_named la l8) ≡ Some address
+      la_at =
+          ap value_of (keeps-bound l.later.used l7 ln (Some size) ln_free la (grows-declared l.then l.later (kind.Loaded ∷ []) l.second l.loads_length la la_used))
+          ∙ ap value_of (keeps-bound l.then.used l6 lb (Some size) lb_free la la_used) ∙ reads-new la (Some address) l2
+
+      loads_address : eval w (word_at q 0 core.Pointer) s5 ≡ Done address s5
+      loads_address =
+          load_gives w (expr.Local q) (record { bytes = 0; pointers = 0 }) core.Pointer a a (word.Pointer h.place) s5 (local_gives w q pointer s5 (reads-new q (Some pointer) lowering.locals) refl) (omega arith)
+          (ap (λ p. loaded core.Pointer p s5.heap.blocks) same ∙ h.address)
+
+      loads_size : eval w (word_at q 1 core.Length) s6 ≡ Done size s6
+      loads_size =
+          load_gives w (expr.Local q) (record { bytes = 0; pointers = 1 }) core.Length a (a + 4) (word.Length (length bytes)) s6 (local_gives w q pointer s6 q_at refl) refl
+          (ap (λ p. loaded core.Length (p + 4) s6.heap.blocks) same ∙ h.size)
+
+      inside : WritesIn area.address area.size h.writes
+      inside = subst (λ p. WritesIn p 8 h.writes) (sym same) h.inside
+
+      after : Answered heap.blocks area bytes h.place h.writes h.blocks
+      after = answered-blocks heap.blocks area bytes h.place h.writes h.blocks s0.heap refl area_apart inside h.holds h.fresh
+
+      blocks_after : s5.heap.blocks ≡ heap.blocks ++ after.area' ∷ h.blocks
+      blocks_after = after.blocks_are
+
+      area_at' : (after.area'.address ≡ a) × (after.area'.size ≡ 8)
+      area_at' = after.same
+
+      area_apart' : overlaps_any after.area' heap.blocks ≡ false
+      area_apart' = same_apart after.area' area heap.blocks after.same area_apart
+
+      taken_is : s8.taken ≡ a ∷ []
+      taken_is = ap (λ t. t ++ a ∷ []) (taken_args heap (param_types f) vs args stand)
+
+      found_lift : runtime_item_named w.items (item_name StringLift) ≡ Some StringLift
+      found_lift =
+          found-first w.items StringLift []
+          (found-right w.items (VecType ∷ []) (StringLift ∷ [])
+          (subst (λ r. Found w.items (lifting_items r)) is_text (found-right w.items (signature_items f.result ++ flat_map (λ p. lowering_items p.ty) f.params) (lifting_items f.result) fits.found)))
+
+      block_free : (t : Block) → h.blocks ≡ t ∷ [] → t.address ≡ h.place → (is_taken h.place s8.taken ≡ false) × (block_at t.address t.size s8.heap.blocks ≡ Some t)
+      block_free t one at =
+          let new = new-block t s0.heap (ap (λ bs. are_new bs s0.heap) (sym one) ∙ h.fresh) in
+          let other = apart-addresses area t (overlaps-behind t heap.blocks (area ∷ []) new.1).1 (omega arith) (size-positive t new.0) in
+          let far : h.place ≡ a → ⊥ = λ e. other (at ∙ e) in
+          let none : nat_eq a h.place ≡ false = grind (arith, nat_tests) in (
+            ap (is_taken h.place) taken_is ∙ ap (λ t. t || false) none,
+            ap (block_at t.address t.size) (blocks_after ∙ ap (λ bs. heap.blocks ++ after.area' ∷ bs) one) ∙ found_behind heap.blocks area after.area' t after.same new.1 (size-positive t new.0),
+          )
+
+      te : TakesText w s8 h.place (length bytes) la ln by tx
+      te = takes_text w s8 h.place bytes h.blocks la ln by tx h.nonzero text_good.2 found_lift la_at (reads-new ln (Some size) l7) text_good.1 h.holds block_free
+
+      abbrev buffer : RustValue
+      buffer = value.Buffer h.place (length bytes) true
+
+      abbrev s9 : State
+      s9 = record s8 { locals = te.locals; taken = te.taken }
+
+      abbrev s10 : State
+      s10 = without_block (a, 8) (record s9 { locals = [] })
+
+      adds_all : Adds s0.locals te.locals
+      adds_all =
+          adds-then s0.locals lowering.locals te.locals lowering.adds
+          (adds-then lowering.locals l2 te.locals (adds-one lowering.locals (record { name = q; value = Some pointer }) refl)
+          (adds-then l2 l6 te.locals (adds-one l2 (record { name = la; value = Some address }) refl)
+          (adds-then l6 l7 te.locals (adds-one l6 (record { name = lb; value = Some size }) refl)
+          (adds-then l7 l8 te.locals (adds-one l7 (record { name = ln; value = Some size }) refl) te.adds))))
+
+      area_live : block_at a 8 s5.heap.blocks ≡ Some after.area'
+      area_live =
+          ap (block_at a 8) blocks_after ∙ ap (λ p. block_at p 8 (heap.blocks ++ after.area' ∷ h.blocks)) (sym area_at'.0)
+          ∙ ap (λ n. block_at after.area'.address n (heap.blocks ++ after.area' ∷ h.blocks)) (sym area_at'.1)
+          ∙ area_found heap.blocks h.blocks after.area' area_apart' (subst (λ n. 0 < n) (sym area_at'.1) (omega arith))
+
+      area_gone : without a 8 s5.heap.blocks ≡ heap.blocks ++ h.blocks
+      area_gone =
+          ap (without a 8) blocks_after ∙ ap (λ p. without p 8 (heap.blocks ++ after.area' ∷ h.blocks)) (sym area_at'.0)
+          ∙ ap (λ n. without after.area'.address n (heap.blocks ++ after.area' ∷ h.blocks)) (sym area_at'.1)
+          ∙ area_removed heap.blocks h.blocks after.area' area_apart' (subst (λ n. 0 < n) (sym area_at'.1) (omega arith))
+
+      owned_at_end : is_owned (a, 8) (record s9 { locals = [] }) ≡ true
+      owned_at_end =
+          and_from (is_taken a te.taken) (is_some (block_at a 8 s5.heap.blocks)) (te.keeps a (ap (is_taken a) taken_is ∙ taken-last [] a)) (ap is_some area_live)
+
+      leaves : leave w s9 ≡ Done tt s10
+      leaves = leaves_one w begin.locals (area_local b.area a) adds_all.0 (a, 8) s9 adds_all.1 plain_begin refl adds_all.2 owned_at_end
+
+      abbrev behind : Val → Act (Option RustValue)
+      behind v = answer_and_leave w type.String v
+
+      runs_end : and_then (take_answer w None s4) (finish w lifting tx) ≡ Done (Some buffer) s10
+      unfolding bind
+      runs_end =
+          ap (λ o. and_then o (finish w lifting tx)) (words_give w h.writes h.blocks s4 h.answers)
+          ∙ ap (λ o. and_then (free_owned w o s5) (λ _. run_stmts w lifting >> (eval w (expr.Local tx) >>= behind))) (owned-none value.Unit no_unit_buffer)
+          ∙ ap (λ o. and_then (and_then (and_then o (bind la)) (λ _. run_stmts w (stmt.Let lb (word_at q 1 core.Length) ∷ stmt.Let ln (expr.Local lb) ∷ take_stmts la ln by tx))) (λ _. eval w (expr.Local tx) >>= behind)) loads_address
+          ∙ ap (λ o. and_then (and_then (and_then o (bind lb)) (λ _. run_stmts w (stmt.Let ln (expr.Local lb) ∷ take_stmts la ln by tx))) (λ _. eval w (expr.Local tx) >>= behind)) loads_size
+          ∙ ap (λ o. and_then (and_then (and_then o (bind ln)) (λ _. run_stmts w (take_stmts la ln by tx))) (λ _. eval w (expr.Local tx) >>= behind)) (local_gives w lb size s7 (reads-new lb (Some size) l6) refl)
+          ∙ sym (and_then-assoc (run_stmts w (take_stmts la ln by tx) s8) (λ _. eval w (expr.Local tx)) behind)
+          ∙ ap (λ o. and_then o behind) te.runs
+          ∙ ap (λ o. and_then (or_stop (stuck w) o s9) (λ r. leave w >> pure r)) (answered-text h.place (length bytes))
+          ∙ ap (λ o. and_then o (λ _. pure (Some buffer))) leaves
+
+      areas_are : areas f.result choices.list ≡ area ∷ []
+      areas_are = ap (λ r. areas r choices.list) is_text ∙ ap text_areas chosen
+
+      here_is : here ≡ record {
+        target = import_target f;
+        words = lowering.lent ++ pointers (areas f.result choices.list);
+        values = [];
+        heap = record heap { blocks = heap.blocks ++ areas f.result choices.list };
+      }
+      here_is = ap (λ more. record here { words = lowering.lent ++ pointers more; heap = record heap { blocks = heap.blocks ++ more } }) (sym areas_are)
+
+      carries_text : Carries f vs (Some (text bytes)) heap choices (run_item w i args heap choices)
+      carries_text =
+          let e : run_item w i args heap choices ≡ run_at stop_of.Done (Some buffer) s10 = ends ∙ ap ended runs_end in
+          let stands : StandsResult (Some wit.String) (Some (text bytes)) (Some buffer) h.blocks = (h.place, h.nonzero, refl, h.holds) in
+          record {
+            done = ap (λ r. r.stop) e;
+            words = lowering.lent;
+            call = calls_once ∙ ap (λ c. c ∷ []) here_is;
+            represents = lowering.represents;
+            blocks = h.blocks;
+            gives = subst (λ r. StandsResult r (Some (text bytes)) (run_item w i args heap choices).value h.blocks) (sym is_text) (subst (λ v. StandsResult (Some wit.String) (Some (text bytes)) v h.blocks) (sym (ap (λ r. r.value) e)) stands);
+            account = ap (λ r. r.heap) e ∙ ap (λ bs. record heap { blocks = bs }) area_gone;
+            requests = ap (λ r. r.requests) e ∙ sym (ap due is_text);
+          }
+
+-- every wrapper as it is written
+
+module _ (f : Function) (i : FnItem) (written : IsWritten f i) (w : Setting) (fits : Fits f w) (vs : List WitValue) (args : List RustValue) (heap : Heap) (choices : Choices)
+    (good : AreValues (param_types f) vs) (stand : StandAll heap (param_types f) vs args) where
+  carries_area : (bytes : List ℕ) → f.result ≡ Some wit.String → IsValue wit.String (text bytes) → ((c : CallPoint) → Made c (run_item w i args heap choices) → AnswersText bytes w.answer c)
+      → Carries f vs (Some (text bytes)) heap choices (run_item w i args heap choices) ⊎ MissesArea f (run_item w i args heap choices)
+  carries_area bytes is_text text_good honest = go (places w written.body.area (start i args heap choices))
+    where
+      go : Placing w written.body.area (start i args heap choices)
+          ⊎ (declare_area w (area_of written.body.area) (start i args heap choices) ≡ Stopped stop_of.BadChoice (record (start i args heap choices) { requests = text_area ∷ [] }))
+          → Carries f vs (Some (text bytes)) heap choices (run_item w i args heap choices) ⊎ MissesArea f (run_item w i args heap choices)
+      go (inl p) =
+          inl (carries_text f i written is_text w fits vs bytes args heap choices good text_good stand p.address p.left p.chosen p.fits p.runs
+          (honest _ ([], [], calls_once f i written is_text w fits vs bytes args heap choices good text_good stand p.address p.left p.chosen p.fits p.runs)))
+      go (inr e) = inr (misses f i written is_text w fits vs bytes args heap choices good text_good stand e)
+
+  text_only : (v : Option WitValue) → IsResult (Some wit.String) v → (bytes : List ℕ) × (v ≡ Some (text bytes)) × IsValue wit.String (text bytes)
+  text_only None r = absurd r
+  text_only (Some (text bytes)) r = (bytes, refl, r)
+  text_only (Some (scalar (truth t))) r = absurd (cc)
+  text_only (Some (scalar (number z))) r = absurd (cc)
+  text_only (Some (scalar (f32 bits))) r = absurd (cc)
+  text_only (Some (scalar (f64 bits))) r = absurd (cc)
+  text_only (Some (scalar (char c))) r = absurd (cc)
+
+  of_result : (r : Option WitType) → (r ≡ Some wit.String) ⊎ (r ≡ Some wit.String → ⊥)
+  of_result None = inr (λ e. cc)
+  of_result (Some wit.String) = inl refl
+  of_result (Some _) = inr (λ e. cc)
+
+  pub carries_written : is_heap heap ≡ true → (v : Option WitValue) → IsResult f.result v → ((c : CallPoint) → Made c (run_item w i args heap choices) → HonestPeer f.result v w.answer c)
+      → Carries f vs v heap choices (run_item w i args heap choices) ⊎ MissesArea f (run_item w i args heap choices)
+  carries_written well v is_result honest = go (of_result f.result)
+    where
+      go : (f.result ≡ Some wit.String) ⊎ (f.result ≡ Some wit.String → ⊥) → Carries f vs v heap choices (run_item w i args heap choices) ⊎ MissesArea f (run_item w i args heap choices)
+      go (inr nt) = inl (carries_plain f i written nt w fits vs v args heap choices good is_result stand honest)
+      go (inl e) =
+          let t = text_only v (subst (λ r. IsResult r v) e is_result) in
+          subst (λ v. Carries f vs v heap choices (run_item w i args heap choices) ⊎ MissesArea f (run_item w i args heap choices)) (sym t.1)
+          (carries_area t.0 e t.2 (λ c made. subst (λ v. HonestPeer (Some wit.String) v w.answer c) t.1 (subst (λ r. HonestPeer r v w.answer c) e (honest c made))))
