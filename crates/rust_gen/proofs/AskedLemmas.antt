@@ -1,5 +1,5 @@
 -- A function of `_rt` that a wrapper asks for is found in the file.
-use Rattle.std.proofs.Common.{◌≡◌, ℕ, zero, suc, Bool, true, false, cond, ◌||◌, List, [], ◌∷◌, ◌++◌, Option, None, Some, ◌⊎◌, inl, inr, map, refl, sym, ap, ◌∙◌}
+use Rattle.std.proofs.Common.{◌≡◌, ℕ, zero, suc, Bool, true, false, cond, ◌||◌, List, [], ◌∷◌, ◌++◌, Option, None, Some, ◌⊎◌, inl, inr, refl, sym, ap, ◌∙◌}
 use Rattle.std.specs.Prelude.{find, fold, slice_get}
 use Rattle.std.specs.List.{flat_map, list_any}
 use Rattle.std.specs.Option.{option_or}
@@ -7,16 +7,14 @@ use Rattle.std.specs.Str.{bytes_eq}
 use Rattle.std.proofs.lemmas.Bool.{or_cases, or_left, or_right}
 use Rattle.std.proofs.lemmas.List.Folds.{list_any-append}
 use Rattle.wit_model.specs.declared.function.Function.{Function}
-use Rattle.rust_tree.specs.declared.item.FnItem.{FnItem}
 use Rattle.rust_tree.specs.declared.item.Item.{Item}
-use Rattle.rust_tree.specs.declared.item.Item.TheVariants as item
 use Rattle.rust_tree.specs.declared.runtime_item.RuntimeItem.{RuntimeItem}
 use Rattle.rust_tree.specs.declared.runtime_item.RuntimeItem.TheVariants.{AsI32, AsI64, AsF32, AsF64, AllocCrate, StringType, VecType, BoolLift, CharLift, StringLift}
 use Rattle.rust_tree.specs.Runtime.{item_name, needed_items}
 use Rattle.wrapper_run.specs.Run.{runtime_item_named}
-use Rattle.rust_gen.specs.Runtime.{asked_by, asked_items, is_same_item, runtime_items, runtime_module, with_asked}
+use Rattle.rust_gen.specs.Runtime.{asked_by, asked_items, is_same_item, runtime_module, with_asked, asked_by_export, items_for}
 
-abbrev IsAmong : RuntimeItem → List RuntimeItem → Type 0
+abbrev pub IsAmong : RuntimeItem → List RuntimeItem → Type 0
 IsAmong x items = list_any (λ i. is_same_item i x) items ≡ true
 
 same-refl : (x : RuntimeItem) → is_same_item x x ≡ true
@@ -83,10 +81,6 @@ found-in_module : (x : RuntimeItem) (items : List RuntimeItem) → IsAmong x ite
 found-in_module x [] h = absurd (cc)
 found-in_module x (i ∷ items) h = option_or-None (find (found_by x) (i ∷ items)) ∙ find-among x (i ∷ items) h
 
-found-behind : (ws : List FnItem) (items : List Item) (name : List ℕ) → runtime_item_named (map item.Import ws ++ items) name ≡ runtime_item_named items name
-found-behind [] items name = refl
-found-behind (f ∷ ws) items name = found-behind ws items name
-
 -- among what was asked for
 
 asked-stays : (x y : RuntimeItem) (items : List RuntimeItem) → IsAmong x items → IsAmong x (with_asked items y)
@@ -116,13 +110,14 @@ asked-all x (y ∷ asked) items (inr h) = asked-all x asked (with_asked items y)
     go (inl e) = inl (asked-new x y items e)
     go (inr e) = inr e
 
-asked_by-at : (x : RuntimeItem) (fs : List Function) (nth : ℕ) (f : Function) → slice_get fs nth ≡ Some f → IsAmong x (asked_by f) → IsAmong x (asked_items fs)
-asked_by-at x [] nth f e h = absurd (cc)
-asked_by-at x (g ∷ fs) zero f e h =
+-- what one of many asks for
+pub asked-at : {A : Type 0} (asks : A → List RuntimeItem) (x : RuntimeItem) (fs : List A) (nth : ℕ) (f : A) → slice_get fs nth ≡ Some f → IsAmong x (asks f) → IsAmong x (flat_map asks fs)
+asked-at asks x [] nth f e h = absurd (cc)
+asked-at asks x (g ∷ fs) zero f e h =
     let is : g ≡ f = cc in
-    list_any-append (λ i. is_same_item i x) (asked_by g) (asked_items fs) ∙ or_left _ _ (ap (λ g. list_any (λ i. is_same_item i x) (asked_by g)) is ∙ h)
-asked_by-at x (g ∷ fs) (suc nth) f e h =
-    list_any-append (λ i. is_same_item i x) (asked_by g) (asked_items fs) ∙ or_right (list_any (λ i. is_same_item i x) (asked_by g)) _ (asked_by-at x fs nth f e h)
+    list_any-append (λ i. is_same_item i x) (asks g) (flat_map asks fs) ∙ or_left _ _ (ap (λ g. list_any (λ i. is_same_item i x) (asks g)) is ∙ h)
+asked-at asks x (g ∷ fs) (suc nth) f e h =
+    list_any-append (λ i. is_same_item i x) (asks g) (flat_map asks fs) ∙ or_right (list_any (λ i. is_same_item i x) (asks g)) _ (asked-at asks x fs nth f e h)
 
 -- what a function asks for is found
 abbrev pub Found : List Item → List RuntimeItem → Type 0
@@ -137,7 +132,15 @@ found-right items xs ys h x k = h x (list_any-append (λ i. is_same_item i x) xs
 pub found-first : (items : List Item) (x : RuntimeItem) (xs : List RuntimeItem) → Found items (x ∷ xs) → runtime_item_named items (item_name x) ≡ Some x
 found-first items x xs h = h x (or_left (is_same_item x x) _ (same-refl x))
 
-pub found_all : (ws : List FnItem) (fs : List Function) (nth : ℕ) (f : Function) → slice_get fs nth ≡ Some f → Found (map item.Import ws ++ runtime_module (runtime_items fs)) (asked_by f)
-found_all ws fs nth f e x h =
-    found-behind ws (runtime_module (runtime_items fs)) (item_name x) ∙ found-in_module x (runtime_items fs)
-    (asked-all x (flat_map needed_items (fold with_asked [] (asked_items fs))) (fold with_asked [] (asked_items fs)) (inl (asked-all x (asked_items fs) [] (inr (asked_by-at x fs nth f e h)))))
+-- the module has what is asked for
+pub found_all : (imports exports : List Function) (x : RuntimeItem) → IsAmong x (asked_items imports exports) → runtime_item_named (runtime_module (items_for imports exports)) (item_name x) ≡ Some x
+found_all imports exports x h =
+    let asked = asked_items imports exports in
+    found-in_module x (items_for imports exports) (asked-all x (flat_map needed_items (fold with_asked [] asked)) (fold with_asked [] asked) (inl (asked-all x asked [] (inr h))))
+
+pub among-imports : (x : RuntimeItem) (imports exports : List Function) (nth : ℕ) (f : Function) → slice_get imports nth ≡ Some f → IsAmong x (asked_by f) → IsAmong x (asked_items imports exports)
+among-imports x imports exports nth f e h = list_any-append (λ i. is_same_item i x) (flat_map asked_by imports) (flat_map asked_by_export exports) ∙ or_left _ _ (asked-at asked_by x imports nth f e h)
+
+pub among-exports : (x : RuntimeItem) (imports exports : List Function) (nth : ℕ) (f : Function) → slice_get exports nth ≡ Some f → IsAmong x (asked_by_export f) → IsAmong x (asked_items imports exports)
+among-exports x imports exports nth f e h =
+    list_any-append (λ i. is_same_item i x) (flat_map asked_by imports) (flat_map asked_by_export exports) ∙ or_right (list_any (λ i. is_same_item i x) (flat_map asked_by imports)) _ (asked-at asked_by_export x exports nth f e h)

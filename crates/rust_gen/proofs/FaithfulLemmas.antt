@@ -1,8 +1,8 @@
 -- The wrappers of a tree that is made as it is written are faithful.
-use Rattle.std.proofs.Common.{◌≡◌, ℕ, zero, suc, ◌+◌, Bool, true, List, [], ◌∷◌, ◌++◌, length, Some, map, refl, sym, ap, subst, ◌∙◌, arith}
-use Rattle.std.specs.Prelude.{IsSome, option_and_then, slice_get}
+use Rattle.std.proofs.Common.{◌≡◌, ℕ, zero, suc, ◌+◌, Bool, true, List, [], ◌∷◌, ◌++◌, length, Some, map, refl, sym, ap, subst, ◌∙◌, arith, ◌⊎◌, append-nil, false}
+use Rattle.std.specs.Prelude.{IsSome, option_and_then, slice_get, decimal, filter, nat_le, not}
 use Rattle.std.specs.Option.{option_map}
-use Rattle.std.specs.List.{AllZip, list_all}
+use Rattle.std.specs.List.{AllZip, list_all, list_any}
 use Rattle.std.proofs.lemmas.Slice.Zip.{AllZip-long}
 use Rattle.wit_model.specs.declared.function.Function.{Function}
 use Rattle.wit_model.specs.declared.resolve.Resolve.{Resolve}
@@ -14,23 +14,47 @@ use Rattle.rust_tree.specs.declared.item.Item.TheVariants as item
 use Rattle.rust_tree.specs.declared.place.FuncPlace.{FuncPlace}
 use Rattle.rust_tree.specs.declared.place.WrapperInfo.{WrapperInfo}
 use Rattle.rust_tree.specs.declared.runtime_item.RuntimeItem.{RuntimeItem}
-use Rattle.rust_tree.specs.Tree.{Tree, wrappers_from, wrappers_of}
+use Rattle.rust_tree.specs.Tree.{Tree, wrappers_from, wrappers_of, wrapper_info}
 use Rattle.wrapper_run.specs.Faithful.{Carries, IsFaithful, Made, MissesArea}
-use Rattle.std.proofs.Common.{◌⊎◌}
 use Rattle.wrapper_run.specs.Setting.{Setting}
-use Rattle.wrapper_run.specs.Run.{import_nth, import_run, run_item, wrapper_of}
+use Rattle.wrapper_run.specs.Run.{import_nth, import_run, run_item, import_at, runtime_item_named, setting_of}
 use Rattle.rust_gen.specs.Body.{IsWritten}
 use Rattle.rust_gen.specs.Bound.{Binds}
-use Rattle.rust_gen.specs.Cause.{is_well_named}
-use Rattle.rust_gen.specs.DeclaredNames.{are_names, declares_well, function_idents, param_idents}
-use Rattle.rust_gen.specs.Emitted.{emitted_functions, emitted_places}
+use Rattle.rust_gen.specs.Cause.{is_well_named, is_built}
+use Rattle.rust_gen.specs.DeclaredNames.{are_names, declares_well, function_idents, param_idents, are_distinct_functions, cabi_suffix, export_ident, export_prefix, has_distinct_names, macro_idents, method_idents}
 use Rattle.rust_gen.specs.Faithful.{AreFaithful}
-use Rattle.rust_gen.specs.Runtime.{asked_by, runtime_items, runtime_module}
-use Rattle.rust_gen.proofs.AskedLemmas.{Found, found_all}
+use Rattle.rust_gen.specs.Runtime.{asked_by, runtime_items, runtime_module, asked_by_export}
+use Rattle.rust_gen.proofs.AskedLemmas.{Found, found_all, among-exports, among-imports}
 use Rattle.std.proofs.lemmas.Bool.{and_parts}
 use Rattle.rust_gen.proofs.RunLemmas.{Fits}
 use Rattle.rust_gen.proofs.TextLemmas.{carries_written}
 use Rattle.rust_gen.proofs.TreeLemmas.{length-places_from}
+use Rattle.std.proofs.Common.{◌<◌, ◌≤◌, ◌&&◌, ◌||◌, ◌^◌}
+use Rattle.wrapper_run.specs.Run.{numbered}
+use Rattle.rust_gen.specs.Built.{is_built_result, is_built_type, is_scalar_result}
+use Rattle.std.proofs.lemmas.Fmt.{decimal_injective}
+use Rattle.wrapper_run.specs.ExportFaithful.{CarriesOut, IsExportFaithful, IsExported, entries_in, exports_in}
+use Rattle.rust_gen.specs.Emitted.{Entries, emitted_sides, exported_functions, functions_in, imported_functions, on_side, places_from}
+use Rattle.rust_tree.specs.declared.export.ExportFn.{ExportFn}
+use Rattle.rust_gen.proofs.ExportRunLemmas.{FitsExport, carries_out}
+use Rattle.rust_gen.specs.ExportBody.{IsExportWritten}
+use Rattle.rust_tree.specs.declared.export.ModuleMacro.{ModuleMacro}
+use Rattle.rust_gen.specs.declared.opts.Opts.{Opts}
+use Rattle.rust_tree.specs.declared.export.RootMacro.{RootMacro}
+use Rattle.rust_tree.specs.declared.export.TraitItem.{TraitItem}
+use Rattle.wit_model.specs.declared.size.WasmType.{WasmType}
+use Rattle.rust_gen.proofs.ItemLemmas.{alone-named, distinct-image, distinct-right, entries-are, exports-are, find-named, method-found, runtime-found}
+use Rattle.rust_gen.specs.Built.{are_built_options, are_built_tables, is_built_export, is_built_function, is_built_world, is_empty, is_freestanding, is_scalar_function}
+use Rattle.rust_gen.specs.NameText.{are_written_tables}
+use Rattle.rust_gen.specs.Exported.{arg_name, arg_prefix, core_args, export_entry, file_macro, guest_name, guest_trait, last_macro, trait_and_macro, trait_fn, where_any, world_macro}
+use Rattle.std.specs.Str.{bytes_eq}
+use Rattle.std.proofs.lemmas.Slice.Eq.{bytes_eq-Decides}
+use Rattle.wrapper_run.specs.ExportRun.{export_at, export_nth, export_run, method_named, run_export_item}
+use Rattle.rust_tree.specs.Runtime.{item_name}
+use Rattle.std.proofs.lemmas.Bool.Decides.{nat_tests}
+use Rattle.rust_gen.specs.Printed.{param_words}
+use Rattle.rust_tree.specs.Ident.{rust_ident}
+use Rattle.wit_model.specs.declared.world.WorldItem.TheVariants as entry
 
 -- what holds of all holds of each
 list_all-at : {A : Type 0} (p : A → Bool) (xs : List A) (nth : ℕ) (x : A) → list_all p xs ≡ true → slice_get xs nth ≡ Some x → p x ≡ true
@@ -45,13 +69,104 @@ zip-at R (a ∷ xs) [] nth x z e = absurd z
 zip-at R (a ∷ xs) (y ∷ ys) zero x z e = let is : a ≡ x = cc in (y, refl, subst (λ a. R a y) is z.0)
 zip-at R (a ∷ xs) (y ∷ ys) (suc nth) x z e = zip-at R xs ys nth x z.1 e
 
+-- lists of images
+
+get-map : {A B : Type 0} (g : A → B) (xs : List A) (nth : ℕ) (x : A) → slice_get xs nth ≡ Some x → slice_get (map g xs) nth ≡ Some (g x)
+get-map g [] nth x e = absurd (cc)
+get-map g (y ∷ xs) zero x e = let is : y ≡ x = cc in ap (λ y. Some (g y)) is
+get-map g (y ∷ xs) (suc nth) x e = get-map g xs nth x e
+
+map-map : {A B C : Type 0} (h : B → C) (g : A → B) (xs : List A) → map h (map g xs) ≡ map (λ x. h (g x)) xs
+map-map h g [] = refl
+map-map h g (x ∷ xs) = ap (λ ys. h (g x) ∷ ys) (map-map h g xs)
+
+nonempty : {A : Type 0} (xs : List A) (nth : ℕ) (x : A) → slice_get xs nth ≡ Some x → (y : A) × (ys : List A) × (xs ≡ y ∷ ys)
+nonempty [] nth x e = absurd (cc)
+nonempty (y ∷ ys) nth x e = (y, ys, refl)
+
+bases-are : (fs : List Function) (es : List ExportFn) → AllZip IsExportWritten fs es → map (λ e. e.base) es ≡ map (λ f. f.name.snake) fs
+bases-are [] [] z = refl
+bases-are [] (e ∷ es) z = absurd z
+bases-are (f ∷ fs) [] z = absurd z
+bases-are (f ∷ fs) (e ∷ es) z = ap (λ b. b ∷ map (λ e. e.base) es) z.0.base ∙ ap (λ bs. f.name.snake ∷ bs) (bases-are fs es z.1)
+
+-- the names of core parameters
+
+other-arg : (m n : ℕ) → m < 2 ^ 64 → n < m → bytes_eq (arg_name m) (arg_name n) ≡ false
+unfolding arg_prefix
+other-arg m n small below = go (bytes_eq (arg_name m) (arg_name n)) refl
+  where
+    go : (b : Bool) → bytes_eq (arg_name m) (arg_name n) ≡ b → bytes_eq (arg_name m) (arg_name n) ≡ false
+    go true e =
+        let same : arg_name m ≡ arg_name n = (bytes_eq-Decides (arg_name m) (arg_name n)).0 e in
+        let numbers : decimal m ≡ decimal n = cc in
+        let is : m ≡ n = decimal_injective m n small (omega arith) numbers in
+        absurd (omega arith)
+    go false e = e
+
+no-arg : (n m : ℕ) (types : List WasmType) → n < m → m + length types < 2 ^ 64 → list_any (λ u. bytes_eq u (arg_name n)) (map (λ p. p.name) (core_args m types)) ≡ false
+no-arg n m [] below small = refl
+no-arg n m (ty ∷ types) below small =
+    ap (λ b. b || list_any (λ u. bytes_eq u (arg_name n)) (map (λ p. p.name) (core_args (m + 1) types))) (other-arg m n (omega arith) below) ∙ no-arg n (m + 1) types (omega arith) (omega arith)
+
+distinct-from : (n : ℕ) (types : List WasmType) → n + length types < 2 ^ 64 → is_distinct (map (λ p. p.name) (core_args n types)) ≡ true
+distinct-from n [] small = refl
+distinct-from n (ty ∷ types) small =
+    ap (λ b. not b && is_distinct (map (λ p. p.name) (core_args (n + 1) types))) (no-arg n (n + 1) types (omega arith) (omega arith)) ∙ distinct-from (n + 1) types (omega arith)
+
+args-distinct : (types : List WasmType) → length types ≤ 16 → is_distinct (map (λ p. p.name) (core_args 0 types)) ≡ true
+args-distinct types few = distinct-from 0 types (omega arith)
+
 -- the functions of a world that is accepted
 
-distinct-at : (world : World) (nth : ℕ) (f : Function) → declares_well world ≡ true → slice_get (emitted_functions world) nth ≡ Some f → is_distinct (param_idents f) ≡ true
-unfolding declares_well
-distinct-at world nth f h e =
-    let named = list_all-at (λ f. are_names (param_idents f)) (emitted_functions world) nth f (and_parts (are_names (function_idents world)) _ h).1 e in
-    (and_parts _ (is_distinct (param_idents f)) named).1
+-- the wrapper of a base name
+abbrev wrapper_ident : List ℕ → List ℕ
+wrapper_ident base = export_prefix ++ base ++ cabi_suffix
+
+module _ (world : World) (h : declares_well world ≡ true) where
+  named_parts : (are_names (function_idents world) ≡ true) × (are_names (method_idents world) ≡ true) × (list_all (λ f. are_names (param_idents f)) (imported_functions world) ≡ true)
+  unfolding declares_well
+  named_parts =
+      let a = and_parts _ (list_all (λ f. are_names (param_idents f)) (exported_functions world)) h in
+      let b = and_parts _ (list_all (λ f. are_names (param_idents f)) (imported_functions world)) a.0 in
+      let c = and_parts _ (is_empty (exported_functions world) || are_names (macro_idents world)) b.0 in
+      let d = and_parts (are_names (function_idents world)) (are_names (method_idents world)) c.0 in
+      (d.0, d.1, b.1)
+
+  distinct-params : (nth : ℕ) (f : Function) → slice_get (imported_functions world) nth ≡ Some f → is_distinct (param_idents f) ≡ true
+  distinct-params nth f e = (and_parts _ (is_distinct (param_idents f)) (list_all-at (λ f. are_names (param_idents f)) (imported_functions world) nth f named_parts.2 e)).1
+
+  distinct-methods : is_distinct (method_idents world) ≡ true
+  distinct-methods = (and_parts _ (is_distinct (method_idents world)) named_parts.1).1
+
+  distinct-bases : is_distinct (map (λ f. f.name.snake) (exported_functions world)) ≡ true
+  distinct-bases =
+      distinct-image wrapper_ident (map (λ f. f.name.snake) (exported_functions world))
+      (ap is_distinct (map-map wrapper_ident (λ f. f.name.snake) (exported_functions world))
+      ∙ distinct-right (map (λ f. rust_ident f.name) (imported_functions world)) (map export_ident (exported_functions world)) (and_parts _ (is_distinct (function_idents world)) named_parts.0).1)
+
+-- an exported function that is built has at most sixteen words
+few-words : (opts : Opts) (resolve : Resolve) (id nth : ℕ) (world : World) (f : Function) → is_built opts resolve ≡ true → slice_get resolve.worlds id ≡ Some world → slice_get (exported_functions world) nth ≡ Some f
+    → length (param_words f.params) ≤ 16
+unfolding is_built are_built_tables is_built_world
+few-words opts resolve id nth world f h named e =
+    let tables = (and_parts (are_built_tables resolve) (are_built_options opts) h).0 in
+    let worlds = (and_parts _ (list_all is_built_world resolve.worlds) tables).1 in
+    let exports = (and_parts _ (list_all (λ entry. is_built_export entry.1) world.exports) (list_all-at is_built_world resolve.worlds id world worlds named)).1 in
+    words (built-at world.exports nth exports e)
+  where
+    built-at : (entries : Entries) (nth : ℕ) → list_all (λ entry. is_built_export entry.1) entries ≡ true → slice_get (functions_in entries) nth ≡ Some f → is_scalar_function f ≡ true
+    built-at [] nth h e = absurd (cc)
+    built-at ((k, entry.Interface i) ∷ entries) nth h e = absurd (cc)
+    built-at ((k, entry.Named i) ∷ entries) nth h e = absurd (cc)
+    built-at ((k, entry.Function g) ∷ entries) zero h e = let is : g ≡ f = cc in ap is_scalar_function (sym is) ∙ (and_parts (is_scalar_function g) _ h).0
+    built-at ((k, entry.Function g) ∷ entries) (suc nth) h e = built-at entries nth (and_parts (is_scalar_function g) _ h).1 e
+
+    words : is_scalar_function f ≡ true → length (param_words f.params) ≤ 16
+    words h =
+        let built = (and_parts (is_built_function f) _ (and_parts _ (is_scalar_result f.result) h).0).0 in
+        let few = (and_parts _ (nat_le (length (param_words f.params)) 16) (and_parts _ (list_all (λ p. is_built_type p.ty) f.params) (and_parts _ (is_built_result f.result) built).0).0).1 in
+        grind (arith, nat_tests)
 
 -- the wrappers of a tree
 
@@ -60,66 +175,235 @@ import_nth-at [] behind nth w e = absurd (cc)
 import_nth-at (f ∷ ws) behind zero w e = e
 import_nth-at (f ∷ ws) behind (suc nth) w e = import_nth-at ws behind nth w e
 
-wrappers-at : (next : ℕ) (ws : List FnItem) (behind : List Item) (places : List FuncPlace) (nth : ℕ) (w : FnItem) → length places ≡ length ws → slice_get ws nth ≡ Some w
-    → (info : WrapperInfo) × (slice_get (wrappers_from next (map item.Import ws ++ behind) places) nth ≡ Some info)
-wrappers-at next [] behind places nth w l e = absurd (cc)
-wrappers-at next (f ∷ ws) behind [] nth w l e = absurd (omega arith)
-wrappers-at next (f ∷ ws) behind (p ∷ places) zero w l e = (record { item = record { 0 = next }; place = p; import = true }, refl)
-wrappers-at next (f ∷ ws) behind (p ∷ places) (suc nth) w l e = wrappers-at (next + 1) ws behind places nth w (omega arith) e
+export_nth-skip : (ws : List FnItem) (behind : List Item) (nth : ℕ) → export_nth (length ws + nth) (map item.Import ws ++ behind) ≡ export_nth nth behind
+export_nth-skip [] behind nth = let e : 0 + nth ≡ nth = omega arith in ap (λ n. export_nth n behind) e
+export_nth-skip (f ∷ ws) behind nth =
+    let e : length (f ∷ ws) + nth ≡ suc (length ws + nth) = omega arith in ap (λ n. export_nth n (map item.Import (f ∷ ws) ++ behind)) e ∙ export_nth-skip ws behind nth
 
-wrappers-places : (next : ℕ) (ws : List FnItem) (asked : List RuntimeItem) (places : List FuncPlace) → length places ≡ length ws
-    → map (λ w. w.place) (wrappers_from next (map item.Import ws ++ runtime_module asked) places) ≡ places
-wrappers-places next [] [] [] l = refl
-wrappers-places next [] (r ∷ asked) [] l = refl
-wrappers-places next [] asked (p ∷ places) l = absurd (omega arith)
-wrappers-places next (f ∷ ws) asked [] l = absurd (omega arith)
-wrappers-places next (f ∷ ws) asked (p ∷ places) l = ap (λ ps. p ∷ ps) (wrappers-places (next + 1) ws asked places (omega arith))
+export_nth-at : (es : List ExportFn) (behind : List Item) (nth : ℕ) (x : ExportFn) → slice_get es nth ≡ Some x → export_nth nth (map item.Export es ++ behind) ≡ Some x
+export_nth-at [] behind nth x e = absurd (cc)
+export_nth-at (f ∷ es) behind zero x e = e
+export_nth-at (f ∷ es) behind (suc nth) x e = export_nth-at es behind nth x e
 
-module _ (world : World) (tree : Tree) (b : Binds IsWritten world tree) (named : declares_well world ≡ true) where
-  as_many : length tree.places ≡ length b.wrappers
-  as_many = ap length b.places ∙ length-places_from 0 world.imports ∙ sym (AllZip-long IsWritten (emitted_functions world) b.wrappers b.wraps)
+imports-at : (next : ℕ) (ws : List FnItem) (behind : List Item) (ps qs : List FuncPlace) (nth : ℕ) (w : FnItem) → length ps ≡ length ws → slice_get ws nth ≡ Some w
+    → (info : WrapperInfo) × (slice_get (wrappers_from next (map item.Import ws ++ behind) (ps ++ qs)) nth ≡ Some info)
+imports-at next [] behind ps qs nth w l e = absurd (cc)
+imports-at next (f ∷ ws) behind [] qs nth w l e = absurd (omega arith)
+imports-at next (f ∷ ws) behind (p ∷ ps) qs zero w l e = (wrapper_info next p true, refl)
+imports-at next (f ∷ ws) behind (p ∷ ps) qs (suc nth) w l e = imports-at (next + 1) ws behind ps qs nth w (omega arith) e
 
-  placed : map (λ w. w.place) (wrappers_of tree) ≡ emitted_places world
+exports-at : (next : ℕ) (es : List ExportFn) (behind : List Item) (qs : List FuncPlace) (nth : ℕ) (x : ExportFn) → length qs ≡ length es → slice_get es nth ≡ Some x
+    → (info : WrapperInfo) × (slice_get (wrappers_from next (map item.Export es ++ behind) qs) nth ≡ Some info)
+exports-at next [] behind qs nth x l e = absurd (cc)
+exports-at next (f ∷ es) behind [] nth x l e = absurd (omega arith)
+exports-at next (f ∷ es) behind (q ∷ qs) zero x l e = (wrapper_info next q false, refl)
+exports-at next (f ∷ es) behind (q ∷ qs) (suc nth) x l e = exports-at (next + 1) es behind qs nth x (omega arith) e
+
+wrappers-skip : (next : ℕ) (ws : List FnItem) (behind : List Item) (ps qs : List FuncPlace) (nth : ℕ) → length ps ≡ length ws
+    → (m : ℕ) × (slice_get (wrappers_from next (map item.Import ws ++ behind) (ps ++ qs)) (length ws + nth) ≡ slice_get (wrappers_from m behind qs) nth)
+wrappers-skip next [] behind [] qs nth l = let e : 0 + nth ≡ nth = omega arith in (next, ap (slice_get (wrappers_from next behind qs)) e)
+wrappers-skip next [] behind (p ∷ ps) qs nth l = absurd (omega arith)
+wrappers-skip next (f ∷ ws) behind [] qs nth l = absurd (omega arith)
+wrappers-skip next (f ∷ ws) behind (p ∷ ps) qs nth l =
+    let e : length (f ∷ ws) + nth ≡ suc (length ws + nth) = omega arith in
+    let s = wrappers-skip (next + 1) ws behind ps qs nth (omega arith) in
+    (s.0, ap (slice_get (wrappers_from next (map item.Import (f ∷ ws) ++ behind) ((p ∷ ps) ++ qs))) e ∙ s.1)
+
+-- their places and sides
+
+abbrev side_of : WrapperInfo → FuncPlace × Bool
+side_of w = (w.place, w.import)
+
+sides-imports : (next : ℕ) (ws : List FnItem) (behind : List Item) (ps qs : List FuncPlace) → length ps ≡ length ws
+    → (m : ℕ) × (map side_of (wrappers_from next (map item.Import ws ++ behind) (ps ++ qs)) ≡ on_side true ps ++ map side_of (wrappers_from m behind qs))
+sides-imports next [] behind [] qs l = (next, refl)
+sides-imports next [] behind (p ∷ ps) qs l = absurd (omega arith)
+sides-imports next (f ∷ ws) behind [] qs l = absurd (omega arith)
+sides-imports next (f ∷ ws) behind (p ∷ ps) qs l = let r = sides-imports (next + 1) ws behind ps qs (omega arith) in (r.0, ap (λ ss. (p, true) ∷ ss) r.1)
+
+sides-exports : (next : ℕ) (es : List ExportFn) (behind : List Item) (qs : List FuncPlace) → length qs ≡ length es
+    → (m : ℕ) × (map side_of (wrappers_from next (map item.Export es ++ behind) qs) ≡ on_side false qs ++ map side_of (wrappers_from m behind []))
+sides-exports next [] behind [] l = (next, refl)
+sides-exports next [] behind (q ∷ qs) l = absurd (omega arith)
+sides-exports next (f ∷ es) behind [] l = absurd (omega arith)
+sides-exports next (f ∷ es) behind (q ∷ qs) l = let r = sides-exports (next + 1) es behind qs (omega arith) in (r.0, ap (λ ss. (q, false) ∷ ss) r.1)
+
+no_wrappers-behind : (m : ℕ) (fs gs : List Function) (t : TraitItem) (x : ModuleMacro) (asked : List RuntimeItem) (r : RootMacro)
+    → wrappers_from m (where_any fs (item.Trait t ∷ item.ModuleMacro x ∷ []) ++ (runtime_module asked ++ where_any gs (item.RootMacro r ∷ []))) [] ≡ []
+no_wrappers-behind m [] [] t x [] r = refl
+no_wrappers-behind m [] [] t x (a ∷ asked) r = refl
+no_wrappers-behind m [] (g ∷ gs) t x [] r = refl
+no_wrappers-behind m [] (g ∷ gs) t x (a ∷ asked) r = refl
+no_wrappers-behind m (f ∷ fs) [] t x [] r = refl
+no_wrappers-behind m (f ∷ fs) [] t x (a ∷ asked) r = refl
+no_wrappers-behind m (f ∷ fs) (g ∷ gs) t x [] r = refl
+no_wrappers-behind m (f ∷ fs) (g ∷ gs) t x (a ∷ asked) r = refl
+
+module _ (opts : Opts) (resolve : Resolve) (id : ℕ) (world : World) (found : slice_get resolve.worlds id ≡ Some world) (built : is_built opts resolve ≡ true) (well : is_well_named resolve world ≡ true)
+    (tree : Tree) (b : Binds IsWritten IsExportWritten world tree) where
+  named : declares_well world ≡ true
+  unfolding is_well_named
+  named = (and_parts _ (declares_well world) well).1
+
+  distinct : has_distinct_names world ≡ true
+  unfolding is_well_named
+  distinct = list_all-at has_distinct_names resolve.worlds id world (and_parts _ (list_all has_distinct_names resolve.worlds) (and_parts (are_written_tables resolve && list_all has_distinct_names resolve.worlds) (declares_well world) well).0).1 found
+
+  abbrev ws : List FnItem
+  ws = b.items.wrappers
+
+  abbrev es : List ExportFn
+  es = b.items.exports
+
+  abbrev fs : List Function
+  fs = exported_functions world
+
+  abbrev ps : List FuncPlace
+  ps = places_from 0 world.imports
+
+  abbrev qs : List FuncPlace
+  qs = places_from 0 world.exports
+
+  as_many : length ps ≡ length ws
+  as_many = length-places_from 0 world.imports ∙ sym (AllZip-long IsWritten (imported_functions world) ws b.items.wraps)
+
+  as_many_exports : length qs ≡ length es
+  as_many_exports = length-places_from 0 world.exports ∙ sym (AllZip-long IsExportWritten fs es b.items.exported)
+
+  abbrev behind : List Item
+  behind = trait_and_macro world ++ (runtime_module (runtime_items world) ++ last_macro world)
+
+  wrappers_are : wrappers_of tree ≡ wrappers_from 1 (map item.Import ws ++ (map item.Export es ++ behind)) (ps ++ qs)
+  wrappers_are = ap (λ is. wrappers_from 1 is tree.places) b.items.are ∙ ap (wrappers_from 1 (map item.Import ws ++ (map item.Export es ++ behind))) b.places
+
+  placed : map side_of (wrappers_of tree) ≡ emitted_sides world
   placed =
-      ap (λ is. map (λ w. w.place) (wrappers_from 1 is tree.places)) b.items
-      ∙ wrappers-places 1 b.wrappers (runtime_items (emitted_functions world)) tree.places as_many ∙ b.places
+      let i = sides-imports 1 ws (map item.Export es ++ behind) ps qs as_many in
+      let e = sides-exports i.0 es behind qs as_many_exports in
+      ap (map side_of) wrappers_are ∙ i.1 ∙ ap (λ ss. on_side true ps ++ ss) (e.1 ∙ ap (λ is. on_side false qs ++ map side_of is)
+      (no_wrappers-behind e.0 fs fs (guest_trait fs) (world_macro world) (runtime_items world) (file_macro world)) ∙ append-nil (on_side false qs))
 
-  module _ (nth : ℕ) (f : Function) (e : slice_get (emitted_functions world) nth ≡ Some f) where
-    wrapper : (w : FnItem) × (slice_get b.wrappers nth ≡ Some w) × IsWritten f w
-    wrapper = zip-at IsWritten (emitted_functions world) b.wrappers nth f b.wraps e
+  module _ (nth : ℕ) (f : Function) (e : slice_get (imported_functions world) nth ≡ Some f) where
+    wrapper : (w : FnItem) × (slice_get ws nth ≡ Some w) × IsWritten f w
+    wrapper = zip-at IsWritten (imported_functions world) ws nth f b.items.wraps e
 
     info : (info : WrapperInfo) × (slice_get (wrappers_of tree) nth ≡ Some info)
     info =
-        let i = wrappers-at 1 b.wrappers (runtime_module (runtime_items (emitted_functions world))) tree.places nth wrapper.0 as_many wrapper.1 in
-        (i.0, ap (λ is. slice_get (wrappers_from 1 is tree.places) nth) b.items ∙ i.1)
+        let i = imports-at 1 ws (map item.Export es ++ behind) ps qs nth wrapper.0 as_many wrapper.1 in
+        (i.0, ap (λ is. slice_get is nth) wrappers_are ∙ i.1)
 
-    there : wrapper_of tree nth ≡ Some (info.0.item.0, wrapper.0)
+    there : import_at tree nth ≡ Some (info.0.item.0, wrapper.0)
     there =
-        ap (λ f. option_and_then (λ f. option_map (λ w. (w.item.0, f)) (slice_get (wrappers_of tree) nth)) f)
-        (ap (import_nth nth) b.items ∙ import_nth-at b.wrappers (runtime_module (runtime_items (emitted_functions world))) nth wrapper.0 wrapper.1)
+        ap (option_and_then (numbered tree nth)) (ap (import_nth nth) b.items.are ∙ import_nth-at ws (map item.Export es ++ behind) nth wrapper.0 wrapper.1)
         ∙ ap (option_map (λ w. (w.item.0, wrapper.0))) info.1
 
-  faithful-at : (nth : ℕ) (f : Function) → slice_get (emitted_functions world) nth ≡ Some f → IsFaithful tree nth f
+    asked-import : Found tree.items (asked_by f)
+    asked-import x h =
+        ap (λ is. runtime_item_named is (item_name x)) b.items.are
+        ∙ runtime-found ws es fs (guest_trait fs) (world_macro world) (runtime_items world) (last_macro world) (item_name x) x
+        (found_all (imported_functions world) fs x (among-imports x (imported_functions world) fs nth f e h))
+
+  faithful-at : (nth : ℕ) (f : Function) → slice_get (imported_functions world) nth ≡ Some f → IsFaithful tree nth f
   faithful-at nth f e = record {
     there = subst IsSome (sym (there nth f e)) refl;
-    carries = λ form vs v args heap choices a run is well good is_result stand honest.
-        let w : Setting = record { items = tree.items; item = (info nth f e).0.item.0; answer = a; form = form } in
+    carries = λ form vs v args heap choices a run is good is_result stand honest.
+        let w : Setting = setting_of tree (info nth f e).0.item.0 a form in
         let i = (wrapper nth f e).0 in
-        let fits : Fits f w = record {
-          distinct = distinct-at world nth f named e;
-          found = subst (λ is. Found is (asked_by f)) (sym b.items) (found_all b.wrappers (emitted_functions world) nth f e);
-        } in
+        let fits : Fits f w = record { distinct = distinct-params world named nth f e; found = asked-import nth f e } in
         let run_of : import_run tree nth args heap choices a form ≡ Some (run_item w i args heap choices) =
-        ap (option_map (λ p. run_item (record { items = tree.items; item = p.0; answer = a; form = form }) p.1 args heap choices)) (there nth f e) in
+        ap (option_map (λ p. run_item (setting_of tree p.0 a form) p.1 args heap choices)) (there nth f e) in
         let same : run_item w i args heap choices ≡ run = cc in
-        subst (λ run. Carries f vs v heap choices run ⊎ MissesArea f run) same
-        (carries_written f i (wrapper nth f e).2 w fits vs args heap choices good stand well v is_result (λ c made. honest c (subst (Made c) same made)));
+        subst (λ run. Carries f vs v heap choices run ⊎ MissesArea f heap choices run) same
+        (carries_written f i (wrapper nth f e).2 w fits vs args heap choices good stand v is_result (λ c made. honest c (subst (Made c) same made)));
+  }
+
+  module _ (nth : ℕ) (f : Function) (e : slice_get fs nth ≡ Some f) where
+    abbrev place : ℕ
+    place = length (imported_functions world) + nth
+
+    export : (x : ExportFn) × (slice_get es nth ≡ Some x) × IsExportWritten f x
+    export = zip-at IsExportWritten fs es nth f b.items.exported e
+
+    place_is : place ≡ length ws + nth
+    place_is = ap (λ n. n + nth) (sym (AllZip-long IsWritten (imported_functions world) ws b.items.wraps))
+
+    export-info : (info : WrapperInfo) × (slice_get (wrappers_of tree) place ≡ Some info)
+    export-info =
+        let s = wrappers-skip 1 ws (map item.Export es ++ behind) ps qs nth as_many in
+        let i = exports-at s.0 es behind qs nth export.0 as_many_exports export.1 in
+        (i.0, ap (λ is. slice_get is place) wrappers_are ∙ ap (slice_get (wrappers_from 1 (map item.Import ws ++ (map item.Export es ++ behind)) (ps ++ qs))) place_is ∙ s.1 ∙ i.1)
+
+    export-there : export_at tree place ≡ Some (export-info.0.item.0, export.0)
+    export-there =
+        ap (option_and_then (numbered tree place))
+        (ap (export_nth place) b.items.are ∙ ap (λ n. export_nth n (map item.Import ws ++ (map item.Export es ++ behind))) place_is
+        ∙ export_nth-skip ws (map item.Export es ++ behind) nth ∙ export_nth-at es behind nth export.0 export.1)
+        ∙ ap (option_map (λ w. (w.item.0, export.0))) export-info.1
+
+    some_export : (g : Function) × (gs : List Function) × (fs ≡ g ∷ gs)
+    some_export = nonempty fs nth f e
+
+    abbrev under : List Function → List Item
+    under gs =
+        map item.Import ws ++ (map item.Export es ++ (where_any gs (item.Trait (guest_trait fs) ∷ item.ModuleMacro (world_macro world) ∷ []) ++ (runtime_module (runtime_items world) ++ last_macro world)))
+
+    abbrev first : Function
+    first = some_export.0
+
+    abbrev later : List Function
+    later = some_export.1
+
+    items_are : tree.items ≡ under (first ∷ later)
+    items_are = b.items.are ∙ ap under some_export.2
+
+    method-there : method_named tree.items guest_name (rust_ident f.name) ≡ Some (trait_fn f)
+    method-there =
+        ap (λ is. method_named is guest_name (rust_ident f.name)) items_are
+        ∙ method-found ws es first later (guest_trait fs) (world_macro world) (runtime_module (runtime_items world) ++ last_macro world) (rust_ident f.name) (trait_fn f)
+        (find-named (λ t. t.name) (map trait_fn fs) nth (trait_fn f) (ap is_distinct (map-map (λ t. t.name) trait_fn fs) ∙ distinct-methods world named) (get-map trait_fn fs nth f e))
+
+    asked-export : Found tree.items (asked_by_export f)
+    asked-export x h =
+        ap (λ is. runtime_item_named is (item_name x)) b.items.are
+        ∙ runtime-found ws es fs (guest_trait fs) (world_macro world) (runtime_items world) (last_macro world) (item_name x) x
+        (found_all (imported_functions world) fs x (among-exports x (imported_functions world) fs nth f e h))
+
+    exported-there : IsExported tree f export.0
+    exported-there = record {
+      entry = export_entry f;
+      alone =
+          ap (filter (λ x. bytes_eq x.export_name f.name.wit))
+          (ap entries_in items_are ∙ entries-are ws es first later fs (guest_trait fs) (world_macro world) (runtime_items world) (file_macro world))
+          ∙ alone-named (λ x. x.export_name) (map export_entry fs) nth (export_entry f)
+          (ap is_distinct (map-map (λ x. x.export_name) export_entry fs) ∙ (and_parts (are_distinct_functions (imported_functions world)) (are_distinct_functions fs) distinct).1) (get-map export_entry fs nth f e);
+      params = sym export.2.params;
+      answer = sym export.2.answer;
+      named =
+          ap (λ base. filter (λ x. bytes_eq x.base base) (exports_in tree.items)) (sym export.2.base)
+          ∙ ap (filter (λ x. bytes_eq x.base export.0.base)) (ap exports_in b.items.are ∙ exports-are ws es fs fs (guest_trait fs) (world_macro world) (runtime_items world) (file_macro world))
+          ∙ alone-named (λ x. x.base) es nth export.0 (ap is_distinct (bases-are fs es b.items.exported) ∙ distinct-bases world named) export.1;
+    }
+
+  export-at : (nth : ℕ) (f : Function) → slice_get fs nth ≡ Some f → IsExportFaithful tree (length (imported_functions world) + nth) f
+  export-at nth f e = record {
+    number = (export-info nth f e).0.item.0;
+    wrapper = (export nth f e).0;
+    there = export-there nth f e;
+    exported = exported-there nth f e;
+    carries = λ form vs v words heap choices a run is good is_result takes honest.
+        let n = length (imported_functions world) + nth in
+        let w : Setting = setting_of tree (export-info nth f e).0.item.0 a form in
+        let i = (export nth f e).0 in
+        let fits : FitsExport f w = record {
+          distinct = args-distinct (param_words f.params) (few-words opts resolve id nth world f built found e);
+          method = method-there nth f e;
+          found = asked-export nth f e;
+        } in
+        let run_of : export_run tree n words heap choices a form ≡ Some (run_export_item w i words heap choices) =
+        ap (option_map (λ p. run_export_item (setting_of tree p.0 a form) p.1 words heap choices)) (export-there nth f e) in
+        let same : run_export_item w i words heap choices ≡ run = cc in
+        subst (CarriesOut f vs v heap a) same (carries_out f i (export nth f e).2 w fits vs v words heap choices good is_result takes (λ c made. honest c (subst (Made c) same made)));
   }
 
   pub are_faithful : AreFaithful world tree
-  are_faithful = record { places = placed; faithful = faithful-at }
-
--- a world whose names are accepted declares them well
-pub named_world : (resolve : Resolve) (world : World) → is_well_named resolve world ≡ true → declares_well world ≡ true
-unfolding is_well_named
-named_world resolve world h = (and_parts _ (declares_well world) h).1
+  are_faithful = record { places = placed; imports = faithful-at; exports = export-at }

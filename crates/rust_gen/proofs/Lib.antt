@@ -1,7 +1,11 @@
 mod AskedLemmas
 pub mod EmittedLemmas
+mod ExportRunLemmas
 mod FaithfulLemmas
 mod FixedLemmas
+mod ItemLemmas
+mod LiftLemmas
+mod LiftingLemmas
 mod LowerLemmas
 mod LoweringLemmas
 mod PathLemmas

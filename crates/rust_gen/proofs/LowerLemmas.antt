@@ -75,7 +75,7 @@ words_of-append [] us (v ∷ vs) ws a b e f = absurd (cc)
 words_of-append (t ∷ ts) us [] ws a b e f = absurd (cc)
 words_of-append (t ∷ ts) us (v ∷ vs) ws a b e f = first_word (word_of t v) (words_of ts vs) (words_of (ts ++ us) (vs ++ ws)) a b (λ c h. words_of-append ts us vs ws c b h f) e
 
-core_words-one : (ty : WitType) → (ty ≡ wit.String → ⊥) → core_words ty ≡ core_type ty ∷ []
+pub core_words-one : (ty : WitType) → (ty ≡ wit.String → ⊥) → core_words ty ≡ core_type ty ∷ []
 core_words-one wit.String n = absurd (n refl)
 core_words-one _ n = refl
 
@@ -264,7 +264,7 @@ run_stmts-append w (c ∷ a) b s = go (run_stmt w c s) (λ t. run_stmts-append w
 
 pub lower_all : (w : Setting) (s : State) (heap : Heap) (params : List Param) (vs : List WitValue) (args : List RustValue) (before after : Scope) (stmts : List Stmt) (words : List Expr)
     → LowersAll before params stmts words after → AreValues (types_of params) vs → StandAll heap (types_of params) vs args → Found w.items (flat_map (λ p. lowering_items p.ty) params)
-    → UsedAll before.used (idents_of params) → ReadsAll (idents_of params) args s.locals → Within before.used s.locals → Lowered w s heap params vs before after stmts words
+    → UsedAll before.used (idents_of params) → ReadsAll (idents_of params) (map val.Value args) s.locals → Within before.used s.locals → Lowered w s heap params vs before after stmts words
 lower_all w s heap [] [] args before after stmts words (is, ws, same) good stand found used at within = record {
   locals = s.locals;
   runs = ap (λ stmts. run_stmts w stmts s) is;
@@ -280,11 +280,11 @@ lower_all w s heap [] [] args before after stmts words (is, ws, same) good stand
 lower_all w s heap [] (v ∷ vs) args before after stmts words l good stand found used at within = absurd good
 lower_all w s heap (p ∷ params) [] args before after stmts words l good stand found used at within = absurd good
 lower_all w s heap (p ∷ params) (v ∷ vs) args before after stmts words (first, ws, between, later, more, l, ls, is, wd) good (r, rest, e, one, stand) found used at within =
-    let here = subst (λ rs. ReadsAll (idents_of (p ∷ params)) rs s.locals) e at in
+    let here = subst (λ rs. ReadsAll (idents_of (p ∷ params)) (map val.Value rs) s.locals) e at in
     let a = lower-one w s heap p v r before between first ws good.0 one l (found-left w.items (lowering_items p.ty) (flat_map (λ p. lowering_items p.ty) params) found) used.0 here.0 within in
     let mid : State = record s { locals = a.locals } in
     let b = lower_all w mid heap params vs rest between after later more ls good.1 stand (found-right w.items (lowering_items p.ty) (flat_map (λ p. lowering_items p.ty) params) found)
-    (used-grows before.used between.used (idents_of params) a.grows used.1) (reads-kept before.used s.locals a.locals (idents_of params) rest a.keeps used.1 here.1) a.within in
+    (used-grows before.used between.used (idents_of params) a.grows used.1) (reads-kept before.used s.locals a.locals (idents_of params) (map val.Value rest) a.keeps used.1 here.1) a.within in
     record {
       locals = b.locals;
       runs = ap (λ stmts. run_stmts w stmts s) is ∙ run_stmts-append w first later s ∙ ap (λ o. and_then o (λ _. run_stmts w later)) a.runs ∙ b.runs;

@@ -1,5 +1,5 @@
 -- The run of a wrapper as it is written: it lends its arguments, calls its import once, and gives what the answer stands for.
-use Rattle.std.proofs.Common.{◌≡◌, ℕ, true, false, List, [], ◌∷◌, ◌++◌, Option, None, Some, map, refl, sym, ap, subst, ◌∙◌, append_assoc}
+use Rattle.std.proofs.Common.{◌≡◌, ℕ, true, false, List, [], ◌∷◌, ◌++◌, Option, None, Some, map, refl, sym, ap, subst, ◌∙◌, append_assoc, length, append-nil}
 use Rattle.std.specs.Prelude.{option_and_then}
 use Rattle.std.specs.List.{list_any, flat_map}
 use Rattle.std.specs.Option.{option_map}
@@ -11,7 +11,7 @@ use Rattle.wit_model.specs.declared.types.WitType.TheVariants as wit
 use Rattle.rust_tree.specs.declared.expr.CastType.TheVariants as cast
 use Rattle.rust_tree.specs.declared.stmt.Stmt.TheVariants as stmt
 use Rattle.rust_gen.specs.declared.scope.LocalKind.TheVariants as kind
-use Rattle.rust_gen.specs.Body.{IsBody, IsWritten, Lifts, LiftsAs, LiftsBy, call_kinds, call_stmt, import_call, import_decl, import_name, local_path, result_name, root_module, runtime_call, runtime_path}
+use Rattle.rust_gen.specs.Body.{IsBody, IsWritten, Lifts, LiftsAs, LiftsBy, call_kinds, call_stmt, import_call, import_decl, import_name, local_path, result_name, root_module, runtime_call, runtime_path, LowersAll, Points, area_stmts, LiftsScalar}
 use Rattle.wit_model.specs.declared.types.WitType.{WitType}
 use Rattle.wit_model.specs.Distinct.{is_distinct}
 use Rattle.rust_tree.specs.declared.expr.Expr.TheVariants as expr
@@ -38,19 +38,19 @@ use Rattle.wrapper_run.specs.Setting.{Setting}
 use Rattle.wrapper_run.specs.Blocks.{drop_value, free_owned}
 use Rattle.wrapper_run.specs.Owning.{owned}
 use Rattle.rust_tree.specs.declared.item.FnParam.{FnParam}
-use Rattle.wrapper_run.proofs.OwningLemmas.{ArePlain, no_buffer, no_unit_buffer, owned-none, plain-append}
-use Rattle.wrapper_run.specs.Run.{answer_and_leave, bound_args, call_point, called_with, ended, eval, point_of, run_at, run_fn, run_item, start, take_answer, unhidden, words_of, run_stmt, run_stmts, run_tail}
-use Rattle.wrapper_run.specs.StandsFor.{StandAll, StandsResult, rust_value}
-use Rattle.wrapper_run.specs.Value.{WitValue, AreValues, IsResult}
-use Rattle.wrapper_run.proofs.LocalLemmas.{ReadsAll, SameLength, declared-alone, names_of, reads-new, reads_args, unbound, bytes_eq-same}
+use Rattle.wrapper_run.proofs.OwningLemmas.{ArePlain, no_buffer, no_unit_buffer, owned-none, plain-append, owned-lent, adds-plain}
+use Rattle.wrapper_run.specs.Run.{answer_and_leave, call_point, called_with, ended, eval, point_of, run_at, run_fn, run_item, start, take_answer, unhidden, words_of, run_stmt, run_stmts, run_tail, bound}
+use Rattle.wrapper_run.specs.StandsFor.{StandAll, StandsResult, rust_value, Stands}
+use Rattle.wrapper_run.specs.Value.{WitValue, AreValues, IsResult, scalar, text}
+use Rattle.wrapper_run.proofs.LocalLemmas.{ReadsAll, SameLength, declared-alone, reads-new, unbound, bytes_eq-same, reads_bound}
 use Rattle.wrapper_run.proofs.NumberLemmas.{answered-unit}
 use Rattle.wrapper_run.proofs.StepLemmas.{Quiet, answer_gives, call_gives, ended-calls, import_gives, no_answer_gives, quiet_answer, quiet_bind, quiet_then, quiet_cast, quiet_local, quiet_pure, quiet_runtime, answers_plain, quiet_answers, quiet_drop}
 use Rattle.rust_gen.specs.DeclaredNames.{param_idents}
-use Rattle.rust_gen.specs.Printed.{core_result, core_type, printed_result, printed_type}
-use Rattle.rust_gen.specs.Runtime.{asked_by, lifting_items, lowering_items}
+use Rattle.rust_gen.specs.Printed.{core_result, core_type, printed_result, printed_type, core_params, param_words, pointer_words}
+use Rattle.rust_gen.specs.Runtime.{asked_by, lifting_items, lowering_items, signature_items}
 use Rattle.rust_gen.specs.Wrapper.{printed_param}
 use Rattle.rust_tree.specs.declared.expr.CastType.{CastType}
-use Rattle.rust_gen.specs.Scope.{Bytes, cleanup_list, first_scope, is_free, is_used, numbered}
+use Rattle.rust_gen.specs.Scope.{Bytes, cleanup_list, first_scope, is_free, is_used, numbered, Declares}
 use Rattle.rust_tree.specs.declared.expr.Expr.{Expr}
 use Rattle.rust_tree.specs.declared.item.FnItem.{FnItem}
 use Rattle.rust_gen.proofs.AskedLemmas.{Found, found-left, found-right}
@@ -62,35 +62,27 @@ use Rattle.rust_gen.proofs.PathLemmas.{calls_alone, calls_runtime}
 use Rattle.rust_tree.specs.Runtime.{item_name}
 use Rattle.rust_gen.proofs.WordLemmas.{taken}
 use Rattle.rust_gen.proofs.LowerLemmas.{Lowered, idents_of, lower_all, run_stmts-append, types_of}
-use Rattle.rust_gen.proofs.ScopeLemmas.{UsedAll, Within, free-one, is_used-append}
-use Rattle.rust_gen.specs.Printed.{core_params}
-use Rattle.wrapper_run.specs.StandsFor.{Stands}
-use Rattle.wrapper_run.specs.Value.{scalar, text}
-use Rattle.wrapper_run.proofs.OwningLemmas.{owned-lent}
-use Rattle.std.proofs.Common.{length}
+use Rattle.rust_gen.proofs.ScopeLemmas.{UsedAll, Within, free-one, is_used-append, used-declared, used-first, used-next}
 use Rattle.wrapper_run.specs.Areas.{areas, due, pointers}
 use Rattle.wrapper_data.specs.declared.choice.Choice.{Choice}
 use Rattle.wit_model.specs.declared.size.WasmType.{WasmType}
 use Rattle.rust_tree.specs.declared.stmt.Block.{Block}
-use Rattle.rust_gen.specs.Body.{LowersAll, Points, area_stmts}
-use Rattle.rust_gen.specs.Scope.{Declares}
-use Rattle.rust_gen.specs.Printed.{param_words, pointer_words}
-use Rattle.rust_gen.specs.Runtime.{signature_items}
-use Rattle.std.proofs.Common.{append-nil}
-use Rattle.wrapper_run.proofs.OwningLemmas.{adds-plain}
 
 -- parameters
+
+abbrev pub names_of : List FnParam → List Bytes
+names_of params = map (λ p. p.name) params
 
 pub names-printed : (params : List Param) → names_of (map printed_param params) ≡ idents_of params
 names-printed [] = refl
 names-printed (p ∷ params) = ap (λ ns. rust_ident p.name ∷ ns) (names-printed params)
 
-pub same-length : (heap : Heap) (params : List Param) (vs : List WitValue) (args : List RustValue) → StandAll heap (types_of params) vs args → SameLength (map printed_param params) args
-same-length heap [] [] args h = subst (λ rs. SameLength [] rs) (sym h) tt
+pub same-length : (heap : Heap) (params : List Param) (vs : List WitValue) (args : List RustValue) → StandAll heap (types_of params) vs args → SameLength (idents_of params) (map val.Value args)
+same-length heap [] [] args h = subst (λ rs. SameLength [] (map val.Value rs)) (sym h) tt
 same-length heap [] (v ∷ vs) args h = absurd h
 same-length heap (p ∷ params) [] args h = absurd h
 same-length heap (p ∷ params) (v ∷ vs) args (r, rest, e, one, more) =
-    subst (λ rs. SameLength (map printed_param (p ∷ params)) rs) (sym e) (same-length heap params vs rest more)
+    subst (λ rs. SameLength (idents_of (p ∷ params)) (map val.Value rs)) (sym e) (same-length heap params vs rest more)
 
 -- arguments of these types own nothing
 
@@ -98,16 +90,16 @@ pub plain_arg : (heap : Heap) (ty : WitType) (v : WitValue) (r : RustValue) → 
 plain_arg heap ty (scalar v) r is = ap (λ r. owned (val.Value r)) is ∙ owned-none (rust_value ty v) (no_buffer ty v)
 plain_arg heap ty (text bytes) r (p, pos, is, lies) = ap (λ r. owned (val.Value r)) is ∙ owned-lent p (length bytes)
 
-pub plain_args : (heap : Heap) (types : List WitType) (vs : List WitValue) (params : List FnParam) (args : List RustValue) → StandAll heap types vs args → ArePlain (bound_args params args)
+pub plain_args : (heap : Heap) (types : List WitType) (vs : List WitValue) (names : List Bytes) (args : List RustValue) → StandAll heap types vs args → ArePlain (bound names (map val.Value args))
 plain_args heap types vs [] args h = tt
-plain_args heap types vs (p ∷ params) [] h = tt
-plain_args heap [] [] (p ∷ params) (a ∷ args) h = absurd (cc)
-plain_args heap [] (v ∷ vs) (p ∷ params) (a ∷ args) h = absurd h
-plain_args heap (ty ∷ types) [] (p ∷ params) (a ∷ args) h = absurd h
-plain_args heap (ty ∷ types) (v ∷ vs) (p ∷ params) (a ∷ args) (r, rest, e, one, more) =
+plain_args heap types vs (name ∷ names) [] h = tt
+plain_args heap [] [] (name ∷ names) (a ∷ args) h = absurd (cc)
+plain_args heap [] (v ∷ vs) (name ∷ names) (a ∷ args) h = absurd h
+plain_args heap (ty ∷ types) [] (name ∷ names) (a ∷ args) h = absurd h
+plain_args heap (ty ∷ types) (v ∷ vs) (name ∷ names) (a ∷ args) (r, rest, e, one, more) =
     let is : a ≡ r = cc in
     let same : args ≡ rest = cc in
-    (ap (λ r. owned (val.Value r)) is ∙ plain_arg heap ty v r one, plain_args heap types vs params args (subst (StandAll heap types vs) (sym same) more))
+    (ap (λ r. owned (val.Value r)) is ∙ plain_arg heap ty v r one, plain_args heap types vs names args (subst (StandAll heap types vs) (sym same) more))
 
 pub and_then-assoc : {A B C : Type 0} (o : Outcome A) (f : A → Act B) (g : B → Act C) → and_then (and_then o f) g ≡ and_then o (λ a. f a >>= g)
 and_then-assoc (Done a s) f g = refl
@@ -200,9 +192,9 @@ abbrev finish : Setting → ℕ → Option WitType → List Stmt → Option Expr
 finish w t None lifting tail v = drop_value w v >> after_result w lifting tail type.Unit
 finish w t (Some ty) lifting tail v = bind (result_name t) v >> after_result w lifting tail (printed_type ty)
 
-quiet_lift_by : (w : Setting) (k : LocalKind) (i : RuntimeItem) (to : CastType) (name : Bytes) (before : Scope) (stmts : List Stmt) (e : Expr)
-    → LiftsBy k i (expr.Cast (expr.Local name) to) before stmts e → Quiet (run_stmts w stmts) × Quiet (eval w e)
-quiet_lift_by w k i to name before stmts e (t, after, d, is, tail) = (
+quiet_lift_by : (w : Setting) (k : LocalKind) (i : RuntimeItem) (to : CastType) (name : Bytes) (before after : Scope) (stmts : List Stmt) (e : Expr)
+    → LiftsBy k i (expr.Cast (expr.Local name) to) before stmts e after → Quiet (run_stmts w stmts) × Quiet (eval w e)
+quiet_lift_by w k i to name before after stmts e (t, d, is, tail) = (
   subst (λ stmts. Quiet (run_stmts w stmts)) (sym is)
       (quiet_then (run_stmt w (stmt.Let (numbered k t) (runtime_call i (expr.Cast (expr.Local name) to)))) (λ _. pure {A = Unit {0}} tt)
       (quiet_then (eval w (runtime_call i (expr.Cast (expr.Local name) to))) (bind (numbered k t))
@@ -214,17 +206,20 @@ quiet_lift_by w k i to name before stmts e (t, after, d, is, tail) = (
 quiet_at_once : (w : Setting) (stmts : List Stmt) (e f : Expr) → stmts ≡ [] → e ≡ f → Quiet (eval w f) → Quiet (run_stmts w stmts) × Quiet (eval w e)
 quiet_at_once w stmts e f n q h = (subst (λ stmts. Quiet (run_stmts w stmts)) (sym n) (quiet_pure tt), subst (λ e. Quiet (eval w e)) (sym q) h)
 
-quiet_lifts : (w : Setting) (ty : WitType) (base name : Bytes) (before : Scope) (stmts : List Stmt) (e : Expr) → (ty ≡ wit.String → ⊥) → LiftsAs ty base name before stmts e → Quiet (run_stmts w stmts) × Quiet (eval w e)
-quiet_lifts w wit.String base name before stmts e n l = absurd (n refl)
-quiet_lifts w wit.Bool base name before stmts e n l = quiet_lift_by w kind.Bool BoolLift cast.U8 name before stmts e l
-quiet_lifts w wit.Char base name before stmts e n l = quiet_lift_by w kind.Char CharLift cast.U32 name before stmts e l
-quiet_lifts w wit.U8 base name before stmts e n l = quiet_at_once w stmts e (expr.Cast (expr.Local name) cast.U8) l.0 l.1 (quiet_cast w name cast.U8)
-quiet_lifts w wit.U16 base name before stmts e n l = quiet_at_once w stmts e (expr.Cast (expr.Local name) cast.U16) l.0 l.1 (quiet_cast w name cast.U16)
-quiet_lifts w wit.U32 base name before stmts e n l = quiet_at_once w stmts e (expr.Cast (expr.Local name) cast.U32) l.0 l.1 (quiet_cast w name cast.U32)
-quiet_lifts w wit.U64 base name before stmts e n l = quiet_at_once w stmts e (expr.Cast (expr.Local name) cast.U64) l.0 l.1 (quiet_cast w name cast.U64)
-quiet_lifts w wit.S8 base name before stmts e n l = quiet_at_once w stmts e (expr.Cast (expr.Local name) cast.I8) l.0 l.1 (quiet_cast w name cast.I8)
-quiet_lifts w wit.S16 base name before stmts e n l = quiet_at_once w stmts e (expr.Cast (expr.Local name) cast.I16) l.0 l.1 (quiet_cast w name cast.I16)
-quiet_lifts w _ base name before stmts e n l = quiet_at_once w stmts e (expr.Local name) l.0 l.1 (quiet_local w name)
+pub quiet_scalar : (w : Setting) (ty : WitType) (name : Bytes) (before after : Scope) (stmts : List Stmt) (e : Expr) → LiftsScalar ty name before stmts e after → Quiet (run_stmts w stmts) × Quiet (eval w e)
+quiet_scalar w wit.Bool name before after stmts e l = quiet_lift_by w kind.Bool BoolLift cast.U8 name before after stmts e l
+quiet_scalar w wit.Char name before after stmts e l = quiet_lift_by w kind.Char CharLift cast.U32 name before after stmts e l
+quiet_scalar w wit.U8 name before after stmts e l = quiet_at_once w stmts e (expr.Cast (expr.Local name) cast.U8) l.0 l.1 (quiet_cast w name cast.U8)
+quiet_scalar w wit.U16 name before after stmts e l = quiet_at_once w stmts e (expr.Cast (expr.Local name) cast.U16) l.0 l.1 (quiet_cast w name cast.U16)
+quiet_scalar w wit.U32 name before after stmts e l = quiet_at_once w stmts e (expr.Cast (expr.Local name) cast.U32) l.0 l.1 (quiet_cast w name cast.U32)
+quiet_scalar w wit.U64 name before after stmts e l = quiet_at_once w stmts e (expr.Cast (expr.Local name) cast.U64) l.0 l.1 (quiet_cast w name cast.U64)
+quiet_scalar w wit.S8 name before after stmts e l = quiet_at_once w stmts e (expr.Cast (expr.Local name) cast.I8) l.0 l.1 (quiet_cast w name cast.I8)
+quiet_scalar w wit.S16 name before after stmts e l = quiet_at_once w stmts e (expr.Cast (expr.Local name) cast.I16) l.0 l.1 (quiet_cast w name cast.I16)
+quiet_scalar w _ name before after stmts e l = quiet_at_once w stmts e (expr.Local name) l.0 l.1 (quiet_local w name)
+
+lifts-scalar : (ty : WitType) (base name : Bytes) (before : Scope) (stmts : List Stmt) (e : Expr) → (ty ≡ wit.String → ⊥) → LiftsAs ty base name before stmts e → (after : Scope) × LiftsScalar ty name before stmts e after
+lifts-scalar wit.String base name before stmts e n l = absurd (n refl)
+lifts-scalar _ base name before stmts e n l = l
 
 quiet_after : (w : Setting) (stmts : List Stmt) (e : Expr) (result : TypeExpr) → Quiet (run_stmts w stmts) × Quiet (eval w e) → Quiet (after_result w stmts (Some e) result)
 quiet_after w stmts e result (h, k) =
@@ -241,7 +236,7 @@ quiet_finish w t None base before lifting tail nt (n, q) v =
 quiet_finish w t (Some ty) base before lifting tail nt (e, q, l) v =
     subst (λ tail. Quiet (bind (result_name t) v >> after_result w lifting tail (printed_type ty))) (sym q)
     (quiet_then (bind (result_name t) v) (λ _. after_result w lifting (Some e) (printed_type ty)) (quiet_bind (result_name t) v)
-    (λ _. quiet_after w lifting e (printed_type ty) (quiet_lifts w ty base (result_name t) before lifting e (λ h. nt (ap Some h)) l)))
+    (λ _. quiet_after w lifting e (printed_type ty) (let l = lifts-scalar ty base (result_name t) before lifting e (λ h. nt (ap Some h)) l in quiet_scalar w ty (result_name t) before l.0 lifting e l.1)))
 
 abbrev pub declared : ℕ → Function → State → State
 declared t f s = record s { imports = s.imports ++ import_decl t f ∷ [] }
@@ -279,10 +274,10 @@ record Finishes (w : Setting) (t : ℕ) (r : Option WitType) (v : Option WitValu
   pub account : state.heap ≡ s.heap
   pub requests : state.requests ≡ s.requests
 
-finishes : (w : Setting) (t : ℕ) (r : Option WitType) (v : Option WitValue) (base : Bytes) (before : Scope) (lifting : List Stmt) (tail : Option Expr) (s : State) (c : CallPoint)
-    → NoText r → Lifts r base (result_name t) before lifting tail → Found w.items (lifting_items r) → IsResult r v → HonestPeer r v w.answer c → ArePlain s.locals → Finishes w t r v lifting tail s
+finishes : (w : Setting) (t : ℕ) (r : Option WitType) (v : Option WitValue) (base : Bytes) (prior before : Scope) (lifting : List Stmt) (tail : Option Expr) (s : State) (c : CallPoint)
+    → NoText r → Declares prior (call_kinds (scalar_result r)) t before → Lifts r base (result_name t) before lifting tail → Found w.items (lifting_items r) → IsResult r v → HonestPeer r v w.answer c → ArePlain s.locals → Finishes w t r v lifting tail s
 unfolding bind
-finishes w t None None base before lifting tail s c nt (n, q) found good h plain = record {
+finishes w t None None base prior before lifting tail s c nt d (n, q) found good h plain = record {
   value = None;
   state = record s { locals = [] };
   runs =
@@ -294,24 +289,26 @@ finishes w t None None base before lifting tail s c nt (n, q) found good h plain
   account = refl;
   requests = refl;
 }
-finishes w t None (Some v) base before lifting tail s c nt l found good h plain = absurd good
-finishes w t (Some ty) None base before lifting tail s c nt l found good h plain = absurd good
-finishes w t (Some ty) (Some (text bytes)) base before lifting tail s c nt l found good h plain = absurd (nt (ap Some good.0))
-finishes w t (Some ty) (Some (scalar v)) base before lifting tail s c nt (e, q, l) found good (x, a, takes) plain =
+finishes w t None (Some v) base prior before lifting tail s c nt d l found good h plain = absurd good
+finishes w t (Some ty) None base prior before lifting tail s c nt d l found good h plain = absurd good
+finishes w t (Some ty) (Some (text bytes)) base prior before lifting tail s c nt d l found good h plain = absurd (nt (ap Some good.0))
+finishes w t (Some ty) (Some (scalar v)) base prior before lifting tail s c nt d (e, q, l) found good (x, a, takes) plain =
     let tk = taken ty v x good takes in
-    let bound : State = record s { locals = s.locals ++ record { name = result_name t; value = Some (val.Word x) } ∷ [] } in
-    let li = tk.lifts w base (result_name t) before lifting e bound l found (reads-new (result_name t) (Some (val.Word x)) s.locals)
-    (plain-append s.locals (record { name = result_name t; value = Some (val.Word x) } ∷ []) plain (refl, tt)) in
-    let ends : State = record bound { locals = li.locals } in
+    let held : State = record s { locals = s.locals ++ record { name = result_name t; value = Some (val.Word x) } ∷ [] } in
+    let here = lifts-scalar ty base (result_name t) before lifting e (λ h. nt (ap Some h)) l in
+    let used = used-declared prior before (kind.Import ∷ kind.Returned ∷ []) t (result_name t) d (used-next (import_name t) (result_name t) (result_name t ∷ []) (used-first (result_name t) [])) in
+    let li = tk.lifts w (result_name t) before here.0 lifting e held here.1 found used (reads-new (result_name t) (Some (val.Word x)) s.locals) in
+    let ends : State = record held { locals = li.locals } in
+    let plain_held = plain-append s.locals (record { name = result_name t; value = Some (val.Word x) } ∷ []) plain (refl, tt) in
     record {
       value = Some (rust_value ty v);
       state = record ends { locals = [] };
       runs =
           ap (λ o. and_then o (finish w t (Some ty) lifting tail)) (answer_gives w (core_type ty) x s a tk.is_word)
-          ∙ ap (λ tail. after_result w lifting tail (printed_type ty) bound) q
+          ∙ ap (λ tail. after_result w lifting tail (printed_type ty) held) q
           ∙ ap (λ o. and_then o (λ _. eval w e >>= (answer_and_leave w (printed_type ty)))) li.runs
-          ∙ ap (λ o. and_then o (answer_and_leave w (printed_type ty))) li.gives
-          ∙ answers_plain w (printed_type ty) li.given (Some (rust_value ty v)) ends li.answers li.plain;
+          ∙ ap (λ o. and_then o (answer_and_leave w (printed_type ty))) (li.gives ends (λ name h. refl))
+          ∙ answers_plain w (printed_type ty) li.given (Some (rust_value ty v)) ends li.answers (adds-plain held.locals li.locals plain_held li.adds);
       stands = (refl, refl);
       account = refl;
       requests = refl;
@@ -365,12 +362,12 @@ module _ (f : Function) (i : FnItem) (written : IsWritten f i) (nt : NoText f.re
   body = plain_body f i.body nt written.body
 
   within_first : Within (first_scope f body.area).used begin.locals
-  within_first name h = unbound i.params args name (ap (λ ns. list_any (λ u. bytes_eq u name) ns) names ∙ used-prefix (param_idents f) _ name h)
+  within_first name h = unbound (names_of i.params) (map val.Value args) name (ap (λ ns. list_any (λ u. bytes_eq u name) ns) names ∙ used-prefix (param_idents f) _ name h)
 
-  arguments : ReadsAll (param_idents f) args begin.locals
+  arguments : ReadsAll (param_idents f) (map val.Value args) begin.locals
   arguments =
-      subst (λ ns. ReadsAll ns args begin.locals) names
-      (reads_args i.params args (ap is_distinct names ∙ fits.distinct) (subst (λ ps. SameLength ps args) (sym written.params) (same-length heap f.params vs args stand)))
+      subst (λ ns. ReadsAll (param_idents f) (map val.Value args) (bound ns (map val.Value args))) (sym names)
+      (reads_bound (param_idents f) (map val.Value args) fits.distinct (same-length heap f.params vs args stand))
 
   lowering : Lowered w begin heap f.params vs (first_scope f body.area) body.lowered body.lowering body.words
   lowering =
@@ -380,7 +377,7 @@ module _ (f : Function) (i : FnItem) (written : IsWritten f i) (nt : NoText f.re
       (all-used [] (param_idents f) (cleanup_list ∷ body.area ∷ [])) arguments within_first
 
   plain : ArePlain lowering.locals
-  plain = adds-plain begin.locals lowering.locals (plain_args heap (param_types f) vs i.params args stand) lowering.adds
+  plain = adds-plain begin.locals lowering.locals (plain_args heap (param_types f) vs (names_of i.params) args stand) lowering.adds
 
   typed : words_of (core_params f) (map val.Word lowering.lent) ≡ Some lowering.lent
   typed =
@@ -451,9 +448,9 @@ module _ (f : Function) (i : FnItem) (written : IsWritten f i) (nt : NoText f.re
   pub carries_plain : ((c : CallPoint) → Made c (run_item w i args heap choices) → HonestPeer f.result v w.answer c) → Carries f vs v heap choices (run_item w i args heap choices)
   unfolding run
   carries_plain honest =
-      let g = finishes w body.number f.result v body.base body.called body.lifting i.body.tail recorded here nt body.lifts
+      let g = finishes w body.number f.result v body.base body.lowered body.called body.lifting i.body.tail recorded here nt body.calls body.lifts
       (found-right w.items (signature_items f.result ++ flat_map (λ p. lowering_items p.ty) f.params) (lifting_items f.result) fits.found) is_result (honest here ([], [], calls_once)) plain in
-      let e : run ≡ run_at stop_of.Done g.value g.state = ends ∙ ap ended g.runs in
+      let e : run ≡ run_at stop_of.Done [] g.value g.state = ends ∙ ap ended g.runs in
       record {
         done = ap (λ r. r.stop) e;
         words = lowering.lent;

@@ -6,7 +6,6 @@ use Rattle.std.specs.Str.{bytes_eq}
 use Rattle.std.proofs.lemmas.Bool.{not-true, or_left, or_parts, or_right}
 use Rattle.std.proofs.lemmas.List.Folds.{list_any-append}
 use Rattle.std.proofs.lemmas.Slice.Eq.{bytes_eq-Decides}
-use Rattle.wrapper_data.specs.declared.value.RustValue.{RustValue}
 use Rattle.wrapper_run.specs.declared.state.Local.{Local}
 use Rattle.wrapper_run.specs.declared.state.Val.{Val}
 use Rattle.wrapper_run.specs.Locals.{local_named, value_of}
@@ -109,7 +108,7 @@ pub used-grows : (old new : List Bytes) (names : List Bytes) → Grows old new �
 used-grows old new [] g h = tt
 used-grows old new (name ∷ names) g h = (g name h.0, used-grows old new names g h.1)
 
-pub reads-kept : (used : List Bytes) (old new : List Local) (names : List Bytes) (rs : List RustValue) → Keeps used old new → UsedAll used names → ReadsAll names rs old → ReadsAll names rs new
-reads-kept used old new [] rs k u h = h
+pub reads-kept : (used : List Bytes) (old new : List Local) (names : List Bytes) (vs : List Val) → Keeps used old new → UsedAll used names → ReadsAll names vs old → ReadsAll names vs new
+reads-kept used old new [] vs k u h = h
 reads-kept used old new (name ∷ names) [] k u h = h
-reads-kept used old new (name ∷ names) (r ∷ rs) k u h = (ap value_of (k name u.0) ∙ h.0, reads-kept used old new names rs k u.1 h.1)
+reads-kept used old new (name ∷ names) (v ∷ vs) k u h = (ap value_of (k name u.0) ∙ h.0, reads-kept used old new names vs k u.1 h.1)

@@ -14,7 +14,6 @@ use Rattle.wit_model.specs.declared.function.Function.{Function}
 use Rattle.wit_model.specs.declared.size.WasmType.TheVariants as core
 use Rattle.wit_model.specs.declared.types.WitType.{WitType}
 use Rattle.wit_model.specs.declared.types.WitType.TheVariants as wit
-use Rattle.wit_model.specs.Distinct.{is_distinct}
 use Rattle.rust_tree.specs.declared.expr.Expr.{Expr}
 use Rattle.rust_tree.specs.declared.expr.Expr.TheVariants as expr
 use Rattle.rust_tree.specs.declared.item.FnItem.{FnItem}
@@ -24,7 +23,7 @@ use Rattle.rust_tree.specs.declared.stmt.Stmt.TheVariants as stmt
 use Rattle.rust_tree.specs.declared.type_expr.TypeExpr.TheVariants as type
 use Rattle.rust_tree.specs.Runtime.{item_name}
 use Rattle.wrapper_data.specs.Answered.{answered, with_blocks, with_writes}
-use Rattle.wrapper_data.specs.Heap.{is_block, is_heap, overlaps, overlaps_any}
+use Rattle.wrapper_data.specs.Heap.{is_block, overlaps, overlaps_any}
 use Rattle.wrapper_data.specs.declared.choice.Choice.{Choice}
 use Rattle.wrapper_data.specs.declared.choice.Choice.TheVariants as choice
 use Rattle.wrapper_data.specs.declared.choice.Choices.{Choices}
@@ -43,22 +42,22 @@ use Rattle.wrapper_run.specs.declared.state.Val.{Val}
 use Rattle.wrapper_run.specs.declared.state.Val.TheVariants as val
 use Rattle.wrapper_run.specs.Act.{Act, Outcome, Done, Stopped, ◌>>=◌, ◌>>◌, and_then, or_stop, pure}
 use Rattle.wrapper_run.specs.Areas.{areas, due, needs_area, pointers, text_area, text_areas}
-use Rattle.wrapper_run.specs.Blocks.{declare_area, drop_value, free_owned, is_fitting, is_owned, leave, owned_bytes, place_area, without_block}
-use Rattle.wrapper_run.specs.Faithful.{Carries, Made, MissesArea, import_target, param_types}
+use Rattle.wrapper_run.specs.Blocks.{declare_area, drop_value, free_owned, is_fitting, is_owned, owned_bytes, place_area, without_block, leave_to}
+use Rattle.wrapper_run.specs.Faithful.{Carries, Made, MissesArea, import_target, param_types, fits_area}
 use Rattle.wrapper_run.specs.Honest.{AnswersText, HonestPeer, WritesIn, are_new}
 use Rattle.wrapper_run.specs.Locals.{bind, declare, last, local_named, value_of}
 use Rattle.wrapper_run.specs.Memory.{block_at, bytes_from, loaded, without}
 use Rattle.wrapper_run.specs.Owning.{address_of, is_taken, taken_by}
-use Rattle.wrapper_run.specs.Run.{answer_and_leave, ended, eval, run_at, run_fn, run_item, run_stmt, run_stmts, run_tail, runtime_item_named, start, take_answer, words_of}
+use Rattle.wrapper_run.specs.Run.{answer_and_leave, ended, eval, run_at, run_fn, run_item, run_stmt, run_stmts, run_tail, runtime_item_named, start, take_answer, words_of, bound}
 use Rattle.wrapper_run.specs.Setting.{Setting, stuck}
 use Rattle.wrapper_run.specs.StandsFor.{IsTextBlock, StandAll, StandsResult}
 use Rattle.wrapper_run.specs.Value.{AreValues, IsResult, IsValue, WitValue, char, f32, f64, number, scalar, text, truth}
 use Rattle.wrapper_run.proofs.HeapLemmas.{SamePlace, added, area_found, area_removed, found_behind, size-positive, writes_in_area}
-use Rattle.wrapper_run.proofs.LocalLemmas.{ReadsAll, SameLength, last-append, names_of, reads-new, reads_args, unbound}
+use Rattle.wrapper_run.proofs.LocalLemmas.{ReadsAll, last-append, reads-new, unbound, reads_bound}
 use Rattle.wrapper_run.proofs.OwningLemmas.{Adds, ArePlain, adds-one, adds-then, no_unit_buffer, owned-none}
 use Rattle.wrapper_run.proofs.StepLemmas.{Give, Quiet, call_gives, ended-calls, import_gives, local_gives, quiet_answer, quiet_answers, quiet_bind, quiet_drop, quiet_local, quiet_pure, quiet_runtime, quiet_then}
 use Rattle.wrapper_run.proofs.TakeLemmas.{answered-text, area_gives, leaves_one, lifts_text, load_gives, moves_last, owned-empty, quiet_load, quiet_raw, raw_gives, takes_block, takes_empty, words_give}
-use Rattle.rust_gen.specs.Body.{IsBody, IsWritten, LiftsText, Lifts, Points, area_stmts, call_kinds, call_stmt, import_call, import_decl, import_name, local_path, result_name, runtime_call, runtime_path, word_at, text_area as area_of}
+use Rattle.rust_gen.specs.Body.{IsBody, IsWritten, LiftsText, Lifts, Points, area_stmts, call_kinds, call_stmt, import_call, import_decl, import_name, local_path, result_name, runtime_call, runtime_path, word_at, text_area as area_of, text_area as area_of}
 use Rattle.rust_gen.specs.DeclaredNames.{param_idents}
 use Rattle.rust_gen.specs.Printed.{core_params, core_result, param_words, pointer_words, printed_result}
 use Rattle.rust_gen.specs.Runtime.{lifting_items, lowering_items, signature_items}
@@ -67,7 +66,7 @@ use Rattle.rust_gen.specs.declared.scope.LocalKind.TheVariants as kind
 use Rattle.rust_gen.proofs.AskedLemmas.{Found, found-first, found-left, found-right}
 use Rattle.rust_gen.proofs.LowerLemmas.{Lowered, give-append, lower_all, run_stmts-append, words-append, words_of-append}
 use Rattle.rust_gen.proofs.PathLemmas.{calls_alone, calls_runtime}
-use Rattle.rust_gen.proofs.RunLemmas.{Fits, all-used, and_then-assoc, call_is, carries_plain, declared, names-printed, plain_arg, plain_args, point, same-length}
+use Rattle.rust_gen.proofs.RunLemmas.{Fits, all-used, and_then-assoc, call_is, carries_plain, declared, names-printed, plain_arg, plain_args, point, same-length, names_of}
 use Rattle.rust_gen.proofs.ScopeLemmas.{Within, free-one, grows-declared, is_used-append, keeps-bound, reads-past, used-declared, used-first, used-next, within-bound}
 
 -- the last statements: the bytes are taken over, tested and moved out
@@ -229,12 +228,12 @@ flipped a b h = go (bytes_eq b a) refl
         absurd (cc)
     go false e = e
 
-reads-behind : (names : List Bytes) (rs : List RustValue) (locals : List Local) (n : Bytes) (o : Option Val) → is_used names n ≡ false → ReadsAll names rs locals → ReadsAll names rs (locals ++ record { name = n; value = o } ∷ [])
-reads-behind [] rs locals n o h r = r
+reads-behind : (names : List Bytes) (vs : List Val) (locals : List Local) (n : Bytes) (o : Option Val) → is_used names n ≡ false → ReadsAll names vs locals → ReadsAll names vs (locals ++ record { name = n; value = o } ∷ [])
+reads-behind [] vs locals n o h r = r
 reads-behind (name ∷ names) [] locals n o h r = r
-reads-behind (name ∷ names) (x ∷ rs) locals n o h r =
+reads-behind (name ∷ names) (v ∷ vs) locals n o h r =
     let parts = or_parts (bytes_eq name n) (is_used names n) h in
-    (reads-past locals (record { name = n; value = o }) name (Some (val.Value x)) (flipped name n parts.0) r.0, reads-behind names rs locals n o parts.1 r.1)
+    (reads-past locals (record { name = n; value = o }) name (Some v) (flipped name n parts.0) r.0, reads-behind names vs locals n o parts.1 r.1)
 
 -- arguments of these types take nothing
 taken_args : (heap : Heap) (types : List WitType) (vs : List WitValue) (args : List RustValue) → StandAll heap types vs args → taken_by args ≡ []
@@ -270,19 +269,24 @@ record Placing (w : Setting) (name : Bytes) (s : State) : Type 0 where
   pub fits : is_fitting address text_area s.heap.blocks ≡ true
   pub runs : declare_area w (area_of name) s ≡ Done tt (placed name address left s)
 
-places : (w : Setting) (name : Bytes) (s : State) → Placing w name s ⊎ (declare_area w (area_of name) s ≡ Stopped stop_of.BadChoice (record s { requests = s.requests ++ text_area ∷ [] }))
+-- the choice does not fit
+abbrev Misplacing : Setting → Bytes → State → Type 0
+Misplacing w name s =
+    (fits_area s.choices s.heap ≡ false) × (declare_area w (area_of name) s ≡ Stopped stop_of.BadChoice (record s { requests = s.requests ++ text_area ∷ [] }))
+
+places : (w : Setting) (name : Bytes) (s : State) → Placing w name s ⊎ Misplacing w name s
 unfolding declare_area bind
 places w name s = go s.choices refl
   where
-    go : (cs : List Choice) → s.choices ≡ cs → Placing w name s ⊎ (declare_area w (area_of name) s ≡ Stopped stop_of.BadChoice (record s { requests = s.requests ++ text_area ∷ [] }))
-    go [] e = inr (ap (λ cs. place_area name text_area cs (record s { requests = s.requests ++ text_area ∷ [] })) e)
-    go (choice.Refuse ∷ cs) e = inr (ap (λ cs. place_area name text_area cs (record s { requests = s.requests ++ text_area ∷ [] })) e)
+    go : (cs : List Choice) → s.choices ≡ cs → Placing w name s ⊎ Misplacing w name s
+    go [] e = inr (ap (λ cs. fits_area cs s.heap) e, ap (λ cs. place_area name text_area cs (record s { requests = s.requests ++ text_area ∷ [] })) e)
+    go (choice.Refuse ∷ cs) e = inr (ap (λ cs. fits_area cs s.heap) e, ap (λ cs. place_area name text_area cs (record s { requests = s.requests ++ text_area ∷ [] })) e)
     go (choice.At a ∷ cs) e = test (is_fitting a text_area s.heap.blocks) refl
       where
         after : Bool → Outcome (Unit {0})
         after t = cond t (Done tt (placed name a cs s)) (Stopped stop_of.BadChoice (record s { requests = s.requests ++ text_area ∷ [] }))
 
-        test : (t : Bool) → is_fitting a text_area s.heap.blocks ≡ t → Placing w name s ⊎ (declare_area w (area_of name) s ≡ Stopped stop_of.BadChoice (record s { requests = s.requests ++ text_area ∷ [] }))
+        test : (t : Bool) → is_fitting a text_area s.heap.blocks ≡ t → Placing w name s ⊎ Misplacing w name s
         test true h = inl (record {
           address = a;
           left = cs;
@@ -290,7 +294,7 @@ places w name s = go s.choices refl
           fits = h;
           runs = ap (λ cs. place_area name text_area cs (record s { requests = s.requests ++ text_area ∷ [] })) e ∙ ap after h;
         })
-        test false h = inr (ap (λ cs. place_area name text_area cs (record s { requests = s.requests ++ text_area ∷ [] })) e ∙ ap after h)
+        test false h = inr (ap (λ cs. fits_area cs s.heap) e ∙ h, ap (λ cs. place_area name text_area cs (record s { requests = s.requests ++ text_area ∷ [] })) e ∙ ap after h)
 
 -- what stands behind the lowering, and what stands behind the call
 
@@ -409,12 +413,12 @@ module _ (f : Function) (i : FnItem) (written : IsWritten f i) (is_text : f.resu
   run = run_item w i args heap choices
 
   -- the choice does not fit
-  misses : declare_area w (area_of b.area) begin ≡ Stopped stop_of.BadChoice (record begin { requests = text_area ∷ [] }) → MissesArea f (run_item w i args heap choices)
+  misses : fits_area choices.list heap ≡ false → declare_area w (area_of b.area) begin ≡ Stopped stop_of.BadChoice (record begin { requests = text_area ∷ [] }) → MissesArea f heap choices (run_item w i args heap choices)
   unfolding run_item
-  misses e =
-      let is : run_item w i args heap choices ≡ run_at stop_of.BadChoice None (record begin { requests = text_area ∷ [] }) =
+  misses misfit e =
+      let is : run_item w i args heap choices ≡ run_at stop_of.BadChoice [] None (record begin { requests = text_area ∷ [] }) =
       ap ended (runs_from ∙ ap (λ o. and_then (and_then (and_then o (λ _. run_stmts w (b.lowering ++ rest))) (λ _. eval w (expr.Local tx))) (answer_and_leave w type.String)) e) in
-      record { needed = ap needs_area is_text; stopped = ap (λ r. r.stop) is; requests = ap (λ r. r.requests) is ∙ sym (ap due is_text); calls = ap (λ r. r.calls) is }
+      record { needed = ap needs_area is_text; misfit = misfit; stopped = ap (λ r. r.stop) is; requests = ap (λ r. r.requests) is ∙ sym (ap due is_text); calls = ap (λ r. r.calls) is }
 
   names : names_of i.params ≡ param_idents f
   names = ap names_of written.params ∙ names-printed f.params
@@ -428,7 +432,7 @@ module _ (f : Function) (i : FnItem) (written : IsWritten f i) (is_text : f.resu
       ∙ or_right (is_used (param_idents f) b.area) _ (used-next cleanup_list b.area (b.area ∷ []) (used-first b.area []))
 
   plain_begin : ArePlain begin.locals
-  plain_begin = plain_args heap (param_types f) vs i.params args stand
+  plain_begin = plain_args heap (param_types f) vs (names_of i.params) args stand
 
   module _ (a : ℕ) (cs : List Choice) (chosen : choices.list ≡ choice.At a ∷ cs) (fit : is_fitting a text_area heap.blocks ≡ true) (area_runs : declare_area w (area_of b.area) begin ≡ Done tt (placed b.area a cs begin)) where
     abbrev area : Block
@@ -449,13 +453,13 @@ module _ (f : Function) (i : FnItem) (written : IsWritten f i) (is_text : f.resu
         let behind = or_parts (bytes_eq cleanup_list name) (is_used (b.area ∷ []) name) parts.1 in
         let here : bytes_eq b.area name ≡ false = (or_parts (bytes_eq b.area name) false behind.1).0 in
         last-append (λ l. bytes_eq l.name name) begin.locals (area_local b.area a) ∙ ap (λ t. option_or (cond t (Some (area_local b.area a)) None) (local_named name begin.locals)) here
-        ∙ unbound i.params args name (ap (λ ns. list_any (λ u. bytes_eq u name) ns) names ∙ parts.0)
+        ∙ unbound (names_of i.params) (map val.Value args) name (ap (λ ns. list_any (λ u. bytes_eq u name) ns) names ∙ parts.0)
 
-    arguments0 : ReadsAll (param_idents f) args s0.locals
+    arguments0 : ReadsAll (param_idents f) (map val.Value args) s0.locals
     arguments0 =
-        reads-behind (param_idents f) args begin.locals b.area (Some (val.Area a 8)) area_free
-        (subst (λ ns. ReadsAll ns args begin.locals) names
-        (reads_args i.params args (ap is_distinct names ∙ fits.distinct) (subst (λ ps. SameLength ps args) (sym written.params) (same-length heap f.params vs args stand))))
+        reads-behind (param_idents f) (map val.Value args) begin.locals b.area (Some (val.Area a 8)) area_free
+        (subst (λ ns. ReadsAll (param_idents f) (map val.Value args) (bound ns (map val.Value args))) (sym names)
+        (reads_bound (param_idents f) (map val.Value args) fits.distinct (same-length heap f.params vs args stand)))
 
     lowering : Lowered w s0 heap f.params vs (first_scope f b.area) b.lowered b.lowering b.words
     lowering =
@@ -676,7 +680,7 @@ module _ (f : Function) (i : FnItem) (written : IsWritten f i) (is_text : f.resu
       owned_at_end =
           and_from (is_taken a te.taken) (is_some (block_at a 8 s5.heap.blocks)) (te.keeps a (ap (is_taken a) taken_is ∙ taken-last [] a)) (ap is_some area_live)
 
-      leaves : leave w s9 ≡ Done tt s10
+      leaves : leave_to w 0 s9 ≡ Done tt s10
       leaves = leaves_one w begin.locals (area_local b.area a) adds_all.0 (a, 8) s9 adds_all.1 plain_begin refl adds_all.2 owned_at_end
 
       abbrev behind : Val → Act (Option RustValue)
@@ -692,7 +696,7 @@ module _ (f : Function) (i : FnItem) (written : IsWritten f i) (is_text : f.resu
           ∙ ap (λ o. and_then (and_then (and_then o (bind ln)) (λ _. run_stmts w (take_stmts la ln by tx))) (λ _. eval w (expr.Local tx) >>= behind)) (local_gives w lb size s7 (reads-new lb (Some size) l6) refl)
           ∙ sym (and_then-assoc (run_stmts w (take_stmts la ln by tx) s8) (λ _. eval w (expr.Local tx)) behind)
           ∙ ap (λ o. and_then o behind) te.runs
-          ∙ ap (λ o. and_then (or_stop (stuck w) o s9) (λ r. leave w >> pure r)) (answered-text h.place (length bytes))
+          ∙ ap (λ o. and_then (or_stop (stuck w) o s9) (λ r. leave_to w 0 >> pure r)) (answered-text h.place (length bytes))
           ∙ ap (λ o. and_then o (λ _. pure (Some buffer))) leaves
 
       areas_are : areas f.result choices.list ≡ area ∷ []
@@ -708,7 +712,7 @@ module _ (f : Function) (i : FnItem) (written : IsWritten f i) (is_text : f.resu
 
       carries_text : Carries f vs (Some (text bytes)) heap choices (run_item w i args heap choices)
       carries_text =
-          let e : run_item w i args heap choices ≡ run_at stop_of.Done (Some buffer) s10 = ends ∙ ap ended runs_end in
+          let e : run_item w i args heap choices ≡ run_at stop_of.Done [] (Some buffer) s10 = ends ∙ ap ended runs_end in
           let stands : StandsResult (Some wit.String) (Some (text bytes)) (Some buffer) h.blocks = (h.place, h.nonzero, refl, h.holds) in
           record {
             done = ap (λ r. r.stop) e;
@@ -726,16 +730,15 @@ module _ (f : Function) (i : FnItem) (written : IsWritten f i) (is_text : f.resu
 module _ (f : Function) (i : FnItem) (written : IsWritten f i) (w : Setting) (fits : Fits f w) (vs : List WitValue) (args : List RustValue) (heap : Heap) (choices : Choices)
     (good : AreValues (param_types f) vs) (stand : StandAll heap (param_types f) vs args) where
   carries_area : (bytes : List ℕ) → f.result ≡ Some wit.String → IsValue wit.String (text bytes) → ((c : CallPoint) → Made c (run_item w i args heap choices) → AnswersText bytes w.answer c)
-      → Carries f vs (Some (text bytes)) heap choices (run_item w i args heap choices) ⊎ MissesArea f (run_item w i args heap choices)
+      → Carries f vs (Some (text bytes)) heap choices (run_item w i args heap choices) ⊎ MissesArea f heap choices (run_item w i args heap choices)
   carries_area bytes is_text text_good honest = go (places w written.body.area (start i args heap choices))
     where
-      go : Placing w written.body.area (start i args heap choices)
-          ⊎ (declare_area w (area_of written.body.area) (start i args heap choices) ≡ Stopped stop_of.BadChoice (record (start i args heap choices) { requests = text_area ∷ [] }))
-          → Carries f vs (Some (text bytes)) heap choices (run_item w i args heap choices) ⊎ MissesArea f (run_item w i args heap choices)
+      go : Placing w written.body.area (start i args heap choices) ⊎ Misplacing w written.body.area (start i args heap choices)
+          → Carries f vs (Some (text bytes)) heap choices (run_item w i args heap choices) ⊎ MissesArea f heap choices (run_item w i args heap choices)
       go (inl p) =
           inl (carries_text f i written is_text w fits vs bytes args heap choices good text_good stand p.address p.left p.chosen p.fits p.runs
           (honest _ ([], [], calls_once f i written is_text w fits vs bytes args heap choices good text_good stand p.address p.left p.chosen p.fits p.runs)))
-      go (inr e) = inr (misses f i written is_text w fits vs bytes args heap choices good text_good stand e)
+      go (inr (misfit, e)) = inr (misses f i written is_text w fits vs bytes args heap choices good text_good stand misfit e)
 
   text_only : (v : Option WitValue) → IsResult (Some wit.String) v → (bytes : List ℕ) × (v ≡ Some (text bytes)) × IsValue wit.String (text bytes)
   text_only None r = absurd r
@@ -751,13 +754,13 @@ module _ (f : Function) (i : FnItem) (written : IsWritten f i) (w : Setting) (fi
   of_result (Some wit.String) = inl refl
   of_result (Some _) = inr (λ e. cc)
 
-  pub carries_written : is_heap heap ≡ true → (v : Option WitValue) → IsResult f.result v → ((c : CallPoint) → Made c (run_item w i args heap choices) → HonestPeer f.result v w.answer c)
-      → Carries f vs v heap choices (run_item w i args heap choices) ⊎ MissesArea f (run_item w i args heap choices)
-  carries_written well v is_result honest = go (of_result f.result)
+  pub carries_written : (v : Option WitValue) → IsResult f.result v → ((c : CallPoint) → Made c (run_item w i args heap choices) → HonestPeer f.result v w.answer c)
+      → Carries f vs v heap choices (run_item w i args heap choices) ⊎ MissesArea f heap choices (run_item w i args heap choices)
+  carries_written v is_result honest = go (of_result f.result)
     where
-      go : (f.result ≡ Some wit.String) ⊎ (f.result ≡ Some wit.String → ⊥) → Carries f vs v heap choices (run_item w i args heap choices) ⊎ MissesArea f (run_item w i args heap choices)
+      go : (f.result ≡ Some wit.String) ⊎ (f.result ≡ Some wit.String → ⊥) → Carries f vs v heap choices (run_item w i args heap choices) ⊎ MissesArea f heap choices (run_item w i args heap choices)
       go (inr nt) = inl (carries_plain f i written nt w fits vs v args heap choices good is_result stand honest)
       go (inl e) =
           let t = text_only v (subst (λ r. IsResult r v) e is_result) in
-          subst (λ v. Carries f vs v heap choices (run_item w i args heap choices) ⊎ MissesArea f (run_item w i args heap choices)) (sym t.1)
+          subst (λ v. Carries f vs v heap choices (run_item w i args heap choices) ⊎ MissesArea f heap choices (run_item w i args heap choices)) (sym t.1)
           (carries_area t.0 e t.2 (λ c made. subst (λ v. HonestPeer (Some wit.String) v w.answer c) t.1 (subst (λ r. HonestPeer r v w.answer c) e (honest c made))))

@@ -1,9 +1,8 @@
 -- Wrappers in the order of their functions, and how many there are.
-use Rattle.std.proofs.Common.{◌≡◌, ℕ, suc, ◌+◌, ◌<◌, List, [], ◌∷◌, ◌++◌, length, get_or, take, map, refl, sym, ap, ◌∙◌, subst}
+use Rattle.std.proofs.Common.{◌≡◌, ℕ, suc, ◌+◌, ◌<◌, List, [], ◌∷◌, ◌++◌, length, get_or, take, map, refl, sym, ap, ◌∙◌, subst, Bor, arith, length-append}
 use Rattle.std.proofs.lemmas.List.{take_more, map-append}
 use Rattle.std.proofs.lemmas.Slice.Zip.{AllZip-long}
 use Rattle.std.specs.List.{AllZip}
-use Rattle.std.proofs.Common.{Bor}
 use Rattle.wit_model.specs.declared.function.Function.{Function}
 use Rattle.wit_model.specs.declared.world.WorldItem.TheVariants as entry
 use Rattle.rust_tree.specs.declared.item.FnItem.{FnItem}
@@ -13,8 +12,16 @@ use Rattle.rust_tree.specs.declared.runtime_item.RuntimeItem.{RuntimeItem}
 use Rattle.rust_tree.specs.declared.place.FuncPlace.{FuncPlace}
 use Rattle.rust_tree.specs.Tree.{wrapper_count}
 use Rattle.rust_gen.specs.Body.{IsWritten}
-use Rattle.rust_gen.specs.Emitted.{Entries, functions_in, places_from}
-use Rattle.rust_gen.specs.Runtime.{runtime_module}
+use Rattle.rust_gen.specs.Emitted.{Entries, functions_in, places_from, emitted_places, exported_functions, imported_functions}
+use Rattle.rust_gen.specs.Runtime.{runtime_module, runtime_items}
+use Rattle.wit_model.specs.declared.world.World.{World}
+use Rattle.rust_tree.specs.declared.export.ExportFn.{ExportFn}
+use Rattle.rust_tree.specs.declared.export.ModuleMacro.{ModuleMacro}
+use Rattle.rust_tree.specs.declared.export.RootMacro.{RootMacro}
+use Rattle.rust_tree.specs.declared.export.TraitItem.{TraitItem}
+use Rattle.rust_gen.specs.Bound.{AreItems}
+use Rattle.rust_gen.specs.ExportBody.{IsExportWritten}
+use Rattle.rust_gen.specs.Exported.{file_macro, guest_trait, last_macro, trait_and_macro, where_any, world_macro}
 
 pub AllZip-more : {A B : Type 0} (R : A → B → Type 0) (xs : List A) (ys : List B) (x : A) (y : B) → AllZip R xs ys → R x y → AllZip R (xs ++ x ∷ []) (ys ++ y ∷ [])
 AllZip-more R [] [] x y z r = (r, tt)
@@ -23,17 +30,45 @@ AllZip-more R (a ∷ xs) [] x y z r = absurd z
 AllZip-more R (a ∷ xs) (b ∷ ys) x y z r = (z.0, AllZip-more R xs ys x y z.1 r)
 
 -- one more function with its wrapper
-pub wraps-more : (R : Function → FnItem → Type 0) (fs : List (Bor Function)) (i : ℕ) (f : Bor Function) (ws : List FnItem) (w : FnItem)
+pub wraps-more : {W : Type 0} (R : Function → W → Type 0) (fs : List (Bor Function)) (i : ℕ) (f : Bor Function) (ws : List W) (w : W)
     → i < length fs → f ≡ get_or fs i f → AllZip R (map (λ x. x.now) (take i fs)) ws → R f.now w → AllZip R (map (λ x. x.now) (take (i + 1) fs)) (ws ++ w ∷ [])
 wraps-more R fs i f ws w inside is z r =
     let taken : take (i + 1) fs ≡ take i fs ++ f ∷ [] = take_more fs i f inside ∙ ap (λ v. take i fs ++ v ∷ []) (sym is) in
     let now : map (λ x. x.now) (take (i + 1) fs) ≡ map (λ x. x.now) (take i fs) ++ f.now ∷ [] = ap (map (λ x. x.now)) taken ∙ map-append (λ (x : Bor Function). x.now) (take i fs) (f ∷ []) in
     subst (λ gs. AllZip R gs (ws ++ w ∷ [])) (sym now) (AllZip-more R (map (λ x. x.now) (take i fs)) ws f.now w z r)
 
-pub wrapper_count-imports : (ws : List FnItem) (asked : List RuntimeItem) → wrapper_count (map item.Import ws ++ runtime_module asked) ≡ length ws
-wrapper_count-imports [] [] = refl
-wrapper_count-imports [] (r ∷ asked) = refl
-wrapper_count-imports (w ∷ ws) asked = ap suc (wrapper_count-imports ws asked)
+-- how many wrappers there are
+
+wrapper_count-append : (xs ys : List Item) → wrapper_count (xs ++ ys) ≡ wrapper_count xs + wrapper_count ys
+wrapper_count-append [] ys = omega arith
+wrapper_count-append (item.Import f ∷ xs) ys = let h = wrapper_count-append xs ys in omega arith
+wrapper_count-append (item.Export e ∷ xs) ys = let h = wrapper_count-append xs ys in omega arith
+wrapper_count-append (item.Trait t ∷ xs) ys = wrapper_count-append xs ys
+wrapper_count-append (item.ModuleMacro m ∷ xs) ys = wrapper_count-append xs ys
+wrapper_count-append (item.Runtime parts ∷ xs) ys = wrapper_count-append xs ys
+wrapper_count-append (item.RootMacro m ∷ xs) ys = wrapper_count-append xs ys
+
+wrapper_count-imports : (ws : List FnItem) → wrapper_count (map item.Import ws) ≡ length ws
+wrapper_count-imports [] = refl
+wrapper_count-imports (w ∷ ws) = ap suc (wrapper_count-imports ws)
+
+wrapper_count-exports : (es : List ExportFn) → wrapper_count (map item.Export es) ≡ length es
+wrapper_count-exports [] = refl
+wrapper_count-exports (e ∷ es) = ap suc (wrapper_count-exports es)
+
+-- items among which there is no wrapper
+
+no_wrapper-trait : (fs : List Function) (t : TraitItem) (m : ModuleMacro) → wrapper_count (where_any fs (item.Trait t ∷ item.ModuleMacro m ∷ [])) ≡ 0
+no_wrapper-trait [] t m = refl
+no_wrapper-trait (f ∷ fs) t m = refl
+
+no_wrapper-runtime : (asked : List RuntimeItem) → wrapper_count (runtime_module asked) ≡ 0
+no_wrapper-runtime [] = refl
+no_wrapper-runtime (r ∷ asked) = refl
+
+no_wrapper-macro : (fs : List Function) (m : RootMacro) → wrapper_count (where_any fs (item.RootMacro m ∷ [])) ≡ 0
+no_wrapper-macro [] m = refl
+no_wrapper-macro (f ∷ fs) m = refl
 
 pub length-places_from : (n : ℕ) (es : Entries) → length (places_from n es) ≡ length (functions_in es)
 length-places_from n [] = refl
@@ -42,9 +77,24 @@ length-places_from n ((k, entry.Function f) ∷ es) = ap suc (length-places_from
 length-places_from n ((k, entry.Named _) ∷ es) = length-places_from (n + 1) es
 
 -- there is a place for each wrapper
-pub places_fit : (es : Entries) (asked : List RuntimeItem) {functions : List Function} {items all : List Item} {places : List FuncPlace}
-    → functions ≡ functions_in es → (ws : List FnItem) × (items ≡ map item.Import ws) × AllZip IsWritten functions ws
-    → all ≡ items ++ runtime_module asked → places ≡ places_from 0 es → length places ≡ wrapper_count all
-places_fit es asked {functions = functions} e (ws, is, z) p q =
-    ap length q ∙ length-places_from 0 es ∙ ap length (sym e) ∙ sym (AllZip-long IsWritten functions ws z)
-    ∙ sym (wrapper_count-imports ws asked) ∙ ap (λ i. wrapper_count (i ++ runtime_module asked)) (sym is) ∙ ap wrapper_count (sym p)
+pub places_fit : (world : World) (items : List Item) (places : List FuncPlace) → AreItems IsWritten IsExportWritten world items → places ≡ emitted_places world → length places ≡ wrapper_count items
+places_fit world items places a p =
+    let last = last_macro world in
+    let runtime = runtime_module (runtime_items world) in
+    let traits = trait_and_macro world in
+    let traits_none : wrapper_count traits ≡ 0 = no_wrapper-trait (exported_functions world) (guest_trait (exported_functions world)) (world_macro world) in
+    let runtime_none : wrapper_count runtime ≡ 0 = no_wrapper-runtime (runtime_items world) in
+    let last_none : wrapper_count last ≡ 0 = no_wrapper-macro (exported_functions world) (file_macro world) in
+    let behind = traits ++ (runtime ++ last) in
+    let a1 = wrapper_count-append runtime last in
+    let a2 = wrapper_count-append traits (runtime ++ last) in
+    let a3 = wrapper_count-append (map item.Export a.exports) behind in
+    let a4 = wrapper_count-append (map item.Import a.wrappers) (map item.Export a.exports ++ behind) in
+    let imports = wrapper_count-imports a.wrappers in
+    let exports = wrapper_count-exports a.exports in
+    let all = ap wrapper_count a.are in
+    let counted : wrapper_count items ≡ length a.wrappers + length a.exports = omega arith in
+    ap length p ∙ length-append (places_from 0 world.imports) (places_from 0 world.exports)
+    ∙ ap (λ n. n + length (places_from 0 world.exports)) (length-places_from 0 world.imports ∙ sym (AllZip-long IsWritten (imported_functions world) a.wrappers a.wraps))
+    ∙ ap (λ n. length a.wrappers + n) (length-places_from 0 world.exports ∙ sym (AllZip-long IsExportWritten (exported_functions world) a.exports a.exported))
+    ∙ sym counted

@@ -21,7 +21,7 @@ use Rattle.wrapper_run.specs.Effect.{answer_of, cast_integer, converted, integer
 use Rattle.wrapper_run.specs.Locals.{local_named, value_of, bind}
 use Rattle.wrapper_run.specs.Represents.{Lends, Takes, TakesNumber}
 use Rattle.wrapper_run.specs.Setting.{Setting}
-use Rattle.wrapper_run.proofs.OwningLemmas.{ArePlain, no_buffer, owned-none, plain-append}
+use Rattle.wrapper_run.proofs.OwningLemmas.{no_buffer, owned-none, Adds, adds-none, adds-one}
 use Rattle.wrapper_run.specs.Run.{eval, run_stmts, runtime_item_named}
 use Rattle.wrapper_run.specs.Value.{IsScalar, Scalar, char, f32, f64, number, truth}
 use Rattle.wrapper_run.proofs.NumberLemmas.{answered-i32, answered-i64, answered-number, converted-narrow, converted-wide, low_i32-u8, low_i32-u16, low_i32-s8, low_i32-s16, low_i32-s32, low_i64-s64, answered-bool, answered-char, answered-f32, answered-f64, converted-char, converted-f32, converted-f64, lifted-bool, lifted-char, not-converted}
@@ -29,7 +29,7 @@ use Rattle.wrapper_run.proofs.StepLemmas.{cast_gives, local_gives, call_gives, l
 use Rattle.wit_model.specs.declared.size.WasmType.TheVariants as core
 use Rattle.rust_tree.specs.declared.runtime_item.RuntimeItem.TheVariants as item
 use Rattle.rust_gen.specs.declared.scope.LocalKind.TheVariants as kind
-use Rattle.rust_gen.specs.Body.{LiftsAs, LiftsBy, runtime_call, runtime_path}
+use Rattle.rust_gen.specs.Body.{LiftsBy, runtime_call, runtime_path, LiftsScalar}
 use Rattle.rust_gen.specs.Printed.{core_type, printed_type}
 use Rattle.rust_gen.specs.Runtime.{lowering_item, lifting_items}
 use Rattle.rust_tree.specs.declared.runtime_item.RuntimeItem.TheVariants.{BoolLift, CharLift}
@@ -42,9 +42,11 @@ use Rattle.rust_gen.specs.declared.scope.Scope.{Scope}
 use Rattle.rust_tree.specs.declared.stmt.Stmt.{Stmt}
 use Rattle.rust_gen.proofs.PathLemmas.{calls_runtime}
 use Rattle.rust_tree.specs.Runtime.{item_name}
-use Rattle.rust_gen.specs.Scope.{numbered}
+use Rattle.rust_gen.specs.Scope.{numbered, is_used}
 use Rattle.wrapper_run.proofs.LocalLemmas.{reads-new}
 use Rattle.wrapper_run.specs.StandsFor.{rust_value}
+use Rattle.wrapper_run.specs.Owning.{owned}
+use Rattle.rust_gen.proofs.ScopeLemmas.{Grows, Keeps, Within, free-one, grows-declared, keeps-bound, used-declared, used-first, within-bound}
 
 -- the word of a value that a conversion gives
 pub record Lent (ty : WitType) (v : Scalar) : Type 0 where
@@ -88,107 +90,126 @@ lent ty (f32 bits) (e, k) n = subst (λ t. Lent t (f32 bits)) (sym e) (record { 
 lent ty (f64 bits) (e, k) n = subst (λ t. Lent t (f64 bits)) (sym e) (record { word = word.F64 bits; converts = converted-f64 bits; lends = refl; is_word = refl })
 lent ty (char c) (e, k) n = subst (λ t. Lent t (char c)) (sym e) (record { word = word.I32 (pos c); converts = converted-char c k; lends = refl; is_word = refl })
 
--- what the lifting of a word gives: its statements declare locals, and its expression is then the value
-pub record LiftsTo (ty : WitType) (v : Scalar) (w : Setting) (stmts : List Stmt) (e : Expr) (s : State) : Type 0 where
+-- what the lifting of a word gives: its statements declare locals, and its expression is then the value, as long as the names
+-- that are used read as they do there
+pub record LiftsTo (ty : WitType) (v : Scalar) (w : Setting) (before after : Scope) (stmts : List Stmt) (e : Expr) (s : State) : Type 0 where
   pub locals : List Local
   pub runs : run_stmts w stmts s ≡ Done tt (record s { locals = locals })
-  pub plain : ArePlain locals
+  pub adds : Adds s.locals locals
+  pub keeps : Keeps before.used s.locals locals
+  pub within : Within before.used s.locals → Within after.used locals
+  pub grows : Grows before.used after.used
   pub given : Val
-  pub gives : eval w e (record s { locals = locals }) ≡ Done given (record s { locals = locals })
+  pub gives : (t : State) → Keeps after.used locals t.locals → eval w e t ≡ Done given t
   pub answers : answer_of (printed_type ty) given ≡ Some (Some (rust_value ty v))
 
+-- the word is read by a name that is used
+abbrev Reads : Scope → List ℕ → Word → State → Type 0
+Reads before name x s = (is_used before.used name ≡ true) × (value_of (local_named name s.locals) ≡ Some (val.Word x))
+
 -- no statements, and an expression that gives the value
-at_once : (ty : WitType) (v : Scalar) (w : Setting) (stmts : List Stmt) (e f : Expr) (s : State) (given : Val) → stmts ≡ [] → e ≡ f → eval w f s ≡ Done given s
-    → answer_of (printed_type ty) given ≡ Some (Some (rust_value ty v)) → ArePlain s.locals → LiftsTo ty v w stmts e s
-at_once ty v w stmts e f s given n q g a plain = record {
+at_once : (ty : WitType) (v : Scalar) (w : Setting) (name : List ℕ) (x : Word) (before after : Scope) (stmts : List Stmt) (e f : Expr) (s : State) (given : Val)
+    → (stmts ≡ []) × (e ≡ f) × (after ≡ before) → Reads before name x s → ((t : State) → value_of (local_named name t.locals) ≡ Some (val.Word x) → eval w f t ≡ Done given t)
+    → answer_of (printed_type ty) given ≡ Some (Some (rust_value ty v)) → LiftsTo ty v w before after stmts e s
+at_once ty v w name x before after stmts e f s given (n, q, same) (used, at) g a = record {
   locals = s.locals;
   runs = ap (λ stmts. run_stmts w stmts s) n;
-  plain = plain;
+  adds = adds-none s.locals;
+  keeps = λ m h. refl;
+  within = λ within m h. within m (ap (λ c. is_used c.used m) (sym same) ∙ h);
+  grows = λ m h. ap (λ c. is_used c.used m) same ∙ h;
   given = given;
-  gives = ap (λ e. eval w e s) q ∙ g;
+  gives = λ t k. ap (λ e. eval w e t) q ∙ g t (ap value_of (k name (ap (λ c. is_used c.used name) same ∙ used)) ∙ at);
   answers = a;
 }
 
 -- a local that holds what a lift makes of a cast word
-by_item : (ty : WitType) (v : Scalar) (w : Setting) (k : LocalKind) (i : RuntimeItem) (to : CastType) (name : List ℕ) (x : Word) (z : ℤ) (before : Scope) (stmts : List Stmt) (e : Expr) (s : State)
-    → LiftsBy k i (expr.Cast (expr.Local name) to) before stmts e → value_of (local_named name s.locals) ≡ Some (val.Word x) → integer_of_word x ≡ Some z
+by_item : (ty : WitType) (v : Scalar) (w : Setting) (k : LocalKind) (i : RuntimeItem) (to : CastType) (name : List ℕ) (x : Word) (z : ℤ) (before after : Scope) (stmts : List Stmt) (e : Expr) (s : State)
+    → LiftsBy k i (expr.Cast (expr.Local name) to) before stmts e after → Reads before name x s → integer_of_word x ≡ Some z
     → runtime_item_named w.items (item_name i) ≡ Some i → converted i (val.Value (cast_integer to z)) ≡ None → lift_of w.form i (val.Value (cast_integer to z)) ≡ Some (Ok (rust_value ty v))
-    → answer_of (printed_type ty) (val.Value (rust_value ty v)) ≡ Some (Some (rust_value ty v)) → ArePlain s.locals → LiftsTo ty v w stmts e s
+    → answer_of (printed_type ty) (val.Value (rust_value ty v)) ≡ Some (Some (rust_value ty v)) → LiftsTo ty v w before after stmts e s
 unfolding bind
-by_item ty v w k i to name x z before stmts e s (t, after, declares, is, tail) at n f c l a plain =
-    let made : Local = record { name = numbered k t; value = Some (val.Value (rust_value ty v)) } in
-    let ends : State = record s { locals = s.locals ++ made ∷ [] } in
-    let call : eval w (runtime_call i (expr.Cast (expr.Local name) to)) s ≡ Done (val.Value (rust_value ty v)) s =
+by_item ty v w k i to name x z before after stmts e s (t, d, is, tail) (used, at) n f c l a =
+    let m = numbered k t in
+    let given : Val = val.Value (rust_value ty v) in
+    let made : Local = record { name = m; value = Some given } in
+    let plain : owned given ≡ None = owned-none (rust_value ty v) (no_buffer ty v) in
+    let call : eval w (runtime_call i (expr.Cast (expr.Local name) to)) s ≡ Done given s =
     call_gives w (runtime_path i) (expr.Cast (expr.Local name) to ∷ []) (val.Value (cast_integer to z) ∷ []) s (cast_gives w name to x z s at n, tt)
     ∙ lift_gives w (runtime_path i) (item_name i) i (val.Value (cast_integer to z)) (rust_value ty v) s (calls_runtime i) f c l in
     record {
       locals = s.locals ++ made ∷ [];
       runs =
           ap (λ stmts. run_stmts w stmts s) is
-          ∙ ap (λ o. and_then (and_then o (bind (numbered k t))) (λ _. pure {A = Unit {0}} tt)) call;
-      plain = plain-append s.locals (made ∷ []) plain (owned-none (rust_value ty v) (no_buffer ty v), tt);
-      given = val.Value (rust_value ty v);
-      gives = ap (λ e. eval w e ends) tail ∙ local_gives w (numbered k t) (val.Value (rust_value ty v)) ends (reads-new (numbered k t) (Some (val.Value (rust_value ty v))) s.locals) (owned-none (rust_value ty v) (no_buffer ty v));
+          ∙ ap (λ o. and_then (and_then o (bind m)) (λ _. pure {A = Unit {0}} tt)) call;
+      adds = adds-one s.locals made plain;
+      keeps = keeps-bound before.used s.locals m (Some given) (free-one before.used k [] t d.number.free);
+      within = λ within. subst (λ us. Within us (s.locals ++ made ∷ [])) (sym (ap (λ c. c.used) d.leaves)) (within-bound before.used s.locals m (Some given) within);
+      grows = grows-declared before after (k ∷ []) t d;
+      given = given;
+      gives = λ u keeps.
+          ap (λ e. eval w e u) tail
+          ∙ local_gives w m given u (ap value_of (keeps m (used-declared before after (k ∷ []) t m d (used-first m []))) ∙ reads-new m (Some given) s.locals) plain;
       answers = a;
     }
 
 -- a word that is taken for a value is one of the core type, and is lifted to it
 pub record Taken (ty : WitType) (v : Scalar) (x : Word) : Type 0 where
   pub is_word : is_word_of (core_type ty) x ≡ true
-  pub lifts : (w : Setting) (base name : List ℕ) (before : Scope) (stmts : List Stmt) (e : Expr) (s : State) → LiftsAs ty base name before stmts e
-      → Found w.items (lifting_items (Some ty)) → value_of (local_named name s.locals) ≡ Some (val.Word x) → ArePlain s.locals → LiftsTo ty v w stmts e s
+  pub lifts : (w : Setting) (name : List ℕ) (before after : Scope) (stmts : List Stmt) (e : Expr) (s : State) → LiftsScalar ty name before stmts e after
+      → Found w.items (lifting_items (Some ty)) → is_used before.used name ≡ true → value_of (local_named name s.locals) ≡ Some (val.Word x) → LiftsTo ty v w before after stmts e s
 
 taken_by : (ty : WitType) (v : ℤ) (x : Word) (p : Primitive) (to : CastType) (z u : ℤ)
-    → ((base name : List ℕ) (before : Scope) (stmts : List Stmt) (e : Expr) → LiftsAs ty base name before stmts e → (stmts ≡ []) × (e ≡ expr.Cast (expr.Local name) to))
+    → ((name : List ℕ) (before after : Scope) (stmts : List Stmt) (e : Expr) → LiftsScalar ty name before stmts e after → (stmts ≡ []) × (e ≡ expr.Cast (expr.Local name) to) × (after ≡ before))
     → printed_type ty ≡ type.Primitive p → is_printed_as p ty ≡ true → integer_of_word x ≡ Some z → cast_integer to z ≡ value.Num ty u → v ≡ u → is_of_kind ty v ≡ true → is_word_of (core_type ty) x ≡ true → Taken ty (number v) x
 taken_by ty v x p to z u l q r i c e h k = record {
   is_word = k;
-  lifts = λ w base name before stmts f s lifts found at plain.
-      at_once ty (number v) w stmts f (expr.Cast (expr.Local name) to) s (val.Value (value.Num ty v)) (l base name before stmts f lifts).0 (l base name before stmts f lifts).1
-      (cast_gives w name to x z s at i ∙ ap (λ r. Done (val.Value r) s) (c ∙ ap (value.Num ty) (sym e)))
-      (ap (λ t. answer_of t (val.Value (value.Num ty v))) q ∙ answered-number p ty v r h) plain;
+  lifts = λ w name before after stmts f s lifts found used at.
+      at_once ty (number v) w name x before after stmts f (expr.Cast (expr.Local name) to) s (val.Value (value.Num ty v)) (l name before after stmts f lifts) (used, at)
+      (λ t at. cast_gives w name to x z t at i ∙ ap (λ r. Done (val.Value r) t) (c ∙ ap (value.Num ty) (sym e)))
+      (ap (λ t. answer_of t (val.Value (value.Num ty v))) q ∙ answered-number p ty v r h);
 }
 
 -- a word that is the value already
 taken_as : (ty : WitType) (v : Scalar) (x : Word)
-    → ((base name : List ℕ) (before : Scope) (stmts : List Stmt) (e : Expr) → LiftsAs ty base name before stmts e → (stmts ≡ []) × (e ≡ expr.Local name))
+    → ((name : List ℕ) (before after : Scope) (stmts : List Stmt) (e : Expr) → LiftsScalar ty name before stmts e after → (stmts ≡ []) × (e ≡ expr.Local name) × (after ≡ before))
     → answer_of (printed_type ty) (val.Word x) ≡ Some (Some (rust_value ty v)) → is_word_of (core_type ty) x ≡ true → Taken ty v x
 taken_as ty v x l a k = record {
   is_word = k;
-  lifts = λ w base name before stmts f s lifts found at plain.
-      at_once ty v w stmts f (expr.Local name) s (val.Word x) (l base name before stmts f lifts).0 (l base name before stmts f lifts).1 (local_gives w name (val.Word x) s at refl) a plain;
+  lifts = λ w name before after stmts f s lifts found used at.
+      at_once ty v w name x before after stmts f (expr.Local name) s (val.Word x) (l name before after stmts f lifts) (used, at) (λ t at. local_gives w name (val.Word x) t at refl) a;
 }
 
 taken-number : (ty : WitType) (v : ℤ) (x : Word) → is_of_kind ty v ≡ true → TakesNumber ty v x → Taken ty (number v) x
-taken-number wit.U8 v x h (z, e, q) = subst (Taken wit.U8 (number v)) (sym e) (taken_by wit.U8 v (word.I32 z) prim.U8 cast.U8 z (low 8 z) (λ a n b t e l. l) refl refl refl refl q h refl)
-taken-number wit.U16 v x h (z, e, q) = subst (Taken wit.U16 (number v)) (sym e) (taken_by wit.U16 v (word.I32 z) prim.U16 cast.U16 z (low 16 z) (λ a n b t e l. l) refl refl refl refl q h refl)
-taken-number wit.U32 v x h (z, e, q) = subst (Taken wit.U32 (number v)) (sym e) (taken_by wit.U32 v (word.I32 z) prim.U32 cast.U32 z (low 32 z) (λ a n b t e l. l) refl refl refl refl q h refl)
-taken-number wit.U64 v x h (z, e, q) = subst (Taken wit.U64 (number v)) (sym e) (taken_by wit.U64 v (word.I64 z) prim.U64 cast.U64 z (low 64 z) (λ a n b t e l. l) refl refl refl refl q h refl)
-taken-number wit.S8 v x h (z, e, q) = subst (Taken wit.S8 (number v)) (sym e) (taken_by wit.S8 v (word.I32 z) prim.I8 cast.I8 z (cast_signed w8 (unsigned_abs (low 8 z))) (λ a n b t e l. l) refl refl refl refl q h refl)
-taken-number wit.S16 v x h (z, e, q) = subst (Taken wit.S16 (number v)) (sym e) (taken_by wit.S16 v (word.I32 z) prim.I16 cast.I16 z (cast_signed w16 (unsigned_abs (low 16 z))) (λ a n b t e l. l) refl refl refl refl q h refl)
-taken-number wit.S32 v x h e = subst (Taken wit.S32 (number v)) (sym e) (taken_as wit.S32 (number v) (word.I32 v) (λ a n b t e l. l) (answered-i32 v) refl)
-taken-number wit.S64 v x h e = subst (Taken wit.S64 (number v)) (sym e) (taken_as wit.S64 (number v) (word.I64 v) (λ a n b t e l. l) (answered-i64 v) refl)
+taken-number wit.U8 v x h (z, e, q) = subst (Taken wit.U8 (number v)) (sym e) (taken_by wit.U8 v (word.I32 z) prim.U8 cast.U8 z (low 8 z) (λ n b a t e l. l) refl refl refl refl q h refl)
+taken-number wit.U16 v x h (z, e, q) = subst (Taken wit.U16 (number v)) (sym e) (taken_by wit.U16 v (word.I32 z) prim.U16 cast.U16 z (low 16 z) (λ n b a t e l. l) refl refl refl refl q h refl)
+taken-number wit.U32 v x h (z, e, q) = subst (Taken wit.U32 (number v)) (sym e) (taken_by wit.U32 v (word.I32 z) prim.U32 cast.U32 z (low 32 z) (λ n b a t e l. l) refl refl refl refl q h refl)
+taken-number wit.U64 v x h (z, e, q) = subst (Taken wit.U64 (number v)) (sym e) (taken_by wit.U64 v (word.I64 z) prim.U64 cast.U64 z (low 64 z) (λ n b a t e l. l) refl refl refl refl q h refl)
+taken-number wit.S8 v x h (z, e, q) = subst (Taken wit.S8 (number v)) (sym e) (taken_by wit.S8 v (word.I32 z) prim.I8 cast.I8 z (cast_signed w8 (unsigned_abs (low 8 z))) (λ n b a t e l. l) refl refl refl refl q h refl)
+taken-number wit.S16 v x h (z, e, q) = subst (Taken wit.S16 (number v)) (sym e) (taken_by wit.S16 v (word.I32 z) prim.I16 cast.I16 z (cast_signed w16 (unsigned_abs (low 16 z))) (λ n b a t e l. l) refl refl refl refl q h refl)
+taken-number wit.S32 v x h e = subst (Taken wit.S32 (number v)) (sym e) (taken_as wit.S32 (number v) (word.I32 v) (λ n b a t e l. l) (answered-i32 v) refl)
+taken-number wit.S64 v x h e = subst (Taken wit.S64 (number v)) (sym e) (taken_as wit.S64 (number v) (word.I64 v) (λ n b a t e l. l) (answered-i64 v) refl)
 taken-number _ v x h e = absurd e
 
 taken-bool : (b : Bool) (z : ℤ) → bit b ≡ low 8 z → Taken wit.Bool (truth b) (word.I32 z)
 taken-bool b z q = record {
   is_word = refl;
-  lifts = λ w base name before stmts e s l found at plain.
-      by_item wit.Bool (truth b) w kind.Bool BoolLift cast.U8 name (word.I32 z) z before stmts e s l at refl (found-first w.items BoolLift [] found)
-      (not-converted (val.Value (cast_integer cast.U8 z))).0 (ap (λ n. lift_of w.form BoolLift (val.Value (value.Num wit.U8 n))) (sym q) ∙ lifted-bool w.form b) (answered-bool b) plain;
+  lifts = λ w name before after stmts e s l found used at.
+      by_item wit.Bool (truth b) w kind.Bool BoolLift cast.U8 name (word.I32 z) z before after stmts e s l (used, at) refl (found-first w.items BoolLift [] found)
+      (not-converted (val.Value (cast_integer cast.U8 z))).0 (ap (λ n. lift_of w.form BoolLift (val.Value (value.Num wit.U8 n))) (sym q) ∙ lifted-bool w.form b) (answered-bool b);
 }
 
 taken-char : (c : ℕ) (z : ℤ) → is_scalar c ≡ true → pos c ≡ low 32 z → Taken wit.Char (char c) (word.I32 z)
 taken-char c z k q = record {
   is_word = refl;
-  lifts = λ w base name before stmts e s l found at plain.
-      by_item wit.Char (char c) w kind.Char CharLift cast.U32 name (word.I32 z) z before stmts e s l at refl (found-first w.items CharLift [] found)
-      (not-converted (val.Value (cast_integer cast.U32 z))).1 (ap (λ n. lift_of w.form CharLift (val.Value (value.Num wit.U32 n))) (sym q) ∙ lifted-char w.form c k) (answered-char c k) plain;
+  lifts = λ w name before after stmts e s l found used at.
+      by_item wit.Char (char c) w kind.Char CharLift cast.U32 name (word.I32 z) z before after stmts e s l (used, at) refl (found-first w.items CharLift [] found)
+      (not-converted (val.Value (cast_integer cast.U32 z))).1 (ap (λ n. lift_of w.form CharLift (val.Value (value.Num wit.U32 n))) (sym q) ∙ lifted-char w.form c k) (answered-char c k);
 }
 
 pub taken : (ty : WitType) (v : Scalar) (x : Word) → IsScalar ty v → Takes ty v x → Taken ty v x
 taken ty (number z) x h t = taken-number ty z x h t
 taken ty (truth b) x h (z, e, q) = subst (λ t. Taken t (truth b) x) (sym h) (subst (Taken wit.Bool (truth b)) (sym e) (taken-bool b z q))
 taken ty (char c) x (h, k) (z, e, q) = subst (λ t. Taken t (char c) x) (sym h) (subst (Taken wit.Char (char c)) (sym e) (taken-char c z k q))
-taken ty (f32 bits) x (h, k) e = subst (λ t. Taken t (f32 bits) x) (sym h) (subst (Taken wit.F32 (f32 bits)) (sym e) (taken_as wit.F32 (f32 bits) (word.F32 bits) (λ a n b t e l. l) (answered-f32 bits) refl))
-taken ty (f64 bits) x (h, k) e = subst (λ t. Taken t (f64 bits) x) (sym h) (subst (Taken wit.F64 (f64 bits)) (sym e) (taken_as wit.F64 (f64 bits) (word.F64 bits) (λ a n b t e l. l) (answered-f64 bits) refl))
+taken ty (f32 bits) x (h, k) e = subst (λ t. Taken t (f32 bits) x) (sym h) (subst (Taken wit.F32 (f32 bits)) (sym e) (taken_as wit.F32 (f32 bits) (word.F32 bits) (λ n b a t e l. l) (answered-f32 bits) refl))
+taken ty (f64 bits) x (h, k) e = subst (λ t. Taken t (f64 bits) x) (sym h) (subst (Taken wit.F64 (f64 bits)) (sym e) (taken_as wit.F64 (f64 bits) (word.F64 bits) (λ n b a t e l. l) (answered-f64 bits) refl))

@@ -19,7 +19,10 @@ use Rattle.rust_tree.specs.declared.stmt.Block.{Block}
 use Rattle.rust_gen.specs.Printed.{core_result}
 use Rattle.rust_gen.specs.declared.scope.LocalKind.TheVariants as kind
 use Rattle.rust_gen.specs.Scope.{Bytes, first_scope, numbered}
-use Rattle.rust_gen.specs.Wrapper.{Declares, Wraps, declared}
+use Rattle.rust_gen.specs.Wrapper.{Declares, Wraps, declared, WrapsExport}
+use Rattle.rust_tree.specs.declared.export.ExportFn.{ExportFn}
+use Rattle.rust_gen.specs.ExportBody.{IsExportWritten}
+use Rattle.rust_gen.specs.Exported.{guest_name}
 
 declared-append : (a b : List Stmt) → declared (a ++ b) ≡ declared a ++ declared b
 declared-append [] b = refl
@@ -49,10 +52,10 @@ points-none None area p before stmts words after l = ap declared l.0
 points-none (Some _) area p before stmts words after l = ap declared l.0
 
 lifts-none : (ty : WitType) (base name : Bytes) (before : Scope) (stmts : List Stmt) (e : Expr) → LiftsAs ty base name before stmts e → declared stmts ≡ []
-lifts-none wit.Bool base name before stmts e (t, after, d, is, tail) = ap declared is
-lifts-none wit.Char base name before stmts e (t, after, d, is, tail) = ap declared is
+lifts-none wit.Bool base name before stmts e (after, (t, d, is, tail)) = ap declared is
+lifts-none wit.Char base name before stmts e (after, (t, d, is, tail)) = ap declared is
 lifts-none wit.String base name before stmts e l = ap declared l.is
-lifts-none _ base name before stmts e l = ap declared l.0
+lifts-none _ base name before stmts e (after, l) = ap declared l.0
 
 lifting-none : (r : Option WitType) (base name : Bytes) (before : Scope) (stmts : List Stmt) (tail : Option Expr) → Lifts r base name before stmts tail → declared stmts ≡ []
 lifting-none None base name before stmts tail l = ap declared l.0
@@ -98,5 +101,19 @@ AllZip-map R S h [] (b ∷ ys) z = absurd z
 AllZip-map R S h (a ∷ xs) [] z = absurd z
 AllZip-map R S h (a ∷ xs) (b ∷ ys) z = (h a b z.0, AllZip-map R S h xs ys z.1)
 
-pub binds_wraps : {world : World} {tree : Tree} → Binds IsWritten world tree → Binds Wraps world tree
-binds_wraps b = record { wrappers = b.wrappers; items = b.items; wraps = AllZip-map IsWritten Wraps wraps _ b.wrappers b.wraps; places = b.places; options = b.options }
+wraps_export : (f : Function) (e : ExportFn) → IsExportWritten f e → WrapsExport f e
+unfolding guest_name
+wraps_export f e w = record { base = w.base; bound = w.bound; params = w.params; answer = w.answer; calls = ap (λ c. c.method) w.body.is }
+
+pub binds_wraps : {world : World} {tree : Tree} → Binds IsWritten IsExportWritten world tree → Binds Wraps WrapsExport world tree
+binds_wraps b = record {
+  items = record {
+    wrappers = b.items.wrappers;
+    exports = b.items.exports;
+    are = b.items.are;
+    wraps = AllZip-map IsWritten Wraps wraps _ b.items.wrappers b.items.wraps;
+    exported = AllZip-map IsExportWritten WrapsExport wraps_export _ b.items.exports b.items.exported;
+  };
+  places = b.places;
+  options = b.options;
+}

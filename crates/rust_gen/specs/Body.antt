@@ -142,11 +142,16 @@ lifted wit.S8 name = expr.Cast (expr.Local name) cast.I8
 lifted wit.S16 name = expr.Cast (expr.Local name) cast.I16
 lifted _ name = expr.Local name
 
--- a local that holds what a function of `_rt` makes of the result
-abbrev pub LiftsBy : LocalKind → RuntimeItem → Expr → Scope → List Stmt → Expr → Type 0
-LiftsBy k i word before stmts tail =
-    (t : ℕ) × (after : Scope) × Declares before (k ∷ []) t after
-    × (stmts ≡ stmt.Let (numbered k t) (runtime_call i word) ∷ []) × (tail ≡ expr.Local (numbered k t))
+-- a local that holds what a function of `_rt` makes of the word
+abbrev pub LiftsBy : LocalKind → RuntimeItem → Expr → Scope → List Stmt → Expr → Scope → Type 0
+LiftsBy k i word before stmts tail after =
+    (t : ℕ) × Declares before (k ∷ []) t after × (stmts ≡ stmt.Let (numbered k t) (runtime_call i word) ∷ []) × (tail ≡ expr.Local (numbered k t))
+
+-- a scalar, by the local that holds its word
+abbrev pub LiftsScalar : WitType → Bytes → Scope → List Stmt → Expr → Scope → Type 0
+LiftsScalar wit.Bool name before stmts tail after = LiftsBy kind.Bool BoolLift (expr.Cast (expr.Local name) cast.U8) before stmts tail after
+LiftsScalar wit.Char name before stmts tail after = LiftsBy kind.Char CharLift (expr.Cast (expr.Local name) cast.U32) before stmts tail after
+LiftsScalar ty name before stmts tail after = (stmts ≡ []) × (tail ≡ lifted ty name) × (after ≡ before)
 
 -- a text: its address and its length are loaded, its bytes are taken over and tested
 
@@ -181,10 +186,8 @@ pub record LiftsText (base : Bytes) (before : Scope) (stmts : List Stmt) (tail :
 
 -- by the local that holds the result, or that of the area's address
 abbrev pub LiftsAs : WitType → Bytes → Bytes → Scope → List Stmt → Expr → Type 0
-LiftsAs wit.Bool base name before stmts tail = LiftsBy kind.Bool BoolLift (expr.Cast (expr.Local name) cast.U8) before stmts tail
-LiftsAs wit.Char base name before stmts tail = LiftsBy kind.Char CharLift (expr.Cast (expr.Local name) cast.U32) before stmts tail
 LiftsAs wit.String base name before stmts tail = LiftsText base before stmts tail
-LiftsAs ty base name before stmts tail = (stmts ≡ []) × (tail ≡ lifted ty name)
+LiftsAs ty base name before stmts tail = (after : Scope) × LiftsScalar ty name before stmts tail after
 
 abbrev pub Lifts : Option WitType → Bytes → Bytes → Scope → List Stmt → Option Expr → Type 0
 Lifts None base name before stmts tail = (stmts ≡ []) × (tail ≡ None)

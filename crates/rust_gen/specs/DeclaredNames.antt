@@ -1,15 +1,34 @@
 -- Which names the file of a world declares, and whether they are identifiers of which no two clash.
-use Rattle.std.specs.Prelude.{ℕ, Bool, ◌&&◌, List, map}
+use Rattle.std.specs.Prelude.{ℕ, Bool, true, false, not, ◌&&◌, ◌||◌, List, [], ◌∷◌, ◌++◌, codes, map}
 use Rattle.std.specs.List.{list_all}
 use Rattle.wit_model.specs.declared.function.Function.{Function}
 use Rattle.wit_model.specs.declared.world.World.{World}
 use Rattle.wit_model.specs.Distinct.{is_distinct}
 use Rattle.rust_tree.specs.Ident.{is_ident, rust_ident}
-use Rattle.rust_gen.specs.Emitted.{emitted_functions}
+use Rattle.rust_gen.specs.Emitted.{exported_functions, imported_functions}
 
--- the functions of the root
+-- the functions of the root: the wrappers
+
+unfoldable pub export_prefix : List ℕ
+export_prefix = codes "_export_"
+
+unfoldable pub cabi_suffix : List ℕ
+cabi_suffix = codes "_cabi"
+
+abbrev pub export_ident : Function → List ℕ
+export_ident f = export_prefix ++ f.name.snake ++ cabi_suffix
+
 abbrev pub function_idents : World → List (List ℕ)
-function_idents world = map (λ f. rust_ident f.name) (emitted_functions world)
+function_idents world = map (λ f. rust_ident f.name) (imported_functions world) ++ map export_ident (exported_functions world)
+
+-- the functions of the trait
+abbrev pub method_idents : World → List (List ℕ)
+method_idents world = map (λ f. rust_ident f.name) (exported_functions world)
+
+-- the macros
+unfoldable pub macro_idents : World → List (List ℕ)
+macro_idents world =
+    (codes "__export_world_" ++ world.name.snake ++ codes "_cabi") ∷ (codes "__export_" ++ world.name.snake ++ codes "_impl") ∷ codes "export" ∷ []
 
 -- the parameters of a function, in a scope of their own
 abbrev pub param_idents : Function → List (List ℕ)
@@ -19,9 +38,18 @@ param_idents f = map (λ p. rust_ident p.name) f.params
 abbrev pub are_names : List (List ℕ) → Bool
 are_names names = list_all is_ident names && is_distinct names
 
-unfoldable pub declares_well : World → Bool
-declares_well world = are_names (function_idents world) && list_all (λ f. are_names (param_idents f)) (emitted_functions world)
+abbrev pub is_empty : List Function → Bool
+is_empty [] = true
+is_empty (_ ∷ _) = false
 
--- no two imported functions of a world have the same WIT name
+unfoldable pub declares_well : World → Bool
+declares_well world =
+    are_names (function_idents world) && are_names (method_idents world) && (is_empty (exported_functions world) || are_names (macro_idents world))
+    && list_all (λ f. are_names (param_idents f)) (imported_functions world) && list_all (λ f. are_names (param_idents f)) (exported_functions world)
+
+-- no two functions of one side have the same WIT name
+abbrev pub are_distinct_functions : List Function → Bool
+are_distinct_functions functions = is_distinct (map (λ f. f.name.wit) functions)
+
 abbrev pub has_distinct_names : World → Bool
-has_distinct_names world = is_distinct (map (λ f. f.name.wit) (emitted_functions world))
+has_distinct_names world = are_distinct_functions (imported_functions world) && are_distinct_functions (exported_functions world)

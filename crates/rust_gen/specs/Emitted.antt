@@ -1,5 +1,5 @@
 -- Which functions of a world get a wrapper, and where each of them stands.
-use Rattle.std.specs.Prelude.{ℕ, ◌+◌, List, [], ◌∷◌, ◌++◌, None}
+use Rattle.std.specs.Prelude.{ℕ, ◌+◌, Bool, true, false, List, [], ◌∷◌, ◌++◌, map, None}
 use Rattle.wit_model.specs.declared.function.Function.{Function}
 use Rattle.wit_model.specs.declared.world.WorldKey.{WorldKey}
 use Rattle.wit_model.specs.declared.world.WorldItem.{WorldItem}
@@ -33,8 +33,22 @@ abbrev pub places_from : ℕ → Entries → List FuncPlace
 places_from nth [] = []
 places_from nth (entry ∷ entries) = place_at nth entry.1 ++ places_from (nth + 1) entries
 
-abbrev pub emitted_functions : World → List Function
-emitted_functions world = functions_in world.imports
+abbrev pub imported_functions : World → List Function
+imported_functions world = functions_in world.imports
 
+abbrev pub exported_functions : World → List Function
+exported_functions world = functions_in world.exports
+
+abbrev pub emitted_functions : World → List Function
+emitted_functions world = imported_functions world ++ exported_functions world
+
+-- the places of the imported functions, and those of the exported ones behind them
 abbrev pub emitted_places : World → List FuncPlace
-emitted_places world = places_from 0 world.imports
+emitted_places world = places_from 0 world.imports ++ places_from 0 world.exports
+
+-- the same with the side: true for an import
+abbrev pub on_side : Bool → List FuncPlace → List (FuncPlace × Bool)
+on_side is_import places = map (λ p. (p, is_import)) places
+
+abbrev pub emitted_sides : World → List (FuncPlace × Bool)
+emitted_sides world = on_side true (places_from 0 world.imports) ++ on_side false (places_from 0 world.exports)

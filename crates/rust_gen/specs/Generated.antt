@@ -8,7 +8,7 @@ use Rattle.rust_tree.specs.Text.{text}
 use Rattle.rust_tree.specs.Tree.{Tree}
 use Rattle.rust_gen.specs.Bound.{Binds}
 use Rattle.rust_gen.specs.Faithful.{AreFaithful}
-use Rattle.rust_gen.specs.Wrapper.{Wraps}
+use Rattle.rust_gen.specs.Wrapper.{Wraps, WrapsExport}
 
 unfoldable pub rust_ending : Bytes
 rust_ending = codes ".rs"
@@ -23,11 +23,11 @@ pub record Gains (old new : List Entry) (name bytes : Bytes) : Type 0 where
   pub gained : entry_of new name ≡ Some (unwrap_or (entry_of old name) [] ++ bytes)
   pub others : (other : Bytes) → other ≢ name → entry_of new other ≡ entry_of old other
 
--- the tree holds a wrapper for each function, which from outside has the signature and the core import of its function, and
--- carries each call of it
+-- the tree holds a wrapper for each function, which from outside has the signature and the core import or the method of its
+-- function, and carries each call of it
 pub record Generates (resolve : Resolve) (id : WorldId) (old new : List Entry) (tree : Tree) : Type 0 where
   pub world : World
   pub named : slice_get resolve.worlds id.0 ≡ Some world
-  pub bound : Binds Wraps world tree
+  pub bound : Binds Wraps WrapsExport world tree
   pub faithful : AreFaithful world tree
   pub gains : Gains old new (file_name world) (text tree)

@@ -6,6 +6,9 @@ pub mod DeclaredNames
 pub mod Default
 pub mod Docs
 pub mod Emitted
+pub mod ExportBody
+pub mod ExportLifting
+pub mod Exported
 pub mod Faithful
 pub mod Generated
 pub mod LackText

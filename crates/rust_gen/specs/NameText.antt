@@ -1,4 +1,4 @@
--- Whether the names and versions of the tables are written as WIT writes them, and imports stand under names: rules that
+-- Whether the names and versions of the tables are written as WIT writes them, and functions stand under names: rules that
 -- tables without types and interfaces can break.
 use Rattle.std.specs.Prelude.{ℕ, Bool, true, false, not, ◌&&◌, ◌||◌, nat_le, ◌==◌, List, [], ◌∷◌, Option, None, Some}
 use Rattle.std.specs.List.{list_all}
@@ -51,9 +51,11 @@ is_written_item (item.Interface _) = true
 is_written_item (item.Function f) = is_written_function f
 is_written_item (item.Named _) = true
 
+abbrev pub is_written_entry : WorldKey × WorldItem → Bool
+is_written_entry entry = is_written_key entry.0 && is_written_item entry.1
+
 abbrev pub is_written_world : World → Bool
-is_written_world world =
-    is_wit_form world.name.wit && list_all (λ entry. is_written_key entry.0) world.imports && list_all (λ entry. is_written_item entry.1) world.imports
+is_written_world world = is_wit_form world.name.wit && list_all is_written_entry world.imports && list_all is_written_entry world.exports
 
 unfoldable pub are_written_tables : Resolve → Bool
 are_written_tables r = list_all is_written_package r.packages && list_all is_written_world r.worlds

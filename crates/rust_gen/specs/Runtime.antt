@@ -1,14 +1,16 @@
 -- Which items the module `_rt` holds: each that a wrapper asks for, once, in the order in which they are first asked for;
 -- and behind them those that they need.
-use Rattle.std.specs.Prelude.{Bool, true, false, List, [], ◌∷◌, ◌++◌, Option, Some, if◌then◌else◌, fold}
+use Rattle.std.specs.Prelude.{Bool, true, false, List, [], ◌∷◌, ◌++◌, Option, None, Some, if◌then◌else◌, fold}
 use Rattle.std.specs.List.{list_any, flat_map}
 use Rattle.wit_model.specs.declared.types.WitType.{WitType}
 use Rattle.wit_model.specs.declared.types.WitType.TheVariants as wit
 use Rattle.wit_model.specs.declared.function.Function.{Function}
+use Rattle.wit_model.specs.declared.world.World.{World}
 use Rattle.rust_tree.specs.declared.item.Item.{Item}
 use Rattle.rust_tree.specs.declared.item.Item.TheVariants as item
 use Rattle.rust_tree.specs.declared.runtime_item.RuntimeItem.{RuntimeItem}
 use Rattle.rust_tree.specs.Runtime.{needed_items}
+use Rattle.rust_gen.specs.Emitted.{exported_functions, imported_functions}
 use Rattle.rust_tree.specs.declared.runtime_item.RuntimeItem.TheVariants.{AsI32, AsI64, AsF32, AsF64, AllocCrate, StringType, VecType, BoolLift, CharLift, StringLift}
 
 abbrev pub is_same_item : RuntimeItem → RuntimeItem → Bool
@@ -53,19 +55,32 @@ abbrev pub signature_items : Option WitType → List RuntimeItem
 signature_items (Some wit.String) = StringType ∷ []
 signature_items _ = []
 
--- what the wrapper of a function asks for, in the order of its text
+-- what the wrapper of an imported function asks for, in the order of its text
 abbrev pub asked_by : Function → List RuntimeItem
 asked_by f = signature_items f.result ++ flat_map (λ p. lowering_items p.ty) f.params ++ lifting_items f.result
 
-abbrev pub asked_items : List Function → List RuntimeItem
-asked_items functions = flat_map asked_by functions
+-- a value that the implementation gives is made words
+abbrev pub returning_items : Option WitType → List RuntimeItem
+returning_items None = []
+returning_items (Some ty) = lowering_items ty
+
+-- what the wrapper of an exported function asks for
+abbrev pub asked_by_export : Function → List RuntimeItem
+asked_by_export f = flat_map (λ p. lifting_items (Some p.ty)) f.params ++ returning_items f.result
+
+-- what the wrappers of imports and exports ask for: first those of the imports
+abbrev pub asked_items : List Function → List Function → List RuntimeItem
+asked_items imports exports = flat_map asked_by imports ++ flat_map asked_by_export exports
 
 -- a round: behind the items stand those that they need
 abbrev pub with_needed : List RuntimeItem → List RuntimeItem
 with_needed items = fold with_asked items (flat_map needed_items items)
 
-abbrev pub runtime_items : List Function → List RuntimeItem
-runtime_items functions = with_needed (fold with_asked [] (asked_items functions))
+abbrev pub items_for : List Function → List Function → List RuntimeItem
+items_for imports exports = with_needed (fold with_asked [] (asked_items imports exports))
+
+abbrev pub runtime_items : World → List RuntimeItem
+runtime_items world = items_for (imported_functions world) (exported_functions world)
 
 -- the module stands where an item is asked for
 abbrev pub runtime_module : List RuntimeItem → List Item

@@ -23,6 +23,7 @@ prefix_of kind.Loaded = codes "l"
 prefix_of kind.Bytes = codes "bytes"
 prefix_of kind.Text = codes "text"
 prefix_of kind.Char = codes "c"
+prefix_of kind.Result = codes "result"
 
 abbrev pub numbered : LocalKind → ℕ → Bytes
 numbered k t = prefix_of k ++ decimal t
@@ -70,5 +71,8 @@ abbrev pub IsFixedName : List Bytes → Bytes → Bytes → Type 0
 IsFixedName params base name = ((is_used params base ≡ false) × (name ≡ base)) ⊎ IsNumbered params base name
 
 -- at first the parameters' names and the fixed names are used
+abbrev pub scope_over : List Bytes → Bytes → Scope
+scope_over params area = record { used = params ++ cleanup_list ∷ area ∷ []; next = 0 }
+
 abbrev pub first_scope : Function → Bytes → Scope
-first_scope f area = record { used = param_idents f ++ cleanup_list ∷ area ∷ []; next = 0 }
+first_scope f area = scope_over (param_idents f) area

@@ -1,7 +1,9 @@
--- How the wrapper of an imported function looks from outside: its signature, and the one core import that it declares.
+-- How wrappers look from outside: that of an imported function has its signature and declares one core import; that of an
+-- exported function has its core signature and calls one method.
 use Rattle.std.specs.Prelude.{◌≡◌, List, [], ◌∷◌, codes, map}
 use Rattle.wit_model.specs.declared.function.Function.{Function}
 use Rattle.wit_model.specs.declared.function.Param.{Param}
+use Rattle.rust_tree.specs.declared.export.ExportFn.{ExportFn}
 use Rattle.rust_tree.specs.declared.item.FnItem.{FnItem}
 use Rattle.rust_tree.specs.declared.item.FnParam.{FnParam}
 use Rattle.rust_tree.specs.declared.stmt.ImportDecl.{ImportDecl}
@@ -9,6 +11,7 @@ use Rattle.rust_tree.specs.declared.stmt.Stmt.{Stmt}
 use Rattle.rust_tree.specs.declared.stmt.Stmt.TheVariants as stmt
 use Rattle.rust_tree.specs.Ident.{rust_ident}
 use Rattle.rust_gen.specs.Docs.{doc_lines}
+use Rattle.rust_gen.specs.Exported.{export_params, export_result}
 use Rattle.rust_gen.specs.Printed.{param_type, printed_result, core_params, core_result}
 
 abbrev pub printed_param : Param → FnParam
@@ -35,3 +38,10 @@ pub record Wraps (f : Function) (item : FnItem) : Type 0 where
   pub params : item.params ≡ map printed_param f.params
   pub answer : item.result ≡ printed_result f.result
   pub declares : (decl : ImportDecl) × (declared item.body.stmts ≡ decl ∷ []) × Declares f decl
+
+pub record WrapsExport (f : Function) (e : ExportFn) : Type 0 where
+  pub base : e.base ≡ f.name.snake
+  pub bound : e.bound ≡ codes "Guest"
+  pub params : e.params ≡ export_params f
+  pub answer : e.result ≡ export_result f.result
+  pub calls : e.call.method ≡ rust_ident f.name

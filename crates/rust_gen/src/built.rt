@@ -2,7 +2,7 @@
 
 ghost use Rattle.std.specs.Prelude.{◌≡◌};
 ghost use Rattle.std.specs.List.{list_all};
-ghost use Rattle.rust_gen.specs.Built.{is_built_type, is_built_result, is_freestanding, is_built_function, is_built_import, is_empty, is_built_world, are_built_tables, are_flags_off, are_lists_empty, are_values_absent, is_owning, are_built_options};
+ghost use Rattle.rust_gen.specs.Built.{is_built_type, is_built_result, is_freestanding, is_built_function, is_built_import, is_built_export, is_scalar_type, is_scalar_result, is_scalar_function, is_empty, is_built_world, are_built_tables, are_flags_off, are_lists_empty, are_values_absent, is_owning, are_built_options};
 
 use crate::core_signature::are_at_most;
 use crate::opts::{Opts, Ownership};
@@ -70,6 +70,45 @@ fn is_built_import(item: &WorldItem) -> bool
     }
 }
 
+fn is_scalar_type(ty: WitType) -> bool
+    ensures { result ≡ is_scalar_type ty }
+{
+    match ty {
+        WitType::String => false,
+        _ => is_built_type(ty),
+    }
+}
+
+fn is_scalar_result(answer: &Option<WitType>) -> bool
+    ensures { result ≡ is_scalar_result answer.now }
+{
+    match answer {
+        None => true,
+        Some(ty) => is_scalar_type(*ty),
+    }
+}
+
+fn are_scalar_types(params: &[Param]) -> bool
+    ensures { result ≡ list_all (λ p. is_scalar_type p.ty) params.now }
+{
+    params.iter().all(|p| is_scalar_type(p.ty))
+}
+
+fn is_scalar_function(f: &Function) -> bool
+    ensures { result ≡ is_scalar_function f.now }
+{
+    is_built_function(f) && are_scalar_types(f.params.as_slice()) && is_scalar_result(&f.result)
+}
+
+fn is_built_export(item: &WorldItem) -> bool
+    ensures { result ≡ is_built_export item.now }
+{
+    match item {
+        WorldItem::Function(f) => is_scalar_function(f),
+        _ => false,
+    }
+}
+
 fn is_empty<T>(list: &List<T>) -> bool
     ensures { result ≡ is_empty list.now }
 {
@@ -85,11 +124,17 @@ fn are_built_imports(entries: &[(WorldKey, WorldItem)]) -> bool
     entries.iter().all(|entry| is_built_import(&entry.1))
 }
 
+fn are_built_exports(entries: &[(WorldKey, WorldItem)]) -> bool
+    ensures { result ≡ list_all (λ entry. is_built_export entry.1) entries.now }
+{
+    entries.iter().all(|entry| is_built_export(&entry.1))
+}
+
 #[tactic(auto, unfolding(crate::specs::Built::is_built_world))]
 fn is_built_world(world: &World) -> bool
     ensures { result ≡ is_built_world world.now }
 {
-    are_built_imports(world.imports.as_slice()) && is_empty(&world.exports)
+    are_built_imports(world.imports.as_slice()) && are_built_exports(world.exports.as_slice())
 }
 
 fn are_built_worlds(worlds: &[World]) -> bool
@@ -98,7 +143,7 @@ fn are_built_worlds(worlds: &[World]) -> bool
     worlds.iter().all(|world| is_built_world(world))
 }
 
-/// Whether the tables hold only worlds that import functions over numbers, bools and chars.
+/// Whether the tables hold only worlds of functions over scalars and, on the side of the imports, texts.
 #[tactic(auto, unfolding(crate::specs::Built::are_built_tables))]
 pub(crate) fn are_built_tables(resolve: &Resolve) -> bool
     ensures { result ≡ are_built_tables resolve.now }

@@ -1,4 +1,4 @@
-//! The core signature of an imported function over scalars and texts.
+//! The core signatures of functions over scalars and texts.
 
 ghost use Rattle.std.specs.Prelude.{◌≡◌, ◌++◌, IfOk, OnOk, length, nat_le};
 ghost use Rattle.rust_gen.specs.Printed.{core_params, core_result, core_type, core_words, param_words, pointer_words};
@@ -6,7 +6,8 @@ ghost use Rattle.rust_gen.specs.Printed.{core_params, core_result, core_type, co
 use std::alloc::Global;
 use wit_model::{Function, List, OutOfMemory, Param, WasmType, WitType};
 
-fn core_type(ty: WitType) -> WasmType
+/// The core type of a value that is one core value.
+pub(crate) fn core_type(ty: WitType) -> WasmType
     ensures { result ≡ core_type ty }
 {
     match ty {
@@ -29,7 +30,7 @@ fn push_words(types: &mut List<WasmType>, ty: WitType) -> Result<(), OutOfMemory
 }
 
 /// The core types of the parameters, in order.
-fn param_words(alloc: Global, params: &[Param]) -> Result<List<WasmType>, OutOfMemory>
+pub(crate) fn param_words(alloc: Global, params: &[Param]) -> Result<List<WasmType>, OutOfMemory>
     ensures { IfOk result (λ types. types ≡ param_words params.now) }
 {
     let mut types = List::new(alloc);

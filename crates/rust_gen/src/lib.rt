@@ -8,6 +8,8 @@ mod core_signature;
 mod docs;
 mod emitted;
 mod error;
+mod export;
+mod exported;
 mod forms;
 mod generate;
 mod lift;

@@ -3,7 +3,7 @@
 ghost use Rattle.std.specs.Prelude.{◌≡◌, ◌++◌, ◌∷◌, [], List, IfOk, OnOk};
 ghost use Rattle.rust_tree.specs.declared.stmt.Stmt.{Stmt};
 ghost use Rattle.rust_tree.specs.declared.stmt.Stmt.TheVariants as stmt;
-ghost use Rattle.rust_gen.specs.Body.{Lifts, LiftsAs, LiftsBy, LiftsText, lifted, text_taken, word_at};
+ghost use Rattle.rust_gen.specs.Body.{Lifts, LiftsAs, LiftsBy, LiftsScalar, LiftsText, lifted, text_taken, word_at};
 ghost use Rattle.rust_gen.specs.Scope.{numbered};
 ghost use Rattle.rust_gen.specs.declared.scope.LocalKind.TheVariants as kind;
 
@@ -38,7 +38,7 @@ fn lift_by(
     stmts: &mut List<Stmt>,
 ) -> Result<Expr, OutOfMemory>
     ensures { IfOk result
-        (λ e. (more : List Stmt) × LiftsBy kind item word scope.old more e × (stmts.new ≡ stmts.old ++ more)) }
+        (λ e. (more : List Stmt) × LiftsBy kind item word scope.old more e scope.new × (stmts.new ≡ stmts.old ++ more)) }
 {
     let t = scope.declare(alloc, &[kind])?;
     let call = runtime_call(alloc, item, word)?;
@@ -105,6 +105,26 @@ fn lift_text(
     Ok(Expr::Local(numbered(alloc, LocalKind::Text, c)?))
 }
 
+/// Lifts a scalar by the local that holds its word: statements behind others, and the value.
+pub(crate) fn lift_scalar(
+    alloc: Global,
+    scope: &mut Scope,
+    ty: WitType,
+    name: Text,
+    stmts: &mut List<Stmt>,
+) -> Result<Expr, OutOfMemory>
+    ensures { IfOk result
+        (λ e. (more : List Stmt) × LiftsScalar ty name scope.old more e scope.new × (stmts.new ≡ stmts.old ++ more)) }
+{
+    let (kind, item, to) = match ty {
+        WitType::Bool => (LocalKind::Bool, RuntimeItem::BoolLift, CastType::U8),
+        WitType::Char => (LocalKind::Char, RuntimeItem::CharLift, CastType::U32),
+        _ => return lifted(alloc, ty, name),
+    };
+    let word = cast(alloc, name, to)?;
+    lift_by(alloc, scope, kind, item, word, stmts)
+}
+
 /// Lifts the result that a local holds: statements behind others, and the body's value.
 fn lift_as(
     alloc: Global,
@@ -118,30 +138,8 @@ fn lift_as(
         (λ e. (more : List Stmt) × LiftsAs ty base.now name scope.old more e × (stmts.new ≡ stmts.old ++ more)) }
 {
     match ty {
-        WitType::Bool => {
-            let word = cast(alloc, name, CastType::U8)?;
-            lift_by(
-                alloc,
-                scope,
-                LocalKind::Bool,
-                RuntimeItem::BoolLift,
-                word,
-                stmts,
-            )
-        }
-        WitType::Char => {
-            let word = cast(alloc, name, CastType::U32)?;
-            lift_by(
-                alloc,
-                scope,
-                LocalKind::Char,
-                RuntimeItem::CharLift,
-                word,
-                stmts,
-            )
-        }
         WitType::String => lift_text(alloc, scope, base, stmts),
-        _ => lifted(alloc, ty, name),
+        _ => lift_scalar(alloc, scope, ty, name, stmts),
     }
 }
 

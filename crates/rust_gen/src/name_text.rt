@@ -2,7 +2,7 @@
 
 ghost use Rattle.std.specs.Prelude.{◌≡◌};
 ghost use Rattle.std.specs.List.{list_all};
-ghost use Rattle.rust_gen.specs.NameText.{is_nonempty, is_name_char, is_wit_form, is_version_mark, is_version_char, is_version, is_written_package, is_written_function, is_written_item, is_written_key, is_written_world, are_written_tables};
+ghost use Rattle.rust_gen.specs.NameText.{is_nonempty, is_name_char, is_wit_form, is_version_mark, is_version_char, is_version, is_written_package, is_written_function, is_written_item, is_written_key, is_written_entry, is_written_world, are_written_tables};
 
 use wit_model::{Function, Package, Param, Resolve, Text, World, WorldItem, WorldKey};
 
@@ -86,12 +86,6 @@ fn is_written_function(f: &Function) -> bool
     is_wit_form(&f.name.wit) && are_written_params(f.params.as_slice())
 }
 
-fn are_written_functions(entries: &[(WorldKey, WorldItem)]) -> bool
-    ensures { result ≡ list_all (λ entry. is_written_item entry.1) entries.now }
-{
-    entries.iter().all(|entry| is_written_item(&entry.1))
-}
-
 fn is_written_item(item: &WorldItem) -> bool
     ensures { result ≡ is_written_item item.now }
 {
@@ -111,18 +105,24 @@ fn is_written_key(key: &WorldKey) -> bool
     }
 }
 
-fn are_written_keys(entries: &[(WorldKey, WorldItem)]) -> bool
-    ensures { result ≡ list_all (λ entry. is_written_key entry.0) entries.now }
+fn are_written_entries(entries: &[(WorldKey, WorldItem)]) -> bool
+    ensures { result ≡ list_all is_written_entry entries.now }
 {
-    entries.iter().all(|entry| is_written_key(&entry.0))
+    entries.iter().all(|entry| is_written_entry(entry))
+}
+
+fn is_written_entry(entry: &(WorldKey, WorldItem)) -> bool
+    ensures { result ≡ is_written_entry entry.now }
+{
+    is_written_key(&entry.0) && is_written_item(&entry.1)
 }
 
 fn is_written_world(world: &World) -> bool
     ensures { result ≡ is_written_world world.now }
 {
     is_wit_form(&world.name.wit)
-        && are_written_keys(world.imports.as_slice())
-        && are_written_functions(world.imports.as_slice())
+        && are_written_entries(world.imports.as_slice())
+        && are_written_entries(world.exports.as_slice())
 }
 
 fn are_written_worlds(worlds: &[World]) -> bool
@@ -131,7 +131,7 @@ fn are_written_worlds(worlds: &[World]) -> bool
     worlds.iter().all(|world| is_written_world(world))
 }
 
-/// Whether every name and version of the tables is written as WIT writes it, and every import stands under a name.
+/// Whether every name and version of the tables is written as WIT writes it, and every function stands under a name.
 #[tactic(auto, unfolding(crate::specs::NameText::are_written_tables))]
 pub(crate) fn are_written_tables(resolve: &Resolve) -> bool
     ensures { result ≡ are_written_tables resolve.now }

@@ -8,7 +8,8 @@ use rust_tree::{FnParam, Primitive, TypeExpr, to_rust_ident};
 use std::alloc::Global;
 use wit_model::{Boxed, List, OutOfMemory, Param, WitType};
 
-fn printed_type(ty: WitType) -> TypeExpr
+/// A type as a result, or as a parameter that is given away.
+pub(crate) fn printed_type(ty: WitType) -> TypeExpr
     ensures { result ≡ printed_type ty }
 {
     match ty {

@@ -1,9 +1,9 @@
 //! Which items the module `_rt` holds.
 
-ghost use Rattle.std.specs.Prelude.{◌≡◌, IfOk, OnOk, fold, map};
+ghost use Rattle.std.specs.Prelude.{◌≡◌, IfOk, OnOk, Some, fold, map};
 ghost use Rattle.std.specs.List.{flat_map, list_any};
 ghost use Rattle.rust_tree.specs.Runtime.{needed_items};
-ghost use Rattle.rust_gen.specs.Runtime.{asked_by, is_same_item, lifting_items, lowering_item, lowering_items, runtime_items, signature_items, with_asked, with_needed};
+ghost use Rattle.rust_gen.specs.Runtime.{asked_by, asked_by_export, is_same_item, items_for, lifting_items, lowering_item, lowering_items, returning_items, signature_items, with_asked, with_needed};
 
 use rust_tree::RuntimeItem;
 use std::alloc::Global;
@@ -141,16 +141,74 @@ fn ask_for(items: &mut List<RuntimeItem>, f: &Function) -> Result<(), OutOfMemor
     ask_for_result(items, &f.result)
 }
 
-/// The items that the wrappers of these functions ask for, each once, in the order in which they are first asked for.
+/// What the wrappers of imported functions ask for.
+fn ask_for_imports(
+    items: &mut List<RuntimeItem>,
+    functions: &[&Function],
+) -> Result<(), OutOfMemory>
+    ensures { OnOk result
+        (items.new ≡ fold with_asked items.old (flat_map asked_by (map (λ f. f.now) functions.now))) }
+{
+    for function in functions {
+        ask_for(items, function)?;
+    }
+    Ok(())
+}
+
+fn ask_for_lifts(items: &mut List<RuntimeItem>, params: &[Param]) -> Result<(), OutOfMemory>
+    ensures { OnOk result
+        (items.new ≡ fold with_asked items.old (flat_map (λ p. lifting_items (Some p.ty)) params.now)) }
+{
+    for p in params {
+        ask_for_result(items, &Some(p.ty))?;
+    }
+    Ok(())
+}
+
+fn ask_for_returned(
+    items: &mut List<RuntimeItem>,
+    answer: &Option<WitType>,
+) -> Result<(), OutOfMemory>
+    ensures { OnOk result (items.new ≡ fold with_asked items.old (returning_items answer.now)) }
+{
+    match answer {
+        None => Ok(()),
+        Some(ty) => ask_for_param(items, *ty),
+    }
+}
+
+fn ask_for_export(items: &mut List<RuntimeItem>, f: &Function) -> Result<(), OutOfMemory>
+    ensures { OnOk result (items.new ≡ fold with_asked items.old (asked_by_export f.now)) }
+{
+    ask_for_lifts(items, f.params.as_slice())?;
+    ask_for_returned(items, &f.result)
+}
+
+/// What the wrappers of exported functions ask for.
+fn ask_for_exports(
+    items: &mut List<RuntimeItem>,
+    functions: &[&Function],
+) -> Result<(), OutOfMemory>
+    ensures { OnOk result
+        (items.new ≡ fold with_asked items.old (flat_map asked_by_export (map (λ f. f.now) functions.now))) }
+{
+    for function in functions {
+        ask_for_export(items, function)?;
+    }
+    Ok(())
+}
+
+/// The items that the wrappers of a world's functions ask for, each once, in the order in which they are first asked for.
 pub(crate) fn runtime_items(
     alloc: Global,
-    functions: &[&Function],
+    imports: &[&Function],
+    exports: &[&Function],
 ) -> Result<List<RuntimeItem>, OutOfMemory>
-    ensures { IfOk result (λ items. items ≡ runtime_items (map (λ f. f.now) functions.now)) }
+    ensures { IfOk result
+        (λ items. items ≡ items_for (map (λ f. f.now) imports.now) (map (λ f. f.now) exports.now)) }
 {
     let mut items = List::new(alloc);
-    for function in functions {
-        ask_for(&mut items, function)?;
-    }
+    ask_for_imports(&mut items, imports)?;
+    ask_for_exports(&mut items, exports)?;
     with_needed(alloc, items)
 }

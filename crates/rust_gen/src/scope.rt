@@ -1,7 +1,7 @@
 //! The numbers of a wrapper's locals.
 
 ghost use Rattle.std.specs.Prelude.{◌≡◌, ◌+◌, ◌^◌, ◌<◌, ◌++◌, IfOk, OnOk};
-ghost use Rattle.rust_gen.specs.Scope.{Declares, IsFixedName, IsLeastFree, fixed, is_free, is_used, names_at, numbered, prefix_of};
+ghost use Rattle.rust_gen.specs.Scope.{Declares, IsFixedName, IsLeastFree, fixed, is_free, is_used, names_at, numbered, prefix_of, scope_over};
 
 use std::alloc::Global;
 use wit_model::{List, OutOfMemory, Text};
@@ -27,6 +27,8 @@ pub(crate) enum LocalKind {
     Bytes,
     /// The text of these bytes.
     Text,
+    /// The value of an exported function's implementation.
+    Result,
 }
 
 impl LocalKind {
@@ -45,6 +47,7 @@ impl LocalKind {
             LocalKind::Bytes => "bytes",
             LocalKind::Text => "text",
             LocalKind::Char => "c",
+            LocalKind::Result => "result",
         }
     }
 }
@@ -152,4 +155,19 @@ pub(crate) fn fixed_name(alloc: Global, params: &[Text], base: &str) -> Result<T
         }
     }
     Err(OutOfMemory)
+}
+
+/// The scope of a wrapper at first: its parameters' names and the fixed names are used.
+#[tactic(auto, unfolding(crate::specs::Scope::cleanup_list))]
+pub(crate) fn scope_over(
+    alloc: Global,
+    params: List<Text>,
+    area: &Text,
+) -> Result<Scope, OutOfMemory>
+    ensures { IfOk result (λ scope. scope ≡ scope_over params area.now) }
+{
+    let mut used = params;
+    used.push(Text::from_str(alloc, "cleanup_list")?)?;
+    used.push(area.copy(alloc)?)?;
+    Ok(Scope { used, next: 0 })
 }

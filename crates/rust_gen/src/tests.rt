@@ -89,10 +89,12 @@ fn a_world_without_items_is_its_preamble_each_time(rt: HostRuntime) -> Result<()
 
 #[test]
 fn each_function_has_a_wrapper(rt: HostRuntime) -> Result<(), Fail> {
-    let resolve = tables(rt.alloc(), 1, 0)?;
-    let mut files = Files::new(rt.alloc());
-    let (wrappers, _) = made(rt.alloc(), &resolve, &mut files)?;
-    assert_eq!(rt; wrappers, 1);
+    for (imports, exports) in [(1, 0), (0, 1), (1, 1)] {
+        let resolve = tables(rt.alloc(), imports, exports)?;
+        let mut files = Files::new(rt.alloc());
+        let (wrappers, _) = made(rt.alloc(), &resolve, &mut files)?;
+        assert_eq!(rt; wrappers, imports + exports);
+    }
     Ok(())
 }
 
@@ -114,8 +116,8 @@ fn is_unbuilt(alloc: Global, imports: usize, exports: usize) -> Result<bool, Out
 
 #[test]
 fn what_is_not_built_is_refused_and_leaves_the_files(rt: HostRuntime) -> Result<(), Fail> {
-    assert!(rt; is_unbuilt(rt.alloc(), 0, 1)?, "an export");
-    assert!(rt; is_unbuilt(rt.alloc(), 2, 0)?, "two functions of one name");
+    assert!(rt; is_unbuilt(rt.alloc(), 0, 2)?, "two exports of one name");
+    assert!(rt; is_unbuilt(rt.alloc(), 2, 0)?, "two imports of one name");
     assert!(rt; !is_unbuilt(rt.alloc(), 1, 0)?, "one import");
     Ok(())
 }

@@ -2,16 +2,21 @@
 
 ghost use Rattle.std.specs.Prelude.{◌≡◌, ◌++◌, List, IfOk, OnOk, map};
 ghost use Rattle.std.specs.List.{AllZip};
+ghost use Rattle.rust_tree.specs.declared.export.ExportFn.{ExportFn};
 ghost use Rattle.rust_tree.specs.declared.item.FnItem.{FnItem};
 ghost use Rattle.rust_tree.specs.declared.item.Item.TheVariants as item;
 ghost use Rattle.rust_gen.specs.Body.{IsWritten};
-ghost use Rattle.rust_gen.specs.Bound.{Binds};
-ghost use Rattle.rust_gen.specs.Runtime.{runtime_items, runtime_module};
+ghost use Rattle.rust_gen.specs.Bound.{AreItems, Binds};
+ghost use Rattle.rust_gen.specs.Emitted.{emitted_places};
+ghost use Rattle.rust_gen.specs.ExportBody.{IsExportWritten};
+ghost use Rattle.rust_gen.specs.Runtime.{items_for, runtime_module};
 
 use crate::emitted::{functions_in, places_in};
+use crate::export::export_wrapper;
+use crate::exported::{push_last_macro, push_trait_and_macro};
 use crate::runtime::runtime_items;
 use crate::wrapper::import_wrapper;
-use rust_tree::{Bindings, Item};
+use rust_tree::{Bindings, FuncPlace, Item};
 use std::alloc::Global;
 use wit_model::{Function, List, OutOfMemory, World};
 
@@ -27,29 +32,67 @@ fn import_items(alloc: Global, functions: &[&Function]) -> Result<List<Item>, Ou
     Ok(items)
 }
 
-fn push_runtime(
+fn push_exports(
     alloc: Global,
     items: &mut List<Item>,
     functions: &[&Function],
 ) -> Result<(), OutOfMemory>
     ensures { OnOk result
-        (items.new ≡ items.old ++ runtime_module (runtime_items (map (λ f. f.now) functions.now))) }
+        ((es : List ExportFn) × (items.new ≡ items.old ++ map item.Export es) × AllZip IsExportWritten (map (λ f. f.now) functions.now) es) }
 {
-    let asked = runtime_items(alloc, functions)?;
+    for function in functions {
+        let wrapper = export_wrapper(alloc, function)?;
+        items.push(Item::Export(wrapper))?;
+    }
+    Ok(())
+}
+
+fn push_runtime(
+    alloc: Global,
+    items: &mut List<Item>,
+    imports: &[&Function],
+    exports: &[&Function],
+) -> Result<(), OutOfMemory>
+    ensures { OnOk result
+        (items.new ≡ items.old ++ runtime_module (items_for (map (λ f. f.now) imports.now) (map (λ f. f.now) exports.now))) }
+{
+    let asked = runtime_items(alloc, imports, exports)?;
     if asked.is_empty() {
         return Ok(());
     }
     items.push(Item::Runtime(asked))
 }
 
-/// The tree of a world that imports functions over numbers, bools and chars, with the options at their defaults.
-pub(crate) fn bindings_of(alloc: Global, world: &World) -> Result<Bindings, OutOfMemory>
-    ensures { IfOk result (Binds IsWritten world.now) }
+/// The items of a world's file, in their order.
+fn world_items(alloc: Global, world: &World) -> Result<List<Item>, OutOfMemory>
+    ensures { IfOk result (AreItems IsWritten IsExportWritten world.now) }
 {
-    let functions = functions_in(alloc, world.imports.as_slice())?;
-    let mut items = import_items(alloc, functions.as_slice())?;
-    push_runtime(alloc, &mut items, functions.as_slice())?;
-    let places = places_in(alloc, world.imports.as_slice())?;
+    let imports = functions_in(alloc, world.imports.as_slice())?;
+    let exports = functions_in(alloc, world.exports.as_slice())?;
+    let mut items = import_items(alloc, imports.as_slice())?;
+    push_exports(alloc, &mut items, exports.as_slice())?;
+    push_trait_and_macro(alloc, &mut items, world, exports.as_slice())?;
+    push_runtime(alloc, &mut items, imports.as_slice(), exports.as_slice())?;
+    push_last_macro(alloc, &mut items, world, exports.as_slice())?;
+    Ok(items)
+}
+
+/// The places of a world's functions.
+fn world_places(alloc: Global, world: &World) -> Result<List<FuncPlace>, OutOfMemory>
+    ensures { IfOk result (λ places. places ≡ emitted_places world.now) }
+{
+    let mut places = places_in(alloc, world.imports.as_slice())?;
+    let exports = places_in(alloc, world.exports.as_slice())?;
+    places.extend_from_slice(exports.as_slice())?;
+    Ok(places)
+}
+
+/// The tree of a world of functions over scalars and texts, with the options at their defaults.
+pub(crate) fn bindings_of(alloc: Global, world: &World) -> Result<Bindings, OutOfMemory>
+    ensures { IfOk result (Binds IsWritten IsExportWritten world.now) }
+{
+    let items = world_items(alloc, world)?;
+    let places = world_places(alloc, world)?;
     let tree = Bindings::new(alloc, List::new(alloc), items, places)?;
     Ok(tree)
 }

@@ -7,7 +7,7 @@ ghost use Rattle.rust_tree.specs.declared.stmt.Stmt.TheVariants as stmt;
 ghost use Rattle.rust_gen.specs.Body.{IsBody, IsWritten, call_kinds, call_stmt, import_call, import_decl, import_name, result_name};
 ghost use Rattle.rust_gen.specs.DeclaredNames.{param_idents};
 ghost use Rattle.rust_gen.specs.Printed.{core_result};
-ghost use Rattle.rust_gen.specs.Scope.{Declares, IsFixedName, first_scope, ret_area};
+ghost use Rattle.rust_gen.specs.Scope.{Declares, IsFixedName, ret_area};
 
 use crate::area::{area_stmts, point};
 use crate::core_signature::{core_params, core_result};
@@ -17,7 +17,7 @@ use crate::lift::lift_result;
 use crate::lower::{Lowered, lower_all};
 use crate::names::param_idents;
 use crate::printed::{printed_params, printed_result};
-use crate::scope::{LocalKind, Scope, fixed_name, numbered};
+use crate::scope::{LocalKind, Scope, fixed_name, numbered, scope_over};
 use rust_tree::{Block, Expr, FnItem, ImportDecl, Stmt, to_rust_ident};
 use std::alloc::Global;
 use wit_model::{Function, List, OutOfMemory, Text};
@@ -32,17 +32,6 @@ fn result_name(alloc: Global, t: u32) -> Result<Text, OutOfMemory>
     ensures { IfOk result (λ name. name ≡ result_name t) }
 {
     numbered(alloc, LocalKind::Returned, t)
-}
-
-/// At first the parameters' names and the fixed names are used.
-#[tactic(auto, unfolding(crate::specs::Scope::cleanup_list))]
-fn first_scope(alloc: Global, f: &Function, area: &Text) -> Result<Scope, OutOfMemory>
-    ensures { IfOk result (λ scope. scope ≡ first_scope f.now area.now) }
-{
-    let mut used = param_idents(alloc, f.params.as_slice())?;
-    used.push(Text::from_str(alloc, "cleanup_list")?)?;
-    used.push(area.copy(alloc)?)?;
-    Ok(Scope { used, next: 0 })
 }
 
 /// The name of the return area.
@@ -97,7 +86,8 @@ fn import_body(alloc: Global, f: &Function) -> Result<Block, OutOfMemory>
     ensures { IfOk result (IsBody f.now) }
 {
     let area = area_name(alloc, f)?;
-    let mut scope = first_scope(alloc, f, &area)?;
+    let params = param_idents(alloc, f.params.as_slice())?;
+    let mut scope = scope_over(alloc, params, &area)?;
     let mut body = Lowered {
         stmts: area_stmts(alloc, &f.result, &area)?,
         words: List::new(alloc),

@@ -1,3 +1,5 @@
+pub mod CodeText
+pub mod ExportText
 pub mod Ident
 pub mod Pieces
 pub mod Runtime

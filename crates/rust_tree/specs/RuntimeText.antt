@@ -3,34 +3,37 @@ use Rattle.std.specs.Prelude.{List, [], ◌∷◌, ◌++◌, codes}
 use Rattle.std.specs.List.{flat_map}
 use Rattle.rust_tree.specs.declared.runtime_item.RuntimeItem.{RuntimeItem}
 use Rattle.rust_tree.specs.declared.runtime_item.RuntimeItem.TheVariants.{AsI32, AsI64, AsF32, AsF64, AllocCrate, StringType, VecType, BoolLift, CharLift, StringLift}
-use Rattle.rust_tree.specs.declared.print.word.Word.TheVariants.{LineEnd, StatementEnd, OpenBlock, CloseBlock, RuntimeFn, ConversionBound, ConversionParam, ConvertParam, ConversionTrait, ReferenceBound, ReferenceTrait, ForReference, ConvertTarget, CallEnd, ConversionImpl, ImplFor, Inline, ConversionMethod, TakesSelf, CastSelf, ExternCrate, PublicUse, StringPath, VecPath, LiftFn, IfDebug, Otherwise, LiftEnd, BoolLiftType, CheckedBool, UncheckedBool, CharLiftType, CheckedChar, UncheckedChar, StringLiftType, CheckedString, UncheckedString}
+use Rattle.rust_tree.specs.declared.print.word.conversion.ConversionWord.TheVariants.{ConversionFn, ConversionBound, ConversionParam, ConvertParam, ConversionTrait, ReferenceBound, ReferenceTrait, ForReference, ConvertTarget, CallEnd, ConversionImpl, ImplFor, Inline, ConversionMethod, TakesSelf, CastSelf}
+use Rattle.rust_tree.specs.declared.print.word.lift.LiftWord.TheVariants.{LiftFn, IfDebug, Otherwise, LiftEnd, BoolLiftType, CheckedBool, UncheckedBool, CharLiftType, CheckedChar, UncheckedChar, StringLiftType, CheckedString, UncheckedString}
+use Rattle.rust_tree.specs.declared.print.word.runtime.RuntimeWord.TheVariants.{ExternCrate, PublicUse, StringPath, VecPath}
+use Rattle.rust_tree.specs.declared.print.word.sign.Sign.TheVariants.{LineEnd, StatementEnd, OpenBlock, CloseBlock}
 use Rattle.rust_tree.specs.Runtime.{item_name}
 use Rattle.rust_tree.specs.Tree.{Bytes}
-use Rattle.rust_tree.specs.Word.{word}
+use Rattle.rust_tree.specs.Word.{conversion_word, lift_word, runtime_word, sign}
 
 -- the method that gives the core type `ty`
 abbrev pub conversion_method_text : RuntimeItem → Bytes → Bytes
-conversion_method_text item ty = word ConversionMethod ++ item_name item ++ word TakesSelf ++ ty
+conversion_method_text item ty = conversion_word ConversionMethod ++ item_name item ++ conversion_word TakesSelf ++ ty
 
 -- the function over every type with the trait
 unfoldable pub conversion_fn_text : RuntimeItem → Bytes → Bytes → Bytes
 conversion_fn_text item bound ty =
-    word RuntimeFn ++ item_name item ++ word ConversionBound ++ bound ++ word ConversionParam ++ ty ++ word OpenBlock ++ word ConvertParam ++ item_name item ++ word CallEnd ++ word CloseBlock
+    conversion_word ConversionFn ++ item_name item ++ conversion_word ConversionBound ++ bound ++ conversion_word ConversionParam ++ ty ++ sign OpenBlock ++ conversion_word ConvertParam ++ item_name item ++ conversion_word CallEnd ++ sign CloseBlock
 
 -- the trait
 unfoldable pub conversion_trait_text : RuntimeItem → Bytes → Bytes → Bytes
 conversion_trait_text item bound ty =
-    word ConversionTrait ++ bound ++ word OpenBlock ++ conversion_method_text item ty ++ word StatementEnd ++ word CloseBlock
+    conversion_word ConversionTrait ++ bound ++ sign OpenBlock ++ conversion_method_text item ty ++ sign StatementEnd ++ sign CloseBlock
 
 -- the trait for a reference
 unfoldable pub reference_impl_text : RuntimeItem → Bytes → Bytes → Bytes
 reference_impl_text item bound ty =
-    word ReferenceBound ++ bound ++ word ReferenceTrait ++ bound ++ word ForReference ++ conversion_method_text item ty ++ word OpenBlock ++ word ConvertTarget ++ item_name item ++ word CallEnd ++ word CloseBlock ++ word CloseBlock
+    conversion_word ReferenceBound ++ bound ++ conversion_word ReferenceTrait ++ bound ++ conversion_word ForReference ++ conversion_method_text item ty ++ sign OpenBlock ++ conversion_word ConvertTarget ++ item_name item ++ conversion_word CallEnd ++ sign CloseBlock ++ sign CloseBlock
 
 -- the trait for a type that is cast
 unfoldable pub conversion_impl_text : RuntimeItem → Bytes → Bytes → Bytes → Bytes
 conversion_impl_text item bound ty source =
-    word ConversionImpl ++ bound ++ word ImplFor ++ source ++ word OpenBlock ++ word Inline ++ conversion_method_text item ty ++ word OpenBlock ++ word CastSelf ++ ty ++ word LineEnd ++ word CloseBlock ++ word CloseBlock
+    conversion_word ConversionImpl ++ bound ++ conversion_word ImplFor ++ source ++ sign OpenBlock ++ conversion_word Inline ++ conversion_method_text item ty ++ sign OpenBlock ++ conversion_word CastSelf ++ ty ++ sign LineEnd ++ sign CloseBlock ++ sign CloseBlock
 
 -- the conversion to a core type, by a trait of the name `bound`, from these types and from references to them
 unfoldable pub conversion_text : RuntimeItem → (bound ty : Bytes) → List Bytes → Bytes
@@ -39,12 +42,12 @@ conversion_text item bound ty sources =
 
 -- a type of the crate `alloc`, in the module that `path` ends in
 unfoldable pub alloc_type_text : RuntimeItem → Bytes → Bytes
-alloc_type_text item path = word PublicUse ++ item_name AllocCrate ++ path ++ item_name item ++ word StatementEnd
+alloc_type_text item path = runtime_word PublicUse ++ item_name AllocCrate ++ path ++ item_name item ++ sign StatementEnd
 
 -- the function of this signature that gives the value of a core value: the debug form looks whether there is one
 unfoldable pub lift_text : RuntimeItem → (signature checked unchecked : Bytes) → Bytes
 lift_text item signature checked unchecked =
-    word LiftFn ++ item_name item ++ signature ++ word IfDebug ++ checked ++ word Otherwise ++ unchecked ++ word LiftEnd
+    lift_word LiftFn ++ item_name item ++ signature ++ lift_word IfDebug ++ checked ++ lift_word Otherwise ++ unchecked ++ lift_word LiftEnd
 
 abbrev pub runtime_item_text : RuntimeItem → Bytes
 runtime_item_text AsI32 =
@@ -52,9 +55,9 @@ runtime_item_text AsI32 =
 runtime_item_text AsI64 = conversion_text AsI64 (codes "AsI64") (codes "i64") (codes "i64" ∷ codes "u64" ∷ [])
 runtime_item_text AsF32 = conversion_text AsF32 (codes "AsF32") (codes "f32") (codes "f32" ∷ [])
 runtime_item_text AsF64 = conversion_text AsF64 (codes "AsF64") (codes "f64") (codes "f64" ∷ [])
-runtime_item_text AllocCrate = word ExternCrate ++ item_name AllocCrate ++ word StatementEnd
-runtime_item_text StringType = alloc_type_text StringType (word StringPath)
-runtime_item_text VecType = alloc_type_text VecType (word VecPath)
-runtime_item_text BoolLift = lift_text BoolLift (word BoolLiftType) (word CheckedBool) (word UncheckedBool)
-runtime_item_text CharLift = lift_text CharLift (word CharLiftType) (word CheckedChar) (word UncheckedChar)
-runtime_item_text StringLift = lift_text StringLift (word StringLiftType) (word CheckedString) (word UncheckedString)
+runtime_item_text AllocCrate = runtime_word ExternCrate ++ item_name AllocCrate ++ sign StatementEnd
+runtime_item_text StringType = alloc_type_text StringType (runtime_word StringPath)
+runtime_item_text VecType = alloc_type_text VecType (runtime_word VecPath)
+runtime_item_text BoolLift = lift_text BoolLift (lift_word BoolLiftType) (lift_word CheckedBool) (lift_word UncheckedBool)
+runtime_item_text CharLift = lift_text CharLift (lift_word CharLiftType) (lift_word CheckedChar) (lift_word UncheckedChar)
+runtime_item_text StringLift = lift_text StringLift (lift_word StringLiftType) (lift_word CheckedString) (lift_word UncheckedString)

@@ -1,3 +1,4 @@
+use crate::export::{ExportFn, ModuleMacro, RootMacro, TraitItem};
 use crate::runtime_item::RuntimeItem;
 use crate::stmt::Block;
 use crate::type_expr::TypeExpr;
@@ -26,6 +27,14 @@ pub struct FnItem {
 pub enum Item {
     /// The wrapper of an imported function.
     Import(FnItem),
+    /// The wrapper of an exported function.
+    Export(ExportFn),
+    /// A trait of exported functions.
+    Trait(TraitItem),
+    /// The macro that exports the functions of a module.
+    ModuleMacro(ModuleMacro),
     /// The module `_rt`.
     Runtime(List<RuntimeItem>),
+    /// The macro that exports all functions of the file.
+    RootMacro(RootMacro),
 }

@@ -2,6 +2,7 @@
 #![tactic(auto)]
 
 mod bindings;
+mod export;
 mod expr;
 mod ident;
 mod item;
@@ -16,6 +17,9 @@ mod type_expr;
 mod wrappers;
 
 pub use bindings::Bindings;
+pub use export::{
+    CallBlock, CoreParam, ExportEntry, ExportFn, ModuleMacro, RootMacro, TraitFn, TraitItem,
+};
 pub use expr::{CastType, Expr};
 pub use ident::{is_ident, to_rust_ident};
 pub use item::{FnItem, FnParam, Item};

@@ -3,12 +3,16 @@
 mod area;
 mod conversion;
 mod core_import;
+mod export;
 mod expr;
 mod function;
+mod macros;
+mod named_param;
 mod path;
 mod runtime;
 mod size;
 mod stmt;
+mod trait_item;
 mod type_name;
 mod word;
 
@@ -18,18 +22,21 @@ ghost use Rattle.rust_tree.specs.Text.{item_text, option_text, text};
 
 use crate::bindings::Bindings;
 use crate::item::Item;
+use export::push_export;
 use function::push_function;
+use macros::{push_module_macro, push_root_macro};
 use runtime::push_runtime;
 use std::alloc::Global;
+use trait_item::push_trait;
 use wit_model::{OutOfMemory, Text};
-use word::{Word, put};
+use word::{ItemWord, Sign};
 
 fn push_options(out: &mut Text, options: &[Text]) -> Result<(), OutOfMemory>
     ensures { OnOk result (out.new ≡ out.old ++ flat_map option_text options.now) }
 {
     for line in options {
         out.push_str(line.as_str())?;
-        put(out, Word::LineEnd)?;
+        Sign::LineEnd.put(out)?;
     }
     Ok(())
 }
@@ -39,7 +46,11 @@ fn push_item(out: &mut Text, item: &Item) -> Result<(), OutOfMemory>
 {
     match item {
         Item::Import(function) => push_function(out, function),
+        Item::Export(function) => push_export(out, function),
+        Item::Trait(item) => push_trait(out, item),
+        Item::ModuleMacro(item) => push_module_macro(out, item),
         Item::Runtime(items) => push_runtime(out, items.as_slice()),
+        Item::RootMacro(item) => push_root_macro(out, item),
     }
 }
 
@@ -57,7 +68,7 @@ pub fn text_of(alloc: Global, tree: &Bindings) -> Result<Text, OutOfMemory>
     ensures { IfOk result (λ t. t ≡ text tree.now) }
 {
     let mut out = Text::new(alloc);
-    put(&mut out, Word::Preamble)?;
+    ItemWord::Preamble.put(&mut out)?;
     push_options(&mut out, tree.options())?;
     push_items(&mut out, tree.items())?;
     Ok(out)

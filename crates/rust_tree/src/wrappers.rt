@@ -1,5 +1,5 @@
 ghost use Rattle.std.specs.Prelude.{◌≡◌, ◌+◌, IfOk, length};
-ghost use Rattle.rust_tree.specs.Tree.{item_count, wrapper_count, wrappers_from};
+ghost use Rattle.rust_tree.specs.Tree.{item_count, wrapped_side, wrapper_count, wrappers_from};
 
 use crate::item::Item;
 use crate::place::{FuncPlace, ItemId, WrapperInfo};
@@ -11,11 +11,11 @@ fn numbers_in(item: &Item) -> Result<u32, OutOfMemory>
     ensures { IfOk result (λ n. n ≡ item_count item.now) }
 {
     match item {
-        Item::Import(_) => Ok(1),
         Item::Runtime(parts) => {
             let parts = u32::try_from(parts.len()).map_err(|_| OutOfMemory)?;
             parts.checked_add(1).ok_or(OutOfMemory)
         }
+        _ => Ok(1),
     }
 }
 
@@ -25,6 +25,17 @@ fn number_after(next: u32, item: &Item) -> Result<u32, OutOfMemory>
 {
     let count = numbers_in(item)?;
     next.checked_add(count).ok_or(OutOfMemory)
+}
+
+/// Whether an item is a wrapper: that of an import, or that of an export.
+fn wrapped_side(item: &Item) -> Option<bool>
+    ensures { result ≡ wrapped_side item.now }
+{
+    match item {
+        Item::Import(_) => Some(true),
+        Item::Export(_) => Some(false),
+        _ => None,
+    }
 }
 
 /// The wrappers among the root items, with the places of the functions that they wrap.
@@ -40,11 +51,11 @@ pub(crate) fn wrappers_of(
     let mut next = 1;
     let mut at = 0;
     for item in items {
-        if let Item::Import(_) = item {
+        if let Some(import) = wrapped_side(item) {
             wrappers.push(WrapperInfo {
                 item: ItemId(next),
                 place: places[at],
-                import: true,
+                import,
             })?;
             at += 1;
         }

@@ -10,7 +10,7 @@ use Rattle.wit_model.specs.declared.world.WorldKey.TheVariants as key
 use Rattle.wit_model.specs.declared.world.WorldItem.{WorldItem}
 use Rattle.wit_model.specs.declared.world.WorldItem.TheVariants as entry
 use Rattle.serde_json.specs.Data.{Data}
-use Rattle.wit_document.specs.Members.{◌>>=◌, text_of, all_of, empty_of, only, required, optional}
+use Rattle.wit_document.specs.Members.{◌>>=◌, text_of, all_of, only, required, optional}
 use Rattle.wit_document.specs.Name.{name_of}
 use Rattle.wit_document.specs.Types.{id_of}
 use Rattle.wit_document.specs.Function.{function_of}
@@ -34,8 +34,9 @@ package_of d = do
 abbrev pub function_entry : Function → WorldKey × WorldItem
 function_entry f = (key.Name f.name, entry.Function f)
 
-unfoldable pub import_of : Data → Option (WorldKey × WorldItem)
-import_of d = do
+-- an import or an export
+unfoldable pub entry_of : Data → Option (WorldKey × WorldItem)
+entry_of d = do
   _ ← only (codes "function" ∷ []) d
   function ← required function_of (codes "function") d
   Some (function_entry function)
@@ -45,6 +46,6 @@ world_of d = do
   _ ← only (codes "name" ∷ codes "package" ∷ codes "imports" ∷ codes "exports" ∷ []) d
   name ← required name_of (codes "name") d
   package_id ← required package_id_of (codes "package") d
-  imports ← required (all_of import_of) (codes "imports") d
-  exports ← required empty_of (codes "exports") d
+  imports ← required (all_of entry_of) (codes "imports") d
+  exports ← required (all_of entry_of) (codes "exports") d
   Some (record { name = name; «package» = package_id; imports = imports; exports = exports })

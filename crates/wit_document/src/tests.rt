@@ -202,7 +202,16 @@ const WRONG: &[(&str, &str, &str)] = &[
         r#""interfaces":null"#,
     ),
     ("a type in the table", r#""types":[]"#, r#""types":[{}]"#),
-    ("an export", r#""exports":[]"#, r#""exports":[{}]"#),
+    (
+        "an export of nothing",
+        r#""exports":[]"#,
+        r#""exports":[{}]"#,
+    ),
+    (
+        "an exported interface",
+        r#""exports":[]"#,
+        r#""exports":[{"interface":0}]"#,
+    ),
     ("exports in an object", r#""exports":[]"#, r#""exports":{}"#),
     (
         "docs in an object",
@@ -459,6 +468,17 @@ const RIGHT: &[(&str, &str, &str, &str, &str)] = &[
         r#""ty":"error-context""#,
         "ty: U32",
         "ty: ErrorContext",
+    ),
+    (
+        "an export",
+        r#""exports":[]"#,
+        r#""exports":[{"function":{"name":{"wit":"e","snake":"s","camel":"C","upper":"U"},"kind":"freestanding","params":[]}}]"#,
+        "exports: List { items: [] }",
+        concat!(
+            r#"exports: List { items: [(Name(Name { wit: Text { inner: "e" }, snake: Text { inner: "s" }, camel: Text { inner: "C" }, upper: Text { inner: "U" } }), "#,
+            r#"Function(Function { name: Name { wit: Text { inner: "e" }, snake: Text { inner: "s" }, camel: Text { inner: "C" }, upper: Text { inner: "U" } }, "#,
+            "kind: Freestanding, params: List { items: [] }, result: None, docs: Docs { contents: None } }))] }",
+        ),
     ),
     (
         "a type of the table",

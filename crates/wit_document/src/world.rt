@@ -1,7 +1,7 @@
-ghost use Rattle.wit_document.specs.World.{world_id_of, package_id_of, package_of, import_of, world_of};
+ghost use Rattle.wit_document.specs.World.{world_id_of, package_id_of, package_of, entry_of, world_of};
 
 use crate::fault::DocumentFault;
-use crate::members::{empty_list, only, optional, required};
+use crate::members::{only, optional, required};
 use crate::name::copy_of_name;
 use crate::reading::Readable;
 use serde_json::Value;
@@ -41,9 +41,9 @@ impl Readable for Package {
     }
 }
 
-#[tactic(auto, unfolding(crate::specs::World::import_of))]
+#[tactic(auto, unfolding(crate::specs::World::entry_of))]
 impl Readable for (WorldKey, WorldItem) {
-    ghost read_of = { import_of };
+    ghost read_of = { entry_of };
 
     fn read(alloc: Global, value: &Value) -> Result<(WorldKey, WorldItem), DocumentFault> {
         only(value, &["function"])?;
@@ -63,7 +63,7 @@ impl Readable for World {
             name: required(alloc, value, "name")?,
             package: required(alloc, value, "package")?,
             imports: required(alloc, value, "imports")?,
-            exports: empty_list(alloc, value, "exports")?,
+            exports: required(alloc, value, "exports")?,
         })
     }
 }

@@ -1,6 +1,8 @@
 //! Makes the Rust bindings file of a resolved WIT world: the document comes in on standard input, the file goes out.
 #![tactic(auto)]
 
+#[cfg(test)]
+mod exports;
 mod input;
 mod made;
 mod outcome;

@@ -2,6 +2,7 @@ mod Examples
 pub mod HeapLemmas
 pub mod LocalLemmas
 pub mod MemoryLemmas
+pub mod MethodLemmas
 pub mod NumberLemmas
 pub mod OwningLemmas
 pub mod StepLemmas

@@ -1,21 +1,18 @@
 -- What the machine reads by a name.
-use Rattle.std.proofs.Common.{◌≡◌, ◌||◌, Bool, true, false, not, cond, List, [], ◌∷◌, ◌++◌, Option, None, Some, map, refl, sym, ap, ◌∙◌}
+use Rattle.std.proofs.Common.{◌≡◌, ◌||◌, Bool, true, false, not, cond, List, [], ◌∷◌, ◌++◌, Option, None, Some, refl, sym, ap, ◌∙◌}
 use Rattle.std.specs.List.{list_any}
 use Rattle.std.specs.Option.{option_or}
 use Rattle.std.specs.Str.{bytes_eq}
 use Rattle.std.proofs.lemmas.Bool.{and_parts, not-true, or_parts}
 use Rattle.std.proofs.lemmas.Slice.Eq.{bytes_eq-Decides}
 use Rattle.wit_model.specs.Distinct.{is_distinct}
-use Rattle.rust_tree.specs.declared.item.FnParam.{FnParam}
 use Rattle.rust_tree.specs.declared.stmt.ImportDecl.{ImportDecl}
-use Rattle.wrapper_data.specs.declared.value.RustValue.{RustValue}
 use Rattle.wrapper_run.specs.declared.state.Local.{Local}
 use Rattle.wrapper_run.specs.declared.state.Val.{Val}
-use Rattle.wrapper_run.specs.declared.state.Val.TheVariants as val
 use Rattle.std.proofs.Math.Bool.{or-false, or-true}
 use Rattle.std.proofs.lemmas.List.Folds.{list_any-append}
 use Rattle.wrapper_run.specs.Locals.{Bytes, emptied, import_named, last, local_named, moved, value_of}
-use Rattle.wrapper_run.specs.Run.{bound_args}
+use Rattle.wrapper_run.specs.Run.{bound}
 
 -- the last of a list
 
@@ -51,54 +48,51 @@ reads-new name v locals =
 pub declared-alone : (d : ImportDecl) → import_named d.name (d ∷ []) ≡ Some d
 declared-alone d = ap (λ b. cond b (Some d) None) (bytes_eq-same d.name)
 
--- parameters
+-- names with their values
 
-abbrev pub names_of : List FnParam → List Bytes
-names_of params = map (λ p. p.name) params
-
--- a name that is no parameter's reads nothing
-pub unbound : (params : List FnParam) (args : List RustValue) (name : Bytes) → list_any (λ u. bytes_eq u name) (names_of params) ≡ false → local_named name (bound_args params args) ≡ None
-unbound [] args name e = refl
-unbound (p ∷ params) [] name e = refl
-unbound (p ∷ params) (a ∷ args) name e =
-    let parts = or_parts (bytes_eq p.name name) (list_any (λ u. bytes_eq u name) (names_of params)) e in
-    last-skips (λ (l : Local). bytes_eq l.name name) (record { name = p.name; value = Some (val.Value a) }) (bound_args params args) (unbound params args name parts.1) parts.0
+-- a name that is none of them reads nothing
+pub unbound : (names : List Bytes) (vs : List Val) (name : Bytes) → list_any (λ u. bytes_eq u name) names ≡ false → local_named name (bound names vs) ≡ None
+unbound [] vs name e = refl
+unbound (n ∷ names) [] name e = refl
+unbound (n ∷ names) (v ∷ vs) name e =
+    let parts = or_parts (bytes_eq n name) (list_any (λ u. bytes_eq u name) names) e in
+    last-skips (λ (l : Local). bytes_eq l.name name) (record { name = n; value = Some v }) (bound names vs) (unbound names vs name parts.1) parts.0
 
 -- each name reads its value
-abbrev pub ReadsAll : List Bytes → List RustValue → List Local → Type 0
-ReadsAll [] rs locals = rs ≡ []
+abbrev pub ReadsAll : List Bytes → List Val → List Local → Type 0
+ReadsAll [] vs locals = vs ≡ []
 ReadsAll (name ∷ names) [] locals = ⊥
-ReadsAll (name ∷ names) (r ∷ rs) locals = (value_of (local_named name locals) ≡ Some (val.Value r)) × ReadsAll names rs locals
+ReadsAll (name ∷ names) (v ∷ vs) locals = (value_of (local_named name locals) ≡ Some v) × ReadsAll names vs locals
 
 value-stays : (o p : Option Local) (v : Val) → value_of o ≡ Some v → value_of (option_or o p) ≡ Some v
 value-stays None p v e = absurd (cc)
 value-stays (Some l) p v e = e
 
-reads-older : (names : List Bytes) (rs : List RustValue) (l : Local) (locals : List Local) → ReadsAll names rs locals → ReadsAll names rs (l ∷ locals)
-reads-older [] rs l locals h = h
+reads-older : (names : List Bytes) (vs : List Val) (l : Local) (locals : List Local) → ReadsAll names vs locals → ReadsAll names vs (l ∷ locals)
+reads-older [] vs l locals h = h
 reads-older (name ∷ names) [] l locals h = h
-reads-older (name ∷ names) (r ∷ rs) l locals h =
-    (value-stays (local_named name locals) (cond (bytes_eq l.name name) (Some l) None) (val.Value r) h.0, reads-older names rs l locals h.1)
+reads-older (name ∷ names) (v ∷ vs) l locals h =
+    (value-stays (local_named name locals) (cond (bytes_eq l.name name) (Some l) None) v h.0, reads-older names vs l locals h.1)
 
--- an argument for each parameter
-abbrev pub SameLength : List FnParam → List RustValue → Type 0
+-- a value for each name
+abbrev pub SameLength : List Bytes → List Val → Type 0
 SameLength [] [] = Unit {0}
-SameLength [] (a ∷ args) = ⊥
-SameLength (p ∷ params) [] = ⊥
-SameLength (p ∷ params) (a ∷ args) = SameLength params args
+SameLength [] (v ∷ vs) = ⊥
+SameLength (name ∷ names) [] = ⊥
+SameLength (name ∷ names) (v ∷ vs) = SameLength names vs
 
--- parameters of distinct names read their arguments
-pub reads_args : (params : List FnParam) (args : List RustValue) → is_distinct (names_of params) ≡ true → SameLength params args → ReadsAll (names_of params) args (bound_args params args)
-reads_args [] [] d s = refl
-reads_args [] (a ∷ args) d s = absurd s
-reads_args (p ∷ params) [] d s = s
-reads_args (p ∷ params) (a ∷ args) d s =
-    let bound : Local = record { name = p.name; value = Some (val.Value a) } in
-    let parts = and_parts (not (list_any (λ u. bytes_eq u p.name) (names_of params))) (is_distinct (names_of params)) d in
-    let free = not-true (list_any (λ u. bytes_eq u p.name) (names_of params)) parts.0 in (
-      ap (λ o. value_of (option_or o (cond (bytes_eq p.name p.name) (Some bound) None))) (unbound params args p.name free)
-          ∙ ap (λ b. value_of (cond b (Some bound) None)) (bytes_eq-same p.name),
-      reads-older (names_of params) args bound (bound_args params args) (reads_args params args parts.1 s),
+-- distinct names read their values
+pub reads_bound : (names : List Bytes) (vs : List Val) → is_distinct names ≡ true → SameLength names vs → ReadsAll names vs (bound names vs)
+reads_bound [] [] d s = refl
+reads_bound [] (v ∷ vs) d s = absurd s
+reads_bound (name ∷ names) [] d s = s
+reads_bound (name ∷ names) (v ∷ vs) d s =
+    let here : Local = record { name = name; value = Some v } in
+    let parts = and_parts (not (list_any (λ u. bytes_eq u name) names)) (is_distinct names) d in
+    let free = not-true (list_any (λ u. bytes_eq u name) names) parts.0 in (
+      ap (λ o. value_of (option_or o (cond (bytes_eq name name) (Some here) None))) (unbound names vs name free)
+          ∙ ap (λ b. value_of (cond b (Some here) None)) (bytes_eq-same name),
+      reads-older names vs here (bound names vs) (reads_bound names vs parts.1 s),
     )
 
 -- a value that is moved out

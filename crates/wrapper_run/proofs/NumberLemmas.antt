@@ -183,6 +183,14 @@ answered-bool b = answered-by prim.Bool (val.Value (value.Bool b)) (value.Bool b
 pub answered-char : (c : ℕ) → is_scalar c ≡ true → answer_of (type.Primitive prim.Char) (val.Value (value.Char c)) ≡ Some (Some (value.Char c))
 answered-char c e = answered-by prim.Char (val.Value (value.Char c)) (value.Char c) (ap (option_map value.Char) (char_of-char c e))
 
+-- and so are floats that are values already
+
+pub answered-f32-value : (bits : ℕ) → answer_of (type.Primitive prim.F32) (val.Value (value.F32 bits)) ≡ Some (Some (value.F32 bits))
+answered-f32-value bits = answered-by prim.F32 (val.Value (value.F32 bits)) (value.F32 bits) (ap (option_map value.F32) (f32_of-float bits))
+
+pub answered-f64-value : (bits : ℕ) → answer_of (type.Primitive prim.F64) (val.Value (value.F64 bits)) ≡ Some (Some (value.F64 bits))
+answered-f64-value bits = answered-by prim.F64 (val.Value (value.F64 bits)) (value.F64 bits) (ap (option_map value.F64) (f64_of-float bits))
+
 pub answered-unit : answer_of type.Unit (val.Value value.Unit) ≡ Some None
 unfolding answer_of
 answered-unit =

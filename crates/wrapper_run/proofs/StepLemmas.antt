@@ -27,7 +27,8 @@ use Rattle.wrapper_run.specs.Owning.{view}
 use Rattle.wrapper_run.specs.Locals.{ask_local}
 use Rattle.rust_tree.specs.declared.type_expr.TypeExpr.{TypeExpr}
 use Rattle.wrapper_run.specs.Effect.{answer_of}
-use Rattle.wrapper_run.specs.Run.{answer_and_leave}
+use Rattle.wrapper_run.specs.Run.{answer_and_leave, give_and_leave}
+use Rattle.std.proofs.Common.{drop, take}
 use Rattle.wrapper_run.specs.Blocks.{drop_value}
 use Rattle.wrapper_data.specs.Answered.{answered}
 use Rattle.wrapper_data.specs.declared.answer.Answer.{Answer}
@@ -46,7 +47,7 @@ use Rattle.wrapper_run.specs.Effect.{cast_integer, cast_to, converted, integer_o
 use Rattle.wrapper_run.specs.Locals.{Bytes, bind, lend_local, local_named, use_local, used, value_of}
 use Rattle.wrapper_run.specs.Owning.{lent, owned, owned_in}
 use Rattle.wrapper_run.specs.Setting.{Setting, failed, stuck}
-use Rattle.wrapper_run.specs.Blocks.{drop_local, drop_locals, free, free_owned, is_owned, leave, lift_buffer, lift_text, owned_bytes, tested}
+use Rattle.wrapper_run.specs.Blocks.{drop_local, drop_locals, free, free_owned, is_owned, keep_locals, leave_to, lift_buffer, lift_text, owned_bytes, tested}
 use Rattle.wrapper_run.specs.Run.{alone, of_runtime, call, call_callee, call_point, call_runtime, callee, answer_act, apply_one, converted_or_lifted, lift_act, ended, eval, eval_step, record_call, result_of, runtime_item_named, take_answer, apply_item}
 
 -- values
@@ -301,22 +302,34 @@ quiet_drops : (w : Setting) (locals : List Local) → Quiet (drop_locals w local
 quiet_drops w [] = quiet_pure tt
 quiet_drops w (l ∷ locals) = quiet_then (drop_locals w locals) (λ _. drop_local w l.value) (quiet_drops w locals) (λ _. quiet_free w (owned_in l.value))
 
-pub quiet_leave : (w : Setting) → Quiet (leave w)
-unfolding leave
-quiet_leave w = record { quiet = λ s. (quiet_drops w s.locals).quiet (record s { locals = [] }) }
+pub quiet_leave : (w : Setting) (kept : ℕ) → Quiet (leave_to w kept)
+unfolding leave_to
+quiet_leave w kept = record { quiet = λ s. go s (drop_locals w (drop kept s.locals) (record s { locals = [] })) ((quiet_drops w (drop kept s.locals)).quiet (record s { locals = [] })) }
+  where
+    go : (s : State) (o : Outcome (Unit {0})) → calls_at o ≡ s.calls → calls_at (and_then o (λ _. keep_locals (take kept s.locals))) ≡ s.calls
+    go s (Done u t) e = e
+    go s (Stopped x t) e = e
+
+pub quiet_give : {A : Type 0} (w : Setting) (o : Option A) → Quiet (give_and_leave w o)
+quiet_give w o =
+    quiet_then (or_stop (stuck w) o) (λ r. leave_to w 0 >> pure r) (quiet_or_stop (stuck w) o)
+    (λ r. quiet_then (leave_to w 0) (λ _. pure r) (quiet_leave w 0) (λ _. quiet_pure r))
 
 -- the answer of a body, and the end of its scope
 
 pub quiet_answers : (w : Setting) (ty : TypeExpr) (v : Val) → Quiet (answer_and_leave w ty v)
-quiet_answers w ty v =
-    quiet_then (or_stop (stuck w) (answer_of ty v)) (λ r. leave w >> pure r) (quiet_or_stop (stuck w) (answer_of ty v))
-    (λ r. quiet_then (leave w) (λ _. pure r) (quiet_leave w) (λ _. quiet_pure r))
+quiet_answers w ty v = quiet_give w (answer_of ty v)
 
 pub quiet_drop : (w : Setting) (v : Val) → Quiet (drop_value w v)
 quiet_drop w v = quiet_free w (owned v)
 
 -- where no local owns anything, nothing is freed
+
+pub gives_plain : {A : Type 0} (w : Setting) (o : Option A) (r : A) (s : State) → o ≡ Some r → ArePlain s.locals → give_and_leave w o s ≡ Done r (record s { locals = [] })
+unfolding leave_to
+gives_plain w o r s e p =
+    ap (λ o. and_then (or_stop (stuck w) o s) (λ r. leave_to w 0 >> pure r)) e
+    ∙ ap (λ o. and_then (and_then o (λ _. keep_locals [])) (λ _. pure r)) (drops_plain w s.locals (record s { locals = [] }) p)
+
 pub answers_plain : (w : Setting) (ty : TypeExpr) (v : Val) (r : Option RustValue) (s : State) → answer_of ty v ≡ Some r → ArePlain s.locals → answer_and_leave w ty v s ≡ Done r (record s { locals = [] })
-unfolding leave
-answers_plain w ty v r s e p =
-    ap (λ o. and_then (or_stop (stuck w) o s) (λ r. leave w >> pure r)) e ∙ ap (λ o. and_then o (λ _. pure r)) (drops_plain w s.locals (record s { locals = [] }) p)
+answers_plain w ty v r s e p = gives_plain w (answer_of ty v) r s e p

@@ -39,7 +39,7 @@ use Rattle.wrapper_data.specs.declared.answer.Answer.TheVariants as answer
 use Rattle.wrapper_data.specs.declared.value.RustValue.{RustValue-F, out-RustValue, the_lemmas as value_lemmas}
 use Rattle.rust_tree.specs.declared.expr.Expr.{the_lemmas}
 use Rattle.wrapper_run.specs.declared.owning.View.TheVariants as view_of
-use Rattle.wrapper_run.specs.Blocks.{drop_locals, free, free_owned, is_owned, leave, without_block}
+use Rattle.wrapper_run.specs.Blocks.{drop_locals, free, free_owned, is_owned, keep_locals, leave_to, without_block}
 use Rattle.wrapper_run.specs.Effect.{answer_as, answer_of, text_of_level}
 use Rattle.wrapper_run.specs.Locals.{ask_local}
 use Rattle.wrapper_run.specs.Owning.{owned_in}
@@ -227,8 +227,9 @@ unfolding free
 frees_one w b s h = ap (λ t. cond t (Done tt (without_block b s)) (Stopped (stuck w) s)) h
 
 pub leaves_one : (w : Setting) (front : List Local) (l : Local) (more : List Local) (b : ℕ × ℕ) (s : State) → s.locals ≡ (front ++ l ∷ []) ++ more → ArePlain front → owned_in l.value ≡ Some b → ArePlain more
-    → is_owned b (record s { locals = [] }) ≡ true → leave w s ≡ Done tt (without_block b (record s { locals = [] }))
-unfolding leave
+    → is_owned b (record s { locals = [] }) ≡ true → leave_to w 0 s ≡ Done tt (without_block b (record s { locals = [] }))
+unfolding leave_to
 leaves_one w front l more b s e p o q h =
-    ap (λ ls. drop_locals w ls (record s { locals = [] })) e ∙ drops_one w front l more b (record s { locals = [] }) p o q
-    ∙ ap (λ o. and_then o (λ _ t. Done tt t)) (frees_one w b (record s { locals = [] }) h)
+    ap (λ ls. and_then (drop_locals w ls (record s { locals = [] })) (λ _. keep_locals [])) e
+    ∙ ap (λ o. and_then o (λ _. keep_locals []))
+    (drops_one w front l more b (record s { locals = [] }) p o q ∙ ap (λ o. and_then o (λ _ t. Done tt t)) (frees_one w b (record s { locals = [] }) h))

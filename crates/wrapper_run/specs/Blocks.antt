@@ -1,5 +1,5 @@
 -- What is done to blocks: an area is placed, a block is taken over, a text is tested, and what a value owns is freed.
-use Rattle.std.specs.Prelude.{ℕ, zero, suc, ◌-◌, ◌%◌, ◌^◌, Bool, true, not, ◌&&◌, ◌||◌, nat_eq, nat_lt, if◌then◌else◌, List, [], ◌∷◌, ◌++◌, Option, None, Some, filter, is_some, option_and_then}
+use Rattle.std.specs.Prelude.{ℕ, zero, suc, ◌-◌, ◌%◌, ◌^◌, Bool, true, not, ◌&&◌, ◌||◌, nat_eq, nat_lt, if◌then◌else◌, List, [], ◌∷◌, ◌++◌, Option, None, Some, filter, drop, take, is_some, option_and_then}
 use Rattle.std.specs.Str.{is_utf8}
 use Rattle.wit_model.specs.Size.{alignment_at, bytes_at}
 use Rattle.rust_tree.specs.declared.stmt.ReturnArea.{ReturnArea}
@@ -112,10 +112,14 @@ drop_value w v = free_owned w (owned v)
 abbrev pub drop_local : Setting → Option Val → Act (Unit {0})
 drop_local w value = free_owned w (owned_in value)
 
--- a scope ends: its locals are dropped, the newest first
+-- locals are dropped, the newest first
 abbrev pub drop_locals : Setting → List Local → Act (Unit {0})
 drop_locals w [] = pure tt
 drop_locals w (l ∷ locals) = drop_locals w locals >> drop_local w l.value
 
-unfoldable pub leave : Setting → Act (Unit {0})
-leave w = λ s. drop_locals w s.locals (record s { locals = [] })
+abbrev pub keep_locals : List Local → Act (Unit {0})
+keep_locals locals = λ s. Done tt (record s { locals = locals })
+
+-- a scope ends: its locals are dropped, and so many stay, which were there before it
+unfoldable pub leave_to : Setting → ℕ → Act (Unit {0})
+leave_to w kept = λ s. (drop_locals w (drop kept s.locals) >> keep_locals (take kept s.locals)) (record s { locals = [] })

@@ -1,6 +1,7 @@
--- When the peer of an import is honest at a call: its answer represents a value of the result type, and it adds and writes
+-- When the other side is honest at a call. The peer of an import is, where its answer represents a value of the result type, and it adds and writes
 -- nothing that the result does not hold. A scalar is one word. A text is written to the area that the call's last word names,
--- as an address and a length, and comes with its block.
+-- as an address and a length, and comes with its block. The implementation of an export is honest, where its value stands for
+-- a value of the result type; so far it may leave any heap, since no value has a block.
 use Rattle.std.specs.Prelude.{◌≡◌, ℕ, ◌+◌, ◌<◌, ◌≤◌, Bool, true, not, ◌&&◌, List, [], ◌∷◌, length, Option, None, Some}
 use Rattle.std.specs.List.{list_all}
 use Rattle.wit_model.specs.declared.size.WasmType.TheVariants as core
@@ -10,6 +11,7 @@ use Rattle.wrapper_data.specs.declared.answer.Answer.TheVariants as answer
 use Rattle.wrapper_data.specs.declared.heap.Block.{Block}
 use Rattle.wrapper_data.specs.declared.heap.Heap.{Heap}
 use Rattle.wrapper_data.specs.declared.run.CallPoint.{CallPoint}
+use Rattle.wrapper_data.specs.declared.value.RustValue.{RustValue}
 use Rattle.wrapper_data.specs.declared.word.Word.{Word}
 use Rattle.wrapper_data.specs.declared.word.Word.TheVariants as word
 use Rattle.wrapper_data.specs.Answered.{answered}
@@ -17,7 +19,7 @@ use Rattle.wrapper_data.specs.Heap.{are_apart, is_block, overlaps_any}
 use Rattle.wrapper_run.specs.Locals.{last}
 use Rattle.wrapper_run.specs.Memory.{loaded}
 use Rattle.wrapper_run.specs.Represents.{Takes}
-use Rattle.wrapper_run.specs.StandsFor.{IsTextBlock}
+use Rattle.wrapper_run.specs.StandsFor.{IsTextBlock, rust_value}
 use Rattle.wrapper_run.specs.Value.{WitValue, scalar, text}
 
 -- the bytes are written from an address on, and behind the last of so many
@@ -51,3 +53,12 @@ HonestPeer None None a c = a ≡ answer.Words None [] []
 HonestPeer (Some ty) (Some (scalar v)) a c = (w : Word) × (a ≡ answer.Words (Some w) [] []) × Takes ty v w
 HonestPeer (Some ty) (Some (text bytes)) a c = AnswersText bytes a c
 HonestPeer _ _ a c = ⊥
+
+-- the heap that an implementation leaves
+abbrev pub Leaves : Heap → Option RustValue → Answer → Type 0
+Leaves heap r a = a ≡ answer.Value r heap
+
+abbrev pub HonestImplementation : Option WitType → Option WitValue → Answer → CallPoint → Type 0
+HonestImplementation None None a c = (heap : Heap) × Leaves heap None a
+HonestImplementation (Some ty) (Some (scalar v)) a c = (heap : Heap) × Leaves heap (Some (rust_value ty v)) a
+HonestImplementation _ _ a c = ⊥

@@ -1,5 +1,7 @@
 pub mod Act
 pub mod Effect
+pub mod ExportFaithful
+pub mod ExportRun
 pub mod Faithful
 pub mod Honest
 pub mod Areas

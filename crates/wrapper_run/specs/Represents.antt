@@ -1,5 +1,6 @@
--- Which core words represent a value: as an import's argument (lend), and as its result (take).
-use Rattle.std.specs.Prelude.{◌≡◌, ℕ, ℤ, pos, unsigned_abs, List, [], ◌∷◌, ◌++◌, length, Some}
+-- Which core words represent a value: as an import's argument (lend) and an export's result (give), and as an import's result or
+-- an export's argument (take).
+use Rattle.std.specs.Prelude.{◌≡◌, ℕ, ℤ, pos, unsigned_abs, List, [], ◌∷◌, ◌++◌, length, Option, None, Some}
 use Rattle.std.specs.Int.{w8, w16, cast_signed}
 use Rattle.wit_model.specs.declared.types.WitType.{WitType}
 use Rattle.wit_model.specs.declared.types.WitType.TheVariants as wit
@@ -64,3 +65,19 @@ Takes ty (number z) w = TakesNumber ty z w
 Takes ty (f32 bits) w = w ≡ word.F32 bits
 Takes ty (f64 bits) w = w ≡ word.F64 bits
 Takes ty (char c) w = (z : ℤ) × (w ≡ word.I32 z) × (pos c ≡ low 32 z)
+
+-- the words of an export's arguments. So far each is a scalar, of one word
+abbrev pub TakesWords : WitType → WitValue → List Word → Type 0
+TakesWords ty (scalar v) ws = (w : Word) × (ws ≡ w ∷ []) × Takes ty v w
+TakesWords ty (text bytes) ws = ⊥
+
+abbrev pub TakesAll : List WitType → List WitValue → List Word → Type 0
+TakesAll [] [] ws = ws ≡ []
+TakesAll (ty ∷ types) (v ∷ vs) ws = (first : List Word) × (rest : List Word) × (ws ≡ first ++ rest) × TakesWords ty v first × TakesAll types vs rest
+TakesAll _ _ ws = ⊥
+
+-- give: a scalar is one word, as where it is lent
+abbrev pub GivesResult : Option WitType → Option WitValue → List Word → Type 0
+GivesResult None None ws = ws ≡ []
+GivesResult (Some ty) (Some (scalar v)) ws = (w : Word) × (ws ≡ w ∷ []) × Lends ty v w
+GivesResult _ _ ws = ⊥

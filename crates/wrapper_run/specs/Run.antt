@@ -1,5 +1,5 @@
 -- What a wrapper's run is: structural over the finished tree, with an answer for the other side.
-use Rattle.std.specs.Prelude.{◌+◌, ℕ, zero, suc, Bool, false, List, [], ◌∷◌, ◌++◌, codes, Option, None, Some, Result, Ok, Err, option_and_then, if◌then◌else◌, find, slice_get}
+use Rattle.std.specs.Prelude.{◌+◌, ℕ, zero, suc, Bool, false, List, [], ◌∷◌, ◌++◌, codes, Option, None, Some, Result, Ok, Err, option_and_then, if◌then◌else◌, find, map, slice_get}
 use Rattle.std.specs.Option.{option_map, option_or}
 use Rattle.std.specs.Str.{bytes_eq}
 use Rattle.wit_model.specs.declared.size.ArchitectureSize.{ArchitectureSize}
@@ -43,7 +43,7 @@ use Rattle.wrapper_run.specs.declared.owning.View.TheVariants as view_of
 use Rattle.wrapper_run.specs.declared.state.Val.{Val}
 use Rattle.wrapper_run.specs.declared.state.Val.TheVariants as val
 use Rattle.wrapper_run.specs.Setting.{Setting, failed, stuck}
-use Rattle.wrapper_run.specs.Blocks.{declare_area, drop_value, leave, lift_text, take_over}
+use Rattle.wrapper_run.specs.Blocks.{declare_area, drop_value, leave_to, lift_text, take_over}
 use Rattle.wrapper_run.specs.Memory.{loaded}
 use Rattle.wrapper_run.specs.Owning.{taken_by}
 use Rattle.wrapper_run.specs.Act.{Act, Outcome, Done, Stopped, ◌>>=◌, ◌>>◌, all, or_stop, pure, stop}
@@ -56,8 +56,8 @@ abbrev pub runtime_item_in : List RuntimeItem → Bytes → Option RuntimeItem
 runtime_item_in parts name = find (λ i. bytes_eq (item_name i) name) parts
 
 abbrev pub found_in : Item → Bytes → Option RuntimeItem
-found_in (item.Import _) name = None
 found_in (item.Runtime parts) name = runtime_item_in parts name
+found_in _ name = None
 
 -- the runtime item of this name, in the first `_rt` that has one
 abbrev pub runtime_item_named : List Item → Bytes → Option RuntimeItem
@@ -213,54 +213,63 @@ run_block w b = run_stmts w b.stmts >> run_tail w b.tail
 
 -- the whole run of an import's wrapper
 
--- the parameters with their arguments
-abbrev pub bound_args : List FnParam → List RustValue → List Local
-bound_args [] args = []
-bound_args (p ∷ params) [] = []
-bound_args (p ∷ params) (a ∷ args) = record { name = p.name; value = Some (val.Value a) } ∷ bound_args params args
+-- names with their values
+abbrev pub bound : List Bytes → List Val → List Local
+bound [] vs = []
+bound (name ∷ names) [] = []
+bound (name ∷ names) (v ∷ vs) = record { name = name; value = Some v } ∷ bound names vs
 
--- the locals are dropped once the value is there
+abbrev pub bound_args : List FnParam → List RustValue → List Local
+bound_args params args = bound (map (λ p. p.name) params) (map val.Value args)
+
+-- the locals are dropped once the result is there
+abbrev pub give_and_leave : {A : Type 0} → Setting → Option A → Act A
+give_and_leave w given = or_stop (stuck w) given >>= (λ r. leave_to w 0 >> pure r)
+
 abbrev pub answer_and_leave : Setting → TypeExpr → Val → Act (Option RustValue)
-answer_and_leave w ty v = or_stop (stuck w) (answer_of ty v) >>= (λ r. leave w >> pure r)
+answer_and_leave w ty v = give_and_leave w (answer_of ty v)
 
 abbrev pub run_fn : Setting → FnItem → Act (Option RustValue)
 run_fn w f = run_block w f.body >>= answer_and_leave w f.result
 
+-- a run begins with its parameters, a heap, choices, and the blocks that owners have
+abbrev pub begin : List Local → List ℕ → Heap → Choices → State
+begin locals taken heap choices = record { locals = locals; imports = []; heap = heap; choices = choices.list; requests = []; calls = []; taken = taken }
+
 abbrev pub start : FnItem → List RustValue → Heap → Choices → State
-start f args heap choices = record {
-  locals = bound_args f.params args;
-  imports = [];
-  heap = heap;
-  choices = choices.list;
-  requests = [];
-  calls = [];
-  taken = taken_by args;
-}
+start f args heap choices = begin (bound_args f.params args) (taken_by args) heap choices
 
 -- the run that ends at a state
-abbrev pub run_at : Stop → Option RustValue → State → Run
-run_at e v s = record { stop = e; calls = s.calls; requests = s.requests; heap = s.heap; words = []; value = v }
+abbrev pub run_at : Stop → List Word → Option RustValue → State → Run
+run_at e words v s = record { stop = e; calls = s.calls; requests = s.requests; heap = s.heap; words = words; value = v }
 
 abbrev pub ended : Outcome (Option RustValue) → Run
-ended (Done v s) = run_at stop_of.Done v s
-ended (Stopped e s) = run_at e None s
+ended (Done v s) = run_at stop_of.Done [] v s
+ended (Stopped e s) = run_at e [] None s
 
 -- the run of a wrapper
 unfoldable pub run_item : Setting → FnItem → List RustValue → Heap → Choices → Run
 run_item w f args heap choices = ended (run_fn w f (start f args heap choices))
 
--- the import wrapper of a place among the import wrappers, counted from 0
+-- the import wrapper that is the wrapper of this number, counted from 0, among those of imports and of exports
 abbrev pub import_nth : ℕ → List Item → Option FnItem
 import_nth nth [] = None
 import_nth zero (item.Import f ∷ items) = Some f
+import_nth zero (item.Export e ∷ items) = None
 import_nth (suc nth) (item.Import f ∷ items) = import_nth nth items
-import_nth nth (item.Runtime parts ∷ items) = import_nth nth items
+import_nth (suc nth) (item.Export e ∷ items) = import_nth nth items
+import_nth nth (_ ∷ items) = import_nth nth items
 
--- the item of a wrapper, with its number
-abbrev pub wrapper_of : Tree → ℕ → Option (ℕ × FnItem)
-wrapper_of t nth = option_and_then (λ f. option_map (λ w. (w.item.0, f)) (slice_get (wrappers_of t) nth)) (import_nth nth t.items)
+-- a wrapper, with the number of its item
+abbrev pub numbered : {A : Type 0} → Tree → ℕ → A → Option (ℕ × A)
+numbered t nth wrapper = option_map (λ info. (info.item.0, wrapper)) (slice_get (wrappers_of t) nth)
 
--- the run of a tree's wrapper
+abbrev pub import_at : Tree → ℕ → Option (ℕ × FnItem)
+import_at t nth = option_and_then (numbered t nth) (import_nth nth t.items)
+
+abbrev pub setting_of : Tree → ℕ → Answer → Form → Setting
+setting_of t number a form = record { items = t.items; item = number; answer = a; form = form }
+
+-- the run of a tree's import wrapper
 abbrev pub import_run : Tree → ℕ → List RustValue → Heap → Choices → Answer → Form → Option Run
-import_run t nth args heap choices a form =
-    option_map (λ w. run_item (record { items = t.items; item = w.0; answer = a; form = form }) w.1 args heap choices) (wrapper_of t nth)
+import_run t nth args heap choices a form = option_map (λ w. run_item (setting_of t w.0 a form) w.1 args heap choices) (import_at t nth)

@@ -39,3 +39,13 @@ StandsResult None None r blocks = (r ≡ None) × (blocks ≡ [])
 StandsResult (Some ty) (Some (scalar v)) r blocks = (r ≡ Some (rust_value ty v)) × (blocks ≡ [])
 StandsResult (Some ty) (Some (text bytes)) r blocks = (p : ℕ) × (0 < p) × (r ≡ Some (value.Buffer p (length bytes) true)) × IsTextBlock p bytes blocks
 StandsResult _ _ r blocks = ⊥
+
+-- an argument of an export's method. So far each is a scalar
+abbrev pub StandsOwned : WitType → WitValue → RustValue → Type 0
+StandsOwned ty (scalar v) r = r ≡ rust_value ty v
+StandsOwned ty (text bytes) r = ⊥
+
+abbrev pub StandAllOwned : List WitType → List WitValue → List RustValue → Type 0
+StandAllOwned [] [] rs = rs ≡ []
+StandAllOwned (ty ∷ types) (v ∷ vs) rs = (r : RustValue) × (rest : List RustValue) × (rs ≡ r ∷ rest) × StandsOwned ty v r × StandAllOwned types vs rest
+StandAllOwned _ _ rs = ⊥

@@ -299,11 +299,20 @@ fn drop_locals(
     }
 }
 
-/// Ends the body's scope: its locals are dropped, the newest first.
-#[tactic(auto, unfolding(crate::specs::Blocks::leave))]
-pub(crate) fn leave(alloc: Global, world: &World, state: &mut State) -> Result<(), Halt>
-    ensures { Runs (spec.leave (setting world.now) state.old) result state.new }
+/// Ends a scope: its locals are dropped, the newest first, and so many stay, which were there before it.
+#[tactic(auto, unfolding(crate::specs::Blocks::leave_to))]
+pub(crate) fn leave_to(
+    alloc: Global,
+    world: &World,
+    state: &mut State,
+    kept: usize,
+) -> Result<(), Halt>
+    ensures { Runs (spec.leave_to (setting world.now) kept state.old) result state.new }
 {
-    let locals = mem::replace(&mut state.locals, List::new(alloc));
-    drop_locals(alloc, world, state, locals.as_slice())
+    let mut locals = mem::replace(&mut state.locals, List::new(alloc)).into_vec();
+    let first = kept.min(locals.len());
+    drop_locals(alloc, world, state, &locals[first..])?;
+    locals.truncate(kept);
+    state.locals = List::from_vec(locals);
+    Ok(())
 }

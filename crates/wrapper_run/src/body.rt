@@ -30,7 +30,12 @@ fn run_stmt(alloc: Global, world: &World, state: &mut State, s: &Stmt) -> Result
     }
 }
 
-fn run_stmts(alloc: Global, world: &World, state: &mut State, stmts: &[Stmt]) -> Result<(), Halt>
+pub(crate) fn run_stmts(
+    alloc: Global,
+    world: &World,
+    state: &mut State,
+    stmts: &[Stmt],
+) -> Result<(), Halt>
     ensures { Runs (spec.run_stmts (setting world.now) stmts.now state.old) result state.new }
 {
     for s in stmts {

@@ -36,7 +36,8 @@ fn is_word_of(ty: WasmType, w: Word) -> bool
     }
 }
 
-fn word_of(ty: WasmType, v: &Val) -> Option<Word>
+/// The word that a value is, if it is a core value of this type.
+pub(crate) fn word_of(ty: WasmType, v: &Val) -> Option<Word>
     ensures { result ≡ word_of ty v.now }
 {
     match v {
@@ -116,8 +117,8 @@ fn found_in(item: &Item, name: &str) -> Option<RuntimeItem>
     ensures { result ≡ spec.found_in item.now name.now }
 {
     match item {
-        Item::Import(_) => None,
         Item::Runtime(parts) => runtime_item_in(parts.as_slice(), name),
+        _ => None,
     }
 }
 

@@ -341,7 +341,7 @@ fn text_of(v: &Val) -> Option<RustValue>
     }
 }
 
-fn is_unit(v: &Val) -> bool
+pub(crate) fn is_unit(v: &Val) -> bool
     ensures { result ≡ spec.is_unit v.now }
 {
     match v {

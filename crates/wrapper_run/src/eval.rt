@@ -118,7 +118,12 @@ pub(crate) fn eval(alloc: Global, world: &World, state: &mut State, e: &Expr) ->
 }
 
 #[cycle(eval)]
-fn eval_all(alloc: Global, world: &World, state: &mut State, es: &[Expr]) -> Result<List<Val>, Halt>
+pub(crate) fn eval_all(
+    alloc: Global,
+    world: &World,
+    state: &mut State,
+    es: &[Expr],
+) -> Result<List<Val>, Halt>
     ensures { Runs (all (map (spec.eval (setting world.now)) es.now) state.old) result state.new }
 {
     let mut vs = List::new(alloc);

@@ -1,10 +1,11 @@
 ghost use Rattle.std.specs.Prelude.{◌≡◌, ◌++◌, ◌<◌, IfOk, IsSome, OnOk, Some, option_map, slice_get};
 ghost use Rattle.std.specs.Option.{option_copied};
+ghost use Rattle.rust_tree.specs.Tree.{wrappers_of};
 ghost use Rattle.wrapper_run.specs.Act.{Runs};
 ghost use Rattle.wrapper_run.specs.Run as spec;
 ghost use Rattle.wrapper_run.specs.Setting.{setting};
 
-use crate::blocks::leave;
+use crate::blocks::leave_to;
 use crate::body::run_block;
 use crate::effect::answer_of;
 use crate::owning::taken_by;
@@ -12,7 +13,7 @@ use crate::state::{Halt, Local, State, Val, World};
 use rust_tree::{Bindings, FnItem, FnParam, Item, WrapperId};
 use std::alloc::Global;
 use wit_model::{List, OutOfMemory};
-use wrapper_data::{Answer, Choice, Choices, Form, Heap, Run, RustValue, Stop};
+use wrapper_data::{Answer, Choice, Choices, Form, Heap, Run, RustValue, Stop, Word};
 
 /// Puts the parameters, with their arguments, behind other locals.
 fn push_args(
@@ -52,6 +53,27 @@ fn copy_choices(alloc: Global, choices: &Choices) -> Result<List<Choice>, OutOfM
     Ok(List::from_vec(Vec::from_slice(alloc, choices.list.as_slice())?))
 }
 
+/// The state in which a run begins: its parameters, a heap, choices, and the blocks that owners have.
+pub(crate) fn begin(
+    alloc: Global,
+    locals: List<Local>,
+    taken: List<u32>,
+    heap: &Heap,
+    choices: &Choices,
+) -> Result<State, OutOfMemory>
+    ensures { IfOk result (λ state. state ≡ spec.begin locals taken heap.now choices.now) }
+{
+    Ok(State {
+        locals,
+        imports: List::new(alloc),
+        heap: heap.copy(alloc)?,
+        choices: copy_choices(alloc, choices)?,
+        requests: List::new(alloc),
+        calls: List::new(alloc),
+        taken,
+    })
+}
+
 fn start(
     alloc: Global,
     f: &FnItem,
@@ -61,15 +83,9 @@ fn start(
 ) -> Result<State, OutOfMemory>
     ensures { IfOk result (λ state. state ≡ spec.start f.now args.now heap.now choices.now) }
 {
-    Ok(State {
-        locals: bound_args(alloc, f.params.as_slice(), args.as_slice())?,
-        imports: List::new(alloc),
-        heap: heap.copy(alloc)?,
-        choices: copy_choices(alloc, choices)?,
-        requests: List::new(alloc),
-        calls: List::new(alloc),
-        taken: taken_by(alloc, args.as_slice())?,
-    })
+    let locals = bound_args(alloc, f.params.as_slice(), args.as_slice())?;
+    let taken = taken_by(alloc, args.as_slice())?;
+    begin(alloc, locals, taken, heap, choices)
 }
 
 fn run_fn(
@@ -85,12 +101,13 @@ fn run_fn(
         None => return Err(Halt::Stopped(world.stuck())),
         Some(answer) => answer,
     };
-    leave(alloc, world, state)?;
+    leave_to(alloc, world, state, 0)?;
     Ok(answer)
 }
 
-fn ended(alloc: Global, state: State, stop: Stop, value: Option<RustValue>) -> Run
-    ensures { result ≡ spec.run_at stop value state }
+/// The run that ends at a state.
+pub(crate) fn run_at(stop: Stop, words: List<Word>, value: Option<RustValue>, state: State) -> Run
+    ensures { result ≡ spec.run_at stop words value state }
 {
     let State {
         locals: _,
@@ -106,7 +123,7 @@ fn ended(alloc: Global, state: State, stop: Stop, value: Option<RustValue>) -> R
         calls,
         requests,
         heap,
-        words: List::new(alloc),
+        words,
         value,
     }
 }
@@ -126,44 +143,54 @@ fn run_item(
 {
     let mut state = start(alloc, f, args, heap, choices)?;
     match run_fn(alloc, world, &mut state, f) {
-        Ok(value) => Ok(ended(alloc, state, Stop::Done, value)),
-        Err(Halt::Stopped(stop)) => Ok(ended(alloc, state, stop, None)),
+        Ok(value) => Ok(run_at(Stop::Done, List::new(alloc), value, state)),
+        Err(Halt::Stopped(stop)) => Ok(run_at(stop, List::new(alloc), None, state)),
         Err(Halt::OutOfMemory) => Err(OutOfMemory),
     }
 }
 
-/// The import wrapper of a place among the import wrappers, counted from 0.
+/// The import wrapper that is the wrapper of this number.
 fn import_nth(items: &[Item], nth: u32) -> Option<&FnItem>
     ensures { option_copied result ≡ spec.import_nth nth items.now }
 {
     let mut left = nth;
     for item in items {
-        if let Item::Import(f) = item {
-            if left == 0 {
-                return Some(f);
-            }
-            left -= 1;
+        match item {
+            Item::Import(f) if left == 0 => return Some(f),
+            Item::Export(_) if left == 0 => return None,
+            Item::Import(_) | Item::Export(_) => left -= 1,
+            _ => {}
         }
     }
     None
 }
 
-/// The item of a wrapper, with its number.
-fn wrapper_of(tree: &Bindings, wrapper: WrapperId) -> Option<(u32, &FnItem)>
-    ensures { option_map (λ w. (w.0, w.1.now)) result ≡ spec.wrapper_of tree.now wrapper.0 }
+/// The number of the item that a wrapper is.
+pub(crate) fn item_number(tree: &Bindings, wrapper: WrapperId) -> Option<u32>
+    ensures { result ≡ option_map (λ info. info.item.0) (slice_get (wrappers_of tree.now) wrapper.0) }
 {
-    match import_nth(tree.items(), wrapper.0) {
+    match tree.wrappers().get(wrapper.0 as usize) {
         None => None,
-        Some(f) => match tree.wrappers().get(wrapper.0 as usize) {
-            None => None,
-            Some(info) => Some((info.item.0, f)),
-        },
+        Some(info) => Some(info.item.0),
+    }
+}
+
+/// An import wrapper, with the number of its item.
+fn import_at(tree: &Bindings, wrapper: WrapperId) -> Option<(u32, &FnItem)>
+    ensures { option_map (λ w. (w.0, w.1.now)) result ≡ spec.import_at tree.now wrapper.0 }
+{
+    match (
+        import_nth(tree.items(), wrapper.0),
+        item_number(tree, wrapper),
+    ) {
+        (Some(f), Some(number)) => Some((number, f)),
+        _ => None,
     }
 }
 
 /// Runs the wrapper of an imported function: from these arguments and this heap, with an allocator that answers by these
-/// choices and a peer that answers thus. The wrapper must be one of the tree. Addresses, sizes and lengths are in bytes, and
-/// pointers have four of them; values cross as the Canonical ABI of the Component Model says.
+/// choices and a peer that answers thus. The wrapper must be an import's wrapper of the tree. Addresses, sizes and lengths are
+/// in bytes, and pointers have four of them; values cross as the Canonical ABI of the Component Model says.
 ///
 /// The run is the one that the definition gives. It ends Done; or BadChoice, where a choice does not fit a return area; or, in
 /// the debug form, with the Trap that names why incoming data stands for no value; or Stuck, with the number of the wrapper's
@@ -178,11 +205,11 @@ pub fn run_import(
     answer: &Answer,
     form: Form,
 ) -> Result<Run, OutOfMemory>
-    requires { IsSome (spec.wrapper_of tree.now wrapper.0) }
+    requires { IsSome (spec.import_at tree.now wrapper.0) }
     ensures { IfOk result
         (λ run. Some run ≡ spec.import_run tree.now wrapper.0 args.now heap.now choices.now answer.now form) }
 {
-    match wrapper_of(tree, wrapper) {
+    match import_at(tree, wrapper) {
         None => unreachable!(),
         Some((item, f)) => {
             let world = World {

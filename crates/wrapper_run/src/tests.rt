@@ -1,6 +1,10 @@
 //! Runs of wrappers as they are printed, against values from outside.
 
+mod exports;
 mod made;
-mod runs;
+mod numbers;
 mod scalars;
+mod sixteen;
 mod texts;
+mod tree;
+mod turns;

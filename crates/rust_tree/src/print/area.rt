@@ -1,8 +1,8 @@
 ghost use Rattle.std.specs.Prelude.{◌≡◌, ◌++◌, OnOk};
-ghost use Rattle.rust_tree.specs.Text.{align_text, area_text, area_type_text, area_value_text};
+ghost use Rattle.rust_tree.specs.CodeText.{align_text, area_text, area_type_text, area_value_text};
 
 use crate::print::size::push_term;
-use crate::print::word::{Word, put};
+use crate::print::word::{AreaWord, Sign};
 use crate::stmt::ReturnArea;
 use wit_model::{Alignment, ArchitectureSize, OutOfMemory, Text};
 
@@ -10,11 +10,11 @@ fn push_align(out: &mut Text, align: Alignment) -> Result<(), OutOfMemory>
     ensures { OnOk result (out.new ≡ out.old ++ align_text align) }
 {
     match align {
-        Alignment::Pointer => put(out, Word::PointerAlign),
+        Alignment::Pointer => AreaWord::PointerAlign.put(out),
         Alignment::Bytes(n) => {
-            put(out, Word::Align)?;
+            AreaWord::Align.put(out)?;
             out.push_number(u64::from(n))?;
-            put(out, Word::AlignEnd)
+            AreaWord::AlignEnd.put(out)
         }
     }
 }
@@ -27,25 +27,25 @@ fn push_area_type(
     ensures { OnOk result (out.new ≡ out.old ++ area_type_text size align) }
 {
     push_align(out, align)?;
-    put(out, Word::AreaType)?;
+    AreaWord::AreaType.put(out)?;
     push_term(out, size)?;
-    put(out, Word::AreaEnd)
+    AreaWord::AreaEnd.put(out)
 }
 
 fn push_area_value(out: &mut Text, size: ArchitectureSize) -> Result<(), OutOfMemory>
     ensures { OnOk result (out.new ≡ out.old ++ area_value_text size) }
 {
-    put(out, Word::AreaValue)?;
+    AreaWord::AreaValue.put(out)?;
     push_term(out, size)?;
-    put(out, Word::AreaEnd)
+    AreaWord::AreaEnd.put(out)
 }
 
 pub(crate) fn push_area(out: &mut Text, area: &ReturnArea) -> Result<(), OutOfMemory>
     ensures { OnOk result (out.new ≡ out.old ++ area_text area.now) }
 {
     push_area_type(out, area.size, area.align)?;
-    put(out, Word::LetMut)?;
+    Sign::LetMut.put(out)?;
     out.push_str(area.name.as_str())?;
-    put(out, Word::Equals)?;
+    Sign::Equals.put(out)?;
     push_area_value(out, area.size)
 }

@@ -4,16 +4,16 @@ ghost use Rattle.std.specs.Prelude.{◌≡◌, ◌++◌, OnOk, map};
 ghost use Rattle.std.specs.List.{flat_map};
 ghost use Rattle.rust_tree.specs.RuntimeText.{conversion_fn_text, conversion_impl_text, conversion_method_text, conversion_text, conversion_trait_text, reference_impl_text};
 
-use crate::print::word::{Word, put};
+use crate::print::word::{ConversionWord, Sign};
 use crate::runtime_item::RuntimeItem;
 use wit_model::{OutOfMemory, Text};
 
 fn push_method(out: &mut Text, item: RuntimeItem, ty: &str) -> Result<(), OutOfMemory>
     ensures { OnOk result (out.new ≡ out.old ++ conversion_method_text item ty.now) }
 {
-    put(out, Word::ConversionMethod)?;
+    ConversionWord::ConversionMethod.put(out)?;
     out.push_str(item.name())?;
-    put(out, Word::TakesSelf)?;
+    ConversionWord::TakesSelf.put(out)?;
     out.push_str(ty)
 }
 
@@ -26,17 +26,17 @@ fn push_conversion_fn(
 ) -> Result<(), OutOfMemory>
     ensures { OnOk result (out.new ≡ out.old ++ conversion_fn_text item bound.now ty.now) }
 {
-    put(out, Word::RuntimeFn)?;
+    ConversionWord::ConversionFn.put(out)?;
     out.push_str(item.name())?;
-    put(out, Word::ConversionBound)?;
+    ConversionWord::ConversionBound.put(out)?;
     out.push_str(bound)?;
-    put(out, Word::ConversionParam)?;
+    ConversionWord::ConversionParam.put(out)?;
     out.push_str(ty)?;
-    put(out, Word::OpenBlock)?;
-    put(out, Word::ConvertParam)?;
+    Sign::OpenBlock.put(out)?;
+    ConversionWord::ConvertParam.put(out)?;
     out.push_str(item.name())?;
-    put(out, Word::CallEnd)?;
-    put(out, Word::CloseBlock)
+    ConversionWord::CallEnd.put(out)?;
+    Sign::CloseBlock.put(out)
 }
 
 #[tactic(auto, unfolding(crate::specs::RuntimeText::conversion_trait_text))]
@@ -48,12 +48,12 @@ fn push_conversion_trait(
 ) -> Result<(), OutOfMemory>
     ensures { OnOk result (out.new ≡ out.old ++ conversion_trait_text item bound.now ty.now) }
 {
-    put(out, Word::ConversionTrait)?;
+    ConversionWord::ConversionTrait.put(out)?;
     out.push_str(bound)?;
-    put(out, Word::OpenBlock)?;
+    Sign::OpenBlock.put(out)?;
     push_method(out, item, ty)?;
-    put(out, Word::StatementEnd)?;
-    put(out, Word::CloseBlock)
+    Sign::StatementEnd.put(out)?;
+    Sign::CloseBlock.put(out)
 }
 
 #[tactic(auto, unfolding(crate::specs::RuntimeText::reference_impl_text))]
@@ -65,18 +65,18 @@ fn push_reference_impl(
 ) -> Result<(), OutOfMemory>
     ensures { OnOk result (out.new ≡ out.old ++ reference_impl_text item bound.now ty.now) }
 {
-    put(out, Word::ReferenceBound)?;
+    ConversionWord::ReferenceBound.put(out)?;
     out.push_str(bound)?;
-    put(out, Word::ReferenceTrait)?;
+    ConversionWord::ReferenceTrait.put(out)?;
     out.push_str(bound)?;
-    put(out, Word::ForReference)?;
+    ConversionWord::ForReference.put(out)?;
     push_method(out, item, ty)?;
-    put(out, Word::OpenBlock)?;
-    put(out, Word::ConvertTarget)?;
+    Sign::OpenBlock.put(out)?;
+    ConversionWord::ConvertTarget.put(out)?;
     out.push_str(item.name())?;
-    put(out, Word::CallEnd)?;
-    put(out, Word::CloseBlock)?;
-    put(out, Word::CloseBlock)
+    ConversionWord::CallEnd.put(out)?;
+    Sign::CloseBlock.put(out)?;
+    Sign::CloseBlock.put(out)
 }
 
 #[tactic(auto, unfolding(crate::specs::RuntimeText::conversion_impl_text))]
@@ -89,19 +89,19 @@ fn push_conversion_impl(
 ) -> Result<(), OutOfMemory>
     ensures { OnOk result (out.new ≡ out.old ++ conversion_impl_text item bound.now ty.now source.now) }
 {
-    put(out, Word::ConversionImpl)?;
+    ConversionWord::ConversionImpl.put(out)?;
     out.push_str(bound)?;
-    put(out, Word::ImplFor)?;
+    ConversionWord::ImplFor.put(out)?;
     out.push_str(source)?;
-    put(out, Word::OpenBlock)?;
-    put(out, Word::Inline)?;
+    Sign::OpenBlock.put(out)?;
+    ConversionWord::Inline.put(out)?;
     push_method(out, item, ty)?;
-    put(out, Word::OpenBlock)?;
-    put(out, Word::CastSelf)?;
+    Sign::OpenBlock.put(out)?;
+    ConversionWord::CastSelf.put(out)?;
     out.push_str(ty)?;
-    put(out, Word::LineEnd)?;
-    put(out, Word::CloseBlock)?;
-    put(out, Word::CloseBlock)
+    Sign::LineEnd.put(out)?;
+    Sign::CloseBlock.put(out)?;
+    Sign::CloseBlock.put(out)
 }
 
 fn push_conversion_impls(

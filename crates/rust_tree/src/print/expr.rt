@@ -1,14 +1,13 @@
-ghost use Rattle.std.specs.Prelude.{◌≡◌, ◌++◌, OnOk, map};
-ghost use Rattle.rust_tree.specs.Pieces.{joined};
-ghost use Rattle.rust_tree.specs.Text.{bracket, capacity_text, cast_type_text, expr_spelled, expr_text, place_text};
-ghost use Rattle.rust_tree.specs.Word.{word};
-ghost use Rattle.rust_tree.specs.declared.print.word.Word.TheVariants.{As, Comma, Open, Reference};
+ghost use Rattle.std.specs.Prelude.{◌≡◌, ◌++◌, OnOk};
+ghost use Rattle.rust_tree.specs.CodeText.{arguments_text, bracket, capacity_text, cast_type_text, expr_spelled, expr_text, place_text};
+ghost use Rattle.rust_tree.specs.Word.{expr_word, sign};
+ghost use Rattle.rust_tree.specs.declared.print.word.sign.Sign.TheVariants.{As, Open, Reference};
 
 use crate::expr::{CastType, Expr};
 use crate::print::path::push_path;
 use crate::print::size::push_term;
 use crate::print::type_name::{push_cast_type, push_core_type};
-use crate::print::word::{Word, put};
+use crate::print::word::{ExprWord, Sign};
 use wit_model::{ArchitectureSize, OutOfMemory, Text, WasmType};
 
 fn is_local(e: &Expr) -> bool
@@ -17,59 +16,59 @@ fn is_local(e: &Expr) -> bool
     matches!(e, Expr::Local(_))
 }
 
-fn push_bracket(out: &mut Text, e: &Expr, w: Word) -> Result<(), OutOfMemory>
+fn push_bracket(out: &mut Text, e: &Expr, w: Sign) -> Result<(), OutOfMemory>
     ensures { OnOk result (out.new ≡ out.old ++ bracket (expr_spelled e.now) w) }
 {
-    if is_local(e) { Ok(()) } else { put(out, w) }
+    if is_local(e) { Ok(()) } else { w.put(out) }
 }
 
 /// A word, and the bracket before an expression on which a method is called.
-fn push_open(out: &mut Text, w: Word, e: &Expr) -> Result<(), OutOfMemory>
-    ensures { OnOk result (out.new ≡ out.old ++ (word w ++ bracket (expr_spelled e.now) Open)) }
+fn push_open(out: &mut Text, w: ExprWord, e: &Expr) -> Result<(), OutOfMemory>
+    ensures { OnOk result (out.new ≡ out.old ++ (expr_word w ++ bracket (expr_spelled e.now) Open)) }
 {
-    put(out, w)?;
-    push_bracket(out, e, Word::Open)
+    w.put(out)?;
+    push_bracket(out, e, Sign::Open)
 }
 
 fn push_reference(out: &mut Text, name: &Text) -> Result<(), OutOfMemory>
-    ensures { OnOk result (out.new ≡ out.old ++ (word Reference ++ name.now)) }
+    ensures { OnOk result (out.new ≡ out.old ++ (sign Reference ++ name.now)) }
 {
-    put(out, Word::Reference)?;
+    Sign::Reference.put(out)?;
     out.push_str(name.as_str())
 }
 
 fn push_as(out: &mut Text, to: CastType) -> Result<(), OutOfMemory>
-    ensures { OnOk result (out.new ≡ out.old ++ (word As ++ cast_type_text to)) }
+    ensures { OnOk result (out.new ≡ out.old ++ (sign As ++ cast_type_text to)) }
 {
-    put(out, Word::As)?;
+    Sign::As.put(out)?;
     push_cast_type(out, to)
 }
 
-fn push_behind(out: &mut Text, name: &Text, w: Word) -> Result<(), OutOfMemory>
-    ensures { OnOk result (out.new ≡ out.old ++ (name.now ++ word w)) }
+fn push_behind(out: &mut Text, name: &Text, w: ExprWord) -> Result<(), OutOfMemory>
+    ensures { OnOk result (out.new ≡ out.old ++ (name.now ++ expr_word w)) }
 {
     out.push_str(name.as_str())?;
-    put(out, w)
+    w.put(out)
 }
 
 fn push_place(out: &mut Text, offset: ArchitectureSize, ty: WasmType) -> Result<(), OutOfMemory>
     ensures { OnOk result (out.new ≡ out.old ++ place_text offset ty) }
 {
-    put(out, Word::Add)?;
+    ExprWord::Add.put(out)?;
     push_term(out, offset)?;
-    put(out, Word::CastTo)?;
+    ExprWord::CastTo.put(out)?;
     push_core_type(out, ty)?;
-    put(out, Word::CastEnd)
+    ExprWord::CastEnd.put(out)
 }
 
 fn push_capacity(out: &mut Text, len: &Text) -> Result<(), OutOfMemory>
     ensures { OnOk result (out.new ≡ out.old ++ capacity_text len.now) }
 {
-    put(out, Word::PointerCast)?;
+    ExprWord::PointerCast.put(out)?;
     out.push_str(len.as_str())?;
-    put(out, Word::Comma)?;
+    Sign::Comma.put(out)?;
     out.push_str(len.as_str())?;
-    put(out, Word::Close)
+    Sign::Close.put(out)
 }
 
 #[cycle(expr)]
@@ -85,42 +84,41 @@ pub(crate) fn push_expr(out: &mut Text, e: &Expr) -> Result<(), OutOfMemory>
         }
         Expr::Call(path, arguments) => {
             push_path(out, path)?;
-            put(out, Word::Open)?;
+            Sign::Open.put(out)?;
             push_arguments(out, arguments.as_slice())?;
-            put(out, Word::Close)
+            Sign::Close.put(out)
         }
         Expr::I32FromBool(e) => {
-            put(out, Word::Match)?;
+            ExprWord::Match.put(out)?;
             push_expr(out, e.get())?;
-            put(out, Word::BoolArms)
+            ExprWord::BoolArms.put(out)
         }
-        Expr::AsPtr(name) => push_behind(out, name, Word::AsPtr),
-        Expr::Len(name) => push_behind(out, name, Word::Len),
-        Expr::CastMut(name) => push_behind(out, name, Word::CastMut),
-        Expr::ReturnPointer(name) => push_behind(out, name, Word::AreaPointer),
+        Expr::AsPtr(name) => push_behind(out, name, ExprWord::AsPtr),
+        Expr::Len(name) => push_behind(out, name, ExprWord::Len),
+        Expr::CastMut(name) => push_behind(out, name, ExprWord::CastMut),
+        Expr::ReturnPointer(name) => push_behind(out, name, ExprWord::AreaPointer),
         Expr::Load(address, offset, ty) => {
-            push_open(out, Word::Dereference, address.get())?;
+            push_open(out, ExprWord::Dereference, address.get())?;
             push_expr(out, address.get())?;
-            push_bracket(out, address.get(), Word::Close)?;
+            push_bracket(out, address.get(), Sign::Close)?;
             push_place(out, *offset, *ty)
         }
         Expr::FromRawParts(pointer, len) => {
-            push_open(out, Word::FromRawParts, pointer.get())?;
+            push_open(out, ExprWord::FromRawParts, pointer.get())?;
             push_expr(out, pointer.get())?;
-            push_bracket(out, pointer.get(), Word::Close)?;
+            push_bracket(out, pointer.get(), Sign::Close)?;
             push_capacity(out, len)
         }
     }
 }
 
 #[cycle(expr)]
-fn push_arguments(out: &mut Text, arguments: &[Expr]) -> Result<(), OutOfMemory>
-    ensures { OnOk result
-        (out.new ≡ out.old ++ joined (word Comma) (map (λ e. e.text) (map expr_spelled arguments.now))) }
+pub(crate) fn push_arguments(out: &mut Text, arguments: &[Expr]) -> Result<(), OutOfMemory>
+    ensures { OnOk result (out.new ≡ out.old ++ arguments_text arguments.now) }
 {
     for (i, e) in arguments.iter().enumerate() {
         if i > 0 {
-            put(out, Word::Comma)?;
+            Sign::Comma.put(out)?;
         }
         push_expr(out, e)?;
     }

@@ -1,18 +1,18 @@
 ghost use Rattle.std.specs.Prelude.{◌≡◌, ◌++◌, OnOk};
 ghost use Rattle.rust_tree.specs.Pieces.{joined};
-ghost use Rattle.rust_tree.specs.Text.{lead_text, path_text, supers_text};
-ghost use Rattle.rust_tree.specs.Word.{word};
-ghost use Rattle.rust_tree.specs.declared.print.word.Word.TheVariants.{PathMark};
+ghost use Rattle.rust_tree.specs.CodeText.{lead_text, path_text, supers_text};
+ghost use Rattle.rust_tree.specs.Word.{sign};
+ghost use Rattle.rust_tree.specs.declared.print.word.sign.Sign.TheVariants.{PathMark};
 
 use crate::path::Path;
-use crate::print::word::{Word, put};
+use crate::print::word::Sign;
 use wit_model::{OutOfMemory, Text};
 
 fn push_lead(out: &mut Text, lead: bool) -> Result<(), OutOfMemory>
     ensures { OnOk result (out.new ≡ out.old ++ lead_text lead) }
 {
     if lead {
-        put(out, Word::PathMark)?;
+        Sign::PathMark.put(out)?;
     }
     Ok(())
 }
@@ -21,17 +21,17 @@ fn push_supers(out: &mut Text, supers: u32) -> Result<(), OutOfMemory>
     ensures { OnOk result (out.new ≡ out.old ++ supers_text supers) }
 {
     for _i in 0..supers {
-        put(out, Word::Super)?;
+        Sign::Super.put(out)?;
     }
     Ok(())
 }
 
 fn push_names(out: &mut Text, names: &[Text]) -> Result<(), OutOfMemory>
-    ensures { OnOk result (out.new ≡ out.old ++ joined (word PathMark) names.now) }
+    ensures { OnOk result (out.new ≡ out.old ++ joined (sign PathMark) names.now) }
 {
     for (i, name) in names.iter().enumerate() {
         if i > 0 {
-            put(out, Word::PathMark)?;
+            Sign::PathMark.put(out)?;
         }
         out.push_str(name.as_str())?;
     }

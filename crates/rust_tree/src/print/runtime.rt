@@ -5,12 +5,13 @@ ghost use Rattle.std.specs.List.{flat_map};
 ghost use Rattle.rust_tree.specs.RuntimeText.{alloc_type_text, lift_text, runtime_item_text};
 ghost use Rattle.rust_tree.specs.Runtime.{item_name};
 ghost use Rattle.rust_tree.specs.Text.{runtime_text};
-ghost use Rattle.rust_tree.specs.Word.{word};
-ghost use Rattle.rust_tree.specs.declared.print.word.Word.TheVariants.{ExternCrate, StatementEnd};
+ghost use Rattle.rust_tree.specs.Word.{lift_word, runtime_word, sign};
+ghost use Rattle.rust_tree.specs.declared.print.word.runtime.RuntimeWord.TheVariants.{ExternCrate};
+ghost use Rattle.rust_tree.specs.declared.print.word.sign.Sign.TheVariants.{StatementEnd};
 ghost use Rattle.rust_tree.specs.declared.runtime_item.RuntimeItem.TheVariants.{AllocCrate};
 
 use crate::print::conversion::push_conversion;
-use crate::print::word::{Word, put};
+use crate::print::word::{LiftWord, RuntimeWord, Sign};
 use crate::runtime_item::RuntimeItem;
 use wit_model::{OutOfMemory, Text};
 
@@ -23,42 +24,42 @@ const F32_SOURCES: [&str; 1] = ["f32"];
 const F64_SOURCES: [&str; 1] = ["f64"];
 
 fn push_alloc_crate(out: &mut Text) -> Result<(), OutOfMemory>
-    ensures { OnOk result (out.new ≡ out.old ++ (word ExternCrate ++ item_name AllocCrate ++ word StatementEnd)) }
+    ensures { OnOk result (out.new ≡ out.old ++ (runtime_word ExternCrate ++ item_name AllocCrate ++ sign StatementEnd)) }
 {
-    put(out, Word::ExternCrate)?;
+    RuntimeWord::ExternCrate.put(out)?;
     out.push_str(RuntimeItem::AllocCrate.name())?;
-    put(out, Word::StatementEnd)
+    Sign::StatementEnd.put(out)
 }
 
 #[tactic(auto, unfolding(crate::specs::RuntimeText::alloc_type_text))]
-fn push_alloc_type(out: &mut Text, item: RuntimeItem, path: Word) -> Result<(), OutOfMemory>
-    ensures { OnOk result (out.new ≡ out.old ++ alloc_type_text item (word path)) }
+fn push_alloc_type(out: &mut Text, item: RuntimeItem, path: RuntimeWord) -> Result<(), OutOfMemory>
+    ensures { OnOk result (out.new ≡ out.old ++ alloc_type_text item (runtime_word path)) }
 {
-    put(out, Word::PublicUse)?;
+    RuntimeWord::PublicUse.put(out)?;
     out.push_str(RuntimeItem::AllocCrate.name())?;
-    put(out, path)?;
+    path.put(out)?;
     out.push_str(item.name())?;
-    put(out, Word::StatementEnd)
+    Sign::StatementEnd.put(out)
 }
 
 #[tactic(auto, unfolding(crate::specs::RuntimeText::lift_text))]
 fn push_lift(
     out: &mut Text,
     item: RuntimeItem,
-    signature: Word,
-    checked: Word,
-    unchecked: Word,
+    signature: LiftWord,
+    checked: LiftWord,
+    unchecked: LiftWord,
 ) -> Result<(), OutOfMemory>
-    ensures { OnOk result (out.new ≡ out.old ++ lift_text item (word signature) (word checked) (word unchecked)) }
+    ensures { OnOk result (out.new ≡ out.old ++ lift_text item (lift_word signature) (lift_word checked) (lift_word unchecked)) }
 {
-    put(out, Word::LiftFn)?;
+    LiftWord::LiftFn.put(out)?;
     out.push_str(item.name())?;
-    put(out, signature)?;
-    put(out, Word::IfDebug)?;
-    put(out, checked)?;
-    put(out, Word::Otherwise)?;
-    put(out, unchecked)?;
-    put(out, Word::LiftEnd)
+    signature.put(out)?;
+    LiftWord::IfDebug.put(out)?;
+    checked.put(out)?;
+    LiftWord::Otherwise.put(out)?;
+    unchecked.put(out)?;
+    LiftWord::LiftEnd.put(out)
 }
 
 fn push_runtime_item(out: &mut Text, item: RuntimeItem) -> Result<(), OutOfMemory>
@@ -70,28 +71,28 @@ fn push_runtime_item(out: &mut Text, item: RuntimeItem) -> Result<(), OutOfMemor
         RuntimeItem::AsF32 => push_conversion(out, item, "AsF32", "f32", &F32_SOURCES),
         RuntimeItem::AsF64 => push_conversion(out, item, "AsF64", "f64", &F64_SOURCES),
         RuntimeItem::AllocCrate => push_alloc_crate(out),
-        RuntimeItem::StringType => push_alloc_type(out, item, Word::StringPath),
-        RuntimeItem::VecType => push_alloc_type(out, item, Word::VecPath),
+        RuntimeItem::StringType => push_alloc_type(out, item, RuntimeWord::StringPath),
+        RuntimeItem::VecType => push_alloc_type(out, item, RuntimeWord::VecPath),
         RuntimeItem::BoolLift => push_lift(
             out,
             item,
-            Word::BoolLiftType,
-            Word::CheckedBool,
-            Word::UncheckedBool,
+            LiftWord::BoolLiftType,
+            LiftWord::CheckedBool,
+            LiftWord::UncheckedBool,
         ),
         RuntimeItem::CharLift => push_lift(
             out,
             item,
-            Word::CharLiftType,
-            Word::CheckedChar,
-            Word::UncheckedChar,
+            LiftWord::CharLiftType,
+            LiftWord::CheckedChar,
+            LiftWord::UncheckedChar,
         ),
         RuntimeItem::StringLift => push_lift(
             out,
             item,
-            Word::StringLiftType,
-            Word::CheckedString,
-            Word::UncheckedString,
+            LiftWord::StringLiftType,
+            LiftWord::CheckedString,
+            LiftWord::UncheckedString,
         ),
     }
 }
@@ -108,7 +109,7 @@ fn push_runtime_items(out: &mut Text, items: &[RuntimeItem]) -> Result<(), OutOf
 pub(crate) fn push_runtime(out: &mut Text, items: &[RuntimeItem]) -> Result<(), OutOfMemory>
     ensures { OnOk result (out.new ≡ out.old ++ runtime_text items.now) }
 {
-    put(out, Word::RuntimeModule)?;
+    RuntimeWord::RuntimeModule.put(out)?;
     push_runtime_items(out, items)?;
-    put(out, Word::CloseBlock)
+    Sign::CloseBlock.put(out)
 }

@@ -1,23 +1,23 @@
 ghost use Rattle.std.specs.Prelude.{◌≡◌, ◌++◌, OnOk};
 ghost use Rattle.std.specs.List.{flat_map};
-ghost use Rattle.rust_tree.specs.Text.{block_text, let_text, stmt_text, tail_text};
+ghost use Rattle.rust_tree.specs.CodeText.{block_text, let_text, stmt_text, tail_text};
 
 use crate::expr::Expr;
 use crate::print::area::push_area;
 use crate::print::core_import::{push_linked, push_unlinked};
 use crate::print::expr::push_expr;
-use crate::print::word::{Word, put};
+use crate::print::word::Sign;
 use crate::stmt::{Block, Stmt};
 use wit_model::{OutOfMemory, Text};
 
 fn push_let(out: &mut Text, name: &Text, e: &Expr) -> Result<(), OutOfMemory>
     ensures { OnOk result (out.new ≡ out.old ++ let_text name.now e.now) }
 {
-    put(out, Word::Let)?;
+    Sign::Let.put(out)?;
     out.push_str(name.as_str())?;
-    put(out, Word::Equals)?;
+    Sign::Equals.put(out)?;
     push_expr(out, e)?;
-    put(out, Word::StatementEnd)
+    Sign::StatementEnd.put(out)
 }
 
 fn push_stmt(out: &mut Text, stmt: &Stmt) -> Result<(), OutOfMemory>
@@ -31,13 +31,13 @@ fn push_stmt(out: &mut Text, stmt: &Stmt) -> Result<(), OutOfMemory>
         Stmt::Let(name, e) => push_let(out, name, e),
         Stmt::Expr(e) => {
             push_expr(out, e)?;
-            put(out, Word::StatementEnd)
+            Sign::StatementEnd.put(out)
         }
         Stmt::Area(area) => push_area(out, area),
     }
 }
 
-fn push_stmts(out: &mut Text, stmts: &[Stmt]) -> Result<(), OutOfMemory>
+pub(crate) fn push_stmts(out: &mut Text, stmts: &[Stmt]) -> Result<(), OutOfMemory>
     ensures { OnOk result (out.new ≡ out.old ++ flat_map stmt_text stmts.now) }
 {
     for stmt in stmts {
@@ -53,7 +53,7 @@ fn push_tail(out: &mut Text, tail: &Option<Expr>) -> Result<(), OutOfMemory>
         None => Ok(()),
         Some(e) => {
             push_expr(out, e)?;
-            put(out, Word::LineEnd)
+            Sign::LineEnd.put(out)
         }
     }
 }

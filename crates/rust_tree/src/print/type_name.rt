@@ -1,8 +1,8 @@
 ghost use Rattle.std.specs.Prelude.{◌≡◌, ◌++◌, OnOk};
-ghost use Rattle.rust_tree.specs.Text.{cast_type_text, core_type_text, primitive_text, type_text};
+ghost use Rattle.rust_tree.specs.CodeText.{cast_type_text, core_type_text, primitive_text, type_text};
 
 use crate::expr::CastType;
-use crate::print::word::{Word, put};
+use crate::print::word::{ItemWord, Sign};
 use crate::type_expr::{Primitive, TypeExpr};
 use wit_model::{OutOfMemory, Text, WasmType};
 
@@ -57,11 +57,11 @@ pub(crate) fn push_type(out: &mut Text, ty: &TypeExpr) -> Result<(), OutOfMemory
 {
     match ty {
         TypeExpr::Primitive(primitive) => out.push_str(primitive_name(*primitive)),
-        TypeExpr::Unit => put(out, Word::UnitType),
-        TypeExpr::Str => put(out, Word::StrType),
-        TypeExpr::String => put(out, Word::StringName),
+        TypeExpr::Unit => ItemWord::UnitType.put(out),
+        TypeExpr::Str => ItemWord::StrType.put(out),
+        TypeExpr::String => ItemWord::StringName.put(out),
         TypeExpr::Ref(ty) => {
-            put(out, Word::Reference)?;
+            Sign::Reference.put(out)?;
             push_type(out, ty.get())
         }
     }

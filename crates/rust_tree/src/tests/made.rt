@@ -1,8 +1,10 @@
 //! Parts of trees for the tests.
 
+ghost use Rattle.std.specs.Prelude.{◌≡◌, IfOk};
+
 use crate::{
-    Bindings, CastType, Expr, FnItem, FnParam, FuncPlace, ImportDecl, Item, Path, ReturnArea,
-    RuntimeItem, Stmt, TypeExpr,
+    Bindings, Block, CastType, Expr, FnItem, FnParam, FuncPlace, ImportDecl, Item, Path,
+    ReturnArea, RuntimeItem, Stmt, TypeExpr,
 };
 use std::alloc::Global;
 use wit_model::{Alignment, ArchitectureSize, Boxed, List, OutOfMemory, Text, WasmType};
@@ -15,7 +17,9 @@ pub(crate) fn texts(alloc: Global, lines: &[&str]) -> Result<List<Text>, OutOfMe
     Ok(list)
 }
 
-pub(crate) fn listed<T: Copy>(alloc: Global, values: &[T]) -> Result<List<T>, OutOfMemory> {
+pub(crate) fn listed<T: Copy>(alloc: Global, values: &[T]) -> Result<List<T>, OutOfMemory>
+    ensures { IfOk result (λ list. list ≡ values.now) }
+{
     Ok(List::from_vec(Vec::from_slice(alloc, values)?))
 }
 
@@ -177,4 +181,22 @@ pub(crate) fn lone(alloc: Global, function: FnItem) -> Result<Bindings, OutOfMem
         nth: 0,
     })?;
     Bindings::new(alloc, List::new(alloc), items, places)
+}
+
+pub(crate) fn empty_block(alloc: Global) -> Block {
+    Block {
+        stmts: List::new(alloc),
+        tail: None,
+    }
+}
+
+/// A function without parameters, result and statements.
+pub(crate) fn bare_import(alloc: Global, name: &str) -> Result<FnItem, OutOfMemory> {
+    Ok(FnItem {
+        docs: List::new(alloc),
+        name: Text::from_str(alloc, name)?,
+        params: List::new(alloc),
+        result: TypeExpr::Unit,
+        body: empty_block(alloc),
+    })
 }

@@ -1,188 +1,223 @@
-//! Trees, heaps and answers for the tests.
+//! Runs from tables: what a run is given, how it ends, and the two compared.
 
-ghost use Rattle.std.specs.Prelude.{IfOk, IsSome};
-ghost use Rattle.wrapper_run.specs.Run.{wrapper_of};
-
-use crate::{Answer, Block as Memory, Heap, RustValue, Word};
-use rust_tree::{
-    Bindings, Block, CastType, Expr, FnItem, FnParam, FuncPlace, ImportDecl, Item, Path, Primitive,
-    RuntimeItem, Stmt, TypeExpr,
+use crate::tests::tree::{Wrapper, file};
+use crate::{
+    Answer, Block, CallPoint, Choice, Choices, Form, Heap, Request, Run, RustValue, Stop, Target,
+    Word, run_import,
 };
+use rust_tree::WrapperId;
 use std::alloc::Global;
-use wit_model::{Boxed, List, OutOfMemory, Text, WasmType, WitType};
+use std::process::Abort;
+use std::test::Fail;
+use wit_model::{List, OutOfMemory, Text, WitType};
 
-/// A kind of whole numbers, as the wrappers print and carry it.
+/// A value of the Rust side that holds no other.
 #[derive(Clone, Copy)]
-pub(crate) struct Kind {
-    pub(crate) ty: WitType,
-    pub(crate) printed: Primitive,
-    pub(crate) core: WasmType,
-    pub(crate) cast: Option<CastType>,
+pub(crate) enum Value {
+    Bool(bool),
+    Num(WitType, i128),
+    F32(u32),
+    F64(u64),
+    Char(u32),
+    /// a text by its address and its length, lent or owned
+    Lent(u32, u32),
+    Owned(u32, u32),
 }
 
-pub(crate) fn path(alloc: Global, names: &[&str]) -> Result<Path, OutOfMemory> {
-    let mut list = List::new(alloc);
-    for name in names {
-        list.push(Text::from_str(alloc, name)?)?;
+/// A block of memory, of which so many bytes from its first on are written.
+#[derive(Clone, Copy)]
+pub(crate) struct Bytes {
+    pub(crate) address: u32,
+    pub(crate) size: u32,
+    pub(crate) written: &'static [u8],
+}
+
+/// The peer's answer: its word, what it writes, from an address on, and the blocks that it makes.
+#[derive(Clone, Copy)]
+pub(crate) struct Reply {
+    pub(crate) word: Option<Word>,
+    pub(crate) writes: (u32, &'static [u8]),
+    pub(crate) blocks: &'static [Bytes],
+}
+
+/// What a run is given, beside its arguments.
+#[derive(Clone, Copy)]
+pub(crate) struct Given {
+    pub(crate) wrapper: &'static Wrapper,
+    pub(crate) heap: &'static [Bytes],
+    pub(crate) choices: &'static [Choice],
+    pub(crate) reply: Reply,
+    pub(crate) form: Form,
+}
+
+/// A call of a core import of `$root`, by its name, beside its words.
+#[derive(Clone, Copy)]
+pub(crate) struct Called {
+    pub(crate) name: &'static str,
+    pub(crate) heap: &'static [Bytes],
+}
+
+/// How a run ends, after one call or none.
+#[derive(Clone, Copy)]
+pub(crate) struct Ended {
+    pub(crate) stop: Stop,
+    pub(crate) call: Option<Called>,
+    pub(crate) requests: &'static [Request],
+    pub(crate) heap: &'static [Bytes],
+    pub(crate) value: Option<Value>,
+}
+
+/// Bytes with the numbers that they have, counted from this one on.
+fn numbered(alloc: Global, first: u32, bytes: &[u8]) -> Result<List<(u32, u8)>, OutOfMemory> {
+    let mut cells = List::new(alloc);
+    let mut number = first;
+    for byte in bytes {
+        cells.push((number, *byte))?;
+        number = number.wrapping_add(1);
     }
-    Ok(Path {
-        lead: false,
-        supers: 0,
-        names: list,
-    })
+    Ok(cells)
 }
 
-fn lowered(alloc: Global, kind: Kind, name: &str) -> Result<Expr, OutOfMemory> {
-    let function = match kind.core {
-        WasmType::I64 => "as_i64",
-        _ => "as_i32",
-    };
-    let mut arguments = List::new(alloc);
-    arguments.push(Expr::Ref(Text::from_str(alloc, name)?))?;
-    Ok(Expr::Call(path(alloc, &["_rt", function])?, arguments))
-}
-
-fn lifted(alloc: Global, kind: Kind) -> Result<Expr, OutOfMemory> {
-    let ret = Expr::Local(Text::from_str(alloc, "ret0")?);
-    match kind.cast {
-        None => Ok(ret),
-        Some(to) => Ok(Expr::Cast(Boxed::new(alloc, ret)?, to)),
-    }
-}
-
-fn declared(
-    alloc: Global,
-    link_name: &str,
-    kind: Kind,
-    params: &[Text],
-) -> Result<Stmt, OutOfMemory> {
-    let mut types = List::new(alloc);
-    for _ in params {
-        types.push(kind.core)?;
-    }
-    Ok(Stmt::Import(ImportDecl {
-        module: Text::from_str(alloc, "$root")?,
-        link_name: Text::from_str(alloc, link_name)?,
-        name: Text::from_str(alloc, "wit_import0")?,
-        params: types,
-        result: Some(kind.core),
-    }))
-}
-
-fn called(alloc: Global, kind: Kind, params: &[Text]) -> Result<Stmt, OutOfMemory> {
-    let mut arguments = List::new(alloc);
-    for name in params {
-        arguments.push(lowered(alloc, kind, name.as_str())?)?;
-    }
-    let call = Expr::Call(path(alloc, &["wit_import0"])?, arguments);
-    Ok(Stmt::Let(Text::from_str(alloc, "ret0")?, call))
-}
-
-/// So many names of parameters: `x0`, `x1` and so on.
-pub(crate) fn names(alloc: Global, count: u8) -> Result<List<Text>, OutOfMemory> {
-    let mut names = List::new(alloc);
-    for i in 0..count {
-        let mut name = Text::from_str(alloc, "x")?;
-        name.push_number(u64::from(i))?;
-        names.push(name)?;
-    }
-    Ok(names)
-}
-
-/// The wrapper of a function whose parameters and result are of one kind.
-pub(crate) fn wrapper(
-    alloc: Global,
-    name: &str,
-    kind: Kind,
-    params: &[Text],
-) -> Result<FnItem, OutOfMemory> {
-    let mut stmts = List::new(alloc);
-    stmts.push(declared(alloc, name, kind, params)?)?;
-    stmts.push(called(alloc, kind, params)?)?;
-    let body = Block {
-        stmts,
-        tail: Some(lifted(alloc, kind)?),
-    };
-    written(alloc, name, kind.printed, params, body)
-}
-
-/// A function whose parameters and result are of one printed type.
-pub(crate) fn written(
-    alloc: Global,
-    name: &str,
-    printed: Primitive,
-    names: &[Text],
-    body: Block,
-) -> Result<FnItem, OutOfMemory> {
-    let mut params = List::new(alloc);
-    for name in names {
-        params.push(FnParam {
-            name: name.copy(alloc)?,
-            ty: TypeExpr::Primitive(printed),
+fn blocks(alloc: Global, given: &[Bytes]) -> Result<List<Block>, OutOfMemory> {
+    let mut blocks = List::new(alloc);
+    for bytes in given {
+        blocks.push(Block {
+            address: bytes.address,
+            size: bytes.size,
+            cells: numbered(alloc, 0, bytes.written)?,
         })?;
     }
-    Ok(FnItem {
-        docs: List::new(alloc),
-        name: Text::from_str(alloc, name)?,
-        params,
-        result: TypeExpr::Primitive(printed),
-        body,
+    Ok(blocks)
+}
+
+pub(crate) fn heap(alloc: Global, given: &[Bytes]) -> Result<Heap, OutOfMemory> {
+    Ok(Heap {
+        blocks: blocks(alloc, given)?,
     })
 }
 
-/// A file of one wrapper, and the runtime module with every function.
-pub(crate) fn file(alloc: Global, f: FnItem) -> Result<Bindings, OutOfMemory>
-    ensures { IfOk result (λ t. IsSome (wrapper_of t 0)) }
-{
-    let mut items = List::new(alloc);
-    items.push(Item::Import(f))?;
-    let parts = List::from_vec(vec![in alloc;
-        RuntimeItem::AsI64,
-        RuntimeItem::AsI32,
-        RuntimeItem::AsF32,
-        RuntimeItem::AsF64,
-        RuntimeItem::BoolLift,
-        RuntimeItem::CharLift,
-        RuntimeItem::StringLift,
-    ]?);
-    items.push(Item::Runtime(parts))?;
-    let mut places = List::new(alloc);
-    places.push(FuncPlace {
-        interface: None,
-        nth: 0,
-    })?;
-    Bindings::new(alloc, List::new(alloc), items, places)
+fn buffer(address: u32, len: u32, owned: bool) -> RustValue {
+    RustValue::Buffer {
+        address,
+        len,
+        owned,
+    }
 }
 
-/// Values of a kind.
-pub(crate) fn numbers(
+fn rust_value(value: Value) -> RustValue {
+    match value {
+        Value::Bool(b) => RustValue::Bool(b),
+        Value::Num(kind, n) => RustValue::Num(kind, n),
+        Value::F32(bits) => RustValue::F32(bits),
+        Value::F64(bits) => RustValue::F64(bits),
+        Value::Char(code) => RustValue::Char(code),
+        Value::Lent(address, len) => buffer(address, len, false),
+        Value::Owned(address, len) => buffer(address, len, true),
+    }
+}
+
+pub(crate) fn values(alloc: Global, given: &[Value]) -> Result<List<RustValue>, OutOfMemory> {
+    let mut values = List::new(alloc);
+    for value in given {
+        values.push(rust_value(*value))?;
+    }
+    Ok(values)
+}
+
+fn answer(alloc: Global, reply: &Reply) -> Result<Answer, OutOfMemory> {
+    Ok(Answer::Words {
+        result: reply.word,
+        writes: numbered(alloc, reply.writes.0, reply.writes.1)?,
+        blocks: blocks(alloc, reply.blocks)?,
+    })
+}
+
+fn choices(alloc: Global, given: &[Choice]) -> Result<Choices, OutOfMemory> {
+    Ok(Choices {
+        list: List::from_vec(Vec::from_slice(alloc, given)?),
+    })
+}
+
+fn run(alloc: Global, given: &Given, args: &[Value]) -> Result<Run, OutOfMemory> {
+    let tree = file(alloc, given.wrapper)?;
+    let args = values(alloc, args)?;
+    let heap = heap(alloc, given.heap)?;
+    let choices = choices(alloc, given.choices)?;
+    let answer = answer(alloc, &given.reply)?;
+    run_import(
+        alloc,
+        &tree,
+        WrapperId(0),
+        &args,
+        &heap,
+        &choices,
+        &answer,
+        given.form,
+    )
+}
+
+fn call(alloc: Global, called: &Called, words: &[Word]) -> Result<CallPoint, OutOfMemory> {
+    let module = Text::from_str(alloc, "$root")?;
+    let name = Text::from_str(alloc, called.name)?;
+    Ok(CallPoint {
+        target: Target::Core(module, name),
+        words: List::from_vec(Vec::from_slice(alloc, words)?),
+        values: List::new(alloc),
+        heap: heap(alloc, called.heap)?,
+    })
+}
+
+fn calls(
     alloc: Global,
-    kind: Kind,
-    values: &[i128],
-) -> Result<List<RustValue>, OutOfMemory> {
-    let mut list = List::new(alloc);
-    for value in values {
-        list.push(RustValue::Num(kind.ty, *value))?;
+    called: &Option<Called>,
+    words: &[Word],
+) -> Result<List<CallPoint>, OutOfMemory> {
+    let mut calls = List::new(alloc);
+    if let Some(called) = called {
+        calls.push(call(alloc, called, words)?)?;
     }
-    Ok(list)
+    Ok(calls)
 }
 
-/// The answer of this word, with nothing written and nothing made.
-pub(crate) fn word(alloc: Global, word: Word) -> Answer {
-    Answer::Words {
-        result: Some(word),
-        writes: List::new(alloc),
-        blocks: List::new(alloc),
+pub(crate) fn value_of(given: Option<Value>) -> Option<RustValue> {
+    match given {
+        None => None,
+        Some(value) => Some(rust_value(value)),
     }
 }
 
-/// A heap of one block of four bytes, the first of them this one.
-pub(crate) fn heap(alloc: Global, first: u8) -> Result<Heap, OutOfMemory> {
-    let mut blocks = List::new(alloc);
-    blocks.push(Memory {
-        address: 16,
-        size: 4,
-        cells: List::from_vec(vec![in alloc; (0, first)]?),
-    })?;
-    Ok(Heap { blocks })
+fn wanted(alloc: Global, ended: &Ended, words: &[Word]) -> Result<Run, OutOfMemory> {
+    Ok(Run {
+        stop: ended.stop,
+        calls: calls(alloc, &ended.call, words)?,
+        requests: List::from_vec(Vec::from_slice(alloc, ended.requests)?),
+        heap: heap(alloc, ended.heap)?,
+        words: List::new(alloc),
+        value: value_of(ended.value),
+    })
+}
+
+/// What is given runs, from these arguments and through a call with these words, to this end.
+pub(crate) fn expect_run(
+    rt: &impl Abort,
+    alloc: Global,
+    given: &Given,
+    args: &[Value],
+    words: &[Word],
+    ended: &Ended,
+) -> Result<(), Fail> {
+    assert_eq!(rt; run(alloc, given, args)?, wanted(alloc, ended, words)?);
+    Ok(())
+}
+
+/// What is given stops thus.
+pub(crate) fn expect_stop(
+    rt: &impl Abort,
+    alloc: Global,
+    given: &Given,
+    args: &[Value],
+    stop: Stop,
+) -> Result<(), Fail> {
+    assert_eq!(rt; run(alloc, given, args)?.stop, stop);
+    Ok(())
 }

@@ -1,264 +1,253 @@
 //! Bools, chars and floats.
 
-use crate::tests::made::{file, names, path, word, written};
-use crate::tests::runs::{call_of, empty, no_choices, run_of};
-use crate::{Form, Run, RustValue, Stop, TrapKind, Word, run_import};
-use rust_tree::{Block, CastType, Expr, FnItem, ImportDecl, Primitive, Stmt, WrapperId};
+use crate::tests::made::{Called, Ended, Given, Reply, Value, expect_run};
+use crate::tests::tree::{Line, Operand, Printed, Wrapper};
+use crate::{Form, Stop, TrapKind, Word};
+use rust_tree::{CastType, Primitive};
 use std::alloc::Global;
 use std::process::Abort;
 use std::test::Fail;
-use wit_model::{Boxed, List, OutOfMemory, Text, WasmType};
+use wit_model::WasmType;
 
-pub(crate) fn local(alloc: Global, name: &str) -> Result<Expr, OutOfMemory> {
-    Ok(Expr::Local(Text::from_str(alloc, name)?))
-}
+const BOOL: &Wrapper = &Wrapper {
+    name: "turn",
+    params: &[("x0", Printed::Primitive(Primitive::Bool))],
+    result: Printed::Primitive(Primitive::Bool),
+    lines: &[
+        Line::Let("b0", Operand::FromBool("x0")),
+        Line::Import {
+            link_name: "turn",
+            name: "wit_import1",
+            params: &[WasmType::I32],
+            result: Some(WasmType::I32),
+        },
+        Line::LetCall("ret1", &["wit_import1"], &[Operand::Local("b0")]),
+        Line::LetCall(
+            "b2",
+            &["_rt", "bool_lift"],
+            &[Operand::Cast("ret1", CastType::U8)],
+        ),
+    ],
+    tail: Some(Operand::Local("b2")),
+};
 
-pub(crate) fn call(alloc: Global, names: &[&str], argument: Expr) -> Result<Expr, OutOfMemory> {
-    let mut arguments = List::new(alloc);
-    arguments.push(argument)?;
-    Ok(Expr::Call(path(alloc, names)?, arguments))
-}
+const CHAR: &Wrapper = &Wrapper {
+    name: "turn",
+    params: &[("x0", Printed::Primitive(Primitive::Char))],
+    result: Printed::Primitive(Primitive::Char),
+    lines: &[
+        Line::Import {
+            link_name: "turn",
+            name: "wit_import0",
+            params: &[WasmType::I32],
+            result: Some(WasmType::I32),
+        },
+        Line::LetCall(
+            "ret0",
+            &["wit_import0"],
+            &[Operand::Lowered("as_i32", "x0")],
+        ),
+        Line::LetCall(
+            "c1",
+            &["_rt", "char_lift"],
+            &[Operand::Cast("ret0", CastType::U32)],
+        ),
+    ],
+    tail: Some(Operand::Local("c1")),
+};
 
-pub(crate) fn set(alloc: Global, name: &str, e: Expr) -> Result<Stmt, OutOfMemory> {
-    Ok(Stmt::Let(Text::from_str(alloc, name)?, e))
-}
+const F32: &Wrapper = &Wrapper {
+    name: "turn",
+    params: &[("x0", Printed::Primitive(Primitive::F32))],
+    result: Printed::Primitive(Primitive::F32),
+    lines: &[
+        Line::Import {
+            link_name: "turn",
+            name: "wit_import0",
+            params: &[WasmType::F32],
+            result: Some(WasmType::F32),
+        },
+        Line::LetCall(
+            "ret0",
+            &["wit_import0"],
+            &[Operand::Lowered("as_f32", "x0")],
+        ),
+    ],
+    tail: Some(Operand::Local("ret0")),
+};
 
-/// The core import `turn` of one parameter and a result.
-fn turn(alloc: Global, name: &str, ty: WasmType) -> Result<Stmt, OutOfMemory> {
-    let mut params = List::new(alloc);
-    params.push(ty)?;
-    Ok(Stmt::Import(ImportDecl {
-        module: Text::from_str(alloc, "$root")?,
-        link_name: Text::from_str(alloc, "turn")?,
-        name: Text::from_str(alloc, name)?,
-        params,
-        result: Some(ty),
-    }))
-}
+const F64: &Wrapper = &Wrapper {
+    name: "turn",
+    params: &[("x0", Printed::Primitive(Primitive::F64))],
+    result: Printed::Primitive(Primitive::F64),
+    lines: &[
+        Line::Import {
+            link_name: "turn",
+            name: "wit_import0",
+            params: &[WasmType::F64],
+            result: Some(WasmType::F64),
+        },
+        Line::LetCall(
+            "ret0",
+            &["wit_import0"],
+            &[Operand::Lowered("as_f64", "x0")],
+        ),
+    ],
+    tail: Some(Operand::Local("ret0")),
+};
 
-fn x0(alloc: Global) -> Result<Expr, OutOfMemory> {
-    Ok(Expr::Ref(Text::from_str(alloc, "x0")?))
-}
-
-fn turn_bool(alloc: Global) -> Result<FnItem, OutOfMemory> {
-    let given = Expr::I32FromBool(Boxed::new(alloc, x0(alloc)?)?);
-    let ret = Boxed::new(alloc, local(alloc, "ret1")?)?;
-    let mut stmts = List::new(alloc);
-    stmts.push(set(alloc, "b0", given)?)?;
-    stmts.push(turn(alloc, "wit_import1", WasmType::I32)?)?;
-    let called = call(alloc, &["wit_import1"], local(alloc, "b0")?)?;
-    stmts.push(set(alloc, "ret1", called)?)?;
-    let lifted = call(alloc, &["_rt", "bool_lift"], Expr::Cast(ret, CastType::U8))?;
-    stmts.push(set(alloc, "b2", lifted)?)?;
-    let tail = Some(local(alloc, "b2")?);
-    let params = names(alloc, 1)?;
-    written(
-        alloc,
-        "turn",
-        Primitive::Bool,
-        params.as_slice(),
-        Block { stmts, tail },
-    )
-}
-
-/// The statements up to the core import's result, for a value that a conversion makes a word.
-fn asked(alloc: Global, conversion: &str, ty: WasmType) -> Result<List<Stmt>, OutOfMemory> {
-    let mut stmts = List::new(alloc);
-    stmts.push(turn(alloc, "wit_import0", ty)?)?;
-    let given = call(alloc, &["_rt", conversion], x0(alloc)?)?;
-    let called = call(alloc, &["wit_import0"], given)?;
-    stmts.push(set(alloc, "ret0", called)?)?;
-    Ok(stmts)
-}
-
-fn turn_char(alloc: Global) -> Result<FnItem, OutOfMemory> {
-    let mut stmts = asked(alloc, "as_i32", WasmType::I32)?;
-    let ret = Boxed::new(alloc, local(alloc, "ret0")?)?;
-    let lifted = call(alloc, &["_rt", "char_lift"], Expr::Cast(ret, CastType::U32))?;
-    stmts.push(set(alloc, "c1", lifted)?)?;
-    let tail = Some(local(alloc, "c1")?);
-    let params = names(alloc, 1)?;
-    written(
-        alloc,
-        "turn",
-        Primitive::Char,
-        params.as_slice(),
-        Block { stmts, tail },
-    )
-}
-
-fn turn_f32(alloc: Global) -> Result<FnItem, OutOfMemory> {
-    let stmts = asked(alloc, "as_f32", WasmType::F32)?;
-    let tail = Some(local(alloc, "ret0")?);
-    let params = names(alloc, 1)?;
-    written(
-        alloc,
-        "turn",
-        Primitive::F32,
-        params.as_slice(),
-        Block { stmts, tail },
-    )
-}
-
-fn turn_f64(alloc: Global) -> Result<FnItem, OutOfMemory> {
-    let stmts = asked(alloc, "as_f64", WasmType::F64)?;
-    let tail = Some(local(alloc, "ret0")?);
-    let params = names(alloc, 1)?;
-    written(
-        alloc,
-        "turn",
-        Primitive::F64,
-        params.as_slice(),
-        Block { stmts, tail },
-    )
-}
-
-fn turned(
-    alloc: Global,
-    f: FnItem,
-    given: RustValue,
+/// A value goes out as one word, one comes back, and the run ends so.
+#[derive(Clone, Copy)]
+struct Turned {
+    given: Value,
+    out: Word,
     back: Word,
     form: Form,
-) -> Result<Run, OutOfMemory> {
-    let tree = file(alloc, f)?;
-    let mut args = List::new(alloc);
-    args.push(given)?;
-    let heap = empty(alloc);
-    let choices = no_choices(alloc);
-    let answer = word(alloc, back);
-    run_import(
-        alloc,
-        &tree,
-        WrapperId(0),
-        &args,
-        &heap,
-        &choices,
-        &answer,
-        form,
-    )
+    stop: Stop,
+    value: Option<Value>,
 }
 
-/// The run that ends thus, after one call with this word.
-fn wanted(
+fn expect_turned(
+    rt: &impl Abort,
     alloc: Global,
-    out: Word,
-    stop: Stop,
-    value: Option<RustValue>,
-) -> Result<Run, OutOfMemory> {
-    let call = call_of(alloc, "turn", &[out], empty(alloc))?;
-    run_of(alloc, stop, Some(call), empty(alloc), value)
+    wrapper: &'static Wrapper,
+    turned: &Turned,
+) -> Result<(), Fail> {
+    let given = Given {
+        wrapper,
+        heap: &[],
+        choices: &[],
+        reply: Reply {
+            word: Some(turned.back),
+            writes: (0, &[]),
+            blocks: &[],
+        },
+        form: turned.form,
+    };
+    let ended = Ended {
+        stop: turned.stop,
+        call: Some(Called {
+            name: "turn",
+            heap: &[],
+        }),
+        requests: &[],
+        heap: &[],
+        value: turned.value,
+    };
+    expect_run(rt, alloc, &given, &[turned.given], &[turned.out], &ended)
+}
+
+/// A value is carried out as one word, and another back.
+fn carried(given: Value, out: Word, back: Word, value: Value) -> Turned {
+    Turned {
+        given,
+        out,
+        back,
+        form: Form::Debug,
+        stop: Stop::Done,
+        value: Some(value),
+    }
 }
 
 #[test]
 fn bools_are_carried(rt: HostRuntime) -> Result<(), Fail> {
-    let alloc = rt.alloc();
-    let cases = [
+    for (given, out, back, value) in [
         (true, 1, 1, true),
         (false, 0, 0, false),
         (true, 1, 256, false),
         (false, 0, -255, true),
-    ];
-    for (given, out, back, value) in cases {
-        let given = RustValue::Bool(given);
-        let run = turned(
-            alloc,
-            turn_bool(alloc)?,
-            given,
-            Word::I32(back),
-            Form::Debug,
-        )?;
-        let value = Some(RustValue::Bool(value));
-        assert_eq!(rt; run, wanted(alloc, Word::I32(out), Stop::Done, value)?);
+    ] {
+        let out = Word::I32(out);
+        let turned = carried(Value::Bool(given), out, Word::I32(back), Value::Bool(value));
+        expect_turned(&rt, rt.alloc(), BOOL, &turned)?;
     }
     Ok(())
 }
 
 #[test]
 fn chars_are_carried(rt: HostRuntime) -> Result<(), Fail> {
-    let alloc = rt.alloc();
-    let cases = [
+    for (given, out, back, value) in [
         (0, 0, 0xD7FF, 0xD7FF),
         (0x10_FFFF, 0x10_FFFF, 0xE000, 0xE000),
         (65, 65, 0x10_FFFF, 0x10_FFFF),
-    ];
-    for (given, out, back, value) in cases {
-        let given = RustValue::Char(given);
-        let run = turned(
-            alloc,
-            turn_char(alloc)?,
-            given,
-            Word::I32(back),
-            Form::Debug,
-        )?;
-        let value = Some(RustValue::Char(value));
-        assert_eq!(rt; run, wanted(alloc, Word::I32(out), Stop::Done, value)?);
+    ] {
+        let out = Word::I32(out);
+        let turned = carried(Value::Char(given), out, Word::I32(back), Value::Char(value));
+        expect_turned(&rt, rt.alloc(), CHAR, &turned)?;
+    }
+    Ok(())
+}
+
+// The floats are a NaN with a payload, the negative zero, and the largest number.
+
+#[test]
+fn the_bits_of_short_floats_are_carried(rt: HostRuntime) -> Result<(), Fail> {
+    for bits in [0x7FC0_0001, 0x8000_0000, 0x7F7F_FFFF] {
+        let (value, word) = (Value::F32(bits), Word::F32(bits));
+        let turned = carried(value, word, word, value);
+        expect_turned(&rt, rt.alloc(), F32, &turned)?;
     }
     Ok(())
 }
 
 #[test]
-fn the_bits_of_floats_are_carried(rt: HostRuntime) -> Result<(), Fail> {
-    let alloc = rt.alloc();
-    // a NaN with a payload, the negative zero, the largest number
-    for bits in [0x7FC0_0001, 0x8000_0000, 0x7F7F_FFFF] {
-        let given = RustValue::F32(bits);
-        let run = turned(alloc, turn_f32(alloc)?, given, Word::F32(bits), Form::Debug)?;
-        let value = Some(RustValue::F32(bits));
-        assert_eq!(rt; run, wanted(alloc, Word::F32(bits), Stop::Done, value)?);
-    }
+fn the_bits_of_long_floats_are_carried(rt: HostRuntime) -> Result<(), Fail> {
     for bits in [
         0x7FF8_0000_0000_0001,
         0x8000_0000_0000_0000,
         0x7FEF_FFFF_FFFF_FFFF,
     ] {
-        let given = RustValue::F64(bits);
-        let run = turned(alloc, turn_f64(alloc)?, given, Word::F64(bits), Form::Debug)?;
-        let value = Some(RustValue::F64(bits));
-        assert_eq!(rt; run, wanted(alloc, Word::F64(bits), Stop::Done, value)?);
+        let (value, word) = (Value::F64(bits), Word::F64(bits));
+        let turned = carried(value, word, word, value);
+        expect_turned(&rt, rt.alloc(), F64, &turned)?;
     }
     Ok(())
 }
 
 #[test]
 fn a_number_that_is_no_bool_is_refused_or_true(rt: HostRuntime) -> Result<(), Fail> {
-    let alloc = rt.alloc();
-    for back in [2, 255, 258] {
-        let given = RustValue::Bool(true);
-        let run = turned(
-            alloc,
-            turn_bool(alloc)?,
-            given,
-            Word::I32(back),
-            Form::Debug,
-        )?;
-        let stop = Stop::Trap(TrapKind::Bool);
-        assert_eq!(rt; run, wanted(alloc, Word::I32(1), stop, None)?);
-        let given = RustValue::Bool(true);
-        let run = turned(
-            alloc,
-            turn_bool(alloc)?,
-            given,
-            Word::I32(back),
-            Form::Release,
-        )?;
-        let value = Some(RustValue::Bool(true));
-        assert_eq!(rt; run, wanted(alloc, Word::I32(1), Stop::Done, value)?);
+    for (back, form, stop, value) in [
+        (2, Form::Debug, Stop::Trap(TrapKind::Bool), None),
+        (255, Form::Debug, Stop::Trap(TrapKind::Bool), None),
+        (258, Form::Debug, Stop::Trap(TrapKind::Bool), None),
+        (2, Form::Release, Stop::Done, Some(Value::Bool(true))),
+        (255, Form::Release, Stop::Done, Some(Value::Bool(true))),
+        (258, Form::Release, Stop::Done, Some(Value::Bool(true))),
+    ] {
+        let turned = Turned {
+            given: Value::Bool(true),
+            out: Word::I32(1),
+            back: Word::I32(back),
+            form,
+            stop,
+            value,
+        };
+        expect_turned(&rt, rt.alloc(), BOOL, &turned)?;
     }
     Ok(())
 }
 
 #[test]
 fn a_code_that_is_no_char_is_refused(rt: HostRuntime) -> Result<(), Fail> {
-    let alloc = rt.alloc();
-    for back in [0xD800, 0xDFFF, 0x11_0000, -1] {
-        for (form, stop) in [
-            (Form::Debug, Stop::Trap(TrapKind::Char)),
-            (Form::Release, Stop::Stuck(1)),
-        ] {
-            let given = RustValue::Char(65);
-            let run = turned(alloc, turn_char(alloc)?, given, Word::I32(back), form)?;
-            assert_eq!(rt; run, wanted(alloc, Word::I32(65), stop, None)?);
-        }
+    for (back, form, stop) in [
+        (0xD800, Form::Debug, Stop::Trap(TrapKind::Char)),
+        (0xDFFF, Form::Debug, Stop::Trap(TrapKind::Char)),
+        (0x11_0000, Form::Debug, Stop::Trap(TrapKind::Char)),
+        (-1, Form::Debug, Stop::Trap(TrapKind::Char)),
+        (0xD800, Form::Release, Stop::Stuck(1)),
+        (0xDFFF, Form::Release, Stop::Stuck(1)),
+        (0x11_0000, Form::Release, Stop::Stuck(1)),
+        (-1, Form::Release, Stop::Stuck(1)),
+    ] {
+        let turned = Turned {
+            given: Value::Char(65),
+            out: Word::I32(65),
+            back: Word::I32(back),
+            form,
+            stop,
+            value: None,
+        };
+        expect_turned(&rt, rt.alloc(), CHAR, &turned)?;
     }
     Ok(())
 }

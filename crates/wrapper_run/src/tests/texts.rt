@@ -1,175 +1,87 @@
 //! Texts: lent as arguments, and taken over as results.
 
-use crate::tests::made::{file, names, path, written};
-use crate::tests::runs::{call_of, empty, no_choices, run_of, sixteen, sixteen_words};
-use crate::tests::scalars::{call, local, set};
-use crate::{
-    Answer, Block as Memory, Choice, Choices, Form, Heap, Request, Run, RustValue, Stop, TrapKind,
-    Word, run_import,
-};
-use rust_tree::{
-    Block, Expr, FnItem, FnParam, ImportDecl, Primitive, ReturnArea, Stmt, TypeExpr, WrapperId,
-};
-use std::alloc::Global;
-use std::process::Abort;
+use crate::tests::made::{Bytes, Called, Ended, Given, Reply, Value, expect_run, expect_stop};
+use crate::tests::tree::{Line, Operand, Printed, Wrapper};
+use crate::{Choice, Form, Request, Stop, TrapKind, Word};
 use std::test::Fail;
-use wit_model::{Alignment, ArchitectureSize, Boxed, List, OutOfMemory, Text, WasmType};
-
-fn text(alloc: Global, name: &str) -> Result<Text, OutOfMemory> {
-    Text::from_str(alloc, name)
-}
-
-/// The declaration of a core import without a result.
-fn declared(
-    alloc: Global,
-    link_name: &str,
-    name: &str,
-    params: &[WasmType],
-) -> Result<Stmt, OutOfMemory> {
-    Ok(Stmt::Import(ImportDecl {
-        module: text(alloc, "$root")?,
-        link_name: text(alloc, link_name)?,
-        name: text(alloc, name)?,
-        params: List::from_vec(Vec::from_slice(alloc, params)?),
-        result: None,
-    }))
-}
-
-/// The three locals of a text that is lent.
-fn push_lent(
-    alloc: Global,
-    stmts: &mut List<Stmt>,
-    name: &str,
-    locals: [&str; 3],
-) -> Result<(), OutOfMemory> {
-    let [vec, ptr, len] = locals;
-    stmts.push(set(alloc, vec, local(alloc, name)?)?)?;
-    stmts.push(set(alloc, ptr, Expr::AsPtr(text(alloc, vec)?))?)?;
-    stmts.push(set(alloc, len, Expr::Len(text(alloc, vec)?))?)
-}
-
-fn text_param(alloc: Global, name: &str) -> Result<FnParam, OutOfMemory> {
-    Ok(FnParam {
-        name: text(alloc, name)?,
-        ty: TypeExpr::Ref(Boxed::new(alloc, TypeExpr::Str)?),
-    })
-}
+use wit_model::{ArchitectureSize, WasmType};
 
 /// `greet`, whose parameters are named as locals are.
-fn greet(alloc: Global) -> Result<FnItem, OutOfMemory> {
-    let mut params = List::new(alloc);
-    params.push(text_param(alloc, "ptr0")?)?;
-    params.push(text_param(alloc, "len0")?)?;
-    let mut stmts = List::new(alloc);
-    push_lent(alloc, &mut stmts, "ptr0", ["vec1", "ptr1", "len1"])?;
-    push_lent(alloc, &mut stmts, "len0", ["vec2", "ptr2", "len2"])?;
-    let types = [
-        WasmType::Pointer,
-        WasmType::Length,
-        WasmType::Pointer,
-        WasmType::Length,
-    ];
-    stmts.push(declared(alloc, "greet", "wit_import3", &types)?)?;
-    let mut words = List::new(alloc);
-    words.push(Expr::CastMut(text(alloc, "ptr1")?))?;
-    words.push(local(alloc, "len1")?)?;
-    words.push(Expr::CastMut(text(alloc, "ptr2")?))?;
-    words.push(local(alloc, "len2")?)?;
-    stmts.push(Stmt::Expr(Expr::Call(path(alloc, &["wit_import3"])?, words)))?;
-    Ok(FnItem {
-        docs: List::new(alloc),
-        name: text(alloc, "greet")?,
-        params,
-        result: TypeExpr::Unit,
-        body: Block { stmts, tail: None },
-    })
-}
+const GREET: &Wrapper = &Wrapper {
+    name: "greet",
+    params: &[("ptr0", Printed::Lent), ("len0", Printed::Lent)],
+    result: Printed::Unit,
+    lines: &[
+        Line::Let("vec1", Operand::Local("ptr0")),
+        Line::Let("ptr1", Operand::AsPtr("vec1")),
+        Line::Let("len1", Operand::Len("vec1")),
+        Line::Let("vec2", Operand::Local("len0")),
+        Line::Let("ptr2", Operand::AsPtr("vec2")),
+        Line::Let("len2", Operand::Len("vec2")),
+        Line::Import {
+            link_name: "greet",
+            name: "wit_import3",
+            params: &[
+                WasmType::Pointer,
+                WasmType::Length,
+                WasmType::Pointer,
+                WasmType::Length,
+            ],
+            result: None,
+        },
+        Line::Call(
+            &["wit_import3"],
+            &[
+                Operand::CastMut("ptr1"),
+                Operand::Local("len1"),
+                Operand::CastMut("ptr2"),
+                Operand::Local("len2"),
+            ],
+        ),
+    ],
+    tail: None,
+};
 
-fn block(alloc: Global, address: u32, bytes: &[u8]) -> Result<Memory, OutOfMemory> {
-    let mut cells = List::new(alloc);
-    let mut offset = 0_u32;
-    for byte in bytes {
-        cells.push((offset, *byte))?;
-        offset = offset.wrapping_add(1);
-    }
-    Ok(Memory {
-        address,
-        size: offset,
-        cells,
-    })
-}
+const HI: &[Bytes] = &[Bytes {
+    address: 4096,
+    size: 2,
+    written: b"hi",
+}];
 
-fn heap_of(alloc: Global, address: u32, bytes: &[u8]) -> Result<Heap, OutOfMemory> {
-    let mut blocks = List::new(alloc);
-    blocks.push(block(alloc, address, bytes)?)?;
-    Ok(Heap { blocks })
-}
-
-fn lent(address: u32, len: u32) -> RustValue {
-    RustValue::Buffer {
-        address,
-        len,
-        owned: false,
-    }
-}
-
-fn greeted(alloc: Global) -> Result<Run, OutOfMemory> {
-    let tree = file(alloc, greet(alloc)?)?;
-    let args = List::from_vec(vec![in alloc; lent(4096, 2), lent(1, 0)]?);
-    let heap = heap_of(alloc, 4096, b"hi")?;
-    let choices = no_choices(alloc);
-    let answer = Answer::Words {
-        result: None,
-        writes: List::new(alloc),
-        blocks: List::new(alloc),
+#[test]
+fn texts_are_lent(rt: HostRuntime) -> Result<(), Fail> {
+    let given = Given {
+        wrapper: GREET,
+        heap: HI,
+        choices: &[],
+        reply: Reply {
+            word: None,
+            writes: (0, &[]),
+            blocks: &[],
+        },
+        form: Form::Debug,
     };
-    run_import(
-        alloc,
-        &tree,
-        WrapperId(0),
-        &args,
-        &heap,
-        &choices,
-        &answer,
-        Form::Debug,
-    )
-}
-
-fn wanted_greeting(alloc: Global) -> Result<Run, OutOfMemory> {
+    let ended = Ended {
+        stop: Stop::Done,
+        call: Some(Called {
+            name: "greet",
+            heap: HI,
+        }),
+        requests: &[],
+        heap: HI,
+        value: None,
+    };
+    let args = [Value::Lent(4096, 2), Value::Lent(1, 0)];
     let words = [
         Word::Pointer(4096),
         Word::Length(2),
         Word::Pointer(1),
         Word::Length(0),
     ];
-    let call = call_of(alloc, "greet", &words, heap_of(alloc, 4096, b"hi")?)?;
-    run_of(
-        alloc,
-        Stop::Done,
-        Some(call),
-        heap_of(alloc, 4096, b"hi")?,
-        None,
-    )
+    expect_run(&rt, rt.alloc(), &given, &args, &words, &ended)
 }
 
-#[test]
-fn texts_are_lent(rt: HostRuntime) -> Result<(), Fail> {
-    let alloc = rt.alloc();
-    assert_eq!(rt; greeted(alloc)?, wanted_greeting(alloc)?);
-    Ok(())
-}
-
-fn loaded(
-    alloc: Global,
-    name: &str,
-    offset: ArchitectureSize,
-    ty: WasmType,
-) -> Result<Stmt, OutOfMemory> {
-    let address = Boxed::new(alloc, local(alloc, "ptr0")?)?;
-    set(alloc, name, Expr::Load(address, offset, ty))
-}
-
-const START: ArchitectureSize = ArchitectureSize {
+const FIRST: ArchitectureSize = ArchitectureSize {
     bytes: 0,
     pointers: 0,
 };
@@ -179,262 +91,167 @@ const SECOND: ArchitectureSize = ArchitectureSize {
     pointers: 1,
 };
 
-/// The words of whole numbers, and of the area behind them.
-fn area_words(alloc: Global, params: &[Text]) -> Result<List<Expr>, OutOfMemory> {
-    let mut words = List::new(alloc);
-    for param in params {
-        let given = Expr::Ref(param.copy(alloc)?);
-        words.push(call(alloc, &["_rt", "as_i32"], given)?)?;
-    }
-    words.push(local(alloc, "ptr0")?)?;
-    Ok(words)
-}
-
-/// The area, the call of the import with so many numbers, and the loads of what it wrote.
-fn asked(alloc: Global, link_name: &str, params: &[Text]) -> Result<List<Stmt>, OutOfMemory> {
-    let mut stmts = List::new(alloc);
-    stmts.push(Stmt::Area(ReturnArea {
-        name: text(alloc, "ret_area")?,
-        size: ArchitectureSize {
-            bytes: 0,
-            pointers: 2,
+/// `name`, which has no parameter, and answers a text by its area.
+const NAME: &Wrapper = &Wrapper {
+    name: "name",
+    params: &[],
+    result: Printed::Owned,
+    lines: &[
+        Line::Area("ret_area"),
+        Line::Let("ptr0", Operand::ReturnPointer("ret_area")),
+        Line::Import {
+            link_name: "name",
+            name: "wit_import1",
+            params: &[WasmType::Pointer],
+            result: None,
         },
-        align: Alignment::Pointer,
-    }))?;
-    let pointer = Expr::ReturnPointer(text(alloc, "ret_area")?);
-    stmts.push(set(alloc, "ptr0", pointer)?)?;
-    let mut types = List::new(alloc);
-    for _ in params {
-        types.push(WasmType::I32)?;
-    }
-    types.push(WasmType::Pointer)?;
-    stmts.push(declared(alloc, link_name, "wit_import1", types.as_slice())?)?;
-    let words = area_words(alloc, params)?;
-    stmts.push(Stmt::Expr(Expr::Call(path(alloc, &["wit_import1"])?, words)))?;
-    stmts.push(loaded(alloc, "l2", START, WasmType::Pointer)?)?;
-    stmts.push(loaded(alloc, "l3", SECOND, WasmType::Length)?)?;
-    Ok(stmts)
+        Line::Call(&["wit_import1"], &[Operand::Local("ptr0")]),
+        Line::Let("l2", Operand::Load("ptr0", FIRST, WasmType::Pointer)),
+        Line::Let("l3", Operand::Load("ptr0", SECOND, WasmType::Length)),
+        Line::Let("len4", Operand::Local("l3")),
+        Line::Let("bytes4", Operand::Bytes("l2", "len4")),
+        Line::LetCall(
+            "text4",
+            &["_rt", "string_lift"],
+            &[Operand::Local("bytes4")],
+        ),
+    ],
+    tail: Some(Operand::Local("text4")),
+};
+
+/// An area at 512, of which nothing is written yet.
+const AREA: &[Bytes] = &[Bytes {
+    address: 512,
+    size: 8,
+    written: &[],
+}];
+
+/// `name` with an area at one of these choices, into which the peer writes these bytes at 512, and with the blocks that
+/// it makes.
+#[derive(Clone, Copy)]
+struct Named {
+    choices: &'static [Choice],
+    written: &'static [u8],
+    blocks: &'static [Bytes],
 }
 
-/// A function of whole numbers that answers a text by its area.
-fn answers_text(alloc: Global, name: &str, params: &[Text]) -> Result<FnItem, OutOfMemory> {
-    let mut stmts = asked(alloc, name, params)?;
-    stmts.push(set(alloc, "len4", local(alloc, "l3")?)?)?;
-    let address = Boxed::new(alloc, local(alloc, "l2")?)?;
-    let bytes = Expr::FromRawParts(address, text(alloc, "len4")?);
-    stmts.push(set(alloc, "bytes4", bytes)?)?;
-    let lifted = call(alloc, &["_rt", "string_lift"], local(alloc, "bytes4")?)?;
-    stmts.push(set(alloc, "text4", lifted)?)?;
-    let body = Block {
-        stmts,
-        tail: Some(local(alloc, "text4")?),
-    };
-    let mut f = written(alloc, name, Primitive::U32, params, body)?;
-    f.result = TypeExpr::String;
-    Ok(f)
-}
-
-/// An answer that writes these bytes from 512 on, and brings these blocks.
-fn answer(alloc: Global, bytes: &[u8], blocks: List<Memory>) -> Result<Answer, OutOfMemory> {
-    let mut writes = List::new(alloc);
-    let mut address = 512_u32;
-    for byte in bytes {
-        writes.push((address, *byte))?;
-        address = address.wrapping_add(1);
-    }
-    Ok(Answer::Words {
-        result: None,
-        writes,
-        blocks,
-    })
-}
-
-fn one_block(alloc: Global, address: u32, bytes: &[u8]) -> Result<List<Memory>, OutOfMemory> {
-    let mut blocks = List::new(alloc);
-    blocks.push(block(alloc, address, bytes)?)?;
-    Ok(blocks)
-}
-
-/// The run of a function of these numbers, in an empty heap.
-fn run_of_text(
-    alloc: Global,
-    f: FnItem,
-    args: &List<RustValue>,
-    answer: &Answer,
-    choices: &[Choice],
-    form: Form,
-) -> Result<Run, OutOfMemory> {
-    let tree = file(alloc, f)?;
-    let heap = empty(alloc);
-    let choices = Choices {
-        list: List::from_vec(Vec::from_slice(alloc, choices)?),
-    };
-    run_import(
-        alloc,
-        &tree,
-        WrapperId(0),
-        args,
-        &heap,
-        &choices,
-        answer,
+fn given(named: &Named, form: Form) -> Given {
+    Given {
+        wrapper: NAME,
+        heap: &[],
+        choices: named.choices,
+        reply: Reply {
+            word: None,
+            writes: (512, named.written),
+            blocks: named.blocks,
+        },
         form,
-    )
+    }
 }
 
-fn named(
-    alloc: Global,
-    answer: &Answer,
-    choices: &[Choice],
-    form: Form,
-) -> Result<Run, OutOfMemory> {
-    let f = answers_text(alloc, "name", List::new(alloc).as_slice())?;
-    run_of_text(alloc, f, &List::new(alloc), answer, choices, form)
-}
-
-/// The run that is done after one call with these words, with an owned text and in a heap of these blocks.
-fn wanted_text(
-    alloc: Global,
-    name: &str,
-    words: &[Word],
-    buffer: (u32, u32),
-    blocks: List<Memory>,
-) -> Result<Run, OutOfMemory> {
-    let mut area = List::new(alloc);
-    area.push(Memory {
-        address: 512,
-        size: 8,
-        cells: List::new(alloc),
-    })?;
-    let call = call_of(alloc, name, words, Heap { blocks: area })?;
-    let value = Some(RustValue::Buffer {
-        address: buffer.0,
-        len: buffer.1,
-        owned: true,
-    });
-    let mut run = run_of(alloc, Stop::Done, Some(call), Heap { blocks }, value)?;
-    run.requests.push(Request { size: 8, align: 4 })?;
-    Ok(run)
-}
-
-fn wanted_name(
-    alloc: Global,
-    address: u32,
-    len: u32,
-    blocks: List<Memory>,
-) -> Result<Run, OutOfMemory> {
-    wanted_text(alloc, "name", &[Word::Pointer(512)], (address, len), blocks)
-}
-
-/// Sixteen numbers go as they are, and the address of the area behind them.
-fn many(alloc: Global, brings: &Answer) -> Result<Run, OutOfMemory> {
-    let f = answers_text(alloc, "many", names(alloc, 16)?.as_slice())?;
-    let args = sixteen(alloc)?;
-    run_of_text(alloc, f, &args, brings, &[Choice::At(512)], Form::Debug)
-}
-
-#[test]
-fn sixteen_numbers_ask_for_a_text(rt: HostRuntime) -> Result<(), Fail> {
-    let alloc = rt.alloc();
-    let brings = answer(
-        alloc,
-        &[0, 16, 0, 0, 2, 0, 0, 0],
-        one_block(alloc, 4096, b"ok")?,
-    )?;
-    let mut words = sixteen_words(alloc)?;
-    words.push(Word::Pointer(512))?;
-    let blocks = one_block(alloc, 4096, b"ok")?;
-    let wanted = wanted_text(alloc, "many", words.as_slice(), (4096, 2), blocks)?;
-    assert_eq!(rt; many(alloc, &brings)?, wanted);
-    Ok(())
+/// The run that stops thus after the call with the area, in this heap and with this value.
+fn ended(stop: Stop, heap: &'static [Bytes], value: Option<Value>) -> Ended {
+    Ended {
+        stop,
+        call: Some(Called {
+            name: "name",
+            heap: AREA,
+        }),
+        requests: &[Request { size: 8, align: 4 }],
+        heap,
+        value,
+    }
 }
 
 #[test]
 fn a_text_is_taken_over(rt: HostRuntime) -> Result<(), Fail> {
-    let alloc = rt.alloc();
-    let brings = answer(
-        alloc,
-        &[0, 16, 0, 0, 2, 0, 0, 0],
-        one_block(alloc, 4096, b"hi")?,
-    )?;
-    let run = named(alloc, &brings, &[Choice::At(512)], Form::Debug)?;
-    assert_eq!(rt;
-        run,
-        wanted_name(alloc, 4096, 2, one_block(alloc, 4096, b"hi")?)?
-    );
-    let brings = answer(alloc, &[1, 0, 0, 0, 0, 0, 0, 0], List::new(alloc))?;
-    let run = named(alloc, &brings, &[Choice::At(512)], Form::Release)?;
-    assert_eq!(rt; run, wanted_name(alloc, 1, 0, List::new(alloc))?);
-    Ok(())
+    let named = Named {
+        choices: &[Choice::At(512)],
+        written: &[0, 16, 0, 0, 2, 0, 0, 0],
+        blocks: HI,
+    };
+    let ended = ended(Stop::Done, HI, Some(Value::Owned(4096, 2)));
+    let given = given(&named, Form::Debug);
+    expect_run(&rt, rt.alloc(), &given, &[], &[Word::Pointer(512)], &ended)
 }
 
-/// An answer that stands for no text ends the run in the debug form for this reason, and has no meaning in the release form.
-fn expect_trap(
-    rt: &impl Abort,
-    alloc: Global,
-    bytes: &[u8],
-    brought: &[u8],
-    kind: TrapKind,
-) -> Result<(), Fail> {
-    let brings = answer(alloc, bytes, one_block(alloc, 4096, brought)?)?;
-    let run = named(alloc, &brings, &[Choice::At(512)], Form::Debug)?;
-    assert_eq!(rt; run.stop, Stop::Trap(kind));
-    let run = named(alloc, &brings, &[Choice::At(512)], Form::Release)?;
-    assert_eq!(rt; run.stop, Stop::Stuck(1));
-    Ok(())
+#[test]
+fn an_empty_text_is_taken_over(rt: HostRuntime) -> Result<(), Fail> {
+    let named = Named {
+        choices: &[Choice::At(512)],
+        written: &[1, 0, 0, 0, 0, 0, 0, 0],
+        blocks: &[],
+    };
+    let ended = ended(Stop::Done, &[], Some(Value::Owned(1, 0)));
+    let given = given(&named, Form::Release);
+    expect_run(&rt, rt.alloc(), &given, &[], &[Word::Pointer(512)], &ended)
 }
+
+/// Two bytes that are no UTF-8.
+const NO_UTF8: &[Bytes] = &[Bytes {
+    address: 4096,
+    size: 2,
+    written: &[104, 255],
+}];
+
+/// Bytes in the area and blocks of the peer that stand for no text, with what they are refused for.
+const NO_TEXTS: &[(&[u8], &[Bytes], TrapKind)] = &[
+    // a length that was not written
+    (&[0, 16, 0, 0], HI, TrapKind::Pointer),
+    // an address of 0
+    (&[0, 0, 0, 0, 2, 0, 0, 0], HI, TrapKind::Pointer),
+    // too many bytes
+    (&[0, 16, 0, 0, 0, 0, 0, 128], HI, TrapKind::Size),
+    // no block of that size
+    (&[0, 16, 0, 0, 3, 0, 0, 0], HI, TrapKind::Block),
+    (&[0, 16, 0, 0, 2, 0, 0, 0], NO_UTF8, TrapKind::Utf8),
+];
 
 #[test]
 fn what_is_no_text_is_refused(rt: HostRuntime) -> Result<(), Fail> {
-    let alloc = rt.alloc();
-    // a length that was not written, an address of 0, too many bytes, no block of that size, and bytes that are no UTF-8
-    expect_trap(&rt, alloc, &[0, 16, 0, 0], b"hi", TrapKind::Pointer)?;
-    expect_trap(
-        &rt,
-        alloc,
-        &[0, 0, 0, 0, 2, 0, 0, 0],
-        b"hi",
-        TrapKind::Pointer,
-    )?;
-    expect_trap(
-        &rt,
-        alloc,
-        &[0, 16, 0, 0, 0, 0, 0, 128],
-        b"hi",
-        TrapKind::Size,
-    )?;
-    expect_trap(
-        &rt,
-        alloc,
-        &[0, 16, 0, 0, 3, 0, 0, 0],
-        b"hi",
-        TrapKind::Block,
-    )?;
-    expect_trap(
-        &rt,
-        alloc,
-        &[0, 16, 0, 0, 2, 0, 0, 0],
-        &[104, 255],
-        TrapKind::Utf8,
-    )
+    for case in NO_TEXTS {
+        let named = Named {
+            choices: &[Choice::At(512)],
+            written: case.0,
+            blocks: case.1,
+        };
+        let alloc = rt.alloc();
+        let trap = Stop::Trap(case.2);
+        expect_stop(&rt, alloc, &given(&named, Form::Debug), &[], trap)?;
+        let stuck = Stop::Stuck(1);
+        expect_stop(&rt, alloc, &given(&named, Form::Release), &[], stuck)?;
+    }
+    Ok(())
 }
+
+/// The run that a choice of the area ends.
+const NO_AREA: Ended = Ended {
+    stop: Stop::BadChoice,
+    call: None,
+    requests: &[Request { size: 8, align: 4 }],
+    heap: &[],
+    value: None,
+};
+
+/// None, a refusal, an address of 0, one that is not aligned, and one too near to the end of memory.
+const NO_CHOICES: &[&[Choice]] = &[
+    &[],
+    &[Choice::Refuse],
+    &[Choice::At(0)],
+    &[Choice::At(514)],
+    &[Choice::At(4_294_967_292)],
+];
 
 #[test]
 fn an_area_wants_a_fitting_choice(rt: HostRuntime) -> Result<(), Fail> {
-    let alloc = rt.alloc();
-    let brings = answer(alloc, &[1, 0, 0, 0, 0, 0, 0, 0], List::new(alloc))?;
-    // none, a refusal, an address of 0, one that is not aligned, and one too near to the end of memory
-    let cases: [&[Choice]; 5] = [
-        &[],
-        &[Choice::Refuse],
-        &[Choice::At(0)],
-        &[Choice::At(514)],
-        &[Choice::At(4_294_967_292)],
-    ];
-    for choices in cases {
-        let run = named(alloc, &brings, choices, Form::Debug)?;
-        assert_eq!(rt; run.stop, Stop::BadChoice);
-        assert_eq!(rt; run.requests.len(), 1);
-        assert!(rt; run.calls.is_empty());
+    for choices in NO_CHOICES {
+        let named = Named {
+            choices,
+            written: &[1, 0, 0, 0, 0, 0, 0, 0],
+            blocks: &[],
+        };
+        let given = given(&named, Form::Debug);
+        expect_run(&rt, rt.alloc(), &given, &[], &[], &NO_AREA)?;
     }
     Ok(())
 }

@@ -1,6 +1,6 @@
 use Rattle.std.proofs.Common.{◌≡◌, ◌++◌, drop}
 use Rattle.std.specs.List.{flat_map}
-use Rattle.rust_tree.specs.Text.{core_param_text}
+use Rattle.rust_tree.specs.CodeText.{core_param_text}
 use Rattle.rust_tree.proofs.print.core_import.push_core_params.Given as goal
 
 abbrev pub invariant-loop-ty : goal.invariant-loop-ty

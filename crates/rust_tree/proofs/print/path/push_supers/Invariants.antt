@@ -1,5 +1,5 @@
 use Rattle.std.proofs.Common.{◌≡◌, ◌++◌, ◌-◌}
-use Rattle.rust_tree.specs.Text.{supers_text}
+use Rattle.rust_tree.specs.CodeText.{supers_text}
 use Rattle.rust_tree.proofs.print.path.push_supers.Given as goal
 
 abbrev pub invariant-loop-i : goal.invariant-loop-i

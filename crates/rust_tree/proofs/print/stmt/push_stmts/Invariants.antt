@@ -1,6 +1,6 @@
 use Rattle.std.proofs.Common.{◌≡◌, ◌++◌, drop}
 use Rattle.std.specs.List.{flat_map}
-use Rattle.rust_tree.specs.Text.{stmt_text}
+use Rattle.rust_tree.specs.CodeText.{stmt_text}
 use Rattle.rust_tree.proofs.print.stmt.push_stmts.Given as goal
 
 abbrev pub invariant-loop-stmt : goal.invariant-loop-stmt

@@ -1,0 +1,87 @@
+-- The items by which a world exports its functions: the trait of their implementation, and the macros.
+use Rattle.std.specs.Prelude.{ℕ, ◌+◌, List, [], ◌∷◌, ◌++◌, Option, None, Some, codes, decimal, map}
+use Rattle.wit_model.specs.declared.function.Function.{Function}
+use Rattle.wit_model.specs.declared.function.Param.{Param}
+use Rattle.wit_model.specs.declared.size.WasmType.{WasmType}
+use Rattle.wit_model.specs.declared.types.WitType.{WitType}
+use Rattle.wit_model.specs.declared.world.World.{World}
+use Rattle.rust_tree.specs.declared.export.CoreParam.{CoreParam}
+use Rattle.rust_tree.specs.declared.export.ExportEntry.{ExportEntry}
+use Rattle.rust_tree.specs.declared.export.ModuleMacro.{ModuleMacro}
+use Rattle.rust_tree.specs.declared.export.RootMacro.{RootMacro}
+use Rattle.rust_tree.specs.declared.export.TraitFn.{TraitFn}
+use Rattle.rust_tree.specs.declared.export.TraitItem.{TraitItem}
+use Rattle.rust_tree.specs.declared.item.FnParam.{FnParam}
+use Rattle.rust_tree.specs.declared.item.Item.{Item}
+use Rattle.rust_tree.specs.declared.item.Item.TheVariants as item
+use Rattle.rust_tree.specs.Ident.{rust_ident}
+use Rattle.rust_gen.specs.Docs.{doc_lines}
+use Rattle.rust_gen.specs.Emitted.{exported_functions}
+use Rattle.rust_gen.specs.Printed.{core_type, param_words, printed_result, printed_type}
+
+abbrev pub Bytes : Type 0
+Bytes = List ℕ
+
+-- the trait
+
+unfoldable pub guest_name : Bytes
+guest_name = codes "Guest"
+
+abbrev pub trait_param : Param → FnParam
+trait_param p = record { name = rust_ident p.name; ty = printed_type p.ty }
+
+abbrev pub trait_fn : Function → TraitFn
+trait_fn f = record { docs = doc_lines f.docs; name = rust_ident f.name; params = map trait_param f.params; result = printed_result f.result }
+
+abbrev pub guest_trait : List Function → TraitItem
+guest_trait functions = record { name = guest_name; functions = map trait_fn functions }
+
+-- the core signature
+
+unfoldable pub arg_prefix : Bytes
+arg_prefix = codes "arg"
+
+abbrev pub arg_name : ℕ → Bytes
+arg_name n = arg_prefix ++ decimal n
+
+-- core parameters that are numbered from n
+abbrev pub core_args : ℕ → List WasmType → List CoreParam
+core_args n [] = []
+core_args n (ty ∷ types) = record { name = arg_name n; ty = ty } ∷ core_args (n + 1) types
+
+abbrev pub export_params : Function → List CoreParam
+export_params f = core_args 0 (param_words f.params)
+
+-- so far a result is one word
+abbrev pub export_result : Option WitType → Option WasmType
+export_result None = None
+export_result (Some ty) = Some (core_type ty)
+
+-- the macros
+
+-- a function is exported under its own name, and its wrapper has its snake form as base name
+abbrev pub export_entry : Function → ExportEntry
+export_entry f = record { export_name = f.name.wit; base = f.name.snake; params = export_params f; result = export_result f.result }
+
+unfoldable pub world_prefix : Bytes
+world_prefix = codes "world_"
+
+abbrev pub macro_name : World → Bytes
+macro_name world = world_prefix ++ world.name.snake
+
+abbrev pub world_macro : World → ModuleMacro
+world_macro world = record { name = macro_name world; entries = map export_entry (exported_functions world) }
+
+abbrev pub file_macro : World → RootMacro
+file_macro world = record { world = world.name.snake; modules = macro_name world ∷ [] }
+
+-- items that stand where there is an exported function
+abbrev pub where_any : List Function → List Item → List Item
+where_any [] items = []
+where_any (_ ∷ _) items = items
+
+abbrev pub trait_and_macro : World → List Item
+trait_and_macro world = where_any (exported_functions world) (item.Trait (guest_trait (exported_functions world)) ∷ item.ModuleMacro (world_macro world) ∷ [])
+
+abbrev pub last_macro : World → List Item
+last_macro world = where_any (exported_functions world) (item.RootMacro (file_macro world) ∷ [])

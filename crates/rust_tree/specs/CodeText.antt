@@ -1,0 +1,207 @@
+-- The text of paths, types, expressions and statements.
+use Rattle.std.specs.Prelude.{ℕ, zero, suc, Bool, true, false, List, [], ◌++◌, Option, Some, None, if◌then◌else◌, codes, decimal, map}
+use Rattle.std.specs.List.{flat_map}
+use Rattle.wit_model.specs.declared.size.Alignment.{Alignment}
+use Rattle.wit_model.specs.declared.size.Alignment.TheVariants as align
+use Rattle.wit_model.specs.declared.size.ArchitectureSize.{ArchitectureSize}
+use Rattle.wit_model.specs.declared.size.WasmType.{WasmType}
+use Rattle.wit_model.specs.declared.size.WasmType.TheVariants as core
+use Rattle.wit_model.specs.SizeText.{size_text}
+use Rattle.rust_tree.specs.declared.expr.CastType.{CastType}
+use Rattle.rust_tree.specs.declared.expr.CastType.TheVariants as cast
+use Rattle.rust_tree.specs.declared.expr.Expr.{Expr, Expr-F, fold-Expr}
+use Rattle.rust_tree.specs.declared.path.Path.{Path}
+use Rattle.rust_tree.specs.declared.stmt.Block.{Block}
+use Rattle.rust_tree.specs.declared.stmt.ImportDecl.{ImportDecl}
+use Rattle.rust_tree.specs.declared.stmt.ReturnArea.{ReturnArea}
+use Rattle.rust_tree.specs.declared.stmt.Stmt.{Stmt}
+use Rattle.rust_tree.specs.declared.stmt.Stmt.TheVariants as stmt
+use Rattle.rust_tree.specs.declared.type_expr.Primitive.{Primitive}
+use Rattle.rust_tree.specs.declared.type_expr.Primitive.TheVariants as primitive
+use Rattle.rust_tree.specs.declared.type_expr.TypeExpr.{TypeExpr, TypeExpr-F, fold-TypeExpr}
+use Rattle.rust_tree.specs.declared.print.word.area.AreaWord.TheVariants.{PointerAlign, Align, AlignEnd, AreaType, AreaValue, AreaEnd}
+use Rattle.rust_tree.specs.declared.print.word.expr.ExprWord.TheVariants.{Match, BoolArms, AsPtr, Len, CastMut, AreaPointer, Dereference, Add, CastTo, CastEnd, FromRawParts, PointerCast}
+use Rattle.rust_tree.specs.declared.print.word.import.ImportWord.TheVariants.{WasmLink, ExternBlock, LinkedFn, OtherFn, Unreachable, UnnamedParam}
+use Rattle.rust_tree.specs.declared.print.word.item.ItemWord.TheVariants.{UnitType, StrType, StringName}
+use Rattle.rust_tree.specs.declared.print.word.sign.Sign.{Sign}
+use Rattle.rust_tree.specs.declared.print.word.sign.Sign.TheVariants.{LineEnd, StatementEnd, CloseBlock, Open, Close, Comma, Arrow, PathMark, Super, Reference, As, Let, Equals, LetMut}
+use Rattle.rust_tree.specs.Pieces.{joined}
+use Rattle.rust_tree.specs.Tree.{Bytes}
+use Rattle.rust_tree.specs.Word.{area_word, expr_word, import_word, item_word, sign}
+
+-- paths
+
+-- so many times `super::`
+abbrev pub supers_text : ℕ → Bytes
+supers_text zero = []
+supers_text (suc n) = sign Super ++ supers_text n
+
+-- `::`, or nothing
+abbrev pub lead_text : Bool → Bytes
+lead_text true = sign PathMark
+lead_text false = []
+
+-- `::super::a::b`
+abbrev pub path_text : Path → Bytes
+path_text p = lead_text p.lead ++ supers_text p.supers ++ joined (sign PathMark) p.names
+
+-- types
+
+abbrev pub primitive_text : Primitive → Bytes
+primitive_text primitive.Bool = codes "bool"
+primitive_text primitive.U8 = codes "u8"
+primitive_text primitive.U16 = codes "u16"
+primitive_text primitive.U32 = codes "u32"
+primitive_text primitive.U64 = codes "u64"
+primitive_text primitive.I8 = codes "i8"
+primitive_text primitive.I16 = codes "i16"
+primitive_text primitive.I32 = codes "i32"
+primitive_text primitive.I64 = codes "i64"
+primitive_text primitive.F32 = codes "f32"
+primitive_text primitive.F64 = codes "f64"
+primitive_text primitive.Char = codes "char"
+
+-- one level of a type, with the text of the type in it
+abbrev pub type_step : TypeExpr-F Bytes → Bytes
+type_step (TypeExpr-F.Primitive p) = primitive_text p
+type_step TypeExpr-F.Unit = item_word UnitType
+type_step TypeExpr-F.Str = item_word StrType
+type_step TypeExpr-F.String = item_word StringName
+type_step (TypeExpr-F.Ref ty) = sign Reference ++ ty
+
+abbrev pub type_text : TypeExpr → Bytes
+type_text = fold-TypeExpr Bytes type_step
+
+abbrev pub cast_type_text : CastType → Bytes
+cast_type_text cast.U8 = codes "u8"
+cast_type_text cast.I8 = codes "i8"
+cast_type_text cast.U16 = codes "u16"
+cast_type_text cast.I16 = codes "i16"
+cast_type_text cast.U32 = codes "u32"
+cast_type_text cast.U64 = codes "u64"
+
+abbrev pub core_type_text : WasmType → Bytes
+core_type_text core.I32 = codes "i32"
+core_type_text core.I64 = codes "i64"
+core_type_text core.F32 = codes "f32"
+core_type_text core.F64 = codes "f64"
+core_type_text core.Pointer = codes "*mut u8"
+core_type_text core.PointerOrI64 = codes "::core::mem::MaybeUninit::<u64>"
+core_type_text core.Length = codes "usize"
+
+-- sizes
+
+-- a size as an argument, and as a length: without brackets
+unfoldable pub term_text : ArchitectureSize → Bytes
+term_text size = size_text true size
+
+-- expressions
+
+-- the text of an expression, and whether it is a local
+pub record Spelled : Type 0 where
+  pub text : Bytes
+  pub is_local : Bool
+
+-- the text of what is no local
+abbrev pub compound : Bytes → Spelled
+compound t = record { text = t; is_local = false }
+
+-- a bracket round an expression on which a method is called, unless it is a local
+abbrev pub bracket : Spelled → Sign → Bytes
+bracket e s = if e.is_local then [] else sign s
+
+abbrev pub receiver_text : Spelled → Bytes
+receiver_text e = bracket e Open ++ e.text ++ bracket e Close
+
+-- `.add(offset).cast::<T>()`, behind an address
+abbrev pub place_text : ArchitectureSize → WasmType → Bytes
+place_text offset ty = expr_word Add ++ term_text offset ++ expr_word CastTo ++ core_type_text ty ++ expr_word CastEnd
+
+-- `.cast(), len, len)`, behind a pointer
+abbrev pub capacity_text : Bytes → Bytes
+capacity_text len = expr_word PointerCast ++ len ++ sign Comma ++ len ++ sign Close
+
+-- expressions, with a comma between any two
+abbrev pub joined_text : List Spelled → Bytes
+joined_text es = joined (sign Comma) (map (λ e. e.text) es)
+
+-- one level of an expression, with the expressions in it as they are spelled
+abbrev pub expr_step : Expr-F Spelled → Spelled
+expr_step (Expr-F.Local name) = record { text = name; is_local = true }
+expr_step (Expr-F.Ref name) = compound (sign Reference ++ name)
+expr_step (Expr-F.Cast e to) = compound (e.text ++ sign As ++ cast_type_text to)
+expr_step (Expr-F.Call path arguments) = compound (path_text path ++ sign Open ++ joined_text arguments ++ sign Close)
+expr_step (Expr-F.I32FromBool e) = compound (expr_word Match ++ e.text ++ expr_word BoolArms)
+expr_step (Expr-F.AsPtr name) = compound (name ++ expr_word AsPtr)
+expr_step (Expr-F.Len name) = compound (name ++ expr_word Len)
+expr_step (Expr-F.CastMut name) = compound (name ++ expr_word CastMut)
+expr_step (Expr-F.ReturnPointer name) = compound (name ++ expr_word AreaPointer)
+expr_step (Expr-F.Load address offset ty) = compound (expr_word Dereference ++ receiver_text address ++ place_text offset ty)
+expr_step (Expr-F.FromRawParts pointer len) = compound (expr_word FromRawParts ++ receiver_text pointer ++ capacity_text len)
+
+abbrev pub expr_spelled : Expr → Spelled
+expr_spelled = fold-Expr Spelled expr_step
+
+abbrev pub expr_text : Expr → Bytes
+expr_text e = (expr_spelled e).text
+
+abbrev pub arguments_text : List Expr → Bytes
+arguments_text es = joined_text (map expr_spelled es)
+
+-- statements
+
+-- `_: T, `
+abbrev pub core_param_text : WasmType → Bytes
+core_param_text ty = import_word UnnamedParam ++ core_type_text ty ++ sign Comma
+
+-- ` -> T`, or nothing
+abbrev pub core_result_text : Option WasmType → Bytes
+core_result_text None = []
+core_result_text (Some ty) = sign Arrow ++ core_type_text ty
+
+-- the local name of an import, its parameters and its result
+abbrev pub core_signature_text : ImportDecl → Bytes
+core_signature_text d = d.name ++ sign Open ++ flat_map core_param_text d.params ++ sign Close ++ core_result_text d.result
+
+-- an import's form for WebAssembly
+abbrev pub linked_text : ImportDecl → Bytes
+linked_text d =
+    import_word WasmLink ++ d.module ++ import_word ExternBlock ++ d.link_name ++ import_word LinkedFn ++ core_signature_text d ++ sign StatementEnd ++ sign CloseBlock
+
+-- its form for every other target
+abbrev pub unlinked_text : ImportDecl → Bytes
+unlinked_text d = import_word OtherFn ++ core_signature_text d ++ import_word Unreachable
+
+-- `let x = e;`
+abbrev pub let_text : Bytes → Expr → Bytes
+let_text name e = sign Let ++ name ++ sign Equals ++ expr_text e ++ sign StatementEnd
+
+-- the attribute lines of an alignment
+abbrev pub align_text : Alignment → Bytes
+align_text align.Pointer = area_word PointerAlign
+align_text (align.Bytes n) = area_word Align ++ decimal n ++ area_word AlignEnd
+
+-- the type `_RetArea` of this size and alignment, and its value
+abbrev pub area_type_text : ArchitectureSize → Alignment → Bytes
+area_type_text size align = align_text align ++ area_word AreaType ++ term_text size ++ area_word AreaEnd
+
+abbrev pub area_value_text : ArchitectureSize → Bytes
+area_value_text size = area_word AreaValue ++ term_text size ++ area_word AreaEnd
+
+-- the type, and the local that is the area
+abbrev pub area_text : ReturnArea → Bytes
+area_text a = area_type_text a.size a.align ++ sign LetMut ++ a.name ++ sign Equals ++ area_value_text a.size
+
+abbrev pub stmt_text : Stmt → Bytes
+stmt_text (stmt.Import d) = linked_text d ++ unlinked_text d
+stmt_text (stmt.Let name e) = let_text name e
+stmt_text (stmt.Expr e) = expr_text e ++ sign StatementEnd
+stmt_text (stmt.Area a) = area_text a
+
+-- the last expression, as a line of its own, or nothing
+abbrev pub tail_text : Option Expr → Bytes
+tail_text None = []
+tail_text (Some e) = expr_text e ++ sign LineEnd
+
+abbrev pub block_text : Block → Bytes
+block_text b = flat_map stmt_text b.stmts ++ tail_text b.tail

@@ -1,0 +1,116 @@
+-- Steps by which the implementation of an export is called, and the block of the call ends.
+use Rattle.std.proofs.Common.{◌≡◌, ℕ, Bool, true, false, List, [], ◌∷◌, ◌++◌, Option, None, Some, drop, length, map, take, refl, sym, ap, subst, ◌∙◌, rules}
+use Rattle.std.specs.Prelude.{find, option_and_then}
+use Rattle.std.specs.Option.{option_map, option_or}
+use Rattle.std.specs.Str.{bytes_eq}
+use Rattle.rust_tree.specs.declared.export.TraitFn.{TraitFn}
+use Rattle.rust_tree.specs.declared.expr.Expr.{Expr}
+use Rattle.rust_tree.specs.declared.expr.Expr.TheVariants as expr
+use Rattle.rust_tree.specs.declared.item.Item.{Item}
+use Rattle.rust_tree.specs.declared.type_expr.Primitive.TheVariants as prim
+use Rattle.rust_tree.specs.declared.type_expr.TypeExpr.{TypeExpr}
+use Rattle.rust_tree.specs.declared.type_expr.TypeExpr.TheVariants as type
+use Rattle.wit_model.specs.declared.size.WasmType.{WasmType}
+use Rattle.wrapper_data.specs.declared.answer.Answer.{Answer}
+use Rattle.wrapper_data.specs.declared.answer.Answer.TheVariants as answer
+use Rattle.wrapper_data.specs.declared.heap.Heap.{Heap}
+use Rattle.wrapper_data.specs.declared.run.CallPoint.{CallPoint}
+use Rattle.wrapper_data.specs.declared.value.RustValue.{RustValue}
+use Rattle.wrapper_data.specs.declared.value.RustValue.TheVariants as value
+use Rattle.wrapper_data.specs.declared.word.Word.{Word}
+use Rattle.wrapper_run.specs.declared.state.Local.{Local}
+use Rattle.wrapper_run.specs.declared.state.State.{State}
+use Rattle.wrapper_run.specs.declared.state.Val.{Val}
+use Rattle.wrapper_run.specs.declared.state.Val.TheVariants as val
+use Rattle.wrapper_run.specs.Act.{Act, Outcome, Done, Stopped, ◌>>=◌, ◌>>◌, and_then, or_stop, pure}
+use Rattle.wrapper_run.specs.Blocks.{drop_locals, drop_value, keep_locals, leave_to}
+use Rattle.wrapper_run.specs.Effect.{answer_of, word_of_bool}
+use Rattle.wrapper_run.specs.ExportRun.{call_method, ended_export, keep_result, listed, method_answer, method_call, method_named, method_point, passed_as, returned_of, take_value, values_of}
+use Rattle.wrapper_run.specs.Locals.{Bytes, bind}
+use Rattle.wrapper_run.specs.Owning.{taken_by}
+use Rattle.wrapper_run.specs.Run.{bound, eval, record_call}
+use Rattle.wrapper_run.specs.Setting.{Setting, stuck}
+use Rattle.wrapper_run.proofs.NumberLemmas.{answered-unit}
+use Rattle.wrapper_run.proofs.OwningLemmas.{ArePlain, drops_plain}
+use Rattle.wrapper_run.proofs.StepLemmas.{Quiet, calls_at, eval-bool, quiet_bind, quiet_drop, quiet_leave, quiet_local, quiet_or_stop, quiet_pure, quiet_then}
+
+-- a scope inside another
+
+take-append : (xs ys : List Local) → take (length xs) (xs ++ ys) ≡ xs
+take-append [] [] = refl
+take-append [] (y ∷ ys) = refl
+take-append (x ∷ xs) ys = ap (λ ls. x ∷ ls) (take-append xs ys)
+
+drop-append : (xs ys : List Local) → drop (length xs) (xs ++ ys) ≡ ys
+drop-append [] ys = refl
+drop-append (x ∷ xs) ys = drop-append xs ys
+
+-- its locals own nothing: those before it stay
+pub leaves_inner : (w : Setting) (outer more : List Local) (s : State) → s.locals ≡ outer ++ more → ArePlain more → leave_to w (length outer) s ≡ Done tt (record s { locals = outer })
+unfolding leave_to
+leaves_inner w outer more s e p =
+    ap (λ ls. and_then (drop_locals w (drop (length outer) ls) (record s { locals = [] })) (λ _. keep_locals (take (length outer) ls))) e
+    ∙ ap (λ ls. and_then (drop_locals w ls (record s { locals = [] })) (λ _. keep_locals (take (length outer) (outer ++ more)))) (drop-append outer more)
+    ∙ ap (λ o. and_then o (λ _. keep_locals (take (length outer) (outer ++ more)))) (drops_plain w more (record s { locals = [] }) p)
+    ∙ ap (λ ls. Done tt (record s { locals = ls })) (take-append outer more)
+
+-- words own nothing
+pub plain_words : (names : List Bytes) (words : List Word) → ArePlain (bound names (map val.Word words))
+plain_words [] words = tt
+plain_words (name ∷ names) [] = tt
+plain_words (name ∷ names) (x ∷ words) = (refl, plain_words names words)
+
+-- the call
+
+abbrev answered_by : Setting → CallPoint × TypeExpr → Act Val
+answered_by w p = record_call p.0 >> take_value w p.1
+
+abbrev called_with : Bytes → Bytes → Heap → List Val → TraitFn → Option (CallPoint × TypeExpr)
+called_with named name heap vs f = option_map (λ values. (method_point named name heap values, f.result)) (values_of f.params vs)
+
+abbrev point_of : Bytes → Bytes → Heap → TraitFn → List RustValue → CallPoint × TypeExpr
+point_of named name heap f values = (method_point named name heap values, f.result)
+
+pub method_gives : (w : Setting) (named name : Bytes) (f : TraitFn) (vs : List Val) (values : List RustValue) (s : State) → method_named w.items named name ≡ Some f → values_of f.params vs ≡ Some values
+    → call_method w named name vs s ≡ take_value w f.result (record s { calls = s.calls ++ method_point named name s.heap values ∷ [] })
+unfolding method_call
+method_gives w named name f vs values s m p =
+    ap (λ o. and_then (or_stop (stuck w) (option_and_then (called_with named name s.heap vs) o) s) (answered_by w)) m
+    ∙ ap (λ o. and_then (or_stop (stuck w) (option_map (point_of named name s.heap f) o) s) (answered_by w)) p
+
+pub value_gives : (w : Setting) (ty : TypeExpr) (r : Option RustValue) (v : Val) (heap : Heap) (s : State) → w.answer ≡ answer.Value r heap → returned_of ty r ≡ Some v
+    → take_value w ty s ≡ Done v (record s { heap = heap; taken = taken_by (listed r) })
+unfolding take_value
+value_gives w ty r v heap s a e = ap (λ a. method_answer w ty a s) a ∙ ap (λ o. or_stop (stuck w) o (record s { heap = heap; taken = taken_by (listed r) })) e
+
+pub returned-unit : returned_of type.Unit None ≡ Some (val.Value value.Unit)
+returned-unit = ap (option_map (λ r. val.Value value.Unit)) answered-unit
+
+pub passed : (ty : TypeExpr) (v : Val) (r : RustValue) → answer_of ty v ≡ Some (Some r) → passed_as ty v ≡ Some r
+passed ty v r e = ap (option_and_then (λ r. r)) e
+
+pub returned-value : (ty : TypeExpr) (r : RustValue) → answer_of ty (val.Value r) ≡ Some (Some r) → returned_of ty (Some r) ≡ Some (val.Value r)
+returned-value ty r e = ap (option_map val.Value) (passed ty (val.Value r) r e)
+
+-- nothing but the call itself calls
+
+pub quiet_value : (w : Setting) (ty : TypeExpr) → Quiet (take_value w ty)
+unfolding take_value
+quiet_value w ty = go w.answer
+  where
+    go : (a : Answer) → Quiet (method_answer w ty a)
+    go (answer.Value r heap) = record { quiet = λ s. (quiet_or_stop (stuck w) (returned_of ty r)).quiet (record s { heap = heap; taken = taken_by (listed r) }) }
+    go (answer.Words r writes blocks) = record { quiet = λ s. refl }
+
+pub quiet_keep : (w : Setting) (name : Option Bytes) (v : Val) → Quiet (keep_result w name v)
+quiet_keep w None v = quiet_drop w v
+quiet_keep w (Some name) v = quiet_bind name v
+
+pub quiet_bool : (w : Setting) (name : Bytes) → Quiet (eval w (expr.I32FromBool (expr.Local name)))
+quiet_bool w name =
+    subst Quiet (sym (eval-bool w (expr.Local name)))
+    (quiet_then (eval w (expr.Local name)) (λ v. or_stop (stuck w) (option_map val.Word (word_of_bool v))) (quiet_local w name) (λ v. quiet_or_stop (stuck w) (option_map val.Word (word_of_bool v))))
+
+pub ended_export-calls : (o : Outcome (List Word)) → (ended_export o).calls ≡ calls_at o
+ended_export-calls (Done words s) = refl
+ended_export-calls (Stopped e s) = refl
