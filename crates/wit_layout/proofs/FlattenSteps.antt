@@ -1,12 +1,12 @@
 -- On the ways down from a type, each part has a lower place in the table; and which words a type has by its kind.
-use Rattle.std.proofs.Common.{◌≡◌, ℕ, ◌+◌, ◌≤◌, ◌<◌, ◌⊎◌, ⊎_elim, true, List, [], ◌∷◌, ◌++◌, length, take, Option, None, Some, refl, sym, ap, ◌∙◌, arith}
-use Rattle.std.specs.List.{slice_get}
+use Rattle.std.proofs.Common.{◌≡◌, ℕ, ◌+◌, ◌≤◌, ◌<◌, ◌⊎◌, ⊎_elim, true, List, [], ◌∷◌, ◌++◌, length, take, get_or, Option, None, Some, refl, sym, ap, ◌∙◌, arith}
+use Rattle.std.specs.List.{slice_get, All}
+use Rattle.std.proofs.lemmas.Option.{slice_get-get_or}
 use Rattle.std.proofs.lemmas.Grind.{common_steps}
 use borrow.Author.Tests.{ltb-true}
 use Rattle.wit_model.specs.declared.size.WasmType.{WasmType}
 use Rattle.wit_model.specs.declared.size.WasmType.TheVariants.{I32}
 use Rattle.wit_model.specs.declared.types.Handle.{Handle}
-use Rattle.wit_model.specs.declared.types.Field.{Field}
 use Rattle.wit_model.specs.declared.types.Case.{Case}
 use Rattle.wit_model.specs.declared.types.Member.{Member}
 use Rattle.wit_model.specs.declared.types.WitType.{WitType}
@@ -16,8 +16,10 @@ use Rattle.wit_model.specs.declared.types.TypeDefKind.TheVariants as kind
 use Rattle.wit_model.specs.declared.types.TypeDef.{TypeDef}
 use Rattle.wit_model.specs.Parts.{parts}
 use Rattle.wit_model.specs.TypeOrder.{type_below, payload_below, GoesDown}
-use Rattle.wit_layout.specs.Tree.{Tree, payloads_in, bare, tree_in, tree_by, tree_at, trees}
-use Rattle.wit_layout.specs.Flat.{flat, flats, slots, repeated, pointer_and_length, words_of_flags}
+use Rattle.wit_layout.specs.Tree.{Tree, payloads_in, bare, tree_by, tree_at, trees}
+use Rattle.wit_layout.specs.Flat.{flat, flats, slots, pointer_and_length, words_of_flags}
+use Rattle.wit_layout.specs.Sequence.{is_sequence, members, members_of_entry, members_at}
+use Rattle.wit_layout.proofs.SequenceSteps.{member_below, words_of_members}
 use Rattle.wit_layout.proofs.TreeLemmas.{tree_at_by}
 use Rattle.wit_layout.proofs.PartSteps.{part_below}
 
@@ -67,19 +69,15 @@ type_below_more low high wit.Char le h = refl
 type_below_more low high wit.String le h = refl
 type_below_more low high wit.ErrorContext le h = refl
 
-payload_rank_below : (bound : ℕ) (p : Option WitType) → payload_below bound p ≡ true → payload_rank p ≤ bound
+pub payload_rank_below : (bound : ℕ) (p : Option WitType) → payload_below bound p ≡ true → payload_rank p ≤ bound
 unfolding payload_below
 payload_rank_below bound None h = omega arith
 payload_rank_below bound (Some ty) h = rank_below bound ty h
 
-payload_below_more : (low high : ℕ) (p : Option WitType) → low ≤ high → payload_below low p ≡ true → payload_below high p ≡ true
+pub payload_below_more : (low high : ℕ) (p : Option WitType) → low ≤ high → payload_below low p ≡ true → payload_below high p ≡ true
 unfolding payload_below
 payload_below_more low high None le h = refl
 payload_below_more low high (Some ty) le h = type_below_more low high ty le h
-
-type_of_payload : (bound : ℕ) (ty : WitType) → payload_below bound (Some ty) ≡ true → type_below bound ty ≡ true
-unfolding payload_below
-type_of_payload bound ty h = h
 
 slots-bare : {A : Type 0} (members : List A) → slots (bare members) ≡ []
 slots-bare [] = refl
@@ -90,14 +88,8 @@ module _ (ts : List Tree) (k : TypeDefKind) where
   abbrev words : List WasmType
   words = flat (tree_by ts k)
 
-  pub words_of_alias : (ty : WitType) → k ≡ kind.Alias ty → words ≡ flat (tree_in ts ty)
-  words_of_alias ty e = ap (λ k. flat (tree_by ts k)) e
-
   pub words_of_lists : ((x : WitType) × (k ≡ kind.List x)) ⊎ ((x : WitType) × (x' : WitType) × (k ≡ kind.Map x x')) → words ≡ pointer_and_length
   words_of_lists is = ⊎_elim (λ (x, e). ap (λ k. flat (tree_by ts k)) e) (λ (x, x', e). ap (λ k. flat (tree_by ts k)) e) is
-
-  pub words_of_fixed : (element : WitType) (n : ℕ) → k ≡ kind.FixedLengthList element n → words ≡ repeated n (flat (tree_in ts element))
-  words_of_fixed element n e = ap (λ k. flat (tree_by ts k)) e
 
   pub words_of_flag_kind : (members : List Member) → k ≡ kind.Flags members → words ≡ words_of_flags (length members)
   words_of_flag_kind members e = ap (λ k. flat (tree_by ts k)) e
@@ -116,23 +108,10 @@ module _ (ts : List Tree) (k : TypeDefKind) where
   words_of_payloads is =
       ⊎_elim (λ (x, e). ap (λ k. flat (tree_by ts k)) e ∙ sym (ap (λ k. I32 ∷ slots (payloads_in ts (parts k))) e)) (λ (x, x', e). ap (λ k. flat (tree_by ts k)) e ∙ sym (ap (λ k. I32 ∷ slots (payloads_in ts (parts k))) e)) is
 
-  pub words_of_fields : ((x : List WitType) × (k ≡ kind.Tuple x)) ⊎ ((x : List Field) × (k ≡ kind.Record x)) → words ≡ flats (payloads_in ts (parts k))
-  unfolding parts
-  words_of_fields is =
-      ⊎_elim (λ (x, e). ap (λ k. flat (tree_by ts k)) e ∙ sym (ap (λ k. flats (payloads_in ts (parts k))) e)) (λ (x, e). ap (λ k. flat (tree_by ts k)) e ∙ sym (ap (λ k. flats (payloads_in ts (parts k))) e)) is
-
   pub words_of_cases : ((x : List Case) × (k ≡ kind.Variant x)) ⊎ ((x : List Member) × (k ≡ kind.Enum x)) → words ≡ I32 ∷ slots (payloads_in ts (parts k))
   unfolding parts
   words_of_cases is =
       ⊎_elim (λ (x, e). ap (λ k. flat (tree_by ts k)) e ∙ sym (ap (λ k. I32 ∷ slots (payloads_in ts (parts k))) e)) (λ (x, e). ap (λ k. flat (tree_by ts k)) e ∙ ap (λ cs. I32 ∷ cs) (slots-bare x) ∙ sym (ap (λ k. I32 ∷ slots (payloads_in ts (parts k))) e)) is
-
-pub part_of_alias : (k : TypeDefKind) (ty : WitType) → k ≡ kind.Alias ty → slice_get (parts k) 0 ≡ Some (Some ty)
-unfolding parts
-part_of_alias k ty e = ap (λ k. slice_get (parts k) 0) e
-
-pub part_of_fixed : (k : TypeDefKind) (ty : WitType) (n : ℕ) → k ≡ kind.FixedLengthList ty n → slice_get (parts k) 0 ≡ Some (Some ty)
-unfolding parts
-part_of_fixed k ty n e = ap (λ k. slice_get (parts k) 0) e
 
 -- a type in the table, whose kind names lower ones
 module _ (types : List TypeDef) (down : GoesDown types) (at : ℕ) (entry : TypeDef) (here : slice_get types at ≡ Some entry) where
@@ -150,9 +129,18 @@ module _ (types : List TypeDef) (down : GoesDown types) (at : ℕ) (entry : Type
     pub part_in_table : at < length types → payload_below (length types) p ≡ true
     part_in_table l = payload_below_more at (length types) p (omega arith) low
 
-  module _ (ty : WitType) (is : slice_get (parts entry.kind) 0 ≡ Some (Some ty)) where
-    pub type_rank : rank ty ≤ at
-    type_rank = part_rank (Some ty) 0 is
+  abbrev all_members : List (Option WitType)
+  all_members = members_at types at
 
-    pub type_in_table : at < length types → type_below (length types) ty ≡ true
-    type_in_table l = type_of_payload (length types) ty (part_in_table (Some ty) 0 is l)
+  same_members : all_members ≡ members entry.kind
+  same_members = ap members_of_entry here
+
+  pub members_low : All (λ p. payload_below at p ≡ true) all_members
+  members_low nth d l =
+      member_below at entry.kind nth (get_or all_members nth d) (down at entry here) (sym (ap (λ (ms : List (Option WitType)). slice_get ms nth) same_members) ∙ slice_get-get_or all_members nth d l)
+
+  pub words_of_entry : is_sequence entry.kind ≡ true → flat (tree_by (trees types) entry.kind) ≡ flats (payloads_in (trees types) all_members)
+  words_of_entry has = words_of_members (trees types) entry.kind has ∙ sym (ap (λ ms. flats (payloads_in (trees types) ms)) same_members)
+
+  pub words_at : is_sequence entry.kind ≡ true → flat (tree_at types at) ≡ flats (payloads_in (trees types) all_members)
+  words_at has = ap flat (tree_at_by types at entry down here) ∙ words_of_entry has

@@ -1,3 +1,9 @@
+pub mod AheadEnough
+pub mod AheadSteps
+pub mod AheadTurns
+pub mod AheadWeight
+pub mod AheadWords
+pub mod CheckedWords
 pub mod FillSteps
 pub mod FlattenSteps
 pub mod KeptWords
@@ -5,6 +11,7 @@ pub mod KindLemmas
 pub mod PartSteps
 pub mod RecordSteps
 pub mod Repeats
+pub mod SequenceSteps
 pub mod SignatureSteps
 pub mod TreeLemmas
 pub mod WordLists

@@ -6,7 +6,7 @@ use Rattle.std.proofs.lemmas.List.{append-nil, take_all, take-append-le, drop_al
 use Rattle.std.proofs.lemmas.Option.{slice_get_within, get_or_from_slice_get}
 use Rattle.wit_model.specs.declared.size.WasmType.{WasmType}
 use Rattle.wit_layout.specs.Join.{join}
-use Rattle.wit_layout.specs.Flat.{joined, repeated}
+use Rattle.wit_layout.specs.Flat.{joined}
 
 abbrev Words : Type 0
 Words = List WasmType
@@ -87,21 +87,6 @@ module _ (xs ys : Words) (i : ℕ) where
   pub none_at : slice_get xs i ≡ None → slice_get ys i ≡ None → joined (drop i xs) (drop i ys) ≡ joined (drop (i + 1) xs) (drop (i + 1) ys)
   none_at e f = ap₂ joined (gone xs i e) (gone ys i f) ∙ sym (ap₂ joined (gone_next xs i e) (gone_next ys i f))
 
--- the first words of so many elements, by the first words of one
-pub repeated_cut : (n r m : ℕ) (cs : Words) → r ≤ m → take r (repeated n (take m cs)) ≡ take r (repeated n cs)
-unfolding repeated
-repeated_cut zero r m cs le = refl
-repeated_cut (suc n) r m cs le =
-    take_front r m cs (repeated n (take m cs)) le ∙ sym (take_back r r cs (repeated n (take m cs)) (omega arith)) ∙ ap (λ ws. take r (cs ++ ws)) (repeated_cut n r m cs le) ∙ take_back r r cs (repeated n cs) (omega arith)
-
-pub repeated_next : (n i : ℕ) (cs : Words) → i < n → repeated (n - i) cs ≡ cs ++ repeated (n - (i + 1)) cs
-unfolding repeated
-repeated_next n i cs l = let more : n - i ≡ suc (n - (i + 1)) = omega arith in ap (λ k. repeated k cs) more
-
-pub repeated_all : (n i : ℕ) (cs : Words) → n ≤ i → repeated (n - i) cs ≡ []
-unfolding repeated
-repeated_all n i cs l = let none : n - i ≡ 0 = omega arith in ap (λ k. repeated k cs) none
-
 pub replicate_step : (n i : ℕ) (c : WasmType) → i < n → replicate (n - i) c ≡ c ∷ replicate (n - (i + 1)) c
 replicate_step n i c l = let more : n - i ≡ suc (n - (i + 1)) = omega arith in ap (λ k. replicate k c) more
 
@@ -115,7 +100,3 @@ first_of (suc n) (suc c) (x ∷ xs) = let more : suc (min c n) ≡ min (suc c) (
 -- what stands behind no words
 pub from_none : (r s : ℕ) (none after more : Words) → none ≡ [] → s ≡ r → after ≡ take s (none ++ more) → after ≡ take r more
 from_none r s none after more is same put = put ∙ ap₂ (λ k ws. take k (ws ++ more)) same is
-
-pub elements_cut : (r m n : ℕ) (before element all : Words) → r ≤ length before + m → element ≡ take m all → take r (before ++ repeated n element) ≡ take r (before ++ repeated n all)
-elements_cut r m n before element all far same =
-    ap (λ ws. take r (before ++ repeated n ws)) same ∙ sym (take_back r m before (repeated n (take m all)) far) ∙ ap (λ ws. take r (before ++ ws)) (repeated_cut n m m all (omega arith)) ∙ take_back r m before (repeated n all) far

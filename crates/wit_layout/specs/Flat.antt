@@ -1,11 +1,12 @@
 -- Which core words a type is as a parameter or a result.
-use Rattle.std.specs.Prelude.{◌≡◌, ℕ, zero, suc, nat_lt, min, List, [], ◌∷◌, ◌++◌, length, take, replicate}
+use Rattle.std.specs.Prelude.{◌≡◌, ℕ, zero, suc, ◌<◌, nat_lt, min, List, [], ◌∷◌, ◌++◌, length, take, replicate}
 use Rattle.wit_model.specs.declared.size.WasmType.{WasmType}
 use Rattle.wit_model.specs.declared.size.WasmType.TheVariants.{I32, I64, F32, F64, Pointer, Length}
+use Rattle.wit_model.specs.declared.types.TypeDef.{TypeDef}
 use Rattle.wit_layout.specs.declared.flat.Flat.{Flat}
 use Rattle.wit_layout.specs.Join.{join}
 use Rattle.wit_layout.specs.Extent.{flag_words}
-use Rattle.wit_layout.specs.Tree.{Scalar, Tree, Trees}
+use Rattle.wit_layout.specs.Tree.{Scalar, Tree, Trees, tree_at}
 use Rattle.wit_layout.specs.Tree.Scalar.{bool, u8, u16, u32, u64, s8, s16, s32, s64, f32, f64, char, handle}
 use Rattle.wit_layout.specs.Tree.Tree.{scalar, text, list, pairs, fixed, fields, cases, flags}
 use Rattle.wit_layout.specs.Tree.Trees.{none, more}
@@ -63,6 +64,10 @@ abbrev mutual
   pub slots : Trees → List WasmType
   slots none = []
   slots (more t ts) = joined (flat t) (slots ts)
+
+-- each type of a table has a word at least
+abbrev pub EachHasWords : List TypeDef → Type 0
+EachHasWords types = (at : ℕ) → at < length types → 0 < length (flat (tree_at types at))
 
 -- the first sixteen of some words, and whether there are more
 pub record IsFlatOf (f : Flat) (words : List WasmType) : Type 0 where

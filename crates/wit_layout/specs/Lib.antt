@@ -1,3 +1,4 @@
+pub mod Ahead
 pub mod Cast
 pub mod Extent
 pub mod Filled
@@ -7,6 +8,7 @@ pub mod Join
 pub mod Kept
 pub mod Kind
 pub mod Memo
+pub mod Sequence
 pub mod Signature
 pub mod Sizes
 pub mod Spread

@@ -40,7 +40,8 @@ impl Flat {
 
 /// The core words of a type of tables that [`Resolve::check`] has passed: the Canonical ABI's `flatten_type`, in which a
 /// word also tells whether it is a pointer or a length. It takes no memory. From the type it goes down as far as the
-/// first seventeen words need it, one call within another for each level.
+/// first seventeen words need it, however deep that is: a call stands within another only for variants in variants, of
+/// which it opens seventeen at most.
 pub fn flat_types(resolve: &Resolve, ty: &WitType) -> Flat
     requires down { GoesDown resolve.now.types }
     requires below { IsTrue (type_below (length resolve.now.types) ty.now) }

@@ -4,10 +4,13 @@ ghost use Rattle.std.specs.Prelude.{◌≡◌, ◌<◌, ◌≤◌, ◌++◌, ◌
 ghost use Rattle.wit_model.specs.declared.types.TypeDef.{TypeDef};
 ghost use Rattle.wit_model.specs.Parts.{parts};
 ghost use Rattle.wit_model.specs.TypeOrder.{GoesDown, type_below, payload_below};
-ghost use Rattle.wit_layout.specs.Flat.{flat, flats, pointer_and_length, repeated, slots, words_of_flags};
+ghost use Rattle.wit_layout.specs.Flat.{EachHasWords, flat, flats, pointer_and_length, slots, words_of_flags};
 ghost use Rattle.wit_layout.specs.Kept.{kept};
+ghost use Rattle.wit_layout.specs.Sequence.{members_at};
 ghost use Rattle.wit_layout.specs.Tree.{trees, tree_at, tree_of, payload_in, payloads_in};
 
+use crate::ahead::Ahead;
+use crate::sequence::{member, member_count, sequence_at};
 use crate::words::Words;
 use wit_model::{TypeDef, TypeDefKind, WasmType, WitType};
 
@@ -30,21 +33,6 @@ fn flatten_flags(count: usize, words: Words) -> Words
             return all;
         }
         all = all.with(WasmType::I32);
-    }
-    all
-}
-
-/// So many times the words of an element behind the words.
-fn flatten_elements(element: Words, n: u32, words: Words) -> Words
-    ensures words { kept result ≡ take words.room (kept words ++ repeated n (kept element)) }
-    ensures room { result.room ≡ words.room }
-{
-    let mut all = words;
-    for _element in 0..n {
-        if all.left() == 0 {
-            return all;
-        }
-        all = all.followed_by(element);
     }
     all
 }
@@ -92,13 +80,10 @@ fn flatten_kind(types: &[TypeDef], at: usize, words: Words) -> Words
     ensures room { result.room ≡ words.room }
 {
     match &types[at].kind {
-        TypeDefKind::Alias(ty) => flatten_type(types, *ty, words),
+        TypeDefKind::Alias(_) => flatten_members(types, at, words),
+        TypeDefKind::FixedLengthList(_, _) => flatten_members(types, at, words),
+        TypeDefKind::Tuple(_) | TypeDefKind::Record(_) => flatten_members(types, at, words),
         TypeDefKind::List(_) | TypeDefKind::Map(_, _) => flatten_text(words),
-        TypeDefKind::FixedLengthList(element, n) => {
-            let one = flatten_type(types, *element, Words::none(words.left()));
-            flatten_elements(one, *n, words)
-        }
-        TypeDefKind::Tuple(_) | TypeDefKind::Record(_) => flatten_record(types, at, words),
         TypeDefKind::Option(_) | TypeDefKind::Result(_, _) => flatten_variant(types, at, words),
         TypeDefKind::Variant(_) | TypeDefKind::Enum(_) => flatten_variant(types, at, words),
         TypeDefKind::Flags(members) => flatten_flags(members.len(), words),
@@ -108,22 +93,50 @@ fn flatten_kind(types: &[TypeDef], at: usize, words: Words) -> Words
     }
 }
 
-/// The words of the parts of a type, one after another.
+/// The words of the members of a type, one after another. The members of a member are put before those behind it, and not
+/// gone through in a call of their own.
 #[cycle(flatten)]
-fn flatten_record(types: &[TypeDef], at: usize, words: Words) -> Words
+fn flatten_members(types: &[TypeDef], at: usize, words: Words) -> Words
     requires down { GoesDown types.now }
     requires within { at < length types.now }
-    ensures words { (entry : TypeDef) → slice_get types.now at ≡ Some entry
-        → kept result ≡ take words.room (kept words ++ flats (payloads_in (trees types.now) (parts entry.kind))) }
+    ensures words { kept result ≡ take words.room (kept words ++ flats (payloads_in (trees types.now) (members_at types.now at))) }
+    ensures room { result.room ≡ words.room }
+{
+    let mut all = words;
+    let mut ahead = Ahead::none();
+    ahead.put(types, at);
+    while all.left() > 0 {
+        let Some(ty) = ahead.next(types) else {
+            if ahead.cut {
+                return flatten_each_member(types, at, words);
+            }
+            return all;
+        };
+        match sequence_at(types, ty) {
+            Some(inner) => ahead.put(types, inner),
+            None => all = flatten_payload(types, ty, all),
+        }
+    }
+    all
+}
+
+/// The same with a call for each member. Members that were left out are only wanted where some type has no words, as a
+/// record without fields; in tables that have been checked there is none.
+#[cycle(flatten)]
+fn flatten_each_member(types: &[TypeDef], at: usize, words: Words) -> Words
+    requires down { GoesDown types.now }
+    requires within { at < length types.now }
+    requires wordless { EachHasWords types.now → ⊥ }
+    ensures words { kept result ≡ take words.room (kept words ++ flats (payloads_in (trees types.now) (members_at types.now at))) }
     ensures room { result.room ≡ words.room }
 {
     let kind = &types[at].kind;
     let mut all = words;
-    for nth in 0..kind.part_count() {
+    for nth in 0..member_count(kind) {
         if all.left() == 0 {
             return all;
         }
-        all = flatten_payload(types, kind.part(nth), all);
+        all = flatten_payload(types, member(kind, nth), all);
     }
     all
 }

@@ -2,6 +2,7 @@
 //! flat types, joins of core types, casts between words, core signatures.
 #![tactic(auto)]
 
+mod ahead;
 mod bitcast;
 mod core_type;
 mod fault;
@@ -11,6 +12,7 @@ mod grain;
 mod kind;
 mod parts;
 mod record;
+mod sequence;
 mod signature;
 mod size_align;
 mod spread;

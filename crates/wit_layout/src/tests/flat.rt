@@ -2,17 +2,21 @@
 
 ghost use Rattle.std.specs.Prelude.{IfOk};
 ghost use Rattle.wit_model.specs.TypeOrder.{GoesDown};
+ghost use Rattle.wit_layout.specs.Flat.{EachHasWords};
 
 use crate::tests::tables::{entry, members, push, record, resolve, tuple, variant};
 use crate::{Flat, flat_types};
 use std::alloc::Global;
 use std::test::Fail;
 use wit_model::WasmType::{F32, F64, I32, I64, Length, Pointer};
-use wit_model::{Handle, List, Resolve, TypeDef, TypeDefKind, TypeId, WasmType, WitType};
+use wit_model::{
+    Handle, List, OutOfMemory, Resolve, TypeDef, TypeDefKind, TypeId, WasmType, WitType,
+};
 
 /// Tables of these types, which keep the rules.
 fn checked(alloc: Global, types: List<TypeDef>) -> Result<Resolve, Fail>
-    ensures { IfOk result (λ r. GoesDown r.types) }
+    ensures down { IfOk result (λ r. GoesDown r.types) }
+    ensures words { IfOk result (λ r. EachHasWords r.types) }
 {
     let resolve = resolve(alloc, types);
     resolve.check(alloc)?;
@@ -194,16 +198,82 @@ fn deep_variants_are_not_unfolded(rt: HostRuntime) -> Result<(), Fail> {
     Ok(())
 }
 
-#[test]
-fn a_chain_of_a_thousand_records(rt: HostRuntime) -> Result<(), Fail> {
-    let alloc = rt.alloc();
-    let mut types = List::new(alloc);
-    push(&mut types, tuple(alloc, &[WitType::U8, WitType::U8])?)?;
-    for id in 0..999 {
-        push(&mut types, tuple(alloc, &[entry(id), WitType::U8])?)?;
+/// How each type of a chain holds the one below it.
+#[derive(Clone, Copy, Debug)]
+enum Chain {
+    First,
+    Last,
+    Pair,
+    Option,
+    Result,
+    Case,
+    Alias,
+    Only,
+    FixedList,
+}
+
+fn level(alloc: Global, chain: Chain, below: WitType) -> Result<TypeDefKind, OutOfMemory> {
+    match chain {
+        Chain::First => record(alloc, &[below, WitType::F64]),
+        Chain::Last => record(alloc, &[WitType::F64, below]),
+        Chain::Pair => Ok(TypeDefKind::FixedLengthList(below, 2)),
+        Chain::Option => Ok(TypeDefKind::Option(below)),
+        Chain::Result => Ok(TypeDefKind::Result(None, Some(below))),
+        Chain::Case => variant(alloc, 1, Some(below)),
+        Chain::Alias => Ok(TypeDefKind::Alias(below)),
+        Chain::Only => tuple(alloc, &[below]),
+        Chain::FixedList => Ok(TypeDefKind::FixedLengthList(below, 1)),
     }
-    let resolve = checked(alloc, types)?;
-    assert_eq!(rt; count(&resolve, 14), Some((16, false)));
-    assert_eq!(rt; count(&resolve, 999), Some((16, true)));
+}
+
+/// Tables of 20000 types, of which the first has two words and each other holds the one before it.
+fn chained(alloc: Global, chain: Chain) -> Result<Resolve, Fail>
+    ensures { IfOk result (λ r. GoesDown r.types) }
+{
+    let mut types = List::new(alloc);
+    push(&mut types, record(alloc, &[WitType::U8, WitType::F32])?)?;
+    for id in 0..19999 {
+        push(&mut types, level(alloc, chain, entry(id))?)?;
+    }
+    checked(alloc, types)
+}
+
+/// Whether the words of a type begin with these.
+fn begins_with(resolve: &Resolve, id: u32, words: &[WasmType]) -> bool
+    requires { GoesDown resolve.now.types }
+{
+    match flat_of(resolve, id) {
+        None => false,
+        Some(flat) => flat.words.starts_with(words),
+    }
+}
+
+#[test]
+fn long_chains_of_many_words(rt: HostRuntime) -> Result<(), Fail> {
+    // the type that has sixteen words, and the first words of the last type
+    let rows = [
+        (Chain::First, 14, [I32, F32, F64]),
+        (Chain::Last, 14, [F64, F64, F64]),
+        (Chain::Pair, 3, [I32, F32, I32]),
+        (Chain::Option, 14, [I32, I32, I32]),
+        (Chain::Result, 14, [I32, I32, I32]),
+        (Chain::Case, 14, [I32, I32, I32]),
+    ];
+    for (chain, id, words) in &rows {
+        let resolve = chained(rt.alloc(), *chain)?;
+        assert_eq!(rt; count(&resolve, *id), Some((16, false)), "{chain:?}");
+        assert_eq!(rt; count(&resolve, *id + 1), Some((16, true)), "{chain:?}");
+        assert_eq!(rt; count(&resolve, 19999), Some((16, true)), "{chain:?}");
+        assert!(rt; begins_with(&resolve, 19999, words), "{chain:?}");
+    }
+    Ok(())
+}
+
+#[test]
+fn long_chains_of_two_words(rt: HostRuntime) -> Result<(), Fail> {
+    for chain in [Chain::Alias, Chain::Only, Chain::FixedList] {
+        let resolve = chained(rt.alloc(), chain)?;
+        assert!(rt; are_words(&resolve, 19999, &[I32, F32]), "{chain:?}");
+    }
     Ok(())
 }

@@ -3,23 +3,28 @@
 ghost use Rattle.std.specs.Prelude.{◌≡◌, IfOk, None};
 ghost use Rattle.wit_model.specs.WellFormed.{first_fault};
 
-use crate::tests::tables::{docs, no_name, resolve};
+use crate::tests::tables::{docs, entry, no_name, push, record, resolve};
 use crate::{AbiVariant, WasmSignature, wasm_signature};
 use std::alloc::Global;
 use std::test::Fail;
 use wit_model::WasmType::{I32, I64, Pointer};
 use wit_model::{
-    Function, FunctionKind, Interface, InterfaceId, List, OutOfMemory, Param, Resolve, WasmType,
-    WitType,
+    Function, FunctionKind, Interface, InterfaceId, List, OutOfMemory, Param, Resolve, TypeDef,
+    WasmType, WitType,
 };
 
-/// A function of so many numbers.
-fn function(alloc: Global, params: u32, answer: Option<WitType>) -> Result<Function, OutOfMemory> {
+/// A function of so many parameters of a type.
+fn function(
+    alloc: Global,
+    params: u32,
+    ty: WitType,
+    answer: Option<WitType>,
+) -> Result<Function, OutOfMemory> {
     let mut list = List::new(alloc);
     for _param in 0..params {
         list.push(Param {
             name: no_name(alloc),
-            ty: WitType::U32,
+            ty,
         })?;
     }
     Ok(Function {
@@ -36,26 +41,36 @@ fn functions(alloc: Global) -> Result<List<Function>, OutOfMemory> {
     let mut functions = List::new(alloc);
     for params in 15..18 {
         for answer in [None, Some(WitType::U64), Some(WitType::String)] {
-            functions.push(function(alloc, params, answer)?)?;
+            functions.push(function(alloc, params, WitType::U32, answer)?)?;
         }
     }
     Ok(functions)
 }
 
-/// Tables that keep the rules, with an interface of these functions.
-fn tables(alloc: Global) -> Result<Resolve, Fail>
+/// Tables of these types that keep the rules, with an interface of these functions.
+fn tables_of(
+    alloc: Global,
+    types: List<TypeDef>,
+    functions: List<Function>,
+) -> Result<Resolve, Fail>
     ensures { IfOk result (λ r. first_fault r ≡ None) }
 {
-    let mut tables = resolve(alloc, List::new(alloc));
+    let mut tables = resolve(alloc, types);
     tables.interfaces.push(Interface {
         name: None,
         package: None,
         types: List::new(alloc),
-        functions: functions(alloc)?,
+        functions,
         docs: docs(),
     })?;
     tables.check(alloc)?;
     Ok(tables)
+}
+
+fn tables(alloc: Global) -> Result<Resolve, Fail>
+    ensures { IfOk result (λ r. first_fault r ≡ None) }
+{
+    tables_of(alloc, List::new(alloc), functions(alloc)?)
 }
 
 /// The core signature of a function of the interface.
@@ -180,5 +195,28 @@ fn words_of_parameters(rt: HostRuntime) -> Result<(), Fail> {
     assert_eq!(rt; param_of(&resolve, 8, 0), Some(Pointer));
     assert_eq!(rt; param_of(&resolve, 8, 1), Some(Pointer));
     assert_eq!(rt; param_of(&resolve, 8, 2), None);
+    Ok(())
+}
+
+#[test]
+fn a_long_chain_of_records(rt: HostRuntime) -> Result<(), Fail> {
+    let alloc = rt.alloc();
+    let mut types = List::new(alloc);
+    push(&mut types, record(alloc, &[WitType::U8, WitType::U8])?)?;
+    for id in 0..19999 {
+        push(&mut types, record(alloc, &[entry(id), WitType::U8])?)?;
+    }
+    let mut functions = List::new(alloc);
+    functions.push(function(alloc, 1, entry(14), None)?)?;
+    functions.push(function(alloc, 1, entry(19999), Some(entry(19999)))?)?;
+    let resolve = tables_of(alloc, types, functions)?;
+    let rows = [
+        row(16, false, (false, false), None),
+        row(2, false, (true, true), None),
+    ];
+    for (nth, wanted) in rows.into_iter().enumerate() {
+        let found = told_of(&resolve, AbiVariant::GuestImport, nth);
+        assert_eq!(rt; found, Some(wanted), "function {nth}");
+    }
     Ok(())
 }

@@ -1,8 +1,14 @@
-use Rattle.std.proofs.Common.{◌≡◌, ◌+◌, ◌*◌, ◌≤◌, ◌++◌, length, take, drop}
+use Rattle.std.proofs.Common.{◌≡◌, ◌+◌, ◌*◌, ◌≤◌, ◌++◌, true, false, List, [], Option, length, take, drop}
+use Rattle.std.specs.List.{All}
+use Rattle.wit_model.specs.declared.types.WitType.{WitType}
 use Rattle.wit_model.specs.Parts.{parts}
-use Rattle.wit_layout.specs.Flat.{flats, slots}
+use Rattle.wit_model.specs.TypeOrder.{payload_below}
+use Rattle.wit_layout.specs.Ahead.{AreRuns, ahead_members}
+use Rattle.wit_layout.specs.Flat.{EachHasWords, flats, slots}
 use Rattle.wit_layout.specs.Kept.{kept}
+use Rattle.wit_layout.specs.Sequence.{members, members_at}
 use Rattle.wit_layout.specs.Tree.{payloads_in, trees}
+use Rattle.wit_layout.proofs.AheadWeight.{weights}
 use Rattle.wit_layout.proofs.FlattenSteps.{rank, payload_rank}
 use Rattle.wit_layout.proofs.flatten.+flatten.Given as goal
 
@@ -12,8 +18,11 @@ decreases-flatten_type l = 5 * rank l.ty
 abbrev pub decreases-flatten_payload : goal.decreases-flatten_payload
 decreases-flatten_payload l = 5 * payload_rank l.payload + 1
 
-abbrev pub decreases-flatten_record : goal.decreases-flatten_record
-decreases-flatten_record l = 5 * l.at + 2
+abbrev pub decreases-flatten_each_member : goal.decreases-flatten_each_member
+decreases-flatten_each_member l = 5 * l.at + 2
+
+abbrev pub decreases-flatten_members : goal.decreases-flatten_members
+decreases-flatten_members l = 5 * l.at + 3
 
 abbrev pub decreases-flatten_cases : goal.decreases-flatten_cases
 decreases-flatten_cases l = 5 * l.at + 2
@@ -24,9 +33,21 @@ decreases-flatten_variant l = 5 * l.at + 3
 abbrev pub decreases-flatten_kind : goal.decreases-flatten_kind
 decreases-flatten_kind l = 5 * l.at + 4
 
-abbrev pub invariant-flatten_record-loop-nth : goal.invariant-flatten_record-loop-nth
-invariant-flatten_record-loop-nth l = record {
-  words : take l.fn.words.room (kept l.all ++ flats (payloads_in (trees l.types) (drop l.nth (parts l.kind)))) ≡ take l.fn.words.room (kept l.fn.words ++ flats (payloads_in (trees l.types) (parts l.kind)));
+abbrev pub invariant-flatten_members-loop-words : goal.invariant-flatten_members-loop-words
+invariant-flatten_members-loop-words l = record {
+  words : (left_out : List (Option WitType)) × (l.ahead.cut ≡ false → left_out ≡ []) × (take l.fn.words.room (kept l.all ++ flats (payloads_in (trees l.types) (ahead_members l.types l.ahead ++ left_out))) ≡ take l.fn.words.room (kept l.fn.words ++ flats (payloads_in (trees l.types) (members_at l.types l.at))));
+  room : l.all.room ≡ l.fn.words.room;
+  low : All (λ p. payload_below l.at p ≡ true) (ahead_members l.types l.ahead);
+  valid : AreRuns l.types l.ahead;
+  enough : EachHasWords l.types → l.ahead.cut ≡ true → l.fn.words.room ≤ length (kept l.all) + length (flats (payloads_in (trees l.types) (ahead_members l.types l.ahead)));
+}
+
+abbrev pub decreases-flatten_members-loop-words : goal.decreases-flatten_members-loop-words
+decreases-flatten_members-loop-words l = weights l.types (ahead_members l.types l.ahead)
+
+abbrev pub invariant-flatten_each_member-loop-nth : goal.invariant-flatten_each_member-loop-nth
+invariant-flatten_each_member-loop-nth l = record {
+  words : take l.fn.words.room (kept l.all ++ flats (payloads_in (trees l.types) (drop l.nth (members l.kind)))) ≡ take l.fn.words.room (kept l.fn.words ++ flats (payloads_in (trees l.types) (members l.kind)));
   room : l.all.room ≡ l.fn.words.room;
 }
 

@@ -1,0 +1,126 @@
+-- Where each type has a word, seventeen members ahead have as many words as there is room for.
+use Rattle.std.proofs.Common.{◌≡◌, ℕ, zero, suc, ◌+◌, ◌≤◌, ◌<◌, ⊎_elim, min, true, List, [], ◌∷◌, ◌++◌, length, take, map, get_or, Option, Some, sym, ap, ◌∙◌, subst, arith, length-append}
+use Rattle.std.specs.List.{slice_get, All}
+use Rattle.std.proofs.lemmas.List.{append-nil, length-take}
+use Rattle.std.proofs.lemmas.List.Elements.{All-append, All-drop, All-nil}
+use Rattle.std.proofs.lemmas.Option.{slice_get-get_or}
+use borrow.Author.Tests.{ltb-true}
+use Rattle.wit_model.specs.declared.size.WasmType.{WasmType}
+use Rattle.wit_model.specs.declared.types.WitType.{WitType}
+use Rattle.wit_model.specs.declared.types.WitType.TheVariants as wit
+use Rattle.wit_model.specs.declared.types.TypeDefKind.{TypeDefKind}
+use Rattle.wit_model.specs.declared.types.TypeDefKind.TheVariants as kind
+use Rattle.wit_model.specs.declared.types.TypeDef.{TypeDef}
+use Rattle.wit_model.specs.TypeOrder.{type_below, payload_below, GoesDown}
+use Rattle.wit_layout.specs.declared.ahead.Run.{Run}
+use Rattle.wit_layout.specs.declared.ahead.Ahead.{Ahead}
+use Rattle.wit_layout.specs.Ahead.{AreRuns, IsRun, ArePut, ahead_members, runs, runs_members, run_members}
+use Rattle.wit_layout.specs.Flat.{EachHasWords, flat, flats}
+use Rattle.wit_layout.specs.Sequence.{members, members_at, members_of_entry}
+use Rattle.wit_layout.specs.Tree.{tree_at, tree_in, payload_in, payloads_in, trees}
+use Rattle.wit_layout.proofs.AheadTurns.{entry_at}
+use Rattle.wit_layout.proofs.FlattenSteps.{members_low, payload_below_more}
+use Rattle.wit_layout.proofs.SequenceSteps.{every_element, flats-append}
+
+of_map : {A B : Type 0} (f : A → B) (xs : List A) (nth : ℕ) (y : B) → slice_get (map f xs) nth ≡ Some y → (x : A) × (f x ≡ y)
+of_map f [] nth y e = cc
+of_map f (x ∷ xs) zero y e = (x, cc)
+of_map f (x ∷ xs) (suc nth) y e = of_map f xs nth y e
+
+of_one : {A : Type 0} (x y : A) (nth : ℕ) → slice_get (x ∷ []) nth ≡ Some y → x ≡ y
+of_one x y zero e = cc
+of_one x y (suc nth) e = cc
+
+-- a member is never left out
+member_some : (k : TypeDefKind) (nth : ℕ) (p : Option WitType) → slice_get (members k) nth ≡ Some p → (ty : WitType) × (Some ty ≡ p)
+unfolding members
+member_some (kind.Alias ty) nth p e = (ty, of_one (Some ty) p nth e)
+member_some (kind.FixedLengthList ty n) nth p e = (ty, every_element n (Some ty) p nth e)
+member_some (kind.Tuple types) nth p e = of_map (λ ty. Some ty) types nth p e
+member_some (kind.Record fields) nth p e = let of = of_map (λ f. Some f.ty) fields nth p e in (of.0.ty, of.1)
+member_some (kind.Handle handle) nth p e = cc
+member_some (kind.List element) nth p e = cc
+member_some (kind.Map k v) nth p e = cc
+member_some (kind.Option payload) nth p e = cc
+member_some (kind.Result ok err) nth p e = cc
+member_some (kind.Variant cases) nth p e = cc
+member_some (kind.Enum members) nth p e = cc
+member_some (kind.Flags members) nth p e = cc
+member_some kind.Resource nth p e = cc
+member_some (kind.Future payload) nth p e = cc
+member_some (kind.Stream payload) nth p e = cc
+member_some kind.Unknown nth p e = cc
+
+module _ (types : List TypeDef) (bound : ℕ) (lower : (i : ℕ) → i < bound → 0 < length (flat (tree_at types i))) where
+  pub type_words : (ty : WitType) → payload_below bound (Some ty) ≡ true → 0 < length (flat (tree_in (trees types) ty))
+  unfolding type_below payload_below
+  type_words (wit.Id id) h = lower id.0 (ltb-true id.0 bound h)
+  type_words wit.Bool h = omega arith
+  type_words wit.U8 h = omega arith
+  type_words wit.U16 h = omega arith
+  type_words wit.U32 h = omega arith
+  type_words wit.U64 h = omega arith
+  type_words wit.S8 h = omega arith
+  type_words wit.S16 h = omega arith
+  type_words wit.S32 h = omega arith
+  type_words wit.S64 h = omega arith
+  type_words wit.F32 h = omega arith
+  type_words wit.F64 h = omega arith
+  type_words wit.Char h = omega arith
+  type_words wit.String h = omega arith
+  type_words wit.ErrorContext h = omega arith
+
+module _ (types : List TypeDef) (wordy : EachHasWords types) where
+  abbrev HasWords : Option WitType → Type 0
+  HasWords p = 0 < length (flat (payload_in (trees types) p))
+
+  abbrev words : List (Option WitType) → List WasmType
+  words ms = flats (payloads_in (trees types) ms)
+
+  -- as many words as members at least
+  as_many : (ms : List (Option WitType)) → All HasWords ms → length ms ≤ length (words ms)
+  as_many [] h = omega arith
+  as_many (m ∷ ms) h =
+      let here : HasWords m = h 0 m (omega arith) in
+      omega (arith, here, as_many ms (All-drop HasWords 1 (m ∷ ms) h), length-append (flat (payload_in (trees types) m)) (words ms))
+
+  module _ (down : GoesDown types) where
+    members_words : (at : ℕ) → at < length types → All HasWords (members_at types at)
+    members_words at within k d l =
+        let entry = entry_at types at within in
+        let p = get_or (members_at types at) k d in
+        let is : slice_get (members entry.0.kind) k ≡ Some p = sym (ap (λ e. slice_get (members_of_entry e) k) entry.1) ∙ slice_get-get_or (members_at types at) k d l in
+        let some = member_some entry.0.kind k p is in
+        let low = payload_below_more at (length types) p (omega (arith, within)) (members_low types down at entry.0 entry.1 k d l) in
+        subst HasWords some.1 (type_words types (length types) wordy some.0 (subst (λ q. payload_below (length types) q ≡ true) (sym some.1) low))
+
+    runs_words : (rs : List Run) → All (IsRun types) rs → All HasWords (runs_members types rs)
+    runs_words [] h = All-nil HasWords
+    runs_words (r ∷ rs) h =
+        let run : IsRun types r = h 0 r (omega arith) in
+        All-append HasWords (runs_members types rs) (run_members types r) (runs_words rs (All-drop (IsRun types) 1 (r ∷ rs) h)) (All-drop HasWords r.nth (members_at types r.at) (members_words r.at run.0))
+
+    ahead_words : (a : Ahead) → AreRuns types a → 17 ≤ length (ahead_members types a) → 17 ≤ length (words (ahead_members types a))
+    ahead_words a valid many = omega (arith, many, as_many (ahead_members types a) (runs_words (runs a) valid))
+
+    module _ (r done : ℕ) (small : r ≤ 17) (before after : Ahead) (at : ℕ) (valid : AreRuns types after) (put : ArePut types at before after) where
+      all_there : put.left_out ≡ [] → ahead_members types after ≡ members_at types at ++ ahead_members types before
+      all_there none = sym (append-nil (ahead_members types after)) ∙ sym (ap (λ ms. ahead_members types after ++ ms) none) ∙ put.same
+
+      -- the words so far, and those ahead where members have been put first
+      pub enough_put : (before.cut ≡ true → r ≤ done + length (words (members_at types at)) + length (words (ahead_members types before))) → after.cut ≡ true → r ≤ done + length (words (ahead_members types after))
+      enough_put h cut =
+          ⊎_elim (λ many. omega (arith, ahead_words after valid many)) (λ (none, was). omega (arith, h was, ap (λ ms. length (words ms)) (all_there none), ap length (flats-append (trees types) (members_at types at) (ahead_members types before)), length-append (words (members_at types at)) (words (ahead_members types before)))) (put.far cut)
+
+module _ (types : List TypeDef) (before ms : List (Option WitType)) (first : Option WitType) (next : before ≡ first ∷ ms) where
+  abbrev words_of : List (Option WitType) → List WasmType
+  words_of ms = flats (payloads_in (trees types) ms)
+
+  pub first_length : length (words_of before) ≡ length (flat (payload_in (trees types) first)) + length (words_of ms)
+  first_length = ap (λ bs. length (words_of bs)) next ∙ length-append (flat (payload_in (trees types) first)) (words_of ms)
+
+  -- and where the first has been flattened
+  pub enough_next : (r s : ℕ) (all after : List WasmType) → s ≡ r → after ≡ take s (all ++ flat (payload_in (trees types) first)) → r ≤ length all + length (words_of before) → r ≤ length after + length (words_of ms)
+  enough_next r s all after same put h =
+      let long : length after ≡ min s (length (all ++ flat (payload_in (trees types) first))) = ap length put ∙ length-take s (all ++ flat (payload_in (trees types) first)) in
+      omega (arith, long, length-append all (flat (payload_in (trees types) first)), first_length)
