@@ -9,10 +9,10 @@ use Rattle.std.proofs.lemmas.List.Folds.{list_any-append}
 use Rattle.wit_model.specs.declared.function.Function.{Function}
 use Rattle.rust_tree.specs.declared.item.Item.{Item}
 use Rattle.rust_tree.specs.declared.runtime_item.RuntimeItem.{RuntimeItem}
-use Rattle.rust_tree.specs.declared.runtime_item.RuntimeItem.TheVariants.{AsI32, AsI64, AsF32, AsF64, AllocCrate, StringType, VecType, BoolLift, CharLift, StringLift}
+use Rattle.rust_tree.specs.declared.runtime_item.RuntimeItem.TheVariants.{AsI32, AsI64, AsF32, AsF64, AllocCrate, StringType, VecType, BoolLift, CharLift, StringLift, AllocModule, CabiDealloc}
 use Rattle.rust_tree.specs.Runtime.{item_name, needed_items}
 use Rattle.wrapper_run.specs.Run.{runtime_item_named}
-use Rattle.rust_gen.specs.Runtime.{asked_by, asked_items, is_same_item, runtime_module, with_asked, asked_by_export, items_for}
+use Rattle.rust_gen.specs.Runtime.{asked_by, asked_by_export, asked_by_method, asked_items, is_same_item, items_for, runtime_module, with_asked, with_needed}
 
 abbrev pub IsAmong : RuntimeItem → List RuntimeItem → Type 0
 IsAmong x items = list_any (λ i. is_same_item i x) items ≡ true
@@ -28,6 +28,8 @@ same-refl VecType = refl
 same-refl BoolLift = refl
 same-refl CharLift = refl
 same-refl StringLift = refl
+same-refl AllocModule = refl
+same-refl CabiDealloc = refl
 
 -- each has a name of its own
 same-function : (i x : RuntimeItem) → bytes_eq (item_name i) (item_name x) ≡ is_same_item i x
@@ -42,6 +44,8 @@ same-function VecType VecType = refl
 same-function BoolLift BoolLift = refl
 same-function CharLift CharLift = refl
 same-function StringLift StringLift = refl
+same-function AllocModule AllocModule = refl
+same-function CabiDealloc CabiDealloc = refl
 same-function _ _ = refl
 
 is-same : (i x : RuntimeItem) → is_same_item i x ≡ true → i ≡ x
@@ -55,6 +59,8 @@ is-same VecType VecType e = refl
 is-same BoolLift BoolLift e = refl
 is-same CharLift CharLift e = refl
 is-same StringLift StringLift e = refl
+is-same AllocModule AllocModule e = refl
+is-same CabiDealloc CabiDealloc e = refl
 is-same _ _ e = absurd (cc)
 
 -- in a module
@@ -132,15 +138,20 @@ found-right items xs ys h x k = h x (list_any-append (λ i. is_same_item i x) xs
 pub found-first : (items : List Item) (x : RuntimeItem) (xs : List RuntimeItem) → Found items (x ∷ xs) → runtime_item_named items (item_name x) ≡ Some x
 found-first items x xs h = h x (or_left (is_same_item x x) _ (same-refl x))
 
+needed-stays : (x : RuntimeItem) (items : List RuntimeItem) → IsAmong x items → IsAmong x (with_needed items)
+needed-stays x items h = asked-all x (flat_map needed_items items) items (inl h)
+
 -- the module has what is asked for
 pub found_all : (imports exports : List Function) (x : RuntimeItem) → IsAmong x (asked_items imports exports) → runtime_item_named (runtime_module (items_for imports exports)) (item_name x) ≡ Some x
 found_all imports exports x h =
-    let asked = asked_items imports exports in
-    found-in_module x (items_for imports exports) (asked-all x (flat_map needed_items (fold with_asked [] asked)) (fold with_asked [] asked) (inl (asked-all x asked [] (inr h))))
+    let asked : List RuntimeItem = fold with_asked [] (asked_items imports exports) in
+    found-in_module x (items_for imports exports) (needed-stays x (with_needed asked) (needed-stays x asked (asked-all x (asked_items imports exports) [] (inr h))))
 
 pub among-imports : (x : RuntimeItem) (imports exports : List Function) (nth : ℕ) (f : Function) → slice_get imports nth ≡ Some f → IsAmong x (asked_by f) → IsAmong x (asked_items imports exports)
-among-imports x imports exports nth f e h = list_any-append (λ i. is_same_item i x) (flat_map asked_by imports) (flat_map asked_by_export exports) ∙ or_left _ _ (asked-at asked_by x imports nth f e h)
+among-imports x imports exports nth f e h = list_any-append (λ i. is_same_item i x) (flat_map asked_by imports) (flat_map asked_by_export exports ++ flat_map asked_by_method exports) ∙ or_left _ _ (asked-at asked_by x imports nth f e h)
 
 pub among-exports : (x : RuntimeItem) (imports exports : List Function) (nth : ℕ) (f : Function) → slice_get exports nth ≡ Some f → IsAmong x (asked_by_export f) → IsAmong x (asked_items imports exports)
 among-exports x imports exports nth f e h =
-    list_any-append (λ i. is_same_item i x) (flat_map asked_by imports) (flat_map asked_by_export exports) ∙ or_right (list_any (λ i. is_same_item i x) (flat_map asked_by imports)) _ (asked-at asked_by_export x exports nth f e h)
+    list_any-append (λ i. is_same_item i x) (flat_map asked_by imports) (flat_map asked_by_export exports ++ flat_map asked_by_method exports)
+    ∙ or_right (list_any (λ i. is_same_item i x) (flat_map asked_by imports)) _
+    (list_any-append (λ i. is_same_item i x) (flat_map asked_by_export exports) (flat_map asked_by_method exports) ∙ or_left _ _ (asked-at asked_by_export x exports nth f e h))

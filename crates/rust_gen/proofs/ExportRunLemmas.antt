@@ -1,10 +1,9 @@
 -- The run of an export's wrapper as it is written: its words are the given values, its method is called once, and it gives the
 -- word of what the implementation answers.
-use Rattle.std.proofs.Common.{◌≡◌, ◌≢◌, ℕ, ◌+◌, Bool, true, List, ◌∷◌, ◌++◌, length, Option, None, Some, map, refl, sym, ap, subst, ◌∙◌, cond, rules, []}
+use Rattle.std.proofs.Common.{◌≡◌, ◌≢◌, ◌⊎◌, inl, inr, ◌<◌, ◌^◌, append-nil, ℕ, Bool, true, false, List, ◌∷◌, ◌++◌, length, Option, None, Some, map, refl, sym, ap, subst, ◌∙◌, cond, []}
 use Rattle.std.specs.List.{flat_map}
 use Rattle.std.specs.Option.{option_map}
 use Rattle.wit_model.specs.declared.function.Function.{Function}
-use Rattle.wit_model.specs.declared.function.Param.{Param}
 use Rattle.wit_model.specs.declared.size.WasmType.{WasmType}
 use Rattle.wit_model.specs.declared.types.WitType.{WitType}
 use Rattle.wit_model.specs.Distinct.{is_distinct}
@@ -15,53 +14,60 @@ use Rattle.rust_tree.specs.declared.stmt.Block.{Block}
 use Rattle.rust_tree.specs.declared.stmt.Stmt.{Stmt}
 use Rattle.rust_tree.specs.Ident.{rust_ident}
 use Rattle.rust_tree.specs.Runtime.{item_name}
-use Rattle.rust_tree.specs.declared.runtime_item.RuntimeItem.{RuntimeItem}
+use Rattle.wrapper_data.specs.declared.choice.Choice.{Choice}
 use Rattle.wrapper_data.specs.declared.choice.Choices.{Choices}
+use Rattle.wrapper_data.specs.declared.heap.Block.{Block as Cells}
 use Rattle.wrapper_data.specs.declared.heap.Heap.{Heap}
 use Rattle.wrapper_data.specs.declared.run.CallPoint.{CallPoint}
 use Rattle.wrapper_data.specs.declared.run.Run.{Run}
-use Rattle.wrapper_data.specs.declared.value.RustValue.{RustValue, RustValue-F, out-RustValue, the_lemmas}
+use Rattle.wrapper_data.specs.declared.value.RustValue.{RustValue}
 use Rattle.wrapper_data.specs.declared.word.Word.{Word}
 use Rattle.wrapper_run.specs.declared.state.Local.{Local}
 use Rattle.wrapper_run.specs.declared.state.State.{State}
 use Rattle.wrapper_run.specs.declared.state.Val.{Val}
 use Rattle.wrapper_run.specs.Act.{Act, Outcome, Done, Stopped, ◌>>=◌, ◌>>◌, all, and_then, pure}
 use Rattle.wrapper_run.specs.Blocks.{free_owned, leave_to}
-use Rattle.wrapper_run.specs.Effect.{answer_of, bit, is_word_of, is_of_kind, is_unit_level}
-use Rattle.wrapper_run.specs.ExportFaithful.{CarriesOut, export_target}
+use Rattle.wrapper_run.specs.Effect.{answer_of, bit, is_word_of, is_of_kind}
+use Rattle.wrapper_run.specs.Areas.{areas, due, needs_area}
+use Rattle.wrapper_run.specs.ExportFaithful.{CallsMethod, CarriesOut, MissesStatic, export_target, places}
 use Rattle.wrapper_run.specs.ExportRun.{call_inside, call_method, core_answer, ended_export, keep_result, method_named, method_point, run_call, run_export_fn, run_export_item, run_rest, start_export, take_value}
-use Rattle.wrapper_run.specs.Faithful.{Made, param_types}
+use Rattle.wrapper_run.specs.Faithful.{fits_area, param_types}
 use Rattle.wrapper_run.specs.Honest.{HonestImplementation}
 use Rattle.wrapper_run.specs.Locals.{bind, local_named, value_of}
-use Rattle.wrapper_run.specs.Represents.{GivesResult, Lends, TakesAll}
-use Rattle.wrapper_run.specs.Run.{bound, eval, give_and_leave, run_at, run_stmt, run_stmts, run_tail, runtime_item_named}
+use Rattle.wrapper_run.specs.Places.{area_in}
+use Rattle.wrapper_run.specs.Represents.{GivesResult, GivesText, Lends, TakesAll, block_of}
+use Rattle.wrapper_run.specs.Run.{bound, eval, give_and_leave, run_at, run_stmts, run_tail, runtime_item_named}
 use Rattle.wrapper_run.specs.Setting.{Setting}
 use Rattle.wrapper_run.specs.StandsFor.{rust_value}
 use Rattle.wrapper_run.specs.Value.{AreValues, IsResult, IsScalar, Scalar, WitValue, char, f32, f64, number, scalar, text, truth}
-use Rattle.wrapper_run.proofs.LocalLemmas.{ReadsAll, SameLength, reads-new, reads_bound}
-use Rattle.wrapper_run.proofs.MethodLemmas.{ended_export-calls, leaves_inner, method_gives, plain_words, quiet_bool, quiet_keep, quiet_value, returned-unit, returned-value, value_gives}
+use Rattle.wrapper_run.proofs.FreeSteps.{unit_words}
+use Rattle.wrapper_run.proofs.LocalLemmas.{ReadsAll, reads-new, reads_bound}
+use Rattle.wrapper_run.proofs.MethodLemmas.{leaves_inner, method_gives, plain_words, returned-unit, returned-value, value_gives}
 use Rattle.wrapper_run.proofs.NumberLemmas.{answered-bool, answered-char, answered-f32-value, answered-f64-value, answered-number, word_of-bool}
 use Rattle.wrapper_run.proofs.OwningLemmas.{ArePlain, no_buffer, no_unit_buffer, owned-none, plain-append}
-use Rattle.wrapper_run.proofs.StepLemmas.{Quiet, all_give, bool_gives, call_gives, gives_plain, local_gives, quiet_bind, quiet_give, quiet_leave, quiet_local, quiet_pure, quiet_runtime, quiet_then, runtime_gives}
+use Rattle.wrapper_run.proofs.StepLemmas.{bool_gives, call_gives, gives_plain, local_gives, runtime_gives}
+use Rattle.wrapper_run.proofs.TakeLemmas.{answered-text}
 use Rattle.rust_gen.specs.declared.scope.Scope.{Scope}
 use Rattle.rust_gen.specs.Body.{runtime_call, runtime_path}
-use Rattle.rust_gen.specs.ExportBody.{IsExportBody, IsExportWritten, LowersBack, LowersResult, export_scope, value_local, value_name}
-use Rattle.rust_gen.specs.Exported.{export_params, export_result, guest_name, trait_fn}
-use Rattle.rust_gen.specs.Printed.{core_type, printed_result, printed_type}
-use Rattle.rust_gen.specs.Runtime.{asked_by_export, lifting_items, lowering_item, lowering_items, returning_items}
+use Rattle.rust_gen.specs.ExportBody.{DeclaresValue, IsExportBody, IsExportWritten, LowersBack, LowersResult, export_scope, value_local, value_name}
+use Rattle.rust_gen.specs.Exported.{export_params, export_result, guest_name, static_area, trait_fn}
+use Rattle.rust_gen.specs.Printed.{core_type, param_words, printed_result, printed_type}
+use Rattle.rust_gen.specs.Runtime.{asked_by_export, freeing_items, lifting_items, lowering_item, lowering_items, returning_items}
 use Rattle.rust_gen.specs.Scope.{Bytes, cleanup_list, numbered, ret_area}
 use Rattle.rust_gen.proofs.AskedLemmas.{Found, found-first, found-left, found-right}
-use Rattle.rust_gen.proofs.LiftLemmas.{LiftedAll, arg_names, args_named, lift_all, no_text}
-use Rattle.rust_gen.proofs.LowerLemmas.{types_of}
+use Rattle.rust_gen.proofs.GiveLemmas as Give
+use Rattle.rust_gen.proofs.GiveLemmas.{GivesOut, gives_out}
+use Rattle.rust_gen.proofs.LiftLemmas.{LiftedAll, arg_names, lift_all, no_text, owns_block, same-words}
 use Rattle.rust_gen.proofs.PathLemmas.{calls_runtime}
 use Rattle.rust_gen.proofs.RunLemmas.{all-used}
 use Rattle.rust_gen.proofs.WordLemmas.{lent}
-use Rattle.rust_gen.proofs.ScopeLemmas.{UsedAll}
-use Rattle.wrapper_run.specs.Owning.{taken_by}
+use Rattle.rust_gen.proofs.ScopeLemmas.{used-declared, used-first}
+use Rattle.rust_gen.proofs.TakenLemmas.{AreFree, addresses}
+use Rattle.wrapper_run.specs.Owning.{are_distinct, listed, owned_by, taken_by}
+use Rattle.wit_model.specs.declared.size.WasmType.TheVariants as core
 use Rattle.std.specs.Prelude.{ℤ}
 use Rattle.wit_model.specs.declared.types.WitType.TheVariants as wit
 use Rattle.rust_tree.specs.declared.expr.Expr.TheVariants as expr
-use Rattle.rust_tree.specs.declared.stmt.Stmt.TheVariants as stmt
 use Rattle.rust_tree.specs.declared.type_expr.Primitive.TheVariants as prim
 use Rattle.rust_tree.specs.declared.type_expr.TypeExpr.TheVariants as type
 use Rattle.wrapper_data.specs.declared.answer.Answer.TheVariants as answer
@@ -152,67 +158,58 @@ lowers_back wit.Bool (char c) w name before stmts e s good l found at = absurd (
 lowers_back wit.String v w name before stmts e s good l found at = absurd (no_text wit.String v good refl)
 lowers_back ty v w name before stmts e s good l found at = back-converted ty v w name stmts e s (λ h. cc) good l (found-first w.items (lowering_item ty) [] found) at
 
--- nothing in it calls
-
-quiet_converted : (w : Setting) (i : RuntimeItem) (name : Bytes) (stmts : List Stmt) (e : Expr) → (stmts ≡ []) × (e ≡ runtime_call i (expr.Local name)) → Quiet (run_stmts w stmts) × Quiet (eval w e)
-quiet_converted w i name stmts e (is, tail) = (
-  subst (λ stmts. Quiet (run_stmts w stmts)) (sym is) (quiet_pure tt),
-  subst (λ e. Quiet (eval w e)) (sym tail) (quiet_runtime w (runtime_path i) (item_name i) (expr.Local name) (calls_runtime i) (quiet_local w name)),
-)
-
-quiet_back : (w : Setting) (ty : WitType) (name : Bytes) (before : Scope) (stmts : List Stmt) (e : Expr) → LowersBack ty name before stmts e → Quiet (run_stmts w stmts) × Quiet (eval w e)
-quiet_back w wit.Bool name before stmts e (t, after, d, is, tail) = (
-  subst (λ stmts. Quiet (run_stmts w stmts)) (sym is)
-      (quiet_then (run_stmt w (stmt.Let (numbered kind.Bool t) (expr.I32FromBool (expr.Local name)))) (λ _. pure {A = Unit {0}} tt)
-      (quiet_then (eval w (expr.I32FromBool (expr.Local name))) (bind (numbered kind.Bool t)) (quiet_bool w name) (quiet_bind (numbered kind.Bool t))) (λ _. quiet_pure tt)),
-  subst (λ e. Quiet (eval w e)) (sym tail) (quiet_local w (numbered kind.Bool t)),
-)
-quiet_back w ty name before stmts e l = quiet_converted w (lowering_item ty) name stmts e l
-
 abbrev rest_of : Setting → Option WasmType → Block → Act (List Word)
 rest_of w answer rest = (run_stmts w rest.stmts >> run_tail w rest.tail) >>= (λ v. give_and_leave w (core_answer answer v))
-
-quiet_rest : (w : Setting) (r : Option WitType) (answer : Option WasmType) (t : ℕ) (before : Scope) (rest : Block) → LowersResult r t before rest.stmts rest.tail → Quiet (rest_of w answer rest)
-quiet_rest w None answer t before rest (n, q) =
-    quiet_then (run_stmts w rest.stmts >> run_tail w rest.tail) (λ v. give_and_leave w (core_answer answer v))
-    (quiet_then (run_stmts w rest.stmts) (λ _. run_tail w rest.tail) (subst (λ stmts. Quiet (run_stmts w stmts)) (sym n) (quiet_pure tt)) (λ _. subst (λ tail. Quiet (run_tail w tail)) (sym q) (quiet_pure (val.Value value.Unit))))
-    (λ v. quiet_give w (core_answer answer v))
-quiet_rest w (Some ty) answer t before rest (e, q, l) =
-    let h = quiet_back w ty (value_name t) before rest.stmts e l in
-    quiet_then (run_stmts w rest.stmts >> run_tail w rest.tail) (λ v. give_and_leave w (core_answer answer v))
-    (quiet_then (run_stmts w rest.stmts) (λ _. run_tail w rest.tail) h.0 (λ _. subst (λ tail. Quiet (run_tail w tail)) (sym q) h.1))
-    (λ v. quiet_give w (core_answer answer v))
 
 -- behind the call: its scope ends, the value is kept, and it is made a word
 
 abbrev finish : Setting → ℕ → Option WitType → ℕ → Block → Val → Act (List Word)
 finish w outer r t rest v = leave_to w outer >> (keep_result w (value_local r t) v >> rest_of w (export_result r) rest)
 
-quiet_finish : (w : Setting) (outer : ℕ) (r : Option WitType) (t : ℕ) (before : Scope) (rest : Block) → LowersResult r t before rest.stmts rest.tail → (v : Val) → Quiet (finish w outer r t rest v)
-quiet_finish w outer r t before rest l v =
-    quiet_then (leave_to w outer) (λ _. keep_result w (value_local r t) v >> rest_of w (export_result r) rest) (quiet_leave w outer)
-    (λ _. quiet_then (keep_result w (value_local r t) v) (λ _. rest_of w (export_result r) rest) (quiet_keep w (value_local r t) v) (λ _. quiet_rest w r (export_result r) t before rest l))
+-- what the run gives where the implementation is honest: words that own the blocks of its value, or the area does not fit
 
-unit_words : core_answer None (val.Value value.Unit) ≡ Some []
-unit_words =
-    let opened : out-RustValue value.Unit ≡ RustValue-F.Unit = search (rules, the_lemmas) in
-    ap (λ l. cond (is_unit_level l) (Some []) None) opened
-
--- what the run gives where the implementation is honest
 record FinishesOut (w : Setting) (outer : List Local) (r : Option WitType) (v : Option WitValue) (t : ℕ) (rest : Block) (s : State) : Type 0 where
   pub words : List Word
   pub state : State
   pub runs : and_then (take_value w (printed_result r) s) (finish w (length outer) r t rest) ≡ Done words state
-  pub gives : GivesResult r v words
   pub value : Option RustValue
-  pub left : w.answer ≡ answer.Value value state.heap
-  pub requests : state.requests ≡ s.requests
+  pub left : Heap
+  pub leaves : w.answer ≡ answer.Value value left
+  pub area : List Cells
+  pub placed : places area ≡ places (areas r s.choices)
+  pub account : state.heap ≡ record left { blocks = left.blocks ++ area }
+  pub gives : GivesResult state.heap r v words (owned_by (listed value))
+  pub requests : state.requests ≡ s.requests ++ due r
+  pub calls : state.calls ≡ s.calls
 
-finishes_out : (w : Setting) (outer more : List Local) (r : Option WitType) (v : Option WitValue) (t : ℕ) (before : Scope) (rest : Block) (s : State) (c : CallPoint)
-    → LowersResult r t before rest.stmts rest.tail → Found w.items (returning_items r) → IsResult r v → HonestImplementation r v w.answer c → s.locals ≡ outer ++ more → ArePlain outer → ArePlain more
-    → FinishesOut w outer r v t rest s
-unfolding bind
-finishes_out w outer more None None t before rest s c (n, q) found good (heap, a) split plain_outer plain_more =
+record MissesOut (w : Setting) (outer : List Local) (r : Option WitType) (t : ℕ) (rest : Block) (s : State) : Type 0 where
+  pub needed : needs_area r ≡ true
+  pub state : State
+  pub runs : and_then (take_value w (printed_result r) s) (finish w (length outer) r t rest) ≡ Stopped stop_of.BadChoice state
+  pub value : Option RustValue
+  pub left : Heap
+  pub leaves : w.answer ≡ answer.Value value left
+  pub misfit : fits_area s.choices left ≡ false
+  pub requests : state.requests ≡ s.requests ++ due r
+  pub calls : state.calls ≡ s.calls
+
+-- a scalar passes by no area
+
+no_areas : (ty : WitType) (choices : List Choice) → (ty ≡ wit.String → ⊥) → areas (Some ty) choices ≡ []
+no_areas wit.String choices n = absurd (n refl)
+no_areas _ choices n = refl
+
+none_due : (ty : WitType) → (ty ≡ wit.String → ⊥) → due (Some ty) ≡ []
+none_due wit.String n = absurd (n refl)
+none_due _ n = refl
+
+one_word : (ty : WitType) → (ty ≡ wit.String → ⊥) → export_result (Some ty) ≡ Some (core_type ty)
+one_word wit.String n = absurd (n refl)
+one_word _ n = refl
+
+finishes_unit : (w : Setting) (outer more : List Local) (t : ℕ) (before : Scope) (rest : Block) (s : State) → LowersResult None t before rest.stmts rest.tail → HonestImplementation None None w.answer
+    → s.locals ≡ outer ++ more → ArePlain outer → ArePlain more → FinishesOut w outer None None t rest s
+finishes_unit w outer more t before rest s (n, q) (heap, a) split plain_outer plain_more =
     let unit : Val = val.Value value.Unit in
     let left : State = record s { heap = heap; taken = [] } in
     let back : State = record left { locals = outer } in
@@ -226,15 +223,23 @@ finishes_out w outer more None None t before rest s c (n, q) found good (heap, a
           ∙ ap (λ stmts. and_then (and_then (run_stmts w stmts back) (λ _. run_tail w rest.tail)) (λ v. give_and_leave w (core_answer None v))) n
           ∙ ap (λ tail. and_then (run_tail w tail back) (λ v. give_and_leave w (core_answer None v))) q
           ∙ gives_plain w (core_answer None unit) [] back unit_words plain_outer;
-      gives = refl;
       value = None;
-      left = a;
-      requests = refl;
+      left = heap;
+      leaves = a;
+      area = [];
+      placed = refl;
+      account = ap (λ bs. record heap { blocks = bs }) (sym (append-nil heap.blocks));
+      gives = (refl, refl);
+      requests = sym (append-nil s.requests);
+      calls = refl;
     }
-finishes_out w outer more None (Some v) t before rest s c l found good h split plain_outer plain_more = absurd good
-finishes_out w outer more (Some ty) None t before rest s c l found good h split plain_outer plain_more = absurd good
-finishes_out w outer more (Some ty) (Some (text bytes)) t before rest s c l found good h split plain_outer plain_more = absurd h
-finishes_out w outer more (Some ty) (Some (scalar x)) t before rest s c (e, q, l) found good (heap, a) split plain_outer plain_more =
+
+finishes_scalar : (w : Setting) (outer more : List Local) (ty : WitType) (x : Scalar) (t : ℕ) (before : Scope) (rest : Block) (s : State) → LowersResult (Some ty) t before rest.stmts rest.tail
+    → Found w.items (returning_items (Some ty)) → IsScalar ty x → HonestImplementation (Some ty) (Some (scalar x)) w.answer → s.locals ≡ outer ++ more → ArePlain outer → ArePlain more
+    → FinishesOut w outer (Some ty) (Some (scalar x)) t rest s
+unfolding bind
+finishes_scalar w outer more ty x t before rest s (e, q, l) found good (heap, _, a, is) split plain_outer plain_more =
+    let nt = no_text ty x good in
     let r : RustValue = rust_value ty x in
     let left : State = record s { heap = heap; taken = taken_by (r ∷ []) } in
     let back : State = record left { locals = outer } in
@@ -242,72 +247,160 @@ finishes_out w outer more (Some ty) (Some (scalar x)) t before rest s c (e, q, l
     let kept : State = record back { locals = outer ++ held ∷ [] } in
     let g = lowers_back ty x w (value_name t) before rest.stmts e kept good l found (reads-new (value_name t) (Some (val.Value r)) outer) in
     let ends : State = record kept { locals = g.locals } in
+    let gave : w.answer ≡ answer.Value (Some r) heap = a ∙ ap (λ r. answer.Value (Some r) heap) is in
     record {
       words = g.word ∷ [];
       state = record ends { locals = [] };
       runs =
-          ap (λ o. and_then o (finish w (length outer) (Some ty) t rest)) (value_gives w (printed_type ty) (Some r) (val.Value r) heap s a (returned-value (printed_type ty) r (answered-scalar ty x good)))
+          ap (λ o. and_then o (finish w (length outer) (Some ty) t rest)) (value_gives w (printed_type ty) (Some r) (val.Value r) heap s gave (returned-value (printed_type ty) r (answered-scalar ty x good)))
+          ∙ ap (λ c. and_then (leave_to w (length outer) left) (λ _. keep_result w (Some (value_name t)) (val.Value r) >> rest_of w c rest)) (one_word ty nt)
           ∙ ap (λ o. and_then o (λ _. keep_result w (Some (value_name t)) (val.Value r) >> rest_of w (Some (core_type ty)) rest)) (leaves_inner w outer more left split plain_more)
           ∙ ap (λ tail. and_then (and_then (run_stmts w rest.stmts kept) (λ _. run_tail w tail)) (λ v. give_and_leave w (core_answer (Some (core_type ty)) v))) q
           ∙ ap (λ o. and_then (and_then o (λ _. eval w e)) (λ v. give_and_leave w (core_answer (Some (core_type ty)) v))) g.runs
           ∙ ap (λ o. and_then o (λ v. give_and_leave w (core_answer (Some (core_type ty)) v))) g.gives
           ∙ gives_plain w (core_answer (Some (core_type ty)) (val.Word g.word)) (g.word ∷ []) ends (ap (λ b. option_map (λ w. w ∷ []) (cond b (Some g.word) None)) g.is_word)
           (g.plain (plain-append outer (held ∷ []) plain_outer (owned-none r (no_buffer ty x), tt)));
-      gives = (g.word, refl, g.lends);
       value = Some r;
-      left = a;
-      requests = refl;
+      left = heap;
+      leaves = gave;
+      area = [];
+      placed = ap places (sym (no_areas ty s.choices nt));
+      account = ap (λ bs. record heap { blocks = bs }) (sym (append-nil heap.blocks));
+      gives = (g.word, refl, g.lends, ap (λ o. listed o ++ []) (owned-none r (no_buffer ty x)));
+      requests = sym (append-nil s.requests) ∙ ap (λ rs. s.requests ++ rs) (sym (none_due ty nt));
+      calls = refl;
     }
+
+-- a text that the implementation gives
+
+abbrev held_text : ℕ → ℕ → ℕ → Local
+held_text t p n = record { name = value_name t; value = Some (val.Value (value.Buffer p n true)) }
+
+owns_text : (p : ℕ) (bytes : List ℕ) → owned_by (value.Buffer p (length bytes) true ∷ []) ≡ block_of p bytes
+owns_text p bytes = ap (λ bs. bs ++ []) (owns_block p bytes) ∙ append-nil (block_of p bytes)
+
+finishes_text : (w : Setting) (outer more : List Local) (bytes : List ℕ) (t : ℕ) (lifted before : Scope) (rest : Block) (s : State) → DeclaresValue (Some wit.String) lifted t before
+    → LowersResult (Some wit.String) t before rest.stmts rest.tail → area_in w.items ≡ Some static_area → length bytes < 2 ^ 31 → HonestImplementation (Some wit.String) (Some (text bytes)) w.answer
+    → s.locals ≡ outer ++ more → s.place ≡ None → ArePlain outer → ArePlain more
+    → FinishesOut w outer (Some wit.String) (Some (text bytes)) t rest s ⊎ MissesOut w outer (Some wit.String) t rest s
+unfolding bind
+finishes_text w outer more bytes t lifted before rest s d (e, q, l) area small (heap, _, a, (p, at, is, has)) split unplaced plain_outer plain_more =
+    go (gives_out w outer (value_name t) p bytes before rest.stmts e kept l area unplaced refl plain_outer (used-declared lifted before (kind.Result ∷ []) t (value_name t) d (used-first (value_name t) [])) at small has refl)
+  where
+    n : ℕ
+    n = length bytes
+
+    r : RustValue
+    r = value.Buffer p (length bytes) true
+
+    left : State
+    left = record s { heap = heap; taken = taken_by (value.Buffer p (length bytes) true ∷ []) }
+
+    kept : State
+    kept = record s { heap = heap; taken = taken_by (value.Buffer p (length bytes) true ∷ []); locals = outer ++ held_text t p (length bytes) ∷ [] }
+
+    gave : w.answer ≡ answer.Value (Some (value.Buffer p (length bytes) true)) heap
+    gave = a ∙ ap (λ r. answer.Value (Some r) heap) is
+
+    to_kept : and_then (take_value w type.String s) (finish w (length outer) (Some wit.String) t rest)
+        ≡ and_then (and_then (run_stmts w rest.stmts kept) (λ _. eval w e)) (λ v. give_and_leave w (core_answer (Some core.Pointer) v))
+    to_kept =
+        ap (λ o. and_then o (finish w (length outer) (Some wit.String) t rest)) (value_gives w type.String (Some (value.Buffer p (length bytes) true)) (val.Value (value.Buffer p (length bytes) true)) heap s gave (returned-value type.String (value.Buffer p (length bytes) true) (answered-text p (length bytes))))
+        ∙ ap (λ o. and_then o (λ _. keep_result w (Some (value_name t)) (val.Value (value.Buffer p (length bytes) true)) >> rest_of w (Some core.Pointer) rest)) (leaves_inner w outer more left split plain_more)
+        ∙ ap (λ tail. and_then (and_then (run_stmts w rest.stmts kept) (λ _. run_tail w tail)) (λ v. give_and_leave w (core_answer (Some core.Pointer) v))) q
+
+    go : GivesOut w p bytes rest.stmts e kept ⊎ Give.MissesOut w rest.stmts kept → FinishesOut w outer (Some wit.String) (Some (text bytes)) t rest s ⊎ MissesOut w outer (Some wit.String) t rest s
+    go (inl g) = inl (record {
+      words = word.Pointer g.address ∷ [];
+      state = record g.state { locals = [] };
+      runs =
+          to_kept
+          ∙ ap (λ o. and_then (and_then o (λ _. eval w e)) (λ v. give_and_leave w (core_answer (Some core.Pointer) v))) g.runs
+          ∙ ap (λ o. and_then o (λ v. give_and_leave w (core_answer (Some core.Pointer) v))) g.gives
+          ∙ gives_plain w (core_answer (Some core.Pointer) (val.Word (word.Pointer g.address))) (word.Pointer g.address ∷ []) g.state refl g.plain;
+      value = Some (value.Buffer p (length bytes) true);
+      left = heap;
+      leaves = gave;
+      area = g.area ∷ [];
+      placed = ap (λ a. (a, g.area.size) ∷ []) g.placed.0 ∙ ap (λ n. (g.address, n) ∷ []) g.placed.1 ∙ ap (λ cs. places (areas (Some wit.String) cs)) (sym g.first);
+      account = g.heap_is;
+      gives = subst (GivesText g.state.heap bytes (word.Pointer g.address ∷ [])) (sym (owns_text p bytes)) g.words;
+      requests = g.requests_are;
+      calls = g.calls_are;
+    })
+    go (inr m) = inr (record {
+      needed = refl;
+      state = m.state;
+      runs = to_kept ∙ ap (λ o. and_then (and_then o (λ _. eval w e)) (λ v. give_and_leave w (core_answer (Some core.Pointer) v))) m.runs;
+      value = Some (value.Buffer p (length bytes) true);
+      left = heap;
+      leaves = gave;
+      misfit = m.misfit;
+      requests = m.requests_are;
+      calls = m.calls_are;
+    })
+
+finishes_out : (w : Setting) (outer more : List Local) (r : Option WitType) (v : Option WitValue) (t : ℕ) (lifted before : Scope) (rest : Block) (s : State) → DeclaresValue r lifted t before
+    → LowersResult r t before rest.stmts rest.tail → Found w.items (returning_items r) → (needs_area r ≡ true → area_in w.items ≡ Some static_area) → IsResult r v → HonestImplementation r v w.answer
+    → s.locals ≡ outer ++ more → s.place ≡ None → ArePlain outer → ArePlain more → FinishesOut w outer r v t rest s ⊎ MissesOut w outer r t rest s
+finishes_out w outer more None None t lifted before rest s d l found area good h split unplaced po pm = inl (finishes_unit w outer more t before rest s l h split po pm)
+finishes_out w outer more None (Some v) t lifted before rest s d l found area good h split unplaced po pm = absurd good
+finishes_out w outer more (Some ty) None t lifted before rest s d l found area good h split unplaced po pm = absurd good
+finishes_out w outer more (Some ty) (Some (scalar x)) t lifted before rest s d l found area good h split unplaced po pm = inl (finishes_scalar w outer more ty x t before rest s l found good h split po pm)
+finishes_out w outer more (Some wit.String) (Some (text bytes)) t lifted before rest s d l found area good h split unplaced po pm =
+    finishes_text w outer more bytes t lifted before rest s d l (area refl) good.2 h split unplaced po pm
+finishes_out w outer more (Some _) (Some (text bytes)) t lifted before rest s d l found area good h split unplaced po pm = absurd (let wrong = good.0 in cc)
 
 -- what a wrapper as it is written needs of its function and of the file
 pub record FitsExport (f : Function) (w : Setting) : Type 0 where
   pub distinct : is_distinct (map (λ p. p.name) (export_params f)) ≡ true
   pub method : method_named w.items guest_name (rust_ident f.name) ≡ Some (trait_fn f)
   pub found : Found w.items (asked_by_export f)
+  pub area : needs_area f.result ≡ true → area_in w.items ≡ Some static_area
 
--- a word for each parameter
-same-words : (n : ℕ) (params : List Param) (vs : List WitValue) (words : List Word) → TakesAll (types_of params) vs words → SameLength (arg_names n params) (map val.Word words)
-same-words n [] [] words h = subst (λ ws. SameLength [] (map val.Word ws)) (sym h) tt
-same-words n [] (v ∷ vs) words h = absurd h
-same-words n (p ∷ params) [] words h = absurd h
-same-words n (p ∷ params) (text bytes ∷ vs) words (first, rest, e, one, more) = absurd one
-same-words n (p ∷ params) (scalar v ∷ vs) words (first, rest, e, (x, is, takes), more) =
-    subst (λ ws. SameLength (arg_names n (p ∷ params)) (map val.Word ws)) (sym (e ∙ ap (λ f. f ++ rest) is)) (same-words (n + 1) params vs rest more)
+none_taken : (blocks : List (ℕ × ℕ)) → AreFree blocks []
+none_taken [] = tt
+none_taken (b ∷ blocks) = (refl, none_taken blocks)
 
-module _ (f : Function) (e : ExportFn) (written : IsExportWritten f e) (w : Setting) (fits : FitsExport f w) (vs : List WitValue) (v : Option WitValue) (words : List Word) (heap : Heap) (choices : Choices)
-    (good : AreValues (param_types f) vs) (is_result : IsResult f.result v) (takes : TakesAll (param_types f) vs words) where
+module _ (f : Function) (e : ExportFn) (written : IsExportWritten f e) (w : Setting) (fits : FitsExport f w) (vs : List WitValue) (v : Option WitValue) (words : List Word) (own : List (ℕ × ℕ)) (heap : Heap) (choices : Choices)
+    (good : AreValues (param_types f) vs) (is_result : IsResult f.result v) (takes : TakesAll heap (param_types f) vs words own) (apart : are_distinct own ≡ true) where
   abbrev begin : State
   begin = start_export e words heap choices
 
   abbrev body : IsExportBody f e.call e.rest
   body = written.body
 
-  names : map (λ p. p.name) e.params ≡ arg_names 0 f.params
-  names = ap (map (λ p. p.name)) written.params ∙ args_named 0 f.params vs words good takes
+  abbrev names : List Bytes
+  names = arg_names 0 (param_words f.params)
 
-  arguments : ReadsAll (arg_names 0 f.params) (map val.Word words) begin.locals
+  names_are : map (λ p. p.name) e.params ≡ names
+  names_are = ap (map (λ p. p.name)) written.params
+
+  arguments : ReadsAll names (map val.Word words) begin.locals
   arguments =
-      subst (λ ns. ReadsAll (arg_names 0 f.params) (map val.Word words) (bound ns (map val.Word words))) (sym names)
-      (reads_bound (arg_names 0 f.params) (map val.Word words) (subst (λ ns. is_distinct ns ≡ true) (args_named 0 f.params vs words good takes) fits.distinct) (same-words 0 f.params vs words takes))
+      subst (λ ns. ReadsAll names (map val.Word words) (bound ns (map val.Word words))) (sym names_are)
+      (reads_bound names (map val.Word words) fits.distinct (same-words 0 f.params vs heap words own good takes))
 
-  lifting : LiftedAll w begin f.params vs (export_scope f) body.lifted body.lifting body.arguments
+  lifting : LiftedAll w begin 0 f.params vs words own (export_scope f) body.lifted body.lifting body.arguments
   lifting =
-      lift_all w begin 0 f.params vs words (export_scope f) body.lifted body.lifting body.arguments body.lifts good takes
-      (found-left w.items (flat_map (λ p. lifting_items (Some p.ty)) f.params) (returning_items f.result) fits.found)
-      (subst (λ ns. UsedAll (ns ++ cleanup_list ∷ ret_area ∷ []) (arg_names 0 f.params)) (sym (args_named 0 f.params vs words good takes)) (all-used [] (arg_names 0 f.params) (cleanup_list ∷ ret_area ∷ [])))
-      arguments
+      lift_all w begin 0 f.params vs words own (export_scope f) body.lifted body.lifting body.arguments body.lifts good takes
+      (found-left w.items (flat_map (λ p. lifting_items (Some p.ty)) f.params) (returning_items f.result ++ freeing_items f.result) fits.found)
+      (all-used [] names (cleanup_list ∷ ret_area ∷ [])) arguments (none_taken own) apart
 
   plain : ArePlain begin.locals
   plain = plain_words (map (λ p. p.name) e.params) words
 
   abbrev lifted : State
-  lifted = record begin { locals = lifting.locals }
+  lifted = record begin { locals = begin.locals ++ lifting.more; taken = [] ++ addresses own }
+
+  abbrev passed_on : State
+  passed_on = record lifted { locals = (begin.locals ++ lifting.left) ++ [] }
 
   abbrev here : CallPoint
   here = record { target = export_target f; words = []; values = lifting.values; heap = heap }
 
   abbrev recorded : State
-  recorded = record lifted { calls = here ∷ [] }
+  recorded = record passed_on { calls = here ∷ [] }
 
   abbrev end : Val → Act (List Word)
   end = finish w (length begin.locals) f.result body.number e.rest
@@ -325,9 +418,9 @@ module _ (f : Function) (e : ExportFn) (written : IsExportWritten f e) (w : Sett
   calls_out : call_inside w guest_name block begin ≡ take_value w (printed_result f.result) recorded
   calls_out =
       ap (λ o. and_then o (λ _. all (map (eval w) body.arguments) >>= call_method w guest_name (rust_ident f.name))) lifting.runs
-      ∙ ap (λ o. and_then o (call_method w guest_name (rust_ident f.name))) (all_give w lifted body.arguments lifting.given (lifting.gives lifted (λ name h. refl)))
-      ∙ method_gives w guest_name (rust_ident f.name) (trait_fn f) lifting.given lifting.values lifted fits.method lifting.passes
-      ∙ ap (λ c. take_value w (printed_result f.result) (record lifted { calls = c ∷ [] })) here_is
+      ∙ ap (λ o. and_then o (call_method w guest_name (rust_ident f.name))) (lifting.gives lifted begin.locals [] (sym (append-nil (begin.locals ++ lifting.more))) tt arguments)
+      ∙ method_gives w guest_name (rust_ident f.name) (trait_fn f) lifting.given lifting.values passed_on fits.method lifting.passes
+      ∙ ap (λ c. take_value w (printed_result f.result) (record passed_on { calls = c ∷ [] })) here_is
 
   in_order : (o : Outcome Val)
       → and_then (and_then (and_then o (λ v. leave_to w (length begin.locals) >> pure v)) (keep_result w (value_local f.result body.number))) (λ _. rest_of w (export_result f.result) e.rest) ≡ and_then o end
@@ -351,24 +444,42 @@ module _ (f : Function) (e : ExportFn) (written : IsExportWritten f e) (w : Sett
   unfolding run run_export_item
   ends = ap ended_export runs_to
 
-  calls_once : run.calls ≡ here ∷ []
-  calls_once =
-      ap (λ r. r.calls) ends ∙ ended_export-calls (and_then (take_value w (printed_result f.result) recorded) end)
-      ∙ (quiet_then (take_value w (printed_result f.result)) end (quiet_value w (printed_result f.result)) (quiet_finish w (length begin.locals) f.result body.number body.called e.rest body.lowers)).quiet recorded
+  calls_method : run.calls ≡ here ∷ [] → CallsMethod f vs own heap (run_export_item w e words heap choices)
+  unfolding run
+  calls_method is = record { values = lifting.values; call = is; stands = lifting.stands; owns = lifting.owns }
 
-  pub carries_out : ((c : CallPoint) → Made c (run_export_item w e words heap choices) → HonestImplementation f.result v w.answer c) → CarriesOut f vs v heap w.answer (run_export_item w e words heap choices)
+  pub carries_out : HonestImplementation f.result v w.answer → CarriesOut f vs v own heap choices w.answer (run_export_item w e words heap choices) ⊎ MissesStatic f vs own heap choices w.answer (run_export_item w e words heap choices)
   unfolding run
   carries_out honest =
-      let g = finishes_out w begin.locals lifting.adds.0 f.result v body.number body.called e.rest recorded here body.lowers
-      (found-right w.items (flat_map (λ p. lifting_items (Some p.ty)) f.params) (returning_items f.result) fits.found) is_result (honest here ([], [], calls_once)) lifting.adds.1 plain lifting.adds.2 in
-      let is : run ≡ run_at stop_of.Done g.words None g.state = ends ∙ ap ended_export g.runs in
-      record {
-        done = ap (λ r. r.stop) is;
-        values = lifting.values;
-        call = calls_once;
-        stands = lifting.stands;
-        value = g.value;
-        left = g.left ∙ ap (answer.Value g.value) (sym (ap (λ r. r.heap) is));
-        gives = subst (GivesResult f.result v) (sym (ap (λ r. r.words) is)) g.gives;
-        requests = ap (λ r. r.requests) is ∙ g.requests;
-      }
+      go (finishes_out w begin.locals lifting.left f.result v body.number body.lifted body.called e.rest recorded body.calls body.lowers
+      (found-left w.items (returning_items f.result) (freeing_items f.result) (found-right w.items (flat_map (λ p. lifting_items (Some p.ty)) f.params) (returning_items f.result ++ freeing_items f.result) fits.found))
+      fits.area is_result honest (append-nil (begin.locals ++ lifting.left)) refl plain lifting.plain)
+    where
+      go : FinishesOut w begin.locals f.result v body.number e.rest recorded ⊎ MissesOut w begin.locals f.result body.number e.rest recorded
+          → CarriesOut f vs v own heap choices w.answer (run_export_item w e words heap choices) ⊎ MissesStatic f vs own heap choices w.answer (run_export_item w e words heap choices)
+      go (inl g) =
+          let is : run ≡ run_at stop_of.Done g.words None g.state = ends ∙ ap ended_export g.runs in
+          inl (record {
+            done = ap (λ r. r.stop) is;
+            calls = calls_method (ap (λ r. r.calls) is ∙ g.calls);
+            value = g.value;
+            left = g.left;
+            leaves = g.leaves;
+            area = g.area;
+            placed = g.placed;
+            account = ap (λ r. r.heap) is ∙ g.account;
+            gives = subst (λ ws. GivesResult run.heap f.result v ws (owned_by (listed g.value))) (sym (ap (λ r. r.words) is)) (subst (λ h. GivesResult h f.result v g.words (owned_by (listed g.value))) (sym (ap (λ r. r.heap) is)) g.gives);
+            requests = ap (λ r. r.requests) is ∙ g.requests;
+          })
+      go (inr m) =
+          let is : run ≡ run_at stop_of.BadChoice [] None m.state = ends ∙ ap ended_export m.runs in
+          inr (record {
+            needed = m.needed;
+            value = m.value;
+            left = m.left;
+            leaves = m.leaves;
+            misfit = m.misfit;
+            stopped = ap (λ r. r.stop) is;
+            calls = calls_method (ap (λ r. r.calls) is ∙ m.calls);
+            requests = ap (λ r. r.requests) is ∙ m.requests;
+          })

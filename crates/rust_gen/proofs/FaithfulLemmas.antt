@@ -1,8 +1,8 @@
 -- The wrappers of a tree that is made as it is written are faithful.
-use Rattle.std.proofs.Common.{◌≡◌, ℕ, zero, suc, ◌+◌, Bool, true, List, [], ◌∷◌, ◌++◌, length, Some, map, refl, sym, ap, subst, ◌∙◌, arith, ◌⊎◌, append-nil, false}
+use Rattle.std.proofs.Common.{◌≡◌, ℕ, zero, suc, ◌+◌, Bool, true, List, [], ◌∷◌, ◌++◌, length, Some, map, refl, sym, ap, subst, ◌∙◌, arith, ◌⊎◌, append-nil, false, None, Option, cond}
 use Rattle.std.specs.Prelude.{IsSome, option_and_then, slice_get, decimal, filter, nat_le, not}
 use Rattle.std.specs.Option.{option_map}
-use Rattle.std.specs.List.{AllZip, list_all, list_any}
+use Rattle.std.specs.List.{AllZip, flat_map, list_all, list_any}
 use Rattle.std.proofs.lemmas.Slice.Zip.{AllZip-long}
 use Rattle.wit_model.specs.declared.function.Function.{Function}
 use Rattle.wit_model.specs.declared.resolve.Resolve.{Resolve}
@@ -13,40 +13,55 @@ use Rattle.rust_tree.specs.declared.item.Item.{Item}
 use Rattle.rust_tree.specs.declared.item.Item.TheVariants as item
 use Rattle.rust_tree.specs.declared.place.FuncPlace.{FuncPlace}
 use Rattle.rust_tree.specs.declared.place.WrapperInfo.{WrapperInfo}
-use Rattle.rust_tree.specs.declared.runtime_item.RuntimeItem.{RuntimeItem}
 use Rattle.rust_tree.specs.Tree.{Tree, wrappers_from, wrappers_of, wrapper_info}
 use Rattle.wrapper_run.specs.Faithful.{Carries, IsFaithful, Made, MissesArea}
 use Rattle.wrapper_run.specs.Setting.{Setting}
 use Rattle.wrapper_run.specs.Run.{import_nth, import_run, run_item, import_at, runtime_item_named, setting_of}
 use Rattle.rust_gen.specs.Body.{IsWritten}
-use Rattle.rust_gen.specs.Bound.{Binds}
+use Rattle.rust_gen.specs.Bound.{Binds, Parts, export_items}
 use Rattle.rust_gen.specs.Cause.{is_well_named, is_built}
-use Rattle.rust_gen.specs.DeclaredNames.{are_names, declares_well, function_idents, param_idents, are_distinct_functions, cabi_suffix, export_ident, export_prefix, has_distinct_names, macro_idents, method_idents}
+use Rattle.rust_gen.specs.DeclaredNames.{are_distinct_functions, are_names, area_idents, cabi_suffix, declares_well, export_ident, export_prefix, function_idents, has_distinct_names, macro_idents, method_idents, param_idents, return_idents}
 use Rattle.rust_gen.specs.Faithful.{AreFaithful}
-use Rattle.rust_gen.specs.Runtime.{asked_by, runtime_items, runtime_module, asked_by_export}
-use Rattle.rust_gen.proofs.AskedLemmas.{Found, found_all, among-exports, among-imports}
+use Rattle.rust_gen.specs.Runtime.{asked_by, asked_by_export, freeing_items, is_same_item, lifting_items, returning_items, runtime_items, runtime_module}
+use Rattle.rust_gen.proofs.AskedLemmas.{Found, among-exports, among-imports, found-right, found_all}
 use Rattle.std.proofs.lemmas.Bool.{and_parts}
 use Rattle.rust_gen.proofs.RunLemmas.{Fits}
 use Rattle.rust_gen.proofs.TextLemmas.{carries_written}
 use Rattle.rust_gen.proofs.TreeLemmas.{length-places_from}
 use Rattle.std.proofs.Common.{◌<◌, ◌≤◌, ◌&&◌, ◌||◌, ◌^◌}
 use Rattle.wrapper_run.specs.Run.{numbered}
-use Rattle.rust_gen.specs.Built.{is_built_result, is_built_type, is_scalar_result}
+use Rattle.rust_gen.specs.Built.{is_built_result, is_built_type}
 use Rattle.std.proofs.lemmas.Fmt.{decimal_injective}
-use Rattle.wrapper_run.specs.ExportFaithful.{CarriesOut, IsExportFaithful, IsExported, entries_in, exports_in}
+use Rattle.wrapper_run.specs.Areas.{needs_area}
+use Rattle.wrapper_run.specs.Entries.{IsExported, entries_in, entries_named, exports_in}
+use Rattle.wrapper_run.specs.ExportFaithful.{CarriesOut, IsExportFaithful, MissesStatic}
+use Rattle.wrapper_run.specs.Places.{area_in}
+use Rattle.wrapper_run.specs.PostReturn.{post_return_at, post_return_named, post_return_run, post_return_setting, run_post_return_item}
+use Rattle.wrapper_run.specs.Represents.{GivesResult}
+use Rattle.wrapper_run.specs.Returned.{Frees, Returns, post_return_name, post_returns_in}
+use Rattle.wrapper_run.specs.Value.{IsResult, WitValue, scalar, text}
+use Rattle.wrapper_data.specs.declared.answer.Form.{Form}
+use Rattle.wrapper_data.specs.declared.heap.Heap.{Heap}
+use Rattle.wrapper_data.specs.declared.run.Run.{Run}
+use Rattle.wrapper_data.specs.declared.word.Word.{Word}
+use Rattle.wit_model.specs.declared.types.WitType.{WitType}
+use Rattle.wit_model.specs.declared.types.WitType.TheVariants as wit
 use Rattle.rust_gen.specs.Emitted.{Entries, emitted_sides, exported_functions, functions_in, imported_functions, on_side, places_from}
 use Rattle.rust_tree.specs.declared.export.ExportFn.{ExportFn}
 use Rattle.rust_gen.proofs.ExportRunLemmas.{FitsExport, carries_out}
-use Rattle.rust_gen.specs.ExportBody.{IsExportWritten}
-use Rattle.rust_tree.specs.declared.export.ModuleMacro.{ModuleMacro}
+use Rattle.rust_tree.specs.declared.export.PostReturnFn.{PostReturnFn}
+use Rattle.rust_tree.specs.declared.runtime_item.RuntimeItem.TheVariants.{CabiDealloc}
+use Rattle.rust_gen.specs.ExportBody.{ArePartsWritten, IsExportWritten, IsReturnWritten, ReturnWritten}
+use Rattle.rust_gen.proofs.EntryLemmas.{alone-return, alone-wrapper, wit-forms}
+use Rattle.rust_gen.proofs.LiftLemmas.{no_text}
+use Rattle.rust_gen.proofs.PartsLemmas.{exports-of_parts, no_returns-behind, post_return-alone, post_return_named-at}
+use Rattle.rust_gen.proofs.ReturnLemmas.{frees_words}
 use Rattle.rust_gen.specs.declared.opts.Opts.{Opts}
-use Rattle.rust_tree.specs.declared.export.RootMacro.{RootMacro}
-use Rattle.rust_tree.specs.declared.export.TraitItem.{TraitItem}
 use Rattle.wit_model.specs.declared.size.WasmType.{WasmType}
-use Rattle.rust_gen.proofs.ItemLemmas.{alone-named, distinct-image, distinct-right, entries-are, exports-are, find-named, method-found, runtime-found}
-use Rattle.rust_gen.specs.Built.{are_built_options, are_built_tables, is_built_export, is_built_function, is_built_world, is_empty, is_freestanding, is_scalar_function}
-use Rattle.rust_gen.specs.NameText.{are_written_tables}
-use Rattle.rust_gen.specs.Exported.{arg_name, arg_prefix, core_args, export_entry, file_macro, guest_name, guest_trait, last_macro, trait_and_macro, trait_fn, where_any, world_macro}
+use Rattle.rust_gen.proofs.ItemLemmas.{alone-named, area-found, distinct-image, distinct-right, entries-are, find-named, method-found, no_exports-behind, runtime-found}
+use Rattle.rust_gen.specs.Built.{are_built_options, are_built_tables, is_built_function, is_built_item, is_built_world, is_empty}
+use Rattle.rust_gen.specs.NameText.{are_written_tables, is_wit_form, is_written_entry, is_written_world}
+use Rattle.rust_gen.specs.Exported.{area_of, arg_name, arg_prefix, core_args, entries_of, export_entry, file_macro, guest_name, guest_trait, last_macro, return_entry, static_area, trait_and_macro, trait_fn, where_any, where_area, world_macro}
 use Rattle.std.specs.Str.{bytes_eq}
 use Rattle.std.proofs.lemmas.Slice.Eq.{bytes_eq-Decides}
 use Rattle.wrapper_run.specs.ExportRun.{export_at, export_nth, export_run, method_named, run_export_item}
@@ -84,11 +99,11 @@ nonempty : {A : Type 0} (xs : List A) (nth : ℕ) (x : A) → slice_get xs nth �
 nonempty [] nth x e = absurd (cc)
 nonempty (y ∷ ys) nth x e = (y, ys, refl)
 
-bases-are : (fs : List Function) (es : List ExportFn) → AllZip IsExportWritten fs es → map (λ e. e.base) es ≡ map (λ f. f.name.snake) fs
+bases-are : (fs : List Function) (es : List Parts) → AllZip ArePartsWritten fs es → map (λ e. e.0.base) es ≡ map (λ f. f.name.snake) fs
 bases-are [] [] z = refl
 bases-are [] (e ∷ es) z = absurd z
 bases-are (f ∷ fs) [] z = absurd z
-bases-are (f ∷ fs) (e ∷ es) z = ap (λ b. b ∷ map (λ e. e.base) es) z.0.base ∙ ap (λ bs. f.name.snake ∷ bs) (bases-are fs es z.1)
+bases-are (f ∷ fs) (e ∷ es) z = ap (λ b. b ∷ map (λ e. e.0.base) es) z.0.0.base ∙ ap (λ bs. f.name.snake ∷ bs) (bases-are fs es z.1)
 
 -- the names of core parameters
 
@@ -143,7 +158,10 @@ module _ (world : World) (h : declares_well world ≡ true) where
   distinct-bases =
       distinct-image wrapper_ident (map (λ f. f.name.snake) (exported_functions world))
       (ap is_distinct (map-map wrapper_ident (λ f. f.name.snake) (exported_functions world))
-      ∙ distinct-right (map (λ f. rust_ident f.name) (imported_functions world)) (map export_ident (exported_functions world)) (and_parts _ (is_distinct (function_idents world)) named_parts.0).1)
+      ∙ distinct-right (flat_map return_idents (exported_functions world)) (map export_ident (exported_functions world))
+      (distinct-right (area_idents (exported_functions world)) (flat_map return_idents (exported_functions world) ++ map export_ident (exported_functions world))
+      (distinct-right (map (λ f. rust_ident f.name) (imported_functions world)) (area_idents (exported_functions world) ++ (flat_map return_idents (exported_functions world) ++ map export_ident (exported_functions world)))
+      (and_parts _ (is_distinct (function_idents world)) named_parts.0).1)))
 
 -- an exported function that is built has at most sixteen words
 few-words : (opts : Opts) (resolve : Resolve) (id nth : ℕ) (world : World) (f : Function) → is_built opts resolve ≡ true → slice_get resolve.worlds id ≡ Some world → slice_get (exported_functions world) nth ≡ Some f
@@ -152,20 +170,19 @@ unfolding is_built are_built_tables is_built_world
 few-words opts resolve id nth world f h named e =
     let tables = (and_parts (are_built_tables resolve) (are_built_options opts) h).0 in
     let worlds = (and_parts _ (list_all is_built_world resolve.worlds) tables).1 in
-    let exports = (and_parts _ (list_all (λ entry. is_built_export entry.1) world.exports) (list_all-at is_built_world resolve.worlds id world worlds named)).1 in
+    let exports = (and_parts _ (list_all (λ entry. is_built_item entry.1) world.exports) (list_all-at is_built_world resolve.worlds id world worlds named)).1 in
     words (built-at world.exports nth exports e)
   where
-    built-at : (entries : Entries) (nth : ℕ) → list_all (λ entry. is_built_export entry.1) entries ≡ true → slice_get (functions_in entries) nth ≡ Some f → is_scalar_function f ≡ true
+    built-at : (entries : Entries) (nth : ℕ) → list_all (λ entry. is_built_item entry.1) entries ≡ true → slice_get (functions_in entries) nth ≡ Some f → is_built_function f ≡ true
     built-at [] nth h e = absurd (cc)
     built-at ((k, entry.Interface i) ∷ entries) nth h e = absurd (cc)
     built-at ((k, entry.Named i) ∷ entries) nth h e = absurd (cc)
-    built-at ((k, entry.Function g) ∷ entries) zero h e = let is : g ≡ f = cc in ap is_scalar_function (sym is) ∙ (and_parts (is_scalar_function g) _ h).0
-    built-at ((k, entry.Function g) ∷ entries) (suc nth) h e = built-at entries nth (and_parts (is_scalar_function g) _ h).1 e
+    built-at ((k, entry.Function g) ∷ entries) zero h e = let is : g ≡ f = cc in ap is_built_function (sym is) ∙ (and_parts (is_built_function g) _ h).0
+    built-at ((k, entry.Function g) ∷ entries) (suc nth) h e = built-at entries nth (and_parts (is_built_function g) _ h).1 e
 
-    words : is_scalar_function f ≡ true → length (param_words f.params) ≤ 16
+    words : is_built_function f ≡ true → length (param_words f.params) ≤ 16
     words h =
-        let built = (and_parts (is_built_function f) _ (and_parts _ (is_scalar_result f.result) h).0).0 in
-        let few = (and_parts _ (nat_le (length (param_words f.params)) 16) (and_parts _ (list_all (λ p. is_built_type p.ty) f.params) (and_parts _ (is_built_result f.result) built).0).0).1 in
+        let few = (and_parts _ (nat_le (length (param_words f.params)) 16) (and_parts _ (list_all (λ p. is_built_type p.ty) f.params) (and_parts _ (is_built_result f.result) h).0).0).1 in
         grind (arith, nat_tests)
 
 -- the wrappers of a tree
@@ -180,10 +197,16 @@ export_nth-skip [] behind nth = let e : 0 + nth ≡ nth = omega arith in ap (λ 
 export_nth-skip (f ∷ ws) behind nth =
     let e : length (f ∷ ws) + nth ≡ suc (length ws + nth) = omega arith in ap (λ n. export_nth n (map item.Import (f ∷ ws) ++ behind)) e ∙ export_nth-skip ws behind nth
 
-export_nth-at : (es : List ExportFn) (behind : List Item) (nth : ℕ) (x : ExportFn) → slice_get es nth ≡ Some x → export_nth nth (map item.Export es ++ behind) ≡ Some x
+past_return : (nth : ℕ) (p : PostReturnFn) (items : List Item) → export_nth nth (item.PostReturn p ∷ items) ≡ export_nth nth items
+past_return zero p items = refl
+past_return (suc nth) p items = refl
+
+export_nth-at : (es : List Parts) (behind : List Item) (nth : ℕ) (x : Parts) → slice_get es nth ≡ Some x → export_nth nth (flat_map export_items es ++ behind) ≡ Some x.0
 export_nth-at [] behind nth x e = absurd (cc)
-export_nth-at (f ∷ es) behind zero x e = e
-export_nth-at (f ∷ es) behind (suc nth) x e = export_nth-at es behind nth x e
+export_nth-at ((f, None) ∷ es) behind zero x e = ap (option_map (λ x. x.0)) e
+export_nth-at ((f, Some p) ∷ es) behind zero x e = ap (option_map (λ x. x.0)) e
+export_nth-at ((f, None) ∷ es) behind (suc nth) x e = export_nth-at es behind nth x e
+export_nth-at ((f, Some p) ∷ es) behind (suc nth) x e = past_return nth p (flat_map export_items es ++ behind) ∙ export_nth-at es behind nth x e
 
 imports-at : (next : ℕ) (ws : List FnItem) (behind : List Item) (ps qs : List FuncPlace) (nth : ℕ) (w : FnItem) → length ps ≡ length ws → slice_get ws nth ≡ Some w
     → (info : WrapperInfo) × (slice_get (wrappers_from next (map item.Import ws ++ behind) (ps ++ qs)) nth ≡ Some info)
@@ -192,12 +215,14 @@ imports-at next (f ∷ ws) behind [] qs nth w l e = absurd (omega arith)
 imports-at next (f ∷ ws) behind (p ∷ ps) qs zero w l e = (wrapper_info next p true, refl)
 imports-at next (f ∷ ws) behind (p ∷ ps) qs (suc nth) w l e = imports-at (next + 1) ws behind ps qs nth w (omega arith) e
 
-exports-at : (next : ℕ) (es : List ExportFn) (behind : List Item) (qs : List FuncPlace) (nth : ℕ) (x : ExportFn) → length qs ≡ length es → slice_get es nth ≡ Some x
-    → (info : WrapperInfo) × (slice_get (wrappers_from next (map item.Export es ++ behind) qs) nth ≡ Some info)
+exports-at : (next : ℕ) (es : List Parts) (behind : List Item) (qs : List FuncPlace) (nth : ℕ) (x : Parts) → length qs ≡ length es → slice_get es nth ≡ Some x
+    → (info : WrapperInfo) × (slice_get (wrappers_from next (flat_map export_items es ++ behind) qs) nth ≡ Some info)
 exports-at next [] behind qs nth x l e = absurd (cc)
 exports-at next (f ∷ es) behind [] nth x l e = absurd (omega arith)
-exports-at next (f ∷ es) behind (q ∷ qs) zero x l e = (wrapper_info next q false, refl)
-exports-at next (f ∷ es) behind (q ∷ qs) (suc nth) x l e = exports-at (next + 1) es behind qs nth x (omega arith) e
+exports-at next ((f, None) ∷ es) behind (q ∷ qs) zero x l e = (wrapper_info next q false, refl)
+exports-at next ((f, Some p) ∷ es) behind (q ∷ qs) zero x l e = (wrapper_info next q false, refl)
+exports-at next ((f, None) ∷ es) behind (q ∷ qs) (suc nth) x l e = exports-at (next + 1) es behind qs nth x (omega arith) e
+exports-at next ((f, Some p) ∷ es) behind (q ∷ qs) (suc nth) x l e = exports-at (next + 1 + 1) es behind qs nth x (omega arith) e
 
 wrappers-skip : (next : ℕ) (ws : List FnItem) (behind : List Item) (ps qs : List FuncPlace) (nth : ℕ) → length ps ≡ length ws
     → (m : ℕ) × (slice_get (wrappers_from next (map item.Import ws ++ behind) (ps ++ qs)) (length ws + nth) ≡ slice_get (wrappers_from m behind qs) nth)
@@ -221,26 +246,43 @@ sides-imports next [] behind (p ∷ ps) qs l = absurd (omega arith)
 sides-imports next (f ∷ ws) behind [] qs l = absurd (omega arith)
 sides-imports next (f ∷ ws) behind (p ∷ ps) qs l = let r = sides-imports (next + 1) ws behind ps qs (omega arith) in (r.0, ap (λ ss. (p, true) ∷ ss) r.1)
 
-sides-exports : (next : ℕ) (es : List ExportFn) (behind : List Item) (qs : List FuncPlace) → length qs ≡ length es
-    → (m : ℕ) × (map side_of (wrappers_from next (map item.Export es ++ behind) qs) ≡ on_side false qs ++ map side_of (wrappers_from m behind []))
+sides-exports : (next : ℕ) (es : List Parts) (behind : List Item) (qs : List FuncPlace) → length qs ≡ length es
+    → (m : ℕ) × (map side_of (wrappers_from next (flat_map export_items es ++ behind) qs) ≡ on_side false qs ++ map side_of (wrappers_from m behind []))
 sides-exports next [] behind [] l = (next, refl)
 sides-exports next [] behind (q ∷ qs) l = absurd (omega arith)
 sides-exports next (f ∷ es) behind [] l = absurd (omega arith)
-sides-exports next (f ∷ es) behind (q ∷ qs) l = let r = sides-exports (next + 1) es behind qs (omega arith) in (r.0, ap (λ ss. (q, false) ∷ ss) r.1)
+sides-exports next ((f, None) ∷ es) behind (q ∷ qs) l = let r = sides-exports (next + 1) es behind qs (omega arith) in (r.0, ap (λ ss. (q, false) ∷ ss) r.1)
+sides-exports next ((f, Some p) ∷ es) behind (q ∷ qs) l = let r = sides-exports (next + 1 + 1) es behind qs (omega arith) in (r.0, ap (λ ss. (q, false) ∷ ss) r.1)
 
-no_wrappers-behind : (m : ℕ) (fs gs : List Function) (t : TraitItem) (x : ModuleMacro) (asked : List RuntimeItem) (r : RootMacro)
-    → wrappers_from m (where_any fs (item.Trait t ∷ item.ModuleMacro x ∷ []) ++ (runtime_module asked ++ where_any gs (item.RootMacro r ∷ []))) [] ≡ []
-no_wrappers-behind m [] [] t x [] r = refl
-no_wrappers-behind m [] [] t x (a ∷ asked) r = refl
-no_wrappers-behind m [] (g ∷ gs) t x [] r = refl
-no_wrappers-behind m [] (g ∷ gs) t x (a ∷ asked) r = refl
-no_wrappers-behind m (f ∷ fs) [] t x [] r = refl
-no_wrappers-behind m (f ∷ fs) [] t x (a ∷ asked) r = refl
-no_wrappers-behind m (f ∷ fs) (g ∷ gs) t x [] r = refl
-no_wrappers-behind m (f ∷ fs) (g ∷ gs) t x (a ∷ asked) r = refl
+-- without places there are no wrappers
+no_places : (m : ℕ) (items : List Item) → wrappers_from m items [] ≡ []
+no_places m [] = refl
+no_places m (item.Import f ∷ items) = refl
+no_places m (item.Export e ∷ items) = refl
+no_places m (item.Trait t ∷ items) = no_places (m + 1) items
+no_places m (item.ModuleMacro x ∷ items) = no_places (m + 1) items
+no_places m (item.Runtime parts ∷ items) = no_places (m + suc (length parts)) items
+no_places m (item.RootMacro r ∷ items) = no_places (m + 1) items
+no_places m (item.PostReturn p ∷ items) = no_places (m + 1) items
+no_places m (item.Area a ∷ items) = no_places (m + 1) items
+
+-- what a result is, by whether it passes by an area
+
+is_text : (r : Option WitType) → needs_area r ≡ true → r ≡ Some wit.String
+is_text None h = absurd (cc)
+is_text (Some wit.String) h = refl
+is_text (Some _) h = absurd (cc)
+
+owns_nothing : (heap : Heap) (r : Option WitType) (v : Option WitValue) (words : List Word) (blocks : List (ℕ × ℕ)) → needs_area r ≡ false → IsResult r v → GivesResult heap r v words blocks → blocks ≡ []
+owns_nothing heap None None words blocks n good gives = gives.1
+owns_nothing heap None (Some v) words blocks n good gives = absurd good
+owns_nothing heap (Some ty) None words blocks n good gives = absurd good
+owns_nothing heap (Some ty) (Some (scalar v)) words blocks n good gives = gives.3
+owns_nothing heap (Some ty) (Some (text bytes)) words blocks n good gives =
+    let wrong : needs_area (Some wit.String) ≡ false = subst (λ t. needs_area (Some t) ≡ false) good.0 n in absurd (cc)
 
 module _ (opts : Opts) (resolve : Resolve) (id : ℕ) (world : World) (found : slice_get resolve.worlds id ≡ Some world) (built : is_built opts resolve ≡ true) (well : is_well_named resolve world ≡ true)
-    (tree : Tree) (b : Binds IsWritten IsExportWritten world tree) where
+    (tree : Tree) (b : Binds IsWritten ArePartsWritten world tree) where
   named : declares_well world ≡ true
   unfolding is_well_named
   named = (and_parts _ (declares_well world) well).1
@@ -252,7 +294,14 @@ module _ (opts : Opts) (resolve : Resolve) (id : ℕ) (world : World) (found : s
   abbrev ws : List FnItem
   ws = b.items.wrappers
 
-  abbrev es : List ExportFn
+  forms : list_all (λ f. is_wit_form f.name.wit) (exported_functions world) ≡ true
+  unfolding is_well_named are_written_tables
+  forms =
+      let written = (and_parts (are_written_tables resolve) (list_all has_distinct_names resolve.worlds) (and_parts (are_written_tables resolve && list_all has_distinct_names resolve.worlds) (declares_well world) well).0).0 in
+      let worlds = (and_parts _ (list_all is_written_world resolve.worlds) written).1 in
+      wit-forms world.exports (and_parts _ (list_all is_written_entry world.exports) (list_all-at is_written_world resolve.worlds id world worlds found)).1
+
+  abbrev es : List Parts
   es = b.items.exports
 
   abbrev fs : List Function
@@ -268,20 +317,20 @@ module _ (opts : Opts) (resolve : Resolve) (id : ℕ) (world : World) (found : s
   as_many = length-places_from 0 world.imports ∙ sym (AllZip-long IsWritten (imported_functions world) ws b.items.wraps)
 
   as_many_exports : length qs ≡ length es
-  as_many_exports = length-places_from 0 world.exports ∙ sym (AllZip-long IsExportWritten fs es b.items.exported)
+  as_many_exports = length-places_from 0 world.exports ∙ sym (AllZip-long ArePartsWritten fs es b.items.exported)
 
   abbrev behind : List Item
-  behind = trait_and_macro world ++ (runtime_module (runtime_items world) ++ last_macro world)
+  behind = trait_and_macro world ++ (area_of (exported_functions world) ++ (runtime_module (runtime_items world) ++ last_macro world))
 
-  wrappers_are : wrappers_of tree ≡ wrappers_from 1 (map item.Import ws ++ (map item.Export es ++ behind)) (ps ++ qs)
-  wrappers_are = ap (λ is. wrappers_from 1 is tree.places) b.items.are ∙ ap (wrappers_from 1 (map item.Import ws ++ (map item.Export es ++ behind))) b.places
+  wrappers_are : wrappers_of tree ≡ wrappers_from 1 (map item.Import ws ++ (flat_map export_items es ++ behind)) (ps ++ qs)
+  wrappers_are = ap (λ is. wrappers_from 1 is tree.places) b.items.are ∙ ap (wrappers_from 1 (map item.Import ws ++ (flat_map export_items es ++ behind))) b.places
 
   placed : map side_of (wrappers_of tree) ≡ emitted_sides world
   placed =
-      let i = sides-imports 1 ws (map item.Export es ++ behind) ps qs as_many in
+      let i = sides-imports 1 ws (flat_map export_items es ++ behind) ps qs as_many in
       let e = sides-exports i.0 es behind qs as_many_exports in
       ap (map side_of) wrappers_are ∙ i.1 ∙ ap (λ ss. on_side true ps ++ ss) (e.1 ∙ ap (λ is. on_side false qs ++ map side_of is)
-      (no_wrappers-behind e.0 fs fs (guest_trait fs) (world_macro world) (runtime_items world) (file_macro world)) ∙ append-nil (on_side false qs))
+      (no_places e.0 behind) ∙ append-nil (on_side false qs))
 
   module _ (nth : ℕ) (f : Function) (e : slice_get (imported_functions world) nth ≡ Some f) where
     wrapper : (w : FnItem) × (slice_get ws nth ≡ Some w) × IsWritten f w
@@ -289,18 +338,18 @@ module _ (opts : Opts) (resolve : Resolve) (id : ℕ) (world : World) (found : s
 
     info : (info : WrapperInfo) × (slice_get (wrappers_of tree) nth ≡ Some info)
     info =
-        let i = imports-at 1 ws (map item.Export es ++ behind) ps qs nth wrapper.0 as_many wrapper.1 in
+        let i = imports-at 1 ws (flat_map export_items es ++ behind) ps qs nth wrapper.0 as_many wrapper.1 in
         (i.0, ap (λ is. slice_get is nth) wrappers_are ∙ i.1)
 
     there : import_at tree nth ≡ Some (info.0.item.0, wrapper.0)
     there =
-        ap (option_and_then (numbered tree nth)) (ap (import_nth nth) b.items.are ∙ import_nth-at ws (map item.Export es ++ behind) nth wrapper.0 wrapper.1)
+        ap (option_and_then (numbered tree nth)) (ap (import_nth nth) b.items.are ∙ import_nth-at ws (flat_map export_items es ++ behind) nth wrapper.0 wrapper.1)
         ∙ ap (option_map (λ w. (w.item.0, wrapper.0))) info.1
 
     asked-import : Found tree.items (asked_by f)
     asked-import x h =
         ap (λ is. runtime_item_named is (item_name x)) b.items.are
-        ∙ runtime-found ws es fs (guest_trait fs) (world_macro world) (runtime_items world) (last_macro world) (item_name x) x
+        ∙ runtime-found ws es fs fs (guest_trait fs) (world_macro world) (runtime_items world) (last_macro world) (item_name x) x
         (found_all (imported_functions world) fs x (among-imports x (imported_functions world) fs nth f e h))
 
   faithful-at : (nth : ℕ) (f : Function) → slice_get (imported_functions world) nth ≡ Some f → IsFaithful tree nth f
@@ -321,31 +370,37 @@ module _ (opts : Opts) (resolve : Resolve) (id : ℕ) (world : World) (found : s
     abbrev place : ℕ
     place = length (imported_functions world) + nth
 
-    export : (x : ExportFn) × (slice_get es nth ≡ Some x) × IsExportWritten f x
-    export = zip-at IsExportWritten fs es nth f b.items.exported e
+    parts : (x : Parts) × (slice_get es nth ≡ Some x) × ArePartsWritten f x
+    parts = zip-at ArePartsWritten fs es nth f b.items.exported e
+
+    abbrev export : ExportFn
+    export = parts.0.0
+
+    abbrev written : IsExportWritten f export
+    written = parts.2.0
 
     place_is : place ≡ length ws + nth
     place_is = ap (λ n. n + nth) (sym (AllZip-long IsWritten (imported_functions world) ws b.items.wraps))
 
     export-info : (info : WrapperInfo) × (slice_get (wrappers_of tree) place ≡ Some info)
     export-info =
-        let s = wrappers-skip 1 ws (map item.Export es ++ behind) ps qs nth as_many in
-        let i = exports-at s.0 es behind qs nth export.0 as_many_exports export.1 in
-        (i.0, ap (λ is. slice_get is place) wrappers_are ∙ ap (slice_get (wrappers_from 1 (map item.Import ws ++ (map item.Export es ++ behind)) (ps ++ qs))) place_is ∙ s.1 ∙ i.1)
+        let s = wrappers-skip 1 ws (flat_map export_items es ++ behind) ps qs nth as_many in
+        let i = exports-at s.0 es behind qs nth parts.0 as_many_exports parts.1 in
+        (i.0, ap (λ is. slice_get is place) wrappers_are ∙ ap (slice_get (wrappers_from 1 (map item.Import ws ++ (flat_map export_items es ++ behind)) (ps ++ qs))) place_is ∙ s.1 ∙ i.1)
 
-    export-there : export_at tree place ≡ Some (export-info.0.item.0, export.0)
+    export-there : export_at tree place ≡ Some (export-info.0.item.0, export)
     export-there =
         ap (option_and_then (numbered tree place))
-        (ap (export_nth place) b.items.are ∙ ap (λ n. export_nth n (map item.Import ws ++ (map item.Export es ++ behind))) place_is
-        ∙ export_nth-skip ws (map item.Export es ++ behind) nth ∙ export_nth-at es behind nth export.0 export.1)
-        ∙ ap (option_map (λ w. (w.item.0, export.0))) export-info.1
+        (ap (export_nth place) b.items.are ∙ ap (λ n. export_nth n (map item.Import ws ++ (flat_map export_items es ++ behind))) place_is
+        ∙ export_nth-skip ws (flat_map export_items es ++ behind) nth ∙ export_nth-at es behind nth parts.0 parts.1)
+        ∙ ap (option_map (λ w. (w.item.0, export))) export-info.1
 
     some_export : (g : Function) × (gs : List Function) × (fs ≡ g ∷ gs)
     some_export = nonempty fs nth f e
 
     abbrev under : List Function → List Item
     under gs =
-        map item.Import ws ++ (map item.Export es ++ (where_any gs (item.Trait (guest_trait fs) ∷ item.ModuleMacro (world_macro world) ∷ []) ++ (runtime_module (runtime_items world) ++ last_macro world)))
+        map item.Import ws ++ (flat_map export_items es ++ (where_any gs (item.Trait (guest_trait fs) ∷ item.ModuleMacro (world_macro world) ∷ []) ++ (area_of fs ++ (runtime_module (runtime_items world) ++ last_macro world))))
 
     abbrev first : Function
     first = some_export.0
@@ -359,50 +414,117 @@ module _ (opts : Opts) (resolve : Resolve) (id : ℕ) (world : World) (found : s
     method-there : method_named tree.items guest_name (rust_ident f.name) ≡ Some (trait_fn f)
     method-there =
         ap (λ is. method_named is guest_name (rust_ident f.name)) items_are
-        ∙ method-found ws es first later (guest_trait fs) (world_macro world) (runtime_module (runtime_items world) ++ last_macro world) (rust_ident f.name) (trait_fn f)
+        ∙ method-found ws es first later (guest_trait fs) (world_macro world) (area_of fs ++ (runtime_module (runtime_items world) ++ last_macro world)) (rust_ident f.name) (trait_fn f)
         (find-named (λ t. t.name) (map trait_fn fs) nth (trait_fn f) (ap is_distinct (map-map (λ t. t.name) trait_fn fs) ∙ distinct-methods world named) (get-map trait_fn fs nth f e))
 
     asked-export : Found tree.items (asked_by_export f)
     asked-export x h =
         ap (λ is. runtime_item_named is (item_name x)) b.items.are
-        ∙ runtime-found ws es fs (guest_trait fs) (world_macro world) (runtime_items world) (last_macro world) (item_name x) x
+        ∙ runtime-found ws es fs fs (guest_trait fs) (world_macro world) (runtime_items world) (last_macro world) (item_name x) x
         (found_all (imported_functions world) fs x (among-exports x (imported_functions world) fs nth f e h))
 
-    exported-there : IsExported tree f export.0
+    entries : entries_in tree.items ≡ flat_map entries_of fs
+    entries = ap entries_in items_are ∙ entries-are ws es first later fs fs (guest_trait fs) (world_macro world) (runtime_items world) (file_macro world)
+
+    distinct-names : is_distinct (map (λ f. f.name.wit) fs) ≡ true
+    distinct-names = (and_parts (are_distinct_functions (imported_functions world)) (are_distinct_functions fs) distinct).1
+
+    exported-there : IsExported tree f export
     exported-there = record {
       entry = export_entry f;
-      alone =
-          ap (filter (λ x. bytes_eq x.export_name f.name.wit))
-          (ap entries_in items_are ∙ entries-are ws es first later fs (guest_trait fs) (world_macro world) (runtime_items world) (file_macro world))
-          ∙ alone-named (λ x. x.export_name) (map export_entry fs) nth (export_entry f)
-          (ap is_distinct (map-map (λ x. x.export_name) export_entry fs) ∙ (and_parts (are_distinct_functions (imported_functions world)) (are_distinct_functions fs) distinct).1) (get-map export_entry fs nth f e);
-      params = sym export.2.params;
-      answer = sym export.2.answer;
+      alone = ap (filter (λ x. bytes_eq x.export_name f.name.wit)) entries ∙ alone-wrapper fs nth f distinct-names forms e (list_all-at (λ f. is_wit_form f.name.wit) fs nth f forms e);
+      wraps = refl;
+      params = sym written.params;
+      answer = sym written.answer;
       named =
-          ap (λ base. filter (λ x. bytes_eq x.base base) (exports_in tree.items)) (sym export.2.base)
-          ∙ ap (filter (λ x. bytes_eq x.base export.0.base)) (ap exports_in b.items.are ∙ exports-are ws es fs fs (guest_trait fs) (world_macro world) (runtime_items world) (file_macro world))
-          ∙ alone-named (λ x. x.base) es nth export.0 (ap is_distinct (bases-are fs es b.items.exported) ∙ distinct-bases world named) export.1;
+          ap (λ base. filter (λ x. bytes_eq x.base base) (exports_in tree.items)) (sym written.base)
+          ∙ ap (filter (λ x. bytes_eq x.base export.base)) (ap exports_in b.items.are ∙ exports-of_parts ws es behind (no_exports-behind fs fs fs (guest_trait fs) (world_macro world) (runtime_items world) (file_macro world)))
+          ∙ alone-named (λ x. x.base) (map (λ x. x.0) es) nth export (ap is_distinct (map-map (λ x. x.base) (λ x. x.0) es ∙ bases-are fs es b.items.exported) ∙ distinct-bases world named) (get-map (λ x. x.0) es nth parts.0 parts.1);
     }
+
+    area-there : needs_area f.result ≡ true → area_in tree.items ≡ Some static_area
+    area-there h = ap area_in b.items.are ∙ area-found ws es fs fs (guest_trait fs) (world_macro world) (runtime_module (runtime_items world) ++ last_macro world) nth f e h
+
+    no_returns : post_returns_in behind ≡ []
+    no_returns = no_returns-behind world
+
+    post-return-there : post_return_named export.base tree.items ≡ parts.0.1
+    post-return-there =
+        ap (λ base. post_return_named base tree.items) written.base ∙ ap (post_return_named f.name.snake) b.items.are
+        ∙ post_return_named-at ws es fs behind nth f parts.0 b.items.exported (distinct-bases world named) e parts.1 no_returns
+
+    return-at : post_return_at tree place ≡ option_map (λ p. (export-info.0.item.0, p)) parts.0.1
+    return-at =
+        ap (option_and_then (λ w. option_map (λ p. (w.0, p)) (post_return_named w.1.base tree.items))) export-there
+        ∙ ap (option_map (λ p. (export-info.0.item.0, p))) post-return-there
+
+    return-entries : entries_named (post_return_name f) tree.items ≡ where_area f (return_entry f)
+    return-entries = ap (filter (λ x. bytes_eq x.export_name (post_return_name f))) entries ∙ alone-return fs nth f distinct-names forms e
+
+    dealloc-found : needs_area f.result ≡ true → runtime_item_named tree.items (item_name CabiDealloc) ≡ Some CabiDealloc
+    dealloc-found h =
+        found-right tree.items (returning_items f.result) (freeing_items f.result) (found-right tree.items (flat_map (λ p. lifting_items (Some p.ty)) f.params) (returning_items f.result ++ freeing_items f.result) asked-export)
+        CabiDealloc (ap (λ r. list_any (λ i. is_same_item i CabiDealloc) (freeing_items r)) (is_text f.result h))
+
+    frees : (p : PostReturnFn) → IsReturnWritten f p → parts.0.1 ≡ Some p → needs_area f.result ≡ true → (form : Form) (v : Option WitValue) (words : List Word) (heap : Heap) (blocks : List (ℕ × ℕ)) (run : Run)
+        → post_return_run tree place words heap form ≡ Some run → IsResult f.result v → GivesResult heap f.result v words blocks → Frees blocks heap run
+    frees p is_written is needs form v words heap blocks run is_run good gives =
+        let w : Setting = post_return_setting tree export-info.0.item.0 form in
+        let at : post_return_at tree place ≡ Some (export-info.0.item.0, p) = return-at ∙ ap (option_map (λ p. (export-info.0.item.0, p))) is in
+        let run_of : post_return_run tree place words heap form ≡ Some (run_post_return_item w p words heap) = ap (option_map (λ p. run_post_return_item (post_return_setting tree p.0 form) p.1 words heap)) at in
+        let same : run_post_return_item w p words heap ≡ run = cc in
+        let r = is_text f.result needs in
+        subst (Frees blocks heap) same (go w v (subst (λ r. IsResult r v) r good) (subst (λ r. GivesResult heap r v words blocks) r gives) (dealloc-found needs))
+      where
+        go : (w : Setting) (v : Option WitValue) → IsResult (Some wit.String) v → GivesResult heap (Some wit.String) v words blocks → runtime_item_named w.items (item_name CabiDealloc) ≡ Some CabiDealloc → Frees blocks heap (run_post_return_item w p words heap)
+        go w None good gives found = absurd good
+        go w (Some (scalar v)) good gives found = absurd (no_text wit.String v good refl)
+        go w (Some (text bytes)) good gives found = frees_words f p is_written w found bytes words heap blocks good.2 gives
+
+    returned-there : Returns (needs_area f.result) tree place f
+    returned-there = go (needs_area f.result) refl parts.2.1
+      where
+        go : (b : Bool) → needs_area f.result ≡ b → ReturnWritten b f parts.0.1 → Returns b tree place f
+        go true needs (p, is, is_written) = record {
+          number = export-info.0.item.0;
+          function = p;
+          there = return-at ∙ ap (option_map (λ p. (export-info.0.item.0, p))) is;
+          entry = return_entry f;
+          alone = return-entries ∙ ap (λ b. cond b (return_entry f ∷ []) []) needs;
+          returns = refl;
+          params = sym is_written.params;
+          answer = refl;
+          named = ap (filter (λ x. bytes_eq x.base f.name.snake)) (ap post_returns_in b.items.are) ∙ post_return-alone ws es fs behind nth f parts.0 p b.items.exported (distinct-bases world named) e parts.1 no_returns is;
+          frees = frees p is_written is needs;
+        }
+        go false needs none = record {
+          missing = return-at ∙ ap (option_map (λ p. (export-info.0.item.0, p))) none;
+          unnamed = return-entries ∙ ap (λ b. cond b (return_entry f ∷ []) []) needs;
+          owns = λ heap v words blocks good gives. owns_nothing heap f.result v words blocks needs good gives;
+        }
 
   export-at : (nth : ℕ) (f : Function) → slice_get fs nth ≡ Some f → IsExportFaithful tree (length (imported_functions world) + nth) f
   export-at nth f e = record {
     number = (export-info nth f e).0.item.0;
-    wrapper = (export nth f e).0;
+    wrapper = (parts nth f e).0.0;
     there = export-there nth f e;
     exported = exported-there nth f e;
-    carries = λ form vs v words heap choices a run is good is_result takes honest.
+    carries = λ form vs v words own heap choices a run is good is_result takes apart honest.
         let n = length (imported_functions world) + nth in
         let w : Setting = setting_of tree (export-info nth f e).0.item.0 a form in
-        let i = (export nth f e).0 in
+        let i = (parts nth f e).0.0 in
         let fits : FitsExport f w = record {
           distinct = args-distinct (param_words f.params) (few-words opts resolve id nth world f built found e);
           method = method-there nth f e;
           found = asked-export nth f e;
+          area = area-there nth f e;
         } in
         let run_of : export_run tree n words heap choices a form ≡ Some (run_export_item w i words heap choices) =
         ap (option_map (λ p. run_export_item (setting_of tree p.0 a form) p.1 words heap choices)) (export-there nth f e) in
         let same : run_export_item w i words heap choices ≡ run = cc in
-        subst (CarriesOut f vs v heap a) same (carries_out f i (export nth f e).2 w fits vs v words heap choices good is_result takes (λ c made. honest c (subst (Made c) same made)));
+        subst (λ run. CarriesOut f vs v own heap choices a run ⊎ MissesStatic f vs own heap choices a run) same
+        (carries_out f i (parts nth f e).2.0 w fits vs v words own heap choices good is_result takes apart honest);
+    returned = returned-there nth f e;
   }
 
   pub are_faithful : AreFaithful world tree

@@ -1,15 +1,14 @@
 -- What is found in the items of a world's file: the items of `_rt`, the methods, the wrappers and the export names.
-use Rattle.std.proofs.Common.{◌≡◌, ℕ, zero, suc, ◌+◌, Bool, true, false, cond, not, ◌||◌, ◌&&◌, List, ◌∷◌, ◌++◌, Option, None, Some, map, refl, sym, ap, subst, ◌∙◌, append-nil, []}
+use Rattle.std.proofs.Common.{◌≡◌, ℕ, zero, suc, Bool, true, false, cond, not, ◌||◌, ◌&&◌, List, ◌∷◌, ◌++◌, Option, None, Some, map, refl, sym, ap, subst, ◌∙◌, append-nil, []}
 use Rattle.std.specs.Prelude.{filter, find, slice_get}
-use Rattle.std.specs.List.{list_any}
+use Rattle.std.specs.List.{flat_map, list_any}
 use Rattle.std.specs.Option.{option_or}
 use Rattle.std.specs.Str.{bytes_eq}
-use Rattle.std.proofs.lemmas.Bool.{and_parts, not-true, or_parts}
+use Rattle.std.proofs.lemmas.Bool.{and_parts, not-true, or_left, or_parts, or_right}
 use Rattle.std.proofs.lemmas.List.Folds.{list_any-append}
 use Rattle.std.proofs.lemmas.Slice.Eq.{bytes_eq-Decides}
 use Rattle.wit_model.specs.declared.function.Function.{Function}
 use Rattle.wit_model.specs.Distinct.{is_distinct}
-use Rattle.rust_tree.specs.declared.export.ExportFn.{ExportFn}
 use Rattle.rust_tree.specs.declared.export.ModuleMacro.{ModuleMacro}
 use Rattle.rust_tree.specs.declared.export.RootMacro.{RootMacro}
 use Rattle.rust_tree.specs.declared.export.TraitFn.{TraitFn}
@@ -17,11 +16,15 @@ use Rattle.rust_tree.specs.declared.export.TraitItem.{TraitItem}
 use Rattle.rust_tree.specs.declared.item.FnItem.{FnItem}
 use Rattle.rust_tree.specs.declared.item.Item.{Item}
 use Rattle.rust_tree.specs.declared.runtime_item.RuntimeItem.{RuntimeItem}
-use Rattle.wrapper_run.specs.ExportFaithful.{entries_in, exports_in}
+use Rattle.wrapper_run.specs.Areas.{needs_area}
+use Rattle.wrapper_run.specs.Entries.{entries_in, exports_in}
+use Rattle.wrapper_run.specs.Owning.{listed}
+use Rattle.wrapper_run.specs.Places.{area_in}
 use Rattle.wrapper_run.specs.ExportRun.{method_in, method_named, method_of}
 use Rattle.wrapper_run.specs.Run.{found_in, runtime_item_named, bound}
 use Rattle.wrapper_run.proofs.LocalLemmas.{bytes_eq-same}
-use Rattle.rust_gen.specs.Exported.{where_any}
+use Rattle.rust_gen.specs.Bound.{Parts, export_items}
+use Rattle.rust_gen.specs.Exported.{area_of, static_area, where_any}
 use Rattle.rust_gen.specs.Runtime.{runtime_module}
 use Rattle.rust_tree.specs.declared.item.Item.TheVariants as item
 
@@ -42,25 +45,40 @@ no_runtime-imports : (ws : List FnItem) (name : Bytes) → runtime_item_named (m
 no_runtime-imports [] name = refl
 no_runtime-imports (w ∷ ws) name = no_runtime-imports ws name
 
-no_runtime-exports : (es : List ExportFn) (name : Bytes) → runtime_item_named (map item.Export es) name ≡ None
+no_runtime-exports : (es : List Parts) (name : Bytes) → runtime_item_named (flat_map export_items es) name ≡ None
 no_runtime-exports [] name = refl
-no_runtime-exports (e ∷ es) name = no_runtime-exports es name
+no_runtime-exports ((e, None) ∷ es) name = no_runtime-exports es name
+no_runtime-exports ((e, Some p) ∷ es) name = no_runtime-exports es name
+
+no_runtime-area : (fs : List Function) (name : Bytes) → runtime_item_named (area_of fs) name ≡ None
+no_runtime-area fs name = go (list_any (λ f. needs_area f.result) fs)
+  where
+    go : (b : Bool) → runtime_item_named (cond b (item.Area static_area ∷ []) []) name ≡ None
+    go true = refl
+    go false = refl
 
 no_runtime-trait : (fs : List Function) (t : TraitItem) (m : ModuleMacro) (name : Bytes) → runtime_item_named (where_any fs (item.Trait t ∷ item.ModuleMacro m ∷ [])) name ≡ None
 no_runtime-trait [] t m name = refl
 no_runtime-trait (f ∷ fs) t m name = refl
 
 -- an item of the module is found in the file
-pub runtime-found : (ws : List FnItem) (es : List ExportFn) (fs : List Function) (t : TraitItem) (m : ModuleMacro) (asked : List RuntimeItem) (last : List Item) (name : Bytes) (x : RuntimeItem)
+pub runtime-found : (ws : List FnItem) (es : List Parts) (fs gs : List Function) (t : TraitItem) (m : ModuleMacro) (asked : List RuntimeItem) (last : List Item) (name : Bytes) (x : RuntimeItem)
     → runtime_item_named (runtime_module asked) name ≡ Some x
-    → runtime_item_named (map item.Import ws ++ (map item.Export es ++ (where_any fs (item.Trait t ∷ item.ModuleMacro m ∷ []) ++ (runtime_module asked ++ last)))) name ≡ Some x
-runtime-found ws es fs t m asked last name x h =
-    let traits = where_any fs (item.Trait t ∷ item.ModuleMacro m ∷ []) in
-    let behind = runtime_module asked ++ last in
-    runtime-append (map item.Import ws) (map item.Export es ++ (traits ++ behind)) name ∙ ap (λ o. option_or o (runtime_item_named (map item.Export es ++ (traits ++ behind)) name)) (no_runtime-imports ws name)
-    ∙ runtime-append (map item.Export es) (traits ++ behind) name ∙ ap (λ o. option_or o (runtime_item_named (traits ++ behind) name)) (no_runtime-exports es name)
-    ∙ runtime-append traits behind name ∙ ap (λ o. option_or o (runtime_item_named behind name)) (no_runtime-trait fs t m name)
+    → runtime_item_named (map item.Import ws ++ (flat_map export_items es ++ (where_any fs (item.Trait t ∷ item.ModuleMacro m ∷ []) ++ (area_of gs ++ (runtime_module asked ++ last))))) name ≡ Some x
+runtime-found ws es fs gs t m asked last name x h =
+    past (map item.Import ws) (flat_map export_items es ++ (traits ++ (area_of gs ++ behind))) (no_runtime-imports ws name)
+    ∙ past (flat_map export_items es) (traits ++ (area_of gs ++ behind)) (no_runtime-exports es name)
+    ∙ past traits (area_of gs ++ behind) (no_runtime-trait fs t m name) ∙ past (area_of gs) behind (no_runtime-area gs name)
     ∙ runtime-append (runtime_module asked) last name ∙ ap (λ o. option_or o (runtime_item_named last name)) h
+  where
+    traits : List Item
+    traits = where_any fs (item.Trait t ∷ item.ModuleMacro m ∷ [])
+
+    behind : List Item
+    behind = runtime_module asked ++ last
+
+    past : (xs ys : List Item) → runtime_item_named xs name ≡ None → runtime_item_named (xs ++ ys) name ≡ runtime_item_named ys name
+    past xs ys e = runtime-append xs ys name ∙ ap (λ o. option_or o (runtime_item_named ys name)) e
 
 -- methods
 
@@ -73,17 +91,18 @@ no_method-imports : (ws : List FnItem) (bound name : Bytes) → method_named (ma
 no_method-imports [] bound name = refl
 no_method-imports (w ∷ ws) bound name = no_method-imports ws bound name
 
-no_method-exports : (es : List ExportFn) (bound name : Bytes) → method_named (map item.Export es) bound name ≡ None
+no_method-exports : (es : List Parts) (bound name : Bytes) → method_named (flat_map export_items es) bound name ≡ None
 no_method-exports [] bound name = refl
-no_method-exports (e ∷ es) bound name = no_method-exports es bound name
+no_method-exports ((e, None) ∷ es) bound name = no_method-exports es bound name
+no_method-exports ((e, Some p) ∷ es) bound name = no_method-exports es bound name
 
 -- a function of the trait is found in the file
-pub method-found : (ws : List FnItem) (es : List ExportFn) (f : Function) (fs : List Function) (t : TraitItem) (m : ModuleMacro) (behind : List Item) (name : Bytes) (x : TraitFn) → method_in t.functions name ≡ Some x
-    → method_named (map item.Import ws ++ (map item.Export es ++ (where_any (f ∷ fs) (item.Trait t ∷ item.ModuleMacro m ∷ []) ++ behind))) t.name name ≡ Some x
+pub method-found : (ws : List FnItem) (es : List Parts) (f : Function) (fs : List Function) (t : TraitItem) (m : ModuleMacro) (behind : List Item) (name : Bytes) (x : TraitFn) → method_in t.functions name ≡ Some x
+    → method_named (map item.Import ws ++ (flat_map export_items es ++ (where_any (f ∷ fs) (item.Trait t ∷ item.ModuleMacro m ∷ []) ++ behind))) t.name name ≡ Some x
 method-found ws es f fs t m behind name x h =
     let traits : List Item = item.Trait t ∷ item.ModuleMacro m ∷ [] in
-    method-append (map item.Import ws) (map item.Export es ++ (traits ++ behind)) t.name name ∙ ap (λ o. option_or o (method_named (map item.Export es ++ (traits ++ behind)) t.name name)) (no_method-imports ws t.name name)
-    ∙ method-append (map item.Export es) (traits ++ behind) t.name name ∙ ap (λ o. option_or o (method_named (traits ++ behind) t.name name)) (no_method-exports es t.name name)
+    method-append (map item.Import ws) (flat_map export_items es ++ (traits ++ behind)) t.name name ∙ ap (λ o. option_or o (method_named (flat_map export_items es ++ (traits ++ behind)) t.name name)) (no_method-imports ws t.name name)
+    ∙ method-append (flat_map export_items es) (traits ++ behind) t.name name ∙ ap (λ o. option_or o (method_named (traits ++ behind) t.name name)) (no_method-exports es t.name name)
     ∙ ap (λ b. option_or (cond b (method_in t.functions name) None) (method_named (item.ModuleMacro m ∷ behind) t.name name)) (bytes_eq-same t.name)
     ∙ ap (λ o. option_or o (method_named (item.ModuleMacro m ∷ behind) t.name name)) h
 
@@ -96,7 +115,7 @@ none-named key (x ∷ xs) name h =
     ap (λ b. cond b (x ∷ filter (λ y. bytes_eq (key y) name) xs) (filter (λ y. bytes_eq (key y) name) xs)) parts.0 ∙ none-named key xs name parts.1
 
 -- a later one has another name than an earlier one
-apart : {A : Type 0} (key : A → Bytes) (xs : List A) (nth : ℕ) (x : A) (name : Bytes) → list_any (λ u. bytes_eq u name) (map key xs) ≡ false → slice_get xs nth ≡ Some x → bytes_eq name (key x) ≡ false
+pub apart : {A : Type 0} (key : A → Bytes) (xs : List A) (nth : ℕ) (x : A) (name : Bytes) → list_any (λ u. bytes_eq u name) (map key xs) ≡ false → slice_get xs nth ≡ Some x → bytes_eq name (key x) ≡ false
 apart key [] nth x name h e = absurd (cc)
 apart key (y ∷ xs) zero x name h e =
     let is : y ≡ x = cc in
@@ -123,19 +142,22 @@ alone-named key (y ∷ xs) (suc nth) x d e =
     ap (λ b. cond b (y ∷ filter (λ z. bytes_eq (key z) (key x)) xs) (filter (λ z. bytes_eq (key z) (key x)) xs)) (apart key xs nth x (key y) (not-true (list_any (λ u. bytes_eq u (key y)) (map key xs)) parts.0) e)
     ∙ alone-named key xs nth x parts.1 e
 
-found-first_of : {A : Type 0} (p : A → Bool) (xs : List A) (x : A) → filter p xs ≡ x ∷ [] → find p xs ≡ Some x
-found-first_of p [] x h = absurd (cc)
-found-first_of p (y ∷ xs) x h = go (p y) refl (found-first_of p xs x)
+-- the first that passes, where at most one does
+pub found_of : {A : Type 0} (p : A → Bool) (xs : List A) (o : Option A) → filter p xs ≡ listed o → find p xs ≡ o
+found_of p [] None h = refl
+found_of p [] (Some x) h = absurd (cc)
+found_of {A = A} p (y ∷ xs) o h = go (p y) refl (found_of p xs o)
   where
-    go : (b : Bool) → p y ≡ b → (filter p xs ≡ x ∷ [] → find p xs ≡ Some x) → find p (y ∷ xs) ≡ Some x
-    go true e later =
-        let here : y ∷ filter p xs ≡ x ∷ [] = ap (λ b. cond b (y ∷ filter p xs) (filter p xs)) (sym e) ∙ h in
-        let is : y ≡ x = cc in
-        ap (λ b. cond b (Some y) (find p xs)) e ∙ ap Some is
+    only : (o : Option A) → y ∷ filter p xs ≡ listed o → Some y ≡ o
+    only None k = absurd (cc)
+    only (Some x) k = let is : y ≡ x = cc in ap Some is
+
+    go : (b : Bool) → p y ≡ b → (filter p xs ≡ listed o → find p xs ≡ o) → find p (y ∷ xs) ≡ o
+    go true e later = ap (λ b. cond b (Some y) (find p xs)) e ∙ only o (ap (λ b. cond b (y ∷ filter p xs) (filter p xs)) (sym e) ∙ h)
     go false e later = ap (λ b. cond b (Some y) (find p xs)) e ∙ later (ap (λ b. cond b (y ∷ filter p xs) (filter p xs)) (sym e) ∙ h)
 
 pub find-named : {A : Type 0} (key : A → Bytes) (xs : List A) (nth : ℕ) (x : A) → is_distinct (map key xs) ≡ true → slice_get xs nth ≡ Some x → find (λ y. bytes_eq (key y) (key x)) xs ≡ Some x
-find-named key xs nth x d e = found-first_of (λ y. bytes_eq (key y) (key x)) xs x (alone-named key xs nth x d e)
+find-named key xs nth x d e = found_of (λ y. bytes_eq (key y) (key x)) xs (Some x) (alone-named key xs nth x d e)
 
 -- lists of texts
 
@@ -167,50 +189,23 @@ distinct-image g (x ∷ xs) d =
     let parts = and_parts (not (list_any (λ u. bytes_eq u (g x)) (map g xs))) (is_distinct (map g xs)) d in
     ap (λ b. not b && is_distinct xs) (any-image g xs x (not-true (list_any (λ u. bytes_eq u (g x)) (map g xs)) parts.0)) ∙ distinct-image g xs parts.1
 
--- the export wrappers and the functions of the macros
-
-exports-append : (xs ys : List Item) → exports_in (xs ++ ys) ≡ exports_in xs ++ exports_in ys
-exports-append [] ys = refl
-exports-append (item.Import f ∷ xs) ys = exports-append xs ys
-exports-append (item.Export e ∷ xs) ys = ap (λ es. e ∷ es) (exports-append xs ys)
-exports-append (item.Trait t ∷ xs) ys = exports-append xs ys
-exports-append (item.ModuleMacro m ∷ xs) ys = exports-append xs ys
-exports-append (item.Runtime parts ∷ xs) ys = exports-append xs ys
-exports-append (item.RootMacro m ∷ xs) ys = exports-append xs ys
-
-no_exports-imports : (ws : List FnItem) → exports_in (map item.Import ws) ≡ []
-no_exports-imports [] = refl
-no_exports-imports (w ∷ ws) = no_exports-imports ws
-
-exports-exports : (es : List ExportFn) → exports_in (map item.Export es) ≡ es
-exports-exports [] = refl
-exports-exports (e ∷ es) = ap (λ es. e ∷ es) (exports-exports es)
-
-no_exports-behind : (fs gs : List Function) (t : TraitItem) (m : ModuleMacro) (asked : List RuntimeItem) (r : RootMacro)
-    → exports_in (where_any fs (item.Trait t ∷ item.ModuleMacro m ∷ []) ++ (runtime_module asked ++ where_any gs (item.RootMacro r ∷ []))) ≡ []
-no_exports-behind [] [] t m [] r = refl
-no_exports-behind [] [] t m (a ∷ asked) r = refl
-no_exports-behind [] (g ∷ gs) t m [] r = refl
-no_exports-behind [] (g ∷ gs) t m (a ∷ asked) r = refl
-no_exports-behind (f ∷ fs) [] t m [] r = refl
-no_exports-behind (f ∷ fs) [] t m (a ∷ asked) r = refl
-no_exports-behind (f ∷ fs) (g ∷ gs) t m [] r = refl
-no_exports-behind (f ∷ fs) (g ∷ gs) t m (a ∷ asked) r = refl
-
-pub exports-are : (ws : List FnItem) (es : List ExportFn) (fs gs : List Function) (t : TraitItem) (m : ModuleMacro) (asked : List RuntimeItem) (r : RootMacro)
-    → exports_in (map item.Import ws ++ (map item.Export es ++ (where_any fs (item.Trait t ∷ item.ModuleMacro m ∷ []) ++ (runtime_module asked ++ where_any gs (item.RootMacro r ∷ []))))) ≡ es
-exports-are ws es fs gs t m asked r =
-    let behind = where_any fs (item.Trait t ∷ item.ModuleMacro m ∷ []) ++ (runtime_module asked ++ where_any gs (item.RootMacro r ∷ [])) in
-    exports-append (map item.Import ws) (map item.Export es ++ behind) ∙ ap (λ xs. xs ++ exports_in (map item.Export es ++ behind)) (no_exports-imports ws)
-    ∙ exports-append (map item.Export es) behind ∙ ap (λ xs. xs ++ exports_in behind) (exports-exports es) ∙ ap (λ xs. es ++ xs) (no_exports-behind fs gs t m asked r) ∙ append-nil es
+-- the functions of the macros
 
 entries-imports : (ws : List FnItem) (ys : List Item) → entries_in (map item.Import ws ++ ys) ≡ entries_in ys
 entries-imports [] ys = refl
 entries-imports (w ∷ ws) ys = entries-imports ws ys
 
-entries-exports : (es : List ExportFn) (ys : List Item) → entries_in (map item.Export es ++ ys) ≡ entries_in ys
+entries-exports : (es : List Parts) (ys : List Item) → entries_in (flat_map export_items es ++ ys) ≡ entries_in ys
 entries-exports [] ys = refl
-entries-exports (e ∷ es) ys = entries-exports es ys
+entries-exports ((e, None) ∷ es) ys = entries-exports es ys
+entries-exports ((e, Some p) ∷ es) ys = entries-exports es ys
+
+entries-area : (hs : List Function) (ys : List Item) → entries_in (area_of hs ++ ys) ≡ entries_in ys
+entries-area hs ys = go (list_any (λ f. needs_area f.result) hs)
+  where
+    go : (b : Bool) → entries_in (cond b (item.Area static_area ∷ []) [] ++ ys) ≡ entries_in ys
+    go true = refl
+    go false = refl
 
 entries-behind : (gs : List Function) (asked : List RuntimeItem) (r : RootMacro) → entries_in (runtime_module asked ++ where_any gs (item.RootMacro r ∷ [])) ≡ []
 entries-behind [] [] r = refl
@@ -218,7 +213,52 @@ entries-behind [] (a ∷ asked) r = refl
 entries-behind (g ∷ gs) [] r = refl
 entries-behind (g ∷ gs) (a ∷ asked) r = refl
 
-pub entries-are : (ws : List FnItem) (es : List ExportFn) (f : Function) (fs gs : List Function) (t : TraitItem) (m : ModuleMacro) (asked : List RuntimeItem) (r : RootMacro)
-    → entries_in (map item.Import ws ++ (map item.Export es ++ (where_any (f ∷ fs) (item.Trait t ∷ item.ModuleMacro m ∷ []) ++ (runtime_module asked ++ where_any gs (item.RootMacro r ∷ []))))) ≡ m.entries
-entries-are ws es f fs gs t m asked r =
-    entries-imports ws _ ∙ entries-exports es _ ∙ ap (λ xs. m.entries ++ xs) (entries-behind gs asked r) ∙ append-nil m.entries
+pub entries-are : (ws : List FnItem) (es : List Parts) (f : Function) (fs gs hs : List Function) (t : TraitItem) (m : ModuleMacro) (asked : List RuntimeItem) (r : RootMacro)
+    → entries_in (map item.Import ws ++ (flat_map export_items es ++ (where_any (f ∷ fs) (item.Trait t ∷ item.ModuleMacro m ∷ []) ++ (area_of hs ++ (runtime_module asked ++ where_any gs (item.RootMacro r ∷ [])))))) ≡ m.entries
+entries-are ws es f fs gs hs t m asked r =
+    entries-imports ws _ ∙ entries-exports es _ ∙ ap (λ xs. m.entries ++ xs) (entries-area hs _ ∙ entries-behind gs asked r) ∙ append-nil m.entries
+
+-- the static area
+
+area-imports : (ws : List FnItem) (ys : List Item) → area_in (map item.Import ws ++ ys) ≡ area_in ys
+area-imports [] ys = refl
+area-imports (w ∷ ws) ys = area-imports ws ys
+
+area-exports : (es : List Parts) (ys : List Item) → area_in (flat_map export_items es ++ ys) ≡ area_in ys
+area-exports [] ys = refl
+area-exports ((e, None) ∷ es) ys = area-exports es ys
+area-exports ((e, Some p) ∷ es) ys = area-exports es ys
+
+area-trait : (fs : List Function) (t : TraitItem) (m : ModuleMacro) (ys : List Item) → area_in (where_any fs (item.Trait t ∷ item.ModuleMacro m ∷ []) ++ ys) ≡ area_in ys
+area-trait [] t m ys = refl
+area-trait (f ∷ fs) t m ys = refl
+
+needs-any : (hs : List Function) (nth : ℕ) (h : Function) → slice_get hs nth ≡ Some h → needs_area h.result ≡ true → list_any (λ f. needs_area f.result) hs ≡ true
+needs-any [] nth h e n = absurd (cc)
+needs-any (g ∷ hs) zero h e n = let is : g ≡ h = cc in or_left (needs_area g.result) _ (ap (λ g. needs_area g.result) is ∙ n)
+needs-any (g ∷ hs) (suc nth) h e n = or_right (needs_area g.result) _ (needs-any hs nth h e n)
+
+pub area-found : (ws : List FnItem) (es : List Parts) (fs hs : List Function) (t : TraitItem) (m : ModuleMacro) (behind : List Item) (nth : ℕ) (h : Function) → slice_get hs nth ≡ Some h → needs_area h.result ≡ true
+    → area_in (map item.Import ws ++ (flat_map export_items es ++ (where_any fs (item.Trait t ∷ item.ModuleMacro m ∷ []) ++ (area_of hs ++ behind)))) ≡ Some static_area
+area-found ws es fs hs t m behind nth h e n =
+    area-imports ws _ ∙ area-exports es _ ∙ area-trait fs t m _ ∙ ap (λ b. area_in (cond b (item.Area static_area ∷ []) [] ++ behind)) (needs-any hs nth h e n)
+
+-- behind the wrappers there is no wrapper
+
+pub no_exports-behind : (fs gs hs : List Function) (t : TraitItem) (m : ModuleMacro) (asked : List RuntimeItem) (r : RootMacro)
+    → exports_in (where_any fs (item.Trait t ∷ item.ModuleMacro m ∷ []) ++ (area_of hs ++ (runtime_module asked ++ where_any gs (item.RootMacro r ∷ [])))) ≡ []
+no_exports-behind fs gs hs t m asked r = traits fs ∙ area (list_any (λ f. needs_area f.result) hs) ∙ rest asked gs
+  where
+    traits : (fs : List Function) → exports_in (where_any fs (item.Trait t ∷ item.ModuleMacro m ∷ []) ++ (area_of hs ++ (runtime_module asked ++ where_any gs (item.RootMacro r ∷ [])))) ≡ exports_in (area_of hs ++ (runtime_module asked ++ where_any gs (item.RootMacro r ∷ [])))
+    traits [] = refl
+    traits (f ∷ fs) = refl
+
+    area : (b : Bool) → exports_in (cond b (item.Area static_area ∷ []) [] ++ (runtime_module asked ++ where_any gs (item.RootMacro r ∷ []))) ≡ exports_in (runtime_module asked ++ where_any gs (item.RootMacro r ∷ []))
+    area true = refl
+    area false = refl
+
+    rest : (asked : List RuntimeItem) (gs : List Function) → exports_in (runtime_module asked ++ where_any gs (item.RootMacro r ∷ [])) ≡ []
+    rest [] [] = refl
+    rest [] (g ∷ gs) = refl
+    rest (a ∷ asked) [] = refl
+    rest (a ∷ asked) (g ∷ gs) = refl

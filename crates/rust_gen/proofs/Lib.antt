@@ -1,16 +1,21 @@
 mod AskedLemmas
 pub mod EmittedLemmas
+mod EntryLemmas
 mod ExportRunLemmas
 mod FaithfulLemmas
 mod FixedLemmas
+mod GiveLemmas
 mod ItemLemmas
 mod LiftLemmas
 mod LiftingLemmas
 mod LowerLemmas
 mod LoweringLemmas
+mod PartsLemmas
 mod PathLemmas
+mod ReturnLemmas
 mod RunLemmas
 mod ScopeLemmas
+mod TakenLemmas
 mod TextLemmas
 pub mod TreeLemmas
 mod WordLemmas

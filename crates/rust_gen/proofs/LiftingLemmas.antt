@@ -5,12 +5,13 @@ use Rattle.rust_gen.specs.declared.export.Lifted.{Lifted}
 use Rattle.rust_gen.specs.declared.scope.Scope.{Scope}
 use Rattle.rust_gen.specs.ExportBody.{LiftsAll}
 use Rattle.rust_gen.specs.ExportLifting.{LiftsOne, LiftsParams}
+use Rattle.rust_gen.specs.Printed.{core_words}
 
 pub lifts_none : (n : ℕ) (s : Scope) (b : Lifted) (params : List Param) → length params ≡ 0 → LiftsParams n s b params s b
 lifts_none n s b [] e = ([], [], (refl, refl, refl), sym (append-nil b.stmts), sym (append-nil b.arguments))
 lifts_none n s b (p ∷ params) e = absurd (omega arith)
 
-pub lifts_next : (n : ℕ) (s t u : Scope) (b c d : Lifted) (p : Param) (params all : List Param) → all ≡ p ∷ params → LiftsOne n s b p t c → LiftsParams (n + 1) t c params u d → LiftsParams n s b all u d
+pub lifts_next : (n : ℕ) (s t u : Scope) (b c d : Lifted) (p : Param) (params all : List Param) → all ≡ p ∷ params → LiftsOne n s b p t c → LiftsParams (n + length (core_words p.ty)) t c params u d → LiftsParams n s b all u d
 lifts_next n s t u b c d p params all e (first, x, one, es, ew) (later, more, rest, fs, fw) = (
   first ++ later,
   x ∷ more,

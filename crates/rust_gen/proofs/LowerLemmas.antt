@@ -30,7 +30,7 @@ use Rattle.wrapper_run.specs.Run.{run_stmt, run_stmts, runtime_item_named, words
 use Rattle.wrapper_run.specs.Setting.{Setting}
 use Rattle.wrapper_run.specs.StandsFor.{StandAll, Stands, rust_value}
 use Rattle.wrapper_run.specs.Value.{AreValues, IsScalar, IsValue, Scalar, WitValue, char, f32, f64, number, scalar, text, truth}
-use Rattle.wrapper_run.proofs.LocalLemmas.{ReadsAll, reads-new}
+use Rattle.wrapper_run.proofs.LocalLemmas.{ReadsAll, reads-new, reads-past}
 use Rattle.wrapper_run.proofs.NumberLemmas.{word_of-bool}
 use Rattle.wrapper_run.proofs.OwningLemmas.{Adds, adds-none, adds-one, adds-then, lent-same, no_buffer, owned-lent}
 use Rattle.wrapper_run.proofs.StepLemmas.{Give, as_ptr_gives, bool_gives, call_gives, cast_mut_gives, len_gives, local_gives, ref_gives, runtime_gives}
@@ -42,7 +42,7 @@ use Rattle.rust_gen.specs.Runtime.{lowering_item, lowering_items}
 use Rattle.rust_gen.specs.Scope.{is_used, numbered}
 use Rattle.rust_gen.proofs.AskedLemmas.{Found, found-first, found-left, found-right}
 use Rattle.rust_gen.proofs.PathLemmas.{calls_runtime}
-use Rattle.rust_gen.proofs.ScopeLemmas.{Grows, Keeps, UsedAll, Within, free-more, free-one, grows-declared, keeps-bound, length-pointer, pointer-vec, reads-kept, reads-past, used-declared, used-first, used-grows, used-next, within-bound}
+use Rattle.rust_gen.proofs.ScopeLemmas.{Grows, Keeps, UsedAll, Within, free-more, free-one, grows-declared, keeps-bound, length-pointer, pointer-vec, reads-kept, used-declared, used-first, used-grows, used-next, within-bound}
 use Rattle.rust_gen.proofs.WordLemmas.{lent}
 
 abbrev pub types_of : List Param → List WitType

@@ -298,7 +298,7 @@ finishes w t (Some ty) (Some (scalar v)) base prior before lifting tail s c nt d
     let here = lifts-scalar ty base (result_name t) before lifting e (λ h. nt (ap Some h)) l in
     let used = used-declared prior before (kind.Import ∷ kind.Returned ∷ []) t (result_name t) d (used-next (import_name t) (result_name t) (result_name t ∷ []) (used-first (result_name t) [])) in
     let li = tk.lifts w (result_name t) before here.0 lifting e held here.1 found used (reads-new (result_name t) (Some (val.Word x)) s.locals) in
-    let ends : State = record held { locals = li.locals } in
+    let ends : State = record held { locals = held.locals ++ li.more } in
     let plain_held = plain-append s.locals (record { name = result_name t; value = Some (val.Word x) } ∷ []) plain (refl, tt) in
     record {
       value = Some (rust_value ty v);
@@ -307,8 +307,8 @@ finishes w t (Some ty) (Some (scalar v)) base prior before lifting tail s c nt d
           ap (λ o. and_then o (finish w t (Some ty) lifting tail)) (answer_gives w (core_type ty) x s a tk.is_word)
           ∙ ap (λ tail. after_result w lifting tail (printed_type ty) held) q
           ∙ ap (λ o. and_then o (λ _. eval w e >>= (answer_and_leave w (printed_type ty)))) li.runs
-          ∙ ap (λ o. and_then o (answer_and_leave w (printed_type ty))) (li.gives ends (λ name h. refl))
-          ∙ answers_plain w (printed_type ty) li.given (Some (rust_value ty v)) ends li.answers (adds-plain held.locals li.locals plain_held li.adds);
+          ∙ ap (λ o. and_then o (answer_and_leave w (printed_type ty))) (li.gives ends held.locals [] (sym (append-nil (held.locals ++ li.more))) tt (reads-new (result_name t) (Some (val.Word x)) s.locals))
+          ∙ answers_plain w (printed_type ty) li.given (Some (rust_value ty v)) ends li.answers (plain-append held.locals li.more plain_held li.plain);
       stands = (refl, refl);
       account = refl;
       requests = refl;

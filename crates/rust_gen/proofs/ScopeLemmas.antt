@@ -9,7 +9,7 @@ use Rattle.std.proofs.lemmas.Slice.Eq.{bytes_eq-Decides}
 use Rattle.wrapper_run.specs.declared.state.Local.{Local}
 use Rattle.wrapper_run.specs.declared.state.Val.{Val}
 use Rattle.wrapper_run.specs.Locals.{local_named, value_of}
-use Rattle.wrapper_run.proofs.LocalLemmas.{ReadsAll, bytes_eq-same, last-append}
+use Rattle.wrapper_run.proofs.LocalLemmas.{ReadsAll, bytes_eq-same, last-append, reads_front}
 use Rattle.rust_gen.specs.declared.scope.LocalKind.{LocalKind}
 use Rattle.rust_gen.specs.declared.scope.LocalKind.TheVariants as kind
 use Rattle.rust_gen.specs.declared.scope.Scope.{Scope}
@@ -58,19 +58,23 @@ used-next first name more h = or_right (bytes_eq first name) _ h
 
 -- new locals
 
+-- a name that is not used is none that is
+pub differs : (used : List Bytes) (n name : Bytes) → is_used used n ≡ false → is_used used name ≡ true → bytes_eq n name ≡ false
+differs used n name free h = go (bytes_eq n name) refl
+  where
+    go : (b : Bool) → bytes_eq n name ≡ b → bytes_eq n name ≡ false
+    go true e =
+        let same : n ≡ name = (bytes_eq-Decides n name).0 e in
+        let twice : is_used used n ≡ true = ap (is_used used) same ∙ h in
+        absurd (cc)
+    go false e = e
+
 -- of a name that is not used: it hides none
 bound-other : (used : List Bytes) (locals : List Local) (n name : Bytes) (v : Option Val) → is_used used n ≡ false → is_used used name ≡ true
     → local_named name (locals ++ record { name = n; value = v } ∷ []) ≡ local_named name locals
 bound-other used locals n name v free h =
     last-append (λ l. bytes_eq l.name name) locals (record { name = n; value = v })
-    ∙ ap (λ b. option_or (cond b (Some (record { name = n; value = v })) None) (local_named name locals)) (apart (bytes_eq n name) refl)
-  where
-    apart : (b : Bool) → bytes_eq n name ≡ b → bytes_eq n name ≡ false
-    apart true e =
-        let same : n ≡ name = (bytes_eq-Decides n name).0 e in
-        let twice : is_used used n ≡ true = ap (is_used used) same ∙ h in
-        absurd (cc)
-    apart false e = e
+    ∙ ap (λ b. option_or (cond b (Some (record { name = n; value = v })) None) (local_named name locals)) (differs used n name free h)
 
 pub keeps-bound : (used : List Bytes) (locals : List Local) (n : Bytes) (v : Option Val) → is_used used n ≡ false → Keeps used locals (locals ++ record { name = n; value = v } ∷ [])
 keeps-bound used locals n v free name h = bound-other used locals n name v free h
@@ -83,11 +87,6 @@ within-bound used locals n v w name h =
     ∙ ap (λ b. option_or (cond b (Some (record { name = n; value = v })) None) (local_named name locals)) here
     ∙ w name parts.0
 
--- a local of another name behind it hides none
-pub reads-past : (locals : List Local) (l : Local) (name : Bytes) (o : Option Val) → bytes_eq l.name name ≡ false → value_of (local_named name locals) ≡ o → value_of (local_named name (locals ++ l ∷ [])) ≡ o
-reads-past locals l name o e h =
-    ap value_of (last-append (λ m. bytes_eq m.name name) locals l ∙ ap (λ b. option_or (cond b (Some l) None) (local_named name locals)) e) ∙ h
-
 -- the three names of a text differ
 
 pub pointer-vec : (t : ℕ) → bytes_eq (numbered kind.Pointer t) (numbered kind.Vec t) ≡ false
@@ -97,6 +96,10 @@ pointer-vec t = refl
 pub length-pointer : (t : ℕ) → bytes_eq (numbered kind.Length t) (numbered kind.Pointer t) ≡ false
 unfolding prefix_of
 length-pointer t = refl
+
+pub length-vec : (t : ℕ) → bytes_eq (numbered kind.Length t) (numbered kind.Vec t) ≡ false
+unfolding prefix_of
+length-vec t = refl
 
 -- the identifiers are used
 
@@ -112,3 +115,35 @@ pub reads-kept : (used : List Bytes) (old new : List Local) (names : List Bytes)
 reads-kept used old new [] vs k u h = h
 reads-kept used old new (name ∷ names) [] k u h = h
 reads-kept used old new (name ∷ names) (v ∷ vs) k u h = (ap value_of (k name u.0) ∙ h.0, reads-kept used old new names vs k u.1 h.1)
+
+-- locals of which none has a name that is used
+
+abbrev pub Fresh : List Bytes → List Local → Type 0
+Fresh used [] = Unit {0}
+Fresh used (l ∷ locals) = (is_used used l.name ≡ false) × Fresh used locals
+
+pub fresh-append : (used : List Bytes) (xs ys : List Local) → Fresh used xs → Fresh used ys → Fresh used (xs ++ ys)
+fresh-append used [] ys f g = g
+fresh-append used (x ∷ xs) ys f g = (f.0, fresh-append used xs ys f.1 g)
+
+unused-before : (old new : List Bytes) (name : Bytes) → Grows old new → is_used new name ≡ false → is_used old name ≡ false
+unused-before old new name g e = go (is_used old name) refl
+  where
+    go : (b : Bool) → is_used old name ≡ b → is_used old name ≡ false
+    go true h = let later : is_used new name ≡ true = g name h in absurd (cc)
+    go false h = h
+
+pub fresh-before : (old new : List Bytes) (locals : List Local) → Grows old new → Fresh new locals → Fresh old locals
+fresh-before old new [] g f = tt
+fresh-before old new (l ∷ locals) g f = (unused-before old new l.name g f.0, fresh-before old new locals g f.1)
+
+pub fresh-apart : (used : List Bytes) (locals : List Local) (name : Bytes) → Fresh used locals → is_used used name ≡ true → list_any (λ l. bytes_eq l.name name) locals ≡ false
+fresh-apart used [] name f h = refl
+fresh-apart used (l ∷ locals) name f h = ap (λ b. b || list_any (λ l. bytes_eq l.name name) locals) (differs used l.name name f.0 h) ∙ fresh-apart used locals name f.1 h
+
+-- names that are used read the same in front of them
+pub reads-fresh : (used : List Bytes) (front more : List Local) (names : List Bytes) (vs : List Val) → Fresh used more → UsedAll used names → ReadsAll names vs front → ReadsAll names vs (front ++ more)
+reads-fresh used front more [] vs f u h = h
+reads-fresh used front more (name ∷ names) [] f u h = h
+reads-fresh used front more (name ∷ names) (v ∷ vs) f u h =
+    (ap value_of (reads_front name front more (fresh-apart used more name f u.0)) ∙ h.0, reads-fresh used front more names vs f u.1 h.1)

@@ -1,15 +1,14 @@
 -- The run of a wrapper whose result is a text: the area is placed, the arguments are lent, the import is called with the
 -- area's address, and the text that it wrote there is taken over.
-use Rattle.std.proofs.Common.{◌≡◌, ◌⊎◌, inl, inr, ℕ, suc, ◌+◌, ◌<◌, ◌^◌, ◌%◌, Bool, true, false, cond, not, ◌&&◌, ◌||◌, List, [], ◌∷◌, ◌++◌, length, Option, None, Some, map, refl, sym, ap, subst, ◌∙◌, append_assoc, arith}
+use Rattle.std.proofs.Common.{◌≡◌, ◌⊎◌, inl, inr, ℕ, ◌+◌, ◌<◌, ◌^◌, ◌%◌, Bool, true, false, cond, not, ◌&&◌, ◌||◌, List, [], ◌∷◌, ◌++◌, length, Option, None, Some, map, refl, sym, ap, subst, ◌∙◌, append_assoc, append-nil, arith}
 use Rattle.std.specs.Prelude.{is_some, nat_eq, nat_lt, option_and_then}
 use Rattle.std.specs.List.{flat_map, list_all, list_any}
 use Rattle.std.specs.Option.{option_or}
 use Rattle.std.specs.Str.{bytes_eq, is_utf8}
-use Rattle.std.proofs.lemmas.Bool.{and_from, and_parts, not-true, or_from, or_parts, or_right}
+use Rattle.std.proofs.lemmas.Bool.{and_from, and_parts, not-true, or_from, or_left, or_parts, or_right}
 use Rattle.std.proofs.lemmas.Bool.Decides.{nat_tests}
 use Rattle.std.proofs.lemmas.List.Folds.{list_any-append}
 use Rattle.std.proofs.lemmas.Slice.Eq.{bytes_eq-Decides}
-use Rattle.std.proofs.lemmas.Str.{IsUtf8-nil, is_utf8-from_IsUtf8}
 use Rattle.wit_model.specs.declared.function.Function.{Function}
 use Rattle.wit_model.specs.declared.size.WasmType.TheVariants as core
 use Rattle.wit_model.specs.declared.types.WitType.{WitType}
@@ -42,7 +41,9 @@ use Rattle.wrapper_run.specs.declared.state.Val.{Val}
 use Rattle.wrapper_run.specs.declared.state.Val.TheVariants as val
 use Rattle.wrapper_run.specs.Act.{Act, Outcome, Done, Stopped, ◌>>=◌, ◌>>◌, and_then, or_stop, pure}
 use Rattle.wrapper_run.specs.Areas.{areas, due, needs_area, pointers, text_area, text_areas}
-use Rattle.wrapper_run.specs.Blocks.{declare_area, drop_value, free_owned, is_fitting, is_owned, owned_bytes, place_area, without_block, leave_to}
+use Rattle.wrapper_run.specs.Blocks.{drop_value, free_owned, is_owned, without_block, leave_to}
+use Rattle.wrapper_run.specs.Places.{declare_area, is_fitting}
+use Rattle.wrapper_run.proofs.PlaceLemmas.{Misplaces, Places, pair_block, places_pair}
 use Rattle.wrapper_run.specs.Faithful.{Carries, Made, MissesArea, import_target, param_types, fits_area}
 use Rattle.wrapper_run.specs.Honest.{AnswersText, HonestPeer, WritesIn, are_new}
 use Rattle.wrapper_run.specs.Locals.{bind, declare, last, local_named, value_of}
@@ -53,10 +54,12 @@ use Rattle.wrapper_run.specs.Setting.{Setting, stuck}
 use Rattle.wrapper_run.specs.StandsFor.{IsTextBlock, StandAll, StandsResult}
 use Rattle.wrapper_run.specs.Value.{AreValues, IsResult, IsValue, WitValue, char, f32, f64, number, scalar, text, truth}
 use Rattle.wrapper_run.proofs.HeapLemmas.{SamePlace, added, area_found, area_removed, found_behind, size-positive, writes_in_area}
-use Rattle.wrapper_run.proofs.LocalLemmas.{ReadsAll, last-append, reads-new, unbound, reads_bound}
+use Rattle.wrapper_run.proofs.LocalLemmas.{ReadsAll, last-append, reads-new, reads-past, unbound, reads_bound}
 use Rattle.wrapper_run.proofs.OwningLemmas.{Adds, ArePlain, adds-one, adds-then, no_unit_buffer, owned-none}
 use Rattle.wrapper_run.proofs.StepLemmas.{Give, Quiet, call_gives, ended-calls, import_gives, local_gives, quiet_answer, quiet_answers, quiet_bind, quiet_drop, quiet_local, quiet_pure, quiet_runtime, quiet_then}
-use Rattle.wrapper_run.proofs.TakeLemmas.{answered-text, area_gives, leaves_one, lifts_text, load_gives, moves_last, owned-empty, quiet_load, quiet_raw, raw_gives, takes_block, takes_empty, words_give}
+use Rattle.wrapper_run.proofs.TakeLemmas.{answered-text, area_gives, leaves_one, load_gives, used-plain, quiet_load, quiet_raw, text_gives, text_local, used_local, words_give}
+use Rattle.rust_gen.proofs.TakenLemmas.{AreFree, addresses, take_stmts, taken-last, taken_over, takes_text}
+use Rattle.wrapper_run.specs.Represents.{HasText, block_of}
 use Rattle.rust_gen.specs.Body.{IsBody, IsWritten, LiftsText, Lifts, Points, area_stmts, call_kinds, call_stmt, import_call, import_decl, import_name, local_path, result_name, runtime_call, runtime_path, word_at, text_area as area_of, text_area as area_of}
 use Rattle.rust_gen.specs.DeclaredNames.{param_idents}
 use Rattle.rust_gen.specs.Printed.{core_params, core_result, param_words, pointer_words, printed_result}
@@ -67,13 +70,9 @@ use Rattle.rust_gen.proofs.AskedLemmas.{Found, found-first, found-left, found-ri
 use Rattle.rust_gen.proofs.LowerLemmas.{Lowered, give-append, lower_all, run_stmts-append, words-append, words_of-append}
 use Rattle.rust_gen.proofs.PathLemmas.{calls_alone, calls_runtime}
 use Rattle.rust_gen.proofs.RunLemmas.{Fits, all-used, and_then-assoc, call_is, carries_plain, declared, names-printed, plain_arg, plain_args, point, same-length, names_of}
-use Rattle.rust_gen.proofs.ScopeLemmas.{Within, free-one, grows-declared, is_used-append, keeps-bound, reads-past, used-declared, used-first, used-next, within-bound}
+use Rattle.rust_gen.proofs.ScopeLemmas.{Within, free-one, grows-declared, is_used-append, keeps-bound, used-declared, used-first, used-next, within-bound}
 
 -- the last statements: the bytes are taken over, tested and moved out
-
-abbrev take_stmts : Bytes → Bytes → Bytes → Bytes → List Stmt
-take_stmts from size bytes named =
-    stmt.Let bytes (expr.FromRawParts (expr.Local from) size) ∷ stmt.Let named (runtime_call StringLift (expr.Local bytes)) ∷ []
 
 -- what they leave: the text as the body's value, plain locals beside those that are there, and its block taken
 record TakesText (w : Setting) (s : State) (p n : ℕ) (from size bytes named : Bytes) : Type 0 where
@@ -83,81 +82,39 @@ record TakesText (w : Setting) (s : State) (p n : ℕ) (from size bytes named : 
   pub adds : Adds s.locals locals
   pub keeps : (a : ℕ) → is_taken a s.taken ≡ true → is_taken a taken ≡ true
 
-taken-last : (taken : List ℕ) (p : ℕ) → is_taken p (taken ++ p ∷ []) ≡ true
-taken-last [] p = grind (arith, nat_tests)
-taken-last (t ∷ taken) p = or_right (nat_eq t p) _ (taken-last taken p)
+taken-stays : (taken more : List ℕ) (a : ℕ) → is_taken a taken ≡ true → is_taken a (taken ++ more) ≡ true
+taken-stays taken more a h = list_any-append (λ t. nat_eq t a) taken more ∙ or_left (is_taken a taken) _ h
 
-taken-stays : (taken : List ℕ) (p a : ℕ) → is_taken a taken ≡ true → is_taken a (taken ++ p ∷ []) ≡ true
-taken-stays [] p a h = absurd (cc)
-taken-stays (t ∷ taken) p a h = go (nat_eq t a) h (taken-stays taken p a)
-  where
-    go : (b : Bool) → (b || is_taken a taken) ≡ true → (is_taken a taken ≡ true → is_taken a (taken ++ p ∷ []) ≡ true) → (b || is_taken a (taken ++ p ∷ [])) ≡ true
-    go true h k = refl
-    go false h k = k h
+has_text : (heap : Heap) (p : ℕ) (bytes : List ℕ) (blocks : List Block) → IsTextBlock p bytes blocks → ((t : Block) → blocks ≡ t ∷ [] → t.address ≡ p → block_at t.address t.size heap.blocks ≡ Some t) → HasText heap p bytes
+has_text heap p [] blocks holds has = tt
+has_text heap p (x ∷ bytes) blocks (t, one, at, n, read) has =
+    ap (option_and_then (λ t. bytes_from t.cells 0 (length (x ∷ bytes))))
+    (ap (λ a. block_at a (length (x ∷ bytes)) heap.blocks) (sym at) ∙ ap (λ n. block_at t.address n heap.blocks) (sym n) ∙ has t one at)
+    ∙ read
 
--- an empty text
-takes_nothing : (w : Setting) (s : State) (p : ℕ) (from size bytes named : Bytes) → 0 < p → runtime_item_named w.items (item_name StringLift) ≡ Some StringLift
-    → value_of (local_named from s.locals) ≡ Some (val.Word (word.Pointer p)) → value_of (local_named size s.locals) ≡ Some (val.Word (word.Length 0)) → TakesText w s p 0 from size bytes named
-unfolding bind
-takes_nothing w s p from size bytes named pos found at_from at_size =
-    let v : Val = val.Value (value.Buffer p 0 true) in
-    let b : Local = record { name = bytes; value = Some v } in
-    let t : Local = record { name = named; value = Some v } in
-    let l1 : List Local = s.locals ++ b ∷ [] in
-    let s1 : State = record s { locals = l1 } in
-    let s2 : State = record s { locals = l1 ++ t ∷ [] } in
-    let tail : Act Val = eval w (expr.Local named) in
-    record {
-      locals = l1 ++ t ∷ [];
-      taken = s.taken;
-      runs =
-          ap (λ o. and_then (and_then (and_then o (bind bytes)) (λ _. run_stmts w (stmt.Let named (runtime_call StringLift (expr.Local bytes)) ∷ []))) (λ _. tail))
-          (raw_gives w (expr.Local from) size p 0 s (local_gives w from (val.Word (word.Pointer p)) s at_from refl) at_size ∙ takes_empty w p s pos)
-          ∙ ap (λ o. and_then (and_then (and_then o (bind named)) (λ _. pure {A = Unit {0}} tt)) (λ _. tail))
-          (lifts_text w (runtime_path StringLift) (item_name StringLift) bytes p 0 [] s1 s1 (calls_runtime StringLift) found (local_gives w bytes v s1 (reads-new bytes (Some v) s.locals) (owned-empty p)) refl (is_utf8-from_IsUtf8 [] IsUtf8-nil))
-          ∙ local_gives w named v s2 (reads-new named (Some v) l1) (owned-empty p);
-      adds = adds-then s.locals l1 (l1 ++ t ∷ []) (adds-one s.locals b (owned-empty p)) (adds-one l1 t (owned-empty p));
-      keeps = λ a h. h;
-    }
+free_text : (p : ℕ) (bytes : List ℕ) (blocks : List Block) (taken : List ℕ) → IsTextBlock p bytes blocks → ((t : Block) → blocks ≡ t ∷ [] → t.address ≡ p → is_taken p taken ≡ false) → AreFree (block_of p bytes) taken
+free_text p [] blocks taken holds free = tt
+free_text p (x ∷ bytes) blocks taken (t, one, at, n, read) free = (free t one at, tt)
 
--- a text with a block
-takes_bytes : (w : Setting) (s : State) (p n : ℕ) (t : Block) (content : List ℕ) (from size bytes named : Bytes) → 0 < p → suc n < 2 ^ 31 → runtime_item_named w.items (item_name StringLift) ≡ Some StringLift
-    → value_of (local_named from s.locals) ≡ Some (val.Word (word.Pointer p)) → value_of (local_named size s.locals) ≡ Some (val.Word (word.Length (suc n)))
-    → is_taken p s.taken ≡ false → block_at p (suc n) s.heap.blocks ≡ Some t → bytes_from t.cells 0 (suc n) ≡ Some content → is_utf8 content ≡ true → TakesText w s p (suc n) from size bytes named
-unfolding bind
-takes_bytes w s p n t content from size bytes named pos small found at_from at_size free block read utf8 =
-    let v : Val = val.Value (value.Buffer p (suc n) true) in
-    let taken : List ℕ = s.taken ++ p ∷ [] in
-    let gone : Local = record { name = bytes; value = None } in
-    let left : Local = record { name = named; value = None } in
-    let l1 : List Local = s.locals ++ record { name = bytes; value = Some v } ∷ [] in
-    let l2 : List Local = s.locals ++ gone ∷ [] in
-    let s1 : State = record s { locals = l1; taken = taken } in
-    let s2 : State = record s { locals = l2; taken = taken } in
-    let s3 : State = record s { locals = l2 ++ record { name = named; value = Some v } ∷ []; taken = taken } in
-    let tail : Act Val = eval w (expr.Local named) in
-    let owns : owned_bytes p (suc n) s2 ≡ Some content =
-    ap (λ b. cond b (option_and_then (λ b. bytes_from b.cells 0 (suc n)) (block_at p (suc n) s.heap.blocks)) None) (taken-last s.taken p) ∙ ap (option_and_then (λ b. bytes_from b.cells 0 (suc n))) block ∙ read in
-    record {
-      locals = l2 ++ left ∷ [];
-      taken = taken;
-      runs =
-          ap (λ o. and_then (and_then (and_then o (bind bytes)) (λ _. run_stmts w (stmt.Let named (runtime_call StringLift (expr.Local bytes)) ∷ []))) (λ _. tail))
-          (raw_gives w (expr.Local from) size p (suc n) s (local_gives w from (val.Word (word.Pointer p)) s at_from refl) at_size ∙ takes_block w p n t content s pos small free block read)
-          ∙ ap (λ o. and_then (and_then (and_then o (bind named)) (λ _. pure {A = Unit {0}} tt)) (λ _. tail))
-          (lifts_text w (runtime_path StringLift) (item_name StringLift) bytes p (suc n) content s1 s2 (calls_runtime StringLift) found (moves_last w bytes p n s.locals s1 refl) owns utf8)
-          ∙ moves_last w named p n l2 s3 refl;
-      adds = adds-then s.locals l2 (l2 ++ left ∷ []) (adds-one s.locals gone refl) (adds-one l2 left refl);
-      keeps = λ a h. taken-stays s.taken p a h;
-    }
-
-takes_text : (w : Setting) (s : State) (p : ℕ) (bytes : List ℕ) (blocks : List Block) (from size name named : Bytes) → 0 < p → length bytes < 2 ^ 31 → runtime_item_named w.items (item_name StringLift) ≡ Some StringLift
+takes_out : (w : Setting) (s : State) (p : ℕ) (bytes : List ℕ) (blocks : List Block) (from size name named : Bytes) → 0 < p → length bytes < 2 ^ 31 → runtime_item_named w.items (item_name StringLift) ≡ Some StringLift
     → value_of (local_named from s.locals) ≡ Some (val.Word (word.Pointer p)) → value_of (local_named size s.locals) ≡ Some (val.Word (word.Length (length bytes))) → is_utf8 bytes ≡ true → IsTextBlock p bytes blocks
     → ((t : Block) → blocks ≡ t ∷ [] → t.address ≡ p → (is_taken p s.taken ≡ false) × (block_at t.address t.size s.heap.blocks ≡ Some t)) → TakesText w s p (length bytes) from size name named
-takes_text w s p [] blocks from size name named pos small found at_from at_size utf8 holds has = takes_nothing w s p from size name named pos found at_from at_size
-takes_text w s p (x ∷ bytes) blocks from size name named pos small found at_from at_size utf8 (t, one, at, n, read) has =
-    takes_bytes w s p (length bytes) t (x ∷ bytes) from size name named pos small found at_from at_size (has t one at).0
-    (ap (λ a. block_at a (length (x ∷ bytes)) s.heap.blocks) (sym at) ∙ ap (λ n. block_at t.address n s.heap.blocks) (sym n) ∙ (has t one at).1) read utf8
+takes_out w s p bytes blocks from size name named pos small found at_from at_size utf8 holds has =
+    let n : ℕ = length bytes in
+    let front : List Local = s.locals ++ used_local name p n ∷ [] in
+    let locals : List Local = front ++ used_local named p n ∷ [] in
+    record {
+      locals = locals ++ [];
+      taken = s.taken ++ addresses (block_of p bytes);
+      runs =
+          ap (λ o. and_then o (λ _. eval w (expr.Local named)))
+          (takes_text w s p bytes from size name named pos small found at_from at_size utf8 (has_text s.heap p bytes blocks holds (λ t one at. (has t one at).1)) (free_text p bytes blocks s.taken holds (λ t one at. (has t one at).0)))
+          ∙ text_gives w named p n front [] (taken_over name named p bytes s) (sym (append-nil (front ++ text_local named p n ∷ []))) refl;
+      adds =
+          subst (Adds s.locals) (sym (append-nil locals))
+          (adds-then s.locals front locals (adds-one s.locals (used_local name p n) (used-plain p n)) (adds-one front (used_local named p n) (used-plain p n)));
+      keeps = λ a h. taken-stays s.taken (addresses (block_of p bytes)) a h;
+    }
 
 -- blocks of one place overlap the same
 overlaps_of : (x y b : Block) → SamePlace x y → overlaps x b ≡ overlaps y b
@@ -248,15 +205,12 @@ taken_args heap (ty ∷ types) (v ∷ vs) args (r, rest, e, one, more) =
 abbrev area_local : Bytes → ℕ → Local
 area_local name a = record { name = name; value = Some (val.Area a 8) }
 
-abbrev area_block : ℕ → Block
-area_block a = record { address = a; size = 8; cells = [] }
-
 -- a state with the area
 abbrev placed : Bytes → ℕ → List Choice → State → State
 placed name a choices s =
     record s {
       locals = s.locals ++ area_local name a ∷ [];
-      heap = record s.heap { blocks = s.heap.blocks ++ area_block a ∷ [] };
+      heap = record s.heap { blocks = s.heap.blocks ++ pair_block a ∷ [] };
       choices = choices;
       requests = s.requests ++ text_area ∷ [];
       taken = s.taken ++ a ∷ [];
@@ -275,26 +229,15 @@ Misplacing w name s =
     (fits_area s.choices s.heap ≡ false) × (declare_area w (area_of name) s ≡ Stopped stop_of.BadChoice (record s { requests = s.requests ++ text_area ∷ [] }))
 
 places : (w : Setting) (name : Bytes) (s : State) → Placing w name s ⊎ Misplacing w name s
-unfolding declare_area bind
-places w name s = go s.choices refl
+unfolding bind
+places w name s = go (places_pair w s)
   where
-    go : (cs : List Choice) → s.choices ≡ cs → Placing w name s ⊎ Misplacing w name s
-    go [] e = inr (ap (λ cs. fits_area cs s.heap) e, ap (λ cs. place_area name text_area cs (record s { requests = s.requests ++ text_area ∷ [] })) e)
-    go (choice.Refuse ∷ cs) e = inr (ap (λ cs. fits_area cs s.heap) e, ap (λ cs. place_area name text_area cs (record s { requests = s.requests ++ text_area ∷ [] })) e)
-    go (choice.At a ∷ cs) e = test (is_fitting a text_area s.heap.blocks) refl
-      where
-        after : Bool → Outcome (Unit {0})
-        after t = cond t (Done tt (placed name a cs s)) (Stopped stop_of.BadChoice (record s { requests = s.requests ++ text_area ∷ [] }))
+    local_at : ℕ × ℕ → Act (Unit {0})
+    local_at p = bind name (val.Area p.0 p.1)
 
-        test : (t : Bool) → is_fitting a text_area s.heap.blocks ≡ t → Placing w name s ⊎ Misplacing w name s
-        test true h = inl (record {
-          address = a;
-          left = cs;
-          chosen = e;
-          fits = h;
-          runs = ap (λ cs. place_area name text_area cs (record s { requests = s.requests ++ text_area ∷ [] })) e ∙ ap after h;
-        })
-        test false h = inr (ap (λ cs. fits_area cs s.heap) e ∙ h, ap (λ cs. place_area name text_area cs (record s { requests = s.requests ++ text_area ∷ [] })) e ∙ ap after h)
+    go : Places w s ⊎ Misplaces w s → Placing w name s ⊎ Misplacing w name s
+    go (inl p) = inl (record { address = p.address; left = p.left; chosen = p.chosen; fits = p.fits; runs = ap (λ o. and_then o local_at) p.runs })
+    go (inr m) = inr (m.0, ap (λ o. and_then o local_at) m.1)
 
 -- what stands behind the lowering, and what stands behind the call
 
@@ -436,7 +379,7 @@ module _ (f : Function) (i : FnItem) (written : IsWritten f i) (is_text : f.resu
 
   module _ (a : ℕ) (cs : List Choice) (chosen : choices.list ≡ choice.At a ∷ cs) (fit : is_fitting a text_area heap.blocks ≡ true) (area_runs : declare_area w (area_of b.area) begin ≡ Done tt (placed b.area a cs begin)) where
     abbrev area : Block
-    area = area_block a
+    area = pair_block a
 
     is_area : is_block area ≡ true
     is_area = (and_parts (is_block area) (not (overlaps_any area heap.blocks)) (and_parts (is_block area && not (overlaps_any area heap.blocks)) (nat_eq (a % 4) 0) fit).0).0
@@ -645,7 +588,7 @@ module _ (f : Function) (i : FnItem) (written : IsWritten f i) (is_text : f.resu
           )
 
       te : TakesText w s8 h.place (length bytes) la ln by tx
-      te = takes_text w s8 h.place bytes h.blocks la ln by tx h.nonzero text_good.2 found_lift la_at (reads-new ln (Some size) l7) text_good.1 h.holds block_free
+      te = takes_out w s8 h.place bytes h.blocks la ln by tx h.nonzero text_good.2 found_lift la_at (reads-new ln (Some size) l7) text_good.1 h.holds block_free
 
       abbrev buffer : RustValue
       buffer = value.Buffer h.place (length bytes) true

@@ -1,8 +1,9 @@
 -- Wrappers in the order of their functions, and how many there are.
-use Rattle.std.proofs.Common.{◌≡◌, ℕ, suc, ◌+◌, ◌<◌, List, [], ◌∷◌, ◌++◌, length, get_or, take, map, refl, sym, ap, ◌∙◌, subst, Bor, arith, length-append}
+use Rattle.std.proofs.Common.{◌≡◌, ℕ, suc, ◌+◌, ◌<◌, Bool, true, false, List, [], ◌∷◌, ◌++◌, length, None, Some, get_or, take, map, refl, sym, ap, ◌∙◌, subst, Bor, arith, length-append, append_assoc, append-nil}
 use Rattle.std.proofs.lemmas.List.{take_more, map-append}
 use Rattle.std.proofs.lemmas.Slice.Zip.{AllZip-long}
-use Rattle.std.specs.List.{AllZip}
+use Rattle.std.specs.List.{AllZip, flat_map, list_any}
+use Rattle.std.specs.Prelude.{if◌then◌else◌}
 use Rattle.wit_model.specs.declared.function.Function.{Function}
 use Rattle.wit_model.specs.declared.world.WorldItem.TheVariants as entry
 use Rattle.rust_tree.specs.declared.item.FnItem.{FnItem}
@@ -15,13 +16,13 @@ use Rattle.rust_gen.specs.Body.{IsWritten}
 use Rattle.rust_gen.specs.Emitted.{Entries, functions_in, places_from, emitted_places, exported_functions, imported_functions}
 use Rattle.rust_gen.specs.Runtime.{runtime_module, runtime_items}
 use Rattle.wit_model.specs.declared.world.World.{World}
-use Rattle.rust_tree.specs.declared.export.ExportFn.{ExportFn}
 use Rattle.rust_tree.specs.declared.export.ModuleMacro.{ModuleMacro}
 use Rattle.rust_tree.specs.declared.export.RootMacro.{RootMacro}
 use Rattle.rust_tree.specs.declared.export.TraitItem.{TraitItem}
-use Rattle.rust_gen.specs.Bound.{AreItems}
-use Rattle.rust_gen.specs.ExportBody.{IsExportWritten}
-use Rattle.rust_gen.specs.Exported.{file_macro, guest_trait, last_macro, trait_and_macro, where_any, world_macro}
+use Rattle.rust_gen.specs.Bound.{AreItems, Parts, export_items}
+use Rattle.rust_gen.specs.ExportBody.{ArePartsWritten}
+use Rattle.rust_gen.specs.Exported.{area_of, file_macro, guest_trait, last_macro, static_area, trait_and_macro, where_any, world_macro}
+use Rattle.wrapper_run.specs.Areas.{needs_area}
 
 pub AllZip-more : {A B : Type 0} (R : A → B → Type 0) (xs : List A) (ys : List B) (x : A) (y : B) → AllZip R xs ys → R x y → AllZip R (xs ++ x ∷ []) (ys ++ y ∷ [])
 AllZip-more R [] [] x y z r = (r, tt)
@@ -47,20 +48,38 @@ wrapper_count-append (item.Trait t ∷ xs) ys = wrapper_count-append xs ys
 wrapper_count-append (item.ModuleMacro m ∷ xs) ys = wrapper_count-append xs ys
 wrapper_count-append (item.Runtime parts ∷ xs) ys = wrapper_count-append xs ys
 wrapper_count-append (item.RootMacro m ∷ xs) ys = wrapper_count-append xs ys
+wrapper_count-append (item.PostReturn p ∷ xs) ys = wrapper_count-append xs ys
+wrapper_count-append (item.Area a ∷ xs) ys = wrapper_count-append xs ys
 
 wrapper_count-imports : (ws : List FnItem) → wrapper_count (map item.Import ws) ≡ length ws
 wrapper_count-imports [] = refl
 wrapper_count-imports (w ∷ ws) = ap suc (wrapper_count-imports ws)
 
-wrapper_count-exports : (es : List ExportFn) → wrapper_count (map item.Export es) ≡ length es
+wrapper_count-exports : (es : List Parts) → wrapper_count (flat_map export_items es) ≡ length es
 wrapper_count-exports [] = refl
-wrapper_count-exports (e ∷ es) = ap suc (wrapper_count-exports es)
+wrapper_count-exports ((e, None) ∷ es) = ap suc (wrapper_count-exports es)
+wrapper_count-exports ((e, Some p) ∷ es) = ap suc (wrapper_count-exports es)
+
+-- the items of one more export
+pub items-more : (front : List Item) (before : List Parts) (parts : Parts) (items new : List Item) → items ≡ front ++ flat_map export_items before → new ≡ items ++ export_items parts
+    → new ≡ front ++ flat_map export_items (before ++ parts ∷ [])
+items-more front before parts items new e f =
+    f ∙ ap (λ is. is ++ export_items parts) e ∙ append_assoc front (flat_map export_items before) (export_items parts)
+    ∙ ap (λ is. front ++ is) (sym (flat_map-more before))
+  where
+    flat_map-more : (before : List Parts) → flat_map export_items (before ++ parts ∷ []) ≡ flat_map export_items before ++ export_items parts
+    flat_map-more [] = append-nil (export_items parts)
+    flat_map-more (x ∷ before) = ap (λ is. export_items x ++ is) (flat_map-more before) ∙ sym (append_assoc (export_items x) (flat_map export_items before) (export_items parts))
 
 -- items among which there is no wrapper
 
 no_wrapper-trait : (fs : List Function) (t : TraitItem) (m : ModuleMacro) → wrapper_count (where_any fs (item.Trait t ∷ item.ModuleMacro m ∷ [])) ≡ 0
 no_wrapper-trait [] t m = refl
 no_wrapper-trait (f ∷ fs) t m = refl
+
+no_wrapper-area : (b : Bool) → wrapper_count (if b then item.Area static_area ∷ [] else []) ≡ 0
+no_wrapper-area true = refl
+no_wrapper-area false = refl
 
 no_wrapper-runtime : (asked : List RuntimeItem) → wrapper_count (runtime_module asked) ≡ 0
 no_wrapper-runtime [] = refl
@@ -77,7 +96,7 @@ length-places_from n ((k, entry.Function f) ∷ es) = ap suc (length-places_from
 length-places_from n ((k, entry.Named _) ∷ es) = length-places_from (n + 1) es
 
 -- there is a place for each wrapper
-pub places_fit : (world : World) (items : List Item) (places : List FuncPlace) → AreItems IsWritten IsExportWritten world items → places ≡ emitted_places world → length places ≡ wrapper_count items
+pub places_fit : (world : World) (items : List Item) (places : List FuncPlace) → AreItems IsWritten ArePartsWritten world items → places ≡ emitted_places world → length places ≡ wrapper_count items
 places_fit world items places a p =
     let last = last_macro world in
     let runtime = runtime_module (runtime_items world) in
@@ -85,16 +104,19 @@ places_fit world items places a p =
     let traits_none : wrapper_count traits ≡ 0 = no_wrapper-trait (exported_functions world) (guest_trait (exported_functions world)) (world_macro world) in
     let runtime_none : wrapper_count runtime ≡ 0 = no_wrapper-runtime (runtime_items world) in
     let last_none : wrapper_count last ≡ 0 = no_wrapper-macro (exported_functions world) (file_macro world) in
-    let behind = traits ++ (runtime ++ last) in
+    let area = area_of (exported_functions world) in
+    let area_none : wrapper_count area ≡ 0 = no_wrapper-area (list_any (λ f. needs_area f.result) (exported_functions world)) in
+    let behind = traits ++ (area ++ (runtime ++ last)) in
     let a1 = wrapper_count-append runtime last in
-    let a2 = wrapper_count-append traits (runtime ++ last) in
-    let a3 = wrapper_count-append (map item.Export a.exports) behind in
-    let a4 = wrapper_count-append (map item.Import a.wrappers) (map item.Export a.exports ++ behind) in
+    let a5 = wrapper_count-append area (runtime ++ last) in
+    let a2 = wrapper_count-append traits (area ++ (runtime ++ last)) in
+    let a3 = wrapper_count-append (flat_map export_items a.exports) behind in
+    let a4 = wrapper_count-append (map item.Import a.wrappers) (flat_map export_items a.exports ++ behind) in
     let imports = wrapper_count-imports a.wrappers in
     let exports = wrapper_count-exports a.exports in
     let all = ap wrapper_count a.are in
     let counted : wrapper_count items ≡ length a.wrappers + length a.exports = omega arith in
     ap length p ∙ length-append (places_from 0 world.imports) (places_from 0 world.exports)
     ∙ ap (λ n. n + length (places_from 0 world.exports)) (length-places_from 0 world.imports ∙ sym (AllZip-long IsWritten (imported_functions world) a.wrappers a.wraps))
-    ∙ ap (λ n. length a.wrappers + n) (length-places_from 0 world.exports ∙ sym (AllZip-long IsExportWritten (exported_functions world) a.exports a.exported))
+    ∙ ap (λ n. length a.wrappers + n) (length-places_from 0 world.exports ∙ sym (AllZip-long ArePartsWritten (exported_functions world) a.exports a.exported))
     ∙ sym counted

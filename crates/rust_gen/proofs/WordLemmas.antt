@@ -1,5 +1,5 @@
 -- Whole numbers as the words that a wrapper lends, and as those that it takes.
-use Rattle.std.proofs.Common.{◌≡◌, ℕ, List, true, Some, refl, sym, ap, ◌∙◌, subst, ◌≢◌}
+use Rattle.std.proofs.Common.{◌≡◌, ℕ, List, true, Some, refl, sym, ap, ◌∙◌, subst, ◌≢◌, append-nil}
 use Rattle.std.specs.Prelude.{ℤ, unsigned_abs, ◌++◌, Bool, None, Ok, [], false, pos, ◌∷◌}
 use Rattle.std.specs.Int.{cast_signed, w8, w16}
 use Rattle.wit_model.specs.declared.types.WitType.{WitType}
@@ -21,7 +21,7 @@ use Rattle.wrapper_run.specs.Effect.{answer_of, cast_integer, converted, integer
 use Rattle.wrapper_run.specs.Locals.{local_named, value_of, bind}
 use Rattle.wrapper_run.specs.Represents.{Lends, Takes, TakesNumber}
 use Rattle.wrapper_run.specs.Setting.{Setting}
-use Rattle.wrapper_run.proofs.OwningLemmas.{no_buffer, owned-none, Adds, adds-none, adds-one}
+use Rattle.wrapper_run.proofs.OwningLemmas.{ArePlain, no_buffer, owned-none}
 use Rattle.wrapper_run.specs.Run.{eval, run_stmts, runtime_item_named}
 use Rattle.wrapper_run.specs.Value.{IsScalar, Scalar, char, f32, f64, number, truth}
 use Rattle.wrapper_run.proofs.NumberLemmas.{answered-i32, answered-i64, answered-number, converted-narrow, converted-wide, low_i32-u8, low_i32-u16, low_i32-s8, low_i32-s16, low_i32-s32, low_i64-s64, answered-bool, answered-char, answered-f32, answered-f64, converted-char, converted-f32, converted-f64, lifted-bool, lifted-char, not-converted}
@@ -43,10 +43,10 @@ use Rattle.rust_tree.specs.declared.stmt.Stmt.{Stmt}
 use Rattle.rust_gen.proofs.PathLemmas.{calls_runtime}
 use Rattle.rust_tree.specs.Runtime.{item_name}
 use Rattle.rust_gen.specs.Scope.{numbered, is_used}
-use Rattle.wrapper_run.proofs.LocalLemmas.{reads-new}
+use Rattle.wrapper_run.proofs.LocalLemmas.{reads-new, reads_front}
 use Rattle.wrapper_run.specs.StandsFor.{rust_value}
 use Rattle.wrapper_run.specs.Owning.{owned}
-use Rattle.rust_gen.proofs.ScopeLemmas.{Grows, Keeps, Within, free-one, grows-declared, keeps-bound, used-declared, used-first, within-bound}
+use Rattle.rust_gen.proofs.ScopeLemmas.{Fresh, Grows, free-one, fresh-apart, grows-declared, used-declared, used-first}
 
 -- the word of a value that a conversion gives
 pub record Lent (ty : WitType) (v : Scalar) : Type 0 where
@@ -90,17 +90,16 @@ lent ty (f32 bits) (e, k) n = subst (λ t. Lent t (f32 bits)) (sym e) (record { 
 lent ty (f64 bits) (e, k) n = subst (λ t. Lent t (f64 bits)) (sym e) (record { word = word.F64 bits; converts = converted-f64 bits; lends = refl; is_word = refl })
 lent ty (char c) (e, k) n = subst (λ t. Lent t (char c)) (sym e) (record { word = word.I32 (pos c); converts = converted-char c k; lends = refl; is_word = refl })
 
--- what the lifting of a word gives: its statements declare locals, and its expression is then the value, as long as the names
--- that are used read as they do there
-pub record LiftsTo (ty : WitType) (v : Scalar) (w : Setting) (before after : Scope) (stmts : List Stmt) (e : Expr) (s : State) : Type 0 where
-  pub locals : List Local
-  pub runs : run_stmts w stmts s ≡ Done tt (record s { locals = locals })
-  pub adds : Adds s.locals locals
-  pub keeps : Keeps before.used s.locals locals
-  pub within : Within before.used s.locals → Within after.used locals
+-- what the lifting of a word gives: its statements leave new locals, and its expression is then the value, also where other
+-- locals stand behind them, as long as the word is read in front of them
+pub record LiftsTo (ty : WitType) (v : Scalar) (w : Setting) (name : List ℕ) (x : Word) (before after : Scope) (stmts : List Stmt) (e : Expr) (s : State) : Type 0 where
+  pub more : List Local
+  pub runs : run_stmts w stmts s ≡ Done tt (record s { locals = s.locals ++ more })
+  pub plain : ArePlain more
+  pub fresh : Fresh before.used more
   pub grows : Grows before.used after.used
   pub given : Val
-  pub gives : (t : State) → Keeps after.used locals t.locals → eval w e t ≡ Done given t
+  pub gives : (t : State) (front behind : List Local) → t.locals ≡ (front ++ more) ++ behind → Fresh after.used behind → value_of (local_named name front) ≡ Some (val.Word x) → eval w e t ≡ Done given t
   pub answers : answer_of (printed_type ty) given ≡ Some (Some (rust_value ty v))
 
 -- the word is read by a name that is used
@@ -110,16 +109,18 @@ Reads before name x s = (is_used before.used name ≡ true) × (value_of (local_
 -- no statements, and an expression that gives the value
 at_once : (ty : WitType) (v : Scalar) (w : Setting) (name : List ℕ) (x : Word) (before after : Scope) (stmts : List Stmt) (e f : Expr) (s : State) (given : Val)
     → (stmts ≡ []) × (e ≡ f) × (after ≡ before) → Reads before name x s → ((t : State) → value_of (local_named name t.locals) ≡ Some (val.Word x) → eval w f t ≡ Done given t)
-    → answer_of (printed_type ty) given ≡ Some (Some (rust_value ty v)) → LiftsTo ty v w before after stmts e s
+    → answer_of (printed_type ty) given ≡ Some (Some (rust_value ty v)) → LiftsTo ty v w name x before after stmts e s
 at_once ty v w name x before after stmts e f s given (n, q, same) (used, at) g a = record {
-  locals = s.locals;
-  runs = ap (λ stmts. run_stmts w stmts s) n;
-  adds = adds-none s.locals;
-  keeps = λ m h. refl;
-  within = λ within m h. within m (ap (λ c. is_used c.used m) (sym same) ∙ h);
+  more = [];
+  runs = ap (λ stmts. run_stmts w stmts s) n ∙ ap (λ ls. Done tt (record s { locals = ls })) (sym (append-nil s.locals));
+  plain = tt;
+  fresh = tt;
   grows = λ m h. ap (λ c. is_used c.used m) same ∙ h;
   given = given;
-  gives = λ t k. ap (λ e. eval w e t) q ∙ g t (ap value_of (k name (ap (λ c. is_used c.used name) same ∙ used)) ∙ at);
+  gives = λ t front behind is fresh read.
+      ap (λ e. eval w e t) q
+      ∙ g t (ap (λ ls. value_of (local_named name ls)) (is ∙ ap (λ ls. ls ++ behind) (append-nil front))
+      ∙ ap value_of (reads_front name front behind (fresh-apart after.used behind name fresh (ap (λ c. is_used c.used name) same ∙ used))) ∙ read);
   answers = a;
 }
 
@@ -127,7 +128,7 @@ at_once ty v w name x before after stmts e f s given (n, q, same) (used, at) g a
 by_item : (ty : WitType) (v : Scalar) (w : Setting) (k : LocalKind) (i : RuntimeItem) (to : CastType) (name : List ℕ) (x : Word) (z : ℤ) (before after : Scope) (stmts : List Stmt) (e : Expr) (s : State)
     → LiftsBy k i (expr.Cast (expr.Local name) to) before stmts e after → Reads before name x s → integer_of_word x ≡ Some z
     → runtime_item_named w.items (item_name i) ≡ Some i → converted i (val.Value (cast_integer to z)) ≡ None → lift_of w.form i (val.Value (cast_integer to z)) ≡ Some (Ok (rust_value ty v))
-    → answer_of (printed_type ty) (val.Value (rust_value ty v)) ≡ Some (Some (rust_value ty v)) → LiftsTo ty v w before after stmts e s
+    → answer_of (printed_type ty) (val.Value (rust_value ty v)) ≡ Some (Some (rust_value ty v)) → LiftsTo ty v w name x before after stmts e s
 unfolding bind
 by_item ty v w k i to name x z before after stmts e s (t, d, is, tail) (used, at) n f c l a =
     let m = numbered k t in
@@ -138,18 +139,20 @@ by_item ty v w k i to name x z before after stmts e s (t, d, is, tail) (used, at
     call_gives w (runtime_path i) (expr.Cast (expr.Local name) to ∷ []) (val.Value (cast_integer to z) ∷ []) s (cast_gives w name to x z s at n, tt)
     ∙ lift_gives w (runtime_path i) (item_name i) i (val.Value (cast_integer to z)) (rust_value ty v) s (calls_runtime i) f c l in
     record {
-      locals = s.locals ++ made ∷ [];
+      more = made ∷ [];
       runs =
           ap (λ stmts. run_stmts w stmts s) is
           ∙ ap (λ o. and_then (and_then o (bind m)) (λ _. pure {A = Unit {0}} tt)) call;
-      adds = adds-one s.locals made plain;
-      keeps = keeps-bound before.used s.locals m (Some given) (free-one before.used k [] t d.number.free);
-      within = λ within. subst (λ us. Within us (s.locals ++ made ∷ [])) (sym (ap (λ c. c.used) d.leaves)) (within-bound before.used s.locals m (Some given) within);
+      plain = (plain, tt);
+      fresh = (free-one before.used k [] t d.number.free, tt);
       grows = grows-declared before after (k ∷ []) t d;
       given = given;
-      gives = λ u keeps.
+      gives = λ u front behind here fresh read.
           ap (λ e. eval w e u) tail
-          ∙ local_gives w m given u (ap value_of (keeps m (used-declared before after (k ∷ []) t m d (used-first m []))) ∙ reads-new m (Some given) s.locals) plain;
+          ∙ local_gives w m given u
+          (ap (λ ls. value_of (local_named m ls)) here
+          ∙ ap value_of (reads_front m (front ++ made ∷ []) behind (fresh-apart after.used behind m fresh (used-declared before after (k ∷ []) t m d (used-first m []))))
+          ∙ reads-new m (Some given) front) plain;
       answers = a;
     }
 
@@ -157,7 +160,7 @@ by_item ty v w k i to name x z before after stmts e s (t, d, is, tail) (used, at
 pub record Taken (ty : WitType) (v : Scalar) (x : Word) : Type 0 where
   pub is_word : is_word_of (core_type ty) x ≡ true
   pub lifts : (w : Setting) (name : List ℕ) (before after : Scope) (stmts : List Stmt) (e : Expr) (s : State) → LiftsScalar ty name before stmts e after
-      → Found w.items (lifting_items (Some ty)) → is_used before.used name ≡ true → value_of (local_named name s.locals) ≡ Some (val.Word x) → LiftsTo ty v w before after stmts e s
+      → Found w.items (lifting_items (Some ty)) → is_used before.used name ≡ true → value_of (local_named name s.locals) ≡ Some (val.Word x) → LiftsTo ty v w name x before after stmts e s
 
 taken_by : (ty : WitType) (v : ℤ) (x : Word) (p : Primitive) (to : CastType) (z u : ℤ)
     → ((name : List ℕ) (before after : Scope) (stmts : List Stmt) (e : Expr) → LiftsScalar ty name before stmts e after → (stmts ≡ []) × (e ≡ expr.Cast (expr.Local name) to) × (after ≡ before))

@@ -1,5 +1,5 @@
 -- What is written is a wrapper, seen from outside.
-use Rattle.std.proofs.Common.{◌≡◌, ℕ, List, [], ◌∷◌, ◌++◌, Option, None, Some, refl, ap, ◌∙◌}
+use Rattle.std.proofs.Common.{◌≡◌, ℕ, Bool, true, false, List, [], ◌∷◌, ◌++◌, Option, None, Some, refl, ap, ◌∙◌}
 use Rattle.std.specs.List.{AllZip}
 use Rattle.wit_model.specs.declared.function.Function.{Function}
 use Rattle.wit_model.specs.declared.function.Param.{Param}
@@ -12,16 +12,18 @@ use Rattle.rust_tree.specs.declared.stmt.Stmt.{Stmt}
 use Rattle.rust_tree.specs.declared.stmt.Stmt.TheVariants as stmt
 use Rattle.rust_tree.specs.Tree.{Tree}
 use Rattle.rust_gen.specs.Body.{IsBody, IsWritten, LiftsAs, Points, area_stmts, Lifts, LowersAll, LowersAs, call_stmt, import_decl, result_name, root_module}
-use Rattle.rust_gen.specs.Bound.{Binds}
+use Rattle.rust_gen.specs.Bound.{Binds, Parts}
 use Rattle.rust_gen.specs.declared.scope.Scope.{Scope}
 use Rattle.wit_model.specs.declared.size.WasmType.{WasmType}
 use Rattle.rust_tree.specs.declared.stmt.Block.{Block}
 use Rattle.rust_gen.specs.Printed.{core_result}
 use Rattle.rust_gen.specs.declared.scope.LocalKind.TheVariants as kind
 use Rattle.rust_gen.specs.Scope.{Bytes, first_scope, numbered}
-use Rattle.rust_gen.specs.Wrapper.{Declares, Wraps, declared, WrapsExport}
+use Rattle.rust_gen.specs.Wrapper.{Declares, HasReturn, Wraps, WrapsParts, WrapsReturn, declared, WrapsExport}
 use Rattle.rust_tree.specs.declared.export.ExportFn.{ExportFn}
-use Rattle.rust_gen.specs.ExportBody.{IsExportWritten}
+use Rattle.rust_tree.specs.declared.export.PostReturnFn.{PostReturnFn}
+use Rattle.rust_gen.specs.ExportBody.{ArePartsWritten, IsExportWritten, IsReturnWritten, ReturnWritten}
+use Rattle.wrapper_run.specs.Areas.{needs_area}
 use Rattle.rust_gen.specs.Exported.{guest_name}
 
 declared-append : (a b : List Stmt) → declared (a ++ b) ≡ declared a ++ declared b
@@ -30,6 +32,7 @@ declared-append (stmt.Import d ∷ a) b = ap (λ ds. d ∷ ds) (declared-append 
 declared-append (stmt.Let n e ∷ a) b = declared-append a b
 declared-append (stmt.Expr e ∷ a) b = declared-append a b
 declared-append (stmt.Area r ∷ a) b = declared-append a b
+declared-append (stmt.Store p o t e ∷ a) b = declared-append a b
 
 lowers-none : (ty : WitType) (before : Scope) (p : Param) (stmts : List Stmt) (words : List Expr) (after : Scope) → LowersAs ty before p stmts words after → declared stmts ≡ []
 lowers-none wit.Bool before p stmts words after (t, d, is, wd) = ap declared is
@@ -105,14 +108,25 @@ wraps_export : (f : Function) (e : ExportFn) → IsExportWritten f e → WrapsEx
 unfolding guest_name
 wraps_export f e w = record { base = w.base; bound = w.bound; params = w.params; answer = w.answer; calls = ap (λ c. c.method) w.body.is }
 
-pub binds_wraps : {world : World} {tree : Tree} → Binds IsWritten IsExportWritten world tree → Binds Wraps WrapsExport world tree
+wraps_return : (f : Function) (p : PostReturnFn) → IsReturnWritten f p → WrapsReturn f p
+unfolding guest_name
+wraps_return f p w = record { base = w.base; bound = w.bound; params = w.params }
+
+wraps_parts : (f : Function) (parts : Parts) → ArePartsWritten f parts → WrapsParts f parts
+wraps_parts f parts w = (wraps_export f parts.0 w.0, go (needs_area f.result) w.1)
+  where
+    go : (b : Bool) → ReturnWritten b f parts.1 → HasReturn b f parts.1
+    go true (q, is, written) = (q, is, wraps_return f q written)
+    go false e = e
+
+pub binds_wraps : {world : World} {tree : Tree} → Binds IsWritten ArePartsWritten world tree → Binds Wraps WrapsParts world tree
 binds_wraps b = record {
   items = record {
     wrappers = b.items.wrappers;
     exports = b.items.exports;
     are = b.items.are;
     wraps = AllZip-map IsWritten Wraps wraps _ b.items.wrappers b.items.wraps;
-    exported = AllZip-map IsExportWritten WrapsExport wraps_export _ b.items.exports b.items.exported;
+    exported = AllZip-map ArePartsWritten WrapsParts wraps_parts _ b.items.exports b.items.exported;
   };
   places = b.places;
   options = b.options;

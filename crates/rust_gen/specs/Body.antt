@@ -161,15 +161,20 @@ word_at base pointers ty = expr.Load (expr.Local base) (record { bytes = 0; poin
 abbrev pub lift_kinds : List LocalKind
 lift_kinds = kind.Length ∷ kind.Bytes ∷ kind.Text ∷ []
 
-abbrev pub text_taken : ℕ → ℕ → ℕ → List Stmt
-text_taken a b c =
-    stmt.Let (numbered kind.Length c) (expr.Local (numbered kind.Loaded b))
-    ∷ stmt.Let (numbered kind.Bytes c) (expr.FromRawParts (expr.Local (numbered kind.Loaded a)) (numbered kind.Length c))
+-- by the locals that hold its address and its length
+abbrev pub text_taken : (address size : Bytes) → ℕ → List Stmt
+text_taken address size c =
+    stmt.Let (numbered kind.Length c) (expr.Local size)
+    ∷ stmt.Let (numbered kind.Bytes c) (expr.FromRawParts (expr.Local address) (numbered kind.Length c))
     ∷ stmt.Let (numbered kind.Text c) (runtime_call StringLift (expr.Local (numbered kind.Bytes c))) ∷ []
+
+abbrev pub LiftsTaken : (address size : Bytes) → Scope → List Stmt → Expr → Scope → Type 0
+LiftsTaken address size before stmts tail after =
+    (t : ℕ) × Declares before lift_kinds t after × (stmts ≡ text_taken address size t) × (tail ≡ expr.Local (numbered kind.Text t))
 
 abbrev pub text_lift : Bytes → ℕ → ℕ → ℕ → List Stmt
 text_lift base a b c =
-    stmt.Let (numbered kind.Loaded a) (word_at base 0 core.Pointer) ∷ stmt.Let (numbered kind.Loaded b) (word_at base 1 core.Length) ∷ text_taken a b c
+    stmt.Let (numbered kind.Loaded a) (word_at base 0 core.Pointer) ∷ stmt.Let (numbered kind.Loaded b) (word_at base 1 core.Length) ∷ text_taken (numbered kind.Loaded a) (numbered kind.Loaded b) c
 
 pub record LiftsText (base : Bytes) (before : Scope) (stmts : List Stmt) (tail : Expr) : Type 0 where
   pub first : ℕ

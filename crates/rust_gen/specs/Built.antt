@@ -46,32 +46,16 @@ abbrev pub is_built_function : Function → Bool
 is_built_function f =
     is_freestanding f.kind && nat_le (length (param_words f.params)) 16 && list_all (λ p. is_built_type p.ty) f.params && is_built_result f.result
 
-abbrev pub is_built_import : WorldItem → Bool
-is_built_import (item.Function f) = is_built_function f
-is_built_import _ = false
-
--- an exported function: so far over scalars
-abbrev pub is_scalar_type : WitType → Bool
-is_scalar_type wit.String = false
-is_scalar_type ty = is_built_type ty
-
-abbrev pub is_scalar_result : Option WitType → Bool
-is_scalar_result None = true
-is_scalar_result (Some ty) = is_scalar_type ty
-
-abbrev pub is_scalar_function : Function → Bool
-is_scalar_function f = is_built_function f && list_all (λ p. is_scalar_type p.ty) f.params && is_scalar_result f.result
-
-abbrev pub is_built_export : WorldItem → Bool
-is_built_export (item.Function f) = is_scalar_function f
-is_built_export _ = false
+abbrev pub is_built_item : WorldItem → Bool
+is_built_item (item.Function f) = is_built_function f
+is_built_item _ = false
 
 abbrev pub is_empty : {A : Type 0} → List A → Bool
 is_empty [] = true
 is_empty (_ ∷ _) = false
 
 unfoldable pub is_built_world : World → Bool
-is_built_world world = list_all (λ entry. is_built_import entry.1) world.imports && list_all (λ entry. is_built_export entry.1) world.exports
+is_built_world world = list_all (λ entry. is_built_item entry.1) world.imports && list_all (λ entry. is_built_item entry.1) world.exports
 
 unfoldable pub are_built_tables : Resolve → Bool
 are_built_tables r = is_empty r.interfaces && is_empty r.types && list_all is_built_world r.worlds

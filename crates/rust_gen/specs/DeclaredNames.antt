@@ -1,10 +1,11 @@
 -- Which names the file of a world declares, and whether they are identifiers of which no two clash.
-use Rattle.std.specs.Prelude.{ℕ, Bool, true, false, not, ◌&&◌, ◌||◌, List, [], ◌∷◌, ◌++◌, codes, map}
-use Rattle.std.specs.List.{list_all}
+use Rattle.std.specs.Prelude.{ℕ, Bool, true, false, ◌&&◌, ◌||◌, List, [], ◌∷◌, ◌++◌, codes, if◌then◌else◌, map}
+use Rattle.std.specs.List.{flat_map, list_all, list_any}
 use Rattle.wit_model.specs.declared.function.Function.{Function}
 use Rattle.wit_model.specs.declared.world.World.{World}
 use Rattle.wit_model.specs.Distinct.{is_distinct}
 use Rattle.rust_tree.specs.Ident.{is_ident, rust_ident}
+use Rattle.wrapper_run.specs.Areas.{needs_area}
 use Rattle.rust_gen.specs.Emitted.{exported_functions, imported_functions}
 
 -- the functions of the root: the wrappers
@@ -18,8 +19,25 @@ cabi_suffix = codes "_cabi"
 abbrev pub export_ident : Function → List ℕ
 export_ident f = export_prefix ++ f.name.snake ++ cabi_suffix
 
+unfoldable pub return_prefix : List ℕ
+return_prefix = codes "__post_return_"
+
+-- a post-return function, where the result passes by an area
+abbrev pub return_idents : Function → List (List ℕ)
+return_idents f = if needs_area f.result then (return_prefix ++ f.name.snake) ∷ [] else []
+
+unfoldable pub area_ident : List ℕ
+area_ident = codes "_RET_AREA"
+
+abbrev pub area_idents : List Function → List (List ℕ)
+area_idents functions = if list_any (λ f. needs_area f.result) functions then area_ident ∷ [] else []
+
+-- the static area stands among them
+abbrev pub value_idents : List Function → List Function → List (List ℕ)
+value_idents imports exports = map (λ f. rust_ident f.name) imports ++ (area_idents exports ++ (flat_map return_idents exports ++ map export_ident exports))
+
 abbrev pub function_idents : World → List (List ℕ)
-function_idents world = map (λ f. rust_ident f.name) (imported_functions world) ++ map export_ident (exported_functions world)
+function_idents world = value_idents (imported_functions world) (exported_functions world)
 
 -- the functions of the trait
 abbrev pub method_idents : World → List (List ℕ)

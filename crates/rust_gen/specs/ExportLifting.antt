@@ -5,13 +5,11 @@ use Rattle.rust_tree.specs.declared.expr.Expr.{Expr}
 use Rattle.rust_tree.specs.declared.stmt.Stmt.{Stmt}
 use Rattle.rust_gen.specs.declared.export.Lifted.{Lifted}
 use Rattle.rust_gen.specs.declared.scope.Scope.{Scope}
-use Rattle.rust_gen.specs.Body.{LiftsScalar}
-use Rattle.rust_gen.specs.ExportBody.{LiftsAll}
-use Rattle.rust_gen.specs.Exported.{arg_name}
+use Rattle.rust_gen.specs.ExportBody.{LiftsAll, LiftsParam}
 
 abbrev pub LiftsOne : ℕ → Scope → Lifted → Param → Scope → Lifted → Type 0
 LiftsOne n before old p after new =
-    (stmts : List Stmt) × (e : Expr) × LiftsScalar p.ty (arg_name n) before stmts e after × (new.stmts ≡ old.stmts ++ stmts) × (new.arguments ≡ old.arguments ++ e ∷ [])
+    (stmts : List Stmt) × (e : Expr) × LiftsParam p.ty n before stmts e after × (new.stmts ≡ old.stmts ++ stmts) × (new.arguments ≡ old.arguments ++ e ∷ [])
 
 abbrev pub LiftsParams : ℕ → Scope → Lifted → List Param → Scope → Lifted → Type 0
 LiftsParams n before old params after new =

@@ -8,7 +8,7 @@ use Rattle.rust_tree.specs.Text.{text}
 use Rattle.rust_tree.specs.Tree.{Tree}
 use Rattle.rust_gen.specs.Bound.{Binds}
 use Rattle.rust_gen.specs.Faithful.{AreFaithful}
-use Rattle.rust_gen.specs.Wrapper.{Wraps, WrapsExport}
+use Rattle.rust_gen.specs.Wrapper.{Wraps, WrapsParts}
 
 unfoldable pub rust_ending : Bytes
 rust_ending = codes ".rs"
@@ -28,6 +28,6 @@ pub record Gains (old new : List Entry) (name bytes : Bytes) : Type 0 where
 pub record Generates (resolve : Resolve) (id : WorldId) (old new : List Entry) (tree : Tree) : Type 0 where
   pub world : World
   pub named : slice_get resolve.worlds id.0 ≡ Some world
-  pub bound : Binds Wraps WrapsExport world tree
+  pub bound : Binds Wraps WrapsParts world tree
   pub faithful : AreFaithful world tree
   pub gains : Gains old new (file_name world) (text tree)

@@ -11,7 +11,7 @@ use Rattle.rust_tree.specs.declared.item.Item.TheVariants as item
 use Rattle.rust_tree.specs.declared.runtime_item.RuntimeItem.{RuntimeItem}
 use Rattle.rust_tree.specs.Runtime.{needed_items}
 use Rattle.rust_gen.specs.Emitted.{exported_functions, imported_functions}
-use Rattle.rust_tree.specs.declared.runtime_item.RuntimeItem.TheVariants.{AsI32, AsI64, AsF32, AsF64, AllocCrate, StringType, VecType, BoolLift, CharLift, StringLift}
+use Rattle.rust_tree.specs.declared.runtime_item.RuntimeItem.TheVariants.{AsI32, AsI64, AsF32, AsF64, AllocCrate, StringType, VecType, BoolLift, CharLift, StringLift, AllocModule, CabiDealloc}
 
 abbrev pub is_same_item : RuntimeItem → RuntimeItem → Bool
 is_same_item AsI32 AsI32 = true
@@ -24,6 +24,8 @@ is_same_item VecType VecType = true
 is_same_item BoolLift BoolLift = true
 is_same_item CharLift CharLift = true
 is_same_item StringLift StringLift = true
+is_same_item AllocModule AllocModule = true
+is_same_item CabiDealloc CabiDealloc = true
 is_same_item _ _ = false
 
 -- the item that makes a value of this type a core value, where one does
@@ -50,7 +52,7 @@ lifting_items (Some wit.Char) = CharLift ∷ []
 lifting_items (Some wit.String) = VecType ∷ StringLift ∷ []
 lifting_items _ = []
 
--- a signature names the type of a text that comes back
+-- a signature names the type of a text that is owned
 abbrev pub signature_items : Option WitType → List RuntimeItem
 signature_items (Some wit.String) = StringType ∷ []
 signature_items _ = []
@@ -64,20 +66,29 @@ abbrev pub returning_items : Option WitType → List RuntimeItem
 returning_items None = []
 returning_items (Some ty) = lowering_items ty
 
--- what the wrapper of an exported function asks for
+-- a post-return function frees a text
+abbrev pub freeing_items : Option WitType → List RuntimeItem
+freeing_items (Some wit.String) = CabiDealloc ∷ []
+freeing_items _ = []
+
+-- what the wrapper of an exported function asks for, and its post-return function
 abbrev pub asked_by_export : Function → List RuntimeItem
-asked_by_export f = flat_map (λ p. lifting_items (Some p.ty)) f.params ++ returning_items f.result
+asked_by_export f = flat_map (λ p. lifting_items (Some p.ty)) f.params ++ (returning_items f.result ++ freeing_items f.result)
 
--- what the wrappers of imports and exports ask for: first those of the imports
+-- what the function of the trait asks for: texts come in and go out by their type
+abbrev pub asked_by_method : Function → List RuntimeItem
+asked_by_method f = flat_map (λ p. signature_items (Some p.ty)) f.params ++ signature_items f.result
+
+-- what the wrappers of the imports ask for, those of the exports, and the trait
 abbrev pub asked_items : List Function → List Function → List RuntimeItem
-asked_items imports exports = flat_map asked_by imports ++ flat_map asked_by_export exports
+asked_items imports exports = flat_map asked_by imports ++ (flat_map asked_by_export exports ++ flat_map asked_by_method exports)
 
--- a round: behind the items stand those that they need
+-- a round: behind the items stand those that they need; two rounds leave none out
 abbrev pub with_needed : List RuntimeItem → List RuntimeItem
 with_needed items = fold with_asked items (flat_map needed_items items)
 
 abbrev pub items_for : List Function → List Function → List RuntimeItem
-items_for imports exports = with_needed (fold with_asked [] (asked_items imports exports))
+items_for imports exports = with_needed (with_needed (fold with_asked [] (asked_items imports exports)))
 
 abbrev pub runtime_items : World → List RuntimeItem
 runtime_items world = items_for (imported_functions world) (exported_functions world)

@@ -2,7 +2,7 @@
 
 ghost use Rattle.std.specs.Prelude.{◌≡◌};
 ghost use Rattle.std.specs.List.{list_all};
-ghost use Rattle.rust_gen.specs.Built.{is_built_type, is_built_result, is_freestanding, is_built_function, is_built_import, is_built_export, is_scalar_type, is_scalar_result, is_scalar_function, is_empty, is_built_world, are_built_tables, are_flags_off, are_lists_empty, are_values_absent, is_owning, are_built_options};
+ghost use Rattle.rust_gen.specs.Built.{is_built_type, is_built_result, is_freestanding, is_built_function, is_built_item, is_empty, is_built_world, are_built_tables, are_flags_off, are_lists_empty, are_values_absent, is_owning, are_built_options};
 
 use crate::core_signature::are_at_most;
 use crate::opts::{Opts, Ownership};
@@ -61,50 +61,11 @@ fn is_built_function(f: &Function) -> bool
         && is_built_result(&f.result)
 }
 
-fn is_built_import(item: &WorldItem) -> bool
-    ensures { result ≡ is_built_import item.now }
+fn is_built_item(item: &WorldItem) -> bool
+    ensures { result ≡ is_built_item item.now }
 {
     match item {
         WorldItem::Function(f) => is_built_function(f),
-        _ => false,
-    }
-}
-
-fn is_scalar_type(ty: WitType) -> bool
-    ensures { result ≡ is_scalar_type ty }
-{
-    match ty {
-        WitType::String => false,
-        _ => is_built_type(ty),
-    }
-}
-
-fn is_scalar_result(answer: &Option<WitType>) -> bool
-    ensures { result ≡ is_scalar_result answer.now }
-{
-    match answer {
-        None => true,
-        Some(ty) => is_scalar_type(*ty),
-    }
-}
-
-fn are_scalar_types(params: &[Param]) -> bool
-    ensures { result ≡ list_all (λ p. is_scalar_type p.ty) params.now }
-{
-    params.iter().all(|p| is_scalar_type(p.ty))
-}
-
-fn is_scalar_function(f: &Function) -> bool
-    ensures { result ≡ is_scalar_function f.now }
-{
-    is_built_function(f) && are_scalar_types(f.params.as_slice()) && is_scalar_result(&f.result)
-}
-
-fn is_built_export(item: &WorldItem) -> bool
-    ensures { result ≡ is_built_export item.now }
-{
-    match item {
-        WorldItem::Function(f) => is_scalar_function(f),
         _ => false,
     }
 }
@@ -118,23 +79,17 @@ fn is_empty<T>(list: &List<T>) -> bool
     }
 }
 
-fn are_built_imports(entries: &[(WorldKey, WorldItem)]) -> bool
-    ensures { result ≡ list_all (λ entry. is_built_import entry.1) entries.now }
+fn are_built_items(entries: &[(WorldKey, WorldItem)]) -> bool
+    ensures { result ≡ list_all (λ entry. is_built_item entry.1) entries.now }
 {
-    entries.iter().all(|entry| is_built_import(&entry.1))
-}
-
-fn are_built_exports(entries: &[(WorldKey, WorldItem)]) -> bool
-    ensures { result ≡ list_all (λ entry. is_built_export entry.1) entries.now }
-{
-    entries.iter().all(|entry| is_built_export(&entry.1))
+    entries.iter().all(|entry| is_built_item(&entry.1))
 }
 
 #[tactic(auto, unfolding(crate::specs::Built::is_built_world))]
 fn is_built_world(world: &World) -> bool
     ensures { result ≡ is_built_world world.now }
 {
-    are_built_imports(world.imports.as_slice()) && are_built_exports(world.exports.as_slice())
+    are_built_items(world.imports.as_slice()) && are_built_items(world.exports.as_slice())
 }
 
 fn are_built_worlds(worlds: &[World]) -> bool
@@ -143,7 +98,7 @@ fn are_built_worlds(worlds: &[World]) -> bool
     worlds.iter().all(|world| is_built_world(world))
 }
 
-/// Whether the tables hold only worlds of functions over scalars and, on the side of the imports, texts.
+/// Whether the tables hold only worlds of functions over scalars and texts.
 #[tactic(auto, unfolding(crate::specs::Built::are_built_tables))]
 pub(crate) fn are_built_tables(resolve: &Resolve) -> bool
     ensures { result ≡ are_built_tables resolve.now }

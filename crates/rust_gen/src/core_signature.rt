@@ -58,7 +58,8 @@ pub(crate) fn core_params(alloc: Global, f: &Function) -> Result<List<WasmType>,
     Ok(types)
 }
 
-fn word_count(ty: WitType) -> usize
+/// How many core values a parameter is.
+pub(crate) fn word_count(ty: WitType) -> u32
     ensures { result ≡ length (core_words ty) }
 {
     match ty {
@@ -74,7 +75,7 @@ pub(crate) fn are_at_most(params: &[Param], most: usize) -> bool
     match params.split_first() {
         None => true,
         Some((p, params)) => {
-            let count = word_count(p.ty);
+            let count = word_count(p.ty) as usize;
             count <= most && are_at_most(params, most - count)
         }
     }

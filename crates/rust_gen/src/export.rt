@@ -2,25 +2,22 @@
 
 ghost use Rattle.std.specs.Prelude.{◌≡◌, ◌++◌, ◌+◌, ◌^◌, ◌<◌, ◌∷◌, [], List, IfOk, OnOk, map};
 ghost use Rattle.rust_tree.specs.declared.expr.Expr.{Expr};
-ghost use Rattle.rust_tree.specs.declared.expr.Expr.TheVariants as expr;
 ghost use Rattle.rust_tree.specs.declared.stmt.Stmt.{Stmt};
-ghost use Rattle.rust_tree.specs.declared.stmt.Stmt.TheVariants as stmt;
 ghost use Rattle.rust_tree.specs.Ident.{rust_ident};
-ghost use Rattle.wit_model.specs.declared.types.WitType.TheVariants as wit;
-ghost use Rattle.rust_gen.specs.ExportBody.{DeclaresValue, IsExportBody, IsExportWritten, LowersBack, LowersResult, export_scope, value_local, value_name};
+ghost use Rattle.rust_gen.specs.ExportBody.{DeclaresValue, IsExportBody, IsExportWritten, LiftsParam, export_scope, scope_of, value_local, value_name};
 ghost use Rattle.rust_gen.specs.Exported.{arg_name, core_args, export_params, export_result, guest_name};
 ghost use Rattle.rust_gen.specs.ExportLifting.{LiftsOne, LiftsParams};
 ghost use Rattle.rust_gen.specs.Scope.{Declares, numbered, ret_area};
 ghost use Rattle.rust_gen.specs.declared.scope.LocalKind.TheVariants as kind;
 
+use crate::core_signature::word_count;
 use crate::exported::{arg_name, export_params, export_result, guest_name};
-use crate::forms::runtime_call;
-use crate::lift::lift_scalar;
-use crate::runtime::lowering_item;
+use crate::give::lower_result;
+use crate::lift::{lift_scalar, lift_taken};
 use crate::scope::{LocalKind, Scope, numbered, scope_over};
 use rust_tree::{Block, CallBlock, CoreParam, ExportFn, Expr, Stmt, to_rust_ident};
 use std::alloc::Global;
-use wit_model::{Boxed, Function, List, OutOfMemory, Param, Text, WitType};
+use wit_model::{Function, List, OutOfMemory, Param, Text, WitType};
 
 /// What the words of parameters are lifted to: statements, and the arguments of the call.
 #[derive(Drop)]
@@ -39,18 +36,47 @@ fn param_names(alloc: Global, params: &[CoreParam]) -> Result<List<Text>, OutOfM
     Ok(names)
 }
 
-/// The scope of a wrapper at first, in which no parameter has the area's name.
+/// The scope of a function with these core parameters at first, of which none has the area's name.
 #[tactic(auto, unfolding(crate::specs::Scope::ret_area))]
-fn export_scope(alloc: Global, f: &Function) -> Result<Scope, OutOfMemory>
-    ensures { IfOk result (λ scope. scope ≡ export_scope f.now) }
+pub(crate) fn scope_of(alloc: Global, params: &[CoreParam]) -> Result<Scope, OutOfMemory>
+    ensures { IfOk result (λ scope. scope ≡ scope_of params.now) }
 {
-    let params = export_params(alloc, f)?;
-    let names = param_names(alloc, params.as_slice())?;
+    let names = param_names(alloc, params)?;
     let area = Text::from_str(alloc, "ret_area")?;
     scope_over(alloc, names, &area)
 }
 
-/// Lifts the word of a number to an argument behind those before it.
+fn export_scope(alloc: Global, f: &Function) -> Result<Scope, OutOfMemory>
+    ensures { IfOk result (λ scope. scope ≡ export_scope f.now) }
+{
+    let params = export_params(alloc, f)?;
+    scope_of(alloc, params.as_slice())
+}
+
+/// Lifts a parameter, whose words are numbered from `n`: statements behind others, and the value. There is no memory also
+/// where a number would pass a `u32`.
+fn lift_param(
+    alloc: Global,
+    scope: &mut Scope,
+    n: u32,
+    ty: WitType,
+    stmts: &mut List<Stmt>,
+) -> Result<Expr, OutOfMemory>
+    ensures { IfOk result
+        (λ e. (more : List Stmt) × LiftsParam ty n scope.old more e scope.new × (stmts.new ≡ stmts.old ++ more)) }
+{
+    let name = arg_name(alloc, n)?;
+    match ty {
+        WitType::String => {
+            let second = n.checked_add(1).ok_or(OutOfMemory)?;
+            let size = arg_name(alloc, second)?;
+            lift_taken(alloc, scope, name, size, stmts)
+        }
+        _ => lift_scalar(alloc, scope, ty, name, stmts),
+    }
+}
+
+/// Lifts a parameter to an argument behind those before it.
 fn lift_one(
     alloc: Global,
     scope: &mut Scope,
@@ -60,8 +86,7 @@ fn lift_one(
 ) -> Result<(), OutOfMemory>
     ensures { OnOk result (LiftsOne n scope.old body.old p.now scope.new body.new) }
 {
-    let name = arg_name(alloc, n)?;
-    let e = lift_scalar(alloc, scope, p.ty, name, &mut body.stmts)?;
+    let e = lift_param(alloc, scope, n, p.ty, &mut body.stmts)?;
     body.arguments.push(e)?;
     Ok(())
 }
@@ -82,14 +107,14 @@ fn lift_all(
         None => Ok(()),
         Some((p, params)) => {
             lift_one(alloc, scope, n, p, body)?;
-            let next = n.checked_add(1).ok_or(OutOfMemory)?;
+            let next = n.checked_add(word_count(p.ty)).ok_or(OutOfMemory)?;
             lift_all(alloc, scope, next, params, body)?;
             Ok(())
         }
     }
 }
 
-fn value_name(alloc: Global, t: u32) -> Result<Text, OutOfMemory>
+pub(crate) fn value_name(alloc: Global, t: u32) -> Result<Text, OutOfMemory>
     ensures { IfOk result (λ name. name ≡ value_name t) }
 {
     numbered(alloc, LocalKind::Result, t)
@@ -118,58 +143,6 @@ fn value_local(alloc: Global, answer: &Option<WitType>, t: u32) -> Result<Option
     }
 }
 
-fn lower_bool(
-    alloc: Global,
-    scope: &mut Scope,
-    name: Text,
-    stmts: &mut List<Stmt>,
-) -> Result<Expr, OutOfMemory>
-    ensures { IfOk result
-        (λ e. (more : List Stmt) × LowersBack wit.Bool name scope.old more e × (stmts.new ≡ stmts.old ++ more)) }
-{
-    let t = scope.declare(alloc, &[LocalKind::Bool])?;
-    let word = Expr::I32FromBool(Boxed::new(alloc, Expr::Local(name))?);
-    stmts.push(Stmt::Let(numbered(alloc, LocalKind::Bool, t)?, word))?;
-    Ok(Expr::Local(numbered(alloc, LocalKind::Bool, t)?))
-}
-
-/// Lowers a value that a local holds: statements behind others, and the word.
-fn lower_back(
-    alloc: Global,
-    scope: &mut Scope,
-    ty: WitType,
-    name: Text,
-    stmts: &mut List<Stmt>,
-) -> Result<Expr, OutOfMemory>
-    ensures { IfOk result
-        (λ e. (more : List Stmt) × LowersBack ty name scope.old more e × (stmts.new ≡ stmts.old ++ more)) }
-{
-    match ty {
-        WitType::Bool => lower_bool(alloc, scope, name, stmts),
-        _ => runtime_call(alloc, lowering_item(ty), Expr::Local(name)),
-    }
-}
-
-/// Lowers the method's value, if there is one: what follows the call.
-fn lower_result(
-    alloc: Global,
-    scope: &mut Scope,
-    answer: &Option<WitType>,
-    t: u32,
-) -> Result<Block, OutOfMemory>
-    ensures { IfOk result (λ rest. LowersResult answer.now t scope.old rest.stmts rest.tail) }
-{
-    let mut stmts = List::new(alloc);
-    let tail = match answer {
-        None => None,
-        Some(ty) => {
-            let name = value_name(alloc, t)?;
-            Some(lower_back(alloc, scope, *ty, name, &mut stmts)?)
-        }
-    };
-    Ok(Block { stmts, tail })
-}
-
 /// The block that calls the method, and what follows it.
 fn export_body(alloc: Global, f: &Function) -> Result<(CallBlock, Block), OutOfMemory>
     ensures { IfOk result (λ body. IsExportBody f.now body.0 body.1) }
@@ -192,7 +165,7 @@ fn export_body(alloc: Global, f: &Function) -> Result<(CallBlock, Block), OutOfM
     Ok((call, rest))
 }
 
-/// The wrapper of an exported function over scalars.
+/// The wrapper of an exported function over scalars and texts.
 pub(crate) fn export_wrapper(alloc: Global, f: &Function) -> Result<ExportFn, OutOfMemory>
     ensures { IfOk result (IsExportWritten f.now) }
 {

@@ -1,19 +1,24 @@
 //! The items by which a world exports its functions: the trait of their implementation, and the macros.
 
 ghost use Rattle.std.specs.Prelude.{◌≡◌, ◌++◌, ◌+◌, IfOk, OnOk, map};
+ghost use Rattle.std.specs.List.{flat_map};
+ghost use Rattle.wrapper_run.specs.Returned.{post_return_name};
 ghost use Rattle.rust_gen.specs.Emitted.{exported_functions};
-ghost use Rattle.rust_gen.specs.Exported.{arg_name, core_args, export_entry, export_params, export_result, file_macro, guest_name, guest_trait, last_macro, macro_name, trait_and_macro, trait_fn, trait_param, world_macro};
+ghost use Rattle.rust_gen.specs.Exported.{area_of, arg_name, core_args, entries_of, export_entry, export_params, export_result, file_macro, guest_name, guest_trait, last_macro, macro_name, return_entry, return_params, static_area, trait_and_macro, trait_fn, trait_param, world_macro};
 
+use crate::area::{any_needs_area, needs_area};
 use crate::core_signature::{core_type, param_words};
 use crate::docs::doc_lines;
 use crate::lists::one;
 use crate::printed::{printed_result, printed_type};
 use rust_tree::{
-    CoreParam, ExportEntry, FnParam, Item, ModuleMacro, RootMacro, TraitFn, TraitItem,
-    to_rust_ident,
+    CoreParam, EntryKind, ExportEntry, FnParam, Item, ModuleMacro, RootMacro, StaticArea, TraitFn,
+    TraitItem, to_rust_ident,
 };
 use std::alloc::Global;
-use wit_model::{Function, List, OutOfMemory, Param, Text, WasmType, WitType, World};
+use wit_model::{
+    Alignment, ArchitectureSize, Function, List, OutOfMemory, Param, Text, WasmType, WitType, World,
+};
 
 /// The name of the trait.
 #[tactic(auto, unfolding(crate::specs::Exported::guest_name))]
@@ -112,6 +117,7 @@ pub(crate) fn export_result(answer: &Option<WitType>) -> Option<WasmType>
 {
     match answer {
         None => None,
+        Some(WitType::String) => Some(WasmType::Pointer),
         Some(ty) => Some(core_type(*ty)),
     }
 }
@@ -120,6 +126,7 @@ fn export_entry(alloc: Global, f: &Function) -> Result<ExportEntry, OutOfMemory>
     ensures { IfOk result (λ entry. entry ≡ export_entry f.now) }
 {
     Ok(ExportEntry {
+        kind: EntryKind::Wrapper,
         export_name: f.name.wit.copy(alloc)?,
         base: f.name.snake.copy(alloc)?,
         params: export_params(alloc, f)?,
@@ -127,13 +134,59 @@ fn export_entry(alloc: Global, f: &Function) -> Result<ExportEntry, OutOfMemory>
     })
 }
 
+/// The core parameters of a post-return function: the pointer that the wrapper returned.
+pub(crate) fn return_params(alloc: Global) -> Result<List<CoreParam>, OutOfMemory>
+    ensures { IfOk result (λ params. params ≡ return_params) }
+{
+    let mut args = List::new(alloc);
+    push_args(alloc, &mut args, 0, &[WasmType::Pointer])?;
+    Ok(args)
+}
+
+/// The export name of a post-return function.
+#[tactic(auto, unfolding(wrapper_run::specs::Returned::post_return_name))]
+fn post_return_name(alloc: Global, f: &Function) -> Result<Text, OutOfMemory>
+    ensures { IfOk result (λ name. name ≡ post_return_name f.now) }
+{
+    let mut name = Text::from_str(alloc, "cabi_post_")?;
+    name.push_str(f.name.wit.as_str())?;
+    Ok(name)
+}
+
+fn return_entry(alloc: Global, f: &Function) -> Result<ExportEntry, OutOfMemory>
+    ensures { IfOk result (λ entry. entry ≡ return_entry f.now) }
+{
+    Ok(ExportEntry {
+        kind: EntryKind::PostReturn,
+        export_name: post_return_name(alloc, f)?,
+        base: f.name.snake.copy(alloc)?,
+        params: return_params(alloc)?,
+        result: None,
+    })
+}
+
+/// Puts the entries of a function behind others: that of its wrapper, and that of its post-return function if it has one.
+fn push_entries(
+    alloc: Global,
+    entries: &mut List<ExportEntry>,
+    f: &Function,
+) -> Result<(), OutOfMemory>
+    ensures { OnOk result (entries.new ≡ entries.old ++ entries_of f.now) }
+{
+    entries.push(export_entry(alloc, f)?)?;
+    if needs_area(&f.result) {
+        entries.push(return_entry(alloc, f)?)?;
+    }
+    Ok(())
+}
+
 fn export_entries(alloc: Global, functions: &[&Function]) -> Result<List<ExportEntry>, OutOfMemory>
     ensures { IfOk result
-        (λ entries. entries ≡ map export_entry (map (λ f. f.now) functions.now)) }
+        (λ entries. entries ≡ flat_map entries_of (map (λ f. f.now) functions.now)) }
 {
     let mut entries = List::new(alloc);
     for function in functions {
-        entries.push(export_entry(alloc, function)?)?;
+        push_entries(alloc, &mut entries, function)?;
     }
     Ok(entries)
 }
@@ -186,6 +239,29 @@ pub(crate) fn push_trait_and_macro(
     }
     items.push(Item::Trait(guest_trait(alloc, functions)?))?;
     items.push(Item::ModuleMacro(world_macro(alloc, world, functions)?))
+}
+
+fn static_area() -> StaticArea
+    ensures { result ≡ static_area }
+{
+    StaticArea {
+        size: ArchitectureSize {
+            bytes: 0,
+            pointers: 2,
+        },
+        align: Alignment::Pointer,
+    }
+}
+
+/// Puts the static area of the exported functions' results behind other items, where a result passes by it.
+pub(crate) fn push_area(items: &mut List<Item>, functions: &[&Function]) -> Result<(), OutOfMemory>
+    ensures { OnOk result (items.new ≡ items.old ++ area_of (map (λ f. f.now) functions.now)) }
+{
+    if any_needs_area(functions) {
+        items.push(Item::Area(static_area()))
+    } else {
+        Ok(())
+    }
 }
 
 /// Puts the file's macro behind other items, where a function is exported.

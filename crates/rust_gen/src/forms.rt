@@ -24,7 +24,7 @@ pub(crate) fn root_module(alloc: Global) -> Result<Text, OutOfMemory>
     Text::from_str(alloc, "$root")
 }
 
-fn runtime_path(alloc: Global, item: RuntimeItem) -> Result<Path, OutOfMemory>
+pub(crate) fn runtime_path(alloc: Global, item: RuntimeItem) -> Result<Path, OutOfMemory>
     ensures { IfOk result (λ path. path ≡ runtime_path item) }
 {
     let name = Text::from_str(alloc, item.name())?;

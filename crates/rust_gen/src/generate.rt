@@ -3,7 +3,7 @@ ghost use Rattle.rust_tree.specs.Text.{text};
 ghost use Rattle.rust_gen.specs.Body.{IsWritten};
 ghost use Rattle.rust_gen.specs.Bound.{Binds};
 ghost use Rattle.rust_gen.specs.Cause.{IsAnswer, cause};
-ghost use Rattle.rust_gen.specs.ExportBody.{IsExportWritten};
+ghost use Rattle.rust_gen.specs.ExportBody.{ArePartsWritten};
 ghost use Rattle.rust_gen.specs.Generated.{Gains, Generates, file_name};
 
 use crate::accept::accepted_world;
@@ -57,7 +57,7 @@ fn push_file(files: &mut Files, name: &Text, content: &Text) -> Result<(), OutOf
 }
 
 fn write_file(alloc: Global, world: &World, files: &mut Files) -> Result<Bindings, OutOfMemory>
-    ensures bound { IfOk result (Binds IsWritten IsExportWritten world.now) }
+    ensures bound { IfOk result (Binds IsWritten ArePartsWritten world.now) }
     ensures gains { IfOk result (λ tree. Gains files.old files.new (file_name world.now) (text tree)) }
     ensures err { OnErr result (files.new ≡ files.old) }
 {

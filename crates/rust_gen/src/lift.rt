@@ -3,7 +3,7 @@
 ghost use Rattle.std.specs.Prelude.{◌≡◌, ◌++◌, ◌∷◌, [], List, IfOk, OnOk};
 ghost use Rattle.rust_tree.specs.declared.stmt.Stmt.{Stmt};
 ghost use Rattle.rust_tree.specs.declared.stmt.Stmt.TheVariants as stmt;
-ghost use Rattle.rust_gen.specs.Body.{Lifts, LiftsAs, LiftsBy, LiftsScalar, LiftsText, lifted, text_taken, word_at};
+ghost use Rattle.rust_gen.specs.Body.{Lifts, LiftsAs, LiftsBy, LiftsScalar, LiftsTaken, LiftsText, lifted, text_taken, word_at};
 ghost use Rattle.rust_gen.specs.Scope.{numbered};
 ghost use Rattle.rust_gen.specs.declared.scope.LocalKind.TheVariants as kind;
 
@@ -46,7 +46,7 @@ fn lift_by(
     Ok(Expr::Local(numbered(alloc, kind, t)?))
 }
 
-fn push_load(
+pub(crate) fn push_load(
     alloc: Global,
     stmts: &mut List<Stmt>,
     t: u32,
@@ -62,19 +62,19 @@ fn push_load(
     stmts.push(Stmt::Let(numbered(alloc, LocalKind::Loaded, t)?, load))
 }
 
-/// The locals of a text that is taken over: its length, its bytes, and the text.
+/// The locals of a text that is taken over, by those of its address and its length: its length, its bytes, and the text.
 fn push_taken(
     alloc: Global,
     stmts: &mut List<Stmt>,
-    a: u32,
-    b: u32,
+    address: Text,
+    size: Text,
     c: u32,
 ) -> Result<(), OutOfMemory>
-    ensures { OnOk result (stmts.new ≡ stmts.old ++ text_taken a b c) }
+    ensures { OnOk result (stmts.new ≡ stmts.old ++ text_taken address size c) }
 {
-    let size = Expr::Local(numbered(alloc, LocalKind::Loaded, b)?);
+    let size = Expr::Local(size);
     stmts.push(Stmt::Let(numbered(alloc, LocalKind::Length, c)?, size))?;
-    let address = Boxed::new(alloc, Expr::Local(numbered(alloc, LocalKind::Loaded, a)?))?;
+    let address = Boxed::new(alloc, Expr::Local(address))?;
     let bytes = Expr::FromRawParts(address, numbered(alloc, LocalKind::Length, c)?);
     stmts.push(Stmt::Let(numbered(alloc, LocalKind::Bytes, c)?, bytes))?;
     let bytes = Expr::Local(numbered(alloc, LocalKind::Bytes, c)?);
@@ -101,7 +101,28 @@ fn lift_text(
         alloc,
         &[LocalKind::Length, LocalKind::Bytes, LocalKind::Text],
     )?;
-    push_taken(alloc, stmts, a, b, c)?;
+    let address = numbered(alloc, LocalKind::Loaded, a)?;
+    let size = numbered(alloc, LocalKind::Loaded, b)?;
+    push_taken(alloc, stmts, address, size, c)?;
+    Ok(Expr::Local(numbered(alloc, LocalKind::Text, c)?))
+}
+
+/// Lifts a text by the locals that hold its address and its length: statements behind others, and the value.
+pub(crate) fn lift_taken(
+    alloc: Global,
+    scope: &mut Scope,
+    address: Text,
+    size: Text,
+    stmts: &mut List<Stmt>,
+) -> Result<Expr, OutOfMemory>
+    ensures { IfOk result
+        (λ e. (more : List Stmt) × LiftsTaken address size scope.old more e scope.new × (stmts.new ≡ stmts.old ++ more)) }
+{
+    let c = scope.declare(
+        alloc,
+        &[LocalKind::Length, LocalKind::Bytes, LocalKind::Text],
+    )?;
+    push_taken(alloc, stmts, address, size, c)?;
     Ok(Expr::Local(numbered(alloc, LocalKind::Text, c)?))
 }
 

@@ -1,11 +1,12 @@
 //! Which names the file of a world declares, and whether they are identifiers of which no two clash.
 
 ghost use Rattle.std.specs.Prelude.{◌≡◌, ◌++◌, ◌||◌, IfOk, OnOk, map};
-ghost use Rattle.std.specs.List.{list_all};
+ghost use Rattle.std.specs.List.{flat_map, list_all};
 ghost use Rattle.rust_tree.specs.Ident.{is_ident, rust_ident};
-ghost use Rattle.rust_gen.specs.DeclaredNames.{are_distinct_functions, are_names, declares_well, export_ident, has_distinct_names, is_empty, macro_idents, param_idents};
+ghost use Rattle.rust_gen.specs.DeclaredNames.{are_distinct_functions, are_names, area_idents, declares_well, export_ident, has_distinct_names, is_empty, macro_idents, param_idents, return_idents, return_prefix, value_idents};
 ghost use Rattle.rust_gen.specs.Emitted as emitted;
 
+use crate::area::{any_needs_area, needs_area};
 use crate::emitted::functions_in;
 use rust_tree::{is_ident, to_rust_ident};
 use std::alloc::Global;
@@ -139,16 +140,65 @@ fn push_export_idents(
     Ok(())
 }
 
-/// Whether the wrappers have names that are identifiers and distinct.
-fn has_wrapper_names(
+/// The name of a post-return function.
+#[tactic(auto, unfolding(crate::specs::DeclaredNames::return_prefix))]
+fn return_ident(alloc: Global, f: &Function) -> Result<Text, OutOfMemory>
+    ensures { IfOk result (λ name. name ≡ return_prefix ++ f.now.name.snake) }
+{
+    let mut name = Text::from_str(alloc, "__post_return_")?;
+    name.push_str(f.name.snake.as_str())?;
+    Ok(name)
+}
+
+fn push_return_ident(alloc: Global, names: &mut List<Text>, f: &Function) -> Result<(), OutOfMemory>
+    ensures { OnOk result (names.new ≡ names.old ++ return_idents f.now) }
+{
+    if needs_area(&f.result) {
+        names.push(return_ident(alloc, f)?)?;
+    }
+    Ok(())
+}
+
+fn push_return_idents(
+    alloc: Global,
+    names: &mut List<Text>,
+    functions: &[&Function],
+) -> Result<(), OutOfMemory>
+    ensures { OnOk result
+        (names.new ≡ names.old ++ flat_map return_idents (map (λ f. f.now) functions.now)) }
+{
+    for function in functions {
+        push_return_ident(alloc, names, function)?;
+    }
+    Ok(())
+}
+
+#[tactic(auto, unfolding(crate::specs::DeclaredNames::area_ident))]
+fn push_area_ident(
+    alloc: Global,
+    names: &mut List<Text>,
+    functions: &[&Function],
+) -> Result<(), OutOfMemory>
+    ensures { OnOk result (names.new ≡ names.old ++ area_idents (map (λ f. f.now) functions.now)) }
+{
+    if any_needs_area(functions) {
+        names.push(Text::from_str(alloc, "_RET_AREA")?)?;
+    }
+    Ok(())
+}
+
+/// Whether the functions of the root, and its static area, have names that are identifiers and distinct.
+fn has_value_names(
     alloc: Global,
     imports: &[&Function],
     exports: &[&Function],
 ) -> Result<bool, OutOfMemory>
     ensures { IfOk result
-        (λ b. b ≡ are_names (map (λ f. rust_ident f.name) (map (λ f. f.now) imports.now) ++ map export_ident (map (λ f. f.now) exports.now))) }
+        (λ b. b ≡ are_names (value_idents (map (λ f. f.now) imports.now) (map (λ f. f.now) exports.now))) }
 {
     let mut names = function_idents(alloc, imports)?;
+    push_area_ident(alloc, &mut names, exports)?;
+    push_return_idents(alloc, &mut names, exports)?;
     push_export_idents(alloc, &mut names, exports)?;
     are_names(alloc, names.as_slice())
 }
@@ -195,7 +245,7 @@ fn has_macro_names(alloc: Global, world: &World, exports: &[&Function]) -> Resul
     are_names(alloc, names.as_slice())
 }
 
-/// Whether the wrappers, the trait's functions, the macros, and in a scope of their own the parameters of each function have
+/// Whether the functions of the root with its static area, the trait's functions, the macros, and in a scope of their own the parameters of each function have
 /// names that are identifiers and distinct.
 #[tactic(auto, unfolding(crate::specs::DeclaredNames::declares_well))]
 pub(crate) fn declares_well(alloc: Global, world: &World) -> Result<bool, OutOfMemory>
@@ -203,7 +253,7 @@ pub(crate) fn declares_well(alloc: Global, world: &World) -> Result<bool, OutOfM
 {
     let imports = functions_in(alloc, world.imports.as_slice())?;
     let exports = functions_in(alloc, world.exports.as_slice())?;
-    if !has_wrapper_names(alloc, imports.as_slice(), exports.as_slice())? {
+    if !has_value_names(alloc, imports.as_slice(), exports.as_slice())? {
         return Ok(false);
     }
     if !has_method_names(alloc, exports.as_slice())? {

@@ -3,7 +3,7 @@
 ghost use Rattle.std.specs.Prelude.{◌≡◌, IfOk, OnOk, Some, fold, map};
 ghost use Rattle.std.specs.List.{flat_map, list_any};
 ghost use Rattle.rust_tree.specs.Runtime.{needed_items};
-ghost use Rattle.rust_gen.specs.Runtime.{asked_by, asked_by_export, is_same_item, items_for, lifting_items, lowering_item, lowering_items, returning_items, signature_items, with_asked, with_needed};
+ghost use Rattle.rust_gen.specs.Runtime.{asked_by, asked_by_export, asked_by_method, freeing_items, is_same_item, items_for, lifting_items, lowering_item, lowering_items, returning_items, signature_items, with_asked, with_needed};
 
 use rust_tree::RuntimeItem;
 use std::alloc::Global;
@@ -23,6 +23,8 @@ fn is_same_item(a: RuntimeItem, b: RuntimeItem) -> bool
         (RuntimeItem::BoolLift, RuntimeItem::BoolLift) => true,
         (RuntimeItem::CharLift, RuntimeItem::CharLift) => true,
         (RuntimeItem::StringLift, RuntimeItem::StringLift) => true,
+        (RuntimeItem::AllocModule, RuntimeItem::AllocModule) => true,
+        (RuntimeItem::CabiDealloc, RuntimeItem::CabiDealloc) => true,
         _ => false,
     }
 }
@@ -92,7 +94,7 @@ fn ask_for_result(
     }
 }
 
-/// What a signature names: the type of a text that comes back.
+/// What a signature names: the type of a text that is owned.
 fn ask_for_signature(
     items: &mut List<RuntimeItem>,
     answer: &Option<WitType>,
@@ -177,11 +179,21 @@ fn ask_for_returned(
     }
 }
 
+fn ask_for_freed(items: &mut List<RuntimeItem>, answer: &Option<WitType>) -> Result<(), OutOfMemory>
+    ensures { OnOk result (items.new ≡ fold with_asked items.old (freeing_items answer.now)) }
+{
+    match answer {
+        Some(WitType::String) => ask(items, RuntimeItem::CabiDealloc),
+        _ => Ok(()),
+    }
+}
+
 fn ask_for_export(items: &mut List<RuntimeItem>, f: &Function) -> Result<(), OutOfMemory>
     ensures { OnOk result (items.new ≡ fold with_asked items.old (asked_by_export f.now)) }
 {
     ask_for_lifts(items, f.params.as_slice())?;
-    ask_for_returned(items, &f.result)
+    ask_for_returned(items, &f.result)?;
+    ask_for_freed(items, &f.result)
 }
 
 /// What the wrappers of exported functions ask for.
@@ -198,7 +210,38 @@ fn ask_for_exports(
     Ok(())
 }
 
-/// The items that the wrappers of a world's functions ask for, each once, in the order in which they are first asked for.
+fn ask_for_types(items: &mut List<RuntimeItem>, params: &[Param]) -> Result<(), OutOfMemory>
+    ensures { OnOk result
+        (items.new ≡ fold with_asked items.old (flat_map (λ p. signature_items (Some p.ty)) params.now)) }
+{
+    for p in params {
+        ask_for_signature(items, &Some(p.ty))?;
+    }
+    Ok(())
+}
+
+fn ask_for_method(items: &mut List<RuntimeItem>, f: &Function) -> Result<(), OutOfMemory>
+    ensures { OnOk result (items.new ≡ fold with_asked items.old (asked_by_method f.now)) }
+{
+    ask_for_types(items, f.params.as_slice())?;
+    ask_for_signature(items, &f.result)
+}
+
+/// What the trait of exported functions asks for.
+fn ask_for_methods(
+    items: &mut List<RuntimeItem>,
+    functions: &[&Function],
+) -> Result<(), OutOfMemory>
+    ensures { OnOk result
+        (items.new ≡ fold with_asked items.old (flat_map asked_by_method (map (λ f. f.now) functions.now))) }
+{
+    for function in functions {
+        ask_for_method(items, function)?;
+    }
+    Ok(())
+}
+
+/// The items that the wrappers and the trait of a world's functions ask for, each once, in the order in which they are first asked for.
 pub(crate) fn runtime_items(
     alloc: Global,
     imports: &[&Function],
@@ -210,5 +253,7 @@ pub(crate) fn runtime_items(
     let mut items = List::new(alloc);
     ask_for_imports(&mut items, imports)?;
     ask_for_exports(&mut items, exports)?;
+    ask_for_methods(&mut items, exports)?;
+    let items = with_needed(alloc, items)?;
     with_needed(alloc, items)
 }

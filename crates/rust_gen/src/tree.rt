@@ -1,22 +1,22 @@
 //! The tree of a world's file.
 
 ghost use Rattle.std.specs.Prelude.{◌≡◌, ◌++◌, List, IfOk, OnOk, map};
-ghost use Rattle.std.specs.List.{AllZip};
-ghost use Rattle.rust_tree.specs.declared.export.ExportFn.{ExportFn};
+ghost use Rattle.std.specs.List.{AllZip, flat_map};
 ghost use Rattle.rust_tree.specs.declared.item.FnItem.{FnItem};
 ghost use Rattle.rust_tree.specs.declared.item.Item.TheVariants as item;
 ghost use Rattle.rust_gen.specs.Body.{IsWritten};
-ghost use Rattle.rust_gen.specs.Bound.{AreItems, Binds};
+ghost use Rattle.rust_gen.specs.Bound.{AreItems, Binds, Parts, export_items};
 ghost use Rattle.rust_gen.specs.Emitted.{emitted_places};
-ghost use Rattle.rust_gen.specs.ExportBody.{IsExportWritten};
+ghost use Rattle.rust_gen.specs.ExportBody.{ArePartsWritten};
 ghost use Rattle.rust_gen.specs.Runtime.{items_for, runtime_module};
 
 use crate::emitted::{functions_in, places_in};
 use crate::export::export_wrapper;
-use crate::exported::{push_last_macro, push_trait_and_macro};
+use crate::exported::{push_area, push_last_macro, push_trait_and_macro};
+use crate::post_return::post_return;
 use crate::runtime::runtime_items;
 use crate::wrapper::import_wrapper;
-use rust_tree::{Bindings, FuncPlace, Item};
+use rust_tree::{Bindings, ExportFn, FuncPlace, Item, PostReturnFn};
 use std::alloc::Global;
 use wit_model::{Function, List, OutOfMemory, World};
 
@@ -32,17 +32,41 @@ fn import_items(alloc: Global, functions: &[&Function]) -> Result<List<Item>, Ou
     Ok(items)
 }
 
+fn push_parts(
+    items: &mut List<Item>,
+    wrapper: ExportFn,
+    post_return: Option<PostReturnFn>,
+) -> Result<(), OutOfMemory>
+    ensures { OnOk result (items.new ≡ items.old ++ export_items (wrapper, post_return)) }
+{
+    items.push(Item::Export(wrapper))?;
+    match post_return {
+        None => Ok(()),
+        Some(post_return) => items.push(Item::PostReturn(post_return)),
+    }
+}
+
+/// Puts the wrapper of an exported function behind other items, and its post-return function if it has one.
+fn push_export(alloc: Global, items: &mut List<Item>, f: &Function) -> Result<(), OutOfMemory>
+    ensures { OnOk result
+        ((parts : Parts) × (items.new ≡ items.old ++ export_items parts) × ArePartsWritten f.now parts) }
+{
+    let wrapper = export_wrapper(alloc, f)?;
+    let post_return = post_return(alloc, f)?;
+    push_parts(items, wrapper, post_return)?;
+    Ok(())
+}
+
 fn push_exports(
     alloc: Global,
     items: &mut List<Item>,
     functions: &[&Function],
 ) -> Result<(), OutOfMemory>
     ensures { OnOk result
-        ((es : List ExportFn) × (items.new ≡ items.old ++ map item.Export es) × AllZip IsExportWritten (map (λ f. f.now) functions.now) es) }
+        ((es : List Parts) × (items.new ≡ items.old ++ flat_map export_items es) × AllZip ArePartsWritten (map (λ f. f.now) functions.now) es) }
 {
     for function in functions {
-        let wrapper = export_wrapper(alloc, function)?;
-        items.push(Item::Export(wrapper))?;
+        push_export(alloc, items, function)?;
     }
     Ok(())
 }
@@ -65,13 +89,14 @@ fn push_runtime(
 
 /// The items of a world's file, in their order.
 fn world_items(alloc: Global, world: &World) -> Result<List<Item>, OutOfMemory>
-    ensures { IfOk result (AreItems IsWritten IsExportWritten world.now) }
+    ensures { IfOk result (AreItems IsWritten ArePartsWritten world.now) }
 {
     let imports = functions_in(alloc, world.imports.as_slice())?;
     let exports = functions_in(alloc, world.exports.as_slice())?;
     let mut items = import_items(alloc, imports.as_slice())?;
     push_exports(alloc, &mut items, exports.as_slice())?;
     push_trait_and_macro(alloc, &mut items, world, exports.as_slice())?;
+    push_area(&mut items, exports.as_slice())?;
     push_runtime(alloc, &mut items, imports.as_slice(), exports.as_slice())?;
     push_last_macro(alloc, &mut items, world, exports.as_slice())?;
     Ok(items)
@@ -89,7 +114,7 @@ fn world_places(alloc: Global, world: &World) -> Result<List<FuncPlace>, OutOfMe
 
 /// The tree of a world of functions over scalars and texts, with the options at their defaults.
 pub(crate) fn bindings_of(alloc: Global, world: &World) -> Result<Bindings, OutOfMemory>
-    ensures { IfOk result (Binds IsWritten IsExportWritten world.now) }
+    ensures { IfOk result (Binds IsWritten ArePartsWritten world.now) }
 {
     let items = world_items(alloc, world)?;
     let places = world_places(alloc, world)?;

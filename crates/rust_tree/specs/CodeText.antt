@@ -6,7 +6,7 @@ use Rattle.wit_model.specs.declared.size.Alignment.TheVariants as align
 use Rattle.wit_model.specs.declared.size.ArchitectureSize.{ArchitectureSize}
 use Rattle.wit_model.specs.declared.size.WasmType.{WasmType}
 use Rattle.wit_model.specs.declared.size.WasmType.TheVariants as core
-use Rattle.wit_model.specs.SizeText.{size_text}
+use Rattle.wit_model.specs.SizeText.{alignment_text, size_text}
 use Rattle.rust_tree.specs.declared.expr.CastType.{CastType}
 use Rattle.rust_tree.specs.declared.expr.CastType.TheVariants as cast
 use Rattle.rust_tree.specs.declared.expr.Expr.{Expr, Expr-F, fold-Expr}
@@ -20,7 +20,7 @@ use Rattle.rust_tree.specs.declared.type_expr.Primitive.{Primitive}
 use Rattle.rust_tree.specs.declared.type_expr.Primitive.TheVariants as primitive
 use Rattle.rust_tree.specs.declared.type_expr.TypeExpr.{TypeExpr, TypeExpr-F, fold-TypeExpr}
 use Rattle.rust_tree.specs.declared.print.word.area.AreaWord.TheVariants.{PointerAlign, Align, AlignEnd, AreaType, AreaValue, AreaEnd}
-use Rattle.rust_tree.specs.declared.print.word.expr.ExprWord.TheVariants.{Match, BoolArms, AsPtr, Len, CastMut, AreaPointer, Dereference, Add, CastTo, CastEnd, FromRawParts, PointerCast}
+use Rattle.rust_tree.specs.declared.print.word.expr.ExprWord.TheVariants.{Match, BoolArms, AsPtr, Len, CastMut, AreaPointer, Dereference, Add, CastTo, CastEnd, FromRawParts, PointerCast, IntoBoxedBytes, Forget, StaticPointer}
 use Rattle.rust_tree.specs.declared.print.word.import.ImportWord.TheVariants.{WasmLink, ExternBlock, LinkedFn, OtherFn, Unreachable, UnnamedParam}
 use Rattle.rust_tree.specs.declared.print.word.item.ItemWord.TheVariants.{UnitType, StrType, StringName}
 use Rattle.rust_tree.specs.declared.print.word.sign.Sign.{Sign}
@@ -121,16 +121,16 @@ place_text offset ty = expr_word Add ++ term_text offset ++ expr_word CastTo ++ 
 abbrev pub capacity_text : Bytes → Bytes
 capacity_text len = expr_word PointerCast ++ len ++ sign Comma ++ len ++ sign Close
 
--- expressions, with a comma between any two
-abbrev pub joined_text : List Spelled → Bytes
-joined_text es = joined (sign Comma) (map (λ e. e.text) es)
+-- expressions in brackets, with a comma between any two
+abbrev pub bracketed_text : List Spelled → Bytes
+bracketed_text es = sign Open ++ joined (sign Comma) (map (λ e. e.text) es) ++ sign Close
 
 -- one level of an expression, with the expressions in it as they are spelled
 abbrev pub expr_step : Expr-F Spelled → Spelled
 expr_step (Expr-F.Local name) = record { text = name; is_local = true }
 expr_step (Expr-F.Ref name) = compound (sign Reference ++ name)
 expr_step (Expr-F.Cast e to) = compound (e.text ++ sign As ++ cast_type_text to)
-expr_step (Expr-F.Call path arguments) = compound (path_text path ++ sign Open ++ joined_text arguments ++ sign Close)
+expr_step (Expr-F.Call path arguments) = compound (path_text path ++ bracketed_text arguments)
 expr_step (Expr-F.I32FromBool e) = compound (expr_word Match ++ e.text ++ expr_word BoolArms)
 expr_step (Expr-F.AsPtr name) = compound (name ++ expr_word AsPtr)
 expr_step (Expr-F.Len name) = compound (name ++ expr_word Len)
@@ -138,6 +138,10 @@ expr_step (Expr-F.CastMut name) = compound (name ++ expr_word CastMut)
 expr_step (Expr-F.ReturnPointer name) = compound (name ++ expr_word AreaPointer)
 expr_step (Expr-F.Load address offset ty) = compound (expr_word Dereference ++ receiver_text address ++ place_text offset ty)
 expr_step (Expr-F.FromRawParts pointer len) = compound (expr_word FromRawParts ++ receiver_text pointer ++ capacity_text len)
+expr_step (Expr-F.IntoBoxedBytes name) = compound (sign Open ++ name ++ expr_word IntoBoxedBytes)
+expr_step (Expr-F.Forget name) = compound (expr_word Forget ++ name ++ sign Close)
+expr_step Expr-F.StaticPointer = compound (expr_word StaticPointer)
+expr_step (Expr-F.Align align) = compound (alignment_text align)
 
 abbrev pub expr_spelled : Expr → Spelled
 expr_spelled = fold-Expr Spelled expr_step
@@ -146,7 +150,7 @@ abbrev pub expr_text : Expr → Bytes
 expr_text e = (expr_spelled e).text
 
 abbrev pub arguments_text : List Expr → Bytes
-arguments_text es = joined_text (map expr_spelled es)
+arguments_text es = bracketed_text (map expr_spelled es)
 
 -- statements
 
@@ -176,6 +180,11 @@ unlinked_text d = import_word OtherFn ++ core_signature_text d ++ import_word Un
 abbrev pub let_text : Bytes → Expr → Bytes
 let_text name e = sign Let ++ name ++ sign Equals ++ expr_text e ++ sign StatementEnd
 
+-- `*address.add(offset).cast::<T>() = e;`
+abbrev pub store_text : Expr → ArchitectureSize → WasmType → Expr → Bytes
+store_text address offset ty e =
+    expr_word Dereference ++ receiver_text (expr_spelled address) ++ place_text offset ty ++ sign Equals ++ expr_text e ++ sign StatementEnd
+
 -- the attribute lines of an alignment
 abbrev pub align_text : Alignment → Bytes
 align_text align.Pointer = area_word PointerAlign
@@ -197,6 +206,7 @@ stmt_text (stmt.Import d) = linked_text d ++ unlinked_text d
 stmt_text (stmt.Let name e) = let_text name e
 stmt_text (stmt.Expr e) = expr_text e ++ sign StatementEnd
 stmt_text (stmt.Area a) = area_text a
+stmt_text (stmt.Store address offset ty e) = store_text address offset ty e
 
 -- the last expression, as a line of its own, or nothing
 abbrev pub tail_text : Option Expr → Bytes

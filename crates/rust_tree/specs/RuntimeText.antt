@@ -2,10 +2,10 @@
 use Rattle.std.specs.Prelude.{List, [], ◌∷◌, ◌++◌, codes}
 use Rattle.std.specs.List.{flat_map}
 use Rattle.rust_tree.specs.declared.runtime_item.RuntimeItem.{RuntimeItem}
-use Rattle.rust_tree.specs.declared.runtime_item.RuntimeItem.TheVariants.{AsI32, AsI64, AsF32, AsF64, AllocCrate, StringType, VecType, BoolLift, CharLift, StringLift}
+use Rattle.rust_tree.specs.declared.runtime_item.RuntimeItem.TheVariants.{AsI32, AsI64, AsF32, AsF64, AllocCrate, StringType, VecType, BoolLift, CharLift, StringLift, AllocModule, CabiDealloc}
 use Rattle.rust_tree.specs.declared.print.word.conversion.ConversionWord.TheVariants.{ConversionFn, ConversionBound, ConversionParam, ConvertParam, ConversionTrait, ReferenceBound, ReferenceTrait, ForReference, ConvertTarget, CallEnd, ConversionImpl, ImplFor, Inline, ConversionMethod, TakesSelf, CastSelf}
 use Rattle.rust_tree.specs.declared.print.word.lift.LiftWord.TheVariants.{LiftFn, IfDebug, Otherwise, LiftEnd, BoolLiftType, CheckedBool, UncheckedBool, CharLiftType, CheckedChar, UncheckedChar, StringLiftType, CheckedString, UncheckedString}
-use Rattle.rust_tree.specs.declared.print.word.runtime.RuntimeWord.TheVariants.{ExternCrate, PublicUse, StringPath, VecPath}
+use Rattle.rust_tree.specs.declared.print.word.runtime.RuntimeWord.TheVariants.{ExternCrate, PublicUse, StringPath, VecPath, CratePath, DeallocFn, DeallocParams, MakeLayout, Dealloc}
 use Rattle.rust_tree.specs.declared.print.word.sign.Sign.TheVariants.{LineEnd, StatementEnd, OpenBlock, CloseBlock}
 use Rattle.rust_tree.specs.Runtime.{item_name}
 use Rattle.rust_tree.specs.Tree.{Bytes}
@@ -40,14 +40,19 @@ unfoldable pub conversion_text : RuntimeItem → (bound ty : Bytes) → List Byt
 conversion_text item bound ty sources =
     conversion_fn_text item bound ty ++ conversion_trait_text item bound ty ++ reference_impl_text item bound ty ++ flat_map (conversion_impl_text item bound ty) sources
 
--- a type of the crate `alloc`, in the module that `path` ends in
-unfoldable pub alloc_type_text : RuntimeItem → Bytes → Bytes
-alloc_type_text item path = runtime_word PublicUse ++ item_name AllocCrate ++ path ++ item_name item ++ sign StatementEnd
+-- a type or a module of the crate `alloc`, behind `path` there
+unfoldable pub alloc_use_text : RuntimeItem → Bytes → Bytes
+alloc_use_text item path = runtime_word PublicUse ++ item_name AllocCrate ++ path ++ item_name item ++ sign StatementEnd
 
 -- the function of this signature that gives the value of a core value: the debug form looks whether there is one
 unfoldable pub lift_text : RuntimeItem → (signature checked unchecked : Bytes) → Bytes
 lift_text item signature checked unchecked =
     lift_word LiftFn ++ item_name item ++ signature ++ lift_word IfDebug ++ checked ++ lift_word Otherwise ++ unchecked ++ lift_word LiftEnd
+
+-- the function that frees the block of an address, a size and an alignment
+unfoldable pub dealloc_text : Bytes
+dealloc_text =
+    runtime_word DeallocFn ++ item_name CabiDealloc ++ runtime_word DeallocParams ++ item_name AllocModule ++ runtime_word MakeLayout ++ item_name AllocModule ++ runtime_word Dealloc
 
 abbrev pub runtime_item_text : RuntimeItem → Bytes
 runtime_item_text AsI32 =
@@ -56,8 +61,10 @@ runtime_item_text AsI64 = conversion_text AsI64 (codes "AsI64") (codes "i64") (c
 runtime_item_text AsF32 = conversion_text AsF32 (codes "AsF32") (codes "f32") (codes "f32" ∷ [])
 runtime_item_text AsF64 = conversion_text AsF64 (codes "AsF64") (codes "f64") (codes "f64" ∷ [])
 runtime_item_text AllocCrate = runtime_word ExternCrate ++ item_name AllocCrate ++ sign StatementEnd
-runtime_item_text StringType = alloc_type_text StringType (runtime_word StringPath)
-runtime_item_text VecType = alloc_type_text VecType (runtime_word VecPath)
+runtime_item_text StringType = alloc_use_text StringType (runtime_word StringPath)
+runtime_item_text VecType = alloc_use_text VecType (runtime_word VecPath)
 runtime_item_text BoolLift = lift_text BoolLift (lift_word BoolLiftType) (lift_word CheckedBool) (lift_word UncheckedBool)
 runtime_item_text CharLift = lift_text CharLift (lift_word CharLiftType) (lift_word CheckedChar) (lift_word UncheckedChar)
 runtime_item_text StringLift = lift_text StringLift (lift_word StringLiftType) (lift_word CheckedString) (lift_word UncheckedString)
+runtime_item_text AllocModule = alloc_use_text AllocModule (runtime_word CratePath)
+runtime_item_text CabiDealloc = dealloc_text

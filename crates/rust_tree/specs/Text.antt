@@ -1,8 +1,6 @@
 -- The text of a file: its head and its items.
 use Rattle.std.specs.Prelude.{List, [], ◌∷◌, ◌++◌, map}
 use Rattle.std.specs.List.{flat_map}
-use Rattle.rust_tree.specs.declared.export.ModuleMacro.{ModuleMacro}
-use Rattle.rust_tree.specs.declared.export.RootMacro.{RootMacro}
 use Rattle.rust_tree.specs.declared.export.TraitFn.{TraitFn}
 use Rattle.rust_tree.specs.declared.export.TraitItem.{TraitItem}
 use Rattle.rust_tree.specs.declared.item.FnItem.{FnItem}
@@ -15,7 +13,7 @@ use Rattle.rust_tree.specs.declared.print.word.item.ItemWord.TheVariants.{Preamb
 use Rattle.rust_tree.specs.declared.print.word.runtime.RuntimeWord.TheVariants.{RuntimeModule}
 use Rattle.rust_tree.specs.declared.print.word.sign.Sign.TheVariants.{LineEnd, StatementEnd, OpenBlock, CloseBlock, Open, Close, Comma, Colon, Arrow}
 use Rattle.rust_tree.specs.CodeText.{block_text, type_text}
-use Rattle.rust_tree.specs.ExportText.{export_text, module_macro_text, root_macro_text}
+use Rattle.rust_tree.specs.ExportText.{export_text, module_macro_text, post_return_text, root_macro_text, static_area_text}
 use Rattle.rust_tree.specs.Pieces.{joined}
 use Rattle.rust_tree.specs.RuntimeText.{runtime_item_text}
 use Rattle.rust_tree.specs.Tree.{Bytes, Tree}
@@ -57,6 +55,8 @@ item_text (item.Trait t) = trait_text t
 item_text (item.ModuleMacro m) = module_macro_text m
 item_text (item.Runtime items) = runtime_text items
 item_text (item.RootMacro m) = root_macro_text m
+item_text (item.PostReturn f) = post_return_text f
+item_text (item.Area a) = static_area_text a
 
 abbrev pub option_text : Bytes → Bytes
 option_text line = line ++ sign LineEnd

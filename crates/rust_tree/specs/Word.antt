@@ -8,15 +8,15 @@ use Rattle.rust_tree.specs.declared.print.word.item.ItemWord.TheVariants.{Preamb
 use Rattle.rust_tree.specs.declared.print.word.import.ImportWord.{ImportWord}
 use Rattle.rust_tree.specs.declared.print.word.import.ImportWord.TheVariants.{WasmLink, ExternBlock, LinkedFn, OtherFn, Unreachable, UnnamedParam}
 use Rattle.rust_tree.specs.declared.print.word.expr.ExprWord.{ExprWord}
-use Rattle.rust_tree.specs.declared.print.word.expr.ExprWord.TheVariants.{Match, BoolArms, AsPtr, Len, CastMut, AreaPointer, Dereference, Add, CastTo, CastEnd, FromRawParts, PointerCast}
+use Rattle.rust_tree.specs.declared.print.word.expr.ExprWord.TheVariants.{Match, BoolArms, AsPtr, Len, CastMut, AreaPointer, Dereference, Add, CastTo, CastEnd, FromRawParts, PointerCast, IntoBoxedBytes, Forget, StaticPointer}
 use Rattle.rust_tree.specs.declared.print.word.area.AreaWord.{AreaWord}
-use Rattle.rust_tree.specs.declared.print.word.area.AreaWord.TheVariants.{PointerAlign, Align, AlignEnd, AreaType, AreaValue, AreaEnd}
+use Rattle.rust_tree.specs.declared.print.word.area.AreaWord.TheVariants.{PointerAlign, Align, AlignEnd, AreaType, AreaValue, AreaEnd, StaticArea}
 use Rattle.rust_tree.specs.declared.print.word.export.ExportWord.{ExportWord}
-use Rattle.rust_tree.specs.declared.print.word.export.ExportWord.TheVariants.{WrapperFn, Bound, BoundEnd, BoundBlock, PlainBlock, Implementation, CallBlockEnd}
+use Rattle.rust_tree.specs.declared.print.word.export.ExportWord.TheVariants.{WrapperFn, Bound, BoundEnd, BoundBlock, PlainBlock, Implementation, CallBlockEnd, PostReturnFn, PostReturnBound}
 use Rattle.rust_tree.specs.declared.print.word.macros.MacroWord.{MacroWord}
-use Rattle.rust_tree.specs.declared.print.word.macros.MacroWord.TheVariants.{ModuleRules, ModuleArm, ExportName, ExternFn, CallWrapper, ForImplementation, CallWrapperEnd, ModuleUse, ModuleUseEnd, RootRules, RootArms, CallModule, CallModuleEnd, RootUse, RootUseEnd}
+use Rattle.rust_tree.specs.declared.print.word.macros.MacroWord.TheVariants.{ModuleRules, ModuleArm, ExportName, ExternFn, CallWrapper, ForImplementation, CallWrapperEnd, ModuleUse, ModuleUseEnd, RootRules, RootArms, CallModule, CallModuleEnd, RootUse, RootUseEnd, ExternPostReturn, CallPostReturn, ForType}
 use Rattle.rust_tree.specs.declared.print.word.runtime.RuntimeWord.{RuntimeWord}
-use Rattle.rust_tree.specs.declared.print.word.runtime.RuntimeWord.TheVariants.{RuntimeModule, ExternCrate, PublicUse, StringPath, VecPath}
+use Rattle.rust_tree.specs.declared.print.word.runtime.RuntimeWord.TheVariants.{RuntimeModule, ExternCrate, PublicUse, StringPath, VecPath, CratePath, DeallocFn, DeallocParams, MakeLayout, Dealloc}
 use Rattle.rust_tree.specs.declared.print.word.conversion.ConversionWord.{ConversionWord}
 use Rattle.rust_tree.specs.declared.print.word.conversion.ConversionWord.TheVariants.{ConversionFn, ConversionBound, ConversionParam, ConvertParam, ConversionTrait, ReferenceBound, ReferenceTrait, ForReference, ConvertTarget, CallEnd, ConversionImpl, ImplFor, Inline, ConversionMethod, TakesSelf, CastSelf}
 use Rattle.rust_tree.specs.declared.print.word.lift.LiftWord.{LiftWord}
@@ -77,8 +77,11 @@ expr_word CastTo = codes ").cast::<"
 expr_word CastEnd = codes ">()"
 expr_word FromRawParts = codes "_rt::Vec::from_raw_parts("
 expr_word PointerCast = codes ".cast(), "
+expr_word IntoBoxedBytes = codes ".into_bytes()).into_boxed_slice()"
+expr_word Forget = codes "::core::mem::forget("
+expr_word StaticPointer = codes "(&raw mut _RET_AREA.0).cast::<u8>()"
 
--- a return area
+-- a return area, and a static one
 unfoldable pub area_word : AreaWord → Bytes
 area_word PointerAlign = codes "#[cfg_attr(target_pointer_width = \"64\", repr(align(8)))]\n#[cfg_attr(target_pointer_width = \"32\", repr(align(4)))]\n"
 area_word Align = codes "#[repr(align("
@@ -86,8 +89,9 @@ area_word AlignEnd = codes "))]\n"
 area_word AreaType = codes "struct _RetArea([::core::mem::MaybeUninit::<u8>; "
 area_word AreaValue = codes "_RetArea([::core::mem::MaybeUninit::uninit(); "
 area_word AreaEnd = codes "]);\n"
+area_word StaticArea = codes "static mut _RET_AREA: _RetArea = "
 
--- an export wrapper
+-- an export wrapper, and a post-return function
 unfoldable pub export_word : ExportWord → Bytes
 export_word WrapperFn = codes "#[doc(hidden)]\n#[allow(non_snake_case, unused_unsafe)]\npub unsafe fn _export_"
 export_word Bound = codes "_cabi<T_: "
@@ -96,6 +100,8 @@ export_word BoundBlock = codes " = {\n"
 export_word PlainBlock = codes "{\n"
 export_word Implementation = codes "T_::"
 export_word CallBlockEnd = codes "\n};\n"
+export_word PostReturnFn = codes "#[doc(hidden)]\n#[allow(non_snake_case, unused_unsafe)]\npub unsafe fn __post_return_"
+export_word PostReturnBound = codes "<T_: "
 
 -- the macros that export functions
 unfoldable pub macro_word : MacroWord → Bytes
@@ -114,14 +120,22 @@ macro_word CallModule = codes "$($path_to_types_root)*::__export_"
 macro_word CallModuleEnd = codes "_cabi!($ty with_types_in $($path_to_types_root)*);\n"
 macro_word RootUse = codes ")\n}\n#[doc(inline)]\npub(crate) use __export_"
 macro_word RootUseEnd = codes "_impl as export;\n"
+macro_word ExternPostReturn = codes "\")]\nunsafe extern \"C\" fn _post_return_"
+macro_word CallPostReturn = codes " {\nunsafe { $($path_to_types)*::__post_return_"
+macro_word ForType = codes "::<$ty>("
 
--- the module `_rt`, and what it takes from the crate `alloc`
+-- the module `_rt`, what it takes from the crate `alloc`, and the function that frees a block
 unfoldable pub runtime_word : RuntimeWord → Bytes
 runtime_word RuntimeModule = codes "mod _rt {\n#![allow(dead_code, unused_imports, clippy::all)]\n"
 runtime_word ExternCrate = codes "extern crate alloc as "
 runtime_word PublicUse = codes "pub use "
 runtime_word StringPath = codes "::string::"
 runtime_word VecPath = codes "::vec::"
+runtime_word CratePath = codes "::"
+runtime_word DeallocFn = codes "pub unsafe fn "
+runtime_word DeallocParams = codes "(ptr: *mut u8, size: usize, align: usize) {\nif size == 0 {\nreturn;\n}\nunsafe {\nlet layout = "
+runtime_word MakeLayout = codes "::Layout::from_size_align_unchecked(size, align);\n"
+runtime_word Dealloc = codes "::dealloc(ptr, layout);\n}\n}\n"
 
 -- the runtime items that take a number to a core value
 unfoldable pub conversion_word : ConversionWord → Bytes

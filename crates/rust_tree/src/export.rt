@@ -4,7 +4,7 @@ use crate::expr::Expr;
 use crate::item::FnParam;
 use crate::stmt::{Block, Stmt};
 use crate::type_expr::TypeExpr;
-use wit_model::{List, Text, WasmType};
+use wit_model::{Alignment, ArchitectureSize, List, Text, WasmType};
 
 /// A parameter of a core function: `name: T`.
 #[derive(Debug, PartialEq, Drop)]
@@ -38,6 +38,27 @@ pub struct ExportFn {
     pub rest: Block,
 }
 
+/// The post-return function of an exported function: `__post_return_B`, where `B` is its base name. It frees what the
+/// wrapper's result owns, once the caller has read it.
+#[derive(Debug, PartialEq, Drop)]
+pub struct PostReturnFn {
+    /// The base name.
+    pub base: Text,
+    /// The trait of the implementation.
+    pub bound: Text,
+    pub params: List<CoreParam>,
+    pub body: Block,
+}
+
+/// The static area of a module, for results that pass through memory: the type `_RetArea`, and the static `_RET_AREA`
+/// of that type.
+#[derive(Clone, Copy, Debug, PartialEq, Eq)]
+pub struct StaticArea {
+    /// How many bytes the area has.
+    pub size: ArchitectureSize,
+    pub align: Alignment,
+}
+
 /// A function of a trait, with its doc lines.
 #[derive(Debug, PartialEq, Drop)]
 pub struct TraitFn {
@@ -55,11 +76,19 @@ pub struct TraitItem {
     pub functions: List<TraitFn>,
 }
 
-/// A function of a module macro: it exports the wrapper of a base name under an export name.
+/// What a function of a module macro calls: the wrapper of its base name, or the post-return function.
+#[derive(Clone, Copy, Debug, PartialEq, Eq)]
+pub enum EntryKind {
+    Wrapper,
+    PostReturn,
+}
+
+/// A function of a module macro: it exports the wrapper or the post-return function of a base name under an export name.
 #[derive(Debug, PartialEq, Drop)]
 pub struct ExportEntry {
+    pub kind: EntryKind,
     pub export_name: Text,
-    /// The base name of the wrapper.
+    /// The base name of what it exports.
     pub base: Text,
     pub params: List<CoreParam>,
     pub result: Option<WasmType>,

@@ -1,5 +1,5 @@
 use crate::path::Path;
-use wit_model::{ArchitectureSize, Boxed, List, Text, WasmType};
+use wit_model::{Alignment, ArchitectureSize, Boxed, List, Text, WasmType};
 
 /// The type behind `as` in a cast.
 #[derive(Clone, Copy, Debug, PartialEq, Eq)]
@@ -37,4 +37,12 @@ pub enum Expr {
     Load(Boxed<Expr>, ArchitectureSize, WasmType),
     /// The bytes at an address, taken over with the length that a local holds: `_rt::Vec::from_raw_parts(e.cast(), n, n)`.
     FromRawParts(Boxed<Expr>, Text),
+    /// The bytes of the text in a local, as a box without spare capacity: `(x.into_bytes()).into_boxed_slice()`.
+    IntoBoxedBytes(Text),
+    /// The value of a local, no longer owned by the body: `::core::mem::forget(x)`.
+    Forget(Text),
+    /// The address of the module's static area: `(&raw mut _RET_AREA.0).cast::<u8>()`.
+    StaticPointer,
+    /// An alignment as a number: `8`, or the size of a pointer.
+    Align(Alignment),
 }

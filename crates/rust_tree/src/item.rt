@@ -1,4 +1,4 @@
-use crate::export::{ExportFn, ModuleMacro, RootMacro, TraitItem};
+use crate::export::{ExportFn, ModuleMacro, PostReturnFn, RootMacro, StaticArea, TraitItem};
 use crate::runtime_item::RuntimeItem;
 use crate::stmt::Block;
 use crate::type_expr::TypeExpr;
@@ -37,4 +37,8 @@ pub enum Item {
     Runtime(List<RuntimeItem>),
     /// The macro that exports all functions of the file.
     RootMacro(RootMacro),
+    /// The post-return function of an exported function.
+    PostReturn(PostReturnFn),
+    /// The static area of the file's module.
+    Area(StaticArea),
 }

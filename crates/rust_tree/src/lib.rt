@@ -18,7 +18,8 @@ mod wrappers;
 
 pub use bindings::Bindings;
 pub use export::{
-    CallBlock, CoreParam, ExportEntry, ExportFn, ModuleMacro, RootMacro, TraitFn, TraitItem,
+    CallBlock, CoreParam, EntryKind, ExportEntry, ExportFn, ModuleMacro, PostReturnFn, RootMacro,
+    StaticArea, TraitFn, TraitItem,
 };
 pub use expr::{CastType, Expr};
 pub use ident::{is_ident, to_rust_ident};

@@ -22,7 +22,8 @@ ghost use Rattle.rust_tree.specs.Text.{item_text, option_text, text};
 
 use crate::bindings::Bindings;
 use crate::item::Item;
-use export::push_export;
+use area::push_static_area;
+use export::{push_export, push_post_return};
 use function::push_function;
 use macros::{push_module_macro, push_root_macro};
 use runtime::push_runtime;
@@ -51,6 +52,8 @@ fn push_item(out: &mut Text, item: &Item) -> Result<(), OutOfMemory>
         Item::ModuleMacro(item) => push_module_macro(out, item),
         Item::Runtime(items) => push_runtime(out, items.as_slice()),
         Item::RootMacro(item) => push_root_macro(out, item),
+        Item::PostReturn(function) => push_post_return(out, function),
+        Item::Area(area) => push_static_area(out, area),
     }
 }
 

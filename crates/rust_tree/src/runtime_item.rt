@@ -24,6 +24,10 @@ pub enum RuntimeItem {
     CharLift,
     /// The function that gives the text of bytes.
     StringLift,
+    /// The module of `alloc` that allocates and frees.
+    AllocModule,
+    /// The function that frees the block of an address, a size and an alignment.
+    CabiDealloc,
 }
 
 impl RuntimeItem {
@@ -43,6 +47,8 @@ impl RuntimeItem {
             RuntimeItem::BoolLift => "bool_lift",
             RuntimeItem::CharLift => "char_lift",
             RuntimeItem::StringLift => "string_lift",
+            RuntimeItem::AllocModule => "alloc",
+            RuntimeItem::CabiDealloc => "cabi_dealloc",
         }
     }
 
@@ -51,8 +57,11 @@ impl RuntimeItem {
         ensures { result.now ≡ needed_items self }
     {
         match self {
-            RuntimeItem::StringType | RuntimeItem::VecType => &[RuntimeItem::AllocCrate],
+            RuntimeItem::StringType | RuntimeItem::VecType | RuntimeItem::AllocModule => {
+                &[RuntimeItem::AllocCrate]
+            }
             RuntimeItem::StringLift => &[RuntimeItem::StringType, RuntimeItem::VecType],
+            RuntimeItem::CabiDealloc => &[RuntimeItem::AllocModule],
             _ => &[],
         }
     }

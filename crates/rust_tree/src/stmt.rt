@@ -37,6 +37,9 @@ pub enum Stmt {
     Expr(Expr),
     /// The declaration of a return area.
     Area(ReturnArea),
+    /// A core value put into memory, at an offset from an address: `*e.add(8).cast::<T>() = e;`. The address stands in
+    /// brackets unless it is a local.
+    Store(Expr, ArchitectureSize, WasmType, Expr),
 }
 
 /// Statements, and the expression behind them that is the block's value.

@@ -1,12 +1,13 @@
 //! What the calls give with ample memory, against values from outside.
 
+mod case;
 mod exports;
-mod forms;
 mod imports;
 mod macros;
 mod made;
-mod made_exports;
 mod names;
-mod texts;
-mod whole;
+mod needs;
+mod numbers;
+mod plain;
+mod samples;
 mod wrapping;

@@ -8,7 +8,7 @@ use Rattle.rust_gen.specs.declared.error.GenError.TheVariants as error
 use Rattle.rust_gen.specs.Bound.{Binds}
 use Rattle.rust_gen.specs.Cause.{cause}
 use Rattle.rust_gen.specs.Faithful.{AreFaithful}
-use Rattle.rust_gen.specs.Wrapper.{Wraps, WrapsExport}
+use Rattle.rust_gen.specs.Wrapper.{Wraps, WrapsParts}
 use Rattle.wit_refusal.specs.declared.refusal.Refusal.{Refusal}
 use Rattle.wit_refusal.specs.declared.refusal.Refusal.TheVariants as refusal
 use Rattle.wit_program.specs.declared.input.Input.{Input}
@@ -18,7 +18,7 @@ use Rattle.wit_program.specs.Input.{input_in}
 pub record IsBoundFor (input : Input) (tree : Tree) : Type 0 where
   pub world : World
   pub named : slice_get input.resolve.worlds input.world.0 ≡ Some world
-  pub bound : Binds Wraps WrapsExport world tree
+  pub bound : Binds Wraps WrapsParts world tree
   pub faithful : AreFaithful world tree
 
 -- the bytes are a document, there is no cause of refusal, and the tree is that of its world

@@ -2,6 +2,8 @@
 #![tactic(auto)]
 
 #[cfg(test)]
+mod export_texts;
+#[cfg(test)]
 mod exports;
 mod input;
 mod made;

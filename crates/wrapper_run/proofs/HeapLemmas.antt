@@ -36,13 +36,26 @@ written_past (h ∷ hs) ts area address byte o c =
     ap (λ b. cond b (written_block h address byte ∷ hs ++ area ∷ ts) (h ∷ written_byte (hs ++ area ∷ ts) address byte)) (covered_once area h address parts.0 c)
     ∙ ap (λ bs. h ∷ bs) (written_past hs ts area address byte parts.1 c)
 
+-- a block with bytes at addresses, one after another
+abbrev pub written_all : Block → List (ℕ × ℕ) → Block
+written_all b [] = b
+written_all b (w ∷ writes) = written_all (written_block b w.0 w.1) writes
+
+pub same_written : (b : Block) (writes : List (ℕ × ℕ)) → SamePlace (written_all b writes) b
+unfolding written_block
+same_written b [] = (refl, refl)
+same_written b (w ∷ writes) = same_written (written_block b w.0 w.1) writes
+
+pub area_written : (hs ts : List Block) (area : Block) (writes : List (ℕ × ℕ)) → overlaps_any area hs ≡ false → WritesIn area.address area.size writes
+    → with_writes (hs ++ area ∷ ts) writes ≡ hs ++ written_all area writes ∷ ts
+unfolding written_block
+area_written hs ts area [] o h = refl
+area_written hs ts area (w ∷ writes) o h =
+    ap (λ bs. with_writes bs writes) (written_past hs ts area w.0 w.1 o (covers-in area w.0 h.0 h.1)) ∙ area_written hs ts (written_block area w.0 w.1) writes o h.2
+
 pub writes_in_area : (hs ts : List Block) (area : Block) (writes : List (ℕ × ℕ)) → overlaps_any area hs ≡ false → WritesIn area.address area.size writes
     → (area' : Block) × (with_writes (hs ++ area ∷ ts) writes ≡ hs ++ area' ∷ ts) × SamePlace area' area
-unfolding written_block
-writes_in_area hs ts area [] o h = (area, refl, (refl, refl))
-writes_in_area hs ts area (w ∷ ws) o h =
-    let rest = writes_in_area hs ts (written_block area w.0 w.1) ws o h.2 in
-    (rest.0, ap (λ bs. with_writes bs ws) (written_past hs ts area w.0 w.1 o (covers-in area w.0 h.0 h.1)) ∙ rest.1, rest.2)
+writes_in_area hs ts area writes o h = (written_all area writes, area_written hs ts area writes o h, same_written area writes)
 
 -- a block that overlaps no earlier one is found by its address and size, and is the one that is removed
 
@@ -100,6 +113,37 @@ found_behind hs area area' t same o p =
 pub added : (hs : List Block) (t : Block) → is_block t ≡ true → overlaps_any t hs ≡ false → with_blocks hs (t ∷ []) ≡ hs ++ t ∷ []
 unfolding with_block
 added hs t is_one o = ap (λ b. cond b (hs ++ t ∷ []) hs) (and_from (is_block t) (not (overlaps_any t hs)) is_one (ap not o))
+
+-- bytes in a block that overlaps no earlier one lie in no earlier one
+
+holds_once : (area h : Block) (address size : ℕ) → overlaps area h ≡ false → area.address ≤ address → address + size ≤ area.address + area.size → 0 < size → holds address size h ≡ false
+holds_once area h address size o l u p = grind (arith, nat_tests)
+
+holds_nowhere : (hs : List Block) (area : Block) (address size : ℕ) → overlaps_any area hs ≡ false → area.address ≤ address → address + size ≤ area.address + area.size → 0 < size
+    → list_any (holds address size) hs ≡ false
+holds_nowhere [] area address size o l u p = refl
+holds_nowhere (h ∷ hs) area address size o l u p =
+    let parts = or_parts (overlaps area h) (overlaps_any area hs) o in
+    ap (λ b. b || list_any (holds address size) hs) (holds_once area h address size parts.0 l u p) ∙ holds_nowhere hs area address size parts.1 l u p
+
+holds-in : (area : Block) (address size : ℕ) → area.address ≤ address → address + size ≤ area.address + area.size → holds address size area ≡ true
+holds-in area address size l u = grind (arith, nat_tests)
+
+pub found_inside : (hs ts : List Block) (area : Block) (address size : ℕ) → overlaps_any area hs ≡ false → area.address ≤ address → address + size ≤ area.address + area.size → 0 < size
+    → find (holds address size) (hs ++ area ∷ ts) ≡ Some area
+found_inside hs ts area address size o l u p =
+    found_past (holds address size) hs (area ∷ ts) (holds_nowhere hs area address size o l u p)
+    ∙ ap (λ b. cond b (Some area) (find (holds address size) ts)) (holds-in area address size l u)
+
+-- what is found in a heap is found in it with more blocks behind
+pub found_still : (hs ts : List Block) (address size : ℕ) (bytes : List ℕ) (read : Block → Option (List ℕ)) → option_and_then read (block_at address size hs) ≡ Some bytes
+    → option_and_then read (block_at address size (hs ++ ts)) ≡ Some bytes
+found_still hs ts address size bytes read e =
+    ap (option_and_then read) (find-append (is_at address size) hs ts) ∙ go (find (is_at address size) hs) e
+  where
+    go : (o : Option Block) → option_and_then read o ≡ Some bytes → option_and_then read (option_or o (find (is_at address size) ts)) ≡ Some bytes
+    go None f = absurd (cc)
+    go (Some b) f = f
 
 -- bytes that lie in a heap lie in it with more blocks behind
 pub bytes_stay : (hs ts : List Block) (address size : ℕ) (bytes : List ℕ) → bytes_at address size hs ≡ Some bytes → bytes_at address size (hs ++ ts) ≡ Some bytes

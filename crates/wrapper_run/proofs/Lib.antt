@@ -1,10 +1,14 @@
 mod Examples
+pub mod FreeSteps
+pub mod GiveSteps
 pub mod HeapLemmas
 pub mod LocalLemmas
 pub mod MemoryLemmas
 pub mod MethodLemmas
 pub mod NumberLemmas
 pub mod OwningLemmas
+pub mod PlaceLemmas
 pub mod StepLemmas
+pub mod StoreLemmas
 pub mod TakeLemmas
 pub mod TextLemmas

@@ -44,6 +44,11 @@ reads-new name v locals =
     ap value_of (last-append (λ l. bytes_eq l.name name) locals (record { name = name; value = v })
     ∙ ap (λ b. option_or (cond b (Some (record { name = name; value = v })) None) (local_named name locals)) (bytes_eq-same name))
 
+-- a local of another name behind it hides none
+pub reads-past : (locals : List Local) (l : Local) (name : Bytes) (o : Option Val) → bytes_eq l.name name ≡ false → value_of (local_named name locals) ≡ o → value_of (local_named name (locals ++ l ∷ [])) ≡ o
+reads-past locals l name o e h =
+    ap value_of (last-append (λ m. bytes_eq m.name name) locals l ∙ ap (λ b. option_or (cond b (Some l) None) (local_named name locals)) e) ∙ h
+
 -- a core import that was declared alone
 pub declared-alone : (d : ImportDecl) → import_named d.name (d ∷ []) ≡ Some d
 declared-alone d = ap (λ b. cond b (Some d) None) (bytes_eq-same d.name)
@@ -109,13 +114,45 @@ moved_last name (x ∷ locals) l e =
     (any-last name locals l true e ∙ or-true (list_any (λ m. bytes_eq m.name name) locals))
     ∙ ap (λ ls. x ∷ ls) (moved_last name locals l e)
 
-pub moved_other : (name : Bytes) (locals : List Local) (l : Local) → bytes_eq l.name name ≡ false → moved name (locals ++ l ∷ []) ≡ moved name locals ++ l ∷ []
-moved_other name [] l e = ap (λ b. cond b (emptied l) l ∷ []) e
-moved_other name (x ∷ locals) l e =
-    ap (λ b. cond b (x ∷ moved name (locals ++ l ∷ [])) (cond (bytes_eq x.name name) (emptied x) x ∷ locals ++ l ∷ []))
-    (any-last name locals l false e ∙ or-false (list_any (λ m. bytes_eq m.name name) locals))
-    ∙ go (list_any (λ m. bytes_eq m.name name) locals) (moved_other name locals l e)
+-- locals of another name behind the others
+
+last-none : {A : Type 0} (passes : A → Bool) (xs : List A) → list_any passes xs ≡ false → last passes xs ≡ None
+last-none passes [] e = refl
+last-none passes (x ∷ xs) e =
+    let parts = or_parts (passes x) (list_any passes xs) e in last-skips passes x xs (last-none passes xs parts.1) parts.0
+
+last-front : {A : Type 0} (passes : A → Bool) (front behind : List A) → list_any passes behind ≡ false → last passes (front ++ behind) ≡ last passes front
+last-front passes [] behind e = last-none passes behind e
+last-front passes (x ∷ front) behind e = ap (λ o. option_or o (cond (passes x) (Some x) None)) (last-front passes front behind e)
+
+pub reads_front : (name : Bytes) (front behind : List Local) → list_any (λ l. bytes_eq l.name name) behind ≡ false → local_named name (front ++ behind) ≡ local_named name front
+reads_front name front behind e = last-front (λ l. bytes_eq l.name name) front behind e
+
+moved_none : (name : Bytes) (locals : List Local) → list_any (λ m. bytes_eq m.name name) locals ≡ false → moved name locals ≡ locals
+moved_none name [] e = refl
+moved_none name (l ∷ locals) e =
+    let parts = or_parts (bytes_eq l.name name) (list_any (λ m. bytes_eq m.name name) locals) e in
+    ap (λ b. cond b (l ∷ moved name locals) (cond (bytes_eq l.name name) (emptied l) l ∷ locals)) parts.1 ∙ ap (λ b. cond b (emptied l) l ∷ locals) parts.0
+
+pub moved_front : (name : Bytes) (front behind : List Local) → list_any (λ m. bytes_eq m.name name) behind ≡ false → moved name (front ++ behind) ≡ moved name front ++ behind
+moved_front name [] behind e = moved_none name behind e
+moved_front name (x ∷ front) behind e =
+    ap (λ b. cond b (x ∷ moved name (front ++ behind)) (cond (bytes_eq x.name name) (emptied x) x ∷ front ++ behind))
+    (list_any-append (λ m. bytes_eq m.name name) front behind ∙ ap (λ b. list_any (λ m. bytes_eq m.name name) front || b) e ∙ or-false (list_any (λ m. bytes_eq m.name name) front))
+    ∙ go (list_any (λ m. bytes_eq m.name name) front) (moved_front name front behind e)
   where
-    go : (b : Bool) → moved name (locals ++ l ∷ []) ≡ moved name locals ++ l ∷ [] → cond b (x ∷ moved name (locals ++ l ∷ [])) (cond (bytes_eq x.name name) (emptied x) x ∷ locals ++ l ∷ []) ≡ cond b (x ∷ moved name locals) (cond (bytes_eq x.name name) (emptied x) x ∷ locals) ++ l ∷ []
+    go : (b : Bool) → moved name (front ++ behind) ≡ moved name front ++ behind
+        → cond b (x ∷ moved name (front ++ behind)) (cond (bytes_eq x.name name) (emptied x) x ∷ front ++ behind) ≡ cond b (x ∷ moved name front) (cond (bytes_eq x.name name) (emptied x) x ∷ front) ++ behind
     go true h = ap (λ ls. x ∷ ls) h
     go false h = refl
+
+pub moved_other : (name : Bytes) (locals : List Local) (l : Local) → bytes_eq l.name name ≡ false → moved name (locals ++ l ∷ []) ≡ moved name locals ++ l ∷ []
+moved_other name locals l e = moved_front name locals (l ∷ []) (ap (λ b. b || false) e)
+
+-- lists of names that read their values
+
+pub reads-split : (ns ms : List Bytes) (xs ys : List Val) (locals : List Local) → SameLength ns xs → ReadsAll (ns ++ ms) (xs ++ ys) locals → ReadsAll ns xs locals × ReadsAll ms ys locals
+reads-split [] ms [] ys locals s h = (refl, h)
+reads-split [] ms (x ∷ xs) ys locals s h = absurd s
+reads-split (n ∷ ns) ms [] ys locals s h = absurd s
+reads-split (n ∷ ns) ms (x ∷ xs) ys locals s h = let r = reads-split ns ms xs ys locals s h.1 in ((h.0, r.0), r.1)

@@ -1,17 +1,10 @@
 -- Steps by which the implementation of an export is called, and the block of the call ends.
-use Rattle.std.proofs.Common.{◌≡◌, ℕ, Bool, true, false, List, [], ◌∷◌, ◌++◌, Option, None, Some, drop, length, map, take, refl, sym, ap, subst, ◌∙◌, rules}
-use Rattle.std.specs.Prelude.{find, option_and_then}
-use Rattle.std.specs.Option.{option_map, option_or}
-use Rattle.std.specs.Str.{bytes_eq}
+use Rattle.std.proofs.Common.{◌≡◌, List, [], ◌∷◌, ◌++◌, Option, None, Some, drop, length, map, take, refl, ap, ◌∙◌}
+use Rattle.std.specs.Prelude.{option_and_then}
+use Rattle.std.specs.Option.{option_map}
 use Rattle.rust_tree.specs.declared.export.TraitFn.{TraitFn}
-use Rattle.rust_tree.specs.declared.expr.Expr.{Expr}
-use Rattle.rust_tree.specs.declared.expr.Expr.TheVariants as expr
-use Rattle.rust_tree.specs.declared.item.Item.{Item}
-use Rattle.rust_tree.specs.declared.type_expr.Primitive.TheVariants as prim
 use Rattle.rust_tree.specs.declared.type_expr.TypeExpr.{TypeExpr}
 use Rattle.rust_tree.specs.declared.type_expr.TypeExpr.TheVariants as type
-use Rattle.wit_model.specs.declared.size.WasmType.{WasmType}
-use Rattle.wrapper_data.specs.declared.answer.Answer.{Answer}
 use Rattle.wrapper_data.specs.declared.answer.Answer.TheVariants as answer
 use Rattle.wrapper_data.specs.declared.heap.Heap.{Heap}
 use Rattle.wrapper_data.specs.declared.run.CallPoint.{CallPoint}
@@ -22,17 +15,16 @@ use Rattle.wrapper_run.specs.declared.state.Local.{Local}
 use Rattle.wrapper_run.specs.declared.state.State.{State}
 use Rattle.wrapper_run.specs.declared.state.Val.{Val}
 use Rattle.wrapper_run.specs.declared.state.Val.TheVariants as val
-use Rattle.wrapper_run.specs.Act.{Act, Outcome, Done, Stopped, ◌>>=◌, ◌>>◌, and_then, or_stop, pure}
-use Rattle.wrapper_run.specs.Blocks.{drop_locals, drop_value, keep_locals, leave_to}
-use Rattle.wrapper_run.specs.Effect.{answer_of, word_of_bool}
-use Rattle.wrapper_run.specs.ExportRun.{call_method, ended_export, keep_result, listed, method_answer, method_call, method_named, method_point, passed_as, returned_of, take_value, values_of}
-use Rattle.wrapper_run.specs.Locals.{Bytes, bind}
-use Rattle.wrapper_run.specs.Owning.{taken_by}
-use Rattle.wrapper_run.specs.Run.{bound, eval, record_call}
+use Rattle.wrapper_run.specs.Act.{Act, Done, ◌>>◌, and_then, or_stop}
+use Rattle.wrapper_run.specs.Blocks.{drop_locals, keep_locals, leave_to}
+use Rattle.wrapper_run.specs.Effect.{answer_of}
+use Rattle.wrapper_run.specs.ExportRun.{call_method, method_answer, method_call, method_named, method_point, passed_as, returned_of, take_value, values_of}
+use Rattle.wrapper_run.specs.Locals.{Bytes}
+use Rattle.wrapper_run.specs.Owning.{listed, taken_by}
+use Rattle.wrapper_run.specs.Run.{bound, record_call}
 use Rattle.wrapper_run.specs.Setting.{Setting, stuck}
 use Rattle.wrapper_run.proofs.NumberLemmas.{answered-unit}
 use Rattle.wrapper_run.proofs.OwningLemmas.{ArePlain, drops_plain}
-use Rattle.wrapper_run.proofs.StepLemmas.{Quiet, calls_at, eval-bool, quiet_bind, quiet_drop, quiet_leave, quiet_local, quiet_or_stop, quiet_pure, quiet_then}
 
 -- a scope inside another
 
@@ -91,26 +83,3 @@ passed ty v r e = ap (option_and_then (λ r. r)) e
 
 pub returned-value : (ty : TypeExpr) (r : RustValue) → answer_of ty (val.Value r) ≡ Some (Some r) → returned_of ty (Some r) ≡ Some (val.Value r)
 returned-value ty r e = ap (option_map val.Value) (passed ty (val.Value r) r e)
-
--- nothing but the call itself calls
-
-pub quiet_value : (w : Setting) (ty : TypeExpr) → Quiet (take_value w ty)
-unfolding take_value
-quiet_value w ty = go w.answer
-  where
-    go : (a : Answer) → Quiet (method_answer w ty a)
-    go (answer.Value r heap) = record { quiet = λ s. (quiet_or_stop (stuck w) (returned_of ty r)).quiet (record s { heap = heap; taken = taken_by (listed r) }) }
-    go (answer.Words r writes blocks) = record { quiet = λ s. refl }
-
-pub quiet_keep : (w : Setting) (name : Option Bytes) (v : Val) → Quiet (keep_result w name v)
-quiet_keep w None v = quiet_drop w v
-quiet_keep w (Some name) v = quiet_bind name v
-
-pub quiet_bool : (w : Setting) (name : Bytes) → Quiet (eval w (expr.I32FromBool (expr.Local name)))
-quiet_bool w name =
-    subst Quiet (sym (eval-bool w (expr.Local name)))
-    (quiet_then (eval w (expr.Local name)) (λ v. or_stop (stuck w) (option_map val.Word (word_of_bool v))) (quiet_local w name) (λ v. quiet_or_stop (stuck w) (option_map val.Word (word_of_bool v))))
-
-pub ended_export-calls : (o : Outcome (List Word)) → (ended_export o).calls ≡ calls_at o
-ended_export-calls (Done words s) = refl
-ended_export-calls (Stopped e s) = refl

@@ -143,6 +143,15 @@ no_text f v = go (num_of v)
     go None = refl
     go (Some k) = refl
 
+-- nothing is lifted by the function that frees
+pub no_dealloc : (f : Form) (v : Val) → lift_of f item.CabiDealloc v ≡ None
+unfolding lift_of
+no_dealloc f v = go (num_of v)
+  where
+    go : (o : Option (WitType × ℤ)) → option_and_then (lift_of_number f item.CabiDealloc) o ≡ None
+    go None = refl
+    go (Some k) = refl
+
 -- what a function of a type answers
 
 opened-primitive : (p : Primitive) → out-TypeExpr (type.Primitive p) ≡ TypeExpr-F.Primitive p

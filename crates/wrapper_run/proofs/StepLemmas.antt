@@ -1,6 +1,6 @@
 -- Single steps of the machine, and what leaves the calls as they are.
 use Rattle.std.proofs.Common.{◌≡◌, List, [], ◌∷◌, ◌++◌, Option, None, Some, map, refl, sym, ap, subst, true, cond, ◌∙◌, rules}
-use Rattle.std.specs.Prelude.{ℕ, ℤ, Result, Ok, Err, option_and_then}
+use Rattle.std.specs.Prelude.{ℕ, zero, suc, ◌-◌, ◌^◌, ℤ, Result, Ok, Err, nat_lt, option_and_then}
 use Rattle.std.specs.List.{AllZip}
 use Rattle.std.specs.Option.{option_map}
 use Rattle.wit_model.specs.declared.size.WasmType.{WasmType}
@@ -10,7 +10,7 @@ use Rattle.rust_tree.specs.declared.expr.Expr.TheVariants as expr
 use Rattle.rust_tree.specs.declared.expr.Expr.TheVariants.{rolls-Call, rolls-Cast, rolls-I32FromBool}
 use Rattle.rust_tree.specs.declared.path.Path.{Path}
 use Rattle.rust_tree.specs.declared.runtime_item.RuntimeItem.{RuntimeItem}
-use Rattle.rust_tree.specs.declared.runtime_item.RuntimeItem.TheVariants.{StringLift}
+use Rattle.rust_tree.specs.declared.runtime_item.RuntimeItem.TheVariants.{CabiDealloc, StringLift}
 use Rattle.std.specs.Str.{is_utf8}
 use Rattle.std.proofs.Common.{Bool, false}
 use Rattle.wrapper_data.specs.declared.run.TrapKind.TheVariants as trap
@@ -18,7 +18,7 @@ use Rattle.wrapper_run.specs.declared.state.Local.{Local}
 use Rattle.wrapper_run.specs.Act.{stop}
 use Rattle.wrapper_run.specs.Blocks.{without_block}
 use Rattle.wrapper_run.specs.Owning.{buffer_of}
-use Rattle.wrapper_run.proofs.NumberLemmas.{no_text}
+use Rattle.wrapper_run.proofs.NumberLemmas.{no_dealloc, no_text}
 use Rattle.wrapper_run.proofs.OwningLemmas.{ArePlain, buffer-text, drops_plain}
 use Rattle.wrapper_run.specs.declared.owning.View.{View}
 use Rattle.wrapper_run.specs.declared.owning.View.TheVariants as view_of
@@ -33,6 +33,7 @@ use Rattle.wrapper_run.specs.Blocks.{drop_value}
 use Rattle.wrapper_data.specs.Answered.{answered}
 use Rattle.wrapper_data.specs.declared.answer.Answer.{Answer}
 use Rattle.wrapper_data.specs.declared.answer.Answer.TheVariants as answer
+use Rattle.wrapper_data.specs.declared.heap.Block.{Block}
 use Rattle.wrapper_data.specs.declared.run.CallPoint.{CallPoint}
 use Rattle.wrapper_data.specs.declared.run.Stop.{Stop}
 use Rattle.wrapper_data.specs.declared.run.TrapKind.{TrapKind}
@@ -47,8 +48,8 @@ use Rattle.wrapper_run.specs.Effect.{cast_integer, cast_to, converted, integer_o
 use Rattle.wrapper_run.specs.Locals.{Bytes, bind, lend_local, local_named, use_local, used, value_of}
 use Rattle.wrapper_run.specs.Owning.{lent, owned, owned_in}
 use Rattle.wrapper_run.specs.Setting.{Setting, failed, stuck}
-use Rattle.wrapper_run.specs.Blocks.{drop_local, drop_locals, free, free_owned, is_owned, keep_locals, leave_to, lift_buffer, lift_text, owned_bytes, tested}
-use Rattle.wrapper_run.specs.Run.{alone, of_runtime, call, call_callee, call_point, call_runtime, callee, answer_act, apply_one, converted_or_lifted, lift_act, ended, eval, eval_step, record_call, result_of, runtime_item_named, take_answer, apply_item}
+use Rattle.wrapper_run.specs.Blocks.{dealloc, dealloc_words, drop_local, drop_locals, free, free_bytes, free_owned, free_untaken, is_owned, keep_locals, leave_to, lift_buffer, lift_text, owned_bytes, tested, untaken}
+use Rattle.wrapper_run.specs.Run.{alone, of_runtime, call, call_callee, call_point, call_runtime, callee, answer_act, apply, apply_one, converted_or_lifted, lift_act, ended, eval, eval_step, record_call, result_of, runtime_item_named, take_answer, apply_item}
 
 -- values
 
@@ -148,13 +149,15 @@ bool_gives w e v x s h k =
     ∙ ap (λ o. and_then o (λ v. or_stop (stuck w) (option_map val.Word (word_of_bool v)))) h
     ∙ ap (λ o. or_stop (stuck w) (option_map val.Word o) s) k
 
-converts : (w : Setting) (i : RuntimeItem) (v : Val) (x : Word) (s : State) → converted i v ≡ Some x → apply_item w i v s ≡ Done (val.Word x) s
+converts : (w : Setting) (i : RuntimeItem) (v : Val) (x : Word) (s : State) → converted i v ≡ Some x → apply w (Some i) (v ∷ []) s ≡ Done (val.Word x) s
 unfolding converted
 converts w StringLift v x s e = absurd (cc)
+converts w CabiDealloc v x s e = absurd (cc)
 converts w i v x s e = ap (λ o. converted_or_lifted w o (lift_of w.form i v) s) e
 
-lifts : (w : Setting) (i : RuntimeItem) (v : Val) (r : RustValue) (s : State) → converted i v ≡ None → lift_of w.form i v ≡ Some (Ok r) → apply_item w i v s ≡ Done (val.Value r) s
+lifts : (w : Setting) (i : RuntimeItem) (v : Val) (r : RustValue) (s : State) → converted i v ≡ None → lift_of w.form i v ≡ Some (Ok r) → apply w (Some i) (v ∷ []) s ≡ Done (val.Value r) s
 lifts w StringLift v r s e f = let none : lift_of w.form StringLift v ≡ None = no_text w.form v in absurd (cc)
+lifts w CabiDealloc v r s e f = let none : lift_of w.form CabiDealloc v ≡ None = no_dealloc w.form v in absurd (cc)
 lifts w i v r s e f = ap (λ o. converted_or_lifted w o (lift_of w.form i v) s) e ∙ ap (λ o. lift_act w o s) f
 
 -- a call of a function of `_rt` on one value: a conversion, or a lift
@@ -162,13 +165,13 @@ pub runtime_gives : (w : Setting) (path : Path) (function : Bytes) (i : RuntimeI
     → callee path ≡ of_runtime function → runtime_item_named w.items function ≡ Some i → converted i v ≡ Some x → call w path (v ∷ []) s ≡ Done (val.Word x) s
 unfolding call_runtime
 runtime_gives w path function i v x s c r k =
-    ap (λ k. call_callee w k (v ∷ []) s) c ∙ ap (λ o. apply_one w o (v ∷ []) s) r ∙ converts w i v x s k
+    ap (λ k. call_callee w k (v ∷ []) s) c ∙ ap (λ o. apply w o (v ∷ []) s) r ∙ converts w i v x s k
 
 pub lift_gives : (w : Setting) (path : Path) (function : Bytes) (i : RuntimeItem) (v : Val) (r : RustValue) (s : State)
     → callee path ≡ of_runtime function → runtime_item_named w.items function ≡ Some i → converted i v ≡ None → lift_of w.form i v ≡ Some (Ok r) → call w path (v ∷ []) s ≡ Done (val.Value r) s
 unfolding call_runtime
 lift_gives w path function i v r s c n k l =
-    ap (λ k. call_callee w k (v ∷ []) s) c ∙ ap (λ o. apply_one w o (v ∷ []) s) n ∙ lifts w i v r s k l
+    ap (λ k. call_callee w k (v ∷ []) s) c ∙ ap (λ o. apply w o (v ∷ []) s) n ∙ lifts w i v r s k l
 
 -- a call of a core import is recorded and then answered
 pub import_gives : (w : Setting) (path : Path) (name : Bytes) (vs : List Val) (s : State) (p : CallPoint) (ty : Option WasmType)
@@ -264,13 +267,38 @@ quiet_apply_one w None vs = record { quiet = λ s. refl }
 quiet_apply_one w (Some i) [] = record { quiet = λ s. refl }
 quiet_apply_one w (Some i) (v ∷ u ∷ vs) = record { quiet = λ s. refl }
 
+quiet_free_bytes : (w : Setting) (address size : ℕ) → Quiet (free_bytes w address size)
+quiet_free_bytes w address zero = quiet_pure tt
+quiet_free_bytes w address (suc n) = record { quiet = λ s. go s (untaken address (suc n) s) }
+  where
+    go : (s : State) (o : Option Block) → calls_at (free_untaken w address (suc n) o s) ≡ s.calls
+    go s None = refl
+    go s (Some b) = refl
+
+quiet_dealloc : (w : Setting) (address size : ℕ) → Quiet (dealloc w address size)
+unfolding dealloc
+quiet_dealloc w address size = go (nat_lt (2 ^ 31 - 1) size)
+  where
+    go : (b : Bool) → Quiet (cond b (stop (failed w trap.Size)) (free_bytes w address size))
+    go true = record { quiet = λ s. refl }
+    go false = quiet_free_bytes w address size
+
+quiet_dealloc_words : (w : Setting) (vs : List Val) → Quiet (dealloc_words w vs)
+quiet_dealloc_words w (val.Word (word.Pointer address) ∷ val.Word (word.Length size) ∷ val.Word (word.Length align) ∷ []) =
+    quiet_then (dealloc w address size) (λ _. pure (val.Value value.Unit)) (quiet_dealloc w address size) (λ _. quiet_pure (val.Value value.Unit))
+quiet_dealloc_words w _ = record { quiet = λ s. refl }
+
+quiet_applied : (w : Setting) (i : Option RuntimeItem) (vs : List Val) → Quiet (apply w i vs)
+quiet_applied w (Some CabiDealloc) vs = quiet_dealloc_words w vs
+quiet_applied w i vs = quiet_apply_one w i vs
+
 -- a call of a function of `_rt` is no call of a core import
 pub quiet_runtime : (w : Setting) (path : Path) (function : Bytes) (e : Expr) → callee path ≡ of_runtime function → Quiet (eval w e) → Quiet (eval w (expr.Call path (e ∷ [])))
 unfolding call_runtime
 quiet_runtime w path function e c h =
     subst Quiet (sym (eval-call w path (e ∷ [])))
     (quiet_then (all (eval w e ∷ [])) (λ vs. call w path vs) (quiet_one (eval w e) h)
-    (λ vs. subst Quiet (sym (ap (λ k. call_callee w k vs) c)) (quiet_apply_one w (runtime_item_named w.items function) vs)))
+    (λ vs. subst Quiet (sym (ap (λ k. call_callee w k vs) c)) (quiet_applied w (runtime_item_named w.items function) vs)))
 
 -- a word of the result's type is the call's value, and an answer of no blocks and no bytes leaves the heap
 pub answer_gives : (w : Setting) (ty : WasmType) (x : Word) (s : State) → w.answer ≡ answer.Words (Some x) [] [] → is_word_of ty x ≡ true → take_answer w (Some ty) s ≡ Done (val.Word x) s

@@ -1,5 +1,5 @@
 -- Steps by which a text is loaded, taken over, tested and moved.
-use Rattle.std.proofs.Common.{◌≡◌, Bool, ℕ, zero, suc, ◌+◌, ◌<◌, ◌^◌, ◌-◌, true, false, cond, List, [], ◌∷◌, ◌++◌, Option, None, Some, refl, sym, subst, ap, ◌∙◌, arith}
+use Rattle.std.proofs.Common.{◌≡◌, Bool, ℕ, zero, suc, ◌+◌, ◌<◌, ◌^◌, ◌-◌, true, false, cond, ◌||◌, List, [], ◌∷◌, ◌++◌, Option, None, Some, refl, sym, subst, ap, ◌∙◌, arith}
 use Rattle.std.specs.Prelude.{nat_eq, nat_lt, option_and_then}
 use Rattle.std.specs.Option.{option_map}
 use Rattle.std.specs.Str.{is_utf8}
@@ -26,9 +26,11 @@ use Rattle.wrapper_run.specs.Blocks.{untaken, lift_buffer, lift_text, own, own_b
 use Rattle.wrapper_run.specs.Locals.{Bytes, local_named, moved, use_local, used, value_of}
 use Rattle.wrapper_run.specs.Memory.{block_at, bytes_from, loaded}
 use Rattle.wrapper_run.specs.Owning.{block_of_buffer, is_taken, owned}
-use Rattle.wrapper_run.specs.Run.{apply_one, call, call_callee, call_runtime, callee, eval, eval_step, load_word, of_runtime, runtime_item_named, take_bytes}
+use Rattle.wrapper_run.specs.Run.{apply, call, call_callee, call_runtime, callee, eval, eval_step, load_word, of_runtime, runtime_item_named, take_bytes}
 use Rattle.wrapper_run.specs.Setting.{Setting, failed, stuck}
-use Rattle.wrapper_run.proofs.LocalLemmas.{bytes_eq-same, moved_last, reads-new}
+use Rattle.wrapper_run.proofs.LocalLemmas.{bytes_eq-same, moved_front, moved_last, reads-new, reads_front}
+use Rattle.std.specs.List.{list_any}
+use Rattle.std.specs.Str.{bytes_eq}
 use Rattle.wrapper_run.proofs.OwningLemmas.{buffer-text}
 use Rattle.wrapper_run.proofs.StepLemmas.{Quiet, eval-call, eval-local, quiet_or_stop, quiet_then}
 use Rattle.std.proofs.Common.{rules}
@@ -87,7 +89,7 @@ takes_block w p n b bytes s pos small free found read =
 
 -- the use of a text that is the newest local
 
-owned-block : (p n : ℕ) → owned (val.Value (value.Buffer p (suc n) true)) ≡ Some (p, suc n)
+pub owned-block : (p n : ℕ) → owned (val.Value (value.Buffer p (suc n) true)) ≡ Some (p, suc n)
 owned-block p n = ap (option_and_then block_of_buffer) (buffer-text p (suc n) true)
 
 pub owned-empty : (p : ℕ) → owned (val.Value (value.Buffer p 0 true)) ≡ None
@@ -104,6 +106,57 @@ moves_last w name p n locals s e =
     ∙ ap (λ o. and_then (or_stop (stuck w) o s) (λ v. used name v (owned v))) (ap (λ ls. value_of (local_named name ls)) e ∙ reads-new name (Some v) locals)
     ∙ ap (λ o. used name v o s) (owned-block p n)
     ∙ ap (λ ls. Done v (record s { locals = ls })) (ap (moved name) e ∙ moved_last name locals l (bytes_eq-same name))
+
+-- the use of a text: one that owns a block is moved out of its local
+
+abbrev pub text_local : Bytes → ℕ → ℕ → Local
+text_local name p n = record { name = name; value = Some (val.Value (value.Buffer p n true)) }
+
+abbrev pub after_use : ℕ → Bytes → List Local → List Local
+after_use zero name locals = locals
+after_use (suc n) name locals = moved name locals
+
+-- what the local is afterwards
+
+abbrev pub used_up : ℕ → ℕ → Option Val
+used_up p zero = Some (val.Value (value.Buffer p 0 true))
+used_up p (suc n) = None
+
+abbrev pub used_local : Bytes → ℕ → ℕ → Local
+used_local name p n = record { name = name; value = used_up p n }
+
+pub used-plain : (p n : ℕ) → owned_in (used_up p n) ≡ None
+used-plain p zero = owned-empty p
+used-plain p (suc n) = refl
+
+pub uses_text : (w : Setting) (name : Bytes) (p n : ℕ) (s : State) → value_of (local_named name s.locals) ≡ Some (val.Value (value.Buffer p n true))
+    → use_local (stuck w) name s ≡ Done (val.Value (value.Buffer p n true)) (record s { locals = after_use n name s.locals })
+unfolding use_local
+uses_text w name p zero s h =
+    ap (λ o. and_then (or_stop (stuck w) o s) (λ v. used name v (owned v))) h ∙ ap (λ o. used name (val.Value (value.Buffer p 0 true)) o s) (owned-empty p)
+uses_text w name p (suc n) s h =
+    ap (λ o. and_then (or_stop (stuck w) o s) (λ v. used name v (owned v))) h ∙ ap (λ o. used name (val.Value (value.Buffer p (suc n) true)) o s) (owned-block p n)
+
+pub use_last : (name : Bytes) (p n : ℕ) (locals : List Local) → after_use n name (locals ++ text_local name p n ∷ []) ≡ locals ++ used_local name p n ∷ []
+use_last name p zero locals = refl
+use_last name p (suc n) locals = moved_last name locals (text_local name p (suc n)) (bytes_eq-same name)
+
+-- locals of other names behind it stay
+pub use_front : (name : Bytes) (n : ℕ) (front behind : List Local) → list_any (λ l. bytes_eq l.name name) behind ≡ false → after_use n name (front ++ behind) ≡ after_use n name front ++ behind
+use_front name zero front behind e = refl
+use_front name (suc n) front behind e = moved_front name front behind e
+
+pub use_other : (name : Bytes) (n : ℕ) (locals : List Local) (l : Local) → bytes_eq l.name name ≡ false → after_use n name (locals ++ l ∷ []) ≡ after_use n name locals ++ l ∷ []
+use_other name n locals l e = use_front name n locals (l ∷ []) (ap (λ b. b || false) e)
+
+-- the value of its local, wherever it stands
+pub text_gives : (w : Setting) (name : Bytes) (p n : ℕ) (front behind : List Local) (s : State) → s.locals ≡ (front ++ text_local name p n ∷ []) ++ behind → list_any (λ l. bytes_eq l.name name) behind ≡ false
+    → eval w (expr.Local name) s ≡ Done (val.Value (value.Buffer p n true)) (record s { locals = (front ++ used_local name p n ∷ []) ++ behind })
+text_gives w name p n front behind s e apart =
+    let v : Val = val.Value (value.Buffer p n true) in
+    ap (λ act. act s) (eval-local w name)
+    ∙ uses_text w name p n s (ap (λ ls. value_of (local_named name ls)) e ∙ ap value_of (reads_front name (front ++ text_local name p n ∷ []) behind apart) ∙ reads-new name (Some v) front)
+    ∙ ap (λ ls. Done v (record s { locals = ls })) (ap (after_use n name) e ∙ use_front name n (front ++ text_local name p n ∷ []) behind apart ∙ ap (λ ls. ls ++ behind) (use_last name p n front))
 
 -- the bytes are a text
 
@@ -122,7 +175,7 @@ lifts_text w path function name p n bytes s t c f h o u =
     let v : Val = val.Value (value.Buffer p n true) in
     ap (λ act. act s) (eval-call w path (expr.Local name ∷ []))
     ∙ ap (λ o. and_then (and_then o (λ x. pure [] >>= (λ xs. pure (x ∷ xs)))) (λ vs. call w path vs)) h
-    ∙ ap (λ k. call_callee w k (v ∷ []) t) c ∙ ap (λ i. apply_one w i (v ∷ []) t) f ∙ bytes_are w p n bytes t o u
+    ∙ ap (λ k. call_callee w k (v ∷ []) t) c ∙ ap (λ i. apply w i (v ∷ []) t) f ∙ bytes_are w p n bytes t o u
 
 -- none of this is a call
 

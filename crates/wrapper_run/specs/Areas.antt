@@ -1,4 +1,4 @@
--- The return area of an imported function: what it asks for, and where the choices put it. So far it is for a text, which
+-- The area through which a result passes: what it asks for, and where the choices put it. So far it is for a text, which
 -- comes back as an address and a length.
 use Rattle.std.specs.Prelude.{Bool, true, false, List, [], ◌∷◌, Option, Some, map}
 use Rattle.wit_model.specs.declared.types.WitType.{WitType}

@@ -1,53 +1,23 @@
--- What is done to blocks: an area is placed, a block is taken over, a text is tested, and what a value owns is freed.
-use Rattle.std.specs.Prelude.{ℕ, zero, suc, ◌-◌, ◌%◌, ◌^◌, Bool, true, not, ◌&&◌, ◌||◌, nat_eq, nat_lt, if◌then◌else◌, List, [], ◌∷◌, ◌++◌, Option, None, Some, filter, drop, take, is_some, option_and_then}
+-- What is done to blocks: a block is taken over or let go, a text is tested, blocks are freed, and a core value is written into one.
+use Rattle.std.specs.Prelude.{ℕ, zero, suc, ◌+◌, ◌-◌, ◌^◌, Bool, true, not, ◌&&◌, nat_eq, nat_lt, if◌then◌else◌, List, [], ◌∷◌, ◌++◌, Option, None, Some, filter, drop, take, is_some, option_and_then}
 use Rattle.std.specs.Str.{is_utf8}
-use Rattle.wit_model.specs.Size.{alignment_at, bytes_at}
-use Rattle.rust_tree.specs.declared.stmt.ReturnArea.{ReturnArea}
-use Rattle.wrapper_data.specs.declared.choice.Choice.{Choice}
-use Rattle.wrapper_data.specs.declared.choice.Choice.TheVariants as choice
-use Rattle.wrapper_data.specs.declared.choice.Request.{Request}
+use Rattle.wit_model.specs.declared.size.ArchitectureSize.{ArchitectureSize}
+use Rattle.wit_model.specs.declared.size.WasmType.{WasmType}
+use Rattle.wit_model.specs.Size.{bytes_at}
 use Rattle.wrapper_data.specs.declared.heap.Block.{Block}
-use Rattle.wrapper_data.specs.declared.run.Stop.TheVariants as stop_of
 use Rattle.wrapper_data.specs.declared.run.TrapKind.TheVariants as trap
 use Rattle.wrapper_data.specs.declared.value.RustValue.TheVariants as value
-use Rattle.wrapper_data.specs.Heap.{is_block, overlaps_any}
+use Rattle.wrapper_data.specs.declared.word.Word.{Word}
+use Rattle.wrapper_data.specs.declared.word.Word.TheVariants as word
 use Rattle.wrapper_run.specs.declared.state.Local.{Local}
 use Rattle.wrapper_run.specs.declared.state.State.{State}
 use Rattle.wrapper_run.specs.declared.state.Val.{Val}
 use Rattle.wrapper_run.specs.declared.state.Val.TheVariants as val
-use Rattle.wrapper_run.specs.Act.{Act, Done, Stopped, ◌>>◌, pure, stop}
-use Rattle.wrapper_run.specs.Locals.{Bytes, bind}
-use Rattle.wrapper_run.specs.Memory.{block_at, bytes_from, without}
+use Rattle.wrapper_run.specs.Act.{Act, Done, Stopped, ◌>>=◌, ◌>>◌, or_stop, pure, stop}
+use Rattle.wrapper_run.specs.Effect.{word_of}
+use Rattle.wrapper_run.specs.Memory.{block_at, bytes_from, stored, without}
 use Rattle.wrapper_run.specs.Owning.{buffer_of, is_taken, owned, owned_in}
 use Rattle.wrapper_run.specs.Setting.{Setting, failed, stuck}
-
--- an area of the stack: pointers have four bytes
-
-abbrev pub area_request : ReturnArea → Request
-area_request a = record { size = bytes_at a.size 4; align = alignment_at a.align 4 }
-
-abbrev pub area_block : ℕ → Request → Block
-area_block address r = record { address = address; size = r.size; cells = [] }
-
--- the address is aligned, and a block there overlaps none
-abbrev pub is_fitting : ℕ → Request → List Block → Bool
-is_fitting address r blocks = is_block (area_block address r) && not (overlaps_any (area_block address r) blocks) && nat_eq (address % r.align) 0
-
-abbrev pub with_area : ℕ → Request → State → State
-with_area address r s = record s { heap = record s.heap { blocks = s.heap.blocks ++ area_block address r ∷ [] }; taken = s.taken ++ address ∷ [] }
-
--- an area takes the next choice, and is never refused
-abbrev pub place_area : Bytes → Request → List Choice → Act (Unit {0})
-place_area name r (choice.At address ∷ choices) =
-    λ s. if is_fitting address r s.heap.blocks then bind name (val.Area address r.size) (record (with_area address r s) { choices = choices }) else Stopped stop_of.BadChoice s
-place_area name r _ = stop stop_of.BadChoice
-
--- an area without bytes, or with no alignment, has no meaning
-unfoldable pub declare_area : Setting → ReturnArea → Act (Unit {0})
-declare_area w a =
-    λ s.
-    if nat_eq (area_request a).size 0 || nat_eq (area_request a).align 0 then Stopped (stuck w) s
-    else place_area a.name (area_request a) s.choices (record s { requests = s.requests ++ area_request a ∷ [] })
 
 -- the bytes at an address become a text's own
 
@@ -90,10 +60,25 @@ lift_buffer w v _ = stop (stuck w)
 unfoldable pub lift_text : Setting → Val → Act Val
 lift_text w v = lift_buffer w v (buffer_of v)
 
+-- the bytes of a text that owns its block are that block, as a box
+
+abbrev pub box_buffer : Setting → Val → Option (ℕ × ℕ × Bool) → Act Val
+box_buffer w v (Some (address, size, true)) = pure v
+box_buffer w v _ = stop (stuck w)
+
+unfoldable pub boxed : Setting → Val → Act Val
+boxed w v = box_buffer w v (buffer_of v)
+
 -- what a value owns is freed
 
+abbrev pub without_owner : ℕ → State → State
+without_owner address s = record s { taken = filter (λ t. not (nat_eq t address)) s.taken }
+
+abbrev pub removed : ℕ → ℕ → State → State
+removed address size s = record s { heap = record s.heap { blocks = without address size s.heap.blocks } }
+
 abbrev pub without_block : ℕ × ℕ → State → State
-without_block b s = record s { heap = record s.heap { blocks = without b.0 b.1 s.heap.blocks }; taken = filter (λ t. not (nat_eq t b.0)) s.taken }
+without_block b s = removed b.0 b.1 (without_owner b.0 s)
 
 -- the block is live, and an owner has it
 abbrev pub is_owned : ℕ × ℕ → State → Bool
@@ -123,3 +108,49 @@ keep_locals locals = λ s. Done tt (record s { locals = locals })
 -- a scope ends: its locals are dropped, and so many stay, which were there before it
 unfoldable pub leave_to : Setting → ℕ → Act (Unit {0})
 leave_to w kept = λ s. (drop_locals w (drop kept s.locals) >> keep_locals (take kept s.locals)) (record s { locals = [] })
+
+-- a block stays, and has no owner any more
+
+unfoldable pub release : Setting → ℕ × ℕ → Act (Unit {0})
+release w b = λ s. if is_owned b s then Done tt (without_owner b.0 s) else Stopped (stuck w) s
+
+abbrev pub release_owned : Setting → Option (ℕ × ℕ) → Act (Unit {0})
+release_owned w None = pure tt
+release_owned w (Some b) = release w b
+
+-- a value is forgotten
+abbrev pub forget : Setting → Val → Act Val
+forget w v = release_owned w (owned v) >> pure (val.Value value.Unit)
+
+-- a block is freed by its address and size, where no owner has it
+
+abbrev pub free_untaken : Setting → ℕ → ℕ → Option Block → Act (Unit {0})
+free_untaken w address size None = stop (failed w trap.Block)
+free_untaken w address size (Some b) = λ s. Done tt (removed address size s)
+
+abbrev pub free_bytes : Setting → ℕ → ℕ → Act (Unit {0})
+free_bytes w address zero = pure tt
+free_bytes w address (suc n) = λ s. free_untaken w address (suc n) (untaken address (suc n) s) s
+
+-- at most 2^31 - 1 bytes
+unfoldable pub dealloc : Setting → ℕ → ℕ → Act (Unit {0})
+dealloc w address size = if nat_lt (2 ^ 31 - 1) size then stop (failed w trap.Size) else free_bytes w address size
+
+-- the address, the size and the alignment, by words
+abbrev pub dealloc_words : Setting → List Val → Act Val
+dealloc_words w (val.Word (word.Pointer address) ∷ val.Word (word.Length size) ∷ val.Word (word.Length align) ∷ []) = dealloc w address size >> pure (val.Value value.Unit)
+dealloc_words w _ = stop (stuck w)
+
+-- a core value is written
+
+abbrev pub keep_blocks : List Block → Act (Unit {0})
+keep_blocks blocks = λ s. Done tt (record s { heap = record s.heap { blocks = blocks } })
+
+abbrev pub write_word : Setting → WasmType → ℕ → Option Word → Act (Unit {0})
+write_word w ty address None = stop (stuck w)
+write_word w ty address (Some x) = λ s. (or_stop (stuck w) (stored ty address x s.heap.blocks) >>= keep_blocks) s
+
+-- a value of a core type is written at an offset from an address
+abbrev pub store_word : Setting → ArchitectureSize → WasmType → Val → Val → Act (Unit {0})
+store_word w offset ty v (val.Word (word.Pointer address)) = write_word w ty (address + bytes_at offset 4) (word_of ty v)
+store_word w offset ty v _ = stop (stuck w)

@@ -1,6 +1,6 @@
 -- What the run of an exported function's wrapper is: the words become the method's arguments, the implementation is called, and
 -- its value becomes a word.
-use Rattle.std.specs.Prelude.{ℕ, zero, suc, Bool, List, [], ◌∷◌, ◌++◌, Option, None, Some, option_and_then, if◌then◌else◌, find, length, map}
+use Rattle.std.specs.Prelude.{ℕ, zero, suc, List, [], ◌∷◌, Option, None, Some, option_and_then, if◌then◌else◌, find, length, map}
 use Rattle.std.specs.Option.{option_map, option_or}
 use Rattle.std.specs.Str.{bytes_eq}
 use Rattle.wit_model.specs.declared.size.WasmType.{WasmType}
@@ -33,7 +33,7 @@ use Rattle.wrapper_run.specs.Act.{Act, Outcome, Done, Stopped, ◌>>=◌, ◌>>�
 use Rattle.wrapper_run.specs.Blocks.{drop_value, leave_to}
 use Rattle.wrapper_run.specs.Effect.{answer_of, is_unit, word_of}
 use Rattle.wrapper_run.specs.Locals.{Bytes, bind}
-use Rattle.wrapper_run.specs.Owning.{taken_by}
+use Rattle.wrapper_run.specs.Owning.{listed, taken_by}
 use Rattle.wrapper_run.specs.Run.{begin, bound, eval, give_and_leave, numbered, record_call, run_at, run_block, run_stmts, setting_of}
 use Rattle.wrapper_run.specs.Setting.{Setting, stuck}
 
@@ -73,10 +73,6 @@ method_call items bound name heap vs =
 abbrev pub returned_of : TypeExpr → Option RustValue → Option Val
 returned_of ty None = option_map (λ r. val.Value value.Unit) (answer_of ty (val.Value value.Unit))
 returned_of ty (Some v) = option_map val.Value (passed_as ty (val.Value v))
-
-abbrev pub listed : {A : Type 0} → Option A → List A
-listed None = []
-listed (Some a) = a ∷ []
 
 -- the implementation leaves a heap, in which its value owns blocks
 abbrev pub method_answer : Setting → TypeExpr → Answer → Act Val

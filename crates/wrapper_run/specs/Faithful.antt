@@ -18,7 +18,7 @@ use Rattle.wrapper_data.specs.declared.heap.Block.{Block}
 use Rattle.wrapper_data.specs.declared.choice.Choice.{Choice}
 use Rattle.wrapper_data.specs.declared.choice.Choice.TheVariants as choice
 use Rattle.wrapper_run.specs.Areas.{areas, due, needs_area, pointers, text_area}
-use Rattle.wrapper_run.specs.Blocks.{is_fitting}
+use Rattle.wrapper_run.specs.Places.{is_fitting}
 use Rattle.wrapper_run.specs.Honest.{HonestPeer}
 use Rattle.wrapper_run.specs.Represents.{LendsAll}
 use Rattle.wrapper_run.specs.Run.{import_at, import_run}

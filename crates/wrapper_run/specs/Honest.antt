@@ -1,7 +1,7 @@
 -- When the other side is honest at a call. The peer of an import is, where its answer represents a value of the result type, and it adds and writes
 -- nothing that the result does not hold. A scalar is one word. A text is written to the area that the call's last word names,
 -- as an address and a length, and comes with its block. The implementation of an export is honest, where its value stands for
--- a value of the result type; so far it may leave any heap, since no value has a block.
+-- a value of the result type, in the heap that it leaves; that may be any heap in which a text's own block lives.
 use Rattle.std.specs.Prelude.{◌≡◌, ℕ, ◌+◌, ◌<◌, ◌≤◌, Bool, true, not, ◌&&◌, List, [], ◌∷◌, length, Option, None, Some}
 use Rattle.std.specs.List.{list_all}
 use Rattle.wit_model.specs.declared.size.WasmType.TheVariants as core
@@ -19,7 +19,7 @@ use Rattle.wrapper_data.specs.Heap.{are_apart, is_block, overlaps_any}
 use Rattle.wrapper_run.specs.Locals.{last}
 use Rattle.wrapper_run.specs.Memory.{loaded}
 use Rattle.wrapper_run.specs.Represents.{Takes}
-use Rattle.wrapper_run.specs.StandsFor.{IsTextBlock, rust_value}
+use Rattle.wrapper_run.specs.StandsFor.{IsTextBlock, StandsOwned}
 use Rattle.wrapper_run.specs.Value.{WitValue, scalar, text}
 
 -- the bytes are written from an address on, and behind the last of so many
@@ -58,7 +58,7 @@ HonestPeer _ _ a c = ⊥
 abbrev pub Leaves : Heap → Option RustValue → Answer → Type 0
 Leaves heap r a = a ≡ answer.Value r heap
 
-abbrev pub HonestImplementation : Option WitType → Option WitValue → Answer → CallPoint → Type 0
-HonestImplementation None None a c = (heap : Heap) × Leaves heap None a
-HonestImplementation (Some ty) (Some (scalar v)) a c = (heap : Heap) × Leaves heap (Some (rust_value ty v)) a
-HonestImplementation _ _ a c = ⊥
+abbrev pub HonestImplementation : Option WitType → Option WitValue → Answer → Type 0
+HonestImplementation None None a = (heap : Heap) × Leaves heap None a
+HonestImplementation (Some ty) (Some v) a = (heap : Heap) × (r : RustValue) × Leaves heap (Some r) a × StandsOwned heap ty v r
+HonestImplementation _ _ a = ⊥

@@ -1,5 +1,6 @@
 pub mod Act
 pub mod Effect
+pub mod Entries
 pub mod ExportFaithful
 pub mod ExportRun
 pub mod Faithful
@@ -9,7 +10,10 @@ pub mod Blocks
 pub mod Locals
 pub mod Memory
 pub mod Owning
+pub mod Places
+pub mod PostReturn
 pub mod Represents
+pub mod Returned
 pub mod Run
 pub mod Seen
 pub mod Setting

@@ -1,9 +1,10 @@
 -- What stands in memory: the bytes of a block, a core value at an address, and the block of exactly an address and a size.
-use Rattle.std.specs.Prelude.{ℕ, zero, suc, ◌+◌, ◌-◌, ◌%◌, Bool, ◌&&◌, nat_eq, nat_lt, nat_le, if◌then◌else◌, List, [], ◌∷◌, Option, None, Some, find, option_and_then}
-use Rattle.std.specs.Int.{cast_signed, from_le_bytes, w32, w64}
+use Rattle.std.specs.Prelude.{ℕ, zero, suc, ◌+◌, ◌-◌, ◌%◌, ◌^◌, Bool, ◌&&◌, nat_eq, nat_lt, nat_le, if◌then◌else◌, List, [], ◌∷◌, Option, None, Some, find, is_some, option_and_then}
+use Rattle.std.specs.Int.{cast_signed, cast_unsigned, from_le_bytes, to_le_bytes, w32, w64}
 use Rattle.std.specs.Option.{option_map}
 use Rattle.wit_model.specs.declared.size.WasmType.{WasmType}
 use Rattle.wit_model.specs.declared.size.WasmType.TheVariants as core
+use Rattle.wrapper_data.specs.Answered.{with_writes}
 use Rattle.wrapper_data.specs.declared.heap.Block.{Block}
 use Rattle.wrapper_data.specs.declared.word.Word.{Word}
 use Rattle.wrapper_data.specs.declared.word.Word.TheVariants as word
@@ -60,3 +61,30 @@ word_from core.Length bytes = word.Length (from_le_bytes w32 bytes)
 unfoldable pub loaded : WasmType → ℕ → List Block → Option Word
 loaded ty address blocks =
     if nat_eq (address % bytes_of_type ty) 0 then option_map (word_from ty) (bytes_at address (bytes_of_type ty) blocks) else None
+
+abbrev pub bytes_of_slot : Option ℕ → List ℕ
+bytes_of_slot None = []
+bytes_of_slot (Some n) = to_le_bytes w64 n
+
+abbrev pub bytes_of : Word → List ℕ
+bytes_of (word.I32 z) = to_le_bytes w32 (cast_unsigned w32 z)
+bytes_of (word.I64 z) = to_le_bytes w64 (cast_unsigned w64 z)
+bytes_of (word.F32 bits) = to_le_bytes w32 bits
+bytes_of (word.F64 bits) = to_le_bytes w64 bits
+bytes_of (word.Pointer address) = to_le_bytes w32 address
+bytes_of (word.Length n) = to_le_bytes w32 n
+bytes_of (word.Slot n) = bytes_of_slot n
+
+-- bytes one after another, from an address on
+abbrev pub writes_from : ℕ → List ℕ → List (ℕ × ℕ)
+writes_from address [] = []
+writes_from address (b ∷ bytes) = (address, b) ∷ writes_from (address + 1) bytes
+
+-- so many bytes from an address on lie in one block, and end where addresses do
+abbrev pub is_inside : ℕ → ℕ → List Block → Bool
+is_inside address size blocks = nat_le (address + size) (2 ^ 32) && is_some (find (holds address size) blocks)
+
+-- the blocks with a core value at an aligned address
+unfoldable pub stored : WasmType → ℕ → Word → List Block → Option (List Block)
+stored ty address w blocks =
+    if nat_eq (address % bytes_of_type ty) 0 && is_inside address (bytes_of_type ty) blocks then Some (with_writes blocks (writes_from address (bytes_of w))) else None

@@ -1,6 +1,6 @@
 -- What a value owns: a text that owns its block, and a return area. Of the types so far no other value has a block.
-use Rattle.std.specs.Prelude.{ℕ, suc, Bool, true, false, nat_eq, List, [], ◌∷◌, Option, None, Some, option_and_then}
-use Rattle.std.specs.List.{flat_map, list_any}
+use Rattle.std.specs.Prelude.{ℕ, suc, Bool, true, false, not, ◌&&◌, nat_eq, List, [], ◌∷◌, Option, None, Some, option_and_then}
+use Rattle.std.specs.List.{flat_map, list_all, list_any}
 use Rattle.std.specs.Option.{option_map}
 use Rattle.wrapper_data.specs.declared.value.RustValue.{RustValue, RustValue-F}
 use Rattle.wrapper_data.specs.declared.value.RustValue.TheVariants as value
@@ -53,6 +53,20 @@ address_of (Some b) = b.0 ∷ []
 
 abbrev pub taken_by : List RustValue → List ℕ
 taken_by values = flat_map (λ v. address_of (owned (val.Value v))) values
+
+-- the blocks that values own, by their addresses and sizes
+
+abbrev pub listed : {A : Type 0} → Option A → List A
+listed None = []
+listed (Some a) = a ∷ []
+
+abbrev pub owned_by : List RustValue → List (ℕ × ℕ)
+owned_by values = flat_map (λ v. listed (owned (val.Value v))) values
+
+-- no two of these blocks are at one address
+abbrev pub are_distinct : List (ℕ × ℕ) → Bool
+are_distinct [] = true
+are_distinct (b ∷ blocks) = list_all (λ c. not (nat_eq c.0 b.0)) blocks && are_distinct blocks
 
 abbrev pub is_taken : ℕ → List ℕ → Bool
 is_taken address taken = list_any (λ t. nat_eq t address) taken

@@ -1,14 +1,15 @@
 -- Which core words represent a value: as an import's argument (lend) and an export's result (give), and as an import's result or
 -- an export's argument (take).
-use Rattle.std.specs.Prelude.{◌≡◌, ℕ, ℤ, pos, unsigned_abs, List, [], ◌∷◌, ◌++◌, length, Option, None, Some}
+use Rattle.std.specs.Prelude.{◌≡◌, ◌<◌, ◌+◌, ◌^◌, ℕ, ℤ, pos, unsigned_abs, List, [], ◌∷◌, ◌++◌, length, Option, None, Some, option_and_then}
 use Rattle.std.specs.Int.{w8, w16, cast_signed}
+use Rattle.wit_model.specs.declared.size.WasmType.TheVariants as core
 use Rattle.wit_model.specs.declared.types.WitType.{WitType}
 use Rattle.wit_model.specs.declared.types.WitType.TheVariants as wit
 use Rattle.wrapper_data.specs.declared.word.Word.{Word}
 use Rattle.wrapper_data.specs.declared.word.Word.TheVariants as word
 use Rattle.wrapper_run.specs.Effect.{bit, low, low_i32, low_i64}
 use Rattle.wrapper_run.specs.Value.{Scalar, WitValue, truth, number, f32, f64, char, scalar, text}
-use Rattle.wrapper_run.specs.Memory.{bytes_at}
+use Rattle.wrapper_run.specs.Memory.{block_at, bytes_at, bytes_from, loaded}
 use Rattle.wrapper_data.specs.declared.heap.Heap.{Heap}
 
 -- lend, of a number: one of up to 32 bits is extended by its own sign, or by zeros if it is unsigned
@@ -66,18 +67,47 @@ Takes ty (f32 bits) w = w ≡ word.F32 bits
 Takes ty (f64 bits) w = w ≡ word.F64 bits
 Takes ty (char c) w = (z : ℤ) × (w ≡ word.I32 z) × (pos c ≡ low 32 z)
 
--- the words of an export's arguments. So far each is a scalar, of one word
-abbrev pub TakesWords : WitType → WitValue → List Word → Type 0
-TakesWords ty (scalar v) ws = (w : Word) × (ws ≡ w ∷ []) × Takes ty v w
-TakesWords ty (text bytes) ws = ⊥
+-- texts that are given away lie in blocks of their own
 
-abbrev pub TakesAll : List WitType → List WitValue → List Word → Type 0
-TakesAll [] [] ws = ws ≡ []
-TakesAll (ty ∷ types) (v ∷ vs) ws = (first : List Word) × (rest : List Word) × (ws ≡ first ++ rest) × TakesWords ty v first × TakesAll types vs rest
-TakesAll _ _ ws = ⊥
+-- a pointer that is not null
+abbrev pub IsAddress : ℕ → Type 0
+IsAddress p = (0 < p) × (p < 2 ^ 32)
 
--- give: a scalar is one word, as where it is lent
-abbrev pub GivesResult : Option WitType → Option WitValue → List Word → Type 0
-GivesResult None None ws = ws ≡ []
-GivesResult (Some ty) (Some (scalar v)) ws = (w : Word) × (ws ≡ w ∷ []) × Lends ty v w
-GivesResult _ _ ws = ⊥
+-- a text lies in the block of exactly its address and length; an empty one has no block
+abbrev pub HasText : Heap → ℕ → List ℕ → Type 0
+HasText heap address [] = Unit {0}
+HasText heap address (b ∷ bytes) = option_and_then (λ t. bytes_from t.cells 0 (length (b ∷ bytes))) (block_at address (length (b ∷ bytes)) heap.blocks) ≡ Some (b ∷ bytes)
+
+-- that block, by its address and size
+abbrev pub block_of : ℕ → List ℕ → List (ℕ × ℕ)
+block_of address [] = []
+block_of address (b ∷ bytes) = (address, length (b ∷ bytes)) ∷ []
+
+-- take: a text is an address, which is not null, and a length; with the blocks that the words own
+abbrev pub TakesWords : Heap → WitType → WitValue → List Word → List (ℕ × ℕ) → Type 0
+TakesWords heap ty (scalar v) ws blocks = (w : Word) × (ws ≡ w ∷ []) × Takes ty v w × (blocks ≡ [])
+TakesWords heap ty (text bytes) ws blocks =
+    (p : ℕ) × IsAddress p × (ws ≡ word.Pointer p ∷ word.Length (length bytes) ∷ []) × HasText heap p bytes × (blocks ≡ block_of p bytes)
+
+abbrev pub TakesAll : Heap → List WitType → List WitValue → List Word → List (ℕ × ℕ) → Type 0
+TakesAll heap [] [] ws blocks = (ws ≡ []) × (blocks ≡ [])
+TakesAll heap (ty ∷ types) (v ∷ vs) ws blocks =
+    (first : List Word) × (rest : List Word) × (own : List (ℕ × ℕ)) × (others : List (ℕ × ℕ)) × (ws ≡ first ++ rest) × (blocks ≡ own ++ others) × TakesWords heap ty v first own × TakesAll heap types vs rest others
+TakesAll heap _ _ ws blocks = ⊥
+
+-- give, of a text: the word names an area, in which its address and its length stand
+pub record GivesText (heap : Heap) (bytes : List ℕ) (ws : List Word) (blocks : List (ℕ × ℕ)) : Type 0 where
+  pub area : ℕ
+  pub address : ℕ
+  pub words : ws ≡ word.Pointer area ∷ []
+  pub first : loaded core.Pointer area heap.blocks ≡ Some (word.Pointer address)
+  pub second : loaded core.Length (area + 4) heap.blocks ≡ Some (word.Length (length bytes))
+  pub holds : HasText heap address bytes
+  pub own : blocks ≡ block_of address bytes
+
+-- give: a scalar is one word, as where it is lent; with the blocks that the words own
+abbrev pub GivesResult : Heap → Option WitType → Option WitValue → List Word → List (ℕ × ℕ) → Type 0
+GivesResult heap None None ws blocks = (ws ≡ []) × (blocks ≡ [])
+GivesResult heap (Some ty) (Some (scalar v)) ws blocks = (w : Word) × (ws ≡ w ∷ []) × Lends ty v w × (blocks ≡ [])
+GivesResult heap (Some ty) (Some (text bytes)) ws blocks = GivesText heap bytes ws blocks
+GivesResult heap _ _ ws blocks = ⊥

@@ -4,7 +4,7 @@ use Rattle.std.specs.Option.{option_map, option_or}
 use Rattle.std.specs.Str.{bytes_eq}
 use Rattle.wit_model.specs.declared.size.ArchitectureSize.{ArchitectureSize}
 use Rattle.wit_model.specs.declared.size.WasmType.{WasmType}
-use Rattle.wit_model.specs.Size.{bytes_at}
+use Rattle.wit_model.specs.Size.{alignment_at, bytes_at}
 use Rattle.rust_tree.specs.declared.expr.Expr.{Expr, Expr-F, fold-Expr}
 use Rattle.rust_tree.specs.declared.item.FnItem.{FnItem}
 use Rattle.rust_tree.specs.declared.item.FnParam.{FnParam}
@@ -12,7 +12,7 @@ use Rattle.rust_tree.specs.declared.item.Item.{Item}
 use Rattle.rust_tree.specs.declared.item.Item.TheVariants as item
 use Rattle.rust_tree.specs.declared.path.Path.{Path}
 use Rattle.rust_tree.specs.declared.runtime_item.RuntimeItem.{RuntimeItem}
-use Rattle.rust_tree.specs.declared.runtime_item.RuntimeItem.TheVariants.{StringLift}
+use Rattle.rust_tree.specs.declared.runtime_item.RuntimeItem.TheVariants.{CabiDealloc, StringLift}
 use Rattle.rust_tree.specs.declared.stmt.Block.{Block}
 use Rattle.rust_tree.specs.declared.stmt.ImportDecl.{ImportDecl}
 use Rattle.rust_tree.specs.declared.stmt.Stmt.{Stmt}
@@ -43,7 +43,8 @@ use Rattle.wrapper_run.specs.declared.owning.View.TheVariants as view_of
 use Rattle.wrapper_run.specs.declared.state.Val.{Val}
 use Rattle.wrapper_run.specs.declared.state.Val.TheVariants as val
 use Rattle.wrapper_run.specs.Setting.{Setting, failed, stuck}
-use Rattle.wrapper_run.specs.Blocks.{declare_area, drop_value, leave_to, lift_text, take_over}
+use Rattle.wrapper_run.specs.Blocks.{boxed, dealloc_words, drop_value, forget, leave_to, lift_text, store_word, take_over}
+use Rattle.wrapper_run.specs.Places.{declare_area, static_pointer}
 use Rattle.wrapper_run.specs.Memory.{loaded}
 use Rattle.wrapper_run.specs.Owning.{taken_by}
 use Rattle.wrapper_run.specs.Act.{Act, Outcome, Done, Stopped, ◌>>=◌, ◌>>◌, all, or_stop, pure, stop}
@@ -152,8 +153,12 @@ abbrev pub apply_one : Setting → Option RuntimeItem → List Val → Act Val
 apply_one w (Some i) (v ∷ []) = apply_item w i v
 apply_one w _ _ = stop (stuck w)
 
+abbrev pub apply : Setting → Option RuntimeItem → List Val → Act Val
+apply w (Some CabiDealloc) vs = dealloc_words w vs
+apply w i vs = apply_one w i vs
+
 unfoldable pub call_runtime : Setting → Bytes → List Val → Act Val
-call_runtime w name vs = apply_one w (runtime_item_named w.items name) vs
+call_runtime w name vs = apply w (runtime_item_named w.items name) vs
 
 abbrev pub call_callee : Setting → Callee → List Val → Act Val
 call_callee w (alone name) vs = call_import w name vs
@@ -189,6 +194,10 @@ eval_step w (Expr-F.CastMut name) = ask_local (stuck w) view_of.Pointer name
 eval_step w (Expr-F.ReturnPointer name) = ask_local (stuck w) view_of.AreaAddress name
 eval_step w (Expr-F.Load e offset ty) = e >>= load_word w offset ty
 eval_step w (Expr-F.FromRawParts e length) = e >>= (λ v. λ s. take_bytes w (value_of (local_named length s.locals)) v s)
+eval_step w (Expr-F.IntoBoxedBytes name) = use_local (stuck w) name >>= boxed w
+eval_step w (Expr-F.Forget name) = use_local (stuck w) name >>= forget w
+eval_step w Expr-F.StaticPointer = static_pointer w
+eval_step w (Expr-F.Align align) = pure (val.Word (word.Length (alignment_at align 4)))
 
 abbrev pub eval : Setting → Expr → Act Val
 eval w = fold-Expr (Act Val) (eval_step w)
@@ -198,6 +207,7 @@ run_stmt w (stmt.Import d) = declare d
 run_stmt w (stmt.Let name e) = eval w e >>= bind name
 run_stmt w (stmt.Expr e) = eval w e >>= drop_value w
 run_stmt w (stmt.Area a) = declare_area w a
+run_stmt w (stmt.Store address offset ty value) = eval w value >>= (λ v. eval w address >>= store_word w offset ty v)
 
 abbrev pub run_stmts : Setting → List Stmt → Act (Unit {0})
 run_stmts w [] = pure tt
@@ -234,7 +244,7 @@ run_fn w f = run_block w f.body >>= answer_and_leave w f.result
 
 -- a run begins with its parameters, a heap, choices, and the blocks that owners have
 abbrev pub begin : List Local → List ℕ → Heap → Choices → State
-begin locals taken heap choices = record { locals = locals; imports = []; heap = heap; choices = choices.list; requests = []; calls = []; taken = taken }
+begin locals taken heap choices = record { locals = locals; imports = []; heap = heap; choices = choices.list; requests = []; calls = []; taken = taken; place = None }
 
 abbrev pub start : FnItem → List RustValue → Heap → Choices → State
 start f args heap choices = begin (bound_args f.params args) (taken_by args) heap choices

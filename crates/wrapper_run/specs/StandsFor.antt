@@ -6,7 +6,7 @@ use Rattle.wrapper_data.specs.declared.value.RustValue.TheVariants as value
 use Rattle.wrapper_run.specs.Value.{Scalar, WitValue, truth, number, f32, f64, char, scalar, text}
 use Rattle.wrapper_data.specs.declared.heap.Block.{Block}
 use Rattle.wrapper_run.specs.Memory.{bytes_from}
-use Rattle.wrapper_run.specs.Represents.{LiesAt}
+use Rattle.wrapper_run.specs.Represents.{HasText, IsAddress, LiesAt}
 use Rattle.wrapper_data.specs.declared.heap.Heap.{Heap}
 
 -- the one value of the Rust side that a scalar of a type is
@@ -40,12 +40,12 @@ StandsResult (Some ty) (Some (scalar v)) r blocks = (r ≡ Some (rust_value ty v
 StandsResult (Some ty) (Some (text bytes)) r blocks = (p : ℕ) × (0 < p) × (r ≡ Some (value.Buffer p (length bytes) true)) × IsTextBlock p bytes blocks
 StandsResult _ _ r blocks = ⊥
 
--- an argument of an export's method. So far each is a scalar
-abbrev pub StandsOwned : WitType → WitValue → RustValue → Type 0
-StandsOwned ty (scalar v) r = r ≡ rust_value ty v
-StandsOwned ty (text bytes) r = ⊥
+-- an argument of an export's method, or the implementation's value: a text owns its bytes
+abbrev pub StandsOwned : Heap → WitType → WitValue → RustValue → Type 0
+StandsOwned heap ty (scalar v) r = r ≡ rust_value ty v
+StandsOwned heap ty (text bytes) r = (p : ℕ) × IsAddress p × (r ≡ value.Buffer p (length bytes) true) × HasText heap p bytes
 
-abbrev pub StandAllOwned : List WitType → List WitValue → List RustValue → Type 0
-StandAllOwned [] [] rs = rs ≡ []
-StandAllOwned (ty ∷ types) (v ∷ vs) rs = (r : RustValue) × (rest : List RustValue) × (rs ≡ r ∷ rest) × StandsOwned ty v r × StandAllOwned types vs rest
-StandAllOwned _ _ rs = ⊥
+abbrev pub StandAllOwned : Heap → List WitType → List WitValue → List RustValue → Type 0
+StandAllOwned heap [] [] rs = rs ≡ []
+StandAllOwned heap (ty ∷ types) (v ∷ vs) rs = (r : RustValue) × (rest : List RustValue) × (rs ≡ r ∷ rest) × StandsOwned heap ty v r × StandAllOwned heap types vs rest
+StandAllOwned heap _ _ rs = ⊥

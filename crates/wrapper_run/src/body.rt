@@ -5,10 +5,12 @@ ghost use Rattle.wrapper_run.specs.Act.{Runs};
 ghost use Rattle.wrapper_run.specs.Run as spec;
 ghost use Rattle.wrapper_run.specs.Setting.{setting};
 
-use crate::blocks::{declare_area, drop_value};
 use crate::eval::eval;
+use crate::freeing::drop_value;
 use crate::locals::{bind, declare};
+use crate::places::declare_area;
 use crate::state::{Halt, State, Val, World};
+use crate::store::store_word;
 use rust_tree::{Block, Expr, Stmt};
 use std::alloc::Global;
 use wrapper_data::RustValue;
@@ -27,6 +29,11 @@ fn run_stmt(alloc: Global, world: &World, state: &mut State, s: &Stmt) -> Result
             drop_value(alloc, world, state, &v)
         }
         Stmt::Area(a) => declare_area(alloc, world, state, a),
+        Stmt::Store(address, offset, ty, value) => {
+            let v = eval(alloc, world, state, value)?;
+            let address = eval(alloc, world, state, address)?;
+            store_word(alloc, world, state, offset, *ty, &v, &address)
+        }
     }
 }
 

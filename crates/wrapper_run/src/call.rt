@@ -12,6 +12,7 @@ ghost use Rattle.wrapper_run.specs.Seen.{seen};
 
 use crate::blocks::lift_text;
 use crate::effect::{converted, lift_of};
+use crate::freeing::dealloc_words;
 use crate::locals::{import_named, local_named};
 use crate::state::{Halt, State, Val, World};
 use rust_tree::{ImportDecl, Item, Path, RuntimeItem};
@@ -200,13 +201,14 @@ fn apply_item(
 fn call_runtime(
     alloc: Global,
     world: &World,
-    state: &State,
+    state: &mut State,
     name: &Text,
     vs: &[Val],
 ) -> Result<Val, Halt>
-    ensures { Runs (spec.call_runtime (setting world.now) name.now vs.now state.now) result state.now }
+    ensures { Runs (spec.call_runtime (setting world.now) name.now vs.now state.old) result state.new }
 {
     match (runtime_item_named(world.items, name.as_str()), vs) {
+        (Some(RuntimeItem::CabiDealloc), vs) => dealloc_words(alloc, world, state, vs),
         (Some(item), [v]) => apply_item(alloc, world, state, item, v),
         _ => Err(Halt::Stopped(world.stuck())),
     }

@@ -2,19 +2,22 @@
 
 ghost use Rattle.std.specs.Prelude.{◌≡◌, map};
 ghost use Rattle.std.specs.Option.{option_map};
-ghost use Rattle.wrapper_run.specs.Act.{Runs, all, or_stop};
+ghost use Rattle.wrapper_run.specs.Act.{Runs, all, and_then, or_stop};
+ghost use Rattle.wrapper_run.specs.Blocks as blocks;
 ghost use Rattle.wrapper_run.specs.Effect as effect;
-ghost use Rattle.wrapper_run.specs.Locals.{local_named, value_of};
+ghost use Rattle.wrapper_run.specs.Locals.{local_named, use_local, value_of};
 ghost use Rattle.wrapper_run.specs.Run as spec;
 ghost use Rattle.wrapper_run.specs.Setting.{setting, stuck};
 ghost use Rattle.wrapper_run.specs.declared.state.Val.TheVariants as val;
 
-use crate::blocks::{at_four, take_over};
+use crate::blocks::{boxed, take_over};
 use crate::call::call;
 use crate::effect::{self, cast_to};
+use crate::freeing::forget;
 use crate::locals::{ask_local, lend_local, use_local, value_named};
-use crate::memory::loaded;
+use crate::memory::{align_at_four, at_four, loaded};
 use crate::owning::View;
+use crate::places::static_pointer;
 use crate::state::{Halt, State, Val, World};
 use rust_tree::{CastType, Expr};
 use std::alloc::Global;
@@ -82,6 +85,22 @@ fn take_bytes(
     }
 }
 
+/// The bytes of the text in a local, as a box.
+fn box_local(alloc: Global, world: &World, state: &mut State, name: &Text) -> Result<Val, Halt>
+    ensures { Runs (and_then (use_local (stuck (setting world.now)) name.now state.old) (blocks.boxed (setting world.now))) result state.new }
+{
+    let v = use_local(alloc, world.stuck(), state, name)?;
+    boxed(world, state, v)
+}
+
+/// The value of a local is forgotten.
+fn forget_local(alloc: Global, world: &World, state: &mut State, name: &Text) -> Result<Val, Halt>
+    ensures { Runs (and_then (use_local (stuck (setting world.now)) name.now state.old) (blocks.forget (setting world.now))) result state.new }
+{
+    let v = use_local(alloc, world.stuck(), state, name)?;
+    forget(alloc, world, state, &v)
+}
+
 /// Computes an expression.
 #[cycle(eval)]
 pub(crate) fn eval(alloc: Global, world: &World, state: &mut State, e: &Expr) -> Result<Val, Halt>
@@ -114,6 +133,10 @@ pub(crate) fn eval(alloc: Global, world: &World, state: &mut State, e: &Expr) ->
             let v = eval(alloc, world, state, e.get())?;
             take_bytes(alloc, world, state, length, &v)
         }
+        Expr::IntoBoxedBytes(name) => box_local(alloc, world, state, name),
+        Expr::Forget(name) => forget_local(alloc, world, state, name),
+        Expr::StaticPointer => static_pointer(alloc, world, state),
+        Expr::Align(align) => Ok(Val::Word(Word::Length(align_at_four(align)))),
     }
 }
 

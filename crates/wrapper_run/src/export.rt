@@ -6,11 +6,11 @@ ghost use Rattle.wrapper_run.specs.Act.{Runs};
 ghost use Rattle.wrapper_run.specs.ExportRun as spec;
 ghost use Rattle.wrapper_run.specs.Setting.{setting};
 
-use crate::blocks::{drop_value, leave_to};
 use crate::body::{run_block, run_stmts};
 use crate::call::word_of;
 use crate::effect::is_unit;
 use crate::eval::eval_all;
+use crate::freeing::{drop_value, leave_to};
 use crate::locals::bind;
 use crate::method::call_method;
 use crate::run::{begin, item_number, run_at};
@@ -21,7 +21,7 @@ use wit_model::{List, OutOfMemory, Text, WasmType};
 use wrapper_data::{Answer, Choices, Form, Heap, Run, Stop, Word};
 
 /// Puts the parameters, with their words, behind other locals.
-fn push_words(
+pub(crate) fn push_words(
     alloc: Global,
     locals: &mut List<Local>,
     params: &[CoreParam],
@@ -115,7 +115,7 @@ fn keep_result(
 }
 
 /// The words of a core result, if the value is one of that type.
-fn core_answer(
+pub(crate) fn core_answer(
     alloc: Global,
     ty: Option<WasmType>,
     v: &Val,
@@ -210,7 +210,7 @@ fn export_nth(items: &[Item], nth: u32) -> Option<&ExportFn>
 }
 
 /// An export wrapper, with the number of its item.
-fn export_at(tree: &Bindings, wrapper: WrapperId) -> Option<(u32, &ExportFn)>
+pub(crate) fn export_at(tree: &Bindings, wrapper: WrapperId) -> Option<(u32, &ExportFn)>
     ensures { option_map (λ w. (w.0, w.1.now)) result ≡ spec.export_at tree.now wrapper.0 }
 {
     match (
@@ -227,9 +227,10 @@ fn export_at(tree: &Bindings, wrapper: WrapperId) -> Option<(u32, &ExportFn)>
 /// Addresses, sizes and lengths are in bytes, and pointers have four of them; values cross as the Canonical ABI of the
 /// Component Model says.
 ///
-/// The run is the one that the definition gives. It ends Done, with the words of the core result; or, in the debug form, with
-/// the Trap that names why the words stand for no value; or Stuck, with the number of the wrapper's item, where the code does
-/// what has no meaning. `OutOfMemory` is the machine's own want of memory.
+/// The run is the one that the definition gives. It ends Done, with the words of the core result; or BadChoice, where the
+/// first choice does not fit the static area, which is asked for when its pointer is taken and stays in the heap; or, in the
+/// debug form, with the Trap that names why the words stand for no value; or Stuck, with the number of the wrapper's item,
+/// where the code does what has no meaning. `OutOfMemory` is the machine's own want of memory.
 pub fn run_export(
     alloc: Global,
     tree: &Bindings,

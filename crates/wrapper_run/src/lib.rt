@@ -7,16 +7,21 @@ mod call;
 mod effect;
 mod eval;
 mod export;
+mod freeing;
 mod locals;
 mod memory;
 mod method;
 mod owning;
+mod places;
+mod post_return;
 mod run;
 mod state;
+mod store;
 #[cfg(test)]
 mod tests;
 
 pub use export::run_export;
+pub use post_return::{has_post_return, run_post_return};
 pub use run::run_import;
 pub use state::{Local, State, Val};
 pub use wrapper_data::{

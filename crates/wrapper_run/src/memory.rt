@@ -1,13 +1,22 @@
-//! What stands in memory: the bytes of a block, and a core value at an address.
+//! What stands in memory: the bytes of a block, and loads of core values.
 
 ghost use Rattle.std.specs.Prelude.{◌≡◌, ◌<◌, ◌^◌, IfOk, find, length, position};
 ghost use Rattle.std.specs.Int.{from_le_bytes, w32, w64};
 ghost use Rattle.std.specs.Option.{option_copied};
+ghost use Rattle.wit_model.specs.Size.{alignment_at, bytes_at};
 ghost use Rattle.wrapper_run.specs.Memory as spec;
 
 use std::alloc::Global;
-use wit_model::{List, OutOfMemory, WasmType};
+use wit_model::{Alignment, ArchitectureSize, List, OutOfMemory, WasmType};
 use wrapper_data::{Block, Word};
+
+/// A size in bytes, where pointers have four.
+pub(crate) fn at_four(size: &ArchitectureSize) -> u128
+    ensures exact { result ≡ bytes_at size.now 4 }
+    ensures small { result < 2 ^ 70 }
+{
+    u128::from(size.bytes) + u128::from(size.pointers) * 4
+}
 
 /// So many bytes from an offset on, of cells at ascending offsets; nothing where one of them was never written.
 #[tactic(auto, using(crate::proofs::MemoryLemmas::reads_start, crate::proofs::MemoryLemmas::reads_done, crate::proofs::MemoryLemmas::reads_end, crate::proofs::MemoryLemmas::reads_none, crate::proofs::MemoryLemmas::reads_skip, crate::proofs::MemoryLemmas::reads_take,))]
@@ -38,6 +47,16 @@ pub(crate) fn bytes_from(
     if left == 0 { Ok(Some(bytes)) } else { Ok(None) }
 }
 
+/// An alignment in bytes, where pointers have four.
+pub(crate) fn align_at_four(align: &Alignment) -> u32
+    ensures { result ≡ alignment_at align.now 4 }
+{
+    match align {
+        Alignment::Pointer => 4,
+        Alignment::Bytes(n) => *n,
+    }
+}
+
 fn is_at(address: u32, size: u32, b: &Block) -> bool
     ensures { result ≡ spec.is_at address size b.now }
 {
@@ -66,7 +85,7 @@ fn holds(address: u128, size: u32, b: &Block) -> bool
 }
 
 /// The block in which so many bytes lie from an address on.
-fn holder(address: u128, size: u32, blocks: &[Block]) -> Option<&Block>
+pub(crate) fn holder(address: u128, size: u32, blocks: &[Block]) -> Option<&Block>
     requires { address < 2 ^ 100 }
     ensures { option_copied result ≡ find (spec.holds address size) blocks.now }
 {
@@ -97,7 +116,7 @@ fn bytes_at(
     }
 }
 
-fn bytes_of_type(ty: WasmType) -> u32
+pub(crate) fn bytes_of_type(ty: WasmType) -> u32
     ensures { result ≡ spec.bytes_of_type ty }
 {
     match ty {

@@ -155,7 +155,7 @@ fn returned_of(
 
 /// The addresses of the blocks that an implementation's value owns.
 fn taken_by_value(alloc: Global, value: &Option<RustValue>) -> Result<List<u32>, OutOfMemory>
-    ensures { IfOk result (λ taken. taken ≡ owning.taken_by (spec.listed value.now)) }
+    ensures { IfOk result (λ taken. taken ≡ owning.taken_by (owning.listed value.now)) }
 {
     let mut values = List::new(alloc);
     if let Some(value) = value {

@@ -5,9 +5,9 @@ ghost use Rattle.wrapper_run.specs.Act.{Runs};
 ghost use Rattle.wrapper_run.specs.Run as spec;
 ghost use Rattle.wrapper_run.specs.Setting.{setting};
 
-use crate::blocks::leave_to;
 use crate::body::run_block;
 use crate::effect::answer_of;
+use crate::freeing::leave_to;
 use crate::owning::taken_by;
 use crate::state::{Halt, Local, State, Val, World};
 use rust_tree::{Bindings, FnItem, FnParam, Item, WrapperId};
@@ -71,6 +71,7 @@ pub(crate) fn begin(
         requests: List::new(alloc),
         calls: List::new(alloc),
         taken,
+        place: None,
     })
 }
 
@@ -117,6 +118,7 @@ pub(crate) fn run_at(stop: Stop, words: List<Word>, value: Option<RustValue>, st
         requests,
         calls,
         taken: _,
+        place: _,
     } = state;
     Run {
         stop,

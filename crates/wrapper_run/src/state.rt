@@ -65,8 +65,10 @@ pub struct State {
     pub choices: List<Choice>,
     pub requests: List<Request>,
     pub calls: List<CallPoint>,
-    /// The addresses of the blocks that an owner has: a text that owns its bytes, or a return area.
+    /// The addresses of the blocks that an owner has: a text that owns its bytes, or an area.
     pub taken: List<u32>,
+    /// The address of the file's static area, once its pointer was taken.
+    pub place: Option<u32>,
 }
 
 /// Why the machine does not go on: the run is stopped, or the machine itself has no memory.

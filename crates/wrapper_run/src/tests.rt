@@ -1,5 +1,6 @@
 //! Runs of wrappers as they are printed, against values from outside.
 
+mod export_texts;
 mod exports;
 mod made;
 mod numbers;

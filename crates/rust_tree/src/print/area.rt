@@ -1,6 +1,8 @@
 ghost use Rattle.std.specs.Prelude.{◌≡◌, ◌++◌, OnOk};
 ghost use Rattle.rust_tree.specs.CodeText.{align_text, area_text, area_type_text, area_value_text};
+ghost use Rattle.rust_tree.specs.ExportText.{static_area_text};
 
+use crate::export::StaticArea;
 use crate::print::size::push_term;
 use crate::print::word::{AreaWord, Sign};
 use crate::stmt::ReturnArea;
@@ -48,4 +50,13 @@ pub(crate) fn push_area(out: &mut Text, area: &ReturnArea) -> Result<(), OutOfMe
     out.push_str(area.name.as_str())?;
     Sign::Equals.put(out)?;
     push_area_value(out, area.size)
+}
+
+pub(crate) fn push_static_area(out: &mut Text, area: &StaticArea) -> Result<(), OutOfMemory>
+    ensures { OnOk result (out.new ≡ out.old ++ static_area_text area.now) }
+{
+    let StaticArea { size, align } = *area;
+    push_area_type(out, size, align)?;
+    AreaWord::StaticArea.put(out)?;
+    push_area_value(out, size)
 }

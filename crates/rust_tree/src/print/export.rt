@@ -1,9 +1,9 @@
-//! The wrapper of an exported function.
+//! The wrapper of an exported function, and its post-return function.
 
 ghost use Rattle.std.specs.Prelude.{◌≡◌, ◌++◌, OnOk};
-ghost use Rattle.rust_tree.specs.ExportText.{call_block_text, call_head_text, export_head_text, export_text, method_call_text};
+ghost use Rattle.rust_tree.specs.ExportText.{call_block_text, call_head_text, export_head_text, export_text, method_call_text, post_return_head_text, post_return_text};
 
-use crate::export::{CallBlock, ExportFn};
+use crate::export::{CallBlock, ExportFn, PostReturnFn};
 use crate::print::expr::push_arguments;
 use crate::print::named_param::push_named_signature;
 use crate::print::stmt::{push_block, push_stmts};
@@ -41,9 +41,7 @@ fn push_method_call(out: &mut Text, call: &CallBlock) -> Result<(), OutOfMemory>
 {
     ExportWord::Implementation.put(out)?;
     out.push_str(call.method.as_str())?;
-    Sign::Open.put(out)?;
-    push_arguments(out, call.arguments.as_slice())?;
-    Sign::Close.put(out)
+    push_arguments(out, call.arguments.as_slice())
 }
 
 #[tactic(auto, unfolding(crate::specs::ExportText::call_block_text))]
@@ -62,6 +60,28 @@ pub(crate) fn push_export(out: &mut Text, function: &ExportFn) -> Result<(), Out
     push_export_head(out, function)?;
     push_call_block(out, &function.call)?;
     push_block(out, &function.rest)?;
+    Sign::CloseBlock.put(out)?;
+    Sign::CloseBlock.put(out)
+}
+
+#[tactic(auto, unfolding(crate::specs::ExportText::post_return_head_text))]
+fn push_post_return_head(out: &mut Text, function: &PostReturnFn) -> Result<(), OutOfMemory>
+    ensures { OnOk result (out.new ≡ out.old ++ post_return_head_text function.now) }
+{
+    ExportWord::PostReturnFn.put(out)?;
+    out.push_str(function.base.as_str())?;
+    ExportWord::PostReturnBound.put(out)?;
+    out.push_str(function.bound.as_str())?;
+    ExportWord::BoundEnd.put(out)?;
+    push_named_signature(out, function.params.as_slice(), None)?;
+    ItemWord::OpenUnsafe.put(out)
+}
+
+pub(crate) fn push_post_return(out: &mut Text, function: &PostReturnFn) -> Result<(), OutOfMemory>
+    ensures { OnOk result (out.new ≡ out.old ++ post_return_text function.now) }
+{
+    push_post_return_head(out, function)?;
+    push_block(out, &function.body)?;
     Sign::CloseBlock.put(out)?;
     Sign::CloseBlock.put(out)
 }

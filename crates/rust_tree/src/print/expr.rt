@@ -1,11 +1,12 @@
 ghost use Rattle.std.specs.Prelude.{◌≡◌, ◌++◌, OnOk};
 ghost use Rattle.rust_tree.specs.CodeText.{arguments_text, bracket, capacity_text, cast_type_text, expr_spelled, expr_text, place_text};
 ghost use Rattle.rust_tree.specs.Word.{expr_word, sign};
-ghost use Rattle.rust_tree.specs.declared.print.word.sign.Sign.TheVariants.{As, Open, Reference};
+ghost use Rattle.rust_tree.specs.declared.print.word.expr.ExprWord.TheVariants.{Forget, IntoBoxedBytes};
+ghost use Rattle.rust_tree.specs.declared.print.word.sign.Sign.TheVariants.{As, Close, Open, Reference};
 
 use crate::expr::{CastType, Expr};
 use crate::print::path::push_path;
-use crate::print::size::push_term;
+use crate::print::size::{push_alignment, push_term};
 use crate::print::type_name::{push_cast_type, push_core_type};
 use crate::print::word::{ExprWord, Sign};
 use wit_model::{ArchitectureSize, OutOfMemory, Text, WasmType};
@@ -23,7 +24,7 @@ fn push_bracket(out: &mut Text, e: &Expr, w: Sign) -> Result<(), OutOfMemory>
 }
 
 /// A word, and the bracket before an expression on which a method is called.
-fn push_open(out: &mut Text, w: ExprWord, e: &Expr) -> Result<(), OutOfMemory>
+pub(crate) fn push_open(out: &mut Text, w: ExprWord, e: &Expr) -> Result<(), OutOfMemory>
     ensures { OnOk result (out.new ≡ out.old ++ (expr_word w ++ bracket (expr_spelled e.now) Open)) }
 {
     w.put(out)?;
@@ -51,9 +52,17 @@ fn push_behind(out: &mut Text, name: &Text, w: ExprWord) -> Result<(), OutOfMemo
     w.put(out)
 }
 
-fn push_place(out: &mut Text, offset: ArchitectureSize, ty: WasmType) -> Result<(), OutOfMemory>
-    ensures { OnOk result (out.new ≡ out.old ++ place_text offset ty) }
+/// What stands behind the expression of an address: the bracket, and the place that it is the address of.
+pub(crate) fn push_place(
+    out: &mut Text,
+    address: &Expr,
+    offset: ArchitectureSize,
+    ty: WasmType,
+) -> Result<(), OutOfMemory>
+    ensures { OnOk result
+        (out.new ≡ out.old ++ (bracket (expr_spelled address.now) Close ++ place_text offset ty)) }
 {
+    push_bracket(out, address, Sign::Close)?;
     ExprWord::Add.put(out)?;
     push_term(out, offset)?;
     ExprWord::CastTo.put(out)?;
@@ -61,9 +70,27 @@ fn push_place(out: &mut Text, offset: ArchitectureSize, ty: WasmType) -> Result<
     ExprWord::CastEnd.put(out)
 }
 
-fn push_capacity(out: &mut Text, len: &Text) -> Result<(), OutOfMemory>
-    ensures { OnOk result (out.new ≡ out.old ++ capacity_text len.now) }
+fn push_boxed_bytes(out: &mut Text, name: &Text) -> Result<(), OutOfMemory>
+    ensures { OnOk result (out.new ≡ out.old ++ (sign Open ++ name.now ++ expr_word IntoBoxedBytes)) }
 {
+    Sign::Open.put(out)?;
+    push_behind(out, name, ExprWord::IntoBoxedBytes)
+}
+
+fn push_forget(out: &mut Text, name: &Text) -> Result<(), OutOfMemory>
+    ensures { OnOk result (out.new ≡ out.old ++ (expr_word Forget ++ name.now ++ sign Close)) }
+{
+    ExprWord::Forget.put(out)?;
+    out.push_str(name.as_str())?;
+    Sign::Close.put(out)
+}
+
+/// What stands behind the expression of a pointer whose bytes are taken over: the bracket, the length and the capacity.
+fn push_capacity(out: &mut Text, pointer: &Expr, len: &Text) -> Result<(), OutOfMemory>
+    ensures { OnOk result
+        (out.new ≡ out.old ++ (bracket (expr_spelled pointer.now) Close ++ capacity_text len.now)) }
+{
+    push_bracket(out, pointer, Sign::Close)?;
     ExprWord::PointerCast.put(out)?;
     out.push_str(len.as_str())?;
     Sign::Comma.put(out)?;
@@ -84,9 +111,7 @@ pub(crate) fn push_expr(out: &mut Text, e: &Expr) -> Result<(), OutOfMemory>
         }
         Expr::Call(path, arguments) => {
             push_path(out, path)?;
-            Sign::Open.put(out)?;
-            push_arguments(out, arguments.as_slice())?;
-            Sign::Close.put(out)
+            push_arguments(out, arguments.as_slice())
         }
         Expr::I32FromBool(e) => {
             ExprWord::Match.put(out)?;
@@ -100,15 +125,17 @@ pub(crate) fn push_expr(out: &mut Text, e: &Expr) -> Result<(), OutOfMemory>
         Expr::Load(address, offset, ty) => {
             push_open(out, ExprWord::Dereference, address.get())?;
             push_expr(out, address.get())?;
-            push_bracket(out, address.get(), Sign::Close)?;
-            push_place(out, *offset, *ty)
+            push_place(out, address.get(), *offset, *ty)
         }
         Expr::FromRawParts(pointer, len) => {
             push_open(out, ExprWord::FromRawParts, pointer.get())?;
             push_expr(out, pointer.get())?;
-            push_bracket(out, pointer.get(), Sign::Close)?;
-            push_capacity(out, len)
+            push_capacity(out, pointer.get(), len)
         }
+        Expr::IntoBoxedBytes(name) => push_boxed_bytes(out, name),
+        Expr::Forget(name) => push_forget(out, name),
+        Expr::StaticPointer => ExprWord::StaticPointer.put(out),
+        Expr::Align(align) => push_alignment(out, *align),
     }
 }
 
@@ -116,11 +143,12 @@ pub(crate) fn push_expr(out: &mut Text, e: &Expr) -> Result<(), OutOfMemory>
 pub(crate) fn push_arguments(out: &mut Text, arguments: &[Expr]) -> Result<(), OutOfMemory>
     ensures { OnOk result (out.new ≡ out.old ++ arguments_text arguments.now) }
 {
+    Sign::Open.put(out)?;
     for (i, e) in arguments.iter().enumerate() {
         if i > 0 {
             Sign::Comma.put(out)?;
         }
         push_expr(out, e)?;
     }
-    Ok(())
+    Sign::Close.put(out)
 }

@@ -2,19 +2,49 @@
 
 ghost use Rattle.std.specs.Prelude.{◌≡◌, ◌++◌, OnOk};
 ghost use Rattle.std.specs.List.{flat_map};
-ghost use Rattle.rust_tree.specs.ExportText.{entry_body_text, entry_head_text, entry_text, module_call_text, module_macro_text, root_macro_text};
+ghost use Rattle.rust_tree.specs.ExportText.{call_word, entry_body_text, entry_head_text, entry_text, extern_word, for_type_word, module_call_text, module_macro_text, root_macro_text};
 
-use crate::export::{ExportEntry, ModuleMacro, RootMacro};
+use crate::export::{EntryKind, ExportEntry, ModuleMacro, RootMacro};
 use crate::print::named_param::{push_named_signature, push_param_names};
 use crate::print::word::MacroWord;
 use wit_model::{OutOfMemory, Text};
+
+/// The word before the base name in the name of the exported function.
+fn extern_word(kind: EntryKind) -> MacroWord
+    ensures { result ≡ extern_word kind }
+{
+    match kind {
+        EntryKind::Wrapper => MacroWord::ExternFn,
+        EntryKind::PostReturn => MacroWord::ExternPostReturn,
+    }
+}
+
+/// The word before the base name in the name of the function that it calls.
+fn call_word(kind: EntryKind) -> MacroWord
+    ensures { result ≡ call_word kind }
+{
+    match kind {
+        EntryKind::Wrapper => MacroWord::CallWrapper,
+        EntryKind::PostReturn => MacroWord::CallPostReturn,
+    }
+}
+
+/// The word behind the base name in that call, which names the implementation.
+fn for_type_word(kind: EntryKind) -> MacroWord
+    ensures { result ≡ for_type_word kind }
+{
+    match kind {
+        EntryKind::Wrapper => MacroWord::ForImplementation,
+        EntryKind::PostReturn => MacroWord::ForType,
+    }
+}
 
 fn push_entry_head(out: &mut Text, entry: &ExportEntry) -> Result<(), OutOfMemory>
     ensures { OnOk result (out.new ≡ out.old ++ entry_head_text entry.now) }
 {
     MacroWord::ExportName.put(out)?;
     out.push_str(entry.export_name.as_str())?;
-    MacroWord::ExternFn.put(out)?;
+    extern_word(entry.kind).put(out)?;
     out.push_str(entry.base.as_str())?;
     push_named_signature(out, entry.params.as_slice(), entry.result)
 }
@@ -22,9 +52,9 @@ fn push_entry_head(out: &mut Text, entry: &ExportEntry) -> Result<(), OutOfMemor
 fn push_entry_body(out: &mut Text, entry: &ExportEntry) -> Result<(), OutOfMemory>
     ensures { OnOk result (out.new ≡ out.old ++ entry_body_text entry.now) }
 {
-    MacroWord::CallWrapper.put(out)?;
+    call_word(entry.kind).put(out)?;
     out.push_str(entry.base.as_str())?;
-    MacroWord::ForImplementation.put(out)?;
+    for_type_word(entry.kind).put(out)?;
     push_param_names(out, entry.params.as_slice())?;
     MacroWord::CallWrapperEnd.put(out)
 }

@@ -2,7 +2,7 @@
 
 ghost use Rattle.std.specs.Prelude.{◌≡◌, ◌++◌, OnOk};
 ghost use Rattle.std.specs.List.{flat_map};
-ghost use Rattle.rust_tree.specs.RuntimeText.{alloc_type_text, lift_text, runtime_item_text};
+ghost use Rattle.rust_tree.specs.RuntimeText.{alloc_use_text, dealloc_text, lift_text, runtime_item_text};
 ghost use Rattle.rust_tree.specs.Runtime.{item_name};
 ghost use Rattle.rust_tree.specs.Text.{runtime_text};
 ghost use Rattle.rust_tree.specs.Word.{lift_word, runtime_word, sign};
@@ -31,9 +31,9 @@ fn push_alloc_crate(out: &mut Text) -> Result<(), OutOfMemory>
     Sign::StatementEnd.put(out)
 }
 
-#[tactic(auto, unfolding(crate::specs::RuntimeText::alloc_type_text))]
-fn push_alloc_type(out: &mut Text, item: RuntimeItem, path: RuntimeWord) -> Result<(), OutOfMemory>
-    ensures { OnOk result (out.new ≡ out.old ++ alloc_type_text item (runtime_word path)) }
+#[tactic(auto, unfolding(crate::specs::RuntimeText::alloc_use_text))]
+fn push_alloc_use(out: &mut Text, item: RuntimeItem, path: RuntimeWord) -> Result<(), OutOfMemory>
+    ensures { OnOk result (out.new ≡ out.old ++ alloc_use_text item (runtime_word path)) }
 {
     RuntimeWord::PublicUse.put(out)?;
     out.push_str(RuntimeItem::AllocCrate.name())?;
@@ -62,6 +62,19 @@ fn push_lift(
     LiftWord::LiftEnd.put(out)
 }
 
+#[tactic(auto, unfolding(crate::specs::RuntimeText::dealloc_text))]
+fn push_dealloc(out: &mut Text) -> Result<(), OutOfMemory>
+    ensures { OnOk result (out.new ≡ out.old ++ dealloc_text) }
+{
+    RuntimeWord::DeallocFn.put(out)?;
+    out.push_str(RuntimeItem::CabiDealloc.name())?;
+    RuntimeWord::DeallocParams.put(out)?;
+    out.push_str(RuntimeItem::AllocModule.name())?;
+    RuntimeWord::MakeLayout.put(out)?;
+    out.push_str(RuntimeItem::AllocModule.name())?;
+    RuntimeWord::Dealloc.put(out)
+}
+
 fn push_runtime_item(out: &mut Text, item: RuntimeItem) -> Result<(), OutOfMemory>
     ensures { OnOk result (out.new ≡ out.old ++ runtime_item_text item) }
 {
@@ -71,8 +84,8 @@ fn push_runtime_item(out: &mut Text, item: RuntimeItem) -> Result<(), OutOfMemor
         RuntimeItem::AsF32 => push_conversion(out, item, "AsF32", "f32", &F32_SOURCES),
         RuntimeItem::AsF64 => push_conversion(out, item, "AsF64", "f64", &F64_SOURCES),
         RuntimeItem::AllocCrate => push_alloc_crate(out),
-        RuntimeItem::StringType => push_alloc_type(out, item, RuntimeWord::StringPath),
-        RuntimeItem::VecType => push_alloc_type(out, item, RuntimeWord::VecPath),
+        RuntimeItem::StringType => push_alloc_use(out, item, RuntimeWord::StringPath),
+        RuntimeItem::VecType => push_alloc_use(out, item, RuntimeWord::VecPath),
         RuntimeItem::BoolLift => push_lift(
             out,
             item,
@@ -94,6 +107,8 @@ fn push_runtime_item(out: &mut Text, item: RuntimeItem) -> Result<(), OutOfMemor
             LiftWord::CheckedString,
             LiftWord::UncheckedString,
         ),
+        RuntimeItem::AllocModule => push_alloc_use(out, item, RuntimeWord::CratePath),
+        RuntimeItem::CabiDealloc => push_dealloc(out),
     }
 }
 

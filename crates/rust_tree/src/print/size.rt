@@ -1,11 +1,28 @@
+//! Sizes and alignments as expressions.
+
 ghost use Rattle.std.specs.Prelude.{◌≡◌, ◌++◌, OnOk};
+ghost use Rattle.wit_model.specs.SizeText.{alignment_text};
 ghost use Rattle.rust_tree.specs.CodeText.{term_text};
 
-use wit_model::{ArchitectureSize, OutOfMemory, Text};
+use wit_model::{Alignment, ArchitectureSize, OutOfMemory, Text};
+
+const POINTER_SIZE: ArchitectureSize = ArchitectureSize {
+    bytes: 0,
+    pointers: 1,
+};
 
 #[tactic(auto, unfolding(crate::specs::CodeText::term_text))]
 pub(crate) fn push_term(out: &mut Text, size: ArchitectureSize) -> Result<(), OutOfMemory>
     ensures { OnOk result (out.new ≡ out.old ++ term_text size) }
 {
     size.push_term(out, true)
+}
+
+pub(crate) fn push_alignment(out: &mut Text, align: Alignment) -> Result<(), OutOfMemory>
+    ensures { OnOk result (out.new ≡ out.old ++ alignment_text align) }
+{
+    match align {
+        Alignment::Pointer => POINTER_SIZE.push_term(out, true),
+        Alignment::Bytes(n) => out.push_number(u64::from(n)),
+    }
 }

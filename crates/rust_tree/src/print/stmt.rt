@@ -1,20 +1,37 @@
 ghost use Rattle.std.specs.Prelude.{◌≡◌, ◌++◌, OnOk};
 ghost use Rattle.std.specs.List.{flat_map};
-ghost use Rattle.rust_tree.specs.CodeText.{block_text, let_text, stmt_text, tail_text};
+ghost use Rattle.rust_tree.specs.CodeText.{block_text, let_text, stmt_text, store_text, tail_text};
 
 use crate::expr::Expr;
 use crate::print::area::push_area;
 use crate::print::core_import::{push_linked, push_unlinked};
-use crate::print::expr::push_expr;
-use crate::print::word::Sign;
+use crate::print::expr::{push_expr, push_open, push_place};
+use crate::print::word::{ExprWord, Sign};
 use crate::stmt::{Block, Stmt};
-use wit_model::{OutOfMemory, Text};
+use wit_model::{ArchitectureSize, OutOfMemory, Text, WasmType};
 
 fn push_let(out: &mut Text, name: &Text, e: &Expr) -> Result<(), OutOfMemory>
     ensures { OnOk result (out.new ≡ out.old ++ let_text name.now e.now) }
 {
     Sign::Let.put(out)?;
     out.push_str(name.as_str())?;
+    Sign::Equals.put(out)?;
+    push_expr(out, e)?;
+    Sign::StatementEnd.put(out)
+}
+
+fn push_store(
+    out: &mut Text,
+    address: &Expr,
+    offset: ArchitectureSize,
+    ty: WasmType,
+    e: &Expr,
+) -> Result<(), OutOfMemory>
+    ensures { OnOk result (out.new ≡ out.old ++ store_text address.now offset ty e.now) }
+{
+    push_open(out, ExprWord::Dereference, address)?;
+    push_expr(out, address)?;
+    push_place(out, address, offset, ty)?;
     Sign::Equals.put(out)?;
     push_expr(out, e)?;
     Sign::StatementEnd.put(out)
@@ -34,6 +51,7 @@ fn push_stmt(out: &mut Text, stmt: &Stmt) -> Result<(), OutOfMemory>
             Sign::StatementEnd.put(out)
         }
         Stmt::Area(area) => push_area(out, area),
+        Stmt::Store(address, offset, ty, e) => push_store(out, address, *offset, *ty, e),
     }
 }
 

@@ -1,202 +1,346 @@
-//! Parts of trees for the tests.
+//! The trees of the constants.
 
-ghost use Rattle.std.specs.Prelude.{◌≡◌, IfOk};
+ghost use Rattle.std.specs.Prelude.{◌≡◌, IfOk, length};
+ghost use Rattle.rust_tree.specs.Tree.{wrapper_count};
 
+use crate::tests::plain;
 use crate::{
-    Bindings, Block, CastType, Expr, FnItem, FnParam, FuncPlace, ImportDecl, Item, Path,
-    ReturnArea, RuntimeItem, Stmt, TypeExpr,
+    Bindings, Block, CallBlock, CoreParam, ExportEntry, ExportFn, Expr, FnItem, FnParam, FuncPlace,
+    ImportDecl, Item, ModuleMacro, Path, PostReturnFn, ReturnArea, RootMacro, Stmt, TraitFn,
+    TraitItem, TypeExpr,
 };
 use std::alloc::Global;
-use wit_model::{Alignment, ArchitectureSize, Boxed, List, OutOfMemory, Text, WasmType};
+use wit_model::{Boxed, InterfaceId, List, OutOfMemory, Text};
 
-pub(crate) fn texts(alloc: Global, lines: &[&str]) -> Result<List<Text>, OutOfMemory> {
+fn text(alloc: Global, t: &str) -> Result<Text, OutOfMemory> {
+    Text::from_str(alloc, t)
+}
+
+fn texts(alloc: Global, lines: &[&str]) -> Result<List<Text>, OutOfMemory> {
     let mut list = List::new(alloc);
     for line in lines {
-        list.push(Text::from_str(alloc, line)?)?;
+        list.push(text(alloc, line)?)?;
     }
     Ok(list)
 }
 
-pub(crate) fn listed<T: Copy>(alloc: Global, values: &[T]) -> Result<List<T>, OutOfMemory>
-    ensures { IfOk result (λ list. list ≡ values.now) }
-{
+fn listed<T: Copy>(alloc: Global, values: &[T]) -> Result<List<T>, OutOfMemory> {
     Ok(List::from_vec(Vec::from_slice(alloc, values)?))
 }
 
-pub(crate) fn param(alloc: Global, name: &str, ty: TypeExpr) -> Result<FnParam, OutOfMemory> {
-    Ok(FnParam {
-        name: Text::from_str(alloc, name)?,
-        ty,
+fn type_expr(alloc: Global, ty: &plain::Type) -> Result<TypeExpr, OutOfMemory> {
+    match ty {
+        plain::Type::Primitive(primitive) => Ok(TypeExpr::Primitive(*primitive)),
+        plain::Type::Unit => Ok(TypeExpr::Unit),
+        plain::Type::Str => Ok(TypeExpr::Str),
+        plain::Type::String => Ok(TypeExpr::String),
+        plain::Type::LentText => Ok(TypeExpr::Ref(Boxed::new(alloc, TypeExpr::Str)?)),
+    }
+}
+
+fn path(alloc: Global, path: &plain::Path) -> Result<Path, OutOfMemory> {
+    Ok(Path {
+        lead: path.lead,
+        supers: path.supers,
+        names: texts(alloc, path.names)?,
     })
 }
 
-pub(crate) fn local(alloc: Global, name: &str) -> Result<Expr, OutOfMemory> {
-    Ok(Expr::Local(Text::from_str(alloc, name)?))
-}
-
-pub(crate) fn reference(alloc: Global, name: &str) -> Result<Expr, OutOfMemory> {
-    Ok(Expr::Ref(Text::from_str(alloc, name)?))
-}
-
-pub(crate) fn cast(alloc: Global, e: Expr, to: CastType) -> Result<Expr, OutOfMemory> {
-    Ok(Expr::Cast(Boxed::new(alloc, e)?, to))
-}
-
-pub(crate) fn path(
-    alloc: Global,
-    lead: bool,
-    supers: u32,
-    names: &[&str],
-) -> Result<Path, OutOfMemory> {
+fn path_of_names(alloc: Global, names: &[&str]) -> Result<Path, OutOfMemory> {
     Ok(Path {
-        lead,
-        supers,
+        lead: false,
+        supers: 0,
         names: texts(alloc, names)?,
     })
 }
 
-pub(crate) fn call(
-    alloc: Global,
-    names: &[&str],
-    arguments: List<Expr>,
-) -> Result<Expr, OutOfMemory> {
-    Ok(Expr::Call(path(alloc, false, 0, names)?, arguments))
-}
-
-/// A call with one argument.
-pub(crate) fn applied(alloc: Global, names: &[&str], argument: Expr) -> Result<Expr, OutOfMemory> {
-    let mut arguments = List::new(alloc);
-    arguments.push(argument)?;
-    call(alloc, names, arguments)
-}
-
-pub(crate) fn lent_text(alloc: Global) -> Result<TypeExpr, OutOfMemory> {
-    Ok(TypeExpr::Ref(Boxed::new(alloc, TypeExpr::Str)?))
-}
-
-pub(crate) fn load(
-    alloc: Global,
-    address: Expr,
-    offset: (u64, u64),
-    ty: WasmType,
-) -> Result<Expr, OutOfMemory> {
-    let offset = ArchitectureSize {
-        bytes: offset.0,
-        pointers: offset.1,
-    };
-    Ok(Expr::Load(Boxed::new(alloc, address)?, offset, ty))
-}
-
-/// The bytes at a pointer, with the length that a local holds.
-pub(crate) fn raw_parts(alloc: Global, pointer: Expr, len: &str) -> Result<Expr, OutOfMemory> {
-    let pointer = Boxed::new(alloc, pointer)?;
-    Ok(Expr::FromRawParts(pointer, Text::from_str(alloc, len)?))
-}
-
-pub(crate) fn area(
-    alloc: Global,
-    name: &str,
-    size: (u64, u64),
-    align: Alignment,
-) -> Result<Stmt, OutOfMemory> {
-    Ok(Stmt::Area(ReturnArea {
-        name: Text::from_str(alloc, name)?,
-        size: ArchitectureSize {
-            bytes: size.0,
-            pointers: size.1,
-        },
-        align,
-    }))
-}
-
-/// The three lines that lend a text, with a number of the locals.
-pub(crate) fn lend(
-    alloc: Global,
-    stmts: &mut List<Stmt>,
-    param: &str,
-    names: (&str, &str, &str),
-) -> Result<(), OutOfMemory> {
-    stmts.push(bound(alloc, names.0, local(alloc, param)?)?)?;
-    let address = Expr::AsPtr(Text::from_str(alloc, names.0)?);
-    stmts.push(bound(alloc, names.1, address)?)?;
-    let len = Expr::Len(Text::from_str(alloc, names.0)?);
-    stmts.push(bound(alloc, names.2, len)?)
-}
-
-/// The two arguments of a core import that are a lent text.
-pub(crate) fn push_lent(
-    alloc: Global,
-    arguments: &mut List<Expr>,
-    pointer: &str,
-    len: &str,
-) -> Result<(), OutOfMemory> {
-    arguments.push(Expr::CastMut(Text::from_str(alloc, pointer)?))?;
-    arguments.push(local(alloc, len)?)
-}
-
-pub(crate) fn bound(alloc: Global, name: &str, e: Expr) -> Result<Stmt, OutOfMemory> {
-    Ok(Stmt::Let(Text::from_str(alloc, name)?, e))
-}
-
-pub(crate) fn declared(
-    alloc: Global,
-    names: (&str, &str, &str),
-    params: &[WasmType],
-    answer: Option<WasmType>,
-) -> Result<Stmt, OutOfMemory> {
-    Ok(Stmt::Import(ImportDecl {
-        module: Text::from_str(alloc, names.0)?,
-        link_name: Text::from_str(alloc, names.1)?,
-        name: Text::from_str(alloc, names.2)?,
-        params: listed(alloc, params)?,
-        result: answer,
-    }))
-}
-
-/// A file of one wrapper and the runtime module.
-pub(crate) fn file(
-    alloc: Global,
-    options: List<Text>,
-    function: FnItem,
-    parts: List<RuntimeItem>,
-) -> Result<Bindings, OutOfMemory> {
-    let mut items = List::new(alloc);
-    items.push(Item::Import(function))?;
-    items.push(Item::Runtime(parts))?;
-    let mut places = List::new(alloc);
-    places.push(FuncPlace {
-        interface: None,
-        nth: 0,
-    })?;
-    Bindings::new(alloc, options, items, places)
-}
-
-/// A file of one wrapper alone.
-pub(crate) fn lone(alloc: Global, function: FnItem) -> Result<Bindings, OutOfMemory> {
-    let mut items = List::new(alloc);
-    items.push(Item::Import(function))?;
-    let mut places = List::new(alloc);
-    places.push(FuncPlace {
-        interface: None,
-        nth: 0,
-    })?;
-    Bindings::new(alloc, List::new(alloc), items, places)
-}
-
-pub(crate) fn empty_block(alloc: Global) -> Block {
-    Block {
-        stmts: List::new(alloc),
-        tail: None,
+#[cycle(made_expr)]
+fn expr(alloc: Global, e: &plain::Expr) -> Result<Expr, OutOfMemory> {
+    match e {
+        plain::Expr::Local(name) => Ok(Expr::Local(text(alloc, name)?)),
+        plain::Expr::Ref(name) => Ok(Expr::Ref(text(alloc, name)?)),
+        plain::Expr::Cast(e, to) => Ok(Expr::Cast(Boxed::new(alloc, expr(alloc, e)?)?, *to)),
+        plain::Expr::Call(names, arguments) => {
+            let callee = path_of_names(alloc, names)?;
+            Ok(Expr::Call(callee, exprs(alloc, arguments)?))
+        }
+        plain::Expr::CallAt(callee, arguments) => {
+            let callee = path(alloc, callee)?;
+            Ok(Expr::Call(callee, exprs(alloc, arguments)?))
+        }
+        plain::Expr::I32FromBool(e) => {
+            Ok(Expr::I32FromBool(Boxed::new(alloc, expr(alloc, e)?)?))
+        }
+        plain::Expr::AsPtr(name) => Ok(Expr::AsPtr(text(alloc, name)?)),
+        plain::Expr::Len(name) => Ok(Expr::Len(text(alloc, name)?)),
+        plain::Expr::CastMut(name) => Ok(Expr::CastMut(text(alloc, name)?)),
+        plain::Expr::ReturnPointer(name) => Ok(Expr::ReturnPointer(text(alloc, name)?)),
+        plain::Expr::Load(address, offset, ty) => {
+            let address = Boxed::new(alloc, expr(alloc, address)?)?;
+            Ok(Expr::Load(address, *offset, *ty))
+        }
+        plain::Expr::FromRawParts(pointer, len) => {
+            let pointer = Boxed::new(alloc, expr(alloc, pointer)?)?;
+            Ok(Expr::FromRawParts(pointer, text(alloc, len)?))
+        }
+        plain::Expr::IntoBoxedBytes(name) => Ok(Expr::IntoBoxedBytes(text(alloc, name)?)),
+        plain::Expr::Forget(name) => Ok(Expr::Forget(text(alloc, name)?)),
+        plain::Expr::StaticPointer => Ok(Expr::StaticPointer),
+        plain::Expr::Align(align) => Ok(Expr::Align(*align)),
     }
 }
 
-/// A function without parameters, result and statements.
-pub(crate) fn bare_import(alloc: Global, name: &str) -> Result<FnItem, OutOfMemory> {
-    Ok(FnItem {
-        docs: List::new(alloc),
-        name: Text::from_str(alloc, name)?,
-        params: List::new(alloc),
-        result: TypeExpr::Unit,
-        body: empty_block(alloc),
+#[cycle(made_expr)]
+fn exprs(alloc: Global, list: &[plain::Expr]) -> Result<List<Expr>, OutOfMemory> {
+    let mut made = List::new(alloc);
+    for e in list {
+        made.push(expr(alloc, e)?)?;
+    }
+    Ok(made)
+}
+
+fn import_decl(alloc: Global, decl: &plain::ImportDecl) -> Result<ImportDecl, OutOfMemory> {
+    Ok(ImportDecl {
+        module: text(alloc, decl.module)?,
+        link_name: text(alloc, decl.link_name)?,
+        name: text(alloc, decl.name)?,
+        params: listed(alloc, decl.params)?,
+        result: decl.result,
     })
+}
+
+fn stmt(alloc: Global, stmt: &plain::Stmt) -> Result<Stmt, OutOfMemory> {
+    match stmt {
+        plain::Stmt::Import(decl) => Ok(Stmt::Import(import_decl(alloc, decl)?)),
+        plain::Stmt::Let(name, e) => Ok(Stmt::Let(text(alloc, name)?, expr(alloc, e)?)),
+        plain::Stmt::Expr(e) => Ok(Stmt::Expr(expr(alloc, e)?)),
+        plain::Stmt::Area(name, area) => Ok(Stmt::Area(ReturnArea {
+            name: text(alloc, name)?,
+            size: area.size,
+            align: area.align,
+        })),
+        plain::Stmt::Store(address, offset, ty, e) => {
+            let address = expr(alloc, address)?;
+            Ok(Stmt::Store(address, *offset, *ty, expr(alloc, e)?))
+        }
+    }
+}
+
+fn stmts(alloc: Global, list: &[plain::Stmt]) -> Result<List<Stmt>, OutOfMemory> {
+    let mut made = List::new(alloc);
+    for item in list {
+        made.push(stmt(alloc, item)?)?;
+    }
+    Ok(made)
+}
+
+fn tail(alloc: Global, tail: &Option<plain::Expr>) -> Result<Option<Expr>, OutOfMemory> {
+    match tail {
+        None => Ok(None),
+        Some(e) => Ok(Some(expr(alloc, e)?)),
+    }
+}
+
+fn block(alloc: Global, block: &plain::Block) -> Result<Block, OutOfMemory> {
+    Ok(Block {
+        stmts: stmts(alloc, block.stmts)?,
+        tail: tail(alloc, &block.tail)?,
+    })
+}
+
+fn params(
+    alloc: Global,
+    params: &[(&'static str, plain::Type)],
+) -> Result<List<FnParam>, OutOfMemory> {
+    let mut made = List::new(alloc);
+    for (name, ty) in params {
+        made.push(FnParam {
+            name: text(alloc, name)?,
+            ty: type_expr(alloc, ty)?,
+        })?;
+    }
+    Ok(made)
+}
+
+fn function(
+    alloc: Global,
+    signature: &plain::Signature,
+    body: &plain::Block,
+) -> Result<FnItem, OutOfMemory> {
+    Ok(FnItem {
+        docs: texts(alloc, signature.docs)?,
+        name: text(alloc, signature.name)?,
+        params: params(alloc, signature.params)?,
+        result: type_expr(alloc, &signature.result)?,
+        body: block(alloc, body)?,
+    })
+}
+
+fn trait_fn(alloc: Global, signature: &plain::Signature) -> Result<TraitFn, OutOfMemory> {
+    Ok(TraitFn {
+        docs: texts(alloc, signature.docs)?,
+        name: text(alloc, signature.name)?,
+        params: params(alloc, signature.params)?,
+        result: type_expr(alloc, &signature.result)?,
+    })
+}
+
+fn trait_item(
+    alloc: Global,
+    name: &str,
+    signatures: &[plain::Signature],
+) -> Result<TraitItem, OutOfMemory> {
+    let mut functions = List::new(alloc);
+    for signature in signatures {
+        functions.push(trait_fn(alloc, signature)?)?;
+    }
+    Ok(TraitItem {
+        name: text(alloc, name)?,
+        functions,
+    })
+}
+
+fn core_params(alloc: Global, params: plain::CoreParams) -> Result<List<CoreParam>, OutOfMemory> {
+    let mut made = List::new(alloc);
+    for (name, ty) in params {
+        made.push(CoreParam {
+            name: text(alloc, name)?,
+            ty: *ty,
+        })?;
+    }
+    Ok(made)
+}
+
+fn local_of(alloc: Global, name: Option<&str>) -> Result<Option<Text>, OutOfMemory> {
+    match name {
+        None => Ok(None),
+        Some(name) => Ok(Some(text(alloc, name)?)),
+    }
+}
+
+fn call_block(alloc: Global, call: &plain::CallBlock) -> Result<CallBlock, OutOfMemory> {
+    Ok(CallBlock {
+        result: local_of(alloc, call.result)?,
+        stmts: stmts(alloc, call.stmts)?,
+        method: text(alloc, call.method)?,
+        arguments: exprs(alloc, call.arguments)?,
+    })
+}
+
+fn export(alloc: Global, function: &plain::ExportFn) -> Result<ExportFn, OutOfMemory> {
+    Ok(ExportFn {
+        base: text(alloc, function.base)?,
+        bound: text(alloc, function.bound)?,
+        params: core_params(alloc, function.params)?,
+        result: function.result,
+        call: call_block(alloc, &function.call)?,
+        rest: block(alloc, &function.rest)?,
+    })
+}
+
+fn post_return(alloc: Global, function: &plain::PostReturnFn) -> Result<PostReturnFn, OutOfMemory> {
+    Ok(PostReturnFn {
+        base: text(alloc, function.base)?,
+        bound: text(alloc, function.bound)?,
+        params: core_params(alloc, function.params)?,
+        body: block(alloc, &function.body)?,
+    })
+}
+
+fn entry(alloc: Global, entry: &plain::ExportEntry) -> Result<ExportEntry, OutOfMemory> {
+    Ok(ExportEntry {
+        kind: entry.kind,
+        export_name: text(alloc, entry.export_name)?,
+        base: text(alloc, entry.base)?,
+        params: core_params(alloc, entry.params)?,
+        result: entry.result,
+    })
+}
+
+fn module(
+    alloc: Global,
+    name: &str,
+    list: &[plain::ExportEntry],
+) -> Result<ModuleMacro, OutOfMemory> {
+    let mut entries = List::new(alloc);
+    for item in list {
+        entries.push(entry(alloc, item)?)?;
+    }
+    Ok(ModuleMacro {
+        name: text(alloc, name)?,
+        entries,
+    })
+}
+
+fn root(alloc: Global, world: &str, modules: &[&str]) -> Result<RootMacro, OutOfMemory> {
+    Ok(RootMacro {
+        world: text(alloc, world)?,
+        modules: texts(alloc, modules)?,
+    })
+}
+
+fn item(alloc: Global, item: &plain::Item) -> Result<Item, OutOfMemory> {
+    match item {
+        plain::Item::Import(signature, body) => {
+            Ok(Item::Import(function(alloc, signature, body)?))
+        }
+        plain::Item::Export(function) => Ok(Item::Export(export(alloc, function)?)),
+        plain::Item::Trait(name, functions) => {
+            Ok(Item::Trait(trait_item(alloc, name, functions)?))
+        }
+        plain::Item::ModuleMacro(name, entries) => {
+            Ok(Item::ModuleMacro(module(alloc, name, entries)?))
+        }
+        plain::Item::Runtime(parts) => Ok(Item::Runtime(listed(alloc, parts)?)),
+        plain::Item::RootMacro(world, modules) => {
+            Ok(Item::RootMacro(root(alloc, world, modules)?))
+        }
+        plain::Item::PostReturn(function) => Ok(Item::PostReturn(post_return(alloc, function)?)),
+        plain::Item::Area(area) => Ok(Item::Area(*area)),
+    }
+}
+
+fn items(alloc: Global, list: &[plain::Item]) -> Result<List<Item>, OutOfMemory> {
+    let mut made = List::new(alloc);
+    for one in list {
+        made.push(item(alloc, one)?)?;
+    }
+    Ok(made)
+}
+
+/// The place that the wrapper of this number is of: every other one stands in an interface.
+pub(crate) fn nth_place(nth: u32) -> FuncPlace {
+    FuncPlace {
+        interface: if nth % 2 == 0 {
+            None
+        } else {
+            Some(InterfaceId(2))
+        },
+        nth,
+    }
+}
+
+fn places(alloc: Global, items: &[Item]) -> Result<List<FuncPlace>, OutOfMemory>
+    ensures { IfOk result (λ places. length places ≡ wrapper_count items.now) }
+{
+    let mut places = List::new(alloc);
+    for item in items {
+        if let Item::Import(_) | Item::Export(_) = item {
+            let nth = u32::try_from(places.len()).map_err(|_| OutOfMemory)?;
+            places.push(nth_place(nth))?;
+        }
+    }
+    Ok(places)
+}
+
+/// The file of these preamble lines and items.
+pub(crate) fn file(
+    alloc: Global,
+    options: &[&str],
+    list: &[plain::Item],
+) -> Result<Bindings, OutOfMemory> {
+    let options = texts(alloc, options)?;
+    let items = items(alloc, list)?;
+    let places = places(alloc, items.as_slice())?;
+    Bindings::new(alloc, options, items, places)
 }

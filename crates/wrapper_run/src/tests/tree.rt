@@ -6,7 +6,8 @@ ghost use Rattle.wrapper_run.specs.Run.{import_at};
 
 use rust_tree::{
     Bindings, Block, CallBlock, CastType, CoreParam, ExportFn, Expr, FnItem, FnParam, FuncPlace,
-    ImportDecl, Item, Path, Primitive, ReturnArea, RuntimeItem, Stmt, TraitFn, TraitItem, TypeExpr,
+    ImportDecl, Item, Path, PostReturnFn, Primitive, ReturnArea, RuntimeItem, StaticArea, Stmt,
+    TraitFn, TraitItem, TypeExpr,
 };
 use std::alloc::Global;
 use wit_model::{Alignment, ArchitectureSize, Boxed, List, OutOfMemory, Text, WasmType};
@@ -41,6 +42,11 @@ pub(crate) enum Operand {
     Load(&'static str, ArchitectureSize, WasmType),
     /// the bytes at an address, and their length
     Bytes(&'static str, &'static str),
+    Boxed(&'static str),
+    /// the pointer of the static area
+    Static,
+    /// the alignment of a byte
+    One,
 }
 
 /// A line of a wrapper's body.
@@ -60,6 +66,9 @@ pub(crate) enum Line {
     Call(&'static [&'static str], &'static [Operand]),
     /// The return area of two pointers.
     Area(&'static str),
+    Forget(&'static str),
+    /// `*x.add(offset).cast::<T>() = e;`
+    Store(&'static str, ArchitectureSize, WasmType, Operand),
 }
 
 /// A wrapper as a table.
@@ -141,6 +150,9 @@ fn expr(alloc: Global, operand: &Operand) -> Result<Expr, OutOfMemory> {
         Operand::ReturnPointer(x) => Ok(Expr::ReturnPointer(text(alloc, x)?)),
         Operand::Load(x, offset, ty) => Ok(Expr::Load(local(alloc, x)?, *offset, *ty)),
         Operand::Bytes(x, len) => Ok(Expr::FromRawParts(local(alloc, x)?, text(alloc, len)?)),
+        Operand::Boxed(x) => Ok(Expr::IntoBoxedBytes(text(alloc, x)?)),
+        Operand::Static => Ok(Expr::StaticPointer),
+        Operand::One => Ok(Expr::Align(Alignment::Bytes(1))),
     }
 }
 
@@ -193,6 +205,11 @@ fn stmt(alloc: Global, line: &Line) -> Result<Stmt, OutOfMemory> {
         }
         Line::Call(names, operands) => Ok(Stmt::Expr(call(alloc, names, operands)?)),
         Line::Area(name) => area(alloc, name),
+        Line::Forget(x) => Ok(Stmt::Expr(Expr::Forget(text(alloc, x)?))),
+        Line::Store(x, offset, ty, operand) => {
+            let address = Expr::Local(text(alloc, x)?);
+            Ok(Stmt::Store(address, *offset, *ty, expr(alloc, operand)?))
+        }
     }
 }
 
@@ -247,6 +264,7 @@ fn runtime(alloc: Global) -> Result<List<RuntimeItem>, OutOfMemory> {
         RuntimeItem::BoolLift,
         RuntimeItem::CharLift,
         RuntimeItem::StringLift,
+        RuntimeItem::CabiDealloc,
     ];
     Ok(List::from_vec(Vec::from_slice(alloc, parts.as_slice())?))
 }
@@ -307,18 +325,71 @@ fn export(alloc: Global, e: &Exported) -> Result<ExportFn, OutOfMemory> {
     })
 }
 
-fn guest(alloc: Global, e: &Exported) -> Result<TraitItem, OutOfMemory> {
+fn guest(alloc: Global, exports: &[&Exported]) -> Result<TraitItem, OutOfMemory> {
     let mut functions = List::new(alloc);
-    functions.push(TraitFn {
-        docs: List::new(alloc),
-        name: text(alloc, e.method)?,
-        params: params(alloc, e.params)?,
-        result: type_of(alloc, e.result)?,
-    })?;
+    for e in exports {
+        functions.push(TraitFn {
+            docs: List::new(alloc),
+            name: text(alloc, e.method)?,
+            params: params(alloc, e.params)?,
+            result: type_of(alloc, e.result)?,
+        })?;
+    }
     Ok(TraitItem {
         name: text(alloc, "Guest")?,
         functions,
     })
+}
+
+fn post_return(alloc: Global, base: &str, lines: &[Line]) -> Result<PostReturnFn, OutOfMemory> {
+    Ok(PostReturnFn {
+        base: text(alloc, base)?,
+        bound: text(alloc, "Guest")?,
+        params: core_params(alloc, &[("arg0", WasmType::Pointer)])?,
+        body: body(alloc, lines, &None)?,
+    })
+}
+
+/// A static area of two pointers.
+fn static_area() -> StaticArea {
+    StaticArea {
+        size: ArchitectureSize {
+            bytes: 0,
+            pointers: 2,
+        },
+        align: Alignment::Pointer,
+    }
+}
+
+fn place(nth: u32) -> FuncPlace {
+    FuncPlace {
+        interface: None,
+        nth,
+    }
+}
+
+/// A file of two exports' wrappers, whose post-return functions have these lines, and of their static area.
+pub(crate) fn text_file(
+    alloc: Global,
+    first: &Exported,
+    second: &Exported,
+    lines: &[Line],
+) -> Result<Bindings, OutOfMemory>
+    ensures first { IfOk result (λ t. IsSome (export_at t 0)) }
+    ensures second { IfOk result (λ t. IsSome (export_at t 1)) }
+{
+    let mut items = List::new(alloc);
+    items.push(Item::Export(export(alloc, first)?))?;
+    items.push(Item::PostReturn(post_return(alloc, first.method, lines)?))?;
+    items.push(Item::Export(export(alloc, second)?))?;
+    items.push(Item::PostReturn(post_return(alloc, second.method, lines)?))?;
+    items.push(Item::Trait(guest(alloc, &[first, second])?))?;
+    items.push(Item::Area(static_area()))?;
+    items.push(Item::Runtime(runtime(alloc)?))?;
+    let mut places = List::new(alloc);
+    places.push(place(0))?;
+    places.push(place(1))?;
+    Bindings::new(alloc, List::new(alloc), items, places)
 }
 
 /// A file of one export's wrapper, the trait, and the runtime module.
@@ -327,7 +398,7 @@ pub(crate) fn export_file(alloc: Global, e: &Exported) -> Result<Bindings, OutOf
 {
     let mut items = List::new(alloc);
     items.push(Item::Export(export(alloc, e)?))?;
-    items.push(Item::Trait(guest(alloc, e)?))?;
+    items.push(Item::Trait(guest(alloc, &[e])?))?;
     items.push(Item::Runtime(runtime(alloc)?))?;
     let mut places = List::new(alloc);
     places.push(FuncPlace {

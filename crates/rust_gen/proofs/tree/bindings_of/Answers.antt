@@ -1,7 +1,7 @@
 use Rattle.std.proofs.Common.{◌∙◌, ap, subst, sym}
 use Rattle.rust_gen.specs.Body.{IsWritten}
 use Rattle.rust_gen.specs.Bound.{AreItems}
-use Rattle.rust_gen.specs.ExportBody.{IsExportWritten}
+use Rattle.rust_gen.specs.ExportBody.{ArePartsWritten}
 use Rattle.rust_gen.proofs.TreeLemmas.{places_fit}
 use Rattle.rust_gen.proofs.tree.bindings_of.Goals as goal
 
@@ -10,7 +10,7 @@ new-requires-2 c = places_fit c.args.world.now _ _ c.in_ok-items.ensures c.in_ok
 
 pub returns : goal.returns
 returns c = record {
-  items = subst (AreItems IsWritten IsExportWritten c.args.world.now) (sym (ap (λ t. t.items) c.in_ok-tree.ensures)) c.in_ok-items.ensures;
+  items = subst (AreItems IsWritten ArePartsWritten c.args.world.now) (sym (ap (λ t. t.items) c.in_ok-tree.ensures)) c.in_ok-items.ensures;
   places = ap (λ t. t.places) c.in_ok-tree.ensures ∙ c.in_ok-places.ensures;
   options = ap (λ t. t.options) c.in_ok-tree.ensures ∙ c.new.ensures;
 }

@@ -3,7 +3,7 @@ ghost use Rattle.rust_tree.specs.Word.{area_word};
 
 use wit_model::{OutOfMemory, Text};
 
-/// The words of a return area.
+/// The words of a return area and of a static one.
 #[derive(Clone, Copy)]
 pub(crate) enum AreaWord {
     PointerAlign,
@@ -12,6 +12,7 @@ pub(crate) enum AreaWord {
     AreaType,
     AreaValue,
     AreaEnd,
+    StaticArea,
 }
 
 impl AreaWord {
@@ -27,6 +28,7 @@ impl AreaWord {
             AreaWord::AreaType => "struct _RetArea([::core::mem::MaybeUninit::<u8>; ",
             AreaWord::AreaValue => "_RetArea([::core::mem::MaybeUninit::uninit(); ",
             AreaWord::AreaEnd => "]);\n",
+            AreaWord::StaticArea => "static mut _RET_AREA: _RetArea = ",
         }
     }
 

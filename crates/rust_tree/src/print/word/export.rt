@@ -3,7 +3,7 @@ ghost use Rattle.rust_tree.specs.Word.{export_word};
 
 use wit_model::{OutOfMemory, Text};
 
-/// The words of an export wrapper.
+/// The words of an export wrapper and of a post-return function.
 #[derive(Clone, Copy)]
 pub(crate) enum ExportWord {
     WrapperFn,
@@ -13,6 +13,8 @@ pub(crate) enum ExportWord {
     PlainBlock,
     Implementation,
     CallBlockEnd,
+    PostReturnFn,
+    PostReturnBound,
 }
 
 impl ExportWord {
@@ -29,6 +31,9 @@ impl ExportWord {
             ExportWord::PlainBlock => "{\n",
             ExportWord::Implementation => "T_::",
             ExportWord::CallBlockEnd => "\n};\n",
+            ExportWord::PostReturnFn =>
+                "#[doc(hidden)]\n#[allow(non_snake_case, unused_unsafe)]\npub unsafe fn __post_return_",
+            ExportWord::PostReturnBound => "<T_: ",
         }
     }
 

@@ -18,6 +18,9 @@ pub(crate) enum ExprWord {
     CastEnd,
     FromRawParts,
     PointerCast,
+    IntoBoxedBytes,
+    Forget,
+    StaticPointer,
 }
 
 impl ExprWord {
@@ -38,6 +41,9 @@ impl ExprWord {
             ExprWord::CastEnd => ">()",
             ExprWord::FromRawParts => "_rt::Vec::from_raw_parts(",
             ExprWord::PointerCast => ".cast(), ",
+            ExprWord::IntoBoxedBytes => ".into_bytes()).into_boxed_slice()",
+            ExprWord::Forget => "::core::mem::forget(",
+            ExprWord::StaticPointer => "(&raw mut _RET_AREA.0).cast::<u8>()",
         }
     }
 

@@ -21,6 +21,9 @@ pub(crate) enum MacroWord {
     CallModuleEnd,
     RootUse,
     RootUseEnd,
+    ExternPostReturn,
+    CallPostReturn,
+    ForType,
 }
 
 impl MacroWord {
@@ -47,6 +50,9 @@ impl MacroWord {
             MacroWord::CallModuleEnd => "_cabi!($ty with_types_in $($path_to_types_root)*);\n",
             MacroWord::RootUse => ")\n}\n#[doc(inline)]\npub(crate) use __export_",
             MacroWord::RootUseEnd => "_impl as export;\n",
+            MacroWord::ExternPostReturn => "\")]\nunsafe extern \"C\" fn _post_return_",
+            MacroWord::CallPostReturn => " {\nunsafe { $($path_to_types)*::__post_return_",
+            MacroWord::ForType => "::<$ty>(",
         }
     }
 

@@ -3,7 +3,7 @@ ghost use Rattle.rust_tree.specs.Word.{runtime_word};
 
 use wit_model::{OutOfMemory, Text};
 
-/// The words of the module `_rt`, and of its items from the crate `alloc`.
+/// The words of the module `_rt`, of its items from the crate `alloc`, and of the function that frees a block.
 #[derive(Clone, Copy)]
 pub(crate) enum RuntimeWord {
     RuntimeModule,
@@ -11,6 +11,11 @@ pub(crate) enum RuntimeWord {
     PublicUse,
     StringPath,
     VecPath,
+    CratePath,
+    DeallocFn,
+    DeallocParams,
+    MakeLayout,
+    Dealloc,
 }
 
 impl RuntimeWord {
@@ -25,6 +30,12 @@ impl RuntimeWord {
             RuntimeWord::PublicUse => "pub use ",
             RuntimeWord::StringPath => "::string::",
             RuntimeWord::VecPath => "::vec::",
+            RuntimeWord::CratePath => "::",
+            RuntimeWord::DeallocFn => "pub unsafe fn ",
+            RuntimeWord::DeallocParams =>
+                "(ptr: *mut u8, size: usize, align: usize) {\nif size == 0 {\nreturn;\n}\nunsafe {\nlet layout = ",
+            RuntimeWord::MakeLayout => "::Layout::from_size_align_unchecked(size, align);\n",
+            RuntimeWord::Dealloc => "::dealloc(ptr, layout);\n}\n}\n",
         }
     }
 
