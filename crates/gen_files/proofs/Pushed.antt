@@ -13,7 +13,8 @@ use Rattle.std.proofs.lemmas.List.Sums.{prefix_len-le-length}
 use Rattle.std.proofs.lemmas.Cmp.{nat_list_cmp_total}
 use Rattle.std.proofs.lemmas.Map.Text.{is_eq-slice_cmp}
 use Rattle.std.proofs.lemmas.Slice.Eq.{bytes_eq-Decides}
-use Rattle.gen_files.specs.Entries.{Bytes, Entry, IsAscending, entry_of, with_pushed}
+use Rattle.wit_model.specs.Bytes.{Bytes}
+use Rattle.gen_files.specs.Entries.{Entry, IsAscending, entry_of, with_pushed}
 use Rattle.gen_files.specs.Places.{is_before, place_of, has_name_at, with_bytes_at}
 
 abbrev compared : Bytes → Bytes → Ordering

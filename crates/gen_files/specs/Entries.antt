@@ -1,13 +1,11 @@
 -- What a set of named files holds under each name, and what it holds after more bytes come under a name.
-use Rattle.std.specs.Prelude.{ℕ, List, [], ◌∷◌, ◌++◌, Option, map, find}
+use Rattle.std.specs.Prelude.{List, [], ◌∷◌, ◌++◌, Option, map, find}
 use Rattle.std.specs.Option.{option_map}
 use Rattle.std.specs.Ordering.{nat_cmp, match_ordering}
 use Rattle.std.specs.Cmp.Lexicographic.{slice_cmp}
 use Rattle.std.specs.Str.{bytes_eq}
 use Rattle.std.specs.List.Sorted.{IsStrictlySortedBy}
-
-abbrev pub Bytes : Type 0
-Bytes = List ℕ
+use Rattle.wit_model.specs.Bytes.{Bytes}
 
 -- a name, and the bytes under it
 abbrev pub Entry : Type 0

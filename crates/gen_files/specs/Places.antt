@@ -5,7 +5,8 @@ use Rattle.std.specs.List.{prefix_len}
 use Rattle.std.specs.Ordering.{nat_cmp, is_lt}
 use Rattle.std.specs.Cmp.Lexicographic.{slice_cmp}
 use Rattle.std.specs.Str.{bytes_eq}
-use Rattle.gen_files.specs.Entries.{Bytes, Entry}
+use Rattle.wit_model.specs.Bytes.{Bytes}
+use Rattle.gen_files.specs.Entries.{Entry}
 
 -- an entry comes before a name
 abbrev pub is_before : Bytes → Entry → Bool

@@ -1,7 +1,8 @@
 ghost use Rattle.std.specs.Prelude.{◌≡◌, ◌≢◌, [], ◌++◌, Some, unwrap_or, find, OnOk, OnErr};
 ghost use Rattle.std.specs.Option.{option_copied};
 ghost use Rattle.std.specs.Str.{bytes_eq};
-ghost use Rattle.gen_files.specs.Entries.{Bytes, IsAscending, entry_of, with_pushed};
+ghost use Rattle.gen_files.specs.Entries.{IsAscending, entry_of, with_pushed};
+ghost use Rattle.wit_model.specs.Bytes.{Bytes};
 
 use crate::entries::push_into;
 use std::alloc::Global;

@@ -9,7 +9,7 @@ use Rattle.std.proofs.lemmas.List.Folds.{list_any-append}
 use Rattle.wit_model.specs.declared.function.Function.{Function}
 use Rattle.rust_tree.specs.declared.item.Item.{Item}
 use Rattle.rust_tree.specs.declared.runtime_item.RuntimeItem.{RuntimeItem}
-use Rattle.rust_tree.specs.declared.runtime_item.RuntimeItem.TheVariants.{AsI32, AsI64, AsF32, AsF64, AllocCrate, StringType, VecType, BoolLift, CharLift, StringLift, AllocModule, CabiDealloc}
+use Rattle.rust_tree.specs.declared.runtime_item.RuntimeItem.TheVariants.{AsI32, AsI64, AsF32, AsF64, AllocCrate, StringType, VecType, BoolLift, CharLift, StringLift, StdAllocModule, CabiDealloc}
 use Rattle.rust_tree.specs.Runtime.{item_name, needed_items}
 use Rattle.wrapper_run.specs.Run.{runtime_item_named}
 use Rattle.rust_gen.specs.Runtime.{asked_by, asked_by_export, asked_by_method, asked_items, is_same_item, items_for, runtime_module, with_asked, with_needed}
@@ -28,7 +28,7 @@ same-refl VecType = refl
 same-refl BoolLift = refl
 same-refl CharLift = refl
 same-refl StringLift = refl
-same-refl AllocModule = refl
+same-refl StdAllocModule = refl
 same-refl CabiDealloc = refl
 
 -- each has a name of its own
@@ -44,7 +44,7 @@ same-function VecType VecType = refl
 same-function BoolLift BoolLift = refl
 same-function CharLift CharLift = refl
 same-function StringLift StringLift = refl
-same-function AllocModule AllocModule = refl
+same-function StdAllocModule StdAllocModule = refl
 same-function CabiDealloc CabiDealloc = refl
 same-function _ _ = refl
 
@@ -59,7 +59,7 @@ is-same VecType VecType e = refl
 is-same BoolLift BoolLift e = refl
 is-same CharLift CharLift e = refl
 is-same StringLift StringLift e = refl
-is-same AllocModule AllocModule e = refl
+is-same StdAllocModule StdAllocModule e = refl
 is-same CabiDealloc CabiDealloc e = refl
 is-same _ _ e = absurd (cc)
 

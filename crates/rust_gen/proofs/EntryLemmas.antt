@@ -9,16 +9,14 @@ use Rattle.std.proofs.lemmas.Slice.Eq.{bytes_eq-Decides}
 use Rattle.wit_model.specs.Distinct.{is_distinct}
 use Rattle.wit_model.specs.declared.function.Function.{Function}
 use Rattle.wit_model.specs.declared.world.WorldItem.TheVariants as entry
-use Rattle.rust_tree.specs.declared.export.ExportEntry.{ExportEntry}
+use Rattle.rust_tree.specs.declared.macros.ExportEntry.{ExportEntry}
 use Rattle.wrapper_run.specs.Areas.{needs_area}
 use Rattle.wrapper_run.specs.Returned.{post_return_name}
 use Rattle.rust_gen.specs.Emitted.{Entries, functions_in}
 use Rattle.rust_gen.specs.Exported.{entries_of, export_entry, return_entry, where_area}
 use Rattle.rust_gen.specs.NameText.{is_name_char, is_nonempty, is_wit_form, is_written_entry, is_written_function, is_written_key}
 use Rattle.rust_gen.proofs.ItemLemmas.{alone-named}
-
-abbrev Bytes : Type 0
-Bytes = List ℕ
+use Rattle.wit_model.specs.Bytes.{Bytes}
 
 -- the functions of written entries have written names
 pub wit-forms : (entries : Entries) → list_all is_written_entry entries ≡ true → list_all (λ f. is_wit_form f.name.wit) (functions_in entries) ≡ true

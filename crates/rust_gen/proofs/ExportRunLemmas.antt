@@ -4,7 +4,7 @@ use Rattle.std.proofs.Common.{◌≡◌, ◌≢◌, ◌⊎◌, inl, inr, ◌<◌
 use Rattle.std.specs.List.{flat_map}
 use Rattle.std.specs.Option.{option_map}
 use Rattle.wit_model.specs.declared.function.Function.{Function}
-use Rattle.wit_model.specs.declared.size.WasmType.{WasmType}
+use Rattle.wit_model.specs.declared.wasm_type.WasmType.{WasmType}
 use Rattle.wit_model.specs.declared.types.WitType.{WitType}
 use Rattle.wit_model.specs.Distinct.{is_distinct}
 use Rattle.rust_tree.specs.declared.export.CallBlock.{CallBlock}
@@ -16,7 +16,7 @@ use Rattle.rust_tree.specs.Ident.{rust_ident}
 use Rattle.rust_tree.specs.Runtime.{item_name}
 use Rattle.wrapper_data.specs.declared.choice.Choice.{Choice}
 use Rattle.wrapper_data.specs.declared.choice.Choices.{Choices}
-use Rattle.wrapper_data.specs.declared.heap.Block.{Block as Cells}
+use Rattle.wrapper_data.specs.declared.block.Block.{Block as Cells}
 use Rattle.wrapper_data.specs.declared.heap.Heap.{Heap}
 use Rattle.wrapper_data.specs.declared.run.CallPoint.{CallPoint}
 use Rattle.wrapper_data.specs.declared.run.Run.{Run}
@@ -30,7 +30,7 @@ use Rattle.wrapper_run.specs.Blocks.{free_owned, leave_to}
 use Rattle.wrapper_run.specs.Effect.{answer_of, bit, is_word_of, is_of_kind}
 use Rattle.wrapper_run.specs.Areas.{areas, due, needs_area}
 use Rattle.wrapper_run.specs.ExportFaithful.{CallsMethod, CarriesOut, MissesStatic, export_target, places}
-use Rattle.wrapper_run.specs.ExportRun.{call_inside, call_method, core_answer, ended_export, keep_result, method_named, method_point, run_call, run_export_fn, run_export_item, run_rest, start_export, take_value}
+use Rattle.wrapper_run.specs.ExportRun.{call_inside, call_method, core_answer, ended_export, keep_result, method_named, method_point, run_call, run_export_fn, run_export_item, run_to_words, start_export, take_value}
 use Rattle.wrapper_run.specs.Faithful.{fits_area, param_types}
 use Rattle.wrapper_run.specs.Honest.{HonestImplementation}
 use Rattle.wrapper_run.specs.Locals.{bind, local_named, value_of}
@@ -53,7 +53,8 @@ use Rattle.rust_gen.specs.ExportBody.{DeclaresValue, IsExportBody, IsExportWritt
 use Rattle.rust_gen.specs.Exported.{export_params, export_result, guest_name, static_area, trait_fn}
 use Rattle.rust_gen.specs.Printed.{core_type, param_words, printed_result, printed_type}
 use Rattle.rust_gen.specs.Runtime.{asked_by_export, freeing_items, lifting_items, lowering_item, lowering_items, returning_items}
-use Rattle.rust_gen.specs.Scope.{Bytes, cleanup_list, numbered, ret_area}
+use Rattle.rust_gen.specs.Scope.{cleanup_list, numbered, ret_area}
+use Rattle.wit_model.specs.Bytes.{Bytes}
 use Rattle.rust_gen.proofs.AskedLemmas.{Found, found-first, found-left, found-right}
 use Rattle.rust_gen.proofs.GiveLemmas as Give
 use Rattle.rust_gen.proofs.GiveLemmas.{GivesOut, gives_out}
@@ -64,7 +65,7 @@ use Rattle.rust_gen.proofs.WordLemmas.{lent}
 use Rattle.rust_gen.proofs.ScopeLemmas.{used-declared, used-first}
 use Rattle.rust_gen.proofs.TakenLemmas.{AreFree, addresses}
 use Rattle.wrapper_run.specs.Owning.{are_distinct, listed, owned_by, taken_by}
-use Rattle.wit_model.specs.declared.size.WasmType.TheVariants as core
+use Rattle.wit_model.specs.declared.wasm_type.WasmType.TheVariants as core
 use Rattle.std.specs.Prelude.{ℤ}
 use Rattle.wit_model.specs.declared.types.WitType.TheVariants as wit
 use Rattle.rust_tree.specs.declared.expr.Expr.TheVariants as expr
@@ -158,13 +159,10 @@ lowers_back wit.Bool (char c) w name before stmts e s good l found at = absurd (
 lowers_back wit.String v w name before stmts e s good l found at = absurd (no_text wit.String v good refl)
 lowers_back ty v w name before stmts e s good l found at = back-converted ty v w name stmts e s (λ h. cc) good l (found-first w.items (lowering_item ty) [] found) at
 
-abbrev rest_of : Setting → Option WasmType → Block → Act (List Word)
-rest_of w answer rest = (run_stmts w rest.stmts >> run_tail w rest.tail) >>= (λ v. give_and_leave w (core_answer answer v))
-
 -- behind the call: its scope ends, the value is kept, and it is made a word
 
 abbrev finish : Setting → ℕ → Option WitType → ℕ → Block → Val → Act (List Word)
-finish w outer r t rest v = leave_to w outer >> (keep_result w (value_local r t) v >> rest_of w (export_result r) rest)
+finish w outer r t rest v = leave_to w outer >> (keep_result w (value_local r t) v >> run_to_words w (export_result r) rest)
 
 -- what the run gives where the implementation is honest: words that own the blocks of its value, or the area does not fit
 
@@ -218,8 +216,8 @@ finishes_unit w outer more t before rest s (n, q) (heap, a) split plain_outer pl
       state = record back { locals = [] };
       runs =
           ap (λ o. and_then o (finish w (length outer) None t rest)) (value_gives w type.Unit None unit heap s a returned-unit)
-          ∙ ap (λ o. and_then o (λ _. keep_result w None unit >> rest_of w None rest)) (leaves_inner w outer more left split plain_more)
-          ∙ ap (λ o. and_then (free_owned w o back) (λ _. rest_of w None rest)) (owned-none value.Unit no_unit_buffer)
+          ∙ ap (λ o. and_then o (λ _. keep_result w None unit >> run_to_words w None rest)) (leaves_inner w outer more left split plain_more)
+          ∙ ap (λ o. and_then (free_owned w o back) (λ _. run_to_words w None rest)) (owned-none value.Unit no_unit_buffer)
           ∙ ap (λ stmts. and_then (and_then (run_stmts w stmts back) (λ _. run_tail w rest.tail)) (λ v. give_and_leave w (core_answer None v))) n
           ∙ ap (λ tail. and_then (run_tail w tail back) (λ v. give_and_leave w (core_answer None v))) q
           ∙ gives_plain w (core_answer None unit) [] back unit_words plain_outer;
@@ -253,8 +251,8 @@ finishes_scalar w outer more ty x t before rest s (e, q, l) found good (heap, _,
       state = record ends { locals = [] };
       runs =
           ap (λ o. and_then o (finish w (length outer) (Some ty) t rest)) (value_gives w (printed_type ty) (Some r) (val.Value r) heap s gave (returned-value (printed_type ty) r (answered-scalar ty x good)))
-          ∙ ap (λ c. and_then (leave_to w (length outer) left) (λ _. keep_result w (Some (value_name t)) (val.Value r) >> rest_of w c rest)) (one_word ty nt)
-          ∙ ap (λ o. and_then o (λ _. keep_result w (Some (value_name t)) (val.Value r) >> rest_of w (Some (core_type ty)) rest)) (leaves_inner w outer more left split plain_more)
+          ∙ ap (λ c. and_then (leave_to w (length outer) left) (λ _. keep_result w (Some (value_name t)) (val.Value r) >> run_to_words w c rest)) (one_word ty nt)
+          ∙ ap (λ o. and_then o (λ _. keep_result w (Some (value_name t)) (val.Value r) >> run_to_words w (Some (core_type ty)) rest)) (leaves_inner w outer more left split plain_more)
           ∙ ap (λ tail. and_then (and_then (run_stmts w rest.stmts kept) (λ _. run_tail w tail)) (λ v. give_and_leave w (core_answer (Some (core_type ty)) v))) q
           ∙ ap (λ o. and_then (and_then o (λ _. eval w e)) (λ v. give_and_leave w (core_answer (Some (core_type ty)) v))) g.runs
           ∙ ap (λ o. and_then o (λ v. give_and_leave w (core_answer (Some (core_type ty)) v))) g.gives
@@ -306,7 +304,7 @@ finishes_text w outer more bytes t lifted before rest s d (e, q, l) area small (
         ≡ and_then (and_then (run_stmts w rest.stmts kept) (λ _. eval w e)) (λ v. give_and_leave w (core_answer (Some core.Pointer) v))
     to_kept =
         ap (λ o. and_then o (finish w (length outer) (Some wit.String) t rest)) (value_gives w type.String (Some (value.Buffer p (length bytes) true)) (val.Value (value.Buffer p (length bytes) true)) heap s gave (returned-value type.String (value.Buffer p (length bytes) true) (answered-text p (length bytes))))
-        ∙ ap (λ o. and_then o (λ _. keep_result w (Some (value_name t)) (val.Value (value.Buffer p (length bytes) true)) >> rest_of w (Some core.Pointer) rest)) (leaves_inner w outer more left split plain_more)
+        ∙ ap (λ o. and_then o (λ _. keep_result w (Some (value_name t)) (val.Value (value.Buffer p (length bytes) true)) >> run_to_words w (Some core.Pointer) rest)) (leaves_inner w outer more left split plain_more)
         ∙ ap (λ tail. and_then (and_then (run_stmts w rest.stmts kept) (λ _. run_tail w tail)) (λ v. give_and_leave w (core_answer (Some core.Pointer) v))) q
 
     go : GivesOut w p bytes rest.stmts e kept ⊎ Give.MissesOut w rest.stmts kept → FinishesOut w outer (Some wit.String) (Some (text bytes)) t rest s ⊎ MissesOut w outer (Some wit.String) t rest s
@@ -423,20 +421,20 @@ module _ (f : Function) (e : ExportFn) (written : IsExportWritten f e) (w : Sett
       ∙ ap (λ c. take_value w (printed_result f.result) (record passed_on { calls = c ∷ [] })) here_is
 
   in_order : (o : Outcome Val)
-      → and_then (and_then (and_then o (λ v. leave_to w (length begin.locals) >> pure v)) (keep_result w (value_local f.result body.number))) (λ _. rest_of w (export_result f.result) e.rest) ≡ and_then o end
+      → and_then (and_then (and_then o (λ v. leave_to w (length begin.locals) >> pure v)) (keep_result w (value_local f.result body.number))) (λ _. run_to_words w (export_result f.result) e.rest) ≡ and_then o end
   in_order (Done v s) = go (leave_to w (length begin.locals) s)
     where
-      go : (o : Outcome (Unit {0})) → and_then (and_then (and_then o (λ _. pure v)) (keep_result w (value_local f.result body.number))) (λ _. rest_of w (export_result f.result) e.rest)
-          ≡ and_then o (λ _. keep_result w (value_local f.result body.number) v >> rest_of w (export_result f.result) e.rest)
+      go : (o : Outcome (Unit {0})) → and_then (and_then (and_then o (λ _. pure v)) (keep_result w (value_local f.result body.number))) (λ _. run_to_words w (export_result f.result) e.rest)
+          ≡ and_then o (λ _. keep_result w (value_local f.result body.number) v >> run_to_words w (export_result f.result) e.rest)
       go (Done u t) = refl
       go (Stopped x t) = refl
   in_order (Stopped x s) = refl
 
   runs_to : run_export_fn w e begin ≡ and_then (take_value w (printed_result f.result) recorded) end
   runs_to =
-      ap (λ b. and_then (and_then (run_call w b e.call begin) (keep_result w e.call.result)) (λ _. run_rest w e)) written.bound
-      ∙ ap (λ c. and_then (and_then (run_call w guest_name c begin) (keep_result w c.result)) (λ _. run_rest w e)) body.is
-      ∙ ap (λ r. and_then (and_then (run_call w guest_name block begin) (keep_result w block.result)) (λ _. rest_of w r e.rest)) written.answer
+      ap (λ b. and_then (and_then (run_call w b e.call begin) (keep_result w e.call.result)) (λ _. run_to_words w e.result e.rest)) written.bound
+      ∙ ap (λ c. and_then (and_then (run_call w guest_name c begin) (keep_result w c.result)) (λ _. run_to_words w e.result e.rest)) body.is
+      ∙ ap (λ r. and_then (and_then (run_call w guest_name block begin) (keep_result w block.result)) (λ _. run_to_words w r e.rest)) written.answer
       ∙ in_order (call_inside w guest_name block begin)
       ∙ ap (λ o. and_then o end) calls_out
 
@@ -469,6 +467,7 @@ module _ (f : Function) (e : ExportFn) (written : IsExportWritten f e) (w : Sett
             placed = g.placed;
             account = ap (λ r. r.heap) is ∙ g.account;
             gives = subst (λ ws. GivesResult run.heap f.result v ws (owned_by (listed g.value))) (sym (ap (λ r. r.words) is)) (subst (λ h. GivesResult h f.result v g.words (owned_by (listed g.value))) (sym (ap (λ r. r.heap) is)) g.gives);
+            alone = ap (λ r. r.value) is;
             requests = ap (λ r. r.requests) is ∙ g.requests;
           })
       go (inr m) =

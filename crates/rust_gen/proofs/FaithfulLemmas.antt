@@ -40,7 +40,7 @@ use Rattle.wrapper_run.specs.PostReturn.{post_return_at, post_return_named, post
 use Rattle.wrapper_run.specs.Represents.{GivesResult}
 use Rattle.wrapper_run.specs.Returned.{Frees, Returns, post_return_name, post_returns_in}
 use Rattle.wrapper_run.specs.Value.{IsResult, WitValue, scalar, text}
-use Rattle.wrapper_data.specs.declared.answer.Form.{Form}
+use Rattle.wrapper_data.specs.declared.form.Form.{Form}
 use Rattle.wrapper_data.specs.declared.heap.Heap.{Heap}
 use Rattle.wrapper_data.specs.declared.run.Run.{Run}
 use Rattle.wrapper_data.specs.declared.word.Word.{Word}
@@ -54,11 +54,11 @@ use Rattle.rust_tree.specs.declared.runtime_item.RuntimeItem.TheVariants.{CabiDe
 use Rattle.rust_gen.specs.ExportBody.{ArePartsWritten, IsExportWritten, IsReturnWritten, ReturnWritten}
 use Rattle.rust_gen.proofs.EntryLemmas.{alone-return, alone-wrapper, wit-forms}
 use Rattle.rust_gen.proofs.LiftLemmas.{no_text}
-use Rattle.rust_gen.proofs.PartsLemmas.{exports-of_parts, no_returns-behind, post_return-alone, post_return_named-at}
+use Rattle.rust_gen.proofs.PartsLemmas.{exports-of_parts, no_exports-behind, no_returns-behind, post_return-alone, post_return_named-at}
 use Rattle.rust_gen.proofs.ReturnLemmas.{frees_words}
 use Rattle.rust_gen.specs.declared.opts.Opts.{Opts}
-use Rattle.wit_model.specs.declared.size.WasmType.{WasmType}
-use Rattle.rust_gen.proofs.ItemLemmas.{alone-named, area-found, distinct-image, distinct-right, entries-are, find-named, method-found, no_exports-behind, runtime-found}
+use Rattle.wit_model.specs.declared.wasm_type.WasmType.{WasmType}
+use Rattle.rust_gen.proofs.ItemLemmas.{alone-named, area-found, distinct-image, distinct-right, entries-are, find-named, method-found, runtime-found}
 use Rattle.rust_gen.specs.Built.{are_built_options, are_built_tables, is_built_function, is_built_item, is_built_world, is_empty}
 use Rattle.rust_gen.specs.NameText.{are_written_tables, is_wit_form, is_written_entry, is_written_world}
 use Rattle.rust_gen.specs.Exported.{area_of, arg_name, arg_prefix, core_args, entries_of, export_entry, file_macro, guest_name, guest_trait, last_macro, return_entry, static_area, trait_and_macro, trait_fn, where_any, where_area, world_macro}
@@ -438,7 +438,7 @@ module _ (opts : Opts) (resolve : Resolve) (id : ℕ) (world : World) (found : s
       answer = sym written.answer;
       named =
           ap (λ base. filter (λ x. bytes_eq x.base base) (exports_in tree.items)) (sym written.base)
-          ∙ ap (filter (λ x. bytes_eq x.base export.base)) (ap exports_in b.items.are ∙ exports-of_parts ws es behind (no_exports-behind fs fs fs (guest_trait fs) (world_macro world) (runtime_items world) (file_macro world)))
+          ∙ ap (filter (λ x. bytes_eq x.base export.base)) (ap exports_in b.items.are ∙ exports-of_parts ws es behind (no_exports-behind world))
           ∙ alone-named (λ x. x.base) (map (λ x. x.0) es) nth export (ap is_distinct (map-map (λ x. x.base) (λ x. x.0) es ∙ bases-are fs es b.items.exported) ∙ distinct-bases world named) (get-map (λ x. x.0) es nth parts.0 parts.1);
     }
 

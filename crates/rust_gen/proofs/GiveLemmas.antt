@@ -5,7 +5,7 @@ use Rattle.rust_tree.specs.declared.expr.Expr.{Expr}
 use Rattle.rust_tree.specs.declared.stmt.Stmt.{Stmt}
 use Rattle.wrapper_data.specs.declared.choice.Choice.{Choice}
 use Rattle.wrapper_data.specs.declared.choice.Choice.TheVariants as choice
-use Rattle.wrapper_data.specs.declared.heap.Block.{Block}
+use Rattle.wrapper_data.specs.declared.block.Block.{Block}
 use Rattle.wrapper_data.specs.declared.run.Stop.TheVariants as stop_of
 use Rattle.wrapper_data.specs.declared.value.RustValue.TheVariants as value
 use Rattle.wrapper_data.specs.declared.word.Word.TheVariants as word
@@ -27,9 +27,11 @@ use Rattle.wrapper_run.proofs.PlaceLemmas.{Misplaces, Places, asked, places_pair
 use Rattle.wrapper_run.proofs.StoreLemmas.{loads_length, loads_pointer, pair_cells, pair_with}
 use Rattle.rust_gen.specs.declared.scope.LocalKind.TheVariants as kind
 use Rattle.rust_gen.specs.declared.scope.Scope.{Scope}
-use Rattle.rust_gen.specs.ExportBody.{GivesText}
+use Rattle.rust_gen.specs.ExportBody.{GivesText, forget_path}
+use Rattle.rust_gen.proofs.PathLemmas.{calls_forget}
 use Rattle.rust_gen.specs.Exported.{static_area}
-use Rattle.rust_gen.specs.Scope.{Bytes, is_used, numbered}
+use Rattle.rust_gen.specs.Scope.{is_used, numbered}
+use Rattle.wit_model.specs.Bytes.{Bytes}
 use Rattle.rust_gen.proofs.ScopeLemmas.{differs, free-more, free-one, length-pointer, length-vec, pointer-vec, used-declared, used-first}
 
 -- the word names the area, which stands behind the other blocks, and in which the text's address and length stand; no local
@@ -104,7 +106,7 @@ gives_fitted w front name p bytes before stmts e s placed g there none is front_
       state = ends;
       runs =
           ap (λ stmts. run_stmts w stmts s) g.is
-          ∙ give_runs w static_area name a v t l p n front s placed d there refl none is (owns_text p bytes s.heap s.taken (at ∷ []) (pair_with at [] ∷ []) has taken);
+          ∙ give_runs w forget_path static_area name a v t l p n front s placed calls_forget d there refl none is (owns_text p bytes s.heap s.taken (at ∷ []) (pair_with at [] ∷ []) has taken);
       gives = ap (λ e. eval w e ends) g.ends ∙ given_pointer w name a v t l p n at front placed.left s d;
       plain = boxed-plain name v t l p n front (word_local a (word.Pointer at)) front_plain refl;
       heap_is = refl;
@@ -128,7 +130,7 @@ gives_missed w name before stmts e s g there none m =
       state = asked s;
       runs =
           ap (λ stmts. run_stmts w stmts s) g.is
-          ∙ give_misses w static_area name (numbered kind.Pointer g.pointer) (numbered kind.Vec g.number) (numbered kind.Pointer g.number) (numbered kind.Length g.number) s there refl none m.1;
+          ∙ give_misses w forget_path static_area name (numbered kind.Pointer g.pointer) (numbered kind.Vec g.number) (numbered kind.Pointer g.number) (numbered kind.Length g.number) s there refl none m.1;
       requests_are = refl;
       calls_are = refl;
     }

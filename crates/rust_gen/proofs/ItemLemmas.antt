@@ -9,15 +9,15 @@ use Rattle.std.proofs.lemmas.List.Folds.{list_any-append}
 use Rattle.std.proofs.lemmas.Slice.Eq.{bytes_eq-Decides}
 use Rattle.wit_model.specs.declared.function.Function.{Function}
 use Rattle.wit_model.specs.Distinct.{is_distinct}
-use Rattle.rust_tree.specs.declared.export.ModuleMacro.{ModuleMacro}
-use Rattle.rust_tree.specs.declared.export.RootMacro.{RootMacro}
-use Rattle.rust_tree.specs.declared.export.TraitFn.{TraitFn}
-use Rattle.rust_tree.specs.declared.export.TraitItem.{TraitItem}
+use Rattle.rust_tree.specs.declared.macros.ModuleMacro.{ModuleMacro}
+use Rattle.rust_tree.specs.declared.macros.RootMacro.{RootMacro}
+use Rattle.rust_tree.specs.declared.trait_item.TraitFn.{TraitFn}
+use Rattle.rust_tree.specs.declared.trait_item.TraitItem.{TraitItem}
 use Rattle.rust_tree.specs.declared.item.FnItem.{FnItem}
 use Rattle.rust_tree.specs.declared.item.Item.{Item}
 use Rattle.rust_tree.specs.declared.runtime_item.RuntimeItem.{RuntimeItem}
 use Rattle.wrapper_run.specs.Areas.{needs_area}
-use Rattle.wrapper_run.specs.Entries.{entries_in, exports_in}
+use Rattle.wrapper_run.specs.Entries.{entries_in}
 use Rattle.wrapper_run.specs.Owning.{listed}
 use Rattle.wrapper_run.specs.Places.{area_in}
 use Rattle.wrapper_run.specs.ExportRun.{method_in, method_named, method_of}
@@ -27,9 +27,7 @@ use Rattle.rust_gen.specs.Bound.{Parts, export_items}
 use Rattle.rust_gen.specs.Exported.{area_of, static_area, where_any}
 use Rattle.rust_gen.specs.Runtime.{runtime_module}
 use Rattle.rust_tree.specs.declared.item.Item.TheVariants as item
-
-abbrev Bytes : Type 0
-Bytes = List ℕ
+use Rattle.wit_model.specs.Bytes.{Bytes}
 
 option_or-assoc : {A : Type 0} (o p q : Option A) → option_or (option_or o p) q ≡ option_or o (option_or p q)
 option_or-assoc None p q = refl
@@ -242,23 +240,3 @@ pub area-found : (ws : List FnItem) (es : List Parts) (fs hs : List Function) (t
     → area_in (map item.Import ws ++ (flat_map export_items es ++ (where_any fs (item.Trait t ∷ item.ModuleMacro m ∷ []) ++ (area_of hs ++ behind)))) ≡ Some static_area
 area-found ws es fs hs t m behind nth h e n =
     area-imports ws _ ∙ area-exports es _ ∙ area-trait fs t m _ ∙ ap (λ b. area_in (cond b (item.Area static_area ∷ []) [] ++ behind)) (needs-any hs nth h e n)
-
--- behind the wrappers there is no wrapper
-
-pub no_exports-behind : (fs gs hs : List Function) (t : TraitItem) (m : ModuleMacro) (asked : List RuntimeItem) (r : RootMacro)
-    → exports_in (where_any fs (item.Trait t ∷ item.ModuleMacro m ∷ []) ++ (area_of hs ++ (runtime_module asked ++ where_any gs (item.RootMacro r ∷ [])))) ≡ []
-no_exports-behind fs gs hs t m asked r = traits fs ∙ area (list_any (λ f. needs_area f.result) hs) ∙ rest asked gs
-  where
-    traits : (fs : List Function) → exports_in (where_any fs (item.Trait t ∷ item.ModuleMacro m ∷ []) ++ (area_of hs ++ (runtime_module asked ++ where_any gs (item.RootMacro r ∷ [])))) ≡ exports_in (area_of hs ++ (runtime_module asked ++ where_any gs (item.RootMacro r ∷ [])))
-    traits [] = refl
-    traits (f ∷ fs) = refl
-
-    area : (b : Bool) → exports_in (cond b (item.Area static_area ∷ []) [] ++ (runtime_module asked ++ where_any gs (item.RootMacro r ∷ []))) ≡ exports_in (runtime_module asked ++ where_any gs (item.RootMacro r ∷ []))
-    area true = refl
-    area false = refl
-
-    rest : (asked : List RuntimeItem) (gs : List Function) → exports_in (runtime_module asked ++ where_any gs (item.RootMacro r ∷ [])) ≡ []
-    rest [] [] = refl
-    rest [] (g ∷ gs) = refl
-    rest (a ∷ asked) [] = refl
-    rest (a ∷ asked) (g ∷ gs) = refl

@@ -8,7 +8,7 @@ use Rattle.std.proofs.lemmas.Bool.Decides.{nat_tests}
 use Rattle.std.proofs.lemmas.List.{map-append}
 use Rattle.std.proofs.lemmas.List.Folds.{list_any-append}
 use Rattle.wit_model.specs.declared.function.Param.{Param}
-use Rattle.wit_model.specs.declared.size.WasmType.{WasmType}
+use Rattle.wit_model.specs.declared.wasm_type.WasmType.{WasmType}
 use Rattle.wit_model.specs.declared.types.WitType.{WitType}
 use Rattle.wit_model.specs.declared.types.WitType.TheVariants as wit
 use Rattle.rust_tree.specs.declared.expr.Expr.{Expr}
@@ -46,7 +46,8 @@ use Rattle.rust_gen.specs.ExportBody.{LiftsAll, LiftsParam}
 use Rattle.rust_gen.specs.Exported.{arg_name, core_args, trait_param}
 use Rattle.rust_gen.specs.Printed.{core_words, param_words, printed_type}
 use Rattle.rust_gen.specs.Runtime.{lifting_items}
-use Rattle.rust_gen.specs.Scope.{Bytes, is_used, numbered}
+use Rattle.rust_gen.specs.Scope.{is_used, numbered}
+use Rattle.wit_model.specs.Bytes.{Bytes}
 use Rattle.rust_gen.proofs.AskedLemmas.{Found, found-left, found-right}
 use Rattle.rust_gen.proofs.LowerLemmas.{core_words-one, run_stmts-append, types_of}
 use Rattle.rust_gen.proofs.ScopeLemmas.{Fresh, Grows, UsedAll, free-more, free-one, fresh-apart, fresh-append, fresh-before, grows-declared, reads-fresh, used-declared, used-first, used-grows, used-next}

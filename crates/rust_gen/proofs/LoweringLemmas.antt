@@ -6,10 +6,10 @@ use Rattle.wit_model.specs.declared.types.WitType.TheVariants as wit
 use Rattle.rust_gen.specs.declared.lower.Lowered.{Lowered}
 use Rattle.rust_gen.specs.declared.scope.Scope.{Scope}
 use Rattle.rust_gen.specs.Body.{LowersAll, LowersAs, Points, converted}
-use Rattle.rust_gen.specs.Scope.{Bytes}
+use Rattle.wit_model.specs.Bytes.{Bytes}
 use Rattle.std.proofs.Common.{ℕ, Option, Some}
 use Rattle.rust_gen.specs.Lowering.{LowersOne, LowersParams, PointsTo}
-use Rattle.wit_model.specs.declared.size.WasmType.TheVariants as core
+use Rattle.wit_model.specs.declared.wasm_type.WasmType.TheVariants as core
 use Rattle.rust_tree.specs.declared.expr.Expr.TheVariants as expr
 use Rattle.rust_tree.specs.declared.stmt.Stmt.{Stmt}
 use Rattle.rust_tree.specs.declared.stmt.Stmt.TheVariants as stmt

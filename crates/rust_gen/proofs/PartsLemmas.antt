@@ -8,17 +8,17 @@ use Rattle.std.proofs.lemmas.List.Elements.{filter-append}
 use Rattle.wit_model.specs.declared.function.Function.{Function}
 use Rattle.wit_model.specs.declared.world.World.{World}
 use Rattle.wit_model.specs.Distinct.{is_distinct}
-use Rattle.rust_tree.specs.declared.export.ModuleMacro.{ModuleMacro}
+use Rattle.rust_tree.specs.declared.macros.ModuleMacro.{ModuleMacro}
 use Rattle.rust_tree.specs.declared.export.PostReturnFn.{PostReturnFn}
-use Rattle.rust_tree.specs.declared.export.RootMacro.{RootMacro}
-use Rattle.rust_tree.specs.declared.export.TraitItem.{TraitItem}
+use Rattle.rust_tree.specs.declared.macros.RootMacro.{RootMacro}
+use Rattle.rust_tree.specs.declared.trait_item.TraitItem.{TraitItem}
 use Rattle.rust_tree.specs.declared.item.FnItem.{FnItem}
 use Rattle.rust_tree.specs.declared.item.Item.{Item}
 use Rattle.rust_tree.specs.declared.item.Item.TheVariants as item
 use Rattle.rust_tree.specs.declared.runtime_item.RuntimeItem.{RuntimeItem}
 use Rattle.wrapper_run.specs.Areas.{needs_area}
 use Rattle.wrapper_run.specs.Entries.{exports_in}
-use Rattle.wrapper_run.specs.Locals.{Bytes}
+use Rattle.wit_model.specs.Bytes.{Bytes}
 use Rattle.wrapper_run.specs.Owning.{listed}
 use Rattle.wrapper_run.specs.PostReturn.{post_return_named}
 use Rattle.wrapper_run.specs.Returned.{post_returns_in}
@@ -131,29 +131,38 @@ pub post_return-alone : (ws : List FnItem) (es : List Parts) (fs : List Function
 post_return-alone ws es fs behind nth f parts p are d at there h has =
     ap (filter (λ x. bytes_eq x.base f.name.snake)) (returns-of_parts ws es behind h) ∙ returned-alone fs es nth f parts are d at there ∙ ap listed has
 
--- nothing behind the wrappers is a post-return function
+-- what is picked of items is nothing behind the wrappers, where it passes over the trait, the macros, the static area and the
+-- runtime module
 
-returns-trait : (fs : List Function) (t : TraitItem) (m : ModuleMacro) (items : List Item) → post_returns_in (where_any fs (item.Trait t ∷ item.ModuleMacro m ∷ []) ++ items) ≡ post_returns_in items
-returns-trait [] t m items = refl
-returns-trait (f ∷ fs) t m items = refl
-
-returns-area : (fs : List Function) (items : List Item) → post_returns_in (area_of fs ++ items) ≡ post_returns_in items
-returns-area fs items = go (list_any (λ f. needs_area f.result) fs)
+nothing-behind : {A : Type 0} (picked : List Item → List A)
+    → ((t : TraitItem) (m : ModuleMacro) (items : List Item) → picked (item.Trait t ∷ item.ModuleMacro m ∷ items) ≡ picked items)
+    → ((items : List Item) → picked (item.Area static_area ∷ items) ≡ picked items) → ((asked : List RuntimeItem) (items : List Item) → picked (item.Runtime asked ∷ items) ≡ picked items)
+    → ((r : RootMacro) → picked (item.RootMacro r ∷ []) ≡ []) → picked [] ≡ []
+    → (world : World) → picked (trait_and_macro world ++ (area_of (exported_functions world) ++ (runtime_module (runtime_items world) ++ last_macro world))) ≡ []
+nothing-behind picked trait area runtime root none world =
+    let fs = exported_functions world in
+    past_trait fs (area_of fs ++ (runtime_module (runtime_items world) ++ last_macro world))
+    ∙ past_area (list_any (λ f. needs_area f.result) fs) (runtime_module (runtime_items world) ++ last_macro world)
+    ∙ past_runtime (runtime_items world) (last_macro world) ∙ past_root fs
   where
-    go : (b : Bool) → post_returns_in (cond b (item.Area static_area ∷ []) [] ++ items) ≡ post_returns_in items
-    go true = refl
-    go false = refl
+    past_trait : (fs : List Function) (items : List Item) → picked (where_any fs (item.Trait (guest_trait (exported_functions world)) ∷ item.ModuleMacro (world_macro world) ∷ []) ++ items) ≡ picked items
+    past_trait [] items = refl
+    past_trait (f ∷ fs) items = trait (guest_trait (exported_functions world)) (world_macro world) items
 
-returns-runtime : (asked : List RuntimeItem) (items : List Item) → post_returns_in (runtime_module asked ++ items) ≡ post_returns_in items
-returns-runtime [] items = refl
-returns-runtime (a ∷ asked) items = refl
+    past_area : (b : Bool) (items : List Item) → picked (cond b (item.Area static_area ∷ []) [] ++ items) ≡ picked items
+    past_area true items = area items
+    past_area false items = refl
 
-returns-root : (fs : List Function) (r : RootMacro) → post_returns_in (where_any fs (item.RootMacro r ∷ [])) ≡ []
-returns-root [] r = refl
-returns-root (f ∷ fs) r = refl
+    past_runtime : (asked : List RuntimeItem) (items : List Item) → picked (runtime_module asked ++ items) ≡ picked items
+    past_runtime [] items = refl
+    past_runtime (a ∷ asked) items = runtime (a ∷ asked) items
+
+    past_root : (fs : List Function) → picked (where_any fs (item.RootMacro (file_macro world) ∷ [])) ≡ []
+    past_root [] = none
+    past_root (f ∷ fs) = root (file_macro world)
+
+pub no_exports-behind : (world : World) → exports_in (trait_and_macro world ++ (area_of (exported_functions world) ++ (runtime_module (runtime_items world) ++ last_macro world))) ≡ []
+no_exports-behind world = nothing-behind exports_in (λ t m items. refl) (λ items. refl) (λ asked items. refl) (λ r. refl) refl world
 
 pub no_returns-behind : (world : World) → post_returns_in (trait_and_macro world ++ (area_of (exported_functions world) ++ (runtime_module (runtime_items world) ++ last_macro world))) ≡ []
-no_returns-behind world =
-    let fs = exported_functions world in
-    returns-trait fs (guest_trait fs) (world_macro world) (area_of fs ++ (runtime_module (runtime_items world) ++ last_macro world))
-    ∙ returns-area fs (runtime_module (runtime_items world) ++ last_macro world) ∙ returns-runtime (runtime_items world) (last_macro world) ∙ returns-root fs (file_macro world)
+no_returns-behind world = nothing-behind post_returns_in (λ t m items. refl) (λ items. refl) (λ asked items. refl) (λ r. refl) refl world

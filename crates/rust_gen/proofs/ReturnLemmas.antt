@@ -2,7 +2,7 @@
 use Rattle.std.proofs.Common.{◌≡◌, ℕ, ◌+◌, ◌<◌, ◌^◌, List, [], ◌∷◌, ◌++◌, length, None, Some, refl, sym, ap, subst, ◌∙◌, arith}
 use Rattle.wit_model.specs.declared.function.Function.{Function}
 use Rattle.wit_model.specs.declared.size.Alignment.TheVariants as alignment
-use Rattle.wit_model.specs.declared.size.WasmType.TheVariants as core
+use Rattle.wit_model.specs.declared.wasm_type.WasmType.TheVariants as core
 use Rattle.rust_tree.specs.declared.export.PostReturnFn.{PostReturnFn}
 use Rattle.rust_tree.specs.declared.expr.Expr.TheVariants as expr
 use Rattle.rust_tree.specs.declared.runtime_item.RuntimeItem.TheVariants.{CabiDealloc}
@@ -20,10 +20,10 @@ use Rattle.wrapper_run.specs.declared.state.State.{State}
 use Rattle.wrapper_run.specs.declared.state.Val.{Val}
 use Rattle.wrapper_run.specs.declared.state.Val.TheVariants as val
 use Rattle.wrapper_run.specs.Act.{Done, and_then, pure}
-use Rattle.wrapper_run.specs.ExportRun.{bound_words, core_answer, ended_export}
+use Rattle.wrapper_run.specs.ExportRun.{bound_words, core_answer, ended_export, run_to_words}
 use Rattle.wrapper_run.specs.Locals.{bind, local_named, value_of}
 use Rattle.wrapper_run.specs.Memory.{loaded}
-use Rattle.wrapper_run.specs.PostReturn.{run_post_return_fn, run_post_return_item}
+use Rattle.wrapper_run.specs.PostReturn.{run_post_return_item}
 use Rattle.wrapper_run.specs.Represents.{GivesText, HasText}
 use Rattle.wrapper_run.specs.Returned.{Frees, without_all}
 use Rattle.wrapper_run.specs.Run.{begin, give_and_leave, run_at, run_block, run_stmts, run_tail, runtime_item_named}
@@ -36,7 +36,8 @@ use Rattle.rust_gen.specs.declared.scope.LocalKind.TheVariants as kind
 use Rattle.rust_gen.specs.Body.{runtime_path, word_at}
 use Rattle.rust_gen.specs.ExportBody.{FreesText, IsReturnWritten, dealloc_call, scope_of}
 use Rattle.rust_gen.specs.Exported.{arg_name, return_params}
-use Rattle.rust_gen.specs.Scope.{Bytes, cleanup_list, numbered, ret_area}
+use Rattle.rust_gen.specs.Scope.{cleanup_list, numbered, ret_area}
+use Rattle.wit_model.specs.Bytes.{Bytes}
 use Rattle.rust_gen.proofs.PathLemmas.{calls_runtime}
 use Rattle.rust_gen.proofs.ScopeLemmas.{free-one, keeps-bound, used-declared, used-first}
 
@@ -92,8 +93,8 @@ starts_at : (w : Setting) (p : PostReturnFn) (words : List Word) (heap : Heap) (
     → run_post_return_item w p words heap ≡ ended_export (and_then (run_block w p.body (returned_at area heap)) (λ v. give_and_leave w (core_answer None v)))
 unfolding run_post_return_item
 starts_at w p words heap area e h =
-    ap (λ params. ended_export (run_post_return_fn w p (begin (bound_words params words) [] heap (record { list = [] })))) e
-    ∙ ap (λ words. ended_export (run_post_return_fn w p (begin (bound_words return_params words) [] heap (record { list = [] })))) h
+    ap (λ params. ended_export (run_to_words w None p.body (begin (bound_words params words) [] heap (record { list = [] })))) e
+    ∙ ap (λ words. ended_export (run_to_words w None p.body (begin (bound_words return_params words) [] heap (record { list = [] })))) h
 
 pub frees_words : (f : Function) (p : PostReturnFn) → IsReturnWritten f p → (w : Setting) → runtime_item_named w.items (item_name CabiDealloc) ≡ Some CabiDealloc
     → (bytes : List ℕ) (words : List Word) (heap : Heap) (blocks : List (ℕ × ℕ)) → length bytes < 2 ^ 31 → GivesText heap bytes words blocks → Frees blocks heap (run_post_return_item w p words heap)
@@ -108,6 +109,7 @@ frees_words f p is w found bytes words heap blocks small g =
       done = refl;
       account = ap (λ blocks. record heap { blocks = without_all blocks heap.blocks }) (sym g.own);
       words = refl;
+      value = refl;
       calls = refl;
       requests = refl;
     })

@@ -50,7 +50,8 @@ use Rattle.rust_gen.specs.Printed.{core_result, core_type, printed_result, print
 use Rattle.rust_gen.specs.Runtime.{asked_by, lifting_items, lowering_items, signature_items}
 use Rattle.rust_gen.specs.Wrapper.{printed_param}
 use Rattle.rust_tree.specs.declared.expr.CastType.{CastType}
-use Rattle.rust_gen.specs.Scope.{Bytes, cleanup_list, first_scope, is_free, is_used, numbered, Declares}
+use Rattle.rust_gen.specs.Scope.{cleanup_list, first_scope, is_free, is_used, numbered, Declares}
+use Rattle.wit_model.specs.Bytes.{Bytes}
 use Rattle.rust_tree.specs.declared.expr.Expr.{Expr}
 use Rattle.rust_tree.specs.declared.item.FnItem.{FnItem}
 use Rattle.rust_gen.proofs.AskedLemmas.{Found, found-left, found-right}
@@ -65,7 +66,7 @@ use Rattle.rust_gen.proofs.LowerLemmas.{Lowered, idents_of, lower_all, run_stmts
 use Rattle.rust_gen.proofs.ScopeLemmas.{UsedAll, Within, free-one, is_used-append, used-declared, used-first, used-next}
 use Rattle.wrapper_run.specs.Areas.{areas, due, pointers}
 use Rattle.wrapper_data.specs.declared.choice.Choice.{Choice}
-use Rattle.wit_model.specs.declared.size.WasmType.{WasmType}
+use Rattle.wit_model.specs.declared.wasm_type.WasmType.{WasmType}
 use Rattle.rust_tree.specs.declared.stmt.Block.{Block}
 
 -- parameters

@@ -13,7 +13,8 @@ use Rattle.wrapper_run.proofs.LocalLemmas.{ReadsAll, bytes_eq-same, last-append,
 use Rattle.rust_gen.specs.declared.scope.LocalKind.{LocalKind}
 use Rattle.rust_gen.specs.declared.scope.LocalKind.TheVariants as kind
 use Rattle.rust_gen.specs.declared.scope.Scope.{Scope}
-use Rattle.rust_gen.specs.Scope.{Bytes, Declares, is_free, is_used, names_at, numbered, prefix_of}
+use Rattle.rust_gen.specs.Scope.{Declares, is_free, is_used, names_at, numbered, prefix_of}
+use Rattle.wit_model.specs.Bytes.{Bytes}
 
 -- the names that are used read as before
 abbrev pub Keeps : List Bytes → List Local → List Local → Type 0

@@ -10,7 +10,7 @@ use Rattle.rust_tree.specs.declared.runtime_item.RuntimeItem.TheVariants.{String
 use Rattle.rust_tree.specs.declared.stmt.Stmt.{Stmt}
 use Rattle.rust_tree.specs.declared.stmt.Stmt.TheVariants as stmt
 use Rattle.rust_tree.specs.Runtime.{item_name}
-use Rattle.wrapper_data.specs.declared.heap.Block.{Block}
+use Rattle.wrapper_data.specs.declared.block.Block.{Block}
 use Rattle.wrapper_data.specs.declared.value.RustValue.TheVariants as value
 use Rattle.wrapper_data.specs.declared.word.Word.TheVariants as word
 use Rattle.wrapper_run.specs.declared.state.Local.{Local}
@@ -19,7 +19,8 @@ use Rattle.wrapper_run.specs.declared.state.Val.{Val}
 use Rattle.wrapper_run.specs.declared.state.Val.TheVariants as val
 use Rattle.wrapper_run.specs.Act.{Done, and_then, pure}
 use Rattle.wrapper_run.specs.Blocks.{owned_bytes}
-use Rattle.wrapper_run.specs.Locals.{Bytes, bind, local_named, value_of}
+use Rattle.wrapper_run.specs.Locals.{bind, local_named, value_of}
+use Rattle.wit_model.specs.Bytes.{Bytes}
 use Rattle.wrapper_run.specs.Memory.{block_at, bytes_from}
 use Rattle.wrapper_run.specs.Owning.{is_taken}
 use Rattle.wrapper_run.specs.Represents.{HasText, block_of}

@@ -10,7 +10,7 @@ use Rattle.std.proofs.lemmas.Bool.Decides.{nat_tests}
 use Rattle.std.proofs.lemmas.List.Folds.{list_any-append}
 use Rattle.std.proofs.lemmas.Slice.Eq.{bytes_eq-Decides}
 use Rattle.wit_model.specs.declared.function.Function.{Function}
-use Rattle.wit_model.specs.declared.size.WasmType.TheVariants as core
+use Rattle.wit_model.specs.declared.wasm_type.WasmType.TheVariants as core
 use Rattle.wit_model.specs.declared.types.WitType.{WitType}
 use Rattle.wit_model.specs.declared.types.WitType.TheVariants as wit
 use Rattle.rust_tree.specs.declared.expr.Expr.{Expr}
@@ -26,7 +26,7 @@ use Rattle.wrapper_data.specs.Heap.{is_block, overlaps, overlaps_any}
 use Rattle.wrapper_data.specs.declared.choice.Choice.{Choice}
 use Rattle.wrapper_data.specs.declared.choice.Choice.TheVariants as choice
 use Rattle.wrapper_data.specs.declared.choice.Choices.{Choices}
-use Rattle.wrapper_data.specs.declared.heap.Block.{Block}
+use Rattle.wrapper_data.specs.declared.block.Block.{Block}
 use Rattle.wrapper_data.specs.declared.heap.Heap.{Heap}
 use Rattle.wrapper_data.specs.declared.run.CallPoint.{CallPoint}
 use Rattle.wrapper_data.specs.declared.run.Run.{Run}
@@ -64,7 +64,8 @@ use Rattle.rust_gen.specs.Body.{IsBody, IsWritten, LiftsText, Lifts, Points, are
 use Rattle.rust_gen.specs.DeclaredNames.{param_idents}
 use Rattle.rust_gen.specs.Printed.{core_params, core_result, param_words, pointer_words, printed_result}
 use Rattle.rust_gen.specs.Runtime.{lifting_items, lowering_items, signature_items}
-use Rattle.rust_gen.specs.Scope.{Bytes, Declares, IsFixedName, cleanup_list, first_scope, is_used, numbered, ret_area}
+use Rattle.rust_gen.specs.Scope.{Declares, IsFixedName, cleanup_list, first_scope, is_used, numbered, ret_area}
+use Rattle.wit_model.specs.Bytes.{Bytes}
 use Rattle.rust_gen.specs.declared.scope.LocalKind.TheVariants as kind
 use Rattle.rust_gen.proofs.AskedLemmas.{Found, found-first, found-left, found-right}
 use Rattle.rust_gen.proofs.LowerLemmas.{Lowered, give-append, lower_all, run_stmts-append, words-append, words_of-append}

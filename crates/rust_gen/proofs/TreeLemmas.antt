@@ -16,9 +16,9 @@ use Rattle.rust_gen.specs.Body.{IsWritten}
 use Rattle.rust_gen.specs.Emitted.{Entries, functions_in, places_from, emitted_places, exported_functions, imported_functions}
 use Rattle.rust_gen.specs.Runtime.{runtime_module, runtime_items}
 use Rattle.wit_model.specs.declared.world.World.{World}
-use Rattle.rust_tree.specs.declared.export.ModuleMacro.{ModuleMacro}
-use Rattle.rust_tree.specs.declared.export.RootMacro.{RootMacro}
-use Rattle.rust_tree.specs.declared.export.TraitItem.{TraitItem}
+use Rattle.rust_tree.specs.declared.macros.ModuleMacro.{ModuleMacro}
+use Rattle.rust_tree.specs.declared.macros.RootMacro.{RootMacro}
+use Rattle.rust_tree.specs.declared.trait_item.TraitItem.{TraitItem}
 use Rattle.rust_gen.specs.Bound.{AreItems, Parts, export_items}
 use Rattle.rust_gen.specs.ExportBody.{ArePartsWritten}
 use Rattle.rust_gen.specs.Exported.{area_of, file_macro, guest_trait, last_macro, static_area, trait_and_macro, where_any, world_macro}

@@ -26,7 +26,7 @@ use Rattle.wrapper_run.specs.Run.{eval, run_stmts, runtime_item_named}
 use Rattle.wrapper_run.specs.Value.{IsScalar, Scalar, char, f32, f64, number, truth}
 use Rattle.wrapper_run.proofs.NumberLemmas.{answered-i32, answered-i64, answered-number, converted-narrow, converted-wide, low_i32-u8, low_i32-u16, low_i32-s8, low_i32-s16, low_i32-s32, low_i64-s64, answered-bool, answered-char, answered-f32, answered-f64, converted-char, converted-f32, converted-f64, lifted-bool, lifted-char, not-converted}
 use Rattle.wrapper_run.proofs.StepLemmas.{cast_gives, local_gives, call_gives, lift_gives}
-use Rattle.wit_model.specs.declared.size.WasmType.TheVariants as core
+use Rattle.wit_model.specs.declared.wasm_type.WasmType.TheVariants as core
 use Rattle.rust_tree.specs.declared.runtime_item.RuntimeItem.TheVariants as item
 use Rattle.rust_gen.specs.declared.scope.LocalKind.TheVariants as kind
 use Rattle.rust_gen.specs.Body.{LiftsBy, runtime_call, runtime_path, LiftsScalar}

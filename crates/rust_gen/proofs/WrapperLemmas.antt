@@ -14,11 +14,12 @@ use Rattle.rust_tree.specs.Tree.{Tree}
 use Rattle.rust_gen.specs.Body.{IsBody, IsWritten, LiftsAs, Points, area_stmts, Lifts, LowersAll, LowersAs, call_stmt, import_decl, result_name, root_module}
 use Rattle.rust_gen.specs.Bound.{Binds, Parts}
 use Rattle.rust_gen.specs.declared.scope.Scope.{Scope}
-use Rattle.wit_model.specs.declared.size.WasmType.{WasmType}
+use Rattle.wit_model.specs.declared.wasm_type.WasmType.{WasmType}
 use Rattle.rust_tree.specs.declared.stmt.Block.{Block}
 use Rattle.rust_gen.specs.Printed.{core_result}
 use Rattle.rust_gen.specs.declared.scope.LocalKind.TheVariants as kind
-use Rattle.rust_gen.specs.Scope.{Bytes, first_scope, numbered}
+use Rattle.rust_gen.specs.Scope.{first_scope, numbered}
+use Rattle.wit_model.specs.Bytes.{Bytes}
 use Rattle.rust_gen.specs.Wrapper.{Declares, HasReturn, Wraps, WrapsParts, WrapsReturn, declared, WrapsExport}
 use Rattle.rust_tree.specs.declared.export.ExportFn.{ExportFn}
 use Rattle.rust_tree.specs.declared.export.PostReturnFn.{PostReturnFn}

@@ -21,15 +21,16 @@ use Rattle.rust_tree.specs.Runtime.{item_name}
 use Rattle.rust_gen.specs.declared.scope.LocalKind.{LocalKind}
 use Rattle.rust_gen.specs.declared.scope.LocalKind.TheVariants as kind
 use Rattle.rust_gen.specs.Docs.{doc_lines}
-use Rattle.rust_gen.specs.Printed.{printed_result, core_params, core_result}
+use Rattle.rust_gen.specs.Printed.{printed_result, core_params, core_result, text_size}
 use Rattle.rust_gen.specs.Runtime.{lowering_item}
 use Rattle.rust_gen.specs.declared.scope.Scope.{Scope}
-use Rattle.rust_gen.specs.Scope.{Bytes, Declares, IsFixedName, first_scope, numbered, ret_area}
+use Rattle.rust_gen.specs.Scope.{Declares, IsFixedName, first_scope, numbered, ret_area}
+use Rattle.wit_model.specs.Bytes.{Bytes}
 use Rattle.rust_gen.specs.DeclaredNames.{param_idents}
 use Rattle.wit_model.specs.declared.size.Alignment.TheVariants as alignment
-use Rattle.wit_model.specs.declared.size.WasmType.{WasmType}
-use Rattle.wit_model.specs.declared.size.WasmType.TheVariants as core
-use Rattle.rust_tree.specs.declared.stmt.ReturnArea.{ReturnArea}
+use Rattle.wit_model.specs.declared.wasm_type.WasmType.{WasmType}
+use Rattle.wit_model.specs.declared.wasm_type.WasmType.TheVariants as core
+use Rattle.rust_tree.specs.declared.area.ReturnArea.{ReturnArea}
 use Rattle.rust_gen.specs.Wrapper.{printed_param}
 
 -- the fixed words of a body
@@ -87,9 +88,8 @@ LowersAll before (p ∷ params) stmts words after =
 
 -- the return area
 
--- two words of pointer width
 abbrev pub text_area : Bytes → ReturnArea
-text_area name = record { name = name; size = record { bytes = 0; pointers = 2 }; align = alignment.Pointer }
+text_area name = record { name = name; size = text_size; align = alignment.Pointer }
 
 abbrev pub area_stmts : Option WitType → Bytes → List Stmt
 area_stmts (Some wit.String) name = stmt.Area (text_area name) ∷ []

@@ -1,10 +1,10 @@
 -- The wrapper of an exported function as it is written, with all its parts: the words are lifted to arguments, the method is
 -- called, and its value is lowered.
-use Rattle.std.specs.Prelude.{◌≡◌, ℕ, ◌+◌, Bool, true, false, List, [], ◌∷◌, ◌++◌, length, Option, None, Some, map}
+use Rattle.std.specs.Prelude.{◌≡◌, ℕ, ◌+◌, Bool, true, false, List, [], ◌∷◌, ◌++◌, length, Option, None, Some, codes, map}
 use Rattle.wit_model.specs.declared.function.Function.{Function}
 use Rattle.wit_model.specs.declared.function.Param.{Param}
 use Rattle.wit_model.specs.declared.size.Alignment.TheVariants as alignment
-use Rattle.wit_model.specs.declared.size.WasmType.TheVariants as core
+use Rattle.wit_model.specs.declared.wasm_type.WasmType.TheVariants as core
 use Rattle.wit_model.specs.declared.types.WitType.{WitType}
 use Rattle.wit_model.specs.declared.types.WitType.TheVariants as wit
 use Rattle.rust_tree.specs.declared.export.CallBlock.{CallBlock}
@@ -13,6 +13,7 @@ use Rattle.rust_tree.specs.declared.export.ExportFn.{ExportFn}
 use Rattle.rust_tree.specs.declared.export.PostReturnFn.{PostReturnFn}
 use Rattle.rust_tree.specs.declared.expr.Expr.{Expr}
 use Rattle.rust_tree.specs.declared.expr.Expr.TheVariants as expr
+use Rattle.rust_tree.specs.declared.path.Path.{Path}
 use Rattle.rust_tree.specs.declared.runtime_item.RuntimeItem.TheVariants.{CabiDealloc}
 use Rattle.rust_tree.specs.declared.stmt.Block.{Block}
 use Rattle.rust_tree.specs.declared.stmt.Stmt.{Stmt}
@@ -25,7 +26,8 @@ use Rattle.rust_gen.specs.Body.{LiftsScalar, LiftsTaken, runtime_call, runtime_p
 use Rattle.rust_gen.specs.Exported.{arg_name, export_params, export_result, guest_name, return_params}
 use Rattle.rust_gen.specs.Printed.{core_words}
 use Rattle.rust_gen.specs.Runtime.{lowering_item}
-use Rattle.rust_gen.specs.Scope.{Bytes, Declares, numbered, ret_area, scope_over}
+use Rattle.rust_gen.specs.Scope.{Declares, numbered, ret_area, scope_over}
+use Rattle.wit_model.specs.Bytes.{Bytes}
 
 -- at first the names of the core parameters and the fixed names are used
 abbrev pub scope_of : List CoreParam → Scope
@@ -64,6 +66,13 @@ DeclaresValue (Some _) before t after = Declares before (kind.Result ∷ []) t a
 
 -- lowering
 
+-- `::core::mem::forget`
+unfoldable pub forget_names : List Bytes
+forget_names = codes "core" ∷ codes "mem" ∷ codes "forget" ∷ []
+
+abbrev pub forget_path : Path
+forget_path = record { lead = true; supers = 0; names = forget_names }
+
 -- a text that a local holds is given away: its address and its length are written to the static area, whose pointer is the word
 
 -- its bytes, which are forgotten, its address and its length
@@ -72,7 +81,7 @@ text_boxed name t =
     stmt.Let (numbered kind.Vec t) (expr.IntoBoxedBytes name)
     ∷ stmt.Let (numbered kind.Pointer t) (expr.AsPtr (numbered kind.Vec t))
     ∷ stmt.Let (numbered kind.Length t) (expr.Len (numbered kind.Vec t))
-    ∷ stmt.Expr (expr.Forget (numbered kind.Vec t)) ∷ []
+    ∷ stmt.Expr (expr.Call forget_path (expr.Local (numbered kind.Vec t) ∷ [])) ∷ []
 
 abbrev pub text_stored : ℕ → ℕ → List Stmt
 text_stored p t =

@@ -4,19 +4,19 @@ use Rattle.std.specs.List.{flat_map, list_any}
 use Rattle.wit_model.specs.declared.function.Function.{Function}
 use Rattle.wit_model.specs.declared.function.Param.{Param}
 use Rattle.wit_model.specs.declared.size.Alignment.TheVariants as alignment
-use Rattle.wit_model.specs.declared.size.WasmType.{WasmType}
-use Rattle.wit_model.specs.declared.size.WasmType.TheVariants as core
+use Rattle.wit_model.specs.declared.wasm_type.WasmType.{WasmType}
+use Rattle.wit_model.specs.declared.wasm_type.WasmType.TheVariants as core
 use Rattle.wit_model.specs.declared.types.WitType.{WitType}
 use Rattle.wit_model.specs.declared.types.WitType.TheVariants as wit
 use Rattle.wit_model.specs.declared.world.World.{World}
 use Rattle.rust_tree.specs.declared.export.CoreParam.{CoreParam}
-use Rattle.rust_tree.specs.declared.export.EntryKind.TheVariants as kind
-use Rattle.rust_tree.specs.declared.export.ExportEntry.{ExportEntry}
-use Rattle.rust_tree.specs.declared.export.ModuleMacro.{ModuleMacro}
-use Rattle.rust_tree.specs.declared.export.RootMacro.{RootMacro}
-use Rattle.rust_tree.specs.declared.export.StaticArea.{StaticArea}
-use Rattle.rust_tree.specs.declared.export.TraitFn.{TraitFn}
-use Rattle.rust_tree.specs.declared.export.TraitItem.{TraitItem}
+use Rattle.rust_tree.specs.declared.macros.EntryKind.TheVariants as kind
+use Rattle.rust_tree.specs.declared.macros.ExportEntry.{ExportEntry}
+use Rattle.rust_tree.specs.declared.macros.ModuleMacro.{ModuleMacro}
+use Rattle.rust_tree.specs.declared.macros.RootMacro.{RootMacro}
+use Rattle.rust_tree.specs.declared.area.StaticArea.{StaticArea}
+use Rattle.rust_tree.specs.declared.trait_item.TraitFn.{TraitFn}
+use Rattle.rust_tree.specs.declared.trait_item.TraitItem.{TraitItem}
 use Rattle.rust_tree.specs.declared.item.FnParam.{FnParam}
 use Rattle.rust_tree.specs.declared.item.Item.{Item}
 use Rattle.rust_tree.specs.declared.item.Item.TheVariants as item
@@ -25,10 +25,8 @@ use Rattle.wrapper_run.specs.Areas.{needs_area}
 use Rattle.wrapper_run.specs.Returned.{post_return_name}
 use Rattle.rust_gen.specs.Docs.{doc_lines}
 use Rattle.rust_gen.specs.Emitted.{exported_functions}
-use Rattle.rust_gen.specs.Printed.{core_type, param_words, printed_result, printed_type}
-
-abbrev pub Bytes : Type 0
-Bytes = List ℕ
+use Rattle.rust_gen.specs.Printed.{core_type, param_words, printed_result, printed_type, text_size}
+use Rattle.wit_model.specs.Bytes.{Bytes}
 
 -- the trait
 
@@ -106,9 +104,9 @@ where_any (_ ∷ _) items = items
 abbrev pub trait_and_macro : World → List Item
 trait_and_macro world = where_any (exported_functions world) (item.Trait (guest_trait (exported_functions world)) ∷ item.ModuleMacro (world_macro world) ∷ [])
 
--- the area of the results, each of which is two words of pointer width
+-- the area of the results, each of which is a text
 abbrev pub static_area : StaticArea
-static_area = record { size = record { bytes = 0; pointers = 2 }; align = alignment.Pointer }
+static_area = record { size = text_size; align = alignment.Pointer }
 
 abbrev pub area_of : List Function → List Item
 area_of functions = if list_any (λ f. needs_area f.result) functions then item.Area static_area ∷ [] else []

@@ -3,7 +3,8 @@ use Rattle.std.specs.Prelude.{◌≡◌, ◌≢◌, List, [], ◌++◌, Some, co
 use Rattle.wit_model.specs.declared.name.WorldId.{WorldId}
 use Rattle.wit_model.specs.declared.resolve.Resolve.{Resolve}
 use Rattle.wit_model.specs.declared.world.World.{World}
-use Rattle.gen_files.specs.Entries.{Bytes, Entry, entry_of, with_pushed}
+use Rattle.wit_model.specs.Bytes.{Bytes}
+use Rattle.gen_files.specs.Entries.{Entry, entry_of, with_pushed}
 use Rattle.rust_tree.specs.Text.{text}
 use Rattle.rust_tree.specs.Tree.{Tree}
 use Rattle.rust_gen.specs.Bound.{Binds}

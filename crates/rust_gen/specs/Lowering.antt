@@ -7,7 +7,7 @@ use Rattle.rust_tree.specs.declared.stmt.Stmt.{Stmt}
 use Rattle.rust_gen.specs.declared.lower.Lowered.{Lowered}
 use Rattle.rust_gen.specs.declared.scope.Scope.{Scope}
 use Rattle.rust_gen.specs.Body.{LowersAll, LowersAs, Points}
-use Rattle.rust_gen.specs.Scope.{Bytes}
+use Rattle.wit_model.specs.Bytes.{Bytes}
 
 abbrev pub LowersOne : Scope → Lowered → Param → Scope → Lowered → Type 0
 LowersOne before old p after new =

@@ -1,13 +1,14 @@
--- How a WIT type is printed, and which core types it flattens to. So far this covers scalars and texts; every other type is
--- refused before it is printed.
+-- How a WIT type is printed, which core types it flattens to, and what a text takes in memory. So far this covers scalars and
+-- texts; every other type is refused before it is printed.
 use Rattle.std.specs.Prelude.{List, [], ◌∷◌, ◌++◌, Option, None, Some}
 use Rattle.std.specs.List.{flat_map}
 use Rattle.wit_model.specs.declared.function.Function.{Function}
 use Rattle.wit_model.specs.declared.function.Param.{Param}
+use Rattle.wit_model.specs.declared.size.ArchitectureSize.{ArchitectureSize}
 use Rattle.wit_model.specs.declared.types.WitType.{WitType}
 use Rattle.wit_model.specs.declared.types.WitType.TheVariants as wit
-use Rattle.wit_model.specs.declared.size.WasmType.{WasmType}
-use Rattle.wit_model.specs.declared.size.WasmType.TheVariants as core
+use Rattle.wit_model.specs.declared.wasm_type.WasmType.{WasmType}
+use Rattle.wit_model.specs.declared.wasm_type.WasmType.TheVariants as core
 use Rattle.rust_tree.specs.declared.type_expr.Primitive.TheVariants as prim
 use Rattle.rust_tree.specs.declared.type_expr.TypeExpr.{TypeExpr}
 use Rattle.rust_tree.specs.declared.type_expr.TypeExpr.TheVariants as type
@@ -50,6 +51,10 @@ core_type _ = core.I32
 abbrev pub core_words : WitType → List WasmType
 core_words wit.String = core.Pointer ∷ core.Length ∷ []
 core_words ty = core_type ty ∷ []
+
+-- a text in memory: its address and its length
+abbrev pub text_size : ArchitectureSize
+text_size = record { bytes = 0; pointers = 2 }
 
 abbrev pub param_words : List Param → List WasmType
 param_words params = flat_map (λ p. core_words p.ty) params

@@ -11,7 +11,7 @@ use Rattle.rust_tree.specs.declared.item.Item.TheVariants as item
 use Rattle.rust_tree.specs.declared.runtime_item.RuntimeItem.{RuntimeItem}
 use Rattle.rust_tree.specs.Runtime.{needed_items}
 use Rattle.rust_gen.specs.Emitted.{exported_functions, imported_functions}
-use Rattle.rust_tree.specs.declared.runtime_item.RuntimeItem.TheVariants.{AsI32, AsI64, AsF32, AsF64, AllocCrate, StringType, VecType, BoolLift, CharLift, StringLift, AllocModule, CabiDealloc}
+use Rattle.rust_tree.specs.declared.runtime_item.RuntimeItem.TheVariants.{AsI32, AsI64, AsF32, AsF64, AllocCrate, StringType, VecType, BoolLift, CharLift, StringLift, StdAllocModule, CabiDealloc}
 
 abbrev pub is_same_item : RuntimeItem → RuntimeItem → Bool
 is_same_item AsI32 AsI32 = true
@@ -24,7 +24,7 @@ is_same_item VecType VecType = true
 is_same_item BoolLift BoolLift = true
 is_same_item CharLift CharLift = true
 is_same_item StringLift StringLift = true
-is_same_item AllocModule AllocModule = true
+is_same_item StdAllocModule StdAllocModule = true
 is_same_item CabiDealloc CabiDealloc = true
 is_same_item _ _ = false
 

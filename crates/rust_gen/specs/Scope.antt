@@ -7,9 +7,7 @@ use Rattle.rust_gen.specs.declared.scope.LocalKind.{LocalKind}
 use Rattle.rust_gen.specs.declared.scope.LocalKind.TheVariants as kind
 use Rattle.rust_gen.specs.declared.scope.Scope.{Scope}
 use Rattle.rust_gen.specs.DeclaredNames.{param_idents}
-
-abbrev pub Bytes : Type 0
-Bytes = List ℕ
+use Rattle.wit_model.specs.Bytes.{Bytes}
 
 -- what the name of each kind of local begins with
 unfoldable pub prefix_of : LocalKind → Bytes

@@ -8,13 +8,14 @@ ghost use Rattle.rust_tree.specs.declared.expr.Expr.TheVariants as expr;
 ghost use Rattle.rust_tree.specs.declared.stmt.Stmt.{Stmt};
 ghost use Rattle.rust_tree.specs.declared.stmt.Stmt.TheVariants as stmt;
 ghost use Rattle.rust_gen.specs.Body.{area_stmts, text_area};
+ghost use Rattle.rust_gen.specs.Exported.{static_area};
 ghost use Rattle.rust_gen.specs.Lowering.{PointsTo};
 ghost use Rattle.rust_gen.specs.Scope.{Declares, numbered};
 ghost use Rattle.rust_gen.specs.declared.scope.LocalKind.TheVariants as kind;
 
 use crate::lower::Lowered;
 use crate::scope::{LocalKind, Scope, numbered};
-use rust_tree::{Expr, ReturnArea, Stmt};
+use rust_tree::{Expr, ReturnArea, StaticArea, Stmt};
 use std::alloc::Global;
 use wit_model::{Alignment, ArchitectureSize, Function, List, OutOfMemory, Text, WitType};
 
@@ -37,16 +38,28 @@ pub(crate) fn any_needs_area(functions: &[&Function]) -> bool
     false
 }
 
-/// The area of a text: an address and a length.
+/// The size of a text in memory: an address and a length.
+const TEXT_SIZE: ArchitectureSize = ArchitectureSize {
+    bytes: 0,
+    pointers: 2,
+};
+
 fn text_area(name: Text) -> ReturnArea
     ensures { result ≡ text_area name }
 {
     ReturnArea {
         name,
-        size: ArchitectureSize {
-            bytes: 0,
-            pointers: 2,
-        },
+        size: TEXT_SIZE,
+        align: Alignment::Pointer,
+    }
+}
+
+/// The static area of the results of exported functions.
+pub(crate) fn static_area() -> StaticArea
+    ensures { result ≡ static_area }
+{
+    StaticArea {
+        size: TEXT_SIZE,
         align: Alignment::Pointer,
     }
 }

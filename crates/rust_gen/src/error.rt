@@ -25,8 +25,9 @@ pub enum Lack {
 }
 
 impl Lack {
+    /// What is not supported, in words, as a line for the reader names it.
     #[tactic(auto, unfolding(crate::specs::LackText::lack_text))]
-    fn words(self) -> &'static str
+    pub fn words(self) -> &'static str
         ensures { result.now ≡ lack_text self }
     {
         match self {

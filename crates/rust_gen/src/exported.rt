@@ -4,21 +4,19 @@ ghost use Rattle.std.specs.Prelude.{◌≡◌, ◌++◌, ◌+◌, IfOk, OnOk, ma
 ghost use Rattle.std.specs.List.{flat_map};
 ghost use Rattle.wrapper_run.specs.Returned.{post_return_name};
 ghost use Rattle.rust_gen.specs.Emitted.{exported_functions};
-ghost use Rattle.rust_gen.specs.Exported.{area_of, arg_name, core_args, entries_of, export_entry, export_params, export_result, file_macro, guest_name, guest_trait, last_macro, macro_name, return_entry, return_params, static_area, trait_and_macro, trait_fn, trait_param, world_macro};
+ghost use Rattle.rust_gen.specs.Exported.{area_of, arg_name, core_args, entries_of, export_entry, export_params, export_result, file_macro, guest_name, guest_trait, last_macro, macro_name, return_entry, return_params, trait_and_macro, trait_fn, trait_param, world_macro};
 
-use crate::area::{any_needs_area, needs_area};
+use crate::area::{any_needs_area, needs_area, static_area};
 use crate::core_signature::{core_type, param_words};
 use crate::docs::doc_lines;
 use crate::lists::one;
 use crate::printed::{printed_result, printed_type};
 use rust_tree::{
-    CoreParam, EntryKind, ExportEntry, FnParam, Item, ModuleMacro, RootMacro, StaticArea, TraitFn,
-    TraitItem, to_rust_ident,
+    CoreParam, EntryKind, ExportEntry, FnParam, Item, ModuleMacro, RootMacro, TraitFn, TraitItem,
+    to_rust_ident,
 };
 use std::alloc::Global;
-use wit_model::{
-    Alignment, ArchitectureSize, Function, List, OutOfMemory, Param, Text, WasmType, WitType, World,
-};
+use wit_model::{Function, List, OutOfMemory, Param, Text, WasmType, WitType, World};
 
 /// The name of the trait.
 #[tactic(auto, unfolding(crate::specs::Exported::guest_name))]
@@ -239,18 +237,6 @@ pub(crate) fn push_trait_and_macro(
     }
     items.push(Item::Trait(guest_trait(alloc, functions)?))?;
     items.push(Item::ModuleMacro(world_macro(alloc, world, functions)?))
-}
-
-fn static_area() -> StaticArea
-    ensures { result ≡ static_area }
-{
-    StaticArea {
-        size: ArchitectureSize {
-            bytes: 0,
-            pointers: 2,
-        },
-        align: Alignment::Pointer,
-    }
 }
 
 /// Puts the static area of the exported functions' results behind other items, where a result passes by it.

@@ -1,7 +1,8 @@
 //! The forms of the tree that wrappers are made of.
 
-ghost use Rattle.std.specs.Prelude.{◌≡◌, IfOk};
+ghost use Rattle.std.specs.Prelude.{◌≡◌, [], ◌∷◌, IfOk};
 ghost use Rattle.rust_gen.specs.Body.{local_path, root_module, runtime_call, runtime_name, runtime_path};
+ghost use Rattle.rust_gen.specs.ExportBody.{forget_path};
 ghost use Rattle.rust_tree.specs.declared.expr.Expr.TheVariants as expr;
 
 use crate::lists::{one, two};
@@ -53,6 +54,32 @@ pub(crate) fn runtime_call(alloc: Global, item: RuntimeItem, e: Expr) -> Result<
 {
     let path = runtime_path(alloc, item)?;
     let operands = one(alloc, e)?;
+    Ok(Expr::Call(path, operands))
+}
+
+#[tactic(auto, unfolding(crate::specs::ExportBody::forget_names))]
+fn forget_path(alloc: Global) -> Result<Path, OutOfMemory>
+    ensures { IfOk result (λ path. path ≡ forget_path) }
+{
+    let (first, second) = (
+        Text::from_str(alloc, "core")?,
+        Text::from_str(alloc, "mem")?,
+    );
+    let mut names = two(alloc, first, second)?;
+    names.push(Text::from_str(alloc, "forget")?)?;
+    Ok(Path {
+        lead: true,
+        supers: 0,
+        names,
+    })
+}
+
+/// The call by which the value of a local is forgotten.
+pub(crate) fn forget_call(alloc: Global, name: Text) -> Result<Expr, OutOfMemory>
+    ensures { IfOk result (λ call. call ≡ expr.Call forget_path (expr.Local name ∷ [])) }
+{
+    let path = forget_path(alloc)?;
+    let operands = one(alloc, Expr::Local(name))?;
     Ok(Expr::Call(path, operands))
 }
 

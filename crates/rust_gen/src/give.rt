@@ -10,7 +10,7 @@ ghost use Rattle.rust_gen.specs.Scope.{numbered};
 ghost use Rattle.rust_gen.specs.declared.scope.LocalKind.TheVariants as kind;
 
 use crate::export::value_name;
-use crate::forms::runtime_call;
+use crate::forms::{forget_call, runtime_call};
 use crate::runtime::lowering_item;
 use crate::scope::{LocalKind, Scope, numbered};
 use rust_tree::{Block, Expr, Stmt};
@@ -59,7 +59,8 @@ fn push_boxed(alloc: Global, stmts: &mut List<Stmt>, name: Text, t: u32) -> Resu
     stmts.push(Stmt::Let(numbered(alloc, LocalKind::Pointer, t)?, address))?;
     let size = Expr::Len(vec.copy(alloc)?);
     stmts.push(Stmt::Let(numbered(alloc, LocalKind::Length, t)?, size))?;
-    stmts.push(Stmt::Expr(Expr::Forget(vec)))
+    let forget = forget_call(alloc, vec)?;
+    stmts.push(Stmt::Expr(forget))
 }
 
 /// Gives a text away by the static area, whose pointer is the word.

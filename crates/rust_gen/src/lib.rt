@@ -23,8 +23,6 @@ mod post_return;
 mod printed;
 mod runtime;
 mod scope;
-#[cfg(test)]
-mod tests;
 mod tree;
 mod wrapper;
 

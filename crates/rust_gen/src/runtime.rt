@@ -23,7 +23,7 @@ fn is_same_item(a: RuntimeItem, b: RuntimeItem) -> bool
         (RuntimeItem::BoolLift, RuntimeItem::BoolLift) => true,
         (RuntimeItem::CharLift, RuntimeItem::CharLift) => true,
         (RuntimeItem::StringLift, RuntimeItem::StringLift) => true,
-        (RuntimeItem::AllocModule, RuntimeItem::AllocModule) => true,
+        (RuntimeItem::StdAllocModule, RuntimeItem::StdAllocModule) => true,
         (RuntimeItem::CabiDealloc, RuntimeItem::CabiDealloc) => true,
         _ => false,
     }
@@ -130,7 +130,7 @@ fn ask_for_needs(items: &mut List<RuntimeItem>, parts: &[RuntimeItem]) -> Result
 fn with_needed(alloc: Global, asked: List<RuntimeItem>) -> Result<List<RuntimeItem>, OutOfMemory>
     ensures { IfOk result (λ items. items ≡ with_needed asked) }
 {
-    let mut items = List::from_vec(Vec::from_slice(alloc, asked.as_slice())?);
+    let mut items = List::from_slice(alloc, asked.as_slice())?;
     ask_for_needs(&mut items, asked.as_slice())?;
     Ok(items)
 }

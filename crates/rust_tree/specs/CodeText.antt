@@ -1,32 +1,31 @@
 -- The text of paths, types, expressions and statements.
 use Rattle.std.specs.Prelude.{ℕ, zero, suc, Bool, true, false, List, [], ◌++◌, Option, Some, None, if◌then◌else◌, codes, decimal, map}
-use Rattle.std.specs.List.{flat_map}
+use Rattle.std.specs.List.{flat_map, join_by}
 use Rattle.wit_model.specs.declared.size.Alignment.{Alignment}
 use Rattle.wit_model.specs.declared.size.Alignment.TheVariants as align
 use Rattle.wit_model.specs.declared.size.ArchitectureSize.{ArchitectureSize}
-use Rattle.wit_model.specs.declared.size.WasmType.{WasmType}
-use Rattle.wit_model.specs.declared.size.WasmType.TheVariants as core
+use Rattle.wit_model.specs.declared.wasm_type.WasmType.{WasmType}
+use Rattle.wit_model.specs.declared.wasm_type.WasmType.TheVariants as core
 use Rattle.wit_model.specs.SizeText.{alignment_text, size_text}
+use Rattle.rust_tree.specs.declared.area.ReturnArea.{ReturnArea}
 use Rattle.rust_tree.specs.declared.expr.CastType.{CastType}
 use Rattle.rust_tree.specs.declared.expr.CastType.TheVariants as cast
 use Rattle.rust_tree.specs.declared.expr.Expr.{Expr, Expr-F, fold-Expr}
 use Rattle.rust_tree.specs.declared.path.Path.{Path}
 use Rattle.rust_tree.specs.declared.stmt.Block.{Block}
 use Rattle.rust_tree.specs.declared.stmt.ImportDecl.{ImportDecl}
-use Rattle.rust_tree.specs.declared.stmt.ReturnArea.{ReturnArea}
 use Rattle.rust_tree.specs.declared.stmt.Stmt.{Stmt}
 use Rattle.rust_tree.specs.declared.stmt.Stmt.TheVariants as stmt
 use Rattle.rust_tree.specs.declared.type_expr.Primitive.{Primitive}
 use Rattle.rust_tree.specs.declared.type_expr.Primitive.TheVariants as primitive
 use Rattle.rust_tree.specs.declared.type_expr.TypeExpr.{TypeExpr, TypeExpr-F, fold-TypeExpr}
 use Rattle.rust_tree.specs.declared.print.word.area.AreaWord.TheVariants.{PointerAlign, Align, AlignEnd, AreaType, AreaValue, AreaEnd}
-use Rattle.rust_tree.specs.declared.print.word.expr.ExprWord.TheVariants.{Match, BoolArms, AsPtr, Len, CastMut, AreaPointer, Dereference, Add, CastTo, CastEnd, FromRawParts, PointerCast, IntoBoxedBytes, Forget, StaticPointer}
+use Rattle.rust_tree.specs.declared.print.word.expr.ExprWord.TheVariants.{Match, BoolArms, AsPtr, Len, CastMut, AreaPointer, Dereference, Add, CastTo, CastEnd, FromRawParts, PointerCast, IntoBoxedBytes, StaticPointer}
 use Rattle.rust_tree.specs.declared.print.word.import.ImportWord.TheVariants.{WasmLink, ExternBlock, LinkedFn, OtherFn, Unreachable, UnnamedParam}
 use Rattle.rust_tree.specs.declared.print.word.item.ItemWord.TheVariants.{UnitType, StrType, StringName}
 use Rattle.rust_tree.specs.declared.print.word.sign.Sign.{Sign}
 use Rattle.rust_tree.specs.declared.print.word.sign.Sign.TheVariants.{LineEnd, StatementEnd, CloseBlock, Open, Close, Comma, Arrow, PathMark, Super, Reference, As, Let, Equals, LetMut}
-use Rattle.rust_tree.specs.Pieces.{joined}
-use Rattle.rust_tree.specs.Tree.{Bytes}
+use Rattle.wit_model.specs.Bytes.{Bytes}
 use Rattle.rust_tree.specs.Word.{area_word, expr_word, import_word, item_word, sign}
 
 -- paths
@@ -43,7 +42,7 @@ lead_text false = []
 
 -- `::super::a::b`
 abbrev pub path_text : Path → Bytes
-path_text p = lead_text p.lead ++ supers_text p.supers ++ joined (sign PathMark) p.names
+path_text p = lead_text p.lead ++ supers_text p.supers ++ join_by (λ name. name) (sign PathMark) p.names
 
 -- types
 
@@ -123,7 +122,7 @@ capacity_text len = expr_word PointerCast ++ len ++ sign Comma ++ len ++ sign Cl
 
 -- expressions in brackets, with a comma between any two
 abbrev pub bracketed_text : List Spelled → Bytes
-bracketed_text es = sign Open ++ joined (sign Comma) (map (λ e. e.text) es) ++ sign Close
+bracketed_text es = sign Open ++ join_by (λ e. e.text) (sign Comma) es ++ sign Close
 
 -- one level of an expression, with the expressions in it as they are spelled
 abbrev pub expr_step : Expr-F Spelled → Spelled
@@ -139,7 +138,6 @@ expr_step (Expr-F.ReturnPointer name) = compound (name ++ expr_word AreaPointer)
 expr_step (Expr-F.Load address offset ty) = compound (expr_word Dereference ++ receiver_text address ++ place_text offset ty)
 expr_step (Expr-F.FromRawParts pointer len) = compound (expr_word FromRawParts ++ receiver_text pointer ++ capacity_text len)
 expr_step (Expr-F.IntoBoxedBytes name) = compound (sign Open ++ name ++ expr_word IntoBoxedBytes)
-expr_step (Expr-F.Forget name) = compound (expr_word Forget ++ name ++ sign Close)
 expr_step Expr-F.StaticPointer = compound (expr_word StaticPointer)
 expr_step (Expr-F.Align align) = compound (alignment_text align)
 

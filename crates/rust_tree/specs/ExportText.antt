@@ -1,17 +1,17 @@
 -- The text of the wrapper of an exported function, of what goes with it, and of the macros that export it.
-use Rattle.std.specs.Prelude.{List, ◌++◌, Option, Some, None, map}
-use Rattle.std.specs.List.{flat_map}
-use Rattle.wit_model.specs.declared.size.WasmType.{WasmType}
-use Rattle.rust_tree.specs.declared.export.CoreParam.{CoreParam}
+use Rattle.std.specs.Prelude.{List, ◌++◌, Option, Some, None}
+use Rattle.std.specs.List.{flat_map, join_by}
+use Rattle.wit_model.specs.declared.wasm_type.WasmType.{WasmType}
+use Rattle.rust_tree.specs.declared.area.StaticArea.{StaticArea}
 use Rattle.rust_tree.specs.declared.export.CallBlock.{CallBlock}
-use Rattle.rust_tree.specs.declared.export.EntryKind.{EntryKind}
-use Rattle.rust_tree.specs.declared.export.EntryKind.TheVariants.{Wrapper, PostReturn}
-use Rattle.rust_tree.specs.declared.export.ExportEntry.{ExportEntry}
+use Rattle.rust_tree.specs.declared.export.CoreParam.{CoreParam}
 use Rattle.rust_tree.specs.declared.export.ExportFn.{ExportFn}
-use Rattle.rust_tree.specs.declared.export.ModuleMacro.{ModuleMacro}
 use Rattle.rust_tree.specs.declared.export.PostReturnFn.{PostReturnFn}
-use Rattle.rust_tree.specs.declared.export.RootMacro.{RootMacro}
-use Rattle.rust_tree.specs.declared.export.StaticArea.{StaticArea}
+use Rattle.rust_tree.specs.declared.macros.EntryKind.{EntryKind}
+use Rattle.rust_tree.specs.declared.macros.EntryKind.TheVariants.{Wrapper, PostReturn}
+use Rattle.rust_tree.specs.declared.macros.ExportEntry.{ExportEntry}
+use Rattle.rust_tree.specs.declared.macros.ModuleMacro.{ModuleMacro}
+use Rattle.rust_tree.specs.declared.macros.RootMacro.{RootMacro}
 use Rattle.rust_tree.specs.declared.print.word.area.AreaWord.TheVariants as area
 use Rattle.rust_tree.specs.declared.print.word.export.ExportWord.TheVariants.{WrapperFn, Bound, BoundEnd, BoundBlock, PlainBlock, Implementation, CallBlockEnd, PostReturnBound}
 use Rattle.rust_tree.specs.declared.print.word.export.ExportWord.TheVariants as export
@@ -20,8 +20,7 @@ use Rattle.rust_tree.specs.declared.print.word.macros.MacroWord.{MacroWord}
 use Rattle.rust_tree.specs.declared.print.word.macros.MacroWord.TheVariants.{ModuleRules, ModuleArm, ExportName, ExternFn, CallWrapper, ForImplementation, CallWrapperEnd, ModuleUse, ModuleUseEnd, RootRules, RootArms, CallModule, CallModuleEnd, RootUse, RootUseEnd, ExternPostReturn, CallPostReturn, ForType}
 use Rattle.rust_tree.specs.declared.print.word.sign.Sign.TheVariants.{CloseBlock, Open, Close, Comma, Colon, Let}
 use Rattle.rust_tree.specs.CodeText.{area_type_text, area_value_text, arguments_text, block_text, core_result_text, core_type_text, stmt_text}
-use Rattle.rust_tree.specs.Pieces.{joined}
-use Rattle.rust_tree.specs.Tree.{Bytes}
+use Rattle.wit_model.specs.Bytes.{Bytes}
 use Rattle.rust_tree.specs.Word.{area_word, export_word, item_word, macro_word, sign}
 
 -- core parameters with names
@@ -32,11 +31,11 @@ named_param_text p = p.name ++ sign Colon ++ core_type_text p.ty
 
 -- `(name: T, name: T) -> T`
 abbrev pub named_signature_text : List CoreParam → Option WasmType → Bytes
-named_signature_text params ty = sign Open ++ joined (sign Comma) (map named_param_text params) ++ sign Close ++ core_result_text ty
+named_signature_text params ty = sign Open ++ join_by named_param_text (sign Comma) params ++ sign Close ++ core_result_text ty
 
 -- `name, name`
 abbrev pub names_text : List CoreParam → Bytes
-names_text params = joined (sign Comma) (map (λ p. p.name) params)
+names_text params = join_by (λ p. p.name) (sign Comma) params
 
 -- the wrapper
 

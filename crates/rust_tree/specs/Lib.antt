@@ -1,7 +1,6 @@
 pub mod CodeText
 pub mod ExportText
 pub mod Ident
-pub mod Pieces
 pub mod Runtime
 pub mod RuntimeText
 pub mod Text

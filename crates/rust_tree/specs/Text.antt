@@ -1,22 +1,22 @@
 -- The text of a file: its head and its items.
-use Rattle.std.specs.Prelude.{List, [], ◌∷◌, ◌++◌, map}
-use Rattle.std.specs.List.{flat_map}
-use Rattle.rust_tree.specs.declared.export.TraitFn.{TraitFn}
-use Rattle.rust_tree.specs.declared.export.TraitItem.{TraitItem}
+use Rattle.std.specs.Prelude.{List, [], ◌∷◌, ◌++◌}
+use Rattle.std.specs.List.{flat_map, join_by}
 use Rattle.rust_tree.specs.declared.item.FnItem.{FnItem}
 use Rattle.rust_tree.specs.declared.item.FnParam.{FnParam}
 use Rattle.rust_tree.specs.declared.item.Item.{Item}
 use Rattle.rust_tree.specs.declared.item.Item.TheVariants as item
 use Rattle.rust_tree.specs.declared.runtime_item.RuntimeItem.{RuntimeItem}
+use Rattle.rust_tree.specs.declared.trait_item.TraitFn.{TraitFn}
+use Rattle.rust_tree.specs.declared.trait_item.TraitItem.{TraitItem}
 use Rattle.rust_tree.specs.declared.type_expr.TypeExpr.{TypeExpr}
-use Rattle.rust_tree.specs.declared.print.word.item.ItemWord.TheVariants.{Preamble, EmptyDoc, Doc, PublicFn, OpenUnsafe, PublicTrait, TraitMethod}
+use Rattle.rust_tree.specs.declared.print.word.item.ItemWord.TheVariants.{Preamble, EmptyDoc, Doc, PublicFn, OpenUnsafe, PublicTrait, Method}
 use Rattle.rust_tree.specs.declared.print.word.runtime.RuntimeWord.TheVariants.{RuntimeModule}
 use Rattle.rust_tree.specs.declared.print.word.sign.Sign.TheVariants.{LineEnd, StatementEnd, OpenBlock, CloseBlock, Open, Close, Comma, Colon, Arrow}
 use Rattle.rust_tree.specs.CodeText.{block_text, type_text}
 use Rattle.rust_tree.specs.ExportText.{export_text, module_macro_text, post_return_text, root_macro_text, static_area_text}
-use Rattle.rust_tree.specs.Pieces.{joined}
 use Rattle.rust_tree.specs.RuntimeText.{runtime_item_text}
-use Rattle.rust_tree.specs.Tree.{Bytes, Tree}
+use Rattle.rust_tree.specs.Tree.{Tree}
+use Rattle.wit_model.specs.Bytes.{Bytes}
 use Rattle.rust_tree.specs.Word.{item_word, runtime_word, sign}
 
 -- `///`, or `/// ` and the line
@@ -30,7 +30,7 @@ param_text p = p.name ++ sign Colon ++ type_text p.ty
 
 -- `f(name: T, name: T) -> T`
 abbrev pub signature_text : Bytes → List FnParam → TypeExpr → Bytes
-signature_text name params ty = name ++ sign Open ++ joined (sign Comma) (map param_text params) ++ sign Close ++ sign Arrow ++ type_text ty
+signature_text name params ty = name ++ sign Open ++ join_by param_text (sign Comma) params ++ sign Close ++ sign Arrow ++ type_text ty
 
 -- a public function
 abbrev pub fn_text : FnItem → Bytes
@@ -39,7 +39,7 @@ fn_text f =
 
 -- a function of a trait
 abbrev pub trait_fn_text : TraitFn → Bytes
-trait_fn_text f = flat_map doc_text f.docs ++ item_word TraitMethod ++ signature_text f.name f.params f.result ++ sign StatementEnd
+trait_fn_text f = flat_map doc_text f.docs ++ item_word Method ++ signature_text f.name f.params f.result ++ sign StatementEnd
 
 abbrev pub trait_text : TraitItem → Bytes
 trait_text t = item_word PublicTrait ++ t.name ++ sign OpenBlock ++ flat_map trait_fn_text t.functions ++ sign CloseBlock

@@ -1,14 +1,14 @@
 -- The fixed words of the printed text, by subject.
 use Rattle.std.specs.Prelude.{codes}
-use Rattle.rust_tree.specs.Tree.{Bytes}
+use Rattle.wit_model.specs.Bytes.{Bytes}
 use Rattle.rust_tree.specs.declared.print.word.sign.Sign.{Sign}
 use Rattle.rust_tree.specs.declared.print.word.sign.Sign.TheVariants.{LineEnd, StatementEnd, OpenBlock, CloseBlock, Open, Close, Comma, Colon, Arrow, PathMark, Super, Reference, As, Let, LetMut, Equals}
 use Rattle.rust_tree.specs.declared.print.word.item.ItemWord.{ItemWord}
-use Rattle.rust_tree.specs.declared.print.word.item.ItemWord.TheVariants.{Preamble, EmptyDoc, Doc, PublicFn, OpenUnsafe, PublicTrait, TraitMethod, UnitType, StrType, StringName}
+use Rattle.rust_tree.specs.declared.print.word.item.ItemWord.TheVariants.{Preamble, EmptyDoc, Doc, PublicFn, OpenUnsafe, PublicTrait, Method, UnitType, StrType, StringName}
 use Rattle.rust_tree.specs.declared.print.word.import.ImportWord.{ImportWord}
 use Rattle.rust_tree.specs.declared.print.word.import.ImportWord.TheVariants.{WasmLink, ExternBlock, LinkedFn, OtherFn, Unreachable, UnnamedParam}
 use Rattle.rust_tree.specs.declared.print.word.expr.ExprWord.{ExprWord}
-use Rattle.rust_tree.specs.declared.print.word.expr.ExprWord.TheVariants.{Match, BoolArms, AsPtr, Len, CastMut, AreaPointer, Dereference, Add, CastTo, CastEnd, FromRawParts, PointerCast, IntoBoxedBytes, Forget, StaticPointer}
+use Rattle.rust_tree.specs.declared.print.word.expr.ExprWord.TheVariants.{Match, BoolArms, AsPtr, Len, CastMut, AreaPointer, Dereference, Add, CastTo, CastEnd, FromRawParts, PointerCast, IntoBoxedBytes, StaticPointer}
 use Rattle.rust_tree.specs.declared.print.word.area.AreaWord.{AreaWord}
 use Rattle.rust_tree.specs.declared.print.word.area.AreaWord.TheVariants.{PointerAlign, Align, AlignEnd, AreaType, AreaValue, AreaEnd, StaticArea}
 use Rattle.rust_tree.specs.declared.print.word.export.ExportWord.{ExportWord}
@@ -16,11 +16,11 @@ use Rattle.rust_tree.specs.declared.print.word.export.ExportWord.TheVariants.{Wr
 use Rattle.rust_tree.specs.declared.print.word.macros.MacroWord.{MacroWord}
 use Rattle.rust_tree.specs.declared.print.word.macros.MacroWord.TheVariants.{ModuleRules, ModuleArm, ExportName, ExternFn, CallWrapper, ForImplementation, CallWrapperEnd, ModuleUse, ModuleUseEnd, RootRules, RootArms, CallModule, CallModuleEnd, RootUse, RootUseEnd, ExternPostReturn, CallPostReturn, ForType}
 use Rattle.rust_tree.specs.declared.print.word.runtime.RuntimeWord.{RuntimeWord}
-use Rattle.rust_tree.specs.declared.print.word.runtime.RuntimeWord.TheVariants.{RuntimeModule, ExternCrate, PublicUse, StringPath, VecPath, CratePath, DeallocFn, DeallocParams, MakeLayout, Dealloc}
+use Rattle.rust_tree.specs.declared.print.word.runtime.RuntimeWord.TheVariants.{RuntimeModule, ExternCrate, PublicUse, UnsafeFn, DeallocParams, MakeLayout, Dealloc}
 use Rattle.rust_tree.specs.declared.print.word.conversion.ConversionWord.{ConversionWord}
-use Rattle.rust_tree.specs.declared.print.word.conversion.ConversionWord.TheVariants.{ConversionFn, ConversionBound, ConversionParam, ConvertParam, ConversionTrait, ReferenceBound, ReferenceTrait, ForReference, ConvertTarget, CallEnd, ConversionImpl, ImplFor, Inline, ConversionMethod, TakesSelf, CastSelf}
+use Rattle.rust_tree.specs.declared.print.word.conversion.ConversionWord.TheVariants.{ConversionFn, ConversionBound, ConversionParam, ConvertParam, ReferenceBound, ReferenceTrait, ForReference, ConvertTarget, CallEnd, ConversionImpl, ImplFor, Inline, TakesSelf, CastSelf}
 use Rattle.rust_tree.specs.declared.print.word.lift.LiftWord.{LiftWord}
-use Rattle.rust_tree.specs.declared.print.word.lift.LiftWord.TheVariants.{LiftFn, IfDebug, Otherwise, LiftEnd, BoolLiftType, CheckedBool, UncheckedBool, CharLiftType, CheckedChar, UncheckedChar, StringLiftType, CheckedString, UncheckedString}
+use Rattle.rust_tree.specs.declared.print.word.lift.LiftWord.TheVariants.{IfDebug, Otherwise, LiftEnd, BoolLiftType, CheckedBool, UncheckedBool, CharLiftType, CheckedChar, UncheckedChar, StringLiftType, CheckedString, UncheckedString}
 
 -- marks and small words
 unfoldable pub sign : Sign → Bytes
@@ -49,7 +49,7 @@ item_word Doc = codes "/// "
 item_word PublicFn = codes "#[allow(unused_unsafe, clippy::all)]\npub fn "
 item_word OpenUnsafe = codes " {\nunsafe {\n"
 item_word PublicTrait = codes "pub trait "
-item_word TraitMethod = codes "fn "
+item_word Method = codes "fn "
 item_word UnitType = codes "()"
 item_word StrType = codes "str"
 item_word StringName = codes "_rt::String"
@@ -78,7 +78,6 @@ expr_word CastEnd = codes ">()"
 expr_word FromRawParts = codes "_rt::Vec::from_raw_parts("
 expr_word PointerCast = codes ".cast(), "
 expr_word IntoBoxedBytes = codes ".into_bytes()).into_boxed_slice()"
-expr_word Forget = codes "::core::mem::forget("
 expr_word StaticPointer = codes "(&raw mut _RET_AREA.0).cast::<u8>()"
 
 -- a return area, and a static one
@@ -124,15 +123,12 @@ macro_word ExternPostReturn = codes "\")]\nunsafe extern \"C\" fn _post_return_"
 macro_word CallPostReturn = codes " {\nunsafe { $($path_to_types)*::__post_return_"
 macro_word ForType = codes "::<$ty>("
 
--- the module `_rt`, what it takes from the crate `alloc`, and the function that frees a block
+-- the module `_rt`, what it takes from the crate `alloc`, its unsafe functions, and the one that frees a block
 unfoldable pub runtime_word : RuntimeWord → Bytes
 runtime_word RuntimeModule = codes "mod _rt {\n#![allow(dead_code, unused_imports, clippy::all)]\n"
 runtime_word ExternCrate = codes "extern crate alloc as "
 runtime_word PublicUse = codes "pub use "
-runtime_word StringPath = codes "::string::"
-runtime_word VecPath = codes "::vec::"
-runtime_word CratePath = codes "::"
-runtime_word DeallocFn = codes "pub unsafe fn "
+runtime_word UnsafeFn = codes "pub unsafe fn "
 runtime_word DeallocParams = codes "(ptr: *mut u8, size: usize, align: usize) {\nif size == 0 {\nreturn;\n}\nunsafe {\nlet layout = "
 runtime_word MakeLayout = codes "::Layout::from_size_align_unchecked(size, align);\n"
 runtime_word Dealloc = codes "::dealloc(ptr, layout);\n}\n}\n"
@@ -143,7 +139,6 @@ conversion_word ConversionFn = codes "pub fn "
 conversion_word ConversionBound = codes "<T: "
 conversion_word ConversionParam = codes ">(t: T) -> "
 conversion_word ConvertParam = codes "t."
-conversion_word ConversionTrait = codes "pub trait "
 conversion_word ReferenceBound = codes "impl<'a, T: Copy + "
 conversion_word ReferenceTrait = codes "> "
 conversion_word ForReference = codes " for &'a T {\n"
@@ -152,13 +147,11 @@ conversion_word CallEnd = codes "()\n"
 conversion_word ConversionImpl = codes "impl "
 conversion_word ImplFor = codes " for "
 conversion_word Inline = codes "#[inline]\n"
-conversion_word ConversionMethod = codes "fn "
 conversion_word TakesSelf = codes "(self) -> "
 conversion_word CastSelf = codes "self as "
 
 -- the runtime items that give the value of a core value
 unfoldable pub lift_word : LiftWord → Bytes
-lift_word LiftFn = codes "pub unsafe fn "
 lift_word IfDebug = codes " {\nif cfg!(debug_assertions) {\n"
 lift_word Otherwise = codes "} else {\n"
 lift_word LiftEnd = codes "}\n}\n"

@@ -39,8 +39,6 @@ pub enum Expr {
     FromRawParts(Boxed<Expr>, Text),
     /// The bytes of the text in a local, as a box without spare capacity: `(x.into_bytes()).into_boxed_slice()`.
     IntoBoxedBytes(Text),
-    /// The value of a local, no longer owned by the body: `::core::mem::forget(x)`.
-    Forget(Text),
     /// The address of the module's static area: `(&raw mut _RET_AREA.0).cast::<u8>()`.
     StaticPointer,
     /// An alignment as a number: `8`, or the size of a pointer.

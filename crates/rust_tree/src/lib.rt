@@ -1,11 +1,13 @@
 //! The typed tree of a bindings file, and its exact text.
 #![tactic(auto)]
 
+mod area;
 mod bindings;
 mod export;
 mod expr;
 mod ident;
 mod item;
+mod macros;
 mod path;
 mod place;
 mod print;
@@ -13,20 +15,21 @@ mod runtime_item;
 mod stmt;
 #[cfg(test)]
 mod tests;
+mod trait_item;
 mod type_expr;
 mod wrappers;
 
+pub use area::{ReturnArea, StaticArea};
 pub use bindings::Bindings;
-pub use export::{
-    CallBlock, CoreParam, EntryKind, ExportEntry, ExportFn, ModuleMacro, PostReturnFn, RootMacro,
-    StaticArea, TraitFn, TraitItem,
-};
+pub use export::{CallBlock, CoreParam, ExportFn, PostReturnFn};
 pub use expr::{CastType, Expr};
 pub use ident::{is_ident, to_rust_ident};
 pub use item::{FnItem, FnParam, Item};
+pub use macros::{EntryKind, ExportEntry, ModuleMacro, RootMacro};
 pub use path::Path;
 pub use place::{FuncPlace, ItemId, WrapperId, WrapperInfo};
 pub use print::text_of;
 pub use runtime_item::RuntimeItem;
-pub use stmt::{Block, ImportDecl, ReturnArea, Stmt};
+pub use stmt::{Block, ImportDecl, Stmt};
+pub use trait_item::{TraitFn, TraitItem};
 pub use type_expr::{Primitive, TypeExpr};

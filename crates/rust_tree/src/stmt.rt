@@ -1,5 +1,6 @@
+use crate::area::ReturnArea;
 use crate::expr::Expr;
-use wit_model::{Alignment, ArchitectureSize, List, Text, WasmType};
+use wit_model::{ArchitectureSize, List, Text, WasmType};
 
 /// The declaration of a core import, in its form for WebAssembly and in its form for every other target.
 #[derive(Debug, PartialEq, Drop)]
@@ -14,16 +15,6 @@ pub struct ImportDecl {
     pub params: List<WasmType>,
     /// The core result's type, if there is one.
     pub result: Option<WasmType>,
-}
-
-/// The stack area of a body, for what passes through memory: the type `_RetArea`, and a local of that type.
-#[derive(Debug, PartialEq, Drop)]
-pub struct ReturnArea {
-    /// The name of the local.
-    pub name: Text,
-    /// How many bytes the area has.
-    pub size: ArchitectureSize,
-    pub align: Alignment,
 }
 
 /// A statement.

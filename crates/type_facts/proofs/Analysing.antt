@@ -1,7 +1,8 @@
 -- The entries of an analysis tell the facts of their types.
-use Rattle.std.proofs.Common.{◌≡◌, ◌<◌, ◌∙◌, ◌↔◌, ◌&&◌, inl, inr, Bool, true, false, not, List, [], ◌∷◌, ◌++◌, length, get_or, Some, refl, sym, ap, subst, arith}
+use Rattle.std.proofs.Common.{◌≡◌, ◌<◌, ◌∙◌, ◌↔◌, ◌&&◌, Bool, true, false, not, List, length, get_or, Some, refl, sym, ap, subst, arith}
 use Rattle.std.specs.List.{slice_get}
 use Rattle.std.specs.Option.{is_some}
+use Rattle.std.proofs.Math.Bool.{not-not}
 use Rattle.std.proofs.lemmas.Option.{slice_get_within, slice_get-get_or}
 use Rattle.wit_model.specs.declared.name.TypeId.{TypeId}
 use Rattle.wit_model.specs.declared.name.WorldId.{WorldId}
@@ -10,7 +11,7 @@ use Rattle.wit_model.specs.declared.types.WitType.TheVariants.{Id}
 use Rattle.wit_model.specs.declared.types.TypeDef.{TypeDef}
 use Rattle.wit_model.specs.declared.resolve.Resolve.{Resolve}
 use Rattle.wit_model.specs.IndexRange.{type_in_range}
-use Rattle.wit_model.proofs.InRange.{below_types}
+use Rattle.wit_model.proofs.BelowLemmas.{id_below}
 use Rattle.type_facts.specs.declared.reach.Reach.{Reach}
 use Rattle.type_facts.specs.declared.types.Entry.{Entry}
 use Rattle.type_facts.specs.declared.types.Types.{Types}
@@ -18,7 +19,6 @@ use Rattle.type_facts.specs.declared.uses.Uses.{Uses}
 use Rattle.type_facts.specs.Facts.{Has, IsNamed, IsCanonical, IsInfoOf, IsAnalysis, IsAnalyzed}
 use Rattle.type_facts.specs.Own.{own, is_number}
 use Rattle.type_facts.specs.Passes.{AreReaches, AreUses, AreEntries, IsReach, IsEntry}
-use Rattle.type_facts.proofs.Lists.{at_end}
 use Rattle.type_facts.proofs.Reaching.{primitive_exact}
 
 both_of : (P Q : Type 0) (a b : Bool) → (a ≡ true) ↔ P → (b ≡ true) ↔ Q → ((a && b) ≡ true) ↔ (P × Q)
@@ -40,24 +40,12 @@ other_of : (types : List TypeDef) (ty : WitType) → ((id : TypeId) → ty ≡ I
 other_of types (Id id) none = absurd (none id refl)
 other_of types _ none = refl
 
-not_not : (b : Bool) → not (not b) ≡ b
-not_not true = refl
-not_not false = refl
-
 pub primitive_canonical : (types : List TypeDef) (ty : WitType) → ((id : TypeId) → ty ≡ Id id → ⊥) → (is_number ty ≡ true) ↔ IsCanonical types ty
 primitive_canonical types ty none =
     let exact = primitive_exact types (λ (r : Reach). r.other) ty none in
     let canonical = none_of (Has types (λ (r : Reach). r.other) ty) (own types ty).other exact in
-    let same : not (own types ty).other ≡ is_number ty = ap not (other_of types ty none) ∙ not_not (is_number ty) in
+    let same : not (own types ty).other ≡ is_number ty = ap not (other_of types ty none) ∙ not-not (is_number ty) in
     subst (λ b. (b ≡ true) ↔ IsCanonical types ty) same canonical
-
-pub entries_more : (types : List TypeDef) (reaches : List Reach) (uses : Uses) (entries : List Entry) (entry : Entry) → AreEntries types reaches uses entries
-    → IsEntry types reaches uses (length entries) entry → AreEntries types reaches uses (entries ++ entry ∷ [])
-entries_more types reaches uses entries entry are is n e at =
-    elim (at_end entries entry n e at) [
-      | inl before ↦ are n e before
-      | inr last ↦ subst (λ k. IsEntry types reaches uses k e) (sym last.0) (subst (IsEntry types reaches uses (length entries)) last.1 is)
-    ]
 
 module _ (r : Resolve) (world : WorldId) (reaches : List Reach) (uses : Uses) (are_reaches : AreReaches r.types reaches) (are_uses : AreUses r world uses) where
   info_of : (id : TypeId) (entry : Entry) → IsEntry r.types reaches uses id.0 entry → IsInfoOf r world id entry.info
@@ -92,7 +80,7 @@ module _ (r : Resolve) (world : WorldId) (reaches : List Reach) (uses : Uses) (a
 pub entry_in : (r : Resolve) (types : Types) (entries : List Entry) (ty : WitType) (id : TypeId) → IsAnalyzed r types → type_in_range r ty ≡ true → ty ≡ Id id
     → entries ≡ types.entries → id.0 < length entries
 entry_in r types entries ty id analyzed within is same =
-    let inside : id.0 < length r.types = below_types r id (subst (λ t. type_in_range r t ≡ true) is within) in
+    let inside : id.0 < length r.types = id_below (length r.types) id (subst (λ t. type_in_range r t ≡ true) is within) in
     let count : length types.entries ≡ length r.types = analyzed.1.count in
     let many : length entries ≡ length types.entries = ap length same in
     omega arith

@@ -1,7 +1,8 @@
 -- What a type reaches is what it is by itself, or what its parts reach.
-use Rattle.std.proofs.Common.{◌≡◌, ℕ, zero, suc, ◌+◌, ◌<◌, ◌∙◌, ◌↔◌, Bool, true, false, ◌||◌, inl, inr, List, [], ◌∷◌, ◌++◌, length, drop, get_or, Option, Some, None, refl, sym, ap, subst, arith}
+use Rattle.std.proofs.Common.{◌≡◌, ℕ, zero, suc, ◌+◌, ◌∙◌, ◌↔◌, Bool, true, false, ◌||◌, inl, inr, List, [], ◌∷◌, ◌++◌, length, drop, get_or, Option, Some, None, refl, sym, ap, subst}
 use Rattle.std.specs.List.{slice_get}
-use Rattle.std.proofs.lemmas.Grind.{common_steps}
+use Rattle.std.proofs.Math.Bool.{or_assoc, or-false}
+use Rattle.std.proofs.lemmas.Bool.{or_left, or_right}
 use Rattle.std.proofs.lemmas.Option.{slice_get-get_or}
 use Rattle.wit_model.specs.declared.name.TypeId.{TypeId}
 use Rattle.wit_model.specs.declared.types.WitType.{WitType}
@@ -11,20 +12,14 @@ use Rattle.wit_model.specs.declared.types.TypeDef.{TypeDef}
 use Rattle.wit_model.specs.Parts.{parts}
 use Rattle.wit_model.specs.Reaches.{Names, Reaches, reaches_itself, reaches_by}
 use Rattle.wit_model.specs.TypeOrder.{type_below, payload_below, parts_below, GoesDown}
+use Rattle.wit_model.proofs.AllLemmas.{all_at}
+use Rattle.wit_model.proofs.BelowLemmas.{id_below}
 use Rattle.wit_model.proofs.ReachLemmas.{reaches_cases}
 use Rattle.type_facts.specs.declared.reach.Reach.{Reach}
 use Rattle.type_facts.specs.Facts.{Has}
 use Rattle.type_facts.specs.Own.{own, own_of_kind, own_of_entry, nothing}
 use Rattle.type_facts.specs.Passes.{join, reach_of, reach_of_part, reach_of_parts, reach_of_kind, IsReach, AreReaches}
-use Rattle.type_facts.proofs.Lists.{all_at, at_end, drop_at}
-
-or_assoc : (a b c : Bool) → (a || (b || c)) ≡ ((a || b) || c)
-or_assoc true b c = refl
-or_assoc false b c = refl
-
-or_false : (a : Bool) → (a || false) ≡ a
-or_false true = refl
-or_false false = refl
+use Rattle.type_facts.proofs.Lists.{at_end, drop_at}
 
 join-assoc : (a b c : Reach) → join a (join b c) ≡ join (join a b) c
 join-assoc a b c =
@@ -32,7 +27,7 @@ join-assoc a b c =
 
 spelled : (a : Reach) → join a nothing ≡ record { list = a.list; resource = a.resource; tuple = a.tuple; borrow_handle = a.borrow_handle; own_handle = a.own_handle; other = a.other }
 spelled a =
-    cc (or_false a.list, or_false a.resource, or_false a.tuple, or_false a.borrow_handle, or_false a.own_handle, or_false a.other)
+    cc (or-false a.list, or-false a.resource, or-false a.tuple, or-false a.borrow_handle, or-false a.own_handle, or-false a.other)
 
 pub join-nothing : (a : Reach) → join a nothing ≡ a
 join-nothing a = spelled a
@@ -47,22 +42,10 @@ pub part_below : (k : ℕ) (kind : TypeDefKind) (nth : ℕ) (ty : WitType) → p
 unfolding parts_below payload_below
 part_below k kind nth ty h e = all_at (λ part. payload_below k part) (parts kind) nth (Some ty) h e
 
-pub id_below : (k : ℕ) (id : TypeId) → type_below k (Id id) ≡ true → id.0 < k
-unfolding type_below
-id_below k id h = grind (arith, common_steps)
-
 -- either of two tests passes
 from_or : (P : Type 0) (a b : Bool) → (a || b) ≡ true → (a ≡ true → P) → (b ≡ true → P) → P
 from_or P true b h left right = left refl
 from_or P false b h left right = right h
-
-or_left : (a b : Bool) → a ≡ true → (a || b) ≡ true
-or_left true b h = refl
-or_left false b h = cc
-
-or_right : (a b : Bool) → b ≡ true → (a || b) ≡ true
-or_right true b h = refl
-or_right false b h = h
 
 -- a primitive reaches itself alone
 pub primitive_exact : (types : List TypeDef) (is_so : Reach → Bool) (ty : WitType) → ((id : TypeId) → ty ≡ Id id → ⊥) → (is_so (own types ty) ≡ true) ↔ Has types is_so ty

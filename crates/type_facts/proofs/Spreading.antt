@@ -11,9 +11,10 @@ use Rattle.wit_model.specs.Parts.{parts}
 use Rattle.wit_model.specs.Reaches.{Names, Reaches, reaches_itself, reaches_by}
 use Rattle.wit_model.specs.TypeOrder.{GoesDown}
 use Rattle.wit_model.proofs.ReachLemmas.{reaches_on}
+use Rattle.wit_model.proofs.BelowLemmas.{id_below}
 use Rattle.type_facts.specs.Passes.{mark_all, mark_from, given, IsMarked, Spreads}
 use Rattle.type_facts.proofs.Marking.{all_kept, all_marked, all_there, given_at, at_given, length-mark_all}
-use Rattle.type_facts.proofs.Reaching.{id_below, part_below}
+use Rattle.type_facts.proofs.Reaching.{part_below}
 
 -- what the marks are, once the types from a place on have marked their parts
 pub record IsSpread (types : List TypeDef) (initial marks : List Bool) (left : ℕ) : Type 0 where

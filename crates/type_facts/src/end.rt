@@ -1,19 +1,9 @@
 ghost use Rattle.std.specs.Prelude.{◌≡◌, length, IfOk};
 ghost use Rattle.type_facts.specs.Passes.{AreEnds, end_of, end_of_kind};
-ghost use Rattle.wit_model.specs.Dealias.{aliased};
 ghost use Rattle.wit_model.specs.TypeOrder.{GoesDown};
 
 use std::alloc::Global;
-use wit_model::{List, OutOfMemory, TypeDef, TypeDefKind, TypeId, WitType};
-
-fn aliased(kind: &TypeDefKind) -> Option<TypeId>
-    ensures { result ≡ aliased kind.now }
-{
-    match kind {
-        TypeDefKind::Alias(WitType::Id(id)) => Some(*id),
-        _ => None,
-    }
-}
+use wit_model::{List, OutOfMemory, TypeDef, TypeDefKind, TypeId, aliased};
 
 /// The type behind all aliases, by the list of ends.
 pub(crate) fn end_of(ends: &[Option<TypeId>], id: TypeId) -> TypeId

@@ -1,4 +1,4 @@
--- Which document is a JSON value, and which a text?
+-- Which document does a JSON value give, and which do bytes give?
 use Rattle.std.specs.Prelude.{ℕ, List, [], ◌∷◌, codes, if◌then◌else◌, Option, Some, None, option_and_then, ⊤}
 use Rattle.std.specs.Str.{is_utf8}
 use Rattle.wit_model.specs.declared.resolve.Resolve.{Resolve}

@@ -1,4 +1,4 @@
--- Which function is a JSON value?
+-- Which function does a JSON value give?
 use Rattle.std.specs.Prelude.{ℕ, List, [], ◌∷◌, codes, Option, Some}
 use Rattle.std.specs.Map.{lookup}
 use Rattle.std.specs.Option.{option_map_or}

@@ -1,4 +1,4 @@
--- What are the members of a JSON value, as the document's parts read them?
+-- What do the items of a JSON array and the members of a JSON object give?
 use Rattle.std.specs.Prelude.{ℕ, List, [], ◌∷◌, Bool, true, ◌&&◌, if◌then◌else◌, Option, Some, None, option_map, option_and_then, ⊤}
 use Rattle.std.specs.List.{list_any}
 use Rattle.std.specs.Str.{bytes_eq}

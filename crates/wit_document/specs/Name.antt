@@ -1,4 +1,4 @@
--- Which name is a JSON value?
+-- Which name does a JSON value give?
 use Rattle.std.specs.Prelude.{[], ◌∷◌, codes, Option, Some}
 use Rattle.wit_model.specs.declared.name.Name.{Name}
 use Rattle.serde_json.specs.Data.{Data}

@@ -1,4 +1,4 @@
--- Which id and which type is a JSON value?
+-- Which id and which type does a JSON value give?
 use Rattle.std.specs.Prelude.{ℕ, ◌^◌, List, [], ◌∷◌, codes, nat_lt, if◌then◌else◌, Option, Some, None, option_map, option_and_then}
 use Rattle.std.specs.Map.{lookup}
 use Rattle.std.specs.Option.{option_map_or}

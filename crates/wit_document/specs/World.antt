@@ -1,4 +1,4 @@
--- Which world and which package is a JSON value?
+-- Which world and which package does a JSON value give?
 use Rattle.std.specs.Prelude.{[], ◌∷◌, codes, Option, Some, option_map}
 use Rattle.wit_model.specs.declared.name.PackageId.{PackageId}
 use Rattle.wit_model.specs.declared.name.WorldId.{WorldId}

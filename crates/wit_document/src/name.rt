@@ -1,4 +1,3 @@
-ghost use Rattle.std.specs.Prelude.{◌≡◌, IfOk};
 ghost use Rattle.wit_document.specs.Name.{name_of};
 
 use crate::fault::DocumentFault;
@@ -6,7 +5,7 @@ use crate::members::{only, required};
 use crate::reading::Readable;
 use serde_json::Value;
 use std::alloc::Global;
-use wit_model::{Name, OutOfMemory};
+use wit_model::Name;
 
 #[tactic(auto, unfolding(crate::specs::Name::name_of))]
 impl Readable for Name {
@@ -21,16 +20,4 @@ impl Readable for Name {
             upper: required(alloc, value, "upper")?,
         })
     }
-}
-
-/// An equal name.
-pub(crate) fn copy_of_name(alloc: Global, name: &Name) -> Result<Name, OutOfMemory>
-    ensures { IfOk result (λ n. n ≡ name.now) }
-{
-    Ok(Name {
-        wit: name.wit.copy(alloc)?,
-        snake: name.snake.copy(alloc)?,
-        camel: name.camel.copy(alloc)?,
-        upper: name.upper.copy(alloc)?,
-    })
 }

@@ -2,7 +2,6 @@ ghost use Rattle.wit_document.specs.World.{world_id_of, package_id_of, package_o
 
 use crate::fault::DocumentFault;
 use crate::members::{only, optional, required};
-use crate::name::copy_of_name;
 use crate::reading::Readable;
 use serde_json::Value;
 use std::alloc::Global;
@@ -48,7 +47,7 @@ impl Readable for (WorldKey, WorldItem) {
     fn read(alloc: Global, value: &Value) -> Result<(WorldKey, WorldItem), DocumentFault> {
         only(value, &["function"])?;
         let function: Function = required(alloc, value, "function")?;
-        let name = copy_of_name(alloc, &function.name)?;
+        let name = function.name.copy(alloc)?;
         Ok((WorldKey::Name(name), WorldItem::Function(function)))
     }
 }

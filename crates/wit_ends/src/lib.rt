@@ -6,7 +6,8 @@ mod memory_source;
 mod read;
 mod sink;
 mod source;
-mod std_ends;
+mod std_sink;
+mod std_source;
 #[cfg(test)]
 mod tests;
 mod write;
@@ -16,5 +17,6 @@ pub use memory_source::MemorySource;
 pub use read::{INPUT_LIMIT, InputFault, read_input};
 pub use sink::{Sink, SinkFailed};
 pub use source::{Source, SourceFailed};
-pub use std_ends::{StdSink, StdSource};
+pub use std_sink::StdSink;
+pub use std_source::StdSource;
 pub use write::write_all;

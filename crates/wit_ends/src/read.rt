@@ -53,8 +53,9 @@ impl From<SourceFailed> for InputFault {
 /// Reads all bytes to the end of the source. Each turn but the last takes at least one byte, and none takes a byte
 /// behind the one that shows that there are too many. What it took is lost after a fault.
 ///
-/// `ReadFault` comes only where the source's count of faults rose in this call, and `InputTooLong` exactly where more
-/// than `INPUT_LIMIT` bytes came; `OutOfMemory` may come at any point.
+/// `ReadFault` comes only where the source's count of faults rose in this call, and `InputTooLong` only where more than
+/// `INPUT_LIMIT` bytes came. A longer input is never `Ok`: it ends with `InputTooLong`, or with another fault before
+/// that shows. `OutOfMemory` may come at any point.
 pub fn read_input<S: Source>(alloc: Global, source: &mut S) -> Result<List<u8>, InputFault>
     ensures bytes { IfOk result (λ bytes. S.left source.old ≡ prepend_known bytes (S.left source.new)) }
     ensures end { OnOk result (IsAtEnd (S.left source.new)) }

@@ -1,15 +1,15 @@
 use crate::*;
-use std::alloc::{AllocError, Global};
+use std::alloc::Global;
 use std::io;
 use std::test::Fail;
-use wit_model::List;
+use wit_model::{List, OutOfMemory};
 
-fn numbers(alloc: Global, calls: &[u64]) -> Result<List<u64>, AllocError> {
-    Ok(List::from_vec(calls.to_vec(alloc)?))
+fn numbers(alloc: Global, calls: &[u64]) -> Result<List<u64>, OutOfMemory> {
+    List::from_slice(alloc, calls)
 }
 
-fn text(alloc: Global, bytes: &[u8]) -> Result<List<u8>, AllocError> {
-    Ok(List::from_vec(bytes.to_vec(alloc)?))
+fn text(alloc: Global, bytes: &[u8]) -> Result<List<u8>, OutOfMemory> {
+    List::from_slice(alloc, bytes)
 }
 
 #[test]

@@ -4,8 +4,8 @@ use Rattle.std.specs.List.{slice_get, All}
 use Rattle.std.proofs.lemmas.List.{append-nil, length-take}
 use Rattle.std.proofs.lemmas.List.Elements.{All-append, All-drop, All-nil}
 use Rattle.std.proofs.lemmas.Option.{slice_get-get_or}
-use borrow.Author.Tests.{ltb-true}
-use Rattle.wit_model.specs.declared.size.WasmType.{WasmType}
+use Rattle.std.proofs.lemmas.Bool.{ltb-true}
+use Rattle.wit_model.specs.declared.wasm_type.WasmType.{WasmType}
 use Rattle.wit_model.specs.declared.types.WitType.{WitType}
 use Rattle.wit_model.specs.declared.types.WitType.TheVariants as wit
 use Rattle.wit_model.specs.declared.types.TypeDefKind.{TypeDefKind}
@@ -15,12 +15,12 @@ use Rattle.wit_model.specs.TypeOrder.{type_below, payload_below, GoesDown}
 use Rattle.wit_layout.specs.declared.ahead.Run.{Run}
 use Rattle.wit_layout.specs.declared.ahead.Ahead.{Ahead}
 use Rattle.wit_layout.specs.Ahead.{AreRuns, IsRun, ArePut, ahead_members, runs, runs_members, run_members}
-use Rattle.wit_layout.specs.Flat.{EachHasWords, flat, flats}
+use Rattle.wit_layout.specs.Flat.{EachHasWords, flatten_type, flatten_record}
 use Rattle.wit_layout.specs.Sequence.{members, members_at, members_of_entry}
 use Rattle.wit_layout.specs.Tree.{tree_at, tree_in, payload_in, payloads_in, trees}
 use Rattle.wit_layout.proofs.AheadTurns.{entry_at}
 use Rattle.wit_layout.proofs.FlattenSteps.{members_low, payload_below_more}
-use Rattle.wit_layout.proofs.SequenceSteps.{every_element, flats-append}
+use Rattle.wit_layout.proofs.SequenceSteps.{every_element, flatten_record-append}
 
 of_map : {A B : Type 0} (f : A → B) (xs : List A) (nth : ℕ) (y : B) → slice_get (map f xs) nth ≡ Some y → (x : A) × (f x ≡ y)
 of_map f [] nth y e = cc
@@ -51,8 +51,8 @@ member_some (kind.Future payload) nth p e = cc
 member_some (kind.Stream payload) nth p e = cc
 member_some kind.Unknown nth p e = cc
 
-module _ (types : List TypeDef) (bound : ℕ) (lower : (i : ℕ) → i < bound → 0 < length (flat (tree_at types i))) where
-  pub type_words : (ty : WitType) → payload_below bound (Some ty) ≡ true → 0 < length (flat (tree_in (trees types) ty))
+module _ (types : List TypeDef) (bound : ℕ) (lower : (i : ℕ) → i < bound → 0 < length (flatten_type (tree_at types i))) where
+  pub type_words : (ty : WitType) → payload_below bound (Some ty) ≡ true → 0 < length (flatten_type (tree_in (trees types) ty))
   unfolding type_below payload_below
   type_words (wit.Id id) h = lower id.0 (ltb-true id.0 bound h)
   type_words wit.Bool h = omega arith
@@ -72,17 +72,17 @@ module _ (types : List TypeDef) (bound : ℕ) (lower : (i : ℕ) → i < bound �
 
 module _ (types : List TypeDef) (wordy : EachHasWords types) where
   abbrev HasWords : Option WitType → Type 0
-  HasWords p = 0 < length (flat (payload_in (trees types) p))
+  HasWords p = 0 < length (flatten_type (payload_in (trees types) p))
 
   abbrev words : List (Option WitType) → List WasmType
-  words ms = flats (payloads_in (trees types) ms)
+  words ms = flatten_record (payloads_in (trees types) ms)
 
   -- as many words as members at least
   as_many : (ms : List (Option WitType)) → All HasWords ms → length ms ≤ length (words ms)
   as_many [] h = omega arith
   as_many (m ∷ ms) h =
       let here : HasWords m = h 0 m (omega arith) in
-      omega (arith, here, as_many ms (All-drop HasWords 1 (m ∷ ms) h), length-append (flat (payload_in (trees types) m)) (words ms))
+      omega (arith, here, as_many ms (All-drop HasWords 1 (m ∷ ms) h), length-append (flatten_type (payload_in (trees types) m)) (words ms))
 
   module _ (down : GoesDown types) where
     members_words : (at : ℕ) → at < length types → All HasWords (members_at types at)
@@ -110,17 +110,17 @@ module _ (types : List TypeDef) (wordy : EachHasWords types) where
       -- the words so far, and those ahead where members have been put first
       pub enough_put : (before.cut ≡ true → r ≤ done + length (words (members_at types at)) + length (words (ahead_members types before))) → after.cut ≡ true → r ≤ done + length (words (ahead_members types after))
       enough_put h cut =
-          ⊎_elim (λ many. omega (arith, ahead_words after valid many)) (λ (none, was). omega (arith, h was, ap (λ ms. length (words ms)) (all_there none), ap length (flats-append (trees types) (members_at types at) (ahead_members types before)), length-append (words (members_at types at)) (words (ahead_members types before)))) (put.far cut)
+          ⊎_elim (λ many. omega (arith, ahead_words after valid many)) (λ (none, was). omega (arith, h was, ap (λ ms. length (words ms)) (all_there none), ap length (flatten_record-append (trees types) (members_at types at) (ahead_members types before)), length-append (words (members_at types at)) (words (ahead_members types before)))) (put.far cut)
 
 module _ (types : List TypeDef) (before ms : List (Option WitType)) (first : Option WitType) (next : before ≡ first ∷ ms) where
   abbrev words_of : List (Option WitType) → List WasmType
-  words_of ms = flats (payloads_in (trees types) ms)
+  words_of ms = flatten_record (payloads_in (trees types) ms)
 
-  pub first_length : length (words_of before) ≡ length (flat (payload_in (trees types) first)) + length (words_of ms)
-  first_length = ap (λ bs. length (words_of bs)) next ∙ length-append (flat (payload_in (trees types) first)) (words_of ms)
+  pub first_length : length (words_of before) ≡ length (flatten_type (payload_in (trees types) first)) + length (words_of ms)
+  first_length = ap (λ bs. length (words_of bs)) next ∙ length-append (flatten_type (payload_in (trees types) first)) (words_of ms)
 
   -- and where the first has been flattened
-  pub enough_next : (r s : ℕ) (all after : List WasmType) → s ≡ r → after ≡ take s (all ++ flat (payload_in (trees types) first)) → r ≤ length all + length (words_of before) → r ≤ length after + length (words_of ms)
+  pub enough_next : (r s : ℕ) (all after : List WasmType) → s ≡ r → after ≡ take s (all ++ flatten_type (payload_in (trees types) first)) → r ≤ length all + length (words_of before) → r ≤ length after + length (words_of ms)
   enough_next r s all after same put h =
-      let long : length after ≡ min s (length (all ++ flat (payload_in (trees types) first))) = ap length put ∙ length-take s (all ++ flat (payload_in (trees types) first)) in
-      omega (arith, long, length-append all (flat (payload_in (trees types) first)), first_length)
+      let long : length after ≡ min s (length (all ++ flatten_type (payload_in (trees types) first))) = ap length put ∙ length-take s (all ++ flatten_type (payload_in (trees types) first)) in
+      omega (arith, long, length-append all (flatten_type (payload_in (trees types) first)), first_length)

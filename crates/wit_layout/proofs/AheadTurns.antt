@@ -3,12 +3,12 @@ use Rattle.std.proofs.Common.{◌≡◌, ℕ, zero, suc, ◌<◌, true, List, []
 use Rattle.std.specs.List.{slice_get, All}
 use Rattle.std.proofs.lemmas.List.{get_or_append_left}
 use Rattle.std.proofs.lemmas.List.Elements.{All-append, All-drop}
-use borrow.Author.Tests.{ltb-true}
+use Rattle.std.proofs.lemmas.Bool.{ltb-true}
 use Rattle.wit_model.specs.declared.types.WitType.{WitType}
 use Rattle.wit_model.specs.declared.types.WitType.TheVariants.{Id}
 use Rattle.wit_model.specs.declared.types.TypeDef.{TypeDef}
 use Rattle.wit_model.specs.TypeOrder.{type_below, payload_below, GoesDown}
-use Rattle.wit_layout.specs.Flat.{flat, flats}
+use Rattle.wit_layout.specs.Flat.{flatten_type, flatten_record}
 use Rattle.wit_layout.specs.Sequence.{members_at}
 use Rattle.wit_layout.specs.Tree.{trees, payload_in, payloads_in}
 use Rattle.wit_layout.proofs.FlattenSteps.{payload_below_more, members_low, words_at}
@@ -52,8 +52,8 @@ module _ (types : List TypeDef) (down : GoesDown types) (bound : ℕ) (before ms
         let within = place_below bound at (subst (λ p. payload_below bound p ≡ true) is.3 first_low) in
         payload_below_more at bound (get_or (members_at types at) k d) (omega (arith, within)) (inner_low k d l)
 
-    pub place_words : flat (payload_in (trees types) first) ≡ flats (payloads_in (trees types) (members_at types at))
-    place_words = ap (λ p. flat (payload_in (trees types) p)) is.3 ∙ words_at types down at is.0 is.1 is.2
+    pub place_words : flatten_type (payload_in (trees types) first) ≡ flatten_record (payloads_in (trees types) (members_at types at))
+    place_words = ap (λ p. flatten_type (payload_in (trees types) p)) is.3 ∙ words_at types down at is.0 is.1 is.2
 
     module _ (after left_out : List (Option WitType)) (put : after ++ left_out ≡ members_at types at ++ ms) where
       pub after_low : AreLow bound after

@@ -2,10 +2,9 @@
 use Rattle.std.proofs.Common.{◌≡◌, ℕ, ◌+◌, ◌≤◌, ◌<◌, ◌⊎◌, ⊎_elim, true, List, [], ◌∷◌, ◌++◌, length, take, get_or, Option, None, Some, refl, sym, ap, ◌∙◌, arith}
 use Rattle.std.specs.List.{slice_get, All}
 use Rattle.std.proofs.lemmas.Option.{slice_get-get_or}
-use Rattle.std.proofs.lemmas.Grind.{common_steps}
-use borrow.Author.Tests.{ltb-true}
-use Rattle.wit_model.specs.declared.size.WasmType.{WasmType}
-use Rattle.wit_model.specs.declared.size.WasmType.TheVariants.{I32}
+use Rattle.std.proofs.lemmas.Bool.{ltb-true, lt-ltb}
+use Rattle.wit_model.specs.declared.wasm_type.WasmType.{WasmType}
+use Rattle.wit_model.specs.declared.wasm_type.WasmType.TheVariants.{I32}
 use Rattle.wit_model.specs.declared.types.Handle.{Handle}
 use Rattle.wit_model.specs.declared.types.Case.{Case}
 use Rattle.wit_model.specs.declared.types.Member.{Member}
@@ -17,7 +16,7 @@ use Rattle.wit_model.specs.declared.types.TypeDef.{TypeDef}
 use Rattle.wit_model.specs.Parts.{parts}
 use Rattle.wit_model.specs.TypeOrder.{type_below, payload_below, GoesDown}
 use Rattle.wit_layout.specs.Tree.{Tree, payloads_in, bare, tree_by, tree_at, trees}
-use Rattle.wit_layout.specs.Flat.{flat, flats, slots, pointer_and_length, words_of_flags}
+use Rattle.wit_layout.specs.Flat.{flatten_type, flatten_record, slots, pointer_and_length, words_of_flags}
 use Rattle.wit_layout.specs.Sequence.{is_sequence, members, members_of_entry, members_at}
 use Rattle.wit_layout.proofs.SequenceSteps.{member_below, words_of_members}
 use Rattle.wit_layout.proofs.TreeLemmas.{tree_at_by}
@@ -53,7 +52,7 @@ rank_below bound wit.ErrorContext h = omega arith
 type_below_more : (low high : ℕ) (ty : WitType) → low ≤ high → type_below low ty ≡ true → type_below high ty ≡ true
 unfolding type_below
 type_below_more low high (wit.Id id) le h =
-    let less = ltb-true id.0 low h in let more : id.0 < high = omega arith in grind (arith, common_steps)
+    let less = ltb-true id.0 low h in lt-ltb id.0 high (omega arith)
 type_below_more low high wit.Bool le h = refl
 type_below_more low high wit.U8 le h = refl
 type_below_more low high wit.U16 le h = refl
@@ -86,38 +85,38 @@ slots-bare (m ∷ members) = slots-bare members
 -- the words of each kind, by those of its parts
 module _ (ts : List Tree) (k : TypeDefKind) where
   abbrev words : List WasmType
-  words = flat (tree_by ts k)
+  words = flatten_type (tree_by ts k)
 
   pub words_of_lists : ((x : WitType) × (k ≡ kind.List x)) ⊎ ((x : WitType) × (x' : WitType) × (k ≡ kind.Map x x')) → words ≡ pointer_and_length
-  words_of_lists is = ⊎_elim (λ (x, e). ap (λ k. flat (tree_by ts k)) e) (λ (x, x', e). ap (λ k. flat (tree_by ts k)) e) is
+  words_of_lists is = ⊎_elim (λ (x, e). ap (λ k. flatten_type (tree_by ts k)) e) (λ (x, x', e). ap (λ k. flatten_type (tree_by ts k)) e) is
 
   pub words_of_flag_kind : (members : List Member) → k ≡ kind.Flags members → words ≡ words_of_flags (length members)
-  words_of_flag_kind members e = ap (λ k. flat (tree_by ts k)) e
+  words_of_flag_kind members e = ap (λ k. flatten_type (tree_by ts k)) e
 
   pub words_of_handles : ((x : Handle) × (k ≡ kind.Handle x)) ⊎ (k ≡ kind.Resource) → words ≡ I32 ∷ []
-  words_of_handles is = ⊎_elim (λ (x, e). ap (λ k. flat (tree_by ts k)) e) (λ e. ap (λ k. flat (tree_by ts k)) e) is
+  words_of_handles is = ⊎_elim (λ (x, e). ap (λ k. flatten_type (tree_by ts k)) e) (λ e. ap (λ k. flatten_type (tree_by ts k)) e) is
 
   pub words_of_async : ((x : Option WitType) × (k ≡ kind.Future x)) ⊎ ((x : Option WitType) × (k ≡ kind.Stream x)) → words ≡ I32 ∷ []
-  words_of_async is = ⊎_elim (λ (x, e). ap (λ k. flat (tree_by ts k)) e) (λ (x, e). ap (λ k. flat (tree_by ts k)) e) is
+  words_of_async is = ⊎_elim (λ (x, e). ap (λ k. flatten_type (tree_by ts k)) e) (λ (x, e). ap (λ k. flatten_type (tree_by ts k)) e) is
 
   pub words_of_unknown : k ≡ kind.Unknown → words ≡ I32 ∷ []
-  words_of_unknown e = ap (λ k. flat (tree_by ts k)) e
+  words_of_unknown e = ap (λ k. flatten_type (tree_by ts k)) e
 
   pub words_of_payloads : ((x : WitType) × (k ≡ kind.Option x)) ⊎ ((x : Option WitType) × (x' : Option WitType) × (k ≡ kind.Result x x')) → words ≡ I32 ∷ slots (payloads_in ts (parts k))
   unfolding parts
   words_of_payloads is =
-      ⊎_elim (λ (x, e). ap (λ k. flat (tree_by ts k)) e ∙ sym (ap (λ k. I32 ∷ slots (payloads_in ts (parts k))) e)) (λ (x, x', e). ap (λ k. flat (tree_by ts k)) e ∙ sym (ap (λ k. I32 ∷ slots (payloads_in ts (parts k))) e)) is
+      ⊎_elim (λ (x, e). ap (λ k. flatten_type (tree_by ts k)) e ∙ sym (ap (λ k. I32 ∷ slots (payloads_in ts (parts k))) e)) (λ (x, x', e). ap (λ k. flatten_type (tree_by ts k)) e ∙ sym (ap (λ k. I32 ∷ slots (payloads_in ts (parts k))) e)) is
 
   pub words_of_cases : ((x : List Case) × (k ≡ kind.Variant x)) ⊎ ((x : List Member) × (k ≡ kind.Enum x)) → words ≡ I32 ∷ slots (payloads_in ts (parts k))
   unfolding parts
   words_of_cases is =
-      ⊎_elim (λ (x, e). ap (λ k. flat (tree_by ts k)) e ∙ sym (ap (λ k. I32 ∷ slots (payloads_in ts (parts k))) e)) (λ (x, e). ap (λ k. flat (tree_by ts k)) e ∙ ap (λ cs. I32 ∷ cs) (slots-bare x) ∙ sym (ap (λ k. I32 ∷ slots (payloads_in ts (parts k))) e)) is
+      ⊎_elim (λ (x, e). ap (λ k. flatten_type (tree_by ts k)) e ∙ sym (ap (λ k. I32 ∷ slots (payloads_in ts (parts k))) e)) (λ (x, e). ap (λ k. flatten_type (tree_by ts k)) e ∙ ap (λ cs. I32 ∷ cs) (slots-bare x) ∙ sym (ap (λ k. I32 ∷ slots (payloads_in ts (parts k))) e)) is
 
 -- a type in the table, whose kind names lower ones
 module _ (types : List TypeDef) (down : GoesDown types) (at : ℕ) (entry : TypeDef) (here : slice_get types at ≡ Some entry) where
-  pub by_kind : (r : ℕ) (before after cs : List WasmType) → flat (tree_by (trees types) entry.kind) ≡ cs → after ≡ take r (before ++ cs) → after ≡ take r (before ++ flat (tree_at types at))
+  pub by_kind : (r : ℕ) (before after cs : List WasmType) → flatten_type (tree_by (trees types) entry.kind) ≡ cs → after ≡ take r (before ++ cs) → after ≡ take r (before ++ flatten_type (tree_at types at))
   by_kind r before after cs same put =
-      put ∙ sym (ap (λ t. take r (before ++ flat t)) (tree_at_by types at entry down here) ∙ ap (λ ws. take r (before ++ ws)) same)
+      put ∙ sym (ap (λ t. take r (before ++ flatten_type t)) (tree_at_by types at entry down here) ∙ ap (λ ws. take r (before ++ ws)) same)
 
   module _ (p : Option WitType) (nth : ℕ) (is : slice_get (parts entry.kind) nth ≡ Some p) where
     low : payload_below at p ≡ true
@@ -139,8 +138,8 @@ module _ (types : List TypeDef) (down : GoesDown types) (at : ℕ) (entry : Type
   members_low nth d l =
       member_below at entry.kind nth (get_or all_members nth d) (down at entry here) (sym (ap (λ (ms : List (Option WitType)). slice_get ms nth) same_members) ∙ slice_get-get_or all_members nth d l)
 
-  pub words_of_entry : is_sequence entry.kind ≡ true → flat (tree_by (trees types) entry.kind) ≡ flats (payloads_in (trees types) all_members)
-  words_of_entry has = words_of_members (trees types) entry.kind has ∙ sym (ap (λ ms. flats (payloads_in (trees types) ms)) same_members)
+  pub words_of_entry : is_sequence entry.kind ≡ true → flatten_type (tree_by (trees types) entry.kind) ≡ flatten_record (payloads_in (trees types) all_members)
+  words_of_entry has = words_of_members (trees types) entry.kind has ∙ sym (ap (λ ms. flatten_record (payloads_in (trees types) ms)) same_members)
 
-  pub words_at : is_sequence entry.kind ≡ true → flat (tree_at types at) ≡ flats (payloads_in (trees types) all_members)
-  words_at has = ap flat (tree_at_by types at entry down here) ∙ words_of_entry has
+  pub words_at : is_sequence entry.kind ≡ true → flatten_type (tree_at types at) ≡ flatten_record (payloads_in (trees types) all_members)
+  words_at has = ap flatten_type (tree_at_by types at entry down here) ∙ words_of_entry has

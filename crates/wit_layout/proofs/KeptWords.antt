@@ -1,16 +1,12 @@
 -- How many words are kept of a type, and which stands at a place.
-use Rattle.std.proofs.Common.{◌≡◌, ℕ, ◌+◌, ◌≤◌, ◌<◌, ◌∷◌, length, drop, get_or, sym, ap₂, ◌∙◌, arith, add-one}
-use Rattle.std.proofs.Math.Seq.{drop-cons}
-use Rattle.std.proofs.lemmas.List.{length-take, length-take-le, get_or-take}
-use Rattle.wit_model.specs.declared.size.WasmType.{WasmType}
+use Rattle.std.proofs.Common.{◌≡◌, ℕ, ◌+◌, ◌≤◌, ◌<◌, ◌∷◌, length, drop, get_or, ap, ◌∙◌, arith}
+use Rattle.std.proofs.lemmas.List.{drop_more, length-take, length-take-le, get_or-take}
+use Rattle.wit_model.specs.declared.wasm_type.WasmType.{WasmType}
 use Rattle.wit_layout.specs.declared.words.Words.{Words}
-use Rattle.wit_layout.specs.Kept.{kept}
+use Rattle.wit_layout.specs.Words.{kept}
 
 pub kept_fit : (w : Words) → length (kept w) ≤ w.room
 kept_fit w = omega (arith, length-take w.count w.words, w.bounded)
-
-pub kept_few : (w : Words) → length (kept w) ≤ 17
-kept_few w = omega (arith, length-take w.count w.words, w.bounded, w.in_array)
 
 -- the array has a place for each of them
 pub kept-length : (w : Words) → length (kept w) ≡ w.count
@@ -19,4 +15,4 @@ kept-length w = length-take-le w.count w.words (omega (arith, w.bounded, w.in_ar
 pub kept_from : (w : Words) (i : ℕ) (d : WasmType) → i < w.count → drop i (kept w) ≡ get_or w.words i d ∷ drop (i + 1) (kept w)
 kept_from w i d l =
     let within : i < length (kept w) = omega (arith, kept-length w) in
-    drop-cons (kept w) i d within ∙ ap₂ (λ (y : WasmType) k. y ∷ drop k (kept w)) (get_or-take w.count w.words i d l) (sym (add-one i))
+    drop_more (kept w) i d within ∙ ap (λ (y : WasmType). y ∷ drop (i + 1) (kept w)) (get_or-take w.count w.words i d l)

@@ -2,7 +2,7 @@
 use Rattle.std.proofs.Common.{◌≡◌, ℕ, zero, suc, ◌<◌, max, true, false, List, [], ◌∷◌, length, map, get_or, Option, None, Some, refl, sym, ap, ap₂, ◌∙◌, arith}
 use Rattle.std.specs.List.{slice_get, list_all}
 use Rattle.std.proofs.lemmas.List.{length-map}
-use borrow.Author.Tests.{ltb-true}
+use Rattle.std.proofs.lemmas.Bool.{and_parts, ltb-true}
 use Rattle.wit_model.specs.declared.types.WitType.{WitType}
 use Rattle.wit_model.specs.declared.types.WitType.TheVariants as wit
 use Rattle.wit_model.specs.declared.types.TypeDefKind.{TypeDefKind}
@@ -16,7 +16,7 @@ use Rattle.wit_layout.specs.Tree.Trees.{none, more}
 use Rattle.wit_layout.specs.Sizes.{count, extent_of, extents_of, payload_offset, field_offsets}
 use Rattle.wit_layout.specs.Kind.{kind_extent, kind_payload, kind_offsets}
 use Rattle.wit_layout.specs.Stored.{seen, seen_at, seen_type, seen_payload, is_alias}
-use Rattle.wit_layout.proofs.TreeLemmas.{both_true, first_below, later_below}
+use Rattle.wit_layout.proofs.TreeLemmas.{first_below, later_below}
 
 -- the layouts say what the trees take
 abbrev pub Agree : ℕ → List TypeLayout → List Tree → Type 0
@@ -76,7 +76,7 @@ module _ (w : ℕ) (layouts : List TypeLayout) (ts : List Tree) (agree : Agree w
   pub payloads_seen : (ps : List (Option WitType)) → list_all (payload_below (length layouts)) ps ≡ true → map f ps ≡ extents_of w (payloads_in ts ps)
   payloads_seen [] h = refl
   payloads_seen (p ∷ ps) h =
-      let b = both_true _ _ h in ap₂ (λ (e : Extent) es. e ∷ es) (payload_seen p b.0) (payloads_seen ps b.1)
+      let b = and_parts _ _ h in ap₂ (λ (e : Extent) es. e ∷ es) (payload_seen p b.0) (payloads_seen ps b.1)
 
   -- the greatest of the cases' payloads, and how many cases there are
   option_seen : (payload : WitType) → list_all (payload_below (length layouts)) (Some payload ∷ []) ≡ true → greatest (f (Some payload) ∷ []) ≡ greatest (extents_of w (more nothing (more (tree_in ts payload) none)))
@@ -152,3 +152,28 @@ module _ (w : ℕ) (layouts : List TypeLayout) (ts : List Tree) (agree : Agree w
   field_offsets_seen (kind.Future payload) a h = refl
   field_offsets_seen (kind.Stream payload) a h = refl
   field_offsets_seen kind.Unknown a h = refl
+
+-- an alias keeps no places of its own
+alias_names : (k : TypeDefKind) → is_alias k ≡ true → (ty : WitType) × (k ≡ kind.Alias ty)
+alias_names (kind.Alias ty) h = (ty, refl)
+alias_names (kind.Handle handle) h = cc
+alias_names (kind.List element) h = cc
+alias_names (kind.Map k v) h = cc
+alias_names (kind.FixedLengthList element n) h = cc
+alias_names (kind.Tuple members) h = cc
+alias_names (kind.Option payload) h = cc
+alias_names (kind.Result ok err) h = cc
+alias_names (kind.Record members) h = cc
+alias_names (kind.Variant members) h = cc
+alias_names (kind.Enum members) h = cc
+alias_names (kind.Flags members) h = cc
+alias_names kind.Resource h = cc
+alias_names (kind.Future payload) h = cc
+alias_names (kind.Stream payload) h = cc
+alias_names kind.Unknown h = cc
+
+pub alias_payload : (f : Option WitType → Extent) (k : TypeDefKind) → is_alias k ≡ true → kind_payload f k ≡ 0
+alias_payload f k h = ap (kind_payload f) (alias_names k h).1
+
+pub alias_offsets : (f : Option WitType → Extent) (k : TypeDefKind) → is_alias k ≡ true → kind_offsets f k ≡ []
+alias_offsets f k h = ap (kind_offsets f) (alias_names k h).1

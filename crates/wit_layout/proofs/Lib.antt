@@ -11,6 +11,7 @@ pub mod KindLemmas
 pub mod PartSteps
 pub mod RecordSteps
 pub mod Repeats
+pub mod Rounding
 pub mod SequenceSteps
 pub mod SignatureSteps
 pub mod TreeLemmas

@@ -1,9 +1,8 @@
 -- One part more: where the parts end, where they stand, and which are the greatest.
-use Rattle.std.proofs.Common.{◌≡◌, ℕ, suc, ◌+◌, ◌^◌, ◌<◌, ◌≤◌, max, List, [], ◌∷◌, ◌++◌, length, map, drop, Option, Some, sym, ap, ap₂, ◌∙◌, subst, arith, add-one, append_assoc, true}
+use Rattle.std.proofs.Common.{◌≡◌, ℕ, ◌+◌, ◌*◌, ◌^◌, ◌<◌, ◌≤◌, max, List, [], ◌∷◌, ◌++◌, length, map, drop, Option, Some, sym, ap, ap₂, ◌∙◌, subst, arith, append_assoc, true}
 use Rattle.std.specs.List.{slice_get}
-use Rattle.std.proofs.Math.Seq.{drop-cons}
-use borrow.Author.Tests.{ltb-true}
-use Rattle.std.proofs.lemmas.List.{drop-map, at_drop_all, length-map}
+use Rattle.std.proofs.lemmas.Bool.{ltb-true}
+use Rattle.std.proofs.lemmas.List.{drop-map, length-map}
 use Rattle.std.proofs.lemmas.List.Sums.{AllPass-from_list_all}
 use Rattle.std.proofs.lemmas.Option.{slice_get_within, get_or_from_slice_get}
 use Rattle.wit_model.specs.declared.types.WitType.{WitType}
@@ -12,7 +11,12 @@ use Rattle.wit_model.specs.declared.types.TypeDefKind.TheVariants as kind
 use Rattle.wit_model.specs.Numbered.{is_short, kind_numbered}
 use Rattle.wit_model.specs.Parts.{parts}
 use Rattle.wit_model.specs.TypeOrder.{payload_below, parts_below}
+use Rattle.wit_layout.specs.declared.parts.Parts.{Parts}
+use Rattle.wit_layout.specs.declared.stored.StoredExtent.{StoredExtent}
 use Rattle.wit_layout.specs.Extent.{Extent, extent, place, places, end, greater, greatest}
+use Rattle.wit_layout.specs.Grain.{exponent}
+use Rattle.wit_layout.specs.Stored.{seen}
+use Rattle.wit_layout.proofs.WordLists.{drop_at}
 
 -- a part of a kind whose parts all name lower ids
 pub part_below : (bound : ℕ) (kind : TypeDefKind) (i : ℕ) (p : Option WitType) → parts_below bound kind ≡ true → slice_get (parts kind) i ≡ Some p → payload_below bound p ≡ true
@@ -23,9 +27,7 @@ part_below bound kind i p h e =
 -- the parts from one on are that one and those behind it
 pub rest-map : {A B : Type 0} (f : A → B) (xs : List A) (i : ℕ) (x : A) → slice_get xs i ≡ Some x → drop i (map f xs) ≡ f x ∷ drop (i + 1) (map f xs)
 rest-map f xs i x e =
-    let within = slice_get_within xs i x e in
-    let here : drop i xs ≡ x ∷ drop (suc i) xs = drop-cons xs i x within ∙ ap (λ y. y ∷ drop (suc i) xs) (get_or_from_slice_get xs i x x e) in
-    drop-map f i xs ∙ ap (map f) here ∙ ap (λ ys. f x ∷ ys) (sym (drop-map f (suc i) xs)) ∙ ap (λ k. f x ∷ drop k (map f xs)) (sym (add-one i))
+    drop-map f i xs ∙ ap (map f) (drop_at xs i x e) ∙ ap (λ ys. f x ∷ ys) (sym (drop-map f (i + 1) xs))
 
 module _ {A : Type 0} (f : A → Extent) (xs : List A) (i : ℕ) (x : A) (e : slice_get xs i ≡ Some x) where
   abbrev rest : List Extent
@@ -51,12 +53,24 @@ module _ {A : Type 0} (f : A → Extent) (xs : List A) (i : ℕ) (x : A) (e : sl
       ap₂ (λ (m : List ℕ) k. m ++ places rest k) pushed there ∙ append_assoc done (at ∷ []) (places rest (place (f x) from + (f x).bytes)) ∙ ap (λ k. done ++ (k ∷ places rest (place (f x) from + (f x).bytes))) here
       ∙ sym (ap (λ ps. done ++ places ps from) (rest-map f xs i x e)) ∙ h
 
--- no part is left
-pub none_left : {A B : Type 0} (f : A → B) (xs : List A) (i : ℕ) → length xs ≤ i → drop i (map f xs) ≡ []
-none_left f xs i e = drop-map f i xs ∙ at_drop_all (map f) xs i e
+-- what is gathered of the first so many of some parts, at both widths
+pub record AreGathered (parts4 parts8 : List Extent) (many : ℕ) (all : Parts) : Type 0 where
+  pub end4 : end (drop many parts4) all.end.at4 ≡ end parts4 0
+  pub end8 : end (drop many parts8) all.end.at8 ≡ end parts8 0
+  pub greatest4 : greater (extent (exponent 2 all.grain) all.largest.at4) (greatest (drop many parts4)) ≡ greatest parts4
+  pub greatest8 : greater (extent (exponent 3 all.grain) all.largest.at8) (greatest (drop many parts8)) ≡ greatest parts8
+  pub bounded : all.end.at8 ≤ many * 2 ^ 32
 
-pub greatest_alone : (a : Extent) → greater a (extent 0 0) ≡ a
-greatest_alone a = let g : max a.grain 0 ≡ a.grain = omega arith in let b : max a.bytes 0 ≡ a.bytes = omega arith in ap₂ extent g b
+module _ {A : Type 0} (f4 f8 : A → Extent) (xs : List A) (i : ℕ) (x : A) (e : slice_get xs i ≡ Some x) (part : StoredExtent) (four : seen 2 part ≡ f4 x) (eight : seen 3 part ≡ f8 x) (all next : Parts) where
+  pub one_gathered : next.end.at4 ≡ place (seen 2 part) all.end.at4 + (seen 2 part).bytes → next.end.at8 ≡ place (seen 3 part) all.end.at8 + (seen 3 part).bytes → extent (exponent 2 next.grain) next.largest.at4 ≡ greater (extent (exponent 2 all.grain) all.largest.at4) (seen 2 part) → extent (exponent 3 next.grain) next.largest.at8 ≡ greater (extent (exponent 3 all.grain) all.largest.at8) (seen 3 part) → next.end.at8 ≤ all.end.at8 + 2 ^ 32
+      → AreGathered (map f4 xs) (map f8 xs) i all → AreGathered (map f4 xs) (map f8 xs) (i + 1) next
+  one_gathered end4 end8 greatest4 greatest8 bounded before = record {
+    end4 = end_kept f4 xs i x e _ all.end.at4 next.end.at4 _ four end4 before.end4;
+    end8 = end_kept f8 xs i x e _ all.end.at8 next.end.at8 _ eight end8 before.end8;
+    greatest4 = greatest_kept f4 xs i x e _ _ _ _ four greatest4 before.greatest4;
+    greatest8 = greatest_kept f8 xs i x e _ _ _ _ eight greatest8 before.greatest8;
+    bounded = omega (arith, bounded, before.bounded);
+  }
 
 -- a list that is numbered is short
 short_list : {A : Type 0} (xs : List A) → is_short xs ≡ true → length xs < 2 ^ 32

@@ -1,12 +1,10 @@
 -- Where the members of a record end, and how large it is.
-use Rattle.std.proofs.Common.{◌≡◌, ℕ, zero, suc, ◌+◌, ◌*◌, ◌^◌, ◌<◌, ◌≤◌, inl, inr, ⊎_elim, true, false, ◌&&◌, nat_lt, List, [], ◌∷◌, length, map, take, drop, get_or, Some, refl, sym, ap, ap₂, ◌∙◌, subst, arith, pow_pos}
+use Rattle.std.proofs.Common.{◌≡◌, ℕ, zero, suc, ◌+◌, ◌*◌, ◌^◌, ◌<◌, ◌≤◌, inl, inr, ⊎_elim, true, false, ◌&&◌, nat_lt, List, [], ◌∷◌, length, map, take, drop, get_or, Some, refl, sym, ap, ap₂, ◌∙◌, arith, pow_pos}
 use Rattle.std.specs.List.{slice_get, list_all}
 use Rattle.std.specs.Option.{option_map}
-use Rattle.std.proofs.lemmas.Grind.{common_steps}
 use Rattle.std.proofs.lemmas.List.{length-take, take-map}
-use Rattle.std.proofs.lemmas.List.Sums.{AllPass-from_list_all}
-use Rattle.std.proofs.lemmas.Option.{slice_get_within, slice_get-map, get_or_from_slice_get}
-use borrow.Author.Tests.{ltb-true}
+use Rattle.std.proofs.lemmas.Option.{slice_get-map}
+use Rattle.std.proofs.lemmas.Bool.{and_parts, le-ltb, ltb-true}
 use Rattle.wit_model.specs.declared.types.WitType.{WitType}
 use Rattle.wit_model.specs.declared.types.TypeDef.{TypeDef}
 use Rattle.wit_model.specs.TypeOrder.{type_below}
@@ -16,16 +14,10 @@ use Rattle.wit_layout.specs.declared.type_layout.TypeLayout.{TypeLayout}
 use Rattle.wit_layout.specs.declared.size_align.SizeAlign.{SizeAlign}
 use Rattle.wit_layout.specs.Extent.{Extent, place, places, end, greatest, record_extent}
 use Rattle.wit_layout.specs.Tree.{nothing, trees, payloads_in, record_of}
-use Rattle.wit_layout.specs.Sizes.{size, extent_of, extents_of}
+use Rattle.wit_layout.specs.Sizes.{elem_size, extent_of, extents_of}
 use Rattle.wit_layout.specs.Stored.{seen, seen_type}
-use Rattle.wit_layout.specs.Filled.{IsFilledFor, IsMeasurable, EndsInRoom, has_size, have_sizes, members_seen, fits_in_record}
-use Rattle.wit_layout.proofs.TreeLemmas.{both_true}
+use Rattle.wit_layout.specs.Filled.{IsFilledFor, IsMeasurable, EndsInRoom, have_sizes, members_seen, fits_in_record}
 use Rattle.wit_layout.proofs.KindLemmas.{type_seen}
-
--- a member of types that all have sizes
-pub member_below : (sizes : SizeAlign) (members : List WitType) (i : ℕ) (ty : WitType) → have_sizes sizes members ≡ true → slice_get members i ≡ Some ty → type_below (length sizes.layouts) ty ≡ true
-member_below sizes members i ty h e =
-    subst (λ (t : WitType). type_below (length sizes.layouts) t ≡ true) (get_or_from_slice_get members i ty ty e) (AllPass-from_list_all (has_size sizes) members h i ty (slice_get_within members i ty e))
 
 -- parts end behind where they begin
 pub end_behind : (parts : List Extent) (from : ℕ) → from ≤ end parts from
@@ -36,9 +28,6 @@ end_behind (part ∷ parts) from =
 -- and a record behind its last part
 pub record_behind : (parts : List Extent) → end parts 0 ≤ (record_extent parts).bytes
 record_behind parts = rounded_above (2 ^ (greatest parts).grain) (end parts 0) (pow_pos (greatest parts).grain)
-
-not_below : (m n : ℕ) → n ≤ m → nat_lt m n ≡ false
-not_below m n h = grind (arith, common_steps)
 
 -- what was gathered of members that end in room stays small
 pub members_small : (sizes : SizeAlign) (members : List WitType) (i at : ℕ) → EndsInRoom sizes members → i ≤ length members → at ≤ i * 2 ^ 32 → end (drop i (members_seen 3 sizes members)) at ≡ end (members_seen 3 sizes members) 0 → at ≤ 2 ^ 33
@@ -68,7 +57,7 @@ pub front_have_sizes : (sizes : SizeAlign) (n : ℕ) (members : List WitType) �
 front_have_sizes sizes zero members h = refl
 front_have_sizes sizes (suc n) [] h = refl
 front_have_sizes sizes (suc n) (ty ∷ members) h =
-    let b = both_true _ _ h in
+    let b = and_parts _ _ h in
     ap₂ (λ x y. x && y) b.0 (front_have_sizes sizes n members b.1)
 
 -- the place of one of some parts
@@ -82,14 +71,14 @@ places-at (suc n) (first ∷ parts) part from e = places-at n parts part (place 
 pub members_large : (sizes : SizeAlign) (members : List WitType) (i at : ℕ) → 2 ^ 31 ≤ at → end (drop i (members_seen 3 sizes members)) at ≡ end (members_seen 3 sizes members) 0 → false ≡ fits_in_record sizes members
 members_large sizes members i at large here =
     let all = members_seen 3 sizes members in
-    sym (not_below (record_extent all).bytes (2 ^ 31) (omega (arith, end_behind (drop i all) at, here, record_behind all, large)))
+    sym (le-ltb (record_extent all).bytes (2 ^ 31) (omega (arith, end_behind (drop i all) at, here, record_behind all, large)))
 
 -- what the layouts say of the members is what their trees take
 module _ (w : ℕ) (layouts : List TypeLayout) (table : List TypeDef) (agree : (i : ℕ) (layout : TypeLayout) → slice_get layouts i ≡ Some layout → seen w layout.extent ≡ extent_of w (get_or (trees table) i nothing)) where
   pub members_are : (members : List WitType) → list_all (type_below (length layouts)) members ≡ true → map (seen_type w layouts) members ≡ extents_of w (payloads_in (trees table) (map (λ ty. Some ty) members))
   members_are [] h = refl
   members_are (ty ∷ members) h =
-      let b = both_true _ _ h in
+      let b = and_parts _ _ h in
       ap₂ (λ (e : Extent) es. e ∷ es) (type_seen w layouts (trees table) agree ty b.0) (members_are members b.1)
 
 module _ (sizes : SizeAlign) (members : List WitType) (h : have_sizes sizes members ≡ true) (table : List TypeDef) (filled : IsFilledFor sizes table) where
@@ -105,7 +94,7 @@ module _ (sizes : SizeAlign) (members : List WitType) (h : have_sizes sizes memb
   pub record8 : record_extent (members_seen 3 sizes members) ≡ extent_of 3 (record_of table members)
   record8 = ap record_extent members8
 
-  pub fits_filled : fits_in_record sizes members ≡ nat_lt (size 3 (record_of table members)) (2 ^ 31)
+  pub fits_filled : fits_in_record sizes members ≡ nat_lt (elem_size 3 (record_of table members)) (2 ^ 31)
   fits_filled = ap (λ (e : Extent). nat_lt e.bytes (2 ^ 31)) record8
 
 -- what a call said of a type, by the layouts that it was given

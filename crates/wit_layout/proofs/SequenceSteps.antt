@@ -10,7 +10,7 @@ use Rattle.wit_model.specs.declared.types.TypeDef.{TypeDef}
 use Rattle.wit_model.specs.declared.types.Field.{Field}
 use Rattle.wit_model.specs.Parts.{parts}
 use Rattle.wit_model.specs.TypeOrder.{payload_below, parts_below}
-use Rattle.wit_layout.specs.Flat.{flat, flats, repeated}
+use Rattle.wit_layout.specs.Flat.{flatten_type, flatten_record, repeated}
 use Rattle.wit_layout.specs.Tree.{Tree, tree_in, tree_by, payload_in, payloads_in}
 use Rattle.wit_layout.proofs.PartSteps.{part_below}
 use Rattle.wit_model.specs.declared.types.WitType.TheVariants as wit
@@ -63,19 +63,19 @@ member_below bound (kind.Stream payload) nth p h e = cc
 member_below bound kind.Unknown nth p h e = cc
 
 module _ (ts : List Tree) where
-  pub flats-append : (xs ys : List (Option WitType)) → flats (payloads_in ts (xs ++ ys)) ≡ flats (payloads_in ts xs) ++ flats (payloads_in ts ys)
-  flats-append [] ys = refl
-  flats-append (x ∷ xs) ys =
-      ap (λ ws. flat (payload_in ts x) ++ ws) (flats-append xs ys) ∙ sym (append_assoc (flat (payload_in ts x)) (flats (payloads_in ts xs)) (flats (payloads_in ts ys)))
+  pub flatten_record-append : (xs ys : List (Option WitType)) → flatten_record (payloads_in ts (xs ++ ys)) ≡ flatten_record (payloads_in ts xs) ++ flatten_record (payloads_in ts ys)
+  flatten_record-append [] ys = refl
+  flatten_record-append (x ∷ xs) ys =
+      ap (λ ws. flatten_type (payload_in ts x) ++ ws) (flatten_record-append xs ys) ∙ sym (append_assoc (flatten_type (payload_in ts x)) (flatten_record (payloads_in ts xs)) (flatten_record (payloads_in ts ys)))
 
-  words_of_elements : (n : ℕ) (p : Option WitType) → repeated n (flat (payload_in ts p)) ≡ flats (payloads_in ts (replicate n p))
+  words_of_elements : (n : ℕ) (p : Option WitType) → repeated n (flatten_type (payload_in ts p)) ≡ flatten_record (payloads_in ts (replicate n p))
   unfolding repeated
   words_of_elements zero p = refl
-  words_of_elements (suc n) p = ap (λ ws. flat (payload_in ts p) ++ ws) (words_of_elements n p)
+  words_of_elements (suc n) p = ap (λ ws. flatten_type (payload_in ts p) ++ ws) (words_of_elements n p)
 
-  pub words_of_members : (k : TypeDefKind) → is_sequence k ≡ true → flat (tree_by ts k) ≡ flats (payloads_in ts (members k))
+  pub words_of_members : (k : TypeDefKind) → is_sequence k ≡ true → flatten_type (tree_by ts k) ≡ flatten_record (payloads_in ts (members k))
   unfolding is_sequence members
-  words_of_members (kind.Alias ty) h = sym (append-nil (flat (tree_in ts ty)))
+  words_of_members (kind.Alias ty) h = sym (append-nil (flatten_type (tree_in ts ty)))
   words_of_members (kind.FixedLengthList ty n) h = words_of_elements n (Some ty)
   words_of_members (kind.Tuple types) h = refl
   words_of_members (kind.Record fields) h = refl

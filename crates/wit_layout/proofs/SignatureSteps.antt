@@ -1,13 +1,12 @@
 -- Which words are core parameters: one of the first sixteen, and a pointer behind them.
-use Rattle.std.proofs.Common.{◌≡◌, ℕ, zero, suc, ◌≤◌, ◌<◌, ◌⊎◌, inl, inr, ⊎_elim, min, Bool, true, false, ◌||◌, cond, List, [], ◌∷◌, ◌++◌, length, take, get_or, Some, refl, nat_lt, sym, ap, ap₂, ◌∙◌, subst, arith, length-append}
+use Rattle.std.proofs.Common.{◌≡◌, ℕ, zero, suc, ◌≤◌, ◌<◌, ◌⊎◌, inl, inr, ⊎_elim, min, Bool, true, false, cond, List, [], ◌∷◌, ◌++◌, length, take, get_or, Some, refl, nat_lt, sym, ap, ap₂, ◌∙◌, subst, arith, length-append}
 use Rattle.std.specs.List.{slice_get}
 use Rattle.std.proofs.lemmas.List.{get_or-take, length-take, take_all}
 use Rattle.std.proofs.lemmas.Bool.Decides.{leb_tells}
 use Rattle.std.proofs.lemmas.Option.{slice_get-get_or}
-use Rattle.std.proofs.lemmas.Bool.{eqb-true}
-use borrow.Author.Tests.{ltb-true, ltb-false}
-use Rattle.wit_model.specs.declared.size.WasmType.{WasmType}
-use Rattle.wit_model.specs.declared.size.WasmType.TheVariants.{Pointer}
+use Rattle.std.proofs.lemmas.Bool.{and_parts, or_cases, eqb-true, ltb-true, ltb-false}
+use Rattle.wit_model.specs.declared.wasm_type.WasmType.{WasmType}
+use Rattle.wit_model.specs.declared.wasm_type.WasmType.TheVariants.{Pointer}
 use Rattle.wit_model.specs.declared.function.Function.{Function}
 use Rattle.wit_model.specs.declared.resolve.Resolve.{Resolve}
 use Rattle.wit_model.specs.IndexRange.{function_in_range}
@@ -18,7 +17,6 @@ use Rattle.wit_layout.specs.declared.signature.AbiVariant.TheVariants.{GuestImpo
 use Rattle.wit_layout.specs.declared.signature.WasmSignature.{WasmSignature}
 use Rattle.wit_layout.specs.Flat.{IsFlatOf}
 use Rattle.wit_layout.specs.Signature.{IsCoreSignature, are_many, direct_words, needs_pointer, core_params, core_results, has_param, params_below}
-use Rattle.wit_layout.proofs.TreeLemmas.{both_true}
 
 -- a word that is told
 pub word_told : (f : Flat) (core : List WasmType) (nth : ℕ) (d : WasmType) → IsFlatOf f core → nth < f.count → slice_get core nth ≡ Some (get_or f.words nth d)
@@ -49,13 +47,9 @@ last_param GuestImport params answer l = by_test (needs_pointer answer) l
     by_test false l = absurd (omega (arith, direct_short params, length-append {A = WasmType} (direct_words params) []))
 last_param GuestExport params answer l = absurd (omega (arith, direct_short params))
 
-either_true : (a b : Bool) → (a || b) ≡ true → (a ≡ true) ⊎ (b ≡ true)
-either_true true b h = inl refl
-either_true false b h = inr h
-
 pub param_cases : (s : WasmSignature) (nth : ℕ) → has_param s nth ≡ true → (nth < s.params.count) ⊎ ((nth ≡ 16) × (s.params.more ≡ true))
 param_cases s nth h =
-    ⊎_elim (λ told. inl (ltb-true nth s.params.count told)) (λ last. inr (eqb-true nth 16 (both_true _ _ last).0, (both_true _ _ last).1)) (either_true _ _ h)
+    ⊎_elim (λ told. inl (ltb-true nth s.params.count told)) (λ last. inr (eqb-true nth 16 (and_parts _ _ last).0, (and_parts _ _ last).1)) (or_cases _ _ h)
 
 -- the words of a function are told by the first seventeen of each side
 module _ (params answer : List WasmType) where
@@ -104,8 +98,8 @@ module _ (params answer : List WasmType) where
 
 pub params_in_table : (r : Resolve) (f : Function) → function_in_range r f ≡ true → params_below (length r.types) f.params ≡ true
 unfolding function_in_range
-params_in_table r f h = (both_true _ _ (both_true _ _ h).0).1
+params_in_table r f h = (and_parts _ _ (and_parts _ _ h).0).1
 
 pub result_in_table : (r : Resolve) (f : Function) → function_in_range r f ≡ true → payload_below (length r.types) f.result ≡ true
 unfolding function_in_range
-result_in_table r f h = (both_true _ _ h).1
+result_in_table r f h = (and_parts _ _ h).1

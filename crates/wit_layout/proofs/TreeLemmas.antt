@@ -1,8 +1,8 @@
 -- In a table whose types name only lower ids, each tree is its kind's, over the trees of the table.
-use Rattle.std.proofs.Common.{◌≡◌, ℕ, zero, suc, ◌+◌, ◌<◌, Bool, true, ◌&&◌, false, List, [], ◌∷◌, ◌++◌, length, map, get_or, Option, None, Some, refl, sym, ap, ap₂, ◌∙◌, subst, arith, length-append}
+use Rattle.std.proofs.Common.{◌≡◌, ℕ, zero, suc, ◌+◌, ◌<◌, true, List, [], ◌∷◌, ◌++◌, length, map, get_or, Option, None, Some, refl, sym, ap, ap₂, ◌∙◌, subst, arith, length-append}
 use Rattle.std.specs.List.{slice_get, list_all}
 use Rattle.std.proofs.lemmas.List.{get_or_append_left, get_or_push}
-use borrow.Author.Tests.{ltb-true}
+use Rattle.std.proofs.lemmas.Bool.{and_parts, ltb-true}
 use Rattle.wit_model.specs.declared.types.WitType.{WitType}
 use Rattle.wit_model.specs.declared.types.WitType.TheVariants as wit
 use Rattle.wit_model.specs.declared.types.TypeDefKind.{TypeDefKind}
@@ -14,16 +14,12 @@ use Rattle.wit_layout.specs.Tree.{Tree, nothing, tree_in, payload_in, payloads_i
 use Rattle.wit_layout.specs.Tree.Tree.{list, pairs, fixed, fields, cases}
 use Rattle.wit_layout.specs.Tree.Trees.{none, more}
 
-pub both_true : (a b : Bool) → (a && b) ≡ true → (a ≡ true) × (b ≡ true)
-both_true true b h = (refl, h)
-both_true false b h = cc
-
 -- what a kind of few parts names is below the bound
 pub first_below : (bound : ℕ) (p : Option WitType) (ps : List (Option WitType)) → list_all (payload_below bound) (p ∷ ps) ≡ true → payload_below bound p ≡ true
-first_below bound p ps h = (both_true _ _ h).0
+first_below bound p ps h = (and_parts _ _ h).0
 
 pub later_below : (bound : ℕ) (p : Option WitType) (ps : List (Option WitType)) → list_all (payload_below bound) (p ∷ ps) ≡ true → list_all (payload_below bound) ps ≡ true
-later_below bound p ps h = (both_true _ _ h).1
+later_below bound p ps h = (and_parts _ _ h).1
 
 -- two lists of trees that agree below a bound
 module _ (ts us : List Tree) (bound : ℕ) (same : (i : ℕ) → i < bound → get_or us i nothing ≡ get_or ts i nothing) where
@@ -53,7 +49,7 @@ module _ (ts us : List Tree) (bound : ℕ) (same : (i : ℕ) → i < bound → g
   payloads_same : (ps : List (Option WitType)) → list_all (payload_below bound) ps ≡ true → payloads_in us ps ≡ payloads_in ts ps
   payloads_same [] h = refl
   payloads_same (p ∷ ps) h =
-      let b = both_true _ _ h in ap₂ more (payload_same p b.0) (payloads_same ps b.1)
+      let b = and_parts _ _ h in ap₂ more (payload_same p b.0) (payloads_same ps b.1)
 
   kind_same : (kind : TypeDefKind) → parts_below bound kind ≡ true → tree_by us kind ≡ tree_by ts kind
   unfolding parts_below parts

@@ -1,10 +1,9 @@
 -- The first words of lists that stand one after another, and of those that share slots.
-use Rattle.std.proofs.Common.{◌≡◌, ℕ, zero, suc, ◌+◌, ◌-◌, ◌≤◌, ◌<◌, min, List, [], ◌∷◌, ◌++◌, length, take, drop, replicate, None, Some, refl, sym, ap, ap₂, ◌∙◌, arith, add-one, append_assoc}
+use Rattle.std.proofs.Common.{◌≡◌, ℕ, zero, suc, ◌+◌, ◌-◌, ◌≤◌, ◌<◌, min, List, [], ◌∷◌, ◌++◌, length, take, drop, replicate, None, Some, refl, sym, ap, ap₂, ◌∙◌, arith, append_assoc}
 use Rattle.std.specs.List.{slice_get}
-use Rattle.std.proofs.Math.Seq.{drop-cons}
-use Rattle.std.proofs.lemmas.List.{append-nil, take_all, take-append-le, drop_all}
+use Rattle.std.proofs.lemmas.List.{append-nil, drop_more, take_all, take-take, take-append-le, drop_all}
 use Rattle.std.proofs.lemmas.Option.{slice_get_within, get_or_from_slice_get}
-use Rattle.wit_model.specs.declared.size.WasmType.{WasmType}
+use Rattle.wit_model.specs.declared.wasm_type.WasmType.{WasmType}
 use Rattle.wit_layout.specs.Join.{join}
 use Rattle.wit_layout.specs.Flat.{joined}
 
@@ -18,15 +17,9 @@ take_front (suc r) zero xs ys le = absurd (omega arith)
 take_front (suc r) (suc m) [] ys le = refl
 take_front (suc r) (suc m) (x ∷ xs) ys le = ap (λ zs. x ∷ zs) (take_front r m xs ys (omega arith))
 
-pub take_take : (r m : ℕ) (xs : Words) → r ≤ m → take r (take m xs) ≡ take r xs
-take_take zero m xs le = refl
-take_take (suc r) zero xs le = absurd (omega arith)
-take_take (suc r) (suc m) [] le = refl
-take_take (suc r) (suc m) (x ∷ xs) le = ap (λ zs. x ∷ zs) (take_take r m xs (omega arith))
-
 -- what is cut behind words, where they and the cut are long enough
 pub take_back : (r m : ℕ) (xs ys : Words) → r ≤ length xs + m → take r (xs ++ take m ys) ≡ take r (xs ++ ys)
-take_back r m [] ys le = take_take r m ys (omega arith)
+take_back r m [] ys le = take-take r m ys (omega arith)
 take_back zero m (x ∷ xs) ys le = refl
 take_back (suc r) m (x ∷ xs) ys le = ap (λ zs. x ∷ zs) (take_back r m xs ys (omega arith))
 
@@ -52,13 +45,13 @@ joined-none (x ∷ xs) = refl
 
 pub take_joined : (r : ℕ) (xs ys : Words) → take r (joined (take r xs) (take r ys)) ≡ take r (joined xs ys)
 take_joined zero xs ys = refl
-take_joined (suc r) [] ys = take_take (suc r) (suc r) ys (omega arith)
-take_joined (suc r) (x ∷ xs) [] = ap (λ zs. x ∷ zs) (take_take r r xs (omega arith))
+take_joined (suc r) [] ys = take-take (suc r) (suc r) ys (omega arith)
+take_joined (suc r) (x ∷ xs) [] = ap (λ zs. x ∷ zs) (take-take r r xs (omega arith))
 take_joined (suc r) (x ∷ xs) (y ∷ ys) = ap (λ zs. join x y ∷ zs) (take_joined r xs ys)
 
 pub drop_at : {A : Type 0} (xs : List A) (i : ℕ) (x : A) → slice_get xs i ≡ Some x → drop i xs ≡ x ∷ drop (i + 1) xs
 drop_at xs i x e =
-    drop-cons xs i x (slice_get_within xs i x e) ∙ ap₂ (λ y k. y ∷ drop k xs) (get_or_from_slice_get xs i x x e) (sym (add-one i))
+    drop_more xs i x (slice_get_within xs i x e) ∙ ap (λ y. y ∷ drop (i + 1) xs) (get_or_from_slice_get xs i x x e)
 
 past : (xs : Words) (i : ℕ) → slice_get xs i ≡ None → length xs ≤ i
 past [] i e = omega arith

@@ -1,6 +1,6 @@
 -- How a word of one core type is cast to another.
-use Rattle.wit_model.specs.declared.size.WasmType.{WasmType}
-use Rattle.wit_model.specs.declared.size.WasmType.TheVariants.{I32, I64, F32, F64, Pointer, PointerOrI64, Length}
+use Rattle.wit_model.specs.declared.wasm_type.WasmType.{WasmType}
+use Rattle.wit_model.specs.declared.wasm_type.WasmType.TheVariants.{I32, I64, F32, F64, Pointer, PointerOrI64, Length}
 use Rattle.wit_layout.specs.declared.bitcast.Bitcast.{Bitcast}
 use Rattle.wit_layout.specs.declared.bitcast.Bitcast.TheVariants as bitcast
 

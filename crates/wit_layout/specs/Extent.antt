@@ -43,17 +43,17 @@ record_extent parts = record_of_grain (greatest parts).grain (end parts 0)
 abbrev pub fixed_extent : Extent → ℕ → Extent
 fixed_extent element n = extent element.grain (n * element.bytes)
 
--- the tag of so many cases has 1 byte, 2 or 4
-abbrev pub tag_grain : ℕ → ℕ
-tag_grain cases = if nat_le cases 256 then 0 else (if nat_le cases 65536 then 1 else 2)
+-- the discriminant of so many cases has 1 byte, 2 or 4, as the Canonical ABI's `discriminant_type`
+abbrev pub discriminant_grain : ℕ → ℕ
+discriminant_grain cases = if nat_le cases 256 then 0 else (if nat_le cases 65536 then 1 else 2)
 
--- the payload of each of so many cases stands behind the tag, at the greatest alignment of the payloads
+-- the payload of each of so many cases stands behind the discriminant, at the greatest alignment of the payloads
 abbrev pub payload_place : ℕ → Extent → ℕ
-payload_place cases payload = place payload (2 ^ tag_grain cases)
+payload_place cases payload = place payload (2 ^ discriminant_grain cases)
 
 abbrev pub variant_extent : ℕ → Extent → Extent
 variant_extent cases payload =
-    record_of_grain (max (tag_grain cases) payload.grain) (payload_place cases payload + payload.bytes)
+    record_of_grain (max (discriminant_grain cases) payload.grain) (payload_place cases payload + payload.bytes)
 
 -- so many flags have one byte, or two, or a word of four bytes for each 32
 abbrev pub flag_words : ℕ → ℕ

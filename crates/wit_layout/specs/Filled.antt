@@ -9,7 +9,7 @@ use Rattle.wit_layout.specs.declared.fault.LayoutFault.TheVariants.{TooLarge, Ou
 use Rattle.wit_layout.specs.declared.size_align.SizeAlign.{SizeAlign}
 use Rattle.wit_layout.specs.Extent.{Extent, end, record_extent}
 use Rattle.wit_layout.specs.Tree.{trees}
-use Rattle.wit_layout.specs.Sizes.{size}
+use Rattle.wit_layout.specs.Sizes.{elem_size}
 use Rattle.wit_layout.specs.Stored.{seen_type, AreLayoutsOf}
 
 -- the sizes are those of the types of this table
@@ -42,7 +42,7 @@ EndsInRoom sizes members = (length members ≤ 2) ⊎ (end (members_seen 3 sizes
 
 -- the first type that has more than 2^31 - 1 bytes where a pointer has 8, and so more than where it has 4
 unfoldable pub first_too_large : List TypeDef → Option ℕ
-first_too_large types = position (λ t. nat_le (2 ^ 31) (size 3 t)) (trees types)
+first_too_large types = position (λ t. nat_le (2 ^ 31) (elem_size 3 t)) (trees types)
 
 -- the refusal of a table
 abbrev pub IsLayoutFaultOf : List TypeDef → LayoutFault → Type 0

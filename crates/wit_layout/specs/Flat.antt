@@ -1,7 +1,7 @@
 -- Which core words a type is as a parameter or a result.
 use Rattle.std.specs.Prelude.{◌≡◌, ℕ, zero, suc, ◌<◌, nat_lt, min, List, [], ◌∷◌, ◌++◌, length, take, replicate}
-use Rattle.wit_model.specs.declared.size.WasmType.{WasmType}
-use Rattle.wit_model.specs.declared.size.WasmType.TheVariants.{I32, I64, F32, F64, Pointer, Length}
+use Rattle.wit_model.specs.declared.wasm_type.WasmType.{WasmType}
+use Rattle.wit_model.specs.declared.wasm_type.WasmType.TheVariants.{I32, I64, F32, F64, Pointer, Length}
 use Rattle.wit_model.specs.declared.types.TypeDef.{TypeDef}
 use Rattle.wit_layout.specs.declared.flat.Flat.{Flat}
 use Rattle.wit_layout.specs.Join.{join}
@@ -45,29 +45,29 @@ abbrev pub words_of_flags : ℕ → List WasmType
 words_of_flags n = replicate (flag_words n) I32
 
 abbrev mutual
-  pub flat : Tree → List WasmType
-  flat (scalar s) = core_type s ∷ []
-  flat text = pointer_and_length
-  flat (list t) = pointer_and_length
-  flat (pairs k v) = pointer_and_length
-  flat (fixed t n) = repeated n (flat t)
-  flat (fields ts) = flats ts
-  flat (cases ts) = I32 ∷ slots ts
-  flat (flags n) = words_of_flags n
+  pub flatten_type : Tree → List WasmType
+  flatten_type (scalar s) = core_type s ∷ []
+  flatten_type text = pointer_and_length
+  flatten_type (list t) = pointer_and_length
+  flatten_type (pairs k v) = pointer_and_length
+  flatten_type (fixed t n) = repeated n (flatten_type t)
+  flatten_type (fields ts) = flatten_record ts
+  flatten_type (cases ts) = I32 ∷ slots ts
+  flatten_type (flags n) = words_of_flags n
 
   -- the words of a record's fields, one after another
-  pub flats : Trees → List WasmType
-  flats none = []
-  flats (more t ts) = flat t ++ flats ts
+  pub flatten_record : Trees → List WasmType
+  flatten_record none = []
+  flatten_record (more t ts) = flatten_type t ++ flatten_record ts
 
   -- the slots that the payloads of a variant share
   pub slots : Trees → List WasmType
   slots none = []
-  slots (more t ts) = joined (flat t) (slots ts)
+  slots (more t ts) = joined (flatten_type t) (slots ts)
 
 -- each type of a table has a word at least
 abbrev pub EachHasWords : List TypeDef → Type 0
-EachHasWords types = (at : ℕ) → at < length types → 0 < length (flat (tree_at types at))
+EachHasWords types = (at : ℕ) → at < length types → 0 < length (flatten_type (tree_at types at))
 
 -- the first sixteen of some words, and whether there are more
 pub record IsFlatOf (f : Flat) (words : List WasmType) : Type 0 where

@@ -1,7 +1,7 @@
 -- What core type holds the words of two types, as the cases of a variant share their slots.
 use Rattle.std.specs.Prelude.{◌≡◌, ◌⊎◌}
-use Rattle.wit_model.specs.declared.size.WasmType.{WasmType}
-use Rattle.wit_model.specs.declared.size.WasmType.TheVariants.{I32, I64, F32, F64, Pointer, PointerOrI64, Length}
+use Rattle.wit_model.specs.declared.wasm_type.WasmType.{WasmType}
+use Rattle.wit_model.specs.declared.wasm_type.WasmType.TheVariants.{I32, I64, F32, F64, Pointer, PointerOrI64, Length}
 
 abbrev pub join : WasmType → WasmType → WasmType
 join PointerOrI64 _ = PointerOrI64

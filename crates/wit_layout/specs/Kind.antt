@@ -37,7 +37,7 @@ kind_extent w f (kind.Future _) = extent 2 4
 kind_extent w f (kind.Stream _) = extent 2 4
 kind_extent w f kind.Unknown = extent 2 4
 
--- where the payload of a kind with cases stands
+-- where the payload of a kind with cases stands; nothing else has one, and an alias keeps no place of its own
 abbrev pub kind_payload : (Option WitType → Extent) → TypeDefKind → ℕ
 kind_payload f (kind.Option payload) = payload_place 2 (greatest (part_extents f (kind.Option payload)))
 kind_payload f (kind.Result ok err) = payload_place 2 (greatest (part_extents f (kind.Result ok err)))
@@ -45,7 +45,7 @@ kind_payload f (kind.Variant members) = payload_place (length members) (greatest
 kind_payload f (kind.Enum members) = payload_place (length members) (greatest (part_extents f (kind.Enum members)))
 kind_payload f _ = 0
 
--- where the fields stand
+-- where the fields stand, if it has any of its own
 abbrev pub kind_offsets : (Option WitType → Extent) → TypeDefKind → List ℕ
 kind_offsets f (kind.Map k v) = places (part_extents f (kind.Map k v)) 0
 kind_offsets f (kind.Tuple members) = places (part_extents f (kind.Tuple members)) 0

@@ -1,13 +1,13 @@
 pub mod Ahead
 pub mod Cast
+pub mod CastBits
 pub mod Extent
 pub mod Filled
 pub mod Flat
 pub mod Grain
 pub mod Join
-pub mod Kept
 pub mod Kind
-pub mod Memo
+pub mod KindLayout
 pub mod Sequence
 pub mod Signature
 pub mod Sizes

@@ -1,8 +1,8 @@
 -- What core parameters and results a function has.
 use Rattle.std.specs.Prelude.{◌≡◌, ℕ, ◌==◌, ◌&&◌, ◌||◌, Bool, nat_lt, if◌then◌else◌, List, [], ◌∷◌, ◌++◌, length, map, Option}
 use Rattle.std.specs.List.{list_all}
-use Rattle.wit_model.specs.declared.size.WasmType.{WasmType}
-use Rattle.wit_model.specs.declared.size.WasmType.TheVariants.{Pointer}
+use Rattle.wit_model.specs.declared.wasm_type.WasmType.{WasmType}
+use Rattle.wit_model.specs.declared.wasm_type.WasmType.TheVariants.{Pointer}
 use Rattle.wit_model.specs.declared.types.WitType.{WitType}
 use Rattle.wit_model.specs.declared.types.TypeDef.{TypeDef}
 use Rattle.wit_model.specs.declared.function.Param.{Param}
@@ -11,15 +11,15 @@ use Rattle.wit_model.specs.TypeOrder.{type_below}
 use Rattle.wit_layout.specs.declared.signature.AbiVariant.{AbiVariant}
 use Rattle.wit_layout.specs.declared.signature.AbiVariant.TheVariants.{GuestImport, GuestExport}
 use Rattle.wit_layout.specs.declared.signature.WasmSignature.{WasmSignature}
-use Rattle.wit_layout.specs.Flat.{IsFlatOf, flat}
+use Rattle.wit_layout.specs.Flat.{IsFlatOf, flatten_type}
 use Rattle.wit_layout.specs.Tree.{payload_in, record_of, trees}
 
 -- the words of the parameters, which are those of their record, and the words of the result
 abbrev pub param_words : List TypeDef → List Param → List WasmType
-param_words types params = flat (record_of types (map (λ p. p.ty) params))
+param_words types params = flatten_type (record_of types (map (λ p. p.ty) params))
 
 abbrev pub result_words : List TypeDef → Option WitType → List WasmType
-result_words types answer = flat (payload_in (trees types) answer)
+result_words types answer = flatten_type (payload_in (trees types) answer)
 
 -- more than sixteen words go by one pointer
 abbrev pub are_many : List WasmType → Bool
@@ -47,8 +47,9 @@ pub record IsCoreSignature (variant : AbiVariant) (params answer : List WasmType
   pub indirect : s.indirect_params ≡ are_many params
   pub pointed : s.retptr ≡ needs_pointer answer
 
-abbrev pub IsSignatureOf : List TypeDef → AbiVariant → Function → WasmSignature → Type 0
-IsSignatureOf types variant f s = IsCoreSignature variant (param_words types f.params) (result_words types f.result) s
+-- what the Canonical ABI's `flatten_functype` gives for a function
+abbrev pub IsFlattenedFunctype : List TypeDef → AbiVariant → Function → WasmSignature → Type 0
+IsFlattenedFunctype types variant f s = IsCoreSignature variant (param_words types f.params) (result_words types f.result) s
 
 -- each parameter is a primitive or a place of a table of so many types
 abbrev pub params_below : ℕ → List Param → Bool

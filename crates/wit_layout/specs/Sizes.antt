@@ -47,8 +47,8 @@ abbrev mutual
   extents_of w (more t ts) = extent_of w t ∷ extents_of w ts
 
 -- the bytes of a type
-abbrev pub size : ℕ → Tree → ℕ
-size w t = (extent_of w t).bytes
+abbrev pub elem_size : ℕ → Tree → ℕ
+elem_size w t = (extent_of w t).bytes
 
 -- the number of which its address is a multiple
 abbrev pub alignment : ℕ → Tree → ℕ

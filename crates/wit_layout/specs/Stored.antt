@@ -60,3 +60,5 @@ pub record AreLayoutsOf (layouts : List TypeLayout) (types : List TypeDef) (many
   pub extents : (i : ℕ) (layout : TypeLayout) → slice_get layouts i ≡ Some layout → (seen 2 layout.extent ≡ extent_of 2 (tree_at types i)) × (seen 3 layout.extent ≡ extent_of 3 (tree_at types i))
   pub payloads : (i : ℕ) (layout : TypeLayout) (entry : TypeDef) → slice_get layouts i ≡ Some layout → slice_get types i ≡ Some entry → is_alias entry.kind ≡ false → IsPairOf layout.payload (λ w. payload_offset w (tree_at types i))
   pub offsets : (i : ℕ) (layout : TypeLayout) (entry : TypeDef) → slice_get layouts i ≡ Some layout → slice_get types i ≡ Some entry → is_alias entry.kind ≡ false → ArePairsOf layout.offsets (λ w. field_offsets w (tree_at types i))
+  pub alias_payloads : (i : ℕ) (layout : TypeLayout) (entry : TypeDef) → slice_get layouts i ≡ Some layout → slice_get types i ≡ Some entry → is_alias entry.kind ≡ true → IsPairOf layout.payload (λ w. 0)
+  pub alias_offsets : (i : ℕ) (layout : TypeLayout) (entry : TypeDef) → slice_get layouts i ≡ Some layout → slice_get types i ≡ Some entry → is_alias entry.kind ≡ true → ArePairsOf layout.offsets (λ w. [])

@@ -61,7 +61,9 @@ abbrev pub bare : {A : Type 0} → List A → Trees
 bare [] = none
 bare (_ ∷ members) = more nothing (bare members)
 
--- the tree of a kind, by the trees of the types that it names
+-- the tree of a kind, by the trees of the types that it names. A tuple, an enum, an option and a result become a record or a
+-- variant, as in the Canonical ABI's `despecialize`; besides, ids and aliases are followed, and a map stays apart from a list of
+-- pairs, since places in its entries are asked for
 abbrev pub tree_by : List Tree → TypeDefKind → Tree
 tree_by ts (kind.Alias ty) = tree_in ts ty
 tree_by ts (kind.Handle _) = scalar handle

@@ -1,7 +1,7 @@
 ghost use Rattle.std.specs.Prelude.{◌≡◌};
 ghost use Rattle.wit_layout.specs.Cast.{cast};
 ghost use Rattle.wit_layout.specs.Join.{join, AreInOrder};
-ghost use Rattle.wit_layout.specs.Words.{ReadsBack};
+ghost use Rattle.wit_layout.specs.CastBits.{ReadsBack};
 
 use wit_model::WasmType;
 

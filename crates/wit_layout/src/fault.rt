@@ -1,7 +1,8 @@
 use thiserror::Error;
 use wit_model::{OutOfMemory, TypeId};
 
-/// Why a table has no sizes.
+/// Why a table has no sizes. The texts are for who shows or logs a fault as it is, as of any error type; what a refusal of
+/// the program says is decided where it is told.
 #[derive(Clone, Copy, Debug, PartialEq, Eq, Error)]
 pub enum LayoutFault {
     /// The first type that has more than 2^31 - 1 bytes where pointers have 8.

@@ -1,6 +1,6 @@
 ghost use Rattle.std.specs.Prelude.{IsTrue, length};
 ghost use Rattle.wit_model.specs.TypeOrder.{GoesDown, type_below};
-ghost use Rattle.wit_layout.specs.Flat.{IsFlatOf, flat};
+ghost use Rattle.wit_layout.specs.Flat.{IsFlatOf, flatten_type};
 ghost use Rattle.wit_layout.specs.Tree.{tree_of};
 
 use crate::flatten::flatten_type;
@@ -19,7 +19,7 @@ pub struct Flat {
 
 impl Flat {
     ghost use Rattle.std.specs.Prelude.{take};
-    ghost use Rattle.wit_layout.specs.Kept.{kept};
+    ghost use Rattle.wit_layout.specs.Words.{kept};
 
     /// The first sixteen of the words.
     pub(crate) fn of_words(all: Words) -> Flat
@@ -42,10 +42,14 @@ impl Flat {
 /// word also tells whether it is a pointer or a length. It takes no memory. From the type it goes down as far as the
 /// first seventeen words need it, however deep that is: a call stands within another only for variants in variants, of
 /// which it opens seventeen at most.
+///
+/// Each case of a variant is flattened anew, as wit-parser's `push_flat` does, also where cases have the same type. So
+/// where variants of k cases stand within one another, as many as 1 + k + .. + k^16 of them are opened: 131,071 where k
+/// is 2, and more than can be waited for where many cases go seventeen levels down.
 pub fn flat_types(resolve: &Resolve, ty: &WitType) -> Flat
     requires down { GoesDown resolve.now.types }
     requires below { IsTrue (type_below (length resolve.now.types) ty.now) }
-    ensures { IsFlatOf result (flat (tree_of resolve.now.types ty.now)) }
+    ensures { IsFlatOf result (flatten_type (tree_of resolve.now.types ty.now)) }
 {
     Flat::of_words(flatten_type(resolve.types.as_slice(), *ty, Words::none(17)))
 }

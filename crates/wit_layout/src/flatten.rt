@@ -4,8 +4,8 @@ ghost use Rattle.std.specs.Prelude.{◌≡◌, ◌<◌, ◌≤◌, ◌++◌, ◌
 ghost use Rattle.wit_model.specs.declared.types.TypeDef.{TypeDef};
 ghost use Rattle.wit_model.specs.Parts.{parts};
 ghost use Rattle.wit_model.specs.TypeOrder.{GoesDown, type_below, payload_below};
-ghost use Rattle.wit_layout.specs.Flat.{EachHasWords, flat, flats, pointer_and_length, slots, words_of_flags};
-ghost use Rattle.wit_layout.specs.Kept.{kept};
+ghost use Rattle.wit_layout.specs.Flat.{EachHasWords, flatten_type, flatten_record, pointer_and_length, slots, words_of_flags};
+ghost use Rattle.wit_layout.specs.Words.{kept};
 ghost use Rattle.wit_layout.specs.Sequence.{members_at};
 ghost use Rattle.wit_layout.specs.Tree.{trees, tree_at, tree_of, payload_in, payloads_in};
 
@@ -43,7 +43,7 @@ fn flatten_flags(count: usize, words: Words) -> Words
 pub(crate) fn flatten_type(types: &[TypeDef], ty: WitType, words: Words) -> Words
     requires down { GoesDown types.now }
     requires below { IsTrue (type_below (length types.now) ty) }
-    ensures words { kept result ≡ take words.room (kept words ++ flat (tree_of types.now ty)) }
+    ensures words { kept result ≡ take words.room (kept words ++ flatten_type (tree_of types.now ty)) }
     ensures room { result.room ≡ words.room }
 {
     match ty {
@@ -62,7 +62,7 @@ pub(crate) fn flatten_type(types: &[TypeDef], ty: WitType, words: Words) -> Word
 pub(crate) fn flatten_payload(types: &[TypeDef], payload: Option<WitType>, words: Words) -> Words
     requires down { GoesDown types.now }
     requires below { IsTrue (payload_below (length types.now) payload) }
-    ensures words { kept result ≡ take words.room (kept words ++ flat (payload_in (trees types.now) payload)) }
+    ensures words { kept result ≡ take words.room (kept words ++ flatten_type (payload_in (trees types.now) payload)) }
     ensures room { result.room ≡ words.room }
 {
     match payload {
@@ -76,7 +76,7 @@ pub(crate) fn flatten_payload(types: &[TypeDef], payload: Option<WitType>, words
 fn flatten_kind(types: &[TypeDef], at: usize, words: Words) -> Words
     requires down { GoesDown types.now }
     requires within { at < length types.now }
-    ensures words { kept result ≡ take words.room (kept words ++ flat (tree_at types.now at)) }
+    ensures words { kept result ≡ take words.room (kept words ++ flatten_type (tree_at types.now at)) }
     ensures room { result.room ≡ words.room }
 {
     match &types[at].kind {
@@ -99,7 +99,7 @@ fn flatten_kind(types: &[TypeDef], at: usize, words: Words) -> Words
 fn flatten_members(types: &[TypeDef], at: usize, words: Words) -> Words
     requires down { GoesDown types.now }
     requires within { at < length types.now }
-    ensures words { kept result ≡ take words.room (kept words ++ flats (payloads_in (trees types.now) (members_at types.now at))) }
+    ensures words { kept result ≡ take words.room (kept words ++ flatten_record (payloads_in (trees types.now) (members_at types.now at))) }
     ensures room { result.room ≡ words.room }
 {
     let mut all = words;
@@ -127,7 +127,7 @@ fn flatten_each_member(types: &[TypeDef], at: usize, words: Words) -> Words
     requires down { GoesDown types.now }
     requires within { at < length types.now }
     requires wordless { EachHasWords types.now → ⊥ }
-    ensures words { kept result ≡ take words.room (kept words ++ flats (payloads_in (trees types.now) (members_at types.now at))) }
+    ensures words { kept result ≡ take words.room (kept words ++ flatten_record (payloads_in (trees types.now) (members_at types.now at))) }
     ensures room { result.room ≡ words.room }
 {
     let kind = &types[at].kind;
@@ -150,11 +150,11 @@ fn flatten_variant(types: &[TypeDef], at: usize, words: Words) -> Words
         → kept result ≡ take words.room (kept words ++ WasmType.I32 ∷ slots (payloads_in (trees types.now) (parts entry.kind))) }
     ensures room { result.room ≡ words.room }
 {
-    let tagged = words.with(WasmType::I32);
-    if tagged.left() == 0 {
-        return tagged;
+    let begun = words.with(WasmType::I32);
+    if begun.left() == 0 {
+        return begun;
     }
-    tagged.followed_by(flatten_cases(types, at, tagged.left()))
+    begun.followed_by(flatten_cases(types, at, begun.left()))
 }
 
 /// The slots that the parts of a type share as payloads, as far as there is room.

@@ -142,7 +142,7 @@ fn payload_of_cases(layouts: &[TypeLayout], kind: &TypeDefKind) -> ArchitectureS
     parts_of(layouts, kind).payload(case_count(kind)).size()
 }
 
-/// Where the payload of a kind with cases stands; else nothing.
+/// Where the payload of a kind with cases stands, for an enum where one would stand; 0 for each other kind.
 pub(crate) fn payload_of_kind(layouts: &[TypeLayout], kind: &TypeDefKind) -> ArchitectureSize
     requires below { IsTrue (parts_below (length layouts.now) kind.now) }
     requires numbered { IsTrue (kind_numbered kind.now) }

@@ -1,5 +1,5 @@
 ghost use Rattle.std.specs.Prelude.{◌≡◌, ◌+◌, ◌-◌, ◌^◌, ◌<◌, ◌≤◌};
-ghost use Rattle.wit_layout.specs.Extent.{extent, place, greater, record_of_grain, tag_grain, payload_place, variant_extent};
+ghost use Rattle.wit_layout.specs.Extent.{extent, place, greater, record_of_grain, discriminant_grain, payload_place, variant_extent};
 ghost use Rattle.wit_layout.specs.Grain.{exponent};
 ghost use Rattle.wit_layout.specs.Spread.{bytes_of, Grows, IsSize};
 
@@ -73,7 +73,7 @@ impl Parts {
         ensures padded { exponent 2 self.grain < 2 → result.at4 ≡ result.at8 }
         ensures bounded { result.at8 ≤ 16 }
     {
-        Spread::both(tag(cases).at4()).aligned(self.grain)
+        Spread::both(discriminant_grain(cases).at4()).aligned(self.grain)
     }
 
     /// What a variant of so many cases takes, whose payloads are the parts, if it can be stored.
@@ -81,16 +81,16 @@ impl Parts {
         ensures { IsStored result
             (λ w. variant_extent cases (extent (exponent w self.grain) (bytes_of w self.largest))) }
     {
-        let grain = tag(cases).max(self.grain);
+        let grain = discriminant_grain(cases).max(self.grain);
         let end = self.payload(cases).plus(self.largest);
         StoredExtent::new(end.aligned(grain), grain)
     }
 }
 
-/// The tag of so many cases: as many bytes as its alignment.
-fn tag(cases: usize) -> Grain
-    ensures four { exponent 2 result ≡ tag_grain cases }
-    ensures eight { exponent 3 result ≡ tag_grain cases }
+/// The alignment of the discriminant of so many cases, which has as many bytes: the Canonical ABI's `discriminant_type`.
+fn discriminant_grain(cases: usize) -> Grain
+    ensures four { exponent 2 result ≡ discriminant_grain cases }
+    ensures eight { exponent 3 result ≡ discriminant_grain cases }
 {
     match cases {
         0..=256 => Grain::One,

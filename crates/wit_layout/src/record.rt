@@ -11,13 +11,14 @@ ghost use Rattle.wit_layout.specs.Filled.{
   fits_in_record,
 };
 ghost use Rattle.wit_layout.specs.Grain.{exponent};
-ghost use Rattle.wit_layout.specs.Sizes.{size, alignment, field_offsets};
+ghost use Rattle.wit_layout.specs.Sizes.{elem_size, alignment, field_offsets};
 ghost use Rattle.wit_layout.specs.Stored.{IsPairOf, IsAlignmentOf};
 ghost use Rattle.wit_layout.specs.Tree.{record_of};
 
 use crate::kind::extent_of;
 use crate::parts::Parts;
 use crate::size_align::SizeAlign;
+use crate::stored::TOO_LARGE;
 use wit_model::{Alignment, ArchitectureSize, WitType};
 
 impl SizeAlign {
@@ -26,7 +27,7 @@ impl SizeAlign {
         requires { IsTrue (have_sizes self.now types.now) }
         ensures parts { result ≡ fits_in_record self.now types.now }
         ensures record { (table : List TypeDef) → IsFilledFor self.now table
-            → result ≡ nat_lt (size 3 (record_of table types.now)) (2 ^ 31) }
+            → result ≡ nat_lt (elem_size 3 (record_of table types.now)) (2 ^ 31) }
     {
         self.is_small_record(types)
     }
@@ -37,7 +38,7 @@ impl SizeAlign {
     {
         let mut all = Parts::none();
         for ty in types {
-            if all.end.at8 >= 0x8000_0000 {
+            if all.end.at8 >= TOO_LARGE {
                 return false;
             }
             all = all.with(extent_of(self.layouts.as_slice(), *ty));
@@ -69,7 +70,7 @@ impl SizeAlign {
         requires sizes { IsTrue (have_sizes self.now types.now) }
         requires room { IsMeasurable self.now types.now }
         ensures size { (table : List TypeDef) → IsFilledFor self.now table
-            → IsPairOf result.0 (λ w. size w (record_of table types.now)) }
+            → IsPairOf result.0 (λ w. elem_size w (record_of table types.now)) }
         ensures align { (table : List TypeDef) → IsFilledFor self.now table
             → IsAlignmentOf result.1 (λ w. alignment w (record_of table types.now)) }
     {
@@ -96,8 +97,8 @@ impl SizeAlign {
 fn is_small(all: &Parts) -> bool
     ensures { result ≡ nat_lt (record_of_grain (exponent 3 all.now.grain) all.now.end.at8).bytes (2 ^ 31) }
 {
-    if all.end.at8 >= 0x8000_0000 {
+    if all.end.at8 >= TOO_LARGE {
         return false;
     }
-    all.end.aligned(all.grain).at8 < 0x8000_0000
+    all.end.aligned(all.grain).at8 < TOO_LARGE
 }

@@ -4,8 +4,8 @@ ghost use Rattle.wit_model.specs.declared.types.TypeDef.{TypeDef};
 ghost use Rattle.wit_model.specs.IndexRange.{function_in_range};
 ghost use Rattle.wit_model.specs.TypeOrder.{GoesDown};
 ghost use Rattle.wit_layout.specs.declared.signature.AbiVariant.{AbiVariant};
-ghost use Rattle.wit_layout.specs.Kept.{kept};
-ghost use Rattle.wit_layout.specs.Signature.{IsCoreSignature, IsSignatureOf, core_params, direct_words, has_param, param_words, params_below, result_words};
+ghost use Rattle.wit_layout.specs.Words.{kept};
+ghost use Rattle.wit_layout.specs.Signature.{IsCoreSignature, IsFlattenedFunctype, core_params, direct_words, has_param, param_words, params_below, result_words};
 
 use crate::flat::Flat;
 use crate::flatten::{flatten_payload, flatten_type};
@@ -38,7 +38,7 @@ impl WasmSignature {
     /// result.
     pub fn param(&self, nth: u32) -> WasmType
         requires { IsTrue (has_param self.now nth) }
-        ensures { (types : List TypeDef) (variant : AbiVariant) (func : Function) → IsSignatureOf types variant func self.now
+        ensures { (types : List TypeDef) (variant : AbiVariant) (func : Function) → IsFlattenedFunctype types variant func self.now
             → slice_get (core_params variant (param_words types func.params) (result_words types func.result)) nth ≡ Some result }
     {
         if nth < 16 {
@@ -55,7 +55,7 @@ impl WasmSignature {
 pub fn wasm_signature(resolve: &Resolve, variant: AbiVariant, func: &Function) -> WasmSignature
     requires down { GoesDown resolve.now.types }
     requires within { IsTrue (function_in_range resolve.now func.now) }
-    ensures { IsSignatureOf resolve.now.types variant func.now result }
+    ensures { IsFlattenedFunctype resolve.now.types variant func.now result }
 {
     let types = resolve.types.as_slice();
     let params = flatten_params(types, func.params.as_slice());

@@ -2,7 +2,7 @@ ghost use Rattle.std.specs.Prelude.{◌≡◌, ◌<◌, length, IfOk, IfErr, OnO
 ghost use Rattle.wit_model.specs.Numbered.{is_numbered};
 ghost use Rattle.wit_model.specs.Size.{alignment_at};
 ghost use Rattle.wit_model.specs.TypeOrder.{GoesDown};
-ghost use Rattle.wit_layout.specs.Sizes.{size, alignment, payload_offset, field_offsets};
+ghost use Rattle.wit_layout.specs.Sizes.{elem_size, alignment, payload_offset, field_offsets};
 ghost use Rattle.wit_layout.specs.Stored.{IsPairOf, ArePairsOf, IsAlignmentOf, is_alias};
 ghost use Rattle.wit_layout.specs.Tree.{tree_at, tree_of};
 
@@ -20,7 +20,7 @@ pub struct SizeAlign {
 }
 
 impl SizeAlign {
-    ghost use Rattle.std.specs.Prelude.{List, Some, false};
+    ghost use Rattle.std.specs.Prelude.{List, Some, true, false, []};
     ghost use Rattle.wit_model.specs.declared.types.TypeDef.{TypeDef};
     ghost use Rattle.wit_layout.specs.Filled.{IsFilledFor, IsLayoutFaultOf, first_too_large, has_size};
 
@@ -60,7 +60,7 @@ impl SizeAlign {
     pub fn size(&self, ty: &WitType) -> ArchitectureSize
         requires { IsTrue (has_size self.now ty.now) }
         ensures { (types : List TypeDef) → IsFilledFor self.now types
-            → IsPairOf result (λ w. size w (tree_of types ty.now)) }
+            → IsPairOf result (λ w. elem_size w (tree_of types ty.now)) }
     {
         extent_of(self.layouts.as_slice(), *ty).size
     }
@@ -82,24 +82,32 @@ impl SizeAlign {
         &self.layouts.as_slice()[id.0 as usize]
     }
 
-    /// How many bytes and pointers stand before the payload in a variant, an option or a result; for a type that is none
-    /// of them it is no place at all.
+    /// How many bytes and pointers stand before the payload in a variant, an option or a result. For an enum, which has no
+    /// payload, it is the size of its discriminant, and for each other kind nothing. That is so for an alias too: the type
+    /// behind it, which [`wit_model::dealias`] gives, is to be asked.
     pub fn payload_offset(&self, id: TypeId) -> ArchitectureSize
         requires { IsTrue (has_size self.now (WitType.Id id)) }
-        ensures { (types : List TypeDef) (entry : TypeDef) → IsFilledFor self.now types
+        ensures own { (types : List TypeDef) (entry : TypeDef) → IsFilledFor self.now types
             → slice_get types id.0 ≡ Some entry → is_alias entry.kind ≡ false
             → IsPairOf result (λ w. payload_offset w (tree_at types id.0)) }
+        ensures alias { (types : List TypeDef) (entry : TypeDef) → IsFilledFor self.now types
+            → slice_get types id.0 ≡ Some entry → is_alias entry.kind ≡ true
+            → IsPairOf result (λ w. 0) }
     {
         self.layout(id).payload
     }
 
     /// How many bytes and pointers stand before each field in a record or a tuple, and before the key and the value in an
-    /// entry of a map; for a type that is none of them, no place.
+    /// entry of a map. For each other kind the list is empty, for an alias too: the type behind it, which
+    /// [`wit_model::dealias`] gives, is to be asked.
     pub fn field_offsets_of(&self, id: TypeId) -> &[ArchitectureSize]
         requires { IsTrue (has_size self.now (WitType.Id id)) }
-        ensures { (types : List TypeDef) (entry : TypeDef) → IsFilledFor self.now types
+        ensures own { (types : List TypeDef) (entry : TypeDef) → IsFilledFor self.now types
             → slice_get types id.0 ≡ Some entry → is_alias entry.kind ≡ false
             → ArePairsOf result.now (λ w. field_offsets w (tree_at types id.0)) }
+        ensures alias { (types : List TypeDef) (entry : TypeDef) → IsFilledFor self.now types
+            → slice_get types id.0 ≡ Some entry → is_alias entry.kind ≡ true
+            → ArePairsOf result.now (λ w. []) }
     {
         self.layout(id).offsets.as_slice()
     }

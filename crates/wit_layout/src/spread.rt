@@ -26,7 +26,7 @@ impl Spread {
     }
 
     /// The next place with an alignment.
-    #[tactic(auto, using(wit_model::proofs::Rounding::rounded_below))]
+    #[tactic(auto, using(crate::proofs::Rounding::rounded_below))]
     pub(crate) fn aligned(self, grain: Grain) -> Spread
         requires room4 { self.at4 + 8 ≤ 2 ^ 64 }
         requires room8 { self.at8 + 8 ≤ 2 ^ 64 }

@@ -9,6 +9,9 @@ use crate::grain::Grain;
 use crate::spread::Spread;
 use wit_model::ArchitectureSize;
 
+/// The least number of bytes where pointers have 8 that is too large for a stored type: 2^31.
+pub(crate) const TOO_LARGE: u64 = 0x8000_0000;
+
 /// What a type takes in memory. It has at most 2^31 - 1 bytes, and where it holds a pointer it is aligned to 4 bytes at
 /// least.
 #[derive(Clone, Copy, Debug)]
@@ -54,7 +57,7 @@ impl StoredExtent {
         requires padded { exponent 2 grain < 2 → bytes.at4 ≡ bytes.at8 }
         ensures { IsStored result (λ w. extent (exponent w grain) (bytes_of w bytes)) }
     {
-        if bytes.at8 >= 0x8000_0000 {
+        if bytes.at8 >= TOO_LARGE {
             return None;
         }
         Some(StoredExtent {

@@ -11,14 +11,16 @@ use wit_model::{ArchitectureSize, List, OutOfMemory, TypeDefKind};
 #[derive(Debug, Drop)]
 pub(crate) struct TypeLayout {
     pub(crate) extent: StoredExtent,
-    /// Where the payload of a variant, an option or a result stands; else nothing.
+    /// Where the payload of a variant, an option or a result stands, and where an enum ends; 0 for each other kind, for an
+    /// alias too.
     pub(crate) payload: ArchitectureSize,
-    /// Where the fields of a record or a tuple stand, or key and value in an entry of a map; else empty.
+    /// Where the fields of a record or a tuple stand, or key and value in an entry of a map; empty for each other kind, for
+    /// an alias too.
     pub(crate) offsets: List<ArchitectureSize>,
 }
 
 impl TypeLayout {
-    ghost use Rattle.wit_layout.specs.Memo.{IsKindLayout};
+    ghost use Rattle.wit_layout.specs.KindLayout.{IsKindLayout};
 
     /// The layout of a kind, by those of the entries before it, if it can be stored.
     pub(crate) fn of_kind(

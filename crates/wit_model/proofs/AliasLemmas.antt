@@ -1,8 +1,8 @@
 -- Along aliases ids go down, and so following more of them than the id's number changes nothing.
-use Rattle.std.proofs.Common.{◌≡◌, ℕ, zero, suc, ◌<◌, ◌≤◌, true, ◌&&◌, nat_lt, List, Option, None, Some, slice_get, refl, sym, ◌∙◌, ap, arith}
+use Rattle.std.proofs.Common.{◌≡◌, ℕ, zero, suc, ◌<◌, ◌≤◌, true, List, Option, None, Some, slice_get, refl, sym, ◌∙◌, ap, arith}
 use Rattle.std.specs.Prelude.{unwrap_or}
 use Rattle.std.specs.Option.{option_map, option_and_then}
-use Rattle.std.proofs.lemmas.Grind.{common_steps}
+use Rattle.std.proofs.lemmas.Bool.{and_parts}
 use Rattle.wit_model.specs.declared.name.TypeId.{TypeId}
 use Rattle.wit_model.specs.declared.types.WitType.{WitType}
 use Rattle.wit_model.specs.declared.types.WitType.TheVariants.{Id}
@@ -12,15 +12,13 @@ use Rattle.wit_model.specs.declared.types.TypeDef.{TypeDef}
 use Rattle.wit_model.specs.Parts.{parts}
 use Rattle.wit_model.specs.TypeOrder.{type_below, payload_below, parts_below, GoesDown}
 use Rattle.wit_model.specs.Dealias.{aliased, next_alias, behind_aliases, dealias}
-
-below_bound : (bound : ℕ) (id : TypeId) → (nat_lt id.0 bound && true) ≡ true → id.0 < bound
-below_bound bound id h = grind (arith, common_steps)
+use Rattle.wit_model.proofs.BelowLemmas.{id_below}
 
 target_below : (bound : ℕ) (ty : WitType) (next : TypeId) → aliased (kind.Alias ty) ≡ Some next → parts_below bound (kind.Alias ty) ≡ true → next.0 < bound
 unfolding parts_below payload_below type_below parts
 target_below bound (Id id) next e h =
     let same : id ≡ next = cc in
-    rw (sym same) (below_bound bound id h)
+    rw (sym same) (id_below bound id (and_parts _ _ h).0)
 target_below bound _ next e h = cc
 
 aliased_below : (bound : ℕ) (kind : TypeDefKind) (next : TypeId) → aliased kind ≡ Some next → parts_below bound kind ≡ true → next.0 < bound

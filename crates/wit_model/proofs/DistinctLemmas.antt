@@ -1,13 +1,12 @@
 -- Lists of texts of which no two are equal, from their end.
 use Rattle.std.proofs.Common.{◌≡◌, ℕ, zero, suc, ◌-◌, ◌<◌, ◌≤◌, ◌&&◌, ◌||◌, Bool, true, false, not, cond, List, [], ◌∷◌, length, get_or, map, drop, refl, sym, ap, ◌∙◌, arith}
+use Rattle.std.proofs.Math.Bool.{and-true}
 use Rattle.std.proofs.Math.Seq.{drop-cons}
 use Rattle.std.specs.List.{list_any}
 use Rattle.std.specs.Str.{bytes_eq}
 use Rattle.std.proofs.Common.{Bor}
+use Rattle.wit_model.specs.Bytes.{Bytes}
 use Rattle.wit_model.specs.Distinct.{is_distinct}
-
-abbrev pub Bytes : Type 0
-Bytes = List ℕ
 
 -- the texts from place i on
 abbrev pub texts_from : ℕ → List (Bor Bytes) → List Bytes
@@ -36,10 +35,6 @@ pub distinct-rest : (i : ℕ) (xs : List (Bor Bytes)) → is_distinct (texts_fro
 distinct-rest zero xs e = e
 distinct-rest (suc i) [] e = e
 distinct-rest (suc i) (x ∷ xs) e = and-false _ _ (distinct-rest i xs e)
-
-and-true : (b : Bool) → (b && true) ≡ b
-and-true true = refl
-and-true false = refl
 
 or-cond : (a b : Bool) → cond a true b ≡ (a || b)
 or-cond true b = refl

@@ -1,6 +1,7 @@
 pub mod AliasEnds
 pub mod AliasLemmas
 pub mod AllLemmas
+pub mod BelowLemmas
 pub mod DistinctLemmas
 pub mod InRange
 pub mod ReachLemmas

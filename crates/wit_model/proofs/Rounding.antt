@@ -1,7 +1,7 @@
 -- A number at the next multiple of another one.
-use Rattle.std.proofs.Common.{◌≡◌, ℕ, zero, suc, ◌+◌, ◌-◌, ◌*◌, ◌/◌, ◌%◌, ◌<◌, ◌≤◌, refl, sym, ap, ◌∙◌, subst, arith}
-use Rattle.std.proofs.Math.Nat.{lt-div-mul-add, mul-mod_left}
-use Rattle.std.proofs.lemmas.Nat.{div-mul-add, div-add-mod', div_below, mod_below, mul-le}
+use Rattle.std.proofs.Common.{◌≡◌, ℕ, ◌+◌, ◌-◌, ◌*◌, ◌/◌, ◌%◌, ◌<◌, ◌≤◌, sym, ap, ◌∙◌, arith}
+use Rattle.std.proofs.Math.Nat.{lt-div-mul-add}
+use Rattle.std.proofs.lemmas.Nat.{div-mul-add, div-add-mod', mod_below}
 use Rattle.wit_model.specs.Size.{rounded_up}
 
 -- the same number, written with its quotient and rest
@@ -23,12 +23,3 @@ rounded_other m n some past =
 
 pub rounded_above : (m n : ℕ) → 0 < m → n ≤ rounded_up m n
 rounded_above m n some = let l = lt-div-mul-add {a = n + (m - 1)} {b = m} some in omega (arith, l)
-
-pub rounded_below : (m n : ℕ) → 0 < m → rounded_up m n < n + m
-rounded_below m n some = omega (arith, div-add-mod' (n + (m - 1)) m, some)
-
--- no lesser multiple is at least the number
-pub rounded_least : (m n k : ℕ) → 0 < m → n ≤ k * m → rounded_up m n ≤ k * m
-rounded_least m n k some within =
-    let q : (n + (m - 1)) / m < k + 1 = div_below (n + (m - 1)) m (k + 1) some (omega (arith, within, some)) in
-    mul-le ((n + (m - 1)) / m) m k m (omega (arith, q)) (omega arith)

@@ -7,7 +7,7 @@ use Rattle.wit_model.specs.declared.resolve.Resolve.{Resolve}
 use Rattle.wit_model.specs.Place.{Place}
 use Rattle.wit_model.specs.TypeOrder.{parts_below, first_out_of_order, GoesDown}
 use Rattle.wit_model.specs.Members.{has_members, first_without_members}
-use Rattle.wit_model.specs.MapKey.{has_good_key, first_bad_key}
+use Rattle.wit_model.specs.MapKey.{first_bad_key}
 use Rattle.wit_model.specs.WellFormed.{first_fault}
 use Rattle.wit_model.proofs.InRange.{neither, unmapped, passes_at}
 
@@ -46,11 +46,6 @@ types_go_down r h = goes_down r (none_broken r h).0
 pub has_members_at : (r : Resolve) (k : ℕ) (t : TypeDef) → first_fault r ≡ None → slice_get r.types k ≡ Some t → has_members t.kind ≡ true
 unfolding first_without_members
 has_members_at r k t h e = passes_at _ (λ (entry : TypeDef). has_members entry.kind) r.types k t (none_broken r h).1 e
-
--- each map's key is, after aliases, of a kind that keys may have
-pub has_good_key_at : (r : Resolve) (k : ℕ) (t : TypeDef) → first_fault r ≡ None → slice_get r.types k ≡ Some t → has_good_key r.types t.kind ≡ true
-unfolding first_bad_key
-has_good_key_at r k t h e = passes_at _ (λ (entry : TypeDef). has_good_key r.types entry.kind) r.types k t (none_broken r h).2 e
 
 pub goes_down_if_none : (r : Resolve) (o : Option Place) → o ≡ first_out_of_order r → IfNone o (GoesDown r.types)
 goes_down_if_none r None h = goes_down r (sym h)

@@ -6,7 +6,9 @@ use crate::name::TypeId;
 use crate::resolve::Resolve;
 use crate::types::{TypeDef, TypeDefKind, WitType};
 
-fn aliased(kind: &TypeDefKind) -> Option<TypeId>
+/// The type of the table that a kind is another name of. There is none where the kind is no alias, and where it is an
+/// alias of a type that is not in the table, as of a number. It follows one alias, where `dealias` follows all.
+pub fn aliased(kind: &TypeDefKind) -> Option<TypeId>
     ensures { result ≡ aliased kind.now }
 {
     match kind {

@@ -6,7 +6,8 @@ use crate::text::Text;
 use std::alloc::Global;
 use std::collections::HashSet;
 
-/// Whether no two of these texts are equal.
+/// Whether no two of these texts are equal; the texts are std's. It takes memory for a set of the texts and answers
+/// `OutOfMemory` where there is none.
 pub fn are_distinct(alloc: Global, texts: &[&str]) -> Result<bool, OutOfMemory>
     ensures { IfOk result (λ b. b ≡ is_distinct (map (λ t. t.now) texts.now)) }
 {
@@ -32,7 +33,8 @@ fn as_strs(alloc: Global, texts: &[Text]) -> Result<Vec<&str>, OutOfMemory>
     Ok(strs)
 }
 
-/// Whether no two of these texts are equal.
+/// Whether no two of these texts are equal, as `are_distinct` tells it; the texts are `Text`s, as the tables have them.
+/// It takes memory for a list of references to them and for that set, and answers `OutOfMemory` where there is none.
 pub fn are_distinct_texts(alloc: Global, texts: &[Text]) -> Result<bool, OutOfMemory>
     ensures { IfOk result (λ b. b ≡ is_distinct texts.now) }
 {

@@ -1,4 +1,4 @@
-ghost use Rattle.std.specs.Prelude.{◌≡◌, [], ◌∷◌, ◌++◌, ◌<◌, length, slice_get, ◌↔◌, IsTrue, OnOk, OnErr, OnSome};
+ghost use Rattle.std.specs.Prelude.{◌≡◌, [], ◌∷◌, ◌++◌, ◌<◌, length, slice_get, ◌↔◌, IsTrue, IfOk, OnOk, OnErr, OnSome};
 ghost use Rattle.std.specs.Option.{option_copied};
 
 use crate::memory::OutOfMemory;
@@ -89,6 +89,15 @@ impl<T: Drop> List<T> {
 }
 
 impl<T: Copy> List<T> {
+    /// The list of copies of some values, in their order.
+    pub fn from_slice(alloc: Global, values: &[T]) -> Result<List<T>, OutOfMemory>
+        ensures { IfOk result (λ list. list ≡ values.now) }
+    {
+        Ok(List {
+            items: Vec::from_slice(alloc, values)?,
+        })
+    }
+
     /// Puts copies of some values last, in their order. After a refusal the list is as it was.
     pub fn extend_from_slice(&mut self, values: &[T]) -> Result<(), OutOfMemory>
         ensures ok { OnOk result (self.new ≡ self.old ++ values.now) }
@@ -129,6 +138,7 @@ mod tests {
         assert_eq!(rt; list.as_slice(), [3, 1, 4, 1].as_slice());
         let same = List::from_vec(list.into_vec());
         assert_eq!(rt; same.as_slice(), [3, 1, 4, 1].as_slice());
+        assert_eq!(rt; same, List::from_slice(rt.alloc(), &[3, 1, 4, 1])?);
         Ok(())
     }
 }

@@ -1,4 +1,8 @@
+ghost use Rattle.std.specs.Prelude.{◌≡◌, IfOk};
+
+use crate::memory::OutOfMemory;
 use crate::text::Text;
+use std::alloc::Global;
 
 /// A WIT name in four forms: as written, and as the printed code writes it in snake case, in camel case and in
 /// upper case.
@@ -8,6 +12,20 @@ pub struct Name {
     pub snake: Text,
     pub camel: Text,
     pub upper: Text,
+}
+
+impl Name {
+    /// An equal name.
+    pub fn copy(&self, alloc: Global) -> Result<Name, OutOfMemory>
+        ensures { IfOk result (λ n. n ≡ self.now) }
+    {
+        Ok(Name {
+            wit: self.wit.copy(alloc)?,
+            snake: self.snake.copy(alloc)?,
+            camel: self.camel.copy(alloc)?,
+            upper: self.upper.copy(alloc)?,
+        })
+    }
 }
 
 /// The doc comment of an item, if there is one.

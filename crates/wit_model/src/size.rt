@@ -23,18 +23,6 @@ pub enum Alignment {
     Bytes(u32),
 }
 
-/// A core type. `Pointer` and `Length` have the pointer's width, and `PointerOrI64` holds either.
-#[derive(Clone, Copy, Debug, PartialEq, Eq)]
-pub enum WasmType {
-    I32,
-    I64,
-    F32,
-    F64,
-    Pointer,
-    PointerOrI64,
-    Length,
-}
-
 impl ArchitectureSize {
     /// The size that is so many bytes at pointers of 4 bytes and so many at pointers of 8. It exists where the second
     /// number is at least the first, at most twice the first, and differs from it by a multiple of 4.

@@ -111,28 +111,23 @@ impl ArchitectureSize {
     }
 }
 
-fn text_of(alloc: Global, mark: Mark) -> Result<Text, OutOfMemory>
-    ensures { IfOk result (λ t. t ≡ mark_text mark) }
-{
-    Text::from_str(alloc, spelled(mark))
-}
-
-fn number_of(alloc: Global, n: u64) -> Result<Text, OutOfMemory>
-    ensures { IfOk result (λ t. t ≡ decimal n) }
-{
-    let mut out = Text::new(alloc);
-    out.push_number(n)?;
-    Ok(out)
-}
-
 impl Alignment {
+    /// Puts the alignment behind a text, as `format` gives it.
+    pub fn push(&self, out: &mut Text) -> Result<(), OutOfMemory>
+        ensures { OnOk result (out.new ≡ out.old ++ alignment_text self.now) }
+    {
+        match self {
+            Alignment::Pointer => put(out, Mark::PointerSize),
+            Alignment::Bytes(n) => out.push_number(u64::from(*n)),
+        }
+    }
+
     /// The alignment as a Rust expression: the number of bytes, or the size of a pointer.
     pub fn format(&self, alloc: Global) -> Result<Text, OutOfMemory>
         ensures { IfOk result (λ t. t ≡ alignment_text self.now) }
     {
-        match self {
-            Alignment::Pointer => text_of(alloc, Mark::PointerSize),
-            Alignment::Bytes(n) => number_of(alloc, u64::from(*n)),
-        }
+        let mut out = Text::new(alloc);
+        self.push(&mut out)?;
+        Ok(out)
     }
 }

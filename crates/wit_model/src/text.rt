@@ -68,7 +68,8 @@ impl Text {
         Ok(())
     }
 
-    /// Puts a number behind this text, in decimal. After a refusal the text is given up.
+    /// Puts a number behind this text, in decimal. After a refusal the text may end in a part of the number, and no
+    /// clause says what it holds.
     pub fn push_number(&mut self, n: u64) -> Result<(), OutOfMemory>
         ensures { OnOk result (self.new ≡ self.old ++ decimal n) }
     {

@@ -13,9 +13,7 @@ use Rattle.wit_program.specs.declared.outcome.Outcome.{Outcome}
 use Rattle.wit_program.specs.Words.{is_generate}
 use Rattle.wit_program.specs.Input.{input_in}
 use Rattle.wit_program.specs.Made.{Makes, IsGenCause}
-
-abbrev pub Bytes : Type 0
-Bytes = List ℕ
+use Rattle.wit_model.specs.Bytes.{Bytes}
 
 -- an end before and after a stretch of calls: its bytes, where it tells them, and its count of faults
 pub record Stretch : Type 0 where
@@ -24,8 +22,9 @@ pub record Stretch : Type 0 where
   pub faults_before : ℕ
   pub faults_after : ℕ
 
-abbrev pub stretch : Option Bytes → Option Bytes → ℕ → ℕ → Stretch
-stretch before after faults_before faults_after = record { before = before; after = after; faults_before = faults_before; faults_after = faults_after }
+-- from an end's old state to its new one
+abbrev pub across : {End : Type 0} → (End → Option Bytes) → (End → ℕ) → End → End → Stretch
+across bytes faults old new = record { before = bytes old; after = bytes new; faults_before = faults old; faults_after = faults new }
 
 abbrev pub IsUntouched : Stretch → Type 0
 IsUntouched end = (end.after ≡ end.before) × (end.faults_after ≡ end.faults_before)

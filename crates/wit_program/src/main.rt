@@ -1,22 +1,12 @@
 //! Makes the Rust bindings file of a resolved WIT world: the document comes in on standard input, the file goes out.
 #![tactic(auto)]
 
-#[cfg(test)]
-mod export_texts;
-#[cfg(test)]
-mod exports;
 mod input;
 mod made;
 mod outcome;
 mod run;
 #[cfg(test)]
-mod scalars;
-#[cfg(test)]
 mod tests;
-#[cfg(test)]
-mod texts;
-#[cfg(test)]
-mod whole_numbers;
 
 use run::run_words;
 use std::process::ExitCode;

@@ -6,7 +6,7 @@ ghost use Rattle.wit_refusal.specs.declared.refusal.Refusal.{Refusal};
 ghost use Rattle.wit_refusal.specs.Line.{line_of};
 ghost use Rattle.wit_refusal.specs.Status.{status_of};
 ghost use Rattle.wit_program.specs.Made.{only_bytes};
-ghost use Rattle.wit_program.specs.Outcome.{Came, IsCause, IsOutcome, IsReadCause, IsRefusal, IsTold, IsUntouched, MakesOf, Reports, Succeeds, TakesAll, TakesPart, stretch};
+ghost use Rattle.wit_program.specs.Outcome.{Came, IsCause, IsOutcome, IsReadCause, IsRefusal, IsTold, IsUntouched, MakesOf, Reports, Succeeds, TakesAll, TakesPart, across};
 ghost use Rattle.wit_program.specs.Words.{is_generate};
 
 use crate::made::{Made, make, only_file};
@@ -29,9 +29,9 @@ fn is_generate(words: &[Text]) -> bool
 
 fn read_all<S: Source>(alloc: Global, source: &mut S) -> Result<List<u8>, Refusal>
     ensures came { IfOk result
-        (Came (stretch (S.left source.old) (S.left source.new) (S.faults source.old) (S.faults source.new))) }
+        (Came (across S.left S.faults source.old source.new)) }
     ensures err { IfErr result
-        (IsReadCause (stretch (S.left source.old) (S.left source.new) (S.faults source.old) (S.faults source.new))) }
+        (IsReadCause (across S.left S.faults source.old source.new)) }
 {
     match read_input(alloc, source) {
         Ok(bytes) => Ok(bytes),
@@ -44,10 +44,10 @@ fn read_all<S: Source>(alloc: Global, source: &mut S) -> Result<List<u8>, Refusa
 /// The tree that the words and the source ask for, and its file.
 fn made_of<S: Source>(alloc: Global, words: &[Text], source: &mut S) -> Result<Made, Refusal>
     ensures ok { IfOk result
-        (λ made. MakesOf words.now (stretch (S.left source.old) (S.left source.new) (S.faults source.old) (S.faults source.new)) made.tree) }
+        (λ made. MakesOf words.now (across S.left S.faults source.old source.new) made.tree) }
     ensures file { IfOk result (λ made. only_bytes made.files ≡ text made.tree) }
     ensures err { IfErr result
-        (IsCause words.now (stretch (S.left source.old) (S.left source.new) (S.faults source.old) (S.faults source.new))) }
+        (IsCause words.now (across S.left S.faults source.old source.new)) }
 {
     if !is_generate(words) {
         return Err(Refusal::Usage);
@@ -59,9 +59,9 @@ fn made_of<S: Source>(alloc: Global, words: &[Text], source: &mut S) -> Result<M
 
 fn put<K: Sink>(sink: &mut K, bytes: &[u8]) -> Result<(), SinkFailed>
     ensures ok { OnOk result
-        (TakesAll (stretch (K.taken sink.old) (K.taken sink.new) (K.faults sink.old) (K.faults sink.new)) bytes.now) }
+        (TakesAll (across K.taken K.faults sink.old sink.new) bytes.now) }
     ensures err { OnErr result
-        (TakesPart (stretch (K.taken sink.old) (K.taken sink.new) (K.faults sink.old) (K.faults sink.new)) bytes.now) }
+        (TakesPart (across K.taken K.faults sink.old sink.new) bytes.now) }
 {
     write_all(sink, bytes)
 }
@@ -73,11 +73,11 @@ fn run<S: Source, K: Sink>(
     out: &mut K,
 ) -> Result<Bindings, Refusal>
     ensures ok { IfOk result
-        (Succeeds words.now (stretch (S.left source.old) (S.left source.new) (S.faults source.old) (S.faults source.new))
-        (stretch (K.taken out.old) (K.taken out.new) (K.faults out.old) (K.faults out.new))) }
+        (Succeeds words.now (across S.left S.faults source.old source.new)
+        (across K.taken K.faults out.old out.new)) }
     ensures err { IfErr result
-        (IsRefusal words.now (stretch (S.left source.old) (S.left source.new) (S.faults source.old) (S.faults source.new))
-        (stretch (K.taken out.old) (K.taken out.new) (K.faults out.old) (K.faults out.new))) }
+        (IsRefusal words.now (across S.left S.faults source.old source.new)
+        (across K.taken K.faults out.old out.new)) }
 {
     let Made { tree, files } = made_of(alloc, words, source)?;
     match put(out, only_file(&files)) {
@@ -87,7 +87,7 @@ fn run<S: Source, K: Sink>(
 }
 
 fn tell<E: Sink>(fault: &mut E, line: &str)
-    ensures { IsTold (stretch (E.taken fault.old) (E.taken fault.new) (E.faults fault.old) (E.faults fault.new)) line.now }
+    ensures { IsTold (across E.taken E.faults fault.old fault.new) line.now }
 {
     let _ = put(fault, line.as_bytes());
 }
@@ -95,7 +95,7 @@ fn tell<E: Sink>(fault: &mut E, line: &str)
 /// Tells a refusal, and answers its status. Where there is no memory for the line, that is told; a write fault's line
 /// takes none.
 fn report<E: Sink>(alloc: Global, fault: &mut E, refusal: &Refusal) -> u8
-    ensures { Reports refusal.now (stretch (E.taken fault.old) (E.taken fault.new) (E.faults fault.old) (E.faults fault.new)) result }
+    ensures { Reports refusal.now (across E.taken E.faults fault.old fault.new) result }
 {
     match refusal {
         Refusal::WriteFault => {
@@ -126,9 +126,9 @@ pub fn run_words<S: Source, K: Sink, E: Sink>(
     fault: &mut E,
 ) -> Outcome
     ensures { IsOutcome words.now
-        (stretch (S.left source.old) (S.left source.new) (S.faults source.old) (S.faults source.new))
-        (stretch (K.taken out.old) (K.taken out.new) (K.faults out.old) (K.faults out.new))
-        (stretch (E.taken fault.old) (E.taken fault.new) (E.faults fault.old) (E.faults fault.new))
+        (across S.left S.faults source.old source.new)
+        (across K.taken K.faults out.old out.new)
+        (across E.taken E.faults fault.old fault.new)
         result }
 {
     match run(alloc, words, source, out) {

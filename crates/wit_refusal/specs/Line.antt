@@ -9,12 +9,13 @@ use Rattle.rust_gen.specs.declared.error.GenError.TheVariants as error
 use Rattle.rust_gen.specs.declared.error.Lack.{Lack}
 use Rattle.rust_gen.specs.declared.error.TooLarge.{TooLarge}
 use Rattle.rust_gen.specs.declared.error.TooLarge.TheVariants.{Type_, Func}
+use Rattle.rust_gen.specs.LackText.{lack_text}
 use Rattle.wit_model.specs.declared.resolve.Rule.{Rule}
 use Rattle.wit_model.specs.declared.resolve.Table.{Table}
 use Rattle.wit_refusal.specs.declared.refusal.Refusal.{Refusal}
 use Rattle.wit_refusal.specs.declared.refusal.Refusal.TheVariants.{Usage, ReadFault, InputTooLong, BadJson, Gen, WriteFault, OutOfMemory}
 use Rattle.wit_refusal.specs.declared.word.Word.TheVariants as piece
-use Rattle.wit_refusal.specs.Names.{lack_text, rule_number_of, table_text}
+use Rattle.wit_refusal.specs.Names.{rule_number_of, table_text}
 use Rattle.wit_refusal.specs.Word.{word}
 
 -- texts in quotes
@@ -35,8 +36,8 @@ invalid_world_line rule table index =
 abbrev pub invalid_option_line : List ℕ → ℕ → List ℕ
 invalid_option_line field index = word piece.InvalidOption ++ field ++ word piece.Space ++ decimal index ++ word piece.LineEnd
 
-abbrev pub key_line : List ℕ → List ℕ
-key_line key = word piece.MissingWith ++ key ++ word piece.KeyEnd
+abbrev pub missing_with_line : List ℕ → List ℕ
+missing_with_line key = word piece.MissingWith ++ key ++ word piece.KeyEnd
 
 abbrev pub too_large_line : TooLarge → List ℕ
 too_large_line (Type_ id) = word piece.TooLargeType ++ decimal id.0 ++ word piece.LineEnd
@@ -64,7 +65,7 @@ unused_chainable_line entry = word piece.UnusedChainable ++ entry ++ word piece.
 abbrev pub gen_line_of : GenError → List ℕ
 gen_line_of (error.InvalidWorld rule table index) = invalid_world_line rule table index
 gen_line_of (error.InvalidOption field index) = invalid_option_line field index
-gen_line_of (error.MissingWith missing) = key_line missing.0
+gen_line_of (error.MissingWith missing) = missing_with_line missing.0
 gen_line_of (error.TooLarge what) = too_large_line what
 gen_line_of (error.Unsupported what place) = unsupported_line what place
 gen_line_of (error.NameClash clash) = name_clash_line (entry_of clash)

@@ -1,7 +1,7 @@
 ghost use Rattle.std.specs.Prelude.{◌≡◌, ◌++◌, OnOk};
-ghost use Rattle.wit_refusal.specs.Line.{gen_line_of, invalid_option_line, invalid_world_line, key_line, name_clash_line, too_large_line, unsupported_line, unused_chainable_line, unused_selector_line, unused_with_line};
+ghost use Rattle.wit_refusal.specs.Line.{gen_line_of, invalid_option_line, invalid_world_line, missing_with_line, name_clash_line, too_large_line, unsupported_line, unused_chainable_line, unused_selector_line, unused_with_line};
 
-use crate::names::{lack_name, rule_number, table_name};
+use crate::names::{rule_number, table_name};
 use crate::quote::push_quoted_list;
 use crate::word::{Word, put};
 use rust_gen::{Clash, Entry, GenError, Lack, TooLarge};
@@ -20,7 +20,7 @@ fn push_invalid_world(
     put(out, Word::At)?;
     out.push_str(table_name(table))?;
     put(out, Word::Space)?;
-    out.push_number(index as u64)?;
+    out.push_number(u64::from(index))?;
     put(out, Word::LineEnd)
 }
 
@@ -30,12 +30,12 @@ fn push_invalid_option(out: &mut Text, field: &str, index: u32) -> Result<(), Ou
     put(out, Word::InvalidOption)?;
     out.push_str(field)?;
     put(out, Word::Space)?;
-    out.push_number(index as u64)?;
+    out.push_number(u64::from(index))?;
     put(out, Word::LineEnd)
 }
 
-fn push_key(out: &mut Text, key: &str) -> Result<(), OutOfMemory>
-    ensures { OnOk result (out.new ≡ out.old ++ key_line key.now) }
+fn push_missing_with(out: &mut Text, key: &str) -> Result<(), OutOfMemory>
+    ensures { OnOk result (out.new ≡ out.old ++ missing_with_line key.now) }
 {
     put(out, Word::MissingWith)?;
     out.push_str(key)?;
@@ -48,7 +48,7 @@ fn push_too_large(out: &mut Text, what: &TooLarge) -> Result<(), OutOfMemory>
     match what {
         TooLarge::Type_(id) => {
             put(out, Word::TooLargeType)?;
-            out.push_number(id.0 as u64)?;
+            out.push_number(u64::from(id.0))?;
             put(out, Word::LineEnd)
         }
         TooLarge::Func(name) => {
@@ -63,13 +63,13 @@ fn push_unsupported(out: &mut Text, what: Lack, place: &str) -> Result<(), OutOf
     ensures { OnOk result (out.new ≡ out.old ++ unsupported_line what place.now) }
 {
     put(out, Word::Unsupported)?;
-    out.push_str(lack_name(what))?;
+    out.push_str(what.words())?;
     put(out, Word::At)?;
     out.push_str(place)?;
     put(out, Word::LineEnd)
 }
 
-fn push_entry(out: &mut Text, entry: &Entry) -> Result<(), OutOfMemory>
+fn push_name_clash(out: &mut Text, entry: &Entry) -> Result<(), OutOfMemory>
     ensures { OnOk result (out.new ≡ out.old ++ name_clash_line entry.now) }
 {
     put(out, Word::NameClash)?;
@@ -114,11 +114,11 @@ pub(crate) fn push_gen_line(out: &mut Text, error: &GenError) -> Result<(), OutO
         GenError::InvalidOption { field, index } => {
             push_invalid_option(out, field.as_str(), *index)
         }
-        GenError::MissingWith(missing) => push_key(out, missing.0.as_str()),
+        GenError::MissingWith(missing) => push_missing_with(out, missing.0.as_str()),
         GenError::TooLarge(what) => push_too_large(out, what),
         GenError::Unsupported { what, place } => push_unsupported(out, *what, place.as_str()),
-        GenError::NameClash(Clash::Twice(entry)) => push_entry(out, entry),
-        GenError::NameClash(Clash::NotIdent(entry)) => push_entry(out, entry),
+        GenError::NameClash(Clash::Twice(entry)) => push_name_clash(out, entry),
+        GenError::NameClash(Clash::NotIdent(entry)) => push_name_clash(out, entry),
         GenError::UnusedWith(keys) => push_unused_with(out, keys.as_slice()),
         GenError::UnusedSelector(selectors) => push_unused_selector(out, selectors.as_slice()),
         GenError::UnusedChainable(entry) => push_unused_chainable(out, entry.as_str()),

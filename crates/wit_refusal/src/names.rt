@@ -1,7 +1,6 @@
 ghost use Rattle.std.specs.Prelude.{◌≡◌};
-ghost use Rattle.wit_refusal.specs.Names.{lack_text, rule_number_of, table_text};
+ghost use Rattle.wit_refusal.specs.Names.{rule_number_of, table_text};
 
-use rust_gen::Lack;
 use wit_model::{Rule, Table};
 
 /// The number of a rule: its place among the rules, counted from 1.
@@ -34,25 +33,5 @@ pub(crate) fn table_name(table: Table) -> &'static str
         Table::Interface => "interface",
         Table::Type_ => "type",
         Table::World => "world",
-    }
-}
-
-/// What is not supported.
-pub(crate) fn lack_name(lack: Lack) -> &'static str
-    ensures { result.now ≡ lack_text lack }
-{
-    match lack {
-        Lack::Async => "async",
-        Lack::Future => "future",
-        Lack::Stream => "stream",
-        Lack::ErrorContext => "error-context",
-        Lack::Flags => "flags",
-        Lack::WorldResource => "world resource",
-        Lack::RemappedExport => "remapped export",
-        Lack::RemappedImport => "remapped import",
-        Lack::BorrowInFixedList => "borrow in fixed list",
-        Lack::BorrowInList => "borrow in list",
-        Lack::OwningChain => "owning chain",
-        Lack::Unbuilt => "unbuilt",
     }
 }

@@ -65,6 +65,7 @@ impl Refusal {
             Refusal::OutOfMemory => 16,
         }
     }
+
     /// The line that says why, with its line feed.
     pub fn line(&self, alloc: Global) -> Result<Text, OutOfMemory>
         ensures { IfOk result (λ t. t ≡ line_of self.now) }

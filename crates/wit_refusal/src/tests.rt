@@ -63,9 +63,13 @@ fn rule_shows(
     gen_shows(rt, alloc, error, 6, line)
 }
 
-fn lack_shows(rt: &impl Abort, alloc: Global, what: Lack, line: &str) -> Result<(), OutOfMemory> {
+fn lack_shows(rt: &impl Abort, alloc: Global, what: Lack, words: &str) -> Result<(), OutOfMemory> {
     let place = text(alloc, "my:dep/a/t")?;
-    gen_shows(rt, alloc, GenError::Unsupported { what, place }, 10, line)
+    let mut line = text(alloc, "unsupported: ")?;
+    line.push_str(words)?;
+    line.push_str(" at my:dep/a/t\n")?;
+    let error = GenError::Unsupported { what, place };
+    gen_shows(rt, alloc, error, 10, line.as_str())
 }
 
 fn keys_show(rt: &impl Abort, alloc: Global, keys: &[&str], line: &str) -> Result<(), OutOfMemory> {
@@ -200,42 +204,21 @@ fn tables_by_their_words(rt: HostRuntime) -> Result<(), Fail> {
 #[test]
 fn words_for_what_is_not_supported(rt: HostRuntime) -> Result<(), Fail> {
     let table = [
-        (Lack::Async, "unsupported: async at my:dep/a/t\n"),
-        (Lack::Future, "unsupported: future at my:dep/a/t\n"),
-        (Lack::Stream, "unsupported: stream at my:dep/a/t\n"),
-        (
-            Lack::ErrorContext,
-            "unsupported: error-context at my:dep/a/t\n",
-        ),
-        (Lack::Flags, "unsupported: flags at my:dep/a/t\n"),
-        (
-            Lack::WorldResource,
-            "unsupported: world resource at my:dep/a/t\n",
-        ),
-        (
-            Lack::RemappedExport,
-            "unsupported: remapped export at my:dep/a/t\n",
-        ),
-        (
-            Lack::RemappedImport,
-            "unsupported: remapped import at my:dep/a/t\n",
-        ),
-        (
-            Lack::BorrowInFixedList,
-            "unsupported: borrow in fixed list at my:dep/a/t\n",
-        ),
-        (
-            Lack::BorrowInList,
-            "unsupported: borrow in list at my:dep/a/t\n",
-        ),
-        (
-            Lack::OwningChain,
-            "unsupported: owning chain at my:dep/a/t\n",
-        ),
-        (Lack::Unbuilt, "unsupported: unbuilt at my:dep/a/t\n"),
+        (Lack::Async, "async"),
+        (Lack::Future, "future"),
+        (Lack::Stream, "stream"),
+        (Lack::ErrorContext, "error-context"),
+        (Lack::Flags, "flags"),
+        (Lack::WorldResource, "world resource"),
+        (Lack::RemappedExport, "remapped export"),
+        (Lack::RemappedImport, "remapped import"),
+        (Lack::BorrowInFixedList, "borrow in fixed list"),
+        (Lack::BorrowInList, "borrow in list"),
+        (Lack::OwningChain, "owning chain"),
+        (Lack::Unbuilt, "unbuilt"),
     ];
-    for (what, line) in table {
-        lack_shows(&rt, rt.alloc(), what, line)?;
+    for (what, words) in table {
+        lack_shows(&rt, rt.alloc(), what, words)?;
     }
     Ok(())
 }

@@ -5,7 +5,7 @@ use Rattle.std.specs.List.{position, position_or_len}
 use Rattle.std.proofs.lemmas.Grind.{common_steps}
 use Rattle.std.proofs.lemmas.List.{set_past}
 use Rattle.std.proofs.lemmas.List.Quantifiers.{position-Some}
-use Rattle.wrapper_data.specs.declared.heap.Block.{Block}
+use Rattle.wrapper_data.specs.declared.block.Block.{Block}
 use Rattle.wrapper_data.specs.Heap.{covers}
 use Rattle.wrapper_data.specs.Answered.{written_block, written_byte}
 

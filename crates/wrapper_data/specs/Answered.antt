@@ -1,6 +1,6 @@
 -- What the peer of an import does to a heap: it adds its blocks, and then writes its bytes.
 use Rattle.std.specs.Prelude.{ℕ, ◌-◌, not, ◌&&◌, nat_lt, if◌then◌else◌, List, [], ◌∷◌, ◌++◌, filter}
-use Rattle.wrapper_data.specs.declared.heap.Block.{Block}
+use Rattle.wrapper_data.specs.declared.block.Block.{Block}
 use Rattle.wrapper_data.specs.declared.heap.Heap.{Heap}
 use Rattle.wrapper_data.specs.Heap.{is_block, covers, overlaps_any}
 

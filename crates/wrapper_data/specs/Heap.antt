@@ -1,7 +1,7 @@
 -- When a block and a heap are well formed.
 use Rattle.std.specs.Prelude.{ℕ, ◌+◌, ◌^◌, Bool, true, not, ◌&&◌, nat_lt, nat_le, List, [], ◌∷◌}
 use Rattle.std.specs.List.{list_any, list_all}
-use Rattle.wrapper_data.specs.declared.heap.Block.{Block}
+use Rattle.wrapper_data.specs.declared.block.Block.{Block}
 use Rattle.wrapper_data.specs.declared.heap.Heap.{Heap}
 
 -- cells at strictly ascending offsets, from `low` on and below `size`

@@ -1,14 +1,8 @@
-use crate::heap::{Block, Heap};
+use crate::block::Block;
+use crate::heap::Heap;
 use crate::value::RustValue;
 use crate::word::Word;
 use wit_model::List;
-
-/// Whether the printed code tests what comes in.
-#[derive(Clone, Copy, Debug, PartialEq, Eq)]
-pub enum Form {
-    Debug,
-    Release,
-}
 
 /// What the other side answers.
 #[derive(Debug, PartialEq, Drop)]

@@ -2,7 +2,8 @@ ghost use Rattle.std.specs.Prelude.{◌≡◌, ◌≤◌, nat_lt, filter, positi
 ghost use Rattle.wrapper_data.specs.Heap.{covers};
 ghost use Rattle.wrapper_data.specs.Answered.{answered, with_block, with_blocks, with_cell, with_writes, written_block, written_byte};
 
-use crate::heap::{Block, Heap};
+use crate::block::Block;
+use crate::heap::Heap;
 use std::alloc::Global;
 use wit_model::{List, OutOfMemory};
 

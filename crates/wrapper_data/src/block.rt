@@ -1,8 +1,20 @@
-ghost use Rattle.std.specs.Prelude.{◌≡◌, ◌+◌};
-ghost use Rattle.std.specs.List.{list_all};
-ghost use Rattle.wrapper_data.specs.Heap.{are_apart, are_cells, covers, is_block, is_heap, overlaps, overlaps_any};
+ghost use Rattle.std.specs.Prelude.{◌≡◌, ◌+◌, IfOk};
+ghost use Rattle.wrapper_data.specs.Heap.{are_cells, covers, is_block, overlaps, overlaps_any};
 
-use crate::heap::{Block, Heap};
+use std::alloc::Global;
+use wit_model::{List, OutOfMemory};
+
+/// A block of memory. A cell that is not listed was never written. Its fields may hold any numbers: `is_well_formed`
+/// says whether they are those of a block.
+#[derive(Debug, PartialEq, Drop)]
+pub struct Block {
+    /// The address of its first byte, above 0 where the block is well formed.
+    pub address: u32,
+    /// Its size in bytes, above 0 where the block is well formed, which then ends at or below 2^32.
+    pub size: u32,
+    /// The written bytes by their offsets, which ascend strictly and lie in the block where it is well formed.
+    pub cells: List<(u32, u8)>,
+}
 
 impl Block {
     /// Whether the block is well formed: its size and its address are above 0, it ends at or below 2^32, and its cells
@@ -43,33 +55,17 @@ impl Block {
     {
         u64::from(self.address) + u64::from(self.size)
     }
-}
 
-impl Heap {
-    /// Whether the heap is well formed: each of its blocks is, and no two of them overlap.
-    pub fn is_well_formed(&self) -> bool
-        ensures { result ≡ is_heap self.now }
+    /// An equal block.
+    pub fn copy(&self, alloc: Global) -> Result<Block, OutOfMemory>
+        ensures { IfOk result (λ b. b ≡ self.now) }
     {
-        let blocks = self.blocks.as_slice();
-        are_blocks(blocks) && are_apart(blocks)
+        Ok(Block {
+            address: self.address,
+            size: self.size,
+            cells: List::from_slice(alloc, self.cells.as_slice())?,
+        })
     }
-}
-
-fn are_blocks(blocks: &[Block]) -> bool
-    ensures { result ≡ list_all is_block blocks.now }
-{
-    blocks.iter().all(|block| block.is_well_formed())
-}
-
-fn are_apart(blocks: &[Block]) -> bool
-    ensures { result ≡ are_apart blocks.now }
-{
-    for (i, block) in blocks.iter().enumerate() {
-        if block.overlaps_any(&blocks[i + 1..]) {
-            return false;
-        }
-    }
-    true
 }
 
 fn ascend(cells: &[(u32, u8)], size: u32) -> bool

@@ -5,6 +5,7 @@ use wit_model::List;
 pub enum Choice {
     /// The address that it gives.
     At(u32),
+    /// It has no memory for the request.
     Refuse,
 }
 

@@ -5,6 +5,7 @@ mod answer;
 mod answered;
 mod block;
 mod choice;
+mod form;
 mod heap;
 mod run;
 #[cfg(test)]
@@ -12,9 +13,11 @@ mod tests;
 mod value;
 mod word;
 
-pub use answer::{Answer, Form};
+pub use answer::Answer;
+pub use block::Block;
 pub use choice::{Choice, Choices, Request};
-pub use heap::{Block, Heap};
+pub use form::Form;
+pub use heap::Heap;
 pub use run::{CallPoint, Run, Stop, Target, TrapKind};
 pub use value::RustValue;
 pub use word::Word;

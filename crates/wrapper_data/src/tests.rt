@@ -1,4 +1,5 @@
-use crate::heap::{Block, Heap};
+use crate::block::Block;
+use crate::heap::Heap;
 use crate::value::RustValue;
 use std::alloc::Global;
 use std::process::Abort;
@@ -14,7 +15,7 @@ fn block(
     Ok(Block {
         address,
         size,
-        cells: List::from_vec(Vec::from_slice(alloc, cells)?),
+        cells: List::from_slice(alloc, cells)?,
     })
 }
 

@@ -7,7 +7,8 @@ use wit_model::{Boxed, List, OutOfMemory, WitType};
 #[derive(Debug, PartialEq, Drop)]
 pub enum RustValue {
     Bool(bool),
-    /// A whole number of a kind.
+    /// A whole number of a WIT type, one of `U8` to `U64` and `S8` to `S64`. Only a number in the range of that type
+    /// stands for one, and any other can be written too.
     Num(WitType, i128),
     /// A float of 32 bits, as its bits.
     F32(u32),
@@ -26,9 +27,11 @@ pub enum RustValue {
     Case(u32, Option<Boxed<RustValue>>),
     /// Flags, as their bits.
     Bits(u128),
+    /// A map, as its keys with their values, in the order in which they are listed.
     Map(List<(RustValue, RustValue)>),
     /// A handle's number, and whether it owns its resource.
     Handle { number: u32, own: bool },
+    /// The value of what gives none: `()`.
     Unit,
 }
 

@@ -9,7 +9,7 @@ use Rattle.rust_tree.specs.declared.expr.Expr.TheVariants as expr
 use Rattle.rust_tree.specs.declared.path.Path.{Path}
 use Rattle.rust_tree.specs.declared.runtime_item.RuntimeItem.TheVariants.{CabiDealloc}
 use Rattle.rust_tree.specs.declared.stmt.Stmt.TheVariants as stmt
-use Rattle.wrapper_data.specs.declared.heap.Block.{Block}
+use Rattle.wrapper_data.specs.declared.block.Block.{Block}
 use Rattle.wrapper_data.specs.declared.run.TrapKind.TheVariants as trap
 use Rattle.wrapper_data.specs.declared.value.RustValue.{RustValue-F, out-RustValue, the_lemmas as value_lemmas}
 use Rattle.wrapper_data.specs.declared.value.RustValue.TheVariants as value
@@ -21,7 +21,7 @@ use Rattle.wrapper_run.specs.Act.{Done, and_then, pure, stop}
 use Rattle.wrapper_run.specs.Blocks.{dealloc, drop_value, free_bytes, free_owned, free_untaken, removed}
 use Rattle.wrapper_run.specs.Effect.{is_unit_level}
 use Rattle.wrapper_run.specs.ExportRun.{core_answer}
-use Rattle.wrapper_run.specs.Locals.{Bytes}
+use Rattle.wit_model.specs.Bytes.{Bytes}
 use Rattle.wrapper_run.specs.Memory.{block_at, bytes_from}
 use Rattle.wrapper_run.specs.Owning.{is_taken}
 use Rattle.wrapper_run.specs.Represents.{HasText, block_of}

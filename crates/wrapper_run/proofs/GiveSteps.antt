@@ -6,15 +6,16 @@ use Rattle.std.specs.Str.{bytes_eq}
 use Rattle.std.proofs.lemmas.Bool.{and_from, and_parts, not-true, or_left}
 use Rattle.std.proofs.lemmas.Bool.Decides.{nat_tests}
 use Rattle.wit_model.specs.declared.size.ArchitectureSize.{ArchitectureSize}
-use Rattle.wit_model.specs.declared.size.WasmType.{WasmType}
-use Rattle.wit_model.specs.declared.size.WasmType.TheVariants as core
+use Rattle.wit_model.specs.declared.wasm_type.WasmType.{WasmType}
+use Rattle.wit_model.specs.declared.wasm_type.WasmType.TheVariants as core
 use Rattle.wit_model.specs.Size.{bytes_at}
-use Rattle.rust_tree.specs.declared.export.StaticArea.{StaticArea}
+use Rattle.rust_tree.specs.declared.area.StaticArea.{StaticArea}
 use Rattle.rust_tree.specs.declared.expr.Expr.{Expr, the_lemmas}
 use Rattle.rust_tree.specs.declared.expr.Expr.TheVariants as expr
+use Rattle.rust_tree.specs.declared.path.Path.{Path}
 use Rattle.rust_tree.specs.declared.stmt.Stmt.{Stmt}
 use Rattle.rust_tree.specs.declared.stmt.Stmt.TheVariants as stmt
-use Rattle.wrapper_data.specs.declared.heap.Block.{Block}
+use Rattle.wrapper_data.specs.declared.block.Block.{Block}
 use Rattle.wrapper_data.specs.declared.heap.Heap.{Heap}
 use Rattle.wrapper_data.specs.Heap.{is_block, overlaps_any}
 use Rattle.wrapper_data.specs.declared.choice.Choice.{Choice}
@@ -33,15 +34,16 @@ use Rattle.wrapper_run.specs.declared.state.Val.TheVariants as val
 use Rattle.wrapper_run.specs.Act.{Act, Outcome, Done, Stopped, ◌>>=◌, and_then, or_stop, pure}
 use Rattle.wrapper_run.specs.Blocks.{box_buffer, boxed, drop_value, forget, free_owned, keep_blocks, release, release_owned, store_word, without_owner, write_word}
 use Rattle.wrapper_run.specs.Effect.{word_of}
-use Rattle.wrapper_run.specs.Locals.{Bytes, bind, local_named, use_local, value_of}
+use Rattle.wrapper_run.specs.Locals.{bind, local_named, use_local, value_of}
+use Rattle.wit_model.specs.Bytes.{Bytes}
 use Rattle.wrapper_run.specs.Memory.{block_at, bytes_from, stored}
 use Rattle.wrapper_run.specs.Owning.{address_of, is_taken, owned_in, taken_by}
 use Rattle.wrapper_run.specs.Places.{area_in, is_fitting, place_area, place_static, request_of, static_place, static_pointer}
-use Rattle.wrapper_run.specs.Run.{eval, run_stmt, run_stmts}
+use Rattle.wrapper_run.specs.Run.{call, call_callee, callee, core_forget, eval, run_stmt, run_stmts}
 use Rattle.wrapper_run.specs.Setting.{Setting, stuck}
 use Rattle.wrapper_run.proofs.LocalLemmas.{reads-new, reads-past}
 use Rattle.wrapper_run.proofs.OwningLemmas.{ArePlain, buffer-text, no_unit_buffer, owned-none, plain-append}
-use Rattle.wrapper_run.proofs.StepLemmas.{as_ptr_gives, cast_mut_gives, len_gives, local_gives}
+use Rattle.wrapper_run.proofs.StepLemmas.{as_ptr_gives, cast_mut_gives, len_gives, local_gives, eval-call, eval-local}
 use Rattle.wrapper_run.proofs.StoreLemmas.{cells_with, pair_cells, pair_with, stores_length, stores_pointer}
 use Rattle.wrapper_run.proofs.TakeLemmas.{after_use, owned-block, owned-empty, text_local, use_last, use_other, used-plain, used_local, uses_text}
 
@@ -79,9 +81,6 @@ boxes w name p n s h =
 
 -- it is forgotten: its block has no owner any more
 
-eval-forget : (w : Setting) (name : Bytes) → eval w (expr.Forget name) ≡ (use_local (stuck w) name >>= forget w)
-eval-forget w name = search (rules, the_lemmas)
-
 -- the blocks that still have owners
 abbrev pub still_taken : ℕ → ℕ → List ℕ → List ℕ
 still_taken p zero taken = taken
@@ -99,13 +98,15 @@ forgets_owned w p (suc n) s h =
     ap (λ o. and_then (release_owned w o s) (λ _. pure (val.Value value.Unit))) (owned-block p n)
     ∙ ap (λ b. and_then (cond b (Done tt (without_owner p s)) (Stopped (stuck w) s)) (λ _. pure (val.Value value.Unit))) h
 
-pub forgets : (w : Setting) (name : Bytes) (p n : ℕ) (s : State) → value_of (local_named name s.locals) ≡ Some (val.Value (value.Buffer p n true)) → OwnsBlock p n s.taken s.heap.blocks
-    → run_stmt w (stmt.Expr (expr.Forget name)) s ≡ Done tt (record s { locals = after_use n name s.locals; taken = still_taken p n s.taken })
-forgets w name p n s h k =
+pub forgets : (w : Setting) (path : Path) (name : Bytes) (p n : ℕ) (s : State) → callee path ≡ core_forget → value_of (local_named name s.locals) ≡ Some (val.Value (value.Buffer p n true)) → OwnsBlock p n s.taken s.heap.blocks
+    → run_stmt w (stmt.Expr (expr.Call path (expr.Local name ∷ []))) s ≡ Done tt (record s { locals = after_use n name s.locals; taken = still_taken p n s.taken })
+forgets w path name p n s c h k =
+    let v : Val = val.Value (value.Buffer p n true) in
     let left : State = record s { locals = after_use n name s.locals } in
     let gone : State = record s { locals = after_use n name s.locals; taken = still_taken p n s.taken } in
-    ap (λ act. and_then (act s) (drop_value w)) (eval-forget w name)
-    ∙ ap (λ o. and_then (and_then o (forget w)) (drop_value w)) (uses_text w name p n s h)
+    ap (λ act. and_then (act s) (drop_value w)) (eval-call w path (expr.Local name ∷ []))
+    ∙ ap (λ o. and_then (and_then (and_then o (λ x. pure [] >>= (λ xs. pure (x ∷ xs)))) (λ vs. call w path vs)) (drop_value w)) (ap (λ act. act s) (eval-local w name) ∙ uses_text w name p n s h)
+    ∙ ap (λ k. and_then (call_callee w k (v ∷ []) left) (drop_value w)) c
     ∙ ap (λ o. and_then o (drop_value w)) (forgets_owned w p n left k)
     ∙ ap (λ o. free_owned w o gone) (owned-none value.Unit no_unit_buffer)
 
@@ -137,19 +138,19 @@ stmt_runs w first more s t h = ap (λ o. and_then o (λ _. run_stmts w more)) h
 abbrev pub word_local : Bytes → Word → Local
 word_local name x = record { name = name; value = Some (val.Word x) }
 
-abbrev pub box_stmts : (name v t l : Bytes) → List Stmt → List Stmt
-box_stmts name v t l more =
-    stmt.Let v (expr.IntoBoxedBytes name) ∷ stmt.Let t (expr.AsPtr v) ∷ stmt.Let l (expr.Len v) ∷ stmt.Expr (expr.Forget v) ∷ more
+abbrev pub box_stmts : Path → (name v t l : Bytes) → List Stmt → List Stmt
+box_stmts path name v t l more =
+    stmt.Let v (expr.IntoBoxedBytes name) ∷ stmt.Let t (expr.AsPtr v) ∷ stmt.Let l (expr.Len v) ∷ stmt.Expr (expr.Call path (expr.Local v ∷ [])) ∷ more
 
 -- behind the locals in front: the text, a local, the box, its address and its length
 abbrev pub boxed_locals : (name v t l : Bytes) → ℕ → ℕ → List Local → Local → List Local
 boxed_locals name v t l p n front a =
     ((((front ++ used_local name p n ∷ []) ++ a ∷ []) ++ used_local v p n ∷ []) ++ word_local t (word.Pointer p) ∷ []) ++ word_local l (word.Length n) ∷ []
 
-pub box_runs : (w : Setting) (name v t l : Bytes) (p n : ℕ) (front : List Local) (a : Local) (more : List Stmt) (s : State) → s.locals ≡ (front ++ text_local name p n ∷ []) ++ a ∷ []
+pub box_runs : (w : Setting) (path : Path) (name v t l : Bytes) (p n : ℕ) (front : List Local) (a : Local) (more : List Stmt) (s : State) → callee path ≡ core_forget → s.locals ≡ (front ++ text_local name p n ∷ []) ++ a ∷ []
     → bytes_eq a.name name ≡ false → bytes_eq t v ≡ false → bytes_eq l v ≡ false → OwnsBlock p n s.taken s.heap.blocks
-    → run_stmts w (box_stmts name v t l more) s ≡ run_stmts w more (record s { locals = boxed_locals name v t l p n front a; taken = still_taken p n s.taken })
-box_runs w name v t l p n front a more s is other tv lv own =
+    → run_stmts w (box_stmts path name v t l more) s ≡ run_stmts w more (record s { locals = boxed_locals name v t l p n front a; taken = still_taken p n s.taken })
+box_runs w path name v t l p n front a more s c is other tv lv own =
     let x : Val = val.Value (value.Buffer p n true) in
     let lt : Local = word_local t (word.Pointer p) in
     let ll : Local = word_local l (word.Length n) in
@@ -168,12 +169,12 @@ box_runs w name v t l p n front a more s is other tv lv own =
     let s3 : State = record s { locals = l3 } in
     let s4 : State = record s { locals = boxed_locals name v t l p n front a; taken = still_taken p n s.taken } in
     let gone : List Local → Outcome (Unit {0}) = λ ls. Done tt (record s { locals = ls; taken = still_taken p n s.taken }) in
-    let forget_v : Stmt = stmt.Expr (expr.Forget v) in
+    let forget_v : Stmt = stmt.Expr (expr.Call path (expr.Local v ∷ [])) in
     let_runs w v (expr.IntoBoxedBytes name) (stmt.Let t (expr.AsPtr v) ∷ stmt.Let l (expr.Len v) ∷ forget_v ∷ more) x s (record s { locals = l0 }) (boxes w name p n s at_name ∙ ap (λ ls. Done x (record s { locals = ls })) after)
     ∙ let_runs w t (expr.AsPtr v) (stmt.Let l (expr.Len v) ∷ forget_v ∷ more) (val.Word (word.Pointer p)) s1 s1 (as_ptr_gives w v p n true s1 (reads-new v (Some x) l0))
     ∙ let_runs w l (expr.Len v) (forget_v ∷ more) (val.Word (word.Length n)) s2 s2 (len_gives w v p n true s2 at_v)
     ∙ stmt_runs w forget_v more s3 s4
-    (forgets w v p n s3 (reads-past l2 ll v (Some x) lv at_v) own ∙ ap gone left)
+    (forgets w path v p n s3 c (reads-past l2 ll v (Some x) lv at_v) own ∙ ap gone left)
 
 pub boxed-plain : (name v t l : Bytes) (p n : ℕ) (front : List Local) (a : Local) → ArePlain front → owned_in a.value ≡ None → ArePlain (boxed_locals name v t l p n front a)
 boxed-plain name v t l p n front a h k =
@@ -267,8 +268,8 @@ pub record Apart (name a v t l : Bytes) : Type 0 where
   pub l_v : bytes_eq l v ≡ false
   pub l_t : bytes_eq l t ≡ false
 
-abbrev pub give_stmts : (name a v t l : Bytes) → List Stmt
-give_stmts name a v t l = stmt.Let a expr.StaticPointer ∷ box_stmts name v t l (store_stmts a t l)
+abbrev pub give_stmts : Path → (name a v t l : Bytes) → List Stmt
+give_stmts path name a v t l = stmt.Let a expr.StaticPointer ∷ box_stmts path name v t l (store_stmts a t l)
 
 -- the state afterwards
 abbrev pub given : (name a v t l : Bytes) → ℕ → ℕ → ℕ → List Local → List Choice → State → State
@@ -290,10 +291,10 @@ reads-first name a v t l p n front x d =
     reads-past (l1 ++ lt ∷ []) (word_local l (word.Length n)) a o d.l_a
     (reads-past l1 lt a o d.t_a (reads-past l0 (used_local v p n) a o d.v_a (reads-new a o (front ++ used_local name p n ∷ []))))
 
-pub give_runs : (w : Setting) (area : StaticArea) (name a v t l : Bytes) (p n : ℕ) (front : List Local) (s : State) (placed : Places w s) → Apart name a v t l → area_in w.items ≡ Some area → request_of area.size area.align ≡ text_area → s.place ≡ None
+pub give_runs : (w : Setting) (path : Path) (area : StaticArea) (name a v t l : Bytes) (p n : ℕ) (front : List Local) (s : State) (placed : Places w s) → callee path ≡ core_forget → Apart name a v t l → area_in w.items ≡ Some area → request_of area.size area.align ≡ text_area → s.place ≡ None
     → s.locals ≡ front ++ text_local name p n ∷ [] → OwnsBlock p n (s.taken ++ placed.address ∷ []) (s.heap.blocks ++ pair_with placed.address [] ∷ [])
-    → run_stmts w (give_stmts name a v t l) s ≡ Done tt (given name a v t l p n placed.address front placed.left s)
-give_runs w area name a v t l p n front s placed d there is_text none is own =
+    → run_stmts w (give_stmts path name a v t l) s ≡ Done tt (given name a v t l p n placed.address front placed.left s)
+give_runs w path area name a v t l p n front s placed c d there is_text none is own =
     let at : ℕ = placed.address in
     let fits = fits-pair at s.heap.blocks placed.fits in
     let pointer : Local = word_local a (word.Pointer at) in
@@ -303,9 +304,9 @@ give_runs w area name a v t l p n front s placed d there is_text none is own =
     let before : List Local = (((front ++ used_local name p n ∷ []) ++ pointer ∷ []) ++ used_local v p n ∷ []) in
     let lt : Local = word_local t (word.Pointer p) in
     let ll : Local = word_local l (word.Length n) in
-    let_runs w a expr.StaticPointer (box_stmts name v t l (store_stmts a t l)) (val.Word (word.Pointer at)) s s0
+    let_runs w a expr.StaticPointer (box_stmts path name v t l (store_stmts a t l)) (val.Word (word.Pointer at)) s s0
     (static_gives w area s there none ∙ ap (λ r. and_then (and_then (place_area w r s) keep_place) pointer_to) is_text ∙ ap (λ o. and_then (and_then o keep_place) pointer_to) placed.runs)
-    ∙ box_runs w name v t l p n front pointer (store_stmts a t l) s1 (ap (λ ls. ls ++ pointer ∷ []) is) d.a_name d.t_v d.l_v own
+    ∙ box_runs w path name v t l p n front pointer (store_stmts a t l) s1 c (ap (λ ls. ls ++ pointer ∷ []) is) d.a_name d.t_v d.l_v own
     ∙ store_runs w a t l at p n s.heap.blocks s2 (reads-first name a v t l p n front (word.Pointer at) d)
     (reads-past (before ++ lt ∷ []) ll t (Some (val.Word (word.Pointer p))) d.l_t (reads-new t (Some (val.Word (word.Pointer p))) before))
     (reads-new l (Some (val.Word (word.Length n))) (before ++ lt ∷ [])) refl fits.aligned fits.low fits.apart
@@ -317,9 +318,9 @@ given_pointer w name a v t l p n address front left s d =
     local_gives w a (val.Word (word.Pointer address)) (given name a v t l p n address front left s) (reads-first name a v t l p n front (word.Pointer address) d) refl
 
 -- or the choice does not fit
-pub give_misses : (w : Setting) (area : StaticArea) (name a v t l : Bytes) (s : State) → area_in w.items ≡ Some area → request_of area.size area.align ≡ text_area → s.place ≡ None
-    → place_area w text_area s ≡ Stopped stop_of.BadChoice (asked s) → run_stmts w (give_stmts name a v t l) s ≡ Stopped stop_of.BadChoice (asked s)
+pub give_misses : (w : Setting) (path : Path) (area : StaticArea) (name a v t l : Bytes) (s : State) → area_in w.items ≡ Some area → request_of area.size area.align ≡ text_area → s.place ≡ None
+    → place_area w text_area s ≡ Stopped stop_of.BadChoice (asked s) → run_stmts w (give_stmts path name a v t l) s ≡ Stopped stop_of.BadChoice (asked s)
 unfolding bind
-give_misses w area name a v t l s there is_text none misplaced =
-    ap (λ o. and_then (and_then o (bind a)) (λ _. run_stmts w (box_stmts name v t l (store_stmts a t l))))
+give_misses w path area name a v t l s there is_text none misplaced =
+    ap (λ o. and_then (and_then o (bind a)) (λ _. run_stmts w (box_stmts path name v t l (store_stmts a t l))))
     (static_gives w area s there none ∙ ap (λ r. and_then (and_then (place_area w r s) keep_place) pointer_to) is_text ∙ ap (λ o. and_then (and_then o keep_place) pointer_to) misplaced)

@@ -6,7 +6,7 @@ use Rattle.std.specs.Option.{option_or}
 use Rattle.std.proofs.lemmas.Bool.{and_from, or_parts}
 use Rattle.std.proofs.lemmas.Bool.Decides.{nat_tests}
 use Rattle.std.proofs.lemmas.List.Folds.{find-append, list_any-append}
-use Rattle.wrapper_data.specs.declared.heap.Block.{Block}
+use Rattle.wrapper_data.specs.declared.block.Block.{Block}
 use Rattle.wrapper_data.specs.Heap.{covers, is_block, overlaps, overlaps_any}
 use Rattle.wrapper_data.specs.Answered.{with_block, with_blocks, with_writes, written_block, written_byte}
 use Rattle.wrapper_run.specs.Memory.{block_at, bytes_at, bytes_from, holds, is_at, without}

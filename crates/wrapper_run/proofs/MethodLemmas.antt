@@ -2,7 +2,7 @@
 use Rattle.std.proofs.Common.{◌≡◌, List, [], ◌∷◌, ◌++◌, Option, None, Some, drop, length, map, take, refl, ap, ◌∙◌}
 use Rattle.std.specs.Prelude.{option_and_then}
 use Rattle.std.specs.Option.{option_map}
-use Rattle.rust_tree.specs.declared.export.TraitFn.{TraitFn}
+use Rattle.rust_tree.specs.declared.trait_item.TraitFn.{TraitFn}
 use Rattle.rust_tree.specs.declared.type_expr.TypeExpr.{TypeExpr}
 use Rattle.rust_tree.specs.declared.type_expr.TypeExpr.TheVariants as type
 use Rattle.wrapper_data.specs.declared.answer.Answer.TheVariants as answer
@@ -19,7 +19,7 @@ use Rattle.wrapper_run.specs.Act.{Act, Done, ◌>>◌, and_then, or_stop}
 use Rattle.wrapper_run.specs.Blocks.{drop_locals, keep_locals, leave_to}
 use Rattle.wrapper_run.specs.Effect.{answer_of}
 use Rattle.wrapper_run.specs.ExportRun.{call_method, method_answer, method_call, method_named, method_point, passed_as, returned_of, take_value, values_of}
-use Rattle.wrapper_run.specs.Locals.{Bytes}
+use Rattle.wit_model.specs.Bytes.{Bytes}
 use Rattle.wrapper_run.specs.Owning.{listed, taken_by}
 use Rattle.wrapper_run.specs.Run.{bound, record_call}
 use Rattle.wrapper_run.specs.Setting.{Setting, stuck}

@@ -3,7 +3,7 @@ use Rattle.std.proofs.Common.{◌≡◌, List, [], ◌∷◌, ◌++◌, Option, 
 use Rattle.std.specs.Prelude.{ℕ, zero, suc, ◌-◌, ◌^◌, ℤ, Result, Ok, Err, nat_lt, option_and_then}
 use Rattle.std.specs.List.{AllZip}
 use Rattle.std.specs.Option.{option_map}
-use Rattle.wit_model.specs.declared.size.WasmType.{WasmType}
+use Rattle.wit_model.specs.declared.wasm_type.WasmType.{WasmType}
 use Rattle.rust_tree.specs.declared.expr.CastType.{CastType}
 use Rattle.rust_tree.specs.declared.expr.Expr.{Expr, Expr-F, fold-roll-Expr, the_lemmas}
 use Rattle.rust_tree.specs.declared.expr.Expr.TheVariants as expr
@@ -33,7 +33,7 @@ use Rattle.wrapper_run.specs.Blocks.{drop_value}
 use Rattle.wrapper_data.specs.Answered.{answered}
 use Rattle.wrapper_data.specs.declared.answer.Answer.{Answer}
 use Rattle.wrapper_data.specs.declared.answer.Answer.TheVariants as answer
-use Rattle.wrapper_data.specs.declared.heap.Block.{Block}
+use Rattle.wrapper_data.specs.declared.block.Block.{Block}
 use Rattle.wrapper_data.specs.declared.run.CallPoint.{CallPoint}
 use Rattle.wrapper_data.specs.declared.run.Stop.{Stop}
 use Rattle.wrapper_data.specs.declared.run.TrapKind.{TrapKind}
@@ -45,7 +45,8 @@ use Rattle.wrapper_run.specs.declared.state.Val.{Val}
 use Rattle.wrapper_run.specs.declared.state.Val.TheVariants as val
 use Rattle.wrapper_run.specs.Act.{Act, Outcome, Done, Stopped, ◌>>=◌, ◌>>◌, all, and_then, or_stop, pure}
 use Rattle.wrapper_run.specs.Effect.{cast_integer, cast_to, converted, integer_of_word, is_word_of, lift_of, word_of_bool}
-use Rattle.wrapper_run.specs.Locals.{Bytes, bind, lend_local, local_named, use_local, used, value_of}
+use Rattle.wrapper_run.specs.Locals.{bind, lend_local, local_named, use_local, used, value_of}
+use Rattle.wit_model.specs.Bytes.{Bytes}
 use Rattle.wrapper_run.specs.Owning.{lent, owned, owned_in}
 use Rattle.wrapper_run.specs.Setting.{Setting, failed, stuck}
 use Rattle.wrapper_run.specs.Blocks.{dealloc, dealloc_words, drop_local, drop_locals, free, free_bytes, free_owned, free_untaken, is_owned, keep_locals, leave_to, lift_buffer, lift_text, owned_bytes, tested, untaken}

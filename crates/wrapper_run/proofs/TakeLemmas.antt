@@ -5,14 +5,14 @@ use Rattle.std.specs.Option.{option_map}
 use Rattle.std.specs.Str.{is_utf8}
 use Rattle.std.proofs.lemmas.Bool.Decides.{nat_tests}
 use Rattle.wit_model.specs.declared.size.ArchitectureSize.{ArchitectureSize}
-use Rattle.wit_model.specs.declared.size.WasmType.{WasmType}
+use Rattle.wit_model.specs.declared.wasm_type.WasmType.{WasmType}
 use Rattle.wit_model.specs.Size.{bytes_at}
 use Rattle.rust_tree.specs.declared.expr.Expr.{Expr, Expr-F, fold-roll-Expr}
 use Rattle.rust_tree.specs.declared.expr.Expr.TheVariants as expr
 use Rattle.rust_tree.specs.declared.expr.Expr.TheVariants.{rolls-FromRawParts, rolls-Load}
 use Rattle.rust_tree.specs.declared.path.Path.{Path}
 use Rattle.rust_tree.specs.declared.runtime_item.RuntimeItem.TheVariants.{StringLift}
-use Rattle.wrapper_data.specs.declared.heap.Block.{Block}
+use Rattle.wrapper_data.specs.declared.block.Block.{Block}
 use Rattle.wrapper_data.specs.declared.value.RustValue.TheVariants as value
 use Rattle.wrapper_data.specs.declared.run.TrapKind.TheVariants as trap
 use Rattle.wrapper_data.specs.declared.word.Word.{Word}
@@ -23,7 +23,8 @@ use Rattle.wrapper_run.specs.declared.state.Val.{Val}
 use Rattle.wrapper_run.specs.declared.state.Val.TheVariants as val
 use Rattle.wrapper_run.specs.Act.{Act, Done, ◌>>=◌, and_then, or_stop, pure, stop, Stopped}
 use Rattle.wrapper_run.specs.Blocks.{untaken, lift_buffer, lift_text, own, own_block, owned_bytes, owner_of, take_over, tested}
-use Rattle.wrapper_run.specs.Locals.{Bytes, local_named, moved, use_local, used, value_of}
+use Rattle.wrapper_run.specs.Locals.{local_named, moved, use_local, used, value_of}
+use Rattle.wit_model.specs.Bytes.{Bytes}
 use Rattle.wrapper_run.specs.Memory.{block_at, bytes_from, loaded}
 use Rattle.wrapper_run.specs.Owning.{block_of_buffer, is_taken, owned}
 use Rattle.wrapper_run.specs.Run.{apply, call, call_callee, call_runtime, callee, eval, eval_step, load_word, of_runtime, runtime_item_named, take_bytes}

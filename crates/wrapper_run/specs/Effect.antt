@@ -3,8 +3,8 @@
 use Rattle.std.specs.Prelude.{ℕ, zero, suc, ◌-◌, ◌^◌, Bool, true, false, ◌&&◌, ◌||◌, nat_lt, nat_le, ℤ, pos, negsuc, int_lt, int_le, unsigned_abs, Option, None, Some, Result, Ok, Err, option_and_then, if◌then◌else◌}
 use Rattle.std.specs.Int.{w8, w16, w32, w64, cast_signed, int_rem_euclid}
 use Rattle.std.specs.Option.{option_map, option_or}
-use Rattle.wit_model.specs.declared.size.WasmType.{WasmType}
-use Rattle.wit_model.specs.declared.size.WasmType.TheVariants as core
+use Rattle.wit_model.specs.declared.wasm_type.WasmType.{WasmType}
+use Rattle.wit_model.specs.declared.wasm_type.WasmType.TheVariants as core
 use Rattle.wit_model.specs.declared.types.WitType.{WitType}
 use Rattle.wit_model.specs.declared.types.WitType.TheVariants as wit
 use Rattle.rust_tree.specs.declared.expr.CastType.{CastType}
@@ -14,8 +14,8 @@ use Rattle.rust_tree.specs.declared.runtime_item.RuntimeItem.TheVariants as item
 use Rattle.rust_tree.specs.declared.type_expr.Primitive.{Primitive}
 use Rattle.rust_tree.specs.declared.type_expr.Primitive.TheVariants as prim
 use Rattle.rust_tree.specs.declared.type_expr.TypeExpr.{TypeExpr, TypeExpr-F, out-TypeExpr}
-use Rattle.wrapper_data.specs.declared.answer.Form.{Form}
-use Rattle.wrapper_data.specs.declared.answer.Form.TheVariants as form
+use Rattle.wrapper_data.specs.declared.form.Form.{Form}
+use Rattle.wrapper_data.specs.declared.form.Form.TheVariants as form
 use Rattle.wrapper_data.specs.declared.run.TrapKind.{TrapKind}
 use Rattle.wrapper_data.specs.declared.run.TrapKind.TheVariants as trap
 use Rattle.wrapper_data.specs.declared.value.RustValue.{RustValue, RustValue-F, out-RustValue}

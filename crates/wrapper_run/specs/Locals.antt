@@ -11,9 +11,7 @@ use Rattle.wrapper_run.specs.declared.state.Val.TheVariants as val
 use Rattle.wrapper_run.specs.declared.owning.View.{View}
 use Rattle.wrapper_run.specs.Act.{Act, Done, ◌>>=◌, or_stop, pure}
 use Rattle.wrapper_run.specs.Owning.{lent, owned, view}
-
-abbrev pub Bytes : Type 0
-Bytes = List ℕ
+use Rattle.wit_model.specs.Bytes.{Bytes}
 
 -- the last of these that passes
 abbrev pub last : {A : Type 0} → (A → Bool) → List A → Option A

@@ -1,9 +1,9 @@
 -- What a wrapper's run is: structural over the finished tree, with an answer for the other side.
-use Rattle.std.specs.Prelude.{◌+◌, ℕ, zero, suc, Bool, false, List, [], ◌∷◌, ◌++◌, codes, Option, None, Some, Result, Ok, Err, option_and_then, if◌then◌else◌, find, map, slice_get}
+use Rattle.std.specs.Prelude.{◌+◌, ℕ, zero, suc, Bool, false, List, [], ◌∷◌, ◌++◌, codes, Option, None, Some, Result, Ok, Err, option_and_then, if◌then◌else◌, find, map, slice_get, true, ◌&&◌}
 use Rattle.std.specs.Option.{option_map, option_or}
 use Rattle.std.specs.Str.{bytes_eq}
 use Rattle.wit_model.specs.declared.size.ArchitectureSize.{ArchitectureSize}
-use Rattle.wit_model.specs.declared.size.WasmType.{WasmType}
+use Rattle.wit_model.specs.declared.wasm_type.WasmType.{WasmType}
 use Rattle.wit_model.specs.Size.{alignment_at, bytes_at}
 use Rattle.rust_tree.specs.declared.expr.Expr.{Expr, Expr-F, fold-Expr}
 use Rattle.rust_tree.specs.declared.item.FnItem.{FnItem}
@@ -23,7 +23,7 @@ use Rattle.rust_tree.specs.Tree.{Tree, wrappers_of}
 use Rattle.wrapper_data.specs.Answered.{answered}
 use Rattle.wrapper_data.specs.declared.answer.Answer.{Answer}
 use Rattle.wrapper_data.specs.declared.answer.Answer.TheVariants as answer
-use Rattle.wrapper_data.specs.declared.answer.Form.{Form}
+use Rattle.wrapper_data.specs.declared.form.Form.{Form}
 use Rattle.wrapper_data.specs.declared.choice.Choices.{Choices}
 use Rattle.wrapper_data.specs.declared.heap.Heap.{Heap}
 use Rattle.wrapper_data.specs.declared.run.CallPoint.{CallPoint}
@@ -49,7 +49,8 @@ use Rattle.wrapper_run.specs.Memory.{loaded}
 use Rattle.wrapper_run.specs.Owning.{taken_by}
 use Rattle.wrapper_run.specs.Act.{Act, Outcome, Done, Stopped, ◌>>=◌, ◌>>◌, all, or_stop, pure, stop}
 use Rattle.wrapper_run.specs.Effect.{answer_of, cast_to, converted, is_word_of, lift_of, word_of, word_of_bool}
-use Rattle.wrapper_run.specs.Locals.{Bytes, ask_local, bind, declare, import_named, lend_local, local_named, use_local, value_of}
+use Rattle.wrapper_run.specs.Locals.{ask_local, bind, declare, import_named, lend_local, local_named, use_local, value_of}
+use Rattle.wit_model.specs.Bytes.{Bytes}
 
 -- names
 
@@ -65,10 +66,11 @@ abbrev pub runtime_item_named : List Item → Bytes → Option RuntimeItem
 runtime_item_named [] name = None
 runtime_item_named (i ∷ items) name = option_or (found_in i name) (runtime_item_named items name)
 
--- what a path of a call names: a name alone, a function of `_rt`, or nothing
+-- what a path of a call names: a name alone, a function of `_rt`, `::core::mem::forget`, or nothing
 pub data Callee : Type 0 where
   alone : Bytes → Callee
   of_runtime : Bytes → Callee
+  core_forget : Callee
   unknown : Callee
 
 unfoldable pub runtime_module_name : Bytes
@@ -80,8 +82,17 @@ names_callee (name ∷ []) = alone name
 names_callee (first ∷ name ∷ []) = if bytes_eq first runtime_module_name then of_runtime name else unknown
 names_callee (_ ∷ _ ∷ _ ∷ _) = unknown
 
+unfoldable pub is_core_forget : (first second third : Bytes) → Bool
+is_core_forget first second third = bytes_eq first (codes "core") && (bytes_eq second (codes "mem") && bytes_eq third (codes "forget"))
+
+-- by the names behind a leading `::`
+abbrev pub absolute_callee : List Bytes → Callee
+absolute_callee (first ∷ second ∷ third ∷ []) = if is_core_forget first second third then core_forget else unknown
+absolute_callee _ = unknown
+
 abbrev pub path_callee : Bool → ℕ → List Bytes → Callee
 path_callee false zero names = names_callee names
+path_callee true zero names = absolute_callee names
 path_callee _ _ names = unknown
 
 unfoldable pub callee : Path → Callee
@@ -160,9 +171,15 @@ apply w i vs = apply_one w i vs
 unfoldable pub call_runtime : Setting → Bytes → List Val → Act Val
 call_runtime w name vs = apply w (runtime_item_named w.items name) vs
 
+-- one value is forgotten
+abbrev pub forget_one : Setting → List Val → Act Val
+forget_one w (v ∷ []) = forget w v
+forget_one w _ = stop (stuck w)
+
 abbrev pub call_callee : Setting → Callee → List Val → Act Val
 call_callee w (alone name) vs = call_import w name vs
 call_callee w (of_runtime name) vs = call_runtime w name vs
+call_callee w core_forget vs = forget_one w vs
 call_callee w unknown vs = stop (stuck w)
 
 abbrev pub call : Setting → Path → List Val → Act Val
@@ -195,7 +212,6 @@ eval_step w (Expr-F.ReturnPointer name) = ask_local (stuck w) view_of.AreaAddres
 eval_step w (Expr-F.Load e offset ty) = e >>= load_word w offset ty
 eval_step w (Expr-F.FromRawParts e length) = e >>= (λ v. λ s. take_bytes w (value_of (local_named length s.locals)) v s)
 eval_step w (Expr-F.IntoBoxedBytes name) = use_local (stuck w) name >>= boxed w
-eval_step w (Expr-F.Forget name) = use_local (stuck w) name >>= forget w
 eval_step w Expr-F.StaticPointer = static_pointer w
 eval_step w (Expr-F.Align align) = pure (val.Word (word.Length (alignment_at align 4)))
 

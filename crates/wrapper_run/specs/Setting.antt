@@ -2,8 +2,8 @@
 use Rattle.std.specs.Prelude.{ℕ, List}
 use Rattle.rust_tree.specs.declared.item.Item.{Item}
 use Rattle.wrapper_data.specs.declared.answer.Answer.{Answer}
-use Rattle.wrapper_data.specs.declared.answer.Form.{Form}
-use Rattle.wrapper_data.specs.declared.answer.Form.TheVariants as form
+use Rattle.wrapper_data.specs.declared.form.Form.{Form}
+use Rattle.wrapper_data.specs.declared.form.Form.TheVariants as form
 use Rattle.wrapper_data.specs.declared.run.Stop.{Stop}
 use Rattle.wrapper_data.specs.declared.run.Stop.TheVariants as stop_of
 use Rattle.wrapper_data.specs.declared.run.TrapKind.{TrapKind}

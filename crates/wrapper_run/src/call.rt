@@ -8,11 +8,11 @@ ghost use Rattle.wrapper_run.specs.Effect as effect;
 ghost use Rattle.wrapper_run.specs.Effect.{is_word_of, word_of};
 ghost use Rattle.wrapper_run.specs.Run as spec;
 ghost use Rattle.wrapper_run.specs.Setting.{setting};
-ghost use Rattle.wrapper_run.specs.Seen.{seen};
 
 use crate::blocks::lift_text;
-use crate::effect::{converted, lift_of};
-use crate::freeing::dealloc_words;
+use crate::callee::{Callee, callee_of};
+use crate::conversion::{converted, lift_of};
+use crate::freeing::{dealloc_words, forget};
 use crate::locals::{import_named, local_named};
 use crate::state::{Halt, State, Val, World};
 use rust_tree::{ImportDecl, Item, Path, RuntimeItem};
@@ -133,27 +133,6 @@ fn runtime_item_named(items: &[Item], name: &str) -> Option<RuntimeItem>
         }
     }
     None
-}
-
-/// What a path of a call names.
-enum Callee<'a> {
-    Alone(&'a Text),
-    Runtime(&'a Text),
-    Unknown,
-}
-
-#[tactic(auto, unfolding(crate::specs::Run::callee, crate::specs::Run::runtime_module_name))]
-fn callee_of(path: &Path) -> Callee<'_>
-    ensures { spec.callee path.now ≡ seen result }
-{
-    if path.lead || path.supers != 0 {
-        return Callee::Unknown;
-    }
-    match path.names.as_slice() {
-        [name] => Callee::Alone(name),
-        [first, name] if first.as_str() == "_rt" => Callee::Runtime(name),
-        _ => Callee::Unknown,
-    }
 }
 
 fn lift_act(
@@ -297,6 +276,16 @@ fn call_import(
     }
 }
 
+/// Forgets one value.
+fn forget_one(alloc: Global, world: &World, state: &mut State, vs: &[Val]) -> Result<Val, Halt>
+    ensures { Runs (spec.forget_one (setting world.now) vs.now state.old) result state.new }
+{
+    match vs {
+        [v] => forget(alloc, world, state, v),
+        _ => Err(Halt::Stopped(world.stuck())),
+    }
+}
+
 /// Calls what a path names.
 pub(crate) fn call(
     alloc: Global,
@@ -310,6 +299,7 @@ pub(crate) fn call(
     match callee_of(path) {
         Callee::Alone(name) => call_import(alloc, world, state, name, vs),
         Callee::Runtime(name) => call_runtime(alloc, world, state, name, vs),
+        Callee::Forget => forget_one(alloc, world, state, vs),
         Callee::Unknown => Err(Halt::Stopped(world.stuck())),
     }
 }

@@ -12,8 +12,8 @@ ghost use Rattle.wrapper_run.specs.declared.state.Val.TheVariants as val;
 
 use crate::blocks::{boxed, take_over};
 use crate::call::call;
-use crate::effect::{self, cast_to};
-use crate::freeing::forget;
+use crate::casts::cast_to;
+use crate::conversion;
 use crate::locals::{ask_local, lend_local, use_local, value_named};
 use crate::memory::{align_at_four, at_four, loaded};
 use crate::owning::View;
@@ -27,7 +27,7 @@ use wrapper_data::{TrapKind, Word};
 fn word_of_bool(world: &World, state: &State, v: &Val) -> Result<Val, Halt>
     ensures { Runs (or_stop (stuck (setting world.now)) (option_map val.Word (effect.word_of_bool v.now)) state.now) result state.now }
 {
-    match effect::word_of_bool(v) {
+    match conversion::word_of_bool(v) {
         None => Err(Halt::Stopped(world.stuck())),
         Some(w) => Ok(Val::Word(w)),
     }
@@ -93,14 +93,6 @@ fn box_local(alloc: Global, world: &World, state: &mut State, name: &Text) -> Re
     boxed(world, state, v)
 }
 
-/// The value of a local is forgotten.
-fn forget_local(alloc: Global, world: &World, state: &mut State, name: &Text) -> Result<Val, Halt>
-    ensures { Runs (and_then (use_local (stuck (setting world.now)) name.now state.old) (blocks.forget (setting world.now))) result state.new }
-{
-    let v = use_local(alloc, world.stuck(), state, name)?;
-    forget(alloc, world, state, &v)
-}
-
 /// Computes an expression.
 #[cycle(eval)]
 pub(crate) fn eval(alloc: Global, world: &World, state: &mut State, e: &Expr) -> Result<Val, Halt>
@@ -134,7 +126,6 @@ pub(crate) fn eval(alloc: Global, world: &World, state: &mut State, e: &Expr) ->
             take_bytes(alloc, world, state, length, &v)
         }
         Expr::IntoBoxedBytes(name) => box_local(alloc, world, state, name),
-        Expr::Forget(name) => forget_local(alloc, world, state, name),
         Expr::StaticPointer => static_pointer(alloc, world, state),
         Expr::Align(align) => Ok(Val::Word(Word::Length(align_at_four(align)))),
     }

@@ -8,14 +8,14 @@ ghost use Rattle.wrapper_run.specs.Setting.{setting};
 
 use crate::body::{run_block, run_stmts};
 use crate::call::word_of;
-use crate::effect::is_unit;
 use crate::eval::eval_all;
 use crate::freeing::{drop_value, leave_to};
 use crate::locals::bind;
 use crate::method::call_method;
+use crate::printed::is_unit;
 use crate::run::{begin, item_number, run_at};
 use crate::state::{Halt, Local, State, Val, World};
-use rust_tree::{Bindings, CallBlock, CoreParam, ExportFn, Item, WrapperId};
+use rust_tree::{Bindings, Block, CallBlock, CoreParam, ExportFn, Item, WrapperId};
 use std::alloc::Global;
 use wit_model::{List, OutOfMemory, Text, WasmType};
 use wrapper_data::{Answer, Choices, Form, Heap, Run, Stop, Word};
@@ -115,7 +115,7 @@ fn keep_result(
 }
 
 /// The words of a core result, if the value is one of that type.
-pub(crate) fn core_answer(
+fn core_answer(
     alloc: Global,
     ty: Option<WasmType>,
     v: &Val,
@@ -141,17 +141,18 @@ pub(crate) fn core_answer(
     }
 }
 
-/// Runs what follows the call, and gives the words of the core result.
-fn run_rest(
+/// Runs a block that gives the words of a core result.
+pub(crate) fn run_to_words(
     alloc: Global,
     world: &World,
     state: &mut State,
-    e: &ExportFn,
+    ty: Option<WasmType>,
+    block: &Block,
 ) -> Result<List<Word>, Halt>
-    ensures { Runs (spec.run_rest (setting world.now) e.now state.old) result state.new }
+    ensures { Runs (spec.run_to_words (setting world.now) ty block.now state.old) result state.new }
 {
-    let v = run_block(alloc, world, state, &e.rest)?;
-    let words = match core_answer(alloc, e.result, &v)? {
+    let v = run_block(alloc, world, state, block)?;
+    let words = match core_answer(alloc, ty, &v)? {
         None => return Err(Halt::Stopped(world.stuck())),
         Some(words) => words,
     };
@@ -169,7 +170,7 @@ fn run_export_fn(
 {
     let v = run_call(alloc, world, state, &e.bound, &e.call)?;
     keep_result(alloc, world, state, &e.call.result, v)?;
-    run_rest(alloc, world, state, e)
+    run_to_words(alloc, world, state, e.result, &e.rest)
 }
 
 /// The run of an export's wrapper that is this item, by its number.

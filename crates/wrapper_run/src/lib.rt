@@ -4,7 +4,9 @@
 mod blocks;
 mod body;
 mod call;
-mod effect;
+mod callee;
+mod casts;
+mod conversion;
 mod eval;
 mod export;
 mod freeing;
@@ -14,11 +16,11 @@ mod method;
 mod owning;
 mod places;
 mod post_return;
+mod printed;
 mod run;
 mod state;
 mod store;
-#[cfg(test)]
-mod tests;
+mod views;
 
 pub use export::run_export;
 pub use post_return::{has_post_return, run_post_return};

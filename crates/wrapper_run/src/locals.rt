@@ -10,7 +10,7 @@ use crate::state::{Halt, Local, State, Val};
 use rust_tree::ImportDecl;
 use std::alloc::Global;
 use std::mem;
-use wit_model::{List, OutOfMemory, Text, WasmType};
+use wit_model::{List, OutOfMemory, Text};
 use wrapper_data::Stop;
 
 /// The newest local of a name.
@@ -153,15 +153,9 @@ fn copy_import(alloc: Global, d: &ImportDecl) -> Result<ImportDecl, OutOfMemory>
         module: d.module.copy(alloc)?,
         link_name: d.link_name.copy(alloc)?,
         name: d.name.copy(alloc)?,
-        params: copy_types(alloc, d.params.as_slice())?,
+        params: List::from_slice(alloc, d.params.as_slice())?,
         result: d.result,
     })
-}
-
-fn copy_types(alloc: Global, types: &[WasmType]) -> Result<List<WasmType>, OutOfMemory>
-    ensures { IfOk result (λ copied. copied ≡ types.now) }
-{
-    Ok(List::from_vec(Vec::from_slice(alloc, types)?))
 }
 
 /// Declares a core import.

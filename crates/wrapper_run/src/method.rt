@@ -7,8 +7,8 @@ ghost use Rattle.wrapper_run.specs.ExportRun as spec;
 ghost use Rattle.wrapper_run.specs.Owning as owning;
 ghost use Rattle.wrapper_run.specs.Setting.{setting};
 
-use crate::effect::answer_of;
 use crate::owning::taken_by;
+use crate::printed::answer_of;
 use crate::state::{Halt, State, Val, World};
 use rust_tree::{FnParam, Item, TraitFn, TypeExpr};
 use std::alloc::Global;

@@ -41,19 +41,13 @@ fn fitting(alloc: Global, address: u32, r: Request, blocks: &[Block]) -> Option<
     }
 }
 
-fn copied(alloc: Global, choices: &[Choice]) -> Result<List<Choice>, OutOfMemory>
-    ensures { IfOk result (λ l. l ≡ choices.now) }
-{
-    Ok(List::from_vec(Vec::from_slice(alloc, choices)?))
-}
-
 /// Places an area where the next choice says.
 fn place_at(alloc: Global, state: &mut State, r: Request) -> Result<(u32, u32), Halt>
     requires { r.align ≢ 0 }
     ensures { Runs (spec.place_at r state.old.choices state.old) result state.new }
 {
     let (address, left) = match state.choices.as_slice().split_first() {
-        Some((Choice::At(address), left)) => (*address, copied(alloc, left)?),
+        Some((Choice::At(address), left)) => (*address, List::from_slice(alloc, left)?),
         _ => return Err(Halt::Stopped(Stop::BadChoice)),
     };
     let block = match fitting(alloc, address, r, state.heap.blocks.as_slice()) {

@@ -2,13 +2,10 @@
 
 ghost use Rattle.std.specs.Prelude.{◌≡◌, IfOk, IsSome, Some, is_some, option_map};
 ghost use Rattle.std.specs.Option.{option_copied};
-ghost use Rattle.wrapper_run.specs.Act.{Runs};
 ghost use Rattle.wrapper_run.specs.PostReturn as spec;
 ghost use Rattle.wrapper_run.specs.Setting.{setting};
 
-use crate::body::run_block;
-use crate::export::{core_answer, export_at, push_words};
-use crate::freeing::leave_to;
+use crate::export::{export_at, push_words, run_to_words};
 use crate::run::{begin, run_at};
 use crate::state::{Halt, State, World};
 use rust_tree::{Bindings, Item, PostReturnFn, WrapperId};
@@ -65,24 +62,6 @@ fn start_post_return(
     begin(alloc, locals, List::new(alloc), heap, &none)
 }
 
-/// Runs the body, which gives nothing.
-fn run_post_return_fn(
-    alloc: Global,
-    world: &World,
-    state: &mut State,
-    p: &PostReturnFn,
-) -> Result<List<Word>, Halt>
-    ensures { Runs (spec.run_post_return_fn (setting world.now) p.now state.old) result state.new }
-{
-    let v = run_block(alloc, world, state, &p.body)?;
-    let words = match core_answer(alloc, None, &v)? {
-        None => return Err(Halt::Stopped(world.stuck())),
-        Some(words) => words,
-    };
-    leave_to(alloc, world, state, 0)?;
-    Ok(words)
-}
-
 #[tactic(auto, unfolding(crate::specs::PostReturn::run_post_return_item))]
 fn run_post_return_item(
     alloc: Global,
@@ -94,7 +73,7 @@ fn run_post_return_item(
     ensures { IfOk result (λ run. run ≡ spec.run_post_return_item (setting world.now) p.now words.now heap.now) }
 {
     let mut state = start_post_return(alloc, p, words, heap)?;
-    match run_post_return_fn(alloc, world, &mut state, p) {
+    match run_to_words(alloc, world, &mut state, None, &p.body) {
         Ok(given) => Ok(run_at(Stop::Done, given, None, state)),
         Err(Halt::Stopped(stop)) => Ok(run_at(stop, List::new(alloc), None, state)),
         Err(Halt::OutOfMemory) => Err(OutOfMemory),

@@ -6,14 +6,14 @@ ghost use Rattle.wrapper_run.specs.Run as spec;
 ghost use Rattle.wrapper_run.specs.Setting.{setting};
 
 use crate::body::run_block;
-use crate::effect::answer_of;
 use crate::freeing::leave_to;
 use crate::owning::taken_by;
+use crate::printed::answer_of;
 use crate::state::{Halt, Local, State, Val, World};
 use rust_tree::{Bindings, FnItem, FnParam, Item, WrapperId};
 use std::alloc::Global;
 use wit_model::{List, OutOfMemory};
-use wrapper_data::{Answer, Choice, Choices, Form, Heap, Run, RustValue, Stop, Word};
+use wrapper_data::{Answer, Choices, Form, Heap, Run, RustValue, Stop, Word};
 
 /// Puts the parameters, with their arguments, behind other locals.
 fn push_args(
@@ -47,12 +47,6 @@ fn bound_args(
     Ok(locals)
 }
 
-fn copy_choices(alloc: Global, choices: &Choices) -> Result<List<Choice>, OutOfMemory>
-    ensures { IfOk result (λ copied. copied ≡ choices.now.list) }
-{
-    Ok(List::from_vec(Vec::from_slice(alloc, choices.list.as_slice())?))
-}
-
 /// The state in which a run begins: its parameters, a heap, choices, and the blocks that owners have.
 pub(crate) fn begin(
     alloc: Global,
@@ -67,7 +61,7 @@ pub(crate) fn begin(
         locals,
         imports: List::new(alloc),
         heap: heap.copy(alloc)?,
-        choices: copy_choices(alloc, choices)?,
+        choices: List::from_slice(alloc, choices.list.as_slice())?,
         requests: List::new(alloc),
         calls: List::new(alloc),
         taken,

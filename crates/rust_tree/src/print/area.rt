@@ -2,10 +2,9 @@ ghost use Rattle.std.specs.Prelude.{◌≡◌, ◌++◌, OnOk};
 ghost use Rattle.rust_tree.specs.CodeText.{align_text, area_text, area_type_text, area_value_text};
 ghost use Rattle.rust_tree.specs.ExportText.{static_area_text};
 
-use crate::export::StaticArea;
+use crate::area::{ReturnArea, StaticArea};
 use crate::print::size::push_term;
 use crate::print::word::{AreaWord, Sign};
-use crate::stmt::ReturnArea;
 use wit_model::{Alignment, ArchitectureSize, OutOfMemory, Text};
 
 fn push_align(out: &mut Text, align: Alignment) -> Result<(), OutOfMemory>

@@ -4,14 +4,14 @@ ghost use Rattle.std.specs.Prelude.{◌≡◌, ◌++◌, OnOk, map};
 ghost use Rattle.std.specs.List.{flat_map};
 ghost use Rattle.rust_tree.specs.RuntimeText.{conversion_fn_text, conversion_impl_text, conversion_method_text, conversion_text, conversion_trait_text, reference_impl_text};
 
-use crate::print::word::{ConversionWord, Sign};
+use crate::print::word::{ConversionWord, ItemWord, Sign};
 use crate::runtime_item::RuntimeItem;
 use wit_model::{OutOfMemory, Text};
 
 fn push_method(out: &mut Text, item: RuntimeItem, ty: &str) -> Result<(), OutOfMemory>
     ensures { OnOk result (out.new ≡ out.old ++ conversion_method_text item ty.now) }
 {
-    ConversionWord::ConversionMethod.put(out)?;
+    ItemWord::Method.put(out)?;
     out.push_str(item.name())?;
     ConversionWord::TakesSelf.put(out)?;
     out.push_str(ty)
@@ -48,7 +48,7 @@ fn push_conversion_trait(
 ) -> Result<(), OutOfMemory>
     ensures { OnOk result (out.new ≡ out.old ++ conversion_trait_text item bound.now ty.now) }
 {
-    ConversionWord::ConversionTrait.put(out)?;
+    ItemWord::PublicTrait.put(out)?;
     out.push_str(bound)?;
     Sign::OpenBlock.put(out)?;
     push_method(out, item, ty)?;

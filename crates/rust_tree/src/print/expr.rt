@@ -1,7 +1,7 @@
 ghost use Rattle.std.specs.Prelude.{◌≡◌, ◌++◌, OnOk};
 ghost use Rattle.rust_tree.specs.CodeText.{arguments_text, bracket, capacity_text, cast_type_text, expr_spelled, expr_text, place_text};
 ghost use Rattle.rust_tree.specs.Word.{expr_word, sign};
-ghost use Rattle.rust_tree.specs.declared.print.word.expr.ExprWord.TheVariants.{Forget, IntoBoxedBytes};
+ghost use Rattle.rust_tree.specs.declared.print.word.expr.ExprWord.TheVariants.{IntoBoxedBytes};
 ghost use Rattle.rust_tree.specs.declared.print.word.sign.Sign.TheVariants.{As, Close, Open, Reference};
 
 use crate::expr::{CastType, Expr};
@@ -77,14 +77,6 @@ fn push_boxed_bytes(out: &mut Text, name: &Text) -> Result<(), OutOfMemory>
     push_behind(out, name, ExprWord::IntoBoxedBytes)
 }
 
-fn push_forget(out: &mut Text, name: &Text) -> Result<(), OutOfMemory>
-    ensures { OnOk result (out.new ≡ out.old ++ (expr_word Forget ++ name.now ++ sign Close)) }
-{
-    ExprWord::Forget.put(out)?;
-    out.push_str(name.as_str())?;
-    Sign::Close.put(out)
-}
-
 /// What stands behind the expression of a pointer whose bytes are taken over: the bracket, the length and the capacity.
 fn push_capacity(out: &mut Text, pointer: &Expr, len: &Text) -> Result<(), OutOfMemory>
     ensures { OnOk result
@@ -133,7 +125,6 @@ pub(crate) fn push_expr(out: &mut Text, e: &Expr) -> Result<(), OutOfMemory>
             push_capacity(out, pointer.get(), len)
         }
         Expr::IntoBoxedBytes(name) => push_boxed_bytes(out, name),
-        Expr::Forget(name) => push_forget(out, name),
         Expr::StaticPointer => ExprWord::StaticPointer.put(out),
         Expr::Align(align) => push_alignment(out, *align),
     }

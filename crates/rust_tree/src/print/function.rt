@@ -1,6 +1,5 @@
-ghost use Rattle.std.specs.Prelude.{◌≡◌, ◌++◌, OnOk, map};
-ghost use Rattle.std.specs.List.{flat_map};
-ghost use Rattle.rust_tree.specs.Pieces.{joined};
+ghost use Rattle.std.specs.Prelude.{◌≡◌, ◌++◌, OnOk};
+ghost use Rattle.std.specs.List.{flat_map, join_by};
 ghost use Rattle.rust_tree.specs.Text.{doc_text, fn_text, param_text, signature_text};
 ghost use Rattle.rust_tree.specs.Word.{sign};
 ghost use Rattle.rust_tree.specs.declared.print.word.sign.Sign.TheVariants.{Comma};
@@ -34,7 +33,7 @@ pub(crate) fn push_docs(out: &mut Text, docs: &[Text]) -> Result<(), OutOfMemory
 }
 
 fn push_params(out: &mut Text, params: &[FnParam]) -> Result<(), OutOfMemory>
-    ensures { OnOk result (out.new ≡ out.old ++ joined (sign Comma) (map param_text params.now)) }
+    ensures { OnOk result (out.new ≡ out.old ++ join_by param_text (sign Comma) params.now) }
 {
     for (i, param) in params.iter().enumerate() {
         if i > 0 {
@@ -51,16 +50,16 @@ pub(crate) fn push_signature(
     out: &mut Text,
     name: &Text,
     params: &[FnParam],
-    answer: &TypeExpr,
+    result_type: &TypeExpr,
 ) -> Result<(), OutOfMemory>
-    ensures { OnOk result (out.new ≡ out.old ++ signature_text name.now params.now answer.now) }
+    ensures { OnOk result (out.new ≡ out.old ++ signature_text name.now params.now result_type.now) }
 {
     out.push_str(name.as_str())?;
     Sign::Open.put(out)?;
     push_params(out, params)?;
     Sign::Close.put(out)?;
     Sign::Arrow.put(out)?;
-    push_type(out, answer)
+    push_type(out, result_type)
 }
 
 pub(crate) fn push_function(out: &mut Text, function: &FnItem) -> Result<(), OutOfMemory>

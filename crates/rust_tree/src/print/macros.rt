@@ -4,7 +4,7 @@ ghost use Rattle.std.specs.Prelude.{◌≡◌, ◌++◌, OnOk};
 ghost use Rattle.std.specs.List.{flat_map};
 ghost use Rattle.rust_tree.specs.ExportText.{call_word, entry_body_text, entry_head_text, entry_text, extern_word, for_type_word, module_call_text, module_macro_text, root_macro_text};
 
-use crate::export::{EntryKind, ExportEntry, ModuleMacro, RootMacro};
+use crate::macros::{EntryKind, ExportEntry, ModuleMacro, RootMacro};
 use crate::print::named_param::{push_named_signature, push_param_names};
 use crate::print::word::MacroWord;
 use wit_model::{OutOfMemory, Text};

@@ -1,8 +1,8 @@
 //! Core parameters with names, which export wrappers and the functions of module macros have.
 
-ghost use Rattle.std.specs.Prelude.{◌≡◌, ◌++◌, OnOk, map};
+ghost use Rattle.std.specs.Prelude.{◌≡◌, ◌++◌, OnOk};
+ghost use Rattle.std.specs.List.{join_by};
 ghost use Rattle.rust_tree.specs.ExportText.{named_param_text, named_signature_text, names_text};
-ghost use Rattle.rust_tree.specs.Pieces.{joined};
 ghost use Rattle.rust_tree.specs.Word.{sign};
 ghost use Rattle.rust_tree.specs.declared.print.word.sign.Sign.TheVariants.{Comma};
 
@@ -13,7 +13,7 @@ use crate::print::word::Sign;
 use wit_model::{OutOfMemory, Text, WasmType};
 
 fn push_named_params(out: &mut Text, params: &[CoreParam]) -> Result<(), OutOfMemory>
-    ensures { OnOk result (out.new ≡ out.old ++ joined (sign Comma) (map named_param_text params.now)) }
+    ensures { OnOk result (out.new ≡ out.old ++ join_by named_param_text (sign Comma) params.now) }
 {
     for (i, param) in params.iter().enumerate() {
         if i > 0 {
@@ -29,14 +29,14 @@ fn push_named_params(out: &mut Text, params: &[CoreParam]) -> Result<(), OutOfMe
 pub(crate) fn push_named_signature(
     out: &mut Text,
     params: &[CoreParam],
-    answer: Option<WasmType>,
+    result_type: Option<WasmType>,
 ) -> Result<(), OutOfMemory>
-    ensures { OnOk result (out.new ≡ out.old ++ named_signature_text params.now answer) }
+    ensures { OnOk result (out.new ≡ out.old ++ named_signature_text params.now result_type) }
 {
     Sign::Open.put(out)?;
     push_named_params(out, params)?;
     Sign::Close.put(out)?;
-    push_core_result(out, answer)
+    push_core_result(out, result_type)
 }
 
 pub(crate) fn push_param_names(out: &mut Text, params: &[CoreParam]) -> Result<(), OutOfMemory>

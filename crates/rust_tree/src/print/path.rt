@@ -1,5 +1,5 @@
 ghost use Rattle.std.specs.Prelude.{◌≡◌, ◌++◌, OnOk};
-ghost use Rattle.rust_tree.specs.Pieces.{joined};
+ghost use Rattle.std.specs.List.{join_by};
 ghost use Rattle.rust_tree.specs.CodeText.{lead_text, path_text, supers_text};
 ghost use Rattle.rust_tree.specs.Word.{sign};
 ghost use Rattle.rust_tree.specs.declared.print.word.sign.Sign.TheVariants.{PathMark};
@@ -27,7 +27,7 @@ fn push_supers(out: &mut Text, supers: u32) -> Result<(), OutOfMemory>
 }
 
 fn push_names(out: &mut Text, names: &[Text]) -> Result<(), OutOfMemory>
-    ensures { OnOk result (out.new ≡ out.old ++ joined (sign PathMark) names.now) }
+    ensures { OnOk result (out.new ≡ out.old ++ join_by (λ name. name) (sign PathMark) names.now) }
 {
     for (i, name) in names.iter().enumerate() {
         if i > 0 {

@@ -32,12 +32,13 @@ fn push_alloc_crate(out: &mut Text) -> Result<(), OutOfMemory>
 }
 
 #[tactic(auto, unfolding(crate::specs::RuntimeText::alloc_use_text))]
-fn push_alloc_use(out: &mut Text, item: RuntimeItem, path: RuntimeWord) -> Result<(), OutOfMemory>
-    ensures { OnOk result (out.new ≡ out.old ++ alloc_use_text item (runtime_word path)) }
+fn push_alloc_use(out: &mut Text, item: RuntimeItem, path: &str) -> Result<(), OutOfMemory>
+    ensures { OnOk result (out.new ≡ out.old ++ alloc_use_text item path.now) }
 {
     RuntimeWord::PublicUse.put(out)?;
     out.push_str(RuntimeItem::AllocCrate.name())?;
-    path.put(out)?;
+    Sign::PathMark.put(out)?;
+    out.push_str(path)?;
     out.push_str(item.name())?;
     Sign::StatementEnd.put(out)
 }
@@ -52,7 +53,7 @@ fn push_lift(
 ) -> Result<(), OutOfMemory>
     ensures { OnOk result (out.new ≡ out.old ++ lift_text item (lift_word signature) (lift_word checked) (lift_word unchecked)) }
 {
-    LiftWord::LiftFn.put(out)?;
+    RuntimeWord::UnsafeFn.put(out)?;
     out.push_str(item.name())?;
     signature.put(out)?;
     LiftWord::IfDebug.put(out)?;
@@ -66,12 +67,12 @@ fn push_lift(
 fn push_dealloc(out: &mut Text) -> Result<(), OutOfMemory>
     ensures { OnOk result (out.new ≡ out.old ++ dealloc_text) }
 {
-    RuntimeWord::DeallocFn.put(out)?;
+    RuntimeWord::UnsafeFn.put(out)?;
     out.push_str(RuntimeItem::CabiDealloc.name())?;
     RuntimeWord::DeallocParams.put(out)?;
-    out.push_str(RuntimeItem::AllocModule.name())?;
+    out.push_str(RuntimeItem::StdAllocModule.name())?;
     RuntimeWord::MakeLayout.put(out)?;
-    out.push_str(RuntimeItem::AllocModule.name())?;
+    out.push_str(RuntimeItem::StdAllocModule.name())?;
     RuntimeWord::Dealloc.put(out)
 }
 
@@ -84,8 +85,8 @@ fn push_runtime_item(out: &mut Text, item: RuntimeItem) -> Result<(), OutOfMemor
         RuntimeItem::AsF32 => push_conversion(out, item, "AsF32", "f32", &F32_SOURCES),
         RuntimeItem::AsF64 => push_conversion(out, item, "AsF64", "f64", &F64_SOURCES),
         RuntimeItem::AllocCrate => push_alloc_crate(out),
-        RuntimeItem::StringType => push_alloc_use(out, item, RuntimeWord::StringPath),
-        RuntimeItem::VecType => push_alloc_use(out, item, RuntimeWord::VecPath),
+        RuntimeItem::StringType => push_alloc_use(out, item, "string::"),
+        RuntimeItem::VecType => push_alloc_use(out, item, "vec::"),
         RuntimeItem::BoolLift => push_lift(
             out,
             item,
@@ -107,7 +108,7 @@ fn push_runtime_item(out: &mut Text, item: RuntimeItem) -> Result<(), OutOfMemor
             LiftWord::CheckedString,
             LiftWord::UncheckedString,
         ),
-        RuntimeItem::AllocModule => push_alloc_use(out, item, RuntimeWord::CratePath),
+        RuntimeItem::StdAllocModule => push_alloc_use(out, item, ""),
         RuntimeItem::CabiDealloc => push_dealloc(out),
     }
 }

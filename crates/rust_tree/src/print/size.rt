@@ -6,11 +6,6 @@ ghost use Rattle.rust_tree.specs.CodeText.{term_text};
 
 use wit_model::{Alignment, ArchitectureSize, OutOfMemory, Text};
 
-const POINTER_SIZE: ArchitectureSize = ArchitectureSize {
-    bytes: 0,
-    pointers: 1,
-};
-
 #[tactic(auto, unfolding(crate::specs::CodeText::term_text))]
 pub(crate) fn push_term(out: &mut Text, size: ArchitectureSize) -> Result<(), OutOfMemory>
     ensures { OnOk result (out.new ≡ out.old ++ term_text size) }
@@ -21,8 +16,5 @@ pub(crate) fn push_term(out: &mut Text, size: ArchitectureSize) -> Result<(), Ou
 pub(crate) fn push_alignment(out: &mut Text, align: Alignment) -> Result<(), OutOfMemory>
     ensures { OnOk result (out.new ≡ out.old ++ alignment_text align) }
 {
-    match align {
-        Alignment::Pointer => POINTER_SIZE.push_term(out, true),
-        Alignment::Bytes(n) => out.push_number(u64::from(n)),
-    }
+    align.push(out)
 }

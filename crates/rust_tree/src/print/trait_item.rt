@@ -2,16 +2,16 @@ ghost use Rattle.std.specs.Prelude.{◌≡◌, ◌++◌, OnOk};
 ghost use Rattle.std.specs.List.{flat_map};
 ghost use Rattle.rust_tree.specs.Text.{trait_fn_text, trait_text};
 
-use crate::export::{TraitFn, TraitItem};
 use crate::print::function::{push_docs, push_signature};
 use crate::print::word::{ItemWord, Sign};
+use crate::trait_item::{TraitFn, TraitItem};
 use wit_model::{OutOfMemory, Text};
 
 fn push_trait_fn(out: &mut Text, function: &TraitFn) -> Result<(), OutOfMemory>
     ensures { OnOk result (out.new ≡ out.old ++ trait_fn_text function.now) }
 {
     push_docs(out, function.docs.as_slice())?;
-    ItemWord::TraitMethod.put(out)?;
+    ItemWord::Method.put(out)?;
     push_signature(
         out,
         &function.name,

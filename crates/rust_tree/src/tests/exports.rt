@@ -2,12 +2,18 @@
 
 use crate::tests::case::{Case, check_texts};
 use crate::tests::plain::{
-    Block, CallBlock, ExportFn, Expr, Item, PostReturnFn, Signature, Stmt, Type,
+    Block, CallBlock, ExportFn, Expr, Item, Path, PostReturnFn, Signature, Stmt, Type,
 };
 use crate::tests::samples::{NOTHING, POINTER, RUN, TWO_POINTERS};
 use crate::{CastType, Primitive, RuntimeItem, StaticArea};
 use std::test::Fail;
 use wit_model::{Alignment, ArchitectureSize, WasmType};
+
+const FORGET: Path = Path {
+    lead: true,
+    supers: 0,
+    names: &["core", "mem", "forget"],
+};
 
 const RUN_TEXT: &str = "#[doc(hidden)]
 #[allow(non_snake_case, unused_unsafe)]
@@ -160,7 +166,7 @@ const ECHO: &[Item] = &[
                 Stmt::Let("vec3", Expr::IntoBoxedBytes("result1")),
                 Stmt::Let("ptr3", Expr::AsPtr("vec3")),
                 Stmt::Let("len3", Expr::Len("vec3")),
-                Stmt::Expr(Expr::Forget("vec3")),
+                Stmt::Expr(Expr::CallAt(FORGET, &[Expr::Local("vec3")])),
                 Stmt::Store(
                     Expr::Local("ptr2"),
                     POINTER,
@@ -207,7 +213,7 @@ const ECHO: &[Item] = &[
         size: TWO_POINTERS,
         align: Alignment::Pointer,
     }),
-    Item::Runtime(&[RuntimeItem::AllocModule, RuntimeItem::CabiDealloc]),
+    Item::Runtime(&[RuntimeItem::StdAllocModule, RuntimeItem::CabiDealloc]),
 ];
 
 /// An area of a number of bytes, a store behind brackets, and the alignment of a pointer.

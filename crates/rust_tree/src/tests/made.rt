@@ -25,7 +25,7 @@ fn texts(alloc: Global, lines: &[&str]) -> Result<List<Text>, OutOfMemory> {
 }
 
 fn listed<T: Copy>(alloc: Global, values: &[T]) -> Result<List<T>, OutOfMemory> {
-    Ok(List::from_vec(Vec::from_slice(alloc, values)?))
+    List::from_slice(alloc, values)
 }
 
 fn type_expr(alloc: Global, ty: &plain::Type) -> Result<TypeExpr, OutOfMemory> {
@@ -84,7 +84,6 @@ fn expr(alloc: Global, e: &plain::Expr) -> Result<Expr, OutOfMemory> {
             Ok(Expr::FromRawParts(pointer, text(alloc, len)?))
         }
         plain::Expr::IntoBoxedBytes(name) => Ok(Expr::IntoBoxedBytes(text(alloc, name)?)),
-        plain::Expr::Forget(name) => Ok(Expr::Forget(text(alloc, name)?)),
         plain::Expr::StaticPointer => Ok(Expr::StaticPointer),
         plain::Expr::Align(align) => Ok(Expr::Align(*align)),
     }

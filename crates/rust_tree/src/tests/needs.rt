@@ -9,8 +9,8 @@ const CASES: [(RuntimeItem, &[RuntimeItem]); 7] = [
     ),
     (RuntimeItem::AllocCrate, &[]),
     (RuntimeItem::BoolLift, &[]),
-    (RuntimeItem::AllocModule, &[RuntimeItem::AllocCrate]),
-    (RuntimeItem::CabiDealloc, &[RuntimeItem::AllocModule]),
+    (RuntimeItem::StdAllocModule, &[RuntimeItem::AllocCrate]),
+    (RuntimeItem::CabiDealloc, &[RuntimeItem::StdAllocModule]),
 ];
 
 #[test]

@@ -37,7 +37,6 @@ pub(crate) enum Expr {
     Load(&'static Expr, ArchitectureSize, WasmType),
     FromRawParts(&'static Expr, &'static str),
     IntoBoxedBytes(&'static str),
-    Forget(&'static str),
     StaticPointer,
     Align(Alignment),
 }

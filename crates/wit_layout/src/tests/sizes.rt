@@ -102,7 +102,36 @@ fn options_and_results(rt: HostRuntime) -> Result<(), Fail> {
 }
 
 #[test]
-fn tags_of_many_cases(rt: HostRuntime) -> Result<(), Fail> {
+fn an_alias_has_a_size_and_no_places(rt: HostRuntime) -> Result<(), Fail> {
+    let alloc = rt.alloc();
+    let mut types = List::new(alloc);
+    push(&mut types, TypeDefKind::Option(WitType::U64))?;
+    push(&mut types, TypeDefKind::Alias(entry(0)))?;
+    push(&mut types, tuple(alloc, &[WitType::U8, WitType::U16])?)?;
+    push(&mut types, TypeDefKind::Alias(entry(2)))?;
+    let sizes = filled(alloc, types)?;
+    assert_eq!(rt; (size(&sizes, 0), payload(&sizes, 0)), ((16, 0), (8, 0)));
+    assert_eq!(rt; (size(&sizes, 1), payload(&sizes, 1)), ((16, 0), (0, 0)));
+    assert_eq!(rt; offsets(&sizes, 2), [pair(0, 0), pair(2, 0)].as_slice());
+    assert_eq!(rt; size(&sizes, 3), (4, 0));
+    assert!(rt; offsets(&sizes, 3).is_empty());
+    Ok(())
+}
+
+#[test]
+fn an_enum_has_the_place_behind_its_discriminant(rt: HostRuntime) -> Result<(), Fail> {
+    let alloc = rt.alloc();
+    let mut types = List::new(alloc);
+    push(&mut types, TypeDefKind::Enum(members(alloc, 3)?))?;
+    push(&mut types, TypeDefKind::Enum(members(alloc, 257)?))?;
+    let sizes = filled(alloc, types)?;
+    assert_eq!(rt; (size(&sizes, 0), payload(&sizes, 0)), ((1, 0), (1, 0)));
+    assert_eq!(rt; (size(&sizes, 1), payload(&sizes, 1)), ((2, 0), (2, 0)));
+    Ok(())
+}
+
+#[test]
+fn discriminants_of_many_cases(rt: HostRuntime) -> Result<(), Fail> {
     let alloc = rt.alloc();
     let mut types = List::new(alloc);
     push(&mut types, variant(alloc, 256, None)?)?;

@@ -10,7 +10,6 @@ pub(crate) enum ConversionWord {
     ConversionBound,
     ConversionParam,
     ConvertParam,
-    ConversionTrait,
     ReferenceBound,
     ReferenceTrait,
     ForReference,
@@ -19,7 +18,6 @@ pub(crate) enum ConversionWord {
     ConversionImpl,
     ImplFor,
     Inline,
-    ConversionMethod,
     TakesSelf,
     CastSelf,
 }
@@ -34,7 +32,6 @@ impl ConversionWord {
             ConversionWord::ConversionBound => "<T: ",
             ConversionWord::ConversionParam => ">(t: T) -> ",
             ConversionWord::ConvertParam => "t.",
-            ConversionWord::ConversionTrait => "pub trait ",
             ConversionWord::ReferenceBound => "impl<'a, T: Copy + ",
             ConversionWord::ReferenceTrait => "> ",
             ConversionWord::ForReference => " for &'a T {\n",
@@ -43,7 +40,6 @@ impl ConversionWord {
             ConversionWord::ConversionImpl => "impl ",
             ConversionWord::ImplFor => " for ",
             ConversionWord::Inline => "#[inline]\n",
-            ConversionWord::ConversionMethod => "fn ",
             ConversionWord::TakesSelf => "(self) -> ",
             ConversionWord::CastSelf => "self as ",
         }

@@ -19,7 +19,6 @@ pub(crate) enum ExprWord {
     FromRawParts,
     PointerCast,
     IntoBoxedBytes,
-    Forget,
     StaticPointer,
 }
 
@@ -42,7 +41,6 @@ impl ExprWord {
             ExprWord::FromRawParts => "_rt::Vec::from_raw_parts(",
             ExprWord::PointerCast => ".cast(), ",
             ExprWord::IntoBoxedBytes => ".into_bytes()).into_boxed_slice()",
-            ExprWord::Forget => "::core::mem::forget(",
             ExprWord::StaticPointer => "(&raw mut _RET_AREA.0).cast::<u8>()",
         }
     }

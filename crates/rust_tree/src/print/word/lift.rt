@@ -6,7 +6,6 @@ use wit_model::{OutOfMemory, Text};
 /// The words of the runtime items that give the value of a core value.
 #[derive(Clone, Copy)]
 pub(crate) enum LiftWord {
-    LiftFn,
     IfDebug,
     Otherwise,
     LiftEnd,
@@ -27,7 +26,6 @@ impl LiftWord {
         ensures { result.now ≡ lift_word self }
     {
         match self {
-            LiftWord::LiftFn => "pub unsafe fn ",
             LiftWord::IfDebug => " {\nif cfg!(debug_assertions) {\n",
             LiftWord::Otherwise => "} else {\n",
             LiftWord::LiftEnd => "}\n}\n",

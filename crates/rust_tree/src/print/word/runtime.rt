@@ -3,16 +3,14 @@ ghost use Rattle.rust_tree.specs.Word.{runtime_word};
 
 use wit_model::{OutOfMemory, Text};
 
-/// The words of the module `_rt`, of its items from the crate `alloc`, and of the function that frees a block.
+/// The words of the module `_rt`, of its items from the crate `alloc`, of its unsafe functions, and of the one that frees a
+/// block.
 #[derive(Clone, Copy)]
 pub(crate) enum RuntimeWord {
     RuntimeModule,
     ExternCrate,
     PublicUse,
-    StringPath,
-    VecPath,
-    CratePath,
-    DeallocFn,
+    UnsafeFn,
     DeallocParams,
     MakeLayout,
     Dealloc,
@@ -28,10 +26,7 @@ impl RuntimeWord {
                 "mod _rt {\n#![allow(dead_code, unused_imports, clippy::all)]\n",
             RuntimeWord::ExternCrate => "extern crate alloc as ",
             RuntimeWord::PublicUse => "pub use ",
-            RuntimeWord::StringPath => "::string::",
-            RuntimeWord::VecPath => "::vec::",
-            RuntimeWord::CratePath => "::",
-            RuntimeWord::DeallocFn => "pub unsafe fn ",
+            RuntimeWord::UnsafeFn => "pub unsafe fn ",
             RuntimeWord::DeallocParams =>
                 "(ptr: *mut u8, size: usize, align: usize) {\nif size == 0 {\nreturn;\n}\nunsafe {\nlet layout = ",
             RuntimeWord::MakeLayout => "::Layout::from_size_align_unchecked(size, align);\n",

@@ -11,11 +11,11 @@ use Rattle.wit_layout.proofs.AheadTurns.{entry_at, low_put, first_low, rest_low,
 use Rattle.wit_layout.proofs.AheadWeight.{weights_next}
 use Rattle.wit_layout.proofs.AheadWords.{opened, flattened}
 use Rattle.wit_layout.proofs.SequenceSteps.{sequence_is, alias_is, fixed_list_is, tuple_or_record, member_below, members_read}
-use Rattle.wit_model.specs.declared.size.WasmType.TheVariants.{I32}
+use Rattle.wit_model.specs.declared.wasm_type.WasmType.TheVariants.{I32}
 use Rattle.wit_model.specs.declared.types.TypeDef.{TypeDef}
 use Rattle.wit_model.specs.Parts.{parts}
-use Rattle.wit_layout.specs.Flat.{EachHasWords, flat, flats, slots, joined, words_of_flags}
-use Rattle.wit_layout.specs.Kept.{kept}
+use Rattle.wit_layout.specs.Flat.{EachHasWords, flatten_type, flatten_record, slots, joined, words_of_flags}
+use Rattle.wit_layout.specs.Words.{kept}
 use Rattle.wit_layout.specs.Tree.{trees, payload_in, payloads_in}
 use Rattle.wit_layout.proofs.FlattenSteps.{payload_rank, payload_rank_below, payload_below_more, by_kind, members_low, words_of_entry, part_rank, part_in_table, words_of_lists, words_of_flag_kind, words_of_handles, words_of_async, words_of_unknown, words_of_payloads, words_of_cases}
 use Rattle.wit_layout.proofs.KeptWords.{kept_fit}
@@ -42,12 +42,12 @@ flatten_cases-loop-left-preserved t c =
     let case = c.flatten_payload-case in
     let more : (left - 1) + 1 ≡ left = omega arith in
     let next : drop (left - 1) ps ≡ c.part.result ∷ drop left ps = drop_at ps (left - 1) c.part.result c.part.ensures ∙ ap (λ k. c.part.result ∷ drop k ps) more in
-    let first = from_none r c.none.result.room (kept c.none.result) (kept case.result) (flat (payload_in ts c.part.result)) c.none.ensures.words c.none.ensures.room case.ensures.words in
+    let first = from_none r c.none.result.room (kept c.none.result) (kept case.result) (flatten_type (payload_in ts c.part.result)) c.none.ensures.words c.none.ensures.room case.ensures.words in
     let room : case.result.room ≡ r = case.ensures.room ∙ c.none.ensures.room in
     let rest = slots (payloads_in ts (drop left ps)) in
     record {
-      words = c.joined_with-slots.ensures.words ∙ ap (λ k. take k (joined (kept case.result) (kept c.loop-left.slots))) room ∙ ap (λ ws. take r (joined ws (kept c.loop-left.slots))) first ∙ ap (λ ws. take r (joined (take r (flat (payload_in ts c.part.result))) ws)) h.words
-          ∙ take_joined r (flat (payload_in ts c.part.result)) rest ∙ sym (ap (λ qs. take r (slots (payloads_in ts qs))) next);
+      words = c.joined_with-slots.ensures.words ∙ ap (λ k. take k (joined (kept case.result) (kept c.loop-left.slots))) room ∙ ap (λ ws. take r (joined ws (kept c.loop-left.slots))) first ∙ ap (λ ws. take r (joined (take r (flatten_type (payload_in ts c.part.result))) ws)) h.words
+          ∙ take_joined r (flatten_type (payload_in ts c.part.result)) rest ∙ sym (ap (λ qs. take r (slots (payloads_in ts qs))) next);
       room = c.joined_with-slots.ensures.room ∙ room;
       within = omega (arith, h.within);
     }
@@ -114,23 +114,23 @@ pub flatten_variant-returns-then-left-eq0-clause-words :
 flatten_variant-returns-then-left-eq0-clause-words t c = λ entry is.
     let ts = trees c.args.types.now in
     let r = c.args.words.room in
-    let tagged = c.with-tagged in
+    let begun = c.with-begun in
     let rest = slots (payloads_in ts (parts entry.kind)) in
-    let fits = kept_fit tagged.result in
-    let none : r - length (kept tagged.result) ≡ 0 = omega (arith, tagged.ensures.room, c.left.ensures.left, c.if-left-eq0.true) in
-    take_none_left r (kept tagged.result) rest (omega (arith, fits, tagged.ensures.room)) none ∙ take_then r r (kept c.args.words) (kept tagged.result) (I32 ∷ []) rest _ refl tagged.ensures.words refl
+    let fits = kept_fit begun.result in
+    let none : r - length (kept begun.result) ≡ 0 = omega (arith, begun.ensures.room, c.left.ensures.left, c.if-left-eq0.true) in
+    take_none_left r (kept begun.result) rest (omega (arith, fits, begun.ensures.room)) none ∙ take_then r r (kept c.args.words) (kept begun.result) (I32 ∷ []) rest _ refl begun.ensures.words refl
 
 pub flatten_variant-returns-clause-words : goal.flatten_variant-returns-clause-words
 flatten_variant-returns-clause-words t c = λ entry is.
     let ts = trees c.args.types.now in
     let r = c.args.words.room in
-    let tagged = c.with-tagged in
+    let begun = c.with-begun in
     let room = c.left-2.result in
     let rest = slots (payloads_in ts (parts entry.kind)) in
-    let behind = take r (kept tagged.result ++ rest) in
-    let far : r ≤ length (kept tagged.result) + room = omega (arith, tagged.ensures.room, c.left-2.ensures.left) in
-    c.followed_by.ensures.words ∙ ap (λ k. take k (kept tagged.result ++ kept c.flatten_cases.result)) tagged.ensures.room ∙ ap (λ ws. take r (kept tagged.result ++ ws)) (c.flatten_cases.ensures entry is) ∙ take_back r room (kept tagged.result) rest far
-    ∙ take_then r r (kept c.args.words) (kept tagged.result) (I32 ∷ []) rest _ refl tagged.ensures.words refl
+    let behind = take r (kept begun.result ++ rest) in
+    let far : r ≤ length (kept begun.result) + room = omega (arith, begun.ensures.room, c.left-2.ensures.left) in
+    c.followed_by.ensures.words ∙ ap (λ k. take k (kept begun.result ++ kept c.flatten_cases.result)) begun.ensures.room ∙ ap (λ ws. take r (kept begun.result ++ ws)) (c.flatten_cases.ensures entry is) ∙ take_back r room (kept begun.result) rest far
+    ∙ take_then r r (kept c.args.words) (kept begun.result) (I32 ∷ []) rest _ refl begun.ensures.words refl
 
 pub flatten_kind-returns-in-Alias-clause-words : goal.flatten_kind-returns-in-Alias-clause-words
 flatten_kind-returns-in-Alias-clause-words t c =
@@ -161,7 +161,7 @@ flatten_members-loop-words-init t c =
     let entry = entry_at types at c.requires.within in
     let all : ahead_members types c.put.new.self ++ put.left_out ≡ members_at types at = put.same ∙ ap (λ rs. members_at types at ++ runs_members types rs) c.none-ahead.ensures.runs ∙ append-nil (members_at types at) in
     record {
-      words = (put.left_out, (λ e. (put.told e).0), ap (λ ms. take c.args.words.room (kept c.args.words ++ flats (payloads_in (trees types) ms))) all);
+      words = (put.left_out, (λ e. (put.told e).0), ap (λ ms. take c.args.words.room (kept c.args.words ++ flatten_record (payloads_in (trees types) ms))) all);
       room = refl;
       low = low_put at (ahead_members types c.put.new.self) put.left_out (members_at types at) [] (all ∙ sym (append-nil (members_at types at))) (members_low types c.requires.down at entry.0 entry.1) (All-nil (λ p. payload_below at p ≡ true));
       valid = c.put.ensures.valid;
@@ -247,7 +247,7 @@ flatten_each_member-returns-then-left-eq0-clause-words t c =
     let same = members_read c.args.types.now c.args.at c.index-types-at.result c.requires.within in
     let fits = kept_fit all in
     let none : r - length (kept all) ≡ 0 = omega (arith, h.room, c.left.ensures.left, c.if-left-eq0.true) in
-    take_none_left r (kept all) (flats (payloads_in ts (drop c.loop-nth.nth ms))) (omega (arith, fits, h.room)) none ∙ h.words ∙ sym (ap (λ ms. take r (kept c.args.words ++ flats (payloads_in ts ms))) same)
+    take_none_left r (kept all) (flatten_record (payloads_in ts (drop c.loop-nth.nth ms))) (omega (arith, fits, h.room)) none ∙ h.words ∙ sym (ap (λ ms. take r (kept c.args.words ++ flatten_record (payloads_in ts ms))) same)
 
 pub flatten_each_member-flatten_payload-all-requires :
     goal.flatten_each_member-flatten_payload-all-requires
@@ -271,7 +271,7 @@ flatten_each_member-loop-nth-preserved t c =
     let put = c.flatten_payload-all in
     let next = drop_at ms nth c.member.result c.member.ensures in
     record {
-      words = take_then r all.room (kept all) (kept put.result) (flat (payload_in ts c.member.result)) (flats (payloads_in ts (drop (nth + 1) ms))) _ h.room put.ensures.words (sym (ap (λ qs. take r (kept all ++ flats (payloads_in ts qs))) next) ∙ h.words);
+      words = take_then r all.room (kept all) (kept put.result) (flatten_type (payload_in ts c.member.result)) (flatten_record (payloads_in ts (drop (nth + 1) ms))) _ h.room put.ensures.words (sym (ap (λ qs. take r (kept all ++ flatten_record (payloads_in ts qs))) next) ∙ h.words);
       room = put.ensures.room ∙ h.room;
     }
 
@@ -286,7 +286,7 @@ flatten_each_member-returns-clause-words t c =
     let fits = kept_fit all in
     let done : length ms ≤ c.loop-nth.nth = omega arith in
     let none = drop_all c.loop-nth.nth ms done in
-    take_settled r (kept all) _ (omega (arith, fits, h.room)) (sym (ap (λ qs. take r (kept all ++ flats (payloads_in ts qs))) none) ∙ h.words) ∙ sym (ap (λ ms. take r (kept c.args.words ++ flats (payloads_in ts ms))) same)
+    take_settled r (kept all) _ (omega (arith, fits, h.room)) (sym (ap (λ qs. take r (kept all ++ flatten_record (payloads_in ts qs))) none) ∙ h.words) ∙ sym (ap (λ ms. take r (kept c.args.words ++ flatten_record (payloads_in ts ms))) same)
 
 pub flatten_members-flatten_each_member-requires : goal.flatten_members-flatten_each_member-requires
 flatten_members-flatten_each_member-requires t c =
@@ -296,5 +296,5 @@ flatten_members-flatten_each_member-requires t c =
     let below : 5 * c.args.at + 2 < t = omega (arith, c.decreases) in
     let wordless : EachHasWords types → ⊥ = λ wordy.
     let enough = h.enough wordy (sym (c.in_default.ensures {u = tt}).cut ∙ c.if-ahead.true) in
-    omega (arith, enough, ap (λ ms. length (flats (payloads_in (trees types) ms))) none, h.room, c.left.ensures.left, c.loop-words-test.true) in
+    omega (arith, enough, ap (λ ms. length (flatten_record (payloads_in (trees types) ms))) none, h.room, c.left.ensures.left, c.loop-words-test.true) in
     (below, (c.requires.down, (c.requires.within, wordless)))

@@ -4,8 +4,8 @@ use Rattle.wit_model.specs.declared.types.WitType.{WitType}
 use Rattle.wit_model.specs.Parts.{parts}
 use Rattle.wit_model.specs.TypeOrder.{payload_below}
 use Rattle.wit_layout.specs.Ahead.{AreRuns, ahead_members}
-use Rattle.wit_layout.specs.Flat.{EachHasWords, flats, slots}
-use Rattle.wit_layout.specs.Kept.{kept}
+use Rattle.wit_layout.specs.Flat.{EachHasWords, flatten_record, slots}
+use Rattle.wit_layout.specs.Words.{kept}
 use Rattle.wit_layout.specs.Sequence.{members, members_at}
 use Rattle.wit_layout.specs.Tree.{payloads_in, trees}
 use Rattle.wit_layout.proofs.AheadWeight.{weights}
@@ -35,11 +35,11 @@ decreases-flatten_kind l = 5 * l.at + 4
 
 abbrev pub invariant-flatten_members-loop-words : goal.invariant-flatten_members-loop-words
 invariant-flatten_members-loop-words l = record {
-  words : (left_out : List (Option WitType)) × (l.ahead.cut ≡ false → left_out ≡ []) × (take l.fn.words.room (kept l.all ++ flats (payloads_in (trees l.types) (ahead_members l.types l.ahead ++ left_out))) ≡ take l.fn.words.room (kept l.fn.words ++ flats (payloads_in (trees l.types) (members_at l.types l.at))));
+  words : (left_out : List (Option WitType)) × (l.ahead.cut ≡ false → left_out ≡ []) × (take l.fn.words.room (kept l.all ++ flatten_record (payloads_in (trees l.types) (ahead_members l.types l.ahead ++ left_out))) ≡ take l.fn.words.room (kept l.fn.words ++ flatten_record (payloads_in (trees l.types) (members_at l.types l.at))));
   room : l.all.room ≡ l.fn.words.room;
   low : All (λ p. payload_below l.at p ≡ true) (ahead_members l.types l.ahead);
   valid : AreRuns l.types l.ahead;
-  enough : EachHasWords l.types → l.ahead.cut ≡ true → l.fn.words.room ≤ length (kept l.all) + length (flats (payloads_in (trees l.types) (ahead_members l.types l.ahead)));
+  enough : EachHasWords l.types → l.ahead.cut ≡ true → l.fn.words.room ≤ length (kept l.all) + length (flatten_record (payloads_in (trees l.types) (ahead_members l.types l.ahead)));
 }
 
 abbrev pub decreases-flatten_members-loop-words : goal.decreases-flatten_members-loop-words
@@ -47,7 +47,7 @@ decreases-flatten_members-loop-words l = weights l.types (ahead_members l.types 
 
 abbrev pub invariant-flatten_each_member-loop-nth : goal.invariant-flatten_each_member-loop-nth
 invariant-flatten_each_member-loop-nth l = record {
-  words : take l.fn.words.room (kept l.all ++ flats (payloads_in (trees l.types) (drop l.nth (members l.kind)))) ≡ take l.fn.words.room (kept l.fn.words ++ flats (payloads_in (trees l.types) (members l.kind)));
+  words : take l.fn.words.room (kept l.all ++ flatten_record (payloads_in (trees l.types) (drop l.nth (members l.kind)))) ≡ take l.fn.words.room (kept l.fn.words ++ flatten_record (payloads_in (trees l.types) (members l.kind)));
   room : l.all.room ≡ l.fn.words.room;
 }
 

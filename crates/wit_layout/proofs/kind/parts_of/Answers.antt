@@ -1,7 +1,7 @@
 use Rattle.std.proofs.Common.{◌<◌, ◌^◌, length, arith}
 use Rattle.wit_model.specs.Parts.{parts}
 use Rattle.wit_layout.specs.Stored.{seen_payload}
-use Rattle.wit_layout.proofs.PartSteps.{part_below, parts_short, end_kept, greatest_kept}
+use Rattle.wit_layout.proofs.PartSteps.{part_below, parts_short, one_gathered}
 use Rattle.wit_layout.proofs.kind.parts_of.Goals as goal
 
 pub extent_of_payload-requires : goal.extent_of_payload-requires
@@ -15,18 +15,7 @@ with-all-requires c =
 
 pub loop-nth-preserved : goal.loop-nth-preserved
 loop-nth-preserved c =
-    let all = c.loop-nth.all in
-    let next = c.with-all.result in
-    let part = c.part.result in
-    let part4 = seen_payload 2 c.args.layouts.now in
-    let part8 = seen_payload 3 c.args.layouts.now in
-    let items = parts c.args.kind.now in
-    let before = c.loop-nth.invariant in
+    let layouts = c.args.layouts.now in
     let here = c.extent_of_payload.ensures in
-    record {
-      end4 = end_kept part4 items c.loop-nth.nth part c.part.ensures _ all.end.at4 next.end.at4 _ here.four c.with-all.ensures.end4 before.end4;
-      end8 = end_kept part8 items c.loop-nth.nth part c.part.ensures _ all.end.at8 next.end.at8 _ here.eight c.with-all.ensures.end8 before.end8;
-      greatest4 = greatest_kept part4 items c.loop-nth.nth part c.part.ensures _ _ _ _ here.four c.with-all.ensures.greatest4 before.greatest4;
-      greatest8 = greatest_kept part8 items c.loop-nth.nth part c.part.ensures _ _ _ _ here.eight c.with-all.ensures.greatest8 before.greatest8;
-      bounded = omega arith;
-    }
+    let more = c.with-all.ensures in
+    one_gathered (seen_payload 2 layouts) (seen_payload 3 layouts) (parts c.args.kind.now) c.loop-nth.nth c.part.result c.part.ensures c.extent_of_payload.result here.four here.eight c.loop-nth.all c.with-all.result more.end4 more.end8 more.greatest4 more.greatest8 more.bounded c.loop-nth.invariant

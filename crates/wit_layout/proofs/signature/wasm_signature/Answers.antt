@@ -1,9 +1,9 @@
 use Rattle.std.proofs.Common.{◌≡◌, ◌∙◌, List, true, length, ap, ap₂, sym, subst, take}
 use Rattle.wit_model.specs.declared.function.Param.{Param}
-use Rattle.wit_model.specs.declared.size.WasmType.{WasmType}
+use Rattle.wit_model.specs.declared.wasm_type.WasmType.{WasmType}
 use Rattle.wit_model.specs.declared.types.TypeDef.{TypeDef}
 use Rattle.wit_model.specs.TypeOrder.{payload_below}
-use Rattle.wit_layout.specs.Kept.{kept}
+use Rattle.wit_layout.specs.Words.{kept}
 use Rattle.wit_layout.specs.Signature.{IsCoreSignature, param_words, result_words, params_below}
 use Rattle.wit_layout.proofs.SignatureSteps.{signature_cut, params_in_table, result_in_table}
 use Rattle.wit_layout.proofs.WordLists.{from_none}

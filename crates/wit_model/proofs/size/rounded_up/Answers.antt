@@ -1,4 +1,4 @@
-use Rattle.std.proofs.Common.{◌<◌, ◌%◌, arith}
+use Rattle.std.proofs.Common.{arith}
 use Rattle.wit_model.proofs.Rounding.{rounded_multiple, rounded_other}
 use Rattle.wit_model.proofs.size.rounded_up.Goals as goal
 

@@ -1,6 +1,6 @@
 use Rattle.std.proofs.Common.{◌<◌, ◌∙◌, ⊎_elim, length, ap, sym, arith}
 use Rattle.std.specs.List.{slice_get}
-use borrow.Author.Tests.{ltb-true}
+use Rattle.std.proofs.lemmas.Bool.{ltb-true}
 use Rattle.wit_layout.specs.Signature.{core_params, param_words, result_words}
 use Rattle.wit_layout.proofs.SignatureSteps.{word_told, last_param, param_cases}
 use Rattle.wit_layout.proofs.signature.WasmSignature.param.Goals as goal

@@ -1,28 +1,20 @@
 use Rattle.std.proofs.Common.{arith}
 use Rattle.std.proofs.lemmas.Option.{slice_get-get_or}
 use Rattle.wit_layout.specs.Stored.{seen_type}
-use Rattle.wit_layout.proofs.PartSteps.{end_kept, greatest_kept}
+use Rattle.wit_layout.proofs.PartSteps.{one_gathered}
 use Rattle.wit_layout.proofs.RecordSteps.{members_small, seen_by}
 use Rattle.wit_layout.proofs.size_align.SizeAlign.members.Goals as goal
 
 pub loop-ty-preserved : goal.loop-ty-preserved
 loop-ty-preserved c =
-    let all = c.loop-ty.all in
-    let next = c.with-all.result in
     let layouts = c.args.self.now.layouts in
     let items = c.args.types.now in
     let at = c.loop-ty.ty-index in
     let here = slice_get-get_or items at _ c.loop-ty-test.true in
     let four = seen_by 2 _ layouts _ c.extent_of.result c.as_slice.ensures c.extent_of.ensures.four in
     let eight = seen_by 3 _ layouts _ c.extent_of.result c.as_slice.ensures c.extent_of.ensures.eight in
-    let before = c.loop-ty.invariant in
-    record {
-      end4 = end_kept (seen_type 2 layouts) items at _ here _ all.end.at4 next.end.at4 _ four c.with-all.ensures.end4 before.end4;
-      end8 = end_kept (seen_type 3 layouts) items at _ here _ all.end.at8 next.end.at8 _ eight c.with-all.ensures.end8 before.end8;
-      greatest4 = greatest_kept (seen_type 2 layouts) items at _ here _ _ _ _ four c.with-all.ensures.greatest4 before.greatest4;
-      greatest8 = greatest_kept (seen_type 3 layouts) items at _ here _ _ _ _ eight c.with-all.ensures.greatest8 before.greatest8;
-      bounded = omega arith;
-    }
+    let more = c.with-all.ensures in
+    one_gathered (seen_type 2 layouts) (seen_type 3 layouts) items at _ here c.extent_of.result four eight c.loop-ty.all c.with-all.result more.end4 more.end8 more.greatest4 more.greatest8 more.bounded c.loop-ty.invariant
 
 pub with-all-requires : goal.with-all-requires
 with-all-requires c =

@@ -1,6 +1,0 @@
-use Rattle.std.proofs.Common.{◌≡◌, drop}
-use Rattle.wrapper_data.specs.Heap.{are_apart}
-use Rattle.wrapper_data.proofs.block.are_apart.Given as goal
-
-abbrev pub invariant-loop-i : goal.invariant-loop-i
-invariant-loop-i l = are_apart (drop l.i l.blocks) ≡ are_apart l.blocks
