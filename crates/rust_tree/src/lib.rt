@@ -13,8 +13,6 @@ mod place;
 mod print;
 mod runtime_item;
 mod stmt;
-#[cfg(test)]
-mod tests;
 mod trait_item;
 mod type_expr;
 mod wrappers;

@@ -6,8 +6,6 @@ mod info;
 mod marks;
 mod reach;
 mod side;
-#[cfg(test)]
-mod tests;
 mod types;
 mod uses;
 

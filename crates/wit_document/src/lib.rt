@@ -7,8 +7,6 @@ mod function;
 mod members;
 mod name;
 mod reading;
-#[cfg(test)]
-mod tests;
 mod types;
 mod world;
 

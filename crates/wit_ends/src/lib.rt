@@ -8,8 +8,6 @@ mod sink;
 mod source;
 mod std_sink;
 mod std_source;
-#[cfg(test)]
-mod tests;
 mod write;
 
 pub use memory_sink::MemorySink;

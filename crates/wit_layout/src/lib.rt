@@ -17,8 +17,6 @@ mod signature;
 mod size_align;
 mod spread;
 mod stored;
-#[cfg(test)]
-mod tests;
 mod type_layout;
 mod words;
 

@@ -57,17 +57,3 @@ impl<T: PartialEq> PartialEq for Boxed<T> {
         *self.get() == *other.get()
     }
 }
-
-#[cfg(test)]
-mod tests {
-    use super::*;
-    use std::test::Fail;
-
-    #[test]
-    fn keeps_its_value(rt: HostRuntime) -> Result<(), Fail> {
-        let boxed = Boxed::new(rt.alloc(), 7u8)?;
-        assert_eq!(rt; *boxed.get(), 7);
-        assert_eq!(rt; boxed.into_inner(), 7);
-        Ok(())
-    }
-}

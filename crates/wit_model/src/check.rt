@@ -87,8 +87,3 @@ impl Resolve {
         }
     }
 }
-
-#[cfg(test)]
-mod tests;
-#[cfg(test)]
-mod type_tests;

@@ -46,6 +46,3 @@ pub fn classify_constructor(resolve: &Resolve, func: &Function) -> ConstructorRe
         _ => ConstructorReturn::Itself,
     }
 }
-
-#[cfg(test)]
-mod tests;

@@ -119,26 +119,3 @@ impl<T: PartialEq> PartialEq for List<T> {
         self.items == other.items
     }
 }
-
-#[cfg(test)]
-mod tests {
-    use super::*;
-    use std::test::Fail;
-
-    #[test]
-    fn keeps_values_in_order(rt: HostRuntime) -> Result<(), Fail> {
-        let mut list = List::new(rt.alloc());
-        assert!(rt; list.is_empty());
-        list.push(3u8)?;
-        list.push(1)?;
-        list.extend_from_slice(&[4, 1])?;
-        assert_eq!(rt; list.len(), 4);
-        assert_eq!(rt; list.get(2), Some(&4));
-        assert_eq!(rt; list.get(4), None);
-        assert_eq!(rt; list.as_slice(), [3, 1, 4, 1].as_slice());
-        let same = List::from_vec(list.into_vec());
-        assert_eq!(rt; same.as_slice(), [3, 1, 4, 1].as_slice());
-        assert_eq!(rt; same, List::from_slice(rt.alloc(), &[3, 1, 4, 1])?);
-        Ok(())
-    }
-}

@@ -129,6 +129,3 @@ fn max_with_pointer(n: u32) -> Alignment
         Alignment::Bytes(n)
     }
 }
-
-#[cfg(test)]
-mod tests;

@@ -93,23 +93,3 @@ impl PartialEq for Text {
         self.as_str() == other.as_str()
     }
 }
-
-#[cfg(test)]
-mod tests {
-    use super::*;
-    use std::test::Fail;
-
-    #[test]
-    fn keeps_bytes_in_order(rt: HostRuntime) -> Result<(), Fail> {
-        let mut text = Text::new(rt.alloc());
-        assert_eq!(rt; text.len(), 0);
-        text.push_str("ab")?;
-        let short = text.copy(rt.alloc())?;
-        text.push_str("cé")?;
-        assert_eq!(rt; short.as_str(), "ab");
-        assert_eq!(rt; text.as_str(), "abcé");
-        assert_eq!(rt; text.len(), 5);
-        assert_eq!(rt; text, Text::from_str(rt.alloc(), "abcé")?);
-        Ok(())
-    }
-}

@@ -8,8 +8,6 @@ mod choice;
 mod form;
 mod heap;
 mod run;
-#[cfg(test)]
-mod tests;
 mod value;
 mod word;
 

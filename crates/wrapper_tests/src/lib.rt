@@ -8,6 +8,8 @@ mod exported;
 #[cfg(test)]
 mod exports;
 #[cfg(test)]
+mod heaps;
+#[cfg(test)]
 mod made;
 #[cfg(test)]
 mod numbers;

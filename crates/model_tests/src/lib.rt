@@ -1,0 +1,13 @@
+//! The tables of a world and their check, sizes, and the containers, against values from outside.
+#![tactic(auto)]
+
+#[cfg(test)]
+mod constructor;
+#[cfg(test)]
+mod containers;
+#[cfg(test)]
+mod ranges;
+#[cfg(test)]
+mod rules;
+#[cfg(test)]
+mod sizes;
