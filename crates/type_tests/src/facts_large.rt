@@ -1,7 +1,8 @@
 //! Tables that are deep or long.
 
 use crate::facts::{analyzed, facts_of, wanted};
-use crate::sample::{id, pair, push, record, tables, types};
+use crate::sample::{tables, types};
+use crate::tables::{entry, push, record, tuple};
 use std::test::Fail;
 use type_facts::TypeInfo;
 use wit_model::WitType;
@@ -11,7 +12,7 @@ fn a_hundred_levels_of_pairs_are_not_unfolded(rt: HostRuntime) -> Result<(), Fai
     let alloc = rt.alloc();
     let mut types = types(alloc)?;
     for number in 13..113 {
-        push(&mut types, pair(alloc, id(number))?)?;
+        push(&mut types, tuple(alloc, &[entry(number), entry(number)])?)?;
     }
     let resolve = tables(alloc, types)?;
     let types = analyzed(alloc, &resolve)?;
@@ -28,7 +29,7 @@ fn a_long_chain_of_records(rt: HostRuntime) -> Result<(), Fail> {
     let alloc = rt.alloc();
     let mut types = types(alloc)?;
     for number in 13..20013 {
-        push(&mut types, record(alloc, id(number), WitType::U8)?)?;
+        push(&mut types, record(alloc, &[entry(number), WitType::U8])?)?;
     }
     let resolve = tables(alloc, types)?;
     let types = analyzed(alloc, &resolve)?;
