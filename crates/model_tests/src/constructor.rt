@@ -1,57 +1,38 @@
 //! What stands behind aliases, and what constructors give.
 
+use crate::samples::{docs, entry, name, only_types, type_def};
 use std::alloc::Global;
 use std::test::Fail;
 use wit_model::{
-    ConstructorReturn, Docs, Function, FunctionKind, Handle, List, Name, OutOfMemory, Resolve,
-    Text, TypeDef, TypeDefKind, TypeId, TypeOwner, WitType, classify_constructor, dealias,
+    ConstructorReturn, Function, FunctionKind, Handle, List, OutOfMemory, Resolve, TypeDefKind,
+    TypeId, TypeOwner, WitType, classify_constructor, dealias,
 };
-
-fn unnamed(kind: TypeDefKind) -> TypeDef {
-    TypeDef {
-        name: None,
-        owner: TypeOwner::None,
-        kind,
-        docs: Docs { contents: None },
-    }
-}
-
-fn entry(id: u32) -> WitType {
-    WitType::Id(TypeId(id))
-}
 
 /// A resource, an own handle of it, an alias of the handle, a result of the handle or a text, an alias of the result, an
 /// alias of that alias, a result without error type, and an alias of a number.
 fn sample(alloc: Global) -> Result<Resolve, OutOfMemory> {
     let mut types = List::new(alloc);
-    types.push(unnamed(TypeDefKind::Resource))?;
-    types.push(unnamed(TypeDefKind::Handle(Handle::Own(TypeId(0)))))?;
-    types.push(unnamed(TypeDefKind::Alias(entry(1))))?;
-    types.push(unnamed(TypeDefKind::Result(Some(entry(2)), Some(WitType::String))))?;
-    types.push(unnamed(TypeDefKind::Alias(entry(3))))?;
-    types.push(unnamed(TypeDefKind::Alias(entry(4))))?;
-    types.push(unnamed(TypeDefKind::Result(Some(entry(1)), None)))?;
-    types.push(unnamed(TypeDefKind::Alias(WitType::U8)))?;
-    Ok(Resolve {
-        worlds: List::new(alloc),
-        packages: List::new(alloc),
-        interfaces: List::new(alloc),
-        types,
-    })
+    types.push(type_def(TypeOwner::None, TypeDefKind::Resource))?;
+    types.push(type_def(TypeOwner::None, TypeDefKind::Handle(Handle::Own(TypeId(0)))))?;
+    types.push(type_def(TypeOwner::None, TypeDefKind::Alias(entry(1))))?;
+    types.push(type_def(
+        TypeOwner::None,
+        TypeDefKind::Result(Some(entry(2)), Some(WitType::String)),
+    ))?;
+    types.push(type_def(TypeOwner::None, TypeDefKind::Alias(entry(3))))?;
+    types.push(type_def(TypeOwner::None, TypeDefKind::Alias(entry(4))))?;
+    types.push(type_def(TypeOwner::None, TypeDefKind::Result(Some(entry(1)), None)))?;
+    types.push(type_def(TypeOwner::None, TypeDefKind::Alias(WitType::U8)))?;
+    Ok(only_types(alloc, types))
 }
 
 fn constructor(alloc: Global, ty: Option<WitType>) -> Result<Function, OutOfMemory> {
     Ok(Function {
-        name: Name {
-            wit: Text::from_str(alloc, "r")?,
-            snake: Text::from_str(alloc, "r")?,
-            camel: Text::from_str(alloc, "R")?,
-            upper: Text::from_str(alloc, "R")?,
-        },
+        name: name(alloc)?,
         kind: FunctionKind::Constructor(TypeId(0)),
         params: List::new(alloc),
         result: ty,
-        docs: Docs { contents: None },
+        docs: docs(),
     })
 }
 

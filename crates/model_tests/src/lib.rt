@@ -10,4 +10,6 @@ mod ranges;
 #[cfg(test)]
 mod rules;
 #[cfg(test)]
+mod samples;
+#[cfg(test)]
 mod sizes;

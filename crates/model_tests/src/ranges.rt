@@ -1,11 +1,12 @@
 //! Ids out of range, at each place that holds one.
 
+use crate::samples::{docs, name, one, record, type_def, variant};
 use std::alloc::Global;
 use std::test::Fail;
 use wit_model::{
-    Case, Docs, Field, Function, FunctionKind, Handle, Interface, InterfaceId, List, Name,
-    OutOfMemory, Package, PackageId, Param, Resolve, Rule, Table, Text, TypeDef, TypeDefKind,
-    TypeId, TypeOwner, WitType, World, WorldFault, WorldId, WorldItem, WorldKey,
+    Function, FunctionKind, Handle, Interface, InterfaceId, List, OutOfMemory, Package, PackageId,
+    Param, Resolve, Rule, Table, Text, TypeDef, TypeDefKind, TypeId, TypeOwner, WitType, World,
+    WorldFault, WorldId, WorldItem, WorldKey,
 };
 
 /// A place of the sample that holds an id. The sample has one package, two interfaces, three types and two worlds.
@@ -50,25 +51,6 @@ fn type_id(wrong: &[Place], place: Place) -> TypeId {
 /// The first type, or one that is not there.
 fn handle_target(wrong: &[Place]) -> TypeId {
     TypeId(if wrong.contains(&Place::Handle) { 3 } else { 0 })
-}
-
-fn name(alloc: Global) -> Result<Name, OutOfMemory> {
-    Ok(Name {
-        wit: Text::from_str(alloc, "a-b")?,
-        snake: Text::from_str(alloc, "a_b")?,
-        camel: Text::from_str(alloc, "AB")?,
-        upper: Text::from_str(alloc, "A_B")?,
-    })
-}
-
-fn docs() -> Docs {
-    Docs { contents: None }
-}
-
-fn one<T: Drop>(alloc: Global, value: T) -> Result<List<T>, OutOfMemory> {
-    let mut items = List::new(alloc);
-    items.push(value)?;
-    Ok(items)
 }
 
 fn two<T: Drop>(alloc: Global, first: T, second: T) -> Result<List<T>, OutOfMemory> {
@@ -131,15 +113,6 @@ fn interfaces(alloc: Global, wrong: &[Place]) -> Result<List<Interface>, OutOfMe
         docs: docs(),
     };
     two(alloc, first, second)
-}
-
-fn type_def(owner: TypeOwner, kind: TypeDefKind) -> TypeDef {
-    TypeDef {
-        name: None,
-        owner,
-        kind,
-        docs: docs(),
-    }
 }
 
 fn types(alloc: Global, wrong: &[Place], last: TypeDefKind) -> Result<List<TypeDef>, OutOfMemory> {
@@ -302,24 +275,6 @@ const INSIDE: WitType = WitType::Id(TypeId(2));
 
 const OUTSIDE: WitType = WitType::Id(TypeId(3));
 
-fn record(alloc: Global) -> Result<TypeDefKind, OutOfMemory> {
-    let field = Field {
-        name: name(alloc)?,
-        ty: OUTSIDE,
-        docs: docs(),
-    };
-    Ok(TypeDefKind::Record(one(alloc, field)?))
-}
-
-fn variant(alloc: Global) -> Result<TypeDefKind, OutOfMemory> {
-    let case = Case {
-        name: name(alloc)?,
-        ty: Some(OUTSIDE),
-        docs: docs(),
-    };
-    Ok(TypeDefKind::Variant(one(alloc, case)?))
-}
-
 /// Each kind that names types, with one that is out of range.
 fn kind(alloc: Global, which: u32) -> Result<TypeDefKind, OutOfMemory> {
     match which {
@@ -333,8 +288,8 @@ fn kind(alloc: Global, which: u32) -> Result<TypeDefKind, OutOfMemory> {
         7 => Ok(TypeDefKind::Option(OUTSIDE)),
         8 => Ok(TypeDefKind::Result(Some(OUTSIDE), None)),
         9 => Ok(TypeDefKind::Result(Some(INSIDE), Some(OUTSIDE))),
-        10 => record(alloc),
-        11 => variant(alloc),
+        10 => record(alloc, OUTSIDE),
+        11 => variant(alloc, Some(OUTSIDE)),
         12 => Ok(TypeDefKind::Future(Some(OUTSIDE))),
         _ => Ok(TypeDefKind::Stream(Some(OUTSIDE))),
     }

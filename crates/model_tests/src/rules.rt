@@ -1,33 +1,20 @@
 //! The other rules: the order of types, members, map keys.
 
+use crate::samples::{entry, one, only_types, record, type_def, variant};
 use std::alloc::Global;
 use std::test::Fail;
 use wit_model::{
-    Case, Docs, Field, Handle, List, Name, OutOfMemory, Resolve, Rule, Table, Text, TypeDef,
-    TypeDefKind, TypeId, TypeOwner, WitType, WorldFault,
+    Handle, List, OutOfMemory, Resolve, Rule, Table, TypeDefKind, TypeId, TypeOwner, WitType,
+    WorldFault,
 };
 
-fn id(number: u32) -> WitType {
-    WitType::Id(TypeId(number))
-}
-
-/// The table of these types, and nothing else.
+/// The table of types of these kinds, and nothing else.
 fn table(alloc: Global, kinds: Vec<TypeDefKind>) -> Result<Resolve, OutOfMemory> {
     let mut types = List::new(alloc);
     for kind in kinds {
-        types.push(TypeDef {
-            name: None,
-            owner: TypeOwner::None,
-            kind,
-            docs: Docs { contents: None },
-        })?;
+        types.push(type_def(TypeOwner::None, kind))?;
     }
-    Ok(Resolve {
-        worlds: List::new(alloc),
-        packages: List::new(alloc),
-        interfaces: List::new(alloc),
-        types,
-    })
+    Ok(only_types(alloc, types))
 }
 
 fn broken(rule: Rule, index: u32) -> Result<(), WorldFault> {
@@ -36,39 +23,6 @@ fn broken(rule: Rule, index: u32) -> Result<(), WorldFault> {
         table: Table::Type_,
         index,
     })
-}
-
-fn one<T: Drop>(alloc: Global, value: T) -> Result<List<T>, OutOfMemory> {
-    let mut items = List::new(alloc);
-    items.push(value)?;
-    Ok(items)
-}
-
-fn name(alloc: Global) -> Result<Name, OutOfMemory> {
-    Ok(Name {
-        wit: Text::from_str(alloc, "a")?,
-        snake: Text::from_str(alloc, "a")?,
-        camel: Text::from_str(alloc, "A")?,
-        upper: Text::from_str(alloc, "A")?,
-    })
-}
-
-fn record(alloc: Global, ty: WitType) -> Result<TypeDefKind, OutOfMemory> {
-    let field = Field {
-        name: name(alloc)?,
-        ty,
-        docs: Docs { contents: None },
-    };
-    Ok(TypeDefKind::Record(one(alloc, field)?))
-}
-
-fn variant(alloc: Global, ty: Option<WitType>) -> Result<TypeDefKind, OutOfMemory> {
-    let case = Case {
-        name: name(alloc)?,
-        ty,
-        docs: Docs { contents: None },
-    };
-    Ok(TypeDefKind::Variant(one(alloc, case)?))
 }
 
 /// Each kind that names a type, with this one.
@@ -98,7 +52,7 @@ fn naming(
 
 /// What `check` answers where type 0 is another name of `u8`, and type 1 is a kind that names the type of an id.
 fn checked(alloc: Global, which: u32, number: u32) -> Result<Result<(), WorldFault>, Fail> {
-    let last = naming(alloc, which, id(number), TypeId(number))?;
+    let last = naming(alloc, which, entry(number), TypeId(number))?;
     let kinds = vec![in alloc; TypeDefKind::Alias(WitType::U8), last]?;
     Ok(table(alloc, kinds)?.check(alloc))
 }
@@ -120,7 +74,10 @@ fn a_type_names_only_lower_ids(rt: HostRuntime) -> Result<(), Fail> {
 #[test]
 fn an_alias_of_a_later_type_is_out_of_order(rt: HostRuntime) -> Result<(), Fail> {
     let alloc = rt.alloc();
-    let kinds = vec![in alloc; TypeDefKind::Alias(id(1)), TypeDefKind::Alias(WitType::U8)]?;
+    let kinds = vec![in alloc;
+        TypeDefKind::Alias(entry(1)),
+        TypeDefKind::Alias(WitType::U8),
+    ]?;
     assert_eq!(rt;
         table(alloc, kinds)?.check(alloc),
         broken(Rule::TypeOrder, 0)
@@ -166,8 +123,8 @@ fn with_key(alloc: Global, key: WitType) -> Result<Result<(), WorldFault>, Fail>
 fn with_alias(alloc: Global, key: WitType) -> Result<Result<(), WorldFault>, Fail> {
     let kinds = vec![in alloc;
         TypeDefKind::Alias(key),
-        TypeDefKind::Alias(id(0)),
-        TypeDefKind::Map(id(1), WitType::U8),
+        TypeDefKind::Alias(entry(0)),
+        TypeDefKind::Map(entry(1), WitType::U8),
     ]?;
     Ok(table(alloc, kinds)?.check(alloc))
 }
@@ -218,7 +175,7 @@ fn no_key(alloc: Global, which: u32) -> Result<TypeDefKind, OutOfMemory> {
 fn a_type_that_is_no_alias_is_no_key(rt: HostRuntime) -> Result<(), Fail> {
     let alloc = rt.alloc();
     for which in 0..4 {
-        let map = TypeDefKind::Map(id(0), WitType::U8);
+        let map = TypeDefKind::Map(entry(0), WitType::U8);
         let kinds = vec![in alloc; no_key(alloc, which)?, map]?;
         assert_eq!(rt;
             table(alloc, kinds)?.check(alloc),
@@ -234,7 +191,7 @@ fn ill(alloc: Global, which: u32) -> TypeDefKind {
     match which {
         0 => TypeDefKind::Map(WitType::F32, WitType::U8),
         1 => empty(alloc, 0),
-        _ => TypeDefKind::Option(id(2)),
+        _ => TypeDefKind::Option(entry(2)),
     }
 }
 
