@@ -7,7 +7,9 @@ use crate::made::{Bytes, Value, choices, heap, value_of, values};
 use rust_tree::{Bindings, WrapperId};
 use std::alloc::Global;
 use wit_model::{List, OutOfMemory, Text};
-use wrapper_run::{Answer, CallPoint, Choice, Form, Request, Run, Stop, Target, Word, run_export};
+use wrapper_run::{
+    Answer, CallPoint, Choice, Choices, Form, Heap, Request, Run, Stop, Target, Word, run_export,
+};
 
 /// The words that come in, with their heap, the implementation's answer, with the heap that it leaves, and the choices.
 #[derive(Clone, Copy)]
@@ -37,6 +39,31 @@ pub(crate) struct Ended<'a> {
     pub(crate) word: Option<Word>,
 }
 
+/// What a run takes beside its wrapper.
+#[derive(Drop)]
+struct Inputs {
+    words: List<Word>,
+    heap: Heap,
+    choices: Choices,
+    answer: Answer,
+}
+
+fn inputs_of(alloc: Global, given: &Given<'_>) -> Result<Inputs, OutOfMemory> {
+    let words = List::from_slice(alloc, given.words)?;
+    let before = heap(alloc, given.before)?;
+    let choices = choices(alloc, given.choices)?;
+    let answer = Answer::Value {
+        value: value_of(given.answer),
+        heap: heap(alloc, given.left)?,
+    };
+    Ok(Inputs {
+        words,
+        heap: before,
+        choices,
+        answer,
+    })
+}
+
 /// The run of an export's wrapper of the tree.
 pub(crate) fn run(
     alloc: Global,
@@ -46,18 +73,15 @@ pub(crate) fn run(
 ) -> Result<Run, OutOfMemory>
     requires { IsSome (export_at tree.now wrapper.0) }
 {
-    let answer = Answer::Value {
-        value: value_of(given.answer),
-        heap: heap(alloc, given.left)?,
-    };
+    let inputs = inputs_of(alloc, given)?;
     run_export(
         alloc,
         tree,
         wrapper,
-        &List::from_slice(alloc, given.words)?,
-        &heap(alloc, given.before)?,
-        &choices(alloc, given.choices)?,
-        &answer,
+        &inputs.words,
+        &inputs.heap,
+        &inputs.choices,
+        &inputs.answer,
         given.form,
     )
 }

@@ -138,20 +138,38 @@ pub(crate) fn choices(alloc: Global, given: &[Choice]) -> Result<Choices, OutOfM
     })
 }
 
-fn run(alloc: Global, given: &Given, args: &[Value]) -> Result<Run, OutOfMemory> {
-    let tree = file(alloc, given.wrapper)?;
+/// What a run takes beside its wrapper.
+#[derive(Drop)]
+struct Inputs {
+    args: List<RustValue>,
+    heap: Heap,
+    choices: Choices,
+    answer: Answer,
+}
+
+fn inputs_of(alloc: Global, given: &Given, args: &[Value]) -> Result<Inputs, OutOfMemory> {
     let args = values(alloc, args)?;
     let heap = heap(alloc, given.heap)?;
     let choices = choices(alloc, given.choices)?;
-    let answer = answer(alloc, &given.reply)?;
+    Ok(Inputs {
+        args,
+        heap,
+        choices,
+        answer: answer(alloc, &given.reply)?,
+    })
+}
+
+fn run(alloc: Global, given: &Given, args: &[Value]) -> Result<Run, OutOfMemory> {
+    let inputs = inputs_of(alloc, given, args)?;
+    let tree = file(alloc, given.wrapper)?;
     run_import(
         alloc,
         &tree,
         WrapperId(0),
-        &args,
-        &heap,
-        &choices,
-        &answer,
+        &inputs.args,
+        &inputs.heap,
+        &inputs.choices,
+        &inputs.answer,
         given.form,
     )
 }

@@ -199,6 +199,21 @@ fn area(alloc: Global, name: &str) -> Result<Stmt, OutOfMemory> {
     }))
 }
 
+fn bound(alloc: Global, name: &str, value: Expr) -> Result<Stmt, OutOfMemory> {
+    Ok(Stmt::Let(text(alloc, name)?, value))
+}
+
+fn stored(
+    alloc: Global,
+    address: &str,
+    offset: ArchitectureSize,
+    ty: WasmType,
+    value: Expr,
+) -> Result<Stmt, OutOfMemory> {
+    let address = Expr::Local(text(alloc, address)?);
+    Ok(Stmt::Store(address, offset, ty, value))
+}
+
 fn stmt(alloc: Global, line: &Line) -> Result<Stmt, OutOfMemory> {
     match line {
         Line::Import {
@@ -207,16 +222,13 @@ fn stmt(alloc: Global, line: &Line) -> Result<Stmt, OutOfMemory> {
             params,
             result: result_type,
         } => declared(alloc, link_name, name, params, *result_type),
-        Line::Let(x, operand) => Ok(Stmt::Let(text(alloc, x)?, expr(alloc, operand)?)),
-        Line::LetCall(x, names, operands) => {
-            Ok(Stmt::Let(text(alloc, x)?, call(alloc, names, operands)?))
-        }
+        Line::Let(x, operand) => bound(alloc, x, expr(alloc, operand)?),
+        Line::LetCall(x, names, operands) => bound(alloc, x, call(alloc, names, operands)?),
         Line::Call(names, operands) => Ok(Stmt::Expr(call(alloc, names, operands)?)),
         Line::Area(name) => area(alloc, name),
         Line::Forget(x) => Ok(Stmt::Expr(forget(alloc, x)?)),
         Line::Store(x, offset, ty, operand) => {
-            let address = Expr::Local(text(alloc, x)?);
-            Ok(Stmt::Store(address, *offset, *ty, expr(alloc, operand)?))
+            stored(alloc, x, *offset, *ty, expr(alloc, operand)?)
         }
     }
 }
@@ -333,15 +345,21 @@ fn export(alloc: Global, e: &Exported) -> Result<ExportFn, OutOfMemory> {
     })
 }
 
+fn method(alloc: Global, e: &Exported) -> Result<TraitFn, OutOfMemory> {
+    let name = text(alloc, e.method)?;
+    let params = params(alloc, e.params)?;
+    Ok(TraitFn {
+        docs: List::new(alloc),
+        name,
+        params,
+        result: type_of(alloc, e.result)?,
+    })
+}
+
 fn guest(alloc: Global, exports: &[&Exported]) -> Result<TraitItem, OutOfMemory> {
     let mut functions = List::new(alloc);
     for e in exports {
-        functions.push(TraitFn {
-            docs: List::new(alloc),
-            name: text(alloc, e.method)?,
-            params: params(alloc, e.params)?,
-            result: type_of(alloc, e.result)?,
-        })?;
+        functions.push(method(alloc, e)?)?;
     }
     Ok(TraitItem {
         name: text(alloc, "Guest")?,
