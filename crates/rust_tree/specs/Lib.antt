@@ -5,4 +5,5 @@ pub mod Runtime
 pub mod RuntimeText
 pub mod Text
 pub mod Tree
+pub mod WellNamed
 pub mod Word

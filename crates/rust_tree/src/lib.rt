@@ -15,6 +15,7 @@ mod runtime_item;
 mod stmt;
 mod trait_item;
 mod type_expr;
+mod well_named;
 mod wrappers;
 
 pub use area::{ReturnArea, StaticArea};
@@ -31,3 +32,4 @@ pub use runtime_item::RuntimeItem;
 pub use stmt::{Block, ImportDecl, Stmt};
 pub use trait_item::{TraitFn, TraitItem};
 pub use type_expr::{Primitive, TypeExpr};
+pub use well_named::are_well_named;

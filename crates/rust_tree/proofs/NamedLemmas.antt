@@ -1,0 +1,59 @@
+-- One level of an expression's names.
+use Rattle.std.proofs.Common.{◌≡◌, Bool, true, ◌&&◌, List, sym, ap, ◌∙◌, rules}
+use Rattle.std.specs.List.{list_all}
+use Rattle.std.proofs.lemmas.List.Folds.{list_all-map}
+use Rattle.wit_model.specs.Bytes.{Bytes}
+use Rattle.wit_model.specs.declared.size.Alignment.{Alignment}
+use Rattle.wit_model.specs.declared.size.ArchitectureSize.{ArchitectureSize}
+use Rattle.wit_model.specs.declared.wasm_type.WasmType.{WasmType}
+use Rattle.rust_tree.specs.declared.expr.CastType.{CastType}
+use Rattle.rust_tree.specs.declared.expr.Expr.{Expr, Expr-F, fold-roll-Expr, the_lemmas}
+use Rattle.rust_tree.specs.declared.expr.Expr.TheVariants as expr
+use Rattle.rust_tree.specs.declared.expr.Expr.TheVariants.{rolls-Call, rolls-Cast, rolls-FromRawParts, rolls-I32FromBool, rolls-Load}
+use Rattle.rust_tree.specs.declared.path.Path.{Path}
+use Rattle.rust_tree.specs.Ident.{is_ident}
+use Rattle.rust_tree.specs.WellNamed.{are_path_names, is_named_expr, named_step}
+
+pub is_named-local : (name : Bytes) → is_named_expr (expr.Local name) ≡ is_ident name
+is_named-local name = search (rules, the_lemmas)
+
+pub is_named-ref : (name : Bytes) → is_named_expr (expr.Ref name) ≡ is_ident name
+is_named-ref name = search (rules, the_lemmas)
+
+pub is_named-as_ptr : (name : Bytes) → is_named_expr (expr.AsPtr name) ≡ is_ident name
+is_named-as_ptr name = search (rules, the_lemmas)
+
+pub is_named-len : (name : Bytes) → is_named_expr (expr.Len name) ≡ is_ident name
+is_named-len name = search (rules, the_lemmas)
+
+pub is_named-cast_mut : (name : Bytes) → is_named_expr (expr.CastMut name) ≡ is_ident name
+is_named-cast_mut name = search (rules, the_lemmas)
+
+pub is_named-return_pointer : (name : Bytes) → is_named_expr (expr.ReturnPointer name) ≡ is_ident name
+is_named-return_pointer name = search (rules, the_lemmas)
+
+pub is_named-boxed : (name : Bytes) → is_named_expr (expr.IntoBoxedBytes name) ≡ is_ident name
+is_named-boxed name = search (rules, the_lemmas)
+
+pub is_named-static : is_named_expr expr.StaticPointer ≡ true
+is_named-static = search (rules, the_lemmas)
+
+pub is_named-align : (align : Alignment) → is_named_expr (expr.Align align) ≡ true
+is_named-align align = search (rules, the_lemmas)
+
+pub is_named-cast : (e : Expr) (to : CastType) → is_named_expr (expr.Cast e to) ≡ is_named_expr e
+is_named-cast e to = ap is_named_expr (sym (rolls-Cast e to)) ∙ fold-roll-Expr Bool named_step (Expr-F.Cast e to)
+
+pub is_named-bool : (e : Expr) → is_named_expr (expr.I32FromBool e) ≡ is_named_expr e
+is_named-bool e = ap is_named_expr (sym (rolls-I32FromBool e)) ∙ fold-roll-Expr Bool named_step (Expr-F.I32FromBool e)
+
+pub is_named-load : (e : Expr) (offset : ArchitectureSize) (ty : WasmType) → is_named_expr (expr.Load e offset ty) ≡ is_named_expr e
+is_named-load e offset ty = ap is_named_expr (sym (rolls-Load e offset ty)) ∙ fold-roll-Expr Bool named_step (Expr-F.Load e offset ty)
+
+pub is_named-raw : (e : Expr) (len : Bytes) → is_named_expr (expr.FromRawParts e len) ≡ (is_named_expr e && is_ident len)
+is_named-raw e len = ap is_named_expr (sym (rolls-FromRawParts e len)) ∙ fold-roll-Expr Bool named_step (Expr-F.FromRawParts e len)
+
+pub is_named-call : (path : Path) (es : List Expr) → is_named_expr (expr.Call path es) ≡ (are_path_names path.names && list_all is_named_expr es)
+is_named-call path es =
+    ap is_named_expr (sym (rolls-Call path es)) ∙ fold-roll-Expr Bool named_step (Expr-F.Call path es)
+    ∙ ap (λ b. are_path_names path.names && b) (list_all-map (λ b. b) is_named_expr es)

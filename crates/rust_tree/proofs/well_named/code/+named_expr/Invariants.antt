@@ -1,0 +1,7 @@
+use Rattle.std.proofs.Common.{◌≡◌, drop}
+use Rattle.std.specs.List.{list_all}
+use Rattle.rust_tree.specs.WellNamed.{is_named_expr}
+use Rattle.rust_tree.proofs.well_named.code.+named_expr.Given as goal
+
+abbrev pub invariant-are_named_exprs-loop-e : goal.invariant-are_named_exprs-loop-e
+invariant-are_named_exprs-loop-e l = list_all is_named_expr (drop l.e-index l.list) ≡ list_all is_named_expr l.list

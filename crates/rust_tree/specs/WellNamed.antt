@@ -1,0 +1,140 @@
+-- Which texts may stand in a tree: as its names, between double quotes, as doc lines, and as the option lines of its preamble.
+use Rattle.std.specs.Prelude.{Bool, true, false, not, ◌&&◌, ◌||◌, ◌==◌, List, [], ◌∷◌, Option, None, Some, codes}
+use Rattle.std.specs.List.{list_all, starts_with}
+use Rattle.std.specs.Str.{bytes_eq}
+use Rattle.wit_model.specs.Bytes.{Bytes}
+use Rattle.rust_tree.specs.declared.export.CallBlock.{CallBlock}
+use Rattle.rust_tree.specs.declared.export.CoreParam.{CoreParam}
+use Rattle.rust_tree.specs.declared.export.ExportFn.{ExportFn}
+use Rattle.rust_tree.specs.declared.export.PostReturnFn.{PostReturnFn}
+use Rattle.rust_tree.specs.declared.expr.Expr.{Expr, Expr-F, fold-Expr}
+use Rattle.rust_tree.specs.declared.item.FnItem.{FnItem}
+use Rattle.rust_tree.specs.declared.item.FnParam.{FnParam}
+use Rattle.rust_tree.specs.declared.item.Item.{Item}
+use Rattle.rust_tree.specs.declared.item.Item.TheVariants as item
+use Rattle.rust_tree.specs.declared.macros.ExportEntry.{ExportEntry}
+use Rattle.rust_tree.specs.declared.macros.ModuleMacro.{ModuleMacro}
+use Rattle.rust_tree.specs.declared.macros.RootMacro.{RootMacro}
+use Rattle.rust_tree.specs.declared.stmt.Block.{Block}
+use Rattle.rust_tree.specs.declared.stmt.ImportDecl.{ImportDecl}
+use Rattle.rust_tree.specs.declared.stmt.Stmt.{Stmt}
+use Rattle.rust_tree.specs.declared.stmt.Stmt.TheVariants as stmt
+use Rattle.rust_tree.specs.declared.trait_item.TraitFn.{TraitFn}
+use Rattle.rust_tree.specs.declared.trait_item.TraitItem.{TraitItem}
+use Rattle.rust_tree.specs.Ident.{is_ident, may_follow}
+
+-- texts
+
+-- no line feed
+abbrev pub is_line : Bytes → Bool
+is_line t = list_all (λ c. not (c == 10)) t
+
+-- no `"`, no `\` and no line feed
+abbrev pub is_quotable : Bytes → Bool
+is_quotable t = list_all (λ c. not ((c == 34) || (c == 92) || (c == 10))) t
+
+-- a comment of one line
+abbrev pub is_option_line : Bytes → Bool
+is_option_line t = starts_with (λ a b. a == b) t (codes "//   * ") && is_line t
+
+-- what stands in an identifier behind its beginning, as `B` in `_export_B_cabi`: letters, digits and `_`
+abbrev pub is_ident_part : Bytes → Bool
+is_ident_part t = list_all may_follow t
+
+-- a name first that is an identifier, `crate` or `self`, and then identifiers
+abbrev pub are_path_names : List Bytes → Bool
+are_path_names [] = false
+are_path_names (first ∷ names) = (is_ident first || bytes_eq first (codes "crate") || bytes_eq first (codes "self")) && list_all is_ident names
+
+-- what is not there breaks no rule
+abbrev pub is_absent_or : {A : Type 0} → (A → Bool) → Option A → Bool
+is_absent_or p None = true
+is_absent_or p (Some x) = p x
+
+-- expressions and statements
+
+-- one level of an expression, with the answers for the expressions in it
+abbrev pub named_step : Expr-F Bool → Bool
+named_step (Expr-F.Local name) = is_ident name
+named_step (Expr-F.Ref name) = is_ident name
+named_step (Expr-F.Cast e to) = e
+named_step (Expr-F.Call path arguments) = are_path_names path.names && list_all (λ e. e) arguments
+named_step (Expr-F.I32FromBool e) = e
+named_step (Expr-F.AsPtr name) = is_ident name
+named_step (Expr-F.Len name) = is_ident name
+named_step (Expr-F.CastMut name) = is_ident name
+named_step (Expr-F.ReturnPointer name) = is_ident name
+named_step (Expr-F.Load address offset ty) = address
+named_step (Expr-F.FromRawParts pointer len) = pointer && is_ident len
+named_step (Expr-F.IntoBoxedBytes name) = is_ident name
+named_step Expr-F.StaticPointer = true
+named_step (Expr-F.Align align) = true
+
+abbrev pub is_named_expr : Expr → Bool
+is_named_expr = fold-Expr Bool named_step
+
+abbrev pub is_named_import : ImportDecl → Bool
+is_named_import d = is_quotable d.module && is_quotable d.link_name && is_ident d.name
+
+abbrev pub is_named_stmt : Stmt → Bool
+is_named_stmt (stmt.Import d) = is_named_import d
+is_named_stmt (stmt.Let name e) = is_ident name && is_named_expr e
+is_named_stmt (stmt.Expr e) = is_named_expr e
+is_named_stmt (stmt.Area a) = is_ident a.name
+is_named_stmt (stmt.Store address offset ty e) = is_named_expr address && is_named_expr e
+
+abbrev pub is_named_block : Block → Bool
+is_named_block b = list_all is_named_stmt b.stmts && is_absent_or is_named_expr b.tail
+
+-- functions and traits
+
+abbrev pub are_named_params : List FnParam → Bool
+are_named_params params = list_all (λ p. is_ident p.name) params
+
+abbrev pub is_named_fn : FnItem → Bool
+is_named_fn f = list_all is_line f.docs && is_ident f.name && are_named_params f.params && is_named_block f.body
+
+abbrev pub is_named_method : TraitFn → Bool
+is_named_method f = list_all is_line f.docs && is_ident f.name && are_named_params f.params
+
+abbrev pub is_named_trait : TraitItem → Bool
+is_named_trait t = is_ident t.name && list_all is_named_method t.functions
+
+-- what is exported
+
+abbrev pub are_named_core_params : List CoreParam → Bool
+are_named_core_params params = list_all (λ p. is_ident p.name) params
+
+abbrev pub is_named_call : CallBlock → Bool
+is_named_call c = is_absent_or is_ident c.result && list_all is_named_stmt c.stmts && is_ident c.method && list_all is_named_expr c.arguments
+
+abbrev pub is_named_export : ExportFn → Bool
+is_named_export f = is_ident_part f.base && is_ident f.bound && are_named_core_params f.params && is_named_call f.call && is_named_block f.rest
+
+abbrev pub is_named_post_return : PostReturnFn → Bool
+is_named_post_return f = is_ident_part f.base && is_ident f.bound && are_named_core_params f.params && is_named_block f.body
+
+abbrev pub is_named_entry : ExportEntry → Bool
+is_named_entry e = is_quotable e.export_name && is_ident_part e.base && are_named_core_params e.params
+
+abbrev pub is_named_module_macro : ModuleMacro → Bool
+is_named_module_macro m = is_ident_part m.name && list_all is_named_entry m.entries
+
+abbrev pub is_named_root_macro : RootMacro → Bool
+is_named_root_macro m = is_ident_part m.world && list_all is_ident_part m.modules
+
+-- the whole
+
+abbrev pub is_named_item : Item → Bool
+is_named_item (item.Import f) = is_named_fn f
+is_named_item (item.Export f) = is_named_export f
+is_named_item (item.Trait t) = is_named_trait t
+is_named_item (item.ModuleMacro m) = is_named_module_macro m
+is_named_item (item.Runtime items) = true
+is_named_item (item.RootMacro m) = is_named_root_macro m
+is_named_item (item.PostReturn f) = is_named_post_return f
+is_named_item (item.Area a) = true
+
+-- of a tree with these option lines and items
+abbrev pub are_well_named : List Bytes → List Item → Bool
+are_well_named options items = list_all is_option_line options && list_all is_named_item items

@@ -1,0 +1,77 @@
+//! Expressions and statements.
+
+ghost use Rattle.std.specs.Prelude.{◌≡◌};
+ghost use Rattle.std.specs.List.{list_all};
+ghost use Rattle.rust_tree.specs.WellNamed.{is_absent_or, is_named_block, is_named_expr, is_named_import, is_named_stmt};
+
+use crate::expr::Expr;
+use crate::stmt::{Block, ImportDecl, Stmt};
+use crate::well_named::text::{are_path_names, is_name, is_quotable};
+
+#[cycle(named_expr)]
+fn is_named_expr(e: &Expr) -> bool
+    ensures { result ≡ is_named_expr e.now }
+{
+    match e {
+        Expr::Local(name) | Expr::Ref(name) => is_name(name),
+        Expr::AsPtr(name) | Expr::Len(name) | Expr::CastMut(name) => is_name(name),
+        Expr::ReturnPointer(name) | Expr::IntoBoxedBytes(name) => is_name(name),
+        Expr::Cast(e, _) | Expr::I32FromBool(e) => is_named_expr(e.get()),
+        Expr::Call(path, arguments) => are_path_names(path.names.as_slice())
+            && are_named_exprs(arguments.as_slice()),
+        Expr::Load(address, _, _) => is_named_expr(address.get()),
+        Expr::FromRawParts(pointer, len) => is_named_expr(pointer.get()) && is_name(len),
+        Expr::StaticPointer | Expr::Align(_) => true,
+    }
+}
+
+#[cycle(named_expr)]
+pub(crate) fn are_named_exprs(list: &[Expr]) -> bool
+    ensures { result ≡ list_all is_named_expr list.now }
+{
+    for e in list {
+        if !is_named_expr(e) {
+            return false;
+        }
+    }
+    true
+}
+
+fn is_named_import(d: &ImportDecl) -> bool
+    ensures { result ≡ is_named_import d.now }
+{
+    is_quotable(&d.module) && is_quotable(&d.link_name) && is_name(&d.name)
+}
+
+fn is_named_stmt(stmt: &Stmt) -> bool
+    ensures { result ≡ is_named_stmt stmt.now }
+{
+    match stmt {
+        Stmt::Import(decl) => is_named_import(decl),
+        Stmt::Let(name, e) => is_name(name) && is_named_expr(e),
+        Stmt::Expr(e) => is_named_expr(e),
+        Stmt::Area(area) => is_name(&area.name),
+        Stmt::Store(address, _, _, e) => is_named_expr(address) && is_named_expr(e),
+    }
+}
+
+pub(crate) fn are_named_stmts(stmts: &[Stmt]) -> bool
+    ensures { result ≡ list_all is_named_stmt stmts.now }
+{
+    stmts.iter().all(|stmt| is_named_stmt(stmt))
+}
+
+fn is_named_tail(tail: &Option<Expr>) -> bool
+    ensures { result ≡ is_absent_or is_named_expr tail.now }
+{
+    match tail {
+        None => true,
+        Some(e) => is_named_expr(e),
+    }
+}
+
+pub(crate) fn is_named_block(block: &Block) -> bool
+    ensures { result ≡ is_named_block block.now }
+{
+    are_named_stmts(block.stmts.as_slice()) && is_named_tail(&block.tail)
+}
