@@ -17,7 +17,7 @@ use Rattle.rust_gen.specs.Runtime.{asked_by, asked_by_export, asked_by_method, a
 abbrev pub IsAmong : RuntimeItem → List RuntimeItem → Type 0
 IsAmong x items = list_any (λ i. is_same_item i x) items ≡ true
 
-same-refl : (x : RuntimeItem) → is_same_item x x ≡ true
+pub same-refl : (x : RuntimeItem) → is_same_item x x ≡ true
 same-refl AsI32 = refl
 same-refl AsI64 = refl
 same-refl AsF32 = refl
@@ -32,7 +32,7 @@ same-refl StdAllocModule = refl
 same-refl CabiDealloc = refl
 
 -- each has a name of its own
-same-function : (i x : RuntimeItem) → bytes_eq (item_name i) (item_name x) ≡ is_same_item i x
+pub same-function : (i x : RuntimeItem) → bytes_eq (item_name i) (item_name x) ≡ is_same_item i x
 unfolding item_name
 same-function AsI32 AsI32 = refl
 same-function AsI64 AsI64 = refl
@@ -48,7 +48,7 @@ same-function StdAllocModule StdAllocModule = refl
 same-function CabiDealloc CabiDealloc = refl
 same-function _ _ = refl
 
-is-same : (i x : RuntimeItem) → is_same_item i x ≡ true → i ≡ x
+pub is-same : (i x : RuntimeItem) → is_same_item i x ≡ true → i ≡ x
 is-same AsI32 AsI32 e = refl
 is-same AsI64 AsI64 e = refl
 is-same AsF32 AsF32 e = refl
@@ -106,7 +106,7 @@ asked-new x y items e = go (list_any (λ i. is_same_item i y) items) refl
     go true h = ap (λ z. list_any (λ i. is_same_item i z) items) (sym is) ∙ h
     go false h = list_any-append (λ i. is_same_item i x) items (y ∷ []) ∙ or_right (list_any (λ i. is_same_item i x) items) _ (or_left (is_same_item y x) false e)
 
-asked-all : (x : RuntimeItem) (asked items : List RuntimeItem) → IsAmong x items ⊎ IsAmong x asked → IsAmong x (fold with_asked items asked)
+pub asked-all : (x : RuntimeItem) (asked items : List RuntimeItem) → IsAmong x items ⊎ IsAmong x asked → IsAmong x (fold with_asked items asked)
 asked-all x [] items (inl h) = h
 asked-all x [] items (inr h) = absurd (cc)
 asked-all x (y ∷ asked) items (inl h) = asked-all x asked (with_asked items y) (inl (asked-stays x y items h))

@@ -4,7 +4,6 @@ use Rattle.std.proofs.Common.{◌≡◌, ◌≢◌, ◌⊎◌, inl, inr, ◌<◌
 use Rattle.std.specs.List.{flat_map}
 use Rattle.std.specs.Option.{option_map}
 use Rattle.wit_model.specs.declared.function.Function.{Function}
-use Rattle.wit_model.specs.declared.wasm_type.WasmType.{WasmType}
 use Rattle.wit_model.specs.declared.types.WitType.{WitType}
 use Rattle.wit_model.specs.Distinct.{is_distinct}
 use Rattle.rust_tree.specs.declared.export.CallBlock.{CallBlock}
@@ -12,6 +11,7 @@ use Rattle.rust_tree.specs.declared.export.ExportFn.{ExportFn}
 use Rattle.rust_tree.specs.declared.expr.Expr.{Expr}
 use Rattle.rust_tree.specs.declared.stmt.Block.{Block}
 use Rattle.rust_tree.specs.declared.stmt.Stmt.{Stmt}
+use Rattle.rust_tree.specs.declared.stmt.Stmt.TheVariants as stmt
 use Rattle.rust_tree.specs.Ident.{rust_ident}
 use Rattle.rust_tree.specs.Runtime.{item_name}
 use Rattle.wrapper_data.specs.declared.choice.Choice.{Choice}
@@ -28,43 +28,45 @@ use Rattle.wrapper_run.specs.declared.state.Val.{Val}
 use Rattle.wrapper_run.specs.Act.{Act, Outcome, Done, Stopped, ◌>>=◌, ◌>>◌, all, and_then, pure}
 use Rattle.wrapper_run.specs.Blocks.{free_owned, leave_to}
 use Rattle.wrapper_run.specs.Effect.{answer_of, bit, is_word_of, is_of_kind}
-use Rattle.wrapper_run.specs.Areas.{areas, due, needs_area}
-use Rattle.wrapper_run.specs.ExportFaithful.{CallsMethod, CarriesOut, MissesStatic, export_target, places}
-use Rattle.wrapper_run.specs.ExportRun.{call_inside, call_method, core_answer, ended_export, keep_result, method_named, method_point, run_call, run_export_fn, run_export_item, run_to_words, start_export, take_value}
+use Rattle.wrapper_run.specs.Areas.{areas, due, needs_area, places}
+use Rattle.wrapper_run.specs.ExportFaithful.{CallsMethod, CarriesOut, MeetsCall, MissesStatic}
+use Rattle.wrapper_run.specs.ExportRun.{are_words_of, call_inside, call_method, core_answer, ended_export, keep_result, method_named, method_point, run_call, run_export_fn, run_export_item, run_to_words, start_export, take_value}
 use Rattle.wrapper_run.specs.Faithful.{fits_area, param_types}
 use Rattle.wrapper_run.specs.Honest.{HonestImplementation}
 use Rattle.wrapper_run.specs.Locals.{bind, local_named, value_of}
 use Rattle.wrapper_run.specs.Places.{area_in}
-use Rattle.wrapper_run.specs.Represents.{GivesResult, GivesText, Lends, TakesAll, block_of}
-use Rattle.wrapper_run.specs.Run.{bound, eval, give_and_leave, run_at, run_stmts, run_tail, runtime_item_named}
-use Rattle.wrapper_run.specs.Setting.{Setting}
-use Rattle.wrapper_run.specs.StandsFor.{rust_value}
+use Rattle.wrapper_run.specs.Represents.{GivesResult, GivesText, HasText, IsAddress, Lends, TakesAll, block_of}
+use Rattle.wrapper_run.specs.Run.{bound, eval, give_and_leave, run_at, run_block, run_stmts, run_tail, runtime_item_named}
+use Rattle.wrapper_run.specs.Setting.{Setting, stuck}
+use Rattle.wrapper_run.specs.StandsFor.{StandsAnswered, rust_value}
 use Rattle.wrapper_run.specs.Value.{AreValues, IsResult, IsScalar, Scalar, WitValue, char, f32, f64, number, scalar, text, truth}
 use Rattle.wrapper_run.proofs.FreeSteps.{unit_words}
 use Rattle.wrapper_run.proofs.LocalLemmas.{ReadsAll, reads-new, reads_bound}
-use Rattle.wrapper_run.proofs.MethodLemmas.{leaves_inner, method_gives, plain_words, returned-unit, returned-value, value_gives}
+use Rattle.wrapper_run.proofs.MethodLemmas.{ended-words, leaves_inner, method_gives, plain_words, quiet_taken, returned-as, returned-unit, returned-value, value_gives}
 use Rattle.wrapper_run.proofs.NumberLemmas.{answered-bool, answered-char, answered-f32-value, answered-f64-value, answered-number, word_of-bool}
 use Rattle.wrapper_run.proofs.OwningLemmas.{ArePlain, no_buffer, no_unit_buffer, owned-none, plain-append}
-use Rattle.wrapper_run.proofs.StepLemmas.{bool_gives, call_gives, gives_plain, local_gives, runtime_gives}
-use Rattle.wrapper_run.proofs.TakeLemmas.{answered-text}
+use Rattle.wrapper_run.proofs.QuietSteps.{quiet_as_ptr, quiet_bool, quiet_boxed, quiet_cast_mut, quiet_expr, quiet_forget, quiet_len, quiet_let, quiet_static, quiet_store}
+use Rattle.wrapper_run.proofs.StepLemmas.{Quiet, bool_gives, call_gives, gives_plain, local_gives, quiet_bind, quiet_drop, quiet_give, quiet_leave, quiet_local, quiet_pure, quiet_runtime, quiet_then, runtime_gives}
+use Rattle.wrapper_run.proofs.TakeLemmas.{answered-empty, answered-text, owned-none_of_empty}
 use Rattle.rust_gen.specs.declared.scope.Scope.{Scope}
 use Rattle.rust_gen.specs.Body.{runtime_call, runtime_path}
-use Rattle.rust_gen.specs.ExportBody.{DeclaresValue, IsExportBody, IsExportWritten, LowersBack, LowersResult, export_scope, value_local, value_name}
+use Rattle.rust_gen.specs.ExportBody.{DeclaresValue, IsExportBody, IsExportWritten, LowersBack, LowersResult, export_scope, forget_path, text_given, text_stored, value_local, value_name}
 use Rattle.rust_gen.specs.Exported.{export_params, export_result, guest_name, static_area, trait_fn}
 use Rattle.rust_gen.specs.Printed.{core_type, param_words, printed_result, printed_type}
 use Rattle.rust_gen.specs.Runtime.{asked_by_export, freeing_items, lifting_items, lowering_item, lowering_items, returning_items}
+use Rattle.rust_gen.specs.Faithful.{export_target}
 use Rattle.rust_gen.specs.Scope.{cleanup_list, numbered, ret_area}
 use Rattle.wit_model.specs.Bytes.{Bytes}
 use Rattle.rust_gen.proofs.AskedLemmas.{Found, found-first, found-left, found-right}
 use Rattle.rust_gen.proofs.GiveLemmas as Give
 use Rattle.rust_gen.proofs.GiveLemmas.{GivesOut, gives_out}
-use Rattle.rust_gen.proofs.LiftLemmas.{LiftedAll, arg_names, lift_all, no_text, owns_block, same-words}
-use Rattle.rust_gen.proofs.PathLemmas.{calls_runtime}
+use Rattle.rust_gen.proofs.LiftLemmas.{LiftedAll, arg_names, lift_all, no_text, owns_block, same-words, typed-words}
+use Rattle.rust_gen.proofs.PathLemmas.{calls_forget, calls_runtime}
 use Rattle.rust_gen.proofs.RunLemmas.{all-used}
 use Rattle.rust_gen.proofs.WordLemmas.{lent}
 use Rattle.rust_gen.proofs.ScopeLemmas.{used-declared, used-first}
 use Rattle.rust_gen.proofs.TakenLemmas.{AreFree, addresses}
-use Rattle.wrapper_run.specs.Owning.{are_distinct, listed, owned_by, taken_by}
+use Rattle.wrapper_run.specs.Owning.{address_of, are_distinct, listed, owned_by, taken_by}
 use Rattle.wit_model.specs.declared.wasm_type.WasmType.TheVariants as core
 use Rattle.std.specs.Prelude.{ℤ}
 use Rattle.wit_model.specs.declared.types.WitType.TheVariants as wit
@@ -178,7 +180,6 @@ record FinishesOut (w : Setting) (outer : List Local) (r : Option WitType) (v : 
   pub account : state.heap ≡ record left { blocks = left.blocks ++ area }
   pub gives : GivesResult state.heap r v words (owned_by (listed value))
   pub requests : state.requests ≡ s.requests ++ due r
-  pub calls : state.calls ≡ s.calls
 
 record MissesOut (w : Setting) (outer : List Local) (r : Option WitType) (t : ℕ) (rest : Block) (s : State) : Type 0 where
   pub needed : needs_area r ≡ true
@@ -189,7 +190,7 @@ record MissesOut (w : Setting) (outer : List Local) (r : Option WitType) (t : �
   pub leaves : w.answer ≡ answer.Value value left
   pub misfit : fits_area s.choices left ≡ false
   pub requests : state.requests ≡ s.requests ++ due r
-  pub calls : state.calls ≡ s.calls
+  pub kept : state.heap ≡ left
 
 -- a scalar passes by no area
 
@@ -229,7 +230,6 @@ finishes_unit w outer more t before rest s (n, q) (heap, a) split plain_outer pl
       account = ap (λ bs. record heap { blocks = bs }) (sym (append-nil heap.blocks));
       gives = (refl, refl);
       requests = sym (append-nil s.requests);
-      calls = refl;
     }
 
 finishes_scalar : (w : Setting) (outer more : List Local) (ty : WitType) (x : Scalar) (t : ℕ) (before : Scope) (rest : Block) (s : State) → LowersResult (Some ty) t before rest.stmts rest.tail
@@ -266,76 +266,95 @@ finishes_scalar w outer more ty x t before rest s (e, q, l) found good (heap, _,
       account = ap (λ bs. record heap { blocks = bs }) (sym (append-nil heap.blocks));
       gives = (g.word, refl, g.lends, ap (λ o. listed o ++ []) (owned-none r (no_buffer ty x)));
       requests = sym (append-nil s.requests) ∙ ap (λ rs. s.requests ++ rs) (sym (none_due ty nt));
-      calls = refl;
     }
 
 -- a text that the implementation gives
 
-abbrev held_text : ℕ → ℕ → ℕ → Local
-held_text t p n = record { name = value_name t; value = Some (val.Value (value.Buffer p n true)) }
-
 owns_text : (p : ℕ) (bytes : List ℕ) → owned_by (value.Buffer p (length bytes) true ∷ []) ≡ block_of p bytes
 owns_text p bytes = ap (λ bs. bs ++ []) (owns_block p bytes) ∙ append-nil (block_of p bytes)
+
+-- what its value is to the machine: a text that owns its bytes, whatever the flag of an empty one says
+record AnswersText (heap : Heap) (bytes : List ℕ) (r : RustValue) : Type 0 where
+  pub address : ℕ
+  pub at : IsAddress address
+  pub has : HasText heap address bytes
+  pub answers : answer_of type.String (val.Value r) ≡ Some (Some (value.Buffer address (length bytes) true))
+  pub owns : owned_by (r ∷ []) ≡ block_of address bytes
+  pub takes : taken_by (r ∷ []) ≡ taken_by (value.Buffer address (length bytes) true ∷ [])
+
+answers_text : (heap : Heap) (bytes : List ℕ) (r : RustValue) → StandsAnswered heap wit.String (text bytes) r → AnswersText heap bytes r
+answers_text heap [] r (p, owns, at, is) =
+    subst (AnswersText heap []) (sym is)
+    (record {
+      address = p;
+      at = at;
+      has = tt;
+      answers = answered-empty p owns;
+      owns = ap (λ o. listed o ++ []) (owned-none_of_empty p owns);
+      takes = ap (λ o. address_of o ++ []) (owned-none_of_empty p owns) ∙ ap (λ o. address_of o ++ []) (sym (owned-none_of_empty p true));
+    })
+answers_text heap (b ∷ bytes) r (p, at, is, has) =
+    subst (AnswersText heap (b ∷ bytes)) (sym is)
+    (record { address = p; at = at; has = has; answers = answered-text p (length (b ∷ bytes)); owns = owns_text p (b ∷ bytes); takes = refl })
+
+abbrev held_text : ℕ → ℕ → ℕ → Local
+held_text t p n = record { name = value_name t; value = Some (val.Value (value.Buffer p n true)) }
 
 finishes_text : (w : Setting) (outer more : List Local) (bytes : List ℕ) (t : ℕ) (lifted before : Scope) (rest : Block) (s : State) → DeclaresValue (Some wit.String) lifted t before
     → LowersResult (Some wit.String) t before rest.stmts rest.tail → area_in w.items ≡ Some static_area → length bytes < 2 ^ 31 → HonestImplementation (Some wit.String) (Some (text bytes)) w.answer
     → s.locals ≡ outer ++ more → s.place ≡ None → ArePlain outer → ArePlain more
     → FinishesOut w outer (Some wit.String) (Some (text bytes)) t rest s ⊎ MissesOut w outer (Some wit.String) t rest s
 unfolding bind
-finishes_text w outer more bytes t lifted before rest s d (e, q, l) area small (heap, _, a, (p, at, is, has)) split unplaced plain_outer plain_more =
-    go (gives_out w outer (value_name t) p bytes before rest.stmts e kept l area unplaced refl plain_outer (used-declared lifted before (kind.Result ∷ []) t (value_name t) d (used-first (value_name t) [])) at small has refl)
+finishes_text w outer more bytes t lifted before rest s d (e, q, l) area small (heap, r, gave, stands) split unplaced plain_outer plain_more =
+    go (gives_out w outer (value_name t) g.address bytes before rest.stmts e kept l area unplaced refl plain_outer (used-declared lifted before (kind.Result ∷ []) t (value_name t) d (used-first (value_name t) [])) g.at small g.has g.takes)
   where
-    n : ℕ
-    n = length bytes
+    g : AnswersText heap bytes r
+    g = answers_text heap bytes r stands
 
-    r : RustValue
-    r = value.Buffer p (length bytes) true
+    held : RustValue
+    held = value.Buffer g.address (length bytes) true
 
     left : State
-    left = record s { heap = heap; taken = taken_by (value.Buffer p (length bytes) true ∷ []) }
+    left = record s { heap = heap; taken = taken_by (r ∷ []) }
 
     kept : State
-    kept = record s { heap = heap; taken = taken_by (value.Buffer p (length bytes) true ∷ []); locals = outer ++ held_text t p (length bytes) ∷ [] }
-
-    gave : w.answer ≡ answer.Value (Some (value.Buffer p (length bytes) true)) heap
-    gave = a ∙ ap (λ r. answer.Value (Some r) heap) is
+    kept = record s { heap = heap; taken = taken_by (r ∷ []); locals = outer ++ held_text t g.address (length bytes) ∷ [] }
 
     to_kept : and_then (take_value w type.String s) (finish w (length outer) (Some wit.String) t rest)
         ≡ and_then (and_then (run_stmts w rest.stmts kept) (λ _. eval w e)) (λ v. give_and_leave w (core_answer (Some core.Pointer) v))
     to_kept =
-        ap (λ o. and_then o (finish w (length outer) (Some wit.String) t rest)) (value_gives w type.String (Some (value.Buffer p (length bytes) true)) (val.Value (value.Buffer p (length bytes) true)) heap s gave (returned-value type.String (value.Buffer p (length bytes) true) (answered-text p (length bytes))))
-        ∙ ap (λ o. and_then o (λ _. keep_result w (Some (value_name t)) (val.Value (value.Buffer p (length bytes) true)) >> run_to_words w (Some core.Pointer) rest)) (leaves_inner w outer more left split plain_more)
+        ap (λ o. and_then o (finish w (length outer) (Some wit.String) t rest)) (value_gives w type.String (Some r) (val.Value (value.Buffer g.address (length bytes) true)) heap s gave (returned-as type.String r (value.Buffer g.address (length bytes) true) g.answers))
+        ∙ ap (λ o. and_then o (λ _. keep_result w (Some (value_name t)) (val.Value (value.Buffer g.address (length bytes) true)) >> run_to_words w (Some core.Pointer) rest)) (leaves_inner w outer more left split plain_more)
         ∙ ap (λ tail. and_then (and_then (run_stmts w rest.stmts kept) (λ _. run_tail w tail)) (λ v. give_and_leave w (core_answer (Some core.Pointer) v))) q
 
-    go : GivesOut w p bytes rest.stmts e kept ⊎ Give.MissesOut w rest.stmts kept → FinishesOut w outer (Some wit.String) (Some (text bytes)) t rest s ⊎ MissesOut w outer (Some wit.String) t rest s
-    go (inl g) = inl (record {
-      words = word.Pointer g.address ∷ [];
-      state = record g.state { locals = [] };
+    go : GivesOut w g.address bytes rest.stmts e kept ⊎ Give.MissesOut w rest.stmts kept → FinishesOut w outer (Some wit.String) (Some (text bytes)) t rest s ⊎ MissesOut w outer (Some wit.String) t rest s
+    go (inl x) = inl (record {
+      words = word.Pointer x.address ∷ [];
+      state = record x.state { locals = [] };
       runs =
           to_kept
-          ∙ ap (λ o. and_then (and_then o (λ _. eval w e)) (λ v. give_and_leave w (core_answer (Some core.Pointer) v))) g.runs
-          ∙ ap (λ o. and_then o (λ v. give_and_leave w (core_answer (Some core.Pointer) v))) g.gives
-          ∙ gives_plain w (core_answer (Some core.Pointer) (val.Word (word.Pointer g.address))) (word.Pointer g.address ∷ []) g.state refl g.plain;
-      value = Some (value.Buffer p (length bytes) true);
+          ∙ ap (λ o. and_then (and_then o (λ _. eval w e)) (λ v. give_and_leave w (core_answer (Some core.Pointer) v))) x.runs
+          ∙ ap (λ o. and_then o (λ v. give_and_leave w (core_answer (Some core.Pointer) v))) x.gives
+          ∙ gives_plain w (core_answer (Some core.Pointer) (val.Word (word.Pointer x.address))) (word.Pointer x.address ∷ []) x.state refl x.plain;
+      value = Some r;
       left = heap;
       leaves = gave;
-      area = g.area ∷ [];
-      placed = ap (λ a. (a, g.area.size) ∷ []) g.placed.0 ∙ ap (λ n. (g.address, n) ∷ []) g.placed.1 ∙ ap (λ cs. places (areas (Some wit.String) cs)) (sym g.first);
-      account = g.heap_is;
-      gives = subst (GivesText g.state.heap bytes (word.Pointer g.address ∷ [])) (sym (owns_text p bytes)) g.words;
-      requests = g.requests_are;
-      calls = g.calls_are;
+      area = x.area ∷ [];
+      placed = ap (λ a. (a, x.area.size) ∷ []) x.placed.0 ∙ ap (λ n. (x.address, n) ∷ []) x.placed.1 ∙ ap (λ cs. places (areas (Some wit.String) cs)) (sym x.first);
+      account = x.heap_is;
+      gives = subst (GivesText x.state.heap bytes (word.Pointer x.address ∷ [])) (sym g.owns) x.words;
+      requests = x.requests_are;
     })
     go (inr m) = inr (record {
       needed = refl;
       state = m.state;
       runs = to_kept ∙ ap (λ o. and_then (and_then o (λ _. eval w e)) (λ v. give_and_leave w (core_answer (Some core.Pointer) v))) m.runs;
-      value = Some (value.Buffer p (length bytes) true);
+      value = Some r;
       left = heap;
       leaves = gave;
       misfit = m.misfit;
       requests = m.requests_are;
-      calls = m.calls_are;
+      kept = m.heap_is;
     })
 
 finishes_out : (w : Setting) (outer more : List Local) (r : Option WitType) (v : Option WitValue) (t : ℕ) (lifted before : Scope) (rest : Block) (s : State) → DeclaresValue r lifted t before
@@ -349,6 +368,66 @@ finishes_out w outer more (Some wit.String) (Some (text bytes)) t lifted before 
     finishes_text w outer more bytes t lifted before rest s d l (area refl) good.2 h split unplaced po pm
 finishes_out w outer more (Some _) (Some (text bytes)) t lifted before rest s d l found area good h split unplaced po pm = absurd (let wrong = good.0 in cc)
 
+-- what follows the call makes no call, whatever is answered
+
+quiet_word_of : (w : Setting) (ty : WitType) (name : Bytes) (stmts : List Stmt) (e : Expr) → (stmts ≡ []) × (e ≡ runtime_call (lowering_item ty) (expr.Local name)) → Quiet (run_stmts w stmts) × Quiet (eval w e)
+quiet_word_of w ty name stmts e (n, is) =
+    let i = lowering_item ty in (
+      subst (λ stmts. Quiet (run_stmts w stmts)) (sym n) (quiet_pure tt),
+      subst (λ e. Quiet (eval w e)) (sym is) (quiet_runtime w (runtime_path i) (item_name i) (expr.Local name) (calls_runtime i) (quiet_local w name)),
+    )
+
+quiet_stores : (w : Setting) (a v t l : Bytes)
+    → Quiet (run_stmts w (stmt.Store (expr.Local a) (record { bytes = 0; pointers = 1 }) core.Length (expr.Local l) ∷ stmt.Store (expr.Local a) (record { bytes = 0; pointers = 0 }) core.Pointer (expr.CastMut t) ∷ []))
+quiet_stores w a v t l =
+    quiet_store w (expr.Local a) (record { bytes = 0; pointers = 1 }) core.Length (expr.Local l) (stmt.Store (expr.Local a) (record { bytes = 0; pointers = 0 }) core.Pointer (expr.CastMut t) ∷ []) (quiet_local w a) (quiet_local w l)
+    (quiet_store w (expr.Local a) (record { bytes = 0; pointers = 0 }) core.Pointer (expr.CastMut t) [] (quiet_local w a) (quiet_cast_mut w t) (quiet_pure tt))
+
+quiet_text : (w : Setting) (name : Bytes) (p t : ℕ) → Quiet (run_stmts w (text_given name p t))
+quiet_text w name p t =
+    let a = numbered kind.Pointer p in
+    let v = numbered kind.Vec t in
+    let q = numbered kind.Pointer t in
+    let l = numbered kind.Length t in
+    let c4 : List Stmt = text_stored p t in
+    let c3 : List Stmt = stmt.Expr (expr.Call forget_path (expr.Local v ∷ [])) ∷ c4 in
+    let c2 : List Stmt = stmt.Let l (expr.Len v) ∷ c3 in
+    let c1 : List Stmt = stmt.Let q (expr.AsPtr v) ∷ c2 in
+    quiet_let w a expr.StaticPointer (stmt.Let v (expr.IntoBoxedBytes name) ∷ c1) (quiet_static w)
+    (quiet_let w v (expr.IntoBoxedBytes name) c1 (quiet_boxed w name)
+    (quiet_let w q (expr.AsPtr v) c2 (quiet_as_ptr w v)
+    (quiet_let w l (expr.Len v) c3 (quiet_len w v)
+    (quiet_expr w (expr.Call forget_path (expr.Local v ∷ [])) c4 (quiet_forget w forget_path (expr.Local v) calls_forget (quiet_local w v)) (quiet_stores w a v q l)))))
+
+quiet_back : (w : Setting) (ty : WitType) (name : Bytes) (before : Scope) (stmts : List Stmt) (e : Expr) → LowersBack ty name before stmts e → Quiet (run_stmts w stmts) × Quiet (eval w e)
+quiet_back w wit.Bool name before stmts e (t, after, d, is, tail) = (
+  subst (λ stmts. Quiet (run_stmts w stmts)) (sym is) (quiet_let w (numbered kind.Bool t) (expr.I32FromBool (expr.Local name)) [] (quiet_bool w (expr.Local name) (quiet_local w name)) (quiet_pure tt)),
+  subst (λ e. Quiet (eval w e)) (sym tail) (quiet_local w (numbered kind.Bool t)),
+)
+quiet_back w wit.String name before stmts e l = (
+  subst (λ stmts. Quiet (run_stmts w stmts)) (sym l.is) (quiet_text w name l.pointer l.number),
+  subst (λ e. Quiet (eval w e)) (sym l.ends) (quiet_local w (numbered kind.Pointer l.pointer)),
+)
+quiet_back w ty name before stmts e l = quiet_word_of w ty name stmts e l
+
+quiet_result : (w : Setting) (r : Option WitType) (t : ℕ) (before : Scope) (rest : Block) → LowersResult r t before rest.stmts rest.tail → Quiet (run_block w rest)
+quiet_result w None t before rest (n, q) =
+    quiet_then (run_stmts w rest.stmts) (λ _. run_tail w rest.tail) (subst (λ stmts. Quiet (run_stmts w stmts)) (sym n) (quiet_pure tt))
+    (λ _. subst (λ tail. Quiet (run_tail w tail)) (sym q) (quiet_pure (val.Value value.Unit)))
+quiet_result w (Some ty) t before rest (e, q, l) =
+    let h = quiet_back w ty (value_name t) before rest.stmts e l in
+    quiet_then (run_stmts w rest.stmts) (λ _. run_tail w rest.tail) h.0 (λ _. subst (λ tail. Quiet (run_tail w tail)) (sym q) h.1)
+
+quiet_keep : (w : Setting) (name : Option Bytes) (v : Val) → Quiet (keep_result w name v)
+quiet_keep w None v = quiet_drop w v
+quiet_keep w (Some name) v = quiet_bind name v
+
+quiet_finish : (w : Setting) (outer : ℕ) (r : Option WitType) (t : ℕ) (before : Scope) (rest : Block) (v : Val) → LowersResult r t before rest.stmts rest.tail → Quiet (finish w outer r t rest v)
+quiet_finish w outer r t before rest v l =
+    quiet_then (leave_to w outer) (λ _. keep_result w (value_local r t) v >> run_to_words w (export_result r) rest) (quiet_leave w outer)
+    (λ _. quiet_then (keep_result w (value_local r t) v) (λ _. run_to_words w (export_result r) rest) (quiet_keep w (value_local r t) v)
+    (λ _. quiet_then (run_block w rest) (λ x. give_and_leave w (core_answer (export_result r) x)) (quiet_result w r t before rest l) (λ x. quiet_give w (core_answer (export_result r) x))))
+
 -- what a wrapper as it is written needs of its function and of the file
 pub record FitsExport (f : Function) (w : Setting) : Type 0 where
   pub distinct : is_distinct (map (λ p. p.name) (export_params f)) ≡ true
@@ -360,8 +439,8 @@ none_taken : (blocks : List (ℕ × ℕ)) → AreFree blocks []
 none_taken [] = tt
 none_taken (b ∷ blocks) = (refl, none_taken blocks)
 
-module _ (f : Function) (e : ExportFn) (written : IsExportWritten f e) (w : Setting) (fits : FitsExport f w) (vs : List WitValue) (v : Option WitValue) (words : List Word) (own : List (ℕ × ℕ)) (heap : Heap) (choices : Choices)
-    (good : AreValues (param_types f) vs) (is_result : IsResult f.result v) (takes : TakesAll heap (param_types f) vs words own) (apart : are_distinct own ≡ true) where
+module _ (f : Function) (e : ExportFn) (written : IsExportWritten f e) (w : Setting) (fits : FitsExport f w) (vs : List WitValue) (words : List Word) (own : List (ℕ × ℕ)) (heap : Heap) (choices : Choices)
+    (good : AreValues (param_types f) vs) (takes : TakesAll heap (param_types f) vs words own) (apart : are_distinct own ≡ true) where
   abbrev begin : State
   begin = start_export e words heap choices
 
@@ -430,9 +509,14 @@ module _ (f : Function) (e : ExportFn) (written : IsExportWritten f e) (w : Sett
       go (Stopped x t) = refl
   in_order (Stopped x s) = refl
 
-  runs_to : run_export_fn w e begin ≡ and_then (take_value w (printed_result f.result) recorded) end
+  -- the words are those of the core parameters
+  typed : are_words_of e.params words ≡ true
+  typed = ap (λ ps. are_words_of ps words) written.params ∙ typed-words 0 f.params vs heap words own good takes
+
+  runs_to : run_export_fn w e words begin ≡ and_then (take_value w (printed_result f.result) recorded) end
   runs_to =
-      ap (λ b. and_then (and_then (run_call w b e.call begin) (keep_result w e.call.result)) (λ _. run_to_words w e.result e.rest)) written.bound
+      ap (λ b. and_then (and_then (and_then (cond b (Done tt begin) (Stopped (stuck w) begin)) (λ _. run_call w e.bound e.call)) (keep_result w e.call.result)) (λ _. run_to_words w e.result e.rest)) typed
+      ∙ ap (λ b. and_then (and_then (run_call w b e.call begin) (keep_result w e.call.result)) (λ _. run_to_words w e.result e.rest)) written.bound
       ∙ ap (λ c. and_then (and_then (run_call w guest_name c begin) (keep_result w c.result)) (λ _. run_to_words w e.result e.rest)) body.is
       ∙ ap (λ r. and_then (and_then (run_call w guest_name block begin) (keep_result w block.result)) (λ _. run_to_words w r e.rest)) written.answer
       ∙ in_order (call_inside w guest_name block begin)
@@ -442,24 +526,29 @@ module _ (f : Function) (e : ExportFn) (written : IsExportWritten f e) (w : Sett
   unfolding run run_export_item
   ends = ap ended_export runs_to
 
-  calls_method : run.calls ≡ here ∷ [] → CallsMethod f vs own heap (run_export_item w e words heap choices)
-  unfolding run
-  calls_method is = record { values = lifting.values; call = is; stands = lifting.stands; owns = lifting.owns }
+  calls_once : run.calls ≡ here ∷ []
+  calls_once =
+      ap (λ r. r.calls) ends ∙ ended-words (and_then (take_value w (printed_result f.result) recorded) end)
+      ∙ (quiet_then (take_value w (printed_result f.result)) end (quiet_taken w (printed_result f.result)) (λ v. quiet_finish w (length begin.locals) f.result body.number body.called e.rest v body.lowers)).quiet recorded
 
-  pub carries_out : HonestImplementation f.result v w.answer → CarriesOut f vs v own heap choices w.answer (run_export_item w e words heap choices) ⊎ MissesStatic f vs own heap choices w.answer (run_export_item w e words heap choices)
+  calls_method : CallsMethod (export_target f) f vs own heap (run_export_item w e words heap choices)
   unfolding run
-  carries_out honest =
+  calls_method = record { values = lifting.values; once = calls_once; stands = lifting.stands; owns = lifting.owns }
+
+  carries_out : (v : Option WitValue) → IsResult f.result v → HonestImplementation f.result v w.answer
+      → CarriesOut f v choices w.answer (run_export_item w e words heap choices) ⊎ MissesStatic f choices w.answer (run_export_item w e words heap choices)
+  unfolding run
+  carries_out v is_result honest =
       go (finishes_out w begin.locals lifting.left f.result v body.number body.lifted body.called e.rest recorded body.calls body.lowers
       (found-left w.items (returning_items f.result) (freeing_items f.result) (found-right w.items (flat_map (λ p. lifting_items (Some p.ty)) f.params) (returning_items f.result ++ freeing_items f.result) fits.found))
       fits.area is_result honest (append-nil (begin.locals ++ lifting.left)) refl plain lifting.plain)
     where
       go : FinishesOut w begin.locals f.result v body.number e.rest recorded ⊎ MissesOut w begin.locals f.result body.number e.rest recorded
-          → CarriesOut f vs v own heap choices w.answer (run_export_item w e words heap choices) ⊎ MissesStatic f vs own heap choices w.answer (run_export_item w e words heap choices)
+          → CarriesOut f v choices w.answer (run_export_item w e words heap choices) ⊎ MissesStatic f choices w.answer (run_export_item w e words heap choices)
       go (inl g) =
           let is : run ≡ run_at stop_of.Done g.words None g.state = ends ∙ ap ended_export g.runs in
           inl (record {
             done = ap (λ r. r.stop) is;
-            calls = calls_method (ap (λ r. r.calls) is ∙ g.calls);
             value = g.value;
             left = g.left;
             leaves = g.leaves;
@@ -479,6 +568,10 @@ module _ (f : Function) (e : ExportFn) (written : IsExportWritten f e) (w : Sett
             leaves = m.leaves;
             misfit = m.misfit;
             stopped = ap (λ r. r.stop) is;
-            calls = calls_method (ap (λ r. r.calls) is ∙ m.calls);
             requests = ap (λ r. r.requests) is ∙ m.requests;
+            kept = ap (λ r. r.heap) is ∙ m.kept;
+            silent = (ap (λ r. r.words) is, ap (λ r. r.value) is);
           })
+
+  pub meets_call : MeetsCall (export_target f) f vs own heap choices w.answer (run_export_item w e words heap choices)
+  meets_call = record { calls = calls_method; ends = carries_out }

@@ -14,19 +14,19 @@ use Rattle.rust_tree.specs.declared.item.Item.TheVariants as item
 use Rattle.rust_tree.specs.declared.place.FuncPlace.{FuncPlace}
 use Rattle.rust_tree.specs.declared.place.WrapperInfo.{WrapperInfo}
 use Rattle.rust_tree.specs.Tree.{Tree, wrappers_from, wrappers_of, wrapper_info}
-use Rattle.wrapper_run.specs.Faithful.{Carries, IsFaithful, Made, MissesArea}
+use Rattle.wrapper_run.specs.Faithful.{CallsOnce, IsFaithful, MissesArea}
 use Rattle.wrapper_run.specs.Setting.{Setting}
 use Rattle.wrapper_run.specs.Run.{import_nth, import_run, run_item, import_at, runtime_item_named, setting_of}
 use Rattle.rust_gen.specs.Body.{IsWritten}
 use Rattle.rust_gen.specs.Bound.{Binds, Parts, export_items}
 use Rattle.rust_gen.specs.Cause.{is_well_named, is_built}
 use Rattle.rust_gen.specs.DeclaredNames.{are_distinct_functions, are_names, area_idents, cabi_suffix, declares_well, export_ident, export_prefix, function_idents, has_distinct_names, macro_idents, method_idents, param_idents, return_idents}
-use Rattle.rust_gen.specs.Faithful.{AreFaithful}
+use Rattle.rust_gen.specs.Faithful.{AreFaithful, export_names, import_target}
 use Rattle.rust_gen.specs.Runtime.{asked_by, asked_by_export, freeing_items, is_same_item, lifting_items, returning_items, runtime_items, runtime_module}
 use Rattle.rust_gen.proofs.AskedLemmas.{Found, among-exports, among-imports, found-right, found_all}
 use Rattle.std.proofs.lemmas.Bool.{and_parts}
 use Rattle.rust_gen.proofs.RunLemmas.{Fits}
-use Rattle.rust_gen.proofs.TextLemmas.{carries_written}
+use Rattle.rust_gen.proofs.TextLemmas.{owes_written}
 use Rattle.rust_gen.proofs.TreeLemmas.{length-places_from}
 use Rattle.std.proofs.Common.{◌<◌, ◌≤◌, ◌&&◌, ◌||◌, ◌^◌}
 use Rattle.wrapper_run.specs.Run.{numbered}
@@ -34,11 +34,11 @@ use Rattle.rust_gen.specs.Built.{is_built_result, is_built_type}
 use Rattle.std.proofs.lemmas.Fmt.{decimal_injective}
 use Rattle.wrapper_run.specs.Areas.{needs_area}
 use Rattle.wrapper_run.specs.Entries.{IsExported, entries_in, entries_named, exports_in}
-use Rattle.wrapper_run.specs.ExportFaithful.{CarriesOut, IsExportFaithful, MissesStatic}
+use Rattle.wrapper_run.specs.ExportFaithful.{IsExportFaithful, MeetsCall}
 use Rattle.wrapper_run.specs.Places.{area_in}
 use Rattle.wrapper_run.specs.PostReturn.{post_return_at, post_return_named, post_return_run, post_return_setting, run_post_return_item}
 use Rattle.wrapper_run.specs.Represents.{GivesResult}
-use Rattle.wrapper_run.specs.Returned.{Frees, Returns, post_return_name, post_returns_in}
+use Rattle.wrapper_run.specs.Returned.{Frees, Returns, post_returns_in}
 use Rattle.wrapper_run.specs.Value.{IsResult, WitValue, scalar, text}
 use Rattle.wrapper_data.specs.declared.form.Form.{Form}
 use Rattle.wrapper_data.specs.declared.heap.Heap.{Heap}
@@ -48,7 +48,7 @@ use Rattle.wit_model.specs.declared.types.WitType.{WitType}
 use Rattle.wit_model.specs.declared.types.WitType.TheVariants as wit
 use Rattle.rust_gen.specs.Emitted.{Entries, emitted_sides, exported_functions, functions_in, imported_functions, on_side, places_from}
 use Rattle.rust_tree.specs.declared.export.ExportFn.{ExportFn}
-use Rattle.rust_gen.proofs.ExportRunLemmas.{FitsExport, carries_out}
+use Rattle.rust_gen.proofs.ExportRunLemmas.{FitsExport, meets_call}
 use Rattle.rust_tree.specs.declared.export.PostReturnFn.{PostReturnFn}
 use Rattle.rust_tree.specs.declared.runtime_item.RuntimeItem.TheVariants.{CabiDealloc}
 use Rattle.rust_gen.specs.ExportBody.{ArePartsWritten, IsExportWritten, IsReturnWritten, ReturnWritten}
@@ -61,7 +61,7 @@ use Rattle.wit_model.specs.declared.wasm_type.WasmType.{WasmType}
 use Rattle.rust_gen.proofs.ItemLemmas.{alone-named, area-found, distinct-image, distinct-right, entries-are, find-named, method-found, runtime-found}
 use Rattle.rust_gen.specs.Built.{are_built_options, are_built_tables, is_built_function, is_built_item, is_built_world, is_empty}
 use Rattle.rust_gen.specs.NameText.{are_written_tables, is_wit_form, is_written_entry, is_written_world}
-use Rattle.rust_gen.specs.Exported.{area_of, arg_name, arg_prefix, core_args, entries_of, export_entry, file_macro, guest_name, guest_trait, last_macro, return_entry, static_area, trait_and_macro, trait_fn, where_any, where_area, world_macro}
+use Rattle.rust_gen.specs.Exported.{area_of, arg_name, arg_prefix, core_args, entries_of, export_entry, file_macro, guest_name, guest_trait, last_macro, post_return_name, return_entry, static_area, trait_and_macro, trait_fn, where_any, where_area, world_macro}
 use Rattle.std.specs.Str.{bytes_eq}
 use Rattle.std.proofs.lemmas.Slice.Eq.{bytes_eq-Decides}
 use Rattle.wrapper_run.specs.ExportRun.{export_at, export_nth, export_run, method_named, run_export_item}
@@ -352,18 +352,18 @@ module _ (opts : Opts) (resolve : Resolve) (id : ℕ) (world : World) (found : s
         ∙ runtime-found ws es fs fs (guest_trait fs) (world_macro world) (runtime_items world) (last_macro world) (item_name x) x
         (found_all (imported_functions world) fs x (among-imports x (imported_functions world) fs nth f e h))
 
-  faithful-at : (nth : ℕ) (f : Function) → slice_get (imported_functions world) nth ≡ Some f → IsFaithful tree nth f
+  faithful-at : (nth : ℕ) (f : Function) → slice_get (imported_functions world) nth ≡ Some f → IsFaithful (import_target f) tree nth f
   faithful-at nth f e = record {
     there = subst IsSome (sym (there nth f e)) refl;
-    carries = λ form vs v args heap choices a run is good is_result stand honest.
+    carries = λ form vs args heap choices a run is given.
         let w : Setting = setting_of tree (info nth f e).0.item.0 a form in
         let i = (wrapper nth f e).0 in
         let fits : Fits f w = record { distinct = distinct-params world named nth f e; found = asked-import nth f e } in
         let run_of : import_run tree nth args heap choices a form ≡ Some (run_item w i args heap choices) =
         ap (option_map (λ p. run_item (setting_of tree p.0 a form) p.1 args heap choices)) (there nth f e) in
         let same : run_item w i args heap choices ≡ run = cc in
-        subst (λ run. Carries f vs v heap choices run ⊎ MissesArea f heap choices run) same
-        (carries_written f i (wrapper nth f e).2 w fits vs args heap choices good stand v is_result (λ c made. honest c (subst (Made c) same made)));
+        subst (λ run. CallsOnce (import_target f) f vs heap choices a run ⊎ MissesArea f heap choices run) same
+        (owes_written f i (wrapper nth f e).2 w fits vs args heap choices given.good given.stand);
   }
 
   module _ (nth : ℕ) (f : Function) (e : slice_get fs nth ≡ Some f) where
@@ -429,7 +429,7 @@ module _ (opts : Opts) (resolve : Resolve) (id : ℕ) (world : World) (found : s
     distinct-names : is_distinct (map (λ f. f.name.wit) fs) ≡ true
     distinct-names = (and_parts (are_distinct_functions (imported_functions world)) (are_distinct_functions fs) distinct).1
 
-    exported-there : IsExported tree f export
+    exported-there : IsExported tree f.name.wit export
     exported-there = record {
       entry = export_entry f;
       alone = ap (filter (λ x. bytes_eq x.export_name f.name.wit)) entries ∙ alone-wrapper fs nth f distinct-names forms e (list_all-at (λ f. is_wit_form f.name.wit) fs nth f forms e);
@@ -481,10 +481,10 @@ module _ (opts : Opts) (resolve : Resolve) (id : ℕ) (world : World) (found : s
         go w (Some (scalar v)) good gives found = absurd (no_text wit.String v good refl)
         go w (Some (text bytes)) good gives found = frees_words f p is_written w found bytes words heap blocks good.2 gives
 
-    returned-there : Returns (needs_area f.result) tree place f
+    returned-there : Returns (needs_area f.result) (post_return_name f) tree place f
     returned-there = go (needs_area f.result) refl parts.2.1
       where
-        go : (b : Bool) → needs_area f.result ≡ b → ReturnWritten b f parts.0.1 → Returns b tree place f
+        go : (b : Bool) → needs_area f.result ≡ b → ReturnWritten b f parts.0.1 → Returns b (post_return_name f) tree place f
         go true needs (p, is, is_written) = record {
           number = export-info.0.item.0;
           function = p;
@@ -493,6 +493,7 @@ module _ (opts : Opts) (resolve : Resolve) (id : ℕ) (world : World) (found : s
           alone = return-entries ∙ ap (λ b. cond b (return_entry f ∷ []) []) needs;
           returns = refl;
           params = sym is_written.params;
+          pinned = ap (map (λ p. p.ty)) is_written.params;
           answer = refl;
           named = ap (filter (λ x. bytes_eq x.base f.name.snake)) (ap post_returns_in b.items.are) ∙ post_return-alone ws es fs behind nth f parts.0 p b.items.exported (distinct-bases world named) e parts.1 no_returns is;
           frees = frees p is_written is needs;
@@ -503,13 +504,13 @@ module _ (opts : Opts) (resolve : Resolve) (id : ℕ) (world : World) (found : s
           owns = λ heap v words blocks good gives. owns_nothing heap f.result v words blocks needs good gives;
         }
 
-  export-at : (nth : ℕ) (f : Function) → slice_get fs nth ≡ Some f → IsExportFaithful tree (length (imported_functions world) + nth) f
+  export-at : (nth : ℕ) (f : Function) → slice_get fs nth ≡ Some f → IsExportFaithful (export_names f) tree (length (imported_functions world) + nth) f
   export-at nth f e = record {
     number = (export-info nth f e).0.item.0;
     wrapper = (parts nth f e).0.0;
     there = export-there nth f e;
     exported = exported-there nth f e;
-    carries = λ form vs v words own heap choices a run is good is_result takes apart honest.
+    carries = λ form vs words own heap choices a run is passed.
         let n = length (imported_functions world) + nth in
         let w : Setting = setting_of tree (export-info nth f e).0.item.0 a form in
         let i = (parts nth f e).0.0 in
@@ -522,8 +523,8 @@ module _ (opts : Opts) (resolve : Resolve) (id : ℕ) (world : World) (found : s
         let run_of : export_run tree n words heap choices a form ≡ Some (run_export_item w i words heap choices) =
         ap (option_map (λ p. run_export_item (setting_of tree p.0 a form) p.1 words heap choices)) (export-there nth f e) in
         let same : run_export_item w i words heap choices ≡ run = cc in
-        subst (λ run. CarriesOut f vs v own heap choices a run ⊎ MissesStatic f vs own heap choices a run) same
-        (carries_out f i (parts nth f e).2.0 w fits vs v words own heap choices good is_result takes apart honest);
+        subst (MeetsCall (export_names f).method f vs own heap choices a) same
+        (meets_call f i (parts nth f e).2.0 w fits vs words own heap choices passed.good passed.takes passed.apart);
     returned = returned-there nth f e;
   }
 

@@ -48,7 +48,6 @@ pub record GivesOut (w : Setting) (p : ℕ) (bytes : List ℕ) (stmts : List Stm
   pub plain : ArePlain state.locals
   pub heap_is : state.heap ≡ record s.heap { blocks = s.heap.blocks ++ area ∷ [] }
   pub requests_are : state.requests ≡ s.requests ++ text_area ∷ []
-  pub calls_are : state.calls ≡ s.calls
   pub words : WordsGive state.heap bytes (word.Pointer address ∷ []) (block_of p bytes)
 
 -- the first choice does not fit the area, and ends the run
@@ -57,7 +56,7 @@ pub record MissesOut (w : Setting) (stmts : List Stmt) (s : State) : Type 0 wher
   pub state : State
   pub runs : run_stmts w stmts s ≡ Stopped stop_of.BadChoice state
   pub requests_are : state.requests ≡ s.requests ++ text_area ∷ []
-  pub calls_are : state.calls ≡ s.calls
+  pub heap_is : state.heap ≡ s.heap
 
 -- the names differ where one would hide another
 names_apart : (name : Bytes) (before : Scope) (stmts : List Stmt) (e : Expr) (g : GivesText name before stmts e) → is_used before.used name ≡ true
@@ -111,7 +110,6 @@ gives_fitted w front name p bytes before stmts e s placed g there none is front_
       plain = boxed-plain name v t l p n front (word_local a (word.Pointer at)) front_plain refl;
       heap_is = refl;
       requests_are = refl;
-      calls_are = refl;
       words = record {
         area = at;
         address = p;
@@ -132,7 +130,7 @@ gives_missed w name before stmts e s g there none m =
           ap (λ stmts. run_stmts w stmts s) g.is
           ∙ give_misses w forget_path static_area name (numbered kind.Pointer g.pointer) (numbered kind.Vec g.number) (numbered kind.Pointer g.number) (numbered kind.Length g.number) s there refl none m.1;
       requests_are = refl;
-      calls_are = refl;
+      heap_is = refl;
     }
 
 -- the statements give the text away, or miss the area

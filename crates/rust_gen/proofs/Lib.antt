@@ -5,16 +5,21 @@ mod ExportRunLemmas
 mod FaithfulLemmas
 mod FixedLemmas
 mod GiveLemmas
+mod IdentLemmas
 mod ItemLemmas
 mod LiftLemmas
 mod LiftingLemmas
 mod LowerLemmas
 mod LoweringLemmas
+mod NamedExportLemmas
+mod NamedImportLemmas
+mod NamedLemmas
 mod PartsLemmas
 mod PathLemmas
 mod ReturnLemmas
 mod RunLemmas
 mod ScopeLemmas
+mod ServedLemmas
 mod TakenLemmas
 mod TextLemmas
 pub mod TreeLemmas

@@ -1,5 +1,5 @@
 -- What the lifting of an export's parameters does: it leaves new locals, and arguments that read them, or move them out, later.
-use Rattle.std.proofs.Common.{◌≡◌, ℕ, ◌+◌, true, false, not, ◌||◌, List, [], ◌∷◌, ◌++◌, length, Some, map, refl, sym, ap, subst, ◌∙◌, append_assoc, append-nil, arith}
+use Rattle.std.proofs.Common.{◌≡◌, ℕ, ◌+◌, true, false, not, ◌&&◌, ◌||◌, List, [], ◌∷◌, ◌++◌, length, Some, map, refl, sym, ap, subst, ◌∙◌, append_assoc, append-nil, arith}
 use Rattle.std.specs.Prelude.{nat_eq, option_and_then}
 use Rattle.std.specs.List.{flat_map, list_all}
 use Rattle.std.specs.Option.{option_map}
@@ -25,8 +25,8 @@ use Rattle.wrapper_run.specs.declared.state.State.{State}
 use Rattle.wrapper_run.specs.declared.state.Val.{Val}
 use Rattle.wrapper_run.specs.declared.state.Val.TheVariants as val
 use Rattle.wrapper_run.specs.Act.{Act, Done, ◌>>=◌, all, and_then, pure}
-use Rattle.wrapper_run.specs.Effect.{is_of_kind}
-use Rattle.wrapper_run.specs.ExportRun.{passed_as, values_of}
+use Rattle.wrapper_run.specs.Effect.{is_of_kind, is_word_of}
+use Rattle.wrapper_run.specs.ExportRun.{are_words_of, passed_as, values_of}
 use Rattle.wrapper_run.specs.Locals.{bind, local_named, value_of}
 use Rattle.wrapper_run.specs.Owning.{are_distinct, is_taken, listed, owned, owned_by}
 use Rattle.wrapper_run.specs.Represents.{TakesAll, TakesWords, block_of}
@@ -44,7 +44,7 @@ use Rattle.rust_gen.specs.declared.scope.Scope.{Scope}
 use Rattle.rust_gen.specs.Body.{LiftsScalar, LiftsTaken, lift_kinds}
 use Rattle.rust_gen.specs.ExportBody.{LiftsAll, LiftsParam}
 use Rattle.rust_gen.specs.Exported.{arg_name, core_args, trait_param}
-use Rattle.rust_gen.specs.Printed.{core_words, param_words, printed_type}
+use Rattle.rust_gen.specs.Printed.{core_type, core_words, param_words, printed_type}
 use Rattle.rust_gen.specs.Runtime.{lifting_items}
 use Rattle.rust_gen.specs.Scope.{is_used, numbered}
 use Rattle.wit_model.specs.Bytes.{Bytes}
@@ -95,6 +95,35 @@ same-words n (p ∷ params) (v ∷ vs) heap words own good (first, rest, own1, o
     (subst (SameLength (arg_names n (core_words p.ty) ++ arg_names (n + length (core_words p.ty)) (param_words params))) (sym (ap (map val.Word) e ∙ map-append val.Word first rest))
     (same-append (arg_names n (core_words p.ty)) (arg_names (n + length (core_words p.ty)) (param_words params)) (map val.Word first) (map val.Word rest)
     (same-one n p.ty v heap first own1 good.0 one) (same-words (n + length (core_words p.ty)) params vs heap rest own2 good.1 more)))
+
+-- the words of values are those of the core parameters
+
+typed-one : (ty : WitType) (v : WitValue) (heap : Heap) (words : List Word) (own : List (ℕ × ℕ)) (n : ℕ) → IsValue ty v → TakesWords heap ty v words own → are_words_of (core_args n (core_words ty)) words ≡ true
+typed-one ty (scalar v) heap words own n good (x, is, takes, none) =
+    ap (λ ts. are_words_of (core_args n ts) words) (core_words-one ty (no_text ty v good)) ∙ ap (are_words_of (core_args n (core_type ty ∷ []))) is
+    ∙ ap (λ b. b && true) (taken ty v x good takes).is_word
+typed-one ty (text bytes) heap words own n good (p, at, is, has, block) =
+    ap (λ t. are_words_of (core_args n (core_words t)) words) good.0 ∙ ap (are_words_of (core_args n (core_words wit.String))) is
+
+typed-append : (n : ℕ) (xs ys : List WasmType) (words more : List Word) → are_words_of (core_args n xs) words ≡ true → are_words_of (core_args (n + length xs) ys) more ≡ true
+    → are_words_of (core_args n (xs ++ ys)) (words ++ more) ≡ true
+typed-append n [] ys [] more h k = let e : n + 0 ≡ n = omega arith in ap (λ m. are_words_of (core_args m ys) more) (sym e) ∙ k
+typed-append n [] ys (x ∷ words) more h k = absurd (cc)
+typed-append n (ty ∷ xs) ys [] more h k = absurd (cc)
+typed-append n (ty ∷ xs) ys (x ∷ words) more h k =
+    let parts = and_parts (is_word_of ty x) (are_words_of (core_args (n + 1) xs) words) h in
+    let e : n + length (ty ∷ xs) ≡ n + 1 + length xs = omega arith in
+    ap (λ b. b && are_words_of (core_args (n + 1) (xs ++ ys)) (words ++ more)) parts.0
+    ∙ typed-append (n + 1) xs ys words more parts.1 (ap (λ m. are_words_of (core_args m ys) more) (sym e) ∙ k)
+
+pub typed-words : (n : ℕ) (params : List Param) (vs : List WitValue) (heap : Heap) (words : List Word) (own : List (ℕ × ℕ)) → AreValues (types_of params) vs → TakesAll heap (types_of params) vs words own
+    → are_words_of (core_args n (param_words params)) words ≡ true
+typed-words n [] [] heap words own good h = ap (are_words_of []) h.0
+typed-words n [] (v ∷ vs) heap words own good h = absurd h
+typed-words n (p ∷ params) [] heap words own good h = absurd h
+typed-words n (p ∷ params) (v ∷ vs) heap words own good (first, rest, own1, own2, e, f, one, more) =
+    ap (are_words_of (core_args n (param_words (p ∷ params)))) e
+    ∙ typed-append n (core_words p.ty) (param_words params) first rest (typed-one p.ty v heap first own1 n good.0 one) (typed-words (n + length (core_words p.ty)) params vs heap rest own2 good.1 more)
 
 -- blocks that no owner has
 

@@ -19,15 +19,15 @@ use Rattle.wrapper_run.specs.declared.state.Local.{Local}
 use Rattle.wrapper_run.specs.declared.state.State.{State}
 use Rattle.wrapper_run.specs.declared.state.Val.{Val}
 use Rattle.wrapper_run.specs.declared.state.Val.TheVariants as val
-use Rattle.wrapper_run.specs.Act.{Done, and_then, pure}
-use Rattle.wrapper_run.specs.ExportRun.{bound_words, core_answer, ended_export, run_to_words}
+use Rattle.wrapper_run.specs.Act.{Done, ◌>>◌, and_then, pure}
+use Rattle.wrapper_run.specs.ExportRun.{bound_words, core_answer, ended_export, expect_words, run_to_words}
 use Rattle.wrapper_run.specs.Locals.{bind, local_named, value_of}
 use Rattle.wrapper_run.specs.Memory.{loaded}
 use Rattle.wrapper_run.specs.PostReturn.{run_post_return_item}
 use Rattle.wrapper_run.specs.Represents.{GivesText, HasText}
 use Rattle.wrapper_run.specs.Returned.{Frees, without_all}
 use Rattle.wrapper_run.specs.Run.{begin, give_and_leave, run_at, run_block, run_stmts, run_tail, runtime_item_named}
-use Rattle.wrapper_run.specs.Setting.{Setting}
+use Rattle.wrapper_run.specs.Setting.{Setting, stuck}
 use Rattle.wrapper_run.proofs.FreeSteps.{align_gives, dealloc_gives, frees_text, unit_dropped, unit_words, without_text}
 use Rattle.wrapper_run.proofs.LocalLemmas.{reads-new}
 use Rattle.wrapper_run.proofs.StepLemmas.{gives_plain, local_gives}
@@ -93,8 +93,8 @@ starts_at : (w : Setting) (p : PostReturnFn) (words : List Word) (heap : Heap) (
     → run_post_return_item w p words heap ≡ ended_export (and_then (run_block w p.body (returned_at area heap)) (λ v. give_and_leave w (core_answer None v)))
 unfolding run_post_return_item
 starts_at w p words heap area e h =
-    ap (λ params. ended_export (run_to_words w None p.body (begin (bound_words params words) [] heap (record { list = [] })))) e
-    ∙ ap (λ words. ended_export (run_to_words w None p.body (begin (bound_words return_params words) [] heap (record { list = [] })))) h
+    ap (λ params. ended_export ((expect_words (stuck w) params words >> run_to_words w None p.body) (begin (bound_words params words) [] heap (record { list = [] })))) e
+    ∙ ap (λ words. ended_export ((expect_words (stuck w) return_params words >> run_to_words w None p.body) (begin (bound_words return_params words) [] heap (record { list = [] })))) h
 
 pub frees_words : (f : Function) (p : PostReturnFn) → IsReturnWritten f p → (w : Setting) → runtime_item_named w.items (item_name CabiDealloc) ≡ Some CabiDealloc
     → (bytes : List ℕ) (words : List Word) (heap : Heap) (blocks : List (ℕ × ℕ)) → length bytes < 2 ^ 31 → GivesText heap bytes words blocks → Frees blocks heap (run_post_return_item w p words heap)

@@ -31,7 +31,10 @@ use Rattle.wrapper_run.specs.declared.state.State.{State}
 use Rattle.wrapper_run.specs.declared.state.Val.{Val}
 use Rattle.wrapper_run.specs.declared.state.Val.TheVariants as val
 use Rattle.wrapper_run.specs.Act.{Act, Outcome, Done, Stopped, ◌>>=◌, and_then, pure, ◌>>◌}
-use Rattle.wrapper_run.specs.Faithful.{Carries, Made, import_target, param_types}
+use Rattle.std.specs.List.Sorted.{IsPermutation}
+use Rattle.std.proofs.lemmas.List.Sorted.{IsPermutation-refl}
+use Rattle.wrapper_run.specs.Faithful.{CallsImport, CallsOnce, Carries, param_types}
+use Rattle.rust_gen.specs.Faithful.{import_target}
 use Rattle.wrapper_run.specs.Honest.{HonestPeer}
 use Rattle.wrapper_run.specs.Locals.{bind, declare, import_named, local_named}
 use Rattle.wrapper_run.specs.Setting.{Setting}
@@ -64,7 +67,7 @@ use Rattle.rust_tree.specs.Runtime.{item_name}
 use Rattle.rust_gen.proofs.WordLemmas.{taken}
 use Rattle.rust_gen.proofs.LowerLemmas.{Lowered, idents_of, lower_all, run_stmts-append, types_of}
 use Rattle.rust_gen.proofs.ScopeLemmas.{UsedAll, Within, free-one, is_used-append, used-declared, used-first, used-next}
-use Rattle.wrapper_run.specs.Areas.{areas, due, pointers}
+use Rattle.wrapper_run.specs.Areas.{areas, due, places}
 use Rattle.wrapper_data.specs.declared.choice.Choice.{Choice}
 use Rattle.wit_model.specs.declared.wasm_type.WasmType.{WasmType}
 use Rattle.rust_tree.specs.declared.stmt.Block.{Block}
@@ -351,8 +354,8 @@ pub record Fits (f : Function) (w : Setting) : Type 0 where
   pub distinct : is_distinct (param_idents f) ≡ true
   pub found : Found w.items (asked_by f)
 
-module _ (f : Function) (i : FnItem) (written : IsWritten f i) (nt : NoText f.result) (w : Setting) (fits : Fits f w) (vs : List WitValue) (v : Option WitValue) (args : List RustValue) (heap : Heap) (choices : Choices)
-    (good : AreValues (param_types f) vs) (is_result : IsResult f.result v) (stand : StandAll heap (param_types f) vs args) where
+module _ (f : Function) (i : FnItem) (written : IsWritten f i) (nt : NoText f.result) (w : Setting) (fits : Fits f w) (vs : List WitValue) (args : List RustValue) (heap : Heap) (choices : Choices)
+    (good : AreValues (param_types f) vs) (stand : StandAll heap (param_types f) vs args) where
   abbrev begin : State
   begin = start i args heap choices
 
@@ -433,32 +436,34 @@ module _ (f : Function) (i : FnItem) (written : IsWritten f i) (nt : NoText f.re
       ∙ (quiet_then (take_answer w (scalar_result f.result)) end (quiet_answer w (scalar_result f.result)) (quiet_finish w body.number f.result body.base body.called body.lifting i.body.tail nt body.lifts)).quiet recorded
 
   -- there is no area
-  abbrev called_as : CallPoint → Type 0
-  called_as c = c ≡ record {
-    target = import_target f;
-    words = lowering.lent ++ pointers (areas f.result choices.list);
-    values = [];
-    heap = record heap { blocks = heap.blocks ++ areas f.result choices.list };
+  calls_import : CallsImport (import_target f) f vs heap choices here
+  calls_import = record {
+    aims = refl;
+    words = lowering.lent;
+    represents = lowering.represents;
+    area = [];
+    placed = ap places (sym (areas-none f.result choices.list nt));
+    passed = sym (append-nil lowering.lent);
+    values = refl;
+    made = [];
+    live = subst (λ bs. IsPermutation bs heap.blocks) (sym (append-nil heap.blocks)) (IsPermutation-refl heap.blocks);
   }
 
-  here_is : called_as here
-  here_is =
-      ap (λ ws. record here { words = ws }) (sym (append-nil lowering.lent)) ∙ ap (λ bs. record here { words = lowering.lent ++ []; heap = record heap { blocks = bs } }) (sym (append-nil heap.blocks))
-      ∙ ap (λ more. record here { words = lowering.lent ++ pointers more; heap = record heap { blocks = heap.blocks ++ more } }) (sym (areas-none f.result choices.list nt))
-
-  pub carries_plain : ((c : CallPoint) → Made c (run_item w i args heap choices) → HonestPeer f.result v w.answer c) → Carries f vs v heap choices (run_item w i args heap choices)
+  carries_plain : (v : Option WitValue) → IsResult f.result v → HonestPeer f.result v w.answer here → Carries f v heap (run_item w i args heap choices)
   unfolding run
-  carries_plain honest =
+  carries_plain v is_result honest =
       let g = finishes w body.number f.result v body.base body.lowered body.called body.lifting i.body.tail recorded here nt body.calls body.lifts
-      (found-right w.items (signature_items f.result ++ flat_map (λ p. lowering_items p.ty) f.params) (lifting_items f.result) fits.found) is_result (honest here ([], [], calls_once)) plain in
+      (found-right w.items (signature_items f.result ++ flat_map (λ p. lowering_items p.ty) f.params) (lifting_items f.result) fits.found) is_result honest plain in
       let e : run ≡ run_at stop_of.Done [] g.value g.state = ends ∙ ap ended g.runs in
       record {
         done = ap (λ r. r.stop) e;
-        words = lowering.lent;
-        call = calls_once ∙ ap (λ c. c ∷ []) here_is;
-        represents = lowering.represents;
         blocks = [];
         gives = subst (λ r. StandsResult f.result v r []) (sym (ap (λ r. r.value) e)) g.stands;
+        alone = ap (λ r. r.words) e;
         account = ap (λ r. r.heap) e ∙ g.account ∙ ap (λ bs. record heap { blocks = bs }) (sym (append-nil heap.blocks));
         requests = ap (λ r. r.requests) e ∙ g.requests ∙ sym (due-none f.result nt);
       }
+
+  pub calls_plain : CallsOnce (import_target f) f vs heap choices w.answer (run_item w i args heap choices)
+  unfolding run
+  calls_plain = record { point = here; once = calls_once; calls = calls_import; ends = carries_plain }

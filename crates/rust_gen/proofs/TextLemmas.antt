@@ -40,23 +40,26 @@ use Rattle.wrapper_run.specs.declared.state.State.{State}
 use Rattle.wrapper_run.specs.declared.state.Val.{Val}
 use Rattle.wrapper_run.specs.declared.state.Val.TheVariants as val
 use Rattle.wrapper_run.specs.Act.{Act, Outcome, Done, Stopped, ◌>>=◌, ◌>>◌, and_then, or_stop, pure}
-use Rattle.wrapper_run.specs.Areas.{areas, due, needs_area, pointers, text_area, text_areas}
+use Rattle.wrapper_run.specs.Areas.{areas, due, needs_area, places as places_of, text_area, text_areas}
 use Rattle.wrapper_run.specs.Blocks.{drop_value, free_owned, is_owned, without_block, leave_to}
 use Rattle.wrapper_run.specs.Places.{declare_area, is_fitting}
 use Rattle.wrapper_run.proofs.PlaceLemmas.{Misplaces, Places, pair_block, places_pair}
-use Rattle.wrapper_run.specs.Faithful.{Carries, Made, MissesArea, import_target, param_types, fits_area}
+use Rattle.std.proofs.lemmas.List.Sorted.{IsPermutation-refl}
+use Rattle.wrapper_run.specs.Faithful.{CallsImport, CallsOnce, Carries, MissesArea, param_types, fits_area}
+use Rattle.rust_gen.specs.Faithful.{import_target}
 use Rattle.wrapper_run.specs.Honest.{AnswersText, HonestPeer, WritesIn, are_new}
 use Rattle.wrapper_run.specs.Locals.{bind, declare, last, local_named, value_of}
 use Rattle.wrapper_run.specs.Memory.{block_at, bytes_from, loaded, without}
 use Rattle.wrapper_run.specs.Owning.{address_of, is_taken, taken_by}
-use Rattle.wrapper_run.specs.Run.{answer_and_leave, ended, eval, run_at, run_fn, run_item, run_stmt, run_stmts, run_tail, runtime_item_named, start, take_answer, words_of, bound}
+use Rattle.wrapper_run.specs.Run.{answer_and_leave, ended, eval, run_at, run_fn, run_item, run_stmts, run_tail, runtime_item_named, start, take_answer, words_of, bound}
 use Rattle.wrapper_run.specs.Setting.{Setting, stuck}
 use Rattle.wrapper_run.specs.StandsFor.{IsTextBlock, StandAll, StandsResult}
 use Rattle.wrapper_run.specs.Value.{AreValues, IsResult, IsValue, WitValue, char, f32, f64, number, scalar, text, truth}
-use Rattle.wrapper_run.proofs.HeapLemmas.{SamePlace, added, area_found, area_removed, found_behind, size-positive, writes_in_area}
+use Rattle.wrapper_run.proofs.HeapLemmas.{SamePlace, added, area_found, area_removed, found_behind, lends-behind, size-positive, writes_in_area}
 use Rattle.wrapper_run.proofs.LocalLemmas.{ReadsAll, last-append, reads-new, reads-past, unbound, reads_bound}
 use Rattle.wrapper_run.proofs.OwningLemmas.{Adds, ArePlain, adds-one, adds-then, no_unit_buffer, owned-none}
-use Rattle.wrapper_run.proofs.StepLemmas.{Give, Quiet, call_gives, ended-calls, import_gives, local_gives, quiet_answer, quiet_answers, quiet_bind, quiet_drop, quiet_local, quiet_pure, quiet_runtime, quiet_then}
+use Rattle.wrapper_run.proofs.StepLemmas.{Give, Quiet, call_gives, ended-calls, import_gives, local_gives, quiet_answer, quiet_answers, quiet_drop, quiet_local, quiet_pure, quiet_runtime, quiet_then}
+use Rattle.wrapper_run.proofs.QuietSteps.{quiet_let}
 use Rattle.wrapper_run.proofs.TakeLemmas.{answered-text, area_gives, leaves_one, load_gives, used-plain, quiet_load, quiet_raw, text_gives, text_local, used_local, words_give}
 use Rattle.rust_gen.proofs.TakenLemmas.{AreFree, addresses, take_stmts, taken-last, taken_over, takes_text}
 use Rattle.wrapper_run.specs.Represents.{HasText, block_of}
@@ -70,7 +73,7 @@ use Rattle.rust_gen.specs.declared.scope.LocalKind.TheVariants as kind
 use Rattle.rust_gen.proofs.AskedLemmas.{Found, found-first, found-left, found-right}
 use Rattle.rust_gen.proofs.LowerLemmas.{Lowered, give-append, lower_all, run_stmts-append, words-append, words_of-append}
 use Rattle.rust_gen.proofs.PathLemmas.{calls_alone, calls_runtime}
-use Rattle.rust_gen.proofs.RunLemmas.{Fits, all-used, and_then-assoc, call_is, carries_plain, declared, names-printed, plain_arg, plain_args, point, same-length, names_of}
+use Rattle.rust_gen.proofs.RunLemmas.{Fits, all-used, and_then-assoc, call_is, calls_plain, declared, names-printed, plain_arg, plain_args, point, same-length, names_of}
 use Rattle.rust_gen.proofs.ScopeLemmas.{Within, free-one, grows-declared, is_used-append, keeps-bound, used-declared, used-first, used-next, within-bound}
 
 -- the last statements: the bytes are taken over, tested and moved out
@@ -242,10 +245,6 @@ places w name s = go (places_pair w s)
 
 -- what stands behind the lowering, and what stands behind the call
 
-quiet_let : (w : Setting) (n : Bytes) (e : Expr) (more : List Stmt) → Quiet (eval w e) → Quiet (run_stmts w more) → Quiet (run_stmts w (stmt.Let n e ∷ more))
-quiet_let w n e more h k =
-    quiet_then (run_stmt w (stmt.Let n e)) (λ _. run_stmts w more) (quiet_then (eval w e) (bind n) h (quiet_bind n)) (λ _. k)
-
 abbrev lift_stmts : Bytes → Bytes → Bytes → Bytes → Bytes → Bytes → List Stmt
 lift_stmts base la lb ln by tx =
     stmt.Let la (word_at base 0 core.Pointer) ∷ stmt.Let lb (word_at base 1 core.Length) ∷ stmt.Let ln (expr.Local lb) ∷ take_stmts la ln by tx
@@ -279,10 +278,20 @@ regroup w stmts tx (Done v s) = go (drop_value w v s)
     go (Stopped e t) = refl
     go (Done u t) = and_then-assoc (run_stmts w stmts t) (λ _. eval w (expr.Local tx)) (answer_and_leave w type.String)
 
+-- a value of the type of texts is a text
+text_only : (v : Option WitValue) → IsResult (Some wit.String) v → (bytes : List ℕ) × (v ≡ Some (text bytes)) × IsValue wit.String (text bytes)
+text_only None r = absurd r
+text_only (Some (text bytes)) r = (bytes, refl, r)
+text_only (Some (scalar (truth t))) r = absurd (cc)
+text_only (Some (scalar (number z))) r = absurd (cc)
+text_only (Some (scalar (f32 bits))) r = absurd (cc)
+text_only (Some (scalar (f64 bits))) r = absurd (cc)
+text_only (Some (scalar (char c))) r = absurd (cc)
+
 -- a wrapper whose result is a text
 
-module _ (f : Function) (i : FnItem) (written : IsWritten f i) (is_text : f.result ≡ Some wit.String) (w : Setting) (fits : Fits f w) (vs : List WitValue) (bytes : List ℕ) (args : List RustValue) (heap : Heap) (choices : Choices)
-    (good : AreValues (param_types f) vs) (text_good : IsValue wit.String (text bytes)) (stand : StandAll heap (param_types f) vs args) where
+module _ (f : Function) (i : FnItem) (written : IsWritten f i) (is_text : f.result ≡ Some wit.String) (w : Setting) (fits : Fits f w) (vs : List WitValue) (args : List RustValue) (heap : Heap) (choices : Choices)
+    (good : AreValues (param_types f) vs) (stand : StandAll heap (param_types f) vs args) where
   abbrev begin : State
   begin = start i args heap choices
 
@@ -362,7 +371,7 @@ module _ (f : Function) (i : FnItem) (written : IsWritten f i) (is_text : f.resu
   misses misfit e =
       let is : run_item w i args heap choices ≡ run_at stop_of.BadChoice [] None (record begin { requests = text_area ∷ [] }) =
       ap ended (runs_from ∙ ap (λ o. and_then (and_then (and_then o (λ _. run_stmts w (b.lowering ++ rest))) (λ _. eval w (expr.Local tx))) (answer_and_leave w type.String)) e) in
-      record { needed = ap needs_area is_text; misfit = misfit; stopped = ap (λ r. r.stop) is; requests = ap (λ r. r.requests) is ∙ sym (ap due is_text); calls = ap (λ r. r.calls) is }
+      record { needed = ap needs_area is_text; misfit = misfit; stopped = ap (λ r. r.stop) is; requests = ap (λ r. r.requests) is ∙ sym (ap due is_text); calls = ap (λ r. r.calls) is; kept = ap (λ r. r.heap) is; silent = (ap (λ r. r.words) is, ap (λ r. r.value) is) }
 
   names : names_of i.params ≡ param_idents f
   names = ap names_of written.params ∙ names-printed f.params
@@ -486,7 +495,7 @@ module _ (f : Function) (i : FnItem) (written : IsWritten f i) (is_text : f.resu
         ∙ (quiet_then (take_answer w None) (finish w lifting tx) (quiet_answer w None) (quiet_finish w lifting tx (quiet_lift_stmts w q la lb ln by tx))).quiet s4
 
     -- the peer is honest: its text is taken over, and the area goes
-    module _ (h : AnswersText bytes w.answer here) where
+    module _ (bytes : List ℕ) (text_good : IsValue wit.String (text bytes)) (h : AnswersText bytes w.answer here) where
       same : a ≡ h.area
       same =
           let shown : last (λ w. true) given ≡ Some (word.Pointer a) = last-append (λ w. true) lowering.lent (word.Pointer a) in
@@ -643,68 +652,67 @@ module _ (f : Function) (i : FnItem) (written : IsWritten f i) (is_text : f.resu
           ∙ ap (λ o. and_then (or_stop (stuck w) o s9) (λ r. leave_to w 0 >> pure r)) (answered-text h.place (length bytes))
           ∙ ap (λ o. and_then o (λ _. pure (Some buffer))) leaves
 
-      areas_are : areas f.result choices.list ≡ area ∷ []
-      areas_are = ap (λ r. areas r choices.list) is_text ∙ ap text_areas chosen
-
-      here_is : here ≡ record {
-        target = import_target f;
-        words = lowering.lent ++ pointers (areas f.result choices.list);
-        values = [];
-        heap = record heap { blocks = heap.blocks ++ areas f.result choices.list };
-      }
-      here_is = ap (λ more. record here { words = lowering.lent ++ pointers more; heap = record heap { blocks = heap.blocks ++ more } }) (sym areas_are)
-
-      carries_text : Carries f vs (Some (text bytes)) heap choices (run_item w i args heap choices)
+      carries_text : Carries f (Some (text bytes)) heap (run_item w i args heap choices)
       carries_text =
           let e : run_item w i args heap choices ≡ run_at stop_of.Done [] (Some buffer) s10 = ends ∙ ap ended runs_end in
           let stands : StandsResult (Some wit.String) (Some (text bytes)) (Some buffer) h.blocks = (h.place, h.nonzero, refl, h.holds) in
           record {
             done = ap (λ r. r.stop) e;
-            words = lowering.lent;
-            call = calls_once ∙ ap (λ c. c ∷ []) here_is;
-            represents = lowering.represents;
             blocks = h.blocks;
             gives = subst (λ r. StandsResult r (Some (text bytes)) (run_item w i args heap choices).value h.blocks) (sym is_text) (subst (λ v. StandsResult (Some wit.String) (Some (text bytes)) v h.blocks) (sym (ap (λ r. r.value) e)) stands);
+            alone = ap (λ r. r.words) e;
             account = ap (λ r. r.heap) e ∙ ap (λ bs. record heap { blocks = bs }) area_gone;
             requests = ap (λ r. r.requests) e ∙ sym (ap due is_text);
           }
 
+    areas_are : areas f.result choices.list ≡ area ∷ []
+    areas_are = ap (λ r. areas r choices.list) is_text ∙ ap text_areas chosen
+
+    -- the area stands behind the given blocks
+    calls_import : CallsImport (import_target f) f vs heap choices here
+    calls_import = record {
+      aims = refl;
+      words = lowering.lent;
+      represents = lends-behind heap (area ∷ []) (param_types f) vs lowering.lent lowering.represents;
+      area = area ∷ [];
+      placed = ap places_of (sym areas_are);
+      passed = refl;
+      values = refl;
+      made = [];
+      live = IsPermutation-refl (heap.blocks ++ area ∷ []);
+    }
+
+    carries_any : (v : Option WitValue) → IsResult f.result v → HonestPeer f.result v w.answer here → Carries f v heap (run_item w i args heap choices)
+    carries_any v is_result honest =
+        let t = text_only v (subst (λ r. IsResult r v) is_text is_result) in
+        subst (λ v. Carries f v heap (run_item w i args heap choices)) (sym t.1)
+        (carries_text t.0 t.2 (subst (λ v. HonestPeer (Some wit.String) v w.answer here) t.1 (subst (λ r. HonestPeer r v w.answer here) is_text honest)))
+
+    calls_text : CallsOnce (import_target f) f vs heap choices w.answer (run_item w i args heap choices)
+    calls_text = record { point = here; once = calls_once; calls = calls_import; ends = carries_any }
+
 -- every wrapper as it is written
+
+of_result : (r : Option WitType) → (r ≡ Some wit.String) ⊎ (r ≡ Some wit.String → ⊥)
+of_result None = inr (λ e. cc)
+of_result (Some wit.String) = inl refl
+of_result (Some _) = inr (λ e. cc)
 
 module _ (f : Function) (i : FnItem) (written : IsWritten f i) (w : Setting) (fits : Fits f w) (vs : List WitValue) (args : List RustValue) (heap : Heap) (choices : Choices)
     (good : AreValues (param_types f) vs) (stand : StandAll heap (param_types f) vs args) where
-  carries_area : (bytes : List ℕ) → f.result ≡ Some wit.String → IsValue wit.String (text bytes) → ((c : CallPoint) → Made c (run_item w i args heap choices) → AnswersText bytes w.answer c)
-      → Carries f vs (Some (text bytes)) heap choices (run_item w i args heap choices) ⊎ MissesArea f heap choices (run_item w i args heap choices)
-  carries_area bytes is_text text_good honest = go (places w written.body.area (start i args heap choices))
+  abbrev Owes : Type 0
+  Owes = CallsOnce (import_target f) f vs heap choices w.answer (run_item w i args heap choices) ⊎ MissesArea f heap choices (run_item w i args heap choices)
+
+  by_area : f.result ≡ Some wit.String → Owes
+  by_area is_text = go (places w written.body.area (start i args heap choices))
     where
-      go : Placing w written.body.area (start i args heap choices) ⊎ Misplacing w written.body.area (start i args heap choices)
-          → Carries f vs (Some (text bytes)) heap choices (run_item w i args heap choices) ⊎ MissesArea f heap choices (run_item w i args heap choices)
-      go (inl p) =
-          inl (carries_text f i written is_text w fits vs bytes args heap choices good text_good stand p.address p.left p.chosen p.fits p.runs
-          (honest _ ([], [], calls_once f i written is_text w fits vs bytes args heap choices good text_good stand p.address p.left p.chosen p.fits p.runs)))
-      go (inr (misfit, e)) = inr (misses f i written is_text w fits vs bytes args heap choices good text_good stand misfit e)
+      go : Placing w written.body.area (start i args heap choices) ⊎ Misplacing w written.body.area (start i args heap choices) → Owes
+      go (inl p) = inl (calls_text f i written is_text w fits vs args heap choices good stand p.address p.left p.chosen p.fits p.runs)
+      go (inr (misfit, e)) = inr (misses f i written is_text w fits vs args heap choices good stand misfit e)
 
-  text_only : (v : Option WitValue) → IsResult (Some wit.String) v → (bytes : List ℕ) × (v ≡ Some (text bytes)) × IsValue wit.String (text bytes)
-  text_only None r = absurd r
-  text_only (Some (text bytes)) r = (bytes, refl, r)
-  text_only (Some (scalar (truth t))) r = absurd (cc)
-  text_only (Some (scalar (number z))) r = absurd (cc)
-  text_only (Some (scalar (f32 bits))) r = absurd (cc)
-  text_only (Some (scalar (f64 bits))) r = absurd (cc)
-  text_only (Some (scalar (char c))) r = absurd (cc)
-
-  of_result : (r : Option WitType) → (r ≡ Some wit.String) ⊎ (r ≡ Some wit.String → ⊥)
-  of_result None = inr (λ e. cc)
-  of_result (Some wit.String) = inl refl
-  of_result (Some _) = inr (λ e. cc)
-
-  pub carries_written : (v : Option WitValue) → IsResult f.result v → ((c : CallPoint) → Made c (run_item w i args heap choices) → HonestPeer f.result v w.answer c)
-      → Carries f vs v heap choices (run_item w i args heap choices) ⊎ MissesArea f heap choices (run_item w i args heap choices)
-  carries_written v is_result honest = go (of_result f.result)
+  pub owes_written : Owes
+  owes_written = go (of_result f.result)
     where
-      go : (f.result ≡ Some wit.String) ⊎ (f.result ≡ Some wit.String → ⊥) → Carries f vs v heap choices (run_item w i args heap choices) ⊎ MissesArea f heap choices (run_item w i args heap choices)
-      go (inr nt) = inl (carries_plain f i written nt w fits vs v args heap choices good is_result stand honest)
-      go (inl e) =
-          let t = text_only v (subst (λ r. IsResult r v) e is_result) in
-          subst (λ v. Carries f vs v heap choices (run_item w i args heap choices) ⊎ MissesArea f heap choices (run_item w i args heap choices)) (sym t.1)
-          (carries_area t.0 e t.2 (λ c made. subst (λ v. HonestPeer (Some wit.String) v w.answer c) t.1 (subst (λ r. HonestPeer r v w.answer c) e (honest c made))))
+      go : (f.result ≡ Some wit.String) ⊎ (f.result ≡ Some wit.String → ⊥) → Owes
+      go (inr nt) = inl (calls_plain f i written nt w fits vs args heap choices good stand)
+      go (inl e) = by_area e

@@ -22,7 +22,6 @@ use Rattle.rust_tree.specs.declared.item.Item.{Item}
 use Rattle.rust_tree.specs.declared.item.Item.TheVariants as item
 use Rattle.rust_tree.specs.Ident.{rust_ident}
 use Rattle.wrapper_run.specs.Areas.{needs_area}
-use Rattle.wrapper_run.specs.Returned.{post_return_name}
 use Rattle.rust_gen.specs.Docs.{doc_lines}
 use Rattle.rust_gen.specs.Emitted.{exported_functions}
 use Rattle.rust_gen.specs.Printed.{core_type, param_words, printed_result, printed_type, text_size}
@@ -69,6 +68,10 @@ export_result (Some ty) = Some (core_type ty)
 -- a function is exported under its own name, and its wrapper has its snake form as base name
 abbrev pub export_entry : Function → ExportEntry
 export_entry f = record { kind = kind.Wrapper; export_name = f.name.wit; base = f.name.snake; params = export_params f; result = export_result f.result }
+
+-- the export name of a function's post-return function
+unfoldable pub post_return_name : Function → Bytes
+post_return_name f = codes "cabi_post_" ++ f.name.wit
 
 -- a post-return function is given the pointer that the wrapper returned
 abbrev pub return_params : List CoreParam

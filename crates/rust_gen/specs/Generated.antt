@@ -1,5 +1,5 @@
 -- What a call of `generate` that makes a file leaves: the tree of the world, and its text in the file of the world's name.
-use Rattle.std.specs.Prelude.{◌≡◌, ◌≢◌, List, [], ◌++◌, Some, codes, slice_get, unwrap_or}
+use Rattle.std.specs.Prelude.{◌≡◌, ◌≢◌, true, List, [], ◌++◌, Some, codes, slice_get, unwrap_or}
 use Rattle.wit_model.specs.declared.name.WorldId.{WorldId}
 use Rattle.wit_model.specs.declared.resolve.Resolve.{Resolve}
 use Rattle.wit_model.specs.declared.world.World.{World}
@@ -7,8 +7,12 @@ use Rattle.wit_model.specs.Bytes.{Bytes}
 use Rattle.gen_files.specs.Entries.{Entry, entry_of, with_pushed}
 use Rattle.rust_tree.specs.Text.{text}
 use Rattle.rust_tree.specs.Tree.{Tree}
+use Rattle.rust_tree.specs.WellNamed.{are_well_named}
+use Rattle.rust_gen.specs.Body.{IsWritten}
 use Rattle.rust_gen.specs.Bound.{Binds}
+use Rattle.rust_gen.specs.ExportBody.{ArePartsWritten}
 use Rattle.rust_gen.specs.Faithful.{AreFaithful}
+use Rattle.rust_gen.specs.Served.{Serves, asked_of, runtime_in}
 use Rattle.rust_gen.specs.Wrapper.{Wraps, WrapsParts}
 
 unfoldable pub rust_ending : Bytes
@@ -24,11 +28,23 @@ pub record Gains (old new : List Entry) (name bytes : Bytes) : Type 0 where
   pub gained : entry_of new name ≡ Some (unwrap_or (entry_of old name) [] ++ bytes)
   pub others : (other : Bytes) → other ≢ name → entry_of new other ≡ entry_of old other
 
--- the tree holds a wrapper for each function, which from outside has the signature and the core import or the method of its
--- function, and carries each call of it
+-- each wrapper is written as the format says: its locals and their numbers, its statements, and no declaration that nobody calls
+abbrev pub AreWritten : World → Tree → Type 0
+AreWritten world tree = Binds IsWritten ArePartsWritten world tree
+
+-- the tree is that of a world: it holds a wrapper for each function, which from outside has the signature and the core import or the
+-- method of its function, is written as the format says, and carries each call of it; `_rt` holds what these ask for; and each name
+-- is an identifier
+pub record IsTreeOf (world : World) (tree : Tree) : Type 0 where
+  pub bound : Binds Wraps WrapsParts world tree
+  pub written : AreWritten world tree
+  pub runtime : Serves (asked_of world) (runtime_in tree.items)
+  pub faithful : AreFaithful world tree
+  pub well_named : are_well_named tree.options tree.items ≡ true
+
+-- the tree is that of the world of this id, and its text is in the file of the world's name
 pub record Generates (resolve : Resolve) (id : WorldId) (old new : List Entry) (tree : Tree) : Type 0 where
   pub world : World
   pub named : slice_get resolve.worlds id.0 ≡ Some world
-  pub bound : Binds Wraps WrapsParts world tree
-  pub faithful : AreFaithful world tree
+  pub tree_of : IsTreeOf world tree
   pub gains : Gains old new (file_name world) (text tree)

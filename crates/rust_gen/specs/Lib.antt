@@ -8,13 +8,17 @@ pub mod Docs
 pub mod Emitted
 pub mod ExportBody
 pub mod ExportLifting
+pub mod ExportKey
 pub mod Exported
 pub mod Faithful
 pub mod Generated
 pub mod LackText
 pub mod Lowering
 pub mod NameText
+pub mod OwnershipText
 pub mod Printed
 pub mod Runtime
 pub mod Scope
+pub mod Served
+pub mod WithText
 pub mod Wrapper

@@ -1,6 +1,8 @@
-ghost use Rattle.std.specs.Prelude.{◌≡◌};
+ghost use Rattle.std.specs.Prelude.{◌≡◌, IfOk};
 ghost use Rattle.rust_gen.specs.LackText.{lack_text};
 
+use std::alloc::Global;
+use std::error::Error;
 use std::fmt;
 use wit_model::{List, OutOfMemory, Rule, Table, Text, TypeId};
 
@@ -61,6 +63,30 @@ impl fmt::Display for Lack {
 /// The key of an imported interface that no option maps.
 #[derive(Debug, PartialEq, Drop)]
 pub struct MissingWith(pub Text);
+
+impl MissingWith {
+    /// An equal error.
+    pub fn copy(&self, alloc: Global) -> Result<MissingWith, OutOfMemory>
+        ensures { IfOk result (λ missing. missing ≡ self.now) }
+    {
+        Ok(MissingWith(self.0.copy(alloc)?))
+    }
+}
+
+impl fmt::Display for MissingWith {
+    ghost use Rattle.std.specs.Prelude.{Some};
+    ghost use Rattle.rust_gen.specs.WithText.{missing_with_text};
+
+    ghost output = { λ missing. Some (missing_with_text missing) };
+
+    fn fmt<W: fmt::Write>(&self, f: &mut fmt::Formatter<W>) -> fmt::Result {
+        f.write_str("missing `with` mapping for the key `")?;
+        f.write_str(self.0.as_str())?;
+        f.write_str("`")
+    }
+}
+
+impl Error for MissingWith {}
 
 /// What is too large to be built: a type of the table, or the function of that full name.
 #[derive(Debug, PartialEq, Drop)]

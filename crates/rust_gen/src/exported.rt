@@ -2,9 +2,8 @@
 
 ghost use Rattle.std.specs.Prelude.{◌≡◌, ◌++◌, ◌+◌, IfOk, OnOk, map};
 ghost use Rattle.std.specs.List.{flat_map};
-ghost use Rattle.wrapper_run.specs.Returned.{post_return_name};
 ghost use Rattle.rust_gen.specs.Emitted.{exported_functions};
-ghost use Rattle.rust_gen.specs.Exported.{area_of, arg_name, core_args, entries_of, export_entry, export_params, export_result, file_macro, guest_name, guest_trait, last_macro, macro_name, return_entry, return_params, trait_and_macro, trait_fn, trait_param, world_macro};
+ghost use Rattle.rust_gen.specs.Exported.{area_of, arg_name, core_args, entries_of, export_entry, export_params, export_result, file_macro, guest_name, guest_trait, last_macro, macro_name, post_return_name, return_entry, return_params, trait_and_macro, trait_fn, trait_param, world_macro};
 
 use crate::area::{any_needs_area, needs_area, static_area};
 use crate::core_signature::{core_type, param_words};
@@ -142,7 +141,7 @@ pub(crate) fn return_params(alloc: Global) -> Result<List<CoreParam>, OutOfMemor
 }
 
 /// The export name of a post-return function.
-#[tactic(auto, unfolding(wrapper_run::specs::Returned::post_return_name))]
+#[tactic(auto, unfolding(crate::specs::Exported::post_return_name))]
 fn post_return_name(alloc: Global, f: &Function) -> Result<Text, OutOfMemory>
     ensures { IfOk result (λ name. name ≡ post_return_name f.now) }
 {

@@ -1,10 +1,13 @@
-ghost use Rattle.std.specs.Prelude.{◌≡◌, IfOk, OnErr};
+ghost use Rattle.std.specs.Prelude.{◌≡◌, true, IfOk, OnErr};
 ghost use Rattle.rust_tree.specs.Text.{text};
+ghost use Rattle.rust_tree.specs.WellNamed.{are_well_named};
 ghost use Rattle.rust_gen.specs.Body.{IsWritten};
 ghost use Rattle.rust_gen.specs.Bound.{Binds};
 ghost use Rattle.rust_gen.specs.Cause.{IsAnswer, cause};
+ghost use Rattle.rust_gen.specs.DeclaredNames.{declares_well};
 ghost use Rattle.rust_gen.specs.ExportBody.{ArePartsWritten};
 ghost use Rattle.rust_gen.specs.Generated.{Gains, Generates, file_name};
+ghost use Rattle.rust_gen.specs.NameText.{is_written_world};
 
 use crate::accept::accepted_world;
 use crate::error::GenError;
@@ -57,7 +60,10 @@ fn push_file(files: &mut Files, name: &Text, content: &Text) -> Result<(), OutOf
 }
 
 fn write_file(alloc: Global, world: &World, files: &mut Files) -> Result<Bindings, OutOfMemory>
+    requires written { is_written_world world.now ≡ true }
+    requires declared { declares_well world.now ≡ true }
     ensures bound { IfOk result (Binds IsWritten ArePartsWritten world.now) }
+    ensures named { IfOk result (λ tree. are_well_named tree.options tree.items ≡ true) }
     ensures gains { IfOk result (λ tree. Gains files.old files.new (file_name world.now) (text tree)) }
     ensures err { OnErr result (files.new ≡ files.old) }
 {

@@ -1,5 +1,9 @@
+ghost use Rattle.std.specs.Prelude.{◌≡◌, IfOk};
+
+use crate::try_copy::TryCopy;
 use std::alloc::Global;
-use wit_model::{List, Text};
+use std::fmt;
+use wit_model::{List, OutOfMemory, Text};
 
 /// Whether printed types own what they hold or borrow it where they can.
 #[derive(Clone, Copy, Debug, PartialEq, Eq)]
@@ -11,6 +15,16 @@ pub enum Ownership {
     },
 }
 
+impl Default for Ownership {
+    ghost use Rattle.rust_gen.specs.declared.opts.Ownership.TheVariants.{Owning};
+
+    ghost is_default = { λ ownership. ownership ≡ Owning };
+
+    fn default() -> Ownership {
+        Ownership::Owning
+    }
+}
+
 /// What stands in for an imported interface or a type of one: a path outside the file, or generated code.
 #[derive(Debug, PartialEq, Drop)]
 pub enum WithOption {
@@ -18,11 +32,53 @@ pub enum WithOption {
     Generate,
 }
 
+impl WithOption {
+    /// An equal value.
+    pub fn copy(&self, alloc: Global) -> Result<WithOption, OutOfMemory>
+        ensures { IfOk result (λ option. option ≡ self.now) }
+    {
+        match self {
+            WithOption::Path(path) => Ok(WithOption::Path(path.copy(alloc)?)),
+            WithOption::Generate => Ok(WithOption::Generate),
+        }
+    }
+}
+
+impl TryCopy for WithOption {
+    fn try_copy(&self, alloc: Global) -> Result<WithOption, OutOfMemory> {
+        self.copy(alloc)
+    }
+}
+
+impl fmt::Display for WithOption {
+    ghost use Rattle.std.specs.Prelude.{Some};
+    ghost use Rattle.rust_gen.specs.WithText.{with_text};
+
+    ghost output = { λ option. Some (with_text option) };
+
+    fn fmt<W: fmt::Write>(&self, f: &mut fmt::Formatter<W>) -> fmt::Result {
+        match self {
+            WithOption::Path(path) => {
+                f.write_str("\"")?;
+                f.write_str(path.as_str())?;
+                f.write_str("\"")
+            }
+            WithOption::Generate => f.write_str("generate"),
+        }
+    }
+}
+
 /// How a method without a result answers its `self`, so that calls chain.
 #[derive(Clone, Copy, Debug, PartialEq, Eq)]
 pub enum ChainingMode {
     Owning,
     Borrowing,
+}
+
+impl TryCopy for ChainingMode {
+    fn try_copy(&self, _alloc: Global) -> Result<ChainingMode, OutOfMemory> {
+        Ok(*self)
+    }
 }
 
 /// The options of the generator.
@@ -72,7 +128,6 @@ pub struct Opts {
 }
 
 impl Opts {
-    ghost use Rattle.std.specs.Prelude.{◌≡◌};
     ghost use Rattle.rust_gen.specs.Default.{default_opts};
 
     /// Every flag off, every list empty, every value absent, and owning types. It takes no memory.
@@ -102,5 +157,34 @@ impl Opts {
             merge_structurally_equal_types: None,
             chainable_methods: List::new(alloc),
         }
+    }
+
+    /// Equal options.
+    pub fn copy(&self, alloc: Global) -> Result<Opts, OutOfMemory>
+        ensures { IfOk result (λ opts. opts ≡ self.now) }
+    {
+        Ok(Opts {
+            std_feature: self.std_feature,
+            raw_strings: self.raw_strings,
+            stubs: self.stubs,
+            generate_all: self.generate_all,
+            pub_export_macro: self.pub_export_macro,
+            generate_unused_types: self.generate_unused_types,
+            skip: self.skip.try_copy(alloc)?,
+            additional_derive_ignore: self.additional_derive_ignore.try_copy(alloc)?,
+            export_prefix: self.export_prefix.try_copy(alloc)?,
+            ownership: self.ownership,
+            runtime_path: self.runtime_path.try_copy(alloc)?,
+            map_type: self.map_type.try_copy(alloc)?,
+            bitflags_path: self.bitflags_path.try_copy(alloc)?,
+            default_bindings_module: self.default_bindings_module.try_copy(alloc)?,
+            additional_derive_attributes: self.additional_derive_attributes.try_copy(alloc)?,
+            additional_type_attributes: self.additional_type_attributes.try_copy(alloc)?,
+            additional_member_attributes: self.additional_member_attributes.try_copy(alloc)?,
+            with: self.with.try_copy(alloc)?,
+            export_macro_name: self.export_macro_name.try_copy(alloc)?,
+            merge_structurally_equal_types: self.merge_structurally_equal_types,
+            chainable_methods: self.chainable_methods.try_copy(alloc)?,
+        })
     }
 }

@@ -1,13 +1,16 @@
 //! The tree of a world's file.
 
-ghost use Rattle.std.specs.Prelude.{◌≡◌, ◌++◌, List, IfOk, OnOk, map};
+ghost use Rattle.std.specs.Prelude.{◌≡◌, ◌++◌, true, List, IfOk, OnOk, map};
 ghost use Rattle.std.specs.List.{AllZip, flat_map};
 ghost use Rattle.rust_tree.specs.declared.item.FnItem.{FnItem};
 ghost use Rattle.rust_tree.specs.declared.item.Item.TheVariants as item;
+ghost use Rattle.rust_tree.specs.WellNamed.{are_well_named};
 ghost use Rattle.rust_gen.specs.Body.{IsWritten};
 ghost use Rattle.rust_gen.specs.Bound.{AreItems, Binds, Parts, export_items};
+ghost use Rattle.rust_gen.specs.DeclaredNames.{declares_well};
 ghost use Rattle.rust_gen.specs.Emitted.{emitted_places};
 ghost use Rattle.rust_gen.specs.ExportBody.{ArePartsWritten};
+ghost use Rattle.rust_gen.specs.NameText.{is_written_world};
 ghost use Rattle.rust_gen.specs.Runtime.{items_for, runtime_module};
 
 use crate::emitted::{functions_in, places_in};
@@ -114,7 +117,10 @@ fn world_places(alloc: Global, world: &World) -> Result<List<FuncPlace>, OutOfMe
 
 /// The tree of a world of functions over scalars and texts, with the options at their defaults.
 pub(crate) fn bindings_of(alloc: Global, world: &World) -> Result<Bindings, OutOfMemory>
-    ensures { IfOk result (Binds IsWritten ArePartsWritten world.now) }
+    requires written { is_written_world world.now ≡ true }
+    requires declared { declares_well world.now ≡ true }
+    ensures bound { IfOk result (Binds IsWritten ArePartsWritten world.now) }
+    ensures named { IfOk result (λ tree. are_well_named tree.options tree.items ≡ true) }
 {
     let items = world_items(alloc, world)?;
     let places = world_places(alloc, world)?;

@@ -56,7 +56,7 @@ keep_place p = λ s. Done p.0 (record s { place = Some p.0 })
 abbrev pub pointer_to : ℕ → Act Val
 pointer_to address = pure (val.Word (word.Pointer address))
 
-eval-static : (w : Setting) → eval w expr.StaticPointer ≡ static_pointer w
+pub eval-static : (w : Setting) → eval w expr.StaticPointer ≡ static_pointer w
 eval-static w = search (rules, the_lemmas)
 
 -- the area is placed where its pointer was not yet taken
@@ -68,7 +68,7 @@ static_gives w a s h k =
 
 -- its bytes as a box
 
-eval-boxed : (w : Setting) (name : Bytes) → eval w (expr.IntoBoxedBytes name) ≡ (use_local (stuck w) name >>= boxed w)
+pub eval-boxed : (w : Setting) (name : Bytes) → eval w (expr.IntoBoxedBytes name) ≡ (use_local (stuck w) name >>= boxed w)
 eval-boxed w name = search (rules, the_lemmas)
 
 pub boxes : (w : Setting) (name : Bytes) (p n : ℕ) (s : State) → value_of (local_named name s.locals) ≡ Some (val.Value (value.Buffer p n true))

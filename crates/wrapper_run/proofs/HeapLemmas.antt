@@ -1,5 +1,5 @@
 -- Where the blocks of a heap stand after new blocks, writes and removals.
-use Rattle.std.proofs.Common.{◌≡◌, ◌≤◌, ◌<◌, ℕ, ◌+◌, ◌-◌, ◌||◌, ◌&&◌, Bool, true, false, not, cond, List, [], ◌∷◌, ◌++◌, Option, None, Some, refl, sym, ap, ◌∙◌, arith}
+use Rattle.std.proofs.Common.{◌≡◌, ◌≤◌, ◌<◌, ℕ, ◌+◌, ◌-◌, ◌||◌, ◌&&◌, Bool, true, false, not, cond, List, [], ◌∷◌, ◌++◌, Option, None, Some, length, refl, sym, ap, ◌∙◌, arith}
 use Rattle.std.specs.Prelude.{nat_lt, find, option_and_then}
 use Rattle.std.specs.List.{list_any}
 use Rattle.std.specs.Option.{option_or}
@@ -10,7 +10,12 @@ use Rattle.wrapper_data.specs.declared.block.Block.{Block}
 use Rattle.wrapper_data.specs.Heap.{covers, is_block, overlaps, overlaps_any}
 use Rattle.wrapper_data.specs.Answered.{with_block, with_blocks, with_writes, written_block, written_byte}
 use Rattle.wrapper_run.specs.Memory.{block_at, bytes_at, bytes_from, holds, is_at, without}
+use Rattle.wit_model.specs.declared.types.WitType.{WitType}
+use Rattle.wrapper_data.specs.declared.heap.Heap.{Heap}
+use Rattle.wrapper_data.specs.declared.word.Word.{Word}
 use Rattle.wrapper_run.specs.Honest.{WritesIn}
+use Rattle.wrapper_run.specs.Represents.{LendsAll, LiesAt}
+use Rattle.wrapper_run.specs.Value.{WitValue, scalar, text}
 
 -- two blocks of one address and one size
 abbrev pub SamePlace : Block → Block → Type 0
@@ -154,3 +159,15 @@ bytes_stay hs ts address size bytes e =
         → option_and_then (λ (b : Block). bytes_from b.cells (address - b.address) size) (option_or o (find (holds address size) ts)) ≡ Some bytes
     go None f = absurd (cc)
     go (Some b) f = f
+
+lies_still : (heap : Heap) (more : List Block) (p : ℕ) (bytes : List ℕ) → LiesAt heap p bytes → LiesAt (record heap { blocks = heap.blocks ++ more }) p bytes
+lies_still heap more p [] h = tt
+lies_still heap more p (b ∷ bytes) h = bytes_stay heap.blocks more p (length (b ∷ bytes)) (b ∷ bytes) h
+
+-- words that represent values in a heap represent them in it with more blocks behind
+pub lends-behind : (heap : Heap) (more : List Block) (types : List WitType) (vs : List WitValue) (words : List Word) → LendsAll heap types vs words → LendsAll (record heap { blocks = heap.blocks ++ more }) types vs words
+lends-behind heap more [] [] words h = h
+lends-behind heap more [] (v ∷ vs) words h = absurd h
+lends-behind heap more (ty ∷ types) [] words h = absurd h
+lends-behind heap more (ty ∷ types) (scalar v ∷ vs) words (first, rest, is, here, behind) = (first, rest, is, here, lends-behind heap more types vs rest behind)
+lends-behind heap more (ty ∷ types) (text bytes ∷ vs) words (first, rest, is, (p, named, lies), behind) = (first, rest, is, (p, named, lies_still heap more p bytes lies), lends-behind heap more types vs rest behind)

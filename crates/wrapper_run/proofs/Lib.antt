@@ -8,6 +8,7 @@ pub mod MethodLemmas
 pub mod NumberLemmas
 pub mod OwningLemmas
 pub mod PlaceLemmas
+pub mod QuietSteps
 pub mod StepLemmas
 pub mod StoreLemmas
 pub mod TakeLemmas

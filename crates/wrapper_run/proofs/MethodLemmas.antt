@@ -5,6 +5,7 @@ use Rattle.std.specs.Option.{option_map}
 use Rattle.rust_tree.specs.declared.trait_item.TraitFn.{TraitFn}
 use Rattle.rust_tree.specs.declared.type_expr.TypeExpr.{TypeExpr}
 use Rattle.rust_tree.specs.declared.type_expr.TypeExpr.TheVariants as type
+use Rattle.wrapper_data.specs.declared.answer.Answer.{Answer}
 use Rattle.wrapper_data.specs.declared.answer.Answer.TheVariants as answer
 use Rattle.wrapper_data.specs.declared.heap.Heap.{Heap}
 use Rattle.wrapper_data.specs.declared.run.CallPoint.{CallPoint}
@@ -15,16 +16,17 @@ use Rattle.wrapper_run.specs.declared.state.Local.{Local}
 use Rattle.wrapper_run.specs.declared.state.State.{State}
 use Rattle.wrapper_run.specs.declared.state.Val.{Val}
 use Rattle.wrapper_run.specs.declared.state.Val.TheVariants as val
-use Rattle.wrapper_run.specs.Act.{Act, Done, ◌>>◌, and_then, or_stop}
+use Rattle.wrapper_run.specs.Act.{Act, Outcome, Done, Stopped, ◌>>◌, and_then, or_stop}
 use Rattle.wrapper_run.specs.Blocks.{drop_locals, keep_locals, leave_to}
 use Rattle.wrapper_run.specs.Effect.{answer_of}
-use Rattle.wrapper_run.specs.ExportRun.{call_method, method_answer, method_call, method_named, method_point, passed_as, returned_of, take_value, values_of}
+use Rattle.wrapper_run.specs.ExportRun.{call_method, ended_export, method_answer, method_call, method_named, method_point, passed_as, returned_of, take_value, values_of}
 use Rattle.wit_model.specs.Bytes.{Bytes}
 use Rattle.wrapper_run.specs.Owning.{listed, taken_by}
 use Rattle.wrapper_run.specs.Run.{bound, record_call}
 use Rattle.wrapper_run.specs.Setting.{Setting, stuck}
 use Rattle.wrapper_run.proofs.NumberLemmas.{answered-unit}
 use Rattle.wrapper_run.proofs.OwningLemmas.{ArePlain, drops_plain}
+use Rattle.wrapper_run.proofs.StepLemmas.{Quiet, calls_at, quiet_or_stop}
 
 -- a scope inside another
 
@@ -81,5 +83,23 @@ returned-unit = ap (option_map (λ r. val.Value value.Unit)) answered-unit
 pub passed : (ty : TypeExpr) (v : Val) (r : RustValue) → answer_of ty v ≡ Some (Some r) → passed_as ty v ≡ Some r
 passed ty v r e = ap (option_and_then (λ r. r)) e
 
+-- the machine may take a value for another
+pub returned-as : (ty : TypeExpr) (r held : RustValue) → answer_of ty (val.Value r) ≡ Some (Some held) → returned_of ty (Some r) ≡ Some (val.Value held)
+returned-as ty r held e = ap (option_map val.Value) (passed ty (val.Value r) held e)
+
 pub returned-value : (ty : TypeExpr) (r : RustValue) → answer_of ty (val.Value r) ≡ Some (Some r) → returned_of ty (Some r) ≡ Some (val.Value r)
 returned-value ty r e = ap (option_map val.Value) (passed ty (val.Value r) r e)
+
+-- to take an answer is no call, and the ended run shows the calls of an outcome
+
+quiet_answered : (w : Setting) (ty : TypeExpr) (a : Answer) → Quiet (method_answer w ty a)
+quiet_answered w ty (answer.Value v heap) = record { quiet = λ s. (quiet_or_stop (stuck w) (returned_of ty v)).quiet (record s { heap = heap; taken = taken_by (listed v) }) }
+quiet_answered w ty (answer.Words r writes blocks) = record { quiet = λ s. refl }
+
+pub quiet_taken : (w : Setting) (ty : TypeExpr) → Quiet (take_value w ty)
+unfolding take_value
+quiet_taken w ty = quiet_answered w ty w.answer
+
+pub ended-words : (o : Outcome (List Word)) → (ended_export o).calls ≡ calls_at o
+ended-words (Done words s) = refl
+ended-words (Stopped e s) = refl

@@ -45,7 +45,7 @@ use Rattle.wrapper_run.specs.declared.state.Val.{Val}
 use Rattle.wrapper_run.specs.declared.state.Val.TheVariants as val
 use Rattle.wrapper_run.specs.Act.{Act, Outcome, Done, Stopped, ◌>>=◌, ◌>>◌, all, and_then, or_stop, pure}
 use Rattle.wrapper_run.specs.Effect.{cast_integer, cast_to, converted, integer_of_word, is_word_of, lift_of, word_of_bool}
-use Rattle.wrapper_run.specs.Locals.{bind, lend_local, local_named, use_local, used, value_of}
+use Rattle.wrapper_run.specs.Locals.{bind, lend_local, local_named, usable, use_local, used, value_of}
 use Rattle.wit_model.specs.Bytes.{Bytes}
 use Rattle.wrapper_run.specs.Owning.{lent, owned, owned_in}
 use Rattle.wrapper_run.specs.Setting.{Setting, failed, stuck}
@@ -54,9 +54,17 @@ use Rattle.wrapper_run.specs.Run.{alone, of_runtime, call, call_callee, call_poi
 
 -- values
 
+-- an area owns its block
+plain-usable : (v : Val) → owned v ≡ None → usable v ≡ Some v
+plain-usable (val.Word x) o = refl
+plain-usable (val.Value r) o = refl
+plain-usable (val.Area address size) o = absurd (cc)
+
 pub uses : (e : Stop) (name : Bytes) (v : Val) (s : State) → value_of (local_named name s.locals) ≡ Some v → owned v ≡ None → use_local e name s ≡ Done v s
 unfolding use_local
-uses e name v s h o = ap (λ x. and_then (or_stop e x s) (λ v. used name v (owned v))) h ∙ ap (λ x. used name v x s) o
+uses e name v s h o =
+    ap (λ x. and_then (or_stop e (option_and_then usable x) s) (λ v. used name v (owned v))) h
+    ∙ ap (λ x. and_then (or_stop e x s) (λ v. used name v (owned v))) (plain-usable v o) ∙ ap (λ x. used name v x s) o
 
 pub lends : (e : Stop) (name : Bytes) (v u : Val) (s : State) → value_of (local_named name s.locals) ≡ Some v → lent v ≡ Some u → lend_local e name s ≡ Done u s
 unfolding lend_local
@@ -114,13 +122,13 @@ pub ask_gives : (e : Stop) (of : View) (name : Bytes) (v : Val) (x : Word) (s : 
 unfolding ask_local
 ask_gives e of name v x s h k = ap (λ o. or_stop e (option_map val.Word (option_and_then (view of) o)) s) h ∙ ap (λ o. or_stop e (option_map val.Word o) s) k
 
-eval-as_ptr : (w : Setting) (name : Bytes) → eval w (expr.AsPtr name) ≡ ask_local (stuck w) view_of.TextAddress name
+pub eval-as_ptr : (w : Setting) (name : Bytes) → eval w (expr.AsPtr name) ≡ ask_local (stuck w) view_of.TextAddress name
 eval-as_ptr w name = search (rules, the_lemmas)
 
-eval-len : (w : Setting) (name : Bytes) → eval w (expr.Len name) ≡ ask_local (stuck w) view_of.TextLength name
+pub eval-len : (w : Setting) (name : Bytes) → eval w (expr.Len name) ≡ ask_local (stuck w) view_of.TextLength name
 eval-len w name = search (rules, the_lemmas)
 
-eval-cast_mut : (w : Setting) (name : Bytes) → eval w (expr.CastMut name) ≡ ask_local (stuck w) view_of.Pointer name
+pub eval-cast_mut : (w : Setting) (name : Bytes) → eval w (expr.CastMut name) ≡ ask_local (stuck w) view_of.Pointer name
 eval-cast_mut w name = search (rules, the_lemmas)
 
 pub as_ptr_gives : (w : Setting) (name : Bytes) (p n : ℕ) (o : Bool) (s : State) → value_of (local_named name s.locals) ≡ Some (val.Value (value.Buffer p n o)) → eval w (expr.AsPtr name) s ≡ Done (val.Word (word.Pointer p)) s
@@ -210,7 +218,7 @@ quiet_used name v (Some b) = record { quiet = λ s. refl }
 pub quiet_use : (e : Stop) (name : Bytes) → Quiet (use_local e name)
 unfolding use_local
 quiet_use e name =
-    record { quiet = λ s. (quiet_then (or_stop e (value_of (local_named name s.locals))) (λ v. used name v (owned v)) (quiet_or_stop e (value_of (local_named name s.locals))) (λ v. quiet_used name v (owned v))).quiet s }
+    record { quiet = λ s. (quiet_then (or_stop e (option_and_then usable (value_of (local_named name s.locals)))) (λ v. used name v (owned v)) (quiet_or_stop e (option_and_then usable (value_of (local_named name s.locals)))) (λ v. quiet_used name v (owned v))).quiet s }
 
 pub quiet_bind : (name : Bytes) (v : Val) → Quiet (bind name v)
 unfolding bind
@@ -232,7 +240,7 @@ quiet_cast w name to =
     subst Quiet (sym (eval-cast w (expr.Local name) to))
     (quiet_then (eval w (expr.Local name)) (λ v. or_stop (stuck w) (cast_to to v)) (quiet_local w name) (λ v. quiet_or_stop (stuck w) (cast_to to v)))
 
-quiet_one : {A : Type 0} (act : Act A) → Quiet act → Quiet (all (act ∷ []))
+pub quiet_one : {A : Type 0} (act : Act A) → Quiet act → Quiet (all (act ∷ []))
 quiet_one act h = quiet_then act (λ x. pure [] >>= (λ xs. pure (x ∷ xs))) h (λ x. quiet_then (pure []) (λ xs. pure (x ∷ xs)) (quiet_pure []) (λ xs. quiet_pure (x ∷ xs)))
 
 quiet_lift_act : (w : Setting) (o : Option (Result RustValue TrapKind)) → Quiet (lift_act w o)

@@ -23,7 +23,7 @@ use Rattle.wrapper_run.specs.declared.state.Val.{Val}
 use Rattle.wrapper_run.specs.declared.state.Val.TheVariants as val
 use Rattle.wrapper_run.specs.Act.{Act, Done, ◌>>=◌, and_then, or_stop, pure, stop, Stopped}
 use Rattle.wrapper_run.specs.Blocks.{untaken, lift_buffer, lift_text, own, own_block, owned_bytes, owner_of, take_over, tested}
-use Rattle.wrapper_run.specs.Locals.{local_named, moved, use_local, used, value_of}
+use Rattle.wrapper_run.specs.Locals.{local_named, moved, usable, use_local, used, value_of}
 use Rattle.wit_model.specs.Bytes.{Bytes}
 use Rattle.wrapper_run.specs.Memory.{block_at, bytes_from, loaded}
 use Rattle.wrapper_run.specs.Owning.{block_of_buffer, is_taken, owned}
@@ -104,7 +104,7 @@ moves_last w name p n locals s e =
     let v : Val = val.Value (value.Buffer p (suc n) true) in
     let l : Local = record { name = name; value = Some v } in
     ap (λ act. act s) (eval-local w name)
-    ∙ ap (λ o. and_then (or_stop (stuck w) o s) (λ v. used name v (owned v))) (ap (λ ls. value_of (local_named name ls)) e ∙ reads-new name (Some v) locals)
+    ∙ ap (λ o. and_then (or_stop (stuck w) (option_and_then usable o) s) (λ v. used name v (owned v))) (ap (λ ls. value_of (local_named name ls)) e ∙ reads-new name (Some v) locals)
     ∙ ap (λ o. used name v o s) (owned-block p n)
     ∙ ap (λ ls. Done v (record s { locals = ls })) (ap (moved name) e ∙ moved_last name locals l (bytes_eq-same name))
 
@@ -134,9 +134,9 @@ pub uses_text : (w : Setting) (name : Bytes) (p n : ℕ) (s : State) → value_o
     → use_local (stuck w) name s ≡ Done (val.Value (value.Buffer p n true)) (record s { locals = after_use n name s.locals })
 unfolding use_local
 uses_text w name p zero s h =
-    ap (λ o. and_then (or_stop (stuck w) o s) (λ v. used name v (owned v))) h ∙ ap (λ o. used name (val.Value (value.Buffer p 0 true)) o s) (owned-empty p)
+    ap (λ o. and_then (or_stop (stuck w) (option_and_then usable o) s) (λ v. used name v (owned v))) h ∙ ap (λ o. used name (val.Value (value.Buffer p 0 true)) o s) (owned-empty p)
 uses_text w name p (suc n) s h =
-    ap (λ o. and_then (or_stop (stuck w) o s) (λ v. used name v (owned v))) h ∙ ap (λ o. used name (val.Value (value.Buffer p (suc n) true)) o s) (owned-block p n)
+    ap (λ o. and_then (or_stop (stuck w) (option_and_then usable o) s) (λ v. used name v (owned v))) h ∙ ap (λ o. used name (val.Value (value.Buffer p (suc n) true)) o s) (owned-block p n)
 
 pub use_last : (name : Bytes) (p n : ℕ) (locals : List Local) → after_use n name (locals ++ text_local name p n ∷ []) ≡ locals ++ used_local name p n ∷ []
 use_last name p zero locals = refl
@@ -266,6 +266,25 @@ unfolding take_answer
 words_give w writes blocks s h = ap (λ a. answer_act w None a s) h
 
 -- a text is what a function of that type answers
+
+-- an empty text is taken for one that owns its bytes, whatever its flag says
+pub answered-empty : (p : ℕ) (owns : Bool) → answer_of type.String (val.Value (value.Buffer p 0 owns)) ≡ Some (Some (value.Buffer p 0 true))
+unfolding answer_of
+answered-empty p owns =
+    let opened : out-TypeExpr type.String ≡ TypeExpr-F.String = search (rules, type_lemmas) in
+    let shown : out-RustValue (value.Buffer p 0 owns) ≡ RustValue-F.Buffer p 0 owns = search (rules, value_lemmas) in
+    ap (λ t. answer_as t (val.Value (value.Buffer p 0 owns))) opened ∙ ap (λ v. option_map Some (text_of_level v)) shown ∙ either owns
+  where
+    either : (b : Bool) → option_map Some (text_of_level (RustValue-F.Buffer p 0 b)) ≡ Some (Some (value.Buffer p 0 true))
+    either true = refl
+    either false = refl
+
+pub owned-none_of_empty : (p : ℕ) (owns : Bool) → owned (val.Value (value.Buffer p 0 owns)) ≡ None
+owned-none_of_empty p owns = ap (option_and_then block_of_buffer) (buffer-text p 0 owns) ∙ either owns
+  where
+    either : (b : Bool) → block_of_buffer (p, 0, b) ≡ None
+    either true = refl
+    either false = refl
 
 pub answered-text : (p n : ℕ) → answer_of type.String (val.Value (value.Buffer p n true)) ≡ Some (Some (value.Buffer p n true))
 unfolding answer_of

@@ -236,9 +236,10 @@ abbrev pub is_unit : Val → Bool
 is_unit (val.Value v) = is_unit_level (out-RustValue v)
 is_unit _ = false
 
--- a text that owns its bytes
+-- a text that owns its bytes; where it has none, its flag tells nothing
 abbrev pub text_of_level : RustValue-F RustValue → Option RustValue
 text_of_level (RustValue-F.Buffer address len true) = Some (value.Buffer address len true)
+text_of_level (RustValue-F.Buffer address zero false) = Some (value.Buffer address 0 true)
 text_of_level _ = None
 
 -- what a function of this printed type answers: no value for `()`

@@ -39,13 +39,18 @@ moved name (l ∷ locals) =
     if list_any (λ m. bytes_eq m.name name) locals then l ∷ moved name locals
     else (if bytes_eq l.name name then emptied l else l) ∷ locals
 
+-- an area is no value: code takes its pointer alone
+abbrev pub usable : Val → Option Val
+usable (val.Area address size) = None
+usable v = Some v
+
 -- the use of a value: one that owns a block is moved out of its local
 abbrev pub used : Bytes → Val → Option (ℕ × ℕ) → Act Val
 used name v None = pure v
 used name v (Some _) = λ s. Done v (record s { locals = moved name s.locals })
 
 unfoldable pub use_local : Stop → Bytes → Act Val
-use_local stuck name = λ s. (or_stop stuck (value_of (local_named name s.locals)) >>= (λ v. used name v (owned v))) s
+use_local stuck name = λ s. (or_stop stuck (option_and_then usable (value_of (local_named name s.locals))) >>= (λ v. used name v (owned v))) s
 
 -- a local's value behind a reference, and what a method tells of it: nothing is moved
 unfoldable pub lend_local : Stop → Bytes → Act Val

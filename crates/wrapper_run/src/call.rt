@@ -21,8 +21,8 @@ use std::mem;
 use wit_model::{List, OutOfMemory, Text, WasmType};
 use wrapper_data::{Answer, Block, CallPoint, Heap, RustValue, Target, TrapKind, Word};
 
-/// Whether a word is a core value of a type.
-fn is_word_of(ty: WasmType, w: Word) -> bool
+/// Whether a word is a core value of a type. A slot is one only once it is written.
+pub fn is_word_of(ty: WasmType, w: Word) -> bool
     ensures { result ≡ is_word_of ty w }
 {
     match (ty, w) {

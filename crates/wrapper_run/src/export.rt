@@ -7,7 +7,7 @@ ghost use Rattle.wrapper_run.specs.ExportRun as spec;
 ghost use Rattle.wrapper_run.specs.Setting.{setting};
 
 use crate::body::{run_block, run_stmts};
-use crate::call::word_of;
+use crate::call::{is_word_of, word_of};
 use crate::eval::eval_all;
 use crate::freeing::{drop_value, leave_to};
 use crate::locals::bind;
@@ -37,6 +37,36 @@ pub(crate) fn push_words(
             push_words(alloc, locals, params, words)
         }
         _ => Ok(()),
+    }
+}
+
+/// Whether words are those of core parameters, in number and kind. Others make the run of an export's wrapper, or of a
+/// post-return function, stuck.
+pub fn are_words_of(params: &[CoreParam], words: &[Word]) -> bool
+    ensures { result ≡ spec.are_words_of params.now words.now }
+{
+    match (params.split_first(), words.split_first()) {
+        (None, None) => true,
+        (Some((p, params)), Some((w, words))) => {
+            is_word_of(p.ty, *w) && are_words_of(params, words)
+        }
+        _ => false,
+    }
+}
+
+/// Goes on where the words are those of the core parameters.
+pub(crate) fn expect_words(
+    stuck: Stop,
+    state: &State,
+    params: &[CoreParam],
+    words: &[Word],
+) -> Result<(), Halt>
+    ensures { Runs (spec.expect_words stuck params.now words.now state.now) result state.now }
+{
+    if are_words_of(params, words) {
+        Ok(())
+    } else {
+        Err(Halt::Stopped(stuck))
     }
 }
 
@@ -165,9 +195,11 @@ fn run_export_fn(
     world: &World,
     state: &mut State,
     e: &ExportFn,
+    words: &[Word],
 ) -> Result<List<Word>, Halt>
-    ensures { Runs (spec.run_export_fn (setting world.now) e.now state.old) result state.new }
+    ensures { Runs (spec.run_export_fn (setting world.now) e.now words.now state.old) result state.new }
 {
+    expect_words(world.stuck(), state, e.params.as_slice(), words)?;
     let v = run_call(alloc, world, state, &e.bound, &e.call)?;
     keep_result(alloc, world, state, &e.call.result, v)?;
     run_to_words(alloc, world, state, e.result, &e.rest)
@@ -187,7 +219,7 @@ fn run_export_item(
         (λ run. run ≡ spec.run_export_item (setting world.now) e.now words.now heap.now choices.now) }
 {
     let mut state = start_export(alloc, e, words, heap, choices)?;
-    match run_export_fn(alloc, world, &mut state, e) {
+    match run_export_fn(alloc, world, &mut state, e, words.as_slice()) {
         Ok(given) => Ok(run_at(Stop::Done, given, None, state)),
         Err(Halt::Stopped(stop)) => Ok(run_at(stop, List::new(alloc), None, state)),
         Err(Halt::OutOfMemory) => Err(OutOfMemory),
@@ -210,8 +242,9 @@ fn export_nth(items: &[Item], nth: u32) -> Option<&ExportFn>
     None
 }
 
-/// An export wrapper, with the number of its item.
-pub(crate) fn export_at(tree: &Bindings, wrapper: WrapperId) -> Option<(u32, &ExportFn)>
+/// The wrapper of an exported function by its number in the tree, with the number of its item, or nothing where that is the
+/// number of no export's wrapper.
+pub fn export_at(tree: &Bindings, wrapper: WrapperId) -> Option<(u32, &ExportFn)>
     ensures { option_map (λ w. (w.0, w.1.now)) result ≡ spec.export_at tree.now wrapper.0 }
 {
     match (
@@ -223,15 +256,15 @@ pub(crate) fn export_at(tree: &Bindings, wrapper: WrapperId) -> Option<(u32, &Ex
     }
 }
 
-/// Runs the wrapper of an exported function: from these words of its core signature and this heap, with an allocator that
-/// answers by these choices and an implementation that answers thus. The wrapper must be an export's wrapper of the tree.
-/// Addresses, sizes and lengths are in bytes, and pointers have four of them; values cross as the Canonical ABI of the
-/// Component Model says.
+/// Runs the wrapper of an exported function: from these words and this heap, with an allocator that answers by these
+/// choices and an implementation that answers thus. The wrapper must be an export's wrapper of the tree, as [`export_at`]
+/// tells. Addresses, sizes and lengths are in bytes, and pointers have four of them; values cross as the Canonical ABI of
+/// the Component Model says.
 ///
 /// The run is the one that the definition gives. It ends Done, with the words of the core result; or BadChoice, where the
 /// first choice does not fit the static area, which is asked for when its pointer is taken and stays in the heap; or, in the
 /// debug form, with the Trap that names why the words stand for no value; or Stuck, with the number of the wrapper's item,
-/// where the code does what has no meaning. `OutOfMemory` is the machine's own want of memory.
+/// where the words are not those of its core parameters, in number and kind, or the code does what has no meaning. `OutOfMemory` is the machine's own want of memory.
 pub fn run_export(
     alloc: Global,
     tree: &Bindings,

@@ -22,9 +22,10 @@ mod state;
 mod store;
 mod views;
 
-pub use export::run_export;
+pub use call::is_word_of;
+pub use export::{are_words_of, export_at, run_export};
 pub use post_return::{has_post_return, run_post_return};
-pub use run::run_import;
+pub use run::{import_at, run_import};
 pub use state::{Local, State, Val};
 pub use wrapper_data::{
     Answer, Block, CallPoint, Choice, Choices, Form, Heap, Request, Run, RustValue, Stop, Target,

@@ -81,7 +81,7 @@ fn move_local(alloc: Global, state: &mut State, name: &Text) -> Result<(), OutOf
     Ok(())
 }
 
-/// The value of a local that is used: one that owns a block is moved.
+/// The value of a local that is used: one that owns a block is moved. A return area is no value.
 #[tactic(auto, unfolding(crate::specs::Locals::use_local))]
 pub(crate) fn use_local(
     alloc: Global,
@@ -92,7 +92,7 @@ pub(crate) fn use_local(
     ensures { Runs (spec.use_local stuck name.now state.old) result state.new }
 {
     let value = match value_named(state, name) {
-        None => return Err(Halt::Stopped(stuck)),
+        None | Some(Val::Area(_, _)) => return Err(Halt::Stopped(stuck)),
         Some(value) => value.copy(alloc)?,
     };
     if value.owned().is_some() {

@@ -2,10 +2,11 @@
 
 ghost use Rattle.std.specs.Prelude.{◌≡◌, IfOk, IsSome, Some, is_some, option_map};
 ghost use Rattle.std.specs.Option.{option_copied};
+ghost use Rattle.wrapper_run.specs.Act.{Runs};
 ghost use Rattle.wrapper_run.specs.PostReturn as spec;
 ghost use Rattle.wrapper_run.specs.Setting.{setting};
 
-use crate::export::{export_at, push_words, run_to_words};
+use crate::export::{expect_words, export_at, push_words, run_to_words};
 use crate::run::{begin, run_at};
 use crate::state::{Halt, State, World};
 use rust_tree::{Bindings, Item, PostReturnFn, WrapperId};
@@ -62,6 +63,20 @@ fn start_post_return(
     begin(alloc, locals, List::new(alloc), heap, &none)
 }
 
+/// Runs the body, where the words are those of the function's core parameters.
+fn run_post_return_fn(
+    alloc: Global,
+    world: &World,
+    state: &mut State,
+    p: &PostReturnFn,
+    words: &[Word],
+) -> Result<List<Word>, Halt>
+    ensures { Runs (spec.run_post_return_fn (setting world.now) p.now words.now state.old) result state.new }
+{
+    expect_words(world.stuck(), state, p.params.as_slice(), words)?;
+    run_to_words(alloc, world, state, None, &p.body)
+}
+
 #[tactic(auto, unfolding(crate::specs::PostReturn::run_post_return_item))]
 fn run_post_return_item(
     alloc: Global,
@@ -73,7 +88,7 @@ fn run_post_return_item(
     ensures { IfOk result (λ run. run ≡ spec.run_post_return_item (setting world.now) p.now words.now heap.now) }
 {
     let mut state = start_post_return(alloc, p, words, heap)?;
-    match run_to_words(alloc, world, &mut state, None, &p.body) {
+    match run_post_return_fn(alloc, world, &mut state, p, words.as_slice()) {
         Ok(given) => Ok(run_at(Stop::Done, given, None, state)),
         Err(Halt::Stopped(stop)) => Ok(run_at(stop, List::new(alloc), None, state)),
         Err(Halt::OutOfMemory) => Err(OutOfMemory),
@@ -86,8 +101,8 @@ fn run_post_return_item(
 /// when a caller calls it.
 ///
 /// The run is the one that the definition gives. It ends Done; or, in the debug form, with the Trap that names why the words
-/// stand for no result; or Stuck, with the number of the wrapper's item, where the code does what has no meaning. It makes no
-/// call and no request. `OutOfMemory` is the machine's own want of memory.
+/// stand for no result; or Stuck, with the number of the wrapper's item, where the words are not those of the function's core
+/// parameters, in number and kind, or the code does what has no meaning. It makes no call and no request. `OutOfMemory` is the machine's own want of memory.
 pub fn run_post_return(
     alloc: Global,
     tree: &Bindings,

@@ -72,7 +72,7 @@ fn value_as(p: Primitive, v: &Val) -> Option<RustValue>
     }
 }
 
-/// A text that owns its bytes.
+/// A text that owns its bytes. Where it has none, its flag tells nothing.
 fn text_of(v: &Val) -> Option<RustValue>
     ensures { result ≡ spec.seen_as spec.text_of_level v.now }
 {
@@ -81,9 +81,9 @@ fn text_of(v: &Val) -> Option<RustValue>
             RustValue::Buffer {
                 address,
                 len,
-                owned: true,
+                owned,
             },
-        ) => Some(RustValue::Buffer {
+        ) if *owned || *len == 0 => Some(RustValue::Buffer {
             address: *address,
             len: *len,
             owned: true,

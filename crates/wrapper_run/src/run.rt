@@ -171,8 +171,9 @@ pub(crate) fn item_number(tree: &Bindings, wrapper: WrapperId) -> Option<u32>
     }
 }
 
-/// An import wrapper, with the number of its item.
-fn import_at(tree: &Bindings, wrapper: WrapperId) -> Option<(u32, &FnItem)>
+/// The wrapper of an imported function by its number in the tree, with the number of its item, or nothing where that is the
+/// number of no import's wrapper.
+pub fn import_at(tree: &Bindings, wrapper: WrapperId) -> Option<(u32, &FnItem)>
     ensures { option_map (λ w. (w.0, w.1.now)) result ≡ spec.import_at tree.now wrapper.0 }
 {
     match (
@@ -185,8 +186,9 @@ fn import_at(tree: &Bindings, wrapper: WrapperId) -> Option<(u32, &FnItem)>
 }
 
 /// Runs the wrapper of an imported function: from these arguments and this heap, with an allocator that answers by these
-/// choices and a peer that answers thus. The wrapper must be an import's wrapper of the tree. Addresses, sizes and lengths are
-/// in bytes, and pointers have four of them; values cross as the Canonical ABI of the Component Model says.
+/// choices and a peer that answers thus. The wrapper must be an import's wrapper of the tree, as [`import_at`] tells.
+/// Addresses, sizes and lengths are in bytes, and pointers have four of them; values cross as the Canonical ABI of the
+/// Component Model says.
 ///
 /// The run is the one that the definition gives. It ends Done; or BadChoice, where a choice does not fit a return area; or, in
 /// the debug form, with the Trap that names why incoming data stands for no value; or Stuck, with the number of the wrapper's

@@ -23,3 +23,6 @@ mod texts;
 mod tree;
 #[cfg(test)]
 mod turns;
+mod wrong;
+
+pub use wrong::{refuses_a_forgotten_area, refuses_another_word};

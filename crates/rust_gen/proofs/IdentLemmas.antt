@@ -1,0 +1,257 @@
+-- Which printed texts are identifiers: names with numbers, and the fixed names; and which may be quoted, or are lines.
+use Rattle.std.proofs.Common.{◌≡◌, ℕ, zero, suc, ◌-◌, ◌/◌, ◌%◌, Bool, true, false, not, ◌&&◌, ◌||◌, List, [], ◌∷◌, ◌++◌, length, take, Option, None, Some, refl, sym, ap, ◌∙◌, arith, eqb, get_or, inl, inr}
+use Rattle.std.specs.Prelude.{◌==◌, codes, decimal}
+use Rattle.std.specs.Char.{is_ascii_digit}
+use Rattle.std.specs.Fmt.{digit_glyph, digits, digits_onto}
+use Rattle.std.specs.List.{list_all, list_any, onto_first, slice_split}
+use Rattle.std.specs.Str.{bytes_eq, trim}
+use Rattle.std.specs.Str.Lines.{lines_of_parts, strip_carriage_return}
+use Rattle.std.proofs.lemmas.Bool.{agree_below_at, and_from, and_parts, both_ways, cond_both, eqb-true, false_from_ne_true, not-true, not_from_false, or_from, or_left, or_right}
+use Rattle.std.proofs.lemmas.List.Folds.{list_all-append}
+use Rattle.std.proofs.lemmas.Slice.Eq.{bytes_eq-Decides}
+use Rattle.wit_model.specs.Bytes.{Bytes}
+use Rattle.wit_model.specs.declared.function.Function.{Function}
+use Rattle.wit_model.specs.declared.name.Docs.{Docs}
+use Rattle.rust_tree.specs.declared.runtime_item.RuntimeItem.{RuntimeItem}
+use Rattle.rust_tree.specs.declared.runtime_item.RuntimeItem.TheVariants as part
+use Rattle.rust_tree.specs.Ident.{escaped_words, has_ident_form, is_escaped, is_ident, may_begin, may_follow}
+use Rattle.rust_tree.specs.Runtime.{item_name}
+use Rattle.rust_tree.specs.WellNamed.{are_path_names, is_ident_part, is_line, is_quotable}
+use Rattle.rust_gen.specs.declared.scope.LocalKind.{LocalKind}
+use Rattle.rust_gen.specs.declared.scope.LocalKind.TheVariants as kind
+use Rattle.rust_gen.specs.Body.{root_module, runtime_name}
+use Rattle.rust_gen.specs.Docs.{comment_lines, doc_lines}
+use Rattle.rust_gen.specs.ExportBody.{forget_names}
+use Rattle.rust_gen.specs.Exported.{arg_name, arg_prefix, guest_name, post_return_name}
+use Rattle.rust_gen.specs.NameText.{is_name_char, is_nonempty, is_wit_form}
+use Rattle.rust_gen.specs.Scope.{IsFixedName, numbered, prefix_of, ret_area}
+
+-- numbers
+
+abbrev has_digit : Bytes → Bool
+has_digit t = list_any is_ascii_digit t
+
+digit-last : (n : ℕ) → is_ascii_digit (digit_glyph false (n % 10)) ≡ true
+digit-last n = agree_below_at (λ d. is_ascii_digit (digit_glyph false d)) (λ _. true) 10 (n % 10) refl (omega arith)
+
+digits-follow : (k n : ℕ) (acc : Bytes) → list_all may_follow acc ≡ true → list_all may_follow (digits_onto k 10 false n acc) ≡ true
+digits-follow zero n acc h = h
+digits-follow (suc k) n acc h =
+    cond_both (eqb (n / 10) 0) (digit_glyph false (n % 10) ∷ acc) (digits_onto k 10 false (n / 10) (digit_glyph false (n % 10) ∷ acc)) (λ ds. list_all may_follow ds ≡ true)
+    (λ _. more) (λ _. digits-follow k (n / 10) (digit_glyph false (n % 10) ∷ acc) more)
+  where
+    more : list_all may_follow (digit_glyph false (n % 10) ∷ acc) ≡ true
+    more = and_from (may_follow (digit_glyph false (n % 10))) (list_all may_follow acc) (or_right (may_begin (digit_glyph false (n % 10))) (is_ascii_digit (digit_glyph false (n % 10))) (digit-last n)) h
+
+digits-kept : (k n : ℕ) (acc : Bytes) → has_digit acc ≡ true → has_digit (digits_onto k 10 false n acc) ≡ true
+digits-kept zero n acc h = h
+digits-kept (suc k) n acc h =
+    let more : has_digit (digit_glyph false (n % 10) ∷ acc) ≡ true = or_right (is_ascii_digit (digit_glyph false (n % 10))) (has_digit acc) h in
+    cond_both (eqb (n / 10) 0) (digit_glyph false (n % 10) ∷ acc) (digits_onto k 10 false (n / 10) (digit_glyph false (n % 10) ∷ acc)) (λ ds. has_digit ds ≡ true)
+    (λ _. more) (λ _. digits-kept k (n / 10) (digit_glyph false (n % 10) ∷ acc) more)
+
+digits-some : (k n : ℕ) (acc : Bytes) → has_digit (digits_onto (suc k) 10 false n acc) ≡ true
+digits-some k n acc =
+    let more : has_digit (digit_glyph false (n % 10) ∷ acc) ≡ true = or_left (is_ascii_digit (digit_glyph false (n % 10))) (has_digit acc) (digit-last n) in
+    cond_both (eqb (n / 10) 0) (digit_glyph false (n % 10) ∷ acc) (digits_onto k 10 false (n / 10) (digit_glyph false (n % 10) ∷ acc)) (λ ds. has_digit ds ≡ true)
+    (λ _. more) (λ _. digits-kept k (n / 10) (digit_glyph false (n % 10) ∷ acc) more)
+
+decimal-follows : (n : ℕ) → list_all may_follow (decimal n) ≡ true
+unfolding digits
+decimal-follows n = digits-follow 64 n [] refl
+
+decimal-some : (n : ℕ) → has_digit (decimal n) ≡ true
+unfolding digits
+decimal-some n = digits-some 63 n []
+
+-- a text with a digit is none of the words
+
+unlike : (a b : Bytes) → (a ≡ b → ⊥) → bytes_eq a b ≡ false
+unlike a b n = false_from_ne_true (bytes_eq a b) (λ e. n ((bytes_eq-Decides a b).0 e))
+
+digits-differ : (a b : Bytes) → has_digit a ≡ false → has_digit b ≡ true → a ≡ b → ⊥
+digits-differ a b none some e = both_ways (has_digit b) (ap has_digit (sym e) ∙ none) some
+
+no-word : (words : List Bytes) (t : Bytes) → list_all (λ w. not (has_digit w)) words ≡ true → has_digit t ≡ true → list_any (λ w. bytes_eq w t) words ≡ false
+no-word [] t plain some = refl
+no-word (w ∷ words) t plain some =
+    let parts = and_parts (not (has_digit w)) (list_all (λ w. not (has_digit w)) words) plain in
+    or_from (bytes_eq w t) (list_any (λ w. bytes_eq w t) words) (unlike w t (digits-differ w t (not-true (has_digit w) parts.0) some)) (no-word words t parts.1 some)
+
+words-plain : list_all (λ w. not (has_digit w)) escaped_words ≡ true
+unfolding escaped_words
+words-plain = refl
+
+any-right : (xs ys : Bytes) → has_digit ys ≡ true → has_digit (xs ++ ys) ≡ true
+any-right [] ys h = h
+any-right (x ∷ xs) ys h = or_right (is_ascii_digit x) (has_digit (xs ++ ys)) (any-right xs ys h)
+
+form-append : (base ds : Bytes) → has_ident_form base ≡ true → list_all may_follow ds ≡ true → has_ident_form (base ++ ds) ≡ true
+form-append [] ds h f = absurd (cc)
+form-append (c ∷ cs) ds h f =
+    let parts = and_parts (may_begin c) (list_all may_follow cs) h in
+    and_from (may_begin c) (list_all may_follow (cs ++ ds)) parts.0 (list_all-append may_follow cs ds ∙ and_from (list_all may_follow cs) (list_all may_follow ds) parts.1 f)
+
+-- a text with a number behind it
+numbered_ident : (base : Bytes) (n : ℕ) → has_ident_form base ≡ true → is_ident (base ++ decimal n) ≡ true
+numbered_ident base n form =
+    let t : Bytes = base ++ decimal n in
+    let some : has_digit t ≡ true = any-right base (decimal n) (decimal-some n) in
+    let fits : has_ident_form t ≡ true = form-append base (decimal n) form (decimal-follows n) in
+    let word : not (is_escaped t) ≡ true = not_from_false (is_escaped t) (no-word escaped_words t words-plain some) in
+    let under : not (bytes_eq t (codes "_")) ≡ true = not_from_false (bytes_eq t (codes "_")) (unlike t (codes "_") (λ e. digits-differ (codes "_") t refl some (sym e))) in
+    let own : not (bytes_eq t (codes "Self")) ≡ true = not_from_false (bytes_eq t (codes "Self")) (unlike t (codes "Self") (λ e. digits-differ (codes "Self") t refl some (sym e))) in
+    and_from (has_ident_form t && not (is_escaped t) && not (bytes_eq t (codes "_"))) (not (bytes_eq t (codes "Self")))
+    (and_from (has_ident_form t && not (is_escaped t)) (not (bytes_eq t (codes "_"))) (and_from (has_ident_form t) (not (is_escaped t)) fits word) under) own
+
+prefix-form : (k : LocalKind) → has_ident_form (prefix_of k) ≡ true
+unfolding prefix_of
+prefix-form kind.Import = refl
+prefix-form kind.Returned = refl
+prefix-form kind.Bool = refl
+prefix-form kind.Vec = refl
+prefix-form kind.Pointer = refl
+prefix-form kind.Length = refl
+prefix-form kind.Loaded = refl
+prefix-form kind.Bytes = refl
+prefix-form kind.Text = refl
+prefix-form kind.Char = refl
+prefix-form kind.Result = refl
+
+pub local_ident : (k : LocalKind) (n : ℕ) → is_ident (numbered k n) ≡ true
+local_ident k n = numbered_ident (prefix_of k) n (prefix-form k)
+
+arg-form : has_ident_form arg_prefix ≡ true
+unfolding arg_prefix
+arg-form = refl
+
+pub arg_ident : (n : ℕ) → is_ident (arg_name n) ≡ true
+arg_ident n = numbered_ident arg_prefix n arg-form
+
+-- fixed names
+
+area-form : has_ident_form ret_area ≡ true
+unfolding ret_area
+area-form = refl
+
+area-plain : is_ident ret_area ≡ true
+unfolding ret_area escaped_words
+area-plain = refl
+
+pub area_ident : (params : List Bytes) (name : Bytes) → IsFixedName params ret_area name → is_ident name ≡ true
+area_ident params name h =
+    elim h [ inl e ↦ ap is_ident e.1 ∙ area-plain | inr r ↦ ap is_ident r.is ∙ numbered_ident ret_area r.number area-form ]
+
+pub guest_ident : is_ident guest_name ≡ true
+unfolding guest_name escaped_words
+guest_ident = refl
+
+runtime-ident : is_ident runtime_name ≡ true
+unfolding runtime_name escaped_words
+runtime-ident = refl
+
+item-ident : (i : RuntimeItem) → is_ident (item_name i) ≡ true
+unfolding item_name escaped_words
+item-ident part.AsI32 = refl
+item-ident part.AsI64 = refl
+item-ident part.AsF32 = refl
+item-ident part.AsF64 = refl
+item-ident part.AllocCrate = refl
+item-ident part.StringType = refl
+item-ident part.VecType = refl
+item-ident part.BoolLift = refl
+item-ident part.CharLift = refl
+item-ident part.StringLift = refl
+item-ident part.StdAllocModule = refl
+item-ident part.CabiDealloc = refl
+
+-- paths
+
+path_from : (first : Bytes) (names : List Bytes) → is_ident first ≡ true → list_all is_ident names ≡ true → are_path_names (first ∷ names) ≡ true
+path_from first names h more =
+    and_from (is_ident first || bytes_eq first (codes "crate") || bytes_eq first (codes "self")) (list_all is_ident names)
+    (or_left (is_ident first || bytes_eq first (codes "crate")) (bytes_eq first (codes "self")) (or_left (is_ident first) (bytes_eq first (codes "crate")) h)) more
+
+pub local_path-named : (name : Bytes) → is_ident name ≡ true → are_path_names (name ∷ []) ≡ true
+local_path-named name h = path_from name [] h refl
+
+pub runtime_path-named : (i : RuntimeItem) → are_path_names (runtime_name ∷ item_name i ∷ []) ≡ true
+runtime_path-named i = path_from runtime_name (item_name i ∷ []) runtime-ident (and_from (is_ident (item_name i)) true (item-ident i) refl)
+
+pub forget_path-named : are_path_names forget_names ≡ true
+unfolding forget_names escaped_words
+forget_path-named = refl
+
+-- parts of identifiers
+
+follows : (t : Bytes) → has_ident_form t ≡ true → list_all may_follow t ≡ true
+follows [] h = absurd (cc)
+follows (c ∷ cs) h =
+    let parts = and_parts (may_begin c) (list_all may_follow cs) h in
+    and_from (may_follow c) (list_all may_follow cs) (or_left (may_begin c) _ parts.0) parts.1
+
+pub part_of : (front name behind : Bytes) → is_ident (front ++ name ++ behind) ≡ true → is_ident_part name ≡ true
+part_of front name behind h =
+    let t : Bytes = front ++ name ++ behind in
+    let form = (and_parts (has_ident_form t) (not (is_escaped t)) (and_parts _ (not (bytes_eq t (codes "_"))) (and_parts _ (not (bytes_eq t (codes "Self"))) h).0).0).0 in
+    let all = follows t form in
+    let parts = and_parts (list_all may_follow (front ++ name)) (list_all may_follow behind) (sym (list_all-append may_follow (front ++ name) behind) ∙ all) in
+    (and_parts (list_all may_follow front) (list_all may_follow name) (sym (list_all-append may_follow front name) ∙ parts.0)).1
+
+-- quoted texts
+
+pub root-quotable : is_quotable root_module ≡ true
+unfolding root_module
+root-quotable = refl
+
+char-quotable : (c : ℕ) → is_name_char c ≡ true → not ((c == 34) || (c == 92) || (c == 10)) ≡ true
+char-quotable c h = not_from_false ((c == 34) || (c == 92) || (c == 10)) (or_from ((c == 34) || (c == 92)) (c == 10) (or_from (c == 34) (c == 92) (none 34 refl) (none 92 refl)) (none 10 refl))
+  where
+    none : (n : ℕ) → is_name_char n ≡ false → (c == n) ≡ false
+    none n out = false_from_ne_true (c == n) (λ e. both_ways (is_name_char c) (ap is_name_char (eqb-true c n e) ∙ out) h)
+
+pub wit-quotable : (t : Bytes) → is_wit_form t ≡ true → is_quotable t ≡ true
+wit-quotable t h = go t (and_parts (is_nonempty t) (list_all is_name_char t) h).1
+  where
+    go : (t : Bytes) → list_all is_name_char t ≡ true → is_quotable t ≡ true
+    go [] h = refl
+    go (c ∷ cs) h = let parts = and_parts (is_name_char c) (list_all is_name_char cs) h in and_from (not ((c == 34) || (c == 92) || (c == 10))) (is_quotable cs) (char-quotable c parts.0) (go cs parts.1)
+
+pub return-quotable : (f : Function) → is_quotable f.name.wit ≡ true → is_quotable (post_return_name f) ≡ true
+unfolding post_return_name
+return-quotable f h = h
+
+-- doc lines
+
+strip-line : (n : ℕ) (t : Bytes) → is_line t ≡ true → is_line (take n t) ≡ true
+strip-line zero t h = refl
+strip-line (suc n) [] h = refl
+strip-line (suc n) (c ∷ cs) h = let parts = and_parts (not (c == 10)) (is_line cs) h in and_from (not (c == 10)) (is_line (take n cs)) parts.0 (strip-line n cs parts.1)
+
+onto-lines : (c : ℕ) (parts : List Bytes) → (c == 10) ≡ false → list_all is_line parts ≡ true → list_all is_line (onto_first c parts) ≡ true
+onto-lines c [] e h = and_from (not (c == 10) && true) true (and_from (not (c == 10)) true (not_from_false (c == 10) e) refl) refl
+onto-lines c (part ∷ parts) e h =
+    let both = and_parts (is_line part) (list_all is_line parts) h in
+    and_from (not (c == 10) && is_line part) (list_all is_line parts) (and_from (not (c == 10)) (is_line part) (not_from_false (c == 10) e) both.0) both.1
+
+split-lines : (t : Bytes) → list_all is_line (slice_split (λ b. b == 10) t) ≡ true
+split-lines [] = refl
+split-lines (c ∷ cs) =
+    cond_both (c == 10) ([] ∷ slice_split (λ b. b == 10) cs) (onto_first c (slice_split (λ b. b == 10) cs)) (λ parts. list_all is_line parts ≡ true)
+    (λ _. split-lines cs) (λ e. onto-lines c (slice_split (λ b. b == 10) cs) e (split-lines cs))
+
+lines-named : (parts : List Bytes) → list_all is_line parts ≡ true → list_all is_line (lines_of_parts parts) ≡ true
+lines-named [] h = refl
+lines-named (x ∷ []) h = cond_both (eqb (length x) 0) [] (x ∷ []) (λ ls. list_all is_line ls ≡ true) (λ _. refl) (λ _. h)
+lines-named (x ∷ y ∷ more) h =
+    let both = and_parts (is_line x) (list_all is_line (y ∷ more)) h in
+    and_from (is_line (strip_carriage_return x)) (list_all is_line (lines_of_parts (y ∷ more)))
+    (cond_both (eqb (get_or x (length x - 1) 0) 13) (take (length x - 1) x) x (λ l. is_line l ≡ true) (λ _. strip-line (length x - 1) x both.0) (λ _. both.0))
+    (lines-named (y ∷ more) both.1)
+
+pub docs-named : (docs : Docs) → list_all is_line (doc_lines docs) ≡ true
+docs-named docs = go docs.contents
+  where
+    go : (contents : Option Bytes) → list_all is_line (comment_lines contents) ≡ true
+    go None = refl
+    go (Some t) = lines-named (slice_split (λ b. b == 10) (trim t)) (split-lines (trim t))

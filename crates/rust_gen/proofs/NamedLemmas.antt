@@ -1,0 +1,211 @@
+-- The tree of a world whose names are declared well has only names that are identifiers.
+use Rattle.std.proofs.Common.{◌≡◌, true, false, ◌&&◌, ◌||◌, List, [], ◌∷◌, ◌++◌, map, refl, sym, ap, ◌∙◌, inl, inr}
+use Rattle.std.specs.Prelude.{codes, ℕ, zero, suc, Some, slice_get}
+use Rattle.std.specs.List.{flat_map, list_all, list_any}
+use Rattle.std.proofs.lemmas.Bool.{and_from, and_parts, both_ways, cond_both, or_cases}
+use Rattle.std.proofs.lemmas.List.Folds.{list_all-append, list_all-map}
+use Rattle.wit_model.specs.Bytes.{Bytes}
+use Rattle.wit_model.specs.Distinct.{is_distinct}
+use Rattle.wit_model.specs.declared.function.Function.{Function}
+use Rattle.wit_model.specs.declared.resolve.Resolve.{Resolve}
+use Rattle.wit_model.specs.declared.world.World.{World}
+use Rattle.rust_tree.specs.declared.item.Item.{Item}
+use Rattle.rust_tree.specs.declared.item.Item.TheVariants as item
+use Rattle.rust_tree.specs.declared.runtime_item.RuntimeItem.{RuntimeItem}
+use Rattle.rust_tree.specs.Ident.{is_ident, may_follow, rust_ident}
+use Rattle.rust_tree.specs.WellNamed.{are_named_core_params, are_named_params, are_well_named, is_ident_part, is_line, is_named_entry, is_named_item, is_named_method, is_named_module_macro, is_named_root_macro, is_named_trait, is_quotable}
+use Rattle.wrapper_run.specs.Areas.{needs_area}
+use Rattle.rust_gen.specs.Body.{IsWritten}
+use Rattle.rust_gen.specs.Bound.{AreItems, export_items}
+use Rattle.rust_gen.specs.Cause.{is_well_named}
+use Rattle.rust_gen.specs.DeclaredNames.{are_names, area_idents, cabi_suffix, declares_well, export_ident, export_prefix, function_idents, has_distinct_names, is_empty, macro_idents, method_idents, param_idents, return_idents}
+use Rattle.rust_gen.specs.Docs.{doc_lines}
+use Rattle.rust_gen.specs.Emitted.{exported_functions, imported_functions}
+use Rattle.rust_gen.specs.ExportBody.{ArePartsWritten}
+use Rattle.rust_gen.specs.Exported.{area_of, entries_of, export_entry, export_params, file_macro, guest_name, guest_trait, last_macro, macro_name, post_return_name, return_entry, return_params, static_area, trait_and_macro, trait_fn, trait_param, where_any, where_area, world_macro, world_prefix}
+use Rattle.rust_gen.specs.NameText.{are_written_tables, is_wit_form, is_written_entry, is_written_package, is_written_world}
+use Rattle.rust_gen.specs.Runtime.{runtime_items, runtime_module}
+use Rattle.rust_gen.proofs.EntryLemmas.{wit-forms}
+use Rattle.rust_gen.proofs.IdentLemmas.{docs-named, guest_ident, part_of, return-quotable, wit-quotable}
+use Rattle.rust_gen.proofs.NamedExportLemmas.{export_params-named, exports-named, return_params-named}
+use Rattle.rust_gen.proofs.NamedImportLemmas.{imports-named}
+
+-- what is known of functions
+
+abbrev Idents : List Function → Type 0
+Idents fs = list_all (λ f. is_ident (rust_ident f.name)) fs ≡ true
+
+abbrev Bases : List Function → Type 0
+Bases fs = list_all (λ f. is_ident_part f.name.snake) fs ≡ true
+
+abbrev Params : List Function → Type 0
+Params fs = list_all (λ f. list_all is_ident (param_idents f)) fs ≡ true
+
+abbrev Quotables : List Function → Type 0
+Quotables fs = list_all (λ f. is_quotable f.name.wit) fs ≡ true
+
+bases : (fs : List Function) → list_all is_ident (map export_ident fs) ≡ true → Bases fs
+bases [] h = refl
+bases (f ∷ fs) h =
+    let parts = and_parts (is_ident (export_ident f)) (list_all is_ident (map export_ident fs)) h in
+    and_from (is_ident_part f.name.snake) (list_all (λ f. is_ident_part f.name.snake) fs) (part_of export_prefix f.name.snake cabi_suffix parts.0) (bases fs parts.1)
+
+params : (fs : List Function) → list_all (λ f. are_names (param_idents f)) fs ≡ true → Params fs
+params [] h = refl
+params (f ∷ fs) h =
+    let parts = and_parts (are_names (param_idents f)) (list_all (λ f. are_names (param_idents f)) fs) h in
+    and_from (list_all is_ident (param_idents f)) (list_all (λ f. list_all is_ident (param_idents f)) fs) (and_parts (list_all is_ident (param_idents f)) (is_distinct (param_idents f)) parts.0).0 (params fs parts.1)
+
+quotables : (fs : List Function) → list_all (λ f. is_wit_form f.name.wit) fs ≡ true → Quotables fs
+quotables [] h = refl
+quotables (f ∷ fs) h =
+    let parts = and_parts (is_wit_form f.name.wit) (list_all (λ f. is_wit_form f.name.wit) fs) h in
+    and_from (is_quotable f.name.wit) (list_all (λ f. is_quotable f.name.wit) fs) (wit-quotable f.name.wit parts.0) (quotables fs parts.1)
+
+-- the trait
+
+method-named : (f : Function) → is_ident (rust_ident f.name) ≡ true → list_all is_ident (param_idents f) ≡ true → is_named_method (trait_fn f) ≡ true
+method-named f name ps =
+    let printed : are_named_params (map trait_param f.params) ≡ true = list_all-map (λ p. is_ident p.name) trait_param f.params ∙ sym (list_all-map is_ident (λ p. rust_ident p.name) f.params) ∙ ps in
+    and_from (list_all is_line (doc_lines f.docs) && is_ident (rust_ident f.name)) (are_named_params (map trait_param f.params))
+    (and_from (list_all is_line (doc_lines f.docs)) (is_ident (rust_ident f.name)) (docs-named f.docs) name) printed
+
+methods-named : (fs : List Function) → Idents fs → Params fs → list_all is_named_method (map trait_fn fs) ≡ true
+methods-named [] n p = refl
+methods-named (f ∷ fs) n p =
+    let names = and_parts (is_ident (rust_ident f.name)) (list_all (λ f. is_ident (rust_ident f.name)) fs) n in
+    let ps = and_parts (list_all is_ident (param_idents f)) (list_all (λ f. list_all is_ident (param_idents f)) fs) p in
+    and_from (is_named_method (trait_fn f)) (list_all is_named_method (map trait_fn fs)) (method-named f names.0 ps.0) (methods-named fs names.1 ps.1)
+
+trait-named : (fs : List Function) → Idents fs → Params fs → is_named_trait (guest_trait fs) ≡ true
+trait-named fs n p = and_from (is_ident guest_name) (list_all is_named_method (map trait_fn fs)) guest_ident (methods-named fs n p)
+
+-- the macros
+
+entries-named : (f : Function) → is_quotable f.name.wit ≡ true → is_ident_part f.name.snake ≡ true → list_all is_named_entry (entries_of f) ≡ true
+entries-named f quoted base =
+    and_from (is_named_entry (export_entry f)) (list_all is_named_entry (where_area f (return_entry f))) wrapper
+    (cond_both (needs_area f.result) (return_entry f ∷ []) [] (λ es. list_all is_named_entry es ≡ true) (λ _. and_from (is_named_entry (return_entry f)) true returns refl) (λ _. refl))
+  where
+    wrapper : is_named_entry (export_entry f) ≡ true
+    wrapper = and_from (is_quotable f.name.wit && is_ident_part f.name.snake) (are_named_core_params (export_params f)) (and_from (is_quotable f.name.wit) (is_ident_part f.name.snake) quoted base) (export_params-named f)
+
+    returns : is_named_entry (return_entry f) ≡ true
+    returns =
+        and_from (is_quotable (post_return_name f) && is_ident_part f.name.snake) (are_named_core_params return_params)
+        (and_from (is_quotable (post_return_name f)) (is_ident_part f.name.snake) (return-quotable f quoted) base) return_params-named
+
+all-entries-named : (fs : List Function) → Quotables fs → Bases fs → list_all is_named_entry (flat_map entries_of fs) ≡ true
+all-entries-named [] q b = refl
+all-entries-named (f ∷ fs) q b =
+    let quoted = and_parts (is_quotable f.name.wit) (list_all (λ f. is_quotable f.name.wit) fs) q in
+    let based = and_parts (is_ident_part f.name.snake) (list_all (λ f. is_ident_part f.name.snake) fs) b in
+    list_all-append is_named_entry (entries_of f) (flat_map entries_of fs)
+    ∙ and_from (list_all is_named_entry (entries_of f)) (list_all is_named_entry (flat_map entries_of fs)) (entries-named f quoted.0 based.0) (all-entries-named fs quoted.1 based.1)
+
+prefix-part : is_ident_part world_prefix ≡ true
+unfolding world_prefix
+prefix-part = refl
+
+macro_name-part : (world : World) → is_ident_part world.name.snake ≡ true → is_ident_part (macro_name world) ≡ true
+macro_name-part world h = list_all-append may_follow world_prefix world.name.snake ∙ and_from (is_ident_part world_prefix) (is_ident_part world.name.snake) prefix-part h
+
+file_macro-named : (world : World) → is_ident_part world.name.snake ≡ true → is_named_root_macro (file_macro world) ≡ true
+file_macro-named world h =
+    and_from (is_ident_part world.name.snake) (is_ident_part (macro_name world) && true) h (and_from (is_ident_part (macro_name world)) true (macro_name-part world h) refl)
+
+-- items that stand where there is an exported function, an area or a runtime item
+
+any-named : (fs : List Function) (items : List Item) → (is_empty fs ≡ false → list_all is_named_item items ≡ true) → list_all is_named_item (where_any fs items) ≡ true
+any-named [] items h = refl
+any-named (f ∷ fs) items h = h refl
+
+area-named : (fs : List Function) → list_all is_named_item (area_of fs) ≡ true
+area-named fs = cond_both (list_any (λ f. needs_area f.result) fs) (item.Area static_area ∷ []) [] (λ is. list_all is_named_item is ≡ true) (λ _. refl) (λ _. refl)
+
+runtime-named : (asked : List RuntimeItem) → list_all is_named_item (runtime_module asked) ≡ true
+runtime-named [] = refl
+runtime-named (i ∷ asked) = refl
+
+items-append : (xs ys : List Item) → list_all is_named_item xs ≡ true → list_all is_named_item ys ≡ true → list_all is_named_item (xs ++ ys) ≡ true
+items-append xs ys h g = list_all-append is_named_item xs ys ∙ and_from (list_all is_named_item xs) (list_all is_named_item ys) h g
+
+-- the whole
+
+-- what a world's declared names are known to be
+record Known (world : World) : Type 0 where
+  imports : Idents (imported_functions world)
+  exports : Idents (exported_functions world)
+  exported : Bases (exported_functions world)
+  import_params : Params (imported_functions world)
+  export_params : Params (exported_functions world)
+  macros : is_empty (exported_functions world) ≡ false → is_ident_part world.name.snake ≡ true
+
+known : (world : World) → declares_well world ≡ true → Known world
+unfolding declares_well macro_idents
+known world h =
+    let es : List Function = exported_functions world in
+    let fs : List Function = imported_functions world in
+    let a = and_parts _ (list_all (λ f. are_names (param_idents f)) es) h in
+    let b = and_parts _ (list_all (λ f. are_names (param_idents f)) fs) a.0 in
+    let c = and_parts _ (is_empty es || are_names (macro_idents world)) b.0 in
+    let d = and_parts (are_names (function_idents world)) (are_names (method_idents world)) c.0 in
+    let values = (and_parts (list_all is_ident (function_idents world)) (is_distinct (function_idents world)) d.0).0 in
+    let methods = (and_parts (list_all is_ident (method_idents world)) (is_distinct (method_idents world)) d.1).0 in
+    let returns : List Bytes = flat_map return_idents es in
+    let wrappers : List Bytes = map export_ident es in
+    let wrapped : List Bytes = map (λ f. rust_ident f.name) fs in
+    let v = and_parts (list_all is_ident wrapped) (list_all is_ident (area_idents es ++ (returns ++ wrappers))) (sym (list_all-append is_ident wrapped (area_idents es ++ (returns ++ wrappers))) ∙ values) in
+    let w = and_parts (list_all is_ident (area_idents es)) (list_all is_ident (returns ++ wrappers)) (sym (list_all-append is_ident (area_idents es) (returns ++ wrappers)) ∙ v.1) in
+    let x = and_parts (list_all is_ident returns) (list_all is_ident wrappers) (sym (list_all-append is_ident returns wrappers) ∙ w.1) in
+    record {
+      imports = sym (list_all-map is_ident (λ f. rust_ident f.name) fs) ∙ v.0;
+      exports = sym (list_all-map is_ident (λ f. rust_ident f.name) es) ∙ methods;
+      exported = bases es x.1;
+      import_params = params fs b.1;
+      export_params = params es a.1;
+      macros = snake c.1;
+    }
+  where
+    snake : (is_empty (exported_functions world) || are_names (macro_idents world)) ≡ true → is_empty (exported_functions world) ≡ false → is_ident_part world.name.snake ≡ true
+    snake h full =
+        elim (or_cases (is_empty (exported_functions world)) (are_names (macro_idents world)) h) [
+          | inl none ↦ absurd (both_ways (is_empty (exported_functions world)) full none)
+          | inr named ↦ part_of (codes "__export_world_") world.name.snake (codes "_cabi") (and_parts (is_ident (codes "__export_world_" ++ world.name.snake ++ codes "_cabi")) _ (and_parts (list_all is_ident (macro_idents world)) (is_distinct (macro_idents world)) named).0).0
+        ]
+
+items-named : (world : World) (items : List Item) → is_written_world world ≡ true → declares_well world ≡ true → AreItems IsWritten ArePartsWritten world items → list_all is_named_item items ≡ true
+items-named world items written declared a =
+    let k = known world declared in
+    let es : List Function = exported_functions world in
+    let fs : List Function = imported_functions world in
+    let w = and_parts (is_wit_form world.name.wit && list_all is_written_entry world.imports) (list_all is_written_entry world.exports) written in
+    let imports : Quotables fs = quotables fs (wit-forms world.imports (and_parts (is_wit_form world.name.wit) (list_all is_written_entry world.imports) w.0).1) in
+    let exports : Quotables es = quotables es (wit-forms world.exports w.1) in
+    let traits : list_all is_named_item (trait_and_macro world) ≡ true = any-named es (item.Trait (guest_trait es) ∷ item.ModuleMacro (world_macro world) ∷ []) (λ full.
+    and_from (is_named_trait (guest_trait es)) (is_named_module_macro (world_macro world) && true) (trait-named es k.exports k.export_params)
+    (and_from (is_named_module_macro (world_macro world)) true (and_from (is_ident_part (macro_name world)) (list_all is_named_entry (flat_map entries_of es)) (macro_name-part world (k.macros full)) (all-entries-named es exports k.exported)) refl)) in
+    let last : list_all is_named_item (last_macro world) ≡ true = any-named es (item.RootMacro (file_macro world) ∷ []) (λ full. and_from (is_named_root_macro (file_macro world)) true (file_macro-named world (k.macros full)) refl) in
+    let runtime : List Item = runtime_module (runtime_items world) in
+    ap (list_all is_named_item) a.are
+    ∙ items-append (map item.Import a.wrappers) (flat_map export_items a.exports ++ (trait_and_macro world ++ (area_of es ++ (runtime ++ last_macro world)))) (imports-named fs a.wrappers imports k.imports k.import_params a.wraps)
+    (items-append (flat_map export_items a.exports) (trait_and_macro world ++ (area_of es ++ (runtime ++ last_macro world))) (exports-named es a.exports k.exported k.exports a.exported)
+    (items-append (trait_and_macro world) (area_of es ++ (runtime ++ last_macro world)) traits
+    (items-append (area_of es) (runtime ++ last_macro world) (area-named es) (items-append runtime (last_macro world) (runtime-named (runtime_items world)) last))))
+
+pub tree-named : (world : World) (options : List Bytes) (items : List Item) → is_written_world world ≡ true → declares_well world ≡ true → options ≡ [] → AreItems IsWritten ArePartsWritten world items → are_well_named options items ≡ true
+tree-named world options items written declared none a = ap (λ o. are_well_named o items) none ∙ items-named world items written declared a
+
+-- of a world of the tables whose names are accepted
+
+written-at : (worlds : List World) (nth : ℕ) (world : World) → list_all is_written_world worlds ≡ true → slice_get worlds nth ≡ Some world → is_written_world world ≡ true
+written-at [] nth world h e = absurd (cc)
+written-at (w ∷ worlds) zero world h e = let is : w ≡ world = cc in ap is_written_world (sym is) ∙ (and_parts (is_written_world w) (list_all is_written_world worlds) h).0
+written-at (w ∷ worlds) (suc nth) world h e = written-at worlds nth world (and_parts (is_written_world w) (list_all is_written_world worlds) h).1 e
+
+pub accepted-names : (r : Resolve) (nth : ℕ) (world : World) → slice_get r.worlds nth ≡ Some world → is_well_named r world ≡ true → (is_written_world world ≡ true) × (declares_well world ≡ true)
+unfolding is_well_named are_written_tables
+accepted-names r nth world e h =
+    let a = and_parts (are_written_tables r && list_all has_distinct_names r.worlds) (declares_well world) h in
+    let tables = (and_parts (are_written_tables r) (list_all has_distinct_names r.worlds) a.0).0 in
+    (written-at r.worlds nth world (and_parts (list_all is_written_package r.packages) (list_all is_written_world r.worlds) tables).1 e, a.1)
