@@ -1,10 +1,10 @@
 -- What a run of the program answers: each status by its cause, and what its three ends hold after it.
-use Rattle.std.specs.Prelude.{◌≡◌, ◌≢◌, ℕ, ◌+◌, ◌<◌, ◌≤◌, true, false, List, Option, None, length, take, MatchOption, ◌⊎◌, ⊤}
+use Rattle.std.specs.Prelude.{◌≡◌, ◌≢◌, ℕ, ◌+◌, ◌<◌, ◌≤◌, true, false, List, Option, None, length, take, MatchOption, ◌⊎◌}
 use Rattle.std.specs.Io.KnownBytes.{prepend_known, append_known, IsAtEnd}
 use Rattle.rust_tree.specs.Text.{text}
 use Rattle.rust_tree.specs.Tree.{Tree}
 use Rattle.wit_ends.specs.Faults.{Rose}
-use Rattle.wit_ends.specs.Input.{Loses}
+use Rattle.wit_ends.specs.Input.{Loses, LosesAtMost}
 use Rattle.wit_refusal.specs.declared.refusal.Refusal.{Refusal}
 use Rattle.wit_refusal.specs.declared.refusal.Refusal.TheVariants as refusal
 use Rattle.wit_refusal.specs.Line.{line_of}
@@ -42,26 +42,35 @@ pub record Came (source : Stretch) (bytes : Bytes) : Type 0 where
   pub at_end : IsAtEnd source.after
   pub within : length bytes ≤ input_limit
 
+-- bytes were read and are gone, at most one more than an input may have
+abbrev pub IsReadInPart : Stretch → Type 0
+IsReadInPart source = LosesAtMost source.before source.after (input_limit + 1)
+
 -- the cause of a refusal that lies in the reading
 abbrev pub IsReadCause : Stretch → Refusal → Type 0
-IsReadCause source refusal.ReadFault = HasFailed source
+IsReadCause source refusal.ReadFault = HasFailed source × IsReadInPart source
 IsReadCause source refusal.InputTooLong = Loses source.before source.after (input_limit + 1)
-IsReadCause source refusal.OutOfMemory = ⊤
+IsReadCause source refusal.OutOfMemory = IsReadInPart source
 IsReadCause source _ = ⊥
 
 -- the tree is made of the bytes that came
 abbrev pub MakesOf : List Bytes → Stretch → Tree → Type 0
 MakesOf words source tree = (is_generate words ≡ true) × (bytes : Bytes) × Came source bytes × Makes bytes tree
 
--- why no tree is made: for the words, for the reading, or for the bytes that came; want of memory is free
+-- the words are no command, and nothing is read
+abbrev pub IsUnread : List Bytes → Stretch → Type 0
+IsUnread words source = (is_generate words ≡ false) × IsUntouched source
+
+-- why no tree is made: for the words, for the reading, or for the bytes that came; and what is gone from the source. When
+-- want of memory comes is free
 abbrev pub IsCause : List Bytes → Stretch → Refusal → Type 0
-IsCause words source refusal.Usage = is_generate words ≡ false
-IsCause words source refusal.ReadFault = (is_generate words ≡ true) × HasFailed source
+IsCause words source refusal.Usage = IsUnread words source
+IsCause words source refusal.ReadFault = (is_generate words ≡ true) × HasFailed source × IsReadInPart source
 IsCause words source refusal.InputTooLong = (is_generate words ≡ true) × Loses source.before source.after (input_limit + 1)
 IsCause words source refusal.BadJson = (is_generate words ≡ true) × (bytes : Bytes) × Came source bytes × (input_in bytes ≡ None)
 IsCause words source (refusal.Gen e) = (is_generate words ≡ true) × (bytes : Bytes) × Came source bytes × IsGenCause bytes e
 IsCause words source refusal.WriteFault = ⊥
-IsCause words source refusal.OutOfMemory = ⊤
+IsCause words source refusal.OutOfMemory = IsUnread words source ⊎ ((is_generate words ≡ true) × IsReadInPart source)
 
 -- the sink has taken all of a text
 abbrev pub TakesAll : Stretch → Bytes → Type 0
