@@ -1,4 +1,1 @@
-pub mod Input
-pub mod Made
-pub mod Outcome
-pub mod Words
+pub mod Answer

@@ -1,0 +1,4 @@
+pub mod Input
+pub mod Made
+pub mod Outcome
+pub mod Words

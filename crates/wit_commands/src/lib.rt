@@ -1,0 +1,13 @@
+//! The commands of the program, over any ends.
+#![tactic(auto)]
+
+mod input;
+mod made;
+mod outcome;
+mod run;
+#[cfg(test)]
+mod tests;
+
+pub use input::{Input, InputFault2, input_of};
+pub use outcome::Outcome;
+pub use run::run_words;

@@ -1,0 +1,18 @@
+-- With which status the program ends.
+use Rattle.std.specs.Prelude.{◌≡◌, ℕ, List, Result, Ok, Err}
+use Rattle.wit_model.specs.Bytes.{Bytes}
+use Rattle.wit_model.specs.declared.memory.OutOfMemory.{OutOfMemory}
+use Rattle.wit_refusal.specs.declared.refusal.Refusal.TheVariants as refusal
+use Rattle.wit_refusal.specs.Status.{status_of}
+use Rattle.wit_commands.specs.declared.outcome.Outcome.{Outcome}
+use Rattle.wit_commands.specs.Outcome.{IsOutcome, IsUntouched, Stretch}
+
+-- that of the run of the words, or that of want of memory, where there was none for the words
+abbrev pub Answers : Result (List Bytes) OutOfMemory → Stretch → Stretch → Stretch → ℕ → Type 0
+Answers (Ok words) source out fault status = (outcome : Outcome) × IsOutcome words source out fault outcome × (status ≡ outcome.status)
+Answers (Err _) source out fault status = (status ≡ status_of refusal.OutOfMemory) × IsUntouched source × IsUntouched out × IsUntouched fault
+
+-- that of some words, over some ends
+abbrev pub IsStatus : ℕ → Type 0
+IsStatus status =
+    (words : Result (List Bytes) OutOfMemory) × (source : Stretch) × (out : Stretch) × (fault : Stretch) × Answers words source out fault status
