@@ -1,7 +1,7 @@
 //! One example: its files, and the line on how it went.
 
 use crate::difference::{Difference, first_difference};
-use crate::told::told;
+use crate::run::told;
 use std::alloc::{AllocError, Global};
 use std::rt::Files;
 use std::{fs, io};

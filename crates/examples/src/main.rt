@@ -5,7 +5,7 @@
 mod difference;
 mod example;
 mod names;
-mod told;
+mod run;
 
 ghost use Rattle.std.specs.Prelude.{◌≤◌, length, IfOk};
 

@@ -48,7 +48,7 @@ module _ (words : List (List ℕ)) (source : Stretch) where
 
   pub from_reading : (r : Refusal) → is_generate words ≡ true → IsReadCause source r → IsCause words source r
   from_reading refusal.Usage g h = absurd h
-  from_reading refusal.ReadFault g h = (g, h)
+  from_reading refusal.ReadFault g h = (g, h.0, h.1)
   from_reading refusal.InputTooLong g h = (g, h)
   from_reading refusal.BadJson g h = absurd h
   from_reading (refusal.Gen e) g h = absurd h

@@ -5,21 +5,18 @@ use Rattle.wit_model.specs.declared.world.World.{World}
 use Rattle.rust_tree.specs.Tree.{Tree}
 use Rattle.rust_gen.specs.declared.error.GenError.{GenError}
 use Rattle.rust_gen.specs.declared.error.GenError.TheVariants as error
-use Rattle.rust_gen.specs.Bound.{Binds}
 use Rattle.rust_gen.specs.Cause.{cause}
-use Rattle.rust_gen.specs.Faithful.{AreFaithful}
-use Rattle.rust_gen.specs.Wrapper.{Wraps, WrapsParts}
+use Rattle.rust_gen.specs.Generated.{IsTreeOf}
 use Rattle.wit_refusal.specs.declared.refusal.Refusal.{Refusal}
 use Rattle.wit_refusal.specs.declared.refusal.Refusal.TheVariants as refusal
 use Rattle.wit_commands.specs.declared.input.Input.{Input}
 use Rattle.wit_commands.specs.Input.{input_in}
 
--- the tree is that of the input's world, and its wrappers are faithful
+-- the tree is that of the input's world
 pub record IsBoundFor (input : Input) (tree : Tree) : Type 0 where
   pub world : World
   pub named : slice_get input.resolve.worlds input.world.0 ≡ Some world
-  pub bound : Binds Wraps WrapsParts world tree
-  pub faithful : AreFaithful world tree
+  pub tree_of : IsTreeOf world tree
 
 -- the bytes are a document, there is no cause of refusal, and the tree is that of its world
 pub record Makes (bytes : List ℕ) (tree : Tree) : Type 0 where

@@ -11,8 +11,3 @@ use Rattle.wit_commands.specs.Outcome.{IsOutcome, IsUntouched, Stretch}
 abbrev pub Answers : Result (List Bytes) OutOfMemory → Stretch → Stretch → Stretch → ℕ → Type 0
 Answers (Ok words) source out fault status = (outcome : Outcome) × IsOutcome words source out fault outcome × (status ≡ outcome.status)
 Answers (Err _) source out fault status = (status ≡ status_of refusal.OutOfMemory) × IsUntouched source × IsUntouched out × IsUntouched fault
-
--- that of some words, over some ends
-abbrev pub IsStatus : ℕ → Type 0
-IsStatus status =
-    (words : Result (List Bytes) OutOfMemory) × (source : Stretch) × (out : Stretch) × (fault : Stretch) × Answers words source out fault status

@@ -12,7 +12,7 @@ use wit_model::{List, OutOfMemory, Text};
 use wit_refusal::Refusal;
 
 /// The exit code of a run of the words. Where there was no memory for them, nothing is read or written.
-pub(crate) fn answer<S: Source, K: Sink, E: Sink>(
+pub(crate) fn exit_code_of<S: Source, K: Sink, E: Sink>(
     alloc: Global,
     words: Result<List<Text>, OutOfMemory>,
     source: &mut S,

@@ -4,20 +4,15 @@
 mod answer;
 mod words;
 
-ghost use Rattle.std.specs.Process.{exit_status};
-ghost use Rattle.wit_program.specs.Answer.{IsStatus};
-
-use answer::answer;
+use answer::exit_code_of;
 use std::process::ExitCode;
 use wit_ends::{StdSink, StdSource};
 use words::words_of;
 
-/// The standard ends tell no bytes, and no clause can name the words of a process; so this says no more than that the
-/// status is that of a run of some words.
-fn main(rt: HostRuntime) -> ExitCode
-    ensures { IsStatus (exit_status result) }
-{
-    answer(
+// The entry function takes no clause, and none could name the words of a process or what its ends give and take: what can be
+// said of a run stands at `exit_code_of`.
+fn main(rt: HostRuntime) -> ExitCode {
+    exit_code_of(
         rt.alloc(),
         words_of(&rt),
         &mut StdSource::new(rt.stdin()),
