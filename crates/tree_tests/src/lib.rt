@@ -1,4 +1,4 @@
-//! The text of trees, and identifiers, against values from outside.
+//! The text of trees, and the names that may stand in them, against values from outside.
 #![tactic(auto)]
 
 #[cfg(test)]
@@ -21,5 +21,7 @@ mod numbers;
 mod plain;
 #[cfg(test)]
 mod samples;
+#[cfg(test)]
+mod well_named;
 #[cfg(test)]
 mod wrapping;

@@ -7,9 +7,10 @@ use crate::plain;
 use rust_tree::{
     Bindings, Block, CallBlock, CoreParam, ExportEntry, ExportFn, Expr, FnItem, FnParam, FuncPlace,
     ImportDecl, Item, ModuleMacro, Path, PostReturnFn, ReturnArea, RootMacro, Stmt, TraitFn,
-    TraitItem, TypeExpr,
+    TraitItem, TypeExpr, are_well_named,
 };
 use std::alloc::Global;
+use std::test::Fail;
 use wit_model::{Boxed, InterfaceId, List, OutOfMemory, Text};
 
 fn text(alloc: Global, t: &str) -> Result<Text, OutOfMemory> {
@@ -332,14 +333,29 @@ fn places(alloc: Global, items: &[Item]) -> Result<List<FuncPlace>, OutOfMemory>
     Ok(places)
 }
 
-/// The file of these preamble lines and items.
+/// Whether these preamble lines and items may make up a file.
+pub(crate) fn is_well_named(
+    alloc: Global,
+    options: &[&str],
+    list: &[plain::Item],
+) -> Result<bool, OutOfMemory> {
+    let options = texts(alloc, options)?;
+    let items = items(alloc, list)?;
+    Ok(are_well_named(options.as_slice(), items.as_slice()))
+}
+
+/// The file of these preamble lines and items, or a failure where their names may not stand in one.
 pub(crate) fn file(
     alloc: Global,
     options: &[&str],
     list: &[plain::Item],
-) -> Result<Bindings, OutOfMemory> {
+) -> Result<Bindings, Fail> {
     let options = texts(alloc, options)?;
     let items = items(alloc, list)?;
     let places = places(alloc, items.as_slice())?;
-    Bindings::new(alloc, options, items, places)
+    if !are_well_named(options.as_slice(), items.as_slice()) {
+        return Err(Fail::new("a name may not stand in a tree"));
+    }
+    let tree = Bindings::new(alloc, options, items, places)?;
+    Ok(tree)
 }

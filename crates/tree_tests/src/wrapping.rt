@@ -55,7 +55,7 @@ fn infos(alloc: Global, wrappers: &[(u32, bool)]) -> Result<Vec<WrapperInfo>, Fa
 fn wrappers_have_their_items_numbers_and_places_in_order(rt: HostRuntime) -> Result<(), Fail> {
     let alloc = rt.alloc();
     for case in &CASES {
-        let tree = file(alloc, &["// a"], case.items)?;
+        let tree = file(alloc, &["//   * stubs"], case.items)?;
         assert_eq!(rt; tree.items().len(), case.items.len());
         assert_eq!(rt; tree.wrappers(), infos(alloc, case.wrappers)?.as_slice());
     }

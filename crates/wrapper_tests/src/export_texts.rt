@@ -182,7 +182,7 @@ const ROWS: &[Row] = &[
     },
 ];
 
-fn file(alloc: Global) -> Result<Bindings, OutOfMemory>
+fn file(alloc: Global) -> Result<Bindings, Fail>
     ensures first { IfOk result (λ t. IsSome (export_at t 0)) }
     ensures second { IfOk result (λ t. IsSome (export_at t 1)) }
 {
@@ -190,12 +190,12 @@ fn file(alloc: Global) -> Result<Bindings, OutOfMemory>
 }
 
 /// The run of the file's first wrapper, where `wrapper` is 0, or of its second.
-fn run_of(alloc: Global, wrapper: u32, given: &Given<'_>) -> Result<Run, OutOfMemory> {
+fn run_of(alloc: Global, wrapper: u32, given: &Given<'_>) -> Result<Run, Fail> {
     let tree = file(alloc)?;
     if wrapper == 0 {
-        run(alloc, &tree, WrapperId(0), given)
+        Ok(run(alloc, &tree, WrapperId(0), given)?)
     } else {
-        run(alloc, &tree, WrapperId(1), given)
+        Ok(run(alloc, &tree, WrapperId(1), given)?)
     }
 }
 
@@ -231,7 +231,7 @@ fn returned(
     given: &[Word],
     heap: &Heap,
     form: Form,
-) -> Result<Option<Run>, OutOfMemory> {
+) -> Result<Option<Run>, Fail> {
     let tree = file(alloc)?;
     if has_post_return(&tree, WrapperId(wrapper)) {
         let words = List::from_slice(alloc, given)?;

@@ -159,10 +159,10 @@ fn inputs_of(alloc: Global, given: &Given, args: &[Value]) -> Result<Inputs, Out
     })
 }
 
-fn run(alloc: Global, given: &Given, args: &[Value]) -> Result<Run, OutOfMemory> {
+fn run(alloc: Global, given: &Given, args: &[Value]) -> Result<Run, Fail> {
     let inputs = inputs_of(alloc, given, args)?;
     let tree = file(alloc, given.wrapper)?;
-    run_import(
+    let run = run_import(
         alloc,
         &tree,
         WrapperId(0),
@@ -171,7 +171,8 @@ fn run(alloc: Global, given: &Given, args: &[Value]) -> Result<Run, OutOfMemory>
         &inputs.choices,
         &inputs.answer,
         given.form,
-    )
+    )?;
+    Ok(run)
 }
 
 fn call(alloc: Global, called: &Called, words: &[Word]) -> Result<CallPoint, OutOfMemory> {

@@ -1,15 +1,17 @@
 //! Trees of wrappers, from tables of their lines.
 
-ghost use Rattle.std.specs.Prelude.{IfOk, IsSome};
+ghost use Rattle.std.specs.Prelude.{◌≡◌, [], IfOk, IsSome, length};
+ghost use Rattle.rust_tree.specs.Tree.{wrapper_count};
 ghost use Rattle.wrapper_run.specs.ExportRun.{export_at};
 ghost use Rattle.wrapper_run.specs.Run.{import_at};
 
 use rust_tree::{
     Bindings, Block, CallBlock, CastType, CoreParam, ExportFn, Expr, FnItem, FnParam, FuncPlace,
     ImportDecl, Item, Path, PostReturnFn, Primitive, ReturnArea, RuntimeItem, StaticArea, Stmt,
-    TraitFn, TraitItem, TypeExpr,
+    TraitFn, TraitItem, TypeExpr, are_well_named,
 };
 use std::alloc::Global;
+use std::test::Fail;
 use wit_model::{Alignment, ArchitectureSize, Boxed, List, OutOfMemory, Text, WasmType};
 
 /// A type as the wrapper prints it.
@@ -289,8 +291,21 @@ fn runtime(alloc: Global) -> Result<List<RuntimeItem>, OutOfMemory> {
     List::from_slice(alloc, parts.as_slice())
 }
 
+/// The file of these items, whose wrappers have these places, or a failure where their names may not stand in one.
+fn file_of(alloc: Global, items: List<Item>, places: List<FuncPlace>) -> Result<Bindings, Fail>
+    requires { length places ≡ wrapper_count items }
+    ensures { IfOk result (λ t. t ≡ record { options = []; items = items; places = places }) }
+{
+    let options = List::new(alloc);
+    if !are_well_named(options.as_slice(), items.as_slice()) {
+        return Err(Fail::new("a name may not stand in a tree"));
+    }
+    let tree = Bindings::new(alloc, options, items, places)?;
+    Ok(tree)
+}
+
 /// A file of one import's wrapper, and the runtime module.
-pub(crate) fn file(alloc: Global, wrapper: &Wrapper) -> Result<Bindings, OutOfMemory>
+pub(crate) fn file(alloc: Global, wrapper: &Wrapper) -> Result<Bindings, Fail>
     ensures { IfOk result (λ t. IsSome (import_at t 0)) }
 {
     let mut items = List::new(alloc);
@@ -301,7 +316,7 @@ pub(crate) fn file(alloc: Global, wrapper: &Wrapper) -> Result<Bindings, OutOfMe
         interface: None,
         nth: 0,
     })?;
-    Bindings::new(alloc, List::new(alloc), items, places)
+    file_of(alloc, items, places)
 }
 
 fn operands(alloc: Global, given: &[Operand]) -> Result<List<Expr>, OutOfMemory> {
@@ -400,7 +415,7 @@ pub(crate) fn text_file(
     first: &Exported,
     second: &Exported,
     lines: &[Line],
-) -> Result<Bindings, OutOfMemory>
+) -> Result<Bindings, Fail>
     ensures first { IfOk result (λ t. IsSome (export_at t 0)) }
     ensures second { IfOk result (λ t. IsSome (export_at t 1)) }
 {
@@ -415,11 +430,11 @@ pub(crate) fn text_file(
     let mut places = List::new(alloc);
     places.push(place(0))?;
     places.push(place(1))?;
-    Bindings::new(alloc, List::new(alloc), items, places)
+    file_of(alloc, items, places)
 }
 
 /// A file of one export's wrapper, the trait, and the runtime module.
-pub(crate) fn export_file(alloc: Global, e: &Exported) -> Result<Bindings, OutOfMemory>
+pub(crate) fn export_file(alloc: Global, e: &Exported) -> Result<Bindings, Fail>
     ensures { IfOk result (λ t. IsSome (export_at t 0)) }
 {
     let mut items = List::new(alloc);
@@ -431,5 +446,5 @@ pub(crate) fn export_file(alloc: Global, e: &Exported) -> Result<Bindings, OutOf
         interface: None,
         nth: 0,
     })?;
-    Bindings::new(alloc, List::new(alloc), items, places)
+    file_of(alloc, items, places)
 }
