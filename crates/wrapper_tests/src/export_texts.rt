@@ -357,3 +357,85 @@ fn post_return_frees_no_other_block(rt: HostRuntime) -> Result<(), Fail> {
     }
     Ok(())
 }
+
+/// `name` by a wrong wrapper, which keeps its result in an area of its own stack, forgets the area, and returns its pointer.
+const FORGETFUL: &Exported = &Exported {
+    method: "name",
+    params: &[],
+    result: Printed::Owned,
+    words: &[],
+    word: Some(WasmType::Pointer),
+    lines: &[],
+    arguments: &[],
+    kept: Some("result0"),
+    rest: &[
+        Line::Area("ret_area"),
+        Line::Let("ptr0", Operand::ReturnPointer("ret_area")),
+        Line::Forget("ret_area"),
+        Line::Let("vec1", Operand::Boxed("result0")),
+        Line::Let("ptr1", Operand::AsPtr("vec1")),
+        Line::Let("len1", Operand::Len("vec1")),
+        Line::Forget("vec1"),
+        Line::Store("ptr0", SECOND, WasmType::Length, Operand::Local("len1")),
+        Line::Store("ptr0", FIRST, WasmType::Pointer, Operand::CastMut("ptr1")),
+    ],
+    tail: Some(Operand::Local("ptr0")),
+};
+
+#[test]
+fn an_area_is_no_value(rt: HostRuntime) -> Result<(), Fail> {
+    let alloc = rt.alloc();
+    let tree = text_file(alloc, FORGETFUL, NAME, POST)?;
+    let given = Given {
+        words: &[],
+        before: &[],
+        answer: Some(Value::Owned(1, 0)),
+        left: &[],
+        choices: AT_512,
+        form: Form::Debug,
+    };
+    let stop = run(alloc, &tree, WrapperId(0), &given)?.stop;
+    assert_eq!(&rt; stop, Stop::Stuck(1));
+    Ok(())
+}
+
+/// Words that are too few, too many, or of another kind than the core parameters of `echo`.
+const OTHER_WORDS: &[&[Word]] = &[
+    &[Word::Pointer(4096)],
+    &[Word::Pointer(4096), Word::Length(2), Word::I32(0)],
+    &[Word::I32(4096), Word::Length(2)],
+];
+
+#[test]
+fn other_words_are_stuck(rt: HostRuntime) -> Result<(), Fail> {
+    for words in OTHER_WORDS {
+        let given = Given {
+            words,
+            before: &[HI],
+            answer: Some(ABC_VALUE),
+            left: &[ABC],
+            choices: AT_512,
+            form: Form::Release,
+        };
+        let ended = run_of(rt.alloc(), 0, &given)?;
+        assert_eq!(&rt; ended.stop, Stop::Stuck(1));
+        assert!(&rt; ended.calls.is_empty());
+    }
+    Ok(())
+}
+
+#[test]
+fn an_empty_text_may_have_either_flag(rt: HostRuntime) -> Result<(), Fail> {
+    let given = Given {
+        words: &[],
+        before: &[],
+        answer: Some(Value::Lent(1, 0)),
+        left: &[],
+        choices: AT_512,
+        form: Form::Debug,
+    };
+    let ended = run_of(rt.alloc(), 1, &given)?;
+    assert_eq!(&rt; ended.stop, Stop::Done);
+    assert_eq!(&rt; ended.heap, heap(rt.alloc(), &[EMPTY_AREA])?);
+    Ok(())
+}

@@ -255,3 +255,57 @@ fn an_area_wants_a_fitting_choice(rt: HostRuntime) -> Result<(), Fail> {
     }
     Ok(())
 }
+
+/// `name` by a wrong wrapper, which writes 1 into its area, reads it, and passes it for the pointer of the area.
+const WRONG_NAME: &Wrapper = &Wrapper {
+    name: "name",
+    params: &[],
+    result: Printed::Owned,
+    lines: &[
+        Line::Area("ret_area"),
+        Line::Let("ptr0", Operand::ReturnPointer("ret_area")),
+        Line::Store("ptr0", FIRST, WasmType::Length, Operand::One),
+        Line::Let("l1", Operand::Load("ptr0", FIRST, WasmType::Pointer)),
+        Line::Import {
+            link_name: "name",
+            name: "wit_import2",
+            params: &[WasmType::Pointer],
+            result: None,
+        },
+        Line::Call(&["wit_import2"], &[Operand::Local("l1")]),
+    ],
+    tail: Some(Operand::Local("ptr0")),
+};
+
+/// The area at 512, which holds 1.
+const WRITTEN: &[Bytes] = &[Bytes {
+    address: 512,
+    size: 8,
+    written: &[1, 0, 0, 0],
+}];
+
+#[test]
+fn a_wrong_word_is_passed(rt: HostRuntime) -> Result<(), Fail> {
+    let given = Given {
+        wrapper: WRONG_NAME,
+        heap: &[],
+        choices: &[Choice::At(512)],
+        reply: Reply {
+            word: None,
+            writes: (0, &[]),
+            blocks: &[],
+        },
+        form: Form::Debug,
+    };
+    let ended = Ended {
+        stop: Stop::Stuck(1),
+        call: Some(Called {
+            name: "name",
+            heap: WRITTEN,
+        }),
+        requests: &[Request { size: 8, align: 4 }],
+        heap: WRITTEN,
+        value: None,
+    };
+    expect_run(&rt, rt.alloc(), &given, &[], &[Word::Pointer(1)], &ended)
+}
