@@ -104,7 +104,7 @@ fn import_body(alloc: Global, f: &Function) -> Result<Block, OutOfMemory>
     Ok(Block { stmts, tail })
 }
 
-/// The wrapper of an imported function whose parameters and result are one core value each.
+/// The wrapper of an imported function over scalars and texts.
 pub(crate) fn import_wrapper(alloc: Global, f: &Function) -> Result<FnItem, OutOfMemory>
     ensures { IfOk result (IsWritten f.now) }
 {

@@ -264,7 +264,8 @@ pub fn export_at(tree: &Bindings, wrapper: WrapperId) -> Option<(u32, &ExportFn)
 /// The run is the one that the definition gives. It ends Done, with the words of the core result; or BadChoice, where the
 /// first choice does not fit the static area, which is asked for when its pointer is taken and stays in the heap; or, in the
 /// debug form, with the Trap that names why the words stand for no value; or Stuck, with the number of the wrapper's item,
-/// where the words are not those of its core parameters, in number and kind, or the code does what has no meaning. `OutOfMemory` is the machine's own want of memory.
+/// where the words are not those of its core parameters, in number and kind, or the code does what has no meaning.
+/// `OutOfMemory` is the machine's own want of memory.
 pub fn run_export(
     alloc: Global,
     tree: &Bindings,

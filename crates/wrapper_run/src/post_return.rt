@@ -102,7 +102,8 @@ fn run_post_return_item(
 ///
 /// The run is the one that the definition gives. It ends Done; or, in the debug form, with the Trap that names why the words
 /// stand for no result; or Stuck, with the number of the wrapper's item, where the words are not those of the function's core
-/// parameters, in number and kind, or the code does what has no meaning. It makes no call and no request. `OutOfMemory` is the machine's own want of memory.
+/// parameters, in number and kind, or the code does what has no meaning. It is given no choices, and a core import that it
+/// calls answers nothing. `OutOfMemory` is the machine's own want of memory.
 pub fn run_post_return(
     alloc: Global,
     tree: &Bindings,
