@@ -1,0 +1,101 @@
+//! From documents to their trees.
+
+ghost use Rattle.std.specs.Prelude.{◌<◌, IfOk, IfSome, length};
+
+use crate::fault::LineFault;
+use rust_gen::{Files, Opts};
+use rust_tree::Bindings;
+use serde_json::Value;
+use std::alloc::Global;
+use std::rt::Files as FileSystem;
+use std::{fs, io};
+use wit_document::{Document, DocumentFault, document_of};
+use wit_model::{List, Text};
+use wit_refusal::Refusal;
+
+/// The trees of the documents in files, each made once, with the files' names.
+#[derive(Drop)]
+pub(crate) struct Trees {
+    made: List<(Text, Bindings)>,
+}
+
+impl Trees {
+    pub(crate) fn new(alloc: Global) -> Trees {
+        Trees {
+            made: List::new(alloc),
+        }
+    }
+
+    /// The tree of the document in a file.
+    pub(crate) fn in_file<R: FileSystem + AllocGlobal>(
+        &mut self,
+        rt: &R,
+        name: &str,
+    ) -> Result<&Bindings, LineFault> {
+        let at = self.place_of(rt, name)?;
+        Ok(&self.made.as_slice()[at].1)
+    }
+
+    /// The place of a file's tree, which is made if it is not there yet.
+    fn place_of<R: FileSystem + AllocGlobal>(
+        &mut self,
+        rt: &R,
+        name: &str,
+    ) -> Result<usize, LineFault>
+        ensures { IfOk result (λ at. at < length self.new.made) }
+    {
+        if let Some(at) = place_in(self.made.as_slice(), name) {
+            return Ok(at);
+        }
+        let bytes = bytes_of(rt, name)?;
+        let tree = tree_of(rt.alloc(), bytes.as_slice())?;
+        let at = self.made.len();
+        self.made.push((Text::from_str(rt.alloc(), name)?, tree))?;
+        Ok(at)
+    }
+}
+
+fn place_in(made: &[(Text, Bindings)], name: &str) -> Option<usize>
+    ensures { IfSome result (λ at. at < length made.now) }
+{
+    made.iter().position(|file| file.0.as_str() == name)
+}
+
+fn bytes_of<R: FileSystem + AllocGlobal>(rt: &R, name: &str) -> Result<Vec<u8>, LineFault> {
+    match fs::read(rt, name) {
+        Ok(bytes) => Ok(bytes),
+        Err(error) if error.kind() == io::ErrorKind::OutOfMemory => Err(LineFault::OutOfMemory),
+        Err(_) => Err(LineFault::NoFile),
+    }
+}
+
+/// The tree of a document that stands in the line.
+pub(crate) fn tree_in_line(alloc: Global, document: &Value) -> Result<Bindings, LineFault> {
+    let text = document.to_string(alloc)?;
+    tree_of(alloc, text.as_bytes())
+}
+
+/// The tree of a document with no options, or the words that tell why there is none.
+fn tree_of(alloc: Global, bytes: &[u8]) -> Result<Bindings, LineFault> {
+    match generated(alloc, bytes) {
+        Ok(tree) => Ok(tree),
+        Err(Refusal::OutOfMemory) => Err(LineFault::OutOfMemory),
+        Err(refusal) => {
+            let line = refusal.line(alloc)?;
+            let words = Text::from_str(alloc, line.as_str().trim_end())?;
+            Err(LineFault::Refused(words))
+        }
+    }
+}
+
+fn generated(alloc: Global, bytes: &[u8]) -> Result<Bindings, Refusal> {
+    let Document { resolve, world } = match document_of(alloc, bytes) {
+        Ok(document) => document,
+        Err(DocumentFault::BadJson) => return Err(Refusal::BadJson),
+        Err(DocumentFault::OutOfMemory) => return Err(Refusal::OutOfMemory),
+    };
+    let mut generator = Opts::default(alloc).build(alloc)?;
+    let mut files = Files::new(alloc);
+    let tree = generator.generate(&resolve, world, &mut files)?;
+    Ok(tree)
+}
