@@ -1,63 +1,52 @@
 //! The wrappers of a file: their items' numbers and their places.
 
-use crate::made::{file, nth_place};
-use crate::plain::Item;
-use crate::samples::{AREA, LOG, POST_RETURN, RUN};
-use rust_tree::{ItemId, RuntimeItem, WrapperInfo};
+use crate::made::{export, file, import, place};
+use rust_tree::{Bindings, Item, ItemId, RuntimeItem, StaticArea, WrapperInfo};
 use std::alloc::Global;
 use std::test::Fail;
+use wit_model::{Alignment, ArchitectureSize, List};
 
-const PARTS: Item = Item::Runtime(&[RuntimeItem::AsI32, RuntimeItem::AsF64]);
+const AREA: StaticArea = StaticArea {
+    size: ArchitectureSize {
+        bytes: 8,
+        pointers: 0,
+    },
+    align: Alignment::Bytes(4),
+};
 
-/// The items of a file; and of each of its wrappers the item's number, and whether it is the wrapper of an import.
-struct Case {
-    items: &'static [Item],
-    wrappers: &'static [(u32, bool)],
+/// An area, an export, the runtime module with two items, an import and an export.
+fn tree(alloc: Global) -> Result<Bindings, Fail> {
+    let mut items = List::new(alloc);
+    items.push(Item::Area(AREA))?;
+    items.push(Item::Export(export(alloc, "run", "Guest", "run")?))?;
+    let parts = [RuntimeItem::AsI32, RuntimeItem::AsF64];
+    items.push(Item::Runtime(List::from_slice(alloc, &parts)?))?;
+    let log = import(alloc, "log", &[], List::new(alloc), List::new(alloc))?;
+    items.push(Item::Import(log))?;
+    items.push(Item::Export(export(alloc, "go", "Guest", "go")?))?;
+    let mut places = List::new(alloc);
+    places.push(place(0))?;
+    places.push(place(1))?;
+    places.push(place(2))?;
+    file(alloc, &[], items, places)
 }
 
-const CASES: [Case; 3] = [
-    Case {
-        items: &[LOG, PARTS, LOG],
-        wrappers: &[(1, true), (5, true)],
-    },
-    Case {
-        items: &[
-            Item::Trait("Guest", &[]),
-            RUN,
-            LOG,
-            Item::ModuleMacro("m", &[]),
-            PARTS,
-            RUN,
-            Item::RootMacro("w", &["m"]),
-            LOG,
-        ],
-        wrappers: &[(2, false), (3, true), (8, false), (10, true)],
-    },
-    Case {
-        items: &[POST_RETURN, RUN, POST_RETURN, AREA, LOG, AREA, RUN],
-        wrappers: &[(2, false), (5, true), (7, false)],
-    },
-];
-
-fn infos(alloc: Global, wrappers: &[(u32, bool)]) -> Result<Vec<WrapperInfo>, Fail> {
-    let mut infos = Vec::new(alloc);
-    for (nth, (item, import)) in wrappers.iter().enumerate() {
-        infos.push(WrapperInfo {
-            item: ItemId(*item),
-            place: nth_place(u32::try_from(nth)?),
-            import: *import,
-        })?;
+const fn wrapper(item: u32, nth: u32, import: bool) -> WrapperInfo {
+    WrapperInfo {
+        item: ItemId(item),
+        place: place(nth),
+        import,
     }
-    Ok(infos)
 }
 
 #[test]
 fn wrappers_have_their_items_numbers_and_places_in_order(rt: HostRuntime) -> Result<(), Fail> {
-    let alloc = rt.alloc();
-    for case in &CASES {
-        let tree = file(alloc, &["//   * stubs"], case.items)?;
-        assert_eq!(rt; tree.items().len(), case.items.len());
-        assert_eq!(rt; tree.wrappers(), infos(alloc, case.wrappers)?.as_slice());
-    }
+    let tree = tree(rt.alloc())?;
+    let want = [
+        wrapper(2, 0, false),
+        wrapper(6, 1, true),
+        wrapper(7, 2, false),
+    ];
+    assert_eq!(rt; tree.wrappers(), want.as_slice());
     Ok(())
 }

@@ -1,28 +1,10 @@
-//! Runs of wrappers as they are printed, against values from outside.
+//! Two wrong wrappers that the definition of a faithful one refuses, and the runs of wrappers that no row of data reaches.
 #![tactic(auto)]
 
 #[cfg(test)]
-mod export_texts;
+mod copies;
 #[cfg(test)]
-mod exported;
-#[cfg(test)]
-mod exports;
-#[cfg(test)]
-mod heaps;
-#[cfg(test)]
-mod made;
-#[cfg(test)]
-mod numbers;
-#[cfg(test)]
-mod scalars;
-#[cfg(test)]
-mod sixteen;
-#[cfg(test)]
-mod texts;
-#[cfg(test)]
-mod tree;
-#[cfg(test)]
-mod turns;
+mod stuck;
 mod wrong;
 
 pub use wrong::{refuses_a_forgotten_area, refuses_another_word};
