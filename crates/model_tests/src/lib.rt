@@ -2,8 +2,6 @@
 #![tactic(auto)]
 
 #[cfg(test)]
-mod constructor;
-#[cfg(test)]
 mod containers;
 #[cfg(test)]
 mod ranges;
@@ -13,3 +11,5 @@ mod rules;
 mod samples;
 #[cfg(test)]
 mod sizes;
+#[cfg(test)]
+mod targets;

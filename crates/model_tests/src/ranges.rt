@@ -1,311 +1,155 @@
-//! Ids out of range, at each place that holds one.
+//! Ids out of range, in each table.
 
-use crate::samples::{docs, name, one, record, type_def, variant};
+use crate::samples::{docs, entry, no_name, no_tables, one, type_def};
 use std::alloc::Global;
 use std::test::Fail;
 use wit_model::{
-    Function, FunctionKind, Handle, Interface, InterfaceId, List, OutOfMemory, Package, PackageId,
-    Param, Resolve, Rule, Table, Text, TypeDef, TypeDefKind, TypeId, TypeOwner, WitType, World,
-    WorldFault, WorldId, WorldItem, WorldKey,
+    Function, FunctionKind, Interface, InterfaceId, List, OutOfMemory, Package, PackageId, Param,
+    Resolve, Rule, Table, Text, TypeDefKind, TypeId, TypeOwner, World, WorldFault, WorldId,
+    WorldItem, WorldKey,
 };
 
-/// A place of the sample that holds an id. The sample has one package, two interfaces, three types and two worlds.
-#[derive(Clone, Copy, Debug, PartialEq)]
-enum Place {
-    InterfacePackage,
-    ListedType,
-    Method,
-    Param,
-    ResultType,
-    OwnerWorld,
-    OwnerInterface,
-    Handle,
-    WorldPackage,
-    ImportKey,
-    ImportItem,
-    WorldFunction,
-    ExportItem,
+/// The ids that tables of one entry each hold: of the interface's package, of a parameter of its function, of the type's
+/// owner, of what the type names, of the imported interface.
+#[derive(Clone, Copy, Debug)]
+struct Ids {
+    package: u32,
+    param: u32,
+    owner: u32,
+    part: u32,
+    item: u32,
 }
 
-/// One id too high at the wrong places, and the highest elsewhere.
-fn id(wrong: &[Place], place: Place, count: u32) -> u32 {
-    if wrong.contains(&place) {
-        count
-    } else {
-        count.saturating_sub(1)
-    }
-}
+const INSIDE: Ids = Ids {
+    package: 0,
+    param: 0,
+    owner: 0,
+    part: 0,
+    item: 0,
+};
 
-fn package_id(wrong: &[Place], place: Place) -> PackageId {
-    PackageId(id(wrong, place, 1))
-}
-
-fn interface_id(wrong: &[Place], place: Place) -> InterfaceId {
-    InterfaceId(id(wrong, place, 2))
-}
-
-fn type_id(wrong: &[Place], place: Place) -> TypeId {
-    TypeId(id(wrong, place, 3))
-}
-
-/// The first type, or one that is not there.
-fn handle_target(wrong: &[Place]) -> TypeId {
-    TypeId(if wrong.contains(&Place::Handle) { 3 } else { 0 })
-}
-
-fn two<T: Drop>(alloc: Global, first: T, second: T) -> Result<List<T>, OutOfMemory> {
-    let mut items = one(alloc, first)?;
-    items.push(second)?;
-    Ok(items)
-}
-
-fn package(alloc: Global) -> Result<Package, OutOfMemory> {
-    Ok(Package {
-        namespace: name(alloc)?,
-        name: name(alloc)?,
+fn package(alloc: Global) -> Package {
+    Package {
+        namespace: no_name(alloc),
+        name: no_name(alloc),
         version: None,
-        module: Text::from_str(alloc, "m")?,
-    })
+        module: Text::new(alloc),
+    }
 }
 
-fn param(alloc: Global, id: TypeId) -> Result<Param, OutOfMemory> {
-    Ok(Param {
-        name: name(alloc)?,
-        ty: WitType::Id(id),
-    })
+fn param(alloc: Global, id: u32) -> Param {
+    Param {
+        name: no_name(alloc),
+        ty: entry(id),
+    }
 }
 
-fn function(
-    alloc: Global,
-    kind: FunctionKind,
-    input: TypeId,
-    output: TypeId,
-) -> Result<Function, OutOfMemory> {
+fn function(alloc: Global, id: u32) -> Result<Function, OutOfMemory> {
     Ok(Function {
-        name: name(alloc)?,
-        kind,
-        params: one(alloc, param(alloc, input)?)?,
-        result: Some(WitType::Id(output)),
+        name: no_name(alloc),
+        kind: FunctionKind::Freestanding,
+        params: one(alloc, param(alloc, id))?,
+        result: None,
         docs: docs(),
     })
 }
 
-fn method(alloc: Global, wrong: &[Place]) -> Result<Function, OutOfMemory> {
-    let kind = FunctionKind::Method(type_id(wrong, Place::Method));
-    let input = type_id(wrong, Place::Param);
-    let output = type_id(wrong, Place::ResultType);
-    function(alloc, kind, input, output)
-}
-
-fn interfaces(alloc: Global, wrong: &[Place]) -> Result<List<Interface>, OutOfMemory> {
-    let first = Interface {
+fn interface(alloc: Global, ids: Ids) -> Result<Interface, OutOfMemory> {
+    Ok(Interface {
         name: None,
-        package: Some(package_id(wrong, Place::InterfacePackage)),
-        types: one(alloc, type_id(wrong, Place::ListedType))?,
-        functions: List::new(alloc),
-        docs: docs(),
-    };
-    let second = Interface {
-        name: None,
-        package: None,
+        package: Some(PackageId(ids.package)),
         types: List::new(alloc),
-        functions: one(alloc, method(alloc, wrong)?)?,
+        functions: one(alloc, function(alloc, ids.param)?)?,
         docs: docs(),
-    };
-    two(alloc, first, second)
-}
-
-fn types(alloc: Global, wrong: &[Place], last: TypeDefKind) -> Result<List<TypeDef>, OutOfMemory> {
-    let world = WorldId(id(wrong, Place::OwnerWorld, 2));
-    let resource = type_def(TypeOwner::World(world), TypeDefKind::Resource);
-    let interface = interface_id(wrong, Place::OwnerInterface);
-    let own = TypeDefKind::Handle(Handle::Own(handle_target(wrong)));
-    let handle = type_def(TypeOwner::Interface(interface), own);
-    let mut types = two(alloc, resource, handle)?;
-    types.push(type_def(TypeOwner::None, last))?;
-    Ok(types)
-}
-
-fn exports(alloc: Global, wrong: &[Place]) -> Result<List<(WorldKey, WorldItem)>, OutOfMemory> {
-    let kind = FunctionKind::AsyncStatic(type_id(wrong, Place::WorldFunction));
-    let function = WorldItem::Function(function(alloc, kind, TypeId(0), TypeId(0))?);
-    let named = WorldItem::Named(type_id(wrong, Place::ExportItem));
-    let key = WorldKey::Name(name(alloc)?);
-    two(
-        alloc,
-        (key, function),
-        (WorldKey::Name(name(alloc)?), named),
-    )
-}
-
-fn worlds(alloc: Global, wrong: &[Place]) -> Result<List<World>, OutOfMemory> {
-    let key = WorldKey::Interface(interface_id(wrong, Place::ImportKey));
-    let item = WorldItem::Interface(interface_id(wrong, Place::ImportItem));
-    let empty = World {
-        name: name(alloc)?,
-        package: PackageId(0),
-        imports: List::new(alloc),
-        exports: List::new(alloc),
-    };
-    let full = World {
-        name: name(alloc)?,
-        package: package_id(wrong, Place::WorldPackage),
-        imports: one(alloc, (key, item))?,
-        exports: exports(alloc, wrong)?,
-    };
-    two(alloc, empty, full)
-}
-
-fn sample(alloc: Global, wrong: &[Place], last: TypeDefKind) -> Result<Resolve, OutOfMemory> {
-    Ok(Resolve {
-        worlds: worlds(alloc, wrong)?,
-        packages: one(alloc, package(alloc)?)?,
-        interfaces: interfaces(alloc, wrong)?,
-        types: types(alloc, wrong, last)?,
     })
 }
 
-/// The entry that `check` names where the ids at these places are one too high.
-fn fault(alloc: Global, wrong: &[Place]) -> Result<Option<(Table, u32)>, WorldFault> {
-    let resolve = match sample(alloc, wrong, TypeDefKind::Unknown) {
-        Ok(resolve) => resolve,
-        Err(_) => return Err(WorldFault::OutOfMemory),
-    };
-    match resolve.check(alloc) {
-        Err(
-            WorldFault::InvalidWorld {
-                rule: Rule::IndexRange,
-                table,
-                index,
+fn world(alloc: Global, ids: Ids) -> Result<World, OutOfMemory> {
+    let key = WorldKey::Interface(InterfaceId(0));
+    let item = WorldItem::Interface(InterfaceId(ids.item));
+    Ok(World {
+        name: no_name(alloc),
+        package: PackageId(0),
+        imports: one(alloc, (key, item))?,
+        exports: List::new(alloc),
+    })
+}
+
+fn sample(alloc: Global, ids: Ids) -> Result<Resolve, OutOfMemory> {
+    let mut tables = no_tables(alloc);
+    let owner = TypeOwner::World(WorldId(ids.owner));
+    let kind = TypeDefKind::Future(Some(entry(ids.part)));
+    tables.packages.push(package(alloc))?;
+    tables.interfaces.push(interface(alloc, ids)?)?;
+    tables.types.push(type_def(owner, kind))?;
+    tables.worlds.push(world(alloc, ids)?)?;
+    Ok(tables)
+}
+
+/// Whether `check` answers that the entry 0 of this table breaks this rule.
+fn breaks(alloc: Global, ids: Ids, rule: Rule, table: Table) -> Result<bool, OutOfMemory> {
+    let answer = sample(alloc, ids)?.check(alloc);
+    let index = 0;
+    Ok(answer == Err(WorldFault::InvalidWorld { rule, table, index }))
+}
+
+#[test]
+fn names_the_first_entry_with_an_id_out_of_range(rt: HostRuntime) -> Result<(), Fail> {
+    let rows = [
+        (
+            Ids {
+                package: 1,
+                ..INSIDE
             },
-        ) => Ok(Some((table, index))),
-        Err(other) => Err(other),
-        Ok(()) => Ok(None),
-    }
-}
-
-#[test]
-fn names_the_interface_with_an_id_out_of_range(rt: HostRuntime) {
-    let alloc = rt.alloc();
-    for place in [Place::InterfacePackage, Place::ListedType] {
-        assert_eq!(rt;
-            fault(alloc, &[place]),
-            Ok(Some((Table::Interface, 0))),
-            "{place:?}"
+            Table::Interface,
+        ),
+        (Ids { param: 1, ..INSIDE }, Table::Interface),
+        (Ids { owner: 1, ..INSIDE }, Table::Type_),
+        (Ids { part: 1, ..INSIDE }, Table::Type_),
+        (Ids { item: 1, ..INSIDE }, Table::World),
+        (
+            Ids {
+                item: 1,
+                part: 1,
+                ..INSIDE
+            },
+            Table::Type_,
+        ),
+        (
+            Ids {
+                param: 1,
+                part: 1,
+                ..INSIDE
+            },
+            Table::Interface,
+        ),
+    ];
+    for (ids, table) in &rows {
+        assert!(rt;
+            breaks(rt.alloc(), *ids, Rule::IndexRange, *table)?,
+            "{ids:?}"
         );
     }
-    for place in [Place::Method, Place::Param, Place::ResultType] {
-        assert_eq!(rt;
-            fault(alloc, &[place]),
-            Ok(Some((Table::Interface, 1))),
-            "{place:?}"
-        );
-    }
-}
-
-#[test]
-fn names_the_type_with_an_id_out_of_range(rt: HostRuntime) {
-    let alloc = rt.alloc();
-    assert_eq!(rt;
-        fault(alloc, &[Place::OwnerWorld]),
-        Ok(Some((Table::Type_, 0)))
-    );
-    for place in [Place::OwnerInterface, Place::Handle] {
-        assert_eq!(rt;
-            fault(alloc, &[place]),
-            Ok(Some((Table::Type_, 1))),
-            "{place:?}"
-        );
-    }
-}
-
-#[test]
-fn names_the_world_with_an_id_out_of_range(rt: HostRuntime) {
-    let alloc = rt.alloc();
-    for place in [
-        Place::WorldPackage,
-        Place::ImportKey,
-        Place::ImportItem,
-        Place::WorldFunction,
-        Place::ExportItem,
-    ] {
-        assert_eq!(rt;
-            fault(alloc, &[place]),
-            Ok(Some((Table::World, 1))),
-            "{place:?}"
-        );
-    }
-}
-
-#[test]
-fn names_the_first_of_two_entries(rt: HostRuntime) {
-    let alloc = rt.alloc();
-    for (first, second, table, index) in [
-        (Place::ListedType, Place::Param, Table::Interface, 0),
-        (Place::Param, Place::OwnerWorld, Table::Interface, 1),
-        (Place::OwnerWorld, Place::Handle, Table::Type_, 0),
-        (Place::Handle, Place::ImportKey, Table::Type_, 1),
-    ] {
-        assert_eq!(rt;
-            fault(alloc, &[second, first]),
-            Ok(Some((table, index))),
-            "{first:?}"
-        );
-    }
-}
-
-#[test]
-fn takes_the_highest_ids(rt: HostRuntime) -> Result<(), Fail> {
-    let alloc = rt.alloc();
-    let last = TypeDefKind::Alias(WitType::Id(TypeId(1)));
-    let resolve = sample(alloc, &[], last)?;
-    assert_eq!(rt; resolve.check(alloc), Ok(()));
-    assert!(rt; resolve.package(PackageId(0)).is_some());
-    assert!(rt; resolve.package(PackageId(1)).is_none());
-    assert!(rt; resolve.interface(InterfaceId(1)).is_some());
-    assert!(rt; resolve.interface(InterfaceId(2)).is_none());
-    assert!(rt; resolve.type_def(TypeId(2)).is_some());
-    assert!(rt; resolve.type_def(TypeId(3)).is_none());
-    assert!(rt; resolve.world(WorldId(1)).is_some());
-    assert!(rt; resolve.world(WorldId(2)).is_none());
+    // the highest ids are in range, and the type names itself
+    assert!(rt; breaks(rt.alloc(), INSIDE, Rule::TypeOrder, Table::Type_)?);
     Ok(())
 }
 
-const INSIDE: WitType = WitType::Id(TypeId(2));
-
-const OUTSIDE: WitType = WitType::Id(TypeId(3));
-
-/// Each kind that names types, with one that is out of range.
-fn kind(alloc: Global, which: u32) -> Result<TypeDefKind, OutOfMemory> {
-    match which {
-        0 => Ok(TypeDefKind::Alias(OUTSIDE)),
-        1 => Ok(TypeDefKind::Handle(Handle::Borrow(TypeId(3)))),
-        2 => Ok(TypeDefKind::List(OUTSIDE)),
-        3 => Ok(TypeDefKind::Map(OUTSIDE, INSIDE)),
-        4 => Ok(TypeDefKind::Map(INSIDE, OUTSIDE)),
-        5 => Ok(TypeDefKind::FixedLengthList(OUTSIDE, 4)),
-        6 => Ok(TypeDefKind::Tuple(two(alloc, INSIDE, OUTSIDE)?)),
-        7 => Ok(TypeDefKind::Option(OUTSIDE)),
-        8 => Ok(TypeDefKind::Result(Some(OUTSIDE), None)),
-        9 => Ok(TypeDefKind::Result(Some(INSIDE), Some(OUTSIDE))),
-        10 => record(alloc, OUTSIDE),
-        11 => variant(alloc, Some(OUTSIDE)),
-        12 => Ok(TypeDefKind::Future(Some(OUTSIDE))),
-        _ => Ok(TypeDefKind::Stream(Some(OUTSIDE))),
-    }
+/// Whether each table has an entry with this number.
+fn each_has(tables: &Resolve, id: u32) -> bool {
+    tables.package(PackageId(id)).is_some()
+        && tables.interface(InterfaceId(id)).is_some()
+        && tables.type_def(TypeId(id)).is_some()
+        && tables.world(WorldId(id)).is_some()
 }
 
 #[test]
-fn looks_at_each_type_that_a_kind_names(rt: HostRuntime) -> Result<(), Fail> {
-    let alloc = rt.alloc();
-    let want = Err(WorldFault::InvalidWorld {
-        rule: Rule::IndexRange,
-        table: Table::Type_,
-        index: 2,
-    });
-    for which in 0..14 {
-        let resolve = sample(alloc, &[], kind(alloc, which)?)?;
-        assert_eq!(rt; resolve.check(alloc), want, "kind {which}");
-    }
+fn looks_entries_up(rt: HostRuntime) -> Result<(), Fail> {
+    let tables = sample(rt.alloc(), INSIDE)?;
+    assert!(rt; each_has(&tables, 0));
+    assert!(rt; tables.package(PackageId(1)).is_none());
+    assert!(rt; tables.interface(InterfaceId(1)).is_none());
+    assert!(rt; tables.type_def(TypeId(1)).is_none());
+    assert!(rt; tables.world(WorldId(1)).is_none());
     Ok(())
 }
