@@ -1,85 +1,101 @@
 //! The facts of each kind of type.
 
-ghost use Rattle.std.specs.Prelude.{IfOk};
 ghost use Rattle.type_facts.specs.Facts.{IsAnalyzed};
 
-use crate::sample::{tables, types};
-use std::alloc::Global;
+use crate::sample::sample;
 use std::test::Fail;
 use type_facts::{TypeInfo, Types};
 use wit_model::{Resolve, TypeId, WitType, WorldId};
 
-/// The facts of the types of tables that keep the rules, in their first world.
-pub(crate) fn analyzed(alloc: Global, resolve: &Resolve) -> Result<Types, Fail>
-    ensures { IfOk result (IsAnalyzed resolve.now) }
-{
-    resolve.check(alloc)?;
-    Ok(Types::analyze(alloc, resolve, WorldId(0))?)
+/// Which of the first fourteen types of the sample have a fact: in the order of the fields of `TypeInfo`, and last
+/// whether a list of them is canonical.
+fn wanted(fact: u32, number: u32) -> bool {
+    match fact {
+        0 => matches!(number, 0 | 3 | 7),
+        1 => matches!(number, 0 | 3 | 7 | 8 | 9 | 10),
+        2 => number == 9,
+        3 => matches!(number, 1 | 2 | 6 | 7 | 11 | 12),
+        4 => matches!(number, 3 | 4 | 5 | 7 | 8 | 11),
+        5 => number == 6,
+        6 => matches!(number, 5 | 8),
+        7 => matches!(number, 4 | 7 | 11),
+        _ => matches!(number, 0 | 13),
+    }
 }
 
-/// The facts of a type of these tables, and whether a list of it is canonical.
+fn has(info: TypeInfo, fact: u32) -> bool {
+    match fact {
+        0 => info.borrowed,
+        1 => info.owned,
+        2 => info.error,
+        3 => info.has_list,
+        4 => info.has_resource,
+        5 => info.has_tuple,
+        6 => info.has_borrow_handle,
+        _ => info.has_own_handle,
+    }
+}
+
+/// Whether a type of these tables has a fact.
 #[tactic(auto, unfolding(wit_model::specs::TypeOrder::type_below))]
-pub(crate) fn facts_of(resolve: &Resolve, types: &Types, number: u32) -> Option<(TypeInfo, bool)>
+fn found(resolve: &Resolve, types: &Types, fact: u32, number: u32) -> bool
     requires { IsAnalyzed resolve.now types.now }
 {
     if number as usize >= resolve.types.len() {
-        return None;
+        return false;
     }
-    let canonical = types.is_list_canonical(resolve, &WitType::Id(TypeId(number)));
-    Some((types.get(TypeId(number)), canonical))
-}
-
-/// What is wanted of a type of the sample.
-pub(crate) fn wanted(number: u32) -> (TypeInfo, bool) {
-    let info = TypeInfo {
-        borrowed: [0, 3, 7].contains(&number),
-        owned: [0, 3, 7, 8, 9, 10].contains(&number),
-        error: number == 9,
-        has_list: [1, 2, 7, 11, 12].contains(&number),
-        has_resource: [3, 4, 5, 7, 8, 11].contains(&number),
-        has_tuple: number == 6,
-        has_borrow_handle: [5, 8].contains(&number),
-        has_own_handle: [4, 7, 11].contains(&number),
-    };
-    (info, [0, 13].contains(&number))
+    if fact == 8 {
+        return types.is_list_canonical(resolve, &WitType::Id(TypeId(number)));
+    }
+    has(types.get(TypeId(number)), fact)
 }
 
 #[test]
 fn each_type_has_its_facts(rt: HostRuntime) -> Result<(), Fail> {
-    let alloc = rt.alloc();
-    let resolve = tables(alloc, types(alloc)?)?;
-    let types = analyzed(alloc, &resolve)?;
-    for number in 0..14 {
-        let found = facts_of(&resolve, &types, number);
-        assert_eq!(rt; found, Some(wanted(number)), "type {number}");
+    let resolve = sample(rt.alloc())?;
+    let types = Types::analyze(rt.alloc(), &resolve, WorldId(0))?;
+    for place in 0..126 {
+        let fact = place / 14;
+        let number = place % 14;
+        assert!(rt;
+            found(&resolve, &types, fact, number) == wanted(fact, number),
+            "fact {fact} of type {number}"
+        );
     }
     Ok(())
-}
-
-#[test]
-fn lists_and_resources_are_not_copied(rt: HostRuntime) {
-    let of_list = wanted(2).0;
-    let of_resource = wanted(3).0;
-    let of_tuple = wanted(6).0;
-    assert_eq!(rt; (of_list.is_copy(), of_list.is_clone()), (false, true));
-    assert_eq!(rt;
-        (of_resource.is_copy(), of_resource.is_clone()),
-        (false, false)
-    );
-    assert_eq!(rt; (of_tuple.is_copy(), of_tuple.is_clone()), (true, true));
 }
 
 #[test]
 #[tactic(auto, unfolding(wit_model::specs::TypeOrder::type_below))]
 fn lists_of_numbers_are_canonical(rt: HostRuntime) -> Result<(), Fail> {
-    let alloc = rt.alloc();
-    let resolve = tables(alloc, types(alloc)?)?;
-    let types = analyzed(alloc, &resolve)?;
+    let resolve = sample(rt.alloc())?;
+    let types = Types::analyze(rt.alloc(), &resolve, WorldId(0))?;
     assert!(rt; types.is_list_canonical(&resolve, &WitType::U8));
-    assert!(rt; types.is_list_canonical(&resolve, &WitType::S64));
-    assert!(rt; types.is_list_canonical(&resolve, &WitType::F32));
+    assert!(rt; types.is_list_canonical(&resolve, &WitType::F64));
     assert!(rt; !types.is_list_canonical(&resolve, &WitType::Bool));
-    assert!(rt; !types.is_list_canonical(&resolve, &WitType::Char));
     assert!(rt; !types.is_list_canonical(&resolve, &WitType::String));
     Ok(())
+}
+
+/// The facts of a type of which only these are told.
+const fn info(has_list: bool, has_resource: bool) -> TypeInfo {
+    TypeInfo {
+        borrowed: false,
+        owned: false,
+        error: false,
+        has_list,
+        has_resource,
+        has_tuple: false,
+        has_borrow_handle: false,
+        has_own_handle: false,
+    }
+}
+
+#[test]
+fn lists_and_resources_are_not_copied(rt: HostRuntime) {
+    assert!(rt; info(false, false).is_copy());
+    assert!(rt; !info(true, false).is_copy());
+    assert!(rt; !info(false, true).is_copy());
+    assert!(rt; info(true, false).is_clone());
+    assert!(rt; !info(false, true).is_clone());
 }

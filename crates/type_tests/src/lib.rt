@@ -1,21 +1,19 @@
-//! Where values stand in memory, which words they are, and the facts on types, against rows that the standard fixes.
+//! Layouts, core words, signatures and facts of types, against values worked out by the Canonical ABI.
 #![tactic(auto)]
 
 #[cfg(test)]
-mod facts;
+mod deep;
 #[cfg(test)]
-mod facts_large;
+mod facts;
 #[cfg(test)]
 mod flat;
 #[cfg(test)]
-mod large;
+mod limits;
 #[cfg(test)]
 mod sample;
 #[cfg(test)]
 mod signature;
 #[cfg(test)]
 mod sizes;
-#[cfg(test)]
-mod tables;
 #[cfg(test)]
 mod words;
