@@ -1,17 +1,15 @@
 -- What the passes over the table compute from what they know of lower types, and from marks.
-use Rattle.std.specs.Prelude.{◌≡◌, ℕ, ◌<◌, ◌↔◌, Bool, true, false, not, ◌&&◌, ◌||◌, is_some, replicate, Contains, List, [], ◌∷◌, length, Option, None, Some, slice_get, slice_index_or, slice_set, unwrap_or, if◌then◌else◌}
-use Rattle.std.specs.Option.{option_map, option_to_list}
+use Rattle.std.specs.Prelude.{◌≡◌, ℕ, ◌<◌, ◌↔◌, Bool, true, false, not, ◌&&◌, ◌||◌, is_some, replicate, Contains, List, [], ◌∷◌, length, Option, None, Some, slice_get, slice_index_or, slice_set, if◌then◌else◌}
+use Rattle.std.specs.Option.{option_to_list}
 use Rattle.wit_model.specs.declared.name.TypeId.{TypeId}
 use Rattle.wit_model.specs.declared.types.WitType.{WitType}
 use Rattle.wit_model.specs.declared.types.WitType.TheVariants.{Id}
 use Rattle.wit_model.specs.declared.types.TypeDefKind.{TypeDefKind}
 use Rattle.wit_model.specs.declared.types.TypeDef.{TypeDef}
-use Rattle.wit_model.specs.Dealias.{aliased, dealias}
 use Rattle.wit_model.specs.Parts.{parts}
 use Rattle.wit_model.specs.Reaches.{Reaches}
 use Rattle.wit_model.specs.declared.name.WorldId.{WorldId}
 use Rattle.wit_model.specs.declared.resolve.Resolve.{Resolve}
-use Rattle.wit_model.specs.TypeOrder.{GoesDown}
 use Rattle.type_facts.specs.declared.reach.Reach.{Reach}
 use Rattle.type_facts.specs.declared.types.Entry.{Entry}
 use Rattle.type_facts.specs.declared.uses.Uses.{Uses}
@@ -59,17 +57,6 @@ pub record IsReach (types : List TypeDef) (ty : WitType) (reach : Reach) : Type 
 abbrev pub AreReaches : List TypeDef → List Reach → Type 0
 AreReaches types known = (id : TypeId) (reach : Reach) → slice_get known id.0 ≡ Some reach → IsReach types (Id id) reach
 
--- the type behind all aliases, by the ends that are known of the entries before it
-abbrev pub end_of : List (Option TypeId) → TypeId → TypeId
-end_of ends id = unwrap_or (slice_index_or ends id.0 None) id
-
-abbrev pub end_of_kind : List (Option TypeId) → TypeDefKind → Option TypeId
-end_of_kind ends kind = option_map (end_of ends) (aliased kind)
-
--- the ends of aliases, where no end stands for the type itself
-abbrev pub AreEnds : List TypeDef → List (Option TypeId) → Type 0
-AreEnds types ends = (id : TypeId) (end : Option TypeId) → slice_get ends id.0 ≡ Some end → unwrap_or end id ≡ dealias types id
-
 -- the marks with that of a type set
 abbrev pub mark : List Bool → WitType → List Bool
 mark marks (Id id) = slice_set marks id.0 true
@@ -101,12 +88,6 @@ pub record Spreads (types : List TypeDef) (old new : List Bool) : Type 0 where
   pub count : length new ≡ length old
   pub reached : (id : TypeId) → IsMarked new id.0 → (from : TypeId) × IsMarked old from.0 × Reaches types (Id from) (Id id)
   pub marked : (from id : TypeId) → IsMarked old from.0 → Reaches types (Id from) (Id id) → IsMarked new id.0
-
--- tables that go down, and the ends of their aliases
-pub record HasEnds (r : Resolve) (ends : List (Option TypeId)) : Type 0 where
-  pub down : GoesDown r.types
-  pub count : length ends ≡ length r.types
-  pub are_ends : AreEnds r.types ends
 
 -- the uses with the roots of a part of the world marked
 abbrev pub with_marked : Uses → Roots → Uses

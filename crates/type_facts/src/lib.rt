@@ -1,7 +1,6 @@
 //! Facts on the types of a world: what each reaches, and where it is used.
 #![tactic(auto)]
 
-mod end;
 mod info;
 mod marks;
 mod reach;

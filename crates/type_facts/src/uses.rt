@@ -1,33 +1,33 @@
 ghost use Rattle.std.specs.Prelude.{◌≡◌, IfOk};
 ghost use Rattle.std.specs.Option.{option_to_list};
-ghost use Rattle.type_facts.specs.Passes.{AreUses, HasEnds, mark_all, no_uses, with_marked};
+ghost use Rattle.type_facts.specs.Passes.{AreUses, mark_all, no_uses, with_marked};
 ghost use Rattle.type_facts.specs.Roots.{error_of_kind, error_of_payload, error_of_type, error_types, function_roots, functions_roots, in_table, item_roots, listed_roots, param_types, world_roots};
+ghost use Rattle.wit_model.specs.Ends.{HasEnds};
 ghost use Rattle.wit_model.specs.TypeOrder.{GoesDown};
 
-use crate::end::{all_ends, end_of};
 use crate::marks::Marks;
 use crate::side::Side;
 use std::alloc::Global;
 use wit_model::{
-    Function, OutOfMemory, Resolve, TypeDefKind, TypeId, WitType, WorldId, WorldItem, WorldKey,
+    AliasEnds, Function, OutOfMemory, Resolve, TypeDefKind, WitType, WorldId, WorldItem, WorldKey,
 };
 
-fn in_table(resolve: &Resolve, ends: &[Option<TypeId>], ty: WitType) -> Option<WitType>
-    requires { HasEnds resolve.now ends.now }
+fn in_table(resolve: &Resolve, ends: &AliasEnds, ty: WitType) -> Option<WitType>
+    requires { HasEnds resolve.now.types ends.now }
     ensures { option_to_list result ≡ in_table resolve.now.types ty }
 {
     match ty {
-        WitType::Id(id) => Some(WitType::Id(end_of(ends, id))),
+        WitType::Id(id) => Some(WitType::Id(ends.end(resolve.types.as_slice(), id))),
         _ => None,
     }
 }
 
 fn error_of_payload(
     resolve: &Resolve,
-    ends: &[Option<TypeId>],
+    ends: &AliasEnds,
     payload: Option<WitType>,
 ) -> Option<WitType>
-    requires { HasEnds resolve.now ends.now }
+    requires { HasEnds resolve.now.types ends.now }
     ensures { option_to_list result ≡ error_of_payload resolve.now.types payload }
 {
     match payload {
@@ -36,8 +36,8 @@ fn error_of_payload(
     }
 }
 
-fn error_of_kind(resolve: &Resolve, ends: &[Option<TypeId>], kind: &TypeDefKind) -> Option<WitType>
-    requires { HasEnds resolve.now ends.now }
+fn error_of_kind(resolve: &Resolve, ends: &AliasEnds, kind: &TypeDefKind) -> Option<WitType>
+    requires { HasEnds resolve.now.types ends.now }
     ensures { option_to_list result ≡ error_of_kind resolve.now.types kind.now }
 {
     match kind {
@@ -46,8 +46,8 @@ fn error_of_kind(resolve: &Resolve, ends: &[Option<TypeId>], kind: &TypeDefKind)
     }
 }
 
-fn error_of_type(resolve: &Resolve, ends: &[Option<TypeId>], ty: WitType) -> Option<WitType>
-    requires { HasEnds resolve.now ends.now }
+fn error_of_type(resolve: &Resolve, ends: &AliasEnds, ty: WitType) -> Option<WitType>
+    requires { HasEnds resolve.now.types ends.now }
     ensures { option_to_list result ≡ error_of_type resolve.now.types ty }
 {
     let WitType::Id(id) = ty else {
@@ -60,12 +60,8 @@ fn error_of_type(resolve: &Resolve, ends: &[Option<TypeId>], ty: WitType) -> Opt
 }
 
 /// Behind its aliases, the error payload of a function's result, where the table has it.
-fn error_type(
-    resolve: &Resolve,
-    ends: &[Option<TypeId>],
-    answer: Option<WitType>,
-) -> Option<WitType>
-    requires { HasEnds resolve.now ends.now }
+fn error_type(resolve: &Resolve, ends: &AliasEnds, answer: Option<WitType>) -> Option<WitType>
+    requires { HasEnds resolve.now.types ends.now }
     ensures { option_to_list result ≡ error_types resolve.now.types answer }
 {
     match answer {
@@ -105,11 +101,11 @@ impl Uses {
     fn mark_function(
         &mut self,
         resolve: &Resolve,
-        ends: &[Option<TypeId>],
+        ends: &AliasEnds,
         side: Side,
         function: &Function,
     )
-        requires { HasEnds resolve.now ends.now }
+        requires { HasEnds resolve.now.types ends.now }
         ensures { self.new ≡ with_marked self.old (function_roots resolve.now.types side function.now) }
     {
         let error = error_type(resolve, ends, function.result);
@@ -130,11 +126,11 @@ impl Uses {
     fn mark_functions(
         &mut self,
         resolve: &Resolve,
-        ends: &[Option<TypeId>],
+        ends: &AliasEnds,
         side: Side,
         functions: &[Function],
     )
-        requires { HasEnds resolve.now ends.now }
+        requires { HasEnds resolve.now.types ends.now }
         ensures { self.new ≡ with_marked self.old (functions_roots resolve.now.types side functions.now) }
     {
         for function in functions {
@@ -142,14 +138,8 @@ impl Uses {
         }
     }
 
-    fn mark_item(
-        &mut self,
-        resolve: &Resolve,
-        ends: &[Option<TypeId>],
-        side: Side,
-        item: &WorldItem,
-    )
-        requires { HasEnds resolve.now ends.now }
+    fn mark_item(&mut self, resolve: &Resolve, ends: &AliasEnds, side: Side, item: &WorldItem)
+        requires { HasEnds resolve.now.types ends.now }
         ensures { self.new ≡ with_marked self.old (item_roots resolve.now side item.now) }
     {
         match item {
@@ -167,11 +157,11 @@ impl Uses {
     fn mark_listed(
         &mut self,
         resolve: &Resolve,
-        ends: &[Option<TypeId>],
+        ends: &AliasEnds,
         side: Side,
         listed: &[(WorldKey, WorldItem)],
     )
-        requires { HasEnds resolve.now ends.now }
+        requires { HasEnds resolve.now.types ends.now }
         ensures { self.new ≡ with_marked self.old (listed_roots resolve.now side listed.now) }
     {
         for entry in listed {
@@ -179,8 +169,8 @@ impl Uses {
         }
     }
 
-    fn mark_world(&mut self, resolve: &Resolve, ends: &[Option<TypeId>], world: WorldId)
-        requires { HasEnds resolve.now ends.now }
+    fn mark_world(&mut self, resolve: &Resolve, ends: &AliasEnds, world: WorldId)
+        requires { HasEnds resolve.now.types ends.now }
         ensures { self.new ≡ with_marked self.old (world_roots resolve.now world) }
     {
         match resolve.world(world) {
@@ -202,9 +192,9 @@ impl Uses {
         ensures { IfOk result (AreUses resolve.now world) }
     {
         let types = resolve.types.as_slice();
-        let ends = all_ends(alloc, types)?;
+        let ends = AliasEnds::of_types(alloc, types)?;
         let mut uses = Uses::none(alloc, types.len())?;
-        uses.mark_world(resolve, ends.as_slice(), world);
+        uses.mark_world(resolve, &ends, world);
         uses.borrowed.spread(types);
         uses.owned.spread(types);
         Ok(uses)

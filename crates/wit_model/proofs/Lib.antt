@@ -1,9 +1,11 @@
-pub mod AliasEnds
 pub mod AliasLemmas
 pub mod AllLemmas
 pub mod BelowLemmas
+pub mod ChainEnds
 pub mod DistinctLemmas
+pub mod EndLemmas
 pub mod InRange
+pub mod ListLemmas
 pub mod ReachLemmas
 pub mod Rounding
 pub mod WellFormedLemmas

@@ -1,5 +1,5 @@
 -- Which rule of well-formed tables is broken first, and by which entry.
-use Rattle.std.specs.Prelude.{◌≡◌, false, List, [], ◌∷◌, Option, None, Some}
+use Rattle.std.specs.Prelude.{◌≡◌, ⊤, true, List, [], ◌∷◌, Option, None, Some}
 use Rattle.std.specs.Option.{option_map, option_or}
 use Rattle.wit_model.specs.declared.resolve.Resolve.{Resolve}
 use Rattle.wit_model.specs.declared.resolve.Rule.{Rule}
@@ -26,7 +26,12 @@ first_broken (rule ∷ rules) = option_or (option_map (λ place. (rule.0, place)
 unfoldable pub first_fault : Resolve → Option (Rule × Place)
 first_fault r = first_broken (broken_rules r)
 
--- a refusal names the first fault, or there is a table or a list that a `u32` does not number
+-- a refusal names the first fault, or a `u32` does not number a table or a list, or there is no memory
 abbrev pub IsFaultOf : Resolve → WorldFault → Type 0
 IsFaultOf r (InvalidWorld rule table index) = first_fault r ≡ Some (rule, (table, index))
-IsFaultOf r OutOfMemory = is_numbered r ≡ false
+IsFaultOf r OutOfMemory = ⊤
+
+-- tables that the check passes: no rule is broken, and a `u32` numbers each table and each list
+pub record IsWellFormed (r : Resolve) : Type 0 where
+  pub unbroken : first_fault r ≡ None
+  pub numbered : is_numbered r ≡ true

@@ -2,6 +2,7 @@
 #![tactic(auto)]
 
 mod alias;
+mod alias_ends;
 mod boxed;
 mod check;
 mod constructor;
@@ -27,6 +28,7 @@ mod wasm_type;
 mod world;
 
 pub use alias::{aliased, dealias};
+pub use alias_ends::AliasEnds;
 pub use boxed::Boxed;
 pub use constructor::{ConstructorReturn, classify_constructor};
 pub use distinct::{are_distinct, are_distinct_texts};

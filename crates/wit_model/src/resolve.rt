@@ -1,4 +1,5 @@
 use crate::list::List;
+use crate::memory::OutOfMemory;
 use crate::types::TypeDef;
 use crate::world::{Interface, Package, World};
 
@@ -61,4 +62,15 @@ pub enum WorldFault {
         index: u32,
     },
     OutOfMemory,
+}
+
+impl From<OutOfMemory> for WorldFault {
+    ghost use Rattle.std.specs.Prelude.{◌≡◌};
+    ghost use Rattle.wit_model.specs.declared.resolve.WorldFault.TheVariants.{OutOfMemory};
+
+    ghost from_gives = { λ _ e. e ≡ OutOfMemory };
+
+    fn from(_refused: OutOfMemory) -> WorldFault {
+        WorldFault::OutOfMemory
+    }
 }

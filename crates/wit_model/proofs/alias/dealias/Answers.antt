@@ -1,7 +1,7 @@
 use Rattle.std.proofs.Common.{◌≡◌, None, subst, sym}
 use Rattle.wit_model.specs.declared.name.TypeId.{TypeId}
 use Rattle.wit_model.specs.Dealias.{next_alias, dealias}
-use Rattle.wit_model.proofs.AliasEnds.{dealias-ends}
+use Rattle.wit_model.proofs.ChainEnds.{dealias-ends}
 use Rattle.wit_model.proofs.alias.dealias.Goals as goal
 
 pub returns-clause-last : goal.returns-clause-last

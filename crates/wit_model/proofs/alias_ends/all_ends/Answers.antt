@@ -1,9 +1,9 @@
 use Rattle.std.proofs.Common.{◌≡◌, ◌∙◌, List, [], ◌∷◌, ◌++◌, length, Option, Some, subst, sym, ap, refl, arith, slice_get, length-append}
 use Rattle.std.proofs.lemmas.Option.{slice_get_read}
 use Rattle.wit_model.specs.declared.name.TypeId.{TypeId}
-use Rattle.type_facts.specs.Passes.{AreEnds, end_of_kind}
-use Rattle.type_facts.proofs.Ends.{ends_more}
-use Rattle.type_facts.proofs.end.all_ends.Goals as goal
+use Rattle.wit_model.specs.Ends.{AreEnds, end_of_kind}
+use Rattle.wit_model.proofs.EndLemmas.{ends_more}
+use Rattle.wit_model.proofs.alias_ends.all_ends.Goals as goal
 
 pub loop-entry-preserved : goal.loop-entry-preserved
 loop-entry-preserved c =

@@ -10,9 +10,9 @@ use Rattle.wit_model.specs.declared.types.TypeDef.{TypeDef}
 use Rattle.wit_model.specs.Dealias.{aliased, next_alias, dealias}
 use Rattle.wit_model.specs.TypeOrder.{GoesDown}
 use Rattle.wit_model.proofs.AliasLemmas.{next_below, dealias-last, dealias-next}
-use Rattle.wit_model.specs.declared.resolve.Resolve.{Resolve}
-use Rattle.type_facts.specs.Passes.{end_of, end_of_kind, AreEnds, HasEnds}
-use Rattle.type_facts.proofs.Lists.{at_end}
+use Rattle.wit_model.specs.declared.alias_ends.AliasEnds.{AliasEnds}
+use Rattle.wit_model.specs.Ends.{end_of, end_of_kind, AreEnds, HasEnds}
+use Rattle.wit_model.proofs.ListLemmas.{at_end}
 
 module _ (types : List TypeDef) (down : GoesDown types) (ends : List (Option TypeId)) (are : AreEnds types ends) where
   known_end : (id : TypeId) → id.0 < length ends → end_of ends id ≡ dealias types id
@@ -35,12 +35,12 @@ module _ (types : List TypeDef) (down : GoesDown types) (ends : List (Option Typ
       ]
 
 -- the end of every id, also of one that the table does not have
-pub end_is : (r : Resolve) (ends : List (Option TypeId)) → HasEnds r ends → (id : TypeId) → end_of ends id ≡ dealias r.types id
-end_is r ends has id =
-    elim (cases_lt id.0 (length ends)) [
-      | inl within ↦ known_end r.types has.down ends has.are_ends id within
+pub end_is : (types : List TypeDef) (all : AliasEnds) → HasEnds types all → (id : TypeId) → end_of all.ends id ≡ dealias types id
+end_is types all has id =
+    elim (cases_lt id.0 (length all.ends)) [
+      | inl within ↦ known_end types has.down all.ends has.are_ends id within
       | inr past ↦
-          let beyond : length r.types ≤ id.0 = omega (arith, has.count) in
-          ap (λ o. unwrap_or o id) (get_or_past ends id.0 None past)
-          ∙ sym (dealias-last r.types has.down id (ap (option_and_then (λ t. aliased t.kind)) (slice_get_past r.types id.0 beyond)))
+          let beyond : length types ≤ id.0 = omega (arith, has.count) in
+          ap (λ o. unwrap_or o id) (get_or_past all.ends id.0 None past)
+          ∙ sym (dealias-last types has.down id (ap (option_and_then (λ t. aliased t.kind)) (slice_get_past types id.0 beyond)))
     ]
