@@ -1,8 +1,8 @@
-ghost use Rattle.std.specs.Prelude.{◌≡◌, ◌<◌, ◌↔◌, length, None, IsTrue, IfOk};
+ghost use Rattle.std.specs.Prelude.{◌≡◌, ◌<◌, ◌↔◌, length, IsTrue, IfOk};
 ghost use Rattle.type_facts.specs.Facts.{IsAnalysis, IsAnalyzed, IsCanonical, IsInfoOf, type_count};
 ghost use Rattle.type_facts.specs.Passes.{AreEntries, entry_of};
 ghost use Rattle.wit_model.specs.IndexRange.{type_in_range};
-ghost use Rattle.wit_model.specs.WellFormed.{first_fault};
+ghost use Rattle.wit_model.specs.WellFormed.{IsWellFormed};
 
 use crate::info::TypeInfo;
 use crate::reach::{Reach, all_reaches, is_number};
@@ -67,7 +67,7 @@ impl Types {
     /// The facts are after those of wit-bindgen-core's `Types`; a future, a stream and an error context count as no
     /// resource here. `OutOfMemory` comes where there is no memory for an entry or a mark for each type.
     pub fn analyze(alloc: Global, resolve: &Resolve, world: WorldId) -> Result<Types, OutOfMemory>
-        requires { first_fault resolve.now ≡ None }
+        requires { IsWellFormed resolve.now }
         ensures { IfOk result (IsAnalysis resolve.now world) }
     {
         let types = resolve.types.as_slice();

@@ -1,6 +1,6 @@
 //! The core words of each kind of type.
 
-ghost use Rattle.wit_model.specs.TypeOrder.{GoesDown};
+ghost use Rattle.wit_model.specs.WellFormed.{IsWellFormed};
 
 use crate::sample::{TYPES, entry, sample};
 use std::test::Fail;
@@ -16,7 +16,7 @@ const COUNTS: [u32; 25] = [
 /// The words of the type with this number.
 #[tactic(auto, unfolding(wit_model::specs::TypeOrder::type_below))]
 pub(crate) fn flat_of(resolve: &Resolve, id: u32) -> Option<Flat>
-    requires { GoesDown resolve.now.types }
+    requires { IsWellFormed resolve.now }
 {
     if (id as usize) < resolve.types.len() {
         return Some(flat_types(resolve, &WitType::Id(TypeId(id))));
@@ -26,7 +26,7 @@ pub(crate) fn flat_of(resolve: &Resolve, id: u32) -> Option<Flat>
 
 /// The count of the words of a type, where that is all of them.
 fn count(resolve: &Resolve, id: u32) -> Option<u32>
-    requires { GoesDown resolve.now.types }
+    requires { IsWellFormed resolve.now }
 {
     match flat_of(resolve, id) {
         Some(flat) if !flat.more => Some(flat.count),
@@ -36,7 +36,7 @@ fn count(resolve: &Resolve, id: u32) -> Option<u32>
 
 /// A word of a type.
 fn word(resolve: &Resolve, id: u32, at: usize) -> Option<WasmType>
-    requires { GoesDown resolve.now.types }
+    requires { IsWellFormed resolve.now }
 {
     match flat_of(resolve, id) {
         Some(flat) if at < 16 => Some(flat.words[at]),

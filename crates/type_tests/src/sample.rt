@@ -1,9 +1,7 @@
 //! Tables for the tests: a world over types of each kind.
 
-ghost use Rattle.std.specs.Prelude.{◌≡◌, IfOk, None, IsTrue};
-ghost use Rattle.wit_model.specs.Numbered.{is_numbered};
-ghost use Rattle.wit_model.specs.TypeOrder.{GoesDown};
-ghost use Rattle.wit_model.specs.WellFormed.{first_fault};
+ghost use Rattle.std.specs.Prelude.{IfOk};
+ghost use Rattle.wit_model.specs.WellFormed.{IsWellFormed};
 
 use std::alloc::Global;
 use std::test::Fail;
@@ -223,9 +221,7 @@ pub(crate) fn no_tables(alloc: Global) -> Resolve {
 
 /// The tables, where they keep the rules.
 pub(crate) fn checked(alloc: Global, tables: Resolve) -> Result<Resolve, Fail>
-    ensures well { IfOk result (λ r. first_fault r ≡ None) }
-    ensures numbered { IfOk result (λ r. IsTrue (is_numbered r)) }
-    ensures down { IfOk result (λ r. GoesDown r.types) }
+    ensures { IfOk result IsWellFormed }
 {
     tables.check(alloc)?;
     Ok(tables)
@@ -253,9 +249,7 @@ fn unchecked(alloc: Global) -> Result<Resolve, OutOfMemory> {
 }
 
 pub(crate) fn sample(alloc: Global) -> Result<Resolve, Fail>
-    ensures well { IfOk result (λ r. first_fault r ≡ None) }
-    ensures numbered { IfOk result (λ r. IsTrue (is_numbered r)) }
-    ensures down { IfOk result (λ r. GoesDown r.types) }
+    ensures { IfOk result IsWellFormed }
 {
     checked(alloc, unchecked(alloc)?)
 }

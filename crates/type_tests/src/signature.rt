@@ -1,7 +1,6 @@
 //! The core signatures of functions of 16 and 17 words, with each kind of result.
 
-ghost use Rattle.std.specs.Prelude.{◌≡◌, None};
-ghost use Rattle.wit_model.specs.WellFormed.{first_fault};
+ghost use Rattle.wit_model.specs.WellFormed.{IsWellFormed};
 
 use crate::sample::sample;
 use std::test::Fail;
@@ -11,7 +10,7 @@ use wit_model::{InterfaceId, Resolve, WasmType};
 
 /// The core signature of a function of interface 0.
 fn signature_of(resolve: &Resolve, variant: AbiVariant, nth: usize) -> Option<WasmSignature>
-    requires { first_fault resolve.now ≡ None }
+    requires { IsWellFormed resolve.now }
 {
     let Some(interface) = resolve.interface(InterfaceId(0)) else {
         return None;
@@ -24,7 +23,7 @@ fn signature_of(resolve: &Resolve, variant: AbiVariant, nth: usize) -> Option<Wa
 
 /// How many core parameters of a function are told and whether there is one more, how many results it has, and whether its parameters and its result go by a pointer.
 fn told(resolve: &Resolve, variant: AbiVariant, nth: usize) -> [u32; 5]
-    requires { first_fault resolve.now ≡ None }
+    requires { IsWellFormed resolve.now }
 {
     match signature_of(resolve, variant, nth) {
         None => [0; 5],
@@ -71,7 +70,7 @@ fn functions_of_16_and_17_words(rt: HostRuntime) -> Result<(), Fail> {
 
 /// The core parameter of an import at a place, where there is one.
 fn param_of(resolve: &Resolve, nth: usize, place: u32) -> Option<WasmType>
-    requires { first_fault resolve.now ≡ None }
+    requires { IsWellFormed resolve.now }
 {
     let Some(signature) = signature_of(resolve, AbiVariant::GuestImport, nth) else {
         return None;

@@ -1,7 +1,8 @@
--- Where each type has a word, seventeen members ahead have as many words as there is room for.
-use Rattle.std.proofs.Common.{◌≡◌, ℕ, zero, suc, ◌+◌, ◌≤◌, ◌<◌, ⊎_elim, min, true, List, [], ◌∷◌, ◌++◌, length, take, map, get_or, Option, Some, sym, ap, ◌∙◌, subst, arith, length-append}
+-- Each type has a word, so that seventeen members ahead have as many words as there is room for, and those left out count for
+-- nothing.
+use Rattle.std.proofs.Common.{◌≡◌, ℕ, zero, suc, ◌≤◌, ◌<◌, ◌⊎◌, inl, inr, true, List, [], ◌∷◌, ◌++◌, length, take, map, get_or, Option, Some, sym, ap, ◌∙◌, subst, arith, length-append, append_assoc}
 use Rattle.std.specs.List.{slice_get, All}
-use Rattle.std.proofs.lemmas.List.{append-nil, length-take}
+use Rattle.std.proofs.lemmas.List.{append-nil, take-append-le}
 use Rattle.std.proofs.lemmas.List.Elements.{All-append, All-drop, All-nil}
 use Rattle.std.proofs.lemmas.Option.{slice_get-get_or}
 use Rattle.std.proofs.lemmas.Bool.{ltb-true}
@@ -103,24 +104,16 @@ module _ (types : List TypeDef) (wordy : EachHasWords types) where
     ahead_words : (a : Ahead) → AreRuns types a → 17 ≤ length (ahead_members types a) → 17 ≤ length (words (ahead_members types a))
     ahead_words a valid many = omega (arith, many, as_many (ahead_members types a) (runs_words (runs a) valid))
 
-    module _ (r done : ℕ) (small : r ≤ 17) (before after : Ahead) (at : ℕ) (valid : AreRuns types after) (put : ArePut types at before after) where
-      all_there : put.left_out ≡ [] → ahead_members types after ≡ members_at types at ++ ahead_members types before
-      all_there none = sym (append-nil (ahead_members types after)) ∙ sym (ap (λ ms. ahead_members types after ++ ms) none) ∙ put.same
+    module _ (r : ℕ) (small : r ≤ 17) (all : List WasmType) (before after : Ahead) (at : ℕ) (valid : AreRuns types after) (put : ArePut types at before after) where
+      parted : words (ahead_members types after) ++ words put.left_out ≡ words (members_at types at) ++ words (ahead_members types before)
+      parted =
+          sym (flatten_record-append (trees types) (ahead_members types after) put.left_out) ∙ ap words put.same ∙ flatten_record-append (trees types) (members_at types at) (ahead_members types before)
 
-      -- the words so far, and those ahead where members have been put first
-      pub enough_put : (before.cut ≡ true → r ≤ done + length (words (members_at types at)) + length (words (ahead_members types before))) → after.cut ≡ true → r ≤ done + length (words (ahead_members types after))
-      enough_put h cut =
-          ⊎_elim (λ many. omega (arith, ahead_words after valid many)) (λ (none, was). omega (arith, h was, ap (λ ms. length (words ms)) (all_there none), ap length (flatten_record-append (trees types) (members_at types at) (ahead_members types before)), length-append (words (members_at types at)) (words (ahead_members types before)))) (put.far cut)
+      by_far : (put.left_out ≡ []) ⊎ (17 ≤ length (ahead_members types after)) → take r (all ++ words (ahead_members types after)) ≡ take r (all ++ (words (ahead_members types after) ++ words put.left_out))
+      by_far (inl none) = ap (λ ws. take r (all ++ ws)) (sym (append-nil (words (ahead_members types after))) ∙ ap (λ ms. words (ahead_members types after) ++ words ms) (sym none))
+      by_far (inr many) =
+          sym (take-append-le r (all ++ words (ahead_members types after)) (words put.left_out) (omega (arith, small, ahead_words after valid many, length-append all (words (ahead_members types after))))) ∙ ap (take r) (append_assoc all (words (ahead_members types after)) (words put.left_out))
 
-module _ (types : List TypeDef) (before ms : List (Option WitType)) (first : Option WitType) (next : before ≡ first ∷ ms) where
-  abbrev words_of : List (Option WitType) → List WasmType
-  words_of ms = flatten_record (payloads_in (trees types) ms)
-
-  pub first_length : length (words_of before) ≡ length (flatten_type (payload_in (trees types) first)) + length (words_of ms)
-  first_length = ap (λ bs. length (words_of bs)) next ∙ length-append (flatten_type (payload_in (trees types) first)) (words_of ms)
-
-  -- and where the first has been flattened
-  pub enough_next : (r s : ℕ) (all after : List WasmType) → s ≡ r → after ≡ take s (all ++ flatten_type (payload_in (trees types) first)) → r ≤ length all + length (words_of before) → r ≤ length after + length (words_of ms)
-  enough_next r s all after same put h =
-      let long : length after ≡ min s (length (all ++ flatten_type (payload_in (trees types) first))) = ap length put ∙ length-take s (all ++ flatten_type (payload_in (trees types) first)) in
-      omega (arith, long, length-append all (flatten_type (payload_in (trees types) first)), first_length)
+      -- behind some words, the first words of what is ahead where members have been put first
+      pub put_words : take r (all ++ words (ahead_members types after)) ≡ take r (all ++ (words (members_at types at) ++ words (ahead_members types before)))
+      put_words = by_far put.far ∙ ap (λ ws. take r (all ++ ws)) parted

@@ -1,7 +1,6 @@
 -- The members ahead, where a run is left out, comes first or has one member less.
-use Rattle.std.proofs.Common.{true≢false, inl, inr, Bool, true, false, ◌||◌, nat_eq, length-append, ◌≡◌, ℕ, ◌+◌, ◌-◌, ◌<◌, ◌≤◌, List, [], ◌∷◌, ◌++◌, length, take, drop, Option, Some, refl, sym, ap, ap₂, ◌∙◌, subst, arith, append_assoc}
+use Rattle.std.proofs.Common.{inl, inr, Bool, true, false, nat_eq, length-append, ◌≡◌, ◌⊎◌, ℕ, ◌+◌, ◌-◌, ◌<◌, ◌≤◌, List, [], ◌∷◌, ◌++◌, length, take, drop, Option, Some, refl, sym, ap, ap₂, ◌∙◌, subst, arith, append_assoc}
 use Rattle.std.specs.List.{slice_get, All}
-use Rattle.std.proofs.Math.Bool.{or-true}
 use Rattle.std.proofs.lemmas.Bool.{eqb-true, eqb-false}
 use Rattle.std.proofs.lemmas.List.{append-nil, take_all, take-append-le, take-append-drop, drop_all, length-drop, length-take-le}
 use Rattle.std.proofs.lemmas.List.Elements.{All-drop, All-push}
@@ -46,7 +45,7 @@ module _ (types : List TypeDef) where
       let some : 0 < length (run_members types r) = let run : IsRun types r = h 0 r (omega arith) in omega (arith, run.1, length-drop r.nth (members_at types r.at)) in
       omega (arith, enough_members rs (All-drop (IsRun types) 1 (r ∷ rs) h), length-append (runs_members types rs) (run_members types r), some)
 
-  module _ (before between after : Ahead) (at : ℕ) (kept : runs between ≡ drop (before.count - 16) (runs before)) (cut : between.cut ≡ (before.cut || nat_eq before.count 17)) (put : runs after ≡ runs between ++ record { at = at; nth = 0 } ∷ []) (told : after.cut ≡ between.cut) where
+  module _ (before between after : Ahead) (at : ℕ) (kept : runs between ≡ drop (before.count - 16) (runs before)) (put : runs after ≡ runs between ++ record { at = at; nth = 0 } ∷ []) where
     left_out : List Run
     left_out = take (before.count - 16) (runs before)
 
@@ -76,35 +75,18 @@ module _ (types : List TypeDef) where
       few : nat_eq before.count 17 ≡ false → runs_members types left_out ≡ []
       few is = none_left (omega (arith, before.bounded, eqb-false before.count 17 is))
 
-      by_test : (c b : Bool) → before.cut ≡ c → nat_eq before.count 17 ≡ b → after.cut ≡ (c || b) → ArePut types at before after
-      by_test c true old is new = record {
-        left_out = runs_members types left_out;
-        same = put_members;
-        told = λ e. absurd (true≢false (sym (new ∙ or-true c) ∙ e));
-        far = λ e. inl (full (eqb-true before.count 17 is));
-      }
-      by_test true false old is new = record {
-        left_out = runs_members types left_out;
-        same = put_members;
-        told = λ e. absurd (true≢false (sym new ∙ e));
-        far = λ e. inr (few is, old);
-      }
-      by_test false false old is new = record {
-        left_out = runs_members types left_out;
-        same = put_members;
-        told = λ e. (few is, old);
-        far = λ e. absurd (true≢false (sym e ∙ new));
-      }
+      by_test : (b : Bool) → nat_eq before.count 17 ≡ b → (runs_members types left_out ≡ []) ⊎ (17 ≤ length (runs_members types (runs after)))
+      by_test true is = inr (full (eqb-true before.count 17 is))
+      by_test false is = inl (few is)
 
       pub are_put : ArePut types at before after
-      are_put = by_test before.cut (nat_eq before.count 17) refl refl (told ∙ cut)
+      are_put = record { left_out = runs_members types left_out; same = put_members; far = by_test (nat_eq before.count 17) refl }
 
   pub none_put : (a : Ahead) (at : ℕ) → members_at types at ≡ [] → ArePut types at a a
   none_put a at none = record {
     left_out = [];
     same = append-nil (ahead_members types a) ∙ sym (ap (λ ms. ms ++ ahead_members types a) none);
-    told = λ e. (refl, e);
-    far = λ e. inr (refl, e);
+    far = inl refl;
   }
 
   module _ (old front new : List Run) (at nth : ℕ) (first : Option WitType) (is : old ≡ front ++ record { at = at; nth = nth } ∷ []) (here : slice_get (members_at types at) nth ≡ Some first) where

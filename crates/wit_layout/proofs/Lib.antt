@@ -2,10 +2,10 @@ pub mod AheadEnough
 pub mod AheadSteps
 pub mod AheadTurns
 pub mod AheadWeight
-pub mod AheadWords
 pub mod CheckedWords
 pub mod FillSteps
 pub mod FlattenSteps
+pub mod JoinedWords
 pub mod KeptWords
 pub mod KindLemmas
 pub mod PartSteps

@@ -1,5 +1,5 @@
 -- Which members are still ahead, by runs of them of which the last comes first.
-use Rattle.std.specs.Prelude.{◌≡◌, ℕ, ◌<◌, ◌≤◌, ◌⊎◌, true, false, List, [], ◌∷◌, ◌++◌, length, take, drop, Option}
+use Rattle.std.specs.Prelude.{◌≡◌, ℕ, ◌<◌, ◌≤◌, ◌⊎◌, List, [], ◌∷◌, ◌++◌, length, take, drop, Option}
 use Rattle.std.specs.List.{All}
 use Rattle.wit_model.specs.declared.types.WitType.{WitType}
 use Rattle.wit_model.specs.declared.types.TypeDef.{TypeDef}
@@ -28,10 +28,8 @@ IsRun types run = (run.at < length types) × (run.nth < length (members_at types
 abbrev pub AreRuns : List TypeDef → Ahead → Type 0
 AreRuns types a = All (IsRun types) (runs a)
 
--- what was ahead, where the members of an entry have been put first. What is left out stands behind seventeen members, and
--- it is told that something is left out
+-- what was ahead, where the members of an entry have been put first; what is left out stands behind seventeen members
 pub record ArePut (types : List TypeDef) (at : ℕ) (before after : Ahead) : Type 0 where
   pub left_out : List (Option WitType)
   pub same : ahead_members types after ++ left_out ≡ members_at types at ++ ahead_members types before
-  pub told : after.cut ≡ false → (left_out ≡ []) × (before.cut ≡ false)
-  pub far : after.cut ≡ true → (17 ≤ length (ahead_members types after)) ⊎ ((left_out ≡ []) × (before.cut ≡ true))
+  pub far : (left_out ≡ []) ⊎ (17 ≤ length (ahead_members types after))

@@ -1,6 +1,6 @@
 //! Which members are still to be gone through, of types within one another.
 
-ghost use Rattle.std.specs.Prelude.{◌≡◌, ◌<◌, ◌≤◌, ◌-◌, ◌==◌, ◌||◌, ◌++◌, ◌∷◌, [], MatchOption, false, drop, length};
+ghost use Rattle.std.specs.Prelude.{◌≡◌, ◌<◌, ◌≤◌, ◌-◌, ◌++◌, ◌∷◌, [], MatchOption, drop, length};
 
 use crate::sequence::{member, member_count};
 use wit_model::{TypeDef, WitType};
@@ -13,13 +13,11 @@ pub(crate) struct Run {
 }
 
 /// The members that are still ahead, in runs of which the last comes first. There is room for seventeen runs, and of more
-/// the nearest are kept: where each type has a word, no word of the others is among the first seventeen.
+/// the nearest are kept: each type has a word, so that no word of the others is among the first seventeen.
 #[derive(Clone, Copy, Debug)]
 pub(crate) struct Ahead {
     pub(crate) runs: [Run; 17],
     pub(crate) count: usize,
-    /// Whether a run has been left out.
-    pub(crate) cut: bool,
     ghost bounded: { count ≤ 17 },
     ghost whole: { length runs ≡ 17 },
 }
@@ -29,13 +27,11 @@ impl Ahead {
 
     /// No member.
     pub(crate) fn none() -> Ahead
-        ensures runs { runs result ≡ [] }
-        ensures cut { result.cut ≡ false }
+        ensures { runs result ≡ [] }
     {
         Ahead {
             runs: [Run { at: 0, nth: 0 }; 17],
             count: 0,
-            cut: false,
         }
     }
 
@@ -43,20 +39,17 @@ impl Ahead {
     fn make_room(&mut self)
         ensures room { self.new.count < 17 }
         ensures runs { runs self.new ≡ drop (self.old.count - 16) (runs self.old) }
-        ensures cut { self.new.cut ≡ (self.old.cut || (self.old.count == 17)) }
     {
         if self.count == 17 {
             self.runs.rotate_left(1);
             self.count -= 1;
-            self.cut = true;
         }
     }
 
     /// One run more, which comes first.
     fn push(&mut self, run: Run)
         requires { self.old.count < 17 }
-        ensures runs { runs self.new ≡ runs self.old ++ run ∷ [] }
-        ensures cut { self.new.cut ≡ self.old.cut }
+        ensures { runs self.new ≡ runs self.old ++ run ∷ [] }
     {
         self.runs[self.count] = run;
         self.count += 1;
@@ -81,7 +74,6 @@ impl Ahead {
         ensures valid { AreRuns types.now self.new }
         ensures members { MatchOption result (ahead_members types.now self.old ≡ [])
             (λ first. ahead_members types.now self.old ≡ first ∷ ahead_members types.now self.new) }
-        ensures cut { self.new.cut ≡ self.old.cut }
     {
         if self.count == 0 {
             return None;

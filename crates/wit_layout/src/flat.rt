@@ -1,5 +1,6 @@
 ghost use Rattle.std.specs.Prelude.{IsTrue, length};
-ghost use Rattle.wit_model.specs.TypeOrder.{GoesDown, type_below};
+ghost use Rattle.wit_model.specs.TypeOrder.{type_below};
+ghost use Rattle.wit_model.specs.WellFormed.{IsWellFormed};
 ghost use Rattle.wit_layout.specs.Flat.{IsFlatOf, flatten_type};
 ghost use Rattle.wit_layout.specs.Tree.{tree_of};
 
@@ -43,11 +44,11 @@ impl Flat {
 /// first seventeen words need it, however deep that is: a call stands within another only for variants in variants, of
 /// which it opens seventeen at most.
 ///
-/// Each case of a variant is flattened anew, as wit-parser's `push_flat` does, also where cases have the same type. So
-/// where variants of k cases stand within one another, as many as 1 + k + .. + k^16 of them are opened: 131,071 where k
-/// is 2, and more than can be waited for where many cases go seventeen levels down.
+/// Each case of a variant is flattened anew, as wit-parser's `push_flat` does, unless the case behind it has the same type.
+/// So where variants of k cases of several types stand within one another, as many as 1 + k + .. + k^16 of them are opened.
+/// A caller with a bound on the nodes of an unfolded type asks for it first: then no more than those nodes are opened.
 pub fn flat_types(resolve: &Resolve, ty: &WitType) -> Flat
-    requires down { GoesDown resolve.now.types }
+    requires well { IsWellFormed resolve.now }
     requires below { IsTrue (type_below (length resolve.now.types) ty.now) }
     ensures { IsFlatOf result (flatten_type (tree_of resolve.now.types ty.now)) }
 {

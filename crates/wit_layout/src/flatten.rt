@@ -1,6 +1,6 @@
 //! The first words of a type, by going through the table down from it.
 
-ghost use Rattle.std.specs.Prelude.{◌≡◌, ◌<◌, ◌≤◌, ◌++◌, ◌∷◌, IsTrue, Some, length, slice_get, take};
+ghost use Rattle.std.specs.Prelude.{◌≡◌, ◌<◌, ◌≤◌, ◌-◌, ◌++◌, ◌∷◌, IsTrue, Some, length, slice_get, take};
 ghost use Rattle.wit_model.specs.declared.types.TypeDef.{TypeDef};
 ghost use Rattle.wit_model.specs.Parts.{parts};
 ghost use Rattle.wit_model.specs.TypeOrder.{GoesDown, type_below, payload_below};
@@ -10,7 +10,7 @@ ghost use Rattle.wit_layout.specs.Sequence.{members_at};
 ghost use Rattle.wit_layout.specs.Tree.{trees, tree_at, tree_of, payload_in, payloads_in};
 
 use crate::ahead::Ahead;
-use crate::sequence::{member, member_count, sequence_at};
+use crate::sequence::sequence_at;
 use crate::words::Words;
 use wit_model::{TypeDef, TypeDefKind, WasmType, WitType};
 
@@ -42,6 +42,7 @@ fn flatten_flags(count: usize, words: Words) -> Words
 #[tactic(auto, unfolding(wit_model::specs::TypeOrder::type_below))]
 pub(crate) fn flatten_type(types: &[TypeDef], ty: WitType, words: Words) -> Words
     requires down { GoesDown types.now }
+    requires worded { EachHasWords types.now }
     requires below { IsTrue (type_below (length types.now) ty) }
     ensures words { kept result ≡ take words.room (kept words ++ flatten_type (tree_of types.now ty)) }
     ensures room { result.room ≡ words.room }
@@ -61,6 +62,7 @@ pub(crate) fn flatten_type(types: &[TypeDef], ty: WitType, words: Words) -> Word
 #[tactic(auto, unfolding(wit_model::specs::TypeOrder::payload_below))]
 pub(crate) fn flatten_payload(types: &[TypeDef], payload: Option<WitType>, words: Words) -> Words
     requires down { GoesDown types.now }
+    requires worded { EachHasWords types.now }
     requires below { IsTrue (payload_below (length types.now) payload) }
     ensures words { kept result ≡ take words.room (kept words ++ flatten_type (payload_in (trees types.now) payload)) }
     ensures room { result.room ≡ words.room }
@@ -75,6 +77,7 @@ pub(crate) fn flatten_payload(types: &[TypeDef], payload: Option<WitType>, words
 #[cycle(flatten)]
 fn flatten_kind(types: &[TypeDef], at: usize, words: Words) -> Words
     requires down { GoesDown types.now }
+    requires worded { EachHasWords types.now }
     requires within { at < length types.now }
     ensures words { kept result ≡ take words.room (kept words ++ flatten_type (tree_at types.now at)) }
     ensures room { result.room ≡ words.room }
@@ -98,6 +101,7 @@ fn flatten_kind(types: &[TypeDef], at: usize, words: Words) -> Words
 #[cycle(flatten)]
 fn flatten_members(types: &[TypeDef], at: usize, words: Words) -> Words
     requires down { GoesDown types.now }
+    requires worded { EachHasWords types.now }
     requires within { at < length types.now }
     ensures words { kept result ≡ take words.room (kept words ++ flatten_record (payloads_in (trees types.now) (members_at types.now at))) }
     ensures room { result.room ≡ words.room }
@@ -107,9 +111,6 @@ fn flatten_members(types: &[TypeDef], at: usize, words: Words) -> Words
     ahead.put(types, at);
     while all.left() > 0 {
         let Some(ty) = ahead.next(types) else {
-            if ahead.cut {
-                return flatten_each_member(types, at, words);
-            }
             return all;
         };
         match sequence_at(types, ty) {
@@ -120,31 +121,11 @@ fn flatten_members(types: &[TypeDef], at: usize, words: Words) -> Words
     all
 }
 
-/// The same with a call for each member. Members that were left out are only wanted where some type has no words, as a
-/// record without fields; in tables that have been checked there is none.
-#[cycle(flatten)]
-fn flatten_each_member(types: &[TypeDef], at: usize, words: Words) -> Words
-    requires down { GoesDown types.now }
-    requires within { at < length types.now }
-    requires wordless { EachHasWords types.now → ⊥ }
-    ensures words { kept result ≡ take words.room (kept words ++ flatten_record (payloads_in (trees types.now) (members_at types.now at))) }
-    ensures room { result.room ≡ words.room }
-{
-    let kind = &types[at].kind;
-    let mut all = words;
-    for nth in 0..member_count(kind) {
-        if all.left() == 0 {
-            return all;
-        }
-        all = flatten_payload(types, member(kind, nth), all);
-    }
-    all
-}
-
 /// A word for the case, and the slots that the parts of a type share as payloads.
 #[cycle(flatten)]
 fn flatten_variant(types: &[TypeDef], at: usize, words: Words) -> Words
     requires down { GoesDown types.now }
+    requires worded { EachHasWords types.now }
     requires within { at < length types.now }
     ensures words { (entry : TypeDef) → slice_get types.now at ≡ Some entry
         → kept result ≡ take words.room (kept words ++ WasmType.I32 ∷ slots (payloads_in (trees types.now) (parts entry.kind))) }
@@ -157,10 +138,21 @@ fn flatten_variant(types: &[TypeDef], at: usize, words: Words) -> Words
     begun.followed_by(flatten_cases(types, at, begun.left()))
 }
 
-/// The slots that the parts of a type share as payloads, as far as there is room.
+/// Whether the part in a place of a kind is the same as the one before it.
+fn is_repeated(kind: &TypeDefKind, place: usize) -> bool
+    requires some { 0 < place }
+    requires within { place ≤ length (parts kind.now) }
+    ensures { IsTrue result → slice_get (parts kind.now) place ≡ slice_get (parts kind.now) (place - 1) }
+{
+    place < kind.part_count() && kind.part(place - 1) == kind.part(place)
+}
+
+/// The slots that the parts of a type share as payloads, as far as there is room. A part that is the same as the one behind
+/// it adds nothing to them.
 #[cycle(flatten)]
 fn flatten_cases(types: &[TypeDef], at: usize, room: usize) -> Words
     requires down { GoesDown types.now }
+    requires worded { EachHasWords types.now }
     requires within { at < length types.now }
     requires room { room ≤ 17 }
     ensures { (entry : TypeDef) → slice_get types.now at ≡ Some entry
@@ -170,7 +162,11 @@ fn flatten_cases(types: &[TypeDef], at: usize, room: usize) -> Words
     let mut slots = Words::none(room);
     let mut left = kind.part_count();
     while left > 0 {
+        let behind = left;
         left -= 1;
+        if is_repeated(kind, behind) {
+            continue;
+        }
         let case = flatten_payload(types, kind.part(left), Words::none(room));
         slots = case.joined_with(slots);
     }

@@ -3,7 +3,9 @@ ghost use Rattle.wit_model.specs.declared.function.Function.{Function};
 ghost use Rattle.wit_model.specs.declared.types.TypeDef.{TypeDef};
 ghost use Rattle.wit_model.specs.IndexRange.{function_in_range};
 ghost use Rattle.wit_model.specs.TypeOrder.{GoesDown};
+ghost use Rattle.wit_model.specs.WellFormed.{IsWellFormed};
 ghost use Rattle.wit_layout.specs.declared.signature.AbiVariant.{AbiVariant};
+ghost use Rattle.wit_layout.specs.Flat.{EachHasWords};
 ghost use Rattle.wit_layout.specs.Words.{kept};
 ghost use Rattle.wit_layout.specs.Signature.{IsCoreSignature, IsFlattenedFunctype, core_params, direct_words, has_param, param_words, params_below, result_words};
 
@@ -53,7 +55,7 @@ impl WasmSignature {
 /// `flatten_functype`, by which at most sixteen words of parameters and one of the result are passed directly. It takes no
 /// memory.
 pub fn wasm_signature(resolve: &Resolve, variant: AbiVariant, func: &Function) -> WasmSignature
-    requires down { GoesDown resolve.now.types }
+    requires well { IsWellFormed resolve.now }
     requires within { IsTrue (function_in_range resolve.now func.now) }
     ensures { IsFlattenedFunctype resolve.now.types variant func.now result }
 {
@@ -66,6 +68,7 @@ pub fn wasm_signature(resolve: &Resolve, variant: AbiVariant, func: &Function) -
 /// The words of the parameters, one after another.
 fn flatten_params(types: &[TypeDef], params: &[Param]) -> Words
     requires down { GoesDown types.now }
+    requires worded { EachHasWords types.now }
     requires within { IsTrue (params_below (length types.now) params.now) }
     ensures words { kept result ≡ take 17 (param_words types.now params.now) }
     ensures room { result.room ≡ 17 }

@@ -1,7 +1,6 @@
 ghost use Rattle.std.specs.Prelude.{◌≡◌, ◌<◌, length, IfOk, IfErr, OnOk, IsTrue, None, slice_get};
-ghost use Rattle.wit_model.specs.Numbered.{is_numbered};
 ghost use Rattle.wit_model.specs.Size.{alignment_at};
-ghost use Rattle.wit_model.specs.TypeOrder.{GoesDown};
+ghost use Rattle.wit_model.specs.WellFormed.{IsWellFormed};
 ghost use Rattle.wit_layout.specs.Sizes.{elem_size, alignment, payload_offset, field_offsets};
 ghost use Rattle.wit_layout.specs.Stored.{IsPairOf, ArePairsOf, IsAlignmentOf, is_alias};
 ghost use Rattle.wit_layout.specs.Tree.{tree_at, tree_of};
@@ -24,13 +23,13 @@ impl SizeAlign {
     ghost use Rattle.wit_model.specs.declared.types.TypeDef.{TypeDef};
     ghost use Rattle.wit_layout.specs.Filled.{IsFilledFor, IsLayoutFaultOf, first_too_large, has_size};
 
-    /// The sizes of all types of tables in which no rule is broken.
+    /// The sizes of all types of tables that [`Resolve::check`] has passed.
     ///
     /// `TooLarge` comes exactly where a type has more than 2^31 - 1 bytes where pointers have 8, and names the first
-    /// such type. `OutOfMemory` comes where there is no memory for what is kept of each type.
+    /// such type. The wider pointer decides for code with pointers of 4 bytes too: so no answer depends on the width, and
+    /// code for both widths will change none. `OutOfMemory` comes where there is no memory for what is kept of each type.
     pub fn fill(alloc: Global, resolve: &Resolve) -> Result<SizeAlign, LayoutFault>
-        requires goes_down { GoesDown resolve.now.types }
-        requires numbered { IsTrue (is_numbered resolve.now) }
+        requires { IsWellFormed resolve.now }
         ensures sizes { IfOk result (λ sizes. IsFilledFor sizes resolve.now.types) }
         ensures ok { OnOk result (first_too_large resolve.now.types ≡ None) }
         ensures err { IfErr result (IsLayoutFaultOf resolve.now.types) }

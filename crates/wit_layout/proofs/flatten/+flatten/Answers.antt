@@ -1,25 +1,24 @@
-use Rattle.std.proofs.Common.{true, true≢false, List, Option, ap₂, ◌≡◌, ◌+◌, ◌*◌, ◌-◌, ◌≤◌, ◌<◌, ◌∙◌, ◌∷◌, ◌++◌, [], length, get_or, ap, sym, refl, take, drop, arith}
-use Rattle.std.proofs.lemmas.List.{append-nil, drop_all}
+use Rattle.std.proofs.Common.{true, ◌≡◌, ◌+◌, ◌*◌, ◌-◌, ◌≤◌, ◌<◌, ◌∙◌, ◌∷◌, ◌++◌, [], length, get_or, ap, sym, refl, take, drop, arith}
+use Rattle.std.proofs.lemmas.List.{append-nil}
 use Rattle.std.proofs.lemmas.List.Elements.{All-nil}
 use Rattle.std.proofs.lemmas.Option.{slice_get-get_or, slice_get_within, get_or_from_slice_get}
-use Rattle.wit_model.specs.declared.types.WitType.{WitType}
 use Rattle.wit_model.specs.TypeOrder.{payload_below}
 use Rattle.wit_layout.specs.Ahead.{ahead_members, runs_members}
-use Rattle.wit_layout.specs.Sequence.{members, members_at}
-use Rattle.wit_layout.proofs.AheadEnough.{enough_put, enough_next, first_length}
+use Rattle.wit_layout.specs.Sequence.{members_at}
+use Rattle.wit_layout.proofs.AheadEnough.{put_words}
 use Rattle.wit_layout.proofs.AheadTurns.{entry_at, low_put, first_low, rest_low, place_words, after_low, fewer_after}
 use Rattle.wit_layout.proofs.AheadWeight.{weights_next}
-use Rattle.wit_layout.proofs.AheadWords.{opened, flattened}
-use Rattle.wit_layout.proofs.SequenceSteps.{sequence_is, alias_is, fixed_list_is, tuple_or_record, member_below, members_read}
+use Rattle.wit_layout.proofs.SequenceSteps.{sequence_is, alias_is, fixed_list_is, tuple_or_record}
 use Rattle.wit_model.specs.declared.wasm_type.WasmType.TheVariants.{I32}
 use Rattle.wit_model.specs.declared.types.TypeDef.{TypeDef}
 use Rattle.wit_model.specs.Parts.{parts}
-use Rattle.wit_layout.specs.Flat.{EachHasWords, flatten_type, flatten_record, slots, joined, words_of_flags}
+use Rattle.wit_layout.specs.Flat.{flatten_type, flatten_record, slots, joined, words_of_flags}
 use Rattle.wit_layout.specs.Words.{kept}
 use Rattle.wit_layout.specs.Tree.{trees, payload_in, payloads_in}
 use Rattle.wit_layout.proofs.FlattenSteps.{payload_rank, payload_rank_below, payload_below_more, by_kind, members_low, words_of_entry, part_rank, part_in_table, words_of_lists, words_of_flag_kind, words_of_handles, words_of_async, words_of_unknown, words_of_payloads, words_of_cases}
+use Rattle.wit_layout.proofs.JoinedWords.{repeated_slots}
 use Rattle.wit_layout.proofs.KeptWords.{kept_fit}
-use Rattle.wit_layout.proofs.WordLists.{drop_at, take_then, take_settled, take_none_left, take_back, take_joined, from_none}
+use Rattle.wit_layout.proofs.WordLists.{drop_at, take_then, take_none_left, take_back, take_joined, from_none}
 use Rattle.wit_layout.proofs.flatten.+flatten.Goals as goal
 
 pub flatten_cases-flatten_payload-case-requires : goal.flatten_cases-flatten_payload-case-requires
@@ -29,7 +28,7 @@ flatten_cases-flatten_payload-case-requires t c =
     let here = slice_get-get_or types c.args.at c.index-types-at.result c.requires.within in
     let low = part_rank types c.requires.down c.args.at entry here c.part.result (c.loop-left.left - 1) c.part.ensures in
     let below : 5 * payload_rank c.part.result + 1 < t = omega (arith, low, c.decreases) in
-    (below, (c.requires.down, part_in_table types c.requires.down c.args.at entry here c.part.result (c.loop-left.left - 1) c.part.ensures c.requires.within))
+    (below, (c.requires.down, (c.requires.worded, part_in_table types c.requires.down c.args.at entry here c.part.result (c.loop-left.left - 1) c.part.ensures c.requires.within)))
 
 pub flatten_cases-loop-left-preserved : goal.flatten_cases-loop-left-preserved
 flatten_cases-loop-left-preserved t c =
@@ -49,6 +48,18 @@ flatten_cases-loop-left-preserved t c =
       words = c.joined_with-slots.ensures.words ∙ ap (λ k. take k (joined (kept case.result) (kept c.loop-left.slots))) room ∙ ap (λ ws. take r (joined ws (kept c.loop-left.slots))) first ∙ ap (λ ws. take r (joined (take r (flatten_type (payload_in ts c.part.result))) ws)) h.words
           ∙ take_joined r (flatten_type (payload_in ts c.part.result)) rest ∙ sym (ap (λ qs. take r (slots (payloads_in ts qs))) next);
       room = c.joined_with-slots.ensures.room ∙ room;
+      within = omega (arith, h.within);
+    }
+
+pub flatten_cases-loop-left-preserved-then-is_repeated :
+    goal.flatten_cases-loop-left-preserved-then-is_repeated
+flatten_cases-loop-left-preserved-then-is_repeated t c =
+    let ts = trees c.args.types.now in
+    let ps = parts (get_or c.args.types.now c.args.at c.index-types-at.result).kind in
+    let h = c.loop-left.invariant in
+    record {
+      words = h.words ∙ ap (take c.args.room) (repeated_slots ts ps c.loop-left.left c.loop-left-test.true h.within (c.is_repeated.ensures c.if-is_repeated.true));
+      room = h.room;
       within = omega (arith, h.within);
     }
 
@@ -153,44 +164,47 @@ flatten_kind-returns-in-Tuple-clause-words t c =
     let here = slice_get-get_or types c.args.at c.index-types-at.result c.requires.within in
     by_kind types c.requires.down c.args.at entry here c.args.words.room (kept c.args.words) (kept c.flatten_members-in-Tuple.result) _ (words_of_entry types c.requires.down c.args.at entry here (tuple_or_record entry.kind c.in-Tuple.is)) (c.flatten_members-in-Tuple.ensures.words)
 
-pub flatten_members-loop-words-init : goal.flatten_members-loop-words-init
-flatten_members-loop-words-init t c =
+pub flatten_members-loop-ahead-init : goal.flatten_members-loop-ahead-init
+flatten_members-loop-ahead-init t c =
     let types = c.args.types.now in
     let at = c.args.at in
     let put = c.put.ensures.members in
     let entry = entry_at types at c.requires.within in
-    let all : ahead_members types c.put.new.self ++ put.left_out ≡ members_at types at = put.same ∙ ap (λ rs. members_at types at ++ runs_members types rs) c.none-ahead.ensures.runs ∙ append-nil (members_at types at) in
+    let r = c.args.words.room in
+    let none : ahead_members types c.none-ahead.result ≡ [] = ap (runs_members types) c.none-ahead.ensures in
+    let own = members_at types at in
+    let all : ahead_members types c.put.new.self ++ put.left_out ≡ own = put.same ∙ ap (λ ms. own ++ ms) none ∙ append-nil own in
     record {
-      words = (put.left_out, (λ e. (put.told e).0), ap (λ ms. take c.args.words.room (kept c.args.words ++ flatten_record (payloads_in (trees types) ms))) all);
+      words = put_words types c.requires.worded c.requires.down r c.args.words.in_array (kept c.args.words) c.none-ahead.result c.put.new.self at c.put.ensures.valid put
+          ∙ ap (λ ws. take r (kept c.args.words ++ ws)) (ap (λ ms. flatten_record (payloads_in (trees types) own) ++ flatten_record (payloads_in (trees types) ms)) none ∙ append-nil (flatten_record (payloads_in (trees types) own)));
       room = refl;
-      low = low_put at (ahead_members types c.put.new.self) put.left_out (members_at types at) [] (all ∙ sym (append-nil (members_at types at))) (members_low types c.requires.down at entry.0 entry.1) (All-nil (λ p. payload_below at p ≡ true));
+      low = low_put at (ahead_members types c.put.new.self) put.left_out own [] (all ∙ sym (append-nil own)) (members_low types c.requires.down at entry.0 entry.1) (All-nil (λ p. payload_below at p ≡ true));
       valid = c.put.ensures.valid;
-      enough = λ wordy cut. enough_put types wordy c.requires.down c.args.words.room (length (kept c.args.words)) c.args.words.in_array c.none-ahead.result c.put.new.self at c.put.ensures.valid put (λ e. absurd (true≢false (sym e ∙ c.none-ahead.ensures.cut))) cut;
     }
 
 pub flatten_members-sequence_at-requires : goal.flatten_members-sequence_at-requires
 flatten_members-sequence_at-requires t c =
     let types = c.args.types.now in
-    payload_below_more c.args.at (length types) c.in-Some.ty (omega (arith, c.requires.within)) (first_low types c.requires.down c.args.at (ahead_members types c.loop-words.ahead) (ahead_members types c.next.new.self) c.in-Some.ty c.in-Some.ensures.members c.loop-words.invariant.low)
+    payload_below_more c.args.at (length types) c.in-Some.ty (omega (arith, c.requires.within)) (first_low types c.requires.down c.args.at (ahead_members types c.loop-ahead.ahead) (ahead_members types c.next.new.self) c.in-Some.ty c.in-Some.ensures.members c.loop-ahead.invariant.low)
 
 pub flatten_members-put-requires-in-Some-sequence_at-clause-within : goal.flatten_members-put-requires-in-Some-sequence_at-clause-within
 flatten_members-put-requires-in-Some-sequence_at-clause-within t c =
     let is = sequence_is c.args.types.now c.in-Some.ty c.in-Some-sequence_at.inner c.in-Some-sequence_at.ensures in
     slice_get_within c.args.types.now c.in-Some-sequence_at.inner is.0 is.1
 
-pub flatten_members-loop-words-smaller-in-Some-sequence_at : goal.flatten_members-loop-words-smaller-in-Some-sequence_at
-flatten_members-loop-words-smaller-in-Some-sequence_at t c =
+pub flatten_members-loop-ahead-smaller-in-Some-sequence_at : goal.flatten_members-loop-ahead-smaller-in-Some-sequence_at
+flatten_members-loop-ahead-smaller-in-Some-sequence_at t c =
     let types = c.args.types.now in
     let after = c.put-in-Some-sequence_at in
     let put = after.ensures.members in
-    fewer_after types c.requires.down c.args.at (ahead_members types c.loop-words.ahead) (ahead_members types c.next.new.self) c.in-Some.ty c.in-Some.ensures.members c.loop-words.invariant.low c.in-Some-sequence_at.inner (sequence_is c.args.types.now c.in-Some.ty c.in-Some-sequence_at.inner c.in-Some-sequence_at.ensures) (ahead_members types after.new.self) put.left_out put.same
+    fewer_after types c.requires.down c.args.at (ahead_members types c.loop-ahead.ahead) (ahead_members types c.next.new.self) c.in-Some.ty c.in-Some.ensures.members c.loop-ahead.invariant.low c.in-Some-sequence_at.inner (sequence_is c.args.types.now c.in-Some.ty c.in-Some-sequence_at.inner c.in-Some-sequence_at.ensures) (ahead_members types after.new.self) put.left_out put.same
 
-pub flatten_members-loop-words-preserved-in-Some-sequence_at : goal.flatten_members-loop-words-preserved-in-Some-sequence_at
-flatten_members-loop-words-preserved-in-Some-sequence_at t c =
+pub flatten_members-loop-ahead-preserved-in-Some-sequence_at : goal.flatten_members-loop-ahead-preserved-in-Some-sequence_at
+flatten_members-loop-ahead-preserved-in-Some-sequence_at t c =
     let types = c.args.types.now in
     let ts = trees types in
-    let h = c.loop-words.invariant in
-    let before = ahead_members types c.loop-words.ahead in
+    let h = c.loop-ahead.invariant in
+    let before = ahead_members types c.loop-ahead.ahead in
     let ms = ahead_members types c.next.new.self in
     let next = c.in-Some.ensures.members in
     let inner = c.in-Some-sequence_at.inner in
@@ -198,103 +212,41 @@ flatten_members-loop-words-preserved-in-Some-sequence_at t c =
     let after = c.put-in-Some-sequence_at in
     let put = after.ensures.members in
     let same = place_words types c.requires.down c.args.at before ms c.in-Some.ty next h.low inner is in
+    let r = c.args.words.room in
+    let all = kept c.loop-ahead.all in
     record {
-      words = (put.left_out ++ h.words.0, (λ e. ap₂ (λ (a b : List (Option WitType)). a ++ b) (put.told e).0 (h.words.1 (sym c.in-Some.ensures.cut ∙ (put.told e).1))), opened ts c.args.words.room (kept c.loop-words.all) _ before ms h.words.0 c.in-Some.ty next h.words.2 (members_at types inner) (ahead_members types after.new.self) put.left_out same put.same);
+      words = put_words types c.requires.worded c.requires.down r c.args.words.in_array all c.next.new.self after.new.self inner after.ensures.valid put
+          ∙ ap (λ ws. take r (all ++ (ws ++ flatten_record (payloads_in ts ms)))) (sym same) ∙ sym (ap (λ bs. take r (all ++ flatten_record (payloads_in ts bs))) next) ∙ h.words;
       room = h.room;
       low = after_low types c.requires.down c.args.at before ms c.in-Some.ty next h.low inner is (ahead_members types after.new.self) put.left_out put.same;
       valid = after.ensures.valid;
-      enough = λ wordy cut. enough_put types wordy c.requires.down c.args.words.room (length (kept c.loop-words.all)) c.args.words.in_array c.next.new.self after.new.self inner after.ensures.valid put (λ was. omega (arith, h.enough wordy (sym c.in-Some.ensures.cut ∙ was), first_length types before ms c.in-Some.ty next, ap length same)) cut;
     }
 
 pub flatten_members-flatten_payload-all-requires : goal.flatten_members-flatten_payload-all-requires
 flatten_members-flatten_payload-all-requires t c =
     let types = c.args.types.now in
-    let first = first_low types c.requires.down c.args.at (ahead_members types c.loop-words.ahead) (ahead_members types c.next.new.self) c.in-Some.ty c.in-Some.ensures.members c.loop-words.invariant.low in
+    let first = first_low types c.requires.down c.args.at (ahead_members types c.loop-ahead.ahead) (ahead_members types c.next.new.self) c.in-Some.ty c.in-Some.ensures.members c.loop-ahead.invariant.low in
     let low = payload_rank_below c.args.at c.in-Some.ty first in
     let below : 5 * payload_rank c.in-Some.ty + 1 < t = omega (arith, low, c.decreases) in
-    (below, (c.requires.down, payload_below_more c.args.at (length types) c.in-Some.ty (omega (arith, c.requires.within)) first))
+    (below, (c.requires.down, (c.requires.worded, payload_below_more c.args.at (length types) c.in-Some.ty (omega (arith, c.requires.within)) first)))
 
-pub flatten_members-loop-words-smaller : goal.flatten_members-loop-words-smaller
-flatten_members-loop-words-smaller t c =
+pub flatten_members-loop-ahead-smaller : goal.flatten_members-loop-ahead-smaller
+flatten_members-loop-ahead-smaller t c =
     let types = c.args.types.now in
-    weights_next types (ahead_members types c.loop-words.ahead) (ahead_members types c.next.new.self) c.in-Some.ty c.in-Some.ensures.members
+    weights_next types (ahead_members types c.loop-ahead.ahead) (ahead_members types c.next.new.self) c.in-Some.ty c.in-Some.ensures.members
 
-pub flatten_members-loop-words-preserved : goal.flatten_members-loop-words-preserved
-flatten_members-loop-words-preserved t c =
+pub flatten_members-loop-ahead-preserved : goal.flatten_members-loop-ahead-preserved
+flatten_members-loop-ahead-preserved t c =
     let types = c.args.types.now in
     let ts = trees types in
-    let h = c.loop-words.invariant in
-    let before = ahead_members types c.loop-words.ahead in
+    let h = c.loop-ahead.invariant in
+    let before = ahead_members types c.loop-ahead.ahead in
     let ms = ahead_members types c.next.new.self in
     let next = c.in-Some.ensures.members in
     let put = c.flatten_payload-all in
     record {
-      words = (h.words.0, (λ e. h.words.1 (sym c.in-Some.ensures.cut ∙ e)), flattened ts c.args.words.room (kept c.loop-words.all) _ before ms h.words.0 c.in-Some.ty next h.words.2 c.loop-words.all.room (kept put.result) h.room put.ensures.words);
+      words = take_then c.args.words.room c.loop-ahead.all.room (kept c.loop-ahead.all) (kept put.result) (flatten_type (payload_in ts c.in-Some.ty)) (flatten_record (payloads_in ts ms)) _ h.room put.ensures.words (sym (ap (λ bs. take c.args.words.room (kept c.loop-ahead.all ++ flatten_record (payloads_in ts bs))) next) ∙ h.words);
       room = put.ensures.room ∙ h.room;
       low = rest_low types c.requires.down c.args.at before ms c.in-Some.ty next h.low;
       valid = c.in-Some.ensures.valid;
-      enough = λ wordy cut. enough_next types before ms c.in-Some.ty next c.args.words.room c.loop-words.all.room (kept c.loop-words.all) (kept put.result) h.room put.ensures.words (h.enough wordy (sym c.in-Some.ensures.cut ∙ cut));
     }
-
-pub flatten_each_member-returns-then-left-eq0-clause-words :
-    goal.flatten_each_member-returns-then-left-eq0-clause-words
-flatten_each_member-returns-then-left-eq0-clause-words t c =
-    let ts = trees c.args.types.now in
-    let r = c.args.words.room in
-    let all = c.loop-nth.all in
-    let h = c.loop-nth.invariant in
-    let ms = members (get_or c.args.types.now c.args.at c.index-types-at.result).kind in
-    let same = members_read c.args.types.now c.args.at c.index-types-at.result c.requires.within in
-    let fits = kept_fit all in
-    let none : r - length (kept all) ≡ 0 = omega (arith, h.room, c.left.ensures.left, c.if-left-eq0.true) in
-    take_none_left r (kept all) (flatten_record (payloads_in ts (drop c.loop-nth.nth ms))) (omega (arith, fits, h.room)) none ∙ h.words ∙ sym (ap (λ ms. take r (kept c.args.words ++ flatten_record (payloads_in ts ms))) same)
-
-pub flatten_each_member-flatten_payload-all-requires :
-    goal.flatten_each_member-flatten_payload-all-requires
-flatten_each_member-flatten_payload-all-requires t c =
-    let types = c.args.types.now in
-    let entry = get_or types c.args.at c.index-types-at.result in
-    let here = slice_get-get_or types c.args.at c.index-types-at.result c.requires.within in
-    let first = member_below c.args.at entry.kind c.loop-nth.nth c.member.result (c.requires.down c.args.at entry here) c.member.ensures in
-    let low = payload_rank_below c.args.at c.member.result first in
-    let below : 5 * payload_rank c.member.result + 1 < t = omega (arith, low, c.decreases) in
-    (below, (c.requires.down, payload_below_more c.args.at (length types) c.member.result (omega (arith, c.requires.within)) first))
-
-pub flatten_each_member-loop-nth-preserved : goal.flatten_each_member-loop-nth-preserved
-flatten_each_member-loop-nth-preserved t c =
-    let ts = trees c.args.types.now in
-    let ms = members (get_or c.args.types.now c.args.at c.index-types-at.result).kind in
-    let nth = c.loop-nth.nth in
-    let r = c.args.words.room in
-    let all = c.loop-nth.all in
-    let h = c.loop-nth.invariant in
-    let put = c.flatten_payload-all in
-    let next = drop_at ms nth c.member.result c.member.ensures in
-    record {
-      words = take_then r all.room (kept all) (kept put.result) (flatten_type (payload_in ts c.member.result)) (flatten_record (payloads_in ts (drop (nth + 1) ms))) _ h.room put.ensures.words (sym (ap (λ qs. take r (kept all ++ flatten_record (payloads_in ts qs))) next) ∙ h.words);
-      room = put.ensures.room ∙ h.room;
-    }
-
-pub flatten_each_member-returns-clause-words : goal.flatten_each_member-returns-clause-words
-flatten_each_member-returns-clause-words t c =
-    let ts = trees c.args.types.now in
-    let r = c.args.words.room in
-    let all = c.loop-nth.all in
-    let h = c.loop-nth.invariant in
-    let ms = members (get_or c.args.types.now c.args.at c.index-types-at.result).kind in
-    let same = members_read c.args.types.now c.args.at c.index-types-at.result c.requires.within in
-    let fits = kept_fit all in
-    let done : length ms ≤ c.loop-nth.nth = omega arith in
-    let none = drop_all c.loop-nth.nth ms done in
-    take_settled r (kept all) _ (omega (arith, fits, h.room)) (sym (ap (λ qs. take r (kept all ++ flatten_record (payloads_in ts qs))) none) ∙ h.words) ∙ sym (ap (λ ms. take r (kept c.args.words ++ flatten_record (payloads_in ts ms))) same)
-
-pub flatten_members-flatten_each_member-requires : goal.flatten_members-flatten_each_member-requires
-flatten_members-flatten_each_member-requires t c =
-    let types = c.args.types.now in
-    let h = c.loop-words.invariant in
-    let none : ahead_members types c.loop-words.ahead ≡ [] = (c.in_default.ensures {u = tt}).members in
-    let below : 5 * c.args.at + 2 < t = omega (arith, c.decreases) in
-    let wordless : EachHasWords types → ⊥ = λ wordy.
-    let enough = h.enough wordy (sym (c.in_default.ensures {u = tt}).cut ∙ c.if-ahead.true) in
-    omega (arith, enough, ap (λ ms. length (flatten_record (payloads_in (trees types) ms))) none, h.room, c.left.ensures.left, c.loop-words-test.true) in
-    (below, (c.requires.down, (c.requires.within, wordless)))

@@ -1,12 +1,11 @@
-use Rattle.std.proofs.Common.{◌≡◌, ◌+◌, ◌*◌, ◌≤◌, ◌++◌, true, false, List, [], Option, length, take, drop}
+use Rattle.std.proofs.Common.{◌≡◌, ◌+◌, ◌*◌, ◌≤◌, ◌++◌, true, length, take, drop}
 use Rattle.std.specs.List.{All}
-use Rattle.wit_model.specs.declared.types.WitType.{WitType}
 use Rattle.wit_model.specs.Parts.{parts}
 use Rattle.wit_model.specs.TypeOrder.{payload_below}
 use Rattle.wit_layout.specs.Ahead.{AreRuns, ahead_members}
-use Rattle.wit_layout.specs.Flat.{EachHasWords, flatten_record, slots}
+use Rattle.wit_layout.specs.Flat.{flatten_record, slots}
 use Rattle.wit_layout.specs.Words.{kept}
-use Rattle.wit_layout.specs.Sequence.{members, members_at}
+use Rattle.wit_layout.specs.Sequence.{members_at}
 use Rattle.wit_layout.specs.Tree.{payloads_in, trees}
 use Rattle.wit_layout.proofs.AheadWeight.{weights}
 use Rattle.wit_layout.proofs.FlattenSteps.{rank, payload_rank}
@@ -17,9 +16,6 @@ decreases-flatten_type l = 5 * rank l.ty
 
 abbrev pub decreases-flatten_payload : goal.decreases-flatten_payload
 decreases-flatten_payload l = 5 * payload_rank l.payload + 1
-
-abbrev pub decreases-flatten_each_member : goal.decreases-flatten_each_member
-decreases-flatten_each_member l = 5 * l.at + 2
 
 abbrev pub decreases-flatten_members : goal.decreases-flatten_members
 decreases-flatten_members l = 5 * l.at + 3
@@ -33,23 +29,16 @@ decreases-flatten_variant l = 5 * l.at + 3
 abbrev pub decreases-flatten_kind : goal.decreases-flatten_kind
 decreases-flatten_kind l = 5 * l.at + 4
 
-abbrev pub invariant-flatten_members-loop-words : goal.invariant-flatten_members-loop-words
-invariant-flatten_members-loop-words l = record {
-  words : (left_out : List (Option WitType)) × (l.ahead.cut ≡ false → left_out ≡ []) × (take l.fn.words.room (kept l.all ++ flatten_record (payloads_in (trees l.types) (ahead_members l.types l.ahead ++ left_out))) ≡ take l.fn.words.room (kept l.fn.words ++ flatten_record (payloads_in (trees l.types) (members_at l.types l.at))));
+abbrev pub invariant-flatten_members-loop-ahead : goal.invariant-flatten_members-loop-ahead
+invariant-flatten_members-loop-ahead l = record {
+  words : take l.fn.words.room (kept l.all ++ flatten_record (payloads_in (trees l.types) (ahead_members l.types l.ahead))) ≡ take l.fn.words.room (kept l.fn.words ++ flatten_record (payloads_in (trees l.types) (members_at l.types l.at)));
   room : l.all.room ≡ l.fn.words.room;
   low : All (λ p. payload_below l.at p ≡ true) (ahead_members l.types l.ahead);
   valid : AreRuns l.types l.ahead;
-  enough : EachHasWords l.types → l.ahead.cut ≡ true → l.fn.words.room ≤ length (kept l.all) + length (flatten_record (payloads_in (trees l.types) (ahead_members l.types l.ahead)));
 }
 
-abbrev pub decreases-flatten_members-loop-words : goal.decreases-flatten_members-loop-words
-decreases-flatten_members-loop-words l = weights l.types (ahead_members l.types l.ahead)
-
-abbrev pub invariant-flatten_each_member-loop-nth : goal.invariant-flatten_each_member-loop-nth
-invariant-flatten_each_member-loop-nth l = record {
-  words : take l.fn.words.room (kept l.all ++ flatten_record (payloads_in (trees l.types) (drop l.nth (members l.kind)))) ≡ take l.fn.words.room (kept l.fn.words ++ flatten_record (payloads_in (trees l.types) (members l.kind)));
-  room : l.all.room ≡ l.fn.words.room;
-}
+abbrev pub decreases-flatten_members-loop-ahead : goal.decreases-flatten_members-loop-ahead
+decreases-flatten_members-loop-ahead l = weights l.types (ahead_members l.types l.ahead)
 
 abbrev pub invariant-flatten_cases-loop-left : goal.invariant-flatten_cases-loop-left
 invariant-flatten_cases-loop-left l = record {

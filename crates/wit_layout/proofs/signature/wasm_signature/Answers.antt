@@ -2,12 +2,31 @@ use Rattle.std.proofs.Common.{◌≡◌, ◌∙◌, List, true, length, ap, ap�
 use Rattle.wit_model.specs.declared.function.Param.{Param}
 use Rattle.wit_model.specs.declared.wasm_type.WasmType.{WasmType}
 use Rattle.wit_model.specs.declared.types.TypeDef.{TypeDef}
-use Rattle.wit_model.specs.TypeOrder.{payload_below}
+use Rattle.wit_model.specs.TypeOrder.{payload_below, GoesDown}
+use Rattle.wit_model.proofs.WellFormedLemmas.{types_go_down}
+use Rattle.wit_layout.specs.Flat.{EachHasWords}
+use Rattle.wit_layout.proofs.CheckedWords.{checked_words}
 use Rattle.wit_layout.specs.Words.{kept}
 use Rattle.wit_layout.specs.Signature.{IsCoreSignature, param_words, result_words, params_below}
 use Rattle.wit_layout.proofs.SignatureSteps.{signature_cut, params_in_table, result_in_table}
 use Rattle.wit_layout.proofs.WordLists.{from_none}
 use Rattle.wit_layout.proofs.signature.wasm_signature.Goals as goal
+
+pub flatten_params-params-requires-clause-down : goal.flatten_params-params-requires-clause-down
+flatten_params-params-requires-clause-down c =
+    subst GoesDown (sym c.as_slice-types.ensures) (types_go_down c.args.resolve.now c.requires.well.unbroken)
+
+pub flatten_params-params-requires-clause-worded : goal.flatten_params-params-requires-clause-worded
+flatten_params-params-requires-clause-worded c =
+    subst EachHasWords (sym c.as_slice-types.ensures) (checked_words c.args.resolve.now c.requires.well.unbroken)
+
+pub flatten_payload-answer-requires-clause-down : goal.flatten_payload-answer-requires-clause-down
+flatten_payload-answer-requires-clause-down c =
+    subst GoesDown (sym c.as_slice-types.ensures) (types_go_down c.args.resolve.now c.requires.well.unbroken)
+
+pub flatten_payload-answer-requires-clause-worded : goal.flatten_payload-answer-requires-clause-worded
+flatten_payload-answer-requires-clause-worded c =
+    subst EachHasWords (sym c.as_slice-types.ensures) (checked_words c.args.resolve.now c.requires.well.unbroken)
 
 pub flatten_params-params-requires-clause-within : goal.flatten_params-params-requires-clause-within
 flatten_params-params-requires-clause-within c =

@@ -8,10 +8,10 @@ use Rattle.type_facts.proofs.Analysing.{analysis_of}
 use Rattle.type_facts.proofs.types.Types.analyze.Goals as goal
 
 pub all_reaches-requires : goal.all_reaches-requires
-all_reaches-requires c = subst GoesDown (sym c.as_slice-types.ensures) (types_go_down c.args.resolve.now c.requires)
+all_reaches-requires c = subst GoesDown (sym c.as_slice-types.ensures) (types_go_down c.args.resolve.now c.requires.unbroken)
 
 pub of_world-requires : goal.of_world-requires
-of_world-requires c = types_go_down c.args.resolve.now c.requires
+of_world-requires c = types_go_down c.args.resolve.now c.requires.unbroken
 
 pub returns : goal.returns
 returns c =

@@ -10,7 +10,7 @@ returns-then-member_count-gt0-clause-valid c =
     let types = c.args.types.now in
     let room = c.make_room in
     let some : 0 < length (members_at types c.args.at) = omega (arith, ap length (members_read types c.args.at c.index-types-at.result c.requires.within)) in
-    put_valid types c.args.self.now room.new.self c.push.new.self c.args.at room.ensures.runs room.ensures.cut c.push.ensures.runs c.push.ensures.cut c.requires.within some c.requires.valid
+    put_valid types c.args.self.now room.new.self c.push.new.self c.args.at room.ensures.runs c.push.ensures c.requires.within some c.requires.valid
 
 pub returns-then-member_count-gt0-clause-members :
     goal.returns-then-member_count-gt0-clause-members
@@ -18,7 +18,7 @@ returns-then-member_count-gt0-clause-members c =
     let types = c.args.types.now in
     let room = c.make_room in
     let some : 0 < length (members_at types c.args.at) = omega (arith, ap length (members_read types c.args.at c.index-types-at.result c.requires.within)) in
-    are_put types c.args.self.now room.new.self c.push.new.self c.args.at room.ensures.runs room.ensures.cut c.push.ensures.runs c.push.ensures.cut c.requires.within some c.requires.valid
+    are_put types c.args.self.now room.new.self c.push.new.self c.args.at room.ensures.runs c.push.ensures c.requires.within some c.requires.valid
 
 pub returns-else-member_count-gt0-clause-members :
     goal.returns-else-member_count-gt0-clause-members
