@@ -2,7 +2,7 @@
 
 use crate::sample::{TYPES, entry, sample};
 use std::test::Fail;
-use wit_layout::SizeAlign;
+use wit_layout::{RunningOffset, SizeAlign};
 use wit_model::{TypeId, WitType};
 
 /// What is told of a type: its bytes and pointers, its alignment at pointers of 4 and of 8 bytes, the bytes and pointers
@@ -135,5 +135,33 @@ fn a_record_of_two_types(rt: HostRuntime) -> Result<(), Fail> {
     let sizes = SizeAlign::fill(rt.alloc(), &resolve)?;
     assert!(rt; measured(&sizes, &[WitType::U8, WitType::String]) == [0, 3, 0, 1]);
     assert!(rt; measured(&sizes, &[WitType::U32, WitType::U64]) == [16, 0, 8, 0]);
+    Ok(())
+}
+
+/// The bytes and pointers before the second and the third of three types, one place after another.
+fn gone_along(sizes: &SizeAlign, types: &[WitType]) -> [u64; 4] {
+    let mut running = RunningOffset::new();
+    match types {
+        [first, second, third]
+            if sizes.has_size(first) && sizes.has_size(second) && sizes.has_size(third) => {
+            if !sizes.fits_in_record(types) {
+                return [0; 4];
+            }
+            let _first = sizes.next_offset(types, &mut running);
+            let second = sizes.next_offset(types, &mut running);
+            let third = sizes.next_offset(types, &mut running);
+            [second.bytes, second.pointers, third.bytes, third.pointers]
+        }
+        _ => [0; 4],
+    }
+}
+
+#[test]
+fn along_a_record_of_three_types(rt: HostRuntime) -> Result<(), Fail> {
+    let resolve = sample(rt.alloc())?;
+    let sizes = SizeAlign::fill(rt.alloc(), &resolve)?;
+    let types = [WitType::U8, WitType::String, WitType::U64];
+    // at 4 bytes 4 + 8 at the next multiple of 8, at 8 bytes 8 + 16
+    assert!(rt; gone_along(&sizes, &types) == [0, 1, 8, 2]);
     Ok(())
 }

@@ -12,6 +12,7 @@ pub mod PartSteps
 pub mod RecordSteps
 pub mod Repeats
 pub mod Rounding
+pub mod RunningSteps
 pub mod SequenceSteps
 pub mod SignatureSteps
 pub mod TreeLemmas

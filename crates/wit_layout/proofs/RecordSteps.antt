@@ -42,7 +42,7 @@ ends_in_room sizes members room =
     let all = members_seen 3 sizes members in
     ⊎_elim (λ two. inl two) (λ fits. inr (omega (arith, record_behind all, ltb-true (record_extent all).bytes (2 ^ 31) fits))) room
 
-end-split : (n : ℕ) (parts : List Extent) (from : ℕ) → end (drop n parts) (end (take n parts) from) ≡ end parts from
+pub end-split : (n : ℕ) (parts : List Extent) (from : ℕ) → end (drop n parts) (end (take n parts) from) ≡ end parts from
 end-split zero parts from = refl
 end-split (suc n) [] from = refl
 end-split (suc n) (part ∷ parts) from = end-split n parts (place part from + part.bytes)

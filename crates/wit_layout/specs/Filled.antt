@@ -1,11 +1,12 @@
 -- For which table the sizes were made, and which of its types is too large for them.
-use Rattle.std.specs.Prelude.{◌≡◌, ℕ, ◌^◌, ◌<◌, ◌≤◌, ◌⊎◌, Bool, true, nat_le, nat_lt, List, length, map, position, Option, Some}
+use Rattle.std.specs.Prelude.{◌≡◌, ℕ, ◌^◌, ◌<◌, ◌≤◌, ◌⊎◌, Bool, true, nat_le, nat_lt, List, length, map, take, position, Option, Some}
 use Rattle.std.specs.List.{list_all}
 use Rattle.wit_model.specs.declared.types.WitType.{WitType}
 use Rattle.wit_model.specs.declared.types.TypeDef.{TypeDef}
 use Rattle.wit_model.specs.TypeOrder.{type_below}
 use Rattle.wit_layout.specs.declared.fault.LayoutFault.{LayoutFault}
 use Rattle.wit_layout.specs.declared.fault.LayoutFault.TheVariants.{TooLarge, OutOfMemory}
+use Rattle.wit_layout.specs.declared.running_offset.RunningOffset.{RunningOffset}
 use Rattle.wit_layout.specs.declared.size_align.SizeAlign.{SizeAlign}
 use Rattle.wit_layout.specs.Extent.{Extent, end, record_extent}
 use Rattle.wit_layout.specs.Tree.{trees}
@@ -39,6 +40,11 @@ IsMeasurable sizes members = (length members ≤ 2) ⊎ (fits_in_record sizes me
 -- and the same of where the last of them ends
 abbrev pub EndsInRoom : SizeAlign → List WitType → Type 0
 EndsInRoom sizes members = (length members ≤ 2) ⊎ (end (members_seen 3 sizes members) 0 < 2 ^ 31)
+
+-- so many of some types have been gone along, and that is where the last of them ends in a record
+abbrev pub IsBehind : SizeAlign → List WitType → RunningOffset → Type 0
+IsBehind sizes members at =
+    (at.end.at4 ≡ end (members_seen 2 sizes (take at.nth members)) 0) × (at.end.at8 ≡ end (members_seen 3 sizes (take at.nth members)) 0)
 
 -- the first type that has more than 2^31 - 1 bytes where a pointer has 8, and so more than where it has 4
 unfoldable pub first_too_large : List TypeDef → Option ℕ
