@@ -15,9 +15,9 @@ use Rattle.wit_model.specs.declared.types.TypeDef.{TypeDef}
 use Rattle.wit_model.specs.TypeOrder.{type_below, payload_below, GoesDown}
 use Rattle.wit_layout.specs.declared.ahead.Run.{Run}
 use Rattle.wit_layout.specs.declared.ahead.Ahead.{Ahead}
-use Rattle.wit_layout.specs.Ahead.{AreRuns, IsRun, ArePut, ahead_members, runs, runs_members, run_members}
+use Rattle.wit_layout.specs.inside.Ahead.{AreRuns, IsRun, ArePut, ahead_members, runs, runs_members, run_members}
 use Rattle.wit_layout.specs.Flat.{EachHasWords, flatten_type, flatten_record}
-use Rattle.wit_layout.specs.Sequence.{members, members_at, members_of_entry}
+use Rattle.wit_layout.specs.inside.Sequence.{members, members_at, members_of_entry}
 use Rattle.wit_layout.specs.Tree.{tree_at, tree_in, payload_in, payloads_in, trees}
 use Rattle.wit_layout.proofs.AheadTurns.{entry_at}
 use Rattle.wit_layout.proofs.FlattenSteps.{members_low, payload_below_more}

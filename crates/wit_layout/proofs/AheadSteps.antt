@@ -8,8 +8,8 @@ use Rattle.wit_model.specs.declared.types.WitType.{WitType}
 use Rattle.wit_model.specs.declared.types.TypeDef.{TypeDef}
 use Rattle.wit_layout.specs.declared.ahead.Run.{Run}
 use Rattle.wit_layout.specs.declared.ahead.Ahead.{Ahead}
-use Rattle.wit_layout.specs.Ahead.{runs, runs_members, run_members, ahead_members, IsRun, AreRuns, ArePut}
-use Rattle.wit_layout.specs.Sequence.{members_at}
+use Rattle.wit_layout.specs.inside.Ahead.{runs, runs_members, run_members, ahead_members, IsRun, AreRuns, ArePut}
+use Rattle.wit_layout.specs.inside.Sequence.{members_at}
 use Rattle.wit_layout.proofs.WordLists.{drop_at}
 
 pub runs-length : (a : Ahead) → length (runs a) ≡ a.count

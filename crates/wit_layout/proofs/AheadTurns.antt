@@ -9,7 +9,7 @@ use Rattle.wit_model.specs.declared.types.WitType.TheVariants.{Id}
 use Rattle.wit_model.specs.declared.types.TypeDef.{TypeDef}
 use Rattle.wit_model.specs.TypeOrder.{type_below, payload_below, GoesDown}
 use Rattle.wit_layout.specs.Flat.{flatten_type, flatten_record}
-use Rattle.wit_layout.specs.Sequence.{members_at}
+use Rattle.wit_layout.specs.inside.Sequence.{members_at}
 use Rattle.wit_layout.specs.Tree.{trees, payload_in, payloads_in}
 use Rattle.wit_layout.proofs.FlattenSteps.{payload_below_more, members_low, words_at}
 use Rattle.wit_layout.proofs.SequenceSteps.{IsSequenceAt}

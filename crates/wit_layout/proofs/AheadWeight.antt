@@ -7,7 +7,7 @@ use Rattle.wit_model.specs.declared.types.WitType.{WitType}
 use Rattle.wit_model.specs.declared.types.WitType.TheVariants as wit
 use Rattle.wit_model.specs.declared.types.TypeDef.{TypeDef}
 use Rattle.wit_model.specs.TypeOrder.{payload_below}
-use Rattle.wit_layout.specs.Sequence.{members_at}
+use Rattle.wit_layout.specs.inside.Sequence.{members_at}
 use Rattle.wit_layout.proofs.FlattenSteps.{payload_rank, payload_rank_below}
 
 sum_le : {A : Type 0} (P : A → Type 0) (f g : A → ℕ) → ((x : A) → P x → f x ≤ g x) → (xs : List A) → All P xs → sum_by f xs ≤ sum_by g xs

@@ -15,8 +15,9 @@ use Rattle.wit_layout.specs.declared.type_layout.TypeLayout.{TypeLayout}
 use Rattle.wit_layout.specs.Extent.{Extent}
 use Rattle.wit_layout.specs.Tree.{Tree, nothing, trees, tree_at, tree_of, tree_by}
 use Rattle.wit_layout.specs.Sizes.{elem_size, extent_of, payload_offset, field_offsets}
-use Rattle.wit_layout.specs.Stored.{seen, seen_type, seen_payload, is_alias, IsPairOf, ArePairsOf, AreLayoutsOf}
-use Rattle.wit_layout.specs.KindLayout.{IsKindLayout}
+use Rattle.wit_layout.specs.inside.Stored.{seen, seen_type, seen_payload, AreLayoutsOf}
+use Rattle.wit_layout.specs.Told.{is_alias, IsPairOf, ArePairsOf}
+use Rattle.wit_layout.specs.inside.KindLayout.{IsKindLayout}
 use Rattle.wit_layout.specs.Filled.{first_too_large}
 use Rattle.wit_layout.proofs.TreeLemmas.{tree_at_by, trees-length}
 use Rattle.wit_layout.proofs.KindLemmas.{Agree, none_within, type_seen, kind_seen, payload_offset_seen, field_offsets_seen, alias_payload, alias_offsets}

@@ -17,7 +17,7 @@ use Rattle.wit_model.specs.Parts.{parts}
 use Rattle.wit_model.specs.TypeOrder.{type_below, payload_below, GoesDown}
 use Rattle.wit_layout.specs.Tree.{Tree, payloads_in, bare, tree_by, tree_at, trees}
 use Rattle.wit_layout.specs.Flat.{flatten_type, flatten_record, slots, pointer_and_length, words_of_flags}
-use Rattle.wit_layout.specs.Sequence.{is_sequence, members, members_of_entry, members_at}
+use Rattle.wit_layout.specs.inside.Sequence.{is_sequence, members, members_of_entry, members_at}
 use Rattle.wit_layout.proofs.SequenceSteps.{member_below, words_of_members}
 use Rattle.wit_layout.proofs.TreeLemmas.{tree_at_by}
 use Rattle.wit_layout.proofs.PartSteps.{part_below}

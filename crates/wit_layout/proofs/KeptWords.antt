@@ -3,7 +3,7 @@ use Rattle.std.proofs.Common.{◌≡◌, ℕ, ◌+◌, ◌≤◌, ◌<◌, ◌�
 use Rattle.std.proofs.lemmas.List.{drop_more, length-take, length-take-le, get_or-take}
 use Rattle.wit_model.specs.declared.wasm_type.WasmType.{WasmType}
 use Rattle.wit_layout.specs.declared.words.Words.{Words}
-use Rattle.wit_layout.specs.Words.{kept}
+use Rattle.wit_layout.specs.inside.Words.{kept}
 
 pub kept_fit : (w : Words) → length (kept w) ≤ w.room
 kept_fit w = omega (arith, length-take w.count w.words, w.bounded)

@@ -14,8 +14,9 @@ use Rattle.wit_layout.specs.Extent.{Extent, extent, places, greater, greatest, r
 use Rattle.wit_layout.specs.Tree.{Tree, nothing, tree_in, payload_in, payloads_in, bare, tree_by}
 use Rattle.wit_layout.specs.Tree.Trees.{none, more}
 use Rattle.wit_layout.specs.Sizes.{count, extent_of, extents_of, payload_offset, field_offsets}
-use Rattle.wit_layout.specs.Kind.{kind_extent, kind_payload, kind_offsets}
-use Rattle.wit_layout.specs.Stored.{seen, seen_at, seen_type, seen_payload, is_alias}
+use Rattle.wit_layout.specs.inside.Kind.{kind_extent, kind_payload, kind_offsets}
+use Rattle.wit_layout.specs.inside.Stored.{seen, seen_at, seen_type, seen_payload}
+use Rattle.wit_layout.specs.Told.{is_alias}
 use Rattle.wit_layout.proofs.TreeLemmas.{first_below, later_below}
 
 -- the layouts say what the trees take

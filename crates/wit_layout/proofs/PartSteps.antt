@@ -14,8 +14,8 @@ use Rattle.wit_model.specs.TypeOrder.{payload_below, parts_below}
 use Rattle.wit_layout.specs.declared.parts.Parts.{Parts}
 use Rattle.wit_layout.specs.declared.stored.StoredExtent.{StoredExtent}
 use Rattle.wit_layout.specs.Extent.{Extent, extent, place, places, end, greater, greatest}
-use Rattle.wit_layout.specs.Grain.{exponent}
-use Rattle.wit_layout.specs.Stored.{seen}
+use Rattle.wit_layout.specs.inside.Grain.{exponent}
+use Rattle.wit_layout.specs.inside.Stored.{seen}
 use Rattle.wit_layout.proofs.WordLists.{drop_at}
 
 -- a part of a kind whose parts all name lower ids

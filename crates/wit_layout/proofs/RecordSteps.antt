@@ -15,7 +15,7 @@ use Rattle.wit_layout.specs.declared.size_align.SizeAlign.{SizeAlign}
 use Rattle.wit_layout.specs.Extent.{Extent, place, places, end, greatest, record_extent}
 use Rattle.wit_layout.specs.Tree.{nothing, trees, payloads_in, record_of}
 use Rattle.wit_layout.specs.Sizes.{elem_size, extent_of, extents_of}
-use Rattle.wit_layout.specs.Stored.{seen, seen_type}
+use Rattle.wit_layout.specs.inside.Stored.{seen, seen_type}
 use Rattle.wit_layout.specs.Filled.{IsFilledFor, IsMeasurable, EndsInRoom, have_sizes, members_seen, fits_in_record}
 use Rattle.wit_layout.proofs.KindLemmas.{type_seen}
 

@@ -9,7 +9,7 @@ use Rattle.wit_model.specs.declared.types.WitType.{WitType}
 use Rattle.wit_layout.specs.declared.stored.StoredExtent.{StoredExtent}
 use Rattle.wit_layout.specs.declared.size_align.SizeAlign.{SizeAlign}
 use Rattle.wit_layout.specs.Extent.{Extent, place, end, record_extent}
-use Rattle.wit_layout.specs.Stored.{seen, seen_type}
+use Rattle.wit_layout.specs.inside.Stored.{seen, seen_type}
 use Rattle.wit_layout.specs.Filled.{members_seen, fits_in_record}
 use Rattle.wit_layout.proofs.RecordSteps.{end_behind, end-split, record_behind}
 

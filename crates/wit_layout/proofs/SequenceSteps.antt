@@ -14,7 +14,7 @@ use Rattle.wit_layout.specs.Flat.{flatten_type, flatten_record, repeated}
 use Rattle.wit_layout.specs.Tree.{Tree, tree_in, tree_by, payload_in, payloads_in}
 use Rattle.wit_layout.proofs.PartSteps.{part_below}
 use Rattle.wit_model.specs.declared.types.WitType.TheVariants as wit
-use Rattle.wit_layout.specs.Sequence.{is_sequence, members, members_of_entry, members_at, place_of_entry, sequence_place}
+use Rattle.wit_layout.specs.inside.Sequence.{is_sequence, members, members_of_entry, members_at, place_of_entry, sequence_place}
 
 only_at : {A : Type 0} (x : A) (nth : ℕ) → nth < length (x ∷ []) → slice_get (x ∷ []) nth ≡ Some x
 only_at x zero l = refl

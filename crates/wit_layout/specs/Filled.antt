@@ -11,7 +11,7 @@ use Rattle.wit_layout.specs.declared.size_align.SizeAlign.{SizeAlign}
 use Rattle.wit_layout.specs.Extent.{Extent, end, record_extent}
 use Rattle.wit_layout.specs.Tree.{trees}
 use Rattle.wit_layout.specs.Sizes.{elem_size}
-use Rattle.wit_layout.specs.Stored.{seen_type, AreLayoutsOf}
+use Rattle.wit_layout.specs.inside.Stored.{seen_type, AreLayoutsOf}
 
 -- the sizes are those of the types of this table
 abbrev pub IsFilledFor : SizeAlign → List TypeDef → Type 0

@@ -23,7 +23,7 @@ pub(crate) struct Ahead {
 }
 
 impl Ahead {
-    ghost use Rattle.wit_layout.specs.Ahead.{ArePut, AreRuns, ahead_members, runs};
+    ghost use Rattle.wit_layout.specs.inside.Ahead.{ArePut, AreRuns, ahead_members, runs};
 
     /// No member.
     pub(crate) fn none() -> Ahead

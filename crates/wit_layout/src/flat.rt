@@ -20,7 +20,7 @@ pub struct Flat {
 
 impl Flat {
     ghost use Rattle.std.specs.Prelude.{take};
-    ghost use Rattle.wit_layout.specs.Words.{kept};
+    ghost use Rattle.wit_layout.specs.inside.Words.{kept};
 
     /// The first sixteen of the words.
     pub(crate) fn of_words(all: Words) -> Flat

@@ -5,8 +5,8 @@ ghost use Rattle.wit_model.specs.declared.types.TypeDef.{TypeDef};
 ghost use Rattle.wit_model.specs.Parts.{parts};
 ghost use Rattle.wit_model.specs.TypeOrder.{GoesDown, type_below, payload_below};
 ghost use Rattle.wit_layout.specs.Flat.{EachHasWords, flatten_type, flatten_record, pointer_and_length, slots, words_of_flags};
-ghost use Rattle.wit_layout.specs.Words.{kept};
-ghost use Rattle.wit_layout.specs.Sequence.{members_at};
+ghost use Rattle.wit_layout.specs.inside.Words.{kept};
+ghost use Rattle.wit_layout.specs.inside.Sequence.{members_at};
 ghost use Rattle.wit_layout.specs.Tree.{trees, tree_at, tree_of, payload_in, payloads_in};
 
 use crate::ahead::Ahead;

@@ -1,5 +1,5 @@
 ghost use Rattle.std.specs.Prelude.{◌≡◌, ◌^◌, ◌<◌, ◌≤◌, max};
-ghost use Rattle.wit_layout.specs.Grain.{exponent};
+ghost use Rattle.wit_layout.specs.inside.Grain.{exponent};
 ghost use Rattle.wit_model.specs.Size.{alignment_at};
 
 use wit_model::Alignment;

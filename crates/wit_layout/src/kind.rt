@@ -9,9 +9,10 @@ ghost use Rattle.wit_layout.specs.Extent.{
   variant_extent,
   flags_extent,
 };
-ghost use Rattle.wit_layout.specs.Grain.{exponent};
-ghost use Rattle.wit_layout.specs.Kind.{case_count, part_extents, kind_extent, kind_payload, kind_offsets};
-ghost use Rattle.wit_layout.specs.Stored.{seen, seen_type, seen_payload, IsStored, IsPairOf, ArePairsOf};
+ghost use Rattle.wit_layout.specs.inside.Grain.{exponent};
+ghost use Rattle.wit_layout.specs.inside.Kind.{case_count, part_extents, kind_extent, kind_payload, kind_offsets};
+ghost use Rattle.wit_layout.specs.inside.Stored.{seen, seen_type, seen_payload, IsStored};
+ghost use Rattle.wit_layout.specs.Told.{IsPairOf, ArePairsOf};
 ghost use Rattle.wit_model.specs.Numbered.{kind_numbered};
 ghost use Rattle.wit_model.specs.Parts.{parts};
 ghost use Rattle.wit_model.specs.TypeOrder.{type_below, payload_below, parts_below};

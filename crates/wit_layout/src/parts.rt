@@ -1,7 +1,7 @@
 ghost use Rattle.std.specs.Prelude.{◌≡◌, ◌+◌, ◌-◌, ◌^◌, ◌<◌, ◌≤◌};
 ghost use Rattle.wit_layout.specs.Extent.{extent, place, greater, record_of_grain, discriminant_grain, payload_place, variant_extent};
-ghost use Rattle.wit_layout.specs.Grain.{exponent};
-ghost use Rattle.wit_layout.specs.Spread.{bytes_of, Grows, IsSize};
+ghost use Rattle.wit_layout.specs.inside.Grain.{exponent};
+ghost use Rattle.wit_layout.specs.inside.Spread.{bytes_of, Grows, IsSize};
 
 use crate::grain::Grain;
 use crate::spread::Spread;
@@ -22,7 +22,7 @@ pub(crate) struct Parts {
 }
 
 impl Parts {
-    ghost use Rattle.wit_layout.specs.Stored.{seen, IsStored};
+    ghost use Rattle.wit_layout.specs.inside.Stored.{seen, IsStored};
 
     /// No part.
     pub(crate) fn none() -> Parts

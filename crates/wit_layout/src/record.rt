@@ -10,9 +10,9 @@ ghost use Rattle.wit_layout.specs.Filled.{
   members_seen,
   fits_in_record,
 };
-ghost use Rattle.wit_layout.specs.Grain.{exponent};
+ghost use Rattle.wit_layout.specs.inside.Grain.{exponent};
 ghost use Rattle.wit_layout.specs.Sizes.{elem_size, alignment, field_offsets};
-ghost use Rattle.wit_layout.specs.Stored.{IsPairOf, IsAlignmentOf};
+ghost use Rattle.wit_layout.specs.Told.{IsPairOf, IsAlignmentOf};
 ghost use Rattle.wit_layout.specs.Tree.{record_of};
 
 use crate::kind::extent_of;

@@ -6,7 +6,7 @@ ghost use Rattle.wit_model.specs.declared.types.WitType.{WitType};
 ghost use Rattle.wit_layout.specs.declared.size_align.SizeAlign.{SizeAlign};
 ghost use Rattle.wit_layout.specs.Filled.{IsBehind, IsFilledFor, fits_in_record, have_sizes};
 ghost use Rattle.wit_layout.specs.Sizes.{field_offsets};
-ghost use Rattle.wit_layout.specs.Stored.{IsPairOf};
+ghost use Rattle.wit_layout.specs.Told.{IsPairOf};
 ghost use Rattle.wit_layout.specs.Tree.{record_of};
 
 use crate::kind::extent_of;

@@ -1,4 +1,4 @@
-ghost use Rattle.wit_layout.specs.Spread.{IsSize};
+ghost use Rattle.wit_layout.specs.inside.Spread.{IsSize};
 
 use crate::spread::Spread;
 

@@ -2,11 +2,11 @@
 
 ghost use Rattle.std.specs.Prelude.{◌≡◌, ◌<◌, IsTrue, Some, length, slice_get};
 ghost use Rattle.wit_model.specs.TypeOrder.{payload_below};
-ghost use Rattle.wit_layout.specs.Sequence.{is_sequence, members, sequence_place};
+ghost use Rattle.wit_layout.specs.inside.Sequence.{is_sequence, members, sequence_place};
 
 use wit_model::{TypeDef, TypeDefKind, WitType};
 
-#[tactic(auto, unfolding(crate::specs::Sequence::is_sequence))]
+#[tactic(auto, unfolding(crate::specs::inside::Sequence::is_sequence))]
 fn is_sequence(kind: &TypeDefKind) -> bool
     ensures { result ≡ is_sequence kind.now }
 {
@@ -18,7 +18,7 @@ fn is_sequence(kind: &TypeDefKind) -> bool
 }
 
 /// How many members the kind has.
-#[tactic(auto, unfolding(crate::specs::Sequence::members))]
+#[tactic(auto, unfolding(crate::specs::inside::Sequence::members))]
 pub(crate) fn member_count(kind: &TypeDefKind) -> usize
     ensures { result ≡ length (members kind.now) }
 {
@@ -32,7 +32,7 @@ pub(crate) fn member_count(kind: &TypeDefKind) -> usize
 }
 
 /// The member of the kind in a place, counted from 0.
-#[tactic(auto, unfolding(crate::specs::Sequence::members))]
+#[tactic(auto, unfolding(crate::specs::inside::Sequence::members))]
 pub(crate) fn member(kind: &TypeDefKind, nth: usize) -> Option<WitType>
     requires { nth < length (members kind.now) }
     ensures { slice_get (members kind.now) nth ≡ Some result }

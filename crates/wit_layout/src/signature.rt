@@ -6,7 +6,7 @@ ghost use Rattle.wit_model.specs.TypeOrder.{GoesDown};
 ghost use Rattle.wit_model.specs.WellFormed.{IsWellFormed};
 ghost use Rattle.wit_layout.specs.declared.signature.AbiVariant.{AbiVariant};
 ghost use Rattle.wit_layout.specs.Flat.{EachHasWords};
-ghost use Rattle.wit_layout.specs.Words.{kept};
+ghost use Rattle.wit_layout.specs.inside.Words.{kept};
 ghost use Rattle.wit_layout.specs.Signature.{IsCoreSignature, IsFlattenedFunctype, core_params, direct_words, has_param, param_words, params_below, result_words};
 
 use crate::flat::Flat;

@@ -2,7 +2,7 @@ ghost use Rattle.std.specs.Prelude.{◌≡◌, ◌<◌, length, IfOk, IfErr, OnO
 ghost use Rattle.wit_model.specs.Size.{alignment_at};
 ghost use Rattle.wit_model.specs.WellFormed.{IsWellFormed};
 ghost use Rattle.wit_layout.specs.Sizes.{elem_size, alignment, payload_offset, field_offsets};
-ghost use Rattle.wit_layout.specs.Stored.{IsPairOf, ArePairsOf, IsAlignmentOf, is_alias};
+ghost use Rattle.wit_layout.specs.Told.{IsPairOf, ArePairsOf, IsAlignmentOf, is_alias};
 ghost use Rattle.wit_layout.specs.Tree.{tree_at, tree_of};
 
 use crate::fault::LayoutFault;

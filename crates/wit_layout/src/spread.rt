@@ -1,6 +1,6 @@
 ghost use Rattle.std.specs.Prelude.{◌≡◌, ◌+◌, ◌^◌, ◌≤◌, ◌<◌, max};
-ghost use Rattle.wit_layout.specs.Grain.{exponent};
-ghost use Rattle.wit_layout.specs.Spread.{IsSize};
+ghost use Rattle.wit_layout.specs.inside.Grain.{exponent};
+ghost use Rattle.wit_layout.specs.inside.Spread.{IsSize};
 ghost use Rattle.wit_model.specs.Size.{bytes_at, rounded_up};
 
 use crate::grain::Grain;

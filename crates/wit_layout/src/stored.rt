@@ -1,8 +1,8 @@
 ghost use Rattle.std.specs.Prelude.{◌≡◌, ◌≢◌, ◌^◌, ◌<◌, ◌≤◌};
 ghost use Rattle.wit_layout.specs.Extent.{extent, fixed_extent};
-ghost use Rattle.wit_layout.specs.Grain.{exponent};
+ghost use Rattle.wit_layout.specs.inside.Grain.{exponent};
 ghost use Rattle.wit_layout.specs.Sizes.{pointer_and_length};
-ghost use Rattle.wit_layout.specs.Spread.{bytes_of, IsSize};
+ghost use Rattle.wit_layout.specs.inside.Spread.{bytes_of, IsSize};
 ghost use Rattle.wit_model.specs.Size.{bytes_at};
 
 use crate::grain::Grain;
@@ -23,7 +23,7 @@ pub(crate) struct StoredExtent {
 }
 
 impl StoredExtent {
-    ghost use Rattle.wit_layout.specs.Stored.{seen, IsStored};
+    ghost use Rattle.wit_layout.specs.inside.Stored.{seen, IsStored};
 
     /// A number of bytes, aligned to as many.
     pub(crate) fn number(bytes: u64, grain: Grain) -> StoredExtent

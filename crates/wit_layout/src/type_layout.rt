@@ -20,7 +20,7 @@ pub(crate) struct TypeLayout {
 }
 
 impl TypeLayout {
-    ghost use Rattle.wit_layout.specs.KindLayout.{IsKindLayout};
+    ghost use Rattle.wit_layout.specs.inside.KindLayout.{IsKindLayout};
 
     /// The layout of a kind, by those of the entries before it, if it can be stored.
     pub(crate) fn of_kind(

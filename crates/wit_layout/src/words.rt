@@ -16,7 +16,7 @@ pub(crate) struct Words {
 
 impl Words {
     ghost use Rattle.wit_layout.specs.Flat.{joined};
-    ghost use Rattle.wit_layout.specs.Words.{kept};
+    ghost use Rattle.wit_layout.specs.inside.Words.{kept};
 
     /// No word, and room for so many.
     pub(crate) fn none(room: usize) -> Words

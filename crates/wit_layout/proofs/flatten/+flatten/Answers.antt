@@ -3,8 +3,8 @@ use Rattle.std.proofs.lemmas.List.{append-nil}
 use Rattle.std.proofs.lemmas.List.Elements.{All-nil}
 use Rattle.std.proofs.lemmas.Option.{slice_get-get_or, slice_get_within, get_or_from_slice_get}
 use Rattle.wit_model.specs.TypeOrder.{payload_below}
-use Rattle.wit_layout.specs.Ahead.{ahead_members, runs_members}
-use Rattle.wit_layout.specs.Sequence.{members_at}
+use Rattle.wit_layout.specs.inside.Ahead.{ahead_members, runs_members}
+use Rattle.wit_layout.specs.inside.Sequence.{members_at}
 use Rattle.wit_layout.proofs.AheadEnough.{put_words}
 use Rattle.wit_layout.proofs.AheadTurns.{entry_at, low_put, first_low, rest_low, place_words, after_low, fewer_after}
 use Rattle.wit_layout.proofs.AheadWeight.{weights_next}
@@ -13,7 +13,7 @@ use Rattle.wit_model.specs.declared.wasm_type.WasmType.TheVariants.{I32}
 use Rattle.wit_model.specs.declared.types.TypeDef.{TypeDef}
 use Rattle.wit_model.specs.Parts.{parts}
 use Rattle.wit_layout.specs.Flat.{flatten_type, flatten_record, slots, joined, words_of_flags}
-use Rattle.wit_layout.specs.Words.{kept}
+use Rattle.wit_layout.specs.inside.Words.{kept}
 use Rattle.wit_layout.specs.Tree.{trees, payload_in, payloads_in}
 use Rattle.wit_layout.proofs.FlattenSteps.{payload_rank, payload_rank_below, payload_below_more, by_kind, members_low, words_of_entry, part_rank, part_in_table, words_of_lists, words_of_flag_kind, words_of_handles, words_of_async, words_of_unknown, words_of_payloads, words_of_cases}
 use Rattle.wit_layout.proofs.JoinedWords.{repeated_slots}

@@ -2,10 +2,10 @@ use Rattle.std.proofs.Common.{◌≡◌, ◌+◌, ◌*◌, ◌≤◌, ◌++◌, 
 use Rattle.std.specs.List.{All}
 use Rattle.wit_model.specs.Parts.{parts}
 use Rattle.wit_model.specs.TypeOrder.{payload_below}
-use Rattle.wit_layout.specs.Ahead.{AreRuns, ahead_members}
+use Rattle.wit_layout.specs.inside.Ahead.{AreRuns, ahead_members}
 use Rattle.wit_layout.specs.Flat.{flatten_record, slots}
-use Rattle.wit_layout.specs.Words.{kept}
-use Rattle.wit_layout.specs.Sequence.{members_at}
+use Rattle.wit_layout.specs.inside.Words.{kept}
+use Rattle.wit_layout.specs.inside.Sequence.{members_at}
 use Rattle.wit_layout.specs.Tree.{payloads_in, trees}
 use Rattle.wit_layout.proofs.AheadWeight.{weights}
 use Rattle.wit_layout.proofs.FlattenSteps.{rank, payload_rank}

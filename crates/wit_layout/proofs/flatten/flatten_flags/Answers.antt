@@ -1,6 +1,6 @@
 use Rattle.std.proofs.Common.{◌∙◌, ◌-◌, ◌+◌, ◌∷◌, ◌++◌, [], ap, sym, take, replicate}
 use Rattle.wit_model.specs.declared.wasm_type.WasmType.TheVariants.{I32}
-use Rattle.wit_layout.specs.Words.{kept}
+use Rattle.wit_layout.specs.inside.Words.{kept}
 use Rattle.wit_layout.proofs.WordLists.{take_then, replicate_step}
 use Rattle.wit_layout.proofs.flatten.flatten_flags.Goals as goal
 

@@ -1,7 +1,7 @@
 use Rattle.std.proofs.Common.{◌≡◌, ◌-◌, ◌++◌, take, replicate}
 use Rattle.wit_model.specs.declared.wasm_type.WasmType.TheVariants.{I32}
 use Rattle.wit_layout.specs.Flat.{words_of_flags}
-use Rattle.wit_layout.specs.Words.{kept}
+use Rattle.wit_layout.specs.inside.Words.{kept}
 use Rattle.wit_layout.proofs.flatten.flatten_flags.Given as goal
 
 abbrev pub invariant-loop-word : goal.invariant-loop-word

@@ -1,6 +1,6 @@
 use Rattle.std.proofs.Common.{◌<◌, ◌^◌, length, arith}
 use Rattle.wit_model.specs.Parts.{parts}
-use Rattle.wit_layout.specs.Stored.{seen_payload}
+use Rattle.wit_layout.specs.inside.Stored.{seen_payload}
 use Rattle.wit_layout.proofs.PartSteps.{part_below, parts_short, one_gathered}
 use Rattle.wit_layout.proofs.kind.parts_of.Goals as goal
 

@@ -1,5 +1,5 @@
-use Rattle.wit_layout.specs.Kind.{part_extents}
-use Rattle.wit_layout.specs.Stored.{seen_payload}
+use Rattle.wit_layout.specs.inside.Kind.{part_extents}
+use Rattle.wit_layout.specs.inside.Stored.{seen_payload}
 use Rattle.wit_layout.proofs.PartSteps.{AreGathered}
 use Rattle.wit_layout.proofs.kind.parts_of.Given as goal
 

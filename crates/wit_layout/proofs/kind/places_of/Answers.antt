@@ -2,7 +2,7 @@ use Rattle.std.proofs.Common.{◌≡◌, ◌+◌, ◌<◌, ◌^◌, ◌++◌, �
 use Rattle.std.proofs.lemmas.List.{map_push}
 use Rattle.wit_model.specs.Size.{bytes_at}
 use Rattle.wit_model.specs.Parts.{parts}
-use Rattle.wit_layout.specs.Stored.{seen, seen_payload}
+use Rattle.wit_layout.specs.inside.Stored.{seen, seen_payload}
 use Rattle.wit_layout.proofs.PartSteps.{part_below, parts_short, places_kept}
 use Rattle.wit_layout.proofs.kind.places_of.Goals as goal
 

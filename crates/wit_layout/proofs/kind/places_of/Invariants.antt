@@ -1,9 +1,9 @@
 use Rattle.std.proofs.Common.{◌≡◌, ◌*◌, ◌^◌, ◌≤◌, ◌++◌, drop, map}
 use Rattle.wit_model.specs.Size.{bytes_at}
 use Rattle.wit_layout.specs.Extent.{places}
-use Rattle.wit_layout.specs.Kind.{part_extents}
-use Rattle.wit_layout.specs.Spread.{IsSize}
-use Rattle.wit_layout.specs.Stored.{seen_payload}
+use Rattle.wit_layout.specs.inside.Kind.{part_extents}
+use Rattle.wit_layout.specs.inside.Spread.{IsSize}
+use Rattle.wit_layout.specs.inside.Stored.{seen_payload}
 use Rattle.wit_layout.proofs.kind.places_of.Given as goal
 
 abbrev pub invariant-loop-nth : goal.invariant-loop-nth

@@ -3,7 +3,7 @@ use Rattle.std.proofs.lemmas.List.{drop_all}
 use Rattle.std.proofs.lemmas.Option.{slice_get-get_or}
 use Rattle.wit_model.specs.declared.function.Param.{Param}
 use Rattle.wit_layout.specs.Flat.{flatten_type, flatten_record}
-use Rattle.wit_layout.specs.Words.{kept}
+use Rattle.wit_layout.specs.inside.Words.{kept}
 use Rattle.wit_layout.specs.Tree.{trees, tree_in, payloads_in}
 use Rattle.wit_layout.proofs.KeptWords.{kept_fit}
 use Rattle.wit_layout.proofs.WordLists.{drop_at, take_then, take_settled}

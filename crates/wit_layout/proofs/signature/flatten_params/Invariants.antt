@@ -1,6 +1,6 @@
 use Rattle.std.proofs.Common.{◌≡◌, ◌++◌, Some, map, take, drop}
 use Rattle.wit_layout.specs.Flat.{flatten_record}
-use Rattle.wit_layout.specs.Words.{kept}
+use Rattle.wit_layout.specs.inside.Words.{kept}
 use Rattle.wit_layout.specs.Signature.{param_words}
 use Rattle.wit_layout.specs.Tree.{payloads_in, trees}
 use Rattle.wit_layout.proofs.signature.flatten_params.Given as goal

@@ -6,7 +6,7 @@ use Rattle.wit_model.specs.TypeOrder.{payload_below, GoesDown}
 use Rattle.wit_model.proofs.WellFormedLemmas.{types_go_down}
 use Rattle.wit_layout.specs.Flat.{EachHasWords}
 use Rattle.wit_layout.proofs.CheckedWords.{checked_words}
-use Rattle.wit_layout.specs.Words.{kept}
+use Rattle.wit_layout.specs.inside.Words.{kept}
 use Rattle.wit_layout.specs.Signature.{IsCoreSignature, param_words, result_words, params_below}
 use Rattle.wit_layout.proofs.SignatureSteps.{signature_cut, params_in_table, result_in_table}
 use Rattle.wit_layout.proofs.WordLists.{from_none}

@@ -3,8 +3,8 @@ use Rattle.std.specs.List.{slice_get}
 use Rattle.std.proofs.lemmas.List.{take_more, take_more_set}
 use Rattle.wit_model.specs.declared.types.WitType.{WitType}
 use Rattle.wit_layout.specs.declared.ahead.Run.{Run}
-use Rattle.wit_layout.specs.Ahead.{IsRun, runs}
-use Rattle.wit_layout.specs.Sequence.{members_at}
+use Rattle.wit_layout.specs.inside.Ahead.{IsRun, runs}
+use Rattle.wit_layout.specs.inside.Sequence.{members_at}
 use Rattle.wit_layout.proofs.AheadSteps.{last_is, next_of_more, next_of_last}
 use Rattle.wit_layout.proofs.SequenceSteps.{members_read}
 use Rattle.wit_layout.proofs.ahead.Ahead.next.Goals as goal

@@ -1,6 +1,6 @@
 use Rattle.std.proofs.Common.{◌≡◌, ◌<◌, length, ap, arith}
 use Rattle.std.proofs.lemmas.List.{nil_from_length}
-use Rattle.wit_layout.specs.Sequence.{members_at}
+use Rattle.wit_layout.specs.inside.Sequence.{members_at}
 use Rattle.wit_layout.proofs.AheadSteps.{are_put, none_put, put_valid}
 use Rattle.wit_layout.proofs.SequenceSteps.{members_read}
 use Rattle.wit_layout.proofs.ahead.Ahead.put.Goals as goal

@@ -1,7 +1,7 @@
 use Rattle.std.proofs.Common.{List, [], sym, subst}
 use Rattle.wit_model.specs.declared.size.ArchitectureSize.{ArchitectureSize}
 use Rattle.wit_layout.specs.Sizes.{field_offsets}
-use Rattle.wit_layout.specs.Stored.{ArePairsOf}
+use Rattle.wit_layout.specs.Told.{ArePairsOf}
 use Rattle.wit_layout.specs.Tree.{tree_at}
 use Rattle.wit_layout.proofs.size_align.SizeAlign.field_offsets_of.Goals as goal
 

@@ -2,7 +2,7 @@ use Rattle.std.proofs.Common.{◌≡◌, ◌+◌, List, Some, None, true, length
 use Rattle.wit_model.specs.TypeOrder.{parts_below}
 use Rattle.wit_model.proofs.WellFormedLemmas.{types_go_down}
 use Rattle.wit_layout.specs.declared.type_layout.TypeLayout.{TypeLayout}
-use Rattle.wit_layout.specs.Stored.{AreLayoutsOf}
+use Rattle.wit_layout.specs.inside.Stored.{AreLayoutsOf}
 use Rattle.wit_layout.proofs.FillSteps.{entry_read, made_of, entry_below, size_from_kind, one_more, first_large, none_large, types_short, kind_short}
 use Rattle.wit_layout.proofs.size_align.SizeAlign.fill.Goals as goal
 

@@ -1,5 +1,5 @@
 use Rattle.std.proofs.lemmas.Option.{slice_get-get_or}
-use Rattle.wit_layout.specs.Stored.{seen_type}
+use Rattle.wit_layout.specs.inside.Stored.{seen_type}
 use Rattle.wit_layout.proofs.PartSteps.{one_gathered}
 use Rattle.wit_layout.proofs.RecordSteps.{members_large, seen_by}
 use Rattle.wit_layout.proofs.size_align.SizeAlign.is_small_record.Goals as goal

@@ -1,6 +1,6 @@
 use Rattle.std.proofs.Common.{arith}
 use Rattle.std.proofs.lemmas.Option.{slice_get-get_or}
-use Rattle.wit_layout.specs.Stored.{seen_type}
+use Rattle.wit_layout.specs.inside.Stored.{seen_type}
 use Rattle.wit_layout.proofs.PartSteps.{one_gathered}
 use Rattle.wit_layout.proofs.RecordSteps.{members_small, seen_by}
 use Rattle.wit_layout.proofs.size_align.SizeAlign.members.Goals as goal

@@ -1,5 +1,5 @@
 use Rattle.std.proofs.Common.{◌+◌, ◌∙◌, ◌++◌, ap, sym, take, drop}
-use Rattle.wit_layout.specs.Words.{kept}
+use Rattle.wit_layout.specs.inside.Words.{kept}
 use Rattle.wit_layout.proofs.WordLists.{take_then}
 use Rattle.wit_layout.proofs.KeptWords.{kept_from}
 use Rattle.wit_layout.proofs.words.Words.followed_by.Goals as goal

@@ -1,5 +1,5 @@
 use Rattle.std.proofs.Common.{◌≡◌, ◌++◌, take, drop}
-use Rattle.wit_layout.specs.Words.{kept}
+use Rattle.wit_layout.specs.inside.Words.{kept}
 use Rattle.wit_layout.proofs.words.Words.followed_by.Given as goal
 
 abbrev pub invariant-loop-at : goal.invariant-loop-at

@@ -2,7 +2,7 @@ use Rattle.std.proofs.Common.{◌≡◌, ◌+◌, ◌∙◌, ◌∷◌, ◌++◌
 use Rattle.wit_layout.specs.declared.words.Words.{Words}
 use Rattle.wit_layout.specs.Join.{join}
 use Rattle.wit_layout.specs.Flat.{joined}
-use Rattle.wit_layout.specs.Words.{kept}
+use Rattle.wit_layout.specs.inside.Words.{kept}
 use Rattle.wit_layout.proofs.WordLists.{take_then, both_at, first_at, second_at, none_at}
 use Rattle.wit_layout.proofs.words.Words.joined_with.Goals as goal
 use Rattle.wit_layout.proofs.words.Words.joined_with.Goals.{in-Some-Some, in-Some-None, in-None-Some, in-None-None}

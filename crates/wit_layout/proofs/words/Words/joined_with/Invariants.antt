@@ -1,6 +1,6 @@
 use Rattle.std.proofs.Common.{◌≡◌, ◌++◌, take, drop}
 use Rattle.wit_layout.specs.Flat.{joined}
-use Rattle.wit_layout.specs.Words.{kept}
+use Rattle.wit_layout.specs.inside.Words.{kept}
 use Rattle.wit_layout.proofs.words.Words.joined_with.Given as goal
 
 abbrev pub invariant-loop-at : goal.invariant-loop-at

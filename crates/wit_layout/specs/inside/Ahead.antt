@@ -5,7 +5,7 @@ use Rattle.wit_model.specs.declared.types.WitType.{WitType}
 use Rattle.wit_model.specs.declared.types.TypeDef.{TypeDef}
 use Rattle.wit_layout.specs.declared.ahead.Run.{Run}
 use Rattle.wit_layout.specs.declared.ahead.Ahead.{Ahead}
-use Rattle.wit_layout.specs.Sequence.{members_at}
+use Rattle.wit_layout.specs.inside.Sequence.{members_at}
 
 abbrev pub runs : Ahead → List Run
 runs a = take a.count a.runs

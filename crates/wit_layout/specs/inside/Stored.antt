@@ -1,16 +1,13 @@
 -- What the stored layouts of a table say of its types, where a pointer has 2 ^ w bytes.
-use Rattle.std.specs.Prelude.{◌≡◌, ℕ, ◌^◌, ◌≤◌, Bool, true, false, List, [], length, map, Option, None, Some, slice_get}
+use Rattle.std.specs.Prelude.{◌≡◌, ℕ, ◌^◌, ◌≤◌, true, false, List, [], length, Option, None, Some, slice_get}
 use Rattle.wit_model.specs.declared.types.WitType.{WitType}
 use Rattle.wit_model.specs.declared.types.WitType.TheVariants.{Id}
-use Rattle.wit_model.specs.declared.types.TypeDefKind.{TypeDefKind}
-use Rattle.wit_model.specs.declared.types.TypeDefKind.TheVariants as kind
 use Rattle.wit_model.specs.declared.types.TypeDef.{TypeDef}
-use Rattle.wit_model.specs.declared.size.ArchitectureSize.{ArchitectureSize}
-use Rattle.wit_model.specs.declared.size.Alignment.{Alignment}
-use Rattle.wit_model.specs.Size.{bytes_at, alignment_at}
+use Rattle.wit_model.specs.Size.{bytes_at}
 use Rattle.wit_layout.specs.declared.stored.StoredExtent.{StoredExtent}
 use Rattle.wit_layout.specs.declared.type_layout.TypeLayout.{TypeLayout}
-use Rattle.wit_layout.specs.Grain.{exponent}
+use Rattle.wit_layout.specs.Told.{IsPairOf, ArePairsOf, is_alias}
+use Rattle.wit_layout.specs.inside.Grain.{exponent}
 use Rattle.wit_layout.specs.Extent.{Extent, extent}
 use Rattle.wit_layout.specs.Tree.{tree_in, tree_at}
 use Rattle.wit_layout.specs.Sizes.{extent_of, payload_offset, field_offsets}
@@ -36,23 +33,6 @@ seen_payload w layouts (Some ty) = seen_type w layouts ty
 abbrev pub IsStored : Option StoredExtent → (ℕ → Extent) → Type 0
 IsStored None f = 2 ^ 31 ≤ (f 3).bytes
 IsStored (Some e) f = (seen 2 e ≡ f 2) × (seen 3 e ≡ f 3)
-
--- the size, at both widths
-abbrev pub IsPairOf : ArchitectureSize → (ℕ → ℕ) → Type 0
-IsPairOf size f = (bytes_at size 4 ≡ f 2) × (bytes_at size 8 ≡ f 3)
-
--- the alignment, at both widths
-abbrev pub IsAlignmentOf : Alignment → (ℕ → ℕ) → Type 0
-IsAlignmentOf align f = (alignment_at align 4 ≡ f 2) × (alignment_at align 8 ≡ f 3)
-
--- each of the sizes, at both widths
-abbrev pub ArePairsOf : List ArchitectureSize → (ℕ → List ℕ) → Type 0
-ArePairsOf sizes f = (map (λ s. bytes_at s 4) sizes ≡ f 2) × (map (λ s. bytes_at s 8) sizes ≡ f 3)
-
--- an alias keeps no places of its own
-abbrev pub is_alias : TypeDefKind → Bool
-is_alias (kind.Alias _) = true
-is_alias _ = false
 
 -- the layouts of the first so many types of a table
 pub record AreLayoutsOf (layouts : List TypeLayout) (types : List TypeDef) (many : ℕ) : Type 0 where

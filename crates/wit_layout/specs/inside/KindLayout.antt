@@ -2,8 +2,9 @@
 use Rattle.std.specs.Prelude.{◌^◌, ◌≤◌, List, Option, None, Some}
 use Rattle.wit_model.specs.declared.types.TypeDefKind.{TypeDefKind}
 use Rattle.wit_layout.specs.declared.type_layout.TypeLayout.{TypeLayout}
-use Rattle.wit_layout.specs.Kind.{kind_extent, kind_payload, kind_offsets}
-use Rattle.wit_layout.specs.Stored.{seen_payload, IsStored, IsPairOf, ArePairsOf}
+use Rattle.wit_layout.specs.inside.Kind.{kind_extent, kind_payload, kind_offsets}
+use Rattle.wit_layout.specs.inside.Stored.{seen_payload, IsStored}
+use Rattle.wit_layout.specs.Told.{IsPairOf, ArePairsOf}
 
 -- none where it has more than 2^31 - 1 bytes
 abbrev pub IsKindLayout : List TypeLayout → TypeDefKind → Option TypeLayout → Type 0
