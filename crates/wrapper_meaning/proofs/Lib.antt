@@ -1,0 +1,17 @@
+pub mod Lists
+pub mod Located
+pub mod NoBytes
+pub mod Scalars
+pub mod MemoryDetermined
+pub mod WordScalars
+pub mod RustValues
+pub mod WordsDetermined
+pub mod RustValueDetermined
+pub mod MadeIsLent
+pub mod DistinctKeys
+pub mod LayoutIsTree
+pub mod ShapeIsByKind
+pub mod PlainLists
+pub mod PostReturn
+pub mod Permutations
+pub mod PlainIsCanonical
