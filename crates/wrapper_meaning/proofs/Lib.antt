@@ -15,3 +15,4 @@ pub mod PlainLists
 pub mod PostReturn
 pub mod Permutations
 pub mod PlainIsCanonical
+pub mod Instances
