@@ -12,3 +12,5 @@ pub mod NestedLists
 pub mod HonestSides
 pub mod DroppedHandles
 pub mod EndsOfRuns
+pub mod WholeCalls
+pub mod ShapesOfTypes

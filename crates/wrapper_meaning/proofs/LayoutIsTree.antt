@@ -1,5 +1,5 @@
--- The layout of a type's shape is the tree of the type.
-use Rattle.std.proofs.Common.{◌≡◌, ℕ, zero, suc, Bool, true, false, List, [], ◌∷◌, ◌++◌, map, length, slice_index_or, Option, Some, None, refl, ap, ap₂, ◌∙◌}
+-- The layout of a type's shape is the tree of the type; and so the core words of shapes are those of a signature.
+use Rattle.std.proofs.Common.{◌≡◌, ℕ, zero, suc, Bool, true, false, List, [], ◌∷◌, ◌++◌, map, length, slice_index_or, Option, Some, None, option_map, refl, ap, ap₂, ◌∙◌}
 use Rattle.std.proofs.lemmas.List.{map-append}
 use Rattle.wit_model.specs.declared.types.Handle.{Handle}
 use Rattle.wit_model.specs.declared.types.Handle.TheVariants.{Own, Borrow}
@@ -9,7 +9,11 @@ use Rattle.wit_model.specs.declared.types.TypeDefKind.TheVariants as kind
 use Rattle.wit_model.specs.declared.types.WitType.{WitType}
 use Rattle.wit_model.specs.declared.types.WitType.TheVariants as wit
 use Rattle.wit_layout.specs.Tree.{Scalar, Tree, Trees, trees, tree_by, tree_in, tree_of, trees_behind, payload_in as tree_payload, payloads_in as tree_payloads, bare as bare_trees, nothing as no_tree}
+use Rattle.wit_layout.specs.Flat.{flatten_record, flatten_type}
+use Rattle.wit_layout.specs.Signature as signature
+use Rattle.wrapper_meaning.specs.Laws.{SignatureIsByShapes}
 use Rattle.wrapper_meaning.specs.Layout.{layout, layouts}
+use Rattle.wrapper_meaning.specs.Represents.{result_words}
 use Rattle.wrapper_meaning.specs.Shape.{Shape, bare, handle_in, handle_of, nothing, payload_in, payloads_in, shape_by, shape_in, shape_of, shapes, shapes_behind}
 use Rattle.wrapper_meaning.specs.Shape.Shape.{scalar, text, list, pairs, fixed, fields, tuple, cases, flags, handle, resource, other}
 
@@ -95,3 +99,12 @@ layouts_are_trees types = behind [] types
 
 pub layout_is_tree : (types : List TypeDef) (ty : WitType) → layout (shape_of types ty) ≡ tree_of types ty
 layout_is_tree types ty = of_type (shapes types) ty ∙ ap (λ ts. tree_in ts ty) (layouts_are_trees types)
+
+result_by_shape : (types : List TypeDef) (r : Option WitType) → result_words (option_map (shape_of types) r) ≡ signature.result_words types r
+result_by_shape types None = refl
+result_by_shape types (Some ty) = ap flatten_type (layout_is_tree types ty)
+
+pub signature_is_by_shapes : SignatureIsByShapes
+signature_is_by_shapes types f =
+    let members : List (Option WitType) = map (λ ty. Some ty) (map (λ p. p.ty) f.params) in
+    (ap flatten_record (of_payloads (shapes types) members ∙ ap (λ ts. tree_payloads ts members) (layouts_are_trees types)), result_by_shape types f.result)

@@ -33,17 +33,20 @@ NamesArea r area words = MatchBool (is_indirect r) (words ≡ pointers area) (wo
 module _ (w : ℕ) where
   -- The call of an import's wrapper, which was given a heap and choices
 
-  -- it goes to the target, with words that represent the values, and one that names the area where the result passes by it. The blocks
-  -- that were given are as they were; the area and others were made
+  -- words that represent the values, and behind them one that names the area where the result passes by it
+  pub record PassesWords (ts : Shapes) (vs : Parts ts) (r : Option Shape) (heap area : List Block) (words : List Word) : Type 0 where
+    pub arguments : List Word
+    pub pointer : List Word
+    pub all : words ≡ arguments ++ pointer
+    pub represents : LendsArguments w heap area ts vs arguments
+    pub named : NamesArea r area pointer
+
+  -- it goes to the target, with words for the values. The blocks that were given are as they were; the area and others were made
   pub record CallsImport (target : Target) (ts : Shapes) (vs : Parts ts) (r : Option Shape) (heap : Heap) (choices : List Choice) (c : CallPoint) : Type 0 where
     pub aimed : c.target ≡ target
     pub area : List Block
     pub stands : IsArea (import_area w ts r) (slice_get choices 0) area
-    pub arguments : List Word
-    pub pointer : List Word
-    pub words : c.words ≡ arguments ++ pointer
-    pub represents : LendsArguments w c.heap.blocks area ts vs arguments
-    pub named : NamesArea r area pointer
+    pub words : PassesWords ts vs r c.heap.blocks area c.words
     pub values : c.values ≡ []
     pub formed : is_heap c.heap ≡ true
     pub made : List Block

@@ -48,20 +48,24 @@ module _ (w : ℕ) where
     pub live : Contains (answered new writes c.heap).blocks block
     pub inside : WritesIn block.address (result_size r) writes
 
-  -- the answer of an import's peer to a call represents a value, whose blocks are new, and are all that the peer adds
+  -- a word, bytes that are written and new blocks represent a value, and the blocks are all of it
+  pub record AnswersValue (r : Option Shape) (u : Result r) (c : CallPoint) (result : Option Word) (writes : List (ℕ × ℕ)) (new : List Block) : Type 0 where
+    pub words : List Word
+    pub blocks : List Block
+    pub area : List Block
+    pub takes : TakesResult w r u words blocks area
+    pub placed : MatchBool (is_indirect r) (AnswersInArea r result writes new c words area) (AnswersInWord result writes words)
+    pub fresh : are_new new c.heap ≡ true
+    pub brings : SameItems new blocks
+
+  -- the answer of an import's peer to a call represents a value
   pub record HonestPeer (r : Option Shape) (u : Result r) (a : Answer) (c : CallPoint) : Type 0 where
     pub good : IsListedResult r u
     pub result : Option Word
     pub writes : List (ℕ × ℕ)
     pub new : List Block
     pub answers : a ≡ answer.Words result writes new
-    pub fresh : are_new new c.heap ≡ true
-    pub words : List Word
-    pub blocks : List Block
-    pub area : List Block
-    pub takes : TakesResult w r u words blocks area
-    pub placed : MatchBool (is_indirect r) (AnswersInArea r result writes new c words area) (AnswersInWord result writes words)
-    pub brings : SameItems new blocks
+    pub represents : AnswersValue r u c result writes new
 
   -- the answer of an export's implementation stands for a value, whose blocks are live in the heap that it leaves. Otherwise that may be any heap
   pub record HonestImplementation (r : Option Shape) (v : Result r) (a : Answer) : Type 0 where

@@ -2,10 +2,12 @@
 use Rattle.std.specs.Prelude.{◌≡◌, ◌↔◌, ℕ, ◌+◌, ◌*◌, Bool, true, false, List, [], ◌∷◌, ◌++◌, Contains, length, Option, Some, slice_get}
 use Rattle.std.specs.List.{list_any}
 use Rattle.std.specs.List.Sorted.{IsPermutation}
+use Rattle.wit_model.specs.declared.function.Function.{Function}
 use Rattle.wit_model.specs.declared.types.TypeDef.{TypeDef}
 use Rattle.wit_model.specs.declared.types.WitType.{WitType}
 use Rattle.wit_model.specs.TypeOrder.{GoesDown, type_below}
 use Rattle.type_facts.specs.Facts.{IsCanonical}
+use Rattle.wit_layout.specs.Signature as signature
 use Rattle.wit_layout.specs.Sizes.{elem_size}
 use Rattle.wit_layout.specs.Tree.{tree_of}
 use Rattle.wrapper_data.specs.declared.block.Block.{Block}
@@ -28,9 +30,9 @@ use Rattle.wrapper_meaning.specs.InRange.{IsListed}
 use Rattle.wrapper_meaning.specs.Items.{AllIn, SameItems}
 use Rattle.wrapper_meaning.specs.Kinds.{is_plain}
 use Rattle.wrapper_meaning.specs.Layout.{layout}
-use Rattle.wrapper_meaning.specs.Represents.{is_indirect}
+use Rattle.wrapper_meaning.specs.Represents.{is_indirect, param_words, result_words}
 use Rattle.wrapper_meaning.specs.Settled.{last_of_each, same_key}
-use Rattle.wrapper_meaning.specs.Shape.{Shape, Shapes, shape_at, shape_by, shape_of, shapes}
+use Rattle.wrapper_meaning.specs.Shape.{Shape, Shapes, param_shapes, result_shape, shape_at, shape_by, shape_of, shapes}
 use Rattle.wrapper_meaning.specs.StandsFor.{Stands}
 use Rattle.wrapper_meaning.specs.Value.{Parts, Result, Value}
 
@@ -47,6 +49,11 @@ ShapeIsByKind = (types : List TypeDef) (i : ℕ) (t : TypeDef) → GoesDown type
 -- and a list of a type lies in memory as it is exactly where the facts of types call it canonical
 abbrev pub PlainIsCanonical : Type 0
 PlainIsCanonical = (types : List TypeDef) (ty : WitType) → GoesDown types → type_below (length types) ty ≡ true → (is_plain (shape_of types ty) ≡ true) ↔ IsCanonical types ty
+
+-- the core words of a function's shapes are those of its core signature
+abbrev pub SignatureIsByShapes : Type 0
+SignatureIsByShapes = (types : List TypeDef) (f : Function)
+    → (param_words (param_shapes types f) ≡ signature.param_words types f.params) × (result_words (result_shape types f) ≡ signature.result_words types f.result)
 
 -- 2. A representation determines its value
 

@@ -1,7 +1,8 @@
 -- What a type is to its values: its shape. It is the tree of the type's layout, and tells besides what layout forgets: tuples stand
 -- apart from records, since a list of records may lie in memory as it is and a list of tuples never does; and a handle
 -- tells whether it owns, and which resource it is of.
-use Rattle.std.specs.Prelude.{ℕ, Bool, true, false, List, [], ◌∷◌, ◌++◌, map, length, Option, None, Some, slice_index_or}
+use Rattle.std.specs.Prelude.{ℕ, Bool, true, false, List, [], ◌∷◌, ◌++◌, map, length, Option, None, Some, slice_index_or, option_map}
+use Rattle.wit_model.specs.declared.function.Function.{Function}
 use Rattle.wit_model.specs.declared.types.Handle.TheVariants.{Own, Borrow}
 use Rattle.wit_model.specs.declared.types.Handle.{Handle}
 use Rattle.wit_model.specs.declared.types.TypeDef.{TypeDef}
@@ -43,7 +44,8 @@ abbrev pub is_nothing : Shape → Bool
 is_nothing (fields none) = true
 is_nothing _ = false
 
--- The shape of a type of the table. What no well-formed table has is `nothing` or `other`
+-- The shape of a type of the table. In a well-formed table each id names an entry, and a handle a resource; elsewhere `nothing` and
+-- `other` stand in
 
 -- by the shapes of the entries before it
 abbrev pub shape_in : List Shape → WitType → Shape
@@ -117,3 +119,11 @@ shape_of types ty = shape_in (shapes types) ty
 -- the shape of the entry at a place
 abbrev pub shape_at : List TypeDef → ℕ → Shape
 shape_at types i = slice_index_or (shapes types) i nothing
+
+-- the shapes of a function's parameters, and of its result
+
+abbrev pub param_shapes : List TypeDef → Function → Shapes
+param_shapes types f = payloads_in (shapes types) (map (λ ty. Some ty) (map (λ p. p.ty) f.params))
+
+abbrev pub result_shape : List TypeDef → Function → Option Shape
+result_shape types f = option_map (shape_of types) f.result

@@ -1,8 +1,13 @@
-ghost use Rattle.wrapper_meaning.specs.Laws.{BufferIsItsWords, LayoutIsTree, ListIsItsElements, MadeIsLent, MemoryDetermines, PlainIsAlike, PlainIsCanonical, PostReturnLeaves, RustValueDetermines, SameBlocksArePermuted, SameRequestsArePermuted, SettledIsDistinct, ShapeIsByKind, WordsDetermine};
+ghost use Rattle.wrapper_meaning.specs.Laws.{BufferIsItsWords, LayoutIsTree, ListIsItsElements, MadeIsLent, MemoryDetermines, PlainIsAlike, PlainIsCanonical, PostReturnLeaves, RustValueDetermines, SameBlocksArePermuted, SameRequestsArePermuted, SettledIsDistinct, ShapeIsByKind, SignatureIsByShapes, WordsDetermine};
 
 /// The layout of a type's shape is the tree that `wit_layout` has for the type.
 pub fn layout_law()
     ensures { LayoutIsTree }
+{}
+
+/// The core words of a function's shapes are those that `wit_layout` has for its signature.
+pub fn signature_law()
+    ensures { SignatureIsByShapes }
 {}
 
 /// Where each type of a table names only types before it, the shape of an entry is that of its kind, over the shapes of the

@@ -47,29 +47,31 @@ peer = record {
   writes = written;
   new = ok ∷ [];
   answers = refl;
-  fresh = refl;
-  words = word.Pointer 4096 ∷ [];
-  blocks = ok ∷ [];
-  area = after ∷ [];
-  takes = record {
-    block = after;
-    is_area = refl;
-    named = refl;
-    stands = record { aligned = refl; room = omega (arith); holds = record { address = 8192; pointer = (omega (arith), refl); counted = (omega (arith), refl); buffer = text_taken ok 111 (107 ∷ []) refl (omega (arith)) refl } };
+  represents = record {
+    words = word.Pointer 4096 ∷ [];
+    blocks = ok ∷ [];
+    area = after ∷ [];
+    takes = record {
+      block = after;
+      is_area = refl;
+      named = refl;
+      stands = record { aligned = refl; room = omega (arith); holds = record { address = 8192; pointer = (omega (arith), refl); counted = (omega (arith), refl); buffer = text_taken ok 111 (107 ∷ []) refl (omega (arith)) refl } };
+    };
+    placed = record {
+      block = after;
+      is_area = refl;
+      before = word.Pointer 4096 ∷ [];
+      last = refl;
+      silent = refl;
+      live = (0, omega (arith), refl);
+      inside = (
+        (omega (arith), omega (arith)),
+        ((omega (arith), omega (arith)), ((omega (arith), omega (arith)), ((omega (arith), omega (arith)), ((omega (arith), omega (arith)), ((omega (arith), omega (arith)), ((omega (arith), omega (arith)), ((omega (arith), omega (arith)), tt))))))),
+      );
+    };
+    fresh = refl;
+    brings = λ weight. refl;
   };
-  placed = record {
-    block = after;
-    is_area = refl;
-    before = word.Pointer 4096 ∷ [];
-    last = refl;
-    silent = refl;
-    live = (0, omega (arith), refl);
-    inside = (
-      (omega (arith), omega (arith)),
-      ((omega (arith), omega (arith)), ((omega (arith), omega (arith)), ((omega (arith), omega (arith)), ((omega (arith), omega (arith)), ((omega (arith), omega (arith)), ((omega (arith), omega (arith)), ((omega (arith), omega (arith)), tt))))))),
-    );
-  };
-  brings = λ weight. refl;
 }
 
 -- one that gives a word besides
@@ -79,7 +81,7 @@ result_of _ = []
 
 with_a_word : HonestPeer 2 (Some text) (codes "ok") (answer.Words (Some (word.Pointer 4096)) written (ok ∷ [])) call → ⊥
 unfolding result_of
-with_a_word p = omega (ap (λ a. total (λ x. 1) (result_of a)) (p.answers ∙ ap (λ r. answer.Words r p.writes p.new) p.placed.silent), arith)
+with_a_word p = omega (ap (λ a. total (λ x. 1) (result_of a)) (p.answers ∙ ap (λ r. answer.Words r p.writes p.new) p.represents.placed.silent), arith)
 
 -- one that brings a block that is none of its text's
 
@@ -90,10 +92,10 @@ new_of _ = []
 with_another_block : HonestPeer 2 (Some text) (codes "ok") (answer.Words None written (ok ∷ record { address = 64; size = 4; cells = [] } ∷ [])) call → ⊥
 unfolding new_of
 with_another_block p =
-    let held = p.takes.stands.holds.buffer.placed in
+    let held = p.represents.takes.stands.holds.buffer.placed in
     let one : List Block → ℕ = total (λ b. 1) in
     omega (
-      p.brings (λ b. 1),
+      p.represents.brings (λ b. 1),
       ap (λ a. one (new_of a)) p.answers,
       ap one held.all,
       total-append (λ b. 1) held.own held.inner,

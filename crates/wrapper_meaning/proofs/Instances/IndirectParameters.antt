@@ -92,11 +92,7 @@ calls = record {
   aimed = refl;
   area = area ∷ [];
   stands = record { block = area; is = refl; chosen = refl; aligned = refl; exact = refl };
-  arguments = word.Pointer 4096 ∷ [];
-  pointer = word.Pointer 4096 ∷ [];
-  words = refl;
-  represents = by_address;
-  named = refl;
+  words = record { arguments = word.Pointer 4096 ∷ []; pointer = word.Pointer 4096 ∷ []; all = refl; represents = by_address; named = refl };
   values = refl;
   formed = refl;
   made = [];

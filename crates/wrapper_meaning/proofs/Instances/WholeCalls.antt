@@ -1,0 +1,128 @@
+-- Whole calls: an export that takes the text `ok` and gives the text `abc`, and an import that gives the text `ok`; and wrappers that drop,
+-- leak or misdirect.
+use Rattle.std.proofs.Common.{◌≡◌, ℕ, true, false, List, [], ◌∷◌, Some, None, codes, refl, ap, arith}
+use Rattle.wrapper_data.specs.declared.block.Block.{Block}
+use Rattle.wrapper_data.specs.declared.choice.Choice.TheVariants as choice
+use Rattle.wrapper_data.specs.declared.run.CallPoint.{CallPoint}
+use Rattle.wrapper_data.specs.declared.run.Run.{Run}
+use Rattle.wrapper_data.specs.declared.run.Stop.TheVariants as stop
+use Rattle.wrapper_data.specs.declared.run.Target.{Target}
+use Rattle.wrapper_data.specs.declared.run.Target.TheVariants as target
+use Rattle.wrapper_data.specs.declared.value.RustValue.TheVariants as value
+use Rattle.wrapper_data.specs.declared.word.Word.TheVariants as word
+use Rattle.wrapper_meaning.specs.Calls.{CallsExport, CallsImport}
+use Rattle.wrapper_meaning.specs.Due.{Bill, export_bill}
+use Rattle.wrapper_meaning.specs.Ends.{Ends}
+use Rattle.wrapper_meaning.specs.Gives.{GivesExport, GivesImport}
+use Rattle.wrapper_meaning.specs.Items.{total}
+use Rattle.wrapper_meaning.specs.Shape.Shape.{text}
+use Rattle.wrapper_meaning.specs.Shape.Shapes.{none, more}
+use Rattle.wrapper_meaning.proofs.Instances.Forms.{block_at, pair, text_given, text_taken}
+use Rattle.wrapper_meaning.proofs.PostReturn.{total-append}
+
+abbrev ok : Block
+ok = block_at 8192 (codes "ok")
+
+abbrev abc : Block
+abc = block_at 4096 (codes "abc")
+
+abbrev kept : Block
+kept = record { address = 64; size = 4; cells = [] }
+
+abbrev method : Target
+method = target.Method (codes "Guest") (codes "f")
+
+-- 1. The export's call, with the text as the implementation's own
+
+abbrev call : CallPoint
+call = record { target = method; words = []; values = value.Buffer 8192 2 true ∷ []; heap = record { blocks = kept ∷ ok ∷ [] } }
+
+calls : CallsExport 2 method (more text none) (codes "ok", tt) (record { blocks = kept ∷ ok ∷ [] }) (ok ∷ []) call
+calls = record {
+  aimed = refl;
+  words = refl;
+  own = ok ∷ [];
+  stands = (value.Buffer 8192 2 true, [], ok ∷ [], [], refl, record { address = 8192; nonzero = omega (arith); range = omega (arith); owned = true; flag = refl; is = refl; buffer = text_taken ok 111 (107 ∷ []) refl (omega (arith)) refl }, (refl, refl), refl);
+  formed = refl;
+  account = λ weight. refl;
+}
+
+-- 2. What it gives: the text as the implementation left it, in an area at 512
+
+abbrev area : Block
+area = block_at 512 (pair 4096 3)
+
+abbrev bill : Bill
+bill = export_bill 2 (Some text ∷ []) (more text none) (codes "ok", tt) (Some text) (codes "abc")
+
+abbrev run : Run
+run = record { stop = stop.Done; calls = call ∷ []; requests = record { size = 8; align = 4 } ∷ []; heap = record { blocks = kept ∷ abc ∷ area ∷ [] }; words = word.Pointer 512 ∷ []; value = None }
+
+gives : GivesExport 2 bill (choice.At 512 ∷ []) (Some text) (codes "abc") (record { blocks = kept ∷ abc ∷ [] }) (abc ∷ []) run
+gives = record {
+  blocks = abc ∷ [];
+  area = area ∷ [];
+  represents = record {
+    block = area;
+    is_area = refl;
+    named = refl;
+    stands = record {
+      aligned = refl;
+      room = omega (arith);
+      holds = record { address = 4096; pointer = (omega (arith), refl); counted = (omega (arith), refl); buffer = text_given abc 97 (98 ∷ 99 ∷ []) refl (omega (arith)) refl };
+    };
+  };
+  stands = record { block = area; is = refl; chosen = refl; aligned = refl; exact = refl };
+  value = refl;
+  formed = refl;
+  account = λ weight. omega (arith);
+}
+
+ends : Ends bill (choice.At 512 ∷ []) (call ∷ []) (GivesExport 2 bill (choice.At 512 ∷ []) (Some text) (codes "abc") (record { blocks = kept ∷ abc ∷ [] }) (abc ∷ [])) run
+ends = record { call = call; once = refl; requests = λ weight. refl; area = refl; gives = gives }
+
+-- 3. An import that gives `ok`, from an empty heap
+
+abbrev import_run : List Block → Run
+import_run blocks = record { stop = stop.Done; calls = []; requests = []; heap = record { blocks = blocks }; words = []; value = Some (value.Buffer 8192 2 true) }
+
+imports : GivesImport 2 false (Some text) (codes "ok") [] (record { blocks = [] }) [] (import_run (ok ∷ []))
+imports = record {
+  blocks = ok ∷ [];
+  answers = (value.Buffer 8192 2 true, refl, record { address = 8192; nonzero = omega (arith); range = omega (arith); owned = true; flag = refl; is = refl; buffer = text_taken ok 111 (107 ∷ []) refl (omega (arith)) refl });
+  words = refl;
+  formed = refl;
+  account = λ weight. refl;
+}
+
+-- 4. Wrappers that are not
+
+-- one that leaves a block besides
+leaks : GivesImport 2 false (Some text) (codes "ok") [] (record { blocks = [] }) [] (import_run (ok ∷ kept ∷ [])) → ⊥
+leaks wrong =
+    let (r, is, stands) = wrong.answers in
+    let held = stands.buffer.placed in
+    let one : List Block → ℕ = total (λ b. 1) in
+    omega (wrong.account (λ b. 1), ap one held.all, total-append (λ b. 1) held.own held.inner, ap one held.held.itself, ap one held.holds.1, arith)
+
+-- one that frees a given block before the call
+frees : (ws : CallPoint) → ws.heap ≡ record { blocks = [] } → CallsImport 2 method none tt None (record { blocks = kept ∷ [] }) [] ws → ⊥
+frees c empty wrong =
+    let one : List Block → ℕ = total (λ b. 1) in
+    omega (
+      wrong.kept (λ b. 1),
+      ap (λ h. one h.blocks) empty,
+      total-append (λ b. 1) (kept ∷ wrong.area) wrong.made,
+      total-append (λ b. 1) (kept ∷ []) wrong.area,
+      arith,
+    )
+
+-- one that calls another method
+
+name_of : Target → List ℕ
+name_of (target.Core place name) = name
+name_of (target.Method place name) = name
+
+misdirects : CallsExport 2 (target.Method (codes "Guest") (codes "g")) (more text none) (codes "ok", tt) (record { blocks = kept ∷ ok ∷ [] }) (ok ∷ []) call → ⊥
+unfolding name_of
+misdirects wrong = omega (ap (λ t. total (λ x. x) (name_of t)) wrong.aimed, arith)
