@@ -14,3 +14,4 @@ pub mod DroppedHandles
 pub mod EndsOfRuns
 pub mod WholeCalls
 pub mod ShapesOfTypes
+pub mod Numbers

@@ -1,16 +1,17 @@
 -- The word of a scalar determines it.
 use Rattle.std.proofs.Common.{◌≡◌, ℕ, ◌<◌, ◌-◌, ◌^◌, true, ℤ, pos, unsigned_abs, sym, ap, arith, ◌∙◌}
-use Rattle.std.specs.Int.{w8, w16, w32, w64, cast_signed}
+use Rattle.std.specs.Int.{w32, w64, cast_signed}
 use Rattle.std.proofs.lemmas.Int.{ints}
 use Rattle.wrapper_data.specs.declared.word.Word.{Word}
 use Rattle.wrapper_data.specs.declared.word.Word.TheVariants as word
 use Rattle.wit_layout.specs.Tree.{Scalar}
 use Rattle.wrapper_meaning.specs.AsWords.{IsTaken, SaysScalar, handle_word, passed_word}
 use Rattle.wrapper_meaning.specs.Direction.{Direction, give, lend, make, take}
-use Rattle.wrapper_meaning.specs.Numbers.{is_unsigned, low_bits}
+use Rattle.wrapper_meaning.specs.Numbers.{is_unsigned, low_bits, scalar_bits}
+use Rattle.wrapper_meaning.specs.InMemory.{stored_bits}
 use Rattle.wrapper_meaning.specs.InRange.{IsScalar}
 use Rattle.wrapper_meaning.specs.Value.{ScalarValue}
-use Rattle.wrapper_meaning.proofs.Scalars.{bit_same}
+use Rattle.wrapper_meaning.proofs.Scalars.{bit_same, scalar_same}
 
 integer : Word → ℤ
 integer (word.I32 z) = z
@@ -72,25 +73,21 @@ passed_same Scalar.f64 u v hu hv e = f64_same _ _ e
 passed_same Scalar.char u v hu hv e = pos_same _ _ (i32_same _ _ e)
 passed_same Scalar.handle u v hu hv e = elim u [ ]
 
-taken_same : (s : Scalar) (u v : ScalarValue s) (x : Word) → IsTaken s u x → IsTaken s v x → u ≡ v
-taken_same Scalar.bool u v x (z, e, h) (y, d, g) = bit_same u v (h ∙ ap (low_bits 8) (i32_same _ _ (sym e ∙ d)) ∙ sym g)
-taken_same Scalar.u8 u v x (z, e, h) (y, d, g) = h ∙ ap (λ t. pos (low_bits 8 t)) (i32_same _ _ (sym e ∙ d)) ∙ sym g
-taken_same Scalar.u16 u v x (z, e, h) (y, d, g) = h ∙ ap (λ t. pos (low_bits 16 t)) (i32_same _ _ (sym e ∙ d)) ∙ sym g
-taken_same Scalar.u32 u v x (z, e, h) (y, d, g) = h ∙ ap (λ t. pos (low_bits 32 t)) (i32_same _ _ (sym e ∙ d)) ∙ sym g
-taken_same Scalar.u64 u v x (z, e, h) (y, d, g) = h ∙ ap (λ t. pos (low_bits 64 t)) (i64_same _ _ (sym e ∙ d)) ∙ sym g
-taken_same Scalar.s8 u v x (z, e, h) (y, d, g) = h ∙ ap (λ t. cast_signed w8 (low_bits 8 t)) (i32_same _ _ (sym e ∙ d)) ∙ sym g
-taken_same Scalar.s16 u v x (z, e, h) (y, d, g) = h ∙ ap (λ t. cast_signed w16 (low_bits 16 t)) (i32_same _ _ (sym e ∙ d)) ∙ sym g
-taken_same Scalar.s32 u v x h g = i32_same _ _ (sym h ∙ g)
-taken_same Scalar.s64 u v x h g = i64_same _ _ (sym h ∙ g)
-taken_same Scalar.f32 u v x h g = f32_same _ _ (sym h ∙ g)
-taken_same Scalar.f64 u v x h g = f64_same _ _ (sym h ∙ g)
-taken_same Scalar.char u v x (z, e, h) (y, d, g) = h ∙ ap (low_bits 32) (i32_same _ _ (sym e ∙ d)) ∙ sym g
-taken_same Scalar.handle u v x h g = elim u [ ]
+-- two scalars that are read of one word have the same bits
+same_bits : (s : Scalar) (u v : ScalarValue s) (n : ℕ) (y z : ℤ) → IsScalar s u → IsScalar s v → y ≡ z → stored_bits s u ≡ low_bits n y → stored_bits s v ≡ low_bits n z → u ≡ v
+same_bits s u v n y z gu gv e hu hv = scalar_same s u v gu gv (hu ∙ ap (low_bits n) e ∙ sym hv)
+
+taken_same : (s : Scalar) (u v : ScalarValue s) (x : Word) → IsScalar s u → IsScalar s v → IsTaken s u x → IsTaken s v x → u ≡ v
+taken_same Scalar.f32 u v x gu gv h g = f32_same _ _ (sym h ∙ g)
+taken_same Scalar.f64 u v x gu gv h g = f64_same _ _ (sym h ∙ g)
+taken_same Scalar.u64 u v x gu gv (y, d, h) (z, e, g) = same_bits Scalar.u64 u v 64 y z gu gv (i64_same _ _ (sym d ∙ e)) h g
+taken_same Scalar.s64 u v x gu gv (y, d, h) (z, e, g) = same_bits Scalar.s64 u v 64 y z gu gv (i64_same _ _ (sym d ∙ e)) h g
+taken_same s u v x gu gv (y, d, h) (z, e, g) = same_bits s u v (scalar_bits s) y z gu gv (i32_same _ _ (sym d ∙ e)) h g
 
 pub word_same : (dir : Direction) (s : Scalar) (u v : ScalarValue s) (x : Word) → IsScalar s u → IsScalar s v → SaysScalar dir s u x → SaysScalar dir s v x → u ≡ v
 word_same (lend blocks) s u v x gu gv hu hv = passed_same s u v gu gv (sym hu ∙ hv)
 word_same give s u v x gu gv hu hv = passed_same s u v gu gv (sym hu ∙ hv)
-word_same take s u v x gu gv hu hv = taken_same s u v x hu hv
+word_same take s u v x gu gv hu hv = taken_same s u v x gu gv hu hv
 word_same (make blocks) s u v x gu gv hu hv = passed_same s u v gu gv (sym hu ∙ hv)
 
 pub case_same : (m n : ℕ) → word.I32 (pos m) ≡ word.I32 (pos n) → m ≡ n

@@ -1,6 +1,6 @@
 -- Which core words say a value, and which blocks are then the value's: as in memory.
 use Rattle.std.specs.Prelude.{Bool, true, false, ◌≡◌, ℕ, ◌+◌, ◌*◌, ◌%◌, ◌^◌, ℤ, pos, List, [], ◌∷◌, ◌++◌, drop, length}
-use Rattle.std.specs.Int.{w8, w16, w32, w64, cast_signed}
+use Rattle.std.specs.Int.{w32, w64, cast_signed}
 use mathlib.Core.Logic.{inl, inr}
 use Rattle.wit_model.specs.declared.wasm_type.WasmType.TheVariants as core
 use Rattle.wrapper_data.specs.declared.block.Block.{Block}
@@ -12,8 +12,8 @@ use Rattle.wit_layout.specs.Sizes.{elem_size, extent_of}
 use Rattle.wit_layout.specs.Tree.{Scalar}
 use Rattle.wrapper_meaning.specs.Buffer.{Contents, IsBuffer}
 use Rattle.wrapper_meaning.specs.Direction.{Direction, take}
-use Rattle.wrapper_meaning.specs.InMemory.{EachHolds, EntryHolds, Holds, TextHolds, entry_extent, text_extent, value_place}
-use Rattle.wrapper_meaning.specs.Numbers.{bit, low_bits}
+use Rattle.wrapper_meaning.specs.InMemory.{EachHolds, EntryHolds, Holds, TextHolds, entry_extent, stored_bits, text_extent, value_place}
+use Rattle.wrapper_meaning.specs.Numbers.{bit, low_bits, scalar_bits}
 use Rattle.wrapper_meaning.specs.Kinds.{is_plain}
 use Rattle.wrapper_meaning.specs.Layout.{layout, layouts}
 use Rattle.wrapper_meaning.specs.Shape.{Shape, Shapes}
@@ -35,21 +35,13 @@ passed_word Scalar.char v = word.I32 (pos v)
 passed_word Scalar.handle v = elim v [ ]
 passed_word s v = word.I32 v
 
--- take: a word is read by the low bits that the scalar has
+-- take: a float is its bits, and any other scalar is read by the low bits that it has in memory
 abbrev pub IsTaken : (s : Scalar) → ScalarValue s → Word → Type 0
-IsTaken Scalar.bool v x = (z : ℤ) × (x ≡ word.I32 z) × (bit v ≡ low_bits 8 z)
-IsTaken Scalar.u8 v x = (z : ℤ) × (x ≡ word.I32 z) × (v ≡ pos (low_bits 8 z))
-IsTaken Scalar.u16 v x = (z : ℤ) × (x ≡ word.I32 z) × (v ≡ pos (low_bits 16 z))
-IsTaken Scalar.u32 v x = (z : ℤ) × (x ≡ word.I32 z) × (v ≡ pos (low_bits 32 z))
-IsTaken Scalar.u64 v x = (z : ℤ) × (x ≡ word.I64 z) × (v ≡ pos (low_bits 64 z))
-IsTaken Scalar.s8 v x = (z : ℤ) × (x ≡ word.I32 z) × (v ≡ cast_signed w8 (low_bits 8 z))
-IsTaken Scalar.s16 v x = (z : ℤ) × (x ≡ word.I32 z) × (v ≡ cast_signed w16 (low_bits 16 z))
-IsTaken Scalar.s32 v x = x ≡ word.I32 v
-IsTaken Scalar.s64 v x = x ≡ word.I64 v
 IsTaken Scalar.f32 v x = x ≡ word.F32 v
 IsTaken Scalar.f64 v x = x ≡ word.F64 v
-IsTaken Scalar.char v x = (z : ℤ) × (x ≡ word.I32 z) × (v ≡ low_bits 32 z)
-IsTaken Scalar.handle v x = elim v [ ]
+IsTaken Scalar.u64 v x = (z : ℤ) × (x ≡ word.I64 z) × (stored_bits Scalar.u64 v ≡ low_bits 64 z)
+IsTaken Scalar.s64 v x = (z : ℤ) × (x ≡ word.I64 z) × (stored_bits Scalar.s64 v ≡ low_bits 64 z)
+IsTaken s v x = (z : ℤ) × (x ≡ word.I32 z) × (stored_bits s v ≡ low_bits (scalar_bits s) z)
 
 -- the one word of a scalar
 abbrev pub SaysScalar : Direction → (s : Scalar) → ScalarValue s → Word → Type 0

@@ -88,6 +88,6 @@ EndsBy stop.BadChoice b choices calls Gives run = MeetsMisfit b choices run × E
 EndsBy (stop.Trap kind) b choices calls Gives run = ⊥
 EndsBy (stop.Stuck item) b choices calls Gives run = ⊥
 
--- of the calls, those that drop a handle may be left out
+-- the calls are those of the run, without the ones that drop a handle
 abbrev pub Ends : Bill → List Choice → List CallPoint → (Run → Type 0) → Run → Type 0
 Ends b choices calls Gives run = EndsBy run.stop b choices calls Gives run
