@@ -15,7 +15,7 @@ use Rattle.wrapper_meaning.specs.Laws.{SignatureIsByShapes}
 use Rattle.wrapper_meaning.specs.Layout.{layout, layouts}
 use Rattle.wrapper_meaning.specs.Represents.{result_words}
 use Rattle.wrapper_meaning.specs.Shape.{Shape, bare, handle_in, handle_of, nothing, payload_in, payloads_in, shape_by, shape_in, shape_of, shapes, shapes_behind}
-use Rattle.wrapper_meaning.specs.Shape.Shape.{scalar, text, list, pairs, fixed, fields, tuple, cases, flags, handle, resource, other}
+use Rattle.wrapper_meaning.specs.Shape.Shape.{resource}
 
 at_place : (ss : List Shape) (i : ℕ) → layout (slice_index_or ss i nothing) ≡ slice_index_or (map layout ss) i no_tree
 at_place [] i = refl
@@ -23,39 +23,16 @@ at_place (s ∷ ss) zero = refl
 at_place (s ∷ ss) (suc i) = at_place ss i
 
 handle_number : (owns : Bool) (s : Shape) → layout (handle_of owns s) ≡ Tree.scalar Scalar.handle
-handle_number owns (scalar s) = refl
-handle_number owns text = refl
-handle_number owns (list t) = refl
-handle_number owns (pairs k v) = refl
-handle_number owns (fixed t n) = refl
-handle_number owns (fields ts) = refl
-handle_number owns (tuple ts) = refl
-handle_number owns (cases ts) = refl
-handle_number owns (flags n) = refl
-handle_number owns (handle o number) = refl
 handle_number owns (resource number) = refl
-handle_number owns other = refl
+handle_number owns _ = refl
 
 of_handle : (ss : List Shape) (h : Handle) → layout (handle_in ss h) ≡ Tree.scalar Scalar.handle
 of_handle ss (Own id) = handle_number true (slice_index_or ss id.0 nothing)
 of_handle ss (Borrow id) = handle_number false (slice_index_or ss id.0 nothing)
 
 of_type : (ss : List Shape) (ty : WitType) → layout (shape_in ss ty) ≡ tree_in (map layout ss) ty
-of_type ss wit.Bool = refl
-of_type ss wit.U8 = refl
-of_type ss wit.U16 = refl
-of_type ss wit.U32 = refl
-of_type ss wit.U64 = refl
-of_type ss wit.S8 = refl
-of_type ss wit.S16 = refl
-of_type ss wit.S32 = refl
-of_type ss wit.S64 = refl
-of_type ss wit.F32 = refl
-of_type ss wit.F64 = refl
-of_type ss wit.Char = refl
-of_type ss wit.String = refl
-of_type ss wit.ErrorContext = refl
 of_type ss (wit.Id id) = at_place ss id.0
+of_type ss _ = refl
 
 of_payload : (ss : List Shape) (ty : Option WitType) → layout (payload_in ss ty) ≡ tree_payload (map layout ss) ty
 of_payload ss None = refl

@@ -1,9 +1,10 @@
 -- What takes no bytes is held anywhere, if it is held in one place.
-use Rattle.std.proofs.Common.{◌≡◌, ◌⊎◌, ◌≤◌, ◌+◌, ◌*◌, ◌^◌, ℕ, zero, suc, List, [], ◌∷◌, length, max, refl, arith, ◌∙◌}
+use Rattle.std.proofs.Common.{◌≡◌, ◌⊎◌, ◌+◌, ◌*◌, ◌^◌, ℕ, zero, suc, List, [], ◌∷◌, length, max, refl, arith, ◌∙◌}
 use Rattle.std.specs.List.{AllByRecursion}
 use Rattle.std.proofs.lemmas.Nat.{pow_pos}
 use mathlib.Core.Logic.{inl, inr}
 use Rattle.wit_model.proofs.Rounding.{rounded_above}
+use Rattle.wit_layout.proofs.RecordSteps.{end_behind, record_behind}
 use Rattle.wrapper_data.specs.declared.block.Block.{Block}
 use Rattle.wit_layout.specs.Extent.{Extent, discriminant_grain, end, flags_extent, greatest, payload_place, place, record_extent, variant_extent}
 use Rattle.wit_layout.specs.Sizes.{count, elem_size, extent_of, extents_of, scalar_grain}
@@ -22,10 +23,6 @@ no_product (suc n) m e = inr (omega (e, arith))
 
 -- a record takes no bytes where none of its parts does
 
-end_behind : (parts : List Extent) (behind : ℕ) → behind ≤ end parts behind
-end_behind [] behind = omega (arith)
-end_behind (part ∷ parts) behind = omega (rounded_above (2 ^ part.grain) behind (pow_pos part.grain), end_behind parts (place part behind + part.bytes), arith)
-
 abbrev Empty : List Extent → Type 0
 Empty parts = AllByRecursion (λ part. part.bytes ≡ 0) parts
 
@@ -35,7 +32,7 @@ end_zero (part ∷ parts) behind e =
     (omega (rounded_above (2 ^ part.grain) behind (pow_pos part.grain), end_behind parts (place part behind + part.bytes), e, arith), end_zero parts (place part behind + part.bytes) e)
 
 record_zero : (parts : List Extent) → (record_extent parts).bytes ≡ 0 → Empty parts
-record_zero parts e = end_zero parts 0 (omega (rounded_above (2 ^ (greatest parts).grain) (end parts 0) (pow_pos (greatest parts).grain), e, arith))
+record_zero parts e = end_zero parts 0 (omega (record_behind parts, e, arith))
 
 variant_some : (n : ℕ) (payload : Extent) → (variant_extent n payload).bytes ≡ 0 → ⊥
 variant_some n payload e =

@@ -1,8 +1,9 @@
 -- A list lies in memory as it is exactly where the facts of types call it canonical.
 use Rattle.std.proofs.Common.{◌≡◌, ℕ, zero, suc, ◌<◌, ◌≤◌, Bool, true, false, not, List, [], ◌∷◌, map, Option, Some, None, length, slice_get, is_none, refl, sym, ap, subst, arith, ◌∙◌, get_or}
-use Rattle.std.specs.List.{list_all}
 use Rattle.std.specs.Prelude.{unwrap_or}
+use mathlib.Core.Logic.{inl, inr}
 use Rattle.std.proofs.lemmas.Bool.{and_parts, and_from, true≢false, ltb-true}
+use Rattle.std.proofs.lemmas.Option.{slice_get_cases}
 use Rattle.wit_model.specs.declared.name.TypeId.{TypeId}
 use Rattle.wit_model.specs.declared.types.Handle.TheVariants.{Own, Borrow}
 use Rattle.wit_model.specs.declared.types.TypeDef.{TypeDef}
@@ -10,60 +11,34 @@ use Rattle.wit_model.specs.declared.types.TypeDefKind.{TypeDefKind}
 use Rattle.wit_model.specs.declared.types.TypeDefKind.TheVariants as kind
 use Rattle.wit_model.specs.declared.types.WitType.{WitType}
 use Rattle.wit_model.specs.declared.types.WitType.TheVariants as wit
+use Rattle.wit_model.proofs.AllLemmas.{all_at}
 use Rattle.wit_model.specs.Parts.{parts}
 use Rattle.wit_model.specs.Reaches.{Names, Reaches, reaches_by, reaches_itself}
 use Rattle.wit_model.specs.TypeOrder.{GoesDown, parts_below, payload_below, type_below}
 use Rattle.type_facts.specs.Facts.{IsCanonical}
 use Rattle.type_facts.specs.Own.{is_plain as is_plain_kind, own, own_of_entry}
 use Rattle.wrapper_meaning.specs.Kinds.{are_plain, is_plain}
-use Rattle.wrapper_meaning.specs.Laws.{PlainIsCanonical, ShapeIsByKind}
+use Rattle.wrapper_meaning.specs.Laws.{PlainIsCanonical}
 use Rattle.wrapper_meaning.specs.Shape.{Shape, handle_of, nothing, payloads_in, shape_by, shape_in, shape_of, shapes}
+use Rattle.wrapper_meaning.proofs.Lists.{some_same}
+use Rattle.wrapper_meaning.proofs.ShapeIsByKind.{shape_is_by_kind}
 
 -- the kinds that are plain, by what they name; any other shape is not plain
 abbrev ArePlainParts : List Shape → TypeDefKind → Type 0
 ArePlainParts ss k = (nth : ℕ) (part : WitType) → slice_get (parts k) nth ≡ Some (Some part) → is_plain (shape_in ss part) ≡ true
 
 handle_not_plain : (owns : Bool) (s : Shape) → is_plain (handle_of owns s) ≡ false
-handle_not_plain owns (Shape.scalar s) = refl
-handle_not_plain owns Shape.text = refl
-handle_not_plain owns (Shape.list t) = refl
-handle_not_plain owns (Shape.pairs k v) = refl
-handle_not_plain owns (Shape.fixed t n) = refl
-handle_not_plain owns (Shape.fields ts) = refl
-handle_not_plain owns (Shape.tuple ts) = refl
-handle_not_plain owns (Shape.cases ts) = refl
-handle_not_plain owns (Shape.flags n) = refl
-handle_not_plain owns (Shape.handle o number) = refl
 handle_not_plain owns (Shape.resource number) = refl
-handle_not_plain owns Shape.other = refl
+handle_not_plain owns _ = refl
 
 -- a kind that is not plain has no plain shape
 other_not_plain : (n : ℕ) (ss : List Shape) (k : TypeDefKind) → is_plain_kind k ≡ false → is_plain (shape_by n ss k) ≡ false
 other_not_plain n ss (kind.Alias ty) h = absurd (true≢false h)
 other_not_plain n ss (kind.Handle (Own id)) h = handle_not_plain true (get_or ss id.0 nothing)
 other_not_plain n ss (kind.Handle (Borrow id)) h = handle_not_plain false (get_or ss id.0 nothing)
-other_not_plain n ss (kind.List element) h = refl
-other_not_plain n ss (kind.Map k v) h = refl
 other_not_plain n ss (kind.FixedLengthList element m) h = absurd (true≢false h)
-other_not_plain n ss (kind.Tuple members) h = refl
-other_not_plain n ss (kind.Option payload) h = refl
-other_not_plain n ss (kind.Result good bad) h = refl
 other_not_plain n ss (kind.Record members) h = absurd (true≢false h)
-other_not_plain n ss (kind.Variant members) h = refl
-other_not_plain n ss (kind.Enum members) h = refl
-other_not_plain n ss (kind.Flags members) h = refl
-other_not_plain n ss kind.Resource h = refl
-other_not_plain n ss (kind.Future payload) h = refl
-other_not_plain n ss (kind.Stream payload) h = refl
-other_not_plain n ss kind.Unknown h = refl
-
-some_same : (a b : WitType) → Some (Some a) ≡ Some (Some b) → a ≡ b
-some_same a b e = ap inner e
-  where
-    inner : Option (Option WitType) → WitType
-    inner None = a
-    inner (Some None) = a
-    inner (Some (Some t)) = t
+other_not_plain n ss _ h = refl
 
 -- the parts of a record
 all_plain : (ss : List Shape) (tys : List (Option WitType)) → are_plain (payloads_in ss tys) ≡ true → (nth : ℕ) (part : WitType) → slice_get tys nth ≡ Some (Some part) → is_plain (shape_in ss part) ≡ true
@@ -76,7 +51,7 @@ all_plain ss (None ∷ tys) h zero part e = absurd (no_part e)
     no_part : Some None ≡ Some (Some part) → ⊥
     no_part e = true≢false (ap (λ o. is_none (unwrap_or o None)) e)
 all_plain ss (None ∷ tys) h (suc nth) part e = all_plain ss tys h nth part e
-all_plain ss (Some ty ∷ tys) h zero part e = subst (λ t. is_plain (shape_in ss t) ≡ true) (some_same ty part e) (and_parts (is_plain (shape_in ss ty)) (are_plain (payloads_in ss tys)) h).0
+all_plain ss (Some ty ∷ tys) h zero part e = subst (λ t. is_plain (shape_in ss t) ≡ true) (some_same ty part (some_same (Some ty) (Some part) e)) (and_parts (is_plain (shape_in ss ty)) (are_plain (payloads_in ss tys)) h).0
 all_plain ss (Some ty ∷ tys) h (suc nth) part e = all_plain ss tys (and_parts (is_plain (shape_in ss ty)) (are_plain (payloads_in ss tys)) h).1 nth part e
 
 from_all : (ss : List Shape) (tys : List (Option WitType)) → ((nth : ℕ) (part : WitType) → slice_get tys nth ≡ Some (Some part) → is_plain (shape_in ss part) ≡ true) → are_plain (payloads_in ss tys) ≡ true
@@ -92,42 +67,18 @@ unfolding parts
 plain_parts n ss (kind.Alias ty) h p nth part e = one_part ss ty p nth part e
 plain_parts n ss (kind.FixedLengthList element m) h p nth part e = one_part ss element p nth part e
 plain_parts n ss (kind.Record members) h p nth part e = all_plain ss (map (λ f. Some f.ty) members) p nth part e
-plain_parts n ss (kind.Handle handle) h p nth part e = absurd (true≢false (sym h))
-plain_parts n ss (kind.List element) h p nth part e = absurd (true≢false (sym h))
-plain_parts n ss (kind.Map k v) h p nth part e = absurd (true≢false (sym h))
-plain_parts n ss (kind.Tuple members) h p nth part e = absurd (true≢false (sym h))
-plain_parts n ss (kind.Option payload) h p nth part e = absurd (true≢false (sym h))
-plain_parts n ss (kind.Result good bad) h p nth part e = absurd (true≢false (sym h))
-plain_parts n ss (kind.Variant members) h p nth part e = absurd (true≢false (sym h))
-plain_parts n ss (kind.Enum members) h p nth part e = absurd (true≢false (sym h))
-plain_parts n ss (kind.Flags members) h p nth part e = absurd (true≢false (sym h))
-plain_parts n ss kind.Resource h p nth part e = absurd (true≢false (sym h))
-plain_parts n ss (kind.Future payload) h p nth part e = absurd (true≢false (sym h))
-plain_parts n ss (kind.Stream payload) h p nth part e = absurd (true≢false (sym h))
-plain_parts n ss kind.Unknown h p nth part e = absurd (true≢false (sym h))
+plain_parts n ss _ h p nth part e = absurd (true≢false (sym h))
 
 from_parts : (n : ℕ) (ss : List Shape) (k : TypeDefKind) → is_plain_kind k ≡ true → ArePlainParts ss k → is_plain (shape_by n ss k) ≡ true
 unfolding parts
 from_parts n ss (kind.Alias ty) h p = p 0 ty refl
 from_parts n ss (kind.FixedLengthList element m) h p = p 0 element refl
 from_parts n ss (kind.Record members) h p = from_all ss (map (λ f. Some f.ty) members) p
-from_parts n ss (kind.Handle handle) h p = absurd (true≢false (sym h))
-from_parts n ss (kind.List element) h p = absurd (true≢false (sym h))
-from_parts n ss (kind.Map k v) h p = absurd (true≢false (sym h))
-from_parts n ss (kind.Tuple members) h p = absurd (true≢false (sym h))
-from_parts n ss (kind.Option payload) h p = absurd (true≢false (sym h))
-from_parts n ss (kind.Result good bad) h p = absurd (true≢false (sym h))
-from_parts n ss (kind.Variant members) h p = absurd (true≢false (sym h))
-from_parts n ss (kind.Enum members) h p = absurd (true≢false (sym h))
-from_parts n ss (kind.Flags members) h p = absurd (true≢false (sym h))
-from_parts n ss kind.Resource h p = absurd (true≢false (sym h))
-from_parts n ss (kind.Future payload) h p = absurd (true≢false (sym h))
-from_parts n ss (kind.Stream payload) h p = absurd (true≢false (sym h))
-from_parts n ss kind.Unknown h p = absurd (true≢false (sym h))
+from_parts n ss _ h p = absurd (true≢false (sym h))
 
-module _ (types : List TypeDef) (down : GoesDown types) (by_kind : ShapeIsByKind) where
+module _ (types : List TypeDef) (down : GoesDown types) where
   entry_plain : (id : TypeId) (entry : TypeDef) → slice_get types id.0 ≡ Some entry → is_plain (shape_of types (wit.Id id)) ≡ true → is_plain (shape_by id.0 (shapes types) entry.kind) ≡ true
-  entry_plain id entry at p = ap is_plain (sym (by_kind types id.0 entry down at)) ∙ p
+  entry_plain id entry at p = ap is_plain (sym (shape_is_by_kind types id.0 entry down at)) ∙ p
 
   -- what is plain is of a plain kind
   plain_kind : (id : TypeId) (entry : TypeDef) → slice_get types id.0 ≡ Some entry → is_plain (shape_of types (wit.Id id)) ≡ true → is_plain_kind entry.kind ≡ true
@@ -139,16 +90,6 @@ module _ (types : List TypeDef) (down : GoesDown types) (by_kind : ShapeIsByKind
 
   itself : (ty : WitType) → is_plain (shape_of types ty) ≡ true → (own types ty).other ≡ true → ⊥
   itself wit.Bool p so = true≢false (sym p)
-  itself wit.U8 p so = true≢false (sym so)
-  itself wit.U16 p so = true≢false (sym so)
-  itself wit.U32 p so = true≢false (sym so)
-  itself wit.U64 p so = true≢false (sym so)
-  itself wit.S8 p so = true≢false (sym so)
-  itself wit.S16 p so = true≢false (sym so)
-  itself wit.S32 p so = true≢false (sym so)
-  itself wit.S64 p so = true≢false (sym so)
-  itself wit.F32 p so = true≢false (sym so)
-  itself wit.F64 p so = true≢false (sym so)
   itself wit.Char p so = true≢false (sym p)
   itself wit.String p so = true≢false (sym p)
   itself wit.ErrorContext p so = true≢false (sym p)
@@ -157,6 +98,7 @@ module _ (types : List TypeDef) (down : GoesDown types) (by_kind : ShapeIsByKind
       by_entry : (o : Option TypeDef) → slice_get types id.0 ≡ o → ⊥
       by_entry None e = true≢false (sym so ∙ ap (λ o. (own_of_entry o).other) e)
       by_entry (Some entry) e = true≢false (sym so ∙ ap (λ o. (own_of_entry o).other) e ∙ ap not (plain_kind id entry e p))
+  itself _ p so = true≢false (sym so)
 
   step : (whole part : WitType) → Names types whole part → is_plain (shape_of types whole) ≡ true → is_plain (shape_of types part) ≡ true
   step whole part names p =
@@ -167,7 +109,7 @@ module _ (types : List TypeDef) (down : GoesDown types) (by_kind : ShapeIsByKind
   no_other (reaches_itself {ty}) p so = itself ty p so
   no_other (reaches_by {whole} {part} names r) p so = no_other r (step whole part names p) so
 
-  pub plain_is_canonical : (ty : WitType) → is_plain (shape_of types ty) ≡ true → IsCanonical types ty
+  plain_is_canonical : (ty : WitType) → is_plain (shape_of types ty) ≡ true → IsCanonical types ty
   plain_is_canonical ty p has = no_other has.reached p has.so
 
   -- and the other way: by the bound of the ids
@@ -179,14 +121,7 @@ module _ (types : List TypeDef) (down : GoesDown types) (by_kind : ShapeIsByKind
   part_canonical whole part names canonical has = canonical (record { part = has.part; reached = reaches_by names has.reached; so = has.so })
 
   none_past : {A : Type 0} (xs : List A) (k : ℕ) → slice_get xs k ≡ None → k < length xs → ⊥
-  none_past [] k e below = omega (below, arith)
-  none_past (x ∷ xs) zero e below = true≢false (sym (ap is_none e))
-  none_past (x ∷ xs) (suc k) e below = none_past xs k e (omega (below, arith))
-
-  all_at : {A : Type 0} (test : A → Bool) (xs : List A) (nth : ℕ) (x : A) → list_all test xs ≡ true → slice_get xs nth ≡ Some x → test x ≡ true
-  all_at test [] nth x h e = absurd (true≢false (ap is_none e))
-  all_at test (y ∷ xs) zero x h e = subst (λ z. test z ≡ true) (ap (λ o. unwrap_or o y) e) (and_parts (test y) (list_all test xs) h).0
-  all_at test (y ∷ xs) (suc nth) x h e = all_at test xs nth x (and_parts (test y) (list_all test xs) h).1 e
+  none_past xs k e below = elim (slice_get_cases xs k).1 [ inl there ↦ true≢false (ap is_none (sym e ∙ there.2)) | inr past ↦ omega (past.0, below, arith) ]
 
   -- a part of an entry is below it
   part_below : (id : TypeId) (entry : TypeDef) (nth : ℕ) (part : WitType) → slice_get types id.0 ≡ Some entry → slice_get (parts entry.kind) nth ≡ Some (Some part) → type_below id.0 part ≡ true
@@ -204,7 +139,7 @@ module _ (types : List TypeDef) (down : GoesDown types) (by_kind : ShapeIsByKind
       by_entry (Some entry) e = by_test (is_plain_kind entry.kind) refl
         where
           by_test : (t : Bool) → is_plain_kind entry.kind ≡ t → is_plain (shape_of types (wit.Id id)) ≡ true
-          by_test true t = ap is_plain (by_kind types id.0 entry down e) ∙ from_parts id.0 (shapes types) entry.kind t
+          by_test true t = ap is_plain (shape_is_by_kind types id.0 entry down e) ∙ from_parts id.0 (shapes types) entry.kind t
               (λ nth part at. earlier id.0 below (omega (inside, arith)) part (part_below id entry nth part e at)
               (part_canonical (wit.Id id) part (record { id = id; entry = entry; nth = nth; is_entry = refl; entry_at = e; part_at = at }) canonical))
           by_test false t = absurd (by_itself (wit.Id id) canonical (ap (λ o. (own_of_entry o).other) e ∙ ap not t))
@@ -212,48 +147,30 @@ module _ (types : List TypeDef) (down : GoesDown types) (by_kind : ShapeIsByKind
   plain_type : (n : ℕ) → PlainBelow n → (m : ℕ) → m ≤ suc n → m ≤ length types → (ty : WitType) → type_below m ty ≡ true → IsCanonical types ty → is_plain (shape_of types ty) ≡ true
   unfolding type_below
   plain_type n earlier m small inside wit.Bool below canonical = absurd (by_itself wit.Bool canonical refl)
-  plain_type n earlier m small inside wit.U8 below canonical = refl
-  plain_type n earlier m small inside wit.U16 below canonical = refl
-  plain_type n earlier m small inside wit.U32 below canonical = refl
-  plain_type n earlier m small inside wit.U64 below canonical = refl
-  plain_type n earlier m small inside wit.S8 below canonical = refl
-  plain_type n earlier m small inside wit.S16 below canonical = refl
-  plain_type n earlier m small inside wit.S32 below canonical = refl
-  plain_type n earlier m small inside wit.S64 below canonical = refl
-  plain_type n earlier m small inside wit.F32 below canonical = refl
-  plain_type n earlier m small inside wit.F64 below canonical = refl
   plain_type n earlier m small inside wit.Char below canonical = absurd (by_itself wit.Char canonical refl)
   plain_type n earlier m small inside wit.String below canonical = absurd (by_itself wit.String canonical refl)
   plain_type n earlier m small inside wit.ErrorContext below canonical = absurd (by_itself wit.ErrorContext canonical refl)
   plain_type n earlier m small inside (wit.Id id) below canonical =
       let low = ltb-true id.0 m below in
       plain_entry n earlier id (omega (low, small, arith)) (omega (low, inside, arith)) canonical
+  plain_type n earlier m small inside _ below canonical = refl
 
   -- no entry is below 0
   none_below : PlainBelow 0
   unfolding type_below
   none_below m small inside wit.Bool below canonical = absurd (by_itself wit.Bool canonical refl)
-  none_below m small inside wit.U8 below canonical = refl
-  none_below m small inside wit.U16 below canonical = refl
-  none_below m small inside wit.U32 below canonical = refl
-  none_below m small inside wit.U64 below canonical = refl
-  none_below m small inside wit.S8 below canonical = refl
-  none_below m small inside wit.S16 below canonical = refl
-  none_below m small inside wit.S32 below canonical = refl
-  none_below m small inside wit.S64 below canonical = refl
-  none_below m small inside wit.F32 below canonical = refl
-  none_below m small inside wit.F64 below canonical = refl
   none_below m small inside wit.Char below canonical = absurd (by_itself wit.Char canonical refl)
   none_below m small inside wit.String below canonical = absurd (by_itself wit.String canonical refl)
   none_below m small inside wit.ErrorContext below canonical = absurd (by_itself wit.ErrorContext canonical refl)
   none_below m small inside (wit.Id id) below canonical = absurd (omega (ltb-true id.0 m below, small, arith))
+  none_below m small inside _ below canonical = refl
 
   plain_below : (n : ℕ) → PlainBelow n
   plain_below zero = none_below
   plain_below (suc n) = plain_type n (plain_below n)
 
-  pub canonical_is_plain : (ty : WitType) → type_below (length types) ty ≡ true → IsCanonical types ty → is_plain (shape_of types ty) ≡ true
+  canonical_is_plain : (ty : WitType) → type_below (length types) ty ≡ true → IsCanonical types ty → is_plain (shape_of types ty) ≡ true
   canonical_is_plain ty below canonical = plain_below (length types) (length types) (omega (arith)) (omega (arith)) ty below canonical
 
-pub plain_is_canonical_law : ShapeIsByKind → PlainIsCanonical
-plain_is_canonical_law by_kind types ty down below = (plain_is_canonical types down by_kind ty, canonical_is_plain types down by_kind ty below)
+pub plain_is_canonical_law : PlainIsCanonical
+plain_is_canonical_law types ty down below = (plain_is_canonical types down ty, canonical_is_plain types down ty below)

@@ -14,7 +14,7 @@ use Rattle.wrapper_meaning.specs.Kinds.{are_plain, is_plain}
 use Rattle.wrapper_meaning.specs.Laws.{BufferIsItsWords, ListIsItsElements, PlainIsAlike}
 use Rattle.wrapper_meaning.specs.Layout.{layout}
 use Rattle.wrapper_meaning.specs.Shape.{Shape, Shapes}
-use Rattle.wrapper_meaning.specs.Shape.Shape.{scalar, text, list, pairs, fixed, fields, tuple, cases, flags, handle, resource, other}
+use Rattle.wrapper_meaning.specs.Shape.Shape.{scalar, fixed, fields}
 use Rattle.wrapper_meaning.specs.Shape.Shapes.{none, more}
 use Rattle.wrapper_meaning.specs.StandsFor.{EachStands, Stands, StandsAsBuffer}
 use Rattle.wrapper_meaning.proofs.Lists.{some_same}
@@ -43,15 +43,7 @@ module _ (w : ℕ) (dir another : Direction) where
     holds_alike (scalar s) p v b k blocks h = (h.1, (h.0, refl))
     holds_alike (fixed t n) p vs b k blocks h = each_alike (Holds w dir t) (Holds w another t) (elem_size w (layout t)) (holds_alike t p) vs b k blocks h
     holds_alike (fields ts) p v b k blocks h = parts_alike ts p 0 v b k blocks h
-    holds_alike text p v b k blocks h = not_plain p
-    holds_alike (list t) p v b k blocks h = not_plain p
-    holds_alike (pairs x y) p v b k blocks h = not_plain p
-    holds_alike (tuple ts) p v b k blocks h = not_plain p
-    holds_alike (cases ts) p v b k blocks h = not_plain p
-    holds_alike (flags n) p v b k blocks h = not_plain p
-    holds_alike (handle owns number) p v b k blocks h = not_plain p
-    holds_alike (resource number) p v b k blocks h = not_plain p
-    holds_alike other p v b k blocks h = not_plain p
+    holds_alike _ p v b k blocks h = not_plain p
 
     parts_alike : (ts : Shapes) → are_plain ts ≡ true → (behind : ℕ) → AlikeHeld (λ v. PartsHold w dir ts v behind) (λ v. PartsHold w another ts v behind)
     parts_alike none p behind v b k blocks h = (h, refl)

@@ -27,18 +27,11 @@ use Rattle.wrapper_meaning.proofs.RustValues.{bits_same, bool_same, buffer_same,
 
 scalar_same : (s : Scalar) (u v : ScalarValue s) → rust_scalar s u ≡ rust_scalar s v → u ≡ v
 scalar_same Scalar.bool u v e = bool_same u v e
-scalar_same Scalar.u8 u v e = num_same _ _ u v e
-scalar_same Scalar.u16 u v e = num_same _ _ u v e
-scalar_same Scalar.u32 u v e = num_same _ _ u v e
-scalar_same Scalar.u64 u v e = num_same _ _ u v e
-scalar_same Scalar.s8 u v e = num_same _ _ u v e
-scalar_same Scalar.s16 u v e = num_same _ _ u v e
-scalar_same Scalar.s32 u v e = num_same _ _ u v e
-scalar_same Scalar.s64 u v e = num_same _ _ u v e
 scalar_same Scalar.f32 u v e = f32_same u v e
 scalar_same Scalar.f64 u v e = f64_same u v e
 scalar_same Scalar.char u v e = char_same u v e
 scalar_same Scalar.handle u v e = elim u [ ]
+scalar_same s u v e = num_same _ _ u v e
 
 -- the same value of the Rust side stands for one value
 abbrev pub StandsForOne : {A : Type 0} → (A → Standing) → (A → Type 0) → Type 0
@@ -99,17 +92,9 @@ module _ (w : ℕ) (dir : Direction) (well : IsWellPlaced dir) where
   nothing_same : (t : Shape) → is_nothing t ≡ true → (u v : Value t) → u ≡ v
   nothing_same (fields none) h u v = refl
   nothing_same (fields (more t ts)) h u v = absurd (true≢false (sym h))
-  nothing_same (scalar s) h u v = absurd (true≢false (sym h))
-  nothing_same text h u v = absurd (true≢false (sym h))
-  nothing_same (list t) h u v = absurd (true≢false (sym h))
-  nothing_same (pairs k x) h u v = absurd (true≢false (sym h))
-  nothing_same (fixed t n) h u v = absurd (true≢false (sym h))
-  nothing_same (tuple ts) h u v = absurd (true≢false (sym h))
-  nothing_same (cases ts) h u v = absurd (true≢false (sym h))
-  nothing_same (flags n) h u v = absurd (true≢false (sym h))
-  nothing_same (handle own number) h u v = absurd (true≢false (sym h))
   nothing_same (resource number) h u v = elim u [ ]
   nothing_same other h u v = elim u [ ]
+  nothing_same _ h u v = absurd (true≢false (sym h))
 
   payload_one : (t : Shape) → StandsForOne (Stands w dir t) (IsListed t) → (empty : Bool) → is_nothing t ≡ empty → (u v : Value t) (payload : Option RustValue) (xs ys p q : List Block)
       → PayloadStands empty (Stands w dir t u) payload xs → PayloadStands empty (Stands w dir t v) payload ys → xs ++ p ≡ ys ++ q → IsListed t u → IsListed t v → Same (Value t) u v xs ys p q

@@ -6,7 +6,7 @@ use Rattle.wrapper_data.specs.declared.word.Word.{Word}
 use Rattle.wrapper_data.specs.declared.word.Word.TheVariants as word
 use Rattle.wit_layout.specs.Tree.{Scalar}
 use Rattle.wrapper_meaning.specs.AsWords.{IsTaken, SaysScalar, handle_word, passed_word}
-use Rattle.wrapper_meaning.specs.Direction.{Direction, give, lend, make, take}
+use Rattle.wrapper_meaning.specs.Direction.{Direction, take}
 use Rattle.wrapper_meaning.specs.Numbers.{is_unsigned, low_bits, scalar_bits}
 use Rattle.wrapper_meaning.specs.InMemory.{stored_bits}
 use Rattle.wrapper_meaning.specs.InRange.{IsScalar}
@@ -60,18 +60,14 @@ handle_same u v hu hv e = signed_same u v hu hv (i32_same _ _ e)
 
 passed_same : (s : Scalar) (u v : ScalarValue s) → IsScalar s u → IsScalar s v → passed_word s u ≡ passed_word s v → u ≡ v
 passed_same Scalar.bool u v hu hv e = bit_same u v (pos_same _ _ (i32_same _ _ e))
-passed_same Scalar.u8 u v hu hv e = i32_same _ _ e
-passed_same Scalar.u16 u v hu hv e = i32_same _ _ e
 passed_same Scalar.u32 u v hu hv e = u32_passed u v hu hv (i32_same _ _ e)
 passed_same Scalar.u64 u v hu hv e = u64_passed u v hu hv (i64_same _ _ e)
-passed_same Scalar.s8 u v hu hv e = i32_same _ _ e
-passed_same Scalar.s16 u v hu hv e = i32_same _ _ e
-passed_same Scalar.s32 u v hu hv e = i32_same _ _ e
 passed_same Scalar.s64 u v hu hv e = i64_same _ _ e
 passed_same Scalar.f32 u v hu hv e = f32_same _ _ e
 passed_same Scalar.f64 u v hu hv e = f64_same _ _ e
 passed_same Scalar.char u v hu hv e = pos_same _ _ (i32_same _ _ e)
 passed_same Scalar.handle u v hu hv e = elim u [ ]
+passed_same s u v hu hv e = i32_same _ _ e
 
 -- two scalars that are read of one word have the same bits
 same_bits : (s : Scalar) (u v : ScalarValue s) (n : ℕ) (y z : ℤ) → IsScalar s u → IsScalar s v → y ≡ z → stored_bits s u ≡ low_bits n y → stored_bits s v ≡ low_bits n z → u ≡ v
@@ -85,10 +81,8 @@ taken_same Scalar.s64 u v x gu gv (y, d, h) (z, e, g) = same_bits Scalar.s64 u v
 taken_same s u v x gu gv (y, d, h) (z, e, g) = same_bits s u v (scalar_bits s) y z gu gv (i32_same _ _ (sym d ∙ e)) h g
 
 pub word_same : (dir : Direction) (s : Scalar) (u v : ScalarValue s) (x : Word) → IsScalar s u → IsScalar s v → SaysScalar dir s u x → SaysScalar dir s v x → u ≡ v
-word_same (lend blocks) s u v x gu gv hu hv = passed_same s u v gu gv (sym hu ∙ hv)
-word_same give s u v x gu gv hu hv = passed_same s u v gu gv (sym hu ∙ hv)
 word_same take s u v x gu gv hu hv = taken_same s u v x gu gv hu hv
-word_same (make blocks) s u v x gu gv hu hv = passed_same s u v gu gv (sym hu ∙ hv)
+word_same _ s u v x gu gv hu hv = passed_same s u v gu gv (sym hu ∙ hv)
 
 pub case_same : (m n : ℕ) → word.I32 (pos m) ≡ word.I32 (pos n) → m ≡ n
 case_same m n e = pos_same m n (i32_same _ _ e)

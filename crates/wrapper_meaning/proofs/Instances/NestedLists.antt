@@ -80,4 +80,3 @@ as_words = (
   refl,
   refl,
 )
-

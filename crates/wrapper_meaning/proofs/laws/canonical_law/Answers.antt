@@ -1,6 +1,5 @@
 use Rattle.wrapper_meaning.proofs.PlainIsCanonical.{plain_is_canonical_law}
-use Rattle.wrapper_meaning.proofs.ShapeIsByKind.{shape_is_by_kind}
 use Rattle.wrapper_meaning.proofs.laws.canonical_law.Goals as goal
 
 pub returns : goal.returns
-returns c = plain_is_canonical_law shape_is_by_kind
+returns c = plain_is_canonical_law
