@@ -36,6 +36,22 @@ run_of end made = record { stop = end; calls = call ∷ []; requests = made; hea
 done : Ends bill (choice.At 512 ∷ choice.At 64 ∷ []) (call ∷ []) (λ run. Unit {0}) (run_of stop.Done (eight ∷ eight ∷ []))
 done = record { call = call; once = refl; requests = λ weight. refl; area = refl; gives = tt }
 
+-- a wrapper that calls twice
+calls_twice : Ends bill (choice.At 512 ∷ choice.At 64 ∷ []) (call ∷ call ∷ []) (λ run. Unit {0}) (run_of stop.Done (eight ∷ eight ∷ [])) → ⊥
+calls_twice done = omega (ap length done.once, arith)
+
+-- one that asks for a block that is not due
+asks_for_more : Ends bill (choice.At 512 ∷ choice.At 64 ∷ choice.At 128 ∷ []) (call ∷ []) (λ run. Unit {0}) (run_of stop.Done (eight ∷ eight ∷ eight ∷ [])) → ⊥
+asks_for_more done = omega (done.requests (λ r. 1), arith)
+
+-- one that asks for another area than its module's
+asks_otherwise : Ends bill (choice.At 512 ∷ choice.At 64 ∷ []) (call ∷ []) (λ run. Unit {0}) (run_of stop.Done (record { size = 16; align = 4 } ∷ eight ∷ [])) → ⊥
+asks_otherwise done = omega (ap (λ r. r.size) done.area, arith)
+
+-- one that has no meaning
+is_stuck : Ends bill [] [] (λ run. Unit {0}) (run_of (stop.Stuck 0) []) → ⊥
+is_stuck ends = ends
+
 -- the area is asked for first
 abbrev of_two : Bill
 of_two = export_bill 2 (Some (list text) ∷ []) none tt (Some (list text)) (codes "a" ∷ [] ∷ [])
