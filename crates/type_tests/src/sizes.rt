@@ -98,25 +98,6 @@ fn bytes_of(sizes: &SizeAlign, ty: WitType) -> (u64, u64) {
     (sizes.size(&ty).bytes, sizes.align(&ty).at(4))
 }
 
-#[test]
-fn numbers_are_aligned_to_their_size(rt: HostRuntime) -> Result<(), Fail> {
-    let resolve = sample(rt.alloc())?;
-    let sizes = SizeAlign::fill(rt.alloc(), &resolve)?;
-    for (ty, bytes) in [
-        (WitType::Bool, 1),
-        (WitType::S8, 1),
-        (WitType::U16, 2),
-        (WitType::F32, 4),
-        (WitType::Char, 4),
-        (WitType::ErrorContext, 4),
-        (WitType::S64, 8),
-        (WitType::F64, 8),
-    ] {
-        assert!(rt; bytes_of(&sizes, ty) == (bytes, bytes), "{ty:?}");
-    }
-    Ok(())
-}
-
 /// Whether two types fit in a record, its bytes and pointers, and those before the second of them.
 fn measured(sizes: &SizeAlign, types: &[WitType]) -> [u64; 4] {
     match types {
@@ -127,15 +108,6 @@ fn measured(sizes: &SizeAlign, types: &[WitType]) -> [u64; 4] {
         }
         _ => [0; 4],
     }
-}
-
-#[test]
-fn a_record_of_two_types(rt: HostRuntime) -> Result<(), Fail> {
-    let resolve = sample(rt.alloc())?;
-    let sizes = SizeAlign::fill(rt.alloc(), &resolve)?;
-    assert!(rt; measured(&sizes, &[WitType::U8, WitType::String]) == [0, 3, 0, 1]);
-    assert!(rt; measured(&sizes, &[WitType::U32, WitType::U64]) == [16, 0, 8, 0]);
-    Ok(())
 }
 
 /// The bytes and pointers before the second and the third of three types, one place after another.
@@ -157,9 +129,22 @@ fn gone_along(sizes: &SizeAlign, types: &[WitType]) -> [u64; 4] {
 }
 
 #[test]
-fn along_a_record_of_three_types(rt: HostRuntime) -> Result<(), Fail> {
+fn numbers_and_records_of_them(rt: HostRuntime) -> Result<(), Fail> {
     let resolve = sample(rt.alloc())?;
     let sizes = SizeAlign::fill(rt.alloc(), &resolve)?;
+    for (ty, bytes) in [
+        (WitType::Bool, 1),
+        (WitType::S8, 1),
+        (WitType::U16, 2),
+        (WitType::F32, 4),
+        (WitType::Char, 4),
+        (WitType::ErrorContext, 4),
+        (WitType::S64, 8),
+        (WitType::F64, 8),
+    ] {
+        assert!(rt; bytes_of(&sizes, ty) == (bytes, bytes), "{ty:?}");
+    }
+    assert!(rt; measured(&sizes, &[WitType::U8, WitType::String]) == [0, 3, 0, 1]);
     let types = [WitType::U8, WitType::String, WitType::U64];
     // at 4 bytes 4 + 8 at the next multiple of 8, at 8 bytes 8 + 16
     assert!(rt; gone_along(&sizes, &types) == [0, 1, 8, 2]);
