@@ -6,6 +6,15 @@ use std::alloc::{AllocError, Global};
 use std::rt::Files;
 use std::{fs, io};
 
+/// What the run of the document `NAME.json` told.
+fn told_at(rt: &(impl Files + AllocGlobal), name: &str) -> io::Result<Vec<u8>> {
+    let document = fs::read(rt, format!(in rt.alloc(); "{name}.json")?)?;
+    match told(rt.alloc(), document.as_slice()) {
+        Ok(got) => Ok(got),
+        Err(_) => Err(io::Error::from(AllocError)),
+    }
+}
+
 fn print_difference(
     rt: &(impl Print + AllocGlobal),
     name: &str,
@@ -19,20 +28,13 @@ fn print_difference(
     )
 }
 
-/// Runs the document `NAME.json`, and prints whether it told what `NAME.ENDING` holds; else the first line that differs.
-/// It answers whether it did.
-pub(crate) fn fits(
-    rt: &(impl Files + Print + AllocGlobal),
+fn print_result(
+    rt: &(impl Print + AllocGlobal),
     name: &str,
-    ending: &str,
+    expected: &[u8],
+    got: &[u8],
 ) -> io::Result<bool> {
-    let document = fs::read(rt, format!(in rt.alloc(); "{name}.json")?)?;
-    let expected = fs::read(rt, format!(in rt.alloc(); "{name}.{ending}")?)?;
-    let got = match told(rt.alloc(), document.as_slice()) {
-        Ok(got) => got,
-        Err(_) => return Err(io::Error::from(AllocError)),
-    };
-    match first_difference(expected.as_slice(), got.as_slice()) {
+    match first_difference(expected, got) {
         None => {
             println!(rt; "{name}: ok")?;
             Ok(true)
@@ -42,4 +44,24 @@ pub(crate) fn fits(
             Ok(false)
         }
     }
+}
+
+/// The name of an example, by the file of what its document must tell.
+pub(crate) fn name_of(file: &str) -> &str {
+    match file.rsplit_once('.') {
+        Some((name, _)) => name,
+        None => file,
+    }
+}
+
+/// Runs the document `NAME.json`, and prints whether it told what the file holds; else the first line that differs. It
+/// answers whether it did.
+pub(crate) fn fits(
+    rt: &(impl Files + Print + AllocGlobal),
+    name: &str,
+    file: &str,
+) -> io::Result<bool> {
+    let got = told_at(rt, name)?;
+    let expected = fs::read(rt, file)?;
+    print_result(rt, name, expected.as_slice(), got.as_slice())
 }

@@ -1,5 +1,5 @@
 use Rattle.std.proofs.Common.{◌≤◌}
 use Rattle.examples.proofs.count_fitting.Given as goal
 
-abbrev pub invariant-loop-name : goal.invariant-loop-name
-invariant-loop-name g l = l.count ≤ l.name-index
+abbrev pub invariant-loop-file : goal.invariant-loop-file
+invariant-loop-file g l = l.count ≤ l.file-index
