@@ -5,8 +5,6 @@ mod input;
 mod made;
 mod outcome;
 mod run;
-#[cfg(test)]
-mod tests;
 
 pub use input::{Input, InputFault2, input_of};
 pub use outcome::Outcome;

@@ -7,8 +7,6 @@ mod names;
 mod quote;
 mod refusal;
 mod status;
-#[cfg(test)]
-mod tests;
 mod word;
 
 pub use fixed::{out_of_memory_line, write_fault_line};
