@@ -5,7 +5,7 @@ use std::fmt;
 use wit_model::{OutOfMemory, Text};
 
 /// What a part of a line should have been.
-#[derive(Clone, Copy, Debug, PartialEq, Eq)]
+#[derive(Clone, Copy)]
 pub(crate) enum Part {
     Object,
     List,
@@ -55,7 +55,7 @@ impl fmt::Display for Part {
 }
 
 /// Why a line is answered by no run.
-#[derive(Debug, PartialEq, Drop)]
+#[derive(Drop)]
 pub(crate) enum LineFault {
     /// The line is no JSON value.
     NoJson,

@@ -21,18 +21,27 @@ mod write_word;
 
 use std::io;
 use std::io::{BufRead, BufReader};
+use std::rt::Files;
 use trace::trace;
 use trees::Trees;
 use wit_model::OutOfMemory;
+
+fn answer<R: Files + Print + AllocGlobal>(
+    rt: &R,
+    trees: &mut Trees,
+    line: &[u8],
+) -> io::Result<()> {
+    match trace(rt, trees, line) {
+        Ok(answer) => println!(rt; "{answer}"),
+        Err(OutOfMemory) => Err(io::ErrorKind::OutOfMemory.into()),
+    }
+}
 
 fn main(rt: HostRuntime) -> io::Result<()> {
     let input = BufReader::new(rt.alloc(), rt.reader())?;
     let mut trees = Trees::new(rt.alloc());
     for line in input.split(rt.alloc(), b'\n') {
-        match trace(&rt, &mut trees, line?.as_slice()) {
-            Ok(answer) => println!(rt; "{answer}")?,
-            Err(OutOfMemory) => return Err(io::ErrorKind::OutOfMemory.into()),
-        }
+        answer(&rt, &mut trees, line?.as_slice())?;
     }
     Ok(())
 }

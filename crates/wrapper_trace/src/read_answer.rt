@@ -2,7 +2,7 @@
 
 use crate::fault::{LineFault, Part};
 use crate::json::{Readable, only, optional, required, sole_member, u32_of};
-use crate::read_heap::heap_in;
+use crate::read_heap::{heap_in, push_bytes};
 use serde_json::Value;
 use std::alloc::Global;
 use wit_model::{List, OutOfMemory};
@@ -76,20 +76,8 @@ fn writes_of(alloc: Global, value: &Value) -> Result<List<(u32, u8)>, LineFault>
     let stretches: Option<List<Stretch>> = optional(alloc, value, "writes")?;
     if let Some(stretches) = stretches {
         for stretch in stretches.as_slice() {
-            push_bytes(&mut writes, stretch)?;
+            push_bytes(&mut writes, stretch.address, stretch.bytes.as_slice())?;
         }
     }
     Ok(writes)
-}
-
-fn push_bytes(writes: &mut List<(u32, u8)>, stretch: &Stretch) -> Result<(), LineFault> {
-    let mut address = u64::from(stretch.address);
-    for byte in stretch.bytes.as_slice() {
-        if address > u64::from(u32::MAX) {
-            return Err(LineFault::Expected(Part::Writes));
-        }
-        writes.push((address as u32, *byte))?;
-        address += 1;
-    }
-    Ok(())
 }

@@ -1,6 +1,6 @@
 //! Heaps and their blocks, which may be those of no well-formed heap.
 
-use crate::fault::LineFault;
+use crate::fault::{LineFault, Part};
 use crate::json::{Readable, only, optional, pair_of, required};
 use serde_json::Value;
 use std::alloc::Global;
@@ -37,8 +37,7 @@ impl Readable for Block {
 fn cells_of(alloc: Global, block: &Value) -> Result<List<(u32, u8)>, LineFault> {
     if block.get("bytes").is_some() {
         only(alloc, block, &["address", "size", "bytes"])?;
-        let bytes: List<u8> = required(alloc, block, "bytes")?;
-        Ok(from_start(alloc, bytes.as_slice())?)
+        bytes_of(alloc, block)
     } else {
         only(alloc, block, &["address", "size", "cells"])?;
         let cells = optional(alloc, block, "cells")?;
@@ -46,12 +45,28 @@ fn cells_of(alloc: Global, block: &Value) -> Result<List<(u32, u8)>, LineFault> 
     }
 }
 
-fn from_start(alloc: Global, bytes: &[u8]) -> Result<List<(u32, u8)>, OutOfMemory> {
+fn bytes_of(alloc: Global, block: &Value) -> Result<List<(u32, u8)>, LineFault> {
     let mut cells = List::new(alloc);
-    for (offset, byte) in (0u32..).zip(bytes.iter()) {
-        cells.push((offset, *byte))?;
-    }
+    let bytes: List<u8> = required(alloc, block, "bytes")?;
+    push_bytes(&mut cells, 0, bytes.as_slice())?;
     Ok(cells)
+}
+
+/// Puts bytes behind others, each with its place, from a place on.
+pub(crate) fn push_bytes(
+    placed: &mut List<(u32, u8)>,
+    from: u32,
+    bytes: &[u8],
+) -> Result<(), LineFault> {
+    let mut at = u64::from(from);
+    for byte in bytes {
+        if at > u64::from(u32::MAX) {
+            return Err(LineFault::Expected(Part::Writes));
+        }
+        placed.push((at as u32, *byte))?;
+        at += 1;
+    }
+    Ok(())
 }
 
 impl Readable for (u32, u8) {

@@ -57,14 +57,13 @@ fn side_of(alloc: Global, value: &Value) -> Result<Side, LineFault> {
     }
 }
 
+/// The keys of a run of an import.
+const IMPORT_KEYS: &[&str] = &[
+    "document", "file", "wrapper", "side", "args", "heap", "choices", "answer", "form",
+];
+
 fn import_side(alloc: Global, value: &Value) -> Result<Side, LineFault> {
-    only(
-        alloc,
-        value,
-        &[
-            "document", "file", "wrapper", "side", "args", "heap", "choices", "answer", "form",
-        ],
-    )?;
+    only(alloc, value, IMPORT_KEYS)?;
     Ok(Side::Import {
         args: required(alloc, value, "args")?,
         choices: choices_in(alloc, value)?,
@@ -72,14 +71,13 @@ fn import_side(alloc: Global, value: &Value) -> Result<Side, LineFault> {
     })
 }
 
+/// The keys of a run of an export.
+const EXPORT_KEYS: &[&str] = &[
+    "document", "file", "wrapper", "side", "words", "heap", "choices", "answer", "form",
+];
+
 fn export_side(alloc: Global, value: &Value) -> Result<Side, LineFault> {
-    only(
-        alloc,
-        value,
-        &[
-            "document", "file", "wrapper", "side", "words", "heap", "choices", "answer", "form",
-        ],
-    )?;
+    only(alloc, value, EXPORT_KEYS)?;
     Ok(Side::Export {
         words: required(alloc, value, "words")?,
         choices: choices_in(alloc, value)?,
@@ -87,14 +85,13 @@ fn export_side(alloc: Global, value: &Value) -> Result<Side, LineFault> {
     })
 }
 
+/// The keys of a run of a post-return function.
+const POST_RETURN_KEYS: &[&str] = &[
+    "document", "file", "wrapper", "side", "words", "heap", "form",
+];
+
 fn post_return_side(alloc: Global, value: &Value) -> Result<Side, LineFault> {
-    only(
-        alloc,
-        value,
-        &[
-            "document", "file", "wrapper", "side", "words", "heap", "form",
-        ],
-    )?;
+    only(alloc, value, POST_RETURN_KEYS)?;
     Ok(Side::PostReturn {
         words: required(alloc, value, "words")?,
     })

@@ -66,11 +66,20 @@ fn entries_of(
 ) -> Result<List<(RustValue, RustValue)>, LineFault> {
     let mut entries = List::new(alloc);
     for item in items_of(value)? {
-        let (key, mapped) = pair_of(item)?;
-        let key = value_of(alloc, key, levels)?;
-        entries.push((key, value_of(alloc, mapped, levels)?))?;
+        entries.push(entry_of(alloc, item, levels)?)?;
     }
     Ok(entries)
+}
+
+#[cycle(value)]
+fn entry_of(
+    alloc: Global,
+    value: &Value,
+    levels: u32,
+) -> Result<(RustValue, RustValue), LineFault> {
+    let (key, mapped) = pair_of(value)?;
+    let key = value_of(alloc, key, levels)?;
+    Ok((key, value_of(alloc, mapped, levels)?))
 }
 
 fn unit_of(value: &Value) -> Result<RustValue, LineFault> {

@@ -18,12 +18,10 @@ pub(crate) fn trace<R: Files + AllocGlobal>(
     trees: &mut Trees,
     line: &[u8],
 ) -> Result<String, OutOfMemory> {
-    let mut out = String::new(rt.alloc());
     match run_of(rt, trees, line) {
-        Ok(run) => run.write(&mut out)?,
-        Err(fault) => write_fault(rt.alloc(), &mut out, &fault)?,
+        Ok(run) => shown(rt.alloc(), &run),
+        Err(fault) => told(rt.alloc(), &fault),
     }
-    Ok(out)
 }
 
 fn run_of<R: Files + AllocGlobal>(
@@ -31,20 +29,37 @@ fn run_of<R: Files + AllocGlobal>(
     trees: &mut Trees,
     line: &[u8],
 ) -> Result<Run, LineFault> {
-    let alloc = rt.alloc();
-    let value = value_of(alloc, line)?;
-    let asked = AskedRun::read(alloc, &value)?;
+    let value = value_of(rt.alloc(), line)?;
+    run_in(rt, trees, &value)
+}
+
+/// The run that a JSON value asks for, over the tree of its document or of that in its file.
+fn run_in<R: Files + AllocGlobal>(
+    rt: &R,
+    trees: &mut Trees,
+    value: &Value,
+) -> Result<Run, LineFault> {
+    let asked = AskedRun::read(rt.alloc(), value)?;
     match value.get("document") {
-        Some(document) if !document.is_null() => {
-            let tree = tree_in_line(alloc, document)?;
-            made_run(alloc, &tree, &asked)
-        }
-        _ => {
-            let file: Text = required(alloc, &value, "file")?;
-            let tree = trees.in_file(rt, file.as_str())?;
-            made_run(alloc, tree, &asked)
-        }
+        Some(document) if !document.is_null() => run_in_line(rt.alloc(), document, &asked),
+        _ => run_in_file(rt, trees, value, &asked),
     }
+}
+
+fn run_in_line(alloc: Global, document: &Value, asked: &AskedRun) -> Result<Run, LineFault> {
+    let tree = tree_in_line(alloc, document)?;
+    made_run(alloc, &tree, asked)
+}
+
+fn run_in_file<R: Files + AllocGlobal>(
+    rt: &R,
+    trees: &mut Trees,
+    value: &Value,
+    asked: &AskedRun,
+) -> Result<Run, LineFault> {
+    let file: Text = required(rt.alloc(), value, "file")?;
+    let tree = trees.in_file(rt, file.as_str())?;
+    made_run(rt.alloc(), tree, asked)
 }
 
 fn value_of(alloc: Global, line: &[u8]) -> Result<Value, LineFault> {
@@ -55,11 +70,23 @@ fn value_of(alloc: Global, line: &[u8]) -> Result<Value, LineFault> {
     }
 }
 
+fn shown(alloc: Global, run: &Run) -> Result<String, OutOfMemory> {
+    let mut out = String::new(alloc);
+    run.write(&mut out)?;
+    Ok(out)
+}
+
 /// What is wrong, in words.
-fn write_fault(alloc: Global, out: &mut String, fault: &LineFault) -> Result<(), OutOfMemory> {
+fn told(alloc: Global, fault: &LineFault) -> Result<String, OutOfMemory> {
     let words = format!(in alloc; "{fault}")?;
+    let mut out = String::new(alloc);
+    write_fault(&mut out, words.as_str())?;
+    Ok(out)
+}
+
+fn write_fault(out: &mut String, words: &str) -> Result<(), OutOfMemory> {
     out.push_str("{\"error\":")?;
-    write_text(out, words.as_str())?;
+    write_text(out, words)?;
     out.push_str("}")?;
     Ok(())
 }

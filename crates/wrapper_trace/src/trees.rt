@@ -3,14 +3,14 @@
 ghost use Rattle.std.specs.Prelude.{◌<◌, IfOk, IfSome, length};
 
 use crate::fault::LineFault;
-use rust_gen::{Files, Opts};
+use rust_gen::{Files, GenError, Opts};
 use rust_tree::Bindings;
 use serde_json::Value;
 use std::alloc::Global;
 use std::rt::Files as FileSystem;
 use std::{fs, io};
 use wit_document::{Document, DocumentFault, document_of};
-use wit_model::{List, Text};
+use wit_model::{List, OutOfMemory, Text};
 use wit_refusal::Refusal;
 
 /// The trees of the documents in files, each made once, with the files' names.
@@ -47,8 +47,7 @@ impl Trees {
         if let Some(at) = place_in(self.made.as_slice(), name) {
             return Ok(at);
         }
-        let bytes = bytes_of(rt, name)?;
-        let tree = tree_of(rt.alloc(), bytes.as_slice())?;
+        let tree = tree_at(rt, name)?;
         let at = self.made.len();
         self.made.push((Text::from_str(rt.alloc(), name)?, tree))?;
         Ok(at)
@@ -69,6 +68,11 @@ fn bytes_of<R: FileSystem + AllocGlobal>(rt: &R, name: &str) -> Result<Vec<u8>, 
     }
 }
 
+fn tree_at<R: FileSystem + AllocGlobal>(rt: &R, name: &str) -> Result<Bindings, LineFault> {
+    let bytes = bytes_of(rt, name)?;
+    tree_of(rt.alloc(), bytes.as_slice())
+}
+
 /// The tree of a document that stands in the line.
 pub(crate) fn tree_in_line(alloc: Global, document: &Value) -> Result<Bindings, LineFault> {
     let text = document.to_string(alloc)?;
@@ -80,22 +84,26 @@ fn tree_of(alloc: Global, bytes: &[u8]) -> Result<Bindings, LineFault> {
     match generated(alloc, bytes) {
         Ok(tree) => Ok(tree),
         Err(Refusal::OutOfMemory) => Err(LineFault::OutOfMemory),
-        Err(refusal) => {
-            let line = refusal.line(alloc)?;
-            let words = Text::from_str(alloc, line.as_str().trim_end())?;
-            Err(LineFault::Refused(words))
-        }
+        Err(refusal) => Err(LineFault::Refused(cause_of(alloc, &refusal)?)),
     }
 }
 
+/// The line of a refusal, without its end.
+fn cause_of(alloc: Global, refusal: &Refusal) -> Result<Text, OutOfMemory> {
+    let line = refusal.line(alloc)?;
+    Text::from_str(alloc, line.as_str().trim_end())
+}
+
 fn generated(alloc: Global, bytes: &[u8]) -> Result<Bindings, Refusal> {
-    let Document { resolve, world } = match document_of(alloc, bytes) {
-        Ok(document) => document,
-        Err(DocumentFault::BadJson) => return Err(Refusal::BadJson),
-        Err(DocumentFault::OutOfMemory) => return Err(Refusal::OutOfMemory),
-    };
+    match document_of(alloc, bytes) {
+        Ok(document) => Ok(bindings(alloc, &document)?),
+        Err(DocumentFault::BadJson) => Err(Refusal::BadJson),
+        Err(DocumentFault::OutOfMemory) => Err(Refusal::OutOfMemory),
+    }
+}
+
+fn bindings(alloc: Global, document: &Document) -> Result<Bindings, GenError> {
     let mut generator = Opts::default(alloc).build(alloc)?;
     let mut files = Files::new(alloc);
-    let tree = generator.generate(&resolve, world, &mut files)?;
-    Ok(tree)
+    generator.generate(&document.resolve, document.world, &mut files)
 }

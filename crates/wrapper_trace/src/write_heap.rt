@@ -7,7 +7,7 @@ use wrapper_data::{Block, Heap};
 
 impl Writable for Heap {
     fn write(&self, out: &mut String) -> Result<(), OutOfMemory> {
-        write_list(out, self.blocks.as_slice())
+        self.blocks.write(out)
     }
 }
 

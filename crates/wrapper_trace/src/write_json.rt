@@ -2,12 +2,37 @@
 
 use serde_json::Value;
 use std::fmt::Write;
-use wit_model::OutOfMemory;
+use wit_model::{List, OutOfMemory};
 
 /// What is written as a JSON value.
 pub(crate) trait Writable {
     /// Puts the value behind a text. After a refusal the text may end in a part of it.
     fn write(&self, out: &mut String) -> Result<(), OutOfMemory>;
+}
+
+/// A member of an object, behind the text that ends in its key.
+pub(crate) fn write_member<T: Writable>(
+    out: &mut String,
+    key: &str,
+    value: &T,
+) -> Result<(), OutOfMemory> {
+    out.push_str(key)?;
+    value.write(out)
+}
+
+impl<T: Writable> Writable for Option<T> {
+    fn write(&self, out: &mut String) -> Result<(), OutOfMemory> {
+        match self {
+            Some(value) => value.write(out),
+            None => Ok(out.push_str("null")?),
+        }
+    }
+}
+
+impl<T: Writable> Writable for List<T> {
+    fn write(&self, out: &mut String) -> Result<(), OutOfMemory> {
+        write_list(out, self.as_slice())
+    }
 }
 
 /// A list, as an array.

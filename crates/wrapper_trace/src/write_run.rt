@@ -1,27 +1,18 @@
 //! Runs.
 
-use crate::write_json::{Writable, write_list, write_text};
+use crate::write_json::{Writable, write_member, write_text};
 use std::fmt::Write;
 use wit_model::{OutOfMemory, Text};
 use wrapper_data::{CallPoint, Request, Run, Stop, Target, TrapKind};
 
 impl Writable for Run {
     fn write(&self, out: &mut String) -> Result<(), OutOfMemory> {
-        out.push_str("{\"stop\":")?;
-        self.stop.write(out)?;
-        out.push_str(",\"calls\":")?;
-        write_list(out, self.calls.as_slice())?;
-        out.push_str(",\"requests\":")?;
-        write_list(out, self.requests.as_slice())?;
-        out.push_str(",\"heap\":")?;
-        self.heap.write(out)?;
-        out.push_str(",\"words\":")?;
-        write_list(out, self.words.as_slice())?;
-        out.push_str(",\"value\":")?;
-        match &self.value {
-            Some(value) => value.write(out)?,
-            None => out.push_str("null")?,
-        }
+        write_member(out, "{\"stop\":", &self.stop)?;
+        write_member(out, ",\"calls\":", &self.calls)?;
+        write_member(out, ",\"requests\":", &self.requests)?;
+        write_member(out, ",\"heap\":", &self.heap)?;
+        write_member(out, ",\"words\":", &self.words)?;
+        write_member(out, ",\"value\":", &self.value)?;
         out.push_str("}")?;
         Ok(())
     }
@@ -66,14 +57,10 @@ impl Writable for Request {
 
 impl Writable for CallPoint {
     fn write(&self, out: &mut String) -> Result<(), OutOfMemory> {
-        out.push_str("{\"target\":")?;
-        self.target.write(out)?;
-        out.push_str(",\"words\":")?;
-        write_list(out, self.words.as_slice())?;
-        out.push_str(",\"values\":")?;
-        write_list(out, self.values.as_slice())?;
-        out.push_str(",\"heap\":")?;
-        self.heap.write(out)?;
+        write_member(out, "{\"target\":", &self.target)?;
+        write_member(out, ",\"words\":", &self.words)?;
+        write_member(out, ",\"values\":", &self.values)?;
+        write_member(out, ",\"heap\":", &self.heap)?;
         out.push_str("}")?;
         Ok(())
     }

@@ -3,13 +3,16 @@ use Rattle.std.proofs.Common.{◌+◌, ◌*◌}
 use Rattle.wrapper_trace.proofs.read_value.+value.Given as goal
 
 abbrev pub decreases-value_of : goal.decreases-value_of
-decreases-value_of l = 2 * l.levels
+decreases-value_of l = 3 * l.levels
 
 abbrev pub decreases-values_of : goal.decreases-values_of
-decreases-values_of l = 2 * l.levels + 1
+decreases-values_of l = 3 * l.levels + 1
 
 abbrev pub decreases-case_of : goal.decreases-case_of
-decreases-case_of l = 2 * l.levels + 1
+decreases-case_of l = 3 * l.levels + 1
 
 abbrev pub decreases-entries_of : goal.decreases-entries_of
-decreases-entries_of l = 2 * l.levels + 1
+decreases-entries_of l = 3 * l.levels + 2
+
+abbrev pub decreases-entry_of : goal.decreases-entry_of
+decreases-entry_of l = 3 * l.levels + 1
