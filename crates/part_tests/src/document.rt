@@ -1,4 +1,4 @@
-//! The document, key by key.
+//! The document: one of each family, as the text form of what was read.
 
 use std::alloc::Global;
 use std::process::Abort;
@@ -36,494 +36,106 @@ const TABLES: &str = concat!(
     ", name: ",
     r#"Name { wit: Text { inner: "p" }, snake: Text { inner: "p" }, camel: Text { inner: "P" }, upper: Text { inner: "P" } }"#,
     r#", version: None, module: Text { inner: "p" } }] }, "#,
-    "interfaces: List { items: [] }, types: List { items: [] } }, world: WorldId(0) }",
+    "interfaces: List { items: [] }, types: List { items: [] } }, world: WorldId(0), ",
+    "options: DocumentOptions { generate_unused_types: false } }",
 );
 
-/// Documents that are none: what a row shows, what of the reference document is replaced, and by what.
-const WRONG: &[(&str, &str, &str)] = &[
+/// Kinds of types, and what they are read as.
+const KINDS: &[(&str, &str)] = &[
+    (r#"{"alias":"error-context"}"#, "Alias(ErrorContext)"),
+    (r#"{"own":3}"#, "Handle(Own(TypeId(3)))"),
     (
-        "an unknown key in the document",
-        r#""world":0}"#,
-        r#""world":0,"more":0}"#,
+        r#"{"borrow":4294967295}"#,
+        "Handle(Borrow(TypeId(4294967295)))",
+    ),
+    (r#"{"list":"u8"}"#, "List(U8)"),
+    (r#"{"map":["string",7]}"#, "Map(String, Id(TypeId(7)))"),
+    (
+        r#"{"fixed":["f32",4294967295]}"#,
+        "FixedLengthList(F32, 4294967295)",
     ),
     (
-        "an unknown key in the tables",
-        r#""types":[]}"#,
-        r#""types":[],"more":0}"#,
+        r#"{"tuple":["s8","s64"]}"#,
+        "Tuple(List { items: [S8, S64] })",
+    ),
+    (r#"{"option":"char"}"#, "Option(Char)"),
+    (r#"{"result":[null,"u16"]}"#, "Result(None, Some(U16))"),
+    (r#"{"result":["bool",null]}"#, "Result(Some(Bool), None)"),
+    (
+        r#"{"record":[{"name":{"wit":"a-b","snake":"a_b","camel":"AB","upper":"A_B"},"ty":"s16","docs":"d"}]}"#,
+        r#"Record(List { items: [Field { name: Name { wit: Text { inner: "a-b" }, snake: Text { inner: "a_b" }, camel: Text { inner: "AB" }, upper: Text { inner: "A_B" } }, ty: S16, docs: Docs { contents: Some(Text { inner: "d" }) } }] })"#,
     ),
     (
-        "an unknown key in a world",
-        r#""exports":[]}"#,
-        r#""exports":[],"more":0}"#,
+        r#"{"variant":[{"name":{"wit":"a-b","snake":"a_b","camel":"AB","upper":"A_B"},"ty":"f64"}]}"#,
+        r#"Variant(List { items: [Case { name: Name { wit: Text { inner: "a-b" }, snake: Text { inner: "a_b" }, camel: Text { inner: "AB" }, upper: Text { inner: "A_B" } }, ty: Some(F64), docs: Docs { contents: None } }] })"#,
     ),
     (
-        "an unknown key in an import",
-        r#"{"function":"#,
-        r#"{"more":0,"function":"#,
+        r#"{"variant":[{"name":{"wit":"a-b","snake":"a_b","camel":"AB","upper":"A_B"},"ty":null,"docs":"d"}]}"#,
+        r#"Variant(List { items: [Case { name: Name { wit: Text { inner: "a-b" }, snake: Text { inner: "a_b" }, camel: Text { inner: "AB" }, upper: Text { inner: "A_B" } }, ty: None, docs: Docs { contents: Some(Text { inner: "d" }) } }] })"#,
     ),
     (
-        "an unknown key in a function",
-        r#""result":"u32"}"#,
-        r#""result":"u32","more":0}"#,
+        r#"{"enum":[{"name":{"wit":"a-b","snake":"a_b","camel":"AB","upper":"A_B"},"docs":"d"}]}"#,
+        r#"Enum(List { items: [Member { name: Name { wit: Text { inner: "a-b" }, snake: Text { inner: "a_b" }, camel: Text { inner: "AB" }, upper: Text { inner: "A_B" } }, docs: Docs { contents: Some(Text { inner: "d" }) } }] })"#,
     ),
     (
-        "an unknown key in a parameter",
-        r#""ty":"u32"}"#,
-        r#""ty":"u32","more":0}"#,
+        r#"{"flags":[{"name":{"wit":"a-b","snake":"a_b","camel":"AB","upper":"A_B"}}]}"#,
+        r#"Flags(List { items: [Member { name: Name { wit: Text { inner: "a-b" }, snake: Text { inner: "a_b" }, camel: Text { inner: "AB" }, upper: Text { inner: "A_B" } }, docs: Docs { contents: None } }] })"#,
+    ),
+    (r#"{"resource":null}"#, "Resource"),
+    (r#"{"future":null}"#, "Future(None)"),
+    (r#"{"future":"u8"}"#, "Future(Some(U8))"),
+    (r#"{"stream":null}"#, "Stream(None)"),
+    (r#"{"stream":"u64"}"#, "Stream(Some(U64))"),
+    (r#"{"unknown":null}"#, "Unknown"),
+];
+
+/// Parts of documents: what of the reference document is replaced, by what, and what is then read.
+const PARTS: &[(&str, &str, &str)] = &[
+    (
+        r#""types":[]"#,
+        r#""types":[{"name":{"wit":"a-b","snake":"a_b","camel":"AB","upper":"A_B"},"owner":{"world":5},"kind":{"resource":null},"docs":"d"}]"#,
+        r#"TypeDef { name: Some(Name { wit: Text { inner: "a-b" }, snake: Text { inner: "a_b" }, camel: Text { inner: "AB" }, upper: Text { inner: "A_B" } }), owner: World(WorldId(5)), kind: Resource, docs: Docs { contents: Some(Text { inner: "d" }) } }"#,
     ),
     (
-        "an unknown key in a name",
-        r#""upper":"W"}"#,
-        r#""upper":"W","more":0}"#,
+        r#""types":[]"#,
+        r#""types":[{"owner":{"interface":6},"kind":{"resource":null}}]"#,
+        "TypeDef { name: None, owner: Interface(InterfaceId(6)), kind: Resource, docs: Docs { contents: None } }",
     ),
     (
-        "an unknown key in a package",
-        r#""module":"p"}"#,
-        r#""module":"p","more":0}"#,
-    ),
-    ("no tables", REFERENCE, r#"{"world":0}"#),
-    ("no world", r#","world":0"#, ""),
-    (
-        "no list of worlds",
-        REFERENCE,
-        r#"{"resolve":{"packages":[],"interfaces":[],"types":[]},"world":0}"#,
+        r#""exports":[]}],"#,
+        r#""exports":[{"type":0}]}],"#,
+        r#"exports: List { items: [(Name(Name { wit: Text { inner: "" }, snake: Text { inner: "" }, camel: Text { inner: "" }, upper: Text { inner: "" } }), Named(TypeId(0)))] }"#,
     ),
     (
-        "no list of packages",
-        REFERENCE,
-        r#"{"resolve":{"worlds":[],"interfaces":[],"types":[]},"world":0}"#,
-    ),
-    ("no list of interfaces", r#""interfaces":[],"#, ""),
-    ("no list of types", r#","types":[]"#, ""),
-    (
-        "a world with no name",
-        r#""name":{"wit":"w","snake":"w","camel":"W","upper":"W"},"#,
-        "",
-    ),
-    ("a world with no package", r#""package":0,"#, ""),
-    (
-        "a world with no imports",
-        r#""imports":[{"function":{"name":{"wit":"add","snake":"add","camel":"Add","upper":"ADD"},"kind":"freestanding","params":[{"name":{"wit":"a","snake":"a","camel":"A","upper":"A"},"ty":"u32"},{"name":{"wit":"b","snake":"b","camel":"B","upper":"B"},"ty":"u32"}],"result":"u32"}}],"#,
-        "",
-    ),
-    ("a world with no exports", r#","exports":[]"#, ""),
-    (
-        "an import of nothing",
-        r#""imports":["#,
-        r#""imports":[{},"#,
-    ),
-    (
-        "a function with no name",
-        r#""name":{"wit":"add","snake":"add","camel":"Add","upper":"ADD"},"#,
-        "",
-    ),
-    ("a function with no kind", r#""kind":"freestanding","#, ""),
-    (
-        "a function with no parameters' list",
-        r#""params":[{"name":{"wit":"a","snake":"a","camel":"A","upper":"A"},"ty":"u32"},{"name":{"wit":"b","snake":"b","camel":"B","upper":"B"},"ty":"u32"}],"#,
-        "",
-    ),
-    (
-        "a parameter with no name",
-        r#"{"name":{"wit":"a","snake":"a","camel":"A","upper":"A"},"ty""#,
-        r#"{"ty""#,
-    ),
-    ("a parameter with no type", r#","ty":"u32""#, ""),
-    ("a name with no WIT form", r#""wit":"w","#, ""),
-    ("a name with no snake case", r#""snake":"w","#, ""),
-    ("a name with no camel case", r#""camel":"W","#, ""),
-    ("a name with no upper case", r#","upper":"W""#, ""),
-    (
-        "a package with no namespace",
-        r#""namespace":{"wit":"t","snake":"t","camel":"T","upper":"T"},"#,
-        "",
-    ),
-    (
-        "a package with no name",
-        r#""name":{"wit":"p","snake":"p","camel":"P","upper":"P"},"#,
-        "",
-    ),
-    ("a package with no module", r#","module":"p""#, ""),
-    ("an id with a point", r#""package":0"#, r#""package":0.0"#),
-    (
-        "an id with an exponent",
-        r#""package":0"#,
-        r#""package":1e0"#,
-    ),
-    ("an id of minus nought", r#""package":0"#, r#""package":-0"#),
-    ("an id below nought", r#""package":0"#, r#""package":-1"#),
-    (
-        "an id past the largest",
-        r#""package":0"#,
-        r#""package":4294967296"#,
-    ),
-    ("an id in quotes", r#""package":0"#, r#""package":"0""#),
-    (
-        "a world past the largest",
         r#""world":0"#,
-        r#""world":4294967296"#,
-    ),
-    ("a world with a point", r#""world":0"#, r#""world":1.0"#),
-    ("a world of null", r#""world":0"#, r#""world":null"#),
-    (
-        "a type past the largest",
-        r#""ty":"u32""#,
-        r#""ty":4294967296"#,
-    ),
-    ("null for a text of a name", r#""wit":"w""#, r#""wit":null"#),
-    (
-        "a number for a text of a name",
-        r#""snake":"w""#,
-        r#""snake":0"#,
-    ),
-    ("null for a module", r#""module":"p""#, r#""module":null"#),
-    (
-        "a number for a version",
-        r#""module":"p""#,
-        r#""module":"p","version":1"#,
+        r#""world":0,"options":{}"#,
+        "options: DocumentOptions { generate_unused_types: false }",
     ),
     (
-        "options of null",
         r#""world":0"#,
-        r#""world":0,"options":null"#,
-    ),
-    (
-        "options in a list",
-        r#""world":0"#,
-        r#""world":0,"options":[]"#,
-    ),
-    (
-        "options with a key",
-        r#""world":0"#,
-        r#""world":0,"options":{"stubs":false}"#,
-    ),
-    ("an interface", r#""interfaces":[]"#, r#""interfaces":[{}]"#),
-    (
-        "interfaces of null",
-        r#""interfaces":[]"#,
-        r#""interfaces":null"#,
-    ),
-    ("a type in the table", r#""types":[]"#, r#""types":[{}]"#),
-    (
-        "an export of nothing",
-        r#""exports":[]"#,
-        r#""exports":[{}]"#,
-    ),
-    (
-        "an exported interface",
-        r#""exports":[]"#,
-        r#""exports":[{"interface":0}]"#,
-    ),
-    ("exports in an object", r#""exports":[]"#, r#""exports":{}"#),
-    (
-        "docs in an object",
-        r#""result":"u32""#,
-        r#""docs":{"contents":"d"}"#,
-    ),
-    (
-        "a kind with two keys",
-        r#""kind":"freestanding""#,
-        r#""kind":{"method":0,"static":0}"#,
-    ),
-    (
-        "a kind with no key",
-        r#""kind":"freestanding""#,
-        r#""kind":{}"#,
-    ),
-    (
-        "a kind of null",
-        r#""kind":"freestanding""#,
-        r#""kind":null"#,
-    ),
-    (
-        "an unknown word of a kind",
-        r#""kind":"freestanding""#,
-        r#""kind":"method""#,
-    ),
-    (
-        "an unknown key of a kind",
-        r#""kind":"freestanding""#,
-        r#""kind":{"freestanding":0}"#,
-    ),
-    (
-        "a kind with no id",
-        r#""kind":"freestanding""#,
-        r#""kind":{"method":null}"#,
-    ),
-    (
-        "an unknown word of a type",
-        r#""ty":"u32""#,
-        r#""ty":"u128""#,
-    ),
-    ("a type of null", r#""ty":"u32""#, r#""ty":null"#),
-    (
-        "a result with an unknown word",
-        r#""result":"u32""#,
-        r#""result":"U32""#,
-    ),
-    (
-        "null in the parameters",
-        r#""params":["#,
-        r#""params":[null,"#,
-    ),
-    ("a list for the document", REFERENCE, "[]"),
-    (
-        "text behind the document",
-        r#""world":0}"#,
-        r#""world":0}0"#,
-    ),
-    (
-        "a comma behind the last member",
-        r#""world":0"#,
-        r#""world":0,"#,
+        r#""world":0,"options":{"generate-unused-types":true}"#,
+        "options: DocumentOptions { generate_unused_types: true }",
     ),
 ];
 
-/// Documents: what a row shows, what of the reference document is replaced, and by what; and what of its tables is
-/// then another, and what it is.
-const RIGHT: &[(&str, &str, &str, &str, &str)] = &[
-    (
-        "a version of null",
-        r#""module":"p""#,
-        r#""version":null,"module":"p""#,
-        "",
-        "",
-    ),
-    (
-        "a version",
-        r#""module":"p""#,
-        r#""version":"1.2.3","module":"p""#,
-        "version: None",
-        r#"version: Some(Text { inner: "1.2.3" })"#,
-    ),
-    (
-        "a result of null",
-        r#""result":"u32""#,
-        r#""result":null"#,
-        "result: Some(U32)",
-        "result: None",
-    ),
-    (
-        "no result",
-        r#","result":"u32""#,
-        "",
-        "result: Some(U32)",
-        "result: None",
-    ),
-    (
-        "docs of null",
-        r#""result":"u32""#,
-        r#""result":"u32","docs":null"#,
-        "",
-        "",
-    ),
-    (
-        "docs",
-        r#""result":"u32""#,
-        r#""result":"u32","docs":"d""#,
-        "contents: None",
-        r#"contents: Some(Text { inner: "d" })"#,
-    ),
-    (
-        "the largest world",
-        r#""world":0"#,
-        r#""world":4294967295"#,
-        "world: WorldId(0)",
-        "world: WorldId(4294967295)",
-    ),
-    (
-        "the largest package",
-        r#""package":0"#,
-        r#""package":4294967295"#,
-        "package: PackageId(0)",
-        "package: PackageId(4294967295)",
-    ),
-    (
-        "the kind method",
-        r#""kind":"freestanding""#,
-        r#""kind":{"method":3}"#,
-        "kind: Freestanding",
-        "kind: Method(TypeId(3))",
-    ),
-    (
-        "the kind static",
-        r#""kind":"freestanding""#,
-        r#""kind":{"static":3}"#,
-        "kind: Freestanding",
-        "kind: Static(TypeId(3))",
-    ),
-    (
-        "the kind constructor",
-        r#""kind":"freestanding""#,
-        r#""kind":{"constructor":3}"#,
-        "kind: Freestanding",
-        "kind: Constructor(TypeId(3))",
-    ),
-    (
-        "the kind async-method",
-        r#""kind":"freestanding""#,
-        r#""kind":{"async-method":3}"#,
-        "kind: Freestanding",
-        "kind: AsyncMethod(TypeId(3))",
-    ),
-    (
-        "the kind async-static",
-        r#""kind":"freestanding""#,
-        r#""kind":{"async-static":3}"#,
-        "kind: Freestanding",
-        "kind: AsyncStatic(TypeId(3))",
-    ),
-    (
-        "the kind async-freestanding",
-        r#""kind":"freestanding""#,
-        r#""kind":"async-freestanding""#,
-        "kind: Freestanding",
-        "kind: AsyncFreestanding",
-    ),
-    (
-        "the type bool",
-        r#""ty":"u32""#,
-        r#""ty":"bool""#,
-        "ty: U32",
-        "ty: Bool",
-    ),
-    (
-        "the type u8",
-        r#""ty":"u32""#,
-        r#""ty":"u8""#,
-        "ty: U32",
-        "ty: U8",
-    ),
-    (
-        "the type u16",
-        r#""ty":"u32""#,
-        r#""ty":"u16""#,
-        "ty: U32",
-        "ty: U16",
-    ),
-    (
-        "the type u64",
-        r#""ty":"u32""#,
-        r#""ty":"u64""#,
-        "ty: U32",
-        "ty: U64",
-    ),
-    (
-        "the type s8",
-        r#""ty":"u32""#,
-        r#""ty":"s8""#,
-        "ty: U32",
-        "ty: S8",
-    ),
-    (
-        "the type s16",
-        r#""ty":"u32""#,
-        r#""ty":"s16""#,
-        "ty: U32",
-        "ty: S16",
-    ),
-    (
-        "the type s32",
-        r#""ty":"u32""#,
-        r#""ty":"s32""#,
-        "ty: U32",
-        "ty: S32",
-    ),
-    (
-        "the type s64",
-        r#""ty":"u32""#,
-        r#""ty":"s64""#,
-        "ty: U32",
-        "ty: S64",
-    ),
-    (
-        "the type f32",
-        r#""ty":"u32""#,
-        r#""ty":"f32""#,
-        "ty: U32",
-        "ty: F32",
-    ),
-    (
-        "the type f64",
-        r#""ty":"u32""#,
-        r#""ty":"f64""#,
-        "ty: U32",
-        "ty: F64",
-    ),
-    (
-        "the type char",
-        r#""ty":"u32""#,
-        r#""ty":"char""#,
-        "ty: U32",
-        "ty: Char",
-    ),
-    (
-        "the type string",
-        r#""ty":"u32""#,
-        r#""ty":"string""#,
-        "ty: U32",
-        "ty: String",
-    ),
-    (
-        "the type error-context",
-        r#""ty":"u32""#,
-        r#""ty":"error-context""#,
-        "ty: U32",
-        "ty: ErrorContext",
-    ),
-    (
-        "an export",
-        r#""exports":[]"#,
-        r#""exports":[{"function":{"name":{"wit":"e","snake":"s","camel":"C","upper":"U"},"kind":"freestanding","params":[]}}]"#,
-        "exports: List { items: [] }",
-        concat!(
-            r#"exports: List { items: [(Name(Name { wit: Text { inner: "e" }, snake: Text { inner: "s" }, camel: Text { inner: "C" }, upper: Text { inner: "U" } }), "#,
-            r#"Function(Function { name: Name { wit: Text { inner: "e" }, snake: Text { inner: "s" }, camel: Text { inner: "C" }, upper: Text { inner: "U" } }, "#,
-            "kind: Freestanding, params: List { items: [] }, result: None, docs: Docs { contents: None } }))] }",
-        ),
-    ),
-    (
-        "a type of the table",
-        r#""ty":"u32""#,
-        r#""ty":7"#,
-        "ty: U32",
-        "ty: Id(TypeId(7))",
-    ),
-    (
-        "any text in a name",
-        r#""wit":"w""#,
-        r#""wit":"\u00e9 \n""#,
-        r#"wit: Text { inner: "w" }"#,
-        r#"wit: Text { inner: "é \n" }"#,
-    ),
-    (
-        "no text in a name",
-        r#""snake":"w""#,
-        r#""snake":"""#,
-        r#"snake: Text { inner: "w" }"#,
-        r#"snake: Text { inner: "" }"#,
-    ),
-    (
-        "a key twice, of which the later counts",
-        r#""world":0"#,
-        r#""world":null,"world":1"#,
-        "world: WorldId(0)",
-        "world: WorldId(1)",
-    ),
-    (
-        "options with no key",
-        r#""world":0"#,
-        r#""world":0,"options":{}"#,
-        "",
-        "",
-    ),
-    (
-        "white space between tokens",
-        r#""types":[]},"world":0}"#,
-        " \"types\" :\n[ ]\t} , \"world\": 0 }\r\n",
-        "",
-        "",
-    ),
+/// A world that imports the type that its table has.
+const TYPE_ITEM: &str = concat!(
+    r#"{"resolve":{"worlds":[{"name":{"wit":"w","snake":"w","camel":"W","upper":"W"},"package":0,"#,
+    r#""imports":[{"type":0}],"exports":[]}],"packages":[],"interfaces":[],"types":["#,
+    r#"{"name":{"wit":"a-b","snake":"a_b","camel":"AB","upper":"A_B"},"owner":null,"kind":{"list":"u8"}}]},"world":0}"#,
+);
+
+/// The import of it, which stands under the name of the type.
+const UNDER_ITS_NAME: &str =
+    r#"imports: List { items: [(Name(Name { wit: Text { inner: "a-b" }, snake: Text { inner: "a_b" }, camel: Text { inner: "AB" }, upper: Text { inner: "A_B" } }), Named(TypeId(0)))] }"#;
+
+/// What of the reference document is replaced, and by what, so that it is none.
+const WRONG: &[(&str, &str)] = &[
+    (r#""world":0"#, r#""world":null"#),
+    (r#""interfaces":[]"#, r#""interfaces":[{}]"#),
+    (r#""types":[]"#, r#""types":[{}]"#),
+    (r#""exports":[]"#, r#""exports":[{"type":0,"more":0}]"#),
+    (r#""world":0"#, r#""world":0,"options":null"#),
 ];
 
 fn text_of(alloc: Global, text: &str) -> Result<String, Fail> {
@@ -531,71 +143,48 @@ fn text_of(alloc: Global, text: &str) -> Result<String, Fail> {
     Ok(format!(in alloc; "{document:?}")?)
 }
 
+fn reads_as(rt: &impl Abort, alloc: Global, document: &str, wanted: &str) -> Result<(), Fail> {
+    let text = text_of(alloc, document)?;
+    assert!(rt; text.contains(wanted), "{document}");
+    Ok(())
+}
+
 fn is_refused(alloc: Global, bytes: &[u8]) -> bool {
     matches!(document_of(alloc, bytes), Err(DocumentFault::BadJson))
 }
 
-fn refuses_rows(
-    rt: &impl Abort,
-    alloc: Global,
-    reference: &str,
-    rows: &[(&str, &str, &str)],
-) -> Result<(), Fail> {
-    for (shows, old, new) in rows {
-        let text = reference.replacen(alloc, *old, new, 1)?;
-        assert!(rt; text.as_str() != reference, "{shows}");
-        assert!(rt; is_refused(alloc, text.as_bytes()), "{shows}");
+#[test]
+fn reads_a_world_of_functions(rt: HostRuntime) -> Result<(), Fail> {
+    assert!(rt; text_of(rt.alloc(), REFERENCE)?.as_str() == TABLES);
+    Ok(())
+}
+
+#[test]
+fn reads_each_kind_of_type(rt: HostRuntime) -> Result<(), Fail> {
+    for (kind, wanted) in KINDS {
+        let types = format!(in rt.alloc(); r#""types":[{{"owner":null,"kind":{kind}}}]"#)?;
+        let document = REFERENCE.replacen(rt.alloc(), r#""types":[]"#, types.as_str(), 1)?;
+        let wanted = format!(in rt.alloc(); "owner: None, kind: {wanted}, docs")?;
+        reads_as(&rt, rt.alloc(), document.as_str(), wanted.as_str())?;
     }
     Ok(())
 }
 
-fn refuses_cuts(rt: &impl Abort, alloc: Global, bytes: &[u8]) {
-    for end in 0..bytes.len() {
-        assert!(rt; is_refused(alloc, &bytes[..end]), "cut at {end}");
+#[test]
+fn reads_owners_items_and_options(rt: HostRuntime) -> Result<(), Fail> {
+    for (old, new, wanted) in PARTS {
+        let document = REFERENCE.replacen(rt.alloc(), *old, new, 1)?;
+        reads_as(&rt, rt.alloc(), document.as_str(), wanted)?;
     }
-}
-
-fn refuses_other_bytes(rt: &impl Abort, alloc: Global, bytes: &[u8]) -> Result<(), Fail> {
-    let mut bytes = bytes.to_vec(alloc)?;
-    for byte in bytes.iter_mut() {
-        if *byte == b'W' {
-            *byte = 0xff;
-        }
-    }
-    assert!(rt;
-        is_refused(alloc, bytes.as_slice()),
-        "bytes that are not UTF-8"
-    );
-    Ok(())
-}
-
-fn reads_rows(
-    rt: &impl Abort,
-    alloc: Global,
-    reference: &str,
-    tables: &str,
-    rows: &[(&str, &str, &str, &str, &str)],
-) -> Result<(), Fail> {
-    for (shows, old, new, old_part, new_part) in rows {
-        let text = reference.replacen(alloc, *old, new, 1)?;
-        assert!(rt; text.as_str() != reference, "{shows}");
-        let wanted = tables.replacen(alloc, *old_part, new_part, 1)?;
-        assert!(rt; text_of(alloc, text.as_str())? == wanted, "{shows}");
-    }
-    Ok(())
+    reads_as(&rt, rt.alloc(), TYPE_ITEM, UNDER_ITS_NAME)
 }
 
 #[test]
 fn refuses_what_is_no_document(rt: HostRuntime) -> Result<(), Fail> {
-    let alloc = rt.alloc();
-    refuses_rows(&rt, alloc, REFERENCE, WRONG)?;
-    refuses_cuts(&rt, alloc, REFERENCE.as_bytes());
-    refuses_other_bytes(&rt, alloc, REFERENCE.as_bytes())
-}
-
-#[test]
-fn reads_each_form(rt: HostRuntime) -> Result<(), Fail> {
-    let alloc = rt.alloc();
-    assert!(rt; text_of(alloc, REFERENCE)?.as_str() == TABLES);
-    reads_rows(&rt, alloc, REFERENCE, TABLES, RIGHT)
+    for (old, new) in WRONG {
+        let document = REFERENCE.replacen(rt.alloc(), *old, new, 1)?;
+        assert!(rt; is_refused(rt.alloc(), document.as_bytes()), "{new}");
+    }
+    assert!(rt; is_refused(rt.alloc(), b"\xff"));
+    Ok(())
 }

@@ -1,11 +1,11 @@
 -- What an array's items and an object's members are, by how many there are.
-use Rattle.std.proofs.Common.{◌≡◌, ◌≢◌, List, [], ◌∷◌, length, Some, None, String, Global, string_bytes, refl, arith}
+use Rattle.std.proofs.Common.{◌≡◌, ◌≢◌, List, [], ◌∷◌, length, Option, Some, None, String, Global, string_bytes, refl, arith}
 use Rattle.std.specs.List.{slice_get}
 use Rattle.serde_json.specs.Data.{Data}
 use Rattle.serde_json.specs.Find.{as_array, as_object}
 use Rattle.serde_json.specs.View.{view, items_view, members_view}
 use Rattle.serde_json.specs.declared.value.Value.{Value}
-use Rattle.wit_document.specs.Members.{none_of, empty_of, sole, sole_member}
+use Rattle.wit_document.specs.Members.{none_of, empty_of, two_of, pair_of, sole, sole_member}
 
 none_of_empty : {T : Type 0} (vs : List Value) → length vs ≡ 0 → none_of {T = T} (items_view vs) ≡ Some []
 none_of_empty [] n = refl
@@ -43,3 +43,13 @@ sole_member_at d es e o n h = rw o (sole_at es e n h)
 pub not_sole_member : (d : Data) (es : Entries) → as_object d ≡ Some (members_view es) → length es ≢ 1 → sole_member d ≡ None
 unfolding sole_member
 not_sole_member d es o n = rw o (not_sole es n)
+
+two_of-none : {A B : Type 0} (first : Data → Option A) (second : Data → Option B) (vs : List Value) → length vs ≢ 2 → two_of first second (items_view vs) ≡ None
+two_of-none first second [] n = refl
+two_of-none first second (v ∷ []) n = refl
+two_of-none first second (v ∷ w ∷ []) n = absurd (n refl)
+two_of-none first second (v ∷ w ∷ x ∷ vs) n = refl
+
+pub pair_of-none : {A B : Type 0} (first : Data → Option A) (second : Data → Option B) (d : Data) (vs : List Value) → as_array d ≡ Some (items_view vs) → length vs ≢ 2 → pair_of first second d ≡ None
+unfolding pair_of
+pair_of-none first second d vs o n = rw o (two_of-none first second vs n)

@@ -1,38 +1,31 @@
 -- Which document does a JSON value give, and which do bytes give?
-use Rattle.std.specs.Prelude.{ℕ, List, [], ◌∷◌, codes, if◌then◌else◌, Option, Some, None, option_and_then, ⊤}
+use Rattle.std.specs.Prelude.{ℕ, List, [], ◌∷◌, codes, if◌then◌else◌, Option, Some, None, option_and_then, unwrap_or}
 use Rattle.std.specs.Str.{is_utf8}
 use Rattle.wit_model.specs.declared.resolve.Resolve.{Resolve}
 use Rattle.serde_json.specs.Data.{Data}
-use Rattle.serde_json.specs.Find.{get}
 use Rattle.serde_json.specs.Read.{read}
 use Rattle.wit_document.specs.declared.document.Document.{Document}
-use Rattle.wit_document.specs.Members.{◌>>=◌, all_of, empty_of, only, required}
+use Rattle.wit_document.specs.Members.{◌>>=◌, all_of, empty_of, only, required, given}
+use Rattle.wit_document.specs.Options.{options_of, no_options}
+use Rattle.wit_document.specs.TypeTable.{type_def_of}
 use Rattle.wit_document.specs.World.{world_id_of, package_of, world_of}
 
 unfoldable pub resolve_of : Data → Option Resolve
 resolve_of d = do
   _ ← only (codes "worlds" ∷ codes "packages" ∷ codes "interfaces" ∷ codes "types" ∷ []) d
-  worlds ← required (all_of world_of) (codes "worlds") d
+  types ← required (all_of type_def_of) (codes "types") d
+  worlds ← required (all_of (world_of types)) (codes "worlds") d
   packages ← required (all_of package_of) (codes "packages") d
   interfaces ← required empty_of (codes "interfaces") d
-  types ← required empty_of (codes "types") d
   Some (record { worlds = worlds; packages = packages; interfaces = interfaces; types = types })
-
-abbrev pub if_there : Option Data → Option ⊤
-if_there None = Some tt
-if_there (Some d) = only [] d
-
--- an object with no key, or nothing
-unfoldable pub options_of : Data → Option ⊤
-options_of d = if_there (get (codes "options") d)
 
 unfoldable pub document : Data → Option Document
 document d = do
   _ ← only (codes "resolve" ∷ codes "world" ∷ codes "options" ∷ []) d
   resolve ← required resolve_of (codes "resolve") d
   world ← required world_id_of (codes "world") d
-  _ ← options_of d
-  Some (record { resolve = resolve; world = world })
+  options ← given options_of (codes "options") d
+  Some (record { resolve = resolve; world = world; options = unwrap_or options no_options })
 
 -- the document of the value that these bytes are in JSON
 unfoldable pub document_in : List ℕ → Option Document

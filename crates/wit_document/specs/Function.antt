@@ -10,8 +10,8 @@ use Rattle.wit_model.specs.declared.function.FunctionKind.{FunctionKind}
 use Rattle.wit_model.specs.declared.function.FunctionKind.TheVariants.{Freestanding, Method, Static, Constructor, AsyncFreestanding, AsyncMethod, AsyncStatic}
 use Rattle.serde_json.specs.Data.{Data}
 use Rattle.serde_json.specs.Find.{as_str}
-use Rattle.wit_document.specs.Members.{◌>>=◌, text_of, all_of, only, required, optional, sole_member}
-use Rattle.wit_document.specs.Name.{name_of}
+use Rattle.wit_document.specs.Members.{◌>>=◌, all_of, only, required, optional, sole_member}
+use Rattle.wit_document.specs.Name.{name_of, docs_in}
 use Rattle.wit_document.specs.Types.{type_id_of, type_of}
 
 -- of a function that stands alone
@@ -55,5 +55,5 @@ function_of d = do
   kind ← required kind_of (codes "kind") d
   params ← required (all_of param_of) (codes "params") d
   ty ← optional type_of (codes "result") d
-  contents ← optional text_of (codes "docs") d
-  Some (record { name = name; kind = kind; params = params; result = ty; docs = record { contents = contents } })
+  docs ← docs_in d
+  Some (record { name = name; kind = kind; params = params; result = ty; docs = docs })

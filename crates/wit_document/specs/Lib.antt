@@ -2,6 +2,10 @@ pub mod Reads
 pub mod Members
 pub mod Name
 pub mod Types
+pub mod Kinds
+pub mod TypeTable
 pub mod Function
+pub mod Items
 pub mod World
+pub mod Options
 pub mod Document

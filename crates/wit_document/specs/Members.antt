@@ -39,7 +39,8 @@ only keys d = do
 unfoldable pub required : {T : Type 0} → (Data → Option T) → List ℕ → Data → Option T
 required read key d = option_and_then read (get key d)
 
-abbrev unless_null : {T : Type 0} → (Data → Option T) → Data → Option (Option T)
+-- a value, or nothing where it is null
+abbrev pub unless_null : {T : Type 0} → (Data → Option T) → Data → Option (Option T)
 unless_null read null = Some None
 unless_null read d = option_map Some (read d)
 
@@ -51,6 +52,14 @@ if_present read (Some d) = unless_null read d
 unfoldable pub optional : {T : Type 0} → (Data → Option T) → List ℕ → Data → Option (Option T)
 optional read key d = if_present read (get key d)
 
+abbrev if_given : {T : Type 0} → (Data → Option T) → Option Data → Option (Option T)
+if_given read None = Some None
+if_given read (Some d) = option_map Some (read d)
+
+-- the member at a key, which may be absent, but is read as any other where it is null
+unfoldable pub given : {T : Type 0} → (Data → Option T) → List ℕ → Data → Option (Option T)
+given read key d = if_given read (get key d)
+
 abbrev pub none_of : {T : Type 0} → Items → Option (List T)
 none_of no_items = Some []
 none_of (item d ds) = None
@@ -58,6 +67,19 @@ none_of (item d ds) = None
 -- the items of an array that has none
 unfoldable pub empty_of : {T : Type 0} → Data → Option (List T)
 empty_of d = option_and_then none_of (as_array d)
+
+abbrev pub two_of : {A B : Type 0} → (Data → Option A) → (Data → Option B) → Items → Option (A × B)
+two_of first second no_items = None
+two_of first second (item d no_items) = None
+two_of first second (item d (item e no_items)) = do
+  a ← first d
+  b ← second e
+  Some (a, b)
+two_of first second (item d (item e (item f ds))) = None
+
+-- the items of an array that has two
+unfoldable pub pair_of : {A B : Type 0} → (Data → Option A) → (Data → Option B) → Data → Option (A × B)
+pair_of first second d = option_and_then (two_of first second) (as_array d)
 
 abbrev pub sole : Members → Option (List ℕ × Data)
 sole no_members = None

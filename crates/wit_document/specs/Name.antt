@@ -1,8 +1,9 @@
--- Which name does a JSON value give?
-use Rattle.std.specs.Prelude.{[], ◌∷◌, codes, Option, Some}
+-- Which name and which docs does a JSON value give?
+use Rattle.std.specs.Prelude.{[], ◌∷◌, codes, Option, Some, option_map}
+use Rattle.wit_model.specs.declared.name.Docs.{Docs}
 use Rattle.wit_model.specs.declared.name.Name.{Name}
 use Rattle.serde_json.specs.Data.{Data}
-use Rattle.wit_document.specs.Members.{◌>>=◌, text_of, only, required}
+use Rattle.wit_document.specs.Members.{◌>>=◌, text_of, only, required, optional}
 
 unfoldable pub name_of : Data → Option Name
 name_of d = do
@@ -12,3 +13,7 @@ name_of d = do
   camel ← required text_of (codes "camel") d
   upper ← required text_of (codes "upper") d
   Some (record { wit = wit; snake = snake; camel = camel; upper = upper })
+
+-- the docs of the item that an object is
+unfoldable pub docs_in : Data → Option Docs
+docs_in d = option_map (λ contents. record { contents = contents }) (optional text_of (codes "docs") d)

@@ -1,19 +1,15 @@
 -- Which world and which package does a JSON value give?
-use Rattle.std.specs.Prelude.{[], ◌∷◌, codes, Option, Some, option_map}
+use Rattle.std.specs.Prelude.{List, [], ◌∷◌, codes, Option, Some, option_map}
 use Rattle.wit_model.specs.declared.name.PackageId.{PackageId}
 use Rattle.wit_model.specs.declared.name.WorldId.{WorldId}
-use Rattle.wit_model.specs.declared.function.Function.{Function}
+use Rattle.wit_model.specs.declared.types.TypeDef.{TypeDef}
 use Rattle.wit_model.specs.declared.world.Package.{Package}
 use Rattle.wit_model.specs.declared.world.World.{World}
-use Rattle.wit_model.specs.declared.world.WorldKey.{WorldKey}
-use Rattle.wit_model.specs.declared.world.WorldKey.TheVariants as key
-use Rattle.wit_model.specs.declared.world.WorldItem.{WorldItem}
-use Rattle.wit_model.specs.declared.world.WorldItem.TheVariants as entry
 use Rattle.serde_json.specs.Data.{Data}
 use Rattle.wit_document.specs.Members.{◌>>=◌, text_of, all_of, only, required, optional}
 use Rattle.wit_document.specs.Name.{name_of}
 use Rattle.wit_document.specs.Types.{id_of}
-use Rattle.wit_document.specs.Function.{function_of}
+use Rattle.wit_document.specs.Items.{entry_of}
 
 unfoldable pub world_id_of : Data → Option WorldId
 world_id_of d = option_map (λ n. record { 0 = n }) (id_of d)
@@ -30,22 +26,11 @@ package_of d = do
   module_name ← required text_of (codes "module") d
   Some (record { namespace = namespace; name = name; version = version; «module» = module_name })
 
--- a function stands under its own name
-abbrev pub function_entry : Function → WorldKey × WorldItem
-function_entry f = (key.Name f.name, entry.Function f)
-
--- an import or an export
-unfoldable pub entry_of : Data → Option (WorldKey × WorldItem)
-entry_of d = do
-  _ ← only (codes "function" ∷ []) d
-  function ← required function_of (codes "function") d
-  Some (function_entry function)
-
-unfoldable pub world_of : Data → Option World
-world_of d = do
+unfoldable pub world_of : List TypeDef → Data → Option World
+world_of types d = do
   _ ← only (codes "name" ∷ codes "package" ∷ codes "imports" ∷ codes "exports" ∷ []) d
   name ← required name_of (codes "name") d
   package_id ← required package_id_of (codes "package") d
-  imports ← required (all_of entry_of) (codes "imports") d
-  exports ← required (all_of entry_of) (codes "exports") d
+  imports ← required (all_of (entry_of types)) (codes "imports") d
+  exports ← required (all_of (entry_of types)) (codes "exports") d
   Some (record { name = name; «package» = package_id; imports = imports; exports = exports })

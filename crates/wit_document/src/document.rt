@@ -1,21 +1,23 @@
-ghost use Rattle.serde_json.specs.View.{view};
 ghost use Rattle.wit_document.specs.Reads.{Reads};
-ghost use Rattle.wit_document.specs.Document.{resolve_of, options_of, document, document_in};
+ghost use Rattle.wit_document.specs.Document.{resolve_of, document, document_in};
 
 use crate::fault::DocumentFault;
-use crate::members::{empty_list, only, required};
+use crate::members::{empty_list, given, only, required, required_among};
+use crate::options::DocumentOptions;
 use crate::reading::Readable;
 use serde_json::Value;
 use std::alloc::Global;
-use wit_model::{Resolve, WorldId};
+use wit_model::{List, Resolve, TypeDef, WorldId};
 
-/// The tables of a resolved world, and the world that is meant.
+/// The tables of a resolved world, the world that is meant, and the options.
 #[derive(Debug, PartialEq, Drop)]
 pub struct Document {
     /// The tables. Their ids are not checked: an id may lie outside its table.
     pub resolve: Resolve,
     /// The world to be generated, by its place in the table of worlds.
     pub world: WorldId,
+    /// How it is to be generated.
+    pub options: DocumentOptions,
 }
 
 /// The document that the bytes are, in JSON.
@@ -40,8 +42,12 @@ impl Readable for Document {
         only(value, &["resolve", "world", "options"])?;
         let resolve = required(alloc, value, "resolve")?;
         let world = required(alloc, value, "world")?;
-        read_options(value)?;
-        Ok(Document { resolve, world })
+        let options = given(alloc, value, "options")?;
+        Ok(Document {
+            resolve,
+            world,
+            options: options.unwrap_or(DocumentOptions::none()),
+        })
     }
 }
 
@@ -51,22 +57,12 @@ impl Readable for Resolve {
 
     fn read(alloc: Global, value: &Value) -> Result<Resolve, DocumentFault> {
         only(value, &["worlds", "packages", "interfaces", "types"])?;
+        let types: List<TypeDef> = required(alloc, value, "types")?;
         Ok(Resolve {
-            worlds: required(alloc, value, "worlds")?,
+            worlds: required_among(alloc, types.as_slice(), value, "worlds")?,
             packages: required(alloc, value, "packages")?,
             interfaces: empty_list(alloc, value, "interfaces")?,
-            types: empty_list(alloc, value, "types")?,
+            types,
         })
-    }
-}
-
-/// That the options are an object with no key, or absent.
-#[tactic(auto, unfolding(crate::specs::Document::options_of))]
-fn read_options(value: &Value) -> Result<(), DocumentFault>
-    ensures { Reads result (options_of (view value.now)) }
-{
-    match value.get("options") {
-        Some(options) => only(options, &[]),
-        None => Ok(()),
     }
 }

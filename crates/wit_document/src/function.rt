@@ -5,10 +5,11 @@ ghost use Rattle.wit_document.specs.Reads.{Reads};
 
 use crate::fault::DocumentFault;
 use crate::members::{only, optional, required, sole_member};
+use crate::name::docs_in;
 use crate::reading::Readable;
 use serde_json::Value;
 use std::alloc::Global;
-use wit_model::{Docs, Function, FunctionKind, Param, TypeId};
+use wit_model::{Function, FunctionKind, Param, TypeId};
 
 #[tactic(auto, unfolding(crate::specs::Function::kind_of))]
 impl Readable for FunctionKind {
@@ -82,9 +83,7 @@ impl Readable for Function {
             kind: required(alloc, value, "kind")?,
             params: required(alloc, value, "params")?,
             result: optional(alloc, value, "result")?,
-            docs: Docs {
-                contents: optional(alloc, value, "docs")?,
-            },
+            docs: docs_in(alloc, value)?,
         })
     }
 }

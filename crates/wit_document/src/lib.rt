@@ -4,11 +4,16 @@
 mod document;
 mod fault;
 mod function;
+mod item;
+mod kind;
 mod members;
 mod name;
+mod options;
 mod reading;
+mod type_table;
 mod types;
 mod world;
 
 pub use document::{Document, document_of};
 pub use fault::DocumentFault;
+pub use options::DocumentOptions;

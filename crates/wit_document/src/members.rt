@@ -1,15 +1,16 @@
 ghost use Rattle.std.specs.Prelude.{◌≡◌, option_map, map, string_bytes};
 ghost use Rattle.std.specs.List.{list_any, list_all};
 ghost use Rattle.std.specs.Str.{bytes_eq};
+ghost use Rattle.serde_json.specs.Find.{as_null};
 ghost use Rattle.serde_json.specs.View.{view};
 ghost use Rattle.wit_document.specs.Reads.{Reads};
-ghost use Rattle.wit_document.specs.Members.{only, required, optional, empty_of, sole_member};
+ghost use Rattle.wit_document.specs.Members.{only, required, optional, given, empty_of, sole_member};
 
 use crate::fault::DocumentFault;
-use crate::reading::Readable;
+use crate::reading::{Readable, ReadableAmong};
 use serde_json::{Map, Value};
 use std::alloc::Global;
-use wit_model::List;
+use wit_model::{List, TypeDef};
 
 /// That a value is an object, and each of its keys is among these.
 #[tactic(auto, unfolding(crate::specs::Members::only))]
@@ -55,6 +56,22 @@ pub(crate) fn required<T: Readable>(
     }
 }
 
+/// The member at a key, which must be there, beside the table of types.
+#[tactic(auto, unfolding(crate::specs::Members::required))]
+pub(crate) fn required_among<T: ReadableAmong>(
+    alloc: Global,
+    types: &[TypeDef],
+    value: &Value,
+    key: &str,
+) -> Result<T, DocumentFault>
+    ensures { Reads result (required (T.read_among_of types.now) key.now (view value.now)) }
+{
+    match value.get(key) {
+        Some(member) => T::read_among(alloc, types, member),
+        None => Err(DocumentFault::BadJson),
+    }
+}
+
 /// The member at a key, or nothing where it is null or absent.
 #[tactic(auto, unfolding(crate::specs::Members::optional))]
 pub(crate) fn optional<T: Readable>(
@@ -68,6 +85,28 @@ pub(crate) fn optional<T: Readable>(
         Some(member) if !member.is_null() => Ok(Some(T::read(alloc, member)?)),
         _ => Ok(None),
     }
+}
+
+/// The member at a key, or nothing where it is absent.
+#[tactic(auto, unfolding(crate::specs::Members::given))]
+pub(crate) fn given<T: Readable>(
+    alloc: Global,
+    value: &Value,
+    key: &str,
+) -> Result<Option<T>, DocumentFault>
+    ensures { Reads result (given T.read_of key.now (view value.now)) }
+{
+    match value.get(key) {
+        Some(member) => Ok(Some(T::read(alloc, member)?)),
+        None => Ok(None),
+    }
+}
+
+/// That a value is null.
+pub(crate) fn null(value: &Value) -> Result<(), DocumentFault>
+    ensures { Reads result (as_null (view value.now)) }
+{
+    value.as_null().ok_or(DocumentFault::BadJson)
 }
 
 /// The items of the array at a key, which must be there and have none.

@@ -1,11 +1,13 @@
-ghost use Rattle.wit_document.specs.Name.{name_of};
+ghost use Rattle.serde_json.specs.View.{view};
+ghost use Rattle.wit_document.specs.Reads.{Reads};
+ghost use Rattle.wit_document.specs.Name.{name_of, docs_in};
 
 use crate::fault::DocumentFault;
-use crate::members::{only, required};
+use crate::members::{only, optional, required};
 use crate::reading::Readable;
 use serde_json::Value;
 use std::alloc::Global;
-use wit_model::Name;
+use wit_model::{Docs, Name};
 
 #[tactic(auto, unfolding(crate::specs::Name::name_of))]
 impl Readable for Name {
@@ -20,4 +22,14 @@ impl Readable for Name {
             upper: required(alloc, value, "upper")?,
         })
     }
+}
+
+/// The docs of the item that an object is, which it may lack.
+#[tactic(auto, unfolding(crate::specs::Name::docs_in))]
+pub(crate) fn docs_in(alloc: Global, value: &Value) -> Result<Docs, DocumentFault>
+    ensures { Reads result (docs_in (view value.now)) }
+{
+    Ok(Docs {
+        contents: optional(alloc, value, "docs")?,
+    })
 }

@@ -1,11 +1,11 @@
-ghost use Rattle.wit_document.specs.World.{world_id_of, package_id_of, package_of, entry_of, world_of};
+ghost use Rattle.wit_document.specs.World.{world_id_of, package_id_of, package_of, world_of};
 
 use crate::fault::DocumentFault;
-use crate::members::{only, optional, required};
-use crate::reading::Readable;
+use crate::members::{only, optional, required, required_among};
+use crate::reading::{Readable, ReadableAmong};
 use serde_json::Value;
 use std::alloc::Global;
-use wit_model::{Function, Package, PackageId, World, WorldId, WorldItem, WorldKey};
+use wit_model::{Package, PackageId, TypeDef, World, WorldId};
 
 #[tactic(auto, unfolding(crate::specs::World::world_id_of))]
 impl Readable for WorldId {
@@ -40,29 +40,17 @@ impl Readable for Package {
     }
 }
 
-#[tactic(auto, unfolding(crate::specs::World::entry_of))]
-impl Readable for (WorldKey, WorldItem) {
-    ghost read_of = { entry_of };
-
-    fn read(alloc: Global, value: &Value) -> Result<(WorldKey, WorldItem), DocumentFault> {
-        only(value, &["function"])?;
-        let function: Function = required(alloc, value, "function")?;
-        let name = function.name.copy(alloc)?;
-        Ok((WorldKey::Name(name), WorldItem::Function(function)))
-    }
-}
-
 #[tactic(auto, unfolding(crate::specs::World::world_of))]
-impl Readable for World {
-    ghost read_of = { world_of };
+impl ReadableAmong for World {
+    ghost read_among_of = { world_of };
 
-    fn read(alloc: Global, value: &Value) -> Result<World, DocumentFault> {
+    fn read_among(alloc: Global, types: &[TypeDef], value: &Value) -> Result<World, DocumentFault> {
         only(value, &["name", "package", "imports", "exports"])?;
         Ok(World {
             name: required(alloc, value, "name")?,
             package: required(alloc, value, "package")?,
-            imports: required(alloc, value, "imports")?,
-            exports: required(alloc, value, "exports")?,
+            imports: required_among(alloc, types, value, "imports")?,
+            exports: required_among(alloc, types, value, "exports")?,
         })
     }
 }
