@@ -3,13 +3,13 @@
 ghost use Rattle.std.specs.Prelude.{◌<◌, IfOk, IfSome, length};
 
 use crate::fault::LineFault;
-use rust_gen::{Files, GenError, Opts};
+use rust_gen::{Files, GenError};
 use rust_tree::Bindings;
 use serde_json::Value;
 use std::alloc::Global;
 use std::rt::Files as FileSystem;
 use std::{fs, io};
-use wit_document::{Document, DocumentFault, document_of};
+use wit_commands::{Input, InputFault2, input_of};
 use wit_model::{List, OutOfMemory, Text};
 use wit_refusal::Refusal;
 
@@ -79,7 +79,7 @@ pub(crate) fn tree_in_line(alloc: Global, document: &Value) -> Result<Bindings, 
     tree_of(alloc, text.as_bytes())
 }
 
-/// The tree of a document with no options, or the words that tell why there is none.
+/// The tree of a document, or the words that tell why there is none.
 fn tree_of(alloc: Global, bytes: &[u8]) -> Result<Bindings, LineFault> {
     match generated(alloc, bytes) {
         Ok(tree) => Ok(tree),
@@ -95,15 +95,20 @@ fn cause_of(alloc: Global, refusal: &Refusal) -> Result<Text, OutOfMemory> {
 }
 
 fn generated(alloc: Global, bytes: &[u8]) -> Result<Bindings, Refusal> {
-    match document_of(alloc, bytes) {
-        Ok(document) => Ok(bindings(alloc, &document)?),
-        Err(DocumentFault::BadJson) => Err(Refusal::BadJson),
-        Err(DocumentFault::OutOfMemory) => Err(Refusal::OutOfMemory),
+    match input_of(alloc, bytes) {
+        Ok(input) => Ok(bindings(alloc, input)?),
+        Err(InputFault2::BadJson) => Err(Refusal::BadJson),
+        Err(InputFault2::OutOfMemory) => Err(Refusal::OutOfMemory),
     }
 }
 
-fn bindings(alloc: Global, document: &Document) -> Result<Bindings, GenError> {
-    let mut generator = Opts::default(alloc).build(alloc)?;
+fn bindings(alloc: Global, input: Input) -> Result<Bindings, GenError> {
+    let Input {
+        resolve,
+        world,
+        opts,
+    } = input;
+    let mut generator = opts.build(alloc)?;
     let mut files = Files::new(alloc);
-    generator.generate(&document.resolve, document.world, &mut files)
+    generator.generate(&resolve, world, &mut files)
 }
