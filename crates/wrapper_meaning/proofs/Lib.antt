@@ -16,3 +16,4 @@ pub mod PostReturn
 pub mod Permutations
 pub mod PlainIsCanonical
 pub mod Instances
+pub mod NoLists

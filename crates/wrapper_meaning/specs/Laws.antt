@@ -28,9 +28,9 @@ use Rattle.wrapper_meaning.specs.Gives.{FreesWords, GivesExport}
 use Rattle.wrapper_meaning.specs.InMemory.{EachHolds, Holds}
 use Rattle.wrapper_meaning.specs.InRange.{IsListed}
 use Rattle.wrapper_meaning.specs.Items.{AllIn, SameItems}
-use Rattle.wrapper_meaning.specs.Kinds.{is_plain}
+use Rattle.wrapper_meaning.specs.Kinds.{has_list, is_plain, result_has_list}
 use Rattle.wrapper_meaning.specs.Layout.{layout}
-use Rattle.wrapper_meaning.specs.Represents.{is_indirect, param_words, result_words}
+use Rattle.wrapper_meaning.specs.Represents.{ResultSays, is_indirect, param_words, result_words}
 use Rattle.wrapper_meaning.specs.Settled.{last_of_each, same_key}
 use Rattle.wrapper_meaning.specs.Shape.{Shape, Shapes, param_shapes, result_shape, shape_at, shape_by, shape_of, shapes}
 use Rattle.wrapper_meaning.specs.StandsFor.{Stands}
@@ -108,6 +108,18 @@ abbrev pub SettledIsDistinct : Type 0
 SettledIsDistinct = (k x : Shape) (entries : List (Value k × Value x)) → (last_of_each (same_key k) entries ≡ entries) ↔ AreNewKeys (same_key k) [] entries
 
 -- 5. Blocks
+
+-- what has no text, no list and no map has no blocks: in memory, as the words of a result, and as a value of the Rust side
+
+abbrev pub MemoryHasNoBlocks : Type 0
+MemoryHasNoBlocks = (w : ℕ) (dir : Direction) (t : Shape) (v : Value t) (b : Block) (offset : ℕ) (blocks : List Block) → has_list t ≡ false → Holds w dir t v b offset blocks → blocks ≡ []
+
+abbrev pub ResultHasNoBlocks : Type 0
+ResultHasNoBlocks = (w : ℕ) (dir : Direction) (r : Option Shape) (v : Result r) (words : List Word) (blocks area : List Block)
+    → result_has_list r ≡ false → ResultSays w dir r v words blocks area → blocks ≡ []
+
+abbrev pub RustValueHasNoBlocks : Type 0
+RustValueHasNoBlocks = (w : ℕ) (dir : Direction) (t : Shape) (v : Value t) (r : RustValue) (blocks : List Block) → has_list t ≡ false → Stands w dir t v r blocks → blocks ≡ []
 
 -- the words that a wrapper makes of arguments lend them, in each heap that has what was given and what it made
 abbrev pub MadeIsLent : Type 0

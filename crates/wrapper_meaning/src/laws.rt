@@ -1,4 +1,4 @@
-ghost use Rattle.wrapper_meaning.specs.Laws.{BufferIsItsWords, LayoutIsTree, ListIsItsElements, MadeIsLent, MemoryDetermines, PlainIsAlike, PlainIsCanonical, PostReturnLeaves, RustValueDetermines, SameBlocksArePermuted, SameRequestsArePermuted, SettledIsDistinct, ShapeIsByKind, SignatureIsByShapes, WordsDetermine};
+ghost use Rattle.wrapper_meaning.specs.Laws.{BufferIsItsWords, LayoutIsTree, ListIsItsElements, MadeIsLent, MemoryDetermines, MemoryHasNoBlocks, PlainIsAlike, PlainIsCanonical, PostReturnLeaves, ResultHasNoBlocks, RustValueDetermines, RustValueHasNoBlocks, SameBlocksArePermuted, SameRequestsArePermuted, SettledIsDistinct, ShapeIsByKind, SignatureIsByShapes, WordsDetermine};
 
 /// The layout of a type's shape is the tree that `wit_layout` has for the type.
 pub fn layout_law()
@@ -47,6 +47,14 @@ pub fn canonical_list_law()
 /// A map is handed on as it is exactly where its keys are distinct.
 pub fn map_law()
     ensures { SettledIsDistinct }
+{}
+
+/// What has no text, no list and no map has no blocks. So a function without a post-return function returns words that own
+/// nothing.
+pub fn no_blocks_law()
+    ensures memory { MemoryHasNoBlocks }
+    ensures words { ResultHasNoBlocks }
+    ensures rust_value { RustValueHasNoBlocks }
 {}
 
 /// What a wrapper makes of an import's arguments lends them.

@@ -5,6 +5,6 @@
 mod laws;
 
 pub use laws::{
-    canonical_law, canonical_list_law, layout_law, made_law, map_law, memory_law, permutation_law,
-    post_return_law, rust_value_law, shape_law, signature_law, words_law,
+    canonical_law, canonical_list_law, layout_law, made_law, map_law, memory_law, no_blocks_law,
+    permutation_law, post_return_law, rust_value_law, shape_law, signature_law, words_law,
 };
