@@ -77,7 +77,8 @@ taken_same : (s : Scalar) (u v : ScalarValue s) (x : Word) → IsScalar s u → 
 taken_same Scalar.f32 u v x gu gv h g = f32_same _ _ (sym h ∙ g)
 taken_same Scalar.f64 u v x gu gv h g = f64_same _ _ (sym h ∙ g)
 taken_same Scalar.u64 u v x gu gv (y, d, h) (z, e, g) = same_bits Scalar.u64 u v 64 y z gu gv (i64_same _ _ (sym d ∙ e)) h g
-taken_same Scalar.s64 u v x gu gv (y, d, h) (z, e, g) = same_bits Scalar.s64 u v 64 y z gu gv (i64_same _ _ (sym d ∙ e)) h g
+taken_same Scalar.s32 u v x gu gv h g = i32_same _ _ (sym h ∙ g)
+taken_same Scalar.s64 u v x gu gv h g = i64_same _ _ (sym h ∙ g)
 taken_same s u v x gu gv (y, d, h) (z, e, g) = same_bits s u v (scalar_bits s) y z gu gv (i32_same _ _ (sym d ∙ e)) h g
 
 pub word_same : (dir : Direction) (s : Scalar) (u v : ScalarValue s) (x : Word) → IsScalar s u → IsScalar s v → SaysScalar dir s u x → SaysScalar dir s v x → u ≡ v

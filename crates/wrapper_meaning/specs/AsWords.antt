@@ -35,12 +35,14 @@ passed_word Scalar.char v = word.I32 (pos v)
 passed_word Scalar.handle v = elim v [ ]
 passed_word s v = word.I32 v
 
--- take: a float is its bits, and any other scalar is read by the low bits that it has in memory
+-- take: a float is its bits, a signed number of 32 or 64 bits is its word, and any other scalar is read by the low bits that it has in
+-- memory
 abbrev pub IsTaken : (s : Scalar) → ScalarValue s → Word → Type 0
 IsTaken Scalar.f32 v x = x ≡ word.F32 v
 IsTaken Scalar.f64 v x = x ≡ word.F64 v
+IsTaken Scalar.s32 v x = x ≡ word.I32 v
+IsTaken Scalar.s64 v x = x ≡ word.I64 v
 IsTaken Scalar.u64 v x = (z : ℤ) × (x ≡ word.I64 z) × (stored_bits Scalar.u64 v ≡ low_bits 64 z)
-IsTaken Scalar.s64 v x = (z : ℤ) × (x ≡ word.I64 z) × (stored_bits Scalar.s64 v ≡ low_bits 64 z)
 IsTaken s v x = (z : ℤ) × (x ≡ word.I32 z) × (stored_bits s v ≡ low_bits (scalar_bits s) z)
 
 -- the one word of a scalar

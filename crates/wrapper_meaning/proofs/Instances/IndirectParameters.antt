@@ -1,5 +1,5 @@
 -- Seventeen numbers as the parameters of an import, and a text as its result: both pass by one area of 68 bytes.
-use Rattle.std.proofs.Common.{◌≡◌, ◌+◌, ◌-◌, ℕ, zero, suc, pos, List, [], ◌∷◌, ◌++◌, Option, Some, refl, ap, arith}
+use Rattle.std.proofs.Common.{◌≡◌, ◌+◌, ◌-◌, ℕ, zero, suc, pos, List, [], ◌∷◌, ◌++◌, Option, Some, refl, ap, arith, sym, ap₂, ◌∙◌}
 use Rattle.wit_model.specs.declared.types.WitType.TheVariants as wit
 use Rattle.wit_model.specs.declared.wasm_type.WasmType.TheVariants as core
 use Rattle.wit_layout.specs.declared.signature.AbiVariant.TheVariants.{GuestImport}
@@ -12,9 +12,10 @@ use Rattle.wrapper_data.specs.declared.run.CallPoint.{CallPoint}
 use Rattle.wrapper_data.specs.declared.run.Target.TheVariants as target
 use Rattle.wrapper_data.specs.declared.value.RustValue.{RustValue}
 use Rattle.wrapper_data.specs.declared.value.RustValue.TheVariants as value
+use Rattle.wrapper_data.specs.declared.word.Word.{Word}
 use Rattle.wrapper_data.specs.declared.word.Word.TheVariants as word
 use Rattle.wrapper_meaning.specs.Areas.{IsArea, import_area}
-use Rattle.wrapper_meaning.specs.Calls.{CallsImport}
+use Rattle.wrapper_meaning.specs.Calls.{CallsImport, pointers}
 use Rattle.wrapper_meaning.specs.Due.{due, import_bill}
 use Rattle.wrapper_meaning.specs.Represents.{LendsArguments, param_words, result_words}
 use Rattle.wrapper_meaning.specs.Shape.{Shapes}
@@ -112,3 +113,17 @@ address_of _ = 0
 elsewhere : IsArea (import_area 2 seventeen (Some text)) (Some (choice.At 8192)) (area ∷ []) → ⊥
 unfolding address_of
 elsewhere stands = omega (ap address_of stands.chosen, ap (λ b. b.address) (ap (first_or area) stands.is), arith)
+
+-- a call that names another area for the result
+
+second : List Word → ℕ
+second (x ∷ word.Pointer address ∷ words) = address
+second _ = 0
+
+names_another : (c : CallPoint) → c.words ≡ word.Pointer 4096 ∷ word.Pointer 64 ∷ [] → CallsImport 2 (target.Core [] []) seventeen numbers (Some text) (record { blocks = [] }) (choice.At 4096 ∷ []) c → ⊥
+unfolding second address_of
+names_another c words wrong =
+    let passed = wrong.words in
+    let both : c.words ≡ word.Pointer passed.represents.block.address ∷ pointers wrong.area = passed.all ∙ ap₂ (λ a b. a ++ b) passed.represents.named passed.named in
+    let last : c.words ≡ word.Pointer passed.represents.block.address ∷ word.Pointer wrong.stands.block.address ∷ [] = both ∙ ap (λ area. word.Pointer passed.represents.block.address ∷ pointers area) wrong.stands.is in
+    omega (ap second (sym words ∙ last), ap address_of wrong.stands.chosen, arith)

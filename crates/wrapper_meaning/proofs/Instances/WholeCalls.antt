@@ -1,7 +1,8 @@
 -- Whole calls: an export that takes the text `ok` and gives the text `abc`, and an import that gives the text `ok`; and wrappers that drop,
 -- leak or misdirect.
-use Rattle.std.proofs.Common.{◌≡◌, ℕ, true, false, List, [], ◌∷◌, Some, None, codes, refl, ap, arith}
+use Rattle.std.proofs.Common.{◌≡◌, ℕ, true, false, List, [], ◌∷◌, Option, Some, None, codes, refl, sym, ap, arith, ◌∙◌}
 use Rattle.wrapper_data.specs.declared.block.Block.{Block}
+use Rattle.wrapper_data.specs.declared.choice.Choice.{Choice}
 use Rattle.wrapper_data.specs.declared.choice.Choice.TheVariants as choice
 use Rattle.wrapper_data.specs.declared.run.CallPoint.{CallPoint}
 use Rattle.wrapper_data.specs.declared.run.Run.{Run}
@@ -9,6 +10,7 @@ use Rattle.wrapper_data.specs.declared.run.Stop.TheVariants as stop
 use Rattle.wrapper_data.specs.declared.run.Target.{Target}
 use Rattle.wrapper_data.specs.declared.run.Target.TheVariants as target
 use Rattle.wrapper_data.specs.declared.value.RustValue.TheVariants as value
+use Rattle.wrapper_data.specs.declared.word.Word.{Word}
 use Rattle.wrapper_data.specs.declared.word.Word.TheVariants as word
 use Rattle.wrapper_meaning.specs.Calls.{CallsExport, CallsImport}
 use Rattle.wrapper_meaning.specs.Due.{Bill, export_bill}
@@ -18,6 +20,7 @@ use Rattle.wrapper_meaning.specs.Items.{total}
 use Rattle.wrapper_meaning.specs.Shape.Shape.{text}
 use Rattle.wrapper_meaning.specs.Shape.Shapes.{none, more}
 use Rattle.wrapper_meaning.proofs.Instances.Forms.{block_at, pair, text_given, text_taken}
+use Rattle.wrapper_meaning.proofs.Lists.{first_or}
 use Rattle.wrapper_meaning.proofs.PostReturn.{total-append}
 
 abbrev ok : Block
@@ -126,3 +129,37 @@ name_of (target.Method place name) = name
 misdirects : CallsExport 2 (target.Method (codes "Guest") (codes "g")) (more text none) (codes "ok", tt) (record { blocks = kept ∷ ok ∷ [] }) (ok ∷ []) call → ⊥
 unfolding name_of
 misdirects wrong = omega (ap (λ t. total (λ x. x) (name_of t)) wrong.aimed, arith)
+
+-- one that frees a text of the words before the call
+drops : (c : CallPoint) → c.heap ≡ record { blocks = kept ∷ [] } → c.values ≡ value.Buffer 8192 2 true ∷ [] → CallsExport 2 method (more text none) (codes "ok", tt) (record { blocks = kept ∷ ok ∷ [] }) (ok ∷ []) c → ⊥
+drops c heap values wrong =
+    let (r, others, first, rest, is, stands, end, all) = wrong.stands in
+    let held = stands.buffer.placed in
+    let one : List Block → ℕ = total (λ b. 1) in
+    omega (
+      wrong.account (λ b. 1),
+      ap (λ h. one h.blocks) heap,
+      total-append (λ b. 1) c.heap.blocks (ok ∷ []),
+      ap one all,
+      total-append (λ b. 1) first rest,
+      ap one held.all,
+      total-append (λ b. 1) held.own held.inner,
+      ap one held.held.itself,
+      arith,
+    )
+
+-- one that returns a block that is not where its area was put
+
+address_in : Word → ℕ
+address_in (word.Pointer address) = address
+address_in _ = 0
+
+chosen : Option Choice → ℕ
+chosen (Some (choice.At address)) = address
+chosen _ = 0
+
+leaks_its_area : GivesExport 2 bill (choice.At 1024 ∷ []) (Some text) (codes "abc") (record { blocks = kept ∷ abc ∷ [] }) (abc ∷ []) run → ⊥
+unfolding address_in chosen
+leaks_its_area wrong =
+    let same = ap (first_or wrong.stands.block) (sym wrong.stands.is ∙ wrong.represents.is_area) in
+    omega (ap (λ ws. address_in (first_or (word.Pointer 0) ws)) wrong.represents.named, ap (λ b. b.address) same, ap chosen wrong.stands.chosen, arith)
