@@ -45,14 +45,14 @@ each_said says alone (v ∷ vs) words blocks (front, back, first, rest, h, hs, e
 
 -- as values of the Rust side
 
-abbrev StandsAlone : {A : Type 0} → (A → Standing) → Type 0
+abbrev StandsAlone : {A : Type 0} → (A → Standing RustValue) → Type 0
 StandsAlone {A} stands = (v : A) (r : RustValue) (blocks : List Block) → stands v r blocks → blocks ≡ []
 
-each_stands : {A : Type 0} (stands : A → Standing) → StandsAlone stands → (vs : List A) (rs : List RustValue) (blocks : List Block) → EachStands stands vs rs blocks → blocks ≡ []
+each_stands : {A : Type 0} (stands : A → Standing RustValue) → StandsAlone stands → (vs : List A) (rs : List RustValue) (blocks : List Block) → EachStands stands vs rs blocks → blocks ≡ []
 each_stands stands alone [] rs blocks h = h.1
 each_stands stands alone (v ∷ vs) rs blocks (r, others, first, rest, e, h, hs, all) = both blocks first rest all (alone v r first h) (each_stands stands alone vs others rest hs)
 
-payload_stands : {A : Type 0} (empty : Bool) (stands : A → Standing) (v : A) → StandsAlone stands → (payload : Option RustValue) (blocks : List Block) → PayloadStands empty (stands v) payload blocks → blocks ≡ []
+payload_stands : {A : Type 0} (empty : Bool) (stands : A → Standing RustValue) (v : A) → StandsAlone stands → (payload : Option RustValue) (blocks : List Block) → PayloadStands empty (stands v) payload blocks → blocks ≡ []
 payload_stands true stands v alone None blocks h = h
 payload_stands true stands v alone (Some r) blocks h = h.1
 payload_stands false stands v alone payload blocks (r, e, h) = alone v r blocks h

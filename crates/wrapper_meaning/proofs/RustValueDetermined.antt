@@ -1,5 +1,5 @@
 -- A value of the Rust side that stands for a value, with its blocks, stands for no other.
-use Rattle.std.proofs.Common.{◌≡◌, ℕ, ◌%◌, ◌^◌, Bool, true, false, MatchBool, List, [], ◌∷◌, ◌++◌, length, Option, Some, None, refl, sym, ap, ap₂, subst, arith, ◌∙◌, append_assoc}
+use Rattle.std.proofs.Common.{◌≡◌, ℕ, ◌%◌, ◌^◌, Bool, true, false, MatchBool, List, [], ◌∷◌, ◌++◌, length, Option, Some, None, refl, sym, ap, ap₂, subst, arith, ◌∙◌}
 use Rattle.std.specs.List.{AllByRecursion}
 use Rattle.std.proofs.lemmas.Bool.{true≢false}
 use mathlib.Core.Logic.{inl, inr}
@@ -19,7 +19,7 @@ use Rattle.wrapper_meaning.specs.Layout.{layout}
 use Rattle.wrapper_meaning.specs.Shape.{Shape, Shapes, is_nothing}
 use Rattle.wrapper_meaning.specs.Shape.Shape.{scalar, text, list, pairs, fixed, fields, tuple, cases, flags, handle, resource, other}
 use Rattle.wrapper_meaning.specs.Shape.Shapes.{none, more}
-use Rattle.wrapper_meaning.specs.StandsFor.{CaseStands, EachEntryStands, EachStands, PartsStand, PayloadStands, Standing, Stands, StandsAsBuffer, rust_scalar}
+use Rattle.wrapper_meaning.specs.StandsFor.{CaseStands, EachStands, EntryStands, PartsStand, PayloadStands, Standing, Stands, StandsAsBuffer, rust_scalar}
 use Rattle.wrapper_meaning.specs.Value.{Case, Parts, ScalarValue, Value, case_number}
 use Rattle.wrapper_meaning.proofs.Lists.{append_both, first_or, later, some_or}
 use Rattle.wrapper_meaning.proofs.MemoryDetermined.{Elements, Same, buffer_determined, empty_same, holds_determined, list_known, text_known}
@@ -34,10 +34,10 @@ scalar_same Scalar.handle u v e = elim u [ ]
 scalar_same s u v e = num_same _ _ u v e
 
 -- the same value of the Rust side stands for one value
-abbrev pub StandsForOne : {A : Type 0} → (A → Standing) → (A → Type 0) → Type 0
-StandsForOne {A} stands good = (u v : A) (r : RustValue) (xs ys p q : List Block) → stands u r xs → stands v r ys → xs ++ p ≡ ys ++ q → good u → good v → Same A u v xs ys p q
+abbrev pub StandsForOne : {A R : Type 0} → (A → Standing R) → (A → Type 0) → Type 0
+StandsForOne {A} {R} stands good = (u v : A) (r : R) (xs ys p q : List Block) → stands u r xs → stands v r ys → xs ++ p ≡ ys ++ q → good u → good v → Same A u v xs ys p q
 
-each_one : {A : Type 0} (stands : A → Standing) (good : A → Type 0) → StandsForOne stands good → (us vs : List A) (rs rs' : List RustValue) (xs ys p q : List Block)
+each_one : {A R : Type 0} (stands : A → Standing R) (good : A → Type 0) → StandsForOne stands good → (us vs : List A) (rs rs' : List R) (xs ys p q : List Block)
     → rs ≡ rs' → EachStands stands us rs xs → EachStands stands vs rs' ys → xs ++ p ≡ ys ++ q → AllByRecursion good us → AllByRecursion good vs → Same (List A) us vs xs ys p q
 each_one stands good one [] [] rs rs' xs ys p q same hu hv e gu gv = empty_same [] [] xs ys p q refl hu.1 hv.1 e
 each_one stands good one [] (v ∷ vs) rs rs' xs ys p q same hu (r, more', f, g, ev, hv, hvs, yv) e gu gv = absurd (omega (ap length (sym hu.0 ∙ same ∙ ev), arith))
@@ -49,31 +49,12 @@ each_one stands good one (u ∷ us) (v ∷ vs) rs rs' xs ys p q same (r, rest, f
     let others = each_one stands good one us vs rest rest' g g' p q (ap later whole) hus hvs first.rest gu.1 gv.1 in
     record { values = ap₂ (λ a c. a ∷ c) first.values others.values; blocks = xu ∙ ap₂ (λ a c. a ++ c) first.blocks others.blocks ∙ sym yv; rest = others.rest }
 
-abbrev key_of : (RustValue × RustValue) → List (RustValue × RustValue) → RustValue
-key_of d [] = d.0
-key_of d (x ∷ xs) = x.0
-
-abbrev value_of : (RustValue × RustValue) → List (RustValue × RustValue) → RustValue
-value_of d [] = d.1
-value_of d (x ∷ xs) = x.1
-
-each_entry_one : {A B : Type 0} (key : A → Standing) (val : B → Standing) (good_key : A → Type 0) (good_val : B → Type 0) → StandsForOne key good_key → StandsForOne val good_val → (us vs : List (A × B)) (rs rs' : List (RustValue × RustValue)) (xs ys p q : List Block)
-    → rs ≡ rs' → EachEntryStands key val us rs xs → EachEntryStands key val vs rs' ys → xs ++ p ≡ ys ++ q → AllByRecursion (λ x. good_key x.0 × good_val x.1) us → AllByRecursion (λ x. good_key x.0 × good_val x.1) vs → Same (List (A × B)) us vs xs ys p q
-each_entry_one key val good_key good_val one_key one_val [] [] rs rs' xs ys p q same hu hv e gu gv = empty_same [] [] xs ys p q refl hu.1 hv.1 e
-each_entry_one key val good_key good_val one_key one_val [] (v ∷ vs) rs rs' xs ys p q same hu hv e gu gv =
-    let (k, x, rest, f, s, g, ev, hk, hx, hvs, yv) = hv in absurd (omega (ap length (sym hu.0 ∙ same ∙ ev), arith))
-each_entry_one key val good_key good_val one_key one_val (u ∷ us) [] rs rs' xs ys p q same hu hv e gu gv =
-    let (k, x, rest, f, s, g, eu, hk, hx, hus, xu) = hu in absurd (omega (ap length (sym hv.0 ∙ sym same ∙ eu), arith))
-each_entry_one key val good_key good_val one_key one_val (u ∷ us) (v ∷ vs) rs rs' xs ys p q same (k, x, rest, f, s, g, eu, hk, hx, hus, xu) (k', x', rest', f', s', g', ev, hk', hx', hvs, yv) e gu gv =
-    let whole : (k, x) ∷ rest ≡ (k', x') ∷ rest' = sym eu ∙ same ∙ ev in
-    let hk'' = subst (λ y. key v.0 y f') (ap (key_of (k', x')) (sym whole)) hk' in
-    let hx'' = subst (λ y. val v.1 y s') (ap (value_of (k', x')) (sym whole)) hx' in
-    let step = append_both xs (f ++ s) g p ys (f' ++ s') g' q xu yv e in
-    let step' : f ++ (s ++ (g ++ p)) ≡ f' ++ (s' ++ (g' ++ q)) = sym (append_assoc f s (g ++ p)) ∙ step ∙ append_assoc f' s' (g' ++ q) in
-    let first = one_key u.0 v.0 k f f' (s ++ (g ++ p)) (s' ++ (g' ++ q)) hk hk'' step' gu.0.0 gv.0.0 in
-    let second = one_val u.1 v.1 x s s' (g ++ p) (g' ++ q) hx hx'' first.rest gu.0.1 gv.0.1 in
-    let others = each_entry_one key val good_key good_val one_key one_val us vs rest rest' g g' p q (ap later whole) hus hvs second.rest gu.1 gv.1 in
-    record { values = ap₂ (λ a c. a ∷ c) (ap₂ (λ a c. (a, c)) first.values second.values) others.values; blocks = xu ∙ ap₂ (λ a c. a ++ c) (ap₂ (λ a c. a ++ c) first.blocks second.blocks) others.blocks ∙ sym yv; rest = others.rest }
+entry_one : {A B : Type 0} (key : A → Standing RustValue) (val : B → Standing RustValue) (good_key : A → Type 0) (good_val : B → Type 0)
+    → StandsForOne key good_key → StandsForOne val good_val → StandsForOne (EntryStands key val) (λ x. good_key x.0 × good_val x.1)
+entry_one key val good_key good_val one_key one_val u v r xs ys p q (f, g, ku, vu, xu) (f', g', kv, vv, yv) e gu gv =
+    let one = one_key u.0 v.0 r.0 f f' (g ++ p) (g' ++ q) ku kv (append_both xs f g p ys f' g' q xu yv e) gu.0 gv.0 in
+    let two = one_val u.1 v.1 r.1 g g' p q vu vv one.rest gu.1 gv.1 in
+    record { values = ap₂ (λ a c. (a, c)) one.values two.values; blocks = xu ∙ ap₂ (λ a c. a ++ c) one.blocks two.blocks ∙ sym yv; rest = two.rest }
 
 module _ (w : ℕ) (dir : Direction) (well : IsWellPlaced dir) where
   buffer_one : {A : Type 0} (contents : List A → Contents) (good : List A → Type 0) (x : Extent) → Elements contents good x.bytes → StandsForOne (λ us. StandsAsBuffer w dir (length us) x (contents us)) good
@@ -109,7 +90,8 @@ module _ (w : ℕ) (dir : Direction) (well : IsWellPlaced dir) where
     stands_for_one text u v r xs ys p q hu hv e gu gv = buffer_one TextHolds (λ us. Unit {0}) text_extent text_known u v r xs ys p q hu hv e tt tt
     stands_for_one (list t) us vs r xs ys p q hu hv e gu gv = list_one t (stands_for_one t) (is_plain t) us vs r xs ys p q hu hv e gu gv
     stands_for_one (pairs c x) us vs r xs ys p q (rs, eu, hu) (rs', ev, hv) e gu gv =
-        each_entry_one (Stands w dir c) (Stands w dir x) (IsListed c) (IsListed x) (stands_for_one c) (stands_for_one x) us vs rs rs' xs ys p q (map_same rs rs' (sym eu ∙ ev)) hu hv e gu gv
+        each_one (EntryStands (Stands w dir c) (Stands w dir x)) (λ y. IsListed c y.0 × IsListed x y.1) (entry_one (Stands w dir c) (Stands w dir x) (IsListed c) (IsListed x) (stands_for_one c) (stands_for_one x))
+        us vs rs rs' xs ys p q (map_same rs rs' (sym eu ∙ ev)) hu hv e gu gv
     stands_for_one (fixed t n) us vs r xs ys p q (rs, eu, hu) (rs', ev, hv) e gu gv =
         each_one (Stands w dir t) (IsListed t) (stands_for_one t) us vs rs rs' xs ys p q (struct_same rs rs' (sym eu ∙ ev)) hu hv e gu.1 gv.1
     stands_for_one (fields ts) u v r xs ys p q (rs, eu, hu) (rs', ev, hv) e gu gv = parts_one ts u v rs rs' xs ys p q (struct_same rs rs' (sym eu ∙ ev)) hu hv e gu gv

@@ -68,11 +68,15 @@ AreLeftOver _ words = AreZero words
 abbrev pub Saying : Type 1
 Saying = List Word → List Block → Type 0
 
+-- the words of two things after one another, each with blocks of its own
+abbrev pub BothSay : (one two : Saying) → Saying
+BothSay one two words blocks =
+    (front : List Word) × (back : List Word) × (first : List Block) × (rest : List Block) × one front first × two back rest × (words ≡ front ++ back) × (blocks ≡ first ++ rest)
+
 -- one after another
 abbrev pub EachSays : {A : Type 0} → (A → Saying) → List A → Saying
 EachSays says [] words blocks = (words ≡ []) × (blocks ≡ [])
-EachSays says (v ∷ vs) words blocks =
-    (front : List Word) × (back : List Word) × (first : List Block) × (rest : List Block) × says v front first × EachSays says vs back rest × (words ≡ front ++ back) × (blocks ≡ first ++ rest)
+EachSays says (v ∷ vs) words blocks = BothSay (says v) (EachSays says vs) words blocks
 
 -- A pointer has 2 ^ w bytes
 module _ (w : ℕ) (dir : Direction) where
@@ -106,8 +110,7 @@ module _ (w : ℕ) (dir : Direction) where
     -- the parts, one after another
     pub PartsSay : (ts : Shapes) → Parts ts → List Word → List Block → Type 0
     PartsSay none v words blocks = (words ≡ []) × (blocks ≡ [])
-    PartsSay (more t ts) v words blocks =
-        (front : List Word) × (back : List Word) × (first : List Block) × (rest : List Block) × Says t v.0 front first × PartsSay ts v.1 back rest × (words ≡ front ++ back) × (blocks ≡ first ++ rest)
+    PartsSay (more t ts) v words blocks = BothSay (Says t v.0) (PartsSay ts v.1) words blocks
 
     -- the first slots are the words of the payload, and the others are left over
     pub CaseSays : (ts : Shapes) → Case ts → List Word → List Block → Type 0

@@ -8,6 +8,10 @@ use Rattle.wrapper_meaning.specs.Direction.{Direction, IsHeld, IsTakeable}
 abbrev pub Contents : Type 1
 Contents = Block → ℕ → List Block → Type 0
 
+-- two things after one another, each with blocks of its own
+abbrev pub Both : (one two : List Block → Type 0) → List Block → Type 0
+Both one two blocks = (first : List Block) × (rest : List Block) × one first × two rest × (blocks ≡ first ++ rest)
+
 -- `plain`: a text, or a list that lies in memory as it is
 module _ (dir : Direction) (plain : Bool) where
   -- bytes at an address lie in a block and hold something. Its blocks are that block, where it is its own, and those of its contents

@@ -1,11 +1,11 @@
 -- Which bytes hold a value, and which blocks are then the value's: those of its texts, lists and maps, the outer before the inner.
-use Rattle.std.specs.Prelude.{Bool, true, false, ◌≡◌, ℕ, ◌+◌, ◌%◌, ◌^◌, List, [], ◌∷◌, ◌++◌, length}
+use Rattle.std.specs.Prelude.{Bool, true, false, ◌≡◌, ℕ, ◌+◌, ◌%◌, ◌^◌, List, [], ◌∷◌, length}
 use mathlib.Core.Logic.{inl, inr}
 use Rattle.wrapper_data.specs.declared.block.Block.{Block}
 use Rattle.wit_layout.specs.Extent.{Extent, extent, discriminant_grain, place, record_extent}
 use Rattle.wit_layout.specs.Sizes.{count, elem_size, extent_of, payload_offset}
 use Rattle.wit_layout.specs.Tree.{Scalar}
-use Rattle.wrapper_meaning.specs.Buffer.{Contents, IsBuffer}
+use Rattle.wrapper_meaning.specs.Buffer.{Both, Contents, IsBuffer}
 use Rattle.wrapper_meaning.specs.Cells.{HasBytes, HasNumber}
 use Rattle.wrapper_meaning.specs.Direction.{Direction}
 use Rattle.wrapper_meaning.specs.Kinds.{is_plain}
@@ -32,13 +32,11 @@ Holder A = A → Contents
 -- one after another, so many bytes apart, each with blocks of its own
 abbrev pub EachHolds : {A : Type 0} → Holder A → ℕ → List A → Contents
 EachHolds holds size [] b offset blocks = blocks ≡ []
-EachHolds holds size (v ∷ vs) b offset blocks =
-    (first : List Block) × (rest : List Block) × holds v b offset first × EachHolds holds size vs b (offset + size) rest × (blocks ≡ first ++ rest)
+EachHolds holds size (v ∷ vs) b offset blocks = Both (holds v b offset) (EachHolds holds size vs b (offset + size)) blocks
 
 -- a key, and a value so many bytes behind it
 abbrev pub EntryHolds : {A B : Type 0} → Holder A → Holder B → ℕ → A × B → Contents
-EntryHolds key value distance e b offset blocks =
-    (first : List Block) × (second : List Block) × key e.0 b offset first × value e.1 b (offset + distance) second × (blocks ≡ first ++ second)
+EntryHolds key value distance e b offset blocks = Both (key e.0 b offset) (value e.1 b (offset + distance)) blocks
 
 abbrev pub text_extent : Extent
 text_extent = extent 0 1
@@ -87,8 +85,8 @@ module _ (w : ℕ) (dir : Direction) where
     pub PartsHold : (ts : Shapes) → Parts ts → (behind : ℕ) → Block → ℕ → List Block → Type 0
     PartsHold none v behind b offset blocks = blocks ≡ []
     PartsHold (more t ts) v behind b offset blocks =
-        (first : List Block) × (rest : List Block) × Holds t v.0 b (offset + place (extent_of w (layout t)) behind) first
-        × PartsHold ts v.1 (place (extent_of w (layout t)) behind + elem_size w (layout t)) b offset rest × (blocks ≡ first ++ rest)
+        let here = place (extent_of w (layout t)) behind in
+        Both (Holds t v.0 b (offset + here)) (PartsHold ts v.1 (here + elem_size w (layout t)) b offset) blocks
 
     pub CaseHolds : (ts : Shapes) → Case ts → Block → ℕ → List Block → Type 0
     CaseHolds none c b offset blocks = elim c [ ]

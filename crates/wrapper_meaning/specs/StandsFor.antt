@@ -8,7 +8,7 @@ use Rattle.wrapper_data.specs.declared.value.RustValue.TheVariants as value
 use Rattle.wit_layout.specs.Extent.{Extent}
 use Rattle.wit_layout.specs.Sizes.{elem_size, extent_of}
 use Rattle.wit_layout.specs.Tree.{Scalar}
-use Rattle.wrapper_meaning.specs.Buffer.{Contents, IsBuffer}
+use Rattle.wrapper_meaning.specs.Buffer.{Both, Contents, IsBuffer}
 use Rattle.wrapper_meaning.specs.Direction.{Direction, lend, make, take}
 use Rattle.wrapper_meaning.specs.InMemory.{EachHolds, Holds, TextHolds, text_extent}
 use Rattle.wrapper_meaning.specs.Kinds.{has_own_handle, is_plain}
@@ -43,23 +43,25 @@ IsFlag (make blocks) entries owned = owned ≡ false
 IsFlag _ (suc n) owned = owned ≡ true
 IsFlag _ _ owned = Unit {0}
 
--- a value of the Rust side stands for something, and owns these blocks
-abbrev pub Standing : Type 1
-Standing = RustValue → List Block → Type 0
+-- something of the Rust side, a value or an entry of a map, stands for something, and owns these blocks
+abbrev pub Standing : Type 0 → Type 1
+Standing R = R → List Block → Type 0
 
-abbrev pub EachStands : {A : Type 0} → (A → Standing) → List A → List RustValue → List Block → Type 0
+-- the first of a list stands for one thing and the others for another, each with blocks of its own
+abbrev pub BothStand : {R : Type 0} → Standing R → Standing (List R) → Standing (List R)
+BothStand {R} one two rs blocks =
+    (r : R) × (others : List R) × (first : List Block) × (rest : List Block) × (rs ≡ r ∷ others) × one r first × two others rest × (blocks ≡ first ++ rest)
+
+abbrev pub EachStands : {A R : Type 0} → (A → Standing R) → List A → Standing (List R)
 EachStands stands [] rs blocks = (rs ≡ []) × (blocks ≡ [])
-EachStands stands (v ∷ vs) rs blocks =
-    (r : RustValue) × (others : List RustValue) × (first : List Block) × (rest : List Block) × (rs ≡ r ∷ others) × stands v r first × EachStands stands vs others rest × (blocks ≡ first ++ rest)
+EachStands stands (v ∷ vs) rs blocks = BothStand (stands v) (EachStands stands vs) rs blocks
 
-abbrev pub EachEntryStands : {A B : Type 0} → (A → Standing) → (B → Standing) → List (A × B) → List (RustValue × RustValue) → List Block → Type 0
-EachEntryStands key val [] rs blocks = (rs ≡ []) × (blocks ≡ [])
-EachEntryStands key val (e ∷ entries) rs blocks =
-    (k : RustValue) × (x : RustValue) × (others : List (RustValue × RustValue)) × (first : List Block) × (second : List Block) × (rest : List Block)
-    × (rs ≡ (k, x) ∷ others) × key e.0 k first × val e.1 x second × EachEntryStands key val entries others rest × (blocks ≡ first ++ second ++ rest)
+-- an entry of a map
+abbrev pub EntryStands : {A B : Type 0} → (A → Standing RustValue) → (B → Standing RustValue) → A × B → Standing (RustValue × RustValue)
+EntryStands key val e r blocks = Both (key e.0 r.0) (val e.1 r.1) blocks
 
 -- the payload of a case: None or `()` where it is left out
-abbrev pub PayloadStands : Bool → Standing → Option RustValue → List Block → Type 0
+abbrev pub PayloadStands : Bool → Standing RustValue → Standing (Option RustValue)
 PayloadStands true stands None blocks = blocks ≡ []
 PayloadStands true stands (Some r) blocks = (r ≡ value.Unit) × (blocks ≡ [])
 PayloadStands false stands payload blocks = (r : RustValue) × (payload ≡ Some r) × stands r blocks
@@ -83,7 +85,7 @@ module _ (w : ℕ) (dir : Direction) where
     Stands (list t) vs r blocks =
         MatchBool (is_plain t) (StandsAsBuffer (length vs) (extent_of w (layout t)) (EachHolds (Holds w dir t) (elem_size w (layout t)) vs) r blocks)
         ((rs : List RustValue) × (r ≡ value.Seq rs) × EachStands (Stands t) vs rs blocks)
-    Stands (pairs k x) entries r blocks = (rs : List (RustValue × RustValue)) × (r ≡ value.Map rs) × EachEntryStands (Stands k) (Stands x) entries rs blocks
+    Stands (pairs k x) entries r blocks = (rs : List (RustValue × RustValue)) × (r ≡ value.Map rs) × EachStands (EntryStands (Stands k) (Stands x)) entries rs blocks
     Stands (fixed t n) vs r blocks = (rs : List RustValue) × (r ≡ value.Struct rs) × EachStands (Stands t) vs rs blocks
     Stands (fields ts) v r blocks = (rs : List RustValue) × (r ≡ value.Struct rs) × PartsStand ts v rs blocks
     Stands (tuple ts) v r blocks = (rs : List RustValue) × (r ≡ value.Struct rs) × PartsStand ts v rs blocks
@@ -96,8 +98,7 @@ module _ (w : ℕ) (dir : Direction) where
 
     pub PartsStand : (ts : Shapes) → Parts ts → List RustValue → List Block → Type 0
     PartsStand none v rs blocks = (rs ≡ []) × (blocks ≡ [])
-    PartsStand (more t ts) v rs blocks =
-        (r : RustValue) × (others : List RustValue) × (first : List Block) × (rest : List Block) × (rs ≡ r ∷ others) × Stands t v.0 r first × PartsStand ts v.1 others rest × (blocks ≡ first ++ rest)
+    PartsStand (more t ts) v rs blocks = BothStand (Stands t v.0) (PartsStand ts v.1) rs blocks
 
     pub CaseStands : (ts : Shapes) → Case ts → Option RustValue → List Block → Type 0
     CaseStands none c payload blocks = elim c [ ]
@@ -111,9 +112,7 @@ argument_direction heap t = if has_own_handle t then take else lend heap
 
 abbrev pub ArgumentsStand : ℕ → List Block → (ts : Shapes) → Parts ts → List RustValue → List Block → Type 0
 ArgumentsStand w heap none v rs blocks = (rs ≡ []) × (blocks ≡ [])
-ArgumentsStand w heap (more t ts) v rs blocks =
-    (r : RustValue) × (others : List RustValue) × (first : List Block) × (rest : List Block)
-    × (rs ≡ r ∷ others) × Stands w (argument_direction heap t) t v.0 r first × ArgumentsStand w heap ts v.1 others rest × (blocks ≡ first ++ rest)
+ArgumentsStand w heap (more t ts) v rs blocks = BothStand (Stands w (argument_direction heap t) t v.0) (ArgumentsStand w heap ts v.1) rs blocks
 
 -- A result, where there is one, owns what it has
 
