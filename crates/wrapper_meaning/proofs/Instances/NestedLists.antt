@@ -1,5 +1,5 @@
 -- A list of lists of texts, as an import's wrapper lowers it: its words and blocks represent it where they are lent, also as what was made.
-use Rattle.std.proofs.Common.{◌≡◌, ◌++◌, [], ◌∷◌, None, codes, refl, arith}
+use Rattle.std.proofs.Common.{◌≡◌, ◌∙◌, ◌<◌, ◌≤◌, ◌+◌, ◌++◌, ℕ, zero, suc, [], ◌∷◌, None, codes, slice_index_or, refl, ap, arith}
 use Rattle.wrapper_data.specs.declared.block.Block.{Block}
 use Rattle.wrapper_meaning.specs.Direction.{lend}
 use Rattle.wrapper_meaning.specs.Due.{due, import_bill}
@@ -10,6 +10,7 @@ use Rattle.wrapper_meaning.specs.Shape.Shape.{text, list}
 use Rattle.wrapper_meaning.specs.Shape.Shapes.{none, more}
 use Rattle.wrapper_meaning.specs.Value.{Parts}
 use Rattle.wrapper_meaning.proofs.Instances.Forms.{block_at, pair, pair_words, text_lent}
+use Rattle.wrapper_meaning.proofs.Lists.{some_same}
 
 -- a list that has the text `a`, and an empty list
 
@@ -80,3 +81,17 @@ as_words = (
   refl,
   refl,
 )
+
+-- where the guard of the inner list was dropped before the call: its bytes lie in none of the blocks that are left
+
+in_neither : (at : ℕ) (b : Block) (offset : ℕ) → at < 2 → slice_index_or (given ∷ outer ∷ []) at b ≡ b → 8192 ≡ b.address + offset → offset + 8 ≤ b.size → ⊥
+in_neither zero b offset inside is starts room = omega (ap (λ x. x.address) is, ap (λ x. x.size) is, starts, room, arith)
+in_neither (suc zero) b offset inside is starts room = omega (ap (λ x. x.address) is, ap (λ x. x.size) is, starts, room, arith)
+in_neither (suc (suc at)) b offset inside is starts room = omega (inside, arith)
+
+dropped : Holds 2 (lend (given ∷ outer ∷ [])) (list text) (codes "a" ∷ []) outer 0 [] → ⊥
+dropped holds =
+    let held = holds.buffer.placed.held in
+    let (at, inside, is) = held.there in
+    let place : 8192 ≡ holds.address = some_same 8192 holds.address holds.pointer.1 in
+    in_neither at holds.buffer.placed.block holds.buffer.placed.offset inside is (place ∙ held.starts) held.room
