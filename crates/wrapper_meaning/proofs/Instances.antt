@@ -15,3 +15,4 @@ pub mod EndsOfRuns
 pub mod WholeCalls
 pub mod ShapesOfTypes
 pub mod Numbers
+pub mod CanonicalLists

@@ -1,4 +1,5 @@
--- Two lists weigh the same, whatever their items weigh, exactly where one is a permutation of the other.
+-- Two lists weigh the same, whatever their items weigh, exactly where one is a permutation of the other; and one weighs no more exactly
+-- where it is a part of one.
 use Rattle.std.proofs.Common.{◌≡◌, ◌⊎◌, ◌<◌, ℕ, Bool, true, false, ◌&&◌, List, [], ◌∷◌, ◌++◌, refl, sym, ap, ap₂, subst, arith, ◌∙◌, if◌then◌else◌}
 use Rattle.std.specs.Prelude.{nat_eq}
 use Rattle.std.specs.Coded.{Coded}
@@ -12,8 +13,8 @@ use base.Stored.{Gv, gnil, gnum, gcons}
 use mathlib.Core.Logic.{inl, inr}
 use Rattle.wrapper_data.specs.contracts.block.Block as block
 use Rattle.wrapper_data.specs.contracts.choice.Request as request
-use Rattle.wrapper_meaning.specs.Items.{SameItems, total}
-use Rattle.wrapper_meaning.specs.Laws.{SameBlocksArePermuted, SameRequestsArePermuted}
+use Rattle.wrapper_meaning.specs.Items.{AtMost, SameItems, total}
+use Rattle.wrapper_meaning.specs.Laws.{FewerAreAPart, SameBlocksArePermuted, SameRequestsArePermuted}
 use Rattle.wrapper_meaning.proofs.PostReturn.{total-append}
 
 -- a test of codes, by which two items are told apart
@@ -76,6 +77,18 @@ module _ {A : Type 0} (c : Coded A) where
       subst (IsPermutation (x ∷ xs)) (sym r.2)
       (IsPermutation-trans (x ∷ xs) (x ∷ (us ++ vs)) (us ++ x ∷ vs) (IsPermutation-cons x xs (us ++ vs) rest) (IsPermutation-sym (us ++ x ∷ vs) (x ∷ (us ++ vs)) (IsPermutation-middle us x vs)))
 
+  pub to_part : (xs ys : List A) → AtMost xs ys → (rest : List A) × SameItems (xs ++ rest) ys
+  to_part [] ys fewer = (ys, λ f. refl)
+  to_part (x ∷ xs) ys fewer =
+      let r = split x ys (omega (fewer (weighs x), weighs_itself x, arith)) in
+      let us = r.0 in
+      let vs = r.1 in
+      let others = to_part xs (us ++ vs) (λ f. omega (arith, fewer f, ap (total f) r.2, total-append f us (x ∷ vs), total-append f us vs)) in
+      (others.0, λ f. omega (arith, others.1 f, ap (total f) r.2, total-append f us (x ∷ vs), total-append f us vs))
+
+from_part : {A : Type 0} (xs ys : List A) → ((rest : List A) × SameItems (xs ++ rest) ys) → AtMost xs ys
+from_part xs ys (rest, same) f = omega (same f, total-append f xs rest, arith)
+
 total-sum_by : {A : Type 0} (f : A → ℕ) (xs : List A) → total f xs ≡ sum_by f xs
 total-sum_by f [] = refl
 total-sum_by f (x ∷ xs) = omega (arith, total-sum_by f xs, sum_by-cons f x xs)
@@ -88,3 +101,6 @@ same_blocks_are_permuted xs ys = (to_permutation block.the_row.coded xs ys, from
 
 pub same_requests_are_permuted : SameRequestsArePermuted
 same_requests_are_permuted xs ys = (to_permutation request.the_row.coded xs ys, from_permutation xs ys)
+
+pub fewer_are_a_part : FewerAreAPart
+fewer_are_a_part xs ys = (to_part request.the_row.coded xs ys, from_part xs ys)

@@ -27,7 +27,7 @@ use Rattle.wrapper_meaning.specs.Due.{Bill}
 use Rattle.wrapper_meaning.specs.Gives.{FreesWords, GivesExport}
 use Rattle.wrapper_meaning.specs.InMemory.{EachHolds, Holds}
 use Rattle.wrapper_meaning.specs.InRange.{IsListed}
-use Rattle.wrapper_meaning.specs.Items.{AllIn, SameItems}
+use Rattle.wrapper_meaning.specs.Items.{AllIn, AtMost, SameItems}
 use Rattle.wrapper_meaning.specs.Kinds.{has_list, is_plain, result_has_list}
 use Rattle.wrapper_meaning.specs.Layout.{layout}
 use Rattle.wrapper_meaning.specs.Represents.{ResultSays, is_indirect, param_words, result_words}
@@ -139,3 +139,7 @@ SameBlocksArePermuted = (xs ys : List Block) → SameItems xs ys ↔ IsPermutati
 
 abbrev pub SameRequestsArePermuted : Type 0
 SameRequestsArePermuted = (xs ys : List Request) → SameItems xs ys ↔ IsPermutation xs ys
+
+-- and requests are no more than others exactly where some are left over
+abbrev pub FewerAreAPart : Type 0
+FewerAreAPart = (xs ys : List Request) → AtMost xs ys ↔ ((rest : List Request) × SameItems (xs ++ rest) ys)

@@ -1,4 +1,4 @@
-ghost use Rattle.wrapper_meaning.specs.Laws.{BufferIsItsWords, LayoutIsTree, ListIsItsElements, MadeIsLent, MemoryDetermines, MemoryHasNoBlocks, PlainIsAlike, PlainIsCanonical, PostReturnLeaves, ResultHasNoBlocks, RustValueDetermines, RustValueHasNoBlocks, SameBlocksArePermuted, SameRequestsArePermuted, SettledIsDistinct, ShapeIsByKind, SignatureIsByShapes, WordsDetermine};
+ghost use Rattle.wrapper_meaning.specs.Laws.{BufferIsItsWords, FewerAreAPart, LayoutIsTree, ListIsItsElements, MadeIsLent, MemoryDetermines, MemoryHasNoBlocks, PlainIsAlike, PlainIsCanonical, PostReturnLeaves, ResultHasNoBlocks, RustValueDetermines, RustValueHasNoBlocks, SameBlocksArePermuted, SameRequestsArePermuted, SettledIsDistinct, ShapeIsByKind, SignatureIsByShapes, WordsDetermine};
 
 /// The layout of a type's shape is the tree that `wit_layout` has for the type.
 pub fn layout_law()
@@ -68,8 +68,9 @@ pub fn post_return_law()
 {}
 
 /// Two lists of blocks or of requests weigh the same, whatever their items weigh, exactly where one is a permutation of the
-/// other.
+/// other. Requests weigh no more than others exactly where they are a part of a permutation.
 pub fn permutation_law()
     ensures blocks { SameBlocksArePermuted }
     ensures requests { SameRequestsArePermuted }
+    ensures part { FewerAreAPart }
 {}
