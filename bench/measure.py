@@ -1,12 +1,13 @@
 #!/usr/bin/env python3
-"""Measures the program on documents of 1,000, 2,000, 4,000 and 8,000 imported functions.
+"""Measures the program on documents of 1,000, 2,000, 4,000 and 8,000 imported functions, and of up to 20,000 aliases.
 
     python3 bench/measure.py [path of the built program]
 
 It needs nothing but the built program and python3. For each document it prints the bytes in and out, the least time of
 several runs, the share of that time that reading the JSON takes at least (a document that is refused right behind the
 reading), the peak memory, and the ratios to the document of half as many functions. Where `jq` is there, it is run beside
-the program on the largest document.
+the program on the largest document. Then it does the same for aliases, each of the one before, and as many maps whose keys
+are the last of them: a world that is not built, which must be refused in linear time.
 """
 
 import json
@@ -19,6 +20,7 @@ import tempfile
 import time
 
 COUNTS = [1000, 2000, 4000, 8000]
+CHAINS = [2500, 5000, 10000, 20000]
 RUNS = 5
 HERE = os.path.dirname(os.path.abspath(__file__))
 PROGRAM = os.path.join(HERE, "..", "crates", "wit_program", "out", "wit_program")
@@ -47,18 +49,25 @@ def function(i):
     }
 
 
-def document(count, export):
-    world = {
-        "name": name("w"),
-        "package": 0,
-        "imports": [function(i) for i in range(count)],
-        "exports": [],
-    }
+def document(imports, types, world):
+    the_world = {"name": name("w"), "package": 0, "imports": imports, "exports": []}
     package = {"namespace": name("t"), "name": name("p"), "module": "p"}
-    resolve = {"worlds": [world], "packages": [package], "interfaces": [], "types": []}
-    # A world out of range is refused as soon as the tables have been read.
-    whole = {"resolve": resolve, "world": 1 if export else 0}
-    return json.dumps(whole, separators=(",", ":")).encode()
+    resolve = {"worlds": [the_world], "packages": [package], "interfaces": [], "types": types}
+    return json.dumps({"resolve": resolve, "world": world}, separators=(",", ":")).encode()
+
+
+def functions(count, world):
+    return document([function(i) for i in range(count)], [], world)
+
+
+def unnamed(kind):
+    return {"name": None, "owner": None, "kind": kind}
+
+
+def chain(count, world):
+    """So many aliases, each of the one before, and as many maps keyed by the last."""
+    aliases = [unnamed({"alias": i - 1 if i else "u32"}) for i in range(count)]
+    return document([], aliases + [unnamed({"map": [count - 1, "u8"]})] * count, world)
 
 
 def run(command, source, target):
@@ -80,33 +89,40 @@ def best(command, source, target, wanted):
     return min(r[0] for r in results), max(r[1] for r in results)
 
 
+def measure(program, folder, what, make, counts, status):
+    """A line for each count of a form of document, which gives this status. It returns the last time and the last document."""
+    source = os.path.join(folder, "in.json")
+    target = os.path.join(folder, "out")
+    before = None
+    for count in counts:
+        # A world out of range is refused as soon as the tables have been read.
+        with open(source, "wb") as f:
+            f.write(make(count, 1))
+        reading, _ = best([program, "generate"], source, target, 6)
+        data = make(count, 0)
+        with open(source, "wb") as f:
+            f.write(data)
+        seconds, peak = best([program, "generate"], source, target, status)
+        line = (
+            f"{count} {what}: {len(data)} bytes in, {os.path.getsize(target)} out, "
+            f"{seconds * 1000:.0f} ms ({reading / seconds:.0%} reading), {peak} KB, "
+            f"{peak * 1024 / len(data):.1f} bytes for a byte"
+        )
+        if before:
+            line += f", time x{seconds / before[0]:.2f}, memory x{peak / before[1]:.2f}"
+        print(line)
+        before = (seconds, peak)
+    return before[0], source, target
+
+
 def main():
     program = sys.argv[1] if len(sys.argv) > 1 else PROGRAM
-    before = None
     with tempfile.TemporaryDirectory() as folder:
-        source = os.path.join(folder, "in.json")
-        target = os.path.join(folder, "out")
-        for count in COUNTS:
-            data = document(count, True)
-            with open(source, "wb") as f:
-                f.write(data)
-            reading, _ = best([program, "generate"], source, target, 6)
-            data = document(count, False)
-            with open(source, "wb") as f:
-                f.write(data)
-            seconds, peak = best([program, "generate"], source, target, 0)
-            line = (
-                f"{count} functions: {len(data)} bytes in, {os.path.getsize(target)} out, "
-                f"{seconds * 1000:.0f} ms ({reading / seconds:.0%} reading), {peak} KB, "
-                f"{peak * 1024 / len(data):.1f} bytes for a byte"
-            )
-            if before:
-                line += f", time x{seconds / before[0]:.2f}, memory x{peak / before[1]:.2f}"
-            print(line)
-            before = (seconds, peak)
+        taken, source, target = measure(program, folder, "functions", functions, COUNTS, 0)
         if shutil.which("jq"):
             seconds, _ = best(["jq", "-c", "."], source, target, 0)
-            print(f"jq -c . on the largest: {seconds * 1000:.0f} ms; the program takes {before[0] / seconds:.2f} of that")
+            print(f"jq -c . on the largest: {seconds * 1000:.0f} ms; the program takes {taken / seconds:.2f} of that")
+        measure(program, folder, "aliases and as many maps", chain, CHAINS, 10)
 
 
 main()
