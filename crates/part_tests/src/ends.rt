@@ -132,30 +132,39 @@ impl io::Write for Full {
 }
 
 #[test]
-fn std_ends_pass_bytes_on_and_count_faults(rt: HostRuntime) -> Result<(), Fail> {
+fn a_std_source_passes_bytes_on(rt: HostRuntime) -> Result<(), Fail> {
     let mut source = StdSource::new(b"0123456789".as_slice());
     let input = read_input(rt.alloc(), &mut source)?;
     assert_eq!(rt; input.as_slice(), b"0123456789".as_slice());
     assert_eq!(rt; source.faults(), 0);
+    Ok(())
+}
 
+#[test]
+fn a_std_sink_passes_bytes_on(rt: HostRuntime) -> Result<(), Fail> {
     let mut kept = Vec::new(rt.alloc());
     let mut sink = StdSink::new(&mut kept);
     write_all(&mut sink, b"0123456789")?;
     assert_eq!(rt; sink.faults(), 0);
     drop(sink);
     assert_eq!(rt; kept.as_slice(), b"0123456789".as_slice());
+    Ok(())
+}
 
+#[test]
+fn a_std_source_counts_faults(rt: HostRuntime) {
     let mut broken = StdSource::new(Broken);
     let read = read_input(rt.alloc(), &mut broken).map(|input| input.len());
     assert_eq!(rt; read, Err(InputFault::ReadFault));
     assert_eq!(rt; broken.faults(), 1);
+}
 
+#[test]
+fn a_std_sink_counts_faults(rt: HostRuntime) {
     let mut broken = StdSink::new(Broken);
     assert_eq!(rt; write_all(&mut broken, b"0"), Err(SinkFailed));
     assert_eq!(rt; broken.faults(), 1);
-
     let mut full = StdSink::new(Full);
     assert_eq!(rt; write_all(&mut full, b"0"), Err(SinkFailed));
     assert_eq!(rt; full.faults(), 1);
-    Ok(())
 }
