@@ -45,6 +45,7 @@ is_written_function f = is_wit_form f.name.wit && list_all (λ p. is_wit_form p.
 abbrev pub is_written_key : WorldKey → Bool
 is_written_key (key.Name name) = is_wit_form name.wit
 is_written_key (key.Interface _) = false
+is_written_key (key.Type _) = true
 
 abbrev pub is_written_item : WorldItem → Bool
 is_written_item (item.Interface _) = true

@@ -102,6 +102,7 @@ fn is_written_key(key: &WorldKey) -> bool
     match key {
         WorldKey::Name(name) => is_wit_form(&name.wit),
         WorldKey::Interface(_) => false,
+        WorldKey::Type(_) => true,
     }
 }
 

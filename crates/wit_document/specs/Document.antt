@@ -13,10 +13,10 @@ use Rattle.wit_document.specs.World.{world_id_of, package_of, world_of}
 unfoldable pub resolve_of : Data → Option Resolve
 resolve_of d = do
   _ ← only (codes "worlds" ∷ codes "packages" ∷ codes "interfaces" ∷ codes "types" ∷ []) d
-  types ← required (all_of type_def_of) (codes "types") d
-  worlds ← required (all_of (world_of types)) (codes "worlds") d
+  worlds ← required (all_of world_of) (codes "worlds") d
   packages ← required (all_of package_of) (codes "packages") d
   interfaces ← required empty_of (codes "interfaces") d
+  types ← required (all_of type_def_of) (codes "types") d
   Some (record { worlds = worlds; packages = packages; interfaces = interfaces; types = types })
 
 unfoldable pub document : Data → Option Document

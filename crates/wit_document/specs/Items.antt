@@ -1,10 +1,7 @@
 -- Which import or export does a JSON value give, and what does it stand under?
-use Rattle.std.specs.Prelude.{ℕ, List, [], ◌∷◌, codes, slice_get, Option, option_map, option_and_then, unwrap_or}
+use Rattle.std.specs.Prelude.{ℕ, List, [], ◌∷◌, codes, Option, option_map, option_and_then}
 use Rattle.std.specs.Map.{lookup}
 use Rattle.std.specs.Str.{bytes_eq}
-use Rattle.wit_model.specs.declared.name.Name.{Name}
-use Rattle.wit_model.specs.declared.name.TypeId.{TypeId}
-use Rattle.wit_model.specs.declared.types.TypeDef.{TypeDef}
 use Rattle.wit_model.specs.declared.world.WorldKey.{WorldKey}
 use Rattle.wit_model.specs.declared.world.WorldKey.TheVariants as key
 use Rattle.wit_model.specs.declared.world.WorldItem.{WorldItem}
@@ -26,18 +23,11 @@ item_of d = do
   only_one ← sole_member d
   item_at only_one.0 only_one.1
 
-abbrev pub no_name : Name
-no_name = record { wit = []; snake = []; camel = []; upper = [] }
+-- what an item stands under: its own name, or the interface or type that it is
+abbrev pub own_key : WorldItem → WorldKey
+own_key (entry.Interface id) = key.Interface id
+own_key (entry.Function f) = key.Name f.name
+own_key (entry.Named id) = key.Type id
 
--- the name of a type, or an empty one where the type has none, or is not there
-unfoldable pub type_name : List TypeDef → TypeId → Name
-type_name types id = unwrap_or (option_and_then (λ t. t.name) (slice_get types id.0)) no_name
-
--- what an item stands under: its own name, or the interface that it is
-abbrev pub own_key : List TypeDef → WorldItem → WorldKey
-own_key types (entry.Interface id) = key.Interface id
-own_key types (entry.Function f) = key.Name f.name
-own_key types (entry.Named id) = key.Name (type_name types id)
-
-unfoldable pub entry_of : List TypeDef → Data → Option (WorldKey × WorldItem)
-entry_of types d = option_map (λ item. (own_key types item, item)) (item_of d)
+unfoldable pub entry_of : Data → Option (WorldKey × WorldItem)
+entry_of d = option_map (λ item. (own_key item, item)) (item_of d)

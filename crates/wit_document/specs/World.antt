@@ -1,8 +1,7 @@
 -- Which world and which package does a JSON value give?
-use Rattle.std.specs.Prelude.{List, [], ◌∷◌, codes, Option, Some, option_map}
+use Rattle.std.specs.Prelude.{[], ◌∷◌, codes, Option, Some, option_map}
 use Rattle.wit_model.specs.declared.name.PackageId.{PackageId}
 use Rattle.wit_model.specs.declared.name.WorldId.{WorldId}
-use Rattle.wit_model.specs.declared.types.TypeDef.{TypeDef}
 use Rattle.wit_model.specs.declared.world.Package.{Package}
 use Rattle.wit_model.specs.declared.world.World.{World}
 use Rattle.serde_json.specs.Data.{Data}
@@ -26,11 +25,11 @@ package_of d = do
   module_name ← required text_of (codes "module") d
   Some (record { namespace = namespace; name = name; version = version; «module» = module_name })
 
-unfoldable pub world_of : List TypeDef → Data → Option World
-world_of types d = do
+unfoldable pub world_of : Data → Option World
+world_of d = do
   _ ← only (codes "name" ∷ codes "package" ∷ codes "imports" ∷ codes "exports" ∷ []) d
   name ← required name_of (codes "name") d
   package_id ← required package_id_of (codes "package") d
-  imports ← required (all_of (entry_of types)) (codes "imports") d
-  exports ← required (all_of (entry_of types)) (codes "exports") d
+  imports ← required (all_of entry_of) (codes "imports") d
+  exports ← required (all_of entry_of) (codes "exports") d
   Some (record { name = name; «package» = package_id; imports = imports; exports = exports })

@@ -2,12 +2,12 @@ ghost use Rattle.wit_document.specs.Reads.{Reads};
 ghost use Rattle.wit_document.specs.Document.{resolve_of, document, document_in};
 
 use crate::fault::DocumentFault;
-use crate::members::{empty_list, given, only, required, required_among};
+use crate::members::{empty_list, given, only, required};
 use crate::options::DocumentOptions;
 use crate::reading::Readable;
 use serde_json::Value;
 use std::alloc::Global;
-use wit_model::{List, Resolve, TypeDef, WorldId};
+use wit_model::{Resolve, WorldId};
 
 /// The tables of a resolved world, the world that is meant, and the options.
 #[derive(Debug, PartialEq, Drop)]
@@ -57,12 +57,11 @@ impl Readable for Resolve {
 
     fn read(alloc: Global, value: &Value) -> Result<Resolve, DocumentFault> {
         only(value, &["worlds", "packages", "interfaces", "types"])?;
-        let types: List<TypeDef> = required(alloc, value, "types")?;
         Ok(Resolve {
-            worlds: required_among(alloc, types.as_slice(), value, "worlds")?,
+            worlds: required(alloc, value, "worlds")?,
             packages: required(alloc, value, "packages")?,
             interfaces: empty_list(alloc, value, "interfaces")?,
-            types,
+            types: required(alloc, value, "types")?,
         })
     }
 }

@@ -7,10 +7,10 @@ ghost use Rattle.wit_document.specs.Reads.{Reads};
 ghost use Rattle.wit_document.specs.Members.{only, required, optional, given, empty_of, sole_member};
 
 use crate::fault::DocumentFault;
-use crate::reading::{Readable, ReadableAmong};
+use crate::reading::Readable;
 use serde_json::{Map, Value};
 use std::alloc::Global;
-use wit_model::{List, TypeDef};
+use wit_model::List;
 
 /// That a value is an object, and each of its keys is among these.
 #[tactic(auto, unfolding(crate::specs::Members::only))]
@@ -52,22 +52,6 @@ pub(crate) fn required<T: Readable>(
 {
     match value.get(key) {
         Some(member) => T::read(alloc, member),
-        None => Err(DocumentFault::BadJson),
-    }
-}
-
-/// The member at a key, which must be there, beside the table of types.
-#[tactic(auto, unfolding(crate::specs::Members::required))]
-pub(crate) fn required_among<T: ReadableAmong>(
-    alloc: Global,
-    types: &[TypeDef],
-    value: &Value,
-    key: &str,
-) -> Result<T, DocumentFault>
-    ensures { Reads result (required (T.read_among_of types.now) key.now (view value.now)) }
-{
-    match value.get(key) {
-        Some(member) => T::read_among(alloc, types, member),
         None => Err(DocumentFault::BadJson),
     }
 }

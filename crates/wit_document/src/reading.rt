@@ -1,15 +1,14 @@
-ghost use Rattle.std.specs.Prelude.{List, Option};
+ghost use Rattle.std.specs.Prelude.{Option};
 ghost use Rattle.serde_json.specs.Find.{as_bool};
 ghost use Rattle.serde_json.specs.Data.{Data};
 ghost use Rattle.serde_json.specs.View.{view};
 ghost use Rattle.wit_document.specs.Reads.{Reads};
 ghost use Rattle.wit_document.specs.Members.{text_of, all_of, unless_null, pair_of};
-ghost use Rattle.wit_model.specs.declared.types.TypeDef.{TypeDef};
 
 use crate::fault::DocumentFault;
 use serde_json::Value;
 use std::alloc::Global;
-use wit_model::{List, Text, TypeDef};
+use wit_model::{List, Text};
 
 /// What a JSON value can be read as.
 pub(crate) trait Readable: Drop {
@@ -78,34 +77,6 @@ impl<T: Readable> Readable for List<T> {
         let mut items = List::new(alloc);
         for value in values {
             items.push(T::read(alloc, value)?)?;
-        }
-        Ok(items)
-    }
-}
-
-/// What a JSON value can be read as beside the table of types.
-pub(crate) trait ReadableAmong: Drop {
-    ghost read_among_of: { List TypeDef → Data → Option Self };
-
-    fn read_among(alloc: Global, types: &[TypeDef], value: &Value) -> Result<Self, DocumentFault>
-        ensures { Reads result (read_among_of types.now (view value.now)) };
-}
-
-#[tactic(auto, unfolding(crate::specs::Members::all_of))]
-impl<T: ReadableAmong> ReadableAmong for List<T> {
-    ghost read_among_of = { λ types. all_of (T.read_among_of types) };
-
-    fn read_among(
-        alloc: Global,
-        types: &[TypeDef],
-        value: &Value,
-    ) -> Result<List<T>, DocumentFault> {
-        let Some(values) = value.as_array() else {
-            return Err(DocumentFault::BadJson);
-        };
-        let mut items = List::new(alloc);
-        for value in values {
-            items.push(T::read_among(alloc, types, value)?)?;
         }
         Ok(items)
     }

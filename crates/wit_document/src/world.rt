@@ -1,11 +1,11 @@
 ghost use Rattle.wit_document.specs.World.{world_id_of, package_id_of, package_of, world_of};
 
 use crate::fault::DocumentFault;
-use crate::members::{only, optional, required, required_among};
-use crate::reading::{Readable, ReadableAmong};
+use crate::members::{only, optional, required};
+use crate::reading::Readable;
 use serde_json::Value;
 use std::alloc::Global;
-use wit_model::{Package, PackageId, TypeDef, World, WorldId};
+use wit_model::{Package, PackageId, World, WorldId};
 
 #[tactic(auto, unfolding(crate::specs::World::world_id_of))]
 impl Readable for WorldId {
@@ -41,16 +41,16 @@ impl Readable for Package {
 }
 
 #[tactic(auto, unfolding(crate::specs::World::world_of))]
-impl ReadableAmong for World {
-    ghost read_among_of = { world_of };
+impl Readable for World {
+    ghost read_of = { world_of };
 
-    fn read_among(alloc: Global, types: &[TypeDef], value: &Value) -> Result<World, DocumentFault> {
+    fn read(alloc: Global, value: &Value) -> Result<World, DocumentFault> {
         only(value, &["name", "package", "imports", "exports"])?;
         Ok(World {
             name: required(alloc, value, "name")?,
             package: required(alloc, value, "package")?,
-            imports: required_among(alloc, types, value, "imports")?,
-            exports: required_among(alloc, types, value, "exports")?,
+            imports: required(alloc, value, "imports")?,
+            exports: required(alloc, value, "exports")?,
         })
     }
 }

@@ -12,11 +12,13 @@ pub struct Package {
     pub module: Text,
 }
 
-/// What an import or an export of a world stands under.
+/// What an import or an export of a world stands under: the name of a function or of an inline interface, an interface
+/// itself, or a type, whose own name it is.
 #[derive(Debug, PartialEq, Drop)]
 pub enum WorldKey {
     Name(Name),
     Interface(InterfaceId),
+    Type(TypeId),
 }
 
 /// An import or an export of a world.

@@ -1,8 +1,0 @@
-use Rattle.std.proofs.Common.{◌≡◌, option_map, drop, ◌++◌}
-use Rattle.serde_json.specs.View.{items_view}
-use Rattle.wit_document.specs.Members.{items_of}
-use Rattle.wit_document.proofs.reading.ListReadableAmong.read_among.Given as goal
-
--- what was read and what is left make the whole
-abbrev pub invariant-loop-value : goal.invariant-loop-value
-invariant-loop-value g l = option_map (λ rest. l.items ++ rest) (items_of (g.T.ReadableAmong.read_among_of l.types) (items_view (drop l.value-index l.value-items))) ≡ items_of (g.T.ReadableAmong.read_among_of l.types) (items_view l.value-items)
