@@ -26,7 +26,7 @@ use Rattle.wrapper_run.specs.declared.state.Local.{Local}
 use Rattle.wrapper_run.specs.declared.state.State.{State}
 use Rattle.wrapper_run.specs.declared.state.Val.{Val}
 use Rattle.wrapper_run.specs.Act.{Act, Outcome, Done, Stopped, ◌>>=◌, ◌>>◌, all, and_then, pure}
-use Rattle.wrapper_run.specs.Blocks.{free_owned, leave_to}
+use Rattle.wrapper_run.specs.Blocks.{free_all, leave_to}
 use Rattle.wrapper_run.specs.Effect.{answer_of, bit, is_word_of, is_of_kind}
 use Rattle.wrapper_run.specs.Areas.{areas, due, needs_area, places}
 use Rattle.wrapper_run.specs.ExportFaithful.{CallsMethod, CarriesOut, MeetsCall, MissesStatic}
@@ -39,15 +39,16 @@ use Rattle.wrapper_run.specs.Represents.{GivesResult, GivesText, HasText, IsAddr
 use Rattle.wrapper_run.specs.Run.{bound, eval, give_and_leave, run_at, run_block, run_stmts, run_tail, runtime_item_named}
 use Rattle.wrapper_run.specs.Setting.{Setting, stuck}
 use Rattle.wrapper_run.specs.StandsFor.{StandsAnswered, rust_value}
+use Rattle.wrapper_run.specs.TextBlocks.{are_distinct, text_blocks}
 use Rattle.wrapper_run.specs.Value.{AreValues, IsResult, IsScalar, Scalar, WitValue, char, f32, f64, number, scalar, text, truth}
 use Rattle.wrapper_run.proofs.FreeSteps.{unit_words}
 use Rattle.wrapper_run.proofs.LocalLemmas.{ReadsAll, reads-new, reads_bound}
 use Rattle.wrapper_run.proofs.MethodLemmas.{ended-words, leaves_inner, method_gives, plain_words, quiet_taken, returned-as, returned-unit, returned-value, value_gives}
 use Rattle.wrapper_run.proofs.NumberLemmas.{answered-bool, answered-char, answered-f32-value, answered-f64-value, answered-number, word_of-bool}
-use Rattle.wrapper_run.proofs.OwningLemmas.{ArePlain, no_buffer, no_unit_buffer, owned-none, plain-append}
+use Rattle.wrapper_run.proofs.OwningLemmas.{ArePlain, no_text_block, owned-empty, owned-scalar, owned-unit, plain-append, text_block-empty}
 use Rattle.wrapper_run.proofs.QuietSteps.{quiet_as_ptr, quiet_bool, quiet_boxed, quiet_cast_mut, quiet_expr, quiet_forget, quiet_len, quiet_let, quiet_static, quiet_store}
 use Rattle.wrapper_run.proofs.StepLemmas.{Quiet, bool_gives, call_gives, gives_plain, local_gives, quiet_bind, quiet_drop, quiet_give, quiet_leave, quiet_local, quiet_pure, quiet_runtime, quiet_then, runtime_gives}
-use Rattle.wrapper_run.proofs.TakeLemmas.{answered-empty, answered-text, owned-none_of_empty}
+use Rattle.wrapper_run.proofs.TakeLemmas.{answered-empty, answered-text}
 use Rattle.rust_gen.specs.declared.scope.Scope.{Scope}
 use Rattle.rust_gen.specs.Body.{runtime_call, runtime_path}
 use Rattle.rust_gen.specs.ExportBody.{DeclaresValue, IsExportBody, IsExportWritten, LowersBack, LowersResult, export_scope, forget_path, text_given, text_stored, value_local, value_name}
@@ -66,7 +67,7 @@ use Rattle.rust_gen.proofs.RunLemmas.{all-used}
 use Rattle.rust_gen.proofs.WordLemmas.{lent}
 use Rattle.rust_gen.proofs.ScopeLemmas.{used-declared, used-first}
 use Rattle.rust_gen.proofs.TakenLemmas.{AreFree, addresses}
-use Rattle.wrapper_run.specs.Owning.{address_of, are_distinct, listed, owned_by, taken_by}
+use Rattle.wrapper_run.specs.Owning.{listed, taken_by}
 use Rattle.wit_model.specs.declared.wasm_type.WasmType.TheVariants as core
 use Rattle.std.specs.Prelude.{ℤ}
 use Rattle.wit_model.specs.declared.types.WitType.TheVariants as wit
@@ -124,7 +125,7 @@ back-bool b w name before stmts e s (t, after, d, is, tail) at =
       runs =
           ap (λ stmts. run_stmts w stmts s) is
           ∙ ap (λ o. and_then (and_then o (bind n)) (λ _. pure {A = Unit {0}} tt))
-          (bool_gives w (expr.Local name) (val.Value (value.Bool b)) x s (local_gives w name (val.Value (value.Bool b)) s at (owned-none (value.Bool b) (no_buffer wit.Bool (truth b)))) (word_of-bool b));
+          (bool_gives w (expr.Local name) (val.Value (value.Bool b)) x s (local_gives w name (val.Value (value.Bool b)) s at (owned-scalar wit.Bool (truth b))) (word_of-bool b));
       plain = λ p. plain-append s.locals (made ∷ []) p (refl, tt);
       word = x;
       gives = ap (λ e. eval w e ends) tail ∙ local_gives w n (val.Word x) ends (reads-new n (Some (val.Word x)) s.locals) refl;
@@ -145,7 +146,7 @@ back-converted ty v w name stmts e s no_bool good (is, tail) found at =
       word = l.word;
       gives =
           ap (λ e. eval w e s) tail
-          ∙ call_gives w (runtime_path i) (expr.Local name ∷ []) (given ∷ []) s (local_gives w name given s at (owned-none (rust_value ty v) (no_buffer ty v)), tt)
+          ∙ call_gives w (runtime_path i) (expr.Local name ∷ []) (given ∷ []) s (local_gives w name given s at (owned-scalar ty v), tt)
           ∙ runtime_gives w (runtime_path i) (item_name i) i given l.word s (calls_runtime i) found l.converts;
       lends = l.lends;
       is_word = l.is_word;
@@ -178,7 +179,7 @@ record FinishesOut (w : Setting) (outer : List Local) (r : Option WitType) (v : 
   pub area : List Cells
   pub placed : places area ≡ places (areas r s.choices)
   pub account : state.heap ≡ record left { blocks = left.blocks ++ area }
-  pub gives : GivesResult state.heap r v words (owned_by (listed value))
+  pub gives : GivesResult state.heap r v words (text_blocks (listed value))
   pub requests : state.requests ≡ s.requests ++ due r
 
 record MissesOut (w : Setting) (outer : List Local) (r : Option WitType) (t : ℕ) (rest : Block) (s : State) : Type 0 where
@@ -218,7 +219,7 @@ finishes_unit w outer more t before rest s (n, q) (heap, a) split plain_outer pl
       runs =
           ap (λ o. and_then o (finish w (length outer) None t rest)) (value_gives w type.Unit None unit heap s a returned-unit)
           ∙ ap (λ o. and_then o (λ _. keep_result w None unit >> run_to_words w None rest)) (leaves_inner w outer more left split plain_more)
-          ∙ ap (λ o. and_then (free_owned w o back) (λ _. run_to_words w None rest)) (owned-none value.Unit no_unit_buffer)
+          ∙ ap (λ o. and_then (free_all w o back) (λ _. run_to_words w None rest)) owned-unit
           ∙ ap (λ stmts. and_then (and_then (run_stmts w stmts back) (λ _. run_tail w rest.tail)) (λ v. give_and_leave w (core_answer None v))) n
           ∙ ap (λ tail. and_then (run_tail w tail back) (λ v. give_and_leave w (core_answer None v))) q
           ∙ gives_plain w (core_answer None unit) [] back unit_words plain_outer;
@@ -257,20 +258,20 @@ finishes_scalar w outer more ty x t before rest s (e, q, l) found good (heap, _,
           ∙ ap (λ o. and_then (and_then o (λ _. eval w e)) (λ v. give_and_leave w (core_answer (Some (core_type ty)) v))) g.runs
           ∙ ap (λ o. and_then o (λ v. give_and_leave w (core_answer (Some (core_type ty)) v))) g.gives
           ∙ gives_plain w (core_answer (Some (core_type ty)) (val.Word g.word)) (g.word ∷ []) ends (ap (λ b. option_map (λ w. w ∷ []) (cond b (Some g.word) None)) g.is_word)
-          (g.plain (plain-append outer (held ∷ []) plain_outer (owned-none r (no_buffer ty x), tt)));
+          (g.plain (plain-append outer (held ∷ []) plain_outer (owned-scalar ty x, tt)));
       value = Some r;
       left = heap;
       leaves = gave;
       area = [];
       placed = ap places (sym (no_areas ty s.choices nt));
       account = ap (λ bs. record heap { blocks = bs }) (sym (append-nil heap.blocks));
-      gives = (g.word, refl, g.lends, ap (λ o. listed o ++ []) (owned-none r (no_buffer ty x)));
+      gives = (g.word, refl, g.lends, ap (λ o. listed o ++ []) (no_text_block ty x));
       requests = sym (append-nil s.requests) ∙ ap (λ rs. s.requests ++ rs) (sym (none_due ty nt));
     }
 
 -- a text that the implementation gives
 
-owns_text : (p : ℕ) (bytes : List ℕ) → owned_by (value.Buffer p (length bytes) true ∷ []) ≡ block_of p bytes
+owns_text : (p : ℕ) (bytes : List ℕ) → text_blocks (value.Buffer p (length bytes) true ∷ []) ≡ block_of p bytes
 owns_text p bytes = ap (λ bs. bs ++ []) (owns_block p bytes) ∙ append-nil (block_of p bytes)
 
 -- what its value is to the machine: a text that owns its bytes, whatever the flag of an empty one says
@@ -279,7 +280,7 @@ record AnswersText (heap : Heap) (bytes : List ℕ) (r : RustValue) : Type 0 whe
   pub at : IsAddress address
   pub has : HasText heap address bytes
   pub answers : answer_of type.String (val.Value r) ≡ Some (Some (value.Buffer address (length bytes) true))
-  pub owns : owned_by (r ∷ []) ≡ block_of address bytes
+  pub owns : text_blocks (r ∷ []) ≡ block_of address bytes
   pub takes : taken_by (r ∷ []) ≡ taken_by (value.Buffer address (length bytes) true ∷ [])
 
 answers_text : (heap : Heap) (bytes : List ℕ) (r : RustValue) → StandsAnswered heap wit.String (text bytes) r → AnswersText heap bytes r
@@ -290,8 +291,8 @@ answers_text heap [] r (p, owns, at, is) =
       at = at;
       has = tt;
       answers = answered-empty p owns;
-      owns = ap (λ o. listed o ++ []) (owned-none_of_empty p owns);
-      takes = ap (λ o. address_of o ++ []) (owned-none_of_empty p owns) ∙ ap (λ o. address_of o ++ []) (sym (owned-none_of_empty p true));
+      owns = ap (λ o. listed o ++ []) (text_block-empty p owns);
+      takes = ap (λ o. o ++ []) (owned-empty p owns) ∙ ap (λ o. o ++ []) (sym (owned-empty p true));
     })
 answers_text heap (b ∷ bytes) r (p, at, is, has) =
     subst (AnswersText heap (b ∷ bytes)) (sym is)
@@ -555,7 +556,7 @@ module _ (f : Function) (e : ExportFn) (written : IsExportWritten f e) (w : Sett
             area = g.area;
             placed = g.placed;
             account = ap (λ r. r.heap) is ∙ g.account;
-            gives = subst (λ ws. GivesResult run.heap f.result v ws (owned_by (listed g.value))) (sym (ap (λ r. r.words) is)) (subst (λ h. GivesResult h f.result v g.words (owned_by (listed g.value))) (sym (ap (λ r. r.heap) is)) g.gives);
+            gives = subst (λ ws. GivesResult run.heap f.result v ws (text_blocks (listed g.value))) (sym (ap (λ r. r.words) is)) (subst (λ h. GivesResult h f.result v g.words (text_blocks (listed g.value))) (sym (ap (λ r. r.heap) is)) g.gives);
             alone = ap (λ r. r.value) is;
             requests = ap (λ r. r.requests) is ∙ g.requests;
           })

@@ -28,17 +28,18 @@ use Rattle.wrapper_run.specs.Act.{Act, Done, ◌>>=◌, all, and_then, pure}
 use Rattle.wrapper_run.specs.Effect.{is_of_kind, is_word_of}
 use Rattle.wrapper_run.specs.ExportRun.{are_words_of, passed_as, values_of}
 use Rattle.wrapper_run.specs.Locals.{bind, local_named, value_of}
-use Rattle.wrapper_run.specs.Owning.{are_distinct, is_taken, listed, owned, owned_by}
+use Rattle.wrapper_run.specs.Owning.{is_taken, listed}
 use Rattle.wrapper_run.specs.Represents.{TakesAll, TakesWords, block_of}
 use Rattle.wrapper_run.specs.Run.{eval, run_stmts}
 use Rattle.wrapper_run.specs.Setting.{Setting}
 use Rattle.wrapper_run.specs.StandsFor.{StandAllOwned, StandsOwned, rust_value}
+use Rattle.wrapper_run.specs.TextBlocks.{are_distinct, text_block, text_blocks}
 use Rattle.wrapper_run.specs.Value.{AreValues, IsScalar, IsValue, Scalar, WitValue, char, f32, f64, number, scalar, text, truth}
 use Rattle.wrapper_run.proofs.LocalLemmas.{ReadsAll, SameLength, reads-new, reads-split}
 use Rattle.wrapper_run.proofs.MethodLemmas.{passed}
-use Rattle.wrapper_run.proofs.OwningLemmas.{ArePlain, no_buffer, owned-none, plain-append}
+use Rattle.wrapper_run.proofs.OwningLemmas.{ArePlain, no_text_block, plain-append, text_block-empty, text_block-full}
 use Rattle.wrapper_run.proofs.StepLemmas.{local_gives}
-use Rattle.wrapper_run.proofs.TakeLemmas.{answered-text, owned-block, owned-empty, text_gives, text_local, used-plain, used_local}
+use Rattle.wrapper_run.proofs.TakeLemmas.{answered-text, text_gives, text_local, used-plain, used_local}
 use Rattle.rust_gen.specs.declared.scope.LocalKind.TheVariants as kind
 use Rattle.rust_gen.specs.declared.scope.Scope.{Scope}
 use Rattle.rust_gen.specs.Body.{LiftsScalar, LiftsTaken, lift_kinds}
@@ -175,7 +176,7 @@ record LiftedOne (w : Setting) (s : State) (n : ℕ) (ty : WitType) (v : WitValu
   pub value : RustValue
   pub passes : passed_as (printed_type ty) given ≡ Some value
   pub stands : StandsOwned s.heap ty v value
-  pub owns : listed (owned (val.Value value)) ≡ own
+  pub owns : listed (text_block value) ≡ own
 
 lift_scalar : (w : Setting) (s : State) (n : ℕ) (ty : WitType) (v : Scalar) (words : List Word) (own : List (ℕ × ℕ)) (before after : Scope) (stmts : List Stmt) (e : Expr)
     → LiftsParam ty n before stmts e after → IsScalar ty v → TakesWords s.heap ty (scalar v) words own → Found w.items (lifting_items (Some ty)) → UsedAll before.used (arg_names n (core_words ty))
@@ -200,16 +201,16 @@ lift_scalar w s n ty v words own before after stmts e lifts good (x, is, takes, 
       value = r;
       passes = passed (printed_type ty) l.given r l.answers;
       stands = refl;
-      owns = ap listed (owned-none r (no_buffer ty v)) ∙ sym none;
+      owns = ap listed (no_text_block ty v) ∙ sym none;
     }
   where
     by_name : (ty : WitType) → (ty ≡ wit.String → ⊥) → LiftsParam ty n before stmts e after → LiftsScalar ty (arg_name n) before stmts e after
     by_name wit.String nt l = absurd (nt refl)
     by_name _ nt l = l
 
-pub owns_block : (p : ℕ) (bytes : List ℕ) → listed (owned (val.Value (value.Buffer p (length bytes) true))) ≡ block_of p bytes
-owns_block p [] = ap listed (owned-empty p)
-owns_block p (x ∷ bytes) = ap listed (owned-block p (length bytes))
+pub owns_block : (p : ℕ) (bytes : List ℕ) → listed (text_block (value.Buffer p (length bytes) true)) ≡ block_of p bytes
+owns_block p [] = ap listed (text_block-empty p true)
+owns_block p (x ∷ bytes) = ap listed (text_block-full p (length bytes))
 
 -- its three locals: that of the length, that of the bytes, which were used, and the text
 abbrev text_locals : ℕ → ℕ → ℕ → Local → List Local
@@ -293,7 +294,7 @@ pub record LiftedAll (w : Setting) (s : State) (n : ℕ) (params : List Param) (
   pub values : List RustValue
   pub passes : values_of (map trait_param params) given ≡ Some values
   pub stands : StandAllOwned s.heap (types_of params) vs values
-  pub owns : owned_by values ≡ own
+  pub owns : text_blocks values ≡ own
 
 pub lift_all : (w : Setting) (s : State) (n : ℕ) (params : List Param) (vs : List WitValue) (words : List Word) (own : List (ℕ × ℕ)) (before after : Scope) (stmts : List Stmt) (arguments : List Expr)
     → LiftsAll n before params stmts arguments after → AreValues (types_of params) vs → TakesAll s.heap (types_of params) vs words own → Found w.items (flat_map (λ p. lifting_items (Some p.ty)) params)
@@ -364,7 +365,7 @@ lift_all w s n (p ∷ params) (v ∷ vs) words own before after stmts arguments 
           ap (option_and_then (λ r. option_map (λ rs. r ∷ rs) (values_of (map trait_param params) b.given))) a.passes
           ∙ ap (option_map (λ rs. a.value ∷ rs)) b.passes;
       stands = (a.value, b.values, refl, a.stands, b.stands);
-      owns = ap (λ bs. bs ++ owned_by b.values) a.owns ∙ ap (λ bs. own1 ++ bs) b.owns ∙ sym blocks;
+      owns = ap (λ bs. bs ++ text_blocks b.values) a.owns ∙ ap (λ bs. own1 ++ bs) b.owns ∙ sym blocks;
     }
   where
     used-split : (used : List Bytes) (ns ms : List Bytes) → UsedAll used (ns ++ ms) → UsedAll used ns × UsedAll used ms

@@ -32,7 +32,7 @@ use Rattle.wrapper_run.specs.StandsFor.{StandAll, Stands, rust_value}
 use Rattle.wrapper_run.specs.Value.{AreValues, IsScalar, IsValue, Scalar, WitValue, char, f32, f64, number, scalar, text, truth}
 use Rattle.wrapper_run.proofs.LocalLemmas.{ReadsAll, reads-new, reads-past}
 use Rattle.wrapper_run.proofs.NumberLemmas.{word_of-bool}
-use Rattle.wrapper_run.proofs.OwningLemmas.{Adds, adds-none, adds-one, adds-then, lent-same, no_buffer, owned-lent}
+use Rattle.wrapper_run.proofs.OwningLemmas.{Adds, adds-none, adds-one, adds-then, lent-scalar, owned-lent}
 use Rattle.wrapper_run.proofs.StepLemmas.{Give, as_ptr_gives, bool_gives, call_gives, cast_mut_gives, len_gives, local_gives, ref_gives, runtime_gives}
 use Rattle.rust_gen.specs.declared.scope.LocalKind.TheVariants as kind
 use Rattle.rust_gen.specs.declared.scope.Scope.{Scope}
@@ -110,7 +110,7 @@ lower-bool w s heap p b before after stmts words is_bool (t, d, is, wd) at withi
       runs =
           ap (λ stmts. run_stmts w stmts s) is
           ∙ ap (λ o. and_then (and_then o (bind n)) (λ _. pure {A = Unit {0}} tt))
-          (bool_gives w (expr.Ref (rust_ident p.name)) (val.Value (value.Bool b)) x s (ref_gives w (rust_ident p.name) (val.Value (value.Bool b)) s at (lent-same (value.Bool b) (no_buffer wit.Bool (truth b)))) (word_of-bool b));
+          (bool_gives w (expr.Ref (rust_ident p.name)) (val.Value (value.Bool b)) x s (ref_gives w (rust_ident p.name) (val.Value (value.Bool b)) s at (lent-scalar wit.Bool (truth b))) (word_of-bool b));
       keeps = keeps-bound before.used s.locals n (Some (val.Word x)) free;
       within = subst (λ us. Within us (s.locals ++ made ∷ [])) (sym (ap (λ s. s.used) d.leaves)) (within-bound before.used s.locals n (Some (val.Word x)) within);
       adds = adds-one s.locals made refl;
@@ -204,7 +204,7 @@ lower-converted w s heap p v before after stmts words no_bool no_text good (is, 
       gives = λ u k.
           let here : value_of (local_named name u.locals) ≡ Some given = ap value_of (k name (ap (λ s. is_used s.used name) same ∙ used)) ∙ at in
           subst (λ ws. Give w u ws (val.Word l.word ∷ [])) (sym wd) (
-            call_gives w (runtime_path i) (expr.Ref name ∷ []) (given ∷ []) u (ref_gives w name given u here (lent-same (rust_value p.ty v) (no_buffer p.ty v)), tt)
+            call_gives w (runtime_path i) (expr.Ref name ∷ []) (given ∷ []) u (ref_gives w name given u here (lent-scalar p.ty v), tt)
                 ∙ runtime_gives w (runtime_path i) (item_name i) i given l.word u (calls_runtime i) found l.converts,
             tt,
           );

@@ -38,10 +38,10 @@ use Rattle.rust_gen.specs.Faithful.{import_target}
 use Rattle.wrapper_run.specs.Honest.{HonestPeer}
 use Rattle.wrapper_run.specs.Locals.{bind, declare, import_named, local_named}
 use Rattle.wrapper_run.specs.Setting.{Setting}
-use Rattle.wrapper_run.specs.Blocks.{drop_value, free_owned}
+use Rattle.wrapper_run.specs.Blocks.{drop_value, free_all}
 use Rattle.wrapper_run.specs.Owning.{owned}
 use Rattle.rust_tree.specs.declared.item.FnParam.{FnParam}
-use Rattle.wrapper_run.proofs.OwningLemmas.{ArePlain, no_buffer, no_unit_buffer, owned-none, plain-append, owned-lent, adds-plain}
+use Rattle.wrapper_run.proofs.OwningLemmas.{ArePlain, adds-plain, owned-lent, owned-scalar, owned-unit, plain-append}
 use Rattle.wrapper_run.specs.Run.{answer_and_leave, call_point, called_with, ended, eval, point_of, run_at, run_fn, run_item, start, take_answer, unhidden, words_of, run_stmt, run_stmts, run_tail, bound}
 use Rattle.wrapper_run.specs.StandsFor.{StandAll, StandsResult, rust_value, Stands}
 use Rattle.wrapper_run.specs.Value.{WitValue, AreValues, IsResult, scalar, text}
@@ -90,8 +90,8 @@ same-length heap (p ∷ params) (v ∷ vs) args (r, rest, e, one, more) =
 
 -- arguments of these types own nothing
 
-pub plain_arg : (heap : Heap) (ty : WitType) (v : WitValue) (r : RustValue) → Stands heap ty v r → owned (val.Value r) ≡ None
-plain_arg heap ty (scalar v) r is = ap (λ r. owned (val.Value r)) is ∙ owned-none (rust_value ty v) (no_buffer ty v)
+pub plain_arg : (heap : Heap) (ty : WitType) (v : WitValue) (r : RustValue) → Stands heap ty v r → owned (val.Value r) ≡ []
+plain_arg heap ty (scalar v) r is = ap (λ r. owned (val.Value r)) is ∙ owned-scalar ty v
 plain_arg heap ty (text bytes) r (p, pos, is, lies) = ap (λ r. owned (val.Value r)) is ∙ owned-lent p (length bytes)
 
 pub plain_args : (heap : Heap) (types : List WitType) (vs : List WitValue) (names : List Bytes) (args : List RustValue) → StandAll heap types vs args → ArePlain (bound names (map val.Value args))
@@ -286,7 +286,7 @@ finishes w t None None base prior before lifting tail s c nt d (n, q) found good
   state = record s { locals = [] };
   runs =
       ap (λ o. and_then o (finish w t None lifting tail)) (no_answer_gives w s h)
-      ∙ ap (λ o. and_then (free_owned w o s) (λ _. after_result w lifting tail type.Unit)) (owned-none value.Unit no_unit_buffer)
+      ∙ ap (λ o. and_then (free_all w o s) (λ _. after_result w lifting tail type.Unit)) owned-unit
       ∙ ap (λ stmts. after_result w stmts tail type.Unit s) n ∙ ap (λ tail. after_result w [] tail type.Unit s) q
       ∙ answers_plain w type.Unit (val.Value value.Unit) None s answered-unit plain;
   stands = (refl, refl);

@@ -28,7 +28,8 @@ use Rattle.wrapper_run.specs.Run.{run_stmts, runtime_item_named}
 use Rattle.wrapper_run.specs.Setting.{Setting}
 use Rattle.wrapper_run.proofs.LocalLemmas.{reads-new}
 use Rattle.wrapper_run.proofs.StepLemmas.{local_gives}
-use Rattle.wrapper_run.proofs.TakeLemmas.{lifts_text, moves_last, owned-empty, raw_gives, takes_block, takes_empty, text_local, used_local}
+use Rattle.wrapper_run.proofs.OwningLemmas.{owned-empty}
+use Rattle.wrapper_run.proofs.TakeLemmas.{lifts_text, moves_last, raw_gives, takes_block, takes_empty, text_local, used_local}
 use Rattle.rust_gen.specs.Body.{runtime_call, runtime_path}
 use Rattle.rust_gen.proofs.PathLemmas.{calls_runtime}
 
@@ -70,7 +71,7 @@ takes_nothing w s p from size bytes named pos found at_from at_size =
     ap (λ o. and_then (and_then o (bind bytes)) (λ _. run_stmts w (stmt.Let named (runtime_call StringLift (expr.Local bytes)) ∷ [])))
     (raw_gives w (expr.Local from) size p 0 s (local_gives w from (val.Word (word.Pointer p)) s at_from refl) at_size ∙ takes_empty w p s pos)
     ∙ ap (λ o. and_then (and_then o (bind named)) (λ _. pure {A = Unit {0}} tt))
-    (lifts_text w (runtime_path StringLift) (item_name StringLift) bytes p 0 [] s1 s1 (calls_runtime StringLift) found (local_gives w bytes v s1 (reads-new bytes (Some v) s.locals) (owned-empty p)) refl (is_utf8-from_IsUtf8 [] IsUtf8-nil))
+    (lifts_text w (runtime_path StringLift) (item_name StringLift) bytes p 0 [] s1 s1 (calls_runtime StringLift) found (local_gives w bytes v s1 (reads-new bytes (Some v) s.locals) (owned-empty p true)) refl (is_utf8-from_IsUtf8 [] IsUtf8-nil))
     ∙ ap (λ ts. Done tt (record s { locals = l2; taken = ts })) (sym (append-nil s.taken))
 
 -- a text with a block

@@ -1,7 +1,7 @@
 -- The run of a wrapper whose result is a text: the area is placed, the arguments are lent, the import is called with the
 -- area's address, and the text that it wrote there is taken over.
 use Rattle.std.proofs.Common.{◌≡◌, ◌⊎◌, inl, inr, ℕ, ◌+◌, ◌<◌, ◌^◌, ◌%◌, Bool, true, false, cond, not, ◌&&◌, ◌||◌, List, [], ◌∷◌, ◌++◌, length, Option, None, Some, map, refl, sym, ap, subst, ◌∙◌, append_assoc, append-nil, arith}
-use Rattle.std.specs.Prelude.{is_some, nat_eq, nat_lt, option_and_then}
+use Rattle.std.specs.Prelude.{nat_eq, nat_lt, option_and_then}
 use Rattle.std.specs.List.{flat_map, list_all, list_any}
 use Rattle.std.specs.Option.{option_or}
 use Rattle.std.specs.Str.{bytes_eq, is_utf8}
@@ -41,7 +41,7 @@ use Rattle.wrapper_run.specs.declared.state.Val.{Val}
 use Rattle.wrapper_run.specs.declared.state.Val.TheVariants as val
 use Rattle.wrapper_run.specs.Act.{Act, Outcome, Done, Stopped, ◌>>=◌, ◌>>◌, and_then, or_stop, pure}
 use Rattle.wrapper_run.specs.Areas.{areas, due, needs_area, places as places_of, text_area, text_areas}
-use Rattle.wrapper_run.specs.Blocks.{drop_value, free_owned, is_owned, without_block, leave_to}
+use Rattle.wrapper_run.specs.Blocks.{drop_value, free_all, leave_to, owned_block, without_block}
 use Rattle.wrapper_run.specs.Places.{declare_area, is_fitting}
 use Rattle.wrapper_run.proofs.PlaceLemmas.{Misplaces, Places, pair_block, places_pair}
 use Rattle.std.proofs.lemmas.List.Sorted.{IsPermutation-refl}
@@ -49,15 +49,15 @@ use Rattle.wrapper_run.specs.Faithful.{CallsImport, CallsOnce, Carries, MissesAr
 use Rattle.rust_gen.specs.Faithful.{import_target}
 use Rattle.wrapper_run.specs.Honest.{AnswersText, HonestPeer, WritesIn, are_new}
 use Rattle.wrapper_run.specs.Locals.{bind, declare, last, local_named, value_of}
-use Rattle.wrapper_run.specs.Memory.{block_at, bytes_from, loaded, without}
-use Rattle.wrapper_run.specs.Owning.{address_of, is_taken, taken_by}
+use Rattle.wrapper_run.specs.Memory.{block_at, block_from, bytes_from, loaded, without}
+use Rattle.wrapper_run.specs.Owning.{is_taken, taken_by}
 use Rattle.wrapper_run.specs.Run.{answer_and_leave, ended, eval, run_at, run_fn, run_item, run_stmts, run_tail, runtime_item_named, start, take_answer, words_of, bound}
 use Rattle.wrapper_run.specs.Setting.{Setting, stuck}
 use Rattle.wrapper_run.specs.StandsFor.{IsTextBlock, StandAll, StandsResult}
 use Rattle.wrapper_run.specs.Value.{AreValues, IsResult, IsValue, WitValue, char, f32, f64, number, scalar, text, truth}
-use Rattle.wrapper_run.proofs.HeapLemmas.{SamePlace, added, area_found, area_removed, found_behind, lends-behind, size-positive, writes_in_area}
+use Rattle.wrapper_run.proofs.HeapLemmas.{SamePlace, added, area_begins, area_removed, found_behind, lends-behind, size-positive, writes_in_area}
 use Rattle.wrapper_run.proofs.LocalLemmas.{ReadsAll, last-append, reads-new, reads-past, unbound, reads_bound}
-use Rattle.wrapper_run.proofs.OwningLemmas.{Adds, ArePlain, adds-one, adds-then, no_unit_buffer, owned-none}
+use Rattle.wrapper_run.proofs.OwningLemmas.{Adds, ArePlain, adds-one, adds-then, owned-unit}
 use Rattle.wrapper_run.proofs.StepLemmas.{Give, Quiet, call_gives, ended-calls, import_gives, local_gives, quiet_answer, quiet_answers, quiet_drop, quiet_local, quiet_pure, quiet_runtime, quiet_then}
 use Rattle.wrapper_run.proofs.QuietSteps.{quiet_let}
 use Rattle.wrapper_run.proofs.TakeLemmas.{answered-text, area_gives, leaves_one, load_gives, used-plain, quiet_load, quiet_raw, text_gives, text_local, used_local, words_give}
@@ -202,7 +202,7 @@ taken_args heap [] [] args h = ap taken_by h
 taken_args heap [] (v ∷ vs) args h = absurd h
 taken_args heap (ty ∷ types) [] args h = absurd h
 taken_args heap (ty ∷ types) (v ∷ vs) args (r, rest, e, one, more) =
-    ap taken_by e ∙ ap (λ o. address_of o ++ taken_by rest) (plain_arg heap ty v r one) ∙ taken_args heap types vs rest more
+    ap taken_by e ∙ ap (λ o. o ++ taken_by rest) (plain_arg heap ty v r one) ∙ taken_args heap types vs rest more
 
 -- the area is placed, or the choice does not fit
 
@@ -617,11 +617,10 @@ module _ (f : Function) (i : FnItem) (written : IsWritten f i) (is_text : f.resu
           (adds-then l6 l7 te.locals (adds-one l6 (record { name = lb; value = Some size }) refl)
           (adds-then l7 l8 te.locals (adds-one l7 (record { name = ln; value = Some size }) refl) te.adds))))
 
-      area_live : block_at a 8 s5.heap.blocks ≡ Some after.area'
+      area_live : block_from a s5.heap.blocks ≡ Some after.area'
       area_live =
-          ap (block_at a 8) blocks_after ∙ ap (λ p. block_at p 8 (heap.blocks ++ after.area' ∷ h.blocks)) (sym area_at'.0)
-          ∙ ap (λ n. block_at after.area'.address n (heap.blocks ++ after.area' ∷ h.blocks)) (sym area_at'.1)
-          ∙ area_found heap.blocks h.blocks after.area' area_apart' (subst (λ n. 0 < n) (sym area_at'.1) (omega arith))
+          ap (block_from a) blocks_after ∙ ap (λ p. block_from p (heap.blocks ++ after.area' ∷ h.blocks)) (sym area_at'.0)
+          ∙ area_begins heap.blocks h.blocks after.area' area_apart' (subst (λ n. 0 < n) (sym area_at'.1) (omega arith))
 
       area_gone : without a 8 s5.heap.blocks ≡ heap.blocks ++ h.blocks
       area_gone =
@@ -629,12 +628,13 @@ module _ (f : Function) (i : FnItem) (written : IsWritten f i) (is_text : f.resu
           ∙ ap (λ n. without after.area'.address n (heap.blocks ++ after.area' ∷ h.blocks)) (sym area_at'.1)
           ∙ area_removed heap.blocks h.blocks after.area' area_apart' (subst (λ n. 0 < n) (sym area_at'.1) (omega arith))
 
-      owned_at_end : is_owned (a, 8) (record s9 { locals = [] }) ≡ true
-      owned_at_end =
-          and_from (is_taken a te.taken) (is_some (block_at a 8 s5.heap.blocks)) (te.keeps a (ap (is_taken a) taken_is ∙ taken-last [] a)) (ap is_some area_live)
+      owned_at_end : owned_block a (record s9 { locals = [] }) ≡ Some after.area'
+      owned_at_end = ap (λ t. cond t (block_from a s5.heap.blocks) None) (te.keeps a (ap (is_taken a) taken_is ∙ taken-last [] a)) ∙ area_live
 
       leaves : leave_to w 0 s9 ≡ Done tt s10
-      leaves = leaves_one w begin.locals (area_local b.area a) adds_all.0 (a, 8) s9 adds_all.1 plain_begin refl adds_all.2 owned_at_end
+      leaves =
+          leaves_one w begin.locals (area_local b.area a) adds_all.0 a after.area' s9 adds_all.1 plain_begin refl adds_all.2 owned_at_end
+          ∙ ap (λ n. Done tt (without_block (a, n) (record s9 { locals = [] }))) area_at'.1
 
       abbrev behind : Val → Act (Option RustValue)
       behind v = answer_and_leave w type.String v
@@ -643,7 +643,7 @@ module _ (f : Function) (i : FnItem) (written : IsWritten f i) (is_text : f.resu
       unfolding bind
       runs_end =
           ap (λ o. and_then o (finish w lifting tx)) (words_give w h.writes h.blocks s4 h.answers)
-          ∙ ap (λ o. and_then (free_owned w o s5) (λ _. run_stmts w lifting >> (eval w (expr.Local tx) >>= behind))) (owned-none value.Unit no_unit_buffer)
+          ∙ ap (λ o. and_then (free_all w o s5) (λ _. run_stmts w lifting >> (eval w (expr.Local tx) >>= behind))) owned-unit
           ∙ ap (λ o. and_then (and_then (and_then o (bind la)) (λ _. run_stmts w (stmt.Let lb (word_at q 1 core.Length) ∷ stmt.Let ln (expr.Local lb) ∷ take_stmts la ln by tx))) (λ _. eval w (expr.Local tx) >>= behind)) loads_address
           ∙ ap (λ o. and_then (and_then (and_then o (bind lb)) (λ _. run_stmts w (stmt.Let ln (expr.Local lb) ∷ take_stmts la ln by tx))) (λ _. eval w (expr.Local tx) >>= behind)) loads_size
           ∙ ap (λ o. and_then (and_then (and_then o (bind ln)) (λ _. run_stmts w (take_stmts la ln by tx))) (λ _. eval w (expr.Local tx) >>= behind)) (local_gives w lb size s7 (reads-new lb (Some size) l6) refl)

@@ -21,7 +21,7 @@ use Rattle.wrapper_run.specs.Effect.{answer_of, cast_integer, converted, integer
 use Rattle.wrapper_run.specs.Locals.{local_named, value_of, bind}
 use Rattle.wrapper_run.specs.Represents.{Lends, Takes, TakesNumber}
 use Rattle.wrapper_run.specs.Setting.{Setting}
-use Rattle.wrapper_run.proofs.OwningLemmas.{ArePlain, no_buffer, owned-none}
+use Rattle.wrapper_run.proofs.OwningLemmas.{ArePlain, owned-scalar}
 use Rattle.wrapper_run.specs.Run.{eval, run_stmts, runtime_item_named}
 use Rattle.wrapper_run.specs.Value.{IsScalar, Scalar, char, f32, f64, number, truth}
 use Rattle.wrapper_run.proofs.NumberLemmas.{answered-i32, answered-i64, answered-number, converted-narrow, converted-wide, low_i32-u8, low_i32-u16, low_i32-s8, low_i32-s16, low_i32-s32, low_i64-s64, answered-bool, answered-char, answered-f32, answered-f64, converted-char, converted-f32, converted-f64, lifted-bool, lifted-char, not-converted}
@@ -134,7 +134,7 @@ by_item ty v w k i to name x z before after stmts e s (t, d, is, tail) (used, at
     let m = numbered k t in
     let given : Val = val.Value (rust_value ty v) in
     let made : Local = record { name = m; value = Some given } in
-    let plain : owned given ≡ None = owned-none (rust_value ty v) (no_buffer ty v) in
+    let plain : owned given ≡ [] = owned-scalar ty v in
     let call : eval w (runtime_call i (expr.Cast (expr.Local name) to)) s ≡ Done given s =
     call_gives w (runtime_path i) (expr.Cast (expr.Local name) to ∷ []) (val.Value (cast_integer to z) ∷ []) s (cast_gives w name to x z s at n, tt)
     ∙ lift_gives w (runtime_path i) (item_name i) i (val.Value (cast_integer to z)) (rust_value ty v) s (calls_runtime i) f c l in

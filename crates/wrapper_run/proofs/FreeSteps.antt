@@ -18,7 +18,7 @@ use Rattle.wrapper_run.specs.declared.state.State.{State}
 use Rattle.wrapper_run.specs.declared.state.Val.{Val}
 use Rattle.wrapper_run.specs.declared.state.Val.TheVariants as val
 use Rattle.wrapper_run.specs.Act.{Done, and_then, pure, stop}
-use Rattle.wrapper_run.specs.Blocks.{dealloc, drop_value, free_bytes, free_owned, free_untaken, removed}
+use Rattle.wrapper_run.specs.Blocks.{dealloc, drop_value, free_all, free_bytes, free_untaken, removed}
 use Rattle.wrapper_run.specs.Effect.{is_unit_level}
 use Rattle.wrapper_run.specs.ExportRun.{core_answer}
 use Rattle.wit_model.specs.Bytes.{Bytes}
@@ -28,7 +28,7 @@ use Rattle.wrapper_run.specs.Represents.{HasText, block_of}
 use Rattle.wrapper_run.specs.Returned.{without_all}
 use Rattle.wrapper_run.specs.Run.{apply, call_callee, call_runtime, callee, eval, of_runtime, run_stmt, runtime_item_named}
 use Rattle.wrapper_run.specs.Setting.{Setting, failed}
-use Rattle.wrapper_run.proofs.OwningLemmas.{no_unit_buffer, owned-none}
+use Rattle.wrapper_run.proofs.OwningLemmas.{owned-unit}
 use Rattle.wrapper_run.proofs.StepLemmas.{Give, call_gives}
 
 -- an alignment is a number of bytes
@@ -75,7 +75,7 @@ dealloc_gives w path function es p n align s t c f g d =
 -- `()` owns nothing, and is no word
 
 pub unit_dropped : (w : Setting) (e : Expr) (s t : State) → eval w e s ≡ Done (val.Value value.Unit) t → run_stmt w (stmt.Expr e) s ≡ Done tt t
-unit_dropped w e s t h = ap (λ o. and_then o (drop_value w)) h ∙ ap (λ o. free_owned w o t) (owned-none value.Unit no_unit_buffer)
+unit_dropped w e s t h = ap (λ o. and_then o (drop_value w)) h ∙ ap (λ o. free_all w o t) owned-unit
 
 pub unit_words : core_answer None (val.Value value.Unit) ≡ Some []
 unit_words =

@@ -1,9 +1,9 @@
 -- Steps by which a text is given away: it is used, boxed and forgotten, and words are stored in the static area.
 use Rattle.std.specs.Int.{to_le_bytes, w32}
 use Rattle.std.proofs.Common.{◌≡◌, ℕ, zero, suc, ◌+◌, ◌%◌, ◌^◌, ◌≤◌, true, false, cond, ◌&&◌, not, List, [], ◌∷◌, ◌++◌, length, Option, None, Some, refl, ap, ◌∙◌, rules, arith}
-use Rattle.std.specs.Prelude.{filter, is_some, nat_eq, option_and_then}
+use Rattle.std.specs.Prelude.{filter, nat_eq}
 use Rattle.std.specs.Str.{bytes_eq}
-use Rattle.std.proofs.lemmas.Bool.{and_from, and_parts, not-true, or_left}
+use Rattle.std.proofs.lemmas.Bool.{and_parts, not-true, or_left}
 use Rattle.std.proofs.lemmas.Bool.Decides.{nat_tests}
 use Rattle.wit_model.specs.declared.size.ArchitectureSize.{ArchitectureSize}
 use Rattle.wit_model.specs.declared.wasm_type.WasmType.{WasmType}
@@ -22,7 +22,7 @@ use Rattle.wrapper_data.specs.declared.choice.Choice.{Choice}
 use Rattle.wrapper_data.specs.declared.run.Stop.TheVariants as stop_of
 use Rattle.wrapper_run.specs.Areas.{text_area}
 use Rattle.wrapper_run.specs.Represents.{HasText}
-use Rattle.wrapper_run.proofs.HeapLemmas.{found_still}
+use Rattle.wrapper_run.proofs.HeapLemmas.{begins, found_still}
 use Rattle.wrapper_run.proofs.PlaceLemmas.{Places, asked, with_pair}
 use Rattle.wrapper_data.specs.declared.value.RustValue.TheVariants as value
 use Rattle.wrapper_data.specs.declared.word.Word.{Word}
@@ -32,20 +32,20 @@ use Rattle.wrapper_run.specs.declared.state.State.{State}
 use Rattle.wrapper_run.specs.declared.state.Val.{Val}
 use Rattle.wrapper_run.specs.declared.state.Val.TheVariants as val
 use Rattle.wrapper_run.specs.Act.{Act, Outcome, Done, Stopped, ◌>>=◌, and_then, or_stop, pure}
-use Rattle.wrapper_run.specs.Blocks.{box_buffer, boxed, drop_value, forget, free_owned, keep_blocks, release, release_owned, store_word, without_owner, write_word}
+use Rattle.wrapper_run.specs.Blocks.{box_buffer, boxed, drop_value, forget, free_all, keep_blocks, release, release_all, release_found, store_word, write_word}
 use Rattle.wrapper_run.specs.Effect.{word_of}
 use Rattle.wrapper_run.specs.Locals.{bind, local_named, use_local, value_of}
 use Rattle.wit_model.specs.Bytes.{Bytes}
-use Rattle.wrapper_run.specs.Memory.{block_at, bytes_from, stored}
-use Rattle.wrapper_run.specs.Owning.{address_of, is_taken, owned_in, taken_by}
+use Rattle.wrapper_run.specs.Memory.{block_from, bytes_from, stored}
+use Rattle.wrapper_run.specs.Owning.{is_taken, owned_in, taken_by}
 use Rattle.wrapper_run.specs.Places.{area_in, is_fitting, place_area, place_static, request_of, static_place, static_pointer}
 use Rattle.wrapper_run.specs.Run.{call, call_callee, callee, core_forget, eval, run_stmt, run_stmts}
 use Rattle.wrapper_run.specs.Setting.{Setting, stuck}
 use Rattle.wrapper_run.proofs.LocalLemmas.{reads-new, reads-past}
-use Rattle.wrapper_run.proofs.OwningLemmas.{ArePlain, buffer-text, no_unit_buffer, owned-none, plain-append}
+use Rattle.wrapper_run.proofs.OwningLemmas.{ArePlain, buffer-text, owned-block, owned-empty, owned-unit, plain-append}
 use Rattle.wrapper_run.proofs.StepLemmas.{as_ptr_gives, cast_mut_gives, len_gives, local_gives, eval-call, eval-local}
 use Rattle.wrapper_run.proofs.StoreLemmas.{cells_with, pair_cells, pair_with, stores_length, stores_pointer}
-use Rattle.wrapper_run.proofs.TakeLemmas.{after_use, owned-block, owned-empty, text_local, use_last, use_other, used-plain, used_local, uses_text}
+use Rattle.wrapper_run.proofs.TakeLemmas.{after_use, text_local, use_last, use_other, used-plain, used_local, uses_text}
 
 -- the pointer of the static area
 
@@ -89,14 +89,14 @@ still_taken p (suc n) taken = filter (λ t. not (nat_eq t p)) taken
 -- the block of a text is there, and has an owner; an empty one has none
 abbrev pub OwnsBlock : ℕ → ℕ → List ℕ → List Block → Type 0
 OwnsBlock p zero taken blocks = Unit {0}
-OwnsBlock p (suc n) taken blocks = (is_taken p taken && is_some (block_at p (suc n) blocks)) ≡ true
+OwnsBlock p (suc n) taken blocks = (b : Block) × (cond (is_taken p taken) (block_from p blocks) None ≡ Some b)
 
 forgets_owned : (w : Setting) (p n : ℕ) (s : State) → OwnsBlock p n s.taken s.heap.blocks → forget w (val.Value (value.Buffer p n true)) s ≡ Done (val.Value value.Unit) (record s { taken = still_taken p n s.taken })
 unfolding release
-forgets_owned w p zero s h = ap (λ o. and_then (release_owned w o s) (λ _. pure (val.Value value.Unit))) (owned-empty p)
-forgets_owned w p (suc n) s h =
-    ap (λ o. and_then (release_owned w o s) (λ _. pure (val.Value value.Unit))) (owned-block p n)
-    ∙ ap (λ b. and_then (cond b (Done tt (without_owner p s)) (Stopped (stuck w) s)) (λ _. pure (val.Value value.Unit))) h
+forgets_owned w p zero s h = ap (λ o. and_then (release_all w o s) (λ _. pure (val.Value value.Unit))) (owned-empty p true)
+forgets_owned w p (suc n) s (b, h) =
+    ap (λ o. and_then (release_all w o s) (λ _. pure (val.Value value.Unit))) (owned-block p n)
+    ∙ ap (λ o. and_then (and_then (release_found w p o s) (λ _. pure tt)) (λ _. pure (val.Value value.Unit))) h
 
 pub forgets : (w : Setting) (path : Path) (name : Bytes) (p n : ℕ) (s : State) → callee path ≡ core_forget → value_of (local_named name s.locals) ≡ Some (val.Value (value.Buffer p n true)) → OwnsBlock p n s.taken s.heap.blocks
     → run_stmt w (stmt.Expr (expr.Call path (expr.Local name ∷ []))) s ≡ Done tt (record s { locals = after_use n name s.locals; taken = still_taken p n s.taken })
@@ -108,7 +108,7 @@ forgets w path name p n s c h k =
     ∙ ap (λ o. and_then (and_then (and_then o (λ x. pure [] >>= (λ xs. pure (x ∷ xs)))) (λ vs. call w path vs)) (drop_value w)) (ap (λ act. act s) (eval-local w name) ∙ uses_text w name p n s h)
     ∙ ap (λ k. and_then (call_callee w k (v ∷ []) left) (drop_value w)) c
     ∙ ap (λ o. and_then o (drop_value w)) (forgets_owned w p n left k)
-    ∙ ap (λ o. free_owned w o gone) (owned-none value.Unit no_unit_buffer)
+    ∙ ap (λ o. free_all w o gone) owned-unit
 
 -- a word is stored
 
@@ -176,7 +176,7 @@ box_runs w path name v t l p n front a more s c is other tv lv own =
     ∙ stmt_runs w forget_v more s3 s4
     (forgets w path v p n s3 c (reads-past l2 ll v (Some x) lv at_v) own ∙ ap gone left)
 
-pub boxed-plain : (name v t l : Bytes) (p n : ℕ) (front : List Local) (a : Local) → ArePlain front → owned_in a.value ≡ None → ArePlain (boxed_locals name v t l p n front a)
+pub boxed-plain : (name v t l : Bytes) (p n : ℕ) (front : List Local) (a : Local) → ArePlain front → owned_in a.value ≡ [] → ArePlain (boxed_locals name v t l p n front a)
 boxed-plain name v t l p n front a h k =
     let l0 : List Local = (front ++ used_local name p n ∷ []) ++ a ∷ [] in
     let first = plain-append (front ++ used_local name p n ∷ []) (a ∷ []) (plain-append front (used_local name p n ∷ []) h (used-plain p n, tt)) (k, tt) in
@@ -215,12 +215,8 @@ store_runs w a t l address p n hs s at_a at_t at_l is aligned low apart =
 
 -- the block of a text is found, and has an owner, also once the area is placed
 
-some-read : (o : Option Block) (read : Block → Option (List ℕ)) (bytes : List ℕ) → option_and_then read o ≡ Some bytes → is_some o ≡ true
-some-read None read bytes e = absurd (cc)
-some-read (Some b) read bytes e = refl
-
 taken-text : (p n : ℕ) → taken_by (value.Buffer p (suc n) true ∷ []) ≡ p ∷ []
-taken-text p n = ap (λ o. address_of o ++ []) (owned-block p n)
+taken-text p n = ap (λ o. o ++ []) (owned-block p n)
 
 taken-itself : (p : ℕ) (more : List ℕ) → is_taken p (p ∷ more) ≡ true
 taken-itself p more = let same : nat_eq p p ≡ true = grind (arith, nat_tests) in or_left (nat_eq p p) _ same
@@ -232,8 +228,8 @@ owns_text p (b ∷ bytes) heap taken more behind h t =
     let n = length bytes in
     let read : Block → Option (List ℕ) = λ t. bytes_from t.cells 0 (suc n) in
     let owner : is_taken p (taken ++ more) ≡ true = ap (λ ts. is_taken p (ts ++ more)) (t ∙ taken-text p n) ∙ taken-itself p more in
-    and_from (is_taken p (taken ++ more)) (is_some (block_at p (suc n) (heap.blocks ++ behind))) owner
-    (some-read (block_at p (suc n) (heap.blocks ++ behind)) read (b ∷ bytes) (found_still heap.blocks behind p (suc n) (b ∷ bytes) read h))
+    let there = begins (heap.blocks ++ behind) p n (b ∷ bytes) read (found_still heap.blocks behind p (suc n) (b ∷ bytes) read h) in
+    (there.0, ap (λ k. cond k (block_from p (heap.blocks ++ behind)) None) owner ∙ there.1)
 
 pub has_text_still : (p : ℕ) (bytes : List ℕ) (heap : Heap) (behind : List Block) → HasText heap p bytes → HasText (record heap { blocks = heap.blocks ++ behind }) p bytes
 has_text_still p [] heap behind h = tt

@@ -1,5 +1,5 @@
 -- Where the blocks of a heap stand after new blocks, writes and removals.
-use Rattle.std.proofs.Common.{◌≡◌, ◌≤◌, ◌<◌, ℕ, ◌+◌, ◌-◌, ◌||◌, ◌&&◌, Bool, true, false, not, cond, List, [], ◌∷◌, ◌++◌, Option, None, Some, length, refl, sym, ap, ◌∙◌, arith}
+use Rattle.std.proofs.Common.{◌≡◌, ◌≤◌, ◌<◌, ℕ, suc, ◌+◌, ◌-◌, ◌||◌, ◌&&◌, Bool, true, false, not, cond, List, [], ◌∷◌, ◌++◌, Option, None, Some, length, refl, sym, ap, ◌∙◌, arith}
 use Rattle.std.specs.Prelude.{nat_lt, find, option_and_then}
 use Rattle.std.specs.List.{list_any}
 use Rattle.std.specs.Option.{option_or}
@@ -9,7 +9,7 @@ use Rattle.std.proofs.lemmas.List.Folds.{find-append, list_any-append}
 use Rattle.wrapper_data.specs.declared.block.Block.{Block}
 use Rattle.wrapper_data.specs.Heap.{covers, is_block, overlaps, overlaps_any}
 use Rattle.wrapper_data.specs.Answered.{with_block, with_blocks, with_writes, written_block, written_byte}
-use Rattle.wrapper_run.specs.Memory.{block_at, bytes_at, bytes_from, holds, is_at, without}
+use Rattle.wrapper_run.specs.Memory.{begins_at, block_at, block_from, bytes_at, bytes_from, holds, is_at, without}
 use Rattle.wit_model.specs.declared.types.WitType.{WitType}
 use Rattle.wrapper_data.specs.declared.heap.Heap.{Heap}
 use Rattle.wrapper_data.specs.declared.word.Word.{Word}
@@ -93,6 +93,39 @@ area_removed (h ∷ hs) ts area o p =
     let parts = or_parts (overlaps area h) (overlaps_any area hs) o in
     ap (λ b. cond b (hs ++ area ∷ ts) (h ∷ without area.address area.size (hs ++ area ∷ ts))) (not_at area h parts.0 p)
     ∙ ap (λ bs. h ∷ bs) (area_removed hs ts area parts.1 p)
+
+-- a block of at least one byte begins at its address, and none that it does not overlap begins there
+
+begins_itself : (b : Block) → 0 < b.size → begins_at b.address b ≡ true
+begins_itself b p = grind (arith, nat_tests)
+
+begins_not : (t b : Block) → overlaps t b ≡ false → 0 < t.size → begins_at t.address b ≡ false
+begins_not t b o p = grind (arith, nat_tests)
+
+begins_nowhere : (hs : List Block) (t : Block) → overlaps_any t hs ≡ false → 0 < t.size → list_any (begins_at t.address) hs ≡ false
+begins_nowhere [] t o p = refl
+begins_nowhere (h ∷ hs) t o p =
+    let parts = or_parts (overlaps t h) (overlaps_any t hs) o in
+    ap (λ b. b || list_any (begins_at t.address) hs) (begins_not t h parts.0 p) ∙ begins_nowhere hs t parts.1 p
+
+pub area_begins : (hs ts : List Block) (area : Block) → overlaps_any area hs ≡ false → 0 < area.size → block_from area.address (hs ++ area ∷ ts) ≡ Some area
+area_begins hs ts area o p =
+    found_past (begins_at area.address) hs (area ∷ ts) (begins_nowhere hs area o p)
+    ∙ ap (λ b. cond b (Some area) (block_from area.address ts)) (begins_itself area p)
+
+-- where a block of an address and a size is found, one begins at the address
+
+begins_there : (b : Block) (p n : ℕ) → is_at p (suc n) b ≡ true → begins_at p b ≡ true
+begins_there b p n e = grind (arith, nat_tests)
+
+pub begins : (blocks : List Block) (p n : ℕ) (bytes : List ℕ) (read : Block → Option (List ℕ)) → option_and_then read (block_at p (suc n) blocks) ≡ Some bytes → (b : Block) × (block_from p blocks ≡ Some b)
+begins [] p n bytes read e = absurd (cc)
+begins (b ∷ blocks) p n bytes read e = go (begins_at p b) (is_at p (suc n) b) refl refl (begins blocks p n bytes read)
+  where
+    go : (k t : Bool) → begins_at p b ≡ k → is_at p (suc n) b ≡ t → (option_and_then read (block_at p (suc n) blocks) ≡ Some bytes → (c : Block) × (block_from p blocks ≡ Some c)) → (c : Block) × (cond k (Some b) (block_from p blocks) ≡ Some c)
+    go true t h i behind = (b, refl)
+    go false true h i behind = let l = begins_there b p n i in absurd (cc)
+    go false false h i behind = behind (ap (λ t. option_and_then read (cond t (Some b) (block_at p (suc n) blocks))) (sym i) ∙ e)
 
 -- the last block is found, also behind an area that was written
 

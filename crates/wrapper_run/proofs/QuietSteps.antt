@@ -26,7 +26,7 @@ use Rattle.wrapper_run.specs.declared.state.State.{State}
 use Rattle.wrapper_run.specs.declared.state.Val.{Val}
 use Rattle.wrapper_run.specs.declared.state.Val.TheVariants as val
 use Rattle.wrapper_run.specs.Act.{Done, Stopped, ◌>>=◌, all, or_stop, pure}
-use Rattle.wrapper_run.specs.Blocks.{box_buffer, boxed, drop_value, is_owned, keep_blocks, release, release_owned, store_word, without_owner, write_word}
+use Rattle.wrapper_run.specs.Blocks.{box_buffer, boxed, drop_value, keep_blocks, owned_block, release, release_all, release_found, store_word, write_word}
 use Rattle.wrapper_run.specs.Effect.{word_of, word_of_bool}
 use Rattle.wrapper_run.specs.Locals.{ask_local, bind, local_named, use_local, value_of}
 use Rattle.wrapper_run.specs.Memory.{stored}
@@ -135,18 +135,21 @@ pub quiet_boxed : (w : Setting) (name : Bytes) → Quiet (eval w (expr.IntoBoxed
 unfolding boxed
 quiet_boxed w name = subst Quiet (sym (eval-boxed w name)) (quiet_then (use_local (stuck w) name) (boxed w) (quiet_use (stuck w) name) (λ v. quiet_box w v (buffer_of v)))
 
-quiet_release : (w : Setting) (o : Option (ℕ × ℕ)) → Quiet (release_owned w o)
+quiet_released : (w : Setting) (address : ℕ) (o : Option Block) → Quiet (release_found w address o)
+quiet_released w address None = record { quiet = λ s. refl }
+quiet_released w address (Some b) = record { quiet = λ s. refl }
+
+quiet_release : (w : Setting) (address : ℕ) → Quiet (release w address)
 unfolding release
-quiet_release w None = quiet_pure tt
-quiet_release w (Some b) = record { quiet = λ s. go s (is_owned b s) }
-  where
-    go : (s : State) (t : Bool) → calls_at {A = Unit {0}} (cond t (Done tt (without_owner b.0 s)) (Stopped (stuck w) s)) ≡ s.calls
-    go s true = refl
-    go s false = refl
+quiet_release w address = record { quiet = λ s. (quiet_released w address (owned_block address s)).quiet s }
+
+quiet_release_all : (w : Setting) (addresses : List ℕ) → Quiet (release_all w addresses)
+quiet_release_all w [] = quiet_pure tt
+quiet_release_all w (a ∷ addresses) = quiet_then (release w a) (λ _. release_all w addresses) (quiet_release w a) (λ _. quiet_release_all w addresses)
 
 quiet_forgotten : (w : Setting) (vs : List Val) → Quiet (forget_one w vs)
 quiet_forgotten w [] = record { quiet = λ s. refl }
-quiet_forgotten w (v ∷ []) = quiet_then (release_owned w (owned v)) (λ _. pure (val.Value value.Unit)) (quiet_release w (owned v)) (λ _. quiet_pure (val.Value value.Unit))
+quiet_forgotten w (v ∷ []) = quiet_then (release_all w (owned v)) (λ _. pure (val.Value value.Unit)) (quiet_release_all w (owned v)) (λ _. quiet_pure (val.Value value.Unit))
 quiet_forgotten w (v ∷ u ∷ vs) = record { quiet = λ s. refl }
 
 pub quiet_forget : (w : Setting) (path : Path) (e : Expr) → callee path ≡ core_forget → Quiet (eval w e) → Quiet (eval w (expr.Call path (e ∷ [])))

@@ -16,7 +16,6 @@ use Rattle.std.proofs.Common.{Bool, false}
 use Rattle.wrapper_data.specs.declared.run.TrapKind.TheVariants as trap
 use Rattle.wrapper_run.specs.declared.state.Local.{Local}
 use Rattle.wrapper_run.specs.Act.{stop}
-use Rattle.wrapper_run.specs.Blocks.{without_block}
 use Rattle.wrapper_run.specs.Owning.{buffer_of}
 use Rattle.wrapper_run.proofs.NumberLemmas.{no_dealloc, no_text}
 use Rattle.wrapper_run.proofs.OwningLemmas.{ArePlain, buffer-text, drops_plain}
@@ -49,18 +48,18 @@ use Rattle.wrapper_run.specs.Locals.{bind, lend_local, local_named, usable, use_
 use Rattle.wit_model.specs.Bytes.{Bytes}
 use Rattle.wrapper_run.specs.Owning.{lent, owned, owned_in}
 use Rattle.wrapper_run.specs.Setting.{Setting, failed, stuck}
-use Rattle.wrapper_run.specs.Blocks.{dealloc, dealloc_words, drop_local, drop_locals, free, free_bytes, free_owned, free_untaken, is_owned, keep_locals, leave_to, lift_buffer, lift_text, owned_bytes, tested, untaken}
+use Rattle.wrapper_run.specs.Blocks.{dealloc, dealloc_words, drop_local, drop_locals, free, free_all, free_bytes, free_found, free_untaken, keep_locals, leave_to, lift_buffer, lift_text, owned_block, owned_bytes, tested, untaken}
 use Rattle.wrapper_run.specs.Run.{alone, of_runtime, call, call_callee, call_point, call_runtime, callee, answer_act, apply, apply_one, converted_or_lifted, lift_act, ended, eval, eval_step, record_call, result_of, runtime_item_named, take_answer, apply_item}
 
 -- values
 
 -- an area owns its block
-plain-usable : (v : Val) → owned v ≡ None → usable v ≡ Some v
+plain-usable : (v : Val) → owned v ≡ [] → usable v ≡ Some v
 plain-usable (val.Word x) o = refl
 plain-usable (val.Value r) o = refl
 plain-usable (val.Area address size) o = absurd (cc)
 
-pub uses : (e : Stop) (name : Bytes) (v : Val) (s : State) → value_of (local_named name s.locals) ≡ Some v → owned v ≡ None → use_local e name s ≡ Done v s
+pub uses : (e : Stop) (name : Bytes) (v : Val) (s : State) → value_of (local_named name s.locals) ≡ Some v → owned v ≡ [] → use_local e name s ≡ Done v s
 unfolding use_local
 uses e name v s h o =
     ap (λ x. and_then (or_stop e (option_and_then usable x) s) (λ v. used name v (owned v))) h
@@ -110,7 +109,7 @@ eval-ref w name = search (rules, the_lemmas)
 pub call_gives : (w : Setting) (path : Path) (es : List Expr) (vs : List Val) (s : State) → Give w s es vs → eval w (expr.Call path es) s ≡ call w path vs s
 call_gives w path es vs s h = ap (λ act. act s) (eval-call w path es) ∙ ap (λ o. and_then o (λ vs. call w path vs)) (all_give w s es vs h)
 
-pub local_gives : (w : Setting) (name : Bytes) (v : Val) (s : State) → value_of (local_named name s.locals) ≡ Some v → owned v ≡ None → eval w (expr.Local name) s ≡ Done v s
+pub local_gives : (w : Setting) (name : Bytes) (v : Val) (s : State) → value_of (local_named name s.locals) ≡ Some v → owned v ≡ [] → eval w (expr.Local name) s ≡ Done v s
 local_gives w name v s h o = ap (λ act. act s) (eval-local w name) ∙ uses (stuck w) name v s h o
 
 pub ref_gives : (w : Setting) (name : Bytes) (v : Val) (s : State) → value_of (local_named name s.locals) ≡ Some v → lent v ≡ Some v → eval w (expr.Ref name) s ≡ Done v s
@@ -211,9 +210,9 @@ quiet_then {A = A} {B = B} act f h k = record { quiet = λ s. go s (act s) (h.qu
     go s (Done a t) e = (k a).quiet t ∙ e
     go s (Stopped x t) e = e
 
-quiet_used : (name : Bytes) (v : Val) (o : Option (ℕ × ℕ)) → Quiet (used name v o)
-quiet_used name v None = quiet_pure v
-quiet_used name v (Some b) = record { quiet = λ s. refl }
+quiet_used : (name : Bytes) (v : Val) (o : List ℕ) → Quiet (used name v o)
+quiet_used name v [] = quiet_pure v
+quiet_used name v (a ∷ more) = record { quiet = λ s. refl }
 
 pub quiet_use : (e : Stop) (name : Bytes) → Quiet (use_local e name)
 unfolding use_local
@@ -326,18 +325,21 @@ ended-calls (Stopped e s) = refl
 
 -- the end of a scope calls nothing
 
-quiet_free : (w : Setting) (o : Option (ℕ × ℕ)) → Quiet (free_owned w o)
+quiet_found : (w : Setting) (address : ℕ) (o : Option Block) → Quiet (free_found w address o)
+quiet_found w address None = record { quiet = λ s. refl }
+quiet_found w address (Some b) = record { quiet = λ s. refl }
+
+quiet_free : (w : Setting) (address : ℕ) → Quiet (free w address)
 unfolding free
-quiet_free w None = quiet_pure tt
-quiet_free w (Some b) = record { quiet = λ s. go s (is_owned b s) }
-  where
-    go : (s : State) (t : Bool) → calls_at {A = Unit {0}} (cond t (Done tt (without_block b s)) (Stopped (stuck w) s)) ≡ s.calls
-    go s true = refl
-    go s false = refl
+quiet_free w address = record { quiet = λ s. (quiet_found w address (owned_block address s)).quiet s }
+
+quiet_free_all : (w : Setting) (addresses : List ℕ) → Quiet (free_all w addresses)
+quiet_free_all w [] = quiet_pure tt
+quiet_free_all w (a ∷ addresses) = quiet_then (free w a) (λ _. free_all w addresses) (quiet_free w a) (λ _. quiet_free_all w addresses)
 
 quiet_drops : (w : Setting) (locals : List Local) → Quiet (drop_locals w locals)
 quiet_drops w [] = quiet_pure tt
-quiet_drops w (l ∷ locals) = quiet_then (drop_locals w locals) (λ _. drop_local w l.value) (quiet_drops w locals) (λ _. quiet_free w (owned_in l.value))
+quiet_drops w (l ∷ locals) = quiet_then (drop_locals w locals) (λ _. drop_local w l.value) (quiet_drops w locals) (λ _. quiet_free_all w (owned_in l.value))
 
 pub quiet_leave : (w : Setting) (kept : ℕ) → Quiet (leave_to w kept)
 unfolding leave_to
@@ -358,7 +360,7 @@ pub quiet_answers : (w : Setting) (ty : TypeExpr) (v : Val) → Quiet (answer_an
 quiet_answers w ty v = quiet_give w (answer_of ty v)
 
 pub quiet_drop : (w : Setting) (v : Val) → Quiet (drop_value w v)
-quiet_drop w v = quiet_free w (owned v)
+quiet_drop w v = quiet_free_all w (owned v)
 
 -- where no local owns anything, nothing is freed
 

@@ -21,18 +21,18 @@ use Rattle.wrapper_run.specs.declared.state.Local.{Local}
 use Rattle.wrapper_run.specs.declared.state.State.{State}
 use Rattle.wrapper_run.specs.declared.state.Val.{Val}
 use Rattle.wrapper_run.specs.declared.state.Val.TheVariants as val
-use Rattle.wrapper_run.specs.Act.{Act, Done, ◌>>=◌, and_then, or_stop, pure, stop, Stopped}
+use Rattle.wrapper_run.specs.Act.{Act, Done, ◌>>=◌, and_then, or_stop, pure, stop}
 use Rattle.wrapper_run.specs.Blocks.{untaken, lift_buffer, lift_text, own, own_block, owned_bytes, owner_of, take_over, tested}
 use Rattle.wrapper_run.specs.Locals.{local_named, moved, usable, use_local, used, value_of}
 use Rattle.wit_model.specs.Bytes.{Bytes}
 use Rattle.wrapper_run.specs.Memory.{block_at, bytes_from, loaded}
-use Rattle.wrapper_run.specs.Owning.{block_of_buffer, is_taken, owned}
+use Rattle.wrapper_run.specs.Owning.{is_taken, owned}
 use Rattle.wrapper_run.specs.Run.{apply, call, call_callee, call_runtime, callee, eval, eval_step, load_word, of_runtime, runtime_item_named, take_bytes}
 use Rattle.wrapper_run.specs.Setting.{Setting, failed, stuck}
 use Rattle.wrapper_run.proofs.LocalLemmas.{bytes_eq-same, moved_front, moved_last, reads-new, reads_front}
 use Rattle.std.specs.List.{list_any}
 use Rattle.std.specs.Str.{bytes_eq}
-use Rattle.wrapper_run.proofs.OwningLemmas.{buffer-text}
+use Rattle.wrapper_run.proofs.OwningLemmas.{buffer-text, owned-block, owned-empty}
 use Rattle.wrapper_run.proofs.StepLemmas.{Quiet, eval-call, eval-local, quiet_or_stop, quiet_then}
 use Rattle.std.proofs.Common.{rules}
 use Rattle.rust_tree.specs.declared.type_expr.TypeExpr.{TypeExpr-F, out-TypeExpr, the_lemmas as type_lemmas}
@@ -42,7 +42,7 @@ use Rattle.wrapper_data.specs.declared.answer.Answer.TheVariants as answer
 use Rattle.wrapper_data.specs.declared.value.RustValue.{RustValue-F, out-RustValue, the_lemmas as value_lemmas}
 use Rattle.rust_tree.specs.declared.expr.Expr.{the_lemmas}
 use Rattle.wrapper_run.specs.declared.owning.View.TheVariants as view_of
-use Rattle.wrapper_run.specs.Blocks.{drop_locals, free, free_owned, is_owned, keep_locals, leave_to, without_block}
+use Rattle.wrapper_run.specs.Blocks.{drop_locals, free, free_found, keep_locals, leave_to, owned_block, without_block}
 use Rattle.wrapper_run.specs.Effect.{answer_as, answer_of, text_of_level}
 use Rattle.wrapper_run.specs.Locals.{ask_local}
 use Rattle.wrapper_run.specs.Owning.{owned_in}
@@ -90,12 +90,6 @@ takes_block w p n b bytes s pos small free found read =
 
 -- the use of a text that is the newest local
 
-pub owned-block : (p n : ℕ) → owned (val.Value (value.Buffer p (suc n) true)) ≡ Some (p, suc n)
-owned-block p n = ap (option_and_then block_of_buffer) (buffer-text p (suc n) true)
-
-pub owned-empty : (p : ℕ) → owned (val.Value (value.Buffer p 0 true)) ≡ None
-owned-empty p = ap (option_and_then block_of_buffer) (buffer-text p 0 true)
-
 -- it is moved out of its local
 pub moves_last : (w : Setting) (name : Bytes) (p n : ℕ) (locals : List Local) (s : State) → s.locals ≡ locals ++ record { name = name; value = Some (val.Value (value.Buffer p (suc n) true)) } ∷ []
     → eval w (expr.Local name) s ≡ Done (val.Value (value.Buffer p (suc n) true)) (record s { locals = locals ++ record { name = name; value = None } ∷ [] })
@@ -126,15 +120,15 @@ used_up p (suc n) = None
 abbrev pub used_local : Bytes → ℕ → ℕ → Local
 used_local name p n = record { name = name; value = used_up p n }
 
-pub used-plain : (p n : ℕ) → owned_in (used_up p n) ≡ None
-used-plain p zero = owned-empty p
+pub used-plain : (p n : ℕ) → owned_in (used_up p n) ≡ []
+used-plain p zero = owned-empty p true
 used-plain p (suc n) = refl
 
 pub uses_text : (w : Setting) (name : Bytes) (p n : ℕ) (s : State) → value_of (local_named name s.locals) ≡ Some (val.Value (value.Buffer p n true))
     → use_local (stuck w) name s ≡ Done (val.Value (value.Buffer p n true)) (record s { locals = after_use n name s.locals })
 unfolding use_local
 uses_text w name p zero s h =
-    ap (λ o. and_then (or_stop (stuck w) (option_and_then usable o) s) (λ v. used name v (owned v))) h ∙ ap (λ o. used name (val.Value (value.Buffer p 0 true)) o s) (owned-empty p)
+    ap (λ o. and_then (or_stop (stuck w) (option_and_then usable o) s) (λ v. used name v (owned v))) h ∙ ap (λ o. used name (val.Value (value.Buffer p 0 true)) o s) (owned-empty p true)
 uses_text w name p (suc n) s h =
     ap (λ o. and_then (or_stop (stuck w) (option_and_then usable o) s) (λ v. used name v (owned v))) h ∙ ap (λ o. used name (val.Value (value.Buffer p (suc n) true)) o s) (owned-block p n)
 
@@ -279,13 +273,6 @@ answered-empty p owns =
     either true = refl
     either false = refl
 
-pub owned-none_of_empty : (p : ℕ) (owns : Bool) → owned (val.Value (value.Buffer p 0 owns)) ≡ None
-owned-none_of_empty p owns = ap (option_and_then block_of_buffer) (buffer-text p 0 owns) ∙ either owns
-  where
-    either : (b : Bool) → block_of_buffer (p, 0, b) ≡ None
-    either true = refl
-    either false = refl
-
 pub answered-text : (p n : ℕ) → answer_of type.String (val.Value (value.Buffer p n true)) ≡ Some (Some (value.Buffer p n true))
 unfolding answer_of
 answered-text p n =
@@ -295,14 +282,14 @@ answered-text p n =
 
 -- the end of a scope in which one local owns a block
 
-pub frees_one : (w : Setting) (b : ℕ × ℕ) (s : State) → is_owned b s ≡ true → free_owned w (Some b) s ≡ Done tt (without_block b s)
+pub frees_one : (w : Setting) (address : ℕ) (b : Block) (s : State) → owned_block address s ≡ Some b → free w address s ≡ Done tt (without_block (address, b.size) s)
 unfolding free
-frees_one w b s h = ap (λ t. cond t (Done tt (without_block b s)) (Stopped (stuck w) s)) h
+frees_one w address b s h = ap (λ o. free_found w address o s) h
 
-pub leaves_one : (w : Setting) (front : List Local) (l : Local) (more : List Local) (b : ℕ × ℕ) (s : State) → s.locals ≡ (front ++ l ∷ []) ++ more → ArePlain front → owned_in l.value ≡ Some b → ArePlain more
-    → is_owned b (record s { locals = [] }) ≡ true → leave_to w 0 s ≡ Done tt (without_block b (record s { locals = [] }))
+pub leaves_one : (w : Setting) (front : List Local) (l : Local) (more : List Local) (address : ℕ) (b : Block) (s : State) → s.locals ≡ (front ++ l ∷ []) ++ more → ArePlain front → owned_in l.value ≡ address ∷ [] → ArePlain more
+    → owned_block address (record s { locals = [] }) ≡ Some b → leave_to w 0 s ≡ Done tt (without_block (address, b.size) (record s { locals = [] }))
 unfolding leave_to
-leaves_one w front l more b s e p o q h =
+leaves_one w front l more address b s e p o q h =
     ap (λ ls. and_then (drop_locals w ls (record s { locals = [] })) (λ _. keep_locals [])) e
     ∙ ap (λ o. and_then o (λ _. keep_locals []))
-    (drops_one w front l more b (record s { locals = [] }) p o q ∙ ap (λ o. and_then o (λ _ t. Done tt t)) (frees_one w b (record s { locals = [] }) h))
+    (drops_one w front l more address (record s { locals = [] }) p o q ∙ ap (λ o. and_then o (λ _ t. Done tt t)) (frees_one w address b (record s { locals = [] }) h))

@@ -1,5 +1,5 @@
 -- What is done to blocks: a block is taken over or let go, a text is tested, blocks are freed, and a core value is written into one.
-use Rattle.std.specs.Prelude.{ℕ, zero, suc, ◌+◌, ◌-◌, ◌^◌, Bool, true, not, ◌&&◌, nat_eq, nat_lt, if◌then◌else◌, List, [], ◌∷◌, ◌++◌, Option, None, Some, filter, drop, take, is_some, option_and_then}
+use Rattle.std.specs.Prelude.{ℕ, zero, suc, ◌+◌, ◌-◌, ◌^◌, Bool, true, not, nat_eq, nat_lt, if◌then◌else◌, List, [], ◌∷◌, ◌++◌, Option, None, Some, filter, drop, take, option_and_then}
 use Rattle.std.specs.Str.{is_utf8}
 use Rattle.wit_model.specs.declared.size.ArchitectureSize.{ArchitectureSize}
 use Rattle.wit_model.specs.declared.wasm_type.WasmType.{WasmType}
@@ -13,9 +13,9 @@ use Rattle.wrapper_run.specs.declared.state.Local.{Local}
 use Rattle.wrapper_run.specs.declared.state.State.{State}
 use Rattle.wrapper_run.specs.declared.state.Val.{Val}
 use Rattle.wrapper_run.specs.declared.state.Val.TheVariants as val
-use Rattle.wrapper_run.specs.Act.{Act, Done, Stopped, ◌>>=◌, ◌>>◌, or_stop, pure, stop}
+use Rattle.wrapper_run.specs.Act.{Act, Done, ◌>>=◌, ◌>>◌, or_stop, pure, stop}
 use Rattle.wrapper_run.specs.Effect.{word_of}
-use Rattle.wrapper_run.specs.Memory.{block_at, bytes_from, stored, without}
+use Rattle.wrapper_run.specs.Memory.{block_at, block_from, bytes_from, stored, without}
 use Rattle.wrapper_run.specs.Owning.{buffer_of, is_taken, owned, owned_in}
 use Rattle.wrapper_run.specs.Setting.{Setting, failed, stuck}
 
@@ -80,22 +80,27 @@ removed address size s = record s { heap = record s.heap { blocks = without addr
 abbrev pub without_block : ℕ × ℕ → State → State
 without_block b s = removed b.0 b.1 (without_owner b.0 s)
 
--- the block is live, and an owner has it
-abbrev pub is_owned : ℕ × ℕ → State → Bool
-is_owned b s = is_taken b.0 s.taken && is_some (block_at b.0 b.1 s.heap.blocks)
+-- the live block that begins at an address, where an owner has it
+abbrev pub owned_block : ℕ → State → Option Block
+owned_block address s = if is_taken address s.taken then block_from address s.heap.blocks else None
 
-unfoldable pub free : Setting → ℕ × ℕ → Act (Unit {0})
-free w b = λ s. if is_owned b s then Done tt (without_block b s) else Stopped (stuck w) s
+-- it goes, with all its bytes
+abbrev pub free_found : Setting → ℕ → Option Block → Act (Unit {0})
+free_found w address None = stop (stuck w)
+free_found w address (Some b) = λ s. Done tt (without_block (address, b.size) s)
 
-abbrev pub free_owned : Setting → Option (ℕ × ℕ) → Act (Unit {0})
-free_owned w None = pure tt
-free_owned w (Some b) = free w b
+unfoldable pub free : Setting → ℕ → Act (Unit {0})
+free w address = λ s. free_found w address (owned_block address s) s
+
+abbrev pub free_all : Setting → List ℕ → Act (Unit {0})
+free_all w [] = pure tt
+free_all w (address ∷ addresses) = free w address >> free_all w addresses
 
 abbrev pub drop_value : Setting → Val → Act (Unit {0})
-drop_value w v = free_owned w (owned v)
+drop_value w v = free_all w (owned v)
 
 abbrev pub drop_local : Setting → Option Val → Act (Unit {0})
-drop_local w value = free_owned w (owned_in value)
+drop_local w value = free_all w (owned_in value)
 
 -- locals are dropped, the newest first
 abbrev pub drop_locals : Setting → List Local → Act (Unit {0})
@@ -111,16 +116,20 @@ leave_to w kept = λ s. (drop_locals w (drop kept s.locals) >> keep_locals (take
 
 -- a block stays, and has no owner any more
 
-unfoldable pub release : Setting → ℕ × ℕ → Act (Unit {0})
-release w b = λ s. if is_owned b s then Done tt (without_owner b.0 s) else Stopped (stuck w) s
+abbrev pub release_found : Setting → ℕ → Option Block → Act (Unit {0})
+release_found w address None = stop (stuck w)
+release_found w address (Some b) = λ s. Done tt (without_owner address s)
 
-abbrev pub release_owned : Setting → Option (ℕ × ℕ) → Act (Unit {0})
-release_owned w None = pure tt
-release_owned w (Some b) = release w b
+unfoldable pub release : Setting → ℕ → Act (Unit {0})
+release w address = λ s. release_found w address (owned_block address s) s
+
+abbrev pub release_all : Setting → List ℕ → Act (Unit {0})
+release_all w [] = pure tt
+release_all w (address ∷ addresses) = release w address >> release_all w addresses
 
 -- a value is forgotten
 abbrev pub forget : Setting → Val → Act Val
-forget w v = release_owned w (owned v) >> pure (val.Value value.Unit)
+forget w v = release_all w (owned v) >> pure (val.Value value.Unit)
 
 -- a block is freed by its address and size, where no owner has it
 

@@ -18,4 +18,5 @@ pub mod Run
 pub mod Seen
 pub mod Setting
 pub mod StandsFor
+pub mod TextBlocks
 pub mod Value

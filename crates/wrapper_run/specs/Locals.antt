@@ -45,9 +45,9 @@ usable (val.Area address size) = None
 usable v = Some v
 
 -- the use of a value: one that owns a block is moved out of its local
-abbrev pub used : Bytes → Val → Option (ℕ × ℕ) → Act Val
-used name v None = pure v
-used name v (Some _) = λ s. Done v (record s { locals = moved name s.locals })
+abbrev pub used : Bytes → Val → List ℕ → Act Val
+used name v [] = pure v
+used name v (_ ∷ _) = λ s. Done v (record s { locals = moved name s.locals })
 
 unfoldable pub use_local : Stop → Bytes → Act Val
 use_local stuck name = λ s. (or_stop stuck (option_and_then usable (value_of (local_named name s.locals))) >>= (λ v. used name v (owned v))) s

@@ -1,18 +1,19 @@
 //! What is done to blocks that go: what a value owns is freed or forgotten, and blocks are freed by their addresses and sizes.
 
 ghost use Rattle.std.specs.Prelude.{◌≡◌, IfOk, OnOk, filter, nat_eq, not};
+ghost use Rattle.std.specs.Option.{option_copied};
 ghost use Rattle.wrapper_run.specs.Act.{Runs};
 ghost use Rattle.wrapper_run.specs.Blocks as spec;
 ghost use Rattle.wrapper_run.specs.Setting.{setting};
 
 use crate::blocks::untaken;
-use crate::memory::{block_at, place_of};
+use crate::memory::{block_from, place_of};
 use crate::owning::is_taken;
 use crate::state::{Halt, Local, State, Val, World};
 use std::alloc::Global;
 use std::mem;
 use wit_model::{List, OutOfMemory};
-use wrapper_data::{RustValue, TrapKind, Word};
+use wrapper_data::{Block, RustValue, TrapKind, Word};
 
 /// Removes the block of exactly this address and size.
 #[tactic(auto, using(crate::proofs::MemoryLemmas::removed_at, crate::proofs::MemoryLemmas::removed_none))]
@@ -41,38 +42,65 @@ fn disown(alloc: Global, state: &mut State, address: u32) -> Result<(), OutOfMem
     Ok(())
 }
 
-/// Whether a block is live, and an owner has it.
-fn is_owned(state: &State, address: u32, size: u32) -> bool
-    ensures { result ≡ spec.is_owned (address, size) state.now }
+/// The live block that begins at an address, where an owner has it.
+fn owned_block(state: &State, address: u32) -> Option<&Block>
+    ensures { option_copied result ≡ spec.owned_block address state.now }
 {
-    is_taken(address, state.taken.as_slice())
-        && block_at(address, size, state.heap.blocks.as_slice()).is_some()
+    if is_taken(address, state.taken.as_slice()) {
+        block_from(address, state.heap.blocks.as_slice())
+    } else {
+        None
+    }
 }
 
-/// Frees a block that an owner has.
+/// Frees the block that begins at an address, where an owner has it.
 #[tactic(auto, unfolding(crate::specs::Blocks::free))]
-fn free(alloc: Global, world: &World, state: &mut State, block: (u32, u32)) -> Result<(), Halt>
-    ensures { Runs (spec.free (setting world.now) block state.old) result state.new }
+fn free(alloc: Global, world: &World, state: &mut State, address: u32) -> Result<(), Halt>
+    ensures { Runs (spec.free (setting world.now) address state.old) result state.new }
 {
-    let (address, size) = block;
-    if !is_owned(state, address, size) {
-        return Err(Halt::Stopped(world.stuck()));
-    }
+    let size = match owned_block(state, address) {
+        None => return Err(Halt::Stopped(world.stuck())),
+        Some(b) => b.size,
+    };
     disown(alloc, state, address)?;
     remove_block(state, alloc, address, size);
     Ok(())
 }
 
-/// Lets a block that an owner has stay without one.
-#[tactic(auto, unfolding(crate::specs::Blocks::release))]
-fn release(alloc: Global, world: &World, state: &mut State, block: (u32, u32)) -> Result<(), Halt>
-    ensures { Runs (spec.release (setting world.now) block state.old) result state.new }
+/// Frees the blocks of owners, one after another.
+fn free_all(alloc: Global, world: &World, state: &mut State, addresses: &[u32]) -> Result<(), Halt>
+    ensures { Runs (spec.free_all (setting world.now) addresses.now state.old) result state.new }
 {
-    let (address, size) = block;
-    if !is_owned(state, address, size) {
+    for address in addresses {
+        free(alloc, world, state, *address)?;
+    }
+    Ok(())
+}
+
+/// Lets the block that begins at an address, where an owner has it, stay without one.
+#[tactic(auto, unfolding(crate::specs::Blocks::release))]
+fn release(alloc: Global, world: &World, state: &mut State, address: u32) -> Result<(), Halt>
+    ensures { Runs (spec.release (setting world.now) address state.old) result state.new }
+{
+    if owned_block(state, address).is_none() {
         return Err(Halt::Stopped(world.stuck()));
     }
     disown(alloc, state, address)?;
+    Ok(())
+}
+
+/// Lets the blocks of owners stay without them, one after another.
+fn release_all(
+    alloc: Global,
+    world: &World,
+    state: &mut State,
+    addresses: &[u32],
+) -> Result<(), Halt>
+    ensures { Runs (spec.release_all (setting world.now) addresses.now state.old) result state.new }
+{
+    for address in addresses {
+        release(alloc, world, state, *address)?;
+    }
     Ok(())
 }
 
@@ -80,9 +108,8 @@ fn release(alloc: Global, world: &World, state: &mut State, block: (u32, u32)) -
 pub(crate) fn forget(alloc: Global, world: &World, state: &mut State, v: &Val) -> Result<Val, Halt>
     ensures { Runs (spec.forget (setting world.now) v.now state.old) result state.new }
 {
-    if let Some(block) = v.owned() {
-        release(alloc, world, state, block)?;
-    }
+    let owned = v.owned(alloc)?;
+    release_all(alloc, world, state, owned.as_slice())?;
     Ok(Val::Value(RustValue::Unit))
 }
 
@@ -95,10 +122,8 @@ pub(crate) fn drop_value(
 ) -> Result<(), Halt>
     ensures { Runs (spec.drop_value (setting world.now) v.now state.old) result state.new }
 {
-    match v.owned() {
-        None => Ok(()),
-        Some(block) => free(alloc, world, state, block),
-    }
+    let owned = v.owned(alloc)?;
+    free_all(alloc, world, state, owned.as_slice())
 }
 
 fn drop_local(

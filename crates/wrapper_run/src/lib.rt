@@ -13,6 +13,7 @@ mod freeing;
 mod locals;
 mod memory;
 mod method;
+mod owned;
 mod owning;
 mod places;
 mod post_return;

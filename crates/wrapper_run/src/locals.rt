@@ -95,7 +95,7 @@ pub(crate) fn use_local(
         None | Some(Val::Area(_, _)) => return Err(Halt::Stopped(stuck)),
         Some(value) => value.copy(alloc)?,
     };
-    if value.owned().is_some() {
+    if !value.owned(alloc)?.as_slice().is_empty() {
         move_local(alloc, state, name)?;
     }
     Ok(value)

@@ -77,6 +77,19 @@ pub(crate) fn block_at(address: u32, size: u32, blocks: &[Block]) -> Option<&Blo
     blocks.iter().find(|b| is_at(address, size, b))
 }
 
+fn begins_at(address: u32, b: &Block) -> bool
+    ensures { result ≡ spec.begins_at address b.now }
+{
+    b.address == address && b.size > 0
+}
+
+/// The block that begins at an address; what has no bytes is none.
+pub(crate) fn block_from(address: u32, blocks: &[Block]) -> Option<&Block>
+    ensures { option_copied result ≡ spec.block_from address blocks.now }
+{
+    blocks.iter().find(|b| begins_at(address, b))
+}
+
 fn holds(address: u128, size: u32, b: &Block) -> bool
     requires { address < 2 ^ 100 }
     ensures { result ≡ spec.holds address size b.now }

@@ -3,6 +3,7 @@
 ghost use Rattle.std.specs.Prelude.{◌≡◌, IfOk};
 ghost use Rattle.wrapper_run.specs.Owning as spec;
 
+use crate::owned::{lent_value, push_owned, push_owned_parts};
 use crate::state::Val;
 use std::alloc::Global;
 use wit_model::{List, OutOfMemory};
@@ -20,7 +21,7 @@ impl Val {
         }
     }
 
-    /// A text's address and length, and whether it owns its block.
+    /// The address of a text or list, its length in entries, and whether it owns its block.
     pub(crate) fn buffer(&self) -> Option<(u32, u32, bool)>
         ensures { result ≡ spec.buffer_of self.now }
     {
@@ -36,17 +37,17 @@ impl Val {
         }
     }
 
-    /// The block that a value owns, by its address and size.
-    pub(crate) fn owned(&self) -> Option<(u32, u32)>
-        ensures { result ≡ spec.owned self.now }
+    /// The addresses of the blocks that a value owns.
+    pub(crate) fn owned(&self, alloc: Global) -> Result<List<u32>, OutOfMemory>
+        ensures { IfOk result (λ addresses. addresses ≡ spec.owned self.now) }
     {
+        let mut addresses = List::new(alloc);
         match self {
-            Val::Area(address, size) => Some((*address, *size)),
-            _ => match self.buffer() {
-                Some((address, len, true)) if len != 0 => Some((address, len)),
-                _ => None,
-            },
+            Val::Word(_) => {}
+            Val::Value(value) => push_owned(&mut addresses, value)?,
+            Val::Area(address, _) => addresses.push(*address)?,
         }
+        Ok(addresses)
     }
 
     /// The value behind a reference, which owns nothing.
@@ -54,15 +55,9 @@ impl Val {
         ensures { IfOk result (λ v. v ≡ spec.lent self.now) }
     {
         match self {
+            Val::Word(word) => Ok(Some(Val::Word(*word))),
+            Val::Value(value) => Ok(Some(Val::Value(lent_value(value, alloc)?))),
             Val::Area(_, _) => Ok(None),
-            Val::Value(RustValue::Buffer { address, len, .. }) => {
-                Ok(Some(Val::Value(RustValue::Buffer {
-                    address: *address,
-                    len: *len,
-                    owned: false,
-                })))
-            }
-            _ => Ok(Some(self.copy(alloc)?)),
         }
     }
 }
@@ -72,12 +67,7 @@ pub(crate) fn taken_by(alloc: Global, values: &[RustValue]) -> Result<List<u32>,
     ensures { IfOk result (λ taken. taken ≡ spec.taken_by values.now) }
 {
     let mut taken = List::new(alloc);
-    for value in values {
-        let value = Val::Value(value.copy(alloc)?);
-        if let Some((address, _)) = value.owned() {
-            taken.push(address)?;
-        }
-    }
+    push_owned_parts(&mut taken, values)?;
     Ok(taken)
 }
 
