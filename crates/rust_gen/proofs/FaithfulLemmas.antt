@@ -20,7 +20,8 @@ use Rattle.wrapper_run.specs.Run.{import_nth, import_run, run_item, import_at, r
 use Rattle.rust_gen.specs.Body.{IsWritten}
 use Rattle.rust_gen.specs.Bound.{Binds, Parts, export_items}
 use Rattle.rust_gen.specs.Cause.{is_well_named, is_built}
-use Rattle.rust_gen.specs.DeclaredNames.{are_distinct_functions, are_names, area_idents, cabi_suffix, declares_well, export_ident, export_prefix, function_idents, has_distinct_names, macro_idents, method_idents, param_idents, return_idents}
+use Rattle.rust_gen.specs.DeclaredNames.{are_distinct_functions, cabi_suffix, declares_well, export_prefix, has_distinct_names}
+use Rattle.rust_gen.proofs.DeclaredLemmas.{distinct_exports, distinct_methods, distinct_params}
 use Rattle.rust_gen.specs.Faithful.{AreFaithful, export_names, import_target}
 use Rattle.rust_gen.specs.Runtime.{asked_by, asked_by_export, freeing_items, is_same_item, lifting_items, returning_items, runtime_items, runtime_module}
 use Rattle.rust_gen.proofs.AskedLemmas.{Found, among-exports, among-imports, found-right, found_all}
@@ -58,7 +59,7 @@ use Rattle.rust_gen.proofs.PartsLemmas.{exports-of_parts, no_exports-behind, no_
 use Rattle.rust_gen.proofs.ReturnLemmas.{frees_words}
 use Rattle.rust_gen.specs.declared.opts.Opts.{Opts}
 use Rattle.wit_model.specs.declared.wasm_type.WasmType.{WasmType}
-use Rattle.rust_gen.proofs.ItemLemmas.{alone-named, area-found, distinct-image, distinct-right, entries-are, find-named, method-found, runtime-found}
+use Rattle.rust_gen.proofs.ItemLemmas.{alone-named, area-found, distinct-image, entries-are, find-named, method-found, runtime-found}
 use Rattle.rust_gen.specs.Built.{are_built_options, are_built_tables, is_built_function, is_built_item, is_built_world, is_empty}
 use Rattle.rust_gen.specs.NameText.{are_written_tables, is_wit_form, is_written_entry, is_written_world}
 use Rattle.rust_gen.specs.Exported.{area_of, arg_name, arg_prefix, core_args, entries_of, export_entry, file_macro, guest_name, guest_trait, last_macro, post_return_name, return_entry, static_area, trait_and_macro, trait_fn, where_any, where_area, world_macro}
@@ -139,29 +140,13 @@ abbrev wrapper_ident : List ℕ → List ℕ
 wrapper_ident base = export_prefix ++ base ++ cabi_suffix
 
 module _ (world : World) (h : declares_well world ≡ true) where
-  named_parts : (are_names (function_idents world) ≡ true) × (are_names (method_idents world) ≡ true) × (list_all (λ f. are_names (param_idents f)) (imported_functions world) ≡ true)
-  unfolding declares_well
-  named_parts =
-      let a = and_parts _ (list_all (λ f. are_names (param_idents f)) (exported_functions world)) h in
-      let b = and_parts _ (list_all (λ f. are_names (param_idents f)) (imported_functions world)) a.0 in
-      let c = and_parts _ (is_empty (exported_functions world) || are_names (macro_idents world)) b.0 in
-      let d = and_parts (are_names (function_idents world)) (are_names (method_idents world)) c.0 in
-      (d.0, d.1, b.1)
-
-  distinct-params : (nth : ℕ) (f : Function) → slice_get (imported_functions world) nth ≡ Some f → is_distinct (param_idents f) ≡ true
-  distinct-params nth f e = (and_parts _ (is_distinct (param_idents f)) (list_all-at (λ f. are_names (param_idents f)) (imported_functions world) nth f named_parts.2 e)).1
-
-  distinct-methods : is_distinct (method_idents world) ≡ true
-  distinct-methods = (and_parts _ (is_distinct (method_idents world)) named_parts.1).1
+  distinct-methods : is_distinct (map (λ f. rust_ident f.name) (exported_functions world)) ≡ true
+  distinct-methods = distinct_methods world h
 
   distinct-bases : is_distinct (map (λ f. f.name.snake) (exported_functions world)) ≡ true
   distinct-bases =
       distinct-image wrapper_ident (map (λ f. f.name.snake) (exported_functions world))
-      (ap is_distinct (map-map wrapper_ident (λ f. f.name.snake) (exported_functions world))
-      ∙ distinct-right (flat_map return_idents (exported_functions world)) (map export_ident (exported_functions world))
-      (distinct-right (area_idents (exported_functions world)) (flat_map return_idents (exported_functions world) ++ map export_ident (exported_functions world))
-      (distinct-right (map (λ f. rust_ident f.name) (imported_functions world)) (area_idents (exported_functions world) ++ (flat_map return_idents (exported_functions world) ++ map export_ident (exported_functions world)))
-      (and_parts _ (is_distinct (function_idents world)) named_parts.0).1)))
+      (ap is_distinct (map-map wrapper_ident (λ f. f.name.snake) (exported_functions world)) ∙ distinct_exports world h)
 
 -- an exported function that is built has at most sixteen words
 few-words : (opts : Opts) (resolve : Resolve) (id nth : ℕ) (world : World) (f : Function) → is_built opts resolve ≡ true → slice_get resolve.worlds id ≡ Some world → slice_get (exported_functions world) nth ≡ Some f
@@ -358,7 +343,7 @@ module _ (opts : Opts) (resolve : Resolve) (id : ℕ) (world : World) (found : s
     carries = λ form vs args heap choices a run is given.
         let w : Setting = setting_of tree (info nth f e).0.item.0 a form in
         let i = (wrapper nth f e).0 in
-        let fits : Fits f w = record { distinct = distinct-params world named nth f e; found = asked-import nth f e } in
+        let fits : Fits f w = record { distinct = distinct_params world named nth f e; found = asked-import nth f e } in
         let run_of : import_run tree nth args heap choices a form ≡ Some (run_item w i args heap choices) =
         ap (option_map (λ p. run_item (setting_of tree p.0 a form) p.1 args heap choices)) (there nth f e) in
         let same : run_item w i args heap choices ≡ run = cc in

@@ -1,5 +1,7 @@
 mod AskedLemmas
 pub mod EmittedLemmas
+mod ClashLemmas
+mod DeclaredLemmas
 mod EntryLemmas
 mod ExportRunLemmas
 mod FaithfulLemmas
@@ -7,6 +9,7 @@ mod FixedLemmas
 mod GiveLemmas
 mod IdentLemmas
 mod ItemLemmas
+mod LevelLemmas
 mod LiftLemmas
 mod LiftingLemmas
 mod LowerLemmas

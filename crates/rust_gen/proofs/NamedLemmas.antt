@@ -17,14 +17,16 @@ use Rattle.rust_tree.specs.WellNamed.{are_named_core_params, are_named_params, a
 use Rattle.wrapper_run.specs.Areas.{needs_area}
 use Rattle.rust_gen.specs.Body.{IsWritten}
 use Rattle.rust_gen.specs.Bound.{AreItems, export_items}
-use Rattle.rust_gen.specs.Cause.{is_well_named}
-use Rattle.rust_gen.specs.DeclaredNames.{are_names, area_idents, cabi_suffix, declares_well, export_ident, export_prefix, function_idents, has_distinct_names, is_empty, macro_idents, method_idents, param_idents, return_idents}
+use Rattle.rust_gen.specs.Cause.{is_accepted, is_well_named}
+use Rattle.rust_gen.specs.DeclaredNames.{cabi_suffix, declares_well, export_ident, export_prefix, has_distinct_names, is_empty, macro_idents, param_idents, where_exported}
 use Rattle.rust_gen.specs.Docs.{doc_lines}
 use Rattle.rust_gen.specs.Emitted.{exported_functions, imported_functions}
 use Rattle.rust_gen.specs.ExportBody.{ArePartsWritten}
 use Rattle.rust_gen.specs.Exported.{area_of, entries_of, export_entry, export_params, file_macro, guest_name, guest_trait, last_macro, macro_name, post_return_name, return_entry, return_params, static_area, trait_and_macro, trait_fn, trait_param, where_any, where_area, world_macro, world_prefix}
 use Rattle.rust_gen.specs.NameText.{are_written_tables, is_wit_form, is_written_entry, is_written_package, is_written_world}
 use Rattle.rust_gen.specs.Runtime.{runtime_items, runtime_module}
+use Rattle.rust_gen.proofs.DeclaredLemmas.{export_idents, import_idents, import_params, macro_names, method_idents}
+use Rattle.rust_gen.proofs.DeclaredLemmas as names
 use Rattle.rust_gen.proofs.EntryLemmas.{wit-forms}
 use Rattle.rust_gen.proofs.IdentLemmas.{docs-named, guest_ident, part_of, return-quotable, wit-quotable}
 use Rattle.rust_gen.proofs.NamedExportLemmas.{export_params-named, exports-named, return_params-named}
@@ -49,12 +51,6 @@ bases [] h = refl
 bases (f ∷ fs) h =
     let parts = and_parts (is_ident (export_ident f)) (list_all is_ident (map export_ident fs)) h in
     and_from (is_ident_part f.name.snake) (list_all (λ f. is_ident_part f.name.snake) fs) (part_of export_prefix f.name.snake cabi_suffix parts.0) (bases fs parts.1)
-
-params : (fs : List Function) → list_all (λ f. are_names (param_idents f)) fs ≡ true → Params fs
-params [] h = refl
-params (f ∷ fs) h =
-    let parts = and_parts (are_names (param_idents f)) (list_all (λ f. are_names (param_idents f)) fs) h in
-    and_from (list_all is_ident (param_idents f)) (list_all (λ f. list_all is_ident (param_idents f)) fs) (and_parts (list_all is_ident (param_idents f)) (is_distinct (param_idents f)) parts.0).0 (params fs parts.1)
 
 quotables : (fs : List Function) → list_all (λ f. is_wit_form f.name.wit) fs ≡ true → Quotables fs
 quotables [] h = refl
@@ -142,37 +138,19 @@ record Known (world : World) : Type 0 where
   macros : is_empty (exported_functions world) ≡ false → is_ident_part world.name.snake ≡ true
 
 known : (world : World) → declares_well world ≡ true → Known world
-unfolding declares_well macro_idents
-known world h =
-    let es : List Function = exported_functions world in
-    let fs : List Function = imported_functions world in
-    let a = and_parts _ (list_all (λ f. are_names (param_idents f)) es) h in
-    let b = and_parts _ (list_all (λ f. are_names (param_idents f)) fs) a.0 in
-    let c = and_parts _ (is_empty es || are_names (macro_idents world)) b.0 in
-    let d = and_parts (are_names (function_idents world)) (are_names (method_idents world)) c.0 in
-    let values = (and_parts (list_all is_ident (function_idents world)) (is_distinct (function_idents world)) d.0).0 in
-    let methods = (and_parts (list_all is_ident (method_idents world)) (is_distinct (method_idents world)) d.1).0 in
-    let returns : List Bytes = flat_map return_idents es in
-    let wrappers : List Bytes = map export_ident es in
-    let wrapped : List Bytes = map (λ f. rust_ident f.name) fs in
-    let v = and_parts (list_all is_ident wrapped) (list_all is_ident (area_idents es ++ (returns ++ wrappers))) (sym (list_all-append is_ident wrapped (area_idents es ++ (returns ++ wrappers))) ∙ values) in
-    let w = and_parts (list_all is_ident (area_idents es)) (list_all is_ident (returns ++ wrappers)) (sym (list_all-append is_ident (area_idents es) (returns ++ wrappers)) ∙ v.1) in
-    let x = and_parts (list_all is_ident returns) (list_all is_ident wrappers) (sym (list_all-append is_ident returns wrappers) ∙ w.1) in
-    record {
-      imports = sym (list_all-map is_ident (λ f. rust_ident f.name) fs) ∙ v.0;
-      exports = sym (list_all-map is_ident (λ f. rust_ident f.name) es) ∙ methods;
-      exported = bases es x.1;
-      import_params = params fs b.1;
-      export_params = params es a.1;
-      macros = snake c.1;
-    }
+unfolding macro_idents
+known world h = record {
+  imports = import_idents world h;
+  exports = method_idents world h;
+  exported = bases (exported_functions world) (export_idents world h);
+  import_params = import_params world h;
+  export_params = names.export_params world h;
+  macros = snake (exported_functions world) (macro_names world h);
+}
   where
-    snake : (is_empty (exported_functions world) || are_names (macro_idents world)) ≡ true → is_empty (exported_functions world) ≡ false → is_ident_part world.name.snake ≡ true
-    snake h full =
-        elim (or_cases (is_empty (exported_functions world)) (are_names (macro_idents world)) h) [
-          | inl none ↦ absurd (both_ways (is_empty (exported_functions world)) full none)
-          | inr named ↦ part_of (codes "__export_world_") world.name.snake (codes "_cabi") (and_parts (is_ident (codes "__export_world_" ++ world.name.snake ++ codes "_cabi")) _ (and_parts (list_all is_ident (macro_idents world)) (is_distinct (macro_idents world)) named).0).0
-        ]
+    snake : (exports : List Function) → list_all is_ident (where_exported exports (macro_idents world)) ≡ true → is_empty exports ≡ false → is_ident_part world.name.snake ≡ true
+    snake [] h full = cc
+    snake (f ∷ exports) h full = part_of (codes "__export_world_") world.name.snake (codes "_cabi") (and_parts (is_ident (codes "__export_world_" ++ world.name.snake ++ codes "_cabi")) _ h).0
 
 items-named : (world : World) (items : List Item) → is_written_world world ≡ true → declares_well world ≡ true → AreItems IsWritten ArePartsWritten world items → list_all is_named_item items ≡ true
 items-named world items written declared a =
@@ -203,9 +181,14 @@ written-at [] nth world h e = absurd (cc)
 written-at (w ∷ worlds) zero world h e = let is : w ≡ world = cc in ap is_written_world (sym is) ∙ (and_parts (is_written_world w) (list_all is_written_world worlds) h).0
 written-at (w ∷ worlds) (suc nth) world h e = written-at worlds nth world (and_parts (is_written_world w) (list_all is_written_world worlds) h).1 e
 
-pub accepted-names : (r : Resolve) (nth : ℕ) (world : World) → slice_get r.worlds nth ≡ Some world → is_well_named r world ≡ true → (is_written_world world ≡ true) × (declares_well world ≡ true)
+-- what is accepted is well named
+pub well-named : (r : Resolve) (world : World) → is_accepted r world ≡ true → is_well_named r world ≡ true
+unfolding is_accepted
+well-named r world h = (and_parts _ (is_well_named r world) h).1
+
+pub accepted-names : (r : Resolve) (nth : ℕ) (world : World) → slice_get r.worlds nth ≡ Some world → is_accepted r world ≡ true → (is_written_world world ≡ true) × (declares_well world ≡ true)
 unfolding is_well_named are_written_tables
 accepted-names r nth world e h =
-    let a = and_parts (are_written_tables r && list_all has_distinct_names r.worlds) (declares_well world) h in
+    let a = and_parts (are_written_tables r && list_all has_distinct_names r.worlds) (declares_well world) (well-named r world h) in
     let tables = (and_parts (are_written_tables r) (list_all has_distinct_names r.worlds) a.0).0 in
-    (written-at r.worlds nth world (and_parts (list_all is_written_package r.packages) (list_all is_written_world r.worlds) tables).1 e, a.1)
+    (written-at r.worlds nth world (and_parts _ (list_all is_written_world r.worlds) tables).1 e, a.1)

@@ -3,6 +3,8 @@ use Rattle.std.specs.Prelude.{Bool, true, false, not, ◌&&◌, nat_le, List, []
 use Rattle.std.specs.List.{list_all}
 use Rattle.wit_model.specs.declared.types.WitType.{WitType}
 use Rattle.wit_model.specs.declared.types.WitType.TheVariants as wit
+use Rattle.wit_model.specs.declared.types.TypeDefKind.{TypeDefKind}
+use Rattle.wit_model.specs.declared.types.TypeDefKind.TheVariants as sort
 use Rattle.wit_model.specs.declared.function.Function.{Function}
 use Rattle.wit_model.specs.declared.function.FunctionKind.{FunctionKind}
 use Rattle.wit_model.specs.declared.function.FunctionKind.TheVariants as kind
@@ -57,8 +59,20 @@ is_empty (_ ∷ _) = false
 unfoldable pub is_built_world : World → Bool
 is_built_world world = list_all (λ entry. is_built_item entry.1) world.imports && list_all (λ entry. is_built_item entry.1) world.exports
 
+-- a type that the table may have, as long as no function reaches it: an alias, a record or a tuple. The types that it names
+-- are looked at by themselves
+abbrev pub is_built_part : WitType → Bool
+is_built_part wit.ErrorContext = false
+is_built_part _ = true
+
+abbrev pub is_built_kind : TypeDefKind → Bool
+is_built_kind (sort.Alias ty) = is_built_part ty
+is_built_kind (sort.Tuple members) = list_all is_built_part members
+is_built_kind (sort.Record fields) = list_all (λ f. is_built_part f.ty) fields
+is_built_kind _ = false
+
 unfoldable pub are_built_tables : Resolve → Bool
-are_built_tables r = is_empty r.interfaces && is_empty r.types && list_all is_built_world r.worlds
+are_built_tables r = is_empty r.interfaces && list_all (λ t. is_built_kind t.kind) r.types && list_all is_built_world r.worlds
 
 abbrev pub is_owning : Ownership → Bool
 is_owning ownership.Owning = true

@@ -17,6 +17,8 @@ use Rattle.rust_gen.specs.declared.opts.Opts.{Opts}
 use Rattle.rust_gen.specs.Built.{are_built_tables, are_built_options}
 use Rattle.rust_gen.specs.DeclaredNames.{declares_well, has_distinct_names}
 use Rattle.rust_gen.specs.NameText.{are_written_tables}
+use Rattle.rust_gen.specs.TooLarge.{are_small}
+use Rattle.rust_gen.specs.TypeNames.{are_type_names}
 
 abbrev pub invalid : Rule × Place → GenError
 invalid f = InvalidWorld f.0 f.1.0 f.1.1
@@ -40,9 +42,13 @@ is_built opts r = are_built_tables r && are_built_options opts
 unfoldable pub is_well_named : Resolve → World → Bool
 is_well_named r world = are_written_tables r && list_all has_distinct_names r.worlds && declares_well world
 
--- the cause that lies in what is built: a fault of the tables, or a name
+-- nor for its types: none is too large, and none lacks its name
+unfoldable pub is_accepted : Resolve → World → Bool
+is_accepted r world = are_small r.types && are_type_names r.types && is_well_named r world
+
+-- the cause that lies in what is built: a rule that the tables break, or a cause that has no answer of its own yet
 abbrev pub built_cause : Resolve → World → Option GenError
-built_cause r world = option_or (option_map invalid (first_fault r)) (if is_well_named r world then None else Some (unbuilt world))
+built_cause r world = option_or (option_map invalid (first_fault r)) (if is_accepted r world then None else Some (unbuilt world))
 
 -- the cause that lies in the world, which is that of the id, if the id names one
 abbrev pub world_cause : Opts → Resolve → WorldId → Option World → Option GenError

@@ -1,69 +1,125 @@
--- Which names the file of a world declares, and whether they are identifiers of which no two clash.
-use Rattle.std.specs.Prelude.{ℕ, Bool, true, false, ◌&&◌, ◌||◌, List, [], ◌∷◌, ◌++◌, codes, if◌then◌else◌, map}
-use Rattle.std.specs.List.{flat_map, list_all, list_any}
+-- Which names the file of a world declares, in which order, and whether they are identifiers of which no two clash.
+use Rattle.std.specs.Prelude.{ℕ, Bool, true, false, ◌&&◌, ◌||◌, List, [], ◌∷◌, ◌++◌, codes, if◌then◌else◌, is_none, map}
+use Rattle.std.specs.List.{flat_map, list_any}
 use Rattle.wit_model.specs.declared.function.Function.{Function}
 use Rattle.wit_model.specs.declared.world.World.{World}
+use Rattle.wit_model.specs.Bytes.{Bytes}
 use Rattle.wit_model.specs.Distinct.{is_distinct}
-use Rattle.rust_tree.specs.Ident.{is_ident, rust_ident}
+use Rattle.rust_tree.specs.declared.runtime_item.RuntimeItem.{RuntimeItem}
+use Rattle.rust_tree.specs.Ident.{rust_ident}
 use Rattle.wrapper_run.specs.Areas.{needs_area}
+use Rattle.rust_gen.specs.declared.declared.Declared.{Declared}
+use Rattle.rust_gen.specs.declared.declared.NameScope.{NameScope}
+use Rattle.rust_gen.specs.declared.declared.Sort.{Sort}
+use Rattle.rust_gen.specs.declared.declared.Sort.TheVariants.{Type_, Value, Macro}
+use Rattle.rust_gen.specs.Clash.{first_clash}
 use Rattle.rust_gen.specs.Emitted.{exported_functions, imported_functions}
+use Rattle.rust_gen.specs.Exported.{guest_name}
+use Rattle.rust_gen.specs.Runtime.{items_for}
 
--- the functions of the root: the wrappers
+abbrev pub declared : Sort → Bytes → Declared
+declared sort name = record { sort = sort; name = name }
 
-unfoldable pub export_prefix : List ℕ
-export_prefix = codes "_export_"
-
-unfoldable pub cabi_suffix : List ℕ
-cabi_suffix = codes "_cabi"
-
-abbrev pub export_ident : Function → List ℕ
-export_ident f = export_prefix ++ f.name.snake ++ cabi_suffix
-
-unfoldable pub return_prefix : List ℕ
-return_prefix = codes "__post_return_"
-
--- a post-return function, where the result passes by an area
-abbrev pub return_idents : Function → List (List ℕ)
-return_idents f = if needs_area f.result then (return_prefix ++ f.name.snake) ∷ [] else []
-
-unfoldable pub area_ident : List ℕ
-area_ident = codes "_RET_AREA"
-
-abbrev pub area_idents : List Function → List (List ℕ)
-area_idents functions = if list_any (λ f. needs_area f.result) functions then area_ident ∷ [] else []
-
--- the static area stands among them
-abbrev pub value_idents : List Function → List Function → List (List ℕ)
-value_idents imports exports = map (λ f. rust_ident f.name) imports ++ (area_idents exports ++ (flat_map return_idents exports ++ map export_ident exports))
-
-abbrev pub function_idents : World → List (List ℕ)
-function_idents world = value_idents (imported_functions world) (exported_functions world)
-
--- the functions of the trait
-abbrev pub method_idents : World → List (List ℕ)
-method_idents world = map (λ f. rust_ident f.name) (exported_functions world)
-
--- the macros
-unfoldable pub macro_idents : World → List (List ℕ)
-macro_idents world =
-    (codes "__export_world_" ++ world.name.snake ++ codes "_cabi") ∷ (codes "__export_" ++ world.name.snake ++ codes "_impl") ∷ codes "export" ∷ []
-
--- the parameters of a function, in a scope of their own
-abbrev pub param_idents : Function → List (List ℕ)
-param_idents f = map (λ p. rust_ident p.name) f.params
-
--- identifiers, of which no two are equal
-abbrev pub are_names : List (List ℕ) → Bool
-are_names names = list_all is_ident names && is_distinct names
+abbrev pub all_declared : Sort → List Bytes → List Declared
+all_declared sort names = map (declared sort) names
 
 abbrev pub is_empty : List Function → Bool
 is_empty [] = true
 is_empty (_ ∷ _) = false
 
+-- names that are there where a function is exported
+abbrev pub where_exported : List Function → List Bytes → List Bytes
+where_exported exports names = if is_empty exports then [] else names
+
+-- the types of the root
+
+unfoldable pub runtime_ident : Bytes
+runtime_ident = codes "_rt"
+
+-- the module of runtime items, where one is asked for
+abbrev pub runtime_idents : List RuntimeItem → List Bytes
+runtime_idents [] = []
+runtime_idents (_ ∷ _) = runtime_ident ∷ []
+
+-- the type parameter of an export's wrapper
+unfoldable pub implementation_ident : Bytes
+implementation_ident = codes "T_"
+
+abbrev pub trait_idents : List Function → List Bytes
+trait_idents exports = where_exported exports (guest_name ∷ implementation_ident ∷ [])
+
+unfoldable pub area_type_ident : Bytes
+area_type_ident = codes "_RetArea"
+
+-- the type of an area, where the root or a body in it has one
+abbrev pub area_type_idents : List Function → List Function → List Bytes
+area_type_idents imports exports = if list_any (λ f. needs_area f.result) imports || list_any (λ f. needs_area f.result) exports then area_type_ident ∷ [] else []
+
+-- the functions of the root, and its static
+
+unfoldable pub export_prefix : Bytes
+export_prefix = codes "_export_"
+
+unfoldable pub cabi_suffix : Bytes
+cabi_suffix = codes "_cabi"
+
+abbrev pub export_ident : Function → Bytes
+export_ident f = export_prefix ++ f.name.snake ++ cabi_suffix
+
+unfoldable pub return_prefix : Bytes
+return_prefix = codes "__post_return_"
+
+-- a function that is compared with the types too
+abbrev pub among_types : Bytes → List Declared
+among_types name = declared Value name ∷ declared Type_ name ∷ []
+
+-- a post-return function, where the result passes by an area
+abbrev pub return_names : Function → List Declared
+return_names f = if needs_area f.result then among_types (return_prefix ++ f.name.snake) else []
+
+unfoldable pub area_ident : Bytes
+area_ident = codes "_RET_AREA"
+
+-- the static area
+abbrev pub area_idents : List Function → List Bytes
+area_idents exports = if list_any (λ f. needs_area f.result) exports then area_ident ∷ [] else []
+
+-- the macros
+unfoldable pub macro_idents : World → List Bytes
+macro_idents world =
+    (codes "__export_world_" ++ world.name.snake ++ codes "_cabi") ∷ (codes "__export_" ++ world.name.snake ++ codes "_impl") ∷ codes "export" ∷ []
+
+-- the names of the root itself: its types, its functions and its static, and its macros
+abbrev pub module_scope : World → List Function → List Function → NameScope
+module_scope world imports exports = record {
+  name = [];
+  names =
+      all_declared Type_ (runtime_idents (items_for imports exports)) ++ (all_declared Type_ (trait_idents exports) ++ (all_declared Type_ (area_type_idents imports exports)
+      ++ (map (λ f. declared Value (rust_ident f.name)) imports ++ (flat_map (λ f. among_types (export_ident f)) exports
+      ++ (flat_map return_names exports ++ (all_declared Value (area_idents exports) ++ all_declared Macro (where_exported exports (macro_idents world))))))));
+}
+
+-- the functions of the trait
+abbrev pub trait_scope : List Function → NameScope
+trait_scope exports = record { name = guest_name; names = map (λ f. declared Value (rust_ident f.name)) exports }
+
+abbrev pub param_idents : Function → List Bytes
+param_idents f = map (λ p. rust_ident p.name) f.params
+
+-- the parameters of a function
+abbrev pub param_scope : Function → NameScope
+param_scope f = record { name = rust_ident f.name; names = map (λ p. declared Value (rust_ident p.name)) f.params }
+
+-- the names that the file of a world declares, scope by scope, in the order of the text
+abbrev pub declared_names : World → List NameScope
+declared_names world =
+    module_scope world (imported_functions world) (exported_functions world)
+    ∷ trait_scope (exported_functions world)
+    ∷ map param_scope (imported_functions world) ++ map param_scope (exported_functions world)
+
+-- they are identifiers, and none clashes with an earlier one
 unfoldable pub declares_well : World → Bool
-declares_well world =
-    are_names (function_idents world) && are_names (method_idents world) && (is_empty (exported_functions world) || are_names (macro_idents world))
-    && list_all (λ f. are_names (param_idents f)) (imported_functions world) && list_all (λ f. are_names (param_idents f)) (exported_functions world)
+declares_well world = is_none (first_clash (declared_names world))
 
 -- no two functions of one side have the same WIT name
 abbrev pub are_distinct_functions : List Function → Bool

@@ -2,6 +2,7 @@ pub mod Bound
 pub mod Body
 pub mod Built
 pub mod Cause
+pub mod Clash
 pub mod DeclaredNames
 pub mod Default
 pub mod Docs
@@ -13,6 +14,7 @@ pub mod Exported
 pub mod Faithful
 pub mod Generated
 pub mod LackText
+pub mod Levels
 pub mod Lowering
 pub mod NameText
 pub mod OwnershipText
@@ -20,5 +22,7 @@ pub mod Printed
 pub mod Runtime
 pub mod Scope
 pub mod Served
+pub mod TooLarge
+pub mod TypeNames
 pub mod WithText
 pub mod Wrapper

@@ -1,9 +1,13 @@
 -- Whether the names and versions of the tables are written as WIT writes them, and functions stand under names: rules that
--- tables without types and interfaces can break.
+-- tables without interfaces can break.
 use Rattle.std.specs.Prelude.{ℕ, Bool, true, false, not, ◌&&◌, ◌||◌, nat_le, ◌==◌, List, [], ◌∷◌, Option, None, Some}
 use Rattle.std.specs.Char.{is_ascii_alphabetic, is_ascii_digit}
 use Rattle.std.specs.List.{list_all}
 use Rattle.wit_model.specs.declared.function.Function.{Function}
+use Rattle.wit_model.specs.declared.name.Name.{Name}
+use Rattle.wit_model.specs.declared.types.TypeDef.{TypeDef}
+use Rattle.wit_model.specs.declared.types.TypeDefKind.{TypeDefKind}
+use Rattle.wit_model.specs.declared.types.TypeDefKind.TheVariants as kind
 use Rattle.wit_model.specs.declared.world.Package.{Package}
 use Rattle.wit_model.specs.declared.world.World.{World}
 use Rattle.wit_model.specs.declared.world.WorldKey.{WorldKey}
@@ -41,6 +45,21 @@ is_written_package p = is_wit_form p.namespace.wit && is_wit_form p.name.wit && 
 abbrev pub is_written_function : Function → Bool
 is_written_function f = is_wit_form f.name.wit && list_all (λ p. is_wit_form p.name.wit) f.params
 
+abbrev pub is_written_type_name : Option Name → Bool
+is_written_type_name None = true
+is_written_type_name (Some name) = is_wit_form name.wit
+
+abbrev pub are_written_members : TypeDefKind → Bool
+are_written_members (kind.Record fields) = list_all (λ f. is_wit_form f.name.wit) fields
+are_written_members (kind.Variant cases) = list_all (λ c. is_wit_form c.name.wit) cases
+are_written_members (kind.Enum members) = list_all (λ m. is_wit_form m.name.wit) members
+are_written_members (kind.Flags members) = list_all (λ m. is_wit_form m.name.wit) members
+are_written_members _ = true
+
+-- a type's name, where it has one, and those of its members
+abbrev pub is_written_type : TypeDef → Bool
+is_written_type t = is_written_type_name t.name && are_written_members t.kind
+
 -- a function stands under a name
 abbrev pub is_written_key : WorldKey → Bool
 is_written_key (key.Name name) = is_wit_form name.wit
@@ -59,4 +78,4 @@ abbrev pub is_written_world : World → Bool
 is_written_world world = is_wit_form world.name.wit && list_all is_written_entry world.imports && list_all is_written_entry world.exports
 
 unfoldable pub are_written_tables : Resolve → Bool
-are_written_tables r = list_all is_written_package r.packages && list_all is_written_world r.worlds
+are_written_tables r = list_all is_written_package r.packages && list_all is_written_type r.types && list_all is_written_world r.worlds

@@ -1,14 +1,18 @@
 //! For which cause no file is made.
 
-ghost use Rattle.std.specs.Prelude.{◌≡◌, true, Some, IfOk, slice_get};
-ghost use Rattle.wit_model.specs.WellFormed.{first_fault};
-ghost use Rattle.rust_gen.specs.Cause.{IsAnswer, IsUnbuilt, cause, invalid, is_built, is_index_range, is_well_named, built_cause, world_cause};
+ghost use Rattle.std.specs.Prelude.{◌≡◌, true, None, Some, IfOk, slice_get};
+ghost use Rattle.wit_model.specs.WellFormed.{IsWellFormed, first_fault};
+ghost use Rattle.rust_gen.specs.DeclaredNames.{declares_well};
+ghost use Rattle.rust_gen.specs.Cause.{IsAnswer, IsUnbuilt, cause, invalid, is_accepted, is_built, is_index_range, is_well_named, built_cause, world_cause};
 
 use crate::built::{are_built_options, are_built_tables};
+use crate::clash::first_clash;
 use crate::error::{GenError, Lack};
 use crate::name_text::are_written_tables;
-use crate::names::{declares_well, have_distinct_names};
+use crate::names::{declared_names, have_distinct_names};
 use crate::opts::Opts;
+use crate::too_large::are_small;
+use crate::type_names::are_type_names;
 use std::alloc::Global;
 use wit_model::{OutOfMemory, Resolve, Rule, Table, World, WorldFault, WorldId};
 
@@ -16,7 +20,8 @@ use wit_model::{OutOfMemory, Resolve, Rule, Table, World, WorldFault, WorldId};
 type Fault = (Rule, (Table, u32));
 
 fn fault_of(alloc: Global, resolve: &Resolve) -> Result<Option<Fault>, OutOfMemory>
-    ensures { IfOk result (λ fault. fault ≡ first_fault resolve.now) }
+    ensures fault { IfOk result (λ fault. fault ≡ first_fault resolve.now) }
+    ensures well { IfOk result (λ fault. fault ≡ None → IsWellFormed resolve.now) }
 {
     match resolve.check(alloc) {
         Ok(()) => Ok(None),
@@ -58,6 +63,29 @@ fn is_well_named(alloc: Global, resolve: &Resolve, world: &World) -> Result<bool
     declares_well(alloc, world)
 }
 
+#[tactic(auto, unfolding(crate::specs::DeclaredNames::declares_well))]
+fn declares_well(alloc: Global, world: &World) -> Result<bool, OutOfMemory>
+    ensures { IfOk result (λ b. b ≡ declares_well world.now) }
+{
+    let names = declared_names(alloc, world)?;
+    let clash = first_clash(alloc, names.as_slice())?;
+    Ok(clash.is_none())
+}
+
+#[tactic(auto, unfolding(crate::specs::Cause::is_accepted))]
+fn is_accepted(alloc: Global, resolve: &Resolve, world: &World) -> Result<bool, OutOfMemory>
+    requires { IsWellFormed resolve.now }
+    ensures { IfOk result (λ b. b ≡ is_accepted resolve.now world.now) }
+{
+    if !are_small(alloc, resolve)? {
+        return Ok(false);
+    }
+    if !are_type_names(resolve.types.as_slice()) {
+        return Ok(false);
+    }
+    is_well_named(alloc, resolve, world)
+}
+
 fn unbuilt(alloc: Global, world: &World) -> GenError
     ensures { IsUnbuilt world.now result }
 {
@@ -70,20 +98,22 @@ fn unbuilt(alloc: Global, world: &World) -> GenError
     }
 }
 
-fn named(
+fn without_fault(
     alloc: Global,
     resolve: &Resolve,
     world: &World,
     fault: Option<Fault>,
 ) -> Result<(), GenError>
-    requires { fault ≡ first_fault resolve.now }
+    requires fault { fault ≡ first_fault resolve.now }
+    requires well { fault ≡ None → IsWellFormed resolve.now }
     ensures answer { IsAnswer result (built_cause resolve.now world.now) }
-    ensures named { IfOk result (λ _. is_well_named resolve.now world.now ≡ true) }
+    ensures accepted { IfOk result (λ _. is_accepted resolve.now world.now ≡ true) }
+    ensures checked { IfOk result (λ _. IsWellFormed resolve.now) }
 {
     if let Some(fault) = fault {
         return Err(invalid(fault));
     }
-    match is_well_named(alloc, resolve, world) {
+    match is_accepted(alloc, resolve, world) {
         Ok(true) => Ok(()),
         Ok(false) => Err(unbuilt(alloc, world)),
         Err(OutOfMemory) => Err(GenError::OutOfMemory),
@@ -97,11 +127,13 @@ fn accepted<'a>(
     id: WorldId,
     fault: Option<Fault>,
 ) -> Result<&'a World, GenError>
-    requires { fault ≡ first_fault resolve.now }
+    requires fault { fault ≡ first_fault resolve.now }
+    requires well { fault ≡ None → IsWellFormed resolve.now }
     ensures answer { IsAnswer result (world_cause opts.now resolve.now id (slice_get resolve.now.worlds id.0)) }
     ensures world { IfOk result (λ world. slice_get resolve.now.worlds id.0 ≡ Some world.now) }
     ensures built { IfOk result (λ _. is_built opts.now resolve.now ≡ true) }
-    ensures named { IfOk result (λ world. is_well_named resolve.now world.now ≡ true) }
+    ensures accepted { IfOk result (λ world. is_accepted resolve.now world.now ≡ true) }
+    ensures checked { IfOk result (λ _. IsWellFormed resolve.now) }
 {
     let Some(world) = resolve.world(id) else {
         return Err(invalid((Rule::IndexRange, (Table::World, id.0))));
@@ -109,7 +141,7 @@ fn accepted<'a>(
     if !is_built(opts, resolve) {
         return Err(unbuilt(alloc, world));
     }
-    match named(alloc, resolve, world, fault) {
+    match without_fault(alloc, resolve, world, fault) {
         Ok(()) => Ok(world),
         Err(e) => Err(e),
     }
@@ -126,7 +158,8 @@ pub(crate) fn accepted_world<'a>(
     ensures answer { IsAnswer result (cause opts.now resolve.now id) }
     ensures world { IfOk result (λ world. slice_get resolve.now.worlds id.0 ≡ Some world.now) }
     ensures built { IfOk result (λ _. is_built opts.now resolve.now ≡ true) }
-    ensures named { IfOk result (λ world. is_well_named resolve.now world.now ≡ true) }
+    ensures accepted { IfOk result (λ world. is_accepted resolve.now world.now ≡ true) }
+    ensures checked { IfOk result (λ _. IsWellFormed resolve.now) }
 {
     let fault = match fault_of(alloc, resolve) {
         Ok(fault) => fault,

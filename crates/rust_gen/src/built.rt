@@ -2,12 +2,13 @@
 
 ghost use Rattle.std.specs.Prelude.{◌≡◌};
 ghost use Rattle.std.specs.List.{list_all};
-ghost use Rattle.rust_gen.specs.Built.{is_built_type, is_built_result, is_freestanding, is_built_function, is_built_item, is_empty, is_built_world, are_built_tables, are_flags_off, are_lists_empty, are_values_absent, is_owning, are_built_options};
+ghost use Rattle.rust_gen.specs.Built.{is_built_kind, is_built_part, is_built_type, is_built_result, is_freestanding, is_built_function, is_built_item, is_empty, is_built_world, are_built_tables, are_flags_off, are_lists_empty, are_values_absent, is_owning, are_built_options};
 
 use crate::core_signature::are_at_most;
 use crate::opts::{Opts, Ownership};
 use wit_model::{
-    Function, FunctionKind, List, Param, Resolve, WitType, World, WorldItem, WorldKey,
+    Field, Function, FunctionKind, List, Param, Resolve, TypeDef, TypeDefKind, WitType, World,
+    WorldItem, WorldKey,
 };
 
 fn is_built_type(ty: WitType) -> bool
@@ -98,13 +99,48 @@ fn are_built_worlds(worlds: &[World]) -> bool
     worlds.iter().all(|world| is_built_world(world))
 }
 
-/// Whether the tables hold only worlds of functions over scalars and texts.
+fn is_built_part(ty: WitType) -> bool
+    ensures { result ≡ is_built_part ty }
+{
+    !matches!(ty, WitType::ErrorContext)
+}
+
+fn are_built_parts(members: &[WitType]) -> bool
+    ensures { result ≡ list_all is_built_part members.now }
+{
+    members.iter().all(|ty| is_built_part(*ty))
+}
+
+fn are_built_fields(fields: &[Field]) -> bool
+    ensures { result ≡ list_all (λ f. is_built_part f.ty) fields.now }
+{
+    fields.iter().all(|field| is_built_part(field.ty))
+}
+
+fn is_built_kind(kind: &TypeDefKind) -> bool
+    ensures { result ≡ is_built_kind kind.now }
+{
+    match kind {
+        TypeDefKind::Alias(ty) => is_built_part(*ty),
+        TypeDefKind::Tuple(members) => are_built_parts(members.as_slice()),
+        TypeDefKind::Record(fields) => are_built_fields(fields.as_slice()),
+        _ => false,
+    }
+}
+
+fn are_built_kinds(types: &[TypeDef]) -> bool
+    ensures { result ≡ list_all (λ t. is_built_kind t.kind) types.now }
+{
+    types.iter().all(|entry| is_built_kind(&entry.kind))
+}
+
+/// Whether the tables hold only worlds of functions over scalars and texts, and aliases, records and tuples.
 #[tactic(auto, unfolding(crate::specs::Built::are_built_tables))]
 pub(crate) fn are_built_tables(resolve: &Resolve) -> bool
     ensures { result ≡ are_built_tables resolve.now }
 {
     is_empty(&resolve.interfaces)
-        && is_empty(&resolve.types)
+        && are_built_kinds(resolve.types.as_slice())
         && are_built_worlds(resolve.worlds.as_slice())
 }
 

@@ -4,7 +4,9 @@
 mod accept;
 mod area;
 mod built;
+mod clash;
 mod core_signature;
+mod declared;
 mod docs;
 mod emitted;
 mod error;
@@ -14,6 +16,7 @@ mod exported;
 mod forms;
 mod generate;
 mod give;
+mod levels;
 mod lift;
 mod lists;
 mod lower;
@@ -25,8 +28,10 @@ mod post_return;
 mod printed;
 mod runtime;
 mod scope;
+mod too_large;
 mod tree;
 mod try_copy;
+mod type_names;
 mod wrapper;
 
 pub use error::{Clash, Entry, GenError, Lack, MissingWith, TooLarge};

@@ -2,9 +2,12 @@
 
 ghost use Rattle.std.specs.Prelude.{◌≡◌};
 ghost use Rattle.std.specs.List.{list_all};
-ghost use Rattle.rust_gen.specs.NameText.{is_nonempty, is_name_char, is_wit_form, is_version_mark, is_version_char, is_version, is_written_package, is_written_function, is_written_item, is_written_key, is_written_entry, is_written_world, are_written_tables};
+ghost use Rattle.rust_gen.specs.NameText.{is_nonempty, is_name_char, is_wit_form, is_version_mark, is_version_char, is_version, is_written_package, are_written_members, is_written_type, is_written_type_name, is_written_function, is_written_item, is_written_key, is_written_entry, is_written_world, are_written_tables};
 
-use wit_model::{Function, Package, Param, Resolve, Text, World, WorldItem, WorldKey};
+use wit_model::{
+    Case, Field, Function, Member, Name, Package, Param, Resolve, Text, TypeDef, TypeDefKind,
+    World, WorldItem, WorldKey,
+};
 
 fn is_name_char(c: u8) -> bool
     ensures { result ≡ is_name_char c }
@@ -86,6 +89,57 @@ fn is_written_function(f: &Function) -> bool
     is_wit_form(&f.name.wit) && are_written_params(f.params.as_slice())
 }
 
+fn is_written_type_name(name: &Option<Name>) -> bool
+    ensures { result ≡ is_written_type_name name.now }
+{
+    match name {
+        None => true,
+        Some(name) => is_wit_form(&name.wit),
+    }
+}
+
+fn are_written_fields(fields: &[Field]) -> bool
+    ensures { result ≡ list_all (λ f. is_wit_form f.name.wit) fields.now }
+{
+    fields.iter().all(|field| is_wit_form(&field.name.wit))
+}
+
+fn are_written_cases(cases: &[Case]) -> bool
+    ensures { result ≡ list_all (λ c. is_wit_form c.name.wit) cases.now }
+{
+    cases.iter().all(|case| is_wit_form(&case.name.wit))
+}
+
+fn are_written_labels(members: &[Member]) -> bool
+    ensures { result ≡ list_all (λ m. is_wit_form m.name.wit) members.now }
+{
+    members.iter().all(|member| is_wit_form(&member.name.wit))
+}
+
+fn are_written_members(kind: &TypeDefKind) -> bool
+    ensures { result ≡ are_written_members kind.now }
+{
+    match kind {
+        TypeDefKind::Record(fields) => are_written_fields(fields.as_slice()),
+        TypeDefKind::Variant(cases) => are_written_cases(cases.as_slice()),
+        TypeDefKind::Enum(members) => are_written_labels(members.as_slice()),
+        TypeDefKind::Flags(members) => are_written_labels(members.as_slice()),
+        _ => true,
+    }
+}
+
+fn is_written_type(entry: &TypeDef) -> bool
+    ensures { result ≡ is_written_type entry.now }
+{
+    is_written_type_name(&entry.name) && are_written_members(&entry.kind)
+}
+
+fn are_written_types(types: &[TypeDef]) -> bool
+    ensures { result ≡ list_all is_written_type types.now }
+{
+    types.iter().all(|entry| is_written_type(entry))
+}
+
 fn is_written_item(item: &WorldItem) -> bool
     ensures { result ≡ is_written_item item.now }
 {
@@ -138,5 +192,6 @@ pub(crate) fn are_written_tables(resolve: &Resolve) -> bool
     ensures { result ≡ are_written_tables resolve.now }
 {
     are_written_packages(resolve.packages.as_slice())
+        && are_written_types(resolve.types.as_slice())
         && are_written_worlds(resolve.worlds.as_slice())
 }

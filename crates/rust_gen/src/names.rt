@@ -1,18 +1,21 @@
-//! Which names the file of a world declares, and whether they are identifiers of which no two clash.
+//! Which names the file of a world declares, in the order of the format, and whether functions of one side have distinct names.
 
-ghost use Rattle.std.specs.Prelude.{◌≡◌, ◌++◌, ◌||◌, IfOk, OnOk, map};
+ghost use Rattle.std.specs.Prelude.{◌≡◌, ◌++◌, IfOk, OnOk, map};
 ghost use Rattle.std.specs.List.{flat_map, list_all};
-ghost use Rattle.rust_tree.specs.Ident.{is_ident, rust_ident};
-ghost use Rattle.rust_gen.specs.DeclaredNames.{are_distinct_functions, are_names, area_idents, declares_well, export_ident, has_distinct_names, is_empty, macro_idents, param_idents, return_idents, return_prefix, value_idents};
+ghost use Rattle.rust_tree.specs.Ident.{rust_ident};
+ghost use Rattle.rust_gen.specs.declared.declared.Sort.TheVariants.{Macro, Type_, Value};
+ghost use Rattle.rust_gen.specs.DeclaredNames.{all_declared, among_types, are_distinct_functions, area_idents, area_type_idents, declared, declared_names, export_ident, has_distinct_names, macro_idents, module_scope, param_scope, return_names, return_prefix, runtime_idents, trait_idents, trait_scope, where_exported};
 ghost use Rattle.rust_gen.specs.Emitted as emitted;
+ghost use Rattle.rust_gen.specs.Runtime.{items_for};
 
 use crate::area::{any_needs_area, needs_area};
+use crate::declared::{Declared, NameScope, Sort};
 use crate::emitted::functions_in;
-use rust_tree::{is_ident, to_rust_ident};
+use crate::runtime::runtime_items;
+use rust_tree::to_rust_ident;
 use std::alloc::Global;
 use wit_model::{
     Function, List, OutOfMemory, Param, Text, World, WorldItem, WorldKey, are_distinct,
-    are_distinct_texts,
 };
 
 fn wit_names<'a>(alloc: Global, functions: &[&'a Function]) -> Result<Vec<&'a str>, OutOfMemory>
@@ -59,17 +62,6 @@ pub(crate) fn have_distinct_names(alloc: Global, worlds: &[World]) -> Result<boo
     Ok(true)
 }
 
-fn function_idents(alloc: Global, functions: &[&Function]) -> Result<List<Text>, OutOfMemory>
-    ensures { IfOk result
-        (λ names. names ≡ map (λ f. rust_ident f.name) (map (λ f. f.now) functions.now)) }
-{
-    let mut names = List::new(alloc);
-    for function in functions {
-        names.push(to_rust_ident(alloc, &function.name)?)?;
-    }
-    Ok(names)
-}
-
 pub(crate) fn param_idents(alloc: Global, params: &[Param]) -> Result<List<Text>, OutOfMemory>
     ensures { IfOk result (λ names. names ≡ map (λ p. rust_ident p.name) params.now) }
 {
@@ -80,64 +72,12 @@ pub(crate) fn param_idents(alloc: Global, params: &[Param]) -> Result<List<Text>
     Ok(names)
 }
 
-fn are_idents(names: &[Text]) -> bool
-    ensures { result ≡ list_all is_ident names.now }
-{
-    names.iter().all(|name| is_ident(name.as_str()))
-}
-
-fn are_names(alloc: Global, names: &[Text]) -> Result<bool, OutOfMemory>
-    ensures { IfOk result (λ b. b ≡ are_names names.now) }
-{
-    if are_idents(names) {
-        are_distinct_texts(alloc, names)
-    } else {
-        Ok(false)
-    }
-}
-
-fn has_param_names(alloc: Global, function: &Function) -> Result<bool, OutOfMemory>
-    ensures { IfOk result (λ b. b ≡ are_names (param_idents function.now)) }
-{
-    let names = param_idents(alloc, function.params.as_slice())?;
-    are_names(alloc, names.as_slice())
-}
-
-fn have_param_names(alloc: Global, functions: &[&Function]) -> Result<bool, OutOfMemory>
-    ensures { IfOk result
-        (λ b. b ≡ list_all (λ f. are_names (param_idents f)) (map (λ f. f.now) functions.now)) }
-{
-    for function in functions {
-        if !has_param_names(alloc, function)? {
-            return Ok(false);
-        }
-    }
-    Ok(true)
-}
-
 /// The name of an exported function's wrapper.
 #[tactic(auto, unfolding(crate::specs::DeclaredNames::export_prefix, crate::specs::DeclaredNames::cabi_suffix))]
 fn export_ident(alloc: Global, f: &Function) -> Result<Text, OutOfMemory>
     ensures { IfOk result (λ name. name ≡ export_ident f.now) }
 {
-    let mut name = Text::from_str(alloc, "_export_")?;
-    name.push_str(f.name.snake.as_str())?;
-    name.push_str("_cabi")?;
-    Ok(name)
-}
-
-fn push_export_idents(
-    alloc: Global,
-    names: &mut List<Text>,
-    functions: &[&Function],
-) -> Result<(), OutOfMemory>
-    ensures { OnOk result
-        (names.new ≡ names.old ++ map export_ident (map (λ f. f.now) functions.now)) }
-{
-    for function in functions {
-        names.push(export_ident(alloc, function)?)?;
-    }
-    Ok(())
+    between(alloc, "_export_", &f.name.snake, "_cabi")
 }
 
 /// The name of a post-return function.
@@ -145,71 +85,7 @@ fn push_export_idents(
 fn return_ident(alloc: Global, f: &Function) -> Result<Text, OutOfMemory>
     ensures { IfOk result (λ name. name ≡ return_prefix ++ f.now.name.snake) }
 {
-    let mut name = Text::from_str(alloc, "__post_return_")?;
-    name.push_str(f.name.snake.as_str())?;
-    Ok(name)
-}
-
-fn push_return_ident(alloc: Global, names: &mut List<Text>, f: &Function) -> Result<(), OutOfMemory>
-    ensures { OnOk result (names.new ≡ names.old ++ return_idents f.now) }
-{
-    if needs_area(&f.result) {
-        names.push(return_ident(alloc, f)?)?;
-    }
-    Ok(())
-}
-
-fn push_return_idents(
-    alloc: Global,
-    names: &mut List<Text>,
-    functions: &[&Function],
-) -> Result<(), OutOfMemory>
-    ensures { OnOk result
-        (names.new ≡ names.old ++ flat_map return_idents (map (λ f. f.now) functions.now)) }
-{
-    for function in functions {
-        push_return_ident(alloc, names, function)?;
-    }
-    Ok(())
-}
-
-#[tactic(auto, unfolding(crate::specs::DeclaredNames::area_ident))]
-fn push_area_ident(
-    alloc: Global,
-    names: &mut List<Text>,
-    functions: &[&Function],
-) -> Result<(), OutOfMemory>
-    ensures { OnOk result (names.new ≡ names.old ++ area_idents (map (λ f. f.now) functions.now)) }
-{
-    if any_needs_area(functions) {
-        names.push(Text::from_str(alloc, "_RET_AREA")?)?;
-    }
-    Ok(())
-}
-
-/// Whether the functions of the root, and its static area, have names that are identifiers and distinct.
-fn has_value_names(
-    alloc: Global,
-    imports: &[&Function],
-    exports: &[&Function],
-) -> Result<bool, OutOfMemory>
-    ensures { IfOk result
-        (λ b. b ≡ are_names (value_idents (map (λ f. f.now) imports.now) (map (λ f. f.now) exports.now))) }
-{
-    let mut names = function_idents(alloc, imports)?;
-    push_area_ident(alloc, &mut names, exports)?;
-    push_return_idents(alloc, &mut names, exports)?;
-    push_export_idents(alloc, &mut names, exports)?;
-    are_names(alloc, names.as_slice())
-}
-
-/// Whether the functions of the trait have names that are identifiers and distinct.
-fn has_method_names(alloc: Global, functions: &[&Function]) -> Result<bool, OutOfMemory>
-    ensures { IfOk result
-        (λ b. b ≡ are_names (map (λ f. rust_ident f.name) (map (λ f. f.now) functions.now))) }
-{
-    let names = function_idents(alloc, functions)?;
-    are_names(alloc, names.as_slice())
+    between(alloc, "__post_return_", &f.name.snake, "")
 }
 
 fn between(alloc: Global, front: &str, name: &Text, behind: &str) -> Result<Text, OutOfMemory>
@@ -219,6 +95,169 @@ fn between(alloc: Global, front: &str, name: &Text, behind: &str) -> Result<Text
     text.push_str(name.as_str())?;
     text.push_str(behind)?;
     Ok(text)
+}
+
+fn declare_all(
+    alloc: Global,
+    names: &mut List<Declared>,
+    sort: Sort,
+    words: &[&str],
+) -> Result<(), OutOfMemory>
+    ensures { OnOk result
+        (names.new ≡ names.old ++ all_declared sort (map (λ w. w.now) words.now)) }
+{
+    for word in words {
+        names.push(Declared {
+            sort,
+            name: Text::from_str(alloc, word)?,
+        })?;
+    }
+    Ok(())
+}
+
+fn declare_functions(
+    alloc: Global,
+    names: &mut List<Declared>,
+    functions: &[&Function],
+) -> Result<(), OutOfMemory>
+    ensures { OnOk result
+        (names.new ≡ names.old ++ map (λ f. declared Value (rust_ident f.name)) (map (λ f. f.now) functions.now)) }
+{
+    for function in functions {
+        names.push(Declared {
+            sort: Sort::Value,
+            name: to_rust_ident(alloc, &function.name)?,
+        })?;
+    }
+    Ok(())
+}
+
+/// A function that is compared with the types too.
+fn declare_among_types(
+    alloc: Global,
+    names: &mut List<Declared>,
+    name: Text,
+) -> Result<(), OutOfMemory>
+    ensures { OnOk result (names.new ≡ names.old ++ among_types name) }
+{
+    let value = name.copy(alloc)?;
+    names.push(Declared {
+        sort: Sort::Value,
+        name: value,
+    })?;
+    names.push(Declared {
+        sort: Sort::Type_,
+        name,
+    })
+}
+
+fn declare_exports(
+    alloc: Global,
+    names: &mut List<Declared>,
+    functions: &[&Function],
+) -> Result<(), OutOfMemory>
+    ensures { OnOk result
+        (names.new ≡ names.old ++ flat_map (λ f. among_types (export_ident f)) (map (λ f. f.now) functions.now)) }
+{
+    for function in functions {
+        declare_among_types(alloc, names, export_ident(alloc, function)?)?;
+    }
+    Ok(())
+}
+
+fn declare_return(
+    alloc: Global,
+    names: &mut List<Declared>,
+    f: &Function,
+) -> Result<(), OutOfMemory>
+    ensures { OnOk result (names.new ≡ names.old ++ return_names f.now) }
+{
+    if needs_area(&f.result) {
+        declare_among_types(alloc, names, return_ident(alloc, f)?)
+    } else {
+        Ok(())
+    }
+}
+
+fn declare_returns(
+    alloc: Global,
+    names: &mut List<Declared>,
+    functions: &[&Function],
+) -> Result<(), OutOfMemory>
+    ensures { OnOk result
+        (names.new ≡ names.old ++ flat_map return_names (map (λ f. f.now) functions.now)) }
+{
+    for function in functions {
+        declare_return(alloc, names, function)?;
+    }
+    Ok(())
+}
+
+#[tactic(auto, unfolding(crate::specs::DeclaredNames::runtime_ident))]
+fn declare_runtime(
+    alloc: Global,
+    names: &mut List<Declared>,
+    imports: &[&Function],
+    exports: &[&Function],
+) -> Result<(), OutOfMemory>
+    ensures { OnOk result
+        (names.new ≡ names.old ++ all_declared Type_ (runtime_idents (items_for (map (λ f. f.now) imports.now) (map (λ f. f.now) exports.now)))) }
+{
+    let items = runtime_items(alloc, imports, exports)?;
+    if items.is_empty() {
+        Ok(())
+    } else {
+        declare_all(alloc, names, Sort::Type_, &["_rt"])
+    }
+}
+
+#[tactic(auto, unfolding(crate::specs::Exported::guest_name, crate::specs::DeclaredNames::implementation_ident))]
+fn declare_trait(
+    alloc: Global,
+    names: &mut List<Declared>,
+    exports: &[&Function],
+) -> Result<(), OutOfMemory>
+    ensures { OnOk result
+        (names.new ≡ names.old ++ all_declared Type_ (trait_idents (map (λ f. f.now) exports.now))) }
+{
+    if exports.is_empty() {
+        Ok(())
+    } else {
+        declare_all(alloc, names, Sort::Type_, &["Guest", "T_"])
+    }
+}
+
+#[tactic(auto, unfolding(crate::specs::DeclaredNames::area_type_ident))]
+fn declare_area_type(
+    alloc: Global,
+    names: &mut List<Declared>,
+    imports: &[&Function],
+    exports: &[&Function],
+) -> Result<(), OutOfMemory>
+    ensures { OnOk result
+        (names.new ≡ names.old ++ all_declared Type_ (area_type_idents (map (λ f. f.now) imports.now) (map (λ f. f.now) exports.now))) }
+{
+    if any_needs_area(imports) || any_needs_area(exports) {
+        declare_all(alloc, names, Sort::Type_, &["_RetArea"])
+    } else {
+        Ok(())
+    }
+}
+
+#[tactic(auto, unfolding(crate::specs::DeclaredNames::area_ident))]
+fn declare_area(
+    alloc: Global,
+    names: &mut List<Declared>,
+    exports: &[&Function],
+) -> Result<(), OutOfMemory>
+    ensures { OnOk result
+        (names.new ≡ names.old ++ all_declared Value (area_idents (map (λ f. f.now) exports.now))) }
+{
+    if any_needs_area(exports) {
+        declare_all(alloc, names, Sort::Value, &["_RET_AREA"])
+    } else {
+        Ok(())
+    }
 }
 
 #[tactic(auto, unfolding(crate::specs::DeclaredNames::macro_idents))]
@@ -233,37 +272,117 @@ fn macro_idents(alloc: Global, world: &World) -> Result<List<Text>, OutOfMemory>
     Ok(names)
 }
 
-/// Whether the macros, which stand where a function is exported, have names that are identifiers and distinct.
-fn has_macro_names(alloc: Global, world: &World, exports: &[&Function]) -> Result<bool, OutOfMemory>
-    ensures { IfOk result
-        (λ b. b ≡ (is_empty (map (λ f. f.now) exports.now) || are_names (macro_idents world.now))) }
+fn declare_copies(
+    alloc: Global,
+    names: &mut List<Declared>,
+    sort: Sort,
+    texts: &[Text],
+) -> Result<(), OutOfMemory>
+    ensures { OnOk result (names.new ≡ names.old ++ all_declared sort texts.now) }
 {
-    if exports.is_empty() {
-        return Ok(true);
+    for text in texts {
+        names.push(Declared {
+            sort,
+            name: text.copy(alloc)?,
+        })?;
     }
-    let names = macro_idents(alloc, world)?;
-    are_names(alloc, names.as_slice())
+    Ok(())
 }
 
-/// Whether the functions of the root with its static area, the trait's functions, the macros, and in a scope of their own the parameters of each function have
-/// names that are identifiers and distinct.
-#[tactic(auto, unfolding(crate::specs::DeclaredNames::declares_well))]
-pub(crate) fn declares_well(alloc: Global, world: &World) -> Result<bool, OutOfMemory>
-    ensures { IfOk result (λ b. b ≡ declares_well world.now) }
+fn declare_macros(
+    alloc: Global,
+    names: &mut List<Declared>,
+    world: &World,
+    exports: &[&Function],
+) -> Result<(), OutOfMemory>
+    ensures { OnOk result
+        (names.new ≡ names.old ++ all_declared Macro (where_exported (map (λ f. f.now) exports.now) (macro_idents world.now))) }
+{
+    if exports.is_empty() {
+        return Ok(());
+    }
+    let macros = macro_idents(alloc, world)?;
+    declare_copies(alloc, names, Sort::Macro, macros.as_slice())
+}
+
+/// The names of the module itself: its types, its functions and its static, its macros.
+fn module_scope(
+    alloc: Global,
+    world: &World,
+    imports: &[&Function],
+    exports: &[&Function],
+) -> Result<NameScope, OutOfMemory>
+    ensures { IfOk result
+        (λ scope. scope ≡ module_scope world.now (map (λ f. f.now) imports.now) (map (λ f. f.now) exports.now)) }
+{
+    let mut names = List::new(alloc);
+    declare_runtime(alloc, &mut names, imports, exports)?;
+    declare_trait(alloc, &mut names, exports)?;
+    declare_area_type(alloc, &mut names, imports, exports)?;
+    declare_functions(alloc, &mut names, imports)?;
+    declare_exports(alloc, &mut names, exports)?;
+    declare_returns(alloc, &mut names, exports)?;
+    declare_area(alloc, &mut names, exports)?;
+    declare_macros(alloc, &mut names, world, exports)?;
+    Ok(NameScope {
+        name: Text::new(alloc),
+        names,
+    })
+}
+
+#[tactic(auto, unfolding(crate::specs::Exported::guest_name))]
+fn trait_scope(alloc: Global, exports: &[&Function]) -> Result<NameScope, OutOfMemory>
+    ensures { IfOk result (λ scope. scope ≡ trait_scope (map (λ f. f.now) exports.now)) }
+{
+    let mut names = List::new(alloc);
+    declare_functions(alloc, &mut names, exports)?;
+    Ok(NameScope {
+        name: Text::from_str(alloc, "Guest")?,
+        names,
+    })
+}
+
+fn param_scope(alloc: Global, f: &Function) -> Result<NameScope, OutOfMemory>
+    ensures { IfOk result (λ scope. scope ≡ param_scope f.now) }
+{
+    let mut names = List::new(alloc);
+    for p in f.params.as_slice() {
+        names.push(Declared {
+            sort: Sort::Value,
+            name: to_rust_ident(alloc, &p.name)?,
+        })?;
+    }
+    Ok(NameScope {
+        name: to_rust_ident(alloc, &f.name)?,
+        names,
+    })
+}
+
+fn push_param_scopes(
+    alloc: Global,
+    scopes: &mut List<NameScope>,
+    functions: &[&Function],
+) -> Result<(), OutOfMemory>
+    ensures { OnOk result
+        (scopes.new ≡ scopes.old ++ map param_scope (map (λ f. f.now) functions.now)) }
+{
+    for function in functions {
+        scopes.push(param_scope(alloc, function)?)?;
+    }
+    Ok(())
+}
+
+/// The names that the file of a world declares, scope by scope: the root's, the trait's, and the parameters of each
+/// function.
+pub(crate) fn declared_names(alloc: Global, world: &World) -> Result<List<NameScope>, OutOfMemory>
+    ensures { IfOk result (λ scopes. scopes ≡ declared_names world.now) }
 {
     let imports = functions_in(alloc, world.imports.as_slice())?;
     let exports = functions_in(alloc, world.exports.as_slice())?;
-    if !has_value_names(alloc, imports.as_slice(), exports.as_slice())? {
-        return Ok(false);
-    }
-    if !has_method_names(alloc, exports.as_slice())? {
-        return Ok(false);
-    }
-    if !has_macro_names(alloc, world, exports.as_slice())? {
-        return Ok(false);
-    }
-    if !have_param_names(alloc, imports.as_slice())? {
-        return Ok(false);
-    }
-    have_param_names(alloc, exports.as_slice())
+    let mut scopes = List::new(alloc);
+    scopes.push(module_scope(alloc, world, imports.as_slice(), exports.as_slice())?)?;
+    scopes.push(trait_scope(alloc, exports.as_slice())?)?;
+    push_param_scopes(alloc, &mut scopes, imports.as_slice())?;
+    push_param_scopes(alloc, &mut scopes, exports.as_slice())?;
+    Ok(scopes)
 }

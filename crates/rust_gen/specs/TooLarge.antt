@@ -1,0 +1,9 @@
+-- Whether no type of the table is too large to be built.
+use Rattle.std.specs.Prelude.{Bool, ◌&&◌, List, is_none}
+use Rattle.wit_model.specs.declared.types.TypeDef.{TypeDef}
+use Rattle.wit_layout.specs.Filled.{first_too_large}
+use Rattle.rust_gen.specs.Levels.{are_shallow}
+
+-- no way down has more than a hundred entries, and no type has more than 2^31 - 1 bytes where pointers have 8
+unfoldable pub are_small : List TypeDef → Bool
+are_small types = are_shallow types && is_none (first_too_large types)
