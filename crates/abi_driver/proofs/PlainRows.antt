@@ -1,0 +1,403 @@
+-- The steps of a `PlainBindgen` do what the laws ask of their instructions.
+use Rattle.std.proofs.Common.{◌≡◌, ℕ, zero, suc, ◌+◌, ◌-◌, ◌^◌, ◌<◌, ◌⊎◌, Bool, true, false, ◌||◌, nat_eq, nat_lt, if◌then◌else◌, ℤ, pos, List, [], ◌∷◌, ◌++◌, length, map, find, Option, None, Some, refl, sym, ap, ap₂, ◌∙◌, subst, arith, append-nil}
+use mathlib.Core.Logic.{inl, inr}
+use Rattle.std.specs.Int.{w8, w16, w32, w64, cast_signed}
+use Rattle.std.specs.List.{AllByRecursion}
+use Rattle.std.specs.Str.{is_utf8}
+use Rattle.std.proofs.lemmas.Bool.Decides.{eqb_tells}
+use Rattle.std.proofs.lemmas.Int.{ints}
+use Rattle.std.proofs.lemmas.List.{length-map}
+use Rattle.wit_model.specs.declared.name.TypeId.{TypeId}
+use Rattle.wit_model.specs.declared.types.Field.{Field}
+use Rattle.wit_model.specs.declared.types.TypeDefKind.{TypeDefKind}
+use Rattle.wit_model.specs.declared.types.TypeDefKind.TheVariants as kind
+use Rattle.wit_model.specs.declared.types.TypeDef.{TypeDef}
+use Rattle.wit_model.specs.declared.types.WitType.{WitType}
+use Rattle.wit_layout.specs.Flat.{core_type}
+use Rattle.wit_layout.specs.Tree.{Scalar}
+use Rattle.wrapper_data.specs.declared.block.Block.{Block}
+use Rattle.wrapper_data.specs.declared.form.Form.{Form}
+use Rattle.wrapper_data.specs.declared.form.Form.TheVariants as form
+use Rattle.wrapper_data.specs.declared.run.TrapKind.{TrapKind}
+use Rattle.wrapper_data.specs.declared.run.TrapKind.TheVariants as trap
+use Rattle.wrapper_data.specs.declared.word.Word.{Word}
+use Rattle.wrapper_data.specs.declared.word.Word.TheVariants as core
+use Rattle.wrapper_meaning.specs.Buffer.{Contents, IsPlaced}
+use Rattle.wrapper_meaning.specs.InMemory.{TextHolds}
+use Rattle.wrapper_meaning.specs.AsWords.{IsTaken, Says, passed_word}
+use Rattle.wrapper_meaning.specs.Cells.{bytes_from}
+use Rattle.wrapper_meaning.specs.Direction.{Direction, take}
+use Rattle.wrapper_meaning.specs.InRange.{IsScalar}
+use Rattle.wrapper_meaning.specs.Items.{SameItems, total}
+use Rattle.wrapper_meaning.specs.Numbers.{is_scalar_value, is_signed, is_unsigned, low_bits}
+use Rattle.wrapper_meaning.specs.Shape.{Shape, Shapes}
+use Rattle.wrapper_meaning.specs.Shape.Shape.{scalar, text, fields, tuple}
+use Rattle.wrapper_meaning.specs.Shape.Shapes.{none, more}
+use Rattle.wrapper_meaning.specs.Value.{Parts, ScalarValue, Value}
+use Rattle.wrapper_meaning.proofs.Lists.{some_same}
+use Rattle.abi_driver.specs.declared.instruction.Instruction.{Instruction}
+use Rattle.abi_driver.specs.declared.instruction.Instruction.TheVariants as instruction
+use Rattle.abi_driver.specs.declared.plain.Place.{Place}
+use Rattle.abi_driver.specs.declared.plain.PlainBindgen.{PlainBindgen}
+use Rattle.abi_driver.specs.declared.plain.Step.TheVariants as step
+use Rattle.abi_driver.specs.Account.{Account, Done, Got, Outcome, Stopped, Stuck, Taken, addresses, checking, failing, found, gives, has_type, is_at, is_taken, reading, releasing, stay, taking, tested, without}
+use Rattle.abi_driver.specs.Instructions.{Emits, IsRecord, MakesBy, RowBy, field_shapes, lifted_scalar, lowered_scalar}
+use Rattle.abi_driver.specs.Laws.{Stays, core_data, item_data, ofs}
+use Rattle.abi_driver.specs.Leaves.{LiftsScalar, LiftsText, LowersScalar, LowersText}
+use Rattle.abi_driver.specs.Meaning.{Datum, arg, item, of, word}
+use Rattle.abi_driver.specs.Parts.{LiftsParts, LowersParts, PartsStand, count}
+use Rattle.abi_driver.specs.Plain.{AddsStep, IsPlainText, IsRight, PlainItem, PlainItems, PlainPartsStand, PlainStands, PlainState, all_at, and_all, gathered, leaf, lifted_type, listed, lowered_type, normal, performs, places_from, plain_meaning, scalar_of, whole}
+use Rattle.abi_driver.proofs.PlainPlaces.{places_count}
+use Rattle.abi_driver.proofs.PlainRuns.{plain_adds, plain_does}
+use Rattle.abi_driver.proofs.Records.{count-shapes}
+use Rattle.abi_driver.proofs.Runs.{total-append}
+
+-- 1. What actions leave of the owners
+
+abbrev OnDone : {V A : Type 0} → Outcome V (Got V A) → (Got V A → Type 0) → Type 0
+OnDone (Done x) P = P x
+OnDone (Stopped e acc) P = Unit {0}
+OnDone (Stuck acc) P = Unit {0}
+
+done_is : {V A : Type 0} (o : Outcome V (Got V A)) (P : Got V A → Type 0) (x : Got V A) → OnDone o P → o ≡ Done x → P x
+done_is o P x h e = subst (λ q. OnDone q P) e h
+
+if_done : {V A : Type 0} (b : Bool) (o q : Outcome V (Got V A)) (P : Got V A → Type 0) → (b ≡ true → OnDone o P) → (b ≡ false → OnDone q P) → OnDone (if b then o else q) P
+if_done true o q P h k = h refl
+if_done false o q P h k = k refl
+
+fails : {V A : Type 0} (f : Form) (kind : TrapKind) (acc : Account V) (P : Got V A → Type 0) → OnDone (failing f kind acc) P
+fails form.Debug kind acc P = tt
+fails form.Release kind acc P = tt
+
+without_one : (g : ℕ → ℕ) (a : ℕ) (taken : List ℕ) → is_taken a taken ≡ true → g a + total g (without a taken) ≡ total g taken
+without_one g a [] h = absurd (let e = h in cc)
+without_one g a (t ∷ taken) h = by (nat_eq t a) (eqb_tells t a) (without_one g a taken) h
+  where
+    by : (b : Bool) → (((nat_eq t a ≡ true) × (t ≡ a)) ⊎ ((nat_eq t a ≡ false) × (t ≡ a → ⊥))) → (is_taken a taken ≡ true → g a + total g (without a taken) ≡ total g taken)
+        → is_taken a (t ∷ taken) ≡ true → g a + total g (without a (t ∷ taken)) ≡ total g (t ∷ taken)
+    by b (inl (hit, same)) later h =
+        ap (λ c. g a + total g (if c then taken else t ∷ without a taken)) hit ∙ ap (λ x. g x + total g taken) (sym same)
+    by b (inr (miss, other)) later h =
+        let rest : is_taken a taken ≡ true = sym (ap (λ c. c || is_taken a taken) miss) ∙ h in
+        ap (λ c. g a + total g (if c then taken else t ∷ without a taken)) miss ∙ omega (arith, later rest)
+
+done_map : {V A : Type 0} (o : Outcome V (Got V A)) (P Q : Got V A → Type 0) → OnDone o P → ((x : Got V A) → P x → Q x) → OnDone o Q
+done_map (Done x) P Q h go = go x h
+done_map (Stopped e acc) P Q h go = tt
+done_map (Stuck acc) P Q h go = tt
+
+releasing_owns : (places : List ℕ) (acc : Account PlainItem) → OnDone (releasing places acc) (λ x. SameItems (x.account.taken ++ places) (acc.taken ++ []))
+releasing_owns [] acc = λ g. refl
+releasing_owns (a ∷ places) acc =
+    let next : Account PlainItem = record acc { taken = without a acc.taken } in
+    if_done (is_taken a acc.taken) (releasing places next) (Stuck acc) (λ x. SameItems (x.account.taken ++ a ∷ places) (acc.taken ++ []))
+    (λ here. done_map (releasing places next) (λ x. SameItems (x.account.taken ++ places) (without a acc.taken ++ [])) (λ x. SameItems (x.account.taken ++ a ∷ places) (acc.taken ++ [])) (releasing_owns places next)
+    (λ x h g. omega (arith, h g, without_one g a acc.taken here, total-append g x.account.taken (a ∷ places), total-append g x.account.taken places, total-append g acc.taken [], total-append g (without a acc.taken) [])))
+    (λ e. tt)
+
+checking_stays : (s : Scalar) (f : Form) (x : Word) (acc : Account PlainItem) → OnDone (checking s f x acc) (λ y. y.account ≡ acc)
+checking_stays Scalar.bool f (core.I32 z) acc = if_done (nat_lt (low_bits 8 z) 2) (stay acc) (failing f trap.Bool acc) (λ y. y.account ≡ acc) (λ e. refl) (λ e. fails f trap.Bool acc (λ y. y.account ≡ acc))
+checking_stays Scalar.char f (core.I32 z) acc = if_done (is_scalar_value (low_bits 32 z)) (stay acc) (failing f trap.Char acc) (λ y. y.account ≡ acc) (λ e. refl) (λ e. fails f trap.Char acc (λ y. y.account ≡ acc))
+checking_stays _ f x acc = refl
+
+reading_stays : (s : Scalar) (f : Form) (x : Word) (acc : Account PlainItem) → OnDone (reading s f x acc) (λ y. y.account ≡ acc)
+reading_stays s f x acc = if_done (has_type (core_type s) x) (checking s f x acc) (Stuck acc) (λ y. y.account ≡ acc) (λ e. checking_stays s f x acc) (λ e. tt)
+
+abbrev TakesOver : Account PlainItem → Got PlainItem Taken → Type 0
+TakesOver acc y = y.account.taken ≡ acc.taken ++ addresses y.result.blocks
+
+tested_owns : (f : Form) (b : Block) (bytes : Option (List ℕ)) (acc : Account PlainItem) → OnDone (tested f b bytes acc) (TakesOver acc)
+tested_owns f b None acc = fails f trap.Pointer acc (TakesOver acc)
+tested_owns f b (Some bytes) acc =
+    if_done (is_utf8 bytes) (gives (record { bytes = bytes; blocks = b ∷ [] }) (record acc { taken = acc.taken ++ b.address ∷ [] })) (failing f trap.Utf8 acc) (TakesOver acc) (λ e. refl) (λ e. fails f trap.Utf8 acc (TakesOver acc))
+
+found_owns : (f : Form) (n : ℕ) (b : Option Block) (acc : Account PlainItem) → OnDone (found f n b acc) (TakesOver acc)
+found_owns f n None acc = fails f trap.Block acc (TakesOver acc)
+found_owns f n (Some b) acc = tested_owns f b (bytes_from b.cells 0 n) acc
+
+taking_owns : (f : Form) (address n : ℕ) (acc : Account PlainItem) → OnDone (taking f address n acc) (TakesOver acc)
+taking_owns f address n acc =
+    let P = TakesOver acc in
+    let o4 = found f n (find (is_at address n) acc.heap.blocks) acc in
+    let o3 = if is_taken address acc.taken then failing f trap.Block acc else o4 in
+    let o2 = if nat_eq n 0 then gives (record { bytes = []; blocks = [] }) acc else o3 in
+    let o1 = if nat_eq address 0 then failing f trap.Pointer acc else o2 in
+    if_done (nat_lt (2 ^ 31 - 1) n) (failing f trap.Size acc) o1 P (λ e. fails f trap.Size acc P)
+    (λ e. if_done (nat_eq address 0) (failing f trap.Pointer acc) o2 P (λ e. fails f trap.Pointer acc P)
+    (λ e. if_done (nat_eq n 0) (gives (record { bytes = []; blocks = [] }) acc) o3 P (λ e. sym (append-nil acc.taken))
+    (λ e. if_done (is_taken address acc.taken) (failing f trap.Block acc) o4 P (λ e. fails f trap.Block acc P) (λ e. found_owns f n (find (is_at address n) acc.heap.blocks) acc))))
+
+same_owns : (xs ys : List ℕ) → xs ≡ ys → SameItems (xs ++ []) (ys ++ [])
+same_owns xs ys e g = ap (λ zs. total g (zs ++ [])) e
+
+stay_owns : (acc : Account PlainItem) (x : Got PlainItem (Unit {0})) → stay acc ≡ Done x → SameItems (x.account.taken ++ []) (acc.taken ++ [])
+stay_owns acc x e = same_owns x.account.taken acc.taken (done_is (stay acc) (λ y. y.account.taken ≡ acc.taken) x refl e)
+
+-- 2. Data that are read
+
+one_at : (b : PlainBindgen) (s : PlainState) (o : Place) (d : Datum PlainItem) → AllByRecursion (IsRight b s) (of o d ∷ []) → all_at s.values (o.number ∷ []) ≡ Some (d ∷ [])
+one_at b s o d h = ap (λ x. and_all x (Some [])) h.0.1
+
+two_at : (b : PlainBindgen) (s : PlainState) (o p : Place) (d e : Datum PlainItem) → AllByRecursion (IsRight b s) (of o d ∷ of p e ∷ []) → all_at s.values (o.number ∷ p.number ∷ []) ≡ Some (d ∷ e ∷ [])
+two_at b s o p d e h = ap₂ (λ x y. and_all x (and_all y (Some []))) h.0.1 h.1.0.1
+
+many_at : (b : PlainBindgen) (s : PlainState) (os : List Place) (ds : List (Datum PlainItem)) → length os ≡ length ds → AllByRecursion (IsRight b s) (ofs plain_meaning os ds) → all_at s.values (map (λ (p : Place). p.number) os) ≡ Some ds
+many_at b s [] [] e h = refl
+many_at b s [] (d ∷ ds) e h = absurd (omega (arith, e))
+many_at b s (o ∷ os) [] e h = absurd (omega (arith, e))
+many_at b s (o ∷ os) (d ∷ ds) e h = ap₂ and_all h.0.1 (many_at b s os ds (omega (arith, e)) h.1)
+
+-- 3. Scalars
+
+lowered_is : (i : Instruction) (ty : WitType) → lowered_type i ≡ Some ty → lowered_scalar i ≡ Some (scalar_of ty)
+lowered_is instruction.I32FromBool ty e = ap (λ t. Some (scalar_of t)) (some_same _ _ e)
+lowered_is instruction.I32FromU8 ty e = ap (λ t. Some (scalar_of t)) (some_same _ _ e)
+lowered_is instruction.I32FromS8 ty e = ap (λ t. Some (scalar_of t)) (some_same _ _ e)
+lowered_is instruction.I32FromU16 ty e = ap (λ t. Some (scalar_of t)) (some_same _ _ e)
+lowered_is instruction.I32FromS16 ty e = ap (λ t. Some (scalar_of t)) (some_same _ _ e)
+lowered_is instruction.I32FromU32 ty e = ap (λ t. Some (scalar_of t)) (some_same _ _ e)
+lowered_is instruction.I32FromS32 ty e = ap (λ t. Some (scalar_of t)) (some_same _ _ e)
+lowered_is instruction.I32FromChar ty e = ap (λ t. Some (scalar_of t)) (some_same _ _ e)
+lowered_is instruction.I64FromU64 ty e = ap (λ t. Some (scalar_of t)) (some_same _ _ e)
+lowered_is instruction.I64FromS64 ty e = ap (λ t. Some (scalar_of t)) (some_same _ _ e)
+lowered_is instruction.CoreF32FromF32 ty e = ap (λ t. Some (scalar_of t)) (some_same _ _ e)
+lowered_is instruction.CoreF64FromF64 ty e = ap (λ t. Some (scalar_of t)) (some_same _ _ e)
+lowered_is _ ty e = absurd (let h = e in cc)
+
+lifted_is : (i : Instruction) (ty : WitType) → lifted_type i ≡ Some ty → (lowered_scalar i ≡ None) × (lifted_scalar i ≡ Some (scalar_of ty))
+lifted_is instruction.BoolFromI32 ty e = (refl, ap (λ t. Some (scalar_of t)) (some_same _ _ e))
+lifted_is instruction.U8FromI32 ty e = (refl, ap (λ t. Some (scalar_of t)) (some_same _ _ e))
+lifted_is instruction.S8FromI32 ty e = (refl, ap (λ t. Some (scalar_of t)) (some_same _ _ e))
+lifted_is instruction.U16FromI32 ty e = (refl, ap (λ t. Some (scalar_of t)) (some_same _ _ e))
+lifted_is instruction.S16FromI32 ty e = (refl, ap (λ t. Some (scalar_of t)) (some_same _ _ e))
+lifted_is instruction.U32FromI32 ty e = (refl, ap (λ t. Some (scalar_of t)) (some_same _ _ e))
+lifted_is instruction.S32FromI32 ty e = (refl, ap (λ t. Some (scalar_of t)) (some_same _ _ e))
+lifted_is instruction.CharFromI32 ty e = (refl, ap (λ t. Some (scalar_of t)) (some_same _ _ e))
+lifted_is instruction.U64FromI64 ty e = (refl, ap (λ t. Some (scalar_of t)) (some_same _ _ e))
+lifted_is instruction.S64FromI64 ty e = (refl, ap (λ t. Some (scalar_of t)) (some_same _ _ e))
+lifted_is instruction.F32FromCoreF32 ty e = (refl, ap (λ t. Some (scalar_of t)) (some_same _ _ e))
+lifted_is instruction.F64FromCoreF64 ty e = (refl, ap (λ t. Some (scalar_of t)) (some_same _ _ e))
+lifted_is _ ty e = absurd (let h = e in cc)
+
+unsigned_normal : (n : ℕ) (v z : ℤ) → pos (low_bits n v) ≡ v → low_bits n v ≡ low_bits n z → core.I32 v ≡ core.I32 (pos (low_bits n z))
+unsigned_normal n v z own e = ap core.I32 (sym own ∙ ap pos e)
+
+u8_own : (v : ℤ) → is_unsigned 8 v ≡ true → pos (low_bits 8 v) ≡ v
+u8_own v h = grind (arith, ints)
+
+u16_own : (v : ℤ) → is_unsigned 16 v ≡ true → pos (low_bits 16 v) ≡ v
+u16_own v h = grind (arith, ints)
+
+s8_own : (v : ℤ) → is_signed 7 v ≡ true → cast_signed w8 (low_bits 8 v) ≡ v
+s8_own v h = grind (arith, ints)
+
+s16_own : (v : ℤ) → is_signed 15 v ≡ true → cast_signed w16 (low_bits 16 v) ≡ v
+s16_own v h = grind (arith, ints)
+
+-- the scalar that is read from a word is passed by its normal word
+normal_is : (s : Scalar) (v : ScalarValue s) (x : Word) → IsScalar s v → IsTaken s v x → normal s x ≡ passed_word s v
+normal_is Scalar.bool v x hv (z, e, h) = ap (normal Scalar.bool) e ∙ ap (λ n. core.I32 (pos n)) (sym h)
+normal_is Scalar.char v x hv (z, e, h) = ap (normal Scalar.char) e ∙ ap (λ n. core.I32 (pos n)) (sym h)
+normal_is Scalar.u8 v x hv (z, e, h) = ap (normal Scalar.u8) e ∙ sym (unsigned_normal 8 v z (u8_own v hv) h)
+normal_is Scalar.u16 v x hv (z, e, h) = ap (normal Scalar.u16) e ∙ sym (unsigned_normal 16 v z (u16_own v hv) h)
+normal_is Scalar.u32 v x hv (z, e, h) = ap (normal Scalar.u32) e ∙ ap (λ n. core.I32 (cast_signed w32 n)) (sym h)
+normal_is Scalar.s8 v x hv (z, e, h) = ap (normal Scalar.s8) e ∙ ap (λ n. core.I32 (cast_signed w8 n)) (sym h) ∙ ap core.I32 (s8_own v hv)
+normal_is Scalar.s16 v x hv (z, e, h) = ap (normal Scalar.s16) e ∙ ap (λ n. core.I32 (cast_signed w16 n)) (sym h) ∙ ap core.I32 (s16_own v hv)
+normal_is Scalar.s32 v x hv e = e
+normal_is Scalar.u64 v x hv (z, e, h) = ap (normal Scalar.u64) e ∙ ap (λ n. core.I64 (cast_signed w64 n)) (sym h)
+normal_is Scalar.s64 v x hv e = e
+normal_is Scalar.f32 v x hv e = e
+normal_is Scalar.f64 v x hv e = e
+normal_is Scalar.handle v x hv e = elim v [ ]
+
+-- 4. Texts and parts
+
+address_in : List Word → ℕ
+address_in (core.Pointer q ∷ ws) = q
+address_in _ = 0
+
+length_in : List Word → ℕ
+length_in (x ∷ core.Length n ∷ ws) = n
+length_in _ = 0
+
+word_pair : (p n q k : ℕ) → core.Pointer p ∷ core.Length n ∷ [] ≡ core.Pointer q ∷ core.Length k ∷ [] → (p ≡ q) × (n ≡ k)
+unfolding address_in length_in
+word_pair p n q k e = (ap address_in e, ap length_in e)
+
+above_zero : (n p q : ℕ) (inside : Contents) (own : List Block) → p ≡ q → IsPlaced take true q n 1 inside own → n ≡ 0 → 0 < p
+above_zero zero p q inside own e h no_bytes = omega (arith, e, h.0)
+above_zero (suc n) p q inside own e h no_bytes = absurd (omega (arith, no_bytes))
+
+-- words that say a text that is taken over do not begin with the address 0 where it has no bytes
+says_text : (bytes : List ℕ) (address n : ℕ) (own : List Block) → Says 2 take text bytes (core.Pointer address ∷ core.Length n ∷ []) own → IsPlainText take bytes (leaf (core.Pointer address ∷ core.Length n ∷ []) own) own
+says_text bytes address n own h =
+    let same = word_pair address n h.address (length bytes) h.pair in
+    (address, above_zero (length bytes) address h.address (TextHolds bytes) own same.0 h.buffer.placed, ap (λ k. leaf (core.Pointer address ∷ core.Length k ∷ []) own) same.1, subst (λ k. Says 2 take text bytes (core.Pointer address ∷ core.Length k ∷ []) own) same.1 h)
+
+parts_stand : (dir : Direction) (ts : Shapes) (v : Parts ts) (items : List PlainItem) (own : List Block) → PlainPartsStand dir ts v items own → PartsStand plain_meaning dir ts v items own
+parts_stand dir none v items own h = h
+parts_stand dir (more t ts) v items own h = (h.0, h.1, h.2, h.3, h.4, h.5, parts_stand dir ts v.1 h.1 h.3 h.6, h.7)
+
+plain_parts : (dir : Direction) (ts : Shapes) (v : Parts ts) (items : List PlainItem) (own : List Block) → PartsStand plain_meaning dir ts v items own → PlainPartsStand dir ts v items own
+plain_parts dir none v items own h = h
+plain_parts dir (more t ts) v items own h = (h.0, h.1, h.2, h.3, h.4, h.5, plain_parts dir ts v.1 h.1 h.3 h.6, h.7)
+
+parts_count : (dir : Direction) (ts : Shapes) (v : Parts ts) (items : List PlainItem) (own : List Block) → PartsStand plain_meaning dir ts v items own → length items ≡ count ts
+parts_count dir none v items own h = ap length h.0
+parts_count dir (more t ts) v items own h = ap length h.4 ∙ ap suc (parts_count dir ts v.1 h.1 h.3 h.6)
+
+gathered_is : (vals : List PlainItem) → listed (gathered (item_data plain_meaning vals)) ≡ vals
+gathered_is [] = refl
+gathered_is (a ∷ vals) = ap (λ xs. a ∷ xs) (gathered_is vals)
+
+-- an entry of the table is a record of one list of fields
+members_of : TypeDefKind → List Field
+members_of (kind.Record members) = members
+members_of _ = []
+
+same_members : (types : List TypeDef) (id : ℕ) (xs ys : List Field) → IsRecord types id xs → IsRecord types id ys → xs ≡ ys
+unfolding members_of
+same_members types id xs ys a b = ap members_of (sym a.kind ∙ ap (λ (t : TypeDef). t.kind) (some_same a.entry b.entry (sym a.at ∙ b.at)) ∙ b.kind)
+
+field_count : (types : List TypeDef) (members : List Field) → count (field_shapes types members) ≡ length members
+field_count types members = count-shapes types (map (λ (f : Field). f.ty) members) ∙ length-map members (λ (f : Field). f.ty)
+
+-- 5. Rows
+
+module _ (types : List TypeDef) (old new : PlainBindgen) where
+  pub passes_scalar : (i : Instruction) (ty : WitType) (o : Place) (rs : List Place) → lowered_type i ≡ Some ty → AddsStep (step.Pass o.number old.count) 1 old new → rs ≡ places_from old.count 1 → Emits plain_meaning types i (o ∷ []) rs old new
+  passes_scalar i ty o rs is adds places =
+      let st = step.Pass o.number old.count in
+      let s = scalar_of ty in
+      let row : LowersScalar plain_meaning s (o ∷ []) (places_from old.count 1) old new = λ dir v a own listed st0. (
+        st0.1,
+        plain_does st 1 old new adds (Unit {0}) (of o (item a) ∷ []) (item a ∷ []) (λ f. stay) (λ u. word (passed_word s v) ∷ []) (λ u fs. fs ≡ ofs plain_meaning (places_from old.count 1) (word (passed_word s v) ∷ [])) (λ u. []) (λ u. [])
+            refl (λ t h. one_at old t o (item a) h) (λ f acc. ap (λ (b : PlainItem). performs st f (item b ∷ []) acc) st0.0) (λ u. refl) (λ u. refl) (λ f acc x e. stay_owns acc x e),
+      ) in
+      record {
+        adds = plain_adds st 1 old new adds;
+        results = subst (λ x. MakesBy types i x (lifted_scalar i) (length rs)) (sym (lowered_is i ty is)) (ap length places);
+        row = subst (λ x. RowBy plain_meaning types i x (lifted_scalar i) (o ∷ []) rs old new) (sym (lowered_is i ty is)) (subst (λ ps. LowersScalar plain_meaning s (o ∷ []) ps old new) (sym places) row);
+      }
+
+  pub reads_scalar : (i : Instruction) (ty : WitType) (o : Place) (rs : List Place) → lifted_type i ≡ Some ty → AddsStep (step.Read ty o.number old.count) 1 old new → rs ≡ places_from old.count 1 → Emits plain_meaning types i (o ∷ []) rs old new
+  reads_scalar i ty o rs is adds places =
+      let st = step.Read ty o.number old.count in
+      let s = scalar_of ty in
+      let both = lifted_is i ty is in
+      let row : LiftsScalar plain_meaning s (o ∷ []) (places_from old.count 1) old new = λ x.
+      let a : PlainItem = leaf (normal s x ∷ []) [] in
+      plain_does st 1 old new adds (Unit {0}) (of o (word x) ∷ []) (word x ∷ []) (λ f. reading s f x) (λ u. item a ∷ [])
+      (λ u fs. (c : PlainItem) × (fs ≡ ofs plain_meaning (places_from old.count 1) (item c ∷ [])) × ((v : ScalarValue s) → IsScalar s v → IsTaken s v x → PlainStands take (scalar s) v c []))
+      (λ u. []) (λ u. []) refl (λ t h. one_at old t o (word x) h) (λ f acc. refl) (λ u. refl)
+      (λ u. (a, refl, λ v hv h. (ap (λ w. leaf (w ∷ []) []) (normal_is s v x hv h), refl)))
+      (λ f acc y e. same_owns y.account.taken acc.taken (ap (λ (c : Account PlainItem). c.taken) (done_is (reading s f x acc) (λ y. y.account ≡ acc) y (reading_stays s f x acc) e))) in
+      record {
+        adds = plain_adds st 1 old new adds;
+        results = subst (λ p. MakesBy types i p (lifted_scalar i) (length rs)) (sym both.0) (subst (λ p. MakesBy types i None p (length rs)) (sym both.1) (ap length places));
+        row = subst (λ p. RowBy plain_meaning types i p (lifted_scalar i) (o ∷ []) rs old new) (sym both.0)
+            (subst (λ p. RowBy plain_meaning types i None p (o ∷ []) rs old new) (sym both.1) (subst (λ ps. LiftsScalar plain_meaning s (o ∷ []) ps old new) (sym places) row));
+      }
+
+  pub passes_text : (realloc : Bool) (o : Place) (rs : List Place) → AddsStep (step.Pass o.number old.count) 2 old new → rs ≡ places_from old.count 2 → Emits plain_meaning types (instruction.StringLower realloc) (o ∷ []) rs old new
+  passes_text realloc o rs adds places =
+      let st = step.Pass o.number old.count in
+      let row : LowersText plain_meaning realloc (o ∷ []) (places_from old.count 2) old new = λ heap bytes a own st0.
+      let ws : List Word = core.Pointer st0.0 ∷ core.Length (length bytes) ∷ [] in (
+        ws,
+        st0.3,
+        plain_does st 2 old new adds (Unit {0}) (of o (item a) ∷ []) (item a ∷ []) (λ f. releasing (addresses own)) (λ u. core_data plain_meaning ws)
+            (λ u fs. fs ≡ ofs plain_meaning (places_from old.count 2) (core_data plain_meaning ws)) (λ u. []) (λ u. addresses own)
+            refl (λ t h. one_at old t o (item a) h) (λ f acc. ap (λ (b : PlainItem). performs st f (item b ∷ []) acc) st0.2) (λ u. refl) (λ u. refl)
+            (λ f acc x e. done_is (releasing (addresses own) acc) (λ x. SameItems (x.account.taken ++ addresses own) (acc.taken ++ [])) x (releasing_owns (addresses own) acc) e),
+      ) in
+      record { adds = plain_adds st 2 old new adds; results = ap length places; row = subst (λ ps. LowersText plain_meaning realloc (o ∷ []) ps old new) (sym places) row }
+
+  pub takes_text : (o p : Place) (rs : List Place) → AddsStep (step.Take o.number p.number old.count) 1 old new → rs ≡ places_from old.count 1 → Emits plain_meaning types instruction.StringLift (o ∷ p ∷ []) rs old new
+  takes_text o p rs adds places =
+      let st = step.Take o.number p.number old.count in
+      let row : LiftsText plain_meaning (o ∷ p ∷ []) (places_from old.count 1) old new = λ address n.
+      let ws : List Word = core.Pointer address ∷ core.Length n ∷ [] in
+      plain_does st 1 old new adds Taken (of o (word (core.Pointer address)) ∷ of p (word (core.Length n)) ∷ []) (core_data plain_meaning ws) (λ f. taking f address n) (λ x. item (leaf ws x.blocks) ∷ [])
+      (λ x fs. (a : PlainItem) × (fs ≡ ofs plain_meaning (places_from old.count 1) (item a ∷ [])) × (Says 2 take text x.bytes ws x.blocks → PlainStands take text x.bytes a x.blocks))
+      (λ x. addresses x.blocks) (λ x. []) refl (λ t h. two_at old t o p (word (core.Pointer address)) (word (core.Length n)) h) (λ f acc. refl) (λ x. refl)
+      (λ x. (leaf ws x.blocks, refl, λ h. says_text x.bytes address n x.blocks h))
+      (λ f acc x e. let t = done_is (taking f address n acc) (TakesOver acc) x (taking_owns f address n acc) e in λ g. ap (λ xs. total g (xs ++ [])) t ∙ ap (total g) (append-nil (acc.taken ++ addresses x.result.blocks))) in
+      record { adds = plain_adds st 1 old new adds; results = ap length places; row = subst (λ ps. LiftsText plain_meaning (o ∷ p ∷ []) ps old new) (sym places) row }
+
+  pub reads_argument : (n : ℕ) (rs : List Place) → AddsStep (step.Argument n old.count) 1 old new → rs ≡ places_from old.count 1 → Emits plain_meaning types (instruction.GetArg n) [] rs old new
+  reads_argument n rs adds places =
+      let st = step.Argument n old.count in
+      record {
+        adds = plain_adds st 1 old new adds;
+        results = ap length places;
+        row = λ d. subst (λ ps. Stays plain_meaning old new (arg n d ∷ []) (λ fs. fs ≡ ofs plain_meaning ps (d ∷ []))) (sym places)
+            (plain_does st 1 old new adds (Unit {0}) (arg n d ∷ []) (d ∷ []) (λ f. stay) (λ u. d ∷ []) (λ u fs. fs ≡ ofs plain_meaning (places_from old.count 1) (d ∷ [])) (λ u. []) (λ u. [])
+            refl (λ t h. ap (λ x. and_all x (Some [])) h.0) (λ f acc. refl) (λ u. refl) (λ u. refl) (λ f acc x e. stay_owns acc x e));
+      }
+
+  splits : (ts : Shapes) (t : Shape) (made : Parts ts → Value t) (n : ℕ) (o : Place) → count ts ≡ n
+      → ((dir : Direction) (v : Parts ts) (a : PlainItem) (own : List Block) → PlainStands dir t (made v) a own → (items : PlainItems) × (a ≡ whole items) × PlainPartsStand dir ts v (listed items) own)
+      → AddsStep (step.Split o.number old.count) n old new → LowersParts plain_meaning ts t made (o ∷ []) (places_from old.count n) old new
+  splits ts t made n o fits is adds dir v a own st0 =
+      let st = step.Split o.number old.count in
+      let h = is dir v a own st0 in
+      let vals = listed h.0 in
+      let ps = parts_stand dir ts v vals own h.2 in
+      let len : length (item_data plain_meaning vals) ≡ n = length-map vals (λ b. item b) ∙ parts_count dir ts v vals own ps ∙ fits in (
+        vals,
+        ps,
+        plain_does st n old new adds (Unit {0}) (of o (item a) ∷ []) (item a ∷ []) (λ f. stay) (λ u. item_data plain_meaning vals) (λ u fs. fs ≡ ofs plain_meaning (places_from old.count n) (item_data plain_meaning vals)) (λ u. []) (λ u. [])
+            refl (λ t h. one_at old t o (item a) h) (λ f acc. ap (λ (b : PlainItem). performs st f (item b ∷ []) acc) h.1) (λ u. len) (λ u. refl) (λ f acc x e. stay_owns acc x e),
+      )
+
+  joins : (ts : Shapes) (t : Shape) (made : Parts ts → Value t) (os : List Place) → length os ≡ count ts
+      → ((v : Parts ts) (items : PlainItems) (own : List Block) → PlainPartsStand take ts v (listed items) own → PlainStands take t (made v) (whole items) own)
+      → AddsStep (step.Join os old.count) 1 old new → LiftsParts plain_meaning ts t made os (places_from old.count 1) old new
+  joins ts t made os fits is adds vals len =
+      let st = step.Join os old.count in
+      let ds = item_data plain_meaning vals in
+      let a : PlainItem = whole (gathered ds) in
+      let both : length os ≡ length ds = fits ∙ sym len ∙ sym (length-map vals (λ b. item b)) in
+      plain_does st 1 old new adds (Unit {0}) (ofs plain_meaning os ds) ds (λ f. stay) (λ u. item a ∷ [])
+      (λ u fs. (c : PlainItem) × (fs ≡ ofs plain_meaning (places_from old.count 1) (item c ∷ [])) × ((v : Parts ts) (own : List Block) → PartsStand plain_meaning take ts v vals own → PlainStands take t (made v) c own))
+      (λ u. []) (λ u. []) refl (λ t h. many_at old t os ds both h) (λ f acc. refl) (λ u. refl)
+      (λ u. (a, refl, λ v own h. is v (gathered ds) own (subst (λ xs. PlainPartsStand take ts v xs own) (sym (gathered_is vals)) (plain_parts take ts v vals own h))))
+      (λ f acc x e. stay_owns acc x e)
+
+  pub splits_record : (id : TypeId) (members : List Field) (o : Place) (rs : List Place) → IsRecord types id.0 members → AddsStep (step.Split o.number old.count) (length members) old new → rs ≡ places_from old.count (length members)
+      → Emits plain_meaning types (instruction.RecordLower id) (o ∷ []) rs old new
+  splits_record id members o rs is adds places = record {
+    adds = plain_adds (step.Split o.number old.count) (length members) old new adds;
+    results = λ others other. ap length places ∙ places_count old.count (length members) ∙ ap length (same_members types id.0 members others is other);
+    row = λ others other.
+        subst (λ ms. LowersParts plain_meaning (field_shapes types ms) (fields (field_shapes types ms)) (λ v. v) (o ∷ []) rs old new) (same_members types id.0 members others is other)
+        (subst (λ ps. LowersParts plain_meaning (field_shapes types members) (fields (field_shapes types members)) (λ v. v) (o ∷ []) ps old new) (sym places)
+        (splits (field_shapes types members) (fields (field_shapes types members)) (λ v. v) (length members) o (field_count types members) (λ dir v a own h. h) adds));
+  }
+
+  pub joins_record : (id : TypeId) (members : List Field) (os rs : List Place) → IsRecord types id.0 members → length os ≡ length members → AddsStep (step.Join os old.count) 1 old new → rs ≡ places_from old.count 1
+      → Emits plain_meaning types (instruction.RecordLift id) os rs old new
+  joins_record id members os rs is len adds places = record {
+    adds = plain_adds (step.Join os old.count) 1 old new adds;
+    results = ap length places;
+    row = λ others other.
+        subst (λ ms. LiftsParts plain_meaning (field_shapes types ms) (fields (field_shapes types ms)) (λ v. v) os rs old new) (same_members types id.0 members others is other)
+        (subst (λ ps. LiftsParts plain_meaning (field_shapes types members) (fields (field_shapes types members)) (λ v. v) os ps old new) (sym places)
+        (joins (field_shapes types members) (fields (field_shapes types members)) (λ v. v) os (len ∙ sym (field_count types members)) (λ v items own h. (items, refl, h)) adds));
+  }
+
+  pub splits_tuple : (n : ℕ) (o : Place) (rs : List Place) → AddsStep (step.Split o.number old.count) n old new → rs ≡ places_from old.count n → Emits plain_meaning types (instruction.TupleLower n) (o ∷ []) rs old new
+  splits_tuple n o rs adds places = record {
+    adds = plain_adds (step.Split o.number old.count) n old new adds;
+    results = ap length places ∙ places_count old.count n;
+    row = λ ts fits. subst (λ ps. LowersParts plain_meaning ts (tuple ts) (λ v. v) (o ∷ []) ps old new) (sym places) (splits ts (tuple ts) (λ v. v) n o fits (λ dir v a own h. h) adds);
+  }
+
+  pub joins_tuple : (n : ℕ) (os rs : List Place) → length os ≡ n → AddsStep (step.Join os old.count) 1 old new → rs ≡ places_from old.count 1 → Emits plain_meaning types (instruction.TupleLift n) os rs old new
+  joins_tuple n os rs len adds places = record {
+    adds = plain_adds (step.Join os old.count) 1 old new adds;
+    results = ap length places;
+    row = λ ts fits. subst (λ ps. LiftsParts plain_meaning ts (tuple ts) (λ v. v) os ps old new) (sym places) (joins ts (tuple ts) (λ v. v) os (len ∙ sym fits) (λ v items own h. (items, refl, h)) adds);
+  }

@@ -1,0 +1,198 @@
+-- What the steps of a `PlainBindgen` do: a run of more steps, the calls that they leave alone, and the action of a step.
+use Rattle.std.proofs.Common.{◌≡◌, ℕ, ◌+◌, ◌-◌, ◌^◌, ◌≤◌, Bool, true, false, not, nat_eq, nat_lt, if◌then◌else◌, List, [], ◌∷◌, ◌++◌, length, map, find, Option, None, Some, refl, sym, ap, ◌∙◌, subst, arith}
+use Rattle.std.specs.List.{AllByRecursion}
+use Rattle.std.specs.Str.{is_utf8}
+use Rattle.wit_layout.specs.Flat.{core_type}
+use Rattle.wit_layout.specs.Tree.{Scalar}
+use Rattle.wrapper_data.specs.declared.block.Block.{Block}
+use Rattle.wrapper_data.specs.declared.form.Form.{Form}
+use Rattle.wrapper_data.specs.declared.form.Form.TheVariants as form
+use Rattle.wrapper_data.specs.declared.run.TrapKind.{TrapKind}
+use Rattle.wrapper_data.specs.declared.run.TrapKind.TheVariants as trap
+use Rattle.wrapper_data.specs.declared.word.Word.{Word}
+use Rattle.wrapper_data.specs.declared.word.Word.TheVariants as core
+use Rattle.wrapper_meaning.specs.Cells.{bytes_from}
+use Rattle.wrapper_meaning.specs.Items.{SameItems}
+use Rattle.wrapper_meaning.specs.Numbers.{is_scalar_value, low_bits}
+use Rattle.abi_driver.specs.declared.plain.PlainBindgen.{PlainBindgen}
+use Rattle.abi_driver.specs.declared.plain.Step.{Step}
+use Rattle.abi_driver.specs.declared.plain.Step.TheVariants as step
+use Rattle.abi_driver.specs.Account.{Account, Act, Done, Follows, Got, Outcome, Stopped, Stops, Stuck, account_in, addresses, checking, failing, found, has_type, gives, is_at, is_taken, reading, releasing, stay, taking, tested, then_do, without}
+use Rattle.abi_driver.specs.Laws.{Adds, After, Does, Facts, ofs}
+use Rattle.abi_driver.specs.Meaning.{Datum, item, word}
+use Rattle.abi_driver.specs.Plain.{AddsStep, IsRight, PlainItem, PlainState, inputs, kept, leaf, normal, passing, performed, performs, places_from, plain_meaning, put, read_as, runs, scalar_of, splitting, take_text, whole, writes}
+use Rattle.abi_driver.specs.PlainSound.{all_both, all_left, all_right}
+use Rattle.abi_driver.proofs.PlainPlaces.{put_below, put_right, still_right}
+
+-- 1. Calls are left alone
+
+failing_quiet : {V : Type 0} (A : Type 0) (f : Form) (kind : TrapKind) (acc : Account V) → (account_in (λ (x : Got V A). x.account) (failing f kind acc)).calls ≡ acc.calls
+failing_quiet A form.Debug kind acc = refl
+failing_quiet A form.Release kind acc = refl
+
+abbrev Quietly : {V A : Type 0} → Account V → Outcome V (Got V A) → Type 0
+Quietly acc o = (account_in (λ x. x.account) o).calls ≡ acc.calls
+
+if_quiet : {V A : Type 0} (acc : Account V) (b : Bool) (o q : Outcome V (Got V A)) → Quietly acc o → Quietly acc q → Quietly acc (if b then o else q)
+if_quiet acc true o q h k = h
+if_quiet acc false o q h k = k
+
+releasing_quiet : {V : Type 0} (places : List ℕ) (acc : Account V) → Quietly acc (releasing places acc)
+releasing_quiet [] acc = refl
+releasing_quiet (a ∷ places) acc =
+    if_quiet acc (is_taken a acc.taken) (releasing places (record acc { taken = without a acc.taken })) (Stuck acc) (releasing_quiet places (record acc { taken = without a acc.taken })) refl
+
+checking_quiet : {V : Type 0} (s : Scalar) (f : Form) (x : Word) (acc : Account V) → Quietly acc (checking s f x acc)
+checking_quiet Scalar.bool f (core.I32 z) acc = if_quiet acc (nat_lt (low_bits 8 z) 2) (stay acc) (failing f trap.Bool acc) refl (failing_quiet _ f trap.Bool acc)
+checking_quiet Scalar.char f (core.I32 z) acc = if_quiet acc (is_scalar_value (low_bits 32 z)) (stay acc) (failing f trap.Char acc) refl (failing_quiet _ f trap.Char acc)
+checking_quiet _ f x acc = refl
+
+reading_quiet : {V : Type 0} (s : Scalar) (f : Form) (x : Word) (acc : Account V) → Quietly acc (reading s f x acc)
+reading_quiet s f x acc = if_quiet acc (has_type (core_type s) x) (checking s f x acc) (Stuck acc) (checking_quiet s f x acc) refl
+
+tested_quiet : {V : Type 0} (f : Form) (b : Block) (bytes : Option (List ℕ)) (acc : Account V) → Quietly acc (tested f b bytes acc)
+tested_quiet f b None acc = failing_quiet _ f trap.Pointer acc
+tested_quiet f b (Some bytes) acc =
+    if_quiet acc (is_utf8 bytes) (gives (record { bytes = bytes; blocks = b ∷ [] }) (record acc { taken = acc.taken ++ b.address ∷ [] })) (failing f trap.Utf8 acc) refl (failing_quiet _ f trap.Utf8 acc)
+
+found_quiet : {V : Type 0} (f : Form) (n : ℕ) (b : Option Block) (acc : Account V) → Quietly acc (found f n b acc)
+found_quiet f n None acc = failing_quiet _ f trap.Block acc
+found_quiet f n (Some b) acc = tested_quiet f b (bytes_from b.cells 0 n) acc
+
+taking_quiet : {V : Type 0} (f : Form) (address n : ℕ) (acc : Account V) → Quietly acc (taking f address n acc)
+taking_quiet f address n acc =
+    let o4 = found f n (find (is_at address n) acc.heap.blocks) acc in
+    let o3 = if is_taken address acc.taken then failing f trap.Block acc else o4 in
+    let o2 = if nat_eq n 0 then gives (record { bytes = []; blocks = [] }) acc else o3 in
+    let o1 = if nat_eq address 0 then failing f trap.Pointer acc else o2 in
+    if_quiet acc (nat_lt (2 ^ 31 - 1) n) (failing f trap.Size acc) o1 (failing_quiet _ f trap.Size acc)
+    (if_quiet acc (nat_eq address 0) (failing f trap.Pointer acc) o2 (failing_quiet _ f trap.Pointer acc)
+    (if_quiet acc (nat_eq n 0) (gives (record { bytes = []; blocks = [] }) acc) o3 refl
+    (if_quiet acc (is_taken address acc.taken) (failing f trap.Block acc) o4 (failing_quiet _ f trap.Block acc) (found_quiet f n (find (is_at address n) acc.heap.blocks) acc))))
+
+-- an action that is followed by a result on its account
+then_quiet : {V A B : Type 0} (acc : Account V) (o : Outcome V (Got V A)) (g : A → B) → Quietly acc o → Quietly acc (then_do o (λ x. gives (g x.result) x.account))
+then_quiet acc (Done x) g h = h
+then_quiet acc (Stopped e a) g h = h
+then_quiet acc (Stuck a) g h = h
+
+passing_quiet : (ds : List (Datum PlainItem)) (acc : Account PlainItem) → Quietly acc (passing ds acc)
+passing_quiet (item (leaf ws own) ∷ []) acc = then_quiet acc (releasing (addresses own) acc) (λ u. map (λ w. word w) ws) (releasing_quiet (addresses own) acc)
+passing_quiet _ acc = refl
+
+read_quiet : (s : Scalar) (f : Form) (ds : List (Datum PlainItem)) (acc : Account PlainItem) → Quietly acc (read_as s f ds acc)
+read_quiet s f (word x ∷ []) acc = then_quiet acc (reading s f x acc) (λ u. item (leaf (normal s x ∷ []) []) ∷ []) (reading_quiet s f x acc)
+read_quiet s f _ acc = refl
+
+take_quiet : (f : Form) (ds : List (Datum PlainItem)) (acc : Account PlainItem) → Quietly acc (take_text f ds acc)
+take_quiet f (word (core.Pointer q) ∷ word (core.Length n) ∷ []) acc = then_quiet acc (taking f q n acc) (λ x. item (leaf (core.Pointer q ∷ core.Length n ∷ []) x.blocks) ∷ []) (taking_quiet f q n acc)
+take_quiet f _ acc = refl
+
+splitting_quiet : (ds : List (Datum PlainItem)) (acc : Account PlainItem) → Quietly acc (splitting ds acc)
+splitting_quiet (item (whole items) ∷ []) acc = refl
+splitting_quiet _ acc = refl
+
+performs_quiet : (st : Step) (f : Form) (ds : List (Datum PlainItem)) (acc : Account PlainItem) → Quietly acc (performs st f ds acc)
+performs_quiet (step.Argument n to) f ds acc = refl
+performs_quiet (step.Pass from to) f ds acc = passing_quiet ds acc
+performs_quiet (step.Read ty from to) f ds acc = read_quiet (scalar_of ty) f ds acc
+performs_quiet (step.Take at len to) f ds acc = take_quiet f ds acc
+performs_quiet (step.Split from to) f ds acc = splitting_quiet ds acc
+performs_quiet (step.Join from to) f ds acc = refl
+
+-- 2. Runs of more steps
+
+then_runs : {V A B C : Type 0} (o : Outcome V A) (g : A → Outcome V C) (h : A → Outcome V B) (k : B → Outcome V C) → ((t : A) → g t ≡ then_do (h t) k) → then_do o g ≡ then_do (then_do o h) k
+then_runs (Done t) g h k e = e t
+then_runs (Stopped s acc) g h k e = refl
+then_runs (Stuck acc) g h k e = refl
+
+pub runs_both : (f : Form) (xs ys : List Step) (s : PlainState) → runs f (xs ++ ys) s ≡ then_do (runs f xs s) (λ t. runs f ys t)
+runs_both f [] ys s = refl
+runs_both f (x ∷ xs) ys s = then_runs (performed x f (inputs x s) s) (λ t. runs f (xs ++ ys) t) (λ t. runs f xs t) (λ t. runs f ys t) (λ t. runs_both f xs ys t)
+
+stops_then : {V S : Type 0} (account : S → Account V) (o : Outcome V S) (next : S → Outcome V S) → Stops account o (then_do o next)
+stops_then account (Done s) next = tt
+stops_then account (Stopped e acc) next = refl
+stops_then account (Stuck acc) next = refl
+
+calls_then : {V S : Type 0} (account : S → Account V) (o : Outcome V S) (next : S → Outcome V S) → ((t : S) → (account_in account (next t)).calls ≡ (account t).calls) → (account_in account (then_do o next)).calls ≡ (account_in account o).calls
+calls_then account (Done s) next h = h s
+calls_then account (Stopped e acc) next h = refl
+calls_then account (Stuck acc) next h = refl
+
+keeps_calls : (st : Step) (s : PlainState) (o : Outcome PlainItem (Got PlainItem (List (Datum PlainItem)))) → Quietly s.account o
+    → (account_in (λ (t : PlainState). t.account) (then_do (then_do o (λ x. Done (kept (writes st) x s))) (λ u. Done u))).calls ≡ s.account.calls
+keeps_calls st s (Done x) h = h
+keeps_calls st s (Stopped e acc) h = h
+keeps_calls st s (Stuck acc) h = h
+
+step_calls : (st : Step) (f : Form) (ds : Option (List (Datum PlainItem))) (s : PlainState) → (account_in (λ (t : PlainState). t.account) (then_do (performed st f ds s) (λ u. Done u))).calls ≡ s.account.calls
+step_calls st f None s = refl
+step_calls st f (Some ds) s = keeps_calls st s (performs st f ds s.account) (performs_quiet st f ds s.account)
+
+module _ (st : Step) (k : ℕ) (old new : PlainBindgen) (adds : AddsStep st k old new) where
+  longer : (f : Form) (s : PlainState) → runs f new.steps s ≡ then_do (runs f old.steps s) (λ t. runs f (st ∷ []) t)
+  longer f s = ap (λ xs. runs f xs s) adds.steps ∙ runs_both f old.steps (st ∷ []) s
+
+  -- 3. A step is added
+
+  pub plain_adds : Adds plain_meaning old new
+  plain_adds = record {
+    grows = record {
+      serves = λ w h. h;
+      more = λ w h. (w, h);
+      stops = λ w f s h. subst (Stops (λ (t : PlainState). t.account) (runs f old.steps s)) (sym (longer f s)) (stops_then (λ (t : PlainState). t.account) (runs f old.steps s) (λ t. runs f (st ∷ []) t));
+      imports = adds.import;
+      exports = ap not adds.import;
+      arguments = refl;
+    };
+    quiet = λ w f s h.
+        ap (λ o. (account_in (λ (t : PlainState). t.account) o).calls) (longer f s)
+        ∙ calls_then (λ (t : PlainState). t.account) (runs f old.steps s) (λ t. runs f (st ∷ []) t) (λ t. step_calls st f (inputs st t) t);
+  }
+
+  -- a step that does an action on the account, and gives results by what the action gives
+  module _ (A : Type 0) (ins : Facts plain_meaning) (ds : List (Datum PlainItem)) (act : Form → Act PlainItem A) (res : A → List (Datum PlainItem)) (Outs : A → Facts plain_meaning → Type 0) (made gone : A → List ℕ)
+      (here : writes st ≡ old.count)
+      (reads : (s : PlainState) → AllByRecursion (IsRight old s) ins → inputs st s ≡ Some ds)
+      (does : (f : Form) (acc : Account PlainItem) → performs st f ds acc ≡ then_do (act f acc) (λ x. gives (res x.result) x.account))
+      (fits : (x : A) → length (res x) ≡ k)
+      (outs : (x : A) → Outs x (ofs plain_meaning (places_from old.count k) (res x)))
+      (owns : (f : Form) (acc : Account PlainItem) (x : Got PlainItem A) → act f acc ≡ Done x → SameItems (x.account.taken ++ gone x.result) (acc.taken ++ made x.result)) where
+    follows_step : (o : Outcome PlainItem (Got PlainItem A)) (q : Outcome PlainItem PlainState) (g : Got PlainItem A → PlainState) (P : Got PlainItem A → PlainState → Type 0)
+        → q ≡ then_do o (λ x. Done (g x)) → ((x : Got PlainItem A) → o ≡ Done x → P x (g x)) → Follows (λ (t : PlainState). t.account) o q P
+    follows_step (Done x) q g P e h = (g x, e, h x refl)
+    follows_step (Stopped s acc) q g P e h = e
+    follows_step (Stuck acc) q g P e h = ap (λ o. (account_in (λ (t : PlainState). t.account) o).calls) e
+
+    given_on : (o : Outcome PlainItem (Got PlainItem A)) (s : PlainState) →
+        then_do (then_do (then_do o (λ x. gives (res x.result) x.account)) (λ x. Done (kept (writes st) x s))) (λ u. Done u) ≡ then_do o (λ x. Done (kept (writes st) (record { result = res x.result; account = x.account }) s))
+    given_on (Done x) s = refl
+    given_on (Stopped e acc) s = refl
+    given_on (Stuck acc) s = refl
+
+    pub plain_does : Does plain_meaning A old new ins act Outs made gone
+    plain_does w f others s0 s at =
+        let after : Got PlainItem A → PlainState = λ x. kept (writes st) (record { result = res x.result; account = x.account }) s in
+        let ran : runs f new.steps s0 ≡ then_do (act f s.account) (λ x. Done (after x)) =
+        longer f s0 ∙ ap (λ o. then_do o (λ t. runs f (st ∷ []) t)) at.done ∙ ap (λ i. then_do (performed st f i s) (λ u. Done u)) (reads s (all_left (IsRight old s) ins others at.holds))
+        ∙ ap (λ o. then_do (then_do o (λ x. Done (kept (writes st) x s))) (λ u. Done u)) (does f s.account) ∙ given_on (act f s.account) s in
+        let more : old.count ≤ new.count = omega (arith, adds.count) in
+        follows_step (act f s.account) (runs f new.steps s0) after
+        (λ x t. (fs : Facts plain_meaning) × Outs x.result fs × After plain_meaning w new (fs ++ others) (made x.result) (gone x.result) s x t) ran
+        (λ x done.
+        let t = after x in
+        let values : (n : ℕ) → t.values n ≡ put old.count (res x.result) s.values n = λ n. ap (λ to. put to (res x.result) s.values n) here in
+        let room : old.count + length (res x.result) ≤ new.count = omega (arith, adds.count, fits x.result) in
+        let news = put_right new t old.count (res x.result) s.values room values in
+        let olds = still_right old new s t others more (λ n l. values n ∙ put_below old.count (res x.result) s.values n l) (λ n. refl) (all_right (IsRight old s) ins others at.holds) in (
+          ofs plain_meaning (places_from old.count k) (res x.result),
+          outs x.result,
+          record {
+            account = refl;
+            owns = owns f s.account x done;
+            denotes = all_both (IsRight new t) (ofs plain_meaning (places_from old.count k) (res x.result)) others
+                (subst (λ n. AllByRecursion (IsRight new t) (ofs plain_meaning (places_from old.count n) (res x.result))) (fits x.result) news) olds;
+          },
+        ))

@@ -1,0 +1,95 @@
+-- Aliases, records and tuples of the table, and the types of their parts.
+use Rattle.std.proofs.Common.{◌≡◌, ℕ, zero, suc, ◌+◌, ◌≤◌, ◌<◌, true, Bool, ◌&&◌, List, [], ◌∷◌, length, map, drop, get_or, Some, refl, sym, ap, ap₂, ◌∙◌, arith}
+use Rattle.std.specs.List.{slice_get, list_all}
+use Rattle.std.proofs.lemmas.Option.{slice_get-get_or}
+use Rattle.std.proofs.lemmas.List.{drop_more}
+use Rattle.std.proofs.lemmas.Bool.{and_parts}
+use Rattle.wit_model.specs.declared.types.Field.{Field}
+use Rattle.wit_model.specs.declared.types.TypeDef.{TypeDef}
+use Rattle.wit_model.specs.declared.types.TypeDefKind.{TypeDefKind}
+use Rattle.wit_model.specs.declared.types.TypeDefKind.TheVariants as kind
+use Rattle.wit_model.specs.declared.types.WitType.{WitType}
+use Rattle.wit_model.specs.Parts.{parts}
+use Rattle.wit_model.specs.TypeOrder.{GoesDown, payload_below, parts_below, type_below}
+use Rattle.wit_layout.proofs.FlattenSteps.{part_in_table, part_rank, payload_below_more, payload_rank_below, rank}
+use Rattle.wrapper_meaning.specs.Shape.{payloads_in, shape_at, shape_by, shape_of, shapes}
+use Rattle.wrapper_meaning.specs.Shape.Shape.{fields, tuple}
+use Rattle.wrapper_meaning.proofs.ShapeIsByKind.{shape_is_by_kind}
+use Rattle.abi_driver.specs.Instructions.{field_shapes, shapes_of}
+use Rattle.abi_driver.specs.Parts.{count}
+
+pub count-shapes : (types : List TypeDef) (tys : List WitType) → count (shapes_of types tys) ≡ length tys
+count-shapes types [] = refl
+count-shapes types (ty ∷ tys) = ap suc (count-shapes types tys)
+
+map-twice : (members : List Field) → map (λ ty. Some ty) (map (λ (f : Field). f.ty) members) ≡ map (λ (f : Field). Some f.ty) members
+map-twice [] = refl
+map-twice (f ∷ members) = ap (λ ps. Some f.ty ∷ ps) (map-twice members)
+
+-- a list that is bounded as payloads is bounded as types
+all_below : (bound : ℕ) (tys : List WitType) → list_all (λ p. payload_below bound p) (map (λ ty. Some ty) tys) ≡ true → list_all (λ ty. type_below bound ty) tys ≡ true
+unfolding payload_below
+all_below bound [] h = refl
+all_below bound (ty ∷ tys) h = let b = and_parts _ _ h in ap₂ (λ x y. x && y) b.0 (all_below bound tys b.1)
+
+-- an entry of the table that was read
+module _ (types : List TypeDef) (down : GoesDown types) (id : ℕ) (entry : TypeDef) (at : slice_get types id ≡ Some entry) where
+  shape_here : (k : TypeDefKind) → entry.kind ≡ k → shape_at types id ≡ shape_by id (shapes types) k
+  shape_here k e = shape_is_by_kind types id entry down at ∙ ap (shape_by id (shapes types)) e
+
+  pub alias_shape : (ty : WitType) → entry.kind ≡ kind.Alias ty → shape_at types id ≡ shape_of types ty
+  alias_shape ty e = shape_here (kind.Alias ty) e
+
+  pub alias_rank : (ty : WitType) → entry.kind ≡ kind.Alias ty → rank ty ≤ id
+  unfolding parts
+  alias_rank ty e = part_rank types down id entry at (Some ty) 0 (ap (λ k. slice_get (parts k) 0) e)
+
+  pub alias_below : (ty : WitType) → entry.kind ≡ kind.Alias ty → id < length types → type_below (length types) ty ≡ true
+  unfolding parts payload_below
+  alias_below ty e l = part_in_table types down id entry at (Some ty) 0 (ap (λ k. slice_get (parts k) 0) e) l
+
+  pub record_shape : (members : List Field) → entry.kind ≡ kind.Record members → shape_at types id ≡ fields (field_shapes types members)
+  record_shape members e = shape_here (kind.Record members) e ∙ ap (λ ps. fields (payloads_in (shapes types) ps)) (sym (map-twice members))
+
+  pub record_below : (members : List Field) → entry.kind ≡ kind.Record members → list_all (λ ty. type_below id ty) (map (λ (f : Field). f.ty) members) ≡ true
+  unfolding parts_below parts
+  record_below members e =
+      all_below id (map (λ (f : Field). f.ty) members) (ap (list_all (λ p. payload_below id p)) (map-twice members) ∙ sym (ap (parts_below id) e) ∙ down id entry at)
+
+  pub tuple_shape : (tys : List WitType) → entry.kind ≡ kind.Tuple tys → shape_at types id ≡ tuple (shapes_of types tys)
+  tuple_shape tys e = shape_here (kind.Tuple tys) e
+
+  pub tuple_below : (tys : List WitType) → entry.kind ≡ kind.Tuple tys → list_all (λ ty. type_below id ty) tys ≡ true
+  unfolding parts_below parts
+  tuple_below tys e = all_below id tys (sym (ap (parts_below id) e) ∙ down id entry at)
+
+-- what was read at a place of the table is its entry
+pub entry_at : (types read : List TypeDef) (id : ℕ) (d : TypeDef) → read ≡ types → id < length types → d ≡ get_or read id d → slice_get types id ≡ Some d
+entry_at types read id d same within is = slice_get-get_or types id d within ∙ ap Some (ap (λ (ts : List TypeDef). get_or ts id d) (sym same) ∙ sym is)
+
+pub kind_at : (read : List TypeDef) (id : ℕ) (d : TypeDef) (k : TypeDefKind) → d ≡ get_or read id d → (get_or read id d).kind ≡ k → d.kind ≡ k
+kind_at read id d k is e = ap (λ (t : TypeDef). t.kind) is ∙ e
+
+-- a type of a bounded list
+all_get : {A : Type 0} (p : A → Bool) (xs : List A) (i : ℕ) (d : A) → list_all p xs ≡ true → i < length xs → p (get_or xs i d) ≡ true
+all_get p [] i d h l = absurd (omega (arith, l))
+all_get p (x ∷ xs) zero d h l = (and_parts _ _ h).0
+all_get p (x ∷ xs) (suc i) d h l = all_get p xs i d (and_parts _ _ h).1 (omega (arith, l))
+
+module _ (bound : ℕ) (tys : List WitType) (below : list_all (λ ty. type_below bound ty) tys ≡ true) (i : ℕ) (d : WitType) (short : i < length tys) where
+  part_low : payload_below bound (Some (get_or tys i d)) ≡ true
+  unfolding payload_below
+  part_low = all_get (λ x. type_below bound x) tys i d below short
+
+  pub part_ranked : rank (get_or tys i d) ≤ bound
+  part_ranked = payload_rank_below bound (Some (get_or tys i d)) part_low
+
+  pub part_below_table : (n : ℕ) → bound < n → type_below n (get_or tys i d) ≡ true
+  unfolding payload_below
+  part_below_table n l = payload_below_more bound n (Some (get_or tys i d)) (omega (arith, l)) part_low
+
+pub drop-more : {A : Type 0} (xs : List A) (i : ℕ) (x : A) → i < length xs → x ≡ get_or xs i x → drop i xs ≡ x ∷ drop (i + 1) xs
+drop-more xs i x h e = drop_more xs i x h ∙ ap (λ y. y ∷ drop (i + 1) xs) (sym e)
+
+pub drop-same : {A : Type 0} (xs ys : List A) (i : ℕ) (x y : A) → ys ≡ xs → i < length xs → y ≡ get_or ys i y → x ≡ y → drop i xs ≡ x ∷ drop (i + 1) xs
+drop-same xs ys i x y same short at is = drop-more xs i x short (is ∙ at ∙ ap (λ zs. get_or zs i y) same ∙ ap (λ z. get_or xs i z) (sym is))

@@ -1,0 +1,9 @@
+pub mod Account
+pub mod Instructions
+pub mod Laws
+pub mod Leaves
+pub mod Lowers
+pub mod Meaning
+pub mod Parts
+pub mod Plain
+pub mod PlainSound

@@ -1,0 +1,36 @@
+-- What the code is by which values become core words.
+use Rattle.std.specs.Prelude.{◌≡◌, Bool, List, [], ◌∷◌, length}
+use Rattle.wrapper_data.specs.declared.block.Block.{Block}
+use Rattle.wrapper_data.specs.declared.word.Word.{Word}
+use Rattle.wit_layout.specs.Flat.{flatten_record, flatten_type}
+use Rattle.wrapper_meaning.specs.AsWords.{PartsSay, Says}
+use Rattle.wrapper_meaning.specs.InRange.{AreListed, IsListed}
+use Rattle.wrapper_meaning.specs.Layout.{layout, layouts}
+use Rattle.wrapper_meaning.specs.Shape.{Shape, Shapes}
+use Rattle.wrapper_meaning.specs.Value.{Parts, Value}
+use Rattle.abi_driver.specs.Account.{addresses, releasing}
+use Rattle.abi_driver.specs.Laws.{Adds, Does, Facts, core_data, item_data, ofs}
+use Rattle.abi_driver.specs.Leaves.{way}
+use Rattle.abi_driver.specs.Meaning.{Meaning, item}
+use Rattle.abi_driver.specs.Parts.{PartsStand}
+
+module _ {Self Operand : Type 0} (m : Meaning Self Operand) where
+  -- operands that denote items with these blocks become operands of words that say something. What the items owned is let go
+  abbrev pub Passes : (Says : List Word → List Block → Type 0) → (ins : Facts m) → List Block → (os : List Operand) → (old new : Self) → Type 0
+  Passes Says ins own os old new =
+      (ws : List Word) × (length ws ≡ length os) × Says ws own
+      × Does m (Unit {0}) old new ins (λ f. releasing (addresses own)) (λ u fs. fs ≡ ofs m os (core_data m ws)) (λ u. []) (λ u. addresses own)
+
+  -- an operand that denotes a value becomes words that represent it: without realloc the value is lent, with it given away
+  pub record LowersFlat (realloc : Bool) (t : Shape) (o : Operand) (os : List Operand) (old new : Self) : Type 0 where
+    pub adds : Adds m old new
+    pub fits : length os ≡ length (flatten_type (layout t))
+    pub row : (heap : List Block) (v : Value t) (a : m.Item) (own : List Block) → IsListed t v → m.stands (way realloc heap) t v a own →
+        Passes (Says m.width (way realloc heap) t v) (ofs m (o ∷ []) (item a ∷ [])) own os old new
+
+  -- the same of parts, one after another
+  pub record LowersAll (realloc : Bool) (ts : Shapes) (parts os : List Operand) (old new : Self) : Type 0 where
+    pub adds : Adds m old new
+    pub fits : length os ≡ length (flatten_record (layouts ts))
+    pub row : (heap : List Block) (v : Parts ts) (vals : List m.Item) (own : List Block) → AreListed ts v → PartsStand m (way realloc heap) ts v vals own →
+        Passes (PartsSay m.width (way realloc heap) ts v) (ofs m parts (item_data m vals)) own os old new

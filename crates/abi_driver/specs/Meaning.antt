@@ -1,0 +1,46 @@
+-- What a `Bindgen` means.
+use Rattle.std.specs.Prelude.{ℕ, Bool, List, Option}
+use Rattle.wrapper_data.specs.declared.block.Block.{Block}
+use Rattle.wrapper_data.specs.declared.form.Form.{Form}
+use Rattle.wrapper_data.specs.declared.word.Word.{Word}
+use Rattle.wrapper_meaning.specs.Direction.{Direction}
+use Rattle.wrapper_meaning.specs.Shape.{Shape}
+use Rattle.wrapper_meaning.specs.Value.{Value}
+use Rattle.abi_driver.specs.Account.{Account, Outcome}
+
+-- a core word, or a value of the code's own side
+pub data Datum (V : Type 0) : Type 0 where
+  word : Word → Datum V
+  item : V → Datum V
+
+-- an operand denotes a datum; an argument of the code is one
+pub data Fact (O V : Type 0) : Type 0 where
+  of : O → Datum V → Fact O V
+  arg : ℕ → Datum V → Fact O V
+
+pub record Meaning (Self Operand : Type 0) : Type 1 where
+  -- what is known only when the code stands in a finished whole
+  pub World : Type 0
+  pub State : Type 0
+  pub Code : Type 0
+  -- a value of the code's own side
+  pub Item : Type 0
+  -- a pointer has 2 ^ width bytes
+  pub width : ℕ
+  -- the whole has what the code needs
+  pub serves : World → Self → Type 0
+  -- in a direction an item stands for a value, which has these blocks
+  pub stands : Direction → (t : Shape) → Value t → Item → List Block → Type 0
+  pub account : State → Account Item
+  -- the addresses of the blocks that locals own
+  pub owns : State → List ℕ
+  pub nothing : Code
+  pub does : World → Form → Code → State → Outcome Item State
+  -- the facts hold together
+  pub denotes : World → Self → List (Fact Operand Item) → State → Type 0
+  pub code : Self → Code
+  -- whether it makes code of imports, and of exports
+  pub imports : Self → Bool
+  pub exports : Self → Bool
+  -- how many arguments the code has; none where there is no bound
+  pub arguments : Self → Option ℕ

@@ -1,0 +1,255 @@
+-- What the code of a `PlainBindgen` means: a list of steps, over values that are held in memory by numbered places.
+use Rattle.std.specs.Prelude.{◌≡◌, ◌<◌, ◌+◌, ℕ, zero, suc, not, nat_eq, if◌then◌else◌, pos, List, [], ◌∷◌, ◌++◌, length, map, Option, None, Some}
+use Rattle.std.specs.Int.{w8, w16, w32, w64, cast_signed}
+use Rattle.std.specs.List.{AllByRecursion}
+use Rattle.wit_model.specs.declared.types.WitType.{WitType}
+use Rattle.wit_model.specs.declared.types.WitType.TheVariants as wit
+use Rattle.wit_layout.specs.Tree.{Scalar}
+use Rattle.wrapper_data.specs.declared.block.Block.{Block}
+use Rattle.wrapper_data.specs.declared.form.Form.{Form}
+use Rattle.wrapper_data.specs.declared.word.Word.{Word}
+use Rattle.wrapper_data.specs.declared.word.Word.TheVariants as core
+use Rattle.wrapper_meaning.specs.AsWords.{Says, passed_word}
+use Rattle.wrapper_meaning.specs.Direction.{Direction}
+use Rattle.wrapper_meaning.specs.Numbers.{low_bits}
+use Rattle.wrapper_meaning.specs.Shape.{Shape, Shapes}
+use Rattle.wrapper_meaning.specs.Shape.Shape.{scalar, text, list, pairs, fixed, fields, tuple, cases, flags, handle, resource, other}
+use Rattle.wrapper_meaning.specs.Shape.Shapes.{none, more}
+use Rattle.wrapper_meaning.specs.StandsFor.{BothStand}
+use Rattle.wrapper_meaning.specs.Value.{Parts, Value}
+use Rattle.abi_driver.specs.declared.instruction.Instruction.{Instruction}
+use Rattle.abi_driver.specs.declared.instruction.Instruction.TheVariants as instruction
+use Rattle.abi_driver.specs.declared.plain.Place.{Place}
+use Rattle.abi_driver.specs.declared.plain.PlainBindgen.{PlainBindgen}
+use Rattle.abi_driver.specs.declared.plain.Step.{Step}
+use Rattle.abi_driver.specs.declared.plain.Step.TheVariants as step
+use Rattle.abi_driver.specs.Account.{Account, Act, Done, Got, Outcome, Stuck, addresses, gives, reading, releasing, taking, then_do}
+use Rattle.abi_driver.specs.Meaning.{Datum, Fact, Meaning, arg, item, of, word}
+
+-- 1. Values
+
+-- a scalar or a text, by the words that say it and the blocks that it owns; or parts
+mutual
+  pub data PlainItem : Type 0 where
+    leaf : List Word → List Block → PlainItem
+    whole : PlainItems → PlainItem
+
+  pub data PlainItems : Type 0 where
+    no_items : PlainItems
+    item_and : PlainItem → PlainItems → PlainItems
+
+abbrev pub listed : PlainItems → List PlainItem
+listed no_items = []
+listed (item_and a items) = a ∷ listed items
+
+-- the items among some data
+abbrev pub gathered : List (Datum PlainItem) → PlainItems
+gathered [] = no_items
+gathered (word x ∷ ds) = gathered ds
+gathered (item a ∷ ds) = item_and a (gathered ds)
+
+-- an address and a length say the text; where it has no bytes, the address is not 0
+abbrev pub IsPlainText : Direction → List ℕ → PlainItem → List Block → Type 0
+IsPlainText dir bytes a own =
+    (address : ℕ) × (length bytes ≡ 0 → 0 < address) × (a ≡ leaf (core.Pointer address ∷ core.Length (length bytes) ∷ []) own) × Says 2 dir text bytes (core.Pointer address ∷ core.Length (length bytes) ∷ []) own
+
+-- a pointer has four bytes
+abbrev mutual
+  pub PlainStands : Direction → (t : Shape) → Value t → PlainItem → List Block → Type 0
+  PlainStands dir (scalar s) v a own = (a ≡ leaf (passed_word s v ∷ []) []) × (own ≡ [])
+  PlainStands dir text v a own = IsPlainText dir v a own
+  PlainStands dir (fields ts) v a own = (items : PlainItems) × (a ≡ whole items) × PlainPartsStand dir ts v (listed items) own
+  PlainStands dir (tuple ts) v a own = (items : PlainItems) × (a ≡ whole items) × PlainPartsStand dir ts v (listed items) own
+  PlainStands dir (list t) v a own = ⊥
+  PlainStands dir (pairs k x) v a own = ⊥
+  PlainStands dir (fixed t n) v a own = ⊥
+  PlainStands dir (cases ts) v a own = ⊥
+  PlainStands dir (flags n) v a own = ⊥
+  PlainStands dir (handle owns n) v a own = ⊥
+  PlainStands dir (resource n) v a own = ⊥
+  PlainStands dir other v a own = ⊥
+
+  pub PlainPartsStand : Direction → (ts : Shapes) → Parts ts → List PlainItem → List Block → Type 0
+  PlainPartsStand dir none v items own = (items ≡ []) × (own ≡ [])
+  PlainPartsStand dir (more t ts) v items own = BothStand (PlainStands dir t v.0) (PlainPartsStand dir ts v.1) items own
+
+-- 2. Scalars, by their types
+
+abbrev pub scalar_of : WitType → Scalar
+scalar_of wit.Bool = Scalar.bool
+scalar_of wit.U8 = Scalar.u8
+scalar_of wit.S8 = Scalar.s8
+scalar_of wit.U16 = Scalar.u16
+scalar_of wit.S16 = Scalar.s16
+scalar_of wit.U32 = Scalar.u32
+scalar_of wit.S32 = Scalar.s32
+scalar_of wit.Char = Scalar.char
+scalar_of wit.U64 = Scalar.u64
+scalar_of wit.S64 = Scalar.s64
+scalar_of wit.F32 = Scalar.f32
+scalar_of wit.F64 = Scalar.f64
+scalar_of _ = Scalar.handle
+
+-- the type whose scalar an instruction makes a word of
+abbrev pub lowered_type : Instruction → Option WitType
+lowered_type instruction.I32FromBool = Some wit.Bool
+lowered_type instruction.I32FromU8 = Some wit.U8
+lowered_type instruction.I32FromS8 = Some wit.S8
+lowered_type instruction.I32FromU16 = Some wit.U16
+lowered_type instruction.I32FromS16 = Some wit.S16
+lowered_type instruction.I32FromU32 = Some wit.U32
+lowered_type instruction.I32FromS32 = Some wit.S32
+lowered_type instruction.I32FromChar = Some wit.Char
+lowered_type instruction.I64FromU64 = Some wit.U64
+lowered_type instruction.I64FromS64 = Some wit.S64
+lowered_type instruction.CoreF32FromF32 = Some wit.F32
+lowered_type instruction.CoreF64FromF64 = Some wit.F64
+lowered_type _ = None
+
+-- and that whose scalar it makes of a word
+abbrev pub lifted_type : Instruction → Option WitType
+lifted_type instruction.BoolFromI32 = Some wit.Bool
+lifted_type instruction.U8FromI32 = Some wit.U8
+lifted_type instruction.S8FromI32 = Some wit.S8
+lifted_type instruction.U16FromI32 = Some wit.U16
+lifted_type instruction.S16FromI32 = Some wit.S16
+lifted_type instruction.U32FromI32 = Some wit.U32
+lifted_type instruction.S32FromI32 = Some wit.S32
+lifted_type instruction.CharFromI32 = Some wit.Char
+lifted_type instruction.U64FromI64 = Some wit.U64
+lifted_type instruction.S64FromI64 = Some wit.S64
+lifted_type instruction.F32FromCoreF32 = Some wit.F32
+lifted_type instruction.F64FromCoreF64 = Some wit.F64
+lifted_type _ = None
+
+-- the word by which a scalar is passed that is read from a word
+abbrev pub normal : Scalar → Word → Word
+normal Scalar.bool (core.I32 z) = core.I32 (pos (low_bits 8 z))
+normal Scalar.u8 (core.I32 z) = core.I32 (pos (low_bits 8 z))
+normal Scalar.u16 (core.I32 z) = core.I32 (pos (low_bits 16 z))
+normal Scalar.u32 (core.I32 z) = core.I32 (cast_signed w32 (low_bits 32 z))
+normal Scalar.s8 (core.I32 z) = core.I32 (cast_signed w8 (low_bits 8 z))
+normal Scalar.s16 (core.I32 z) = core.I32 (cast_signed w16 (low_bits 16 z))
+normal Scalar.char (core.I32 z) = core.I32 (pos (low_bits 32 z))
+normal Scalar.u64 (core.I64 z) = core.I64 (cast_signed w64 (low_bits 64 z))
+normal _ x = x
+
+-- 3. Steps
+
+pub record PlainState : Type 0 where
+  pub account : Account PlainItem
+  pub arguments : ℕ → Option (Datum PlainItem)
+  -- what stands in each place
+  pub values : ℕ → Option (Datum PlainItem)
+
+abbrev pub PlainAct : Type 0
+PlainAct = Act PlainItem (List (Datum PlainItem))
+
+abbrev pub passing : List (Datum PlainItem) → PlainAct
+passing (item (leaf ws own) ∷ []) acc = then_do (releasing (addresses own) acc) (λ u. gives (map (λ w. word w) ws) u.account)
+passing _ acc = Stuck acc
+
+abbrev pub read_as : Scalar → Form → List (Datum PlainItem) → PlainAct
+read_as s f (word x ∷ []) acc = then_do (reading s f x acc) (λ u. gives (item (leaf (normal s x ∷ []) []) ∷ []) u.account)
+read_as s f _ acc = Stuck acc
+
+abbrev pub take_text : Form → List (Datum PlainItem) → PlainAct
+take_text f (word (core.Pointer address) ∷ word (core.Length n) ∷ []) acc =
+    then_do (taking f address n acc) (λ x. gives (item (leaf (core.Pointer address ∷ core.Length n ∷ []) x.result.blocks) ∷ []) x.account)
+take_text f _ acc = Stuck acc
+
+abbrev pub splitting : List (Datum PlainItem) → PlainAct
+splitting (item (whole items) ∷ []) acc = gives (map (λ a. item a) (listed items)) acc
+splitting _ acc = Stuck acc
+
+-- what a step makes of the data that it reads
+abbrev pub performs : Step → Form → List (Datum PlainItem) → PlainAct
+performs (step.Argument number to) f ds acc = gives ds acc
+performs (step.Pass from to) f ds acc = passing ds acc
+performs (step.Read ty from to) f ds acc = read_as (scalar_of ty) f ds acc
+performs (step.Take at length to) f ds acc = take_text f ds acc
+performs (step.Split from to) f ds acc = splitting ds acc
+performs (step.Join from to) f ds acc = gives (item (whole (gathered ds)) ∷ []) acc
+
+-- all of them, where each is there
+abbrev pub and_all : Option (Datum PlainItem) → Option (List (Datum PlainItem)) → Option (List (Datum PlainItem))
+and_all (Some d) (Some ds) = Some (d ∷ ds)
+and_all _ _ = None
+
+abbrev pub all_at : (ℕ → Option (Datum PlainItem)) → List ℕ → Option (List (Datum PlainItem))
+all_at values [] = Some []
+all_at values (n ∷ places) = and_all (values n) (all_at values places)
+
+-- what a step reads
+abbrev pub inputs : Step → PlainState → Option (List (Datum PlainItem))
+inputs (step.Argument number to) s = all_at s.arguments (number ∷ [])
+inputs (step.Pass from to) s = all_at s.values (from ∷ [])
+inputs (step.Read ty from to) s = all_at s.values (from ∷ [])
+inputs (step.Take at length to) s = all_at s.values (at ∷ length ∷ [])
+inputs (step.Split from to) s = all_at s.values (from ∷ [])
+inputs (step.Join from to) s = all_at s.values (map (λ (p : Place). p.number) from)
+
+-- the first place that it writes
+abbrev pub writes : Step → ℕ
+writes (step.Argument number to) = to
+writes (step.Pass from to) = to
+writes (step.Read ty from to) = to
+writes (step.Take at length to) = to
+writes (step.Split from to) = to
+writes (step.Join from to) = to
+
+-- places from one on with these data
+abbrev pub put : ℕ → List (Datum PlainItem) → (ℕ → Option (Datum PlainItem)) → ℕ → Option (Datum PlainItem)
+put to [] values = values
+put to (d ∷ ds) values = put (suc to) ds (λ n. if nat_eq n to then Some d else values n)
+
+abbrev pub kept : ℕ → Got PlainItem (List (Datum PlainItem)) → PlainState → PlainState
+kept to x s = record { account = x.account; arguments = s.arguments; values = put to x.result s.values }
+
+abbrev pub performed : Step → Form → Option (List (Datum PlainItem)) → PlainState → Outcome PlainItem PlainState
+performed st f None s = Stuck s.account
+performed st f (Some ds) s = then_do (performs st f ds s.account) (λ x. Done (kept (writes st) x s))
+
+abbrev pub runs : Form → List Step → PlainState → Outcome PlainItem PlainState
+runs f [] s = Done s
+runs f (st ∷ steps) s = then_do (performed st f (inputs st s) s) (λ t. runs f steps t)
+
+-- 4. The meaning
+
+-- an operand denotes what stands in its place, which was written
+abbrev pub IsRight : PlainBindgen → PlainState → Fact Place PlainItem → Type 0
+IsRight b s (of o d) = (o.number < b.count) × (s.values o.number ≡ Some d)
+IsRight b s (arg n d) = s.arguments n ≡ Some d
+
+abbrev pub plain_meaning : Meaning PlainBindgen Place
+plain_meaning = record {
+  World = Unit {0};
+  State = PlainState;
+  Code = List Step;
+  Item = PlainItem;
+  width = 2;
+  serves = λ w b. Unit {0};
+  stands = PlainStands;
+  account = λ s. s.account;
+  owns = λ s. s.account.taken;
+  nothing = [];
+  does = λ w. runs;
+  denotes = λ w b facts s. AllByRecursion (IsRight b s) facts;
+  code = λ b. b.steps;
+  imports = λ b. b.import;
+  exports = λ b. not b.import;
+  arguments = λ b. None;
+}
+
+-- 5. A step is added
+
+-- so many places, from one on
+abbrev pub places_from : ℕ → ℕ → List Place
+places_from n zero = []
+places_from n (suc k) = record { number = n } ∷ places_from (suc n) k
+
+-- a step with so many results was added
+pub record AddsStep (st : Step) (k : ℕ) (old new : PlainBindgen) : Type 0 where
+  pub steps : new.steps ≡ old.steps ++ st ∷ []
+  pub count : new.count ≡ old.count + k
+  pub import : new.import ≡ old.import

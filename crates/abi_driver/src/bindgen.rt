@@ -1,0 +1,67 @@
+//! What makes code of instructions, and its laws.
+
+ghost use Rattle.std.specs.Prelude.{◌≡◌, [], OnOk, IfOk};
+ghost use Rattle.abi_driver.specs.Instructions.{Emits, IsSendable};
+ghost use Rattle.abi_driver.specs.Laws.{Sound};
+ghost use Rattle.abi_driver.specs.Meaning.{Meaning};
+
+use crate::instruction::Instruction;
+use std::alloc::Global;
+use wit_layout::SizeAlign;
+use wit_model::{Alignment, ArchitectureSize, List, OutOfMemory, Resolve, WitType};
+
+/// What denotes a core word, or a value of the code's own side.
+pub trait Operand: Drop {
+    /// An equal operand.
+    fn copy(&self, alloc: Global) -> Result<Self, OutOfMemory>
+        ensures { IfOk result (λ o. o ≡ self.now) };
+}
+
+/// What makes code of instructions, after the trait `Bindgen` of wit-bindgen-core.
+///
+/// What its code means is the ghost member `meaning`. The laws say what the code of each instruction does, so that a caller
+/// that knows no more than this trait knows what the code that it asked for does. A constructor ensures `IsNew`: without it
+/// the laws could be met by code that never runs. After an `Err` it is given up. Blocks, areas and the instructions that
+/// have no line in `specs/Instructions` have no law so far.
+pub trait Bindgen {
+    /// What denotes a word or a value in the code.
+    type Operand: Operand;
+
+    /// What the code does.
+    ghost meaning: { Meaning Self Self.Operand };
+
+    /// Adds the code of an instruction, and puts what denotes its results into `results`, which is empty before. The operands
+    /// are used up.
+    fn emit(
+        &mut self,
+        resolve: &Resolve,
+        inst: &Instruction,
+        operands: &mut List<Self::Operand>,
+        results: &mut List<Self::Operand>,
+    ) -> Result<(), OutOfMemory>
+        requires sendable { IsSendable meaning resolve.now.types inst.now operands.old self.old }
+        requires empty { results.old ≡ [] }
+        ensures { OnOk result (Emits meaning resolve.now.types inst.now operands.old results.new self.old self.new) };
+
+    /// Suspends the code, and begins a block.
+    fn push_block(&mut self) -> Result<(), OutOfMemory>;
+
+    /// Ends the block with these results, and resumes the code before it.
+    fn finish_block(&mut self, operands: &mut List<Self::Operand>) -> Result<(), OutOfMemory>;
+
+    /// What denotes the address of the return area, which has this size and alignment at least.
+    fn return_pointer(
+        &mut self,
+        size: ArchitectureSize,
+        align: Alignment,
+    ) -> Result<Self::Operand, OutOfMemory>;
+
+    /// The layouts of the types.
+    fn sizes(&self) -> &SizeAlign;
+
+    /// Whether a list of this type lies in memory as it is.
+    fn is_list_canonical(&self, resolve: &Resolve, ty: &WitType) -> bool;
+
+    /// The meaning is one: facts, operands and items are what these words say.
+    ghost sound: { Sound meaning };
+}

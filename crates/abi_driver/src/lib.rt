@@ -1,0 +1,14 @@
+//! The driver: it sends the instructions by which values are passed, to any lawful `Bindgen`.
+#![tactic(auto)]
+
+mod bindgen;
+mod instruction;
+mod lower;
+mod parts;
+mod plain;
+mod send;
+
+pub use bindgen::{Bindgen, Operand};
+pub use instruction::Instruction;
+pub use lower::lower_flat;
+pub use plain::{Place, PlainBindgen, Step};

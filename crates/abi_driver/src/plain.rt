@@ -1,0 +1,70 @@
+//! A `Bindgen` whose code is a list of steps over values that are held in memory, in numbered places.
+
+mod emit;
+mod lawful;
+mod scalars;
+
+ghost use Rattle.std.specs.Prelude.{◌≡◌};
+ghost use Rattle.abi_driver.specs.Laws.{IsNew};
+ghost use Rattle.abi_driver.specs.Plain.{plain_meaning};
+
+use std::alloc::Global;
+use wit_layout::SizeAlign;
+use wit_model::{List, OutOfMemory, WitType};
+
+/// A place in memory.
+#[derive(Clone, Copy)]
+pub struct Place {
+    pub number: u32,
+}
+
+/// A step. It reads what stands in some places, and writes its results into places from `to` on.
+#[derive(Drop)]
+pub enum Step {
+    /// An argument of the code.
+    Argument { number: u32, to: u32 },
+    /// The words of a scalar or a text. It owns nothing any more.
+    Pass { from: u32, to: u32 },
+    /// The scalar of a type that is read from a word.
+    Read { ty: WitType, from: u32, to: u32 },
+    /// The text that is taken over at an address, by its length.
+    Take { at: u32, length: u32, to: u32 },
+    /// The parts of a value.
+    Split { from: u32, to: u32 },
+    /// The value with these parts.
+    Join { from: List<Place>, to: u32 },
+}
+
+/// A `Bindgen` in memory, which shows that its laws can be met.
+#[derive(Drop)]
+pub struct PlainBindgen {
+    pub(crate) alloc: Global,
+    pub(crate) sizes: SizeAlign,
+    /// Whether it makes code of imports; else of exports.
+    pub(crate) import: bool,
+    pub(crate) steps: List<Step>,
+    /// How many places were written.
+    pub(crate) count: u32,
+}
+
+impl PlainBindgen {
+    /// One without code.
+    pub fn new(alloc: Global, sizes: SizeAlign, import: bool) -> PlainBindgen
+        ensures { IsNew plain_meaning result }
+    {
+        PlainBindgen {
+            alloc,
+            sizes,
+            import,
+            steps: List::new(alloc),
+            count: 0,
+        }
+    }
+
+    /// The steps so far.
+    pub fn steps(&self) -> &[Step]
+        ensures { result.now ≡ self.now.steps }
+    {
+        self.steps.as_slice()
+    }
+}

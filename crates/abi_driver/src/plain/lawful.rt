@@ -1,0 +1,81 @@
+//! The laws are kept.
+
+ghost use Rattle.std.specs.Prelude.{◌≡◌};
+
+use crate::bindgen::{Bindgen, Operand};
+use crate::instruction::Instruction;
+use crate::plain::scalars::{lifted_type, lowered_type};
+use crate::plain::{Place, PlainBindgen};
+use std::alloc::Global;
+use wit_layout::SizeAlign;
+use wit_model::{Alignment, ArchitectureSize, List, OutOfMemory, Resolve, WitType};
+
+impl Operand for Place {
+    fn copy(&self, _alloc: Global) -> Result<Place, OutOfMemory> {
+        Ok(*self)
+    }
+}
+
+impl Bindgen for PlainBindgen {
+    ghost use Rattle.abi_driver.specs.Plain.{plain_meaning};
+    ghost use Rattle.abi_driver.specs.PlainSound.{plain_sound};
+
+    type Operand = Place;
+
+    ghost meaning = { plain_meaning };
+
+    ghost sound = { plain_sound };
+
+    /// The steps of arguments, scalars, texts, records and tuples. Of any other instruction, which has no row yet, the answer
+    /// is `OutOfMemory`.
+    fn emit(
+        &mut self,
+        resolve: &Resolve,
+        inst: &Instruction,
+        operands: &mut List<Place>,
+        results: &mut List<Place>,
+    ) -> Result<(), OutOfMemory> {
+        if let Some(ty) = lowered_type(inst) {
+            return self.pass_scalar(resolve, inst, ty, operands, results);
+        }
+        if let Some(ty) = lifted_type(inst) {
+            return self.read_scalar(resolve, inst, ty, operands, results);
+        }
+        match *inst {
+            Instruction::GetArg(n) => self.argument(resolve, n, results),
+            Instruction::StringLower(realloc) => self.pass_text(
+                resolve, realloc, operands, results,
+            ),
+            Instruction::StringLift => self.take_text(resolve, operands, results),
+            Instruction::RecordLower(id) => self.split_record(resolve, id, operands, results),
+            Instruction::RecordLift(id) => self.join_record(resolve, id, operands, results),
+            Instruction::TupleLower(n) => self.split_tuple(resolve, n, operands, results),
+            Instruction::TupleLift(n) => self.join_tuple(resolve, n, operands, results),
+            _ => Err(OutOfMemory),
+        }
+    }
+
+    fn push_block(&mut self) -> Result<(), OutOfMemory> {
+        Err(OutOfMemory)
+    }
+
+    fn finish_block(&mut self, _operands: &mut List<Place>) -> Result<(), OutOfMemory> {
+        Err(OutOfMemory)
+    }
+
+    fn return_pointer(
+        &mut self,
+        _size: ArchitectureSize,
+        _align: Alignment,
+    ) -> Result<Place, OutOfMemory> {
+        Err(OutOfMemory)
+    }
+
+    fn sizes(&self) -> &SizeAlign {
+        &self.sizes
+    }
+
+    fn is_list_canonical(&self, _resolve: &Resolve, _ty: &WitType) -> bool {
+        false
+    }
+}

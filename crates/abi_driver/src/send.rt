@@ -1,0 +1,49 @@
+//! One instruction is sent.
+
+ghost use Rattle.std.specs.Prelude.{◌≡◌, ℕ, [], ◌∷◌, ◌++◌, IfOk, OnOk};
+ghost use Rattle.abi_driver.specs.Instructions.{Emits, IsSendable, Makes};
+
+use crate::bindgen::{Bindgen, Operand};
+use crate::instruction::Instruction;
+use std::alloc::Global;
+use wit_model::{List, OutOfMemory, Resolve};
+
+/// Sends an instruction with its operands, and gives its results.
+pub(crate) fn send<B: Bindgen>(
+    alloc: Global,
+    resolve: &Resolve,
+    bindgen: &mut B,
+    inst: Instruction,
+    operands: List<B::Operand>,
+) -> Result<List<B::Operand>, OutOfMemory>
+    requires { IsSendable B.meaning resolve.now.types inst operands bindgen.old }
+    ensures { IfOk result (λ results. Emits B.meaning resolve.now.types inst.entry operands results bindgen.old bindgen.new) }
+{
+    let mut operands = operands;
+    let mut results = List::new(alloc);
+    bindgen.emit(resolve, &inst, &mut operands, &mut results)?;
+    Ok(results)
+}
+
+/// A list of one operand.
+pub(crate) fn only<O: Operand>(alloc: Global, operand: O) -> Result<List<O>, OutOfMemory>
+    ensures { IfOk result (λ l. l ≡ operand ∷ []) }
+{
+    let mut all = List::new(alloc);
+    all.push(operand)?;
+    Ok(all)
+}
+
+/// Puts copies of some operands last.
+pub(crate) fn push_copies<O: Operand>(
+    all: &mut Vec<O>,
+    alloc: Global,
+    operands: &[O],
+) -> Result<(), OutOfMemory>
+    ensures { OnOk result (all.new.items ≡ all.old.items ++ operands.now) }
+{
+    for operand in operands {
+        all.push(operand.copy(alloc)?)?;
+    }
+    Ok(())
+}
