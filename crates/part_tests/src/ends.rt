@@ -14,39 +14,44 @@ fn text(alloc: Global, bytes: &[u8]) -> Result<List<u8>, OutOfMemory> {
     List::from_slice(alloc, bytes)
 }
 
+/// What the ends read and write.
+const ALL: &[u8] = b"0123456789abcdefghijklmno";
+
+/// What the case shows, the most bytes in a call, the calls that fail, the bytes left, the faults.
+const READS: &[(&str, usize, &[u64], &[u8], u64)] = &[
+    ("a byte a call", 1, &[], b"", 0),
+    ("ten bytes a call", 10, &[], b"", 0),
+    (
+        "the third call of a byte fails",
+        1,
+        &[3],
+        b"23456789abcdefghijklmno",
+        1,
+    ),
+    ("the first call fails", 10, &[1], ALL, 1),
+    ("the call at the end fails", 10, &[4, 9], b"", 1),
+];
+
+/// What reading all from a source gives: the bytes, or none where there was a fault.
+fn read_from(alloc: Global, source: &mut MemorySource) -> Result<Option<List<u8>>, Fail> {
+    match read_input(alloc, source) {
+        Ok(input) => Ok(Some(input)),
+        Err(InputFault::ReadFault) => Ok(None),
+        Err(fault) => Err(fault.into()),
+    }
+}
+
 #[test]
 fn reads_to_the_end_or_the_fault(rt: HostRuntime) -> Result<(), Fail> {
-    let all = b"0123456789abcdefghijklmno";
-    // (what the case shows, the most bytes in a call, the calls that fail, the bytes left, the faults)
-    let cases: [(&str, usize, &[u64], &[u8], u64); 5] = [
-        ("a byte a call", 1, &[], b"", 0),
-        ("ten bytes a call", 10, &[], b"", 0),
-        (
-            "the third call of a byte fails",
-            1,
-            &[3],
-            b"23456789abcdefghijklmno",
-            1,
-        ),
-        ("the first call fails", 10, &[1], all, 1),
-        ("the call at the end fails", 10, &[4, 9], b"", 1),
-    ];
-    for (shows, most, fails, left, faults) in cases {
-        assert!(rt; most >= 1);
-        let bytes = text(rt.alloc(), all)?;
-        let mut source = MemorySource::new(bytes, numbers(rt.alloc(), fails)?, most);
-        match read_input(rt.alloc(), &mut source) {
-            Ok(input) => {
-                assert_eq!(rt; faults, 0, "{shows}");
-                assert_eq!(rt; input.as_slice(), all.as_slice(), "{shows}");
-            }
-            Err(fault) => {
-                assert_eq!(rt; faults, 1, "{shows}");
-                assert_eq!(rt; fault, InputFault::ReadFault, "{shows}");
-            }
-        }
-        assert_eq!(rt; source.left(), left, "{shows}");
-        assert_eq!(rt; source.faults(), faults, "{shows}");
+    for (shows, most, fails, left, faults) in READS {
+        assert!(rt; *most >= 1);
+        let fails = numbers(rt.alloc(), fails)?;
+        let mut source = MemorySource::new(text(rt.alloc(), ALL)?, fails, *most);
+        let read = read_from(rt.alloc(), &mut source)?;
+        assert_eq!(rt; read.is_none(), *faults == 1, "{shows}");
+        assert!(rt; read.is_none_or(|input| input.as_slice() == ALL), "{shows}");
+        assert_eq!(rt; source.left(), *left, "{shows}");
+        assert_eq!(rt; source.faults(), *faults, "{shows}");
     }
     Ok(())
 }
@@ -67,32 +72,32 @@ fn reads_up_to_the_limit(rt: HostRuntime) -> Result<(), Fail> {
     Ok(())
 }
 
+/// What the case shows, the room, the most bytes in a call, the calls that fail, the bytes taken, the faults.
+const WRITES: &[(&str, usize, usize, &[u64], &[u8], u64)] = &[
+    ("a byte a call", 25, 1, &[], ALL, 0),
+    ("ten bytes a call", 100, 10, &[4], ALL, 0),
+    (
+        "the second call of ten bytes fails",
+        100,
+        10,
+        &[2],
+        b"0123456789",
+        1,
+    ),
+    ("the first call fails", 100, 10, &[1, 2], b"", 1),
+    ("it takes no byte", 100, 0, &[], b"", 1),
+    ("the room ends", 12, 10, &[], b"0123456789ab", 1),
+];
+
 #[test]
 fn writes_all_or_up_to_the_fault(rt: HostRuntime) -> Result<(), Fail> {
-    let all = b"0123456789abcdefghijklmno";
-    // (what the case shows, the room, the most bytes in a call, the calls that fail, the bytes taken, the faults)
-    let cases: [(&str, usize, usize, &[u64], &[u8], u64); 6] = [
-        ("a byte a call", 25, 1, &[], all, 0),
-        ("ten bytes a call", 100, 10, &[4], all, 0),
-        (
-            "the second call of ten bytes fails",
-            100,
-            10,
-            &[2],
-            b"0123456789",
-            1,
-        ),
-        ("the first call fails", 100, 10, &[1, 2], b"", 1),
-        ("it takes no byte", 100, 0, &[], b"", 1),
-        ("the room ends", 12, 10, &[], b"0123456789ab", 1),
-    ];
-    for (shows, room, most, fails, taken, faults) in cases {
+    for (shows, room, most, fails, taken, faults) in WRITES {
         let fails = numbers(rt.alloc(), fails)?;
-        let mut sink = MemorySink::new(rt.alloc(), room, fails, most)?;
-        let written = write_all(&mut sink, all);
-        assert_eq!(rt; written.is_ok(), faults == 0, "{shows}");
-        assert_eq!(rt; sink.bytes(), taken, "{shows}");
-        assert_eq!(rt; sink.faults(), faults, "{shows}");
+        let mut sink = MemorySink::new(rt.alloc(), *room, fails, *most)?;
+        let written = write_all(&mut sink, ALL);
+        assert_eq!(rt; written.is_ok(), *faults == 0, "{shows}");
+        assert_eq!(rt; sink.bytes(), *taken, "{shows}");
+        assert_eq!(rt; sink.faults(), *faults, "{shows}");
     }
     Ok(())
 }
