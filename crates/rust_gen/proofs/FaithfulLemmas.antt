@@ -24,6 +24,7 @@ use Rattle.rust_gen.specs.DeclaredNames.{are_distinct_functions, cabi_suffix, de
 use Rattle.rust_gen.proofs.DeclaredLemmas.{distinct_exports, distinct_methods, distinct_params}
 use Rattle.rust_gen.specs.Faithful.{AreFaithful, export_names, import_target}
 use Rattle.rust_gen.specs.Runtime.{asked_by, asked_by_export, freeing_items, is_same_item, lifting_items, returning_items, runtime_items, runtime_module}
+use Rattle.wit_model.proofs.AllLemmas.{all_at}
 use Rattle.rust_gen.proofs.AskedLemmas.{Found, among-exports, among-imports, found-right, found_all}
 use Rattle.std.proofs.lemmas.Bool.{and_parts}
 use Rattle.rust_gen.proofs.RunLemmas.{Fits}
@@ -73,11 +74,6 @@ use Rattle.rust_tree.specs.Ident.{rust_ident}
 use Rattle.wit_model.specs.declared.world.WorldItem.TheVariants as entry
 
 -- what holds of all holds of each
-list_all-at : {A : Type 0} (p : A → Bool) (xs : List A) (nth : ℕ) (x : A) → list_all p xs ≡ true → slice_get xs nth ≡ Some x → p x ≡ true
-list_all-at p [] nth x h e = absurd (cc)
-list_all-at p (y ∷ xs) zero x h e = let is : y ≡ x = cc in ap p (sym is) ∙ (and_parts (p y) (list_all p xs) h).0
-list_all-at p (y ∷ xs) (suc nth) x h e = list_all-at p xs nth x (and_parts (p y) (list_all p xs) h).1 e
-
 zip-at : {A B : Type 0} (R : A → B → Type 0) (xs : List A) (ys : List B) (nth : ℕ) (x : A) → AllZip R xs ys → slice_get xs nth ≡ Some x → (y : B) × (slice_get ys nth ≡ Some y) × R x y
 zip-at R [] [] nth x z e = absurd (cc)
 zip-at R [] (y ∷ ys) nth x z e = absurd z
@@ -155,7 +151,7 @@ unfolding is_built are_built_tables is_built_world
 few-words opts resolve id nth world f h named e =
     let tables = (and_parts (are_built_tables resolve) (are_built_options opts) h).0 in
     let worlds = (and_parts _ (list_all is_built_world resolve.worlds) tables).1 in
-    let exports = (and_parts _ (list_all (λ entry. is_built_item entry.1) world.exports) (list_all-at is_built_world resolve.worlds id world worlds named)).1 in
+    let exports = (and_parts _ (list_all (λ entry. is_built_item entry.1) world.exports) (all_at is_built_world resolve.worlds id world worlds named)).1 in
     words (built-at world.exports nth exports e)
   where
     built-at : (entries : Entries) (nth : ℕ) → list_all (λ entry. is_built_item entry.1) entries ≡ true → slice_get (functions_in entries) nth ≡ Some f → is_built_function f ≡ true
@@ -250,6 +246,7 @@ no_places m (item.Runtime parts ∷ items) = no_places (m + suc (length parts)) 
 no_places m (item.RootMacro r ∷ items) = no_places (m + 1) items
 no_places m (item.PostReturn p ∷ items) = no_places (m + 1) items
 no_places m (item.Area a ∷ items) = no_places (m + 1) items
+no_places m (item.Type t ∷ items) = no_places (m + 1) items
 
 -- what a result is, by whether it passes by an area
 
@@ -274,7 +271,7 @@ module _ (opts : Opts) (resolve : Resolve) (id : ℕ) (world : World) (found : s
 
   distinct : has_distinct_names world ≡ true
   unfolding is_well_named
-  distinct = list_all-at has_distinct_names resolve.worlds id world (and_parts _ (list_all has_distinct_names resolve.worlds) (and_parts (are_written_tables resolve && list_all has_distinct_names resolve.worlds) (declares_well world) well).0).1 found
+  distinct = all_at has_distinct_names resolve.worlds id world (and_parts _ (list_all has_distinct_names resolve.worlds) (and_parts (are_written_tables resolve && list_all has_distinct_names resolve.worlds) (declares_well world) well).0).1 found
 
   abbrev ws : List FnItem
   ws = b.items.wrappers
@@ -284,7 +281,7 @@ module _ (opts : Opts) (resolve : Resolve) (id : ℕ) (world : World) (found : s
   forms =
       let written = (and_parts (are_written_tables resolve) (list_all has_distinct_names resolve.worlds) (and_parts (are_written_tables resolve && list_all has_distinct_names resolve.worlds) (declares_well world) well).0).0 in
       let worlds = (and_parts _ (list_all is_written_world resolve.worlds) written).1 in
-      wit-forms world.exports (and_parts _ (list_all is_written_entry world.exports) (list_all-at is_written_world resolve.worlds id world worlds found)).1
+      wit-forms world.exports (and_parts _ (list_all is_written_entry world.exports) (all_at is_written_world resolve.worlds id world worlds found)).1
 
   abbrev es : List Parts
   es = b.items.exports
@@ -417,7 +414,7 @@ module _ (opts : Opts) (resolve : Resolve) (id : ℕ) (world : World) (found : s
     exported-there : IsExported tree f.name.wit export
     exported-there = record {
       entry = export_entry f;
-      alone = ap (filter (λ x. bytes_eq x.export_name f.name.wit)) entries ∙ alone-wrapper fs nth f distinct-names forms e (list_all-at (λ f. is_wit_form f.name.wit) fs nth f forms e);
+      alone = ap (filter (λ x. bytes_eq x.export_name f.name.wit)) entries ∙ alone-wrapper fs nth f distinct-names forms e (all_at (λ f. is_wit_form f.name.wit) fs nth f forms e);
       wraps = refl;
       params = sym written.params;
       answer = sym written.answer;

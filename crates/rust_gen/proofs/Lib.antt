@@ -19,6 +19,7 @@ mod NamedImportLemmas
 mod NamedLemmas
 mod PartsLemmas
 mod PathLemmas
+mod PrintedLemmas
 mod ReturnLemmas
 mod RunLemmas
 mod ScopeLemmas

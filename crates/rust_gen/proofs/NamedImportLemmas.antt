@@ -22,7 +22,7 @@ use Rattle.rust_tree.specs.declared.stmt.Stmt.{Stmt}
 use Rattle.rust_tree.specs.declared.stmt.Stmt.TheVariants as stmt
 use Rattle.rust_tree.specs.Ident.{is_ident, rust_ident}
 use Rattle.rust_tree.specs.Runtime.{item_name}
-use Rattle.rust_tree.specs.WellNamed.{are_path_names, are_named_params, is_absent_or, is_line, is_named_block, is_named_expr, is_named_fn, is_named_item, is_named_stmt, is_quotable}
+use Rattle.rust_tree.specs.WellNamed.{are_path_names, is_absent_or, is_line, is_named_block, is_named_expr, is_named_fn, is_named_item, is_named_param, is_named_stmt, is_named_type, is_quotable}
 use Rattle.rust_tree.proofs.NamedLemmas.{is_named-as_ptr, is_named-bool, is_named-call, is_named-cast, is_named-cast_mut, is_named-len, is_named-load, is_named-local, is_named-raw, is_named-ref, is_named-return_pointer}
 use Rattle.rust_gen.specs.declared.scope.LocalKind.{LocalKind}
 use Rattle.rust_gen.specs.declared.scope.LocalKind.TheVariants as kind
@@ -32,7 +32,7 @@ use Rattle.rust_gen.specs.DeclaredNames.{param_idents}
 use Rattle.rust_gen.specs.Printed.{core_result}
 use Rattle.rust_gen.specs.Runtime.{lowering_item}
 use Rattle.rust_gen.specs.Scope.{first_scope, numbered}
-use Rattle.rust_gen.specs.Wrapper.{printed_param}
+use Rattle.rust_gen.proofs.PrintedLemmas.{params-named, result-named}
 use Rattle.rust_gen.proofs.IdentLemmas.{area_ident, docs-named, local_ident, local_path-named, root-quotable, runtime_path-named}
 
 -- lists
@@ -222,9 +222,11 @@ fn-named f w quoted name params h =
     let idents : list_all (λ p. is_ident (rust_ident p.name)) f.params ≡ true = sym (list_all-map is_ident (λ p. rust_ident p.name) f.params) ∙ params in
     let docs : list_all is_line w.docs ≡ true = ap (list_all is_line) h.docs ∙ docs-named f.docs in
     let own : is_ident w.name ≡ true = ap is_ident h.name ∙ name in
-    let printed : are_named_params w.params ≡ true = ap are_named_params h.params ∙ list_all-map (λ p. is_ident p.name) printed_param f.params ∙ idents in
-    and_from (list_all is_line w.docs && is_ident w.name && are_named_params w.params) (is_named_block w.body)
-    (and_from (list_all is_line w.docs && is_ident w.name) (are_named_params w.params) (and_from (list_all is_line w.docs) (is_ident w.name) docs own) printed)
+    let printed : list_all is_named_param w.params ≡ true = ap (list_all is_named_param) h.params ∙ params-named f.params idents in
+    let answer : is_named_type w.result ≡ true = ap is_named_type h.answer ∙ result-named f.result in
+    and_from (list_all is_line w.docs && is_ident w.name && list_all is_named_param w.params && is_named_type w.result) (is_named_block w.body)
+    (and_from (list_all is_line w.docs && is_ident w.name && list_all is_named_param w.params) (is_named_type w.result)
+    (and_from (list_all is_line w.docs && is_ident w.name) (list_all is_named_param w.params) (and_from (list_all is_line w.docs) (is_ident w.name) docs own) printed) answer)
     (body-named f w.body quoted idents h.body)
 
 pub imports-named : (fs : List Function) (ws : List FnItem) → list_all (λ f. is_quotable f.name.wit) fs ≡ true → list_all (λ f. is_ident (rust_ident f.name)) fs ≡ true → list_all (λ f. list_all is_ident (param_idents f)) fs ≡ true

@@ -13,7 +13,7 @@ use Rattle.rust_tree.specs.declared.item.Item.{Item}
 use Rattle.rust_tree.specs.declared.item.Item.TheVariants as item
 use Rattle.rust_tree.specs.declared.runtime_item.RuntimeItem.{RuntimeItem}
 use Rattle.rust_tree.specs.Ident.{is_ident, may_follow, rust_ident}
-use Rattle.rust_tree.specs.WellNamed.{are_named_core_params, are_named_params, are_well_named, is_ident_part, is_line, is_named_entry, is_named_item, is_named_method, is_named_module_macro, is_named_root_macro, is_named_trait, is_quotable}
+use Rattle.rust_tree.specs.WellNamed.{are_named_core_params, are_well_named, is_ident_part, is_line, is_named_entry, is_named_item, is_named_method, is_named_module_macro, is_named_param, is_named_root_macro, is_named_trait, is_named_type, is_quotable}
 use Rattle.wrapper_run.specs.Areas.{needs_area}
 use Rattle.rust_gen.specs.Body.{IsWritten}
 use Rattle.rust_gen.specs.Bound.{AreItems, export_items}
@@ -24,6 +24,7 @@ use Rattle.rust_gen.specs.Emitted.{exported_functions, imported_functions}
 use Rattle.rust_gen.specs.ExportBody.{ArePartsWritten}
 use Rattle.rust_gen.specs.Exported.{area_of, entries_of, export_entry, export_params, file_macro, guest_name, guest_trait, last_macro, macro_name, post_return_name, return_entry, return_params, static_area, trait_and_macro, trait_fn, trait_param, where_any, where_area, world_macro, world_prefix}
 use Rattle.rust_gen.specs.NameText.{are_written_tables, is_wit_form, is_written_entry, is_written_package, is_written_world}
+use Rattle.rust_gen.specs.Printed.{printed_result}
 use Rattle.rust_gen.specs.Runtime.{runtime_items, runtime_module}
 use Rattle.rust_gen.proofs.DeclaredLemmas.{export_idents, import_idents, import_params, macro_names, method_idents}
 use Rattle.rust_gen.proofs.DeclaredLemmas as names
@@ -31,6 +32,7 @@ use Rattle.rust_gen.proofs.EntryLemmas.{wit-forms}
 use Rattle.rust_gen.proofs.IdentLemmas.{docs-named, guest_ident, part_of, return-quotable, wit-quotable}
 use Rattle.rust_gen.proofs.NamedExportLemmas.{export_params-named, exports-named, return_params-named}
 use Rattle.rust_gen.proofs.NamedImportLemmas.{imports-named}
+use Rattle.rust_gen.proofs.PrintedLemmas.{result-named, trait_params-named}
 
 -- what is known of functions
 
@@ -62,9 +64,10 @@ quotables (f ∷ fs) h =
 
 method-named : (f : Function) → is_ident (rust_ident f.name) ≡ true → list_all is_ident (param_idents f) ≡ true → is_named_method (trait_fn f) ≡ true
 method-named f name ps =
-    let printed : are_named_params (map trait_param f.params) ≡ true = list_all-map (λ p. is_ident p.name) trait_param f.params ∙ sym (list_all-map is_ident (λ p. rust_ident p.name) f.params) ∙ ps in
-    and_from (list_all is_line (doc_lines f.docs) && is_ident (rust_ident f.name)) (are_named_params (map trait_param f.params))
-    (and_from (list_all is_line (doc_lines f.docs)) (is_ident (rust_ident f.name)) (docs-named f.docs) name) printed
+    let printed : list_all is_named_param (map trait_param f.params) ≡ true = trait_params-named f.params (sym (list_all-map is_ident (λ p. rust_ident p.name) f.params) ∙ ps) in
+    and_from (list_all is_line (doc_lines f.docs) && is_ident (rust_ident f.name) && list_all is_named_param (map trait_param f.params)) (is_named_type (printed_result f.result))
+    (and_from (list_all is_line (doc_lines f.docs) && is_ident (rust_ident f.name)) (list_all is_named_param (map trait_param f.params))
+    (and_from (list_all is_line (doc_lines f.docs)) (is_ident (rust_ident f.name)) (docs-named f.docs) name) printed) (result-named f.result)
 
 methods-named : (fs : List Function) → Idents fs → Params fs → list_all is_named_method (map trait_fn fs) ≡ true
 methods-named [] n p = refl

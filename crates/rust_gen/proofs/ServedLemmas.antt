@@ -253,6 +253,7 @@ runtime-append (item.ModuleMacro m ∷ xs) ys = runtime-append xs ys
 runtime-append (item.RootMacro r ∷ xs) ys = runtime-append xs ys
 runtime-append (item.PostReturn p ∷ xs) ys = runtime-append xs ys
 runtime-append (item.Area a ∷ xs) ys = runtime-append xs ys
+runtime-append (item.Type t ∷ xs) ys = runtime-append xs ys
 runtime-append (item.Runtime parts ∷ xs) ys = ap (λ is. parts ++ is) (runtime-append xs ys) ∙ sym (append_assoc parts (runtime_in xs) (runtime_in ys))
 
 none-imports : (ws : List FnItem) → runtime_in (map item.Import ws) ≡ []

@@ -50,6 +50,7 @@ wrapper_count-append (item.Runtime parts ∷ xs) ys = wrapper_count-append xs ys
 wrapper_count-append (item.RootMacro m ∷ xs) ys = wrapper_count-append xs ys
 wrapper_count-append (item.PostReturn p ∷ xs) ys = wrapper_count-append xs ys
 wrapper_count-append (item.Area a ∷ xs) ys = wrapper_count-append xs ys
+wrapper_count-append (item.Type t ∷ xs) ys = wrapper_count-append xs ys
 
 wrapper_count-imports : (ws : List FnItem) → wrapper_count (map item.Import ws) ≡ length ws
 wrapper_count-imports [] = refl

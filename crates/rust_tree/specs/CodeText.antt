@@ -1,5 +1,5 @@
--- The text of paths, types, expressions and statements.
-use Rattle.std.specs.Prelude.{ℕ, zero, suc, Bool, true, false, List, [], ◌++◌, Option, Some, None, if◌then◌else◌, codes, decimal, map}
+-- The text of doc lines, paths, types, expressions and statements.
+use Rattle.std.specs.Prelude.{ℕ, zero, suc, Bool, true, false, List, [], ◌∷◌, ◌++◌, Option, Some, None, if◌then◌else◌, codes, decimal, map}
 use Rattle.std.specs.List.{flat_map, join_by}
 use Rattle.wit_model.specs.declared.size.Alignment.{Alignment}
 use Rattle.wit_model.specs.declared.size.Alignment.TheVariants as align
@@ -20,13 +20,21 @@ use Rattle.rust_tree.specs.declared.type_expr.Primitive.{Primitive}
 use Rattle.rust_tree.specs.declared.type_expr.Primitive.TheVariants as primitive
 use Rattle.rust_tree.specs.declared.type_expr.TypeExpr.{TypeExpr, TypeExpr-F, fold-TypeExpr}
 use Rattle.rust_tree.specs.declared.print.word.area.AreaWord.TheVariants.{PointerAlign, Align, AlignEnd, AreaType, AreaValue, AreaEnd}
+use Rattle.rust_tree.specs.declared.print.word.definition.DefinitionWord.TheVariants.{TupleEnd}
 use Rattle.rust_tree.specs.declared.print.word.expr.ExprWord.TheVariants.{Match, BoolArms, AsPtr, Len, CastMut, AreaPointer, Dereference, Add, CastTo, CastEnd, FromRawParts, PointerCast, IntoBoxedBytes, StaticPointer}
 use Rattle.rust_tree.specs.declared.print.word.import.ImportWord.TheVariants.{WasmLink, ExternBlock, LinkedFn, OtherFn, Unreachable, UnnamedParam}
-use Rattle.rust_tree.specs.declared.print.word.item.ItemWord.TheVariants.{UnitType, StrType, StringName}
+use Rattle.rust_tree.specs.declared.print.word.item.ItemWord.TheVariants.{EmptyDoc, Doc, UnitType, StrType, StringName}
 use Rattle.rust_tree.specs.declared.print.word.sign.Sign.{Sign}
 use Rattle.rust_tree.specs.declared.print.word.sign.Sign.TheVariants.{LineEnd, StatementEnd, CloseBlock, Open, Close, Comma, Arrow, PathMark, Super, Reference, As, Let, Equals, LetMut}
 use Rattle.wit_model.specs.Bytes.{Bytes}
-use Rattle.rust_tree.specs.Word.{area_word, expr_word, import_word, item_word, sign}
+use Rattle.rust_tree.specs.Word.{area_word, definition_word, expr_word, import_word, item_word, sign}
+
+-- doc lines
+
+-- `///`, or `/// ` and the line
+abbrev pub doc_text : Bytes → Bytes
+doc_text [] = item_word EmptyDoc
+doc_text (c ∷ cs) = item_word Doc ++ (c ∷ cs) ++ sign LineEnd
 
 -- paths
 
@@ -60,13 +68,19 @@ primitive_text primitive.F32 = codes "f32"
 primitive_text primitive.F64 = codes "f64"
 primitive_text primitive.Char = codes "char"
 
--- one level of a type, with the text of the type in it
+-- `(T, T,)`
+abbrev pub tuple_text : List Bytes → Bytes
+tuple_text parts = sign Open ++ join_by (λ part. part) (sign Comma) parts ++ definition_word TupleEnd
+
+-- one level of a type, with the texts of the types in it
 abbrev pub type_step : TypeExpr-F Bytes → Bytes
 type_step (TypeExpr-F.Primitive p) = primitive_text p
 type_step TypeExpr-F.Unit = item_word UnitType
 type_step TypeExpr-F.Str = item_word StrType
 type_step TypeExpr-F.String = item_word StringName
 type_step (TypeExpr-F.Ref ty) = sign Reference ++ ty
+type_step (TypeExpr-F.Path path) = path_text path
+type_step (TypeExpr-F.Tuple parts) = tuple_text parts
 
 abbrev pub type_text : TypeExpr → Bytes
 type_text = fold-TypeExpr Bytes type_step

@@ -1,4 +1,5 @@
 pub mod CodeText
+pub mod DefinitionText
 pub mod ExportText
 pub mod Ident
 pub mod Runtime

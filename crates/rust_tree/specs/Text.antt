@@ -9,20 +9,16 @@ use Rattle.rust_tree.specs.declared.runtime_item.RuntimeItem.{RuntimeItem}
 use Rattle.rust_tree.specs.declared.trait_item.TraitFn.{TraitFn}
 use Rattle.rust_tree.specs.declared.trait_item.TraitItem.{TraitItem}
 use Rattle.rust_tree.specs.declared.type_expr.TypeExpr.{TypeExpr}
-use Rattle.rust_tree.specs.declared.print.word.item.ItemWord.TheVariants.{Preamble, EmptyDoc, Doc, PublicFn, OpenUnsafe, PublicTrait, Method}
+use Rattle.rust_tree.specs.declared.print.word.item.ItemWord.TheVariants.{Preamble, PublicFn, OpenUnsafe, PublicTrait, Method}
 use Rattle.rust_tree.specs.declared.print.word.runtime.RuntimeWord.TheVariants.{RuntimeModule}
 use Rattle.rust_tree.specs.declared.print.word.sign.Sign.TheVariants.{LineEnd, StatementEnd, OpenBlock, CloseBlock, Open, Close, Comma, Colon, Arrow}
-use Rattle.rust_tree.specs.CodeText.{block_text, type_text}
+use Rattle.rust_tree.specs.CodeText.{block_text, doc_text, type_text}
+use Rattle.rust_tree.specs.DefinitionText.{type_item_text}
 use Rattle.rust_tree.specs.ExportText.{export_text, module_macro_text, post_return_text, root_macro_text, static_area_text}
 use Rattle.rust_tree.specs.RuntimeText.{runtime_item_text}
 use Rattle.rust_tree.specs.Tree.{Tree}
 use Rattle.wit_model.specs.Bytes.{Bytes}
 use Rattle.rust_tree.specs.Word.{item_word, runtime_word, sign}
-
--- `///`, or `/// ` and the line
-abbrev pub doc_text : Bytes → Bytes
-doc_text [] = item_word EmptyDoc
-doc_text (c ∷ cs) = item_word Doc ++ (c ∷ cs) ++ sign LineEnd
 
 -- `name: T`
 abbrev pub param_text : FnParam → Bytes
@@ -57,6 +53,7 @@ item_text (item.Runtime items) = runtime_text items
 item_text (item.RootMacro m) = root_macro_text m
 item_text (item.PostReturn f) = post_return_text f
 item_text (item.Area a) = static_area_text a
+item_text (item.Type t) = type_item_text t
 
 abbrev pub option_text : Bytes → Bytes
 option_text line = line ++ sign LineEnd

@@ -21,7 +21,14 @@ use Rattle.rust_tree.specs.declared.stmt.Stmt.{Stmt}
 use Rattle.rust_tree.specs.declared.stmt.Stmt.TheVariants as stmt
 use Rattle.rust_tree.specs.declared.trait_item.TraitFn.{TraitFn}
 use Rattle.rust_tree.specs.declared.trait_item.TraitItem.{TraitItem}
-use Rattle.rust_tree.specs.Ident.{is_ident, may_follow}
+use Rattle.rust_tree.specs.declared.path.Path.{Path}
+use Rattle.rust_tree.specs.declared.type_expr.TypeExpr.{TypeExpr, TypeExpr-F, fold-TypeExpr}
+use Rattle.rust_tree.specs.declared.type_item.AliasItem.{AliasItem}
+use Rattle.rust_tree.specs.declared.type_item.StructField.{StructField}
+use Rattle.rust_tree.specs.declared.type_item.StructItem.{StructItem}
+use Rattle.rust_tree.specs.declared.type_item.TypeItem.{TypeItem}
+use Rattle.rust_tree.specs.declared.type_item.TypeItem.TheVariants.{Struct, Alias}
+use Rattle.rust_tree.specs.Ident.{is_ident, is_primitive_name, may_follow}
 
 -- texts
 
@@ -50,6 +57,34 @@ are_path_names (first ∷ names) = (is_ident first || bytes_eq first (codes "cra
 abbrev pub is_absent_or : {A : Type 0} → (A → Bool) → Option A → Bool
 is_absent_or p None = true
 is_absent_or p (Some x) = p x
+
+-- types
+
+abbrev pub is_nonempty : {A : Type 0} → List A → Bool
+is_nonempty [] = false
+is_nonempty (_ ∷ _) = true
+
+-- the names of a path that, alone, is printed as another form of a type
+abbrev pub is_other_form : List Bytes → Bool
+is_other_form (name ∷ []) = is_primitive_name name
+is_other_form (first ∷ name ∷ []) = bytes_eq first (codes "_rt") && bytes_eq name (codes "String")
+is_other_form _ = false
+
+abbrev pub is_type_path : Path → Bool
+is_type_path p = are_path_names p.names && (p.lead || not (p.supers == 0) || not (is_other_form p.names))
+
+-- one level of a type, with the answers for the types in it
+abbrev pub named_type_step : TypeExpr-F Bool → Bool
+named_type_step (TypeExpr-F.Primitive p) = true
+named_type_step TypeExpr-F.Unit = true
+named_type_step TypeExpr-F.Str = true
+named_type_step TypeExpr-F.String = true
+named_type_step (TypeExpr-F.Ref ty) = ty
+named_type_step (TypeExpr-F.Path path) = is_type_path path
+named_type_step (TypeExpr-F.Tuple parts) = is_nonempty parts && list_all (λ part. part) parts
+
+abbrev pub is_named_type : TypeExpr → Bool
+is_named_type = fold-TypeExpr Bool named_type_step
 
 -- expressions and statements
 
@@ -88,17 +123,32 @@ is_named_block b = list_all is_named_stmt b.stmts && is_absent_or is_named_expr 
 
 -- functions and traits
 
-abbrev pub are_named_params : List FnParam → Bool
-are_named_params params = list_all (λ p. is_ident p.name) params
+abbrev pub is_named_param : FnParam → Bool
+is_named_param p = is_ident p.name && is_named_type p.ty
 
 abbrev pub is_named_fn : FnItem → Bool
-is_named_fn f = list_all is_line f.docs && is_ident f.name && are_named_params f.params && is_named_block f.body
+is_named_fn f = list_all is_line f.docs && is_ident f.name && list_all is_named_param f.params && is_named_type f.result && is_named_block f.body
 
 abbrev pub is_named_method : TraitFn → Bool
-is_named_method f = list_all is_line f.docs && is_ident f.name && are_named_params f.params
+is_named_method f = list_all is_line f.docs && is_ident f.name && list_all is_named_param f.params && is_named_type f.result
 
 abbrev pub is_named_trait : TraitItem → Bool
 is_named_trait t = is_ident t.name && list_all is_named_method t.functions
+
+-- definitions
+
+abbrev pub is_named_field : StructField → Bool
+is_named_field f = list_all is_line f.docs && is_ident f.name && is_quotable f.wit && is_named_type f.ty
+
+abbrev pub is_named_struct : StructItem → Bool
+is_named_struct s = list_all is_line s.docs && list_all (λ path. are_path_names path.names) s.derives && is_ident s.name && list_all is_named_field s.fields
+
+abbrev pub is_named_alias : AliasItem → Bool
+is_named_alias a = list_all is_line a.docs && is_ident a.name && is_named_type a.ty
+
+abbrev pub is_named_type_item : TypeItem → Bool
+is_named_type_item (Struct s) = is_named_struct s
+is_named_type_item (Alias a) = is_named_alias a
 
 -- what is exported
 
@@ -134,6 +184,7 @@ is_named_item (item.Runtime items) = true
 is_named_item (item.RootMacro m) = is_named_root_macro m
 is_named_item (item.PostReturn f) = is_named_post_return f
 is_named_item (item.Area a) = true
+is_named_item (item.Type t) = is_named_type_item t
 
 -- of a tree with these option lines and items
 abbrev pub are_well_named : List Bytes → List Item → Bool

@@ -19,6 +19,8 @@ use Rattle.rust_tree.specs.declared.print.word.runtime.RuntimeWord.{RuntimeWord}
 use Rattle.rust_tree.specs.declared.print.word.runtime.RuntimeWord.TheVariants.{RuntimeModule, ExternCrate, PublicUse, UnsafeFn, DeallocParams, MakeLayout, Dealloc}
 use Rattle.rust_tree.specs.declared.print.word.conversion.ConversionWord.{ConversionWord}
 use Rattle.rust_tree.specs.declared.print.word.conversion.ConversionWord.TheVariants.{ConversionFn, ConversionBound, ConversionParam, ConvertParam, ReferenceBound, ReferenceTrait, ForReference, ConvertTarget, CallEnd, ConversionImpl, ImplFor, Inline, TakesSelf, CastSelf}
+use Rattle.rust_tree.specs.declared.print.word.definition.DefinitionWord.{DefinitionWord}
+use Rattle.rust_tree.specs.declared.print.word.definition.DefinitionWord.TheVariants.{ReprC, Derive, DeriveEnd, PublicStruct, PublicField, FieldEnd, DebugImpl, DebugFn, DebugStruct, DebugName, DebugField, DebugValue, Finish, PublicType, TupleEnd}
 use Rattle.rust_tree.specs.declared.print.word.lift.LiftWord.{LiftWord}
 use Rattle.rust_tree.specs.declared.print.word.lift.LiftWord.TheVariants.{IfDebug, Otherwise, LiftEnd, BoolLiftType, CheckedBool, UncheckedBool, CharLiftType, CheckedChar, UncheckedChar, StringLiftType, CheckedString, UncheckedString}
 
@@ -164,3 +166,21 @@ lift_word UncheckedChar = codes "unsafe { ::core::char::from_u32_unchecked(val) 
 lift_word StringLiftType = codes "(bytes: Vec<u8>) -> String"
 lift_word CheckedString = codes "String::from_utf8(bytes).unwrap()\n"
 lift_word UncheckedString = codes "unsafe { String::from_utf8_unchecked(bytes) }\n"
+
+-- the definition of a struct, its `Debug`, the definition of another name, and the end of a tuple
+unfoldable pub definition_word : DefinitionWord → Bytes
+definition_word ReprC = codes "#[repr(C)]\n"
+definition_word Derive = codes "#[derive("
+definition_word DeriveEnd = codes ")]\n"
+definition_word PublicStruct = codes "pub struct "
+definition_word PublicField = codes "pub "
+definition_word FieldEnd = codes ",\n"
+definition_word DebugImpl = codes "impl ::core::fmt::Debug for "
+definition_word DebugFn = codes "fn fmt(&self, f: &mut ::core::fmt::Formatter<'_>) -> ::core::fmt::Result {\n"
+definition_word DebugStruct = codes "f.debug_struct(\""
+definition_word DebugName = codes "\")"
+definition_word DebugField = codes ".field(\""
+definition_word DebugValue = codes "\", &self."
+definition_word Finish = codes ".finish()\n"
+definition_word PublicType = codes "pub type "
+definition_word TupleEnd = codes ",)"

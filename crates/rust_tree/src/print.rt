@@ -13,6 +13,7 @@ mod runtime;
 mod size;
 mod stmt;
 mod trait_item;
+mod type_item;
 mod type_name;
 mod word;
 
@@ -29,6 +30,7 @@ use macros::{push_module_macro, push_root_macro};
 use runtime::push_runtime;
 use std::alloc::Global;
 use trait_item::push_trait;
+use type_item::push_type_item;
 use wit_model::{OutOfMemory, Text};
 use word::{ItemWord, Sign};
 
@@ -54,6 +56,7 @@ fn push_item(out: &mut Text, item: &Item) -> Result<(), OutOfMemory>
         Item::RootMacro(item) => push_root_macro(out, item),
         Item::PostReturn(function) => push_post_return(out, function),
         Item::Area(area) => push_static_area(out, area),
+        Item::Type(item) => push_type_item(out, item),
     }
 }
 

@@ -4,6 +4,8 @@ mod code;
 mod export;
 mod function;
 mod text;
+mod type_expr;
+mod type_item;
 
 ghost use Rattle.std.specs.Prelude.{◌≡◌};
 ghost use Rattle.std.specs.List.{list_all};
@@ -13,6 +15,7 @@ use crate::item::Item;
 use export::{is_named_export, is_named_module_macro, is_named_post_return, is_named_root_macro};
 use function::{is_named_fn, is_named_trait};
 use text::are_option_lines;
+use type_item::is_named_type_item;
 use wit_model::Text;
 
 fn is_named_item(item: &Item) -> bool
@@ -27,6 +30,7 @@ fn is_named_item(item: &Item) -> bool
         Item::RootMacro(item) => is_named_root_macro(item),
         Item::PostReturn(function) => is_named_post_return(function),
         Item::Area(_) => true,
+        Item::Type(item) => is_named_type_item(item),
     }
 }
 
@@ -37,7 +41,8 @@ fn are_named_items(items: &[Item]) -> bool
 }
 
 /// Whether option lines and items may make up a tree: each name in them is an identifier, and a path has one name at
-/// least, the first of which may also be `crate` or `self`; base names, and the names of worlds and macros, hold letters,
+/// least, the first of which may also be `crate` or `self`; a type that is a path alone is no primitive type's name and not
+/// `_rt::String`, and a tuple type has a part; base names, and the names of worlds and macros, hold letters,
 /// digits and `_`; a text that is printed between double quotes holds no `"`, no `\` and no line feed; and a doc line or
 /// an option line holds no line feed, and the latter begins with `//   * `.
 pub fn are_well_named(options: &[Text], items: &[Item]) -> bool

@@ -1,6 +1,7 @@
 ghost use Rattle.std.specs.Prelude.{◌≡◌, ◌++◌, OnOk};
 ghost use Rattle.std.specs.List.{flat_map, join_by};
-ghost use Rattle.rust_tree.specs.Text.{doc_text, fn_text, param_text, signature_text};
+ghost use Rattle.rust_tree.specs.CodeText.{doc_text};
+ghost use Rattle.rust_tree.specs.Text.{fn_text, param_text, signature_text};
 ghost use Rattle.rust_tree.specs.Word.{sign};
 ghost use Rattle.rust_tree.specs.declared.print.word.sign.Sign.TheVariants.{Comma};
 

@@ -1,8 +1,9 @@
-ghost use Rattle.std.specs.Prelude.{◌≡◌, ◌++◌, OnOk};
-ghost use Rattle.rust_tree.specs.CodeText.{cast_type_text, core_type_text, primitive_text, type_text};
+ghost use Rattle.std.specs.Prelude.{◌≡◌, ◌++◌, OnOk, map};
+ghost use Rattle.rust_tree.specs.CodeText.{cast_type_text, core_type_text, primitive_text, tuple_text, type_text};
 
 use crate::expr::CastType;
-use crate::print::word::{ItemWord, Sign};
+use crate::print::path::push_path;
+use crate::print::word::{DefinitionWord, ItemWord, Sign};
 use crate::type_expr::{Primitive, TypeExpr};
 use wit_model::{OutOfMemory, Text, WasmType};
 
@@ -52,6 +53,7 @@ fn core_type_name(ty: WasmType) -> &'static str
     }
 }
 
+#[cycle(type_name)]
 pub(crate) fn push_type(out: &mut Text, ty: &TypeExpr) -> Result<(), OutOfMemory>
     ensures { OnOk result (out.new ≡ out.old ++ type_text ty.now) }
 {
@@ -64,7 +66,23 @@ pub(crate) fn push_type(out: &mut Text, ty: &TypeExpr) -> Result<(), OutOfMemory
             Sign::Reference.put(out)?;
             push_type(out, ty.get())
         }
+        TypeExpr::Path(path) => push_path(out, path),
+        TypeExpr::Tuple(parts) => push_tuple(out, parts.as_slice()),
     }
+}
+
+#[cycle(type_name)]
+fn push_tuple(out: &mut Text, parts: &[TypeExpr]) -> Result<(), OutOfMemory>
+    ensures { OnOk result (out.new ≡ out.old ++ tuple_text (map type_text parts.now)) }
+{
+    Sign::Open.put(out)?;
+    for (i, part) in parts.iter().enumerate() {
+        if i > 0 {
+            Sign::Comma.put(out)?;
+        }
+        push_type(out, part)?;
+    }
+    DefinitionWord::TupleEnd.put(out)
 }
 
 pub(crate) fn push_cast_type(out: &mut Text, ty: CastType) -> Result<(), OutOfMemory>

@@ -2,6 +2,7 @@
 
 mod area;
 mod conversion;
+mod definition;
 mod export;
 mod expr;
 mod import;
@@ -13,6 +14,7 @@ mod sign;
 
 pub(crate) use area::AreaWord;
 pub(crate) use conversion::ConversionWord;
+pub(crate) use definition::DefinitionWord;
 pub(crate) use export::ExportWord;
 pub(crate) use expr::ExprWord;
 pub(crate) use import::ImportWord;

@@ -1,0 +1,7 @@
+use Rattle.std.proofs.Common.{◌≡◌, ◌++◌, drop}
+use Rattle.std.specs.List.{flat_map}
+use Rattle.rust_tree.specs.DefinitionText.{field_text}
+use Rattle.rust_tree.proofs.print.type_item.push_fields.Given as goal
+
+abbrev pub invariant-loop-field : goal.invariant-loop-field
+invariant-loop-field l = l.out ++ flat_map field_text (drop l.field-index l.fields) ≡ l.initial.out ++ flat_map field_text l.fields
