@@ -1,3 +1,4 @@
+pub mod LiftSteps
 pub mod LowerSteps
 pub mod PlainOperands
 pub mod PlainPlaces
@@ -5,4 +6,6 @@ pub mod PlainRows
 pub mod PlainRuns
 pub mod PlainNew
 pub mod Records
+pub mod SaysLength
+pub mod TakingOver
 pub mod Runs

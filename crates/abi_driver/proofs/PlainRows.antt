@@ -9,8 +9,6 @@ use Rattle.std.proofs.lemmas.Int.{ints}
 use Rattle.std.proofs.lemmas.List.{length-map}
 use Rattle.wit_model.specs.declared.name.TypeId.{TypeId}
 use Rattle.wit_model.specs.declared.types.Field.{Field}
-use Rattle.wit_model.specs.declared.types.TypeDefKind.{TypeDefKind}
-use Rattle.wit_model.specs.declared.types.TypeDefKind.TheVariants as kind
 use Rattle.wit_model.specs.declared.types.TypeDef.{TypeDef}
 use Rattle.wit_model.specs.declared.types.WitType.{WitType}
 use Rattle.wit_layout.specs.Flat.{core_type}
@@ -49,7 +47,7 @@ use Rattle.abi_driver.specs.Parts.{LiftsParts, LowersParts, PartsStand, count}
 use Rattle.abi_driver.specs.Plain.{AddsStep, IsPlainText, IsRight, PlainItem, PlainItems, PlainPartsStand, PlainStands, PlainState, all_at, and_all, gathered, leaf, lifted_type, listed, lowered_type, normal, performs, places_from, plain_meaning, scalar_of, whole}
 use Rattle.abi_driver.proofs.PlainPlaces.{places_count}
 use Rattle.abi_driver.proofs.PlainRuns.{plain_adds, plain_does}
-use Rattle.abi_driver.proofs.Records.{count-shapes}
+use Rattle.abi_driver.proofs.Records.{count-shapes, one_record}
 use Rattle.abi_driver.proofs.Runs.{total-append}
 
 -- 1. What actions leave of the owners
@@ -251,15 +249,6 @@ gathered_is : (vals : List PlainItem) → listed (gathered (item_data plain_mean
 gathered_is [] = refl
 gathered_is (a ∷ vals) = ap (λ xs. a ∷ xs) (gathered_is vals)
 
--- an entry of the table is a record of one list of fields
-members_of : TypeDefKind → List Field
-members_of (kind.Record members) = members
-members_of _ = []
-
-same_members : (types : List TypeDef) (id : ℕ) (xs ys : List Field) → IsRecord types id xs → IsRecord types id ys → xs ≡ ys
-unfolding members_of
-same_members types id xs ys a b = ap members_of (sym a.kind ∙ ap (λ (t : TypeDef). t.kind) (some_same a.entry b.entry (sym a.at ∙ b.at)) ∙ b.kind)
-
 field_count : (types : List TypeDef) (members : List Field) → count (field_shapes types members) ≡ length members
 field_count types members = count-shapes types (map (λ (f : Field). f.ty) members) ∙ length-map members (λ (f : Field). f.ty)
 
@@ -370,9 +359,9 @@ module _ (types : List TypeDef) (old new : PlainBindgen) where
       → Emits plain_meaning types (instruction.RecordLower id) (o ∷ []) rs old new
   splits_record id members o rs is adds places = record {
     adds = plain_adds (step.Split o.number old.count) (length members) old new adds;
-    results = λ others other. ap length places ∙ places_count old.count (length members) ∙ ap length (same_members types id.0 members others is other);
+    results = λ others other. ap length places ∙ places_count old.count (length members) ∙ ap length (one_record types id.0 members others is other);
     row = λ others other.
-        subst (λ ms. LowersParts plain_meaning (field_shapes types ms) (fields (field_shapes types ms)) (λ v. v) (o ∷ []) rs old new) (same_members types id.0 members others is other)
+        subst (λ ms. LowersParts plain_meaning (field_shapes types ms) (fields (field_shapes types ms)) (λ v. v) (o ∷ []) rs old new) (one_record types id.0 members others is other)
         (subst (λ ps. LowersParts plain_meaning (field_shapes types members) (fields (field_shapes types members)) (λ v. v) (o ∷ []) ps old new) (sym places)
         (splits (field_shapes types members) (fields (field_shapes types members)) (λ v. v) (length members) o (field_count types members) (λ dir v a own h. h) adds));
   }
@@ -383,7 +372,7 @@ module _ (types : List TypeDef) (old new : PlainBindgen) where
     adds = plain_adds (step.Join os old.count) 1 old new adds;
     results = ap length places;
     row = λ others other.
-        subst (λ ms. LiftsParts plain_meaning (field_shapes types ms) (fields (field_shapes types ms)) (λ v. v) os rs old new) (same_members types id.0 members others is other)
+        subst (λ ms. LiftsParts plain_meaning (field_shapes types ms) (fields (field_shapes types ms)) (λ v. v) os rs old new) (one_record types id.0 members others is other)
         (subst (λ ps. LiftsParts plain_meaning (field_shapes types members) (fields (field_shapes types members)) (λ v. v) os ps old new) (sym places)
         (joins (field_shapes types members) (fields (field_shapes types members)) (λ v. v) os (len ∙ sym (field_count types members)) (λ v items own h. (items, refl, h)) adds));
   }

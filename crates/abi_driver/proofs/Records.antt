@@ -15,7 +15,8 @@ use Rattle.wit_layout.proofs.FlattenSteps.{part_in_table, part_rank, payload_bel
 use Rattle.wrapper_meaning.specs.Shape.{payloads_in, shape_at, shape_by, shape_of, shapes}
 use Rattle.wrapper_meaning.specs.Shape.Shape.{fields, tuple}
 use Rattle.wrapper_meaning.proofs.ShapeIsByKind.{shape_is_by_kind}
-use Rattle.abi_driver.specs.Instructions.{field_shapes, shapes_of}
+use Rattle.wrapper_meaning.proofs.Lists.{some_same}
+use Rattle.abi_driver.specs.Instructions.{IsRecord, field_shapes, shapes_of}
 use Rattle.abi_driver.specs.Parts.{count}
 
 pub count-shapes : (types : List TypeDef) (tys : List WitType) → count (shapes_of types tys) ≡ length tys
@@ -69,6 +70,15 @@ entry_at types read id d same within is = slice_get-get_or types id d within ∙
 
 pub kind_at : (read : List TypeDef) (id : ℕ) (d : TypeDef) (k : TypeDefKind) → d ≡ get_or read id d → (get_or read id d).kind ≡ k → d.kind ≡ k
 kind_at read id d k is e = ap (λ (t : TypeDef). t.kind) is ∙ e
+
+-- an entry of the table is a record of one list of fields
+members_of : TypeDefKind → List Field
+members_of (kind.Record members) = members
+members_of _ = []
+
+pub one_record : (types : List TypeDef) (id : ℕ) (xs ys : List Field) → IsRecord types id xs → IsRecord types id ys → xs ≡ ys
+unfolding members_of
+one_record types id xs ys a b = ap members_of (sym a.kind ∙ ap (λ (t : TypeDef). t.kind) (some_same a.entry b.entry (sym a.at ∙ b.at)) ∙ b.kind)
 
 -- a type of a bounded list
 all_get : {A : Type 0} (p : A → Bool) (xs : List A) (i : ℕ) (d : A) → list_all p xs ≡ true → i < length xs → p (get_or xs i d) ≡ true

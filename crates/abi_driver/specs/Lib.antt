@@ -2,6 +2,7 @@ pub mod Account
 pub mod Instructions
 pub mod Laws
 pub mod Leaves
+pub mod Lifts
 pub mod Lowers
 pub mod Meaning
 pub mod Parts

@@ -3,6 +3,7 @@
 
 mod bindgen;
 mod instruction;
+mod lift;
 mod lower;
 mod parts;
 mod plain;
@@ -10,5 +11,6 @@ mod send;
 
 pub use bindgen::{Bindgen, Operand};
 pub use instruction::Instruction;
+pub use lift::lift_flat;
 pub use lower::lower_flat;
 pub use plain::{Place, PlainBindgen, Step};

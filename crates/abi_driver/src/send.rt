@@ -34,6 +34,22 @@ pub(crate) fn only<O: Operand>(alloc: Global, operand: O) -> Result<List<O>, Out
     Ok(all)
 }
 
+/// Sends an instruction that has one result, and gives it.
+pub(crate) fn send_one<B: Bindgen>(
+    alloc: Global,
+    resolve: &Resolve,
+    bindgen: &mut B,
+    inst: Instruction,
+    operands: List<B::Operand>,
+) -> Result<B::Operand, OutOfMemory>
+    requires ready { IsSendable B.meaning resolve.now.types inst operands bindgen.old }
+    requires makes { (k : ℕ) → Makes resolve.now.types inst k → k ≡ 1 }
+    ensures { IfOk result (λ o. Emits B.meaning resolve.now.types inst.entry operands (o ∷ []) bindgen.old bindgen.new) }
+{
+    let results = send(alloc, resolve, bindgen, inst, operands)?;
+    results.as_slice()[0].copy(alloc)
+}
+
 /// Puts copies of some operands last.
 pub(crate) fn push_copies<O: Operand>(
     all: &mut Vec<O>,

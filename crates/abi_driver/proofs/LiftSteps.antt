@@ -1,0 +1,264 @@
+-- Words become values: scalars, texts, and parts.
+use Rattle.std.proofs.Common.{◌≡◌, ℕ, suc, ◌+◌, ◌≤◌, List, [], ◌∷◌, ◌++◌, length, drop, None, Some, refl, sym, ap, ◌∙◌, subst, arith, append_assoc, append-nil}
+use Rattle.std.proofs.lemmas.List.{drop_all, length-append, length-map}
+use Rattle.wit_model.specs.declared.name.TypeId.{TypeId}
+use Rattle.wit_model.specs.declared.types.Field.{Field}
+use Rattle.wit_model.specs.declared.types.TypeDef.{TypeDef}
+use Rattle.wit_model.specs.declared.types.WitType.{WitType}
+use Rattle.wit_model.specs.declared.types.WitType.TheVariants as wit
+use Rattle.wit_layout.specs.Flat.{flatten_record, flatten_type}
+use Rattle.wit_layout.specs.Tree.{Scalar}
+use Rattle.wrapper_data.specs.declared.block.Block.{Block}
+use Rattle.wrapper_data.specs.declared.word.Word.{Word}
+use Rattle.wrapper_data.specs.declared.word.Word.TheVariants as core
+use Rattle.wrapper_meaning.specs.AsWords.{IsTaken, PartsSay, Says}
+use Rattle.wrapper_meaning.specs.Direction.{take}
+use Rattle.wrapper_meaning.specs.InRange.{AreListed, IsScalar}
+use Rattle.wrapper_meaning.specs.Items.{total}
+use Rattle.wrapper_meaning.specs.Layout.{layout, layouts}
+use Rattle.wrapper_meaning.specs.Settled.{all_settled}
+use Rattle.wrapper_meaning.specs.Shape.{Shape, Shapes, shape_of}
+use Rattle.wrapper_meaning.specs.Shape.Shape.{scalar, text, fields, tuple}
+use Rattle.wrapper_meaning.specs.Shape.Shapes.{none, more}
+use Rattle.wrapper_meaning.specs.Value.{Parts, ScalarValue, Value}
+use Rattle.wrapper_meaning.proofs.Lists.{some_same}
+use Rattle.abi_driver.specs.declared.instruction.Instruction.{Instruction}
+use Rattle.abi_driver.specs.declared.instruction.Instruction.TheVariants.{RecordLift, StringLift, TupleLift}
+use Rattle.abi_driver.specs.Account.{Account, Done, Follows, Got, Outcome, Taken, addresses, reading, taking}
+use Rattle.abi_driver.specs.Instructions.{Emits, IsRecord, RowBy, field_shapes, lifted_scalar, lifting, lowered_scalar, shapes_of}
+use Rattle.abi_driver.specs.Laws.{Adds, After, At, Facts, Sound, core_data, item_data, ofs}
+use Rattle.abi_driver.specs.Leaves.{LiftsScalar}
+use Rattle.abi_driver.specs.Lifts.{LiftsAll, LiftsFlat, MayTake, TakesOver, took}
+use Rattle.abi_driver.specs.Meaning.{Meaning, item, of, word}
+use Rattle.abi_driver.specs.Parts.{LiftsParts, PartsStand, count}
+use Rattle.abi_driver.proofs.Runs.{adds_both, adds_same, addresses_both, core_append, ofs_append, total-append}
+use Rattle.abi_driver.proofs.SaysLength.{says_length}
+use Rattle.abi_driver.proofs.TakingOver.{may_first, may_rest, reads, taking_text, took_both, took_none}
+
+-- what follows an action that is done
+follows_done : {V A S : Type 0} (account : S → Account V) (o : Outcome V A) (q : Outcome V S) (P : A → S → Type 0) (x : A) → o ≡ Done x → Follows account o q P → (t : S) × (q ≡ Done t) × P x t
+follows_done account o q P x e h = subst (λ z. Follows account z q P) e h
+
+-- the scalar of an instruction that was chosen by a type
+pub record IsLifted (ty : WitType) (i : Instruction) : Type 0 where
+  pub scalar_is : Scalar
+  pub lowers : lowered_scalar i ≡ None
+  pub lifts : lifted_scalar i ≡ Some scalar_is
+  pub shape : (types : List TypeDef) → shape_of types ty ≡ scalar scalar_is
+
+pub lifted_type : (ty : WitType) (i : Instruction) → lifting ty ≡ Some i → IsLifted ty i
+lifted_type wit.Bool i e = record { scalar_is = Scalar.bool; lowers = ap lowered_scalar (sym (some_same _ _ e)); lifts = ap lifted_scalar (sym (some_same _ _ e)); shape = λ types. refl }
+lifted_type wit.U8 i e = record { scalar_is = Scalar.u8; lowers = ap lowered_scalar (sym (some_same _ _ e)); lifts = ap lifted_scalar (sym (some_same _ _ e)); shape = λ types. refl }
+lifted_type wit.S8 i e = record { scalar_is = Scalar.s8; lowers = ap lowered_scalar (sym (some_same _ _ e)); lifts = ap lifted_scalar (sym (some_same _ _ e)); shape = λ types. refl }
+lifted_type wit.U16 i e = record { scalar_is = Scalar.u16; lowers = ap lowered_scalar (sym (some_same _ _ e)); lifts = ap lifted_scalar (sym (some_same _ _ e)); shape = λ types. refl }
+lifted_type wit.S16 i e = record { scalar_is = Scalar.s16; lowers = ap lowered_scalar (sym (some_same _ _ e)); lifts = ap lifted_scalar (sym (some_same _ _ e)); shape = λ types. refl }
+lifted_type wit.U32 i e = record { scalar_is = Scalar.u32; lowers = ap lowered_scalar (sym (some_same _ _ e)); lifts = ap lifted_scalar (sym (some_same _ _ e)); shape = λ types. refl }
+lifted_type wit.S32 i e = record { scalar_is = Scalar.s32; lowers = ap lowered_scalar (sym (some_same _ _ e)); lifts = ap lifted_scalar (sym (some_same _ _ e)); shape = λ types. refl }
+lifted_type wit.Char i e = record { scalar_is = Scalar.char; lowers = ap lowered_scalar (sym (some_same _ _ e)); lifts = ap lifted_scalar (sym (some_same _ _ e)); shape = λ types. refl }
+lifted_type wit.U64 i e = record { scalar_is = Scalar.u64; lowers = ap lowered_scalar (sym (some_same _ _ e)); lifts = ap lifted_scalar (sym (some_same _ _ e)); shape = λ types. refl }
+lifted_type wit.S64 i e = record { scalar_is = Scalar.s64; lowers = ap lowered_scalar (sym (some_same _ _ e)); lifts = ap lifted_scalar (sym (some_same _ _ e)); shape = λ types. refl }
+lifted_type wit.F32 i e = record { scalar_is = Scalar.f32; lowers = ap lowered_scalar (sym (some_same _ _ e)); lifts = ap lifted_scalar (sym (some_same _ _ e)); shape = λ types. refl }
+lifted_type wit.F64 i e = record { scalar_is = Scalar.f64; lowers = ap lowered_scalar (sym (some_same _ _ e)); lifts = ap lifted_scalar (sym (some_same _ _ e)); shape = λ types. refl }
+lifted_type wit.String i e = absurd (let h = e in cc)
+lifted_type wit.ErrorContext i e = absurd (let h = e in cc)
+lifted_type (wit.Id id) i e = absurd (let h = e in cc)
+
+module _ {Self Operand : Type 0} (m : Meaning Self Operand) (sound : Sound m) (types : List TypeDef) where
+  scalar_row : (s : Scalar) (a b : Self) (o r : Operand) → Adds m a b → LiftsScalar m s (o ∷ []) (r ∷ []) a b → LiftsFlat m (scalar s) (o ∷ []) r a b
+  scalar_row s a b o r adds row = record {
+    adds = adds;
+    fits = refl;
+    row = λ v ws own listed says w f others s0 st at may.
+        let x = says.0 in
+        let at1 : At m w f a b (of o (word x) ∷ others) s0 st = record { serves = at.serves; done = at.done; holds = subst (λ zs. m.denotes w a (ofs m (o ∷ []) (core_data m zs) ++ others) st) says.1 at.holds } in
+        let P : Got m.Item (Unit {0}) → m.State → Type 0 = λ y t. (outs : Facts m) × ((c : m.Item) × (outs ≡ ofs m (r ∷ []) (item c ∷ [])) × ((v : ScalarValue s) → IsScalar s v → IsTaken s v x → m.stands take (scalar s) v c [])) × After m w b (outs ++ others) [] [] st y t in
+        let ran = follows_done m.account (reading s f x (m.account st)) (m.does w f (m.code b) s0) P (record { result = tt; account = m.account st }) (reads s f v x (m.account st) listed says.2) (row x w f others s0 st at1) in
+        let t = ran.0 in
+        let is = ran.2.1 in
+        let after = ran.2.2 in (
+          t,
+          ran.1,
+          is.0 ∷ [],
+          (is.0, refl, subst (m.stands take (scalar s) v is.0) (sym says.3) (is.2 v listed says.2)),
+          record {
+            account = after.account ∙ sym (ap (λ bs. took bs (m.account st)) says.3 ∙ took_none (m.account st));
+            owns = λ g. after.owns g ∙ sym (ap (λ bs. total g (m.owns st ++ addresses bs)) says.3);
+            denotes = subst (λ fs. m.denotes w b (fs ++ others) t) is.1 after.denotes;
+          },
+        );
+  }
+
+  pub scalar_lifts : (ty : WitType) (i : Instruction) (a b : Self) (o r : Operand) → lifting ty ≡ Some i → Emits m types i (o ∷ []) (r ∷ []) a b → LiftsFlat m (shape_of types ty) (o ∷ []) r a b
+  scalar_lifts ty i a b o r is e =
+      let s = lifted_type ty i is in
+      let row : LiftsScalar m s.scalar_is (o ∷ []) (r ∷ []) a b =
+      subst (λ x. RowBy m types i None x (o ∷ []) (r ∷ []) a b) s.lifts (subst (λ x. RowBy m types i x (lifted_scalar i) (o ∷ []) (r ∷ []) a b) s.lowers e.row) in
+      subst (λ t. LiftsFlat m t (o ∷ []) r a b) (sym (s.shape types)) (scalar_row s.scalar_is a b o r e.adds row)
+
+  pub text_lifts : (a b : Self) (o p r : Operand) → Emits m types StringLift (o ∷ p ∷ []) (r ∷ []) a b → LiftsFlat m text (o ∷ p ∷ []) r a b
+  text_lifts a b o p r e = record {
+    adds = e.adds;
+    fits = refl;
+    row = λ v ws own listed says w f others s0 st at may.
+        let q = says.address in
+        let n = length v in
+        let pair : List Word = core.Pointer q ∷ core.Length n ∷ [] in
+        let at1 : At m w f a b (ofs m (o ∷ p ∷ []) (core_data m pair) ++ others) s0 st = record { serves = at.serves; done = at.done; holds = subst (λ zs. m.denotes w a (ofs m (o ∷ p ∷ []) (core_data m zs) ++ others) st) says.pair at.holds } in
+        let P : Got m.Item Taken → m.State → Type 0 = λ x t. (outs : Facts m) × ((c : m.Item) × (outs ≡ ofs m (r ∷ []) (item c ∷ [])) × (Says m.width take text x.result.bytes pair x.result.blocks → m.stands take text x.result.bytes c x.result.blocks))
+        × After m w b (outs ++ others) (addresses x.result.blocks) [] st x t in
+        let ran = follows_done m.account (taking f q n (m.account st)) (m.does w f (m.code b) s0) P (record { result = record { bytes = v; blocks = own }; account = took own (m.account st) })
+        (taking_text f q v own (m.account st) listed says.buffer.bounded says.buffer.placed may) (e.row q n w f others s0 st at1) in
+        let t = ran.0 in
+        let is = ran.2.1 in
+        let after = ran.2.2 in (
+          t,
+          ran.1,
+          is.0 ∷ [],
+          (is.0, refl, is.2 (subst (λ zs. Says m.width take text v zs own) says.pair says)),
+          record {
+            account = after.account;
+            owns = after.owns;
+            denotes = subst (λ fs. m.denotes w b (fs ++ others) t) is.1 after.denotes;
+          },
+        );
+  }
+
+  pub none_lifts : (a : Self) → LiftsAll m none [] [] a a
+  none_lifts a = record {
+    adds = adds_same m a;
+    fits = refl;
+    row = λ v ws own listed says w f others s0 st at may.
+        let none_said : ws ≡ [] = says.0 in (
+          st,
+          at.done,
+          [],
+          (refl, says.1),
+          record {
+            account = sym (ap (λ bs. took bs (m.account st)) says.1 ∙ took_none (m.account st));
+            owns = λ g. sym (ap (λ bs. total g (m.owns st ++ addresses bs)) says.1);
+            denotes = subst (λ zs. m.denotes w a (ofs m [] (core_data m zs) ++ others) st) none_said at.holds;
+          },
+        );
+  }
+
+  pub more_lifts : (t : Shape) (ts : Shapes) (a b c : Self) (os qs : List Operand) (o : Operand) (parts : List Operand) → LiftsFlat m t os o a b → LiftsAll m ts qs parts b c → LiftsAll m (more t ts) (os ++ qs) (o ∷ parts) a c
+  more_lifts t ts a b c os qs o parts first later = record {
+    adds = adds_both m a b c first.adds later.adds;
+    fits = length-append os qs ∙ omega (arith, first.fits, later.fits, length-append (flatten_type (layout t)) (flatten_record (layouts ts)));
+    row = λ v ws own listed says w f others s0 st at may.
+        let ws1 = says.0 in
+        let ws2 = says.1 in
+        let own1 = says.2 in
+        let own2 = says.3 in
+        let acc = m.account st in
+        let xs : Facts m = ofs m os (core_data m ws1) in
+        let ys : Facts m = ofs m qs (core_data m ws2) in
+        let len : length (core_data m ws1) ≡ length os = length-map ws1 (λ w. word w) ∙ says_length m.width take t v.0 ws1 own1 listed.0 says.4 ∙ sym first.fits in
+        let facts : ofs m (os ++ qs) (core_data m ws) ≡ xs ++ ys = ap (λ zs. ofs m (os ++ qs) (core_data m zs)) says.6 ∙ ap (ofs m (os ++ qs)) (core_append m ws1 ws2) ∙ ofs_append m os qs (core_data m ws1) (core_data m ws2) len in
+        let holds1 : m.denotes w a (xs ++ (ys ++ others)) st = subst (λ fs. m.denotes w a fs st) (ap (λ fs. fs ++ others) facts ∙ append_assoc xs ys others) at.holds in
+        let at1 : At m w f a b (xs ++ (ys ++ others)) s0 st = record { serves = later.adds.grows.serves w at.serves; done = at.done; holds = holds1 } in
+        let may1 : MayTake (own1 ++ own2) acc = subst (λ bs. MayTake bs acc) says.7 may in
+        let one = first.row v.0 ws1 own1 listed.0 says.4 w f (ys ++ others) s0 st at1 (may_first own1 own2 acc may1) in
+        let t1 = one.0 in
+        let x = one.3.0 in
+        let after1 = one.4 in
+        let holds2 : m.denotes w b ((of o (item x) ∷ []) ++ (ys ++ others)) t1 = subst (λ vs. m.denotes w b (ofs m (o ∷ []) (item_data m vs) ++ (ys ++ others)) t1) one.3.1 after1.denotes in
+        let at2 : At m w f b c (ys ++ ((of o (item x) ∷ []) ++ others)) s0 t1 = record { serves = at.serves; done = one.1; holds = sound.swap w b (of o (item x) ∷ []) ys others t1 holds2 } in
+        let may2 : MayTake own2 (m.account t1) = subst (MayTake own2) (sym after1.account) (may_rest own1 own2 acc may1) in
+        let two = later.row v.1 ws2 own2 listed.1 says.5 w f ((of o (item x) ∷ []) ++ others) s0 t1 at2 may2 in
+        let u = two.0 in
+        let zs : Facts m = ofs m parts (item_data m two.2) in
+        let after2 = two.4 in (
+          u,
+          two.1,
+          x ∷ two.2,
+          (x, two.2, own1, own2, refl, one.3.2, two.3, says.7),
+          record {
+            account = after2.account ∙ ap (took own2) after1.account ∙ took_both own1 own2 acc ∙ ap (λ bs. took bs acc) (sym says.7);
+            owns = λ g.
+                let all : total g (addresses own) ≡ total g (addresses own1) + total g (addresses own2) = ap (λ bs. total g (addresses bs)) says.7 ∙ ap (total g) (addresses_both own1 own2) ∙ total-append g (addresses own1) (addresses own2) in
+                omega (arith, all, after1.owns g, after2.owns g, total-append g (m.owns u) [], total-append g (m.owns t1) [], total-append g (m.owns t1) (addresses own2), total-append g (m.owns st) (addresses own1), total-append g (m.owns st) (addresses own));
+            denotes = sound.swap w c zs (of o (item x) ∷ []) others u after2.denotes;
+          },
+        );
+  }
+
+  stand_count : (ts : Shapes) (v : Parts ts) (vals : List m.Item) (own : List Block) → PartsStand m take ts v vals own → length vals ≡ count ts
+  stand_count none v vals own h = ap length h.0
+  stand_count (more t ts) v vals own h = ap length h.4 ∙ ap suc (stand_count ts v.1 h.1 h.3 h.6)
+
+  -- what a value becomes of its parts
+  parts_row : (ts : Shapes) (t : Shape) (whole : Parts ts → Value t) (a b c : Self) (os parts : List Operand) (r : Operand) → LiftsAll m ts os parts a b → Adds m b c → LiftsParts m ts t whole parts (r ∷ []) b c
+      → (v : Parts ts) (ws : List Word) (own : List Block) → AreListed ts v → PartsSay m.width take ts v ws own → TakesOver m (λ vals. (x : m.Item) × (vals ≡ x ∷ []) × m.stands take t (whole (all_settled ts v)) x own) os ws own (r ∷ []) a c
+  parts_row ts t whole a b c os parts r first adds row v ws own listed says w f others s0 st at may =
+      let at1 : At m w f a b (ofs m os (core_data m ws) ++ others) s0 st = record { serves = adds.grows.serves w at.serves; done = at.done; holds = at.holds } in
+      let one = first.row v ws own listed says w f others s0 st at1 may in
+      let t1 = one.0 in
+      let vals = one.2 in
+      let after1 = one.4 in
+      let at2 : At m w f b c (ofs m parts (item_data m vals) ++ others) s0 t1 = record { serves = at.serves; done = one.1; holds = after1.denotes } in
+      let two = row vals (stand_count ts (all_settled ts v) vals own one.3) w f others s0 t1 at2 in
+      let u = two.0 in
+      let is = two.2.1 in
+      let after2 = two.2.2 in (
+        u,
+        two.1,
+        is.0 ∷ [],
+        (is.0, refl, is.2 (all_settled ts v) own one.3),
+        record {
+          account = after2.account ∙ after1.account;
+          owns = λ g. omega (arith, after1.owns g, after2.owns g, total-append g (m.owns u) [], total-append g (m.owns t1) [], total-append g (m.owns st) (addresses own));
+          denotes = subst (λ fs. m.denotes w c (fs ++ others) u) is.1 after2.denotes;
+        },
+      )
+
+  pub record_lifts : (id : TypeId) (members : List Field) (a b c : Self) (os parts : List Operand) (r : Operand) → IsRecord types id.0 members → LiftsAll m (field_shapes types members) os parts a b → Emits m types (RecordLift id) parts (r ∷ []) b c
+      → LiftsFlat m (fields (field_shapes types members)) os r a c
+  record_lifts id members a b c os parts r is first e = record {
+    adds = adds_both m a b c first.adds e.adds;
+    fits = first.fits;
+    row = parts_row (field_shapes types members) (fields (field_shapes types members)) (λ v. v) a b c os parts r first e.adds (e.row members is);
+  }
+
+  pub tuple_lifts : (n : ℕ) (ts : Shapes) (a b c : Self) (os parts : List Operand) (r : Operand) → count ts ≡ n → LiftsAll m ts os parts a b → Emits m types (TupleLift n) parts (r ∷ []) b c → LiftsFlat m (tuple ts) os r a c
+  tuple_lifts n ts a b c os parts r is first e = record {
+    adds = adds_both m a b c first.adds e.adds;
+    fits = first.fits;
+    row = parts_row ts (tuple ts) (λ v. v) a b c os parts r first e.adds (e.row ts is);
+  }
+
+  pub lifts_as : (s t : Shape) (a b : Self) (words : List Operand) (at next : ℕ) (r : Operand) → s ≡ t → (used : List Operand) × (drop at words ≡ used ++ drop next words) × LiftsFlat m t used r a b
+      → (used : List Operand) × (drop at words ≡ used ++ drop next words) × LiftsFlat m s used r a b
+  lifts_as s t a b words at next r e h = (h.0, h.1, subst (λ x. LiftsFlat m x h.0 r a b) (sym e) h.2)
+
+  pub lifts_all_as : (xs ys : List WitType) (a b : Self) (words : List Operand) (at next : ℕ) (parts : List Operand) → xs ≡ ys → (used : List Operand) × (drop at words ≡ used ++ drop next words) × LiftsAll m (shapes_of types xs) used parts a b
+      → (used : List Operand) × (drop at words ≡ used ++ drop next words) × LiftsAll m (shapes_of types ys) used parts a b
+  lifts_all_as xs ys a b words at next parts e h = (h.0, h.1, subst (λ x. LiftsAll m (shapes_of types x) h.0 parts a b) e h.2)
+
+  -- what lifts the parts from one on lifts all, where the words before a place were read
+
+  abbrev pub Rest : List WitType → (i at : ℕ) (words : List Operand) (next : ℕ) (parts : List Operand) (a b : Self) → Type 0
+  Rest tys i at words next parts a b =
+      (used : List Operand) × (drop at words ≡ used ++ drop next words)
+      × ((new : Self) (qs later : List Operand) → LiftsAll m (shapes_of types (drop i tys)) qs later b new → LiftsAll m (shapes_of types tys) (used ++ qs) (parts ++ later) a new)
+
+  pub rest_next : (tys : List WitType) (i at : ℕ) (words : List Operand) (next behind : ℕ) (parts now : List Operand) (a b c : Self) (ty : WitType) (o : Operand) → drop i tys ≡ ty ∷ drop (i + 1) tys
+      → ((os : List Operand) × (drop next words ≡ os ++ drop behind words) × LiftsFlat m (shape_of types ty) os o b c) → now ≡ parts ++ o ∷ [] → Rest tys i at words next parts a b → Rest tys (i + 1) at words behind now a c
+  rest_next tys i at words next behind parts now a b c ty o et one en rest =
+      let used = rest.0 in
+      let os = one.0 in (
+        used ++ os,
+        rest.1 ∙ ap (λ ys. used ++ ys) one.1 ∙ sym (append_assoc used os (drop behind words)),
+        λ new qs later h.
+            let both = more_lifts (shape_of types ty) (shapes_of types (drop (i + 1) tys)) b c new os qs o later one.2 h in
+            let all = rest.2 new (os ++ qs) (o ∷ later) (subst (λ ts. LiftsAll m (shapes_of types ts) (os ++ qs) (o ∷ later) b new) (sym et) both) in
+            subst (λ xs. LiftsAll m (shapes_of types tys) ((used ++ os) ++ qs) xs a new) (sym (ap (λ xs. xs ++ later) en ∙ append_assoc parts (o ∷ []) later))
+            (subst (λ xs. LiftsAll m (shapes_of types tys) xs (parts ++ (o ∷ later)) a new) (sym (append_assoc used os qs)) all),
+      )
+
+  pub rest_last : (tys : List WitType) (i at : ℕ) (words : List Operand) (next : ℕ) (parts : List Operand) (a b : Self) → length tys ≤ i → Rest tys i at words next parts a b
+      → (used : List Operand) × (drop at words ≡ used ++ drop next words) × LiftsAll m (shapes_of types tys) used parts a b
+  rest_last tys i at words next parts a b short rest =
+      let none_left : LiftsAll m (shapes_of types (drop i tys)) [] [] b b = subst (λ ts. LiftsAll m (shapes_of types ts) [] [] b b) (sym (drop_all i tys short)) (none_lifts b) in
+      let all = rest.2 b [] [] none_left in
+      (rest.0, rest.1, subst (λ xs. LiftsAll m (shapes_of types tys) rest.0 xs a b) (append-nil parts) (subst (λ xs. LiftsAll m (shapes_of types tys) xs (parts ++ []) a b) (append-nil rest.0) all))
