@@ -1,6 +1,5 @@
 -- The names of a scope, kept in a set by space and name, tell whether one was there before.
-use Rattle.std.proofs.Common.{◌≡◌, ℕ, suc, ◌+◌, ◌<◌, ◌∙◌, Bool, true, false, cond, not, ◌&&◌, ◌||◌, Bor, List, [], ◌∷◌, ◌++◌, drop, get_or, length, take, Option, Some, refl, sym, ap, arith}
-use Rattle.std.specs.HashSet as set
+use Rattle.std.proofs.Common.{◌≡◌, ℕ, ◌+◌, ◌∙◌, Bool, true, false, cond, not, ◌&&◌, ◌||◌, Bor, List, [], ◌∷◌, ◌++◌, drop, take, Some, refl, sym, ap}
 use Rattle.std.specs.List.{list_any, slice_get}
 use Rattle.std.specs.Str.{bytes_eq}
 use Rattle.wit_model.specs.Bytes.{Bytes}
@@ -12,10 +11,8 @@ use Rattle.rust_gen.specs.declared.declared.NameScope.{NameScope}
 use Rattle.rust_gen.specs.declared.error.Clash.TheVariants.{Twice, NotIdent}
 use Rattle.rust_tree.specs.Ident.{is_ident}
 use Rattle.rust_gen.specs.Clash.{clash_behind, entry_in, is_same, is_same_space, space}
-use Rattle.rust_gen.proofs.LevelLemmas.{drop_at}
+use Rattle.rust_gen.proofs.CutLemmas.{drop_at, take_at}
 use Rattle.std.proofs.Math.Bool.{not-not}
-use Rattle.std.proofs.Math.Seq.{take-suc}
-use Rattle.std.proofs.lemmas.Option.{slice_get_within, get_or_from_slice_get}
 use Rattle.std.proofs.lemmas.List.Folds.{list_any-append}
 
 abbrev pub Key : Type 0
@@ -50,11 +47,7 @@ module _ (scope : NameScope) (n : ℕ) (d : Declared) (at : slice_get scope.name
   names = scope.names
 
   taken : take (n + 1) names ≡ take n names ++ d ∷ []
-  taken =
-      let within : n < length names = slice_get_within names n d at in
-      let read : get_or names n d ≡ d = get_or_from_slice_get names n d d at in
-      let one : n + 1 ≡ suc n = omega arith in
-      rw one (take-suc names n d within ∙ ap (λ e. take n names ++ e ∷ []) read)
+  taken = take_at names n d at
 
   dropped : drop n names ≡ d ∷ drop (n + 1) names
   dropped = drop_at names n d at

@@ -19,7 +19,7 @@ use Rattle.rust_gen.specs.declared.declared.Space.{Space}
 use Rattle.rust_gen.specs.declared.declared.Space.TheVariants.{Types, Values, Macros}
 use Rattle.rust_gen.specs.declared.error.Clash.{Clash}
 use Rattle.rust_gen.specs.Clash.{clash_behind, clash_in, first_clash, is_same, is_same_space, space}
-use Rattle.rust_gen.specs.DeclaredNames.{all_declared, among_types, area_idents, area_type_idents, declared, declared_names, declares_well, export_ident, is_empty, macro_idents, module_scope, param_idents, param_scope, return_names, runtime_idents, trait_idents, trait_scope, where_exported}
+use Rattle.rust_gen.specs.DeclaredNames.{all_declared, among_types, area_idents, area_type_idents, declared, declared_names, declares_well, export_ident, macro_idents, module_scope, param_idents, param_scope, return_names, runtime_idents, trait_idents, trait_scope, where_exported}
 use Rattle.rust_gen.specs.Emitted.{exported_functions, imported_functions}
 use Rattle.rust_gen.specs.Runtime.{items_for}
 

@@ -1,10 +1,9 @@
 -- The most entries on a way down from a type are one more than those of the types that it names.
-use Rattle.std.proofs.Common.{◌≡◌, ℕ, zero, suc, ◌+◌, ◌<◌, ◌∙◌, true, false, ◌&&◌, ◌||◌, not, nat_lt, inl, inr, List, [], ◌∷◌, ◌++◌, length, drop, get_or, Option, Some, None, sym, ap, subst, arith}
+use Rattle.std.proofs.Common.{◌≡◌, ℕ, zero, suc, ◌+◌, ◌∙◌, true, false, ◌&&◌, ◌||◌, not, nat_lt, inl, inr, List, [], ◌∷◌, ◌++◌, length, drop, get_or, Option, Some, None, sym, ap, subst, arith}
 use Rattle.std.specs.List.{list_all, slice_get}
-use Rattle.std.proofs.Math.Seq.{drop-cons}
 use Rattle.std.proofs.lemmas.Bool.{and_parts, le-ltb, lt-ltb, ltb_from_iff}
 use Rattle.std.proofs.lemmas.Grind.{common_steps}
-use Rattle.std.proofs.lemmas.Option.{slice_get_within, get_or_from_slice_get, slice_get-get_or}
+use Rattle.std.proofs.lemmas.Option.{slice_get-get_or}
 use Rattle.wit_model.specs.declared.name.TypeId.{TypeId}
 use Rattle.wit_model.specs.declared.types.WitType.{WitType}
 use Rattle.wit_model.specs.declared.types.WitType.TheVariants.{Id}
@@ -13,6 +12,7 @@ use Rattle.wit_model.specs.Parts.{parts}
 use Rattle.wit_model.specs.TypeOrder.{type_below, payload_below, parts_below, GoesDown}
 use Rattle.wit_model.proofs.BelowLemmas.{id_below}
 use Rattle.wit_model.proofs.ListLemmas.{at_end}
+use Rattle.rust_gen.proofs.CutLemmas.{drop_at}
 use Rattle.rust_gen.specs.Levels.{AreLevels, greater, greatest, greatest_below, is_any_deeper, is_deeper, is_shallow, level_of, parts_of}
 
 greater-assoc : (a b c : ℕ) → greater (greater a b) c ≡ greater a (greater b c)
@@ -26,13 +26,6 @@ nothing-greater a = grind (arith, common_steps)
 
 lt-greater : (n a b : ℕ) → nat_lt n (greater a b) ≡ (nat_lt n a || nat_lt n b)
 lt-greater n a b = grind (arith, common_steps)
-
-pub drop_at : {A : Type 0} (xs : List A) (n : ℕ) (x : A) → slice_get xs n ≡ Some x → drop n xs ≡ x ∷ drop (n + 1) xs
-drop_at xs n x e =
-    let within : n < length xs = slice_get_within xs n x e in
-    let at : get_or xs n x ≡ x = get_or_from_slice_get xs n x x e in
-    let next : n + 1 ≡ suc n = omega arith in
-    rw next (drop-cons xs n x within ∙ ap (λ y. y ∷ drop (suc n) xs) at)
 
 -- one part of the rest is taken into the greatest
 pub greatest_next : (known : List ℕ) (sum : ℕ) (ps : List (Option WitType)) (nth : ℕ) (part : Option WitType) → slice_get ps nth ≡ Some part

@@ -1,6 +1,7 @@
 mod AskedLemmas
 pub mod EmittedLemmas
 mod ClashLemmas
+mod CutLemmas
 mod DeclaredLemmas
 mod EntryLemmas
 mod ExportRunLemmas
@@ -13,6 +14,7 @@ mod LevelLemmas
 mod LiftLemmas
 mod LiftingLemmas
 mod LowerLemmas
+mod ListingLemmas
 mod LoweringLemmas
 mod NamedExportLemmas
 mod NamedImportLemmas

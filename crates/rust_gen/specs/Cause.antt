@@ -16,6 +16,7 @@ use Rattle.rust_gen.specs.declared.error.Lack.TheVariants.{Unbuilt}
 use Rattle.rust_gen.specs.declared.opts.Opts.{Opts}
 use Rattle.rust_gen.specs.Built.{are_built_tables, are_built_options}
 use Rattle.rust_gen.specs.DeclaredNames.{declares_well, has_distinct_names}
+use Rattle.rust_gen.specs.Listing.{are_listed_well}
 use Rattle.rust_gen.specs.NameText.{are_written_tables}
 use Rattle.rust_gen.specs.TooLarge.{are_small}
 use Rattle.rust_gen.specs.TypeNames.{are_type_names}
@@ -42,9 +43,9 @@ is_built opts r = are_built_tables r && are_built_options opts
 unfoldable pub is_well_named : Resolve → World → Bool
 is_well_named r world = are_written_tables r && list_all has_distinct_names r.worlds && declares_well world
 
--- nor for its types: none is too large, and none lacks its name
+-- nor for its types: none is too large, none lacks its name, and worlds list what they may and all that it reaches
 unfoldable pub is_accepted : Resolve → World → Bool
-is_accepted r world = are_small r.types && are_type_names r.types && is_well_named r world
+is_accepted r world = are_small r.types && are_type_names r.types && are_listed_well r && is_well_named r world
 
 -- the cause that lies in what is built: a rule that the tables break, or a cause that has no answer of its own yet
 abbrev pub built_cause : Resolve → World → Option GenError

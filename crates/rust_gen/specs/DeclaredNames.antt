@@ -1,5 +1,5 @@
 -- Which names the file of a world declares, in which order, and whether they are identifiers of which no two clash.
-use Rattle.std.specs.Prelude.{ℕ, Bool, true, false, ◌&&◌, ◌||◌, List, [], ◌∷◌, ◌++◌, codes, if◌then◌else◌, is_none, map}
+use Rattle.std.specs.Prelude.{Bool, true, false, ◌&&◌, ◌||◌, List, [], ◌∷◌, ◌++◌, codes, if◌then◌else◌, is_none, map}
 use Rattle.std.specs.List.{flat_map, list_any}
 use Rattle.wit_model.specs.declared.function.Function.{Function}
 use Rattle.wit_model.specs.declared.world.World.{World}

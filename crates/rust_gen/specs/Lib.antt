@@ -15,6 +15,7 @@ pub mod Faithful
 pub mod Generated
 pub mod LackText
 pub mod Levels
+pub mod Listing
 pub mod Lowering
 pub mod NameText
 pub mod OwnershipText

@@ -8,6 +8,7 @@ ghost use Rattle.rust_gen.specs.Cause.{IsAnswer, IsUnbuilt, cause, invalid, is_a
 use crate::built::{are_built_options, are_built_tables};
 use crate::clash::first_clash;
 use crate::error::{GenError, Lack};
+use crate::listing::are_listed_well;
 use crate::name_text::are_written_tables;
 use crate::names::{declared_names, have_distinct_names};
 use crate::opts::Opts;
@@ -81,6 +82,9 @@ fn is_accepted(alloc: Global, resolve: &Resolve, world: &World) -> Result<bool, 
         return Ok(false);
     }
     if !are_type_names(resolve.types.as_slice()) {
+        return Ok(false);
+    }
+    if !are_listed_well(alloc, resolve)? {
         return Ok(false);
     }
     is_well_named(alloc, resolve, world)

@@ -18,6 +18,7 @@ mod generate;
 mod give;
 mod levels;
 mod lift;
+mod listing;
 mod lists;
 mod lower;
 mod name_text;

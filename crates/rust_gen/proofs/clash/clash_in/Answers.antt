@@ -1,11 +1,10 @@
-use Rattle.std.proofs.Common.{◌≡◌, ◌∙◌, ◌≤◌, ℕ, ◌+◌, Bool, true, false, not, List, [], ◌∷◌, drop, length, take, Some, refl, sym, ap, subst, arith, slice_get}
+use Rattle.std.proofs.Common.{◌≡◌, ◌∙◌, true, false, not, List, length, take, Some, refl, sym, ap, subst, slice_get}
 use Rattle.std.specs.List.{list_any}
-use Rattle.std.proofs.lemmas.List.{drop_all}
 use Rattle.std.proofs.lemmas.Option.{slice_get_read}
 use Rattle.rust_gen.specs.declared.declared.Declared.{Declared}
 use Rattle.rust_gen.specs.declared.error.Clash.TheVariants.{Twice, NotIdent}
 use Rattle.rust_tree.specs.Ident.{is_ident}
-use Rattle.rust_gen.specs.Clash.{clash_behind, entry_in, is_same, space}
+use Rattle.rust_gen.specs.Clash.{is_same}
 use Rattle.rust_gen.proofs.ClashLemmas.{Key, any-more, next, seen_before}
 use Rattle.rust_gen.proofs.clash.clash_in.Goals as goal
 
