@@ -10,9 +10,10 @@ use Rattle.wit_model.specs.declared.function.Function.{Function}
 use Rattle.rust_tree.specs.declared.item.Item.{Item}
 use Rattle.rust_tree.specs.declared.runtime_item.RuntimeItem.{RuntimeItem}
 use Rattle.rust_tree.specs.declared.runtime_item.RuntimeItem.TheVariants.{AsI32, AsI64, AsF32, AsF64, AllocCrate, StringType, VecType, BoolLift, CharLift, StringLift, StdAllocModule, CabiDealloc}
+use Rattle.rust_tree.specs.declared.type_item.TypeItem.{TypeItem}
 use Rattle.rust_tree.specs.Runtime.{item_name, needed_items}
 use Rattle.wrapper_run.specs.Run.{runtime_item_named}
-use Rattle.rust_gen.specs.Runtime.{asked_by, asked_by_export, asked_by_method, asked_items, is_same_item, items_for, runtime_module, with_asked, with_needed}
+use Rattle.rust_gen.specs.Runtime.{asked_by, asked_by_definition, asked_by_export, asked_by_method, asked_items, is_same_item, items_for, runtime_module, with_asked, with_needed}
 
 abbrev pub IsAmong : RuntimeItem → List RuntimeItem → Type 0
 IsAmong x items = list_any (λ i. is_same_item i x) items ≡ true
@@ -142,16 +143,23 @@ needed-stays : (x : RuntimeItem) (items : List RuntimeItem) → IsAmong x items 
 needed-stays x items h = asked-all x (flat_map needed_items items) items (inl h)
 
 -- the module has what is asked for
-pub found_all : (imports exports : List Function) (x : RuntimeItem) → IsAmong x (asked_items imports exports) → runtime_item_named (runtime_module (items_for imports exports)) (item_name x) ≡ Some x
-found_all imports exports x h =
-    let asked : List RuntimeItem = fold with_asked [] (asked_items imports exports) in
-    found-in_module x (items_for imports exports) (needed-stays x (with_needed asked) (needed-stays x asked (asked-all x (asked_items imports exports) [] (inr h))))
+pub found_all : (types : List TypeItem) (imports exports : List Function) (x : RuntimeItem) → IsAmong x (asked_items types imports exports) → runtime_item_named (runtime_module (items_for types imports exports)) (item_name x) ≡ Some x
+found_all types imports exports x h =
+    let asked : List RuntimeItem = fold with_asked [] (asked_items types imports exports) in
+    found-in_module x (items_for types imports exports) (needed-stays x (with_needed asked) (needed-stays x asked (asked-all x (asked_items types imports exports) [] (inr h))))
 
-pub among-imports : (x : RuntimeItem) (imports exports : List Function) (nth : ℕ) (f : Function) → slice_get imports nth ≡ Some f → IsAmong x (asked_by f) → IsAmong x (asked_items imports exports)
-among-imports x imports exports nth f e h = list_any-append (λ i. is_same_item i x) (flat_map asked_by imports) (flat_map asked_by_export exports ++ flat_map asked_by_method exports) ∙ or_left _ _ (asked-at asked_by x imports nth f e h)
+among-functions : (x : RuntimeItem) (types : List TypeItem) (rest : List RuntimeItem) → IsAmong x rest → IsAmong x (flat_map asked_by_definition types ++ rest)
+among-functions x types rest h =
+    list_any-append (λ i. is_same_item i x) (flat_map asked_by_definition types) rest ∙ or_right (list_any (λ i. is_same_item i x) (flat_map asked_by_definition types)) _ h
 
-pub among-exports : (x : RuntimeItem) (imports exports : List Function) (nth : ℕ) (f : Function) → slice_get exports nth ≡ Some f → IsAmong x (asked_by_export f) → IsAmong x (asked_items imports exports)
-among-exports x imports exports nth f e h =
-    list_any-append (λ i. is_same_item i x) (flat_map asked_by imports) (flat_map asked_by_export exports ++ flat_map asked_by_method exports)
+pub among-imports : (x : RuntimeItem) (types : List TypeItem) (imports exports : List Function) (nth : ℕ) (f : Function) → slice_get imports nth ≡ Some f → IsAmong x (asked_by f) → IsAmong x (asked_items types imports exports)
+among-imports x types imports exports nth f e h =
+    among-functions x types (flat_map asked_by imports ++ (flat_map asked_by_export exports ++ flat_map asked_by_method exports))
+    (list_any-append (λ i. is_same_item i x) (flat_map asked_by imports) (flat_map asked_by_export exports ++ flat_map asked_by_method exports) ∙ or_left _ _ (asked-at asked_by x imports nth f e h))
+
+pub among-exports : (x : RuntimeItem) (types : List TypeItem) (imports exports : List Function) (nth : ℕ) (f : Function) → slice_get exports nth ≡ Some f → IsAmong x (asked_by_export f) → IsAmong x (asked_items types imports exports)
+among-exports x types imports exports nth f e h =
+    among-functions x types (flat_map asked_by imports ++ (flat_map asked_by_export exports ++ flat_map asked_by_method exports))
+    (list_any-append (λ i. is_same_item i x) (flat_map asked_by imports) (flat_map asked_by_export exports ++ flat_map asked_by_method exports)
     ∙ or_right (list_any (λ i. is_same_item i x) (flat_map asked_by imports)) _
-    (list_any-append (λ i. is_same_item i x) (flat_map asked_by_export exports) (flat_map asked_by_method exports) ∙ or_left _ _ (asked-at asked_by_export x exports nth f e h))
+    (list_any-append (λ i. is_same_item i x) (flat_map asked_by_export exports) (flat_map asked_by_method exports) ∙ or_left _ _ (asked-at asked_by_export x exports nth f e h)))

@@ -195,7 +195,7 @@ module _ (world : World) (h : declares_well world ≡ true) where
       × NoneClashes root between (map (λ f. declared Value (rust_ident f.name)) imports ++ (flat_map (λ f. among_types (export_ident f)) exports
       ++ (flat_map return_names exports ++ (all_declared Value (area_idents exports) ++ all_declared Macro (where_exported exports (macro_idents world))))))
   root-values =
-      let a = in-parts root [] (all_declared Type_ (runtime_idents (items_for imports exports))) _ scopes-clear.0 in
+      let a = in-parts root [] (all_declared Type_ (runtime_idents (items_for [] imports exports))) _ scopes-clear.0 in
       let b = in-parts root a.1.0 (all_declared Type_ (trait_idents exports)) _ a.1.1 in
       (in-parts root b.1.0 (all_declared Type_ (area_type_idents imports exports)) _ b.1.1).1
 

@@ -6,6 +6,8 @@ use Rattle.std.specs.List.{AllZip, flat_map, list_all, list_any}
 use Rattle.std.proofs.lemmas.Slice.Zip.{AllZip-long}
 use Rattle.wit_model.specs.declared.function.Function.{Function}
 use Rattle.wit_model.specs.declared.resolve.Resolve.{Resolve}
+use Rattle.wit_model.specs.declared.name.WorldId.{WorldId}
+use Rattle.rust_tree.specs.declared.type_item.TypeItem.{TypeItem}
 use Rattle.wit_model.specs.declared.world.World.{World}
 use Rattle.wit_model.specs.Distinct.{is_distinct}
 use Rattle.rust_tree.specs.declared.item.FnItem.{FnItem}
@@ -25,6 +27,7 @@ use Rattle.rust_gen.proofs.DeclaredLemmas.{distinct_exports, distinct_methods, d
 use Rattle.rust_gen.specs.Faithful.{AreFaithful, export_names, import_target}
 use Rattle.rust_gen.specs.Runtime.{asked_by, asked_by_export, freeing_items, is_same_item, lifting_items, returning_items, runtime_items, runtime_module}
 use Rattle.wit_model.proofs.AllLemmas.{all_at}
+use Rattle.rust_gen.proofs.SkipLemmas.{skip-area, skip-entries, skip-export, skip-exports, skip-import, skip-method, skip-post_return, skip-post_returns, skip-runtime_item, skip-wrappers}
 use Rattle.rust_gen.proofs.AskedLemmas.{Found, among-exports, among-imports, found-right, found_all}
 use Rattle.std.proofs.lemmas.Bool.{and_parts}
 use Rattle.rust_gen.proofs.RunLemmas.{Fits}
@@ -52,6 +55,7 @@ use Rattle.rust_gen.specs.Emitted.{Entries, emitted_sides, exported_functions, f
 use Rattle.rust_tree.specs.declared.export.ExportFn.{ExportFn}
 use Rattle.rust_gen.proofs.ExportRunLemmas.{FitsExport, meets_call}
 use Rattle.rust_tree.specs.declared.export.PostReturnFn.{PostReturnFn}
+use Rattle.rust_tree.specs.declared.runtime_item.RuntimeItem.{RuntimeItem}
 use Rattle.rust_tree.specs.declared.runtime_item.RuntimeItem.TheVariants.{CabiDealloc}
 use Rattle.rust_gen.specs.ExportBody.{ArePartsWritten, IsExportWritten, IsReturnWritten, ReturnWritten}
 use Rattle.rust_gen.proofs.EntryLemmas.{alone-return, alone-wrapper, wit-forms}
@@ -264,7 +268,7 @@ owns_nothing heap (Some ty) (Some (text bytes)) words blocks n good gives =
     let wrong : needs_area (Some wit.String) ≡ false = subst (λ t. needs_area (Some t) ≡ false) good.0 n in absurd (cc)
 
 module _ (opts : Opts) (resolve : Resolve) (id : ℕ) (world : World) (found : slice_get resolve.worlds id ≡ Some world) (built : is_built opts resolve ≡ true) (well : is_well_named resolve world ≡ true)
-    (tree : Tree) (b : Binds IsWritten ArePartsWritten world tree) where
+    (key : WorldId) (tree : Tree) (b : Binds IsWritten ArePartsWritten opts resolve key world tree) where
   named : declares_well world ≡ true
   unfolding is_well_named
   named = (and_parts _ (declares_well world) well).1
@@ -301,15 +305,29 @@ module _ (opts : Opts) (resolve : Resolve) (id : ℕ) (world : World) (found : s
   as_many_exports : length qs ≡ length es
   as_many_exports = length-places_from 0 world.exports ∙ sym (AllZip-long ArePartsWritten fs es b.items.exported)
 
-  abbrev behind : List Item
-  behind = trait_and_macro world ++ (area_of (exported_functions world) ++ (runtime_module (runtime_items world) ++ last_macro world))
+  abbrev ts : List TypeItem
+  ts = b.items.types
 
-  wrappers_are : wrappers_of tree ≡ wrappers_from 1 (map item.Import ws ++ (flat_map export_items es ++ behind)) (ps ++ qs)
-  wrappers_are = ap (λ is. wrappers_from 1 is tree.places) b.items.are ∙ ap (wrappers_from 1 (map item.Import ws ++ (flat_map export_items es ++ behind))) b.places
+  abbrev asked : List RuntimeItem
+  asked = runtime_items ts world
+
+  abbrev behind : List Item
+  behind = trait_and_macro world ++ (area_of (exported_functions world) ++ (runtime_module asked ++ last_macro world))
+
+  -- what stands behind the definitions of types
+  abbrev others : List Item
+  others = map item.Import ws ++ (flat_map export_items es ++ behind)
+
+  -- the number of the first item behind these
+  start : (m : ℕ) × (wrappers_from 1 (map item.Type ts ++ others) (ps ++ qs) ≡ wrappers_from m others (ps ++ qs))
+  start = skip-wrappers ts others (ps ++ qs) 1
+
+  wrappers_are : wrappers_of tree ≡ wrappers_from start.0 others (ps ++ qs)
+  wrappers_are = ap (λ is. wrappers_from 1 is tree.places) b.items.are ∙ ap (wrappers_from 1 (map item.Type ts ++ others)) b.places ∙ start.1
 
   placed : map side_of (wrappers_of tree) ≡ emitted_sides world
   placed =
-      let i = sides-imports 1 ws (flat_map export_items es ++ behind) ps qs as_many in
+      let i = sides-imports start.0 ws (flat_map export_items es ++ behind) ps qs as_many in
       let e = sides-exports i.0 es behind qs as_many_exports in
       ap (map side_of) wrappers_are ∙ i.1 ∙ ap (λ ss. on_side true ps ++ ss) (e.1 ∙ ap (λ is. on_side false qs ++ map side_of is)
       (no_places e.0 behind) ∙ append-nil (on_side false qs))
@@ -320,19 +338,19 @@ module _ (opts : Opts) (resolve : Resolve) (id : ℕ) (world : World) (found : s
 
     info : (info : WrapperInfo) × (slice_get (wrappers_of tree) nth ≡ Some info)
     info =
-        let i = imports-at 1 ws (flat_map export_items es ++ behind) ps qs nth wrapper.0 as_many wrapper.1 in
+        let i = imports-at start.0 ws (flat_map export_items es ++ behind) ps qs nth wrapper.0 as_many wrapper.1 in
         (i.0, ap (λ is. slice_get is nth) wrappers_are ∙ i.1)
 
     there : import_at tree nth ≡ Some (info.0.item.0, wrapper.0)
     there =
-        ap (option_and_then (numbered tree nth)) (ap (import_nth nth) b.items.are ∙ import_nth-at ws (flat_map export_items es ++ behind) nth wrapper.0 wrapper.1)
+        ap (option_and_then (numbered tree nth)) (ap (import_nth nth) b.items.are ∙ skip-import ts others nth ∙ import_nth-at ws (flat_map export_items es ++ behind) nth wrapper.0 wrapper.1)
         ∙ ap (option_map (λ w. (w.item.0, wrapper.0))) info.1
 
     asked-import : Found tree.items (asked_by f)
     asked-import x h =
-        ap (λ is. runtime_item_named is (item_name x)) b.items.are
-        ∙ runtime-found ws es fs fs (guest_trait fs) (world_macro world) (runtime_items world) (last_macro world) (item_name x) x
-        (found_all (imported_functions world) fs x (among-imports x (imported_functions world) fs nth f e h))
+        ap (λ is. runtime_item_named is (item_name x)) b.items.are ∙ skip-runtime_item ts others (item_name x)
+        ∙ runtime-found ws es fs fs (guest_trait fs) (world_macro world) asked (last_macro world) (item_name x) x
+        (found_all ts (imported_functions world) fs x (among-imports x ts (imported_functions world) fs nth f e h))
 
   faithful-at : (nth : ℕ) (f : Function) → slice_get (imported_functions world) nth ≡ Some f → IsFaithful (import_target f) tree nth f
   faithful-at nth f e = record {
@@ -366,14 +384,14 @@ module _ (opts : Opts) (resolve : Resolve) (id : ℕ) (world : World) (found : s
 
     export-info : (info : WrapperInfo) × (slice_get (wrappers_of tree) place ≡ Some info)
     export-info =
-        let s = wrappers-skip 1 ws (flat_map export_items es ++ behind) ps qs nth as_many in
+        let s = wrappers-skip start.0 ws (flat_map export_items es ++ behind) ps qs nth as_many in
         let i = exports-at s.0 es behind qs nth parts.0 as_many_exports parts.1 in
-        (i.0, ap (λ is. slice_get is place) wrappers_are ∙ ap (slice_get (wrappers_from 1 (map item.Import ws ++ (flat_map export_items es ++ behind)) (ps ++ qs))) place_is ∙ s.1 ∙ i.1)
+        (i.0, ap (λ is. slice_get is place) wrappers_are ∙ ap (slice_get (wrappers_from start.0 others (ps ++ qs))) place_is ∙ s.1 ∙ i.1)
 
     export-there : export_at tree place ≡ Some (export-info.0.item.0, export)
     export-there =
         ap (option_and_then (numbered tree place))
-        (ap (export_nth place) b.items.are ∙ ap (λ n. export_nth n (map item.Import ws ++ (flat_map export_items es ++ behind))) place_is
+        (ap (export_nth place) b.items.are ∙ skip-export ts others place ∙ ap (λ n. export_nth n (map item.Import ws ++ (flat_map export_items es ++ behind))) place_is
         ∙ export_nth-skip ws (flat_map export_items es ++ behind) nth ∙ export_nth-at es behind nth parts.0 parts.1)
         ∙ ap (option_map (λ w. (w.item.0, export))) export-info.1
 
@@ -382,7 +400,7 @@ module _ (opts : Opts) (resolve : Resolve) (id : ℕ) (world : World) (found : s
 
     abbrev under : List Function → List Item
     under gs =
-        map item.Import ws ++ (flat_map export_items es ++ (where_any gs (item.Trait (guest_trait fs) ∷ item.ModuleMacro (world_macro world) ∷ []) ++ (area_of fs ++ (runtime_module (runtime_items world) ++ last_macro world))))
+        map item.Import ws ++ (flat_map export_items es ++ (where_any gs (item.Trait (guest_trait fs) ∷ item.ModuleMacro (world_macro world) ∷ []) ++ (area_of fs ++ (runtime_module asked ++ last_macro world))))
 
     abbrev first : Function
     first = some_export.0
@@ -390,23 +408,23 @@ module _ (opts : Opts) (resolve : Resolve) (id : ℕ) (world : World) (found : s
     abbrev later : List Function
     later = some_export.1
 
-    items_are : tree.items ≡ under (first ∷ later)
-    items_are = b.items.are ∙ ap under some_export.2
+    items_are : tree.items ≡ map item.Type ts ++ under (first ∷ later)
+    items_are = b.items.are ∙ ap (λ gs. map item.Type ts ++ under gs) some_export.2
 
     method-there : method_named tree.items guest_name (rust_ident f.name) ≡ Some (trait_fn f)
     method-there =
-        ap (λ is. method_named is guest_name (rust_ident f.name)) items_are
-        ∙ method-found ws es first later (guest_trait fs) (world_macro world) (area_of fs ++ (runtime_module (runtime_items world) ++ last_macro world)) (rust_ident f.name) (trait_fn f)
+        ap (λ is. method_named is guest_name (rust_ident f.name)) items_are ∙ skip-method ts (under (first ∷ later)) guest_name (rust_ident f.name)
+        ∙ method-found ws es first later (guest_trait fs) (world_macro world) (area_of fs ++ (runtime_module asked ++ last_macro world)) (rust_ident f.name) (trait_fn f)
         (find-named (λ t. t.name) (map trait_fn fs) nth (trait_fn f) (ap is_distinct (map-map (λ t. t.name) trait_fn fs) ∙ distinct-methods world named) (get-map trait_fn fs nth f e))
 
     asked-export : Found tree.items (asked_by_export f)
     asked-export x h =
-        ap (λ is. runtime_item_named is (item_name x)) b.items.are
-        ∙ runtime-found ws es fs fs (guest_trait fs) (world_macro world) (runtime_items world) (last_macro world) (item_name x) x
-        (found_all (imported_functions world) fs x (among-exports x (imported_functions world) fs nth f e h))
+        ap (λ is. runtime_item_named is (item_name x)) b.items.are ∙ skip-runtime_item ts others (item_name x)
+        ∙ runtime-found ws es fs fs (guest_trait fs) (world_macro world) asked (last_macro world) (item_name x) x
+        (found_all ts (imported_functions world) fs x (among-exports x ts (imported_functions world) fs nth f e h))
 
     entries : entries_in tree.items ≡ flat_map entries_of fs
-    entries = ap entries_in items_are ∙ entries-are ws es first later fs fs (guest_trait fs) (world_macro world) (runtime_items world) (file_macro world)
+    entries = ap entries_in items_are ∙ skip-entries ts (under (first ∷ later)) ∙ entries-are ws es first later fs fs (guest_trait fs) (world_macro world) asked (file_macro world)
 
     distinct-names : is_distinct (map (λ f. f.name.wit) fs) ≡ true
     distinct-names = (and_parts (are_distinct_functions (imported_functions world)) (are_distinct_functions fs) distinct).1
@@ -420,19 +438,19 @@ module _ (opts : Opts) (resolve : Resolve) (id : ℕ) (world : World) (found : s
       answer = sym written.answer;
       named =
           ap (λ base. filter (λ x. bytes_eq x.base base) (exports_in tree.items)) (sym written.base)
-          ∙ ap (filter (λ x. bytes_eq x.base export.base)) (ap exports_in b.items.are ∙ exports-of_parts ws es behind (no_exports-behind world))
+          ∙ ap (filter (λ x. bytes_eq x.base export.base)) (ap exports_in b.items.are ∙ skip-exports ts others ∙ exports-of_parts ws es behind (no_exports-behind asked world))
           ∙ alone-named (λ x. x.base) (map (λ x. x.0) es) nth export (ap is_distinct (map-map (λ x. x.base) (λ x. x.0) es ∙ bases-are fs es b.items.exported) ∙ distinct-bases world named) (get-map (λ x. x.0) es nth parts.0 parts.1);
     }
 
     area-there : needs_area f.result ≡ true → area_in tree.items ≡ Some static_area
-    area-there h = ap area_in b.items.are ∙ area-found ws es fs fs (guest_trait fs) (world_macro world) (runtime_module (runtime_items world) ++ last_macro world) nth f e h
+    area-there h = ap area_in b.items.are ∙ skip-area ts others ∙ area-found ws es fs fs (guest_trait fs) (world_macro world) (runtime_module asked ++ last_macro world) nth f e h
 
     no_returns : post_returns_in behind ≡ []
-    no_returns = no_returns-behind world
+    no_returns = no_returns-behind asked world
 
     post-return-there : post_return_named export.base tree.items ≡ parts.0.1
     post-return-there =
-        ap (λ base. post_return_named base tree.items) written.base ∙ ap (post_return_named f.name.snake) b.items.are
+        ap (λ base. post_return_named base tree.items) written.base ∙ ap (post_return_named f.name.snake) b.items.are ∙ skip-post_return ts others f.name.snake
         ∙ post_return_named-at ws es fs behind nth f parts.0 b.items.exported (distinct-bases world named) e parts.1 no_returns
 
     return-at : post_return_at tree place ≡ option_map (λ p. (export-info.0.item.0, p)) parts.0.1
@@ -477,7 +495,7 @@ module _ (opts : Opts) (resolve : Resolve) (id : ℕ) (world : World) (found : s
           params = sym is_written.params;
           pinned = ap (map (λ p. p.ty)) is_written.params;
           answer = refl;
-          named = ap (filter (λ x. bytes_eq x.base f.name.snake)) (ap post_returns_in b.items.are) ∙ post_return-alone ws es fs behind nth f parts.0 p b.items.exported (distinct-bases world named) e parts.1 no_returns is;
+          named = ap (filter (λ x. bytes_eq x.base f.name.snake)) (ap post_returns_in b.items.are ∙ skip-post_returns ts others) ∙ post_return-alone ws es fs behind nth f parts.0 p b.items.exported (distinct-bases world named) e parts.1 no_returns is;
           frees = frees p is_written is needs;
         }
         go false needs none = record {

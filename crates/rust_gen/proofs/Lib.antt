@@ -1,8 +1,11 @@
+mod AcceptedLemmas
 mod AskedLemmas
 pub mod EmittedLemmas
 mod ClashLemmas
 mod CutLemmas
 mod DeclaredLemmas
+mod DefinedLemmas
+mod DefinedNameLemmas
 mod EntryLemmas
 mod ExportRunLemmas
 mod FaithfulLemmas
@@ -19,13 +22,16 @@ mod LoweringLemmas
 mod NamedExportLemmas
 mod NamedImportLemmas
 mod NamedLemmas
+mod PartLemmas
 mod PartsLemmas
 mod PathLemmas
 mod PrintedLemmas
+mod PrintedNames
 mod ReturnLemmas
 mod RunLemmas
 mod ScopeLemmas
 mod ServedLemmas
+mod SkipLemmas
 mod TakenLemmas
 mod TextLemmas
 pub mod TreeLemmas

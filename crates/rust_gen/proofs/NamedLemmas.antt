@@ -1,30 +1,35 @@
 -- The tree of a world whose names are declared well has only names that are identifiers.
 use Rattle.std.proofs.Common.{◌≡◌, true, false, ◌&&◌, List, [], ◌∷◌, ◌++◌, map, refl, sym, ap, ◌∙◌}
-use Rattle.std.specs.Prelude.{codes, ℕ, zero, suc, Some, slice_get}
+use Rattle.std.specs.Prelude.{codes, ℕ, zero, suc, Bool, Some, slice_get, if◌then◌else◌}
 use Rattle.std.specs.List.{flat_map, list_all, list_any}
 use Rattle.std.proofs.lemmas.Bool.{and_from, and_parts, cond_both}
 use Rattle.std.proofs.lemmas.List.Folds.{list_all-append, list_all-map}
 use Rattle.wit_model.specs.Bytes.{Bytes}
 use Rattle.wit_model.specs.declared.function.Function.{Function}
+use Rattle.wit_model.specs.declared.name.WorldId.{WorldId}
 use Rattle.wit_model.specs.declared.resolve.Resolve.{Resolve}
 use Rattle.wit_model.specs.declared.world.World.{World}
 use Rattle.rust_tree.specs.declared.item.Item.{Item}
 use Rattle.rust_tree.specs.declared.item.Item.TheVariants as item
 use Rattle.rust_tree.specs.declared.runtime_item.RuntimeItem.{RuntimeItem}
 use Rattle.rust_tree.specs.Ident.{is_ident, may_follow, rust_ident}
-use Rattle.rust_tree.specs.WellNamed.{are_named_core_params, are_well_named, is_ident_part, is_line, is_named_entry, is_named_item, is_named_method, is_named_module_macro, is_named_param, is_named_root_macro, is_named_trait, is_named_type, is_quotable}
+use Rattle.rust_tree.specs.WellNamed.{are_named_core_params, are_well_named, is_ident_part, is_line, is_named_entry, is_named_item, is_named_method, is_named_module_macro, is_named_param, is_named_root_macro, is_named_trait, is_named_type, is_option_line, is_quotable}
 use Rattle.wrapper_run.specs.Areas.{needs_area}
+use Rattle.rust_gen.specs.declared.opts.Opts.{Opts}
 use Rattle.rust_gen.specs.Body.{IsWritten}
 use Rattle.rust_gen.specs.Bound.{AreItems, export_items}
 use Rattle.rust_gen.specs.Cause.{is_accepted, is_well_named}
 use Rattle.rust_gen.specs.DeclaredNames.{cabi_suffix, declares_well, export_ident, export_prefix, has_distinct_names, is_empty, macro_idents, param_idents, where_exported}
+use Rattle.rust_gen.specs.DefinedNames.{AreDefinable}
 use Rattle.rust_gen.specs.Docs.{doc_lines}
 use Rattle.rust_gen.specs.Emitted.{exported_functions, imported_functions}
 use Rattle.rust_gen.specs.ExportBody.{ArePartsWritten}
 use Rattle.rust_gen.specs.Exported.{area_of, entries_of, export_entry, export_params, file_macro, guest_name, guest_trait, last_macro, macro_name, post_return_name, return_entry, return_params, static_area, trait_and_macro, trait_fn, trait_param, where_any, where_area, world_macro, world_prefix}
 use Rattle.rust_gen.specs.NameText.{are_written_tables, is_wit_form, is_written_entry, is_written_world}
+use Rattle.rust_gen.specs.OptionLines.{option_lines, unused_types_line}
 use Rattle.rust_gen.specs.Printed.{printed_result}
 use Rattle.rust_gen.specs.Runtime.{runtime_items, runtime_module}
+use Rattle.rust_gen.proofs.DefinedNameLemmas.{definitions-named}
 use Rattle.rust_gen.proofs.DeclaredLemmas.{export_idents, import_idents, import_params, macro_names, method_idents}
 use Rattle.rust_gen.proofs.DeclaredLemmas as names
 use Rattle.rust_gen.proofs.EntryLemmas.{wit-forms}
@@ -154,8 +159,9 @@ known world h = record {
     snake [] h full = cc
     snake (f ∷ exports) h full = part_of (codes "__export_world_") world.name.snake (codes "_cabi") (and_parts (is_ident (codes "__export_world_" ++ world.name.snake ++ codes "_cabi")) _ h).0
 
-items-named : (world : World) (items : List Item) → is_written_world world ≡ true → declares_well world ≡ true → AreItems IsWritten ArePartsWritten world items → list_all is_named_item items ≡ true
-items-named world items written declared a =
+items-named : (opts : Opts) (r : Resolve) (id : WorldId) (world : World) (items : List Item) → AreDefinable opts r id world → is_written_world world ≡ true → declares_well world ≡ true
+    → AreItems IsWritten ArePartsWritten opts r id world items → list_all is_named_item items ≡ true
+items-named opts r id world items types written declared a =
     let k = known world declared in
     let es : List Function = exported_functions world in
     let fs : List Function = imported_functions world in
@@ -166,15 +172,31 @@ items-named world items written declared a =
     and_from (is_named_trait (guest_trait es)) (is_named_module_macro (world_macro world) && true) (trait-named es k.exports k.export_params)
     (and_from (is_named_module_macro (world_macro world)) true (and_from (is_ident_part (macro_name world)) (list_all is_named_entry (flat_map entries_of es)) (macro_name-part world (k.macros full)) (all-entries-named es exports k.exported)) refl)) in
     let last : list_all is_named_item (last_macro world) ≡ true = any-named es (item.RootMacro (file_macro world) ∷ []) (λ full. and_from (is_named_root_macro (file_macro world)) true (file_macro-named world (k.macros full)) refl) in
-    let runtime : List Item = runtime_module (runtime_items world) in
+    let runtime : List Item = runtime_module (runtime_items a.types world) in
+    let definitions : list_all is_named_item (map item.Type a.types) ≡ true = list_all-map is_named_item item.Type a.types ∙ definitions-named opts r id world a.types types a.defined in
     ap (list_all is_named_item) a.are
-    ∙ items-append (map item.Import a.wrappers) (flat_map export_items a.exports ++ (trait_and_macro world ++ (area_of es ++ (runtime ++ last_macro world)))) (imports-named fs a.wrappers imports k.imports k.import_params a.wraps)
+    ∙ items-append (map item.Type a.types) (map item.Import a.wrappers ++ (flat_map export_items a.exports ++ (trait_and_macro world ++ (area_of es ++ (runtime ++ last_macro world))))) definitions
+    (items-append (map item.Import a.wrappers) (flat_map export_items a.exports ++ (trait_and_macro world ++ (area_of es ++ (runtime ++ last_macro world)))) (imports-named fs a.wrappers imports k.imports k.import_params a.wraps)
     (items-append (flat_map export_items a.exports) (trait_and_macro world ++ (area_of es ++ (runtime ++ last_macro world))) (exports-named es a.exports k.exported k.exports a.exported)
     (items-append (trait_and_macro world) (area_of es ++ (runtime ++ last_macro world)) traits
-    (items-append (area_of es) (runtime ++ last_macro world) (area-named es) (items-append runtime (last_macro world) (runtime-named (runtime_items world)) last))))
+    (items-append (area_of es) (runtime ++ last_macro world) (area-named es) (items-append runtime (last_macro world) (runtime-named (runtime_items a.types world)) last)))))
 
-pub tree-named : (world : World) (options : List Bytes) (items : List Item) → is_written_world world ≡ true → declares_well world ≡ true → options ≡ [] → AreItems IsWritten ArePartsWritten world items → are_well_named options items ≡ true
-tree-named world options items written declared none a = ap (λ o. are_well_named o items) none ∙ items-named world items written declared a
+line-named : list_all is_option_line (unused_types_line ∷ []) ≡ true
+unfolding unused_types_line
+line-named = refl
+
+options-named : (opts : Opts) → list_all is_option_line (option_lines opts) ≡ true
+options-named opts = go opts.generate_unused_types
+  where
+    go : (b : Bool) → list_all is_option_line (if b then unused_types_line ∷ [] else []) ≡ true
+    go true = line-named
+    go false = refl
+
+pub tree-named : (opts : Opts) (r : Resolve) (id : WorldId) (world : World) (options : List Bytes) (items : List Item) → AreDefinable opts r id world → is_written_world world ≡ true → declares_well world ≡ true
+    → options ≡ option_lines opts → AreItems IsWritten ArePartsWritten opts r id world items → are_well_named options items ≡ true
+tree-named opts r id world options items types written declared lines a =
+    ap (λ o. are_well_named o items) lines
+    ∙ and_from (list_all is_option_line (option_lines opts)) (list_all is_named_item items) (options-named opts) (items-named opts r id world items types written declared a)
 
 -- of a world of the tables whose names are accepted
 

@@ -27,7 +27,8 @@ use Rattle.rust_gen.specs.Bound.{Parts, export_items}
 use Rattle.rust_gen.specs.ExportBody.{ArePartsWritten, ReturnWritten}
 use Rattle.rust_gen.specs.Emitted.{exported_functions}
 use Rattle.rust_gen.specs.Exported.{area_of, file_macro, guest_trait, last_macro, static_area, trait_and_macro, where_any, world_macro}
-use Rattle.rust_gen.specs.Runtime.{runtime_items, runtime_module}
+use Rattle.rust_gen.specs.Runtime.{runtime_module}
+use Rattle.rust_gen.specs.Served.{types_of}
 use Rattle.rust_gen.proofs.ItemLemmas.{apart, found_of}
 
 -- the wrappers: those of exports, in their order
@@ -138,12 +139,12 @@ nothing-behind : {A : Type 0} (picked : List Item → List A)
     → ((t : TraitItem) (m : ModuleMacro) (items : List Item) → picked (item.Trait t ∷ item.ModuleMacro m ∷ items) ≡ picked items)
     → ((items : List Item) → picked (item.Area static_area ∷ items) ≡ picked items) → ((asked : List RuntimeItem) (items : List Item) → picked (item.Runtime asked ∷ items) ≡ picked items)
     → ((r : RootMacro) → picked (item.RootMacro r ∷ []) ≡ []) → picked [] ≡ []
-    → (world : World) → picked (trait_and_macro world ++ (area_of (exported_functions world) ++ (runtime_module (runtime_items world) ++ last_macro world))) ≡ []
-nothing-behind picked trait area runtime root none world =
+    → (asked : List RuntimeItem) (world : World) → picked (trait_and_macro world ++ (area_of (exported_functions world) ++ (runtime_module asked ++ last_macro world))) ≡ []
+nothing-behind picked trait area runtime root none asked world =
     let fs = exported_functions world in
-    past_trait fs (area_of fs ++ (runtime_module (runtime_items world) ++ last_macro world))
-    ∙ past_area (list_any (λ f. needs_area f.result) fs) (runtime_module (runtime_items world) ++ last_macro world)
-    ∙ past_runtime (runtime_items world) (last_macro world) ∙ past_root fs
+    past_trait fs (area_of fs ++ (runtime_module asked ++ last_macro world))
+    ∙ past_area (list_any (λ f. needs_area f.result) fs) (runtime_module asked ++ last_macro world)
+    ∙ past_runtime asked (last_macro world) ∙ past_root fs
   where
     past_trait : (fs : List Function) (items : List Item) → picked (where_any fs (item.Trait (guest_trait (exported_functions world)) ∷ item.ModuleMacro (world_macro world) ∷ []) ++ items) ≡ picked items
     past_trait [] items = refl
@@ -161,8 +162,11 @@ nothing-behind picked trait area runtime root none world =
     past_root [] = none
     past_root (f ∷ fs) = root (file_macro world)
 
-pub no_exports-behind : (world : World) → exports_in (trait_and_macro world ++ (area_of (exported_functions world) ++ (runtime_module (runtime_items world) ++ last_macro world))) ≡ []
-no_exports-behind world = nothing-behind exports_in (λ t m items. refl) (λ items. refl) (λ asked items. refl) (λ r. refl) refl world
+pub no_exports-behind : (asked : List RuntimeItem) (world : World) → exports_in (trait_and_macro world ++ (area_of (exported_functions world) ++ (runtime_module asked ++ last_macro world))) ≡ []
+no_exports-behind asked world = nothing-behind exports_in (λ t m items. refl) (λ items. refl) (λ parts items. refl) (λ r. refl) refl asked world
 
-pub no_returns-behind : (world : World) → post_returns_in (trait_and_macro world ++ (area_of (exported_functions world) ++ (runtime_module (runtime_items world) ++ last_macro world))) ≡ []
-no_returns-behind world = nothing-behind post_returns_in (λ t m items. refl) (λ items. refl) (λ asked items. refl) (λ r. refl) refl world
+pub no_returns-behind : (asked : List RuntimeItem) (world : World) → post_returns_in (trait_and_macro world ++ (area_of (exported_functions world) ++ (runtime_module asked ++ last_macro world))) ≡ []
+no_returns-behind asked world = nothing-behind post_returns_in (λ t m items. refl) (λ items. refl) (λ parts items. refl) (λ r. refl) refl asked world
+
+pub no_types-behind : (asked : List RuntimeItem) (world : World) → types_of (trait_and_macro world ++ (area_of (exported_functions world) ++ (runtime_module asked ++ last_macro world))) ≡ []
+no_types-behind asked world = nothing-behind types_of (λ t m items. refl) (λ items. refl) (λ parts items. refl) (λ r. refl) refl asked world

@@ -12,9 +12,12 @@ use Rattle.rust_tree.specs.declared.item.Item.TheVariants as item
 use Rattle.rust_tree.specs.declared.runtime_item.RuntimeItem.{RuntimeItem}
 use Rattle.rust_tree.specs.declared.place.FuncPlace.{FuncPlace}
 use Rattle.rust_tree.specs.Tree.{wrapper_count}
+use Rattle.rust_gen.specs.declared.opts.Opts.{Opts}
 use Rattle.rust_gen.specs.Body.{IsWritten}
 use Rattle.rust_gen.specs.Emitted.{Entries, functions_in, places_from, emitted_places, exported_functions, imported_functions}
 use Rattle.rust_gen.specs.Runtime.{runtime_module, runtime_items}
+use Rattle.wit_model.specs.declared.name.WorldId.{WorldId}
+use Rattle.wit_model.specs.declared.resolve.Resolve.{Resolve}
 use Rattle.wit_model.specs.declared.world.World.{World}
 use Rattle.rust_tree.specs.declared.macros.ModuleMacro.{ModuleMacro}
 use Rattle.rust_tree.specs.declared.macros.RootMacro.{RootMacro}
@@ -23,6 +26,7 @@ use Rattle.rust_gen.specs.Bound.{AreItems, Parts, export_items}
 use Rattle.rust_gen.specs.ExportBody.{ArePartsWritten}
 use Rattle.rust_gen.specs.Exported.{area_of, file_macro, guest_trait, last_macro, static_area, trait_and_macro, where_any, world_macro}
 use Rattle.wrapper_run.specs.Areas.{needs_area}
+use Rattle.rust_gen.proofs.SkipLemmas.{skip-count}
 
 pub AllZip-more : {A B : Type 0} (R : A → B → Type 0) (xs : List A) (ys : List B) (x : A) (y : B) → AllZip R xs ys → R x y → AllZip R (xs ++ x ∷ []) (ys ++ y ∷ [])
 AllZip-more R [] [] x y z r = (r, tt)
@@ -97,13 +101,14 @@ length-places_from n ((k, entry.Function f) ∷ es) = ap suc (length-places_from
 length-places_from n ((k, entry.Named _) ∷ es) = length-places_from (n + 1) es
 
 -- there is a place for each wrapper
-pub places_fit : (world : World) (items : List Item) (places : List FuncPlace) → AreItems IsWritten ArePartsWritten world items → places ≡ emitted_places world → length places ≡ wrapper_count items
-places_fit world items places a p =
+pub places_fit : (opts : Opts) (r : Resolve) (id : WorldId) (world : World) (items : List Item) (places : List FuncPlace)
+    → AreItems IsWritten ArePartsWritten opts r id world items → places ≡ emitted_places world → length places ≡ wrapper_count items
+places_fit opts r id world items places a p =
     let last = last_macro world in
-    let runtime = runtime_module (runtime_items world) in
+    let runtime = runtime_module (runtime_items a.types world) in
     let traits = trait_and_macro world in
     let traits_none : wrapper_count traits ≡ 0 = no_wrapper-trait (exported_functions world) (guest_trait (exported_functions world)) (world_macro world) in
-    let runtime_none : wrapper_count runtime ≡ 0 = no_wrapper-runtime (runtime_items world) in
+    let runtime_none : wrapper_count runtime ≡ 0 = no_wrapper-runtime (runtime_items a.types world) in
     let last_none : wrapper_count last ≡ 0 = no_wrapper-macro (exported_functions world) (file_macro world) in
     let area = area_of (exported_functions world) in
     let area_none : wrapper_count area ≡ 0 = no_wrapper-area (list_any (λ f. needs_area f.result) (exported_functions world)) in
@@ -115,6 +120,7 @@ places_fit world items places a p =
     let a4 = wrapper_count-append (map item.Import a.wrappers) (flat_map export_items a.exports ++ behind) in
     let imports = wrapper_count-imports a.wrappers in
     let exports = wrapper_count-exports a.exports in
+    let front = skip-count a.types (map item.Import a.wrappers ++ (flat_map export_items a.exports ++ behind)) in
     let all = ap wrapper_count a.are in
     let counted : wrapper_count items ≡ length a.wrappers + length a.exports = omega arith in
     ap length p ∙ length-append (places_from 0 world.imports) (places_from 0 world.exports)

@@ -5,7 +5,10 @@ use Rattle.wit_model.specs.declared.function.Function.{Function}
 use Rattle.wit_model.specs.declared.function.Param.{Param}
 use Rattle.wit_model.specs.declared.types.WitType.{WitType}
 use Rattle.wit_model.specs.declared.types.WitType.TheVariants as wit
+use Rattle.wit_model.specs.declared.name.WorldId.{WorldId}
+use Rattle.wit_model.specs.declared.resolve.Resolve.{Resolve}
 use Rattle.wit_model.specs.declared.world.World.{World}
+use Rattle.rust_gen.specs.declared.opts.Opts.{Opts}
 use Rattle.rust_tree.specs.declared.expr.Expr.{Expr}
 use Rattle.rust_tree.specs.declared.item.FnItem.{FnItem}
 use Rattle.rust_tree.specs.declared.stmt.Stmt.{Stmt}
@@ -120,12 +123,14 @@ wraps_parts f parts w = (wraps_export f parts.0 w.0, go (needs_area f.result) w.
     go true (q, is, written) = (q, is, wraps_return f q written)
     go false e = e
 
-pub binds_wraps : {world : World} {tree : Tree} → Binds IsWritten ArePartsWritten world tree → Binds Wraps WrapsParts world tree
+pub binds_wraps : {opts : Opts} {r : Resolve} {id : WorldId} {world : World} {tree : Tree} → Binds IsWritten ArePartsWritten opts r id world tree → Binds Wraps WrapsParts opts r id world tree
 binds_wraps b = record {
   items = record {
+    types = b.items.types;
     wrappers = b.items.wrappers;
     exports = b.items.exports;
     are = b.items.are;
+    defined = b.items.defined;
     wraps = AllZip-map IsWritten Wraps wraps _ b.items.wrappers b.items.wraps;
     exported = AllZip-map ArePartsWritten WrapsParts wraps_parts _ b.items.exports b.items.exported;
   };

@@ -94,7 +94,7 @@ abbrev pub module_scope : World → List Function → List Function → NameScop
 module_scope world imports exports = record {
   name = [];
   names =
-      all_declared Type_ (runtime_idents (items_for imports exports)) ++ (all_declared Type_ (trait_idents exports) ++ (all_declared Type_ (area_type_idents imports exports)
+      all_declared Type_ (runtime_idents (items_for [] imports exports)) ++ (all_declared Type_ (trait_idents exports) ++ (all_declared Type_ (area_type_idents imports exports)
       ++ (map (λ f. declared Value (rust_ident f.name)) imports ++ (flat_map (λ f. among_types (export_ident f)) exports
       ++ (flat_map return_names exports ++ (all_declared Value (area_idents exports) ++ all_declared Macro (where_exported exports (macro_idents world))))))));
 }

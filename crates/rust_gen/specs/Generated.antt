@@ -8,6 +8,7 @@ use Rattle.gen_files.specs.Entries.{Entry, entry_of, with_pushed}
 use Rattle.rust_tree.specs.Text.{text}
 use Rattle.rust_tree.specs.Tree.{Tree}
 use Rattle.rust_tree.specs.WellNamed.{are_well_named}
+use Rattle.rust_gen.specs.declared.opts.Opts.{Opts}
 use Rattle.rust_gen.specs.Body.{IsWritten}
 use Rattle.rust_gen.specs.Bound.{Binds}
 use Rattle.rust_gen.specs.ExportBody.{ArePartsWritten}
@@ -29,22 +30,22 @@ pub record Gains (old new : List Entry) (name bytes : Bytes) : Type 0 where
   pub others : (other : Bytes) → other ≢ name → entry_of new other ≡ entry_of old other
 
 -- each wrapper is written as the format says: its locals and their numbers, its statements, and no declaration that nobody calls
-abbrev pub AreWritten : World → Tree → Type 0
-AreWritten world tree = Binds IsWritten ArePartsWritten world tree
+abbrev pub AreWritten : Opts → Resolve → WorldId → World → Tree → Type 0
+AreWritten opts r id world tree = Binds IsWritten ArePartsWritten opts r id world tree
 
--- the tree is that of a world: it holds a wrapper for each function, which from outside has the signature and the core import or the
+-- the tree is that of a world: it holds the definitions of the world's own types, and a wrapper for each function, which from outside has the signature and the core import or the
 -- method of its function, is written as the format says, and carries each call of it; `_rt` holds what these ask for; and each name
 -- is an identifier
-pub record IsTreeOf (world : World) (tree : Tree) : Type 0 where
-  pub bound : Binds Wraps WrapsParts world tree
-  pub written : AreWritten world tree
-  pub runtime : Serves (asked_of world) (runtime_in tree.items)
+pub record IsTreeOf (opts : Opts) (r : Resolve) (id : WorldId) (world : World) (tree : Tree) : Type 0 where
+  pub bound : Binds Wraps WrapsParts opts r id world tree
+  pub written : AreWritten opts r id world tree
+  pub runtime : Serves (asked_of world tree.items) (runtime_in tree.items)
   pub faithful : AreFaithful world tree
   pub well_named : are_well_named tree.options tree.items ≡ true
 
 -- the tree is that of the world of this id, and its text is in the file of the world's name
-pub record Generates (resolve : Resolve) (id : WorldId) (old new : List Entry) (tree : Tree) : Type 0 where
+pub record Generates (opts : Opts) (resolve : Resolve) (id : WorldId) (old new : List Entry) (tree : Tree) : Type 0 where
   pub world : World
   pub named : slice_get resolve.worlds id.0 ≡ Some world
-  pub tree_of : IsTreeOf world tree
+  pub tree_of : IsTreeOf opts resolve id world tree
   pub gains : Gains old new (file_name world) (text tree)

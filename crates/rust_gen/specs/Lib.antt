@@ -5,6 +5,8 @@ pub mod Cause
 pub mod Clash
 pub mod DeclaredNames
 pub mod Default
+pub mod Defined
+pub mod DefinedNames
 pub mod Docs
 pub mod Emitted
 pub mod ExportBody
@@ -17,8 +19,11 @@ pub mod LackText
 pub mod Levels
 pub mod Listing
 pub mod Lowering
+pub mod Modes
 pub mod NameText
+pub mod OptionLines
 pub mod OwnershipText
+pub mod PartType
 pub mod Printed
 pub mod Runtime
 pub mod Scope

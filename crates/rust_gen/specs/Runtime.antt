@@ -1,4 +1,4 @@
--- Which items the module `_rt` holds: each that a wrapper asks for, once, in the order in which they are first asked for;
+-- Which items the module `_rt` holds: each that a definition or a wrapper asks for, once, in the order in which they are first asked for;
 -- and behind them those that they need.
 use Rattle.std.specs.Prelude.{Bool, true, false, List, [], ◌∷◌, ◌++◌, Option, None, Some, if◌then◌else◌, fold}
 use Rattle.std.specs.List.{list_any, flat_map}
@@ -9,6 +9,9 @@ use Rattle.wit_model.specs.declared.world.World.{World}
 use Rattle.rust_tree.specs.declared.item.Item.{Item}
 use Rattle.rust_tree.specs.declared.item.Item.TheVariants as item
 use Rattle.rust_tree.specs.declared.runtime_item.RuntimeItem.{RuntimeItem}
+use Rattle.rust_tree.specs.declared.type_expr.TypeExpr.{TypeExpr, TypeExpr-F, fold-TypeExpr}
+use Rattle.rust_tree.specs.declared.type_item.TypeItem.{TypeItem}
+use Rattle.rust_tree.specs.declared.type_item.TypeItem.TheVariants as type_item
 use Rattle.rust_tree.specs.Runtime.{needed_items}
 use Rattle.rust_gen.specs.Emitted.{exported_functions, imported_functions}
 use Rattle.rust_tree.specs.declared.runtime_item.RuntimeItem.TheVariants.{AsI32, AsI64, AsF32, AsF64, AllocCrate, StringType, VecType, BoolLift, CharLift, StringLift, StdAllocModule, CabiDealloc}
@@ -79,19 +82,38 @@ asked_by_export f = flat_map (λ p. lifting_items (Some p.ty)) f.params ++ (retu
 abbrev pub asked_by_method : Function → List RuntimeItem
 asked_by_method f = flat_map (λ p. signature_items (Some p.ty)) f.params ++ signature_items f.result
 
--- what the wrappers of the imports ask for, those of the exports, and the trait
-abbrev pub asked_items : List Function → List Function → List RuntimeItem
-asked_items imports exports = flat_map asked_by imports ++ (flat_map asked_by_export exports ++ flat_map asked_by_method exports)
+-- what a printed type names of `_rt`
+abbrev pub named_step : TypeExpr-F (List RuntimeItem) → List RuntimeItem
+named_step (TypeExpr-F.Primitive p) = []
+named_step TypeExpr-F.Unit = []
+named_step TypeExpr-F.Str = []
+named_step TypeExpr-F.String = StringType ∷ []
+named_step (TypeExpr-F.Ref items) = items
+named_step (TypeExpr-F.Path path) = []
+named_step (TypeExpr-F.Tuple parts) = flat_map (λ items. items) parts
+
+abbrev pub named_by_type : TypeExpr → List RuntimeItem
+named_by_type = fold-TypeExpr (List RuntimeItem) named_step
+
+-- a definition asks for what its types name
+abbrev pub asked_by_definition : TypeItem → List RuntimeItem
+asked_by_definition (type_item.Struct s) = flat_map (λ f. named_by_type f.ty) s.fields
+asked_by_definition (type_item.Alias a) = named_by_type a.ty
+
+-- what the definitions ask for, the wrappers of the imports, those of the exports, and the trait
+abbrev pub asked_items : List TypeItem → List Function → List Function → List RuntimeItem
+asked_items types imports exports =
+    flat_map asked_by_definition types ++ (flat_map asked_by imports ++ (flat_map asked_by_export exports ++ flat_map asked_by_method exports))
 
 -- a round: behind the items stand those that they need; two rounds leave none out
 abbrev pub with_needed : List RuntimeItem → List RuntimeItem
 with_needed items = fold with_asked items (flat_map needed_items items)
 
-abbrev pub items_for : List Function → List Function → List RuntimeItem
-items_for imports exports = with_needed (with_needed (fold with_asked [] (asked_items imports exports)))
+abbrev pub items_for : List TypeItem → List Function → List Function → List RuntimeItem
+items_for types imports exports = with_needed (with_needed (fold with_asked [] (asked_items types imports exports)))
 
-abbrev pub runtime_items : World → List RuntimeItem
-runtime_items world = items_for (imported_functions world) (exported_functions world)
+abbrev pub runtime_items : List TypeItem → World → List RuntimeItem
+runtime_items types world = items_for types (imported_functions world) (exported_functions world)
 
 -- the module stands where an item is asked for
 abbrev pub runtime_module : List RuntimeItem → List Item

@@ -5,6 +5,7 @@ ghost use Rattle.rust_gen.specs.Body.{IsWritten};
 ghost use Rattle.rust_gen.specs.Bound.{Binds};
 ghost use Rattle.rust_gen.specs.Cause.{IsAnswer, cause};
 ghost use Rattle.rust_gen.specs.DeclaredNames.{declares_well};
+ghost use Rattle.rust_gen.specs.DefinedNames.{AreDefinable};
 ghost use Rattle.rust_gen.specs.ExportBody.{ArePartsWritten};
 ghost use Rattle.rust_gen.specs.Generated.{Gains, Generates, file_name};
 ghost use Rattle.rust_gen.specs.NameText.{is_written_world};
@@ -59,15 +60,23 @@ fn push_file(files: &mut Files, name: &Text, content: &Text) -> Result<(), OutOf
     files.push(name.as_str(), content.as_str().as_bytes())
 }
 
-fn write_file(alloc: Global, world: &World, files: &mut Files) -> Result<Bindings, OutOfMemory>
+fn write_file(
+    alloc: Global,
+    opts: &Opts,
+    resolve: &Resolve,
+    id: WorldId,
+    world: &World,
+    files: &mut Files,
+) -> Result<Bindings, OutOfMemory>
+    requires types { AreDefinable opts.now resolve.now id world.now }
     requires written { is_written_world world.now ≡ true }
     requires declared { declares_well world.now ≡ true }
-    ensures bound { IfOk result (Binds IsWritten ArePartsWritten world.now) }
+    ensures bound { IfOk result (Binds IsWritten ArePartsWritten opts.now resolve.now id world.now) }
     ensures named { IfOk result (λ tree. are_well_named tree.options tree.items ≡ true) }
     ensures gains { IfOk result (λ tree. Gains files.old files.new (file_name world.now) (text tree)) }
     ensures err { OnErr result (files.new ≡ files.old) }
 {
-    let tree = bindings_of(alloc, world)?;
+    let tree = bindings_of(alloc, opts, resolve, id, world)?;
     let name = file_name(alloc, world)?;
     let content = text_of(alloc, &tree)?;
     push_file(files, &name, &content)?;
@@ -85,12 +94,12 @@ impl RustWasm {
         files: &mut Files,
     ) -> Result<Bindings, GenError>
         ensures answer { IsAnswer result (cause self.old resolve.now world) }
-        ensures ok { IfOk result (Generates resolve.now world files.old files.new) }
+        ensures ok { IfOk result (Generates self.old resolve.now world files.old files.new) }
         ensures err { OnErr result (files.new ≡ files.old) }
         ensures options { self.new ≡ self.old }
     {
         let accepted = accepted_world(self.alloc, &self.opts, resolve, world)?;
-        let tree = write_file(self.alloc, accepted, files)?;
+        let tree = write_file(self.alloc, &self.opts, resolve, world, accepted, files)?;
         Ok(tree)
     }
 }

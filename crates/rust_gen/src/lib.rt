@@ -7,6 +7,7 @@ mod built;
 mod clash;
 mod core_signature;
 mod declared;
+mod define;
 mod docs;
 mod emitted;
 mod error;

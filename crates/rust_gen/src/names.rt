@@ -1,6 +1,6 @@
 //! Which names the file of a world declares, in the order of the format, and whether functions of one side have distinct names.
 
-ghost use Rattle.std.specs.Prelude.{◌≡◌, ◌++◌, IfOk, OnOk, map};
+ghost use Rattle.std.specs.Prelude.{◌≡◌, [], ◌++◌, IfOk, OnOk, map};
 ghost use Rattle.std.specs.List.{flat_map, list_all};
 ghost use Rattle.rust_tree.specs.Ident.{rust_ident};
 ghost use Rattle.rust_gen.specs.declared.declared.Sort.TheVariants.{Macro, Type_, Value};
@@ -201,9 +201,9 @@ fn declare_runtime(
     exports: &[&Function],
 ) -> Result<(), OutOfMemory>
     ensures { OnOk result
-        (names.new ≡ names.old ++ all_declared Type_ (runtime_idents (items_for (map (λ f. f.now) imports.now) (map (λ f. f.now) exports.now)))) }
+        (names.new ≡ names.old ++ all_declared Type_ (runtime_idents (items_for [] (map (λ f. f.now) imports.now) (map (λ f. f.now) exports.now)))) }
 {
-    let items = runtime_items(alloc, imports, exports)?;
+    let items = runtime_items(alloc, &[], imports, exports)?;
     if items.is_empty() {
         Ok(())
     } else {

@@ -3,9 +3,9 @@
 ghost use Rattle.std.specs.Prelude.{◌≡◌, IfOk, OnOk, Some, fold, map};
 ghost use Rattle.std.specs.List.{flat_map, list_any};
 ghost use Rattle.rust_tree.specs.Runtime.{needed_items};
-ghost use Rattle.rust_gen.specs.Runtime.{asked_by, asked_by_export, asked_by_method, freeing_items, is_same_item, items_for, lifting_items, lowering_item, lowering_items, returning_items, signature_items, with_asked, with_needed};
+ghost use Rattle.rust_gen.specs.Runtime.{asked_by, asked_by_definition, asked_by_export, asked_by_method, freeing_items, is_same_item, items_for, lifting_items, lowering_item, lowering_items, named_by_type, returning_items, signature_items, with_asked, with_needed};
 
-use rust_tree::RuntimeItem;
+use rust_tree::{RuntimeItem, StructField, TypeExpr, TypeItem};
 use std::alloc::Global;
 use wit_model::{Function, List, OutOfMemory, Param, WitType};
 
@@ -241,16 +241,71 @@ fn ask_for_methods(
     Ok(())
 }
 
-/// The items that the wrappers and the trait of a world's functions ask for, each once, in the order in which they are first asked for.
+/// What a printed type names.
+#[cycle(named)]
+fn ask_for_printed(items: &mut List<RuntimeItem>, ty: &TypeExpr) -> Result<(), OutOfMemory>
+    ensures { OnOk result (items.new ≡ fold with_asked items.old (named_by_type ty.now)) }
+{
+    match ty {
+        TypeExpr::String => ask(items, RuntimeItem::StringType),
+        TypeExpr::Ref(ty) => ask_for_printed(items, ty.get()),
+        TypeExpr::Tuple(parts) => ask_for_parts(items, parts.as_slice()),
+        TypeExpr::Primitive(_) | TypeExpr::Unit | TypeExpr::Str | TypeExpr::Path(_) => Ok(()),
+    }
+}
+
+#[cycle(named)]
+fn ask_for_parts(items: &mut List<RuntimeItem>, parts: &[TypeExpr]) -> Result<(), OutOfMemory>
+    ensures { OnOk result (items.new ≡ fold with_asked items.old (flat_map named_by_type parts.now)) }
+{
+    for part in parts {
+        ask_for_printed(items, part)?;
+    }
+    Ok(())
+}
+
+fn ask_for_fields(items: &mut List<RuntimeItem>, fields: &[StructField]) -> Result<(), OutOfMemory>
+    ensures { OnOk result
+        (items.new ≡ fold with_asked items.old (flat_map (λ f. named_by_type f.ty) fields.now)) }
+{
+    for field in fields {
+        ask_for_printed(items, &field.ty)?;
+    }
+    Ok(())
+}
+
+fn ask_for_definition(items: &mut List<RuntimeItem>, item: &TypeItem) -> Result<(), OutOfMemory>
+    ensures { OnOk result (items.new ≡ fold with_asked items.old (asked_by_definition item.now)) }
+{
+    match item {
+        TypeItem::Struct(item) => ask_for_fields(items, item.fields.as_slice()),
+        TypeItem::Alias(item) => ask_for_printed(items, &item.ty),
+    }
+}
+
+/// What the definitions of types ask for.
+fn ask_for_definitions(items: &mut List<RuntimeItem>, types: &[TypeItem]) -> Result<(), OutOfMemory>
+    ensures { OnOk result
+        (items.new ≡ fold with_asked items.old (flat_map asked_by_definition types.now)) }
+{
+    for item in types {
+        ask_for_definition(items, item)?;
+    }
+    Ok(())
+}
+
+/// The items that definitions, the wrappers and the trait of a world's functions ask for, each once, in the order in which they are first asked for.
 pub(crate) fn runtime_items(
     alloc: Global,
+    types: &[TypeItem],
     imports: &[&Function],
     exports: &[&Function],
 ) -> Result<List<RuntimeItem>, OutOfMemory>
     ensures { IfOk result
-        (λ items. items ≡ items_for (map (λ f. f.now) imports.now) (map (λ f. f.now) exports.now)) }
+        (λ items. items ≡ items_for types.now (map (λ f. f.now) imports.now) (map (λ f. f.now) exports.now)) }
 {
     let mut items = List::new(alloc);
+    ask_for_definitions(&mut items, types)?;
     ask_for_imports(&mut items, imports)?;
     ask_for_exports(&mut items, exports)?;
     ask_for_methods(&mut items, exports)?;

@@ -8,31 +8,49 @@ ghost use Rattle.rust_tree.specs.WellNamed.{are_well_named};
 ghost use Rattle.rust_gen.specs.Body.{IsWritten};
 ghost use Rattle.rust_gen.specs.Bound.{AreItems, Binds, Parts, export_items};
 ghost use Rattle.rust_gen.specs.DeclaredNames.{declares_well};
+ghost use Rattle.rust_gen.specs.DefinedNames.{AreDefinable};
 ghost use Rattle.rust_gen.specs.Emitted.{emitted_places};
 ghost use Rattle.rust_gen.specs.ExportBody.{ArePartsWritten};
 ghost use Rattle.rust_gen.specs.NameText.{is_written_world};
-ghost use Rattle.rust_gen.specs.Runtime.{items_for, runtime_module};
+ghost use Rattle.rust_gen.specs.OptionLines.{option_lines, unused_types_line};
+ghost use Rattle.rust_gen.specs.Runtime.{runtime_module};
 
+use crate::define::definitions_of;
 use crate::emitted::{functions_in, places_in};
 use crate::export::export_wrapper;
 use crate::exported::{push_area, push_last_macro, push_trait_and_macro};
+use crate::lists::one;
+use crate::opts::Opts;
 use crate::post_return::post_return;
 use crate::runtime::runtime_items;
 use crate::wrapper::import_wrapper;
-use rust_tree::{Bindings, ExportFn, FuncPlace, Item, PostReturnFn};
+use rust_tree::{Bindings, ExportFn, FuncPlace, Item, PostReturnFn, RuntimeItem, TypeItem};
 use std::alloc::Global;
-use wit_model::{Function, List, OutOfMemory, World};
+use wit_model::{Function, List, OutOfMemory, Resolve, Text, World, WorldId};
 
-fn import_items(alloc: Global, functions: &[&Function]) -> Result<List<Item>, OutOfMemory>
-    ensures { IfOk result
-        (λ items. (ws : List FnItem) × (items ≡ map item.Import ws) × AllZip IsWritten (map (λ f. f.now) functions.now) ws) }
+fn type_items(alloc: Global, types: List<TypeItem>) -> Result<List<Item>, OutOfMemory>
+    ensures { IfOk result (λ items. items ≡ map item.Type types) }
 {
     let mut items = List::new(alloc);
+    for item in types.into_vec() {
+        items.push(Item::Type(item))?;
+    }
+    Ok(items)
+}
+
+fn push_imports(
+    alloc: Global,
+    items: &mut List<Item>,
+    functions: &[&Function],
+) -> Result<(), OutOfMemory>
+    ensures { OnOk result
+        ((ws : List FnItem) × (items.new ≡ items.old ++ map item.Import ws) × AllZip IsWritten (map (λ f. f.now) functions.now) ws) }
+{
     for function in functions {
         let wrapper = import_wrapper(alloc, function)?;
         items.push(Item::Import(wrapper))?;
     }
-    Ok(items)
+    Ok(())
 }
 
 fn push_parts(
@@ -74,16 +92,9 @@ fn push_exports(
     Ok(())
 }
 
-fn push_runtime(
-    alloc: Global,
-    items: &mut List<Item>,
-    imports: &[&Function],
-    exports: &[&Function],
-) -> Result<(), OutOfMemory>
-    ensures { OnOk result
-        (items.new ≡ items.old ++ runtime_module (items_for (map (λ f. f.now) imports.now) (map (λ f. f.now) exports.now))) }
+fn push_runtime(items: &mut List<Item>, asked: List<RuntimeItem>) -> Result<(), OutOfMemory>
+    ensures { OnOk result (items.new ≡ items.old ++ runtime_module asked) }
 {
-    let asked = runtime_items(alloc, imports, exports)?;
     if asked.is_empty() {
         return Ok(());
     }
@@ -91,16 +102,31 @@ fn push_runtime(
 }
 
 /// The items of a world's file, in their order.
-fn world_items(alloc: Global, world: &World) -> Result<List<Item>, OutOfMemory>
-    ensures { IfOk result (AreItems IsWritten ArePartsWritten world.now) }
+fn world_items(
+    alloc: Global,
+    opts: &Opts,
+    resolve: &Resolve,
+    id: WorldId,
+    world: &World,
+) -> Result<List<Item>, OutOfMemory>
+    requires { AreDefinable opts.now resolve.now id world.now }
+    ensures { IfOk result (AreItems IsWritten ArePartsWritten opts.now resolve.now id world.now) }
 {
     let imports = functions_in(alloc, world.imports.as_slice())?;
     let exports = functions_in(alloc, world.exports.as_slice())?;
-    let mut items = import_items(alloc, imports.as_slice())?;
+    let types = definitions_of(alloc, opts, resolve, id, world)?;
+    let asked = runtime_items(
+        alloc,
+        types.as_slice(),
+        imports.as_slice(),
+        exports.as_slice(),
+    )?;
+    let mut items = type_items(alloc, types)?;
+    push_imports(alloc, &mut items, imports.as_slice())?;
     push_exports(alloc, &mut items, exports.as_slice())?;
     push_trait_and_macro(alloc, &mut items, world, exports.as_slice())?;
     push_area(&mut items, exports.as_slice())?;
-    push_runtime(alloc, &mut items, imports.as_slice(), exports.as_slice())?;
+    push_runtime(&mut items, asked)?;
     push_last_macro(alloc, &mut items, world, exports.as_slice())?;
     Ok(items)
 }
@@ -115,15 +141,40 @@ fn world_places(alloc: Global, world: &World) -> Result<List<FuncPlace>, OutOfMe
     Ok(places)
 }
 
-/// The tree of a world of functions over scalars and texts, with the options at their defaults.
-pub(crate) fn bindings_of(alloc: Global, world: &World) -> Result<Bindings, OutOfMemory>
+#[tactic(auto, unfolding(crate::specs::OptionLines::unused_types_line))]
+fn unused_types_line(alloc: Global) -> Result<Text, OutOfMemory>
+    ensures { IfOk result (λ line. line ≡ unused_types_line) }
+{
+    Text::from_str(alloc, "//   * generate_unused_types")
+}
+
+fn option_lines(alloc: Global, opts: &Opts) -> Result<List<Text>, OutOfMemory>
+    ensures { IfOk result (λ lines. lines ≡ option_lines opts.now) }
+{
+    if opts.generate_unused_types {
+        one(alloc, unused_types_line(alloc)?)
+    } else {
+        Ok(List::new(alloc))
+    }
+}
+
+/// The tree of a world of functions over scalars and texts, and of types that no function reaches.
+pub(crate) fn bindings_of(
+    alloc: Global,
+    opts: &Opts,
+    resolve: &Resolve,
+    id: WorldId,
+    world: &World,
+) -> Result<Bindings, OutOfMemory>
+    requires types { AreDefinable opts.now resolve.now id world.now }
     requires written { is_written_world world.now ≡ true }
     requires declared { declares_well world.now ≡ true }
-    ensures bound { IfOk result (Binds IsWritten ArePartsWritten world.now) }
+    ensures bound { IfOk result (Binds IsWritten ArePartsWritten opts.now resolve.now id world.now) }
     ensures named { IfOk result (λ tree. are_well_named tree.options tree.items ≡ true) }
 {
-    let items = world_items(alloc, world)?;
+    let items = world_items(alloc, opts, resolve, id, world)?;
     let places = world_places(alloc, world)?;
-    let tree = Bindings::new(alloc, List::new(alloc), items, places)?;
+    let options = option_lines(alloc, opts)?;
+    let tree = Bindings::new(alloc, options, items, places)?;
     Ok(tree)
 }

@@ -16,7 +16,7 @@ use Rattle.wit_commands.specs.Input.{input_in}
 pub record IsBoundFor (input : Input) (tree : Tree) : Type 0 where
   pub world : World
   pub named : slice_get input.resolve.worlds input.world.0 ≡ Some world
-  pub tree_of : IsTreeOf world tree
+  pub tree_of : IsTreeOf input.opts input.resolve input.world world tree
 
 -- the bytes are a document, there is no cause of refusal, and the tree is that of its world
 pub record Makes (bytes : List ℕ) (tree : Tree) : Type 0 where

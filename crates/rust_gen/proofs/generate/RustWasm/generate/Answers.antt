@@ -1,3 +1,6 @@
+use Rattle.std.proofs.Common.{subst}
+use Rattle.rust_gen.specs.Generated.{Generates}
+use Rattle.rust_gen.proofs.AcceptedLemmas.{definable}
 use Rattle.rust_gen.proofs.FaithfulLemmas.{are_faithful}
 use Rattle.rust_gen.proofs.NamedLemmas.{accepted-names, well-named}
 use Rattle.rust_gen.proofs.ServedLemmas.{serves}
@@ -6,23 +9,29 @@ use Rattle.rust_gen.proofs.generate.RustWasm.generate.Goals as goal
 
 pub write_file-requires : goal.write_file-requires
 write_file-requires c =
-    let names = accepted-names c.args.resolve.now c.args.world.0 c.in_ok-accepted.accepted.now c.in_ok-accepted.ensures.world c.in_ok-accepted.ensures.accepted in
-    record { written = names.0; declared = names.1 }
+    let found = c.in_ok-accepted.ensures.world in
+    let names = accepted-names c.args.resolve.now c.args.world.0 c.in_ok-accepted.accepted.now found c.in_ok-accepted.ensures.accepted in
+    record {
+      types = definable c.self.inside.opts c.args.resolve.now c.args.world c.in_ok-accepted.accepted.now c.in_ok-accepted.ensures.checked c.in_ok-accepted.ensures.built found;
+      written = names.0;
+      declared = names.1;
+    }
 
 pub returns-clause-ok : goal.returns-clause-ok
 returns-clause-ok c =
     let world = c.in_ok-accepted.accepted.now in
     let found = c.in_ok-accepted.ensures.world in
     let written = c.in_ok-tree.ensures.bound in
-    record {
+    let made : Generates c.self.inside.opts c.args.resolve.now c.args.world c.args.files.now c.write_file.new.files c.in_ok-tree.tree = record {
       world = world;
       named = found;
       tree_of = record {
         bound = binds_wraps written;
         written = written;
-        runtime = serves world _ written;
-        faithful = are_faithful _ c.args.resolve.now c.args.world.0 world found c.in_ok-accepted.ensures.built (well-named c.args.resolve.now world c.in_ok-accepted.ensures.accepted) _ written;
+        runtime = serves c.self.inside.opts c.args.resolve.now c.args.world world _ written;
+        faithful = are_faithful c.self.inside.opts c.args.resolve.now c.args.world.0 world found c.in_ok-accepted.ensures.built (well-named c.args.resolve.now world c.in_ok-accepted.ensures.accepted) c.args.world _ written;
         well_named = c.in_ok-tree.ensures.named;
       };
       gains = c.in_ok-tree.ensures.gains;
-    }
+    } in
+    subst (λ opts. Generates opts c.args.resolve.now c.args.world c.args.files.now c.write_file.new.files c.in_ok-tree.tree) c.self.view_is made

@@ -1,9 +1,0 @@
-use Rattle.std.proofs.Common.{◌≡◌, List, map, take}
-use Rattle.std.specs.List.{AllZip}
-use Rattle.rust_tree.specs.declared.item.FnItem.{FnItem}
-use Rattle.rust_tree.specs.declared.item.Item.TheVariants as item
-use Rattle.rust_gen.specs.Body.{IsWritten}
-use Rattle.rust_gen.proofs.tree.import_items.Given as goal
-
-abbrev pub invariant-loop-function : goal.invariant-loop-function
-invariant-loop-function l = (ws : List FnItem) × (l.items ≡ map item.Import ws) × AllZip IsWritten (map (λ f. f.now) (take l.function-index l.functions)) ws

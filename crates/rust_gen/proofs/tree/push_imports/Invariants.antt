@@ -1,0 +1,10 @@
+use Rattle.std.proofs.Common.{◌≡◌, ◌++◌, List, map, take}
+use Rattle.std.specs.List.{AllZip}
+use Rattle.rust_tree.specs.declared.item.FnItem.{FnItem}
+use Rattle.rust_tree.specs.declared.item.Item.TheVariants as item
+use Rattle.rust_gen.specs.Body.{IsWritten}
+use Rattle.rust_gen.proofs.tree.push_imports.Given as goal
+
+abbrev pub invariant-loop-function : goal.invariant-loop-function
+invariant-loop-function l =
+    (ws : List FnItem) × (l.items ≡ l.initial.items ++ map item.Import ws) × AllZip IsWritten (map (λ f. f.now) (take l.function-index l.functions)) ws
