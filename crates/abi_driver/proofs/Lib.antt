@@ -1,3 +1,4 @@
+pub mod HasList
 pub mod LiftSteps
 pub mod LowerSteps
 pub mod PlainOperands

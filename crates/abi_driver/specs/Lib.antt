@@ -1,4 +1,5 @@
 pub mod Account
+pub mod HasList
 pub mod Instructions
 pub mod Laws
 pub mod Leaves

@@ -2,6 +2,7 @@
 #![tactic(auto)]
 
 mod bindgen;
+mod has_list;
 mod instruction;
 mod lift;
 mod lower;
@@ -10,6 +11,7 @@ mod plain;
 mod send;
 
 pub use bindgen::{Bindgen, Operand};
+pub use has_list::guest_export_needs_post_return;
 pub use instruction::Instruction;
 pub use lift::lift_flat;
 pub use lower::lower_flat;
