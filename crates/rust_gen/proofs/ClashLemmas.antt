@@ -9,8 +9,7 @@ use Rattle.rust_gen.specs.declared.declared.Space.TheVariants.{Types, Values, Ma
 use Rattle.rust_gen.specs.contracts.declared.SpacePartialEq.TheImpl as impl
 use Rattle.rust_gen.specs.declared.declared.NameScope.{NameScope}
 use Rattle.rust_gen.specs.declared.error.Clash.TheVariants.{Twice, NotIdent}
-use Rattle.rust_tree.specs.Ident.{is_ident}
-use Rattle.rust_gen.specs.Clash.{clash_behind, entry_in, is_same, is_same_space, space}
+use Rattle.rust_gen.specs.Clash.{clash_behind, entry_in, is_name, is_same, is_same_space, space}
 use Rattle.rust_gen.proofs.CutLemmas.{drop_at, take_at}
 use Rattle.std.proofs.Math.Bool.{not-not}
 use Rattle.std.proofs.lemmas.List.Folds.{list_any-append}
@@ -61,11 +60,11 @@ module _ (scope : NameScope) (n : ℕ) (d : Declared) (at : slice_get scope.name
       ∙ sym (ap (list_any (is_key_of k)) taken ∙ list_any-append (is_key_of k) (take n names) (d ∷ []))
 
   -- whether the next name clashes
-  pub next : {seen ok : Bool} → list_any (is_same d) (take n names) ≡ seen → is_ident d.name ≡ ok
+  pub next : {seen ok : Bool} → list_any (is_same d) (take n names) ≡ seen → is_name d ≡ ok
       → clash_behind scope (take n names) (drop n names) ≡ cond seen (Some (Twice (entry_in scope d))) (cond ok (clash_behind scope (take (n + 1) names) (drop (n + 1) names)) (Some (NotIdent (entry_in scope d))))
   next {seen = seen} {ok = ok} s o =
       ap (clash_behind scope (take n names)) dropped
-      ∙ ap (λ b. cond b (Some (Twice (entry_in scope d))) (cond (is_ident d.name) (clash_behind scope (take n names ++ d ∷ []) (drop (n + 1) names)) (Some (NotIdent (entry_in scope d))))) s
+      ∙ ap (λ b. cond b (Some (Twice (entry_in scope d))) (cond (is_name d) (clash_behind scope (take n names ++ d ∷ []) (drop (n + 1) names)) (Some (NotIdent (entry_in scope d))))) s
       ∙ ap (λ b. cond seen (Some (Twice (entry_in scope d))) (cond b (clash_behind scope (take n names ++ d ∷ []) (drop (n + 1) names)) (Some (NotIdent (entry_in scope d))))) o
       ∙ ap (λ earlier. cond seen (Some (Twice (entry_in scope d))) (cond ok (clash_behind scope earlier (drop (n + 1) names)) (Some (NotIdent (entry_in scope d))))) (sym taken)
 

@@ -11,17 +11,20 @@ use Rattle.wit_model.specs.declared.world.World.{World}
 use Rattle.wit_model.specs.Bytes.{Bytes}
 use Rattle.wit_model.specs.Distinct.{is_distinct}
 use Rattle.wit_model.proofs.InRange.{neither}
-use Rattle.rust_tree.specs.Ident.{is_ident, rust_ident}
+use Rattle.rust_tree.specs.Ident.{is_ident, is_type_name, rust_ident}
 use Rattle.rust_gen.specs.declared.declared.Declared.{Declared}
 use Rattle.rust_gen.specs.declared.declared.NameScope.{NameScope}
-use Rattle.rust_gen.specs.declared.declared.Sort.TheVariants.{Type_, Value, Macro}
+use Rattle.rust_gen.specs.declared.declared.Sort.TheVariants.{Type_, WorldType, Value, Macro}
 use Rattle.rust_gen.specs.declared.declared.Space.{Space}
 use Rattle.rust_gen.specs.declared.declared.Space.TheVariants.{Types, Values, Macros}
 use Rattle.rust_gen.specs.declared.error.Clash.{Clash}
-use Rattle.rust_gen.specs.Clash.{clash_behind, clash_in, first_clash, is_same, is_same_space, space}
-use Rattle.rust_gen.specs.DeclaredNames.{all_declared, among_types, area_idents, area_type_idents, declared, declared_names, declares_well, export_ident, macro_idents, module_scope, param_idents, param_scope, return_names, runtime_idents, trait_idents, trait_scope, where_exported}
+use Rattle.rust_gen.specs.Clash.{clash_behind, clash_in, first_clash, is_name, is_same, is_same_space, space}
+use Rattle.rust_gen.specs.DeclaredNames.{all_declared, among_types, area_idents, area_type_idents, declared, declared_names, declares_well, export_ident, field_scope, macro_idents, module_scope, param_idents, param_scope, return_names, runtime_ident, trait_idents, trait_scope, where_exported}
+use Rattle.rust_gen.specs.PrintedTypes.{field_names, printed_types, type_name}
+use Rattle.rust_gen.specs.declared.opts.Opts.{Opts}
+use Rattle.wit_model.specs.declared.resolve.Resolve.{Resolve}
+use Rattle.wit_model.specs.declared.types.TypeDef.{TypeDef}
 use Rattle.rust_gen.specs.Emitted.{exported_functions, imported_functions}
-use Rattle.rust_gen.specs.Runtime.{items_for}
 
 -- names of which none clashes
 
@@ -39,14 +42,14 @@ module _ (scope : NameScope) where
 
   -- the first is apart from the earlier ones and an identifier, and the rest goes on
   first-clear : (earlier : List Declared) (d : Declared) (names : List Declared) → NoneClashes earlier (d ∷ names)
-      → (list_any (is_same d) earlier ≡ false) × (is_ident d.name ≡ true) × NoneClashes (earlier ++ d ∷ []) names
-  first-clear earlier d names h = clear (list_any (is_same d) earlier) (is_ident d.name) _ _ (clash_behind scope (earlier ++ d ∷ []) names) h
+      → (list_any (is_same d) earlier ≡ false) × (is_name d ≡ true) × NoneClashes (earlier ++ d ∷ []) names
+  first-clear earlier d names h = clear (list_any (is_same d) earlier) (is_name d) _ _ (clash_behind scope (earlier ++ d ∷ []) names) h
 
-  all-idents : (earlier names : List Declared) → NoneClashes earlier names → list_all (λ d. is_ident d.name) names ≡ true
+  all-idents : (earlier names : List Declared) → NoneClashes earlier names → list_all (λ d. is_name d) names ≡ true
   all-idents earlier [] h = refl
   all-idents earlier (d ∷ names) h =
       let parts = first-clear earlier d names h in
-      and_from (is_ident d.name) (list_all (λ d. is_ident d.name) names) parts.1 (all-idents (earlier ++ d ∷ []) names parts.2)
+      and_from (is_name d) (list_all (λ d. is_name d) names) parts.1 (all-idents (earlier ++ d ∷ []) names parts.2)
 
   -- of two lists behind one another none clashes in either
   in-parts : (earlier xs ys : List Declared) → NoneClashes earlier (xs ++ ys) → NoneClashes earlier xs × ((between : List Declared) × NoneClashes between ys)
@@ -54,7 +57,7 @@ module _ (scope : NameScope) where
   in-parts earlier (d ∷ xs) ys h =
       let parts = first-clear earlier d (xs ++ ys) h in
       let rest = in-parts (earlier ++ d ∷ []) xs ys parts.2 in
-      (still-clear (list_any (is_same d) earlier) (is_ident d.name) _ _ (clash_behind scope (earlier ++ d ∷ []) xs) parts.0 parts.1 rest.0, rest.1)
+      (still-clear (list_any (is_same d) earlier) (is_name d) _ _ (clash_behind scope (earlier ++ d ∷ []) xs) parts.0 parts.1 rest.0, rest.1)
 
 -- a name in a space
 abbrev has : Space → Bytes → List Declared → Bool
@@ -120,7 +123,7 @@ module _ (scope : NameScope) (s : Space) where
 
 -- what functions and texts are declared as
 
-declared-all : {A : Type 0} (g : A → Bytes) (xs : List A) → list_all (λ d. is_ident d.name) (map (λ x. declared Value (g x)) xs) ≡ list_all (λ x. is_ident (g x)) xs
+declared-all : {A : Type 0} (g : A → Bytes) (xs : List A) → list_all (λ d. is_name d) (map (λ x. declared Value (g x)) xs) ≡ list_all (λ x. is_ident (g x)) xs
 declared-all g [] = refl
 declared-all g (x ∷ xs) = ap (λ b. is_ident (g x) && b) (declared-all g xs)
 
@@ -132,15 +135,23 @@ values-among-types : (fs : List Function) → names_in Values (flat_map (λ f. a
 values-among-types [] = refl
 values-among-types (f ∷ fs) = ap (λ names. export_ident f ∷ names) (values-among-types fs)
 
-exports-all : (fs : List Function) → list_all (λ d. is_ident d.name) (flat_map (λ f. among_types (export_ident f)) fs) ≡ true → list_all is_ident (map export_ident fs) ≡ true
+exports-all : (fs : List Function) → list_all (λ d. is_name d) (flat_map (λ f. among_types (export_ident f)) fs) ≡ true → list_all is_ident (map export_ident fs) ≡ true
 exports-all [] h = refl
 exports-all (f ∷ fs) h =
     let parts = and_parts (is_ident (export_ident f)) _ h in
     and_from _ _ parts.0 (exports-all fs (and_parts (is_ident (export_ident f)) _ parts.1).1)
 
-macros-all : (names : List Bytes) → list_all (λ d. is_ident d.name) (all_declared Macro names) ≡ list_all is_ident names
+macros-all : (names : List Bytes) → list_all (λ d. is_name d) (all_declared Macro names) ≡ list_all is_ident names
 macros-all [] = refl
 macros-all (n ∷ names) = ap (λ b. is_ident n && b) (macros-all names)
+
+types-all : (names : List Bytes) → list_all (λ d. is_name d) (all_declared WorldType names) ≡ list_all is_type_name names
+types-all [] = refl
+types-all (n ∷ names) = ap (λ b. is_type_name n && b) (types-all names)
+
+texts-all : (names : List Bytes) → list_all (λ d. is_name d) (all_declared Value names) ≡ list_all is_ident names
+texts-all [] = refl
+texts-all (n ∷ names) = ap (λ b. is_ident n && b) (texts-all names)
 
 -- scopes
 
@@ -157,7 +168,7 @@ params-all (f ∷ fs) h =
     let parts = neither (clash_in (param_scope f)) (first_clash (map param_scope fs)) h in
     and_from _ _ (list_all-idents f (all-idents (param_scope f) [] (param_scope f).names parts.0)) (params-all fs parts.1)
   where
-    list_all-idents : (f : Function) → list_all (λ d. is_ident d.name) (map (λ p. declared Value (rust_ident p.name)) f.params) ≡ true → list_all is_ident (param_idents f) ≡ true
+    list_all-idents : (f : Function) → list_all (λ d. is_name d) (map (λ p. declared Value (rust_ident p.name)) f.params) ≡ true → list_all is_ident (param_idents f) ≡ true
     list_all-idents f h = list_all-map is_ident (λ p. rust_ident p.name) f.params ∙ sym (declared-all (λ p. rust_ident p.name) f.params) ∙ h
 
 params-distinct : (fs : List Function) (nth : ℕ) (f : Function) → first_clash (map param_scope fs) ≡ None → slice_get fs nth ≡ Some f → is_distinct (param_idents f) ≡ true
@@ -168,72 +179,103 @@ params-distinct (g ∷ fs) zero f h e =
     subst (λ f. is_distinct (param_idents f) ≡ true) is (ap is_distinct (sym (values (λ p. rust_ident p.name) g.params)) ∙ distinct_in (param_scope g) Values [] (param_scope g).names parts.0)
 params-distinct (g ∷ fs) (suc nth) f h e = params-distinct fs nth f (neither (clash_in (param_scope g)) (first_clash (map param_scope fs)) h).1 e
 
+fields-all : (printed : List TypeDef) → first_clash (map field_scope printed) ≡ None → list_all (λ t. list_all is_ident (field_names t.kind)) printed ≡ true
+fields-all [] h = refl
+fields-all (t ∷ printed) h =
+    let parts = neither (clash_in (field_scope t)) (first_clash (map field_scope printed)) h in
+    and_from _ _ (sym (texts-all (field_names t.kind)) ∙ all-idents (field_scope t) [] (field_scope t).names parts.0) (fields-all printed parts.1)
+
 is-none : {A : Type 0} (o : Option A) → is_none o ≡ true → o ≡ None
 is-none None h = refl
 is-none (Some x) h = cc
 
-module _ (world : World) (h : declares_well world ≡ true) where
+module _ (opts : Opts) (r : Resolve) (world : World) (h : declares_well opts r world ≡ true) where
   abbrev imports : List Function
   imports = imported_functions world
 
   abbrev exports : List Function
   exports = exported_functions world
 
-  abbrev root : NameScope
-  root = module_scope world imports exports
+  abbrev printed : List TypeDef
+  printed = printed_types opts r world
 
-  scopes-clear : (clash_in root ≡ None) × (clash_in (trait_scope exports) ≡ None) × (first_clash (map param_scope imports) ≡ None) × (first_clash (map param_scope exports) ≡ None)
+  abbrev root : NameScope
+  root = module_scope world printed imports exports
+
+  scopes-clear : (clash_in root ≡ None) × (first_clash (map field_scope printed) ≡ None) × (clash_in (trait_scope exports) ≡ None) × (first_clash (map param_scope imports) ≡ None)
+      × (first_clash (map param_scope exports) ≡ None)
   unfolding declares_well
   scopes-clear =
-      let all = neither (clash_in root) (first_clash (trait_scope exports ∷ map param_scope imports ++ map param_scope exports)) (is-none (first_clash (declared_names world)) h) in
-      let inner = neither (clash_in (trait_scope exports)) (first_clash (map param_scope imports ++ map param_scope exports)) all.1 in
-      let params = no-clash (map param_scope imports) (map param_scope exports) inner.1 in
-      (all.0, inner.0, params.0, params.1)
+      let all = neither (clash_in root) (first_clash (map field_scope printed ++ (trait_scope exports ∷ map param_scope imports ++ map param_scope exports))) (is-none (first_clash (declared_names opts r world)) h) in
+      let inner = no-clash (map field_scope printed) (trait_scope exports ∷ map param_scope imports ++ map param_scope exports) all.1 in
+      let functions = neither (clash_in (trait_scope exports)) (first_clash (map param_scope imports ++ map param_scope exports)) inner.1 in
+      let params = no-clash (map param_scope imports) (map param_scope exports) functions.1 in
+      (all.0, inner.0, functions.0, params.0, params.1)
+
+  abbrev macros : List Declared
+  macros = all_declared Macro (where_exported exports (macro_idents world))
+
+  abbrev behind_exports : List Declared
+  behind_exports = flat_map return_names exports ++ (all_declared Value (area_idents exports) ++ macros)
+
+  abbrev behind_imports : List Declared
+  behind_imports = flat_map (λ f. among_types (export_ident f)) exports ++ behind_exports
+
+  abbrev behind_types : List Declared
+  behind_types =
+      all_declared Type_ (trait_idents exports) ++ (all_declared Type_ (area_type_idents imports exports) ++ (map (λ f. declared Value (rust_ident f.name)) imports ++ behind_imports))
+
+  -- the types of the world, behind the module of runtime items
+  root-types : (between : List Declared) × NoneClashes root between (all_declared WorldType (map type_name printed)) × ((later : List Declared) × NoneClashes root later behind_types)
+  root-types =
+      let a = in-parts root [] (all_declared Type_ (runtime_ident ∷ [])) _ scopes-clear.0 in
+      let b = in-parts root a.1.0 (all_declared WorldType (map type_name printed)) behind_types a.1.1 in
+      (a.1.0, b.0, b.1)
 
   -- the functions of the root, behind its types
-  root-values : (between : List Declared)
-      × NoneClashes root between (map (λ f. declared Value (rust_ident f.name)) imports ++ (flat_map (λ f. among_types (export_ident f)) exports
-      ++ (flat_map return_names exports ++ (all_declared Value (area_idents exports) ++ all_declared Macro (where_exported exports (macro_idents world))))))
+  root-values : (between : List Declared) × NoneClashes root between (map (λ f. declared Value (rust_ident f.name)) imports ++ behind_imports)
   root-values =
-      let a = in-parts root [] (all_declared Type_ (runtime_idents (items_for [] imports exports))) _ scopes-clear.0 in
-      let b = in-parts root a.1.0 (all_declared Type_ (trait_idents exports)) _ a.1.1 in
+      let b = in-parts root root-types.2.0 (all_declared Type_ (trait_idents exports)) _ root-types.2.1 in
       (in-parts root b.1.0 (all_declared Type_ (area_type_idents imports exports)) _ b.1.1).1
 
-  behind-imports : NoneClashes root root-values.0 (map (λ f. declared Value (rust_ident f.name)) imports)
-      × ((between : List Declared) × NoneClashes root between (flat_map (λ f. among_types (export_ident f)) exports
-      ++ (flat_map return_names exports ++ (all_declared Value (area_idents exports) ++ all_declared Macro (where_exported exports (macro_idents world))))))
-  behind-imports = in-parts root root-values.0 (map (λ f. declared Value (rust_ident f.name)) imports) _ root-values.1
+  values-of-imports : NoneClashes root root-values.0 (map (λ f. declared Value (rust_ident f.name)) imports) × ((between : List Declared) × NoneClashes root between behind_imports)
+  values-of-imports = in-parts root root-values.0 (map (λ f. declared Value (rust_ident f.name)) imports) behind_imports root-values.1
 
-  behind-exports : NoneClashes root behind-imports.1.0 (flat_map (λ f. among_types (export_ident f)) exports)
-      × ((between : List Declared) × NoneClashes root between (flat_map return_names exports ++ (all_declared Value (area_idents exports) ++ all_declared Macro (where_exported exports (macro_idents world)))))
-  behind-exports = in-parts root behind-imports.1.0 (flat_map (λ f. among_types (export_ident f)) exports) _ behind-imports.1.1
+  values-of-exports : NoneClashes root values-of-imports.1.0 (flat_map (λ f. among_types (export_ident f)) exports) × ((between : List Declared) × NoneClashes root between behind_exports)
+  values-of-exports = in-parts root values-of-imports.1.0 (flat_map (λ f. among_types (export_ident f)) exports) behind_exports values-of-imports.1.1
+
+  pub type_idents : list_all is_type_name (map type_name printed) ≡ true
+  type_idents = sym (types-all (map type_name printed)) ∙ all-idents root root-types.0 _ root-types.1
+
+  pub field_idents : list_all (λ t. list_all is_ident (field_names t.kind)) printed ≡ true
+  field_idents = fields-all printed scopes-clear.1
 
   pub import_idents : list_all (λ f. is_ident (rust_ident f.name)) imports ≡ true
-  import_idents = sym (declared-all (λ f. rust_ident f.name) imports) ∙ all-idents root root-values.0 _ behind-imports.0
+  import_idents = sym (declared-all (λ f. rust_ident f.name) imports) ∙ all-idents root root-values.0 _ values-of-imports.0
 
   pub method_idents : list_all (λ f. is_ident (rust_ident f.name)) exports ≡ true
-  method_idents = sym (declared-all (λ f. rust_ident f.name) exports) ∙ all-idents (trait_scope exports) [] (trait_scope exports).names scopes-clear.1
+  method_idents = sym (declared-all (λ f. rust_ident f.name) exports) ∙ all-idents (trait_scope exports) [] (trait_scope exports).names scopes-clear.2
 
   pub export_idents : list_all is_ident (map export_ident exports) ≡ true
-  export_idents = exports-all exports (all-idents root behind-imports.1.0 _ behind-exports.0)
+  export_idents = exports-all exports (all-idents root values-of-imports.1.0 _ values-of-exports.0)
 
   pub macro_names : list_all is_ident (where_exported exports (macro_idents world)) ≡ true
   macro_names =
-      let a = in-parts root behind-exports.1.0 (flat_map return_names exports) _ behind-exports.1.1 in
-      let b = in-parts root a.1.0 (all_declared Value (area_idents exports)) _ a.1.1 in
+      let a = in-parts root values-of-exports.1.0 (flat_map return_names exports) _ values-of-exports.1.1 in
+      let b = in-parts root a.1.0 (all_declared Value (area_idents exports)) macros a.1.1 in
       sym (macros-all (where_exported exports (macro_idents world))) ∙ all-idents root b.1.0 _ b.1.1
 
   pub import_params : list_all (λ f. list_all is_ident (param_idents f)) imports ≡ true
-  import_params = params-all imports scopes-clear.2
+  import_params = params-all imports scopes-clear.3
 
   pub export_params : list_all (λ f. list_all is_ident (param_idents f)) exports ≡ true
-  export_params = params-all exports scopes-clear.3
+  export_params = params-all exports scopes-clear.4
 
   pub distinct_params : (nth : ℕ) (f : Function) → slice_get imports nth ≡ Some f → is_distinct (param_idents f) ≡ true
-  distinct_params nth f e = params-distinct imports nth f scopes-clear.2 e
+  distinct_params nth f e = params-distinct imports nth f scopes-clear.3 e
 
   pub distinct_methods : is_distinct (map (λ f. rust_ident f.name) exports) ≡ true
-  distinct_methods = ap is_distinct (sym (values (λ f. rust_ident f.name) exports)) ∙ distinct_in (trait_scope exports) Values [] (trait_scope exports).names scopes-clear.1
+  distinct_methods = ap is_distinct (sym (values (λ f. rust_ident f.name) exports)) ∙ distinct_in (trait_scope exports) Values [] (trait_scope exports).names scopes-clear.2
 
   pub distinct_exports : is_distinct (map export_ident exports) ≡ true
-  distinct_exports = ap is_distinct (sym (values-among-types exports)) ∙ distinct_in root Values behind-imports.1.0 _ behind-exports.0
+  distinct_exports = ap is_distinct (sym (values-among-types exports)) ∙ distinct_in root Values values-of-imports.1.0 _ values-of-exports.0

@@ -139,14 +139,14 @@ args-distinct types few = distinct-from 0 types (omega arith)
 abbrev wrapper_ident : List ℕ → List ℕ
 wrapper_ident base = export_prefix ++ base ++ cabi_suffix
 
-module _ (world : World) (h : declares_well world ≡ true) where
+module _ (opts : Opts) (r : Resolve) (world : World) (h : declares_well opts r world ≡ true) where
   distinct-methods : is_distinct (map (λ f. rust_ident f.name) (exported_functions world)) ≡ true
-  distinct-methods = distinct_methods world h
+  distinct-methods = distinct_methods opts r world h
 
   distinct-bases : is_distinct (map (λ f. f.name.snake) (exported_functions world)) ≡ true
   distinct-bases =
       distinct-image wrapper_ident (map (λ f. f.name.snake) (exported_functions world))
-      (ap is_distinct (map-map wrapper_ident (λ f. f.name.snake) (exported_functions world)) ∙ distinct_exports world h)
+      (ap is_distinct (map-map wrapper_ident (λ f. f.name.snake) (exported_functions world)) ∙ distinct_exports opts r world h)
 
 -- an exported function that is built has at most sixteen words
 few-words : (opts : Opts) (resolve : Resolve) (id nth : ℕ) (world : World) (f : Function) → is_built opts resolve ≡ true → slice_get resolve.worlds id ≡ Some world → slice_get (exported_functions world) nth ≡ Some f
@@ -267,15 +267,15 @@ owns_nothing heap (Some ty) (Some (scalar v)) words blocks n good gives = gives.
 owns_nothing heap (Some ty) (Some (text bytes)) words blocks n good gives =
     let wrong : needs_area (Some wit.String) ≡ false = subst (λ t. needs_area (Some t) ≡ false) good.0 n in absurd (cc)
 
-module _ (opts : Opts) (resolve : Resolve) (id : ℕ) (world : World) (found : slice_get resolve.worlds id ≡ Some world) (built : is_built opts resolve ≡ true) (well : is_well_named resolve world ≡ true)
+module _ (opts : Opts) (resolve : Resolve) (id : ℕ) (world : World) (found : slice_get resolve.worlds id ≡ Some world) (built : is_built opts resolve ≡ true) (well : is_well_named opts resolve world ≡ true)
     (key : WorldId) (tree : Tree) (b : Binds IsWritten ArePartsWritten opts resolve key world tree) where
-  named : declares_well world ≡ true
+  named : declares_well opts resolve world ≡ true
   unfolding is_well_named
-  named = (and_parts _ (declares_well world) well).1
+  named = (and_parts _ (declares_well opts resolve world) well).1
 
   distinct : has_distinct_names world ≡ true
   unfolding is_well_named
-  distinct = all_at has_distinct_names resolve.worlds id world (and_parts _ (list_all has_distinct_names resolve.worlds) (and_parts (are_written_tables resolve && list_all has_distinct_names resolve.worlds) (declares_well world) well).0).1 found
+  distinct = all_at has_distinct_names resolve.worlds id world (and_parts _ (list_all has_distinct_names resolve.worlds) (and_parts (are_written_tables resolve && list_all has_distinct_names resolve.worlds) (declares_well opts resolve world) well).0).1 found
 
   abbrev ws : List FnItem
   ws = b.items.wrappers
@@ -283,7 +283,7 @@ module _ (opts : Opts) (resolve : Resolve) (id : ℕ) (world : World) (found : s
   forms : list_all (λ f. is_wit_form f.name.wit) (exported_functions world) ≡ true
   unfolding is_well_named are_written_tables
   forms =
-      let written = (and_parts (are_written_tables resolve) (list_all has_distinct_names resolve.worlds) (and_parts (are_written_tables resolve && list_all has_distinct_names resolve.worlds) (declares_well world) well).0).0 in
+      let written = (and_parts (are_written_tables resolve) (list_all has_distinct_names resolve.worlds) (and_parts (are_written_tables resolve && list_all has_distinct_names resolve.worlds) (declares_well opts resolve world) well).0).0 in
       let worlds = (and_parts _ (list_all is_written_world resolve.worlds) written).1 in
       wit-forms world.exports (and_parts _ (list_all is_written_entry world.exports) (all_at is_written_world resolve.worlds id world worlds found)).1
 
@@ -358,7 +358,7 @@ module _ (opts : Opts) (resolve : Resolve) (id : ℕ) (world : World) (found : s
     carries = λ form vs args heap choices a run is given.
         let w : Setting = setting_of tree (info nth f e).0.item.0 a form in
         let i = (wrapper nth f e).0 in
-        let fits : Fits f w = record { distinct = distinct_params world named nth f e; found = asked-import nth f e } in
+        let fits : Fits f w = record { distinct = distinct_params opts resolve world named nth f e; found = asked-import nth f e } in
         let run_of : import_run tree nth args heap choices a form ≡ Some (run_item w i args heap choices) =
         ap (option_map (λ p. run_item (setting_of tree p.0 a form) p.1 args heap choices)) (there nth f e) in
         let same : run_item w i args heap choices ≡ run = cc in
@@ -415,7 +415,7 @@ module _ (opts : Opts) (resolve : Resolve) (id : ℕ) (world : World) (found : s
     method-there =
         ap (λ is. method_named is guest_name (rust_ident f.name)) items_are ∙ skip-method ts (under (first ∷ later)) guest_name (rust_ident f.name)
         ∙ method-found ws es first later (guest_trait fs) (world_macro world) (area_of fs ++ (runtime_module asked ++ last_macro world)) (rust_ident f.name) (trait_fn f)
-        (find-named (λ t. t.name) (map trait_fn fs) nth (trait_fn f) (ap is_distinct (map-map (λ t. t.name) trait_fn fs) ∙ distinct-methods world named) (get-map trait_fn fs nth f e))
+        (find-named (λ t. t.name) (map trait_fn fs) nth (trait_fn f) (ap is_distinct (map-map (λ t. t.name) trait_fn fs) ∙ distinct-methods opts resolve world named) (get-map trait_fn fs nth f e))
 
     asked-export : Found tree.items (asked_by_export f)
     asked-export x h =
@@ -439,7 +439,7 @@ module _ (opts : Opts) (resolve : Resolve) (id : ℕ) (world : World) (found : s
       named =
           ap (λ base. filter (λ x. bytes_eq x.base base) (exports_in tree.items)) (sym written.base)
           ∙ ap (filter (λ x. bytes_eq x.base export.base)) (ap exports_in b.items.are ∙ skip-exports ts others ∙ exports-of_parts ws es behind (no_exports-behind asked world))
-          ∙ alone-named (λ x. x.base) (map (λ x. x.0) es) nth export (ap is_distinct (map-map (λ x. x.base) (λ x. x.0) es ∙ bases-are fs es b.items.exported) ∙ distinct-bases world named) (get-map (λ x. x.0) es nth parts.0 parts.1);
+          ∙ alone-named (λ x. x.base) (map (λ x. x.0) es) nth export (ap is_distinct (map-map (λ x. x.base) (λ x. x.0) es ∙ bases-are fs es b.items.exported) ∙ distinct-bases opts resolve world named) (get-map (λ x. x.0) es nth parts.0 parts.1);
     }
 
     area-there : needs_area f.result ≡ true → area_in tree.items ≡ Some static_area
@@ -451,7 +451,7 @@ module _ (opts : Opts) (resolve : Resolve) (id : ℕ) (world : World) (found : s
     post-return-there : post_return_named export.base tree.items ≡ parts.0.1
     post-return-there =
         ap (λ base. post_return_named base tree.items) written.base ∙ ap (post_return_named f.name.snake) b.items.are ∙ skip-post_return ts others f.name.snake
-        ∙ post_return_named-at ws es fs behind nth f parts.0 b.items.exported (distinct-bases world named) e parts.1 no_returns
+        ∙ post_return_named-at ws es fs behind nth f parts.0 b.items.exported (distinct-bases opts resolve world named) e parts.1 no_returns
 
     return-at : post_return_at tree place ≡ option_map (λ p. (export-info.0.item.0, p)) parts.0.1
     return-at =
@@ -495,7 +495,7 @@ module _ (opts : Opts) (resolve : Resolve) (id : ℕ) (world : World) (found : s
           params = sym is_written.params;
           pinned = ap (map (λ p. p.ty)) is_written.params;
           answer = refl;
-          named = ap (filter (λ x. bytes_eq x.base f.name.snake)) (ap post_returns_in b.items.are ∙ skip-post_returns ts others) ∙ post_return-alone ws es fs behind nth f parts.0 p b.items.exported (distinct-bases world named) e parts.1 no_returns is;
+          named = ap (filter (λ x. bytes_eq x.base f.name.snake)) (ap post_returns_in b.items.are ∙ skip-post_returns ts others) ∙ post_return-alone ws es fs behind nth f parts.0 p b.items.exported (distinct-bases opts resolve world named) e parts.1 no_returns is;
           frees = frees p is_written is needs;
         }
         go false needs none = record {

@@ -18,6 +18,7 @@ use Rattle.wrapper_run.specs.Areas.{needs_area}
 use Rattle.rust_gen.specs.declared.opts.Opts.{Opts}
 use Rattle.rust_gen.specs.Body.{IsWritten}
 use Rattle.rust_gen.specs.Bound.{AreItems, export_items}
+use Rattle.rust_gen.specs.declared.opts.Opts.{Opts}
 use Rattle.rust_gen.specs.Cause.{is_accepted, is_well_named}
 use Rattle.rust_gen.specs.DeclaredNames.{cabi_suffix, declares_well, export_ident, export_prefix, has_distinct_names, is_empty, macro_idents, param_idents, where_exported}
 use Rattle.rust_gen.specs.DefinedNames.{AreDefinable}
@@ -144,25 +145,25 @@ record Known (world : World) : Type 0 where
   export_params : Params (exported_functions world)
   macros : is_empty (exported_functions world) ≡ false → is_ident_part world.name.snake ≡ true
 
-known : (world : World) → declares_well world ≡ true → Known world
+known : (opts : Opts) (r : Resolve) (world : World) → declares_well opts r world ≡ true → Known world
 unfolding macro_idents
-known world h = record {
-  imports = import_idents world h;
-  exports = method_idents world h;
-  exported = bases (exported_functions world) (export_idents world h);
-  import_params = import_params world h;
-  export_params = names.export_params world h;
-  macros = snake (exported_functions world) (macro_names world h);
+known opts r world h = record {
+  imports = import_idents opts r world h;
+  exports = method_idents opts r world h;
+  exported = bases (exported_functions world) (export_idents opts r world h);
+  import_params = import_params opts r world h;
+  export_params = names.export_params opts r world h;
+  macros = snake (exported_functions world) (macro_names opts r world h);
 }
   where
     snake : (exports : List Function) → list_all is_ident (where_exported exports (macro_idents world)) ≡ true → is_empty exports ≡ false → is_ident_part world.name.snake ≡ true
     snake [] h full = cc
     snake (f ∷ exports) h full = part_of (codes "__export_world_") world.name.snake (codes "_cabi") (and_parts (is_ident (codes "__export_world_" ++ world.name.snake ++ codes "_cabi")) _ h).0
 
-items-named : (opts : Opts) (r : Resolve) (id : WorldId) (world : World) (items : List Item) → AreDefinable opts r id world → is_written_world world ≡ true → declares_well world ≡ true
+items-named : (opts : Opts) (r : Resolve) (id : WorldId) (world : World) (items : List Item) → AreDefinable opts r id world → is_written_world world ≡ true → declares_well opts r world ≡ true
     → AreItems IsWritten ArePartsWritten opts r id world items → list_all is_named_item items ≡ true
 items-named opts r id world items types written declared a =
-    let k = known world declared in
+    let k = known opts r world declared in
     let es : List Function = exported_functions world in
     let fs : List Function = imported_functions world in
     let w = and_parts (is_wit_form world.name.wit && list_all is_written_entry world.imports) (list_all is_written_entry world.exports) written in
@@ -192,7 +193,7 @@ options-named opts = go opts.generate_unused_types
     go true = line-named
     go false = refl
 
-pub tree-named : (opts : Opts) (r : Resolve) (id : WorldId) (world : World) (options : List Bytes) (items : List Item) → AreDefinable opts r id world → is_written_world world ≡ true → declares_well world ≡ true
+pub tree-named : (opts : Opts) (r : Resolve) (id : WorldId) (world : World) (options : List Bytes) (items : List Item) → AreDefinable opts r id world → is_written_world world ≡ true → declares_well opts r world ≡ true
     → options ≡ option_lines opts → AreItems IsWritten ArePartsWritten opts r id world items → are_well_named options items ≡ true
 tree-named opts r id world options items types written declared lines a =
     ap (λ o. are_well_named o items) lines
@@ -206,13 +207,13 @@ written-at (w ∷ worlds) zero world h e = let is : w ≡ world = cc in ap is_wr
 written-at (w ∷ worlds) (suc nth) world h e = written-at worlds nth world (and_parts (is_written_world w) (list_all is_written_world worlds) h).1 e
 
 -- what is accepted is well named
-pub well-named : (r : Resolve) (world : World) → is_accepted r world ≡ true → is_well_named r world ≡ true
+pub well-named : (opts : Opts) (r : Resolve) (world : World) → is_accepted opts r world ≡ true → is_well_named opts r world ≡ true
 unfolding is_accepted
-well-named r world h = (and_parts _ (is_well_named r world) h).1
+well-named opts r world h = (and_parts _ (is_well_named opts r world) h).1
 
-pub accepted-names : (r : Resolve) (nth : ℕ) (world : World) → slice_get r.worlds nth ≡ Some world → is_accepted r world ≡ true → (is_written_world world ≡ true) × (declares_well world ≡ true)
+pub accepted-names : (opts : Opts) (r : Resolve) (nth : ℕ) (world : World) → slice_get r.worlds nth ≡ Some world → is_accepted opts r world ≡ true → (is_written_world world ≡ true) × (declares_well opts r world ≡ true)
 unfolding is_well_named are_written_tables
-accepted-names r nth world e h =
-    let a = and_parts (are_written_tables r && list_all has_distinct_names r.worlds) (declares_well world) (well-named r world h) in
+accepted-names opts r nth world e h =
+    let a = and_parts (are_written_tables r && list_all has_distinct_names r.worlds) (declares_well opts r world) (well-named opts r world h) in
     let tables = (and_parts (are_written_tables r) (list_all has_distinct_names r.worlds) a.0).0 in
     (written-at r.worlds nth world (and_parts _ (list_all is_written_world r.worlds) tables).1 e, a.1)

@@ -40,21 +40,21 @@ unfoldable pub is_built : Opts → Resolve → Bool
 is_built opts r = are_built_tables r && are_built_options opts
 
 -- the finished generator would refuse nothing for its names
-unfoldable pub is_well_named : Resolve → World → Bool
-is_well_named r world = are_written_tables r && list_all has_distinct_names r.worlds && declares_well world
+unfoldable pub is_well_named : Opts → Resolve → World → Bool
+is_well_named opts r world = are_written_tables r && list_all has_distinct_names r.worlds && declares_well opts r world
 
 -- nor for its types: none is too large, none lacks its name, and worlds list what they may and all that it reaches
-unfoldable pub is_accepted : Resolve → World → Bool
-is_accepted r world = are_small r.types && are_type_names r.types && are_listed_well r && is_well_named r world
+unfoldable pub is_accepted : Opts → Resolve → World → Bool
+is_accepted opts r world = are_small r.types && are_type_names r.types && are_listed_well r && is_well_named opts r world
 
 -- the cause that lies in what is built: a rule that the tables break, or a cause that has no answer of its own yet
-abbrev pub built_cause : Resolve → World → Option GenError
-built_cause r world = option_or (option_map invalid (first_fault r)) (if is_accepted r world then None else Some (unbuilt world))
+abbrev pub built_cause : Opts → Resolve → World → Option GenError
+built_cause opts r world = option_or (option_map invalid (first_fault r)) (if is_accepted opts r world then None else Some (unbuilt world))
 
 -- the cause that lies in the world, which is that of the id, if the id names one
 abbrev pub world_cause : Opts → Resolve → WorldId → Option World → Option GenError
 world_cause opts r id None = Some (InvalidWorld IndexRange table.World id.0)
-world_cause opts r id (Some world) = if is_built opts r then built_cause r world else Some (unbuilt world)
+world_cause opts r id (Some world) = if is_built opts r then built_cause opts r world else Some (unbuilt world)
 
 -- an id out of range comes first, that of the world last among them, and then what is not built
 unfoldable pub cause : Opts → Resolve → WorldId → Option GenError

@@ -4,7 +4,7 @@ use Rattle.std.specs.List.{list_any}
 use Rattle.std.specs.Option.{option_or}
 use Rattle.std.specs.Str.{bytes_eq}
 use Rattle.wit_model.specs.Bytes.{Bytes}
-use Rattle.rust_tree.specs.Ident.{is_ident}
+use Rattle.rust_tree.specs.Ident.{is_ident, is_type_name}
 use Rattle.rust_gen.specs.declared.declared.Declared.{Declared}
 use Rattle.rust_gen.specs.declared.declared.NameScope.{NameScope}
 use Rattle.rust_gen.specs.declared.declared.Sort.{Sort}
@@ -18,6 +18,7 @@ use Rattle.rust_gen.specs.declared.declared.Space.TheVariants.{Types, Values, Ma
 -- names of one space are compared with each other
 abbrev pub space : Sort → Space
 space sort.Type_ = Types
+space sort.WorldType = Types
 space sort.Value = Values
 space sort.Macro = Macros
 
@@ -26,6 +27,14 @@ is_same_space Types Types = true
 is_same_space Values Values = true
 is_same_space Macros Macros = true
 is_same_space _ _ = false
+
+-- an identifier, and of a type of the world none that names a primitive type
+abbrev pub is_name_of : Sort → Bytes → Bool
+is_name_of sort.WorldType name = is_type_name name
+is_name_of _ name = is_ident name
+
+abbrev pub is_name : Declared → Bool
+is_name d = is_name_of d.sort d.name
 
 -- the same name, in one space with it
 abbrev pub is_same : Declared → Declared → Bool
@@ -42,7 +51,7 @@ abbrev pub clash_behind : NameScope → List Declared → List Declared → Opti
 clash_behind scope earlier [] = None
 clash_behind scope earlier (d ∷ names) =
     if list_any (is_same d) earlier then Some (Twice (entry_in scope d))
-    else if is_ident d.name then clash_behind scope (earlier ++ d ∷ []) names else Some (NotIdent (entry_in scope d))
+    else if is_name d then clash_behind scope (earlier ++ d ∷ []) names else Some (NotIdent (entry_in scope d))
 
 abbrev pub clash_in : NameScope → Option Clash
 clash_in scope = clash_behind scope [] scope.names

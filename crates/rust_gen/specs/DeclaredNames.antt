@@ -2,20 +2,22 @@
 use Rattle.std.specs.Prelude.{Bool, true, false, ◌&&◌, ◌||◌, List, [], ◌∷◌, ◌++◌, codes, if◌then◌else◌, is_none, map}
 use Rattle.std.specs.List.{flat_map, list_any}
 use Rattle.wit_model.specs.declared.function.Function.{Function}
+use Rattle.wit_model.specs.declared.resolve.Resolve.{Resolve}
+use Rattle.wit_model.specs.declared.types.TypeDef.{TypeDef}
 use Rattle.wit_model.specs.declared.world.World.{World}
 use Rattle.wit_model.specs.Bytes.{Bytes}
 use Rattle.wit_model.specs.Distinct.{is_distinct}
-use Rattle.rust_tree.specs.declared.runtime_item.RuntimeItem.{RuntimeItem}
 use Rattle.rust_tree.specs.Ident.{rust_ident}
 use Rattle.wrapper_run.specs.Areas.{needs_area}
 use Rattle.rust_gen.specs.declared.declared.Declared.{Declared}
 use Rattle.rust_gen.specs.declared.declared.NameScope.{NameScope}
 use Rattle.rust_gen.specs.declared.declared.Sort.{Sort}
-use Rattle.rust_gen.specs.declared.declared.Sort.TheVariants.{Type_, Value, Macro}
+use Rattle.rust_gen.specs.declared.declared.Sort.TheVariants.{Type_, WorldType, Value, Macro}
+use Rattle.rust_gen.specs.declared.opts.Opts.{Opts}
 use Rattle.rust_gen.specs.Clash.{first_clash}
 use Rattle.rust_gen.specs.Emitted.{exported_functions, imported_functions}
 use Rattle.rust_gen.specs.Exported.{guest_name}
-use Rattle.rust_gen.specs.Runtime.{items_for}
+use Rattle.rust_gen.specs.PrintedTypes.{field_names, printed_types, type_name}
 
 abbrev pub declared : Sort → Bytes → Declared
 declared sort name = record { sort = sort; name = name }
@@ -33,13 +35,9 @@ where_exported exports names = if is_empty exports then [] else names
 
 -- the types of the root
 
+-- the module of runtime items, whose name is kept also where there is none
 unfoldable pub runtime_ident : Bytes
 runtime_ident = codes "_rt"
-
--- the module of runtime items, where one is asked for
-abbrev pub runtime_idents : List RuntimeItem → List Bytes
-runtime_idents [] = []
-runtime_idents (_ ∷ _) = runtime_ident ∷ []
 
 -- the type parameter of an export's wrapper
 unfoldable pub implementation_ident : Bytes
@@ -89,15 +87,20 @@ unfoldable pub macro_idents : World → List Bytes
 macro_idents world =
     (codes "__export_world_" ++ world.name.snake ++ codes "_cabi") ∷ (codes "__export_" ++ world.name.snake ++ codes "_impl") ∷ codes "export" ∷ []
 
--- the names of the root itself: its types, its functions and its static, and its macros
-abbrev pub module_scope : World → List Function → List Function → NameScope
-module_scope world imports exports = record {
+-- the names of the root itself: its types, those of the world among them, its functions and its static, and its macros
+abbrev pub module_scope : World → List TypeDef → List Function → List Function → NameScope
+module_scope world printed imports exports = record {
   name = [];
   names =
-      all_declared Type_ (runtime_idents (items_for [] imports exports)) ++ (all_declared Type_ (trait_idents exports) ++ (all_declared Type_ (area_type_idents imports exports)
-      ++ (map (λ f. declared Value (rust_ident f.name)) imports ++ (flat_map (λ f. among_types (export_ident f)) exports
-      ++ (flat_map return_names exports ++ (all_declared Value (area_idents exports) ++ all_declared Macro (where_exported exports (macro_idents world))))))));
+      all_declared Type_ (runtime_ident ∷ []) ++ (all_declared WorldType (map type_name printed) ++ (all_declared Type_ (trait_idents exports)
+      ++ (all_declared Type_ (area_type_idents imports exports) ++ (map (λ f. declared Value (rust_ident f.name)) imports
+      ++ (flat_map (λ f. among_types (export_ident f)) exports ++ (flat_map return_names exports
+      ++ (all_declared Value (area_idents exports) ++ all_declared Macro (where_exported exports (macro_idents world)))))))));
 }
+
+-- the fields of a record
+abbrev pub field_scope : TypeDef → NameScope
+field_scope t = record { name = type_name t; names = all_declared Value (field_names t.kind) }
 
 -- the functions of the trait
 abbrev pub trait_scope : List Function → NameScope
@@ -111,15 +114,18 @@ abbrev pub param_scope : Function → NameScope
 param_scope f = record { name = rust_ident f.name; names = map (λ p. declared Value (rust_ident p.name)) f.params }
 
 -- the names that the file of a world declares, scope by scope, in the order of the text
-abbrev pub declared_names : World → List NameScope
-declared_names world =
-    module_scope world (imported_functions world) (exported_functions world)
-    ∷ trait_scope (exported_functions world)
-    ∷ map param_scope (imported_functions world) ++ map param_scope (exported_functions world)
+abbrev pub scopes_of : World → List TypeDef → List NameScope
+scopes_of world printed =
+    module_scope world printed (imported_functions world) (exported_functions world)
+    ∷ map field_scope printed ++ (trait_scope (exported_functions world)
+    ∷ map param_scope (imported_functions world) ++ map param_scope (exported_functions world))
+
+abbrev pub declared_names : Opts → Resolve → World → List NameScope
+declared_names opts r world = scopes_of world (printed_types opts r world)
 
 -- they are identifiers, and none clashes with an earlier one
-unfoldable pub declares_well : World → Bool
-declares_well world = is_none (first_clash (declared_names world))
+unfoldable pub declares_well : Opts → Resolve → World → Bool
+declares_well opts r world = is_none (first_clash (declared_names opts r world))
 
 -- no two functions of one side have the same WIT name
 abbrev pub are_distinct_functions : List Function → Bool

@@ -25,6 +25,7 @@ pub mod OptionLines
 pub mod OwnershipText
 pub mod PartType
 pub mod Printed
+pub mod PrintedTypes
 pub mod Runtime
 pub mod Scope
 pub mod Served

@@ -52,8 +52,13 @@ fn is_built(opts: &Opts, resolve: &Resolve) -> bool
 }
 
 #[tactic(auto, unfolding(crate::specs::Cause::is_well_named))]
-fn is_well_named(alloc: Global, resolve: &Resolve, world: &World) -> Result<bool, OutOfMemory>
-    ensures { IfOk result (λ b. b ≡ is_well_named resolve.now world.now) }
+fn is_well_named(
+    alloc: Global,
+    opts: &Opts,
+    resolve: &Resolve,
+    world: &World,
+) -> Result<bool, OutOfMemory>
+    ensures { IfOk result (λ b. b ≡ is_well_named opts.now resolve.now world.now) }
 {
     if !are_written_tables(resolve) {
         return Ok(false);
@@ -61,22 +66,32 @@ fn is_well_named(alloc: Global, resolve: &Resolve, world: &World) -> Result<bool
     if !have_distinct_names(alloc, resolve.worlds.as_slice())? {
         return Ok(false);
     }
-    declares_well(alloc, world)
+    declares_well(alloc, opts, resolve, world)
 }
 
 #[tactic(auto, unfolding(crate::specs::DeclaredNames::declares_well))]
-fn declares_well(alloc: Global, world: &World) -> Result<bool, OutOfMemory>
-    ensures { IfOk result (λ b. b ≡ declares_well world.now) }
+fn declares_well(
+    alloc: Global,
+    opts: &Opts,
+    resolve: &Resolve,
+    world: &World,
+) -> Result<bool, OutOfMemory>
+    ensures { IfOk result (λ b. b ≡ declares_well opts.now resolve.now world.now) }
 {
-    let names = declared_names(alloc, world)?;
+    let names = declared_names(alloc, opts, resolve, world)?;
     let clash = first_clash(alloc, names.as_slice())?;
     Ok(clash.is_none())
 }
 
 #[tactic(auto, unfolding(crate::specs::Cause::is_accepted))]
-fn is_accepted(alloc: Global, resolve: &Resolve, world: &World) -> Result<bool, OutOfMemory>
+fn is_accepted(
+    alloc: Global,
+    opts: &Opts,
+    resolve: &Resolve,
+    world: &World,
+) -> Result<bool, OutOfMemory>
     requires { IsWellFormed resolve.now }
-    ensures { IfOk result (λ b. b ≡ is_accepted resolve.now world.now) }
+    ensures { IfOk result (λ b. b ≡ is_accepted opts.now resolve.now world.now) }
 {
     if !are_small(alloc, resolve)? {
         return Ok(false);
@@ -87,7 +102,7 @@ fn is_accepted(alloc: Global, resolve: &Resolve, world: &World) -> Result<bool, 
     if !are_listed_well(alloc, resolve)? {
         return Ok(false);
     }
-    is_well_named(alloc, resolve, world)
+    is_well_named(alloc, opts, resolve, world)
 }
 
 fn unbuilt(alloc: Global, world: &World) -> GenError
@@ -104,20 +119,21 @@ fn unbuilt(alloc: Global, world: &World) -> GenError
 
 fn without_fault(
     alloc: Global,
+    opts: &Opts,
     resolve: &Resolve,
     world: &World,
     fault: Option<Fault>,
 ) -> Result<(), GenError>
     requires fault { fault ≡ first_fault resolve.now }
     requires well { fault ≡ None → IsWellFormed resolve.now }
-    ensures answer { IsAnswer result (built_cause resolve.now world.now) }
-    ensures accepted { IfOk result (λ _. is_accepted resolve.now world.now ≡ true) }
+    ensures answer { IsAnswer result (built_cause opts.now resolve.now world.now) }
+    ensures accepted { IfOk result (λ _. is_accepted opts.now resolve.now world.now ≡ true) }
     ensures checked { IfOk result (λ _. IsWellFormed resolve.now) }
 {
     if let Some(fault) = fault {
         return Err(invalid(fault));
     }
-    match is_accepted(alloc, resolve, world) {
+    match is_accepted(alloc, opts, resolve, world) {
         Ok(true) => Ok(()),
         Ok(false) => Err(unbuilt(alloc, world)),
         Err(OutOfMemory) => Err(GenError::OutOfMemory),
@@ -136,7 +152,7 @@ fn accepted<'a>(
     ensures answer { IsAnswer result (world_cause opts.now resolve.now id (slice_get resolve.now.worlds id.0)) }
     ensures world { IfOk result (λ world. slice_get resolve.now.worlds id.0 ≡ Some world.now) }
     ensures built { IfOk result (λ _. is_built opts.now resolve.now ≡ true) }
-    ensures accepted { IfOk result (λ world. is_accepted resolve.now world.now ≡ true) }
+    ensures accepted { IfOk result (λ world. is_accepted opts.now resolve.now world.now ≡ true) }
     ensures checked { IfOk result (λ _. IsWellFormed resolve.now) }
 {
     let Some(world) = resolve.world(id) else {
@@ -145,7 +161,7 @@ fn accepted<'a>(
     if !is_built(opts, resolve) {
         return Err(unbuilt(alloc, world));
     }
-    match without_fault(alloc, resolve, world, fault) {
+    match without_fault(alloc, opts, resolve, world, fault) {
         Ok(()) => Ok(world),
         Err(e) => Err(e),
     }
@@ -162,7 +178,7 @@ pub(crate) fn accepted_world<'a>(
     ensures answer { IsAnswer result (cause opts.now resolve.now id) }
     ensures world { IfOk result (λ world. slice_get resolve.now.worlds id.0 ≡ Some world.now) }
     ensures built { IfOk result (λ _. is_built opts.now resolve.now ≡ true) }
-    ensures accepted { IfOk result (λ world. is_accepted resolve.now world.now ≡ true) }
+    ensures accepted { IfOk result (λ world. is_accepted opts.now resolve.now world.now ≡ true) }
     ensures checked { IfOk result (λ _. IsWellFormed resolve.now) }
 {
     let fault = match fault_of(alloc, resolve) {

@@ -1,11 +1,11 @@
 //! Which declared name is the first that clashes.
 
 ghost use Rattle.std.specs.Prelude.{◌≡◌, IfOk};
-ghost use Rattle.rust_gen.specs.Clash.{clash_in, entry_in, first_clash};
+ghost use Rattle.rust_gen.specs.Clash.{clash_in, entry_in, first_clash, is_name};
 
-use crate::declared::{Declared, NameScope};
+use crate::declared::{Declared, NameScope, Sort};
 use crate::error::{Clash, Entry};
-use rust_tree::is_ident;
+use rust_tree::{is_ident, is_type_name};
 use std::alloc::Global;
 use std::collections::HashSet;
 use wit_model::{OutOfMemory, Text};
@@ -21,6 +21,15 @@ fn entry_in(alloc: Global, scope: &NameScope, d: &Declared) -> Result<Entry, Out
     })
 }
 
+fn is_name(d: &Declared) -> bool
+    ensures { result ≡ is_name d.now }
+{
+    match d.sort {
+        Sort::WorldType => is_type_name(d.name.as_str()),
+        _ => is_ident(d.name.as_str()),
+    }
+}
+
 /// The first name of a scope that clashes.
 fn clash_in(alloc: Global, scope: &NameScope) -> Result<Option<Clash>, OutOfMemory>
     ensures { IfOk result (λ clash. clash ≡ clash_in scope.now) }
@@ -30,7 +39,7 @@ fn clash_in(alloc: Global, scope: &NameScope) -> Result<Option<Clash>, OutOfMemo
         if !seen.insert((d.sort.space(), d.name.as_str()))? {
             return Ok(Some(Clash::Twice(entry_in(alloc, scope, d)?)));
         }
-        if !is_ident(d.name.as_str()) {
+        if !is_name(d) {
             return Ok(Some(Clash::NotIdent(entry_in(alloc, scope, d)?)));
         }
     }

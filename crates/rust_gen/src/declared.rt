@@ -11,6 +11,8 @@ pub(crate) enum Sort {
     /// A module, a type, a trait or a type parameter; and the wrapper of an exported function, or its post-return
     /// function, besides.
     Type_,
+    /// A type of the world.
+    WorldType,
     /// A function or a static; and in a scope of its own a field, a function of a trait or a parameter.
     Value,
     Macro,
@@ -30,7 +32,7 @@ impl Sort {
         ensures { result ≡ space self }
     {
         match self {
-            Sort::Type_ => Space::Types,
+            Sort::Type_ | Sort::WorldType => Space::Types,
             Sort::Value => Space::Values,
             Sort::Macro => Space::Macros,
         }

@@ -70,7 +70,7 @@ fn write_file(
 ) -> Result<Bindings, OutOfMemory>
     requires types { AreDefinable opts.now resolve.now id world.now }
     requires written { is_written_world world.now ≡ true }
-    requires declared { declares_well world.now ≡ true }
+    requires declared { declares_well opts.now resolve.now world.now ≡ true }
     ensures bound { IfOk result (Binds IsWritten ArePartsWritten opts.now resolve.now id world.now) }
     ensures named { IfOk result (λ tree. are_well_named tree.options tree.items ≡ true) }
     ensures gains { IfOk result (λ tree. Gains files.old files.new (file_name world.now) (text tree)) }

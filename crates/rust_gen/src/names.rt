@@ -1,21 +1,22 @@
 //! Which names the file of a world declares, in the order of the format, and whether functions of one side have distinct names.
 
-ghost use Rattle.std.specs.Prelude.{◌≡◌, [], ◌++◌, IfOk, OnOk, map};
+ghost use Rattle.std.specs.Prelude.{◌≡◌, ◌∷◌, [], ◌++◌, IfOk, OnOk, map};
 ghost use Rattle.std.specs.List.{flat_map, list_all};
 ghost use Rattle.rust_tree.specs.Ident.{rust_ident};
-ghost use Rattle.rust_gen.specs.declared.declared.Sort.TheVariants.{Macro, Type_, Value};
-ghost use Rattle.rust_gen.specs.DeclaredNames.{all_declared, among_types, are_distinct_functions, area_idents, area_type_idents, declared, declared_names, export_ident, has_distinct_names, macro_idents, module_scope, param_scope, return_names, return_prefix, runtime_idents, trait_idents, trait_scope, where_exported};
+ghost use Rattle.rust_gen.specs.declared.declared.Sort.TheVariants.{Macro, Type_, Value, WorldType};
+ghost use Rattle.rust_gen.specs.DeclaredNames.{all_declared, among_types, are_distinct_functions, area_idents, area_type_idents, declared, declared_names, field_scope, export_ident, has_distinct_names, macro_idents, module_scope, param_scope, return_names, return_prefix, runtime_ident, scopes_of, trait_idents, trait_scope, where_exported};
 ghost use Rattle.rust_gen.specs.Emitted as emitted;
-ghost use Rattle.rust_gen.specs.Runtime.{items_for};
+ghost use Rattle.rust_gen.specs.PrintedTypes.{entry_at, field_names, printed_types, type_name};
 
 use crate::area::{any_needs_area, needs_area};
 use crate::declared::{Declared, NameScope, Sort};
-use crate::emitted::functions_in;
-use crate::runtime::runtime_items;
-use rust_tree::to_rust_ident;
+use crate::emitted::{functions_in, types_in};
+use crate::opts::Opts;
+use rust_tree::{to_rust_ident, to_upper_camel_case};
 use std::alloc::Global;
 use wit_model::{
-    Function, List, OutOfMemory, Param, Text, World, WorldItem, WorldKey, are_distinct,
+    Field, Function, List, OutOfMemory, Param, Resolve, Text, TypeDef, TypeDefKind, TypeId, World,
+    WorldItem, WorldKey, are_distinct,
 };
 
 fn wit_names<'a>(alloc: Global, functions: &[&'a Function]) -> Result<Vec<&'a str>, OutOfMemory>
@@ -194,21 +195,10 @@ fn declare_returns(
 }
 
 #[tactic(auto, unfolding(crate::specs::DeclaredNames::runtime_ident))]
-fn declare_runtime(
-    alloc: Global,
-    names: &mut List<Declared>,
-    imports: &[&Function],
-    exports: &[&Function],
-) -> Result<(), OutOfMemory>
-    ensures { OnOk result
-        (names.new ≡ names.old ++ all_declared Type_ (runtime_idents (items_for [] (map (λ f. f.now) imports.now) (map (λ f. f.now) exports.now)))) }
+fn declare_runtime(alloc: Global, names: &mut List<Declared>) -> Result<(), OutOfMemory>
+    ensures { OnOk result (names.new ≡ names.old ++ all_declared Type_ (runtime_ident ∷ [])) }
 {
-    let items = runtime_items(alloc, &[], imports, exports)?;
-    if items.is_empty() {
-        Ok(())
-    } else {
-        declare_all(alloc, names, Sort::Type_, &["_rt"])
-    }
+    declare_all(alloc, names, Sort::Type_, &["_rt"])
 }
 
 #[tactic(auto, unfolding(crate::specs::Exported::guest_name, crate::specs::DeclaredNames::implementation_ident))]
@@ -305,18 +295,96 @@ fn declare_macros(
     declare_copies(alloc, names, Sort::Macro, macros.as_slice())
 }
 
+fn push_entry<'a>(
+    printed: &mut Vec<&'a TypeDef>,
+    resolve: &'a Resolve,
+    id: TypeId,
+) -> Result<(), OutOfMemory>
+    ensures { OnOk result
+        (map (λ t. t.now) printed.new.items ≡ map (λ t. t.now) printed.old.items ++ entry_at resolve.now.types id) }
+{
+    match resolve.type_def(id) {
+        None => Ok(()),
+        Some(entry) => {
+            printed.push(entry)?;
+            Ok(())
+        }
+    }
+}
+
+fn entries_of<'a>(
+    alloc: Global,
+    resolve: &'a Resolve,
+    listed: &[TypeId],
+) -> Result<Vec<&'a TypeDef>, OutOfMemory>
+    ensures { IfOk result
+        (λ ts. map (λ t. t.now) ts.items ≡ flat_map (entry_at resolve.now.types) listed.now) }
+{
+    let mut printed = Vec::new(alloc);
+    for id in listed {
+        push_entry(&mut printed, resolve, *id)?;
+    }
+    Ok(printed)
+}
+
+/// The types that are defined in the file of a world, in its order.
+#[tactic(auto, unfolding(crate::specs::PrintedTypes::printed_types))]
+fn printed_types<'a>(
+    alloc: Global,
+    opts: &Opts,
+    resolve: &'a Resolve,
+    world: &World,
+) -> Result<Vec<&'a TypeDef>, OutOfMemory>
+    ensures { IfOk result
+        (λ ts. map (λ t. t.now) ts.items ≡ printed_types opts.now resolve.now world.now) }
+{
+    if !opts.generate_unused_types {
+        return Ok(Vec::new(alloc));
+    }
+    let listed = types_in(alloc, world.imports.as_slice())?;
+    entries_of(alloc, resolve, listed.as_slice())
+}
+
+fn type_name(alloc: Global, entry: &TypeDef) -> Result<Text, OutOfMemory>
+    ensures { IfOk result (λ name. name ≡ type_name entry.now) }
+{
+    match &entry.name {
+        None => Ok(Text::new(alloc)),
+        Some(name) => to_upper_camel_case(alloc, name),
+    }
+}
+
+fn declare_types(
+    alloc: Global,
+    names: &mut List<Declared>,
+    printed: &[&TypeDef],
+) -> Result<(), OutOfMemory>
+    ensures { OnOk result
+        (names.new ≡ names.old ++ all_declared WorldType (map type_name (map (λ t. t.now) printed.now))) }
+{
+    for entry in printed {
+        names.push(Declared {
+            sort: Sort::WorldType,
+            name: type_name(alloc, entry)?,
+        })?;
+    }
+    Ok(())
+}
+
 /// The names of the module itself: its types, its functions and its static, its macros.
 fn module_scope(
     alloc: Global,
     world: &World,
+    printed: &[&TypeDef],
     imports: &[&Function],
     exports: &[&Function],
 ) -> Result<NameScope, OutOfMemory>
     ensures { IfOk result
-        (λ scope. scope ≡ module_scope world.now (map (λ f. f.now) imports.now) (map (λ f. f.now) exports.now)) }
+        (λ scope. scope ≡ module_scope world.now (map (λ t. t.now) printed.now) (map (λ f. f.now) imports.now) (map (λ f. f.now) exports.now)) }
 {
     let mut names = List::new(alloc);
-    declare_runtime(alloc, &mut names, imports, exports)?;
+    declare_runtime(alloc, &mut names)?;
+    declare_types(alloc, &mut names, printed)?;
     declare_trait(alloc, &mut names, exports)?;
     declare_area_type(alloc, &mut names, imports, exports)?;
     declare_functions(alloc, &mut names, imports)?;
@@ -328,6 +396,61 @@ fn module_scope(
         name: Text::new(alloc),
         names,
     })
+}
+
+fn declare_fields(
+    alloc: Global,
+    names: &mut List<Declared>,
+    fields: &[Field],
+) -> Result<(), OutOfMemory>
+    ensures { OnOk result
+        (names.new ≡ names.old ++ all_declared Value (map (λ f. rust_ident f.name) fields.now)) }
+{
+    for field in fields {
+        names.push(Declared {
+            sort: Sort::Value,
+            name: to_rust_ident(alloc, &field.name)?,
+        })?;
+    }
+    Ok(())
+}
+
+fn declare_members(
+    alloc: Global,
+    names: &mut List<Declared>,
+    kind: &TypeDefKind,
+) -> Result<(), OutOfMemory>
+    ensures { OnOk result (names.new ≡ names.old ++ all_declared Value (field_names kind.now)) }
+{
+    match kind {
+        TypeDefKind::Record(fields) => declare_fields(alloc, names, fields.as_slice()),
+        _ => Ok(()),
+    }
+}
+
+fn field_scope(alloc: Global, entry: &TypeDef) -> Result<NameScope, OutOfMemory>
+    ensures { IfOk result (λ scope. scope ≡ field_scope entry.now) }
+{
+    let mut names = List::new(alloc);
+    declare_members(alloc, &mut names, &entry.kind)?;
+    Ok(NameScope {
+        name: type_name(alloc, entry)?,
+        names,
+    })
+}
+
+fn push_field_scopes(
+    alloc: Global,
+    scopes: &mut List<NameScope>,
+    printed: &[&TypeDef],
+) -> Result<(), OutOfMemory>
+    ensures { OnOk result
+        (scopes.new ≡ scopes.old ++ map field_scope (map (λ t. t.now) printed.now)) }
+{
+    for entry in printed {
+        scopes.push(field_scope(alloc, entry)?)?;
+    }
+    Ok(())
 }
 
 #[tactic(auto, unfolding(crate::specs::Exported::guest_name))]
@@ -372,17 +495,41 @@ fn push_param_scopes(
     Ok(())
 }
 
-/// The names that the file of a world declares, scope by scope: the root's, the trait's, and the parameters of each
-/// function.
-pub(crate) fn declared_names(alloc: Global, world: &World) -> Result<List<NameScope>, OutOfMemory>
-    ensures { IfOk result (λ scopes. scopes ≡ declared_names world.now) }
+fn scopes_of(
+    alloc: Global,
+    world: &World,
+    printed: &[&TypeDef],
+) -> Result<List<NameScope>, OutOfMemory>
+    ensures { IfOk result
+        (λ scopes. scopes ≡ scopes_of world.now (map (λ t. t.now) printed.now)) }
 {
     let imports = functions_in(alloc, world.imports.as_slice())?;
     let exports = functions_in(alloc, world.exports.as_slice())?;
     let mut scopes = List::new(alloc);
-    scopes.push(module_scope(alloc, world, imports.as_slice(), exports.as_slice())?)?;
+    scopes.push(module_scope(
+        alloc,
+        world,
+        printed,
+        imports.as_slice(),
+        exports.as_slice(),
+    )?)?;
+    push_field_scopes(alloc, &mut scopes, printed)?;
     scopes.push(trait_scope(alloc, exports.as_slice())?)?;
     push_param_scopes(alloc, &mut scopes, imports.as_slice())?;
     push_param_scopes(alloc, &mut scopes, exports.as_slice())?;
     Ok(scopes)
+}
+
+/// The names that the file of a world declares, scope by scope: the root's, the fields of each record, the trait's, and
+/// the parameters of each function.
+pub(crate) fn declared_names(
+    alloc: Global,
+    opts: &Opts,
+    resolve: &Resolve,
+    world: &World,
+) -> Result<List<NameScope>, OutOfMemory>
+    ensures { IfOk result (λ scopes. scopes ≡ declared_names opts.now resolve.now world.now) }
+{
+    let printed = printed_types(alloc, opts, resolve, world)?;
+    scopes_of(alloc, world, printed.as_slice())
 }

@@ -168,7 +168,7 @@ pub(crate) fn bindings_of(
 ) -> Result<Bindings, OutOfMemory>
     requires types { AreDefinable opts.now resolve.now id world.now }
     requires written { is_written_world world.now ≡ true }
-    requires declared { declares_well world.now ≡ true }
+    requires declared { declares_well opts.now resolve.now world.now ≡ true }
     ensures bound { IfOk result (Binds IsWritten ArePartsWritten opts.now resolve.now id world.now) }
     ensures named { IfOk result (λ tree. are_well_named tree.options tree.items ≡ true) }
 {

@@ -10,7 +10,7 @@ use Rattle.rust_gen.proofs.generate.RustWasm.generate.Goals as goal
 pub write_file-requires : goal.write_file-requires
 write_file-requires c =
     let found = c.in_ok-accepted.ensures.world in
-    let names = accepted-names c.args.resolve.now c.args.world.0 c.in_ok-accepted.accepted.now found c.in_ok-accepted.ensures.accepted in
+    let names = accepted-names c.self.inside.opts c.args.resolve.now c.args.world.0 c.in_ok-accepted.accepted.now found c.in_ok-accepted.ensures.accepted in
     record {
       types = definable c.self.inside.opts c.args.resolve.now c.args.world c.in_ok-accepted.accepted.now c.in_ok-accepted.ensures.checked c.in_ok-accepted.ensures.built found;
       written = names.0;
@@ -29,7 +29,7 @@ returns-clause-ok c =
         bound = binds_wraps written;
         written = written;
         runtime = serves c.self.inside.opts c.args.resolve.now c.args.world world _ written;
-        faithful = are_faithful c.self.inside.opts c.args.resolve.now c.args.world.0 world found c.in_ok-accepted.ensures.built (well-named c.args.resolve.now world c.in_ok-accepted.ensures.accepted) c.args.world _ written;
+        faithful = are_faithful c.self.inside.opts c.args.resolve.now c.args.world.0 world found c.in_ok-accepted.ensures.built (well-named c.self.inside.opts c.args.resolve.now world c.in_ok-accepted.ensures.accepted) c.args.world _ written;
         well_named = c.in_ok-tree.ensures.named;
       };
       gains = c.in_ok-tree.ensures.gains;
