@@ -1,7 +1,7 @@
 -- What a kind has a list by: its parts, unless it is one itself.
 use Rattle.std.proofs.Common.{◌≡◌, ℕ, ◌+◌, ◌≤◌, ◌<◌, ◌||◌, Bool, true, false, List, [], ◌∷◌, length, map, drop, Option, None, Some, refl, sym, ap, ap₂, ◌∙◌}
 use Rattle.std.specs.List.{list_any, slice_get, slice_index_or}
-use Rattle.std.proofs.lemmas.List.{drop_all, drop_more}
+use Rattle.std.proofs.lemmas.List.{drop_more}
 use Rattle.std.proofs.lemmas.Option.{slice_get-get_or}
 use Rattle.wit_model.specs.declared.types.Case.{Case}
 use Rattle.wit_model.specs.declared.types.Field.{Field}
@@ -128,6 +128,3 @@ any_here p xs i x e l h = ap (list_any p) (drop_at xs i x e l) ∙ ap (λ b. b |
 
 pub any_later : {A : Type 0} (p : A → Bool) (xs : List A) (i : ℕ) (x : A) → slice_get xs i ≡ Some x → i < length xs → p x ≡ false → list_any p (drop (i + 1) xs) ≡ list_any p (drop i xs)
 any_later p xs i x e l h = sym (ap (list_any p) (drop_at xs i x e l) ∙ ap (λ b. b || list_any p (drop (i + 1) xs)) h)
-
-pub any_none : {A : Type 0} (p : A → Bool) (xs : List A) (i : ℕ) → length xs ≤ i → list_any p (drop i xs) ≡ false
-any_none p xs i l = ap (list_any p) (drop_all i xs l)

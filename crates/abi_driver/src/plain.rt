@@ -10,7 +10,7 @@ ghost use Rattle.abi_driver.specs.Plain.{plain_meaning};
 
 use std::alloc::Global;
 use wit_layout::SizeAlign;
-use wit_model::{List, OutOfMemory, WitType};
+use wit_model::{List, WitType};
 
 /// A place in memory.
 #[derive(Clone, Copy)]

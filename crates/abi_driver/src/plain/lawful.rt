@@ -1,7 +1,5 @@
 //! The laws are kept.
 
-ghost use Rattle.std.specs.Prelude.{◌≡◌};
-
 use crate::bindgen::{Bindgen, Operand};
 use crate::instruction::Instruction;
 use crate::plain::scalars::{lifted_type, lowered_type};
