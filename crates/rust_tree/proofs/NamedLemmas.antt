@@ -9,7 +9,7 @@ use Rattle.wit_model.specs.declared.wasm_type.WasmType.{WasmType}
 use Rattle.rust_tree.specs.declared.expr.CastType.{CastType}
 use Rattle.rust_tree.specs.declared.expr.Expr.{Expr, Expr-F, fold-roll-Expr, the_lemmas}
 use Rattle.rust_tree.specs.declared.expr.Expr.TheVariants as expr
-use Rattle.rust_tree.specs.declared.expr.Expr.TheVariants.{rolls-Call, rolls-Cast, rolls-FromRawParts, rolls-I32FromBool, rolls-Load}
+use Rattle.rust_tree.specs.declared.expr.Expr.TheVariants.{rolls-Array, rolls-Call, rolls-Cast, rolls-FromRawParts, rolls-I32FromBool, rolls-Load, rolls-Tuple}
 use Rattle.rust_tree.specs.declared.path.Path.{Path}
 use Rattle.rust_tree.specs.Ident.{is_ident}
 use Rattle.rust_tree.specs.WellNamed.{are_path_names, is_named_expr, named_step}
@@ -57,3 +57,9 @@ pub is_named-call : (path : Path) (es : List Expr) → is_named_expr (expr.Call 
 is_named-call path es =
     ap is_named_expr (sym (rolls-Call path es)) ∙ fold-roll-Expr Bool named_step (Expr-F.Call path es)
     ∙ ap (λ b. are_path_names path.names && b) (list_all-map (λ b. b) is_named_expr es)
+
+pub is_named-tuple : (es : List Expr) → is_named_expr (expr.Tuple es) ≡ list_all is_named_expr es
+is_named-tuple es = ap is_named_expr (sym (rolls-Tuple es)) ∙ fold-roll-Expr Bool named_step (Expr-F.Tuple es) ∙ list_all-map (λ b. b) is_named_expr es
+
+pub is_named-array : (es : List Expr) → is_named_expr (expr.Array es) ≡ list_all is_named_expr es
+is_named-array es = ap is_named_expr (sym (rolls-Array es)) ∙ fold-roll-Expr Bool named_step (Expr-F.Array es) ∙ list_all-map (λ b. b) is_named_expr es

@@ -12,6 +12,8 @@ use Rattle.rust_tree.specs.declared.expr.CastType.{CastType}
 use Rattle.rust_tree.specs.declared.expr.CastType.TheVariants as cast
 use Rattle.rust_tree.specs.declared.expr.Expr.{Expr, Expr-F, fold-Expr}
 use Rattle.rust_tree.specs.declared.path.Path.{Path}
+use Rattle.rust_tree.specs.declared.pattern.Pattern.{Pattern}
+use Rattle.rust_tree.specs.declared.pattern.Pattern.TheVariants as pattern
 use Rattle.rust_tree.specs.declared.stmt.Block.{Block}
 use Rattle.rust_tree.specs.declared.stmt.ImportDecl.{ImportDecl}
 use Rattle.rust_tree.specs.declared.stmt.Stmt.{Stmt}
@@ -21,11 +23,11 @@ use Rattle.rust_tree.specs.declared.type_expr.Primitive.TheVariants as primitive
 use Rattle.rust_tree.specs.declared.type_expr.TypeExpr.{TypeExpr, TypeExpr-F, fold-TypeExpr}
 use Rattle.rust_tree.specs.declared.print.word.area.AreaWord.TheVariants.{PointerAlign, Align, AlignEnd, AreaType, AreaValue, AreaEnd}
 use Rattle.rust_tree.specs.declared.print.word.definition.DefinitionWord.TheVariants.{TupleEnd}
-use Rattle.rust_tree.specs.declared.print.word.expr.ExprWord.TheVariants.{Match, BoolArms, AsPtr, Len, CastMut, AreaPointer, Dereference, Add, CastTo, CastEnd, FromRawParts, PointerCast, IntoBoxedBytes, StaticPointer}
+use Rattle.rust_tree.specs.declared.print.word.expr.ExprWord.TheVariants.{Match, BoolArms, AsPtr, Len, CastMut, AreaPointer, Dereference, Add, CastTo, CastEnd, FromRawParts, PointerCast, IntoBoxedBytes, StaticPointer, OpenFields, CloseFields, OpenArray, CloseArray, LoneComma}
 use Rattle.rust_tree.specs.declared.print.word.import.ImportWord.TheVariants.{WasmLink, ExternBlock, LinkedFn, OtherFn, Unreachable, UnnamedParam}
 use Rattle.rust_tree.specs.declared.print.word.item.ItemWord.TheVariants.{EmptyDoc, Doc, UnitType, StrType, StringName}
 use Rattle.rust_tree.specs.declared.print.word.sign.Sign.{Sign}
-use Rattle.rust_tree.specs.declared.print.word.sign.Sign.TheVariants.{LineEnd, StatementEnd, CloseBlock, Open, Close, Comma, Arrow, PathMark, Super, Reference, As, Let, Equals, LetMut}
+use Rattle.rust_tree.specs.declared.print.word.sign.Sign.TheVariants.{LineEnd, StatementEnd, CloseBlock, Open, Close, Comma, Colon, Arrow, PathMark, Super, Reference, As, Let, Equals, LetMut}
 use Rattle.wit_model.specs.Bytes.{Bytes}
 use Rattle.rust_tree.specs.Word.{area_word, definition_word, expr_word, import_word, item_word, sign}
 
@@ -134,9 +136,38 @@ place_text offset ty = expr_word Add ++ term_text offset ++ expr_word CastTo ++ 
 abbrev pub capacity_text : Bytes → Bytes
 capacity_text len = expr_word PointerCast ++ len ++ sign Comma ++ len ++ sign Close
 
--- expressions in brackets, with a comma between any two
+-- expressions with a comma between any two
+abbrev pub listed_text : List Spelled → Bytes
+listed_text es = join_by (λ e. e.text) (sign Comma) es
+
+-- in brackets
 abbrev pub bracketed_text : List Spelled → Bytes
-bracketed_text es = sign Open ++ join_by (λ e. e.text) (sign Comma) es ++ sign Close
+bracketed_text es = sign Open ++ listed_text es ++ sign Close
+
+-- `f: x`, with the text of what stands behind the field
+abbrev pub field_text : Bytes × Bytes → Bytes
+field_text f = (f.0 ++ sign Colon) ++ f.1
+
+-- ` { f: x, g: y }`
+abbrev pub fields_text : List (Bytes × Bytes) → Bytes
+fields_text fields = expr_word OpenFields ++ join_by field_text (sign Comma) fields ++ expr_word CloseFields
+
+-- fields with the texts of the expressions behind them
+abbrev pub spelled_fields : List (Bytes × Spelled) → List (Bytes × Bytes)
+spelled_fields fields = map (λ f. (f.0, f.1.text)) fields
+
+-- the comma behind the one part of a tuple
+abbrev pub lone_comma : List Spelled → Bytes
+lone_comma (e ∷ []) = expr_word LoneComma
+lone_comma _ = []
+
+-- `(x,)`, `(x, y)`
+abbrev pub parts_text : List Spelled → Bytes
+parts_text es = sign Open ++ listed_text es ++ lone_comma es ++ sign Close
+
+-- `[x, y]`
+abbrev pub array_text : List Spelled → Bytes
+array_text es = expr_word OpenArray ++ listed_text es ++ expr_word CloseArray
 
 -- one level of an expression, with the expressions in it as they are spelled
 abbrev pub expr_step : Expr-F Spelled → Spelled
@@ -154,12 +185,19 @@ expr_step (Expr-F.FromRawParts pointer len) = compound (expr_word FromRawParts +
 expr_step (Expr-F.IntoBoxedBytes name) = compound (sign Open ++ name ++ expr_word IntoBoxedBytes)
 expr_step Expr-F.StaticPointer = compound (expr_word StaticPointer)
 expr_step (Expr-F.Align align) = compound (alignment_text align)
+expr_step (Expr-F.Record path fields) = compound (path_text path ++ fields_text (spelled_fields fields))
+expr_step (Expr-F.Tuple parts) = compound (parts_text parts)
+expr_step (Expr-F.Array parts) = compound (array_text parts)
 
 abbrev pub expr_spelled : Expr → Spelled
 expr_spelled = fold-Expr Spelled expr_step
 
 abbrev pub expr_text : Expr → Bytes
 expr_text e = (expr_spelled e).text
+
+-- the fields of a record, with the texts of the expressions behind them
+abbrev pub expr_fields : List (Bytes × Expr) → List (Bytes × Bytes)
+expr_fields fields = spelled_fields (map (λ f. (f.0, expr_spelled f.1)) fields)
 
 abbrev pub arguments_text : List Expr → Bytes
 arguments_text es = bracketed_text (map expr_spelled es)
@@ -192,6 +230,20 @@ unlinked_text d = import_word OtherFn ++ core_signature_text d ++ import_word Un
 abbrev pub let_text : Bytes → Expr → Bytes
 let_text name e = sign Let ++ name ++ sign Equals ++ expr_text e ++ sign StatementEnd
 
+-- names, with a comma behind each
+abbrev pub commas_text : List Bytes → Bytes
+commas_text names = flat_map (λ name. name ++ sign Comma) names
+
+-- `P { f: x, g: y }`, `(x, y, )`, `[x, y, ]`
+abbrev pub pattern_text : Pattern → Bytes
+pattern_text (pattern.Record path fields) = path_text path ++ fields_text fields
+pattern_text (pattern.Tuple names) = sign Open ++ commas_text names ++ sign Close
+pattern_text (pattern.Array names) = expr_word OpenArray ++ commas_text names ++ expr_word CloseArray
+
+-- `let P { f: x } = e;`
+abbrev pub let_parts_text : Pattern → Expr → Bytes
+let_parts_text p e = sign Let ++ pattern_text p ++ sign Equals ++ expr_text e ++ sign StatementEnd
+
 -- `*address.add(offset).cast::<T>() = e;`
 abbrev pub store_text : Expr → ArchitectureSize → WasmType → Expr → Bytes
 store_text address offset ty e =
@@ -219,6 +271,7 @@ stmt_text (stmt.Let name e) = let_text name e
 stmt_text (stmt.Expr e) = expr_text e ++ sign StatementEnd
 stmt_text (stmt.Area a) = area_text a
 stmt_text (stmt.Store address offset ty e) = store_text address offset ty e
+stmt_text (stmt.LetParts p e) = let_parts_text p e
 
 -- the last expression, as a line of its own, or nothing
 abbrev pub tail_text : Option Expr → Bytes

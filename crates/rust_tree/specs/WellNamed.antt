@@ -1,5 +1,5 @@
 -- Which texts may stand in a tree: as its names, between double quotes, as doc lines, and as the option lines of its preamble.
-use Rattle.std.specs.Prelude.{Bool, true, false, not, ◌&&◌, ◌||◌, ◌==◌, List, [], ◌∷◌, Option, None, Some, codes}
+use Rattle.std.specs.Prelude.{Bool, true, false, not, ◌&&◌, ◌||◌, ◌==◌, List, [], ◌∷◌, Option, None, Some, codes, map}
 use Rattle.std.specs.List.{list_all, starts_with}
 use Rattle.std.specs.Str.{bytes_eq}
 use Rattle.wit_model.specs.Bytes.{Bytes}
@@ -15,6 +15,8 @@ use Rattle.rust_tree.specs.declared.item.Item.TheVariants as item
 use Rattle.rust_tree.specs.declared.macros.ExportEntry.{ExportEntry}
 use Rattle.rust_tree.specs.declared.macros.ModuleMacro.{ModuleMacro}
 use Rattle.rust_tree.specs.declared.macros.RootMacro.{RootMacro}
+use Rattle.rust_tree.specs.declared.pattern.Pattern.{Pattern}
+use Rattle.rust_tree.specs.declared.pattern.Pattern.TheVariants as pattern
 use Rattle.rust_tree.specs.declared.stmt.Block.{Block}
 use Rattle.rust_tree.specs.declared.stmt.ImportDecl.{ImportDecl}
 use Rattle.rust_tree.specs.declared.stmt.Stmt.{Stmt}
@@ -88,6 +90,10 @@ is_named_type = fold-TypeExpr Bool named_type_step
 
 -- expressions and statements
 
+-- fields, with the answers for what stands behind them
+abbrev pub are_fields : List (Bytes × Bool) → Bool
+are_fields fields = list_all (λ f. is_ident f.0 && f.1) fields
+
 -- one level of an expression, with the answers for the expressions in it
 abbrev pub named_step : Expr-F Bool → Bool
 named_step (Expr-F.Local name) = is_ident name
@@ -104,6 +110,9 @@ named_step (Expr-F.FromRawParts pointer len) = pointer && is_ident len
 named_step (Expr-F.IntoBoxedBytes name) = is_ident name
 named_step Expr-F.StaticPointer = true
 named_step (Expr-F.Align align) = true
+named_step (Expr-F.Record path fields) = are_path_names path.names && are_fields fields
+named_step (Expr-F.Tuple parts) = list_all (λ e. e) parts
+named_step (Expr-F.Array parts) = list_all (λ e. e) parts
 
 abbrev pub is_named_expr : Expr → Bool
 is_named_expr = fold-Expr Bool named_step
@@ -111,12 +120,18 @@ is_named_expr = fold-Expr Bool named_step
 abbrev pub is_named_import : ImportDecl → Bool
 is_named_import d = is_quotable d.module && is_quotable d.link_name && is_ident d.name
 
+abbrev pub is_named_pattern : Pattern → Bool
+is_named_pattern (pattern.Record path fields) = are_path_names path.names && are_fields (map (λ f. (f.0, is_ident f.1)) fields)
+is_named_pattern (pattern.Tuple names) = list_all is_ident names
+is_named_pattern (pattern.Array names) = list_all is_ident names
+
 abbrev pub is_named_stmt : Stmt → Bool
 is_named_stmt (stmt.Import d) = is_named_import d
 is_named_stmt (stmt.Let name e) = is_ident name && is_named_expr e
 is_named_stmt (stmt.Expr e) = is_named_expr e
 is_named_stmt (stmt.Area a) = is_ident a.name
 is_named_stmt (stmt.Store address offset ty e) = is_named_expr address && is_named_expr e
+is_named_stmt (stmt.LetParts p e) = is_named_pattern p && is_named_expr e
 
 abbrev pub is_named_block : Block → Bool
 is_named_block b = list_all is_named_stmt b.stmts && is_absent_or is_named_expr b.tail

@@ -8,7 +8,7 @@ use Rattle.rust_tree.specs.declared.print.word.item.ItemWord.TheVariants.{Preamb
 use Rattle.rust_tree.specs.declared.print.word.import.ImportWord.{ImportWord}
 use Rattle.rust_tree.specs.declared.print.word.import.ImportWord.TheVariants.{WasmLink, ExternBlock, LinkedFn, OtherFn, Unreachable, UnnamedParam}
 use Rattle.rust_tree.specs.declared.print.word.expr.ExprWord.{ExprWord}
-use Rattle.rust_tree.specs.declared.print.word.expr.ExprWord.TheVariants.{Match, BoolArms, AsPtr, Len, CastMut, AreaPointer, Dereference, Add, CastTo, CastEnd, FromRawParts, PointerCast, IntoBoxedBytes, StaticPointer}
+use Rattle.rust_tree.specs.declared.print.word.expr.ExprWord.TheVariants.{Match, BoolArms, AsPtr, Len, CastMut, AreaPointer, Dereference, Add, CastTo, CastEnd, FromRawParts, PointerCast, IntoBoxedBytes, StaticPointer, OpenFields, CloseFields, OpenArray, CloseArray, LoneComma}
 use Rattle.rust_tree.specs.declared.print.word.area.AreaWord.{AreaWord}
 use Rattle.rust_tree.specs.declared.print.word.area.AreaWord.TheVariants.{PointerAlign, Align, AlignEnd, AreaType, AreaValue, AreaEnd, StaticArea}
 use Rattle.rust_tree.specs.declared.print.word.export.ExportWord.{ExportWord}
@@ -81,6 +81,11 @@ expr_word FromRawParts = codes "_rt::Vec::from_raw_parts("
 expr_word PointerCast = codes ".cast(), "
 expr_word IntoBoxedBytes = codes ".into_bytes()).into_boxed_slice()"
 expr_word StaticPointer = codes "(&raw mut _RET_AREA.0).cast::<u8>()"
+expr_word OpenFields = codes " { "
+expr_word CloseFields = codes " }"
+expr_word OpenArray = codes "["
+expr_word CloseArray = codes "]"
+expr_word LoneComma = codes ","
 
 -- a return area, and a static one
 unfoldable pub area_word : AreaWord → Bytes

@@ -43,4 +43,10 @@ pub enum Expr {
     StaticPointer,
     /// An alignment as a number: `8`, or the size of a pointer.
     Align(Alignment),
+    /// A record by its path, with a value for each field: `P { f: x, g: y }`.
+    Record(Path, List<(Text, Expr)>),
+    /// A tuple: `(x,)` or `(x, y)`.
+    Tuple(List<Expr>),
+    /// An array: `[x, y]`.
+    Array(List<Expr>),
 }

@@ -9,6 +9,7 @@ mod function;
 mod macros;
 mod named_param;
 mod path;
+mod pattern;
 mod runtime;
 mod size;
 mod stmt;

@@ -1,5 +1,6 @@
 use crate::area::ReturnArea;
 use crate::expr::Expr;
+use crate::pattern::Pattern;
 use wit_model::{ArchitectureSize, List, Text, WasmType};
 
 /// The declaration of a core import, in its form for WebAssembly and in its form for every other target.
@@ -31,6 +32,8 @@ pub enum Stmt {
     /// A core value put into memory, at an offset from an address: `*e.add(8).cast::<T>() = e;`. The address stands in
     /// brackets unless it is a local.
     Store(Expr, ArchitectureSize, WasmType, Expr),
+    /// The parts of a value, each with a name: `let P { f: x } = e;`, `let (x, ) = e;` or `let [x, ] = e;`.
+    LetParts(Pattern, Expr),
 }
 
 /// Statements, and the expression behind them that is the block's value.

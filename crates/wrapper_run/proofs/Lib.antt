@@ -7,6 +7,7 @@ pub mod MemoryLemmas
 pub mod MethodLemmas
 pub mod NumberLemmas
 pub mod OwningLemmas
+pub mod PartSteps
 pub mod PlaceLemmas
 pub mod QuietSteps
 pub mod StepLemmas

@@ -67,9 +67,16 @@ abbrev pub num_of_level : RustValue-F RustValue → Option (WitType × ℤ)
 num_of_level (RustValue-F.Num kind z) = if is_of_kind kind z then Some (kind, z) else None
 num_of_level _ = None
 
+-- an `i32` and an `i64` are whole numbers of the Rust side as they are
+abbrev pub num_of_word : Word → Option (WitType × ℤ)
+num_of_word (word.I32 z) = Some (wit.S32, z)
+num_of_word (word.I64 z) = Some (wit.S64, z)
+num_of_word _ = None
+
 abbrev pub num_of : Val → Option (WitType × ℤ)
 num_of (val.Value v) = num_of_level (out-RustValue v)
-num_of _ = None
+num_of (val.Word w) = num_of_word w
+num_of (val.Area _ _) = None
 
 -- a Unicode scalar value: a code below 0xD800, or from 0xE000 to 0x10FFFF
 abbrev pub is_scalar : ℕ → Bool
@@ -101,6 +108,16 @@ bool_of v = seen_as bool_of_level v
 
 abbrev pub char_of : Val → Option ℕ
 char_of v = seen_as char_of_level v
+
+-- a float is one as a core word too
+
+abbrev pub f32_of : Val → Option ℕ
+f32_of (val.Word (word.F32 bits)) = Some bits
+f32_of v = seen_as f32_of_level v
+
+abbrev pub f64_of : Val → Option ℕ
+f64_of (val.Word (word.F64 bits)) = Some bits
+f64_of v = seen_as f64_of_level v
 
 -- the number that a word is
 abbrev pub integer_of_word : Word → Option ℤ
@@ -146,8 +163,8 @@ i32_of_char c = word.I32 (pos c)
 unfoldable pub converted : RuntimeItem → Val → Option Word
 converted item.AsI32 v = option_or (option_and_then i32_of_number (num_of v)) (option_map i32_of_char (char_of v))
 converted item.AsI64 v = option_and_then i64_of_number (num_of v)
-converted item.AsF32 v = option_map word.F32 (seen_as f32_of_level v)
-converted item.AsF64 v = option_map word.F64 (seen_as f64_of_level v)
+converted item.AsF32 v = option_map word.F32 (f32_of v)
+converted item.AsF64 v = option_map word.F64 (f64_of v)
 converted _ v = None
 
 -- the word of a bool
@@ -227,6 +244,19 @@ value_as prim.F32 (val.Value v) = option_map value.F32 (f32_of_level (out-RustVa
 value_as prim.F64 (val.Value v) = option_map value.F64 (f64_of_level (out-RustValue v))
 value_as p (val.Value v) = option_and_then (number_as p) (num_of (val.Value v))
 value_as p (val.Area _ _) = None
+
+-- the value of the Rust side that something is, as a part of another value
+abbrev pub rust_of_word : Word → Option RustValue
+rust_of_word (word.I32 z) = Some (value.Num wit.S32 z)
+rust_of_word (word.I64 z) = Some (value.Num wit.S64 z)
+rust_of_word (word.F32 bits) = Some (value.F32 bits)
+rust_of_word (word.F64 bits) = Some (value.F64 bits)
+rust_of_word _ = None
+
+abbrev pub rust_of : Val → Option RustValue
+rust_of (val.Word w) = rust_of_word w
+rust_of (val.Value v) = Some v
+rust_of (val.Area _ _) = None
 
 abbrev pub is_unit_level : RustValue-F RustValue → Bool
 is_unit_level RustValue-F.Unit = true

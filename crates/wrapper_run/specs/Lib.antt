@@ -20,3 +20,4 @@ pub mod Setting
 pub mod StandsFor
 pub mod TextBlocks
 pub mod Value
+pub mod Whole

@@ -46,6 +46,7 @@ use Rattle.wrapper_run.specs.Setting.{Setting, failed, stuck}
 use Rattle.wrapper_run.specs.Blocks.{boxed, dealloc_words, drop_value, forget, leave_to, lift_text, store_word, take_over}
 use Rattle.wrapper_run.specs.Places.{declare_area, static_pointer}
 use Rattle.wrapper_run.specs.Memory.{loaded}
+use Rattle.wrapper_run.specs.Whole.{field_acts, take_apart, whole}
 use Rattle.wrapper_run.specs.Owning.{taken_by}
 use Rattle.wrapper_run.specs.Act.{Act, Outcome, Done, Stopped, ◌>>=◌, ◌>>◌, all, or_stop, pure, stop}
 use Rattle.wrapper_run.specs.Effect.{answer_of, cast_to, converted, is_word_of, lift_of, word_of, word_of_bool}
@@ -214,6 +215,9 @@ eval_step w (Expr-F.FromRawParts e length) = e >>= (λ v. λ s. take_bytes w (va
 eval_step w (Expr-F.IntoBoxedBytes name) = use_local (stuck w) name >>= boxed w
 eval_step w Expr-F.StaticPointer = static_pointer w
 eval_step w (Expr-F.Align align) = pure (val.Word (word.Length (alignment_at align 4)))
+eval_step w (Expr-F.Record path fields) = whole w (field_acts fields)
+eval_step w (Expr-F.Tuple parts) = whole w parts
+eval_step w (Expr-F.Array parts) = whole w parts
 
 abbrev pub eval : Setting → Expr → Act Val
 eval w = fold-Expr (Act Val) (eval_step w)
@@ -223,6 +227,7 @@ run_stmt w (stmt.Import d) = declare d
 run_stmt w (stmt.Let name e) = eval w e >>= bind name
 run_stmt w (stmt.Expr e) = eval w e >>= drop_value w
 run_stmt w (stmt.Area a) = declare_area w a
+run_stmt w (stmt.LetParts p e) = eval w e >>= take_apart w p
 run_stmt w (stmt.Store address offset ty value) = eval w value >>= (λ v. eval w address >>= store_word w offset ty v)
 
 abbrev pub run_stmts : Setting → List Stmt → Act (Unit {0})

@@ -8,6 +8,7 @@ ghost use Rattle.wrapper_run.specs.Setting.{setting};
 use crate::eval::eval;
 use crate::freeing::drop_value;
 use crate::locals::{bind, declare};
+use crate::parts::take_apart;
 use crate::places::declare_area;
 use crate::state::{Halt, State, Val, World};
 use crate::store::store_word;
@@ -29,6 +30,10 @@ fn run_stmt(alloc: Global, world: &World, state: &mut State, s: &Stmt) -> Result
             drop_value(alloc, world, state, &v)
         }
         Stmt::Area(a) => declare_area(alloc, world, state, a),
+        Stmt::LetParts(pattern, e) => {
+            let v = eval(alloc, world, state, e)?;
+            take_apart(alloc, world, state, pattern, &v)
+        }
         Stmt::Store(address, offset, ty, value) => {
             let v = eval(alloc, world, state, value)?;
             let address = eval(alloc, world, state, address)?;

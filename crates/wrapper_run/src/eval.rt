@@ -8,6 +8,7 @@ ghost use Rattle.wrapper_run.specs.Effect as effect;
 ghost use Rattle.wrapper_run.specs.Locals.{local_named, use_local, value_of};
 ghost use Rattle.wrapper_run.specs.Run as spec;
 ghost use Rattle.wrapper_run.specs.Setting.{setting, stuck};
+ghost use Rattle.wrapper_run.specs.Whole.{field_acts, whole};
 ghost use Rattle.wrapper_run.specs.declared.state.Val.TheVariants as val;
 
 use crate::blocks::{boxed, take_over};
@@ -17,6 +18,7 @@ use crate::conversion;
 use crate::locals::{ask_local, lend_local, use_local, value_named};
 use crate::memory::{align_at_four, at_four, loaded};
 use crate::owning::View;
+use crate::parts::whole_of;
 use crate::places::static_pointer;
 use crate::state::{Halt, State, Val, World};
 use rust_tree::{CastType, Expr};
@@ -128,7 +130,44 @@ pub(crate) fn eval(alloc: Global, world: &World, state: &mut State, e: &Expr) ->
         Expr::IntoBoxedBytes(name) => box_local(alloc, world, state, name),
         Expr::StaticPointer => static_pointer(alloc, world, state),
         Expr::Align(align) => Ok(Val::Word(Word::Length(align_at_four(align)))),
+        Expr::Record(_, fields) => eval_record(alloc, world, state, fields.as_slice()),
+        Expr::Tuple(parts) | Expr::Array(parts) => {
+            let vs = eval_all(alloc, world, state, parts.as_slice())?;
+            whole_of(alloc, world, state, vs.as_slice())
+        }
     }
+}
+
+/// The record whose fields have these expressions, in the order of the tree.
+#[cycle(eval)]
+fn eval_record(
+    alloc: Global,
+    world: &World,
+    state: &mut State,
+    fields: &[(Text, Expr)],
+) -> Result<Val, Halt>
+    ensures { Runs (whole (setting world.now) (field_acts (map (λ f. (f.0, spec.eval (setting world.now) f.1)) fields.now)) state.old) result state.new }
+{
+    let vs = eval_fields(alloc, world, state, fields)?;
+    whole_of(alloc, world, state, vs.as_slice())
+}
+
+/// The values of a record's fields, in the order of the tree.
+#[cycle(eval)]
+fn eval_fields(
+    alloc: Global,
+    world: &World,
+    state: &mut State,
+    fields: &[(Text, Expr)],
+) -> Result<List<Val>, Halt>
+    ensures { Runs (all (field_acts (map (λ f. (f.0, spec.eval (setting world.now) f.1)) fields.now)) state.old) result state.new }
+{
+    let mut vs = List::new(alloc);
+    for field in fields {
+        let v = eval(alloc, world, state, &field.1)?;
+        vs.push(v)?;
+    }
+    Ok(vs)
 }
 
 #[cycle(eval)]

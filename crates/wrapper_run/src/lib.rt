@@ -15,6 +15,7 @@ mod memory;
 mod method;
 mod owned;
 mod owning;
+mod parts;
 mod places;
 mod post_return;
 mod printed;

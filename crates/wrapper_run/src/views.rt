@@ -24,6 +24,16 @@ fn is_of_kind(kind: WitType, z: i128) -> bool
     }
 }
 
+fn num_of_word(w: Word) -> Option<(WitType, i128)>
+    ensures { result ≡ spec.num_of_word w }
+{
+    match w {
+        Word::I32(z) => Some((WitType::S32, i128::from(z))),
+        Word::I64(z) => Some((WitType::S64, i128::from(z))),
+        _ => None,
+    }
+}
+
 pub(crate) fn num_of(v: &Val) -> Option<(WitType, i128)>
     ensures { result ≡ spec.num_of v.now }
 {
@@ -35,6 +45,7 @@ pub(crate) fn num_of(v: &Val) -> Option<(WitType, i128)>
                 None
             }
         }
+        Val::Word(w) => num_of_word(*w),
         _ => None,
     }
 }
@@ -65,19 +76,19 @@ pub(crate) fn char_of(v: &Val) -> Option<u32>
 }
 
 pub(crate) fn f32_of(v: &Val) -> Option<u32>
-    ensures { result ≡ spec.seen_as spec.f32_of_level v.now }
+    ensures { result ≡ spec.f32_of v.now }
 {
     match v {
-        Val::Value(RustValue::F32(bits)) => Some(*bits),
+        Val::Value(RustValue::F32(bits)) | Val::Word(Word::F32(bits)) => Some(*bits),
         _ => None,
     }
 }
 
 pub(crate) fn f64_of(v: &Val) -> Option<u64>
-    ensures { result ≡ spec.seen_as spec.f64_of_level v.now }
+    ensures { result ≡ spec.f64_of v.now }
 {
     match v {
-        Val::Value(RustValue::F64(bits)) => Some(*bits),
+        Val::Value(RustValue::F64(bits)) | Val::Word(Word::F64(bits)) => Some(*bits),
         _ => None,
     }
 }

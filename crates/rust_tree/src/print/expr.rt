@@ -1,8 +1,8 @@
-ghost use Rattle.std.specs.Prelude.{◌≡◌, ◌++◌, OnOk};
-ghost use Rattle.rust_tree.specs.CodeText.{arguments_text, bracket, capacity_text, cast_type_text, expr_spelled, expr_text, place_text};
+ghost use Rattle.std.specs.Prelude.{◌≡◌, ◌++◌, OnOk, map};
+ghost use Rattle.rust_tree.specs.CodeText.{arguments_text, array_text, bracket, capacity_text, cast_type_text, expr_fields, expr_spelled, expr_text, fields_text, listed_text, parts_text, place_text};
 ghost use Rattle.rust_tree.specs.Word.{expr_word, sign};
 ghost use Rattle.rust_tree.specs.declared.print.word.expr.ExprWord.TheVariants.{IntoBoxedBytes};
-ghost use Rattle.rust_tree.specs.declared.print.word.sign.Sign.TheVariants.{As, Close, Open, Reference};
+ghost use Rattle.rust_tree.specs.declared.print.word.sign.Sign.TheVariants.{As, Close, Colon, Open, Reference};
 
 use crate::expr::{CastType, Expr};
 use crate::print::path::push_path;
@@ -70,6 +70,14 @@ pub(crate) fn push_place(
     ExprWord::CastEnd.put(out)
 }
 
+/// The name of a field, before what stands for it.
+pub(crate) fn push_name(out: &mut Text, name: &Text) -> Result<(), OutOfMemory>
+    ensures { OnOk result (out.new ≡ out.old ++ (name.now ++ sign Colon)) }
+{
+    out.push_str(name.as_str())?;
+    Sign::Colon.put(out)
+}
+
 fn push_boxed_bytes(out: &mut Text, name: &Text) -> Result<(), OutOfMemory>
     ensures { OnOk result (out.new ≡ out.old ++ (sign Open ++ name.now ++ expr_word IntoBoxedBytes)) }
 {
@@ -127,7 +135,27 @@ pub(crate) fn push_expr(out: &mut Text, e: &Expr) -> Result<(), OutOfMemory>
         Expr::IntoBoxedBytes(name) => push_boxed_bytes(out, name),
         Expr::StaticPointer => ExprWord::StaticPointer.put(out),
         Expr::Align(align) => push_alignment(out, *align),
+        Expr::Record(path, fields) => {
+            push_path(out, path)?;
+            push_fields(out, fields.as_slice())
+        }
+        Expr::Tuple(parts) => push_parts(out, parts.as_slice()),
+        Expr::Array(parts) => push_array(out, parts.as_slice()),
     }
+}
+
+/// Expressions with a comma between any two.
+#[cycle(expr)]
+fn push_listed(out: &mut Text, es: &[Expr]) -> Result<(), OutOfMemory>
+    ensures { OnOk result (out.new ≡ out.old ++ listed_text (map expr_spelled es.now)) }
+{
+    for (i, e) in es.iter().enumerate() {
+        if i > 0 {
+            Sign::Comma.put(out)?;
+        }
+        push_expr(out, e)?;
+    }
+    Ok(())
 }
 
 #[cycle(expr)]
@@ -135,11 +163,43 @@ pub(crate) fn push_arguments(out: &mut Text, arguments: &[Expr]) -> Result<(), O
     ensures { OnOk result (out.new ≡ out.old ++ arguments_text arguments.now) }
 {
     Sign::Open.put(out)?;
-    for (i, e) in arguments.iter().enumerate() {
+    push_listed(out, arguments)?;
+    Sign::Close.put(out)
+}
+
+/// The values of a record's fields, each behind its name.
+#[cycle(expr)]
+fn push_fields(out: &mut Text, fields: &[(Text, Expr)]) -> Result<(), OutOfMemory>
+    ensures { OnOk result (out.new ≡ out.old ++ fields_text (expr_fields fields.now)) }
+{
+    ExprWord::OpenFields.put(out)?;
+    for (i, field) in fields.iter().enumerate() {
         if i > 0 {
             Sign::Comma.put(out)?;
         }
-        push_expr(out, e)?;
+        push_name(out, &field.0)?;
+        push_expr(out, &field.1)?;
+    }
+    ExprWord::CloseFields.put(out)
+}
+
+#[cycle(expr)]
+fn push_parts(out: &mut Text, parts: &[Expr]) -> Result<(), OutOfMemory>
+    ensures { OnOk result (out.new ≡ out.old ++ parts_text (map expr_spelled parts.now)) }
+{
+    Sign::Open.put(out)?;
+    push_listed(out, parts)?;
+    if parts.len() == 1 {
+        ExprWord::LoneComma.put(out)?;
     }
     Sign::Close.put(out)
+}
+
+#[cycle(expr)]
+fn push_array(out: &mut Text, parts: &[Expr]) -> Result<(), OutOfMemory>
+    ensures { OnOk result (out.new ≡ out.old ++ array_text (map expr_spelled parts.now)) }
+{
+    ExprWord::OpenArray.put(out)?;
+    push_listed(out, parts)?;
+    ExprWord::CloseArray.put(out)
 }

@@ -1,11 +1,13 @@
 ghost use Rattle.std.specs.Prelude.{◌≡◌, ◌++◌, OnOk};
 ghost use Rattle.std.specs.List.{flat_map};
-ghost use Rattle.rust_tree.specs.CodeText.{block_text, let_text, stmt_text, store_text, tail_text};
+ghost use Rattle.rust_tree.specs.CodeText.{block_text, let_parts_text, let_text, stmt_text, store_text, tail_text};
 
 use crate::expr::Expr;
+use crate::pattern::Pattern;
 use crate::print::area::push_area;
 use crate::print::core_import::{push_linked, push_unlinked};
 use crate::print::expr::{push_expr, push_open, push_place};
+use crate::print::pattern::push_pattern;
 use crate::print::word::{ExprWord, Sign};
 use crate::stmt::{Block, Stmt};
 use wit_model::{ArchitectureSize, OutOfMemory, Text, WasmType};
@@ -15,6 +17,16 @@ fn push_let(out: &mut Text, name: &Text, e: &Expr) -> Result<(), OutOfMemory>
 {
     Sign::Let.put(out)?;
     out.push_str(name.as_str())?;
+    Sign::Equals.put(out)?;
+    push_expr(out, e)?;
+    Sign::StatementEnd.put(out)
+}
+
+fn push_let_parts(out: &mut Text, pattern: &Pattern, e: &Expr) -> Result<(), OutOfMemory>
+    ensures { OnOk result (out.new ≡ out.old ++ let_parts_text pattern.now e.now) }
+{
+    Sign::Let.put(out)?;
+    push_pattern(out, pattern)?;
     Sign::Equals.put(out)?;
     push_expr(out, e)?;
     Sign::StatementEnd.put(out)
@@ -52,6 +64,7 @@ fn push_stmt(out: &mut Text, stmt: &Stmt) -> Result<(), OutOfMemory>
         }
         Stmt::Area(area) => push_area(out, area),
         Stmt::Store(address, offset, ty, e) => push_store(out, address, *offset, *ty, e),
+        Stmt::LetParts(pattern, e) => push_let_parts(out, pattern, e),
     }
 }
 

@@ -1,12 +1,15 @@
 //! Expressions and statements.
 
-ghost use Rattle.std.specs.Prelude.{◌≡◌};
+ghost use Rattle.std.specs.Prelude.{◌≡◌, map};
 ghost use Rattle.std.specs.List.{list_all};
-ghost use Rattle.rust_tree.specs.WellNamed.{is_absent_or, is_named_block, is_named_expr, is_named_import, is_named_stmt};
+ghost use Rattle.rust_tree.specs.WellNamed.{are_fields, is_absent_or, is_named_block, is_named_expr, is_named_import, is_named_pattern, is_named_stmt};
+ghost use Rattle.rust_tree.specs.Ident.{is_ident};
 
 use crate::expr::Expr;
+use crate::pattern::Pattern;
 use crate::stmt::{Block, ImportDecl, Stmt};
 use crate::well_named::text::{are_path_names, is_name, is_quotable};
+use wit_model::Text;
 
 #[cycle(named_expr)]
 fn is_named_expr(e: &Expr) -> bool
@@ -22,6 +25,11 @@ fn is_named_expr(e: &Expr) -> bool
         Expr::Load(address, _, _) => is_named_expr(address.get()),
         Expr::FromRawParts(pointer, len) => is_named_expr(pointer.get()) && is_name(len),
         Expr::StaticPointer | Expr::Align(_) => true,
+        Expr::Record(path, fields) => {
+            are_path_names(path.names.as_slice()) && are_named_fields(fields.as_slice())
+        }
+        Expr::Tuple(parts) => are_named_exprs(parts.as_slice()),
+        Expr::Array(parts) => are_named_exprs(parts.as_slice()),
     }
 }
 
@@ -37,10 +45,50 @@ pub(crate) fn are_named_exprs(list: &[Expr]) -> bool
     true
 }
 
+#[cycle(named_expr)]
+fn are_named_fields(fields: &[(Text, Expr)]) -> bool
+    ensures { result ≡ are_fields (map (λ f. (f.0, is_named_expr f.1)) fields.now) }
+{
+    for field in fields {
+        if !(is_name(&field.0) && is_named_expr(&field.1)) {
+            return false;
+        }
+    }
+    true
+}
+
 fn is_named_import(d: &ImportDecl) -> bool
     ensures { result ≡ is_named_import d.now }
 {
     is_quotable(&d.module) && is_quotable(&d.link_name) && is_name(&d.name)
+}
+
+fn are_names(names: &[Text]) -> bool
+    ensures { result ≡ list_all is_ident names.now }
+{
+    names.iter().all(|name| is_name(name))
+}
+
+fn are_bound_fields(fields: &[(Text, Text)]) -> bool
+    ensures { result ≡ are_fields (map (λ f. (f.0, is_ident f.1)) fields.now) }
+{
+    for field in fields {
+        if !(is_name(&field.0) && is_name(&field.1)) {
+            return false;
+        }
+    }
+    true
+}
+
+fn is_named_pattern(pattern: &Pattern) -> bool
+    ensures { result ≡ is_named_pattern pattern.now }
+{
+    match pattern {
+        Pattern::Record(path, fields) => {
+            are_path_names(path.names.as_slice()) && are_bound_fields(fields.as_slice())
+        }
+        Pattern::Tuple(names) | Pattern::Array(names) => are_names(names.as_slice()),
+    }
 }
 
 fn is_named_stmt(stmt: &Stmt) -> bool
@@ -52,6 +100,7 @@ fn is_named_stmt(stmt: &Stmt) -> bool
         Stmt::Expr(e) => is_named_expr(e),
         Stmt::Area(area) => is_name(&area.name),
         Stmt::Store(address, _, _, e) => is_named_expr(address) && is_named_expr(e),
+        Stmt::LetParts(pattern, e) => is_named_pattern(pattern) && is_named_expr(e),
     }
 }
 

@@ -20,6 +20,11 @@ pub(crate) enum ExprWord {
     PointerCast,
     IntoBoxedBytes,
     StaticPointer,
+    OpenFields,
+    CloseFields,
+    OpenArray,
+    CloseArray,
+    LoneComma,
 }
 
 impl ExprWord {
@@ -42,6 +47,11 @@ impl ExprWord {
             ExprWord::PointerCast => ".cast(), ",
             ExprWord::IntoBoxedBytes => ".into_bytes()).into_boxed_slice()",
             ExprWord::StaticPointer => "(&raw mut _RET_AREA.0).cast::<u8>()",
+            ExprWord::OpenFields => " { ",
+            ExprWord::CloseFields => " }",
+            ExprWord::OpenArray => "[",
+            ExprWord::CloseArray => "]",
+            ExprWord::LoneComma => ",",
         }
     }
 

@@ -1,11 +1,15 @@
 use Rattle.std.proofs.Common.{◌≡◌, ◌++◌, drop, map}
 use Rattle.std.specs.List.{join_by}
 use Rattle.rust_tree.specs.declared.print.word.sign.Sign.TheVariants.{Comma}
-use Rattle.rust_tree.specs.CodeText.{expr_spelled}
+use Rattle.rust_tree.specs.CodeText.{expr_fields, expr_spelled, field_text, listed_text}
 use Rattle.rust_tree.specs.Word.{sign}
 use Rattle.rust_tree.proofs.Joins.{rest_from}
 use Rattle.rust_tree.proofs.print.expr.+expr.Given as goal
 
-abbrev pub invariant-push_arguments-loop-i : goal.invariant-push_arguments-loop-i
-invariant-push_arguments-loop-i l =
-    l.out ++ rest_from (λ e. e.text) (sign Comma) l.i (map expr_spelled (drop l.i l.arguments)) ≡ l.initial.out ++ join_by (λ e. e.text) (sign Comma) (map expr_spelled l.arguments)
+abbrev pub invariant-push_listed-loop-i : goal.invariant-push_listed-loop-i
+invariant-push_listed-loop-i l =
+    l.out ++ rest_from (λ e. e.text) (sign Comma) l.i (map expr_spelled (drop l.i l.es)) ≡ l.initial.out ++ listed_text (map expr_spelled l.es)
+
+abbrev pub invariant-push_fields-loop-i : goal.invariant-push_fields-loop-i
+invariant-push_fields-loop-i l =
+    l.out ++ rest_from field_text (sign Comma) l.i (expr_fields (drop l.i l.fields)) ≡ l.initial.out ++ join_by field_text (sign Comma) (expr_fields l.fields)

@@ -1,0 +1,71 @@
+-- Single steps of records, tuples and arrays: parts become a value, and a value is taken apart.
+use Rattle.std.proofs.Common.{◌≡◌, List, [], ◌∷◌, ◌++◌, Some, map, refl, sym, ap, ◌∙◌, append-nil, append_assoc, rules}
+use Rattle.std.specs.Option.{option_map}
+use Rattle.wit_model.specs.Bytes.{Bytes}
+use Rattle.rust_tree.specs.declared.expr.Expr.{Expr, Expr-F, fold-roll-Expr}
+use Rattle.rust_tree.specs.declared.expr.Expr.TheVariants as expr
+use Rattle.rust_tree.specs.declared.expr.Expr.TheVariants.{rolls-Array, rolls-Record, rolls-Tuple}
+use Rattle.rust_tree.specs.declared.path.Path.{Path}
+use Rattle.rust_tree.specs.declared.pattern.Pattern.{Pattern}
+use Rattle.rust_tree.specs.declared.stmt.Stmt.TheVariants as stmt
+use Rattle.wrapper_data.specs.declared.value.RustValue.{RustValue, RustValue-F, out-RustValue, the_lemmas}
+use Rattle.wrapper_data.specs.declared.value.RustValue.TheVariants as value
+use Rattle.wrapper_run.specs.declared.state.Local.{Local}
+use Rattle.wrapper_run.specs.declared.state.State.{State}
+use Rattle.wrapper_run.specs.declared.state.Val.{Val}
+use Rattle.wrapper_run.specs.declared.state.Val.TheVariants as val
+use Rattle.wrapper_run.specs.Act.{Act, Done, and_then, or_stop}
+use Rattle.wrapper_run.specs.Locals.{bind}
+use Rattle.wrapper_run.specs.Run.{eval, eval_step, run_stmt}
+use Rattle.wrapper_run.specs.Setting.{Setting, stuck}
+use Rattle.wrapper_run.specs.Whole.{bind_parts, field_acts, given_names, parts_of, parts_of_level, rust_values, take_apart, whole}
+
+-- one level of an expression
+
+pub eval-record : (w : Setting) (path : Path) (fields : List (Bytes × Expr)) → eval w (expr.Record path fields) ≡ whole w (field_acts (map (λ f. (f.0, eval w f.1)) fields))
+eval-record w path fields = ap (eval w) (sym (rolls-Record path fields)) ∙ fold-roll-Expr (Act Val) (eval_step w) (Expr-F.Record path fields)
+
+pub eval-tuple : (w : Setting) (parts : List Expr) → eval w (expr.Tuple parts) ≡ whole w (map (eval w) parts)
+eval-tuple w parts = ap (eval w) (sym (rolls-Tuple parts)) ∙ fold-roll-Expr (Act Val) (eval_step w) (Expr-F.Tuple parts)
+
+pub eval-array : (w : Setting) (parts : List Expr) → eval w (expr.Array parts) ≡ whole w (map (eval w) parts)
+eval-array w parts = ap (eval w) (sym (rolls-Array parts)) ∙ fold-roll-Expr (Act Val) (eval_step w) (Expr-F.Array parts)
+
+-- values of the Rust side are parts as they are
+
+pub rust_values-values : (rs : List RustValue) → rust_values (map val.Value rs) ≡ Some rs
+rust_values-values [] = refl
+rust_values-values (r ∷ rs) = ap (option_map (λ more. r ∷ more)) (rust_values-values rs)
+
+-- a value with parts has these parts
+pub parts-whole : (rs : List RustValue) → parts_of (val.Value (value.Struct rs)) ≡ Some rs
+parts-whole rs = let opened : out-RustValue (value.Struct rs) ≡ RustValue-F.Struct rs = search (rules, the_lemmas) in ap parts_of_level opened
+
+-- locals of names, with parts as their values
+abbrev pub part_locals : List Bytes → List RustValue → List Local
+part_locals [] rs = []
+part_locals (name ∷ names) [] = []
+part_locals (name ∷ names) (r ∷ rs) = record { name = name; value = Some (val.Value r) } ∷ part_locals names rs
+
+-- as many parts as names
+abbrev pub AsMany : List Bytes → List RustValue → Type 0
+AsMany [] [] = Unit {0}
+AsMany [] (_ ∷ _) = ⊥
+AsMany (_ ∷ _) [] = ⊥
+AsMany (_ ∷ names) (_ ∷ rs) = AsMany names rs
+
+pub binds_parts : (w : Setting) (names : List Bytes) (rs : List RustValue) (s : State) → AsMany names rs → bind_parts w names rs s ≡ Done tt (record s { locals = s.locals ++ part_locals names rs })
+unfolding bind
+binds_parts w [] [] s h = ap (λ ls. Done tt (record s { locals = ls })) (sym (append-nil s.locals))
+binds_parts w [] (r ∷ rs) s h = absurd h
+binds_parts w (name ∷ names) [] s h = absurd h
+binds_parts w (name ∷ names) (r ∷ rs) s h =
+    let l : Local = record { name = name; value = Some (val.Value r) } in
+    binds_parts w names rs (record s { locals = s.locals ++ l ∷ [] }) h
+    ∙ ap (λ ls. Done tt (record s { locals = ls })) (append_assoc s.locals (l ∷ []) (part_locals names rs))
+
+-- a `let` that takes a value apart binds each part by its name
+pub takes_apart : (w : Setting) (p : Pattern) (e : Expr) (rs : List RustValue) (s t : State) → eval w e s ≡ Done (val.Value (value.Struct rs)) t → AsMany (given_names p) rs
+    → run_stmt w (stmt.LetParts p e) s ≡ Done tt (record t { locals = t.locals ++ part_locals (given_names p) rs })
+takes_apart w p e rs s t h many =
+    ap (λ o. and_then o (take_apart w p)) h ∙ ap (λ o. and_then (or_stop (stuck w) o t) (bind_parts w (given_names p))) (parts-whole rs) ∙ binds_parts w (given_names p) rs t many
