@@ -1,6 +1,7 @@
 mod Examples
 pub mod FreeSteps
 pub mod GiveSteps
+pub mod GrowLemmas
 pub mod HeapLemmas
 pub mod LocalLemmas
 pub mod MemoryLemmas
