@@ -1,5 +1,5 @@
 #!/usr/bin/env python3
-"""Measures the program on documents of 1,000, 2,000, 4,000 and 8,000 imported functions, and of up to 20,000 aliases.
+"""Measures the program on documents of 1,000, 2,000, 4,000 and 8,000 functions or records, and of up to 20,000 aliases.
 
     python3 bench/measure.py [path of the built program]
 
@@ -49,11 +49,12 @@ def function(i):
     }
 
 
-def document(imports, types, world):
+def document(imports, types, world, options=None):
     the_world = {"name": name("w"), "package": 0, "imports": imports, "exports": []}
     package = {"namespace": name("t"), "name": name("p"), "module": "p"}
     resolve = {"worlds": [the_world], "packages": [package], "interfaces": [], "types": types}
-    return json.dumps({"resolve": resolve, "world": world}, separators=(",", ":")).encode()
+    whole = {"resolve": resolve, "world": world, "options": options or {}}
+    return json.dumps(whole, separators=(",", ":")).encode()
 
 
 def functions(count, world):
@@ -68,6 +69,17 @@ def chain(count, world):
     """So many aliases, each of the one before, and as many maps keyed by the last."""
     aliases = [unnamed({"alias": i - 1 if i else "u32"}) for i in range(count)]
     return document([], aliases + [unnamed({"map": [count - 1, "u8"]})] * count, world)
+
+
+def record(i):
+    fields = [{"name": name(f"part-{k}"), "ty": ["u8", "u32", "u64", "string"][(i + k) % 4]} for k in range(4)]
+    return {"name": name(f"data-{i}"), "owner": {"world": 0}, "kind": {"record": fields}}
+
+
+def records(count, world):
+    """A world of so many records, which are defined though no function reaches them."""
+    options = {"generate-unused-types": True}
+    return document([{"type": i} for i in range(count)], [record(i) for i in range(count)], world, options)
 
 
 def run(command, source, target):
@@ -122,6 +134,7 @@ def main():
         if shutil.which("jq"):
             seconds, _ = best(["jq", "-c", "."], source, target, 0)
             print(f"jq -c . on the largest: {seconds * 1000:.0f} ms; the program takes {taken / seconds:.2f} of that")
+        measure(program, folder, "records", records, COUNTS, 0)
         measure(program, folder, "aliases and as many maps", chain, CHAINS, 10)
 
 

@@ -65,7 +65,7 @@ use Rattle.rust_gen.proofs.ReturnLemmas.{frees_words}
 use Rattle.rust_gen.specs.declared.opts.Opts.{Opts}
 use Rattle.wit_model.specs.declared.wasm_type.WasmType.{WasmType}
 use Rattle.rust_gen.proofs.ItemLemmas.{alone-named, area-found, distinct-image, entries-are, find-named, method-found, runtime-found}
-use Rattle.rust_gen.specs.Built.{are_built_options, are_built_tables, is_built_function, is_built_item, is_built_world}
+use Rattle.rust_gen.specs.Built.{are_built_options, are_built_tables, is_built_function, is_built_item, is_built_world, is_no_type, is_under_itself}
 use Rattle.rust_gen.specs.NameText.{are_written_tables, is_wit_form, is_written_entry, is_written_world}
 use Rattle.rust_gen.specs.Exported.{area_of, arg_name, arg_prefix, core_args, entries_of, export_entry, file_macro, guest_name, guest_trait, last_macro, post_return_name, return_entry, static_area, trait_and_macro, trait_fn, where_any, where_area, world_macro}
 use Rattle.std.specs.Str.{bytes_eq}
@@ -155,13 +155,14 @@ unfolding is_built are_built_tables is_built_world
 few-words opts resolve id nth world f h named e =
     let tables = (and_parts (are_built_tables resolve) (are_built_options opts) h).0 in
     let worlds = (and_parts _ (list_all is_built_world resolve.worlds) tables).1 in
-    let exports = (and_parts _ (list_all (λ entry. is_built_item entry.1) world.exports) (all_at is_built_world resolve.worlds id world worlds named)).1 in
+    let items = (and_parts _ (list_all (λ entry. is_under_itself entry.0 entry.1) world.imports) (and_parts _ (list_all (λ entry. is_no_type entry.1) world.exports) (all_at is_built_world resolve.worlds id world worlds named)).0).0 in
+    let exports = (and_parts _ (list_all (λ entry. is_built_item entry.1) world.exports) items).1 in
     words (built-at world.exports nth exports e)
   where
     built-at : (entries : Entries) (nth : ℕ) → list_all (λ entry. is_built_item entry.1) entries ≡ true → slice_get (functions_in entries) nth ≡ Some f → is_built_function f ≡ true
     built-at [] nth h e = absurd (cc)
     built-at ((k, entry.Interface i) ∷ entries) nth h e = absurd (cc)
-    built-at ((k, entry.Named i) ∷ entries) nth h e = absurd (cc)
+    built-at ((k, entry.Named i) ∷ entries) nth h e = built-at entries nth (and_parts true _ h).1 e
     built-at ((k, entry.Function g) ∷ entries) zero h e = let is : g ≡ f = cc in ap is_built_function (sym is) ∙ (and_parts (is_built_function g) _ h).0
     built-at ((k, entry.Function g) ∷ entries) (suc nth) h e = built-at entries nth (and_parts (is_built_function g) _ h).1 e
 

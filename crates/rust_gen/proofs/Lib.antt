@@ -17,6 +17,7 @@ mod LevelLemmas
 mod LiftLemmas
 mod LiftingLemmas
 mod LowerLemmas
+mod ListedNameLemmas
 mod ListingLemmas
 mod LoweringLemmas
 mod NamedExportLemmas
@@ -37,3 +38,5 @@ mod TextLemmas
 pub mod TreeLemmas
 mod WordLemmas
 pub mod WrapperLemmas
+mod UnusedLemmas
+mod WithinLemmas

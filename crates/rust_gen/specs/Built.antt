@@ -1,5 +1,5 @@
 -- Which tables and options hold only what the generator builds so far.
-use Rattle.std.specs.Prelude.{Bool, true, false, not, ◌&&◌, nat_le, List, [], ◌∷◌, length, Option, None, Some, is_none}
+use Rattle.std.specs.Prelude.{Bool, true, false, not, ◌&&◌, ◌==◌, nat_le, List, [], ◌∷◌, length, Option, None, Some, is_none}
 use Rattle.std.specs.List.{list_all}
 use Rattle.wit_model.specs.declared.types.WitType.{WitType}
 use Rattle.wit_model.specs.declared.types.WitType.TheVariants as wit
@@ -8,6 +8,8 @@ use Rattle.wit_model.specs.declared.types.TypeDefKind.TheVariants as sort
 use Rattle.wit_model.specs.declared.function.Function.{Function}
 use Rattle.wit_model.specs.declared.function.FunctionKind.{FunctionKind}
 use Rattle.wit_model.specs.declared.function.FunctionKind.TheVariants as kind
+use Rattle.wit_model.specs.declared.world.WorldKey.{WorldKey}
+use Rattle.wit_model.specs.declared.world.WorldKey.TheVariants as key
 use Rattle.wit_model.specs.declared.world.WorldItem.{WorldItem}
 use Rattle.wit_model.specs.declared.world.WorldItem.TheVariants as item
 use Rattle.wit_model.specs.declared.world.World.{World}
@@ -50,14 +52,28 @@ is_built_function f =
 
 abbrev pub is_built_item : WorldItem → Bool
 is_built_item (item.Function f) = is_built_function f
-is_built_item _ = false
+is_built_item (item.Named _) = true
+is_built_item (item.Interface _) = false
+
+-- a type stands under itself
+abbrev pub is_under_itself : WorldKey → WorldItem → Bool
+is_under_itself (key.Type under) (item.Named id) = under.0 == id.0
+is_under_itself _ (item.Named _) = false
+is_under_itself _ _ = true
+
+abbrev pub is_no_type : WorldItem → Bool
+is_no_type (item.Named _) = false
+is_no_type _ = true
 
 abbrev pub is_empty : {A : Type 0} → List A → Bool
 is_empty [] = true
 is_empty (_ ∷ _) = false
 
+-- types stand among the imports alone
 unfoldable pub is_built_world : World → Bool
-is_built_world world = list_all (λ entry. is_built_item entry.1) world.imports && list_all (λ entry. is_built_item entry.1) world.exports
+is_built_world world =
+    list_all (λ entry. is_built_item entry.1) world.imports && list_all (λ entry. is_built_item entry.1) world.exports
+    && list_all (λ entry. is_under_itself entry.0 entry.1) world.imports && list_all (λ entry. is_no_type entry.1) world.exports
 
 -- a type that the table may have, as long as no function reaches it: an alias, a record or a tuple. The types that it names
 -- are looked at by themselves
@@ -80,7 +96,7 @@ is_owning (ownership.Borrowing _) = false
 
 abbrev pub are_flags_off : Opts → Bool
 are_flags_off o =
-    not o.std_feature && not o.raw_strings && not o.stubs && not o.generate_all && not o.pub_export_macro && not o.generate_unused_types
+    not o.std_feature && not o.raw_strings && not o.stubs && not o.generate_all && not o.pub_export_macro
 
 abbrev pub are_lists_empty : Opts → Bool
 are_lists_empty o =
@@ -92,6 +108,6 @@ are_values_absent o =
     is_none o.export_prefix && is_none o.runtime_path && is_none o.map_type && is_none o.bitflags_path && is_none o.default_bindings_module
     && is_none o.export_macro_name && is_none o.merge_structurally_equal_types
 
--- every option is at its default
+-- every option but that for unused types is at its default
 unfoldable pub are_built_options : Opts → Bool
 are_built_options o = are_flags_off o && are_lists_empty o && are_values_absent o && is_owning o.ownership

@@ -2,7 +2,7 @@
 
 ghost use Rattle.std.specs.Prelude.{◌≡◌};
 ghost use Rattle.std.specs.List.{list_all};
-ghost use Rattle.rust_gen.specs.Built.{is_built_kind, is_built_part, is_built_type, is_built_result, is_freestanding, is_built_function, is_built_item, is_empty, is_built_world, are_built_tables, are_flags_off, are_lists_empty, are_values_absent, is_owning, are_built_options};
+ghost use Rattle.rust_gen.specs.Built.{is_built_kind, is_built_part, is_built_type, is_built_result, is_freestanding, is_built_function, is_built_item, is_empty, is_no_type, is_under_itself, is_built_world, are_built_tables, are_flags_off, are_lists_empty, are_values_absent, is_owning, are_built_options};
 
 use crate::core_signature::are_at_most;
 use crate::opts::{Opts, Ownership};
@@ -67,8 +67,37 @@ fn is_built_item(item: &WorldItem) -> bool
 {
     match item {
         WorldItem::Function(f) => is_built_function(f),
-        _ => false,
+        WorldItem::Named(_) => true,
+        WorldItem::Interface(_) => false,
     }
+}
+
+fn is_under_itself(entry: &(WorldKey, WorldItem)) -> bool
+    ensures { result ≡ is_under_itself entry.now.0 entry.now.1 }
+{
+    match (&entry.0, &entry.1) {
+        (WorldKey::Type(under), WorldItem::Named(id)) => under.0 == id.0,
+        (_, WorldItem::Named(_)) => false,
+        _ => true,
+    }
+}
+
+fn are_under_themselves(entries: &[(WorldKey, WorldItem)]) -> bool
+    ensures { result ≡ list_all (λ entry. is_under_itself entry.0 entry.1) entries.now }
+{
+    entries.iter().all(|entry| is_under_itself(entry))
+}
+
+fn is_no_type(item: &WorldItem) -> bool
+    ensures { result ≡ is_no_type item.now }
+{
+    !matches!(item, WorldItem::Named(_))
+}
+
+fn are_no_types(entries: &[(WorldKey, WorldItem)]) -> bool
+    ensures { result ≡ list_all (λ entry. is_no_type entry.1) entries.now }
+{
+    entries.iter().all(|entry| is_no_type(&entry.1))
 }
 
 fn is_empty<T>(list: &List<T>) -> bool
@@ -90,7 +119,10 @@ fn are_built_items(entries: &[(WorldKey, WorldItem)]) -> bool
 fn is_built_world(world: &World) -> bool
     ensures { result ≡ is_built_world world.now }
 {
-    are_built_items(world.imports.as_slice()) && are_built_items(world.exports.as_slice())
+    are_built_items(world.imports.as_slice())
+        && are_built_items(world.exports.as_slice())
+        && are_under_themselves(world.imports.as_slice())
+        && are_no_types(world.exports.as_slice())
 }
 
 fn are_built_worlds(worlds: &[World]) -> bool
@@ -134,7 +166,7 @@ fn are_built_kinds(types: &[TypeDef]) -> bool
     types.iter().all(|entry| is_built_kind(&entry.kind))
 }
 
-/// Whether the tables hold only worlds of functions over scalars and texts, and aliases, records and tuples.
+/// Whether the tables hold only worlds of functions over scalars and texts, and aliases, records and tuples, of which a world imports some.
 #[tactic(auto, unfolding(crate::specs::Built::are_built_tables))]
 pub(crate) fn are_built_tables(resolve: &Resolve) -> bool
     ensures { result ≡ are_built_tables resolve.now }
@@ -158,7 +190,6 @@ fn are_flags_off(opts: &Opts) -> bool
         && !opts.stubs
         && !opts.generate_all
         && !opts.pub_export_macro
-        && !opts.generate_unused_types
 }
 
 fn are_lists_empty(opts: &Opts) -> bool
@@ -185,7 +216,7 @@ fn are_values_absent(opts: &Opts) -> bool
         && opts.merge_structurally_equal_types.is_none()
 }
 
-/// Whether every option is at its default.
+/// Whether every option but that for unused types is at its default.
 #[tactic(auto, unfolding(crate::specs::Built::are_built_options))]
 pub(crate) fn are_built_options(opts: &Opts) -> bool
     ensures { result ≡ are_built_options opts.now }

@@ -63,6 +63,13 @@ abbrev pub error_types : List TypeDef → Option WitType → List WitType
 error_types types None = []
 error_types types (Some ty) = error_of_type types ty
 
+-- the two sides, as other crates name them
+abbrev pub import_side : Side
+import_side = Import
+
+abbrev pub export_side : Side
+export_side = Export
+
 -- an imported function borrows its parameters and owns its result; an exported one owns both
 abbrev pub function_roots : List TypeDef → Side → Function → Roots
 function_roots types Import f = record { borrowed = param_types f; owned = result_types f; error = error_types types f.result }

@@ -12,7 +12,7 @@ write_file-requires c =
     let found = c.in_ok-accepted.ensures.world in
     let names = accepted-names c.self.inside.opts c.args.resolve.now c.args.world.0 c.in_ok-accepted.accepted.now found c.in_ok-accepted.ensures.accepted in
     record {
-      types = definable c.self.inside.opts c.args.resolve.now c.args.world c.in_ok-accepted.accepted.now c.in_ok-accepted.ensures.checked c.in_ok-accepted.ensures.built found;
+      types = definable c.self.inside.opts c.args.resolve.now c.args.world c.in_ok-accepted.accepted.now c.in_ok-accepted.ensures.checked c.in_ok-accepted.ensures.built c.in_ok-accepted.ensures.accepted found;
       written = names.0;
       declared = names.1;
     }
