@@ -96,17 +96,17 @@ module _ {Self Operand : Type 0} (m : Meaning Self Operand) where
   does_both sound a b c one two mid out xs ys adds first later w f others s0 s at =
       let sv = adds.grows.serves w at.serves in
       let at1 : At m w f a b (one ++ (two ++ others)) s0 s = record { serves = sv; done = at.done; holds = subst (λ fs. m.denotes w a fs s) (append_assoc one two others) at.holds } in
-      let R1 : Got m.Item (Unit {0}) → m.State → Type 0 = λ x t. (outs : Facts m) × (outs ≡ mid) × After m w b (outs ++ (two ++ others)) [] xs s x t in
+      let FirstHolds : Got m.Item (Unit {0}) → m.State → Type 0 = λ x t. (outs : Facts m) × (outs ≡ mid) × After m w b (outs ++ (two ++ others)) [] xs s x t in
       let R : Got m.Item (Unit {0}) → m.State → Type 0 = λ x t. (outs : Facts m) × (outs ≡ mid ++ out) × After m w c (outs ++ others) [] (xs ++ ys) s x t in
       subst (λ o. Follows m.account o (m.does w f (m.code c) s0) R) (sym (releasing_both xs ys (m.account s)))
-      (follows_then m.account (releasing xs (m.account s)) (λ x. releasing ys x.account) (m.does w f (m.code b) s0) (m.does w f (m.code c) s0) R1 R
+      (follows_then m.account (releasing xs (m.account s)) (λ x. releasing ys x.account) (m.does w f (m.code b) s0) (m.does w f (m.code c) s0) FirstHolds R
       (first w f (two ++ others) s0 s at1) (adds.grows.stops w f s0 at.serves) (adds.quiet w f s0 at.serves)
       (λ x t done r.
       let here : m.denotes w b (mid ++ (two ++ others)) t = subst (λ fs. m.denotes w b (fs ++ (two ++ others)) t) r.1 r.2.denotes in
       let at2 : At m w f b c (two ++ (mid ++ others)) s0 t = record { serves = at.serves; done = done; holds = sound.swap w b mid two others t here } in
-      let R2 : Got m.Item (Unit {0}) → m.State → Type 0 = λ y u. (outs : Facts m) × (outs ≡ out) × After m w c (outs ++ (mid ++ others)) [] ys t y u in
-      follows_more m.account (releasing ys x.account) (m.does w f (m.code c) s0) R2 R
-      (subst (λ acc. Follows m.account (releasing ys acc) (m.does w f (m.code c) s0) R2) r.2.account (later w f (mid ++ others) s0 t at2))
+      let SecondHolds : Got m.Item (Unit {0}) → m.State → Type 0 = λ y u. (outs : Facts m) × (outs ≡ out) × After m w c (outs ++ (mid ++ others)) [] ys t y u in
+      follows_more m.account (releasing ys x.account) (m.does w f (m.code c) s0) SecondHolds R
+      (subst (λ acc. Follows m.account (releasing ys acc) (m.does w f (m.code c) s0) SecondHolds) r.2.account (later w f (mid ++ others) s0 t at2))
       (λ y u q.
       let now : m.denotes w c (out ++ (mid ++ others)) u = subst (λ fs. m.denotes w c (fs ++ (mid ++ others)) u) q.1 q.2.denotes in (
         mid ++ out,
@@ -127,10 +127,10 @@ module _ {Self Operand : Type 0} (m : Meaning Self Operand) where
       let t = r.0 in
       let after = r.2.2 in
       let at2 : At m w f b c (mid ++ others) s0 t = record { serves = at.serves; done = r.1; holds = subst (λ fs. m.denotes w b (fs ++ others) t) r.2.1 after.denotes } in
-      let R2 : Got m.Item (Unit {0}) → m.State → Type 0 = λ y u. (outs : Facts m) × (outs ≡ out) × After m w c (outs ++ others) [] xs t y u in
+      let SecondHolds : Got m.Item (Unit {0}) → m.State → Type 0 = λ y u. (outs : Facts m) × (outs ≡ out) × After m w c (outs ++ others) [] xs t y u in
       let R : Got m.Item (Unit {0}) → m.State → Type 0 = λ y u. (outs : Facts m) × (outs ≡ out) × After m w c (outs ++ others) [] xs s y u in
       subst (λ acc. Follows m.account (releasing xs acc) (m.does w f (m.code c) s0) R) after.account
-      (follows_more m.account (releasing xs (m.account t)) (m.does w f (m.code c) s0) R2 R (later w f others s0 t at2)
+      (follows_more m.account (releasing xs (m.account t)) (m.does w f (m.code c) s0) SecondHolds R (later w f others s0 t at2)
       (λ y u q. (
         q.0,
         q.1,
