@@ -1,8 +1,8 @@
 -- The types of a world that is accepted may be defined. So far no function uses one, so they are where unused types are asked for.
-use Rattle.std.proofs.Common.{◌≡◌, true, not, ◌&&◌, ◌||◌, List, [], ◌∷◌, Some, refl, sym, ap, ◌∙◌}
+use Rattle.std.proofs.Common.{◌≡◌, true, ◌&&◌, ◌||◌, List, [], ◌∷◌, Some, refl, sym, ap, ◌∙◌}
 use Rattle.std.specs.Prelude.{slice_get}
 use Rattle.std.specs.List.{list_all}
-use Rattle.std.proofs.lemmas.Bool.{and_from, and_parts, both_ways, not-true, or_from}
+use Rattle.std.proofs.lemmas.Bool.{and_from, and_parts}
 use Rattle.wit_model.specs.declared.name.WorldId.{WorldId}
 use Rattle.wit_model.specs.declared.resolve.Resolve.{Resolve}
 use Rattle.wit_model.specs.declared.types.TypeDef.{TypeDef}
@@ -12,11 +12,10 @@ use Rattle.wit_model.specs.declared.world.World.{World}
 use Rattle.wit_model.specs.WellFormed.{IsWellFormed}
 use Rattle.wit_model.proofs.AllLemmas.{all_at}
 use Rattle.rust_gen.specs.declared.opts.Opts.{Opts}
-use Rattle.rust_gen.specs.Built.{are_built_options, are_built_tables, are_flags_off, are_lists_empty, are_values_absent, is_built_kind, is_built_world, is_empty, is_owning}
+use Rattle.rust_gen.specs.Built.{are_built_options, are_built_tables, is_built_kind, is_built_world, is_empty, is_owning}
 use Rattle.rust_gen.specs.Cause.{is_accepted, is_built}
 use Rattle.rust_gen.specs.Defined.{are_defined_kinds, is_defined_kind}
 use Rattle.rust_gen.specs.DefinedNames.{AreDefinable}
-use Rattle.rust_gen.specs.Modes.{is_used}
 use Rattle.rust_gen.proofs.ListedNameLemmas.{named-definition}
 use Rattle.rust_gen.proofs.UnusedLemmas.{unused}
 use Rattle.rust_gen.proofs.WithinLemmas.{listed-within}

@@ -39,7 +39,7 @@ use Rattle.rust_gen.specs.Defined.{AreDefinitions, AreDefinitionsOf, alias_item,
 use Rattle.rust_gen.specs.DefinedNames.{AreDefinable, IsNamedDefinition, are_named_parts}
 use Rattle.rust_gen.specs.Docs.{doc_lines}
 use Rattle.rust_gen.specs.Emitted.{listed_types}
-use Rattle.rust_gen.specs.Modes.{Mode, is_used}
+use Rattle.rust_gen.specs.Modes.{is_used}
 use Rattle.rust_gen.specs.NameText.{is_wit_form}
 use Rattle.rust_gen.specs.PartType.{entry_type, found_type, levels_of, part_type, type_within, unnamed_type}
 use Rattle.rust_gen.proofs.DefinedLemmas.{definitions-owned, own_definitions}

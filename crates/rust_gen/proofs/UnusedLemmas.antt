@@ -1,7 +1,7 @@
 -- No function of a world that is built uses a type of the table.
-use Rattle.std.proofs.Common.{◌≡◌, ℕ, zero, suc, ◌<◌, Bool, true, false, ◌&&◌, ◌||◌, List, [], ◌∷◌, ◌++◌, length, Option, None, Some, map, refl, sym, ap, subst, ◌∙◌, arith}
+use Rattle.std.proofs.Common.{◌≡◌, zero, suc, true, false, List, [], ◌∷◌, ◌++◌, Option, None, Some, map, refl, sym, subst, ◌∙◌, arith}
 use Rattle.std.specs.Prelude.{slice_get}
-use Rattle.std.specs.List.{Contains, list_all, slice_index_or}
+use Rattle.std.specs.List.{Contains, list_all}
 use Rattle.std.specs.Option.{option_to_list}
 use Rattle.std.proofs.lemmas.Bool.{and_from, and_parts, false_from_ne_true, or_from}
 use Rattle.std.proofs.lemmas.List.Folds.{list_all-append, list_all-map}
@@ -17,7 +17,7 @@ use Rattle.wit_model.specs.declared.world.WorldItem.TheVariants as entry
 use Rattle.wit_model.specs.Reaches.{Reaches}
 use Rattle.wit_model.proofs.ReachLemmas.{reaches_cases}
 use Rattle.type_facts.specs.declared.info.TypeInfo.{TypeInfo}
-use Rattle.type_facts.specs.Facts.{IsInfoOf, IsReachedFrom}
+use Rattle.type_facts.specs.Facts.{IsInfoOf}
 use Rattle.type_facts.specs.Roots.{Roots, export_side, import_side, both, function_roots, listed_roots, roots_of_world, world_roots}
 use Rattle.rust_gen.specs.Built.{is_built_function, is_built_item, is_built_result, is_built_type, is_built_world, is_no_type, is_under_itself}
 use Rattle.rust_gen.specs.Emitted.{Entries}

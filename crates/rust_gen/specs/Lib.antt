@@ -33,3 +33,4 @@ pub mod TooLarge
 pub mod TypeNames
 pub mod WithText
 pub mod Wrapper
+pub mod Unfolded

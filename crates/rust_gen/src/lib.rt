@@ -34,6 +34,7 @@ mod too_large;
 mod tree;
 mod try_copy;
 mod type_names;
+mod unfolded;
 mod wrapper;
 
 pub use error::{Clash, Entry, GenError, Lack, MissingWith, TooLarge};

@@ -6,6 +6,7 @@ ghost use Rattle.wit_layout.specs.Filled.{first_too_large};
 ghost use Rattle.rust_gen.specs.TooLarge.{are_small};
 
 use crate::levels::are_shallow;
+use crate::unfolded::are_few;
 use std::alloc::Global;
 use wit_layout::{LayoutFault, SizeAlign};
 use wit_model::{OutOfMemory, Resolve};
@@ -21,16 +22,18 @@ fn have_sizes(alloc: Global, resolve: &Resolve) -> Result<bool, OutOfMemory>
     }
 }
 
-/// Whether no more than a hundred entries of the table lie on a way down, and no type has more than 2^31 - 1 bytes where
-/// pointers have 8.
+/// Whether no more than a hundred entries of the table lie on a way down, no definition prints more than 65,536 types, and no
+/// type has more than 2^31 - 1 bytes where pointers have 8.
 #[tactic(auto, unfolding(crate::specs::TooLarge::are_small))]
 pub(crate) fn are_small(alloc: Global, resolve: &Resolve) -> Result<bool, OutOfMemory>
     requires { IsWellFormed resolve.now }
     ensures { IfOk result (λ b. b ≡ are_small resolve.now.types) }
 {
-    if are_shallow(alloc, resolve.types.as_slice())? {
-        have_sizes(alloc, resolve)
-    } else {
-        Ok(false)
+    if !are_shallow(alloc, resolve.types.as_slice())? {
+        return Ok(false);
     }
+    if !are_few(alloc, resolve.types.as_slice())? {
+        return Ok(false);
+    }
+    have_sizes(alloc, resolve)
 }

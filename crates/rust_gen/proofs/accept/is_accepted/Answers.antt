@@ -1,7 +1,5 @@
 use Rattle.std.proofs.Common.{◌≡◌, ◌∙◌, true, sym}
-use Rattle.std.specs.Prelude.{is_none}
 use Rattle.std.proofs.lemmas.Bool.{and_parts}
-use Rattle.wit_layout.specs.Filled.{first_too_large}
 use Rattle.rust_gen.specs.Levels.{are_shallow}
 use Rattle.rust_gen.specs.TooLarge.{are_small}
 use Rattle.rust_gen.proofs.accept.is_accepted.Goals as goal
@@ -10,4 +8,4 @@ pub are_listed_well-requires-clause-shallow : goal.are_listed_well-requires-clau
 unfolding are_small
 are_listed_well-requires-clause-shallow c =
     let small : are_small c.args.resolve.now.types ≡ true = sym c.in_ok-are_small.ensures ∙ c.if-not-branch.false in
-    (and_parts (are_shallow c.args.resolve.now.types) (is_none (first_too_large c.args.resolve.now.types)) small).0
+    (and_parts (are_shallow c.args.resolve.now.types) _ small).0

@@ -1,4 +1,4 @@
-use Rattle.std.proofs.Common.{◌≡◌, ◌++◌, ◌||◌, Bool, true, false, OnOk, append-nil, sym, ap, subst, ◌∙◌}
+use Rattle.std.proofs.Common.{◌≡◌, ◌++◌, ◌||◌, true, false, OnOk, append-nil, sym, ap, subst, ◌∙◌}
 use Rattle.rust_gen.specs.Modes.{is_used}
 use Rattle.rust_gen.proofs.DefinedLemmas.{entry-items}
 use Rattle.rust_gen.proofs.define.push_entry.Goals as goal

@@ -1,6 +1,5 @@
-use Rattle.std.proofs.Common.{◌≡◌, ◌-◌, Some, None, IfOk, ap, subst, sym, ◌∙◌}
+use Rattle.std.proofs.Common.{◌≡◌, ◌-◌, Some, IfOk, ap, subst, sym, ◌∙◌}
 use Rattle.rust_tree.specs.declared.type_expr.TypeExpr.{TypeExpr}
-use Rattle.wit_model.specs.declared.types.WitType.TheVariants.{Id}
 use Rattle.std.proofs.lemmas.Option.{slice_get-get_or}
 use Rattle.rust_gen.specs.PartType.{entry_type, type_within}
 use Rattle.rust_gen.proofs.PartLemmas.{within-entry}
