@@ -17,3 +17,5 @@ pub mod Permutations
 pub mod PlainIsCanonical
 pub mod Instances
 pub mod NoLists
+pub mod PartPlaces
+pub mod HoldsLocally
