@@ -9,4 +9,15 @@ pub mod PlainNew
 pub mod Records
 pub mod SaysLength
 pub mod TakingOver
+pub mod Done
 pub mod Runs
+pub mod Bytes
+pub mod CellWrites
+pub mod LeafLoads
+pub mod LeafStores
+pub mod LoadSteps
+pub mod PartOffsets
+pub mod Replaced
+pub mod ScalarsInMemory
+pub mod Storing
+pub mod StoreSteps

@@ -183,7 +183,7 @@ module _ {Self Operand : Type 0} (m : Meaning Self Operand) (sound : Sound m) (t
         );
   }
 
-  stand_count : (ts : Shapes) (v : Parts ts) (vals : List m.Item) (own : List Block) → PartsStand m take ts v vals own → length vals ≡ count ts
+  pub stand_count : (ts : Shapes) (v : Parts ts) (vals : List m.Item) (own : List Block) → PartsStand m take ts v vals own → length vals ≡ count ts
   stand_count none v vals own h = ap length h.0
   stand_count (more t ts) v vals own h = ap length h.4 ∙ ap suc (stand_count ts v.1 h.1 h.3 h.6)
 

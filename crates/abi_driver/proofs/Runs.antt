@@ -57,7 +57,7 @@ addresses_both (x ∷ xs) ys = ap (λ zs. x.address ∷ zs) (addresses_both xs y
 
 module _ {Self Operand : Type 0} (m : Meaning Self Operand) where
   pub grows_same : (a : Self) → Grows m a a
-  grows_same a = record { serves = λ w h. h; more = λ w h. (w, h); stops = λ w f s h. stops_same m.account (m.does w f (m.code a) s); imports = refl; exports = refl; arguments = refl }
+  grows_same a = record { serves = λ w h. h; more = λ w h. (w, h); stops = λ w f s h. stops_same m.account (m.does w f (m.code a) s); imports = refl; exports = refl; arguments = refl; knows = λ types h. h }
 
   pub adds_same : (a : Self) → Adds m a a
   adds_same a = record { grows = grows_same a; quiet = λ w f s h. refl }
@@ -71,6 +71,7 @@ module _ {Self Operand : Type 0} (m : Meaning Self Operand) where
       imports = h.grows.imports ∙ g.grows.imports;
       exports = h.grows.exports ∙ g.grows.exports;
       arguments = h.grows.arguments ∙ g.grows.arguments;
+      knows = λ types k. h.grows.knows types (g.grows.knows types k);
     };
     quiet = λ w f s v. h.quiet w f s v ∙ g.quiet w f s (h.grows.serves w v);
   }

@@ -93,6 +93,8 @@ has_type wasm.I32 (core.I32 z) = true
 has_type wasm.I64 (core.I64 z) = true
 has_type wasm.F32 (core.F32 x) = true
 has_type wasm.F64 (core.F64 x) = true
+has_type wasm.Pointer (core.Pointer address) = true
+has_type wasm.Length (core.Length n) = true
 has_type _ _ = false
 
 -- of a bool the low eight bits are 0 or 1, and a char is a Unicode scalar value

@@ -14,6 +14,7 @@ use Rattle.abi_driver.specs.Laws.{Adds, Stays, ofs}
 use Rattle.abi_driver.specs.Leaves.{LiftsScalar, LiftsText, LowersScalar, LowersText}
 use Rattle.abi_driver.specs.Meaning.{Datum, Meaning, arg}
 use Rattle.abi_driver.specs.Parts.{LiftsParts, LowersParts, count}
+use Rattle.abi_driver.specs.Touches.{RowOfTouch, Touch, touch, touch_makes, touch_reads}
 
 -- 1. Scalars
 
@@ -108,8 +109,12 @@ ReadsOther types (TupleLower n) k = k ≡ 1
 ReadsOther types (TupleLift n) k = k ≡ n
 ReadsOther types _ k = ⊥
 
+abbrev pub ReadsTouch : List TypeDef → Instruction → Option Touch → ℕ → Type 0
+ReadsTouch types i None k = ReadsOther types i k
+ReadsTouch types i (Some t) k = k ≡ touch_reads t
+
 abbrev pub ReadsBy : List TypeDef → Instruction → (lowers lifts : Option Scalar) → ℕ → Type 0
-ReadsBy types i None None k = ReadsOther types i k
+ReadsBy types i None None k = ReadsTouch types i (touch i) k
 ReadsBy types i _ _ k = k ≡ 1
 
 abbrev pub Reads : List TypeDef → Instruction → ℕ → Type 0
@@ -125,8 +130,12 @@ MakesOther types (TupleLower n) k = k ≡ n
 MakesOther types (TupleLift n) k = k ≡ 1
 MakesOther types _ k = ⊥
 
+abbrev pub MakesTouch : List TypeDef → Instruction → Option Touch → ℕ → Type 0
+MakesTouch types i None k = MakesOther types i k
+MakesTouch types i (Some t) k = k ≡ touch_makes t
+
 abbrev pub MakesBy : List TypeDef → Instruction → (lowers lifts : Option Scalar) → ℕ → Type 0
-MakesBy types i None None k = MakesOther types i k
+MakesBy types i None None k = MakesTouch types i (touch i) k
 MakesBy types i _ _ k = k ≡ 1
 
 abbrev pub Makes : List TypeDef → Instruction → ℕ → Type 0
@@ -162,10 +171,14 @@ module _ {Self Operand : Type 0} (m : Meaning Self Operand) where
   RowOther types (TupleLift n) os rs old new = (ts : Shapes) → count ts ≡ n → LiftsParts m ts (tuple ts) (λ v. v) os rs old new
   RowOther types _ os rs old new = ⊥
 
+  abbrev pub RowTouch : List TypeDef → Instruction → Option Touch → (os rs : List Operand) → (old new : Self) → Type 0
+  RowTouch types i None os rs old new = RowOther types i os rs old new
+  RowTouch types i (Some t) os rs old new = RowOfTouch m t os rs old new
+
   abbrev pub RowBy : List TypeDef → Instruction → (lowers lifts : Option Scalar) → (os rs : List Operand) → (old new : Self) → Type 0
   RowBy types i (Some s) _ os rs old new = LowersScalar m s os rs old new
   RowBy types i None (Some s) os rs old new = LiftsScalar m s os rs old new
-  RowBy types i None None os rs old new = RowOther types i os rs old new
+  RowBy types i None None os rs old new = RowTouch types i (touch i) os rs old new
 
   abbrev pub Row : List TypeDef → Instruction → (os rs : List Operand) → (old new : Self) → Type 0
   Row types i os rs old new = RowBy types i (lowered_scalar i) (lifted_scalar i) os rs old new

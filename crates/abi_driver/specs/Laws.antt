@@ -1,5 +1,6 @@
 -- What each meaning keeps, and in which sense code that was added does an action.
-use Rattle.std.specs.Prelude.{◌≡◌, ℕ, suc, List, [], ◌∷◌, ◌++◌, length, map, Option, IfSome}
+use Rattle.std.specs.Prelude.{◌≡◌, ◌⊎◌, ℕ, suc, List, [], ◌∷◌, ◌++◌, length, map, Option, IfSome}
+use Rattle.wit_model.specs.declared.types.TypeDef.{TypeDef}
 use Rattle.wrapper_data.specs.declared.block.Block.{Block}
 use Rattle.wrapper_data.specs.declared.form.Form.{Form}
 use Rattle.wrapper_data.specs.declared.word.Word.{Word}
@@ -38,6 +39,8 @@ module _ {Self Operand : Type 0} (m : Meaning Self Operand) where
   -- 1. The meaning is one
 
   pub record Sound : Type 0 where
+    -- a pointer has four bytes, or eight
+    pub wide : (m.width ≡ 2) ⊎ (m.width ≡ 3)
     -- facts hold in any order, and fewer of them hold too
     pub swap : (w : m.World) (b : Self) (one two others : Facts) (s : m.State) → m.denotes w b (one ++ (two ++ others)) s → m.denotes w b (two ++ (one ++ others)) s
     pub fewer : (w : m.World) (b : Self) (some others : Facts) (s : m.State) → m.denotes w b (some ++ others) s → m.denotes w b others s
@@ -84,6 +87,7 @@ module _ {Self Operand : Type 0} (m : Meaning Self Operand) where
     pub imports : m.imports new ≡ m.imports old
     pub exports : m.exports new ≡ m.exports old
     pub arguments : m.arguments new ≡ m.arguments old
+    pub knows : (types : List TypeDef) → m.knows old types → m.knows new types
 
   -- code that is no call makes none, from whatever state
   abbrev pub Quiet : (old new : Self) → Type 0

@@ -1,5 +1,6 @@
 -- What a `Bindgen` means.
 use Rattle.std.specs.Prelude.{ℕ, Bool, List, Option}
+use Rattle.wit_model.specs.declared.types.TypeDef.{TypeDef}
 use Rattle.wrapper_data.specs.declared.block.Block.{Block}
 use Rattle.wrapper_data.specs.declared.form.Form.{Form}
 use Rattle.wrapper_data.specs.declared.word.Word.{Word}
@@ -42,5 +43,7 @@ pub record Meaning (Self Operand : Type 0) : Type 1 where
   -- whether it makes code of imports, and of exports
   pub imports : Self → Bool
   pub exports : Self → Bool
+  -- it has the layouts of the types of this table
+  pub knows : Self → List TypeDef → Type 0
   -- how many arguments the code has; none where there is no bound
   pub arguments : Self → Option ℕ

@@ -4,6 +4,7 @@ use Rattle.std.specs.Int.{w8, w16, w32, w64, cast_signed}
 use Rattle.std.specs.List.{AllByRecursion}
 use Rattle.wit_model.specs.declared.types.WitType.{WitType}
 use Rattle.wit_model.specs.declared.types.WitType.TheVariants as wit
+use Rattle.wit_layout.specs.Filled.{IsFilledFor}
 use Rattle.wit_layout.specs.Tree.{Scalar}
 use Rattle.wrapper_data.specs.declared.block.Block.{Block}
 use Rattle.wrapper_data.specs.declared.form.Form.{Form}
@@ -238,6 +239,7 @@ plain_meaning = record {
   code = λ b. b.steps;
   imports = λ b. b.import;
   exports = λ b. not b.import;
+  knows = λ b types. IsFilledFor b.sizes types;
   arguments = λ b. None;
 }
 
@@ -253,3 +255,4 @@ pub record AddsStep (st : Step) (k : ℕ) (old new : PlainBindgen) : Type 0 wher
   pub steps : new.steps ≡ old.steps ++ st ∷ []
   pub count : new.count ≡ old.count + k
   pub import : new.import ≡ old.import
+  pub sizes : new.sizes ≡ old.sizes

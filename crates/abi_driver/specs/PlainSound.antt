@@ -1,4 +1,5 @@
 -- That the meaning of a `PlainBindgen` is one: it keeps the laws on facts, operands and items.
+use mathlib.Core.Logic.{inl}
 use Rattle.std.proofs.Common.{◌≡◌, ℕ, zero, suc, ◌<◌, true, List, [], ◌∷◌, ◌++◌, length, refl, sym, ap, ap₂, ◌∙◌, subst}
 use Rattle.std.specs.List.{AllByRecursion}
 use Rattle.wrapper_data.specs.declared.block.Block.{Block}
@@ -237,6 +238,7 @@ mutual
 
 pub plain_sound : Sound plain_meaning
 plain_sound = record {
+  wide = inl refl;
   swap = λ w b one two others s h.
       let P = IsRight b s in
       let later = all_right P one (two ++ others) h in

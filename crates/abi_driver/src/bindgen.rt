@@ -1,6 +1,8 @@
 //! What makes code of instructions, and its laws.
 
-ghost use Rattle.std.specs.Prelude.{◌≡◌, [], OnOk, IfOk};
+ghost use Rattle.std.specs.Prelude.{◌≡◌, List, [], OnOk, IfOk};
+ghost use Rattle.wit_model.specs.declared.types.TypeDef.{TypeDef};
+ghost use Rattle.wit_layout.specs.Filled.{IsFilledFor};
 ghost use Rattle.abi_driver.specs.Instructions.{Emits, IsSendable};
 ghost use Rattle.abi_driver.specs.Laws.{Sound};
 ghost use Rattle.abi_driver.specs.Meaning.{Meaning};
@@ -56,8 +58,9 @@ pub trait Bindgen {
         align: Alignment,
     ) -> Result<Self::Operand, OutOfMemory>;
 
-    /// The layouts of the types.
-    fn sizes(&self) -> &SizeAlign;
+    /// The layouts of the types of the table that it is for.
+    fn sizes(&self) -> &SizeAlign
+        ensures { (types : List TypeDef) → meaning.knows self.now types → IsFilledFor result.now types };
 
     /// Whether a list of this type lies in memory as it is.
     fn is_list_canonical(&self, resolve: &Resolve, ty: &WitType) -> bool;

@@ -1,6 +1,6 @@
 //! Core words become values.
 
-mod leaf;
+pub(crate) mod leaf;
 
 ghost use Rattle.std.specs.Prelude.{◌≡◌, ◌<◌, ◌++◌, IsTrue, List, true, drop, length, IfOk};
 ghost use Rattle.std.specs.List.{list_all};

@@ -1,6 +1,6 @@
 //! Values become core words.
 
-mod leaf;
+pub(crate) mod leaf;
 
 ghost use Rattle.std.specs.Prelude.{◌≡◌, ◌<◌, IsTrue, true, length, IfOk};
 ghost use Rattle.std.specs.List.{list_all};

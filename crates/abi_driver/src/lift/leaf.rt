@@ -14,7 +14,7 @@ use std::alloc::Global;
 use wit_model::{OutOfMemory, Resolve, WitType};
 
 /// The instruction that makes a scalar of a type of a word; none where the type is no scalar.
-pub(super) fn scalar_lifting(ty: WitType) -> Option<Instruction<'static>>
+pub(crate) fn scalar_lifting(ty: WitType) -> Option<Instruction<'static>>
     ensures { result ≡ lifting ty }
 {
     match ty {
@@ -35,7 +35,7 @@ pub(super) fn scalar_lifting(ty: WitType) -> Option<Instruction<'static>>
 }
 
 /// The scalar that the word at a place represents.
-pub(super) fn lift_scalar<B: Bindgen>(
+pub(crate) fn lift_scalar<B: Bindgen>(
     alloc: Global,
     resolve: &Resolve,
     bindgen: &mut B,
@@ -61,7 +61,7 @@ pub(super) fn lift_scalar<B: Bindgen>(
 }
 
 /// The text that the address and the length at a place represent.
-pub(super) fn lift_text<B: Bindgen>(
+pub(crate) fn lift_text<B: Bindgen>(
     alloc: Global,
     resolve: &Resolve,
     bindgen: &mut B,

@@ -10,7 +10,7 @@ use std::alloc::Global;
 use wit_model::{List, OutOfMemory, Resolve, WitType};
 
 /// The instruction that makes a word of a scalar of a type; none where the type is no scalar.
-pub(super) fn scalar_lowering(ty: WitType) -> Option<Instruction<'static>>
+pub(crate) fn scalar_lowering(ty: WitType) -> Option<Instruction<'static>>
     ensures { result ≡ lowering ty }
 {
     match ty {
@@ -31,7 +31,7 @@ pub(super) fn scalar_lowering(ty: WitType) -> Option<Instruction<'static>>
 }
 
 /// Sends an instruction with a value, and gives its results.
-pub(super) fn lower_by<B: Bindgen>(
+pub(crate) fn lower_by<B: Bindgen>(
     alloc: Global,
     resolve: &Resolve,
     bindgen: &mut B,

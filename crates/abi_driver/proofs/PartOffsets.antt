@@ -1,0 +1,113 @@
+-- Where the parts of a record or a tuple of the table stand.
+use Rattle.std.proofs.Common.{◌≡◌, ℕ, zero, suc, ◌+◌, ◌*◌, ◌^◌, ◌<◌, ◌≤◌, ◌⊎◌, Bool, true, false, List, [], ◌∷◌, ◌++◌, length, map, take, get_or, Option, None, Some, refl, sym, ap, ◌∙◌, subst, arith, add-mul}
+use mathlib.Core.Logic.{inl, inr}
+use Rattle.std.specs.List.{slice_get, slice_index}
+use Rattle.std.proofs.lemmas.List.{take_more}
+use Rattle.wit_model.specs.Size.{bytes_at}
+use Rattle.wit_model.specs.TypeOrder.{GoesDown}
+use Rattle.wit_model.specs.declared.name.TypeId.{TypeId}
+use Rattle.wit_model.specs.declared.size.ArchitectureSize.{ArchitectureSize}
+use Rattle.wit_model.specs.declared.types.TypeDef.{TypeDef}
+use Rattle.wit_model.specs.declared.types.TypeDefKind.{TypeDefKind}
+use Rattle.wit_model.specs.declared.types.TypeDefKind.TheVariants as kind
+use Rattle.wit_model.specs.declared.types.WitType.{WitType}
+use Rattle.wit_model.specs.declared.types.WitType.TheVariants as wit
+use Rattle.wit_layout.specs.Extent.{Extent, end, place, places}
+use Rattle.wit_layout.specs.Sizes.{elem_size, extent_of, extents_of, field_offsets}
+use Rattle.wit_layout.specs.Told.{ArePairsOf, is_alias}
+use Rattle.wit_layout.specs.Tree.{tree_at}
+use Rattle.wrapper_meaning.specs.Layout.{layout, layouts}
+use Rattle.wrapper_meaning.specs.Shape.{shape_at, shape_of}
+use Rattle.wrapper_meaning.specs.Shape.Shape.{fields}
+use Rattle.wrapper_meaning.proofs.LayoutIsTree.{layout_is_tree}
+use Rattle.abi_driver.specs.Instructions.{shapes_of}
+use Rattle.abi_driver.specs.Meaning.{Meaning}
+use Rattle.abi_driver.specs.Places.{HasParts, IsOfParts}
+use Rattle.abi_driver.proofs.Records.{record_shape, tuple_shape}
+use Rattle.abi_driver.proofs.StoreSteps.{behind_of}
+
+-- 1. Ends and places of lists
+
+end_last : (es : List Extent) (e : Extent) (k : ℕ) → end (es ++ e ∷ []) k ≡ place e (end es k) + e.bytes
+end_last [] e k = refl
+end_last (x ∷ es) e k = end_last es e (place x k + x.bytes)
+
+place_at : (es : List Extent) (i k : ℕ) (d : Extent) → i < length es → slice_index (places es k) i ≡ place (get_or es i d) (end (take i es) k)
+place_at [] i k d l = absurd (omega (arith, l))
+place_at (e ∷ es) zero k d l = refl
+place_at (e ∷ es) (suc i) k d l = place_at es i (place e k + e.bytes) d (omega (arith, l))
+
+map_take : {A B : Type 0} (f : A → B) (xs : List A) (i : ℕ) → take i (map f xs) ≡ map f (take i xs)
+map_take f xs zero = refl
+map_take f [] (suc i) = refl
+map_take f (x ∷ xs) (suc i) = ap (λ ys. f x ∷ ys) (map_take f xs i)
+
+map_get : {A B : Type 0} (f : A → B) (xs : List A) (i : ℕ) (d : A) → i < length xs → get_or (map f xs) i (f d) ≡ f (get_or xs i d)
+map_get f [] i d l = absurd (omega (arith, l))
+map_get f (x ∷ xs) zero d l = refl
+map_get f (x ∷ xs) (suc i) d l = map_get f xs i d (omega (arith, l))
+
+length_all : {A B : Type 0} (f : A → B) (xs : List A) → length (map f xs) ≡ length xs
+length_all f [] = refl
+length_all f (x ∷ xs) = ap suc (length_all f xs)
+
+map_last : {A B : Type 0} (f : A → B) (xs : List A) (x : A) → map f (xs ++ x ∷ []) ≡ map f xs ++ f x ∷ []
+map_last f [] x = refl
+map_last f (y ∷ xs) x = ap (λ ys. f y ∷ ys) (map_last f xs x)
+
+-- 2. Parts of the table
+
+module _ (w : ℕ) (types : List TypeDef) where
+  part_extent : WitType → Extent
+  part_extent ty = extent_of w (layout (shape_of types ty))
+
+  pub part_extents : (tys : List WitType) → extents_of w (layouts (shapes_of types tys)) ≡ map (λ ty. extent_of w (layout (shape_of types ty))) tys
+  part_extents [] = refl
+  part_extents (ty ∷ tys) = ap (λ es. extent_of w (layout (shape_of types ty)) ∷ es) (part_extents tys)
+
+  -- behind one more part
+  pub behind_next : (tys : List WitType) (i : ℕ) (d : WitType) → i < length tys
+      → end (extents_of w (layouts (shapes_of types (take (i + 1) tys)))) 0 ≡ place (extent_of w (layout (shape_of types (get_or tys i d)))) (end (extents_of w (layouts (shapes_of types (take i tys)))) 0) + elem_size w (layout (shape_of types (get_or tys i d)))
+  behind_next tys i d l =
+      let f : WitType → Extent = λ ty. extent_of w (layout (shape_of types ty)) in
+      ap (λ es. end es 0) (part_extents (take (i + 1) tys) ∙ ap (map f) (take_more tys i d l) ∙ map_last f (take i tys) (get_or tys i d)) ∙ end_last (map f (take i tys)) (f (get_or tys i d)) 0
+      ∙ ap (λ es. place (f (get_or tys i d)) (end es 0) + (f (get_or tys i d)).bytes) (sym (part_extents (take i tys)))
+
+  kind_layout : (id : ℕ) (entry : TypeDef) (tys : List WitType) (k : TypeDefKind) → GoesDown types → slice_get types id ≡ Some entry → entry.kind ≡ k → IsOfParts k tys → layout (shape_at types id) ≡ layout (fields (shapes_of types tys))
+  kind_layout id entry tys (kind.Record members) down at e is = ap layout (record_shape types down id entry at members e) ∙ ap (λ xs. layout (fields (shapes_of types xs))) (sym is)
+  kind_layout id entry tys (kind.Tuple members) down at e is = ap layout (tuple_shape types down id entry at members e) ∙ ap (λ xs. layout (fields (shapes_of types xs))) (sym is)
+  kind_layout id entry tys _ down at e is = elim is [ ]
+
+  not_alias : (k : TypeDefKind) (tys : List WitType) → IsOfParts k tys → is_alias k ≡ false
+  not_alias (kind.Record members) tys is = refl
+  not_alias (kind.Tuple members) tys is = refl
+  not_alias _ tys is = elim is [ ]
+
+  pub no_alias : (id : ℕ) (tys : List WitType) → (h : HasParts types id tys) → is_alias h.0.kind ≡ false
+  no_alias id tys h = not_alias h.0.kind tys h.2
+
+  -- the place of a part
+  pub part_offset : (id : TypeId) (tys : List WitType) (i : ℕ) (d : WitType) → GoesDown types → HasParts types id.0 tys → i < length tys
+      → slice_index (field_offsets w (tree_at types id.0)) i ≡ place (extent_of w (layout (shape_of types (get_or tys i d)))) (end (extents_of w (layouts (shapes_of types (take i tys)))) 0)
+  part_offset id tys i d down h l =
+      let f : WitType → Extent = λ ty. extent_of w (layout (shape_of types ty)) in
+      let tree : tree_at types id.0 ≡ layout (fields (shapes_of types tys)) = sym (layout_is_tree types (wit.Id id)) ∙ kind_layout id.0 h.0 tys h.0.kind down h.1 refl h.2 in
+      let short : i < length (map f tys) = omega (arith, l, length_all f tys) in
+      ap (λ t. slice_index (field_offsets w t) i) tree ∙ ap (λ es. slice_index (places es 0) i) (part_extents tys) ∙ place_at (map f tys) i 0 (f d) short
+      ∙ ap (λ e. place e (end (take i (map f tys)) 0)) (map_get f tys i d l) ∙ ap (λ es. place (f (get_or tys i d)) (end es 0)) (map_take f tys i ∙ sym (part_extents (take i tys)))
+
+-- 3. An offset that was read
+
+get_in : (sizes : List ArchitectureSize) (n width : ℕ) (s : ArchitectureSize) → slice_get sizes n ≡ Some s → slice_index (map (λ (z : ArchitectureSize). bytes_at z width) sizes) n ≡ bytes_at s width
+get_in [] n width s e = absurd (let h = e in cc)
+get_in (z ∷ sizes) zero width s e = ap (λ (z : ArchitectureSize). bytes_at z width) (let h = e in cc)
+get_in (z ∷ sizes) (suc n) width s e = get_in sizes n width s e
+
+-- at the width of pointers of four bytes, or of eight
+pub offset_read : (w : ℕ) (sizes : List ArchitectureSize) (f : ℕ → List ℕ) (n : ℕ) (s : ArchitectureSize) → (w ≡ 2) ⊎ (w ≡ 3) → ArePairsOf sizes f → slice_get sizes n ≡ Some s → bytes_at s (2 ^ w) ≡ slice_index (f w) n
+offset_read w sizes f n s (inl e) pairs at = ap (λ k. bytes_at s (2 ^ k)) e ∙ sym (get_in sizes n 4 s at) ∙ ap (λ (xs : List ℕ). slice_index xs n) pairs.0 ∙ ap (λ k. slice_index (f k) n) (sym e)
+offset_read w sizes f n s (inr e) pairs at = ap (λ k. bytes_at s (2 ^ k)) e ∙ sym (get_in sizes n 8 s at) ∙ ap (λ (xs : List ℕ). slice_index xs n) pairs.1 ∙ ap (λ k. slice_index (f k) n) (sym e)
+
+-- bytes and pointers, each with a sum of two, are the sum
+pub spread : (x y p r width : ℕ) → x + y + (p + r) * width ≡ x + p * width + (y + r * width)
+spread x y p r width = omega (arith, add-mul p r width)

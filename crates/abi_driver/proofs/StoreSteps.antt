@@ -1,0 +1,251 @@
+-- Values are stored: scalars, texts, and parts.
+use Rattle.std.proofs.Common.{◌≡◌, ℕ, suc, ◌+◌, ◌-◌, ◌*◌, ◌%◌, ◌^◌, ◌<◌, ◌≤◌, ◌⊎◌, Bool, true, false, List, [], ◌∷◌, ◌++◌, length, drop, take, Option, None, Some, refl, sym, ap, ap₂, ◌∙◌, subst, arith, append_assoc, append-nil}
+use mathlib.Core.Logic.{inl, inr}
+use Rattle.std.proofs.lemmas.List.{drop_all}
+use Rattle.std.specs.List.{Contains}
+use Rattle.wit_model.specs.Size.{bytes_at}
+use Rattle.wit_model.specs.declared.name.TypeId.{TypeId}
+use Rattle.wit_model.specs.declared.size.ArchitectureSize.{ArchitectureSize}
+use Rattle.wit_model.specs.declared.types.Field.{Field}
+use Rattle.wit_model.specs.declared.types.TypeDef.{TypeDef}
+use Rattle.wit_model.specs.declared.types.WitType.{WitType}
+use Rattle.wit_layout.specs.Extent.{end, greatest, place, record_extent}
+use Rattle.wit_layout.specs.Sizes.{alignment, elem_size, extent_of, extents_of}
+use Rattle.wit_layout.specs.Tree.{Scalar}
+use Rattle.wrapper_data.specs.Heap.{is_heap}
+use Rattle.wrapper_data.specs.declared.block.Block.{Block}
+use Rattle.wrapper_data.specs.declared.form.Form.{Form}
+use Rattle.wrapper_data.specs.declared.word.Word.{Word}
+use Rattle.wrapper_data.specs.declared.word.Word.TheVariants as core
+use Rattle.wrapper_meaning.specs.Cells.{HasNumber}
+use Rattle.wrapper_meaning.specs.Direction.{Direction}
+use Rattle.wrapper_meaning.specs.InMemory.{Holds, PartsHold}
+use Rattle.wrapper_meaning.specs.InRange.{AreListed, IsListed}
+use Rattle.wrapper_meaning.specs.Layout.{layout, layouts}
+use Rattle.wrapper_meaning.specs.Shape.{Shape, Shapes, shape_of}
+use Rattle.wrapper_meaning.specs.Shape.Shape.{fields, tuple}
+use Rattle.wrapper_meaning.specs.Shape.Shapes.{none, more}
+use Rattle.wrapper_meaning.specs.Value.{Parts, Value}
+use Rattle.wrapper_meaning.proofs.HoldsLocally.{holds_locally}
+use Rattle.wrapper_meaning.proofs.PartPlaces.{aligned_part, end_behind, grain_of_first, grain_of_rest, less_grain, parts_end, place_aligned, place_behind}
+use Rattle.abi_driver.specs.declared.instruction.Instruction.TheVariants.{RecordLower, TupleLower}
+use Rattle.abi_driver.specs.Account.{Account, Done, Got, addresses}
+use Rattle.abi_driver.specs.Instructions.{Emits, IsRecord, field_shapes, shapes_of}
+use Rattle.abi_driver.specs.Laws.{Adds, After, At, Facts, Sound, item_data, ofs}
+use Rattle.abi_driver.specs.Leaves.{way}
+use Rattle.abi_driver.specs.Meaning.{Fact, Meaning, item, of, word}
+use Rattle.abi_driver.specs.Parts.{LowersParts, PartsStand, count}
+use Rattle.abi_driver.specs.Places.{HasRoom, HavePlaces, IsWritten, replaced}
+use Rattle.abi_driver.specs.Stores.{LowersToMemory, Puts, Releases, Stored, StoresParts, by_storing}
+use Rattle.abi_driver.specs.Touches.{reached}
+use Rattle.abi_driver.proofs.Done.{does_done, lets_go, releases_both}
+use Rattle.abi_driver.proofs.Runs.{adds_both, adds_same, addresses_both, total-append}
+use Rattle.wrapper_meaning.specs.Items.{total}
+use Rattle.abi_driver.proofs.Replaced.{block_formed, replaced_formed, replaced_same, replaced_twice}
+use Rattle.abi_driver.proofs.Storing.{written_both, written_in}
+
+module _ {Self Operand : Type 0} (m : Meaning Self Operand) (types : List TypeDef) where
+  -- where the parts from one on begin
+  abbrev pub behind_of : List WitType → ℕ → ℕ
+  behind_of tys i = end (extents_of m.width (layouts (shapes_of types (take i tys)))) 0
+
+  -- what stores the parts from one on, stores all
+  abbrev pub Rest : Bool → List WitType → List Operand → Operand → ArchitectureSize → ℕ → (a b : Self) → Type 0
+  Rest realloc tys parts address offset i a b = (new : Self) → StoresParts m realloc (shapes_of types (drop i tys)) (drop i parts) address offset (behind_of tys i) b new → StoresParts m realloc (shapes_of types tys) parts address offset 0 a new
+
+module _ {Self Operand : Type 0} (m : Meaning Self Operand) (sound : Sound m) (types : List TypeDef) where
+  -- a word that an operand denotes may be read again, behind other facts
+  pub word_again : (w : m.World) (b : Self) (front others : Facts m) (o : Operand) (x : Word) (s : m.State) → m.denotes w b (front ++ of o (word x) ∷ others) s → m.denotes w b (of o (word x) ∷ front ++ of o (word x) ∷ others) s
+  word_again w b front others o x s h =
+      let y : Facts m = of o (word x) ∷ [] in
+      let first : m.denotes w b (y ++ (front ++ others)) s = sound.swap w b front y others s h in
+      let twice : m.denotes w b (y ++ (y ++ (front ++ others))) s = sound.again w b o x (front ++ others) s first in
+      let both : m.denotes w b ((y ++ y) ++ (front ++ others)) s = twice in
+      let behind : m.denotes w b (front ++ ((y ++ y) ++ others)) s = sound.swap w b (y ++ y) front others s both in
+      sound.swap w b front y (y ++ others) s behind
+
+  -- no parts are stored by no code
+  pub none_stores : (realloc : Bool) (address : Operand) (offset : ArchitectureSize) (behind : ℕ) (a : Self) → StoresParts m realloc none [] address offset behind a a
+  none_stores realloc address offset behind a = record {
+    adds = adds_same m a;
+    row = λ heap v vals own listed stands w f others s0 s q k b left at places goes.
+        let empty : own ≡ [] = stands.1 in
+        let is_left : left ≡ (m.account s).taken = subst (λ bs. Releases (addresses bs) (m.account s).taken left) empty goes in
+        let here : m.denotes w a (of address (word (core.Pointer q)) ∷ others) s = subst (λ vs. m.denotes w a (ofs m [] (item_data m vs) ++ of address (word (core.Pointer q)) ∷ others) s) stands.0 at.holds in
+        let same = replaced_same (m.account s).heap.blocks b places.formed places.there in (
+          s,
+          b,
+          at.done,
+          record { written = record { formed = block_formed (m.account s).heap.blocks b places.formed places.there; same_address = refl; same_size = refl; outside = λ i n h. refl }; holds = empty },
+          record {
+            account = ap₂ (λ (bs : List Block) (ts : List ℕ). record (m.account s) { heap = record { blocks = bs }; taken = ts }) (sym same) (sym is_left);
+            owns = λ g. ap (λ bs. total g (m.owns s ++ addresses bs)) empty;
+            denotes = sound.fewer w a (of address (word (core.Pointer q)) ∷ []) others s here;
+          },
+        );
+  }
+
+  module _ (realloc : Bool) (t : Shape) (ts : Shapes) (behind : ℕ) where
+    -- where the first part stands, and where it ends
+    abbrev here : ℕ
+    here = place (extent_of m.width (layout t)) behind
+
+    abbrev next : ℕ
+    next = here + elem_size m.width (layout t)
+
+    abbrev last : ℕ
+    last = end (extents_of m.width (layouts ts)) next
+
+    -- a part and then others
+    pub more_stores : (a b c : Self) (o : Operand) (parts : List Operand) (address : Operand) (offset first_offset : ArchitectureSize) → bytes_at first_offset (2 ^ m.width) ≡ bytes_at offset (2 ^ m.width) + here
+        → LowersToMemory m realloc t o address first_offset a b → StoresParts m realloc ts parts address offset next b c → StoresParts m realloc (more t ts) (o ∷ parts) address offset behind a c
+    more_stores a b c o parts address offset first_offset is first later = record {
+      adds = adds_both m a b c first.adds later.adds;
+      row = λ heap v vals own listed stands w f others s0 s q k blk left at places goes.
+          let acc = m.account s in
+          let x = stands.0 in
+          let rest = stands.1 in
+          let own1 = stands.2 in
+          let own2 = stands.3 in
+          let e = extent_of m.width (layout t) in
+          let es = extents_of m.width (layouts ts) in
+          let base = reached m q offset in
+          let pointer : Facts m = of address (word (core.Pointer q)) ∷ [] in
+          let ys : Facts m = ofs m parts (item_data m rest) in
+          let low : behind ≤ here = place_behind e behind in
+          let ends : next ≤ last = end_behind es next in
+          let split = releases_both (addresses own1) (addresses own2) acc.taken left (subst (λ zs. Releases zs acc.taken left) (ap addresses stands.7 ∙ addresses_both own1 own2) goes) in
+          let facts : m.denotes w a (((of o (item x) ∷ []) ++ ys) ++ of address (word (core.Pointer q)) ∷ others) s = subst (λ vs. m.denotes w a (ofs m (o ∷ parts) (item_data m vs) ++ of address (word (core.Pointer q)) ∷ others) s) stands.4 at.holds in
+          let doubled : m.denotes w a (pointer ++ ((of o (item x) ∷ []) ++ (ys ++ (pointer ++ others)))) s = word_again w a ((of o (item x) ∷ []) ++ ys) others address (core.Pointer q) s facts in
+          let at1 : At m w f a b (of o (item x) ∷ of address (word (core.Pointer q)) ∷ (ys ++ (pointer ++ others))) s0 s =
+          record { serves = later.adds.grows.serves w at.serves; done = at.done; holds = sound.swap w a pointer (of o (item x) ∷ []) (ys ++ (pointer ++ others)) s doubled } in
+          let reach : reached m q first_offset ≡ base + here = ap (λ n. q + n) is ∙ omega arith in
+          let room : HasRoom m.width t (reached m q first_offset) blk (k + here) acc.heap = record {
+            formed = places.formed;
+            there = places.there;
+            starts = reach ∙ omega (arith, places.starts);
+            fits = omega (arith, places.fits, ends);
+            aligned = subst (λ n. n % alignment m.width (layout t) ≡ 0) (sym reach) (aligned_part base here (greatest (e ∷ es)).grain e.grain places.aligned (grain_of_first e es) (place_aligned e behind));
+          } in
+          let one = first.row heap v.0 x own1 listed.0 stands.5 w f (ys ++ (pointer ++ others)) s0 s q (k + here) blk split.0 at1 room split.1 in
+          let s1 = one.0 in
+          let mid = one.1 in
+          let put1 = one.3 in
+          let after1 = one.4 in
+          let at2 : At m w f b c (ys ++ (pointer ++ others)) s0 s1 = record { serves = at.serves; done = one.2; holds = after1.denotes } in
+          let formed = replaced_formed acc.heap.blocks blk mid (k + here) (elem_size m.width (layout t)) places.formed places.there put1.written in
+          let places1 : HavePlaces m.width ts next base mid k (record { blocks = replaced mid acc.heap.blocks }) = record {
+            formed = formed.0;
+            there = formed.1;
+            starts = places.starts ∙ ap (λ n. n + k) (sym put1.written.same_address);
+            fits = omega (arith, places.fits, put1.written.same_size);
+            aligned = less_grain base (greatest (e ∷ es)).grain (greatest es).grain places.aligned (grain_of_rest e es);
+          } in
+          let places2 = subst (λ (z : Account m.Item). HavePlaces m.width ts next base mid k z.heap) (sym after1.account) places1 in
+          let goes2 = subst (λ (z : Account m.Item). Releases (addresses own2) z.taken left) (sym after1.account) split.2 in
+          let two = later.row heap v.1 rest own2 listed.1 stands.6 w f others s0 s1 q k mid left at2 places2 goes2 in
+          let u = two.0 in
+          let all = two.1 in
+          let put2 = two.3 in
+          let after2 = two.4 in
+          let stays = holds_locally m.width (way realloc heap) t v.0 mid all (k + here) own1 listed.0 (λ i n l h. put2.written.outside i n (inl (omega (arith, h)))) put1.holds in (
+            u,
+            all,
+            two.2,
+            record {
+              written = written_both blk mid all (k + behind) (last - behind) (k + here) (elem_size m.width (layout t)) (k + next) (last - next) put1.written put2.written (omega (arith, low)) (omega (arith, low, ends)) (omega (arith, low)) (omega (arith, low, ends));
+              holds = (own1, own2, stays, put2.holds, stands.7);
+            },
+            record {
+              account = after2.account ∙ ap (λ (z : Account m.Item). record z { heap = record { blocks = replaced all z.heap.blocks }; taken = left }) after1.account
+                  ∙ ap (λ (bs : List Block). record acc { heap = record { blocks = bs }; taken = left }) (replaced_twice mid all acc.heap.blocks (sym put2.written.same_address));
+              owns = λ g.
+                  let sum : total g (addresses own) ≡ total g (addresses own1) + total g (addresses own2) = ap (λ bs. total g (addresses bs)) stands.7 ∙ ap (total g) (addresses_both own1 own2) ∙ total-append g (addresses own1) (addresses own2) in
+                  omega (arith, sum, after1.owns g, after2.owns g, total-append g (m.owns u) (addresses own), total-append g (m.owns u) (addresses own2), total-append g (m.owns s1) (addresses own1), total-append g (m.owns s1) [], total-append g (m.owns s) []);
+              denotes = after2.denotes;
+            },
+          );
+    }
+
+  -- a value whose parts are stored
+  parts_row : (realloc : Bool) (ts : Shapes) (t : Shape) (whole : Parts ts → Value t) (a b c : Self) (o address : Operand) (parts : List Operand) (offset : ArchitectureSize)
+      → layout t ≡ layout (fields ts) → ((v : Parts ts) (dir : Direction) (blk : Block) (k : ℕ) (own : List Block) → PartsHold m.width dir ts v 0 blk k own → Holds m.width dir t (whole v) blk k own)
+      → Adds m a b → LowersParts m ts t whole (o ∷ []) parts a b → StoresParts m realloc ts parts address offset 0 b c
+      → (heap : List Block) (v : Parts ts) (x : m.Item) (own : List Block) → AreListed ts v → m.stands (way realloc heap) t (whole v) x own
+      → (w : m.World) (f : Form) (others : Facts m) (s0 s : m.State) (q k : ℕ) (blk : Block) (left : List ℕ)
+      → At m w f a c (of o (item x) ∷ of address (word (core.Pointer q)) ∷ others) s0 s → HasRoom m.width t (reached m q offset) blk k (m.account s).heap → Releases (addresses own) (m.account s).taken left
+      → Puts m (Holds m.width (way realloc heap) t (whole v)) k (elem_size m.width (layout t)) blk k own left c w f others s0 s
+  parts_row realloc ts t whole a b c o address parts offset same holds adds lowers stores heap v x own listed stands w f others s0 s q k blk left at room goes =
+      let row = lowers (way realloc heap) v x own stands in
+      let vals = row.0 in
+      let pointer : Facts m = of address (word (core.Pointer q)) ∷ [] in
+      let at1 : At m w f a b ((of o (item x) ∷ []) ++ (pointer ++ others)) s0 s = record { serves = stores.adds.grows.serves w at.serves; done = at.done; holds = at.holds } in
+      let one = row.2 w f (pointer ++ others) s0 s at1 in
+      let s1 = one.0 in
+      let after1 = one.2.2 in
+      let at2 : At m w f b c (ofs m parts (item_data m vals) ++ (pointer ++ others)) s0 s1 = record { serves = at.serves; done = one.1; holds = subst (λ fs. m.denotes w b (fs ++ (pointer ++ others)) s1) one.2.1 after1.denotes } in
+      let es = extents_of m.width (layouts ts) in
+      let size : elem_size m.width (layout t) ≡ (record_extent es).bytes = ap (elem_size m.width) same in
+      let places : HavePlaces m.width ts 0 (reached m q offset) blk k (m.account s).heap = record {
+        formed = room.formed;
+        there = room.there;
+        starts = room.starts;
+        fits = omega (arith, room.fits, size, parts_end es);
+        aligned = subst (λ l. reached m q offset % alignment m.width l ≡ 0) same room.aligned;
+      } in
+      let places1 = subst (λ (z : Account m.Item). HavePlaces m.width ts 0 (reached m q offset) blk k z.heap) (sym after1.account) places in
+      let goes1 = subst (λ (z : Account m.Item). Releases (addresses own) z.taken left) (sym after1.account) goes in
+      let two = stores.row heap v vals own listed row.1 w f others s0 s1 q k blk left at2 places1 goes1 in
+      let u = two.0 in
+      let all = two.1 in
+      let put = two.3 in
+      let after2 = two.4 in (
+        u,
+        all,
+        two.2,
+        record {
+          written = written_in blk all (k + 0) (end es 0 - 0) k (elem_size m.width (layout t)) put.written (omega arith) (omega (arith, size, parts_end es));
+          holds = holds v (way realloc heap) all k own put.holds;
+        },
+        record {
+          account = after2.account ∙ ap (λ (z : Account m.Item). record z { heap = record { blocks = replaced all z.heap.blocks }; taken = left }) after1.account;
+          owns = λ g. omega (arith, after1.owns g, after2.owns g, total-append g (m.owns u) (addresses own), total-append g (m.owns s1) [], total-append g (m.owns s) []);
+          denotes = after2.denotes;
+        },
+      )
+
+  pub record_stores : (realloc : Bool) (id : TypeId) (members : List Field) (a b c : Self) (o address : Operand) (parts : List Operand) (offset : ArchitectureSize) → IsRecord types id.0 members → Emits m types (RecordLower id) (o ∷ []) parts a b
+      → StoresParts m realloc (field_shapes types members) parts address offset 0 b c → LowersToMemory m realloc (fields (field_shapes types members)) o address offset a c
+  record_stores realloc id members a b c o address parts offset is e stores = record {
+    adds = adds_both m a b c e.adds stores.adds;
+    row = λ heap v x own listed stands.
+        parts_row realloc (field_shapes types members) (fields (field_shapes types members)) (λ v. v) a b c o address parts offset refl (λ v dir blk k own h. h) e.adds (e.row members is) stores heap v x own listed stands;
+  }
+
+  pub tuple_stores : (realloc : Bool) (n : ℕ) (ts : Shapes) (a b c : Self) (o address : Operand) (parts : List Operand) (offset : ArchitectureSize) → count ts ≡ n → Emits m types (TupleLower n) (o ∷ []) parts a b
+      → StoresParts m realloc ts parts address offset 0 b c → LowersToMemory m realloc (tuple ts) o address offset a c
+  tuple_stores realloc n ts a b c o address parts offset is e stores = record {
+    adds = adds_both m a b c e.adds stores.adds;
+    row = λ heap v x own listed stands. parts_row realloc ts (tuple ts) (λ v. v) a b c o address parts offset refl (λ v dir blk k own h. h) e.adds (e.row ts is) stores heap v x own listed stands;
+  }
+
+  pub stores_as : (realloc : Bool) (s t : Shape) (a b : Self) (o address : Operand) (offset : ArchitectureSize) → s ≡ t → LowersToMemory m realloc t o address offset a b → LowersToMemory m realloc s o address offset a b
+  stores_as realloc s t a b o address offset e h = subst (λ x. LowersToMemory m realloc x o address offset a b) (sym e) h
+
+  pub stores_parts_as : (realloc : Bool) (xs ys : List WitType) (a b : Self) (parts : List Operand) (address : Operand) (offset : ArchitectureSize) (behind : ℕ) → xs ≡ ys
+      → StoresParts m realloc (shapes_of types xs) parts address offset behind a b → StoresParts m realloc (shapes_of types ys) parts address offset behind a b
+  stores_parts_as realloc xs ys a b parts address offset behind e h = subst (λ x. StoresParts m realloc (shapes_of types x) parts address offset behind a b) e h
+
+  pub rest_next : (realloc : Bool) (tys : List WitType) (parts : List Operand) (address : Operand) (offset first_offset : ArchitectureSize) (i : ℕ) (a b c : Self) (ty : WitType) (o : Operand) → drop i tys ≡ ty ∷ drop (i + 1) tys → drop i parts ≡ o ∷ drop (i + 1) parts
+      → behind_of m types tys (i + 1) ≡ place (extent_of m.width (layout (shape_of types ty))) (behind_of m types tys i) + elem_size m.width (layout (shape_of types ty))
+      → bytes_at first_offset (2 ^ m.width) ≡ bytes_at offset (2 ^ m.width) + place (extent_of m.width (layout (shape_of types ty))) (behind_of m types tys i)
+      → LowersToMemory m realloc (shape_of types ty) o address first_offset b c → Rest m types realloc tys parts address offset i a b → Rest m types realloc tys parts address offset (i + 1) a c
+  rest_next realloc tys parts address offset first_offset i a b c ty o et eo next is one rest new h =
+      let both = more_stores realloc (shape_of types ty) (shapes_of types (drop (i + 1) tys)) (behind_of m types tys i) b c new o (drop (i + 1) parts) address offset first_offset is one (subst (λ n. StoresParts m realloc (shapes_of types (drop (i + 1) tys)) (drop (i + 1) parts) address offset n c new) next h) in
+      rest new (subst (λ ps. StoresParts m realloc (shapes_of types (drop i tys)) ps address offset (behind_of m types tys i) b new) (sym eo)
+      (subst (λ ts. StoresParts m realloc (shapes_of types ts) (o ∷ drop (i + 1) parts) address offset (behind_of m types tys i) b new) (sym et) both))
+
+  pub rest_last : (realloc : Bool) (tys : List WitType) (parts : List Operand) (address : Operand) (offset : ArchitectureSize) (i : ℕ) (a b : Self) → length tys ≤ i → length parts ≤ i → Rest m types realloc tys parts address offset i a b → StoresParts m realloc (shapes_of types tys) parts address offset 0 a b
+  rest_last realloc tys parts address offset i a b ht hp rest =
+      rest b (subst (λ ps. StoresParts m realloc (shapes_of types (drop i tys)) ps address offset (behind_of m types tys i) b b) (sym (drop_all i parts hp))
+      (subst (λ ts. StoresParts m realloc (shapes_of types ts) [] address offset (behind_of m types tys i) b b) (sym (drop_all i tys ht)) (none_stores realloc address offset (behind_of m types tys i) b)))

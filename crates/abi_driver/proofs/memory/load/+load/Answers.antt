@@ -1,0 +1,143 @@
+use Rattle.std.proofs.Common.{rules, ◌≡◌, ◌<◌, ◌≤◌, ◌+◌, ◌^◌, true, List, [], ◌∷◌, ◌++◌, length, map, get_or, refl, sym, ap, ◌∙◌, subst, arith}
+use Rattle.std.specs.List.{list_all}
+use Rattle.std.proofs.lemmas.List.{drop_more, length-append, length-map}
+use Rattle.wit_model.specs.Size.{bytes_at}
+use Rattle.wit_model.specs.TypeOrder.{type_below}
+use Rattle.wit_model.specs.declared.types.Field.{Field}
+use Rattle.wit_model.specs.declared.types.TypeDefKind.TheVariants as kind
+use Rattle.wit_model.specs.declared.types.WitType.{WitType}
+use Rattle.wit_model.specs.declared.types.WitType.TheVariants as wit
+use Rattle.wit_layout.proofs.FlattenSteps.{rank}
+use Rattle.abi_driver.specs.Instructions.{IsRecord, shapes_of}
+use Rattle.abi_driver.specs.Loads.{LoadsParts}
+use Rattle.abi_driver.specs.Places.{HasParts, IsOfParts}
+use Rattle.abi_driver.proofs.LoadSteps.{loads_as, loads_parts_as, record_loads, rest_last, rest_next, tuple_loads}
+use Rattle.abi_driver.proofs.PartOffsets.{behind_next, no_alias, part_offset}
+use Rattle.abi_driver.proofs.Records.{alias_below, alias_rank, alias_shape, count-shapes, entry_at, kind_at, one_record, part_below_table, part_ranked, record_below, record_shape, tuple_below, tuple_shape}
+use Rattle.abi_driver.proofs.Runs.{adds_both, adds_same}
+use Rattle.abi_driver.proofs.memory.load.+load.Goals as goal
+
+pub load_id-load_type-requires : goal.load_id-load_type-requires
+load_id-load_type-requires g t c κs within =
+    let types = c.args.resolve.now.types in
+    let d = c.index-types-at.result in
+    let at = entry_at types c.as_slice-types.result.now c.args.id.0 d c.as_slice-types.ensures c.requires.within c.index-types-at.is in
+    let is = kind_at c.as_slice-types.result.now c.args.id.0 d (kind.Alias c.in-Alias.ty) c.index-types-at.is c.in-Alias.is in
+    let low : rank c.in-Alias.ty ≤ c.args.id.0 = alias_rank types c.requires.down c.args.id.0 d at c.in-Alias.ty is in
+    let below = alias_below types c.requires.down c.args.id.0 d at c.in-Alias.ty is c.requires.within in
+    search rules
+
+pub load_id-load_parts-requires : goal.load_id-load_parts-requires
+load_id-load_parts-requires g t c κs within =
+    let types = c.args.resolve.now.types in
+    let d = c.index-types-at.result in
+    let at = entry_at types c.as_slice-types.result.now c.args.id.0 d c.as_slice-types.ensures c.requires.within c.index-types-at.is in
+    let is = kind_at c.as_slice-types.result.now c.args.id.0 d (kind.Record c.in-Record.members) c.index-types-at.is c.in-Record.is in
+    let members = c.in-Record.members in
+    let read = c.as_slice-tys.result.now in
+    let same : read ≡ map (λ (f : Field). f.ty) members = c.as_slice-tys.ensures ∙ c.in_ok-tys-in-Record.ensures ∙ ap (map (λ (f : Field). f.ty)) c.as_slice.ensures in
+    let below = subst (λ (xs : List WitType). list_all (λ ty. type_below c.args.id.0 ty) xs ≡ true) (sym same) (record_below types c.requires.down c.args.id.0 d at members is) in
+    let parts : HasParts types c.args.id.0 read = (d, at, subst (λ k. IsOfParts k read) (sym is) same) in
+    search rules
+
+pub load_id-send_one-requires-clause-ready : goal.load_id-send_one-requires-clause-ready
+load_id-send_one-requires-clause-ready g t c =
+    let types = c.args.resolve.now.types in
+    let d = c.index-types-at.result in
+    let at = entry_at types c.as_slice-types.result.now c.args.id.0 d c.as_slice-types.ensures c.requires.within c.index-types-at.is in
+    let is = kind_at c.as_slice-types.result.now c.args.id.0 d (kind.Record c.in-Record.members) c.index-types-at.is c.in-Record.is in
+    let members = c.in-Record.members in
+    let same : c.as_slice-tys.result.now ≡ map (λ (f : Field). f.ty) members = c.as_slice-tys.ensures ∙ c.in_ok-tys-in-Record.ensures ∙ ap (map (λ (f : Field). f.ty)) c.as_slice.ensures in
+    let here : IsRecord types c.args.id.0 members = record { entry = d; at = at; kind = is } in
+    let count : length c.in_ok-parts-in-Record.parts ≡ length members = c.in_ok-parts-in-Record.ensures.count ∙ ap length same ∙ length-map members (λ (f : Field). f.ty) in
+    record { operands = λ others other. count ∙ ap length (one_record types c.args.id.0 members others here other); suits = (members, here) }
+
+pub load_id-load_parts-requires-in-Tuple : goal.load_id-load_parts-requires-in-Tuple
+load_id-load_parts-requires-in-Tuple g t c κs within =
+    let types = c.args.resolve.now.types in
+    let d = c.index-types-at.result in
+    let at = entry_at types c.as_slice-types.result.now c.args.id.0 d c.as_slice-types.ensures c.requires.within c.index-types-at.is in
+    let is = kind_at c.as_slice-types.result.now c.args.id.0 d (kind.Tuple c.in-Tuple.members) c.index-types-at.is c.in-Tuple.is in
+    let read = c.as_slice-tys-in-Tuple.result.now in
+    let below = subst (λ (xs : List WitType). list_all (λ ty. type_below c.args.id.0 ty) xs ≡ true) (sym c.as_slice-tys-in-Tuple.ensures) (tuple_below types c.requires.down c.args.id.0 d at c.in-Tuple.members is) in
+    let parts : HasParts types c.args.id.0 read = (d, at, subst (λ k. IsOfParts k read) (sym is) c.as_slice-tys-in-Tuple.ensures) in
+    search rules
+
+pub load_id-returns-in_ok-operand-in-Alias : goal.load_id-returns-in_ok-operand-in-Alias
+load_id-returns-in_ok-operand-in-Alias g t c =
+    let m = g.B.Bindgen.meaning in
+    let types = c.args.resolve.now.types in
+    let d = c.index-types-at.result in
+    let at = entry_at types c.as_slice-types.result.now c.args.id.0 d c.as_slice-types.ensures c.requires.within c.index-types-at.is in
+    let is = kind_at c.as_slice-types.result.now c.args.id.0 d (kind.Alias c.in-Alias.ty) c.index-types-at.is c.in-Alias.is in
+    loads_as m g.met.B.Bindgen.sound types _ _ _ _ _ _ c.args.offset (alias_shape types c.requires.down c.args.id.0 d at c.in-Alias.ty is) c.in_ok-operand-in-Alias.ensures
+
+pub load_id-returns-in_ok-operand-in-Record : goal.load_id-returns-in_ok-operand-in-Record
+load_id-returns-in_ok-operand-in-Record g t c =
+    let m = g.B.Bindgen.meaning in
+    let types = c.args.resolve.now.types in
+    let d = c.index-types-at.result in
+    let at = entry_at types c.as_slice-types.result.now c.args.id.0 d c.as_slice-types.ensures c.requires.within c.index-types-at.is in
+    let is = kind_at c.as_slice-types.result.now c.args.id.0 d (kind.Record c.in-Record.members) c.index-types-at.is c.in-Record.is in
+    let members = c.in-Record.members in
+    let same : c.as_slice-tys.result.now ≡ map (λ (f : Field). f.ty) members = c.as_slice-tys.ensures ∙ c.in_ok-tys-in-Record.ensures ∙ ap (map (λ (f : Field). f.ty)) c.as_slice.ensures in
+    let loads = loads_parts_as m g.met.B.Bindgen.sound types _ _ _ _ c.in_ok-parts-in-Record.parts c.args.address.now c.args.offset 0 same c.in_ok-parts-in-Record.ensures.loads in
+    let all = record_loads m g.met.B.Bindgen.sound types c.args.id members _ _ _ c.in_ok-parts-in-Record.parts c.args.address.now c.in_ok-operand-in-Record.operand c.args.offset (record { entry = d; at = at; kind = is }) loads c.in_ok-operand-in-Record.ensures in
+    loads_as m g.met.B.Bindgen.sound types _ _ _ _ _ c.in_ok-operand-in-Record.operand c.args.offset (record_shape types c.requires.down c.args.id.0 d at members is) all
+
+pub load_id-returns-in_ok-operand-in-Tuple : goal.load_id-returns-in_ok-operand-in-Tuple
+load_id-returns-in_ok-operand-in-Tuple g t c =
+    let m = g.B.Bindgen.meaning in
+    let types = c.args.resolve.now.types in
+    let d = c.index-types-at.result in
+    let at = entry_at types c.as_slice-types.result.now c.args.id.0 d c.as_slice-types.ensures c.requires.within c.index-types-at.is in
+    let is = kind_at c.as_slice-types.result.now c.args.id.0 d (kind.Tuple c.in-Tuple.members) c.index-types-at.is c.in-Tuple.is in
+    let tys = c.in-Tuple.members in
+    let loads = loads_parts_as m g.met.B.Bindgen.sound types _ _ _ _ c.in_ok-parts-in-Tuple.parts c.args.address.now c.args.offset 0 c.as_slice-tys-in-Tuple.ensures c.in_ok-parts-in-Tuple.ensures.loads in
+    let count = count-shapes types tys ∙ sym (c.in_ok-part_count-in-Tuple.ensures ∙ ap length c.as_slice-tys-in-Tuple.ensures) in
+    let all = tuple_loads m g.met.B.Bindgen.sound types c.in_ok-part_count-in-Tuple.field-0 (shapes_of types tys) _ _ _ c.in_ok-parts-in-Tuple.parts c.args.address.now c.in_ok-operand-in-Tuple.operand c.args.offset count loads c.in_ok-operand-in-Tuple.ensures in
+    loads_as m g.met.B.Bindgen.sound types _ _ _ _ _ c.in_ok-operand-in-Tuple.operand c.args.offset (tuple_shape types c.requires.down c.args.id.0 d at tys is) all
+
+pub load_parts-loop-i-init : goal.load_parts-loop-i-init
+load_parts-loop-i-init g t c =
+    let m = g.B.Bindgen.meaning in
+    record {
+      adds = adds_same m _;
+      count = ap length c.new-parts.ensures;
+      rest = λ new later h.
+          subst (λ (ps : List g.row.B-Operand.Denot). LoadsParts m (shapes_of c.args.resolve.now.types c.args.tys.now) c.args.address.now c.args.offset 0 (ps ++ later) c.args.bindgen.now new) (sym c.new-parts.ensures) h;
+    }
+
+pub load_parts-load_type-requires : goal.load_parts-load_type-requires
+load_parts-load_type-requires g t c κs within =
+    let types = c.args.resolve.now.types in
+    let short : c.loop-i.i < length c.args.tys.now = omega (arith, c.loop-i-test.true) in
+    let low : rank (get_or c.args.tys.now c.loop-i.i wit.Bool) ≤ c.args.id.0 = part_ranked c.args.id.0 c.args.tys.now c.requires.below c.loop-i.i wit.Bool short in
+    let below = part_below_table c.args.id.0 c.args.tys.now c.requires.below c.loop-i.i wit.Bool short (length types) c.requires.within in
+    let knows = c.loop-i.invariant.adds.grows.knows types c.requires.knows in
+    search rules
+
+pub load_parts-loop-i-preserved : goal.load_parts-loop-i-preserved
+load_parts-loop-i-preserved g t c =
+    let m = g.B.Bindgen.meaning in
+    let types = c.args.resolve.now.types in
+    let tys = c.args.tys.now in
+    let i = c.loop-i.i in
+    let short : i < length tys = omega (arith, c.loop-i-test.true) in
+    let knows = c.loop-i.invariant.adds.grows.knows types c.requires.knows in
+    let place = c.in_ok-place.ensures types c.requires.parts.0 knows c.requires.parts.1 (no_alias m.width types c.args.id.0 tys c.requires.parts) in
+    record {
+      adds = adds_both m _ _ _ c.loop-i.invariant.adds c.in_ok-part.ensures.adds;
+      count = ap length c.in_ok-push.ensures.ok ∙ length-append c.loop-i.parts (c.in_ok-part.part ∷ []) ∙ ap (λ n. n + 1) c.loop-i.invariant.count;
+      rest = rest_next m g.met.B.Bindgen.sound types tys c.args.address.now c.args.offset c.in_ok-place.place i c.loop-i.parts c.push.new.self _ _ _ (get_or tys i wit.Bool) c.in_ok-part.part
+          (drop_more tys i wit.Bool short)
+          (behind_next m.width types tys i wit.Bool short)
+          (place ∙ ap (λ n. bytes_at c.args.offset (2 ^ m.width) + n) (part_offset m.width types c.args.id tys i wit.Bool c.requires.down c.requires.parts short))
+          c.in_ok-part.ensures c.in_ok-push.ensures.ok c.loop-i.invariant.rest;
+    }
+
+pub load_parts-returns-clause-loads : goal.load_parts-returns-clause-loads
+load_parts-returns-clause-loads g t c =
+    let m = g.B.Bindgen.meaning in
+    let ended : length c.args.tys.now ≤ c.loop-i.i = omega (arith, c.loop-i-test.false) in
+    rest_last m g.met.B.Bindgen.sound c.args.resolve.now.types c.args.tys.now c.args.address.now c.args.offset c.loop-i.i c.loop-i.parts _ _ ended c.loop-i.invariant.rest

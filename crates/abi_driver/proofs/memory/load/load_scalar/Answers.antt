@@ -1,0 +1,21 @@
+use Rattle.std.proofs.Common.{List, [], ◌∷◌, sym, ◌∙◌, subst}
+use Rattle.abi_driver.specs.Instructions.{Emits}
+use Rattle.abi_driver.proofs.LeafLoads.{lift_makes, lift_sendable, scalar_loads}
+use Rattle.abi_driver.proofs.LiftSteps.{scalar_lifts}
+use Rattle.abi_driver.proofs.memory.load.load_scalar.Goals as goal
+
+pub returns : goal.returns
+returns g c =
+    let m = g.B.Bindgen.meaning in
+    let sound = g.met.B.Bindgen.sound in
+    let types = c.args.resolve.now.types in
+    let e = subst (λ (os : List g.row.B-Operand.Denot). Emits m types c.args.lift os (c.in_ok-operand.operand ∷ []) c.load_word.new.bindgen c.send_one.new.bindgen) c.in_ok-operands.ensures c.in_ok-operand.ensures in
+    scalar_loads m sound types c.args.ty c.in-Some.load c.args.offset _ _ _ c.args.address.now c.in_ok-word.word c.in_ok-operand.operand (sym c.scalar_load.ensures ∙ c.in-Some.is) c.in_ok-word.ensures
+    (scalar_lifts m sound types c.args.ty c.args.lift _ _ c.in_ok-word.word c.in_ok-operand.operand c.requires e)
+
+pub send_one-requires-clause-ready : goal.send_one-requires-clause-ready
+send_one-requires-clause-ready g c =
+    lift_sendable g.B.Bindgen.meaning c.args.resolve.now.types c.args.ty c.args.lift c.in_ok-operands.operands c.in_ok-word.word _ c.requires c.in_ok-operands.ensures
+
+pub send_one-requires-clause-makes : goal.send_one-requires-clause-makes
+send_one-requires-clause-makes g c = λ k h. lift_makes g.B.Bindgen.meaning c.args.resolve.now.types c.args.ty c.args.lift k c.requires h

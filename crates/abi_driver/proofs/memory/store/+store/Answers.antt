@@ -1,0 +1,148 @@
+use Rattle.std.proofs.Common.{rules, ◌≡◌, ◌<◌, ◌≤◌, ◌+◌, ◌^◌, true, List, ◌++◌, length, map, get_or, refl, sym, ap, ◌∙◌, subst, arith}
+use Rattle.std.specs.List.{list_all}
+use Rattle.std.proofs.lemmas.List.{drop_more, length-map}
+use Rattle.wit_model.specs.Size.{bytes_at}
+use Rattle.wit_model.specs.TypeOrder.{type_below}
+use Rattle.wit_model.specs.declared.types.Field.{Field}
+use Rattle.wit_model.specs.declared.types.TypeDefKind.{TypeDefKind}
+use Rattle.wit_model.specs.declared.types.TypeDefKind.TheVariants as kind
+use Rattle.wit_model.specs.declared.types.WitType.{WitType}
+use Rattle.wit_model.specs.declared.types.WitType.TheVariants as wit
+use Rattle.wit_layout.proofs.FlattenSteps.{rank}
+use Rattle.wrapper_meaning.specs.Shape.{shape_of}
+use Rattle.abi_driver.specs.Instructions.{shapes_of}
+use Rattle.abi_driver.specs.Places.{HasParts, IsOfParts}
+use Rattle.abi_driver.proofs.PartOffsets.{behind_next, no_alias, part_offset}
+use Rattle.abi_driver.proofs.StoreSteps.{record_stores, rest_last, rest_next, stores_as, stores_parts_as, tuple_stores}
+use Rattle.abi_driver.proofs.Records.{alias_below, alias_rank, alias_shape, count-shapes, drop-same, entry_at, kind_at, part_below_table, part_ranked, record_below, record_shape, tuple_below, tuple_shape}
+use Rattle.abi_driver.proofs.Runs.{adds_both, adds_same, side_later}
+use Rattle.abi_driver.proofs.memory.store.+store.Goals as goal
+
+pub store_id-store_type-requires : goal.store_id-store_type-requires
+store_id-store_type-requires g t c κs within =
+    let types = c.args.resolve.now.types in
+    let d = c.index-types-at.result in
+    let at = entry_at types c.as_slice-types.result.now c.args.id.0 d c.as_slice-types.ensures c.requires.within c.index-types-at.is in
+    let is = kind_at c.as_slice-types.result.now c.args.id.0 d (kind.Alias c.in-Alias.ty) c.index-types-at.is c.in-Alias.is in
+    let low : rank c.in-Alias.ty ≤ c.args.id.0 = alias_rank types c.requires.down c.args.id.0 d at c.in-Alias.ty is in
+    let below = alias_below types c.requires.down c.args.id.0 d at c.in-Alias.ty is c.requires.within in
+    search rules
+
+pub store_id-lower_by-requires : goal.store_id-lower_by-requires
+store_id-lower_by-requires g t c =
+    let types = c.args.resolve.now.types in
+    let d = c.index-types-at.result in
+    let at = entry_at types c.as_slice-types.result.now c.args.id.0 d c.as_slice-types.ensures c.requires.within c.index-types-at.is in
+    let is = kind_at c.as_slice-types.result.now c.args.id.0 d (kind.Record c.in-Record.members) c.index-types-at.is c.in-Record.is in
+    record { operands = refl; suits = (c.in-Record.members, record { entry = d; at = at; kind = is }) }
+
+pub store_id-store_parts-requires : goal.store_id-store_parts-requires
+store_id-store_parts-requires g t c κs within =
+    let m = g.B.Bindgen.meaning in
+    let types = c.args.resolve.now.types in
+    let d = c.index-types-at.result in
+    let at = entry_at types c.as_slice-types.result.now c.args.id.0 d c.as_slice-types.ensures c.requires.within c.index-types-at.is in
+    let is = kind_at c.as_slice-types.result.now c.args.id.0 d (kind.Record c.in-Record.members) c.index-types-at.is c.in-Record.is in
+    let members = c.in-Record.members in
+    let read = c.as_slice-tys.result.now in
+    let same : read ≡ map (λ (f : Field). f.ty) members = c.as_slice-tys.ensures ∙ c.in_ok-tys-in-Record.ensures ∙ ap (map (λ (f : Field). f.ty)) c.as_slice.ensures in
+    let below = subst (λ (xs : List WitType). list_all (λ ty. type_below c.args.id.0 ty) xs ≡ true) (sym same) (record_below types c.requires.down c.args.id.0 d at members is) in
+    let made = c.in_ok-parts-in-Record.ensures.results members (record { entry = d; at = at; kind = is }) in
+    let enough : length c.in_ok-parts-in-Record.parts ≡ length read = made ∙ sym (ap length same ∙ length-map members (λ (f : Field). f.ty)) in
+    let side = side_later m _ _ c.args.realloc c.in_ok-parts-in-Record.ensures.adds.grows c.requires.side in
+    let knows = c.in_ok-parts-in-Record.ensures.adds.grows.knows types c.requires.knows in
+    let parts : HasParts types c.args.id.0 read = (d, at, subst (λ k. IsOfParts k read) (sym is) same) in
+    search rules
+
+pub store_id-store_parts-requires-in-Tuple : goal.store_id-store_parts-requires-in-Tuple
+store_id-store_parts-requires-in-Tuple g t c κs within =
+    let m = g.B.Bindgen.meaning in
+    let types = c.args.resolve.now.types in
+    let d = c.index-types-at.result in
+    let at = entry_at types c.as_slice-types.result.now c.args.id.0 d c.as_slice-types.ensures c.requires.within c.index-types-at.is in
+    let is = kind_at c.as_slice-types.result.now c.args.id.0 d (kind.Tuple c.in-Tuple.members) c.index-types-at.is c.in-Tuple.is in
+    let read = c.as_slice-tys-in-Tuple.result.now in
+    let below = subst (λ (xs : List WitType). list_all (λ ty. type_below c.args.id.0 ty) xs ≡ true) (sym c.as_slice-tys-in-Tuple.ensures) (tuple_below types c.requires.down c.args.id.0 d at c.in-Tuple.members is) in
+    let enough : length c.in_ok-parts-in-Tuple.parts ≡ length read = c.in_ok-parts-in-Tuple.ensures.results ∙ c.in_ok-part_count-in-Tuple.ensures in
+    let side = side_later m _ _ c.args.realloc c.in_ok-parts-in-Tuple.ensures.adds.grows c.requires.side in
+    let knows = c.in_ok-parts-in-Tuple.ensures.adds.grows.knows types c.requires.knows in
+    let parts : HasParts types c.args.id.0 read = (d, at, subst (λ k. IsOfParts k read) (sym is) c.as_slice-tys-in-Tuple.ensures) in
+    search rules
+
+pub store_id-returns-in_ok-store_type-in-Alias : goal.store_id-returns-in_ok-store_type-in-Alias
+store_id-returns-in_ok-store_type-in-Alias g t c =
+    let m = g.B.Bindgen.meaning in
+    let types = c.args.resolve.now.types in
+    let d = c.index-types-at.result in
+    let at = entry_at types c.as_slice-types.result.now c.args.id.0 d c.as_slice-types.ensures c.requires.within c.index-types-at.is in
+    let is = kind_at c.as_slice-types.result.now c.args.id.0 d (kind.Alias c.in-Alias.ty) c.index-types-at.is c.in-Alias.is in
+    stores_as m g.met.B.Bindgen.sound types c.args.realloc _ _ _ _ c.args.value _ c.args.offset (alias_shape types c.requires.down c.args.id.0 d at c.in-Alias.ty is) c.in_ok-store_type-in-Alias.ensures
+
+pub store_id-returns-in_ok-store_parts-in-Record : goal.store_id-returns-in_ok-store_parts-in-Record
+store_id-returns-in_ok-store_parts-in-Record g t c =
+    let m = g.B.Bindgen.meaning in
+    let types = c.args.resolve.now.types in
+    let d = c.index-types-at.result in
+    let at = entry_at types c.as_slice-types.result.now c.args.id.0 d c.as_slice-types.ensures c.requires.within c.index-types-at.is in
+    let is = kind_at c.as_slice-types.result.now c.args.id.0 d (kind.Record c.in-Record.members) c.index-types-at.is c.in-Record.is in
+    let members = c.in-Record.members in
+    let same : c.as_slice-tys.result.now ≡ map (λ (f : Field). f.ty) members = c.as_slice-tys.ensures ∙ c.in_ok-tys-in-Record.ensures ∙ ap (map (λ (f : Field). f.ty)) c.as_slice.ensures in
+    let later = stores_parts_as m g.met.B.Bindgen.sound types c.args.realloc _ _ _ _ c.in_ok-parts-in-Record.parts _ c.args.offset 0 same c.in_ok-store_parts-in-Record.ensures in
+    let all = record_stores m g.met.B.Bindgen.sound types c.args.realloc c.args.id members _ _ _ c.args.value _ c.in_ok-parts-in-Record.parts c.args.offset (record { entry = d; at = at; kind = is }) c.in_ok-parts-in-Record.ensures later in
+    stores_as m g.met.B.Bindgen.sound types c.args.realloc _ _ _ _ c.args.value _ c.args.offset (record_shape types c.requires.down c.args.id.0 d at members is) all
+
+pub store_id-returns-in_ok-store_parts-in-Tuple : goal.store_id-returns-in_ok-store_parts-in-Tuple
+store_id-returns-in_ok-store_parts-in-Tuple g t c =
+    let m = g.B.Bindgen.meaning in
+    let types = c.args.resolve.now.types in
+    let d = c.index-types-at.result in
+    let at = entry_at types c.as_slice-types.result.now c.args.id.0 d c.as_slice-types.ensures c.requires.within c.index-types-at.is in
+    let is = kind_at c.as_slice-types.result.now c.args.id.0 d (kind.Tuple c.in-Tuple.members) c.index-types-at.is c.in-Tuple.is in
+    let tys = c.in-Tuple.members in
+    let later = stores_parts_as m g.met.B.Bindgen.sound types c.args.realloc _ _ _ _ c.in_ok-parts-in-Tuple.parts _ c.args.offset 0 c.as_slice-tys-in-Tuple.ensures c.in_ok-store_parts-in-Tuple.ensures in
+    let count = count-shapes types tys ∙ sym (c.in_ok-part_count-in-Tuple.ensures ∙ ap length c.as_slice-tys-in-Tuple.ensures) in
+    let all = tuple_stores m g.met.B.Bindgen.sound types c.args.realloc c.in_ok-part_count-in-Tuple.field-0 (shapes_of types tys) _ _ _ c.args.value _ c.in_ok-parts-in-Tuple.parts c.args.offset count c.in_ok-parts-in-Tuple.ensures later in
+    stores_as m g.met.B.Bindgen.sound types c.args.realloc _ _ _ _ c.args.value _ c.args.offset (tuple_shape types c.requires.down c.args.id.0 d at tys is) all
+
+pub store_parts-loop-i-init : goal.store_parts-loop-i-init
+store_parts-loop-i-init g t c =
+    let m = g.B.Bindgen.meaning in
+    record { adds = adds_same m _; rest = λ new h. h }
+
+pub store_parts-store_type-requires : goal.store_parts-store_type-requires
+store_parts-store_type-requires g t c κs within =
+    let m = g.B.Bindgen.meaning in
+    let types = c.args.resolve.now.types in
+    let short : c.loop-i.i < length c.args.tys.now = omega (arith, c.loop-i-test.true) in
+    let low : rank (get_or c.args.tys.now c.loop-i.i wit.Bool) ≤ c.args.id.0 = part_ranked c.args.id.0 c.args.tys.now c.requires.below c.loop-i.i wit.Bool short in
+    let below = part_below_table c.args.id.0 c.args.tys.now c.requires.below c.loop-i.i wit.Bool short (length types) c.requires.within in
+    let side = side_later m _ _ c.args.realloc c.loop-i.invariant.adds.grows c.requires.side in
+    let knows = c.loop-i.invariant.adds.grows.knows types c.requires.knows in
+    search rules
+
+pub store_parts-loop-i-preserved : goal.store_parts-loop-i-preserved
+store_parts-loop-i-preserved g t c =
+    let m = g.B.Bindgen.meaning in
+    let types = c.args.resolve.now.types in
+    let tys = c.args.tys.now in
+    let i = c.loop-i.i in
+    let short : i < length tys = omega (arith, c.loop-i-test.true) in
+    let enough : i < length c.args.parts.now = omega (arith, short, c.requires.enough) in
+    let knows = c.loop-i.invariant.adds.grows.knows types c.requires.knows in
+    let place = c.in_ok-place.ensures types c.requires.parts.0 knows c.requires.parts.1 (no_alias m.width types c.args.id.0 tys c.requires.parts) in
+    record {
+      adds = adds_both m _ _ _ c.loop-i.invariant.adds c.in_ok-store_type.ensures.adds;
+      rest = rest_next m g.met.B.Bindgen.sound types c.args.realloc tys c.args.parts.now _ c.args.offset c.in_ok-place.place i _ _ _ (get_or tys i wit.Bool) c.in_ok-part.part
+          (drop_more tys i wit.Bool short)
+          (drop-same c.args.parts.now c.as_slice.result.now i c.in_ok-part.part c.index-as_slice-i.result c.as_slice.ensures enough c.index-as_slice-i.is c.in_ok-part.ensures)
+          (behind_next m.width types tys i wit.Bool short)
+          (place ∙ ap (λ n. bytes_at c.args.offset (2 ^ m.width) + n) (part_offset m.width types c.args.id tys i wit.Bool c.requires.down c.requires.parts short))
+          c.in_ok-store_type.ensures c.loop-i.invariant.rest;
+    }
+
+pub store_parts-returns : goal.store_parts-returns
+store_parts-returns g t c =
+    let m = g.B.Bindgen.meaning in
+    let ended : length c.args.tys.now ≤ c.loop-i.i = omega (arith, c.loop-i-test.false) in
+    let done : length c.args.parts.now ≤ c.loop-i.i = omega (arith, ended, c.requires.enough) in
+    rest_last m g.met.B.Bindgen.sound c.args.resolve.now.types c.args.realloc c.args.tys.now c.args.parts.now _ c.args.offset c.loop-i.i _ _ ended done c.loop-i.invariant.rest

@@ -1,0 +1,187 @@
+//! Values are read from memory.
+
+ghost use Rattle.std.specs.Prelude.{◌≡◌, ◌<◌, IsTrue, true, length, Some, IfOk};
+ghost use Rattle.std.specs.List.{list_all};
+ghost use Rattle.wit_model.specs.TypeOrder.{GoesDown, type_below};
+ghost use Rattle.wrapper_meaning.specs.Shape.{shape_at, shape_of};
+ghost use Rattle.wrapper_meaning.specs.Shape.Shape.{text};
+ghost use Rattle.abi_driver.specs.Instructions.{lifting, shapes_of};
+ghost use Rattle.abi_driver.specs.Loads.{LiftsFromMemory, LoadsParts};
+ghost use Rattle.abi_driver.specs.Places.{HasParts};
+
+use crate::bindgen::{Bindgen, Operand};
+use crate::instruction::Instruction;
+use crate::lift::leaf::scalar_lifting;
+use crate::memory::place::{NOWHERE, behind_pointer, part_place};
+use crate::memory::word::{load_word, scalar_load};
+use crate::parts::{field_types, part_count};
+use crate::send::{only, send_one};
+use std::alloc::Global;
+use wit_model::{ArchitectureSize, List, OutOfMemory, Resolve, TypeDefKind, TypeId, WitType};
+
+/// What denotes the value that stands at the address that an operand denotes, after `lift_from_memory` of wit-bindgen-core. What it owns
+/// is taken over.
+///
+/// So far it is a scalar or a text, or a record or a tuple of such, also through aliases; of a type that holds any other
+/// the answer is `OutOfMemory`, as where memory is wanting.
+pub fn lift_from_memory<B: Bindgen>(
+    alloc: Global,
+    resolve: &Resolve,
+    bindgen: &mut B,
+    address: B::Operand,
+    ty: &WitType,
+) -> Result<B::Operand, OutOfMemory>
+    requires down { GoesDown resolve.now.types }
+    requires below { IsTrue (type_below (length resolve.now.types) ty.now) }
+    requires knows { B.meaning.knows bindgen.old resolve.now.types }
+    ensures { IfOk result (λ r. LiftsFromMemory B.meaning (shape_of resolve.now.types ty.now) address NOWHERE r bindgen.old bindgen.new) }
+{
+    load_type(alloc, resolve, bindgen, &address, NOWHERE, *ty)
+}
+
+/// The same at an offset, by a type that was read.
+#[cycle(load)]
+#[tactic(auto, unfolding(wit_model::specs::TypeOrder::type_below))]
+fn load_type<B: Bindgen>(
+    alloc: Global,
+    resolve: &Resolve,
+    bindgen: &mut B,
+    address: &B::Operand,
+    offset: ArchitectureSize,
+    ty: WitType,
+) -> Result<B::Operand, OutOfMemory>
+    requires down { GoesDown resolve.now.types }
+    requires below { IsTrue (type_below (length resolve.now.types) ty) }
+    requires knows { B.meaning.knows bindgen.old resolve.now.types }
+    ensures { IfOk result (λ r. LiftsFromMemory B.meaning (shape_of resolve.now.types ty) address.now offset r bindgen.old bindgen.new) }
+{
+    if let Some(lift) = scalar_lifting(ty) {
+        return load_scalar(alloc, resolve, bindgen, address, offset, ty, lift);
+    }
+    match ty {
+        WitType::String => load_text(alloc, resolve, bindgen, address, offset),
+        WitType::Id(id) => load_id(alloc, resolve, bindgen, address, offset, id),
+        _ => Err(OutOfMemory),
+    }
+}
+
+/// The same, of the type at a place of the table.
+#[cycle(load)]
+fn load_id<B: Bindgen>(
+    alloc: Global,
+    resolve: &Resolve,
+    bindgen: &mut B,
+    address: &B::Operand,
+    offset: ArchitectureSize,
+    id: TypeId,
+) -> Result<B::Operand, OutOfMemory>
+    requires down { GoesDown resolve.now.types }
+    requires within { id.0 < length resolve.now.types }
+    requires knows { B.meaning.knows bindgen.old resolve.now.types }
+    ensures { IfOk result (λ r. LiftsFromMemory B.meaning (shape_at resolve.now.types id.0) address.now offset r bindgen.old bindgen.new) }
+{
+    let types = resolve.types.as_slice();
+    let at = id.0 as usize;
+    match &types[at].kind {
+        TypeDefKind::Alias(ty) => {
+            let operand = load_type(alloc, resolve, bindgen, address, offset, *ty)?;
+            Ok(operand)
+        }
+        TypeDefKind::Record(members) => {
+            let tys = field_types(alloc, members.as_slice())?;
+            let tys = tys.as_slice();
+            let parts = load_parts(alloc, resolve, bindgen, address, offset, id, tys)?;
+            let operand = send_one(alloc, resolve, bindgen, Instruction::RecordLift(id), parts)?;
+            Ok(operand)
+        }
+        TypeDefKind::Tuple(members) => {
+            let tys = members.as_slice();
+            let inst = Instruction::TupleLift(part_count(tys)?);
+            let parts = load_parts(alloc, resolve, bindgen, address, offset, id, tys)?;
+            let operand = send_one(alloc, resolve, bindgen, inst, parts)?;
+            Ok(operand)
+        }
+        _ => Err(OutOfMemory),
+    }
+}
+
+/// The parts of a value of a record or a tuple of the table.
+#[cycle(load)]
+fn load_parts<B: Bindgen>(
+    alloc: Global,
+    resolve: &Resolve,
+    bindgen: &mut B,
+    address: &B::Operand,
+    offset: ArchitectureSize,
+    id: TypeId,
+    tys: &[WitType],
+) -> Result<List<B::Operand>, OutOfMemory>
+    requires down { GoesDown resolve.now.types }
+    requires within { id.0 < length resolve.now.types }
+    requires below { list_all (λ ty. type_below id.0 ty) tys.now ≡ true }
+    requires parts { HasParts resolve.now.types id.0 tys.now }
+    requires knows { B.meaning.knows bindgen.old resolve.now.types }
+    ensures count { IfOk result (λ parts. length parts ≡ length tys.now) }
+    ensures loads { IfOk result (λ parts. LoadsParts B.meaning (shapes_of resolve.now.types tys.now) address.now offset 0 parts bindgen.old bindgen.new) }
+{
+    let mut parts = List::new(alloc);
+    for i in 0..tys.len() {
+        let place = part_place(bindgen, id, i, offset)?;
+        let part = load_type(alloc, resolve, bindgen, address, place, tys[i])?;
+        parts.push(part)?;
+    }
+    Ok(parts)
+}
+
+/// A word is loaded, and read as a scalar.
+fn load_scalar<B: Bindgen>(
+    alloc: Global,
+    resolve: &Resolve,
+    bindgen: &mut B,
+    address: &B::Operand,
+    offset: ArchitectureSize,
+    ty: WitType,
+    lift: Instruction,
+) -> Result<B::Operand, OutOfMemory>
+    requires { lifting ty ≡ Some lift }
+    ensures { IfOk result (λ r. LiftsFromMemory B.meaning (shape_of resolve.now.types ty) address.now offset r bindgen.old bindgen.new) }
+{
+    let Some(load) = scalar_load(ty, offset) else {
+        return Err(OutOfMemory);
+    };
+    let word = load_word(alloc, resolve, bindgen, address, load)?;
+    let operands = only(alloc, word)?;
+    let operand = send_one(alloc, resolve, bindgen, lift, operands)?;
+    Ok(operand)
+}
+
+/// An address and a length are loaded, and the text there is taken over.
+fn load_text<B: Bindgen>(
+    alloc: Global,
+    resolve: &Resolve,
+    bindgen: &mut B,
+    address: &B::Operand,
+    offset: ArchitectureSize,
+) -> Result<B::Operand, OutOfMemory>
+    ensures { IfOk result (λ r. LiftsFromMemory B.meaning text address.now offset r bindgen.old bindgen.new) }
+{
+    let behind = behind_pointer(offset)?;
+    let place = load_word(
+        alloc,
+        resolve,
+        bindgen,
+        address,
+        Instruction::PointerLoad(offset),
+    )?;
+    let length = load_word(
+        alloc,
+        resolve,
+        bindgen,
+        address,
+        Instruction::LengthLoad(behind),
+    )?;
+    let mut operands = only(alloc, place)?;
+    operands.push(length)?;
+    let operand = send_one(alloc, resolve, bindgen, Instruction::StringLift, operands)?;
+    Ok(operand)
+}

@@ -1,0 +1,72 @@
+//! Where a part stands.
+
+ghost use Rattle.std.specs.Prelude.{◌≡◌, ◌<◌, ◌+◌, ◌^◌, ℕ, List, Some, false, length, IfOk, slice_get, slice_index};
+ghost use Rattle.wit_model.specs.Size.{bytes_at};
+ghost use Rattle.wit_model.specs.declared.types.TypeDef.{TypeDef};
+ghost use Rattle.wit_layout.specs.Sizes.{field_offsets};
+ghost use Rattle.wit_layout.specs.Told.{is_alias};
+ghost use Rattle.wit_layout.specs.Tree.{tree_at};
+
+use crate::bindgen::Bindgen;
+use wit_model::{ArchitectureSize, OutOfMemory, TypeId, WitType};
+
+/// No bytes and no pointers.
+pub(super) const NOWHERE: ArchitectureSize = ArchitectureSize {
+    bytes: 0,
+    pointers: 0,
+};
+
+fn added(a: u64, b: u64) -> Result<u64, OutOfMemory>
+    ensures { IfOk result (λ n. n ≡ a + b) }
+{
+    match a.checked_add(b) {
+        Some(n) => Ok(n),
+        None => Err(OutOfMemory),
+    }
+}
+
+/// The sum of two offsets, at each width.
+fn sum(a: ArchitectureSize, b: ArchitectureSize) -> Result<ArchitectureSize, OutOfMemory>
+    ensures { IfOk result (λ c. (width : ℕ) → bytes_at c width ≡ bytes_at a width + bytes_at b width) }
+{
+    let bytes = added(a.bytes, b.bytes)?;
+    let pointers = added(a.pointers, b.pointers)?;
+    Ok(ArchitectureSize { bytes, pointers })
+}
+
+/// One pointer further on.
+pub(super) fn behind_pointer(offset: ArchitectureSize) -> Result<ArchitectureSize, OutOfMemory>
+    ensures { IfOk result (λ c. (width : ℕ) → bytes_at c width ≡ bytes_at offset width + width) }
+{
+    sum(
+        offset,
+        ArchitectureSize {
+            bytes: 0,
+            pointers: 1,
+        },
+    )
+}
+
+/// Where a part of a record or a tuple of the table stands, which itself stands at an offset.
+pub(super) fn part_place<B: Bindgen>(
+    bindgen: &B,
+    id: TypeId,
+    nth: usize,
+    offset: ArchitectureSize,
+) -> Result<ArchitectureSize, OutOfMemory>
+    ensures { IfOk result (λ place. (types : List TypeDef) (entry : TypeDef) → B.meaning.knows bindgen.now types → slice_get types id.0 ≡ Some entry → is_alias entry.kind ≡ false
+        → bytes_at place (2 ^ B.meaning.width) ≡ bytes_at offset (2 ^ B.meaning.width) + slice_index (field_offsets B.meaning.width (tree_at types id.0)) nth) }
+{
+    let sizes = bindgen.sizes();
+    if !sizes.has_size(&WitType::Id(id)) {
+        return Err(OutOfMemory);
+    }
+    let offsets = sizes.field_offsets_of(id);
+    match offsets.get(nth) {
+        Some(place) => {
+            let whole = sum(offset, *place)?;
+            Ok(whole)
+        }
+        None => Err(OutOfMemory),
+    }
+}

@@ -1,0 +1,219 @@
+//! Values are put into memory.
+
+ghost use Rattle.std.specs.Prelude.{◌≡◌, ◌<◌, Bool, IsTrue, true, length, Some, OnOk};
+ghost use Rattle.std.specs.List.{list_all};
+ghost use Rattle.wit_model.specs.TypeOrder.{GoesDown, type_below};
+ghost use Rattle.wrapper_meaning.specs.Shape.{shape_at, shape_of};
+ghost use Rattle.wrapper_meaning.specs.Shape.Shape.{text};
+ghost use Rattle.abi_driver.specs.Instructions.{IsSide, lowering, shapes_of};
+ghost use Rattle.abi_driver.specs.ScalarTouches.{scalar_store};
+ghost use Rattle.abi_driver.specs.Places.{HasParts};
+ghost use Rattle.abi_driver.specs.Stores.{LowersToMemory, StoresParts};
+
+use crate::bindgen::{Bindgen, Operand};
+use crate::instruction::Instruction;
+use crate::lower::leaf::{lower_by, scalar_lowering};
+use crate::memory::place::{NOWHERE, behind_pointer, part_place};
+use crate::memory::word::{scalar_store, store_word};
+use crate::parts::{field_types, part_count};
+use std::alloc::Global;
+use wit_model::{ArchitectureSize, List, OutOfMemory, Resolve, TypeDefKind, TypeId, WitType};
+
+/// Puts the value that an operand denotes at the address that another denotes, after `lower_to_memory` of wit-bindgen-core.
+///
+/// Without `realloc` the value is lent, and with it given away. So far it is a scalar or a text, or a record or a tuple of
+/// such, also through aliases; of a type that holds any other the answer is `OutOfMemory`, as where memory is wanting.
+pub fn lower_to_memory<B: Bindgen>(
+    alloc: Global,
+    resolve: &Resolve,
+    bindgen: &mut B,
+    address: B::Operand,
+    value: B::Operand,
+    ty: &WitType,
+    realloc: bool,
+) -> Result<(), OutOfMemory>
+    requires down { GoesDown resolve.now.types }
+    requires below { IsTrue (type_below (length resolve.now.types) ty.now) }
+    requires side { IsSide B.meaning realloc bindgen.old }
+    requires knows { B.meaning.knows bindgen.old resolve.now.types }
+    ensures { OnOk result (LowersToMemory B.meaning realloc (shape_of resolve.now.types ty.now) value address NOWHERE bindgen.old bindgen.new) }
+{
+    store_type(
+        alloc, resolve, bindgen, &address, NOWHERE, value, *ty, realloc,
+    )
+}
+
+/// The same at an offset, by a type that was read.
+#[cycle(store)]
+#[tactic(auto, unfolding(wit_model::specs::TypeOrder::type_below))]
+fn store_type<B: Bindgen>(
+    alloc: Global,
+    resolve: &Resolve,
+    bindgen: &mut B,
+    address: &B::Operand,
+    offset: ArchitectureSize,
+    value: B::Operand,
+    ty: WitType,
+    realloc: bool,
+) -> Result<(), OutOfMemory>
+    requires down { GoesDown resolve.now.types }
+    requires below { IsTrue (type_below (length resolve.now.types) ty) }
+    requires side { IsSide B.meaning realloc bindgen.old }
+    requires knows { B.meaning.knows bindgen.old resolve.now.types }
+    ensures { OnOk result (LowersToMemory B.meaning realloc (shape_of resolve.now.types ty) value address.now offset bindgen.old bindgen.new) }
+{
+    if let Some(lower) = scalar_lowering(ty) {
+        return store_scalar(alloc, resolve, bindgen, address, offset, value, ty, lower);
+    }
+    match ty {
+        WitType::String => store_text(alloc, resolve, bindgen, address, offset, value, realloc),
+        WitType::Id(id) => store_id(alloc, resolve, bindgen, address, offset, value, id, realloc),
+        _ => Err(OutOfMemory),
+    }
+}
+
+/// The same, of the type at a place of the table.
+#[cycle(store)]
+fn store_id<B: Bindgen>(
+    alloc: Global,
+    resolve: &Resolve,
+    bindgen: &mut B,
+    address: &B::Operand,
+    offset: ArchitectureSize,
+    value: B::Operand,
+    id: TypeId,
+    realloc: bool,
+) -> Result<(), OutOfMemory>
+    requires down { GoesDown resolve.now.types }
+    requires within { id.0 < length resolve.now.types }
+    requires side { IsSide B.meaning realloc bindgen.old }
+    requires knows { B.meaning.knows bindgen.old resolve.now.types }
+    ensures { OnOk result (LowersToMemory B.meaning realloc (shape_at resolve.now.types id.0) value address.now offset bindgen.old bindgen.new) }
+{
+    let types = resolve.types.as_slice();
+    let at = id.0 as usize;
+    match &types[at].kind {
+        TypeDefKind::Alias(ty) => {
+            store_type(
+                alloc, resolve, bindgen, address, offset, value, *ty, realloc,
+            )?;
+            Ok(())
+        }
+        TypeDefKind::Record(members) => {
+            let tys = field_types(alloc, members.as_slice())?;
+            let parts = lower_by(alloc, resolve, bindgen, value, Instruction::RecordLower(id))?;
+            let tys = tys.as_slice();
+            store_parts(
+                alloc, resolve, bindgen, address, offset, id, tys, &parts, realloc,
+            )?;
+            Ok(())
+        }
+        TypeDefKind::Tuple(members) => {
+            let tys = members.as_slice();
+            let inst = Instruction::TupleLower(part_count(tys)?);
+            let parts = lower_by(alloc, resolve, bindgen, value, inst)?;
+            store_parts(
+                alloc, resolve, bindgen, address, offset, id, tys, &parts, realloc,
+            )?;
+            Ok(())
+        }
+        _ => Err(OutOfMemory),
+    }
+}
+
+/// Puts the parts of a value of a record or a tuple of the table at their places.
+#[cycle(store)]
+fn store_parts<B: Bindgen>(
+    alloc: Global,
+    resolve: &Resolve,
+    bindgen: &mut B,
+    address: &B::Operand,
+    offset: ArchitectureSize,
+    id: TypeId,
+    tys: &[WitType],
+    parts: &List<B::Operand>,
+    realloc: bool,
+) -> Result<(), OutOfMemory>
+    requires down { GoesDown resolve.now.types }
+    requires within { id.0 < length resolve.now.types }
+    requires below { list_all (λ ty. type_below id.0 ty) tys.now ≡ true }
+    requires parts { HasParts resolve.now.types id.0 tys.now }
+    requires enough { length parts.now ≡ length tys.now }
+    requires side { IsSide B.meaning realloc bindgen.old }
+    requires knows { B.meaning.knows bindgen.old resolve.now.types }
+    ensures { OnOk result (StoresParts B.meaning realloc (shapes_of resolve.now.types tys.now) parts.now address.now offset 0 bindgen.old bindgen.new) }
+{
+    for i in 0..tys.len() {
+        let place = part_place(bindgen, id, i, offset)?;
+        let part = parts.as_slice()[i].copy(alloc)?;
+        store_type(
+            alloc, resolve, bindgen, address, place, part, tys[i], realloc,
+        )?;
+    }
+    Ok(())
+}
+
+/// A scalar becomes its word, which is stored.
+fn store_scalar<B: Bindgen>(
+    alloc: Global,
+    resolve: &Resolve,
+    bindgen: &mut B,
+    address: &B::Operand,
+    offset: ArchitectureSize,
+    value: B::Operand,
+    ty: WitType,
+    lower: Instruction,
+) -> Result<(), OutOfMemory>
+    requires { lowering ty ≡ Some lower }
+    ensures { (realloc : Bool) → OnOk result (LowersToMemory B.meaning realloc (shape_of resolve.now.types ty) value address.now offset bindgen.old bindgen.new) }
+{
+    let Some(store) = scalar_store(ty, offset) else {
+        return Err(OutOfMemory);
+    };
+    let words = lower_by(alloc, resolve, bindgen, value, lower)?;
+    let word = words.as_slice()[0].copy(alloc)?;
+    store_word(alloc, resolve, bindgen, word, address, store)?;
+    Ok(())
+}
+
+/// A text becomes its address and its length, which are stored: the length one pointer further on, and then the address.
+fn store_text<B: Bindgen>(
+    alloc: Global,
+    resolve: &Resolve,
+    bindgen: &mut B,
+    address: &B::Operand,
+    offset: ArchitectureSize,
+    value: B::Operand,
+    realloc: bool,
+) -> Result<(), OutOfMemory>
+    requires { IsSide B.meaning realloc bindgen.old }
+    ensures { OnOk result (LowersToMemory B.meaning realloc text value address.now offset bindgen.old bindgen.new) }
+{
+    let words = lower_by(
+        alloc,
+        resolve,
+        bindgen,
+        value,
+        Instruction::StringLower(realloc),
+    )?;
+    let place = words.as_slice()[0].copy(alloc)?;
+    let length = words.as_slice()[1].copy(alloc)?;
+    let behind = behind_pointer(offset)?;
+    store_word(
+        alloc,
+        resolve,
+        bindgen,
+        length,
+        address,
+        Instruction::LengthStore(behind),
+    )?;
+    store_word(
+        alloc,
+        resolve,
+        bindgen,
+        place,
+        address,
+        Instruction::PointerStore(offset),
+    )?;
+    Ok(())
+}
