@@ -1,7 +1,6 @@
 -- Actions that are done, and owners that are let go.
 use Rattle.std.proofs.Common.{◌≡◌, ℕ, Bool, true, List, [], ◌∷◌, ◌++◌, if◌then◌else◌, refl, sym, ap, ◌∙◌, subst}
-use Rattle.wrapper_data.specs.declared.form.Form.{Form}
-use Rattle.abi_driver.specs.Account.{Account, Act, Done, Follows, Got, Outcome, Stuck, is_taken, releasing, without}
+use Rattle.abi_driver.specs.Account.{Account, Act, Done, Follows, Got, Outcome, Peer, Stuck, is_taken, releasing, without}
 use Rattle.abi_driver.specs.Laws.{After, At, Does, Facts}
 use Rattle.abi_driver.specs.Meaning.{Meaning}
 use Rattle.abi_driver.specs.Stores.{Releases}
@@ -22,8 +21,8 @@ releases_both (x ∷ xs) ys taken left h = let r = releases_both xs ys (without 
 
 module _ {Self Operand : Type 0} (m : Meaning Self Operand) where
   -- code that does an action which is done
-  pub does_done : (A : Type 0) (old new : Self) (ins : Facts m) (act : Form → Act m.Item A) (Outs : A → Facts m → Type 0) (made gone : A → List ℕ) → Does m A old new ins act Outs made gone
-      → (w : m.World) (f : Form) (others : Facts m) (s0 s : m.State) → At m w f old new (ins ++ others) s0 s → (x : Got m.Item A) → act f (m.account s) ≡ Done x
+  pub does_done : (A : Type 0) (old new : Self) (ins : Facts m) (act : Peer m.Item → Act m.Item A) (Outs : A → Facts m → Type 0) (made gone : A → List ℕ) → Does m A old new ins act Outs made gone
+      → (w : m.World) (f : Peer m.Item) (others : Facts m) (s0 s : m.State) → At m w f old new (ins ++ others) s0 s → (x : Got m.Item A) → act f (m.account s) ≡ Done x
       → (t : m.State) × (m.does w f (m.code new) s0 ≡ Done t) × ((outs : Facts m) × Outs x.result outs × After m w new (outs ++ others) (made x.result) (gone x.result) s x t)
   does_done A old new ins act Outs made gone row w f others s0 s at x e =
       let P : Got m.Item A → m.State → Type 0 = λ y t. (outs : Facts m) × Outs y.result outs × After m w new (outs ++ others) (made y.result) (gone y.result) s y t in

@@ -126,10 +126,10 @@ module _ {Self Operand : Type 0} (m : Meaning Self Operand) (sound : Sound m) (t
         let same = load_grain s in
         let size : 2 ^ la.grain ≡ 2 ^ (store_access s).grain = ap (λ g. 2 ^ g) same in
         let y = word_read m.width la (stored_bits s v) in
-        let read = loads_from m.width f la (reached m q offset) (stored_bits s v) blk k acc room.formed room.there room.starts (omega (arith, room.fits, size, scalar_size m.width s))
+        let read = loads_from m.width f.form la (reached m q offset) (stored_bits s v) blk k acc room.formed room.there room.starts (omega (arith, room.fits, size, scalar_size m.width s))
         (subst (λ n. reached m q offset % n ≡ 0) (scalar_alignment m.width s ∙ sym size) room.aligned) (at_least m.width sound.wide) (subst (λ n. HasNumber blk k n (stored_bits s v)) (scalar_size m.width s ∙ sym size) holds.0) in
         let at1 : At m w f a b (ofs m (address ∷ []) (word (core.Pointer q) ∷ []) ++ others) s0 st = record { serves = flat.adds.grows.serves w at.serves; done = at.done; holds = at.holds } in
-        let one = does_done m Word a b (ofs m (address ∷ []) (word (core.Pointer q) ∷ [])) (λ f. loading m.width f la (reached m q offset)) (λ z fs. fs ≡ ofs m (x ∷ []) (word z ∷ [])) (λ z. []) (λ z. []) (load q) w f others s0 st at1 (record { result = y; account = acc }) read in
+        let one = does_done m Word a b (ofs m (address ∷ []) (word (core.Pointer q) ∷ [])) (λ f. loading m.width f.form la (reached m q offset)) (λ z fs. fs ≡ ofs m (x ∷ []) (word z ∷ [])) (λ z. []) (λ z. []) (load q) w f others s0 st at1 (record { result = y; account = acc }) read in
         let s1 = one.0 in
         let after1 = one.2.2 in
         let at2 : At m w f b c (ofs m (x ∷ []) (core_data m (y ∷ [])) ++ others) s0 s1 = record { serves = at.serves; done = one.1; holds = subst (λ fs. m.denotes w b (fs ++ others) s1) one.2.1 after1.denotes } in
@@ -174,11 +174,11 @@ module _ {Self Operand : Type 0} (m : Meaning Self Operand) (sound : Sound m) (t
         let row1 = load_row (PointerLoad offset) whole false wasm.Pointer offset (address ∷ []) (x ∷ []) a b refl refl refl pointers in
         let row2 = load_row (LengthLoad behind) whole false wasm.Length behind (address ∷ []) (n ∷ []) b c refl refl refl lengths in
         let reach : reached m q behind ≡ base + size = ap (λ z. q + z) further ∙ omega arith in
-        let read1 = loads_from m.width f pointer_access base place blk k acc room.formed room.there room.starts (omega (arith, room.fits)) room.aligned wide holds.pointer in
-        let read2 = loads_from m.width f length_access (reached m q behind) len blk (k + size) acc room.formed room.there (reach ∙ omega (arith, room.starts)) (omega (arith, room.fits)) (subst (λ z. z % size ≡ 0) (sym reach) (aligned_part base size m.width m.width room.aligned (omega arith) (itself m.width sound.wide))) wide holds.counted in
+        let read1 = loads_from m.width f.form pointer_access base place blk k acc room.formed room.there room.starts (omega (arith, room.fits)) room.aligned wide holds.pointer in
+        let read2 = loads_from m.width f.form length_access (reached m q behind) len blk (k + size) acc room.formed room.there (reach ∙ omega (arith, room.starts)) (omega (arith, room.fits)) (subst (λ z. z % size ≡ 0) (sym reach) (aligned_part base size m.width m.width room.aligned (omega arith) (itself m.width sound.wide))) wide holds.counted in
         let at1 : At m w f a b (ofs m (address ∷ []) (word (core.Pointer q) ∷ []) ++ (pointer ++ others)) s0 st =
         record { serves = lengths.adds.grows.serves w (flat.adds.grows.serves w at.serves); done = at.done; holds = sound.again w a address (core.Pointer q) others st at.holds } in
-        let one = does_done m Word a b (ofs m (address ∷ []) (word (core.Pointer q) ∷ [])) (λ f. loading m.width f pointer_access base) (λ z fs. fs ≡ ofs m (x ∷ []) (word z ∷ [])) (λ z. []) (λ z. []) (row1 q) w f (pointer ++ others) s0 st at1
+        let one = does_done m Word a b (ofs m (address ∷ []) (word (core.Pointer q) ∷ [])) (λ f. loading m.width f.form pointer_access base) (λ z fs. fs ≡ ofs m (x ∷ []) (word z ∷ [])) (λ z. []) (λ z. []) (row1 q) w f (pointer ++ others) s0 st at1
         (record { result = word_of_bits m.width wasm.Pointer place; account = acc }) read1 in
         let s1 = one.0 in
         let after1 = one.2.2 in
@@ -186,8 +186,8 @@ module _ {Self Operand : Type 0} (m : Meaning Self Operand) (sound : Sound m) (t
         let second : Facts m = of n (word (core.Length len)) ∷ [] in
         let facts1 : m.denotes w b (first ++ (pointer ++ others)) s1 = subst (λ fs. m.denotes w b (fs ++ (pointer ++ others)) s1) (one.2.1 ∙ ap (λ z. of x (word z) ∷ []) is_place) after1.denotes in
         let at2 : At m w f b c (ofs m (address ∷ []) (word (core.Pointer q) ∷ []) ++ (first ++ others)) s0 s1 = record { serves = flat.adds.grows.serves w at.serves; done = one.1; holds = sound.swap w b first pointer others s1 facts1 } in
-        let two = does_done m Word b c (ofs m (address ∷ []) (word (core.Pointer q) ∷ [])) (λ f. loading m.width f length_access (reached m q behind)) (λ z fs. fs ≡ ofs m (n ∷ []) (word z ∷ [])) (λ z. []) (λ z. []) (row2 q) w f (first ++ others) s0 s1 at2
-        (record { result = word_of_bits m.width wasm.Length len; account = acc }) (ap (loading m.width f length_access (reached m q behind)) after1.account ∙ read2) in
+        let two = does_done m Word b c (ofs m (address ∷ []) (word (core.Pointer q) ∷ [])) (λ f. loading m.width f.form length_access (reached m q behind)) (λ z fs. fs ≡ ofs m (n ∷ []) (word z ∷ [])) (λ z. []) (λ z. []) (row2 q) w f (first ++ others) s0 s1 at2
+        (record { result = word_of_bits m.width wasm.Length len; account = acc }) (ap (loading m.width f.form length_access (reached m q behind)) after1.account ∙ read2) in
         let s2 = two.0 in
         let after2 = two.2.2 in
         let facts2 : m.denotes w c (second ++ (first ++ others)) s2 = subst (λ fs. m.denotes w c (fs ++ (first ++ others)) s2) (two.2.1 ∙ ap (λ z. of n (word z) ∷ []) is_len) after2.denotes in

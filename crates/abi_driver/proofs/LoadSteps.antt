@@ -10,7 +10,6 @@ use Rattle.wit_model.specs.declared.types.WitType.{WitType}
 use Rattle.wit_layout.specs.Extent.{end, greatest, place, record_extent}
 use Rattle.wit_layout.specs.Sizes.{alignment, elem_size, extent_of, extents_of}
 use Rattle.wrapper_data.specs.declared.block.Block.{Block}
-use Rattle.wrapper_data.specs.declared.form.Form.{Form}
 use Rattle.wrapper_data.specs.declared.word.Word.TheVariants as core
 use Rattle.wrapper_meaning.specs.Direction.{take as taking_over}
 use Rattle.wrapper_meaning.specs.InMemory.{Holds, PartsHold}
@@ -24,7 +23,7 @@ use Rattle.wrapper_meaning.specs.Shape.Shapes.{none, more}
 use Rattle.wrapper_meaning.specs.Value.{Parts, Value}
 use Rattle.wrapper_meaning.proofs.PartPlaces.{aligned_part, end_behind, grain_of_first, grain_of_rest, less_grain, parts_end, place_aligned, place_behind}
 use Rattle.abi_driver.specs.declared.instruction.Instruction.TheVariants.{RecordLift, TupleLift}
-use Rattle.abi_driver.specs.Account.{Account, addresses}
+use Rattle.abi_driver.specs.Account.{Account, Peer, addresses}
 use Rattle.abi_driver.specs.Instructions.{Emits, IsRecord, field_shapes, shapes_of}
 use Rattle.abi_driver.specs.Laws.{Adds, At, Facts, Sound, item_data, ofs}
 use Rattle.abi_driver.specs.Lifts.{MayTake, took}
@@ -128,7 +127,7 @@ module _ {Self Operand : Type 0} (m : Meaning Self Operand) (sound : Sound m) (t
 
   -- what a value becomes of its parts
   parts_row : (ts : Shapes) (t : Shape) (whole : Parts ts → Value t) (a b c : Self) (parts : List Operand) (address r : Operand) (offset : ArchitectureSize) → layout t ≡ layout (fields ts) → LoadsParts m ts address offset 0 parts a b → Adds m b c
-      → LiftsParts m ts t whole parts (r ∷ []) b c → (v : Parts ts) (own : List Block) → AreListed ts v → (w : m.World) (f : Form) (others : Facts m) (s0 s : m.State) (q k : ℕ) (blk : Block)
+      → LiftsParts m ts t whole parts (r ∷ []) b c → (v : Parts ts) (own : List Block) → AreListed ts v → (w : m.World) (f : Peer m.Item) (others : Facts m) (s0 s : m.State) (q k : ℕ) (blk : Block)
       → At m w f a c (of address (word (core.Pointer q)) ∷ others) s0 s → HasRoom m.width t (reached m q offset) blk k (m.account s).heap → PartsHold m.width taking_over ts v 0 blk k own → MayTake own (m.account s)
       → Gets m (λ vals. (x : m.Item) × (vals ≡ x ∷ []) × m.stands taking_over t (whole (all_settled ts v)) x own) own (r ∷ []) c w f others s0 s
   parts_row ts t whole a b c parts address r offset same first adds row v own listed w f others s0 s q k blk at room holds may =

@@ -143,15 +143,15 @@ module _ (st : Step) (k : ℕ) (old new : PlainBindgen) (adds : AddsStep st k ol
     grows = record {
       serves = λ w h. h;
       more = λ w h. (w, h);
-      stops = λ w f s h. subst (Stops (λ (t : PlainState). t.account) (runs f old.steps s)) (sym (longer f s)) (stops_then (λ (t : PlainState). t.account) (runs f old.steps s) (λ t. runs f (st ∷ []) t));
+      stops = λ w f s h. subst (Stops (λ (t : PlainState). t.account) (runs f.form old.steps s)) (sym (longer f.form s)) (stops_then (λ (t : PlainState). t.account) (runs f.form old.steps s) (λ t. runs f.form (st ∷ []) t));
       imports = adds.import;
       exports = ap not adds.import;
       arguments = refl;
       knows = λ types h. subst (λ sizes. IsFilledFor sizes types) (sym adds.sizes) h;
     };
     quiet = λ w f s h.
-        ap (λ o. (account_in (λ (t : PlainState). t.account) o).calls) (longer f s)
-        ∙ calls_then (λ (t : PlainState). t.account) (runs f old.steps s) (λ t. runs f (st ∷ []) t) (λ t. step_calls st f (inputs st t) t);
+        ap (λ o. (account_in (λ (t : PlainState). t.account) o).calls) (longer f.form s)
+        ∙ calls_then (λ (t : PlainState). t.account) (runs f.form old.steps s) (λ t. runs f.form (st ∷ []) t) (λ t. step_calls st f.form (inputs st t) t);
   }
 
   -- a step that does an action on the account, and gives results by what the action gives
@@ -174,14 +174,14 @@ module _ (st : Step) (k : ℕ) (old new : PlainBindgen) (adds : AddsStep st k ol
     given_on (Stopped e acc) s = refl
     given_on (Stuck acc) s = refl
 
-    pub plain_does : Does plain_meaning A old new ins act Outs made gone
+    pub plain_does : Does plain_meaning A old new ins (λ p. act p.form) Outs made gone
     plain_does w f others s0 s at =
         let after : Got PlainItem A → PlainState = λ x. kept (writes st) (record { result = res x.result; account = x.account }) s in
-        let ran : runs f new.steps s0 ≡ then_do (act f s.account) (λ x. Done (after x)) =
-        longer f s0 ∙ ap (λ o. then_do o (λ t. runs f (st ∷ []) t)) at.done ∙ ap (λ i. then_do (performed st f i s) (λ u. Done u)) (reads s (all_left (IsRight old s) ins others at.holds))
-        ∙ ap (λ o. then_do (then_do o (λ x. Done (kept (writes st) x s))) (λ u. Done u)) (does f s.account) ∙ given_on (act f s.account) s in
+        let ran : runs f.form new.steps s0 ≡ then_do (act f.form s.account) (λ x. Done (after x)) =
+        longer f.form s0 ∙ ap (λ o. then_do o (λ t. runs f.form (st ∷ []) t)) at.done ∙ ap (λ i. then_do (performed st f.form i s) (λ u. Done u)) (reads s (all_left (IsRight old s) ins others at.holds))
+        ∙ ap (λ o. then_do (then_do o (λ x. Done (kept (writes st) x s))) (λ u. Done u)) (does f.form s.account) ∙ given_on (act f.form s.account) s in
         let more : old.count ≤ new.count = omega (arith, adds.count) in
-        follows_step (act f s.account) (runs f new.steps s0) after
+        follows_step (act f.form s.account) (runs f.form new.steps s0) after
         (λ x t. (fs : Facts plain_meaning) × Outs x.result fs × After plain_meaning w new (fs ++ others) (made x.result) (gone x.result) s x t) ran
         (λ x done.
         let t = after x in
@@ -193,7 +193,7 @@ module _ (st : Step) (k : ℕ) (old new : PlainBindgen) (adds : AddsStep st k ol
           outs x.result,
           record {
             account = refl;
-            owns = owns f s.account x done;
+            owns = owns f.form s.account x done;
             denotes = all_both (IsRight new t) (ofs plain_meaning (places_from old.count k) (res x.result)) others
                 (subst (λ n. AllByRecursion (IsRight new t) (ofs plain_meaning (places_from old.count n) (res x.result))) (fits x.result) news) olds;
           },

@@ -14,7 +14,6 @@ use Rattle.wit_layout.specs.Sizes.{alignment, elem_size, extent_of, extents_of}
 use Rattle.wit_layout.specs.Tree.{Scalar}
 use Rattle.wrapper_data.specs.Heap.{is_heap}
 use Rattle.wrapper_data.specs.declared.block.Block.{Block}
-use Rattle.wrapper_data.specs.declared.form.Form.{Form}
 use Rattle.wrapper_data.specs.declared.word.Word.{Word}
 use Rattle.wrapper_data.specs.declared.word.Word.TheVariants as core
 use Rattle.wrapper_meaning.specs.Cells.{HasNumber}
@@ -29,7 +28,7 @@ use Rattle.wrapper_meaning.specs.Value.{Parts, Value}
 use Rattle.wrapper_meaning.proofs.HoldsLocally.{holds_locally}
 use Rattle.wrapper_meaning.proofs.PartPlaces.{aligned_part, end_behind, grain_of_first, grain_of_rest, less_grain, parts_end, place_aligned, place_behind}
 use Rattle.abi_driver.specs.declared.instruction.Instruction.TheVariants.{RecordLower, TupleLower}
-use Rattle.abi_driver.specs.Account.{Account, Done, Got, addresses}
+use Rattle.abi_driver.specs.Account.{Account, Done, Got, Peer, addresses}
 use Rattle.abi_driver.specs.Instructions.{Emits, IsRecord, field_shapes, shapes_of}
 use Rattle.abi_driver.specs.Laws.{Adds, After, At, Facts, Sound, item_data, ofs}
 use Rattle.abi_driver.specs.Leaves.{way}
@@ -172,7 +171,7 @@ module _ {Self Operand : Type 0} (m : Meaning Self Operand) (sound : Sound m) (t
       → layout t ≡ layout (fields ts) → ((v : Parts ts) (dir : Direction) (blk : Block) (k : ℕ) (own : List Block) → PartsHold m.width dir ts v 0 blk k own → Holds m.width dir t (whole v) blk k own)
       → Adds m a b → LowersParts m ts t whole (o ∷ []) parts a b → StoresParts m realloc ts parts address offset 0 b c
       → (heap : List Block) (v : Parts ts) (x : m.Item) (own : List Block) → AreListed ts v → m.stands (way realloc heap) t (whole v) x own
-      → (w : m.World) (f : Form) (others : Facts m) (s0 s : m.State) (q k : ℕ) (blk : Block) (left : List ℕ)
+      → (w : m.World) (f : Peer m.Item) (others : Facts m) (s0 s : m.State) (q k : ℕ) (blk : Block) (left : List ℕ)
       → At m w f a c (of o (item x) ∷ of address (word (core.Pointer q)) ∷ others) s0 s → HasRoom m.width t (reached m q offset) blk k (m.account s).heap → Releases (addresses own) (m.account s).taken left
       → Puts m (Holds m.width (way realloc heap) t (whole v)) k (elem_size m.width (layout t)) blk k own left c w f others s0 s
   parts_row realloc ts t whole a b c o address parts offset same holds adds lowers stores heap v x own listed stands w f others s0 s q k blk left at room goes =

@@ -31,6 +31,16 @@ pub record Call (V : Type 0) : Type 0 where
   pub values : List V
   pub heap : Heap
 
+-- what the other side answers a call: core words, bytes that are written and blocks; or a value, and the heap that it leaves
+pub data Reply (V : Type 0) : Type 0 where
+  words : Option Word → List (ℕ × ℕ) → List Block → Reply V
+  value : Option V → Heap → Reply V
+
+-- what is not up to the code: in which form it runs, and what it is answered
+pub record Peer (V : Type 0) : Type 0 where
+  pub form : Form
+  pub reply : Reply V
+
 pub record Account (V : Type 0) : Type 0 where
   pub heap : Heap
   -- what the allocator answers from here on

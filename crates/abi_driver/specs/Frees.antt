@@ -4,14 +4,13 @@ use Rattle.std.specs.List.{AllByRecursion}
 use Rattle.wit_model.specs.Size.{bytes_at}
 use Rattle.wit_model.specs.declared.size.ArchitectureSize.{ArchitectureSize}
 use Rattle.wrapper_data.specs.declared.block.Block.{Block}
-use Rattle.wrapper_data.specs.declared.form.Form.{Form}
 use Rattle.wrapper_data.specs.declared.word.Word.TheVariants as core
 use Rattle.wrapper_meaning.specs.Direction.{give}
 use Rattle.wrapper_meaning.specs.InMemory.{Holds, PartsHold}
 use Rattle.wrapper_meaning.specs.InRange.{AreListed, IsListed}
 use Rattle.wrapper_meaning.specs.Shape.{Shape, Shapes}
 use Rattle.wrapper_meaning.specs.Value.{Parts, Value}
-use Rattle.abi_driver.specs.Account.{Account, Done, Got, is_at}
+use Rattle.abi_driver.specs.Account.{Account, Done, Got, Peer, is_at}
 use Rattle.abi_driver.specs.Laws.{Adds, After, At, Does, Facts, ofs}
 use Rattle.abi_driver.specs.Lifts.{MayTake}
 use Rattle.abi_driver.specs.Meaning.{Meaning, of, word}
@@ -39,29 +38,29 @@ module _ {Self Operand : Type 0} (m : Meaning Self Operand) where
   -- the block of a text is freed, by its address and its length
   abbrev pub FreesText : (os rs : List Operand) → (old new : Self) → Type 0
   FreesText os rs old new =
-      (address n : ℕ) → Does m (Unit {0}) old new (ofs m os (word (core.Pointer address) ∷ word (core.Length n) ∷ [])) (λ f. freeing f address n) (λ u fs. fs ≡ []) (λ u. []) (λ u. [])
+      (address n : ℕ) → Does m (Unit {0}) old new (ofs m os (word (core.Pointer address) ∷ word (core.Length n) ∷ [])) (λ f. freeing f.form address n) (λ u fs. fs ≡ []) (λ u. []) (λ u. [])
 
   -- a block of a size is freed
   abbrev pub FreesBlock : ArchitectureSize → (os rs : List Operand) → (old new : Self) → Type 0
   FreesBlock size os rs old new =
-      (address : ℕ) → Does m (Unit {0}) old new (ofs m os (word (core.Pointer address) ∷ [])) (λ f. freeing f address (bytes_at size (2 ^ m.width))) (λ u fs. fs ≡ []) (λ u. []) (λ u. [])
+      (address : ℕ) → Does m (Unit {0}) old new (ofs m os (word (core.Pointer address) ∷ [])) (λ f. freeing f.form address (bytes_at size (2 ^ m.width))) (λ u fs. fs ≡ []) (λ u. []) (λ u. [])
 
   -- 2. What the code does
 
   -- these blocks are freed, and an operand that denotes their value's address is used up
-  abbrev pub Frees : (own : List Block) → (new : Self) → m.World → Form → Facts m → (s0 s : m.State) → Type 0
+  abbrev pub Frees : (own : List Block) → (new : Self) → m.World → Peer m.Item → Facts m → (s0 s : m.State) → Type 0
   Frees own new w f others s0 s = (s1 : m.State) × (m.does w f (m.code new) s0 ≡ Done s1) × After m w new others [] [] s (by_freeing own (m.account s)) s1
 
   -- exactly the blocks are freed of the value that stands at an offset from an address
   pub record FreesInMemory (t : Shape) (address : Operand) (offset : ArchitectureSize) (old new : Self) : Type 0 where
     pub adds : Adds m old new
-    pub row : (v : Value t) (own : List Block) → IsListed t v → (w : m.World) (f : Form) (others : Facts m) (s0 s : m.State) (q k : ℕ) (b : Block)
+    pub row : (v : Value t) (own : List Block) → IsListed t v → (w : m.World) (f : Peer m.Item) (others : Facts m) (s0 s : m.State) (q k : ℕ) (b : Block)
         → At m w f old new (of address (word (core.Pointer q)) ∷ others) s0 s → HasRoom m.width t (reached m q offset) b k (m.account s).heap → Holds m.width give t v b k own → MayFree own b (m.account s)
         → Frees own new w f others s0 s
 
   -- the same of parts, of which the first comes behind so many bytes
   pub record FreesParts (ts : Shapes) (address : Operand) (offset : ArchitectureSize) (behind : ℕ) (old new : Self) : Type 0 where
     pub adds : Adds m old new
-    pub row : (v : Parts ts) (own : List Block) → AreListed ts v → (w : m.World) (f : Form) (others : Facts m) (s0 s : m.State) (q k : ℕ) (b : Block)
+    pub row : (v : Parts ts) (own : List Block) → AreListed ts v → (w : m.World) (f : Peer m.Item) (others : Facts m) (s0 s : m.State) (q k : ℕ) (b : Block)
         → At m w f old new (of address (word (core.Pointer q)) ∷ others) s0 s → HavePlaces m.width ts behind (reached m q offset) b k (m.account s).heap → PartsHold m.width give ts v behind b k own → MayFree own b (m.account s)
         → Frees own new w f others s0 s

@@ -2,14 +2,13 @@
 use Rattle.std.specs.Prelude.{◌≡◌, ◌⊎◌, ℕ, suc, List, [], ◌∷◌, ◌++◌, length, map, Option, IfSome}
 use Rattle.wit_model.specs.declared.types.TypeDef.{TypeDef}
 use Rattle.wrapper_data.specs.declared.block.Block.{Block}
-use Rattle.wrapper_data.specs.declared.form.Form.{Form}
 use Rattle.wrapper_data.specs.declared.word.Word.{Word}
 use Rattle.wrapper_meaning.specs.Direction.{give, lend, take}
 use Rattle.wrapper_meaning.specs.InRange.{IsListed}
 use Rattle.wrapper_meaning.specs.Items.{SameItems}
 use Rattle.wrapper_meaning.specs.Shape.{Shape}
 use Rattle.wrapper_meaning.specs.Value.{Value}
-use Rattle.abi_driver.specs.Account.{Account, Act, Done, Follows, Got, Stops, account_in, stay}
+use Rattle.abi_driver.specs.Account.{Account, Act, Done, Follows, Got, Peer, Stops, account_in, stay}
 use Rattle.abi_driver.specs.Meaning.{Datum, Fact, Meaning, arg, item, of, word}
 
 module _ {Self Operand : Type 0} (m : Meaning Self Operand) where
@@ -50,7 +49,7 @@ module _ {Self Operand : Type 0} (m : Meaning Self Operand) where
     pub again : (w : m.World) (b : Self) (o : Operand) (x : Word) (facts : Facts) (s : m.State) → m.denotes w b (of o (word x) ∷ facts) s → m.denotes w b (of o (word x) ∷ of o (word x) ∷ facts) s
     pub arg_again : (w : m.World) (b : Self) (n : ℕ) (x : Word) (facts : Facts) (s : m.State) → m.denotes w b (arg n (word x) ∷ facts) s → m.denotes w b (arg n (word x) ∷ arg n (word x) ∷ facts) s
     -- no code does nothing
-    pub nothing : (w : m.World) (f : Form) (s : m.State) → m.does w f m.nothing s ≡ Done s
+    pub nothing : (w : m.World) (f : Peer m.Item) (s : m.State) → m.does w f m.nothing s ≡ Done s
     -- an item with its blocks stands for one value
     pub determined : (t : Shape) (v u : Value t) (a : m.Item) (own : List Block) → IsListed t v → IsListed t u → m.stands take t v a own → m.stands take t u a own → v ≡ u
     -- what was taken over may be given on, and what may be given may be taken over
@@ -83,7 +82,7 @@ module _ {Self Operand : Type 0} (m : Meaning Self Operand) where
     pub serves : (w : m.World) → m.serves w new → m.serves w old
     -- what serves it can be made to serve more
     pub more : (w : m.World) → m.serves w old → (x : m.World) × m.serves x new
-    pub stops : (w : m.World) (f : Form) (s : m.State) → m.serves w new → Stops m.account (m.does w f (m.code old) s) (m.does w f (m.code new) s)
+    pub stops : (w : m.World) (f : Peer m.Item) (s : m.State) → m.serves w new → Stops m.account (m.does w f (m.code old) s) (m.does w f (m.code new) s)
     pub imports : m.imports new ≡ m.imports old
     pub exports : m.exports new ≡ m.exports old
     pub arguments : m.arguments new ≡ m.arguments old
@@ -91,7 +90,7 @@ module _ {Self Operand : Type 0} (m : Meaning Self Operand) where
 
   -- code that is no call makes none, from whatever state
   abbrev pub Quiet : (old new : Self) → Type 0
-  Quiet old new = (w : m.World) (f : Form) (s : m.State) → m.serves w new → (account_in m.account (m.does w f (m.code new) s)).calls ≡ (account_in m.account (m.does w f (m.code old) s)).calls
+  Quiet old new = (w : m.World) (f : Peer m.Item) (s : m.State) → m.serves w new → (account_in m.account (m.does w f (m.code new) s)).calls ≡ (account_in m.account (m.does w f (m.code old) s)).calls
 
   -- code was added that makes no call
   pub record Adds (old new : Self) : Type 0 where
@@ -101,7 +100,7 @@ module _ {Self Operand : Type 0} (m : Meaning Self Operand) where
   -- 3. It does an action
 
   -- a state to which the earlier code came, and in which these facts hold
-  pub record At (w : m.World) (f : Form) (old new : Self) (facts : Facts) (s0 s : m.State) : Type 0 where
+  pub record At (w : m.World) (f : Peer m.Item) (old new : Self) (facts : Facts) (s0 s : m.State) : Type 0 where
     pub serves : m.serves w new
     pub done : m.does w f (m.code old) s0 ≡ Done s
     pub holds : m.denotes w old facts s
@@ -113,9 +112,9 @@ module _ {Self Operand : Type 0} (m : Meaning Self Operand) where
     pub denotes : m.denotes w new facts t
 
   -- the new code follows the action, and besides the other facts such hold as are told by its result
-  abbrev pub Does : (A : Type 0) → (old new : Self) → (ins : Facts) → (Form → Act m.Item A) → (A → Facts → Type 0) → (made gone : A → List ℕ) → Type 0
+  abbrev pub Does : (A : Type 0) → (old new : Self) → (ins : Facts) → (Peer m.Item → Act m.Item A) → (A → Facts → Type 0) → (made gone : A → List ℕ) → Type 0
   Does A old new ins act Outs made gone =
-      (w : m.World) (f : Form) (others : Facts) (s0 s : m.State) → At w f old new (ins ++ others) s0 s →
+      (w : m.World) (f : Peer m.Item) (others : Facts) (s0 s : m.State) → At w f old new (ins ++ others) s0 s →
       Follows m.account (act f (m.account s)) (m.does w f (m.code new) s0)
       (λ x t. (outs : Facts) × Outs x.result outs × After w new (outs ++ others) (made x.result) (gone x.result) s x t)
 

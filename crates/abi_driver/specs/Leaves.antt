@@ -28,7 +28,7 @@ module _ {Self Operand : Type 0} (m : Meaning Self Operand) where
   -- a word becomes the scalar of which it is, once it is read as one
   abbrev pub LiftsScalar : Scalar → (os rs : List Operand) → (old new : Self) → Type 0
   LiftsScalar s os rs old new =
-      (x : Word) → Does m (Unit {0}) old new (ofs m os (word x ∷ [])) (λ f. reading s f x)
+      (x : Word) → Does m (Unit {0}) old new (ofs m os (word x ∷ [])) (λ f. reading s f.form x)
       (λ u fs. (a : m.Item) × (fs ≡ ofs m rs (item a ∷ [])) × ((v : ScalarValue s) → IsScalar s v → IsTaken s v x → m.stands take (scalar s) v a []))
       (λ u. []) (λ u. [])
 
@@ -42,6 +42,6 @@ module _ {Self Operand : Type 0} (m : Meaning Self Operand) where
   -- an address and a length become the text that is taken over there
   abbrev pub LiftsText : (os rs : List Operand) → (old new : Self) → Type 0
   LiftsText os rs old new =
-      (address n : ℕ) → Does m Taken old new (ofs m os (word (core.Pointer address) ∷ word (core.Length n) ∷ [])) (λ f. taking f address n)
+      (address n : ℕ) → Does m Taken old new (ofs m os (word (core.Pointer address) ∷ word (core.Length n) ∷ [])) (λ f. taking f.form address n)
       (λ x fs. (a : m.Item) × (fs ≡ ofs m rs (item a ∷ [])) × (Says m.width take text x.bytes (core.Pointer address ∷ core.Length n ∷ []) x.blocks → m.stands take text x.bytes a x.blocks))
       (λ x. addresses x.blocks) (λ x. [])

@@ -2,7 +2,6 @@
 use Rattle.std.specs.Prelude.{◌≡◌, ℕ, true, false, List, [], ◌∷◌, ◌++◌, length}
 use Rattle.wrapper_data.specs.Heap.{is_heap}
 use Rattle.wrapper_data.specs.declared.block.Block.{Block}
-use Rattle.wrapper_data.specs.declared.form.Form.{Form}
 use Rattle.wrapper_data.specs.declared.word.Word.{Word}
 use Rattle.wit_layout.specs.Flat.{flatten_record, flatten_type}
 use Rattle.wrapper_meaning.specs.AsWords.{PartsSay, Says}
@@ -13,7 +12,7 @@ use Rattle.wrapper_meaning.specs.Layout.{layout, layouts}
 use Rattle.wrapper_meaning.specs.Settled.{all_settled, settled}
 use Rattle.wrapper_meaning.specs.Shape.{Shape, Shapes}
 use Rattle.wrapper_meaning.specs.Value.{Parts, Value}
-use Rattle.abi_driver.specs.Account.{Account, Done, Got, addresses, is_taken}
+use Rattle.abi_driver.specs.Account.{Account, Done, Got, Peer, addresses, is_taken}
 use Rattle.abi_driver.specs.Laws.{Adds, After, At, Facts, core_data, item_data, ofs}
 use Rattle.abi_driver.specs.Meaning.{Meaning}
 use Rattle.abi_driver.specs.Parts.{PartsStand}
@@ -40,7 +39,7 @@ module _ {Self Operand : Type 0} (m : Meaning Self Operand) where
   -- operands that denote these words become operands of items that stand for something, and own the blocks of the words
   abbrev pub TakesOver : (Stand : List m.Item → Type 0) → (os : List Operand) → List Word → List Block → (rs : List Operand) → (old new : Self) → Type 0
   TakesOver Stand os ws own rs old new =
-      (w : m.World) (f : Form) (others : Facts m) (s0 s : m.State) → At m w f old new (ofs m os (core_data m ws) ++ others) s0 s → MayTake own (m.account s) →
+      (w : m.World) (f : Peer m.Item) (others : Facts m) (s0 s : m.State) → At m w f old new (ofs m os (core_data m ws) ++ others) s0 s → MayTake own (m.account s) →
       (t : m.State) × (m.does w f (m.code new) s0 ≡ Done t)
       × (vals : List m.Item) × Stand vals × After m w new (ofs m rs (item_data m vals) ++ others) (addresses own) [] s (by_taking own (m.account s)) t
 

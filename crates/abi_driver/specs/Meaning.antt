@@ -2,12 +2,11 @@
 use Rattle.std.specs.Prelude.{ℕ, Bool, List, Option}
 use Rattle.wit_model.specs.declared.types.TypeDef.{TypeDef}
 use Rattle.wrapper_data.specs.declared.block.Block.{Block}
-use Rattle.wrapper_data.specs.declared.form.Form.{Form}
 use Rattle.wrapper_data.specs.declared.word.Word.{Word}
 use Rattle.wrapper_meaning.specs.Direction.{Direction}
 use Rattle.wrapper_meaning.specs.Shape.{Shape}
 use Rattle.wrapper_meaning.specs.Value.{Value}
-use Rattle.abi_driver.specs.Account.{Account, Outcome}
+use Rattle.abi_driver.specs.Account.{Account, Outcome, Peer}
 
 -- a core word, or a value of the code's own side
 pub data Datum (V : Type 0) : Type 0 where
@@ -36,7 +35,7 @@ pub record Meaning (Self Operand : Type 0) : Type 1 where
   -- the addresses of the blocks that locals own
   pub owns : State → List ℕ
   pub nothing : Code
-  pub does : World → Form → Code → State → Outcome Item State
+  pub does : World → Peer Item → Code → State → Outcome Item State
   -- the facts hold together
   pub denotes : World → Self → List (Fact Operand Item) → State → Type 0
   pub code : Self → Code

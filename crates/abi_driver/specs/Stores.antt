@@ -4,7 +4,6 @@ use Rattle.wit_model.specs.declared.size.ArchitectureSize.{ArchitectureSize}
 use Rattle.wit_layout.specs.Extent.{end}
 use Rattle.wit_layout.specs.Sizes.{elem_size, extents_of}
 use Rattle.wrapper_data.specs.declared.block.Block.{Block}
-use Rattle.wrapper_data.specs.declared.form.Form.{Form}
 use Rattle.wrapper_data.specs.declared.word.Word.TheVariants as core
 use Rattle.wrapper_meaning.specs.Buffer.{Contents}
 use Rattle.wrapper_meaning.specs.InMemory.{Holds, PartsHold}
@@ -12,7 +11,7 @@ use Rattle.wrapper_meaning.specs.InRange.{AreListed, IsListed}
 use Rattle.wrapper_meaning.specs.Layout.{layout, layouts}
 use Rattle.wrapper_meaning.specs.Shape.{Shape, Shapes}
 use Rattle.wrapper_meaning.specs.Value.{Parts, Value}
-use Rattle.abi_driver.specs.Account.{Account, Done, Got, addresses, is_taken, without}
+use Rattle.abi_driver.specs.Account.{Account, Done, Got, Peer, addresses, is_taken, without}
 use Rattle.abi_driver.specs.Laws.{Adds, After, At, Facts, item_data, ofs}
 use Rattle.abi_driver.specs.Leaves.{way}
 use Rattle.abi_driver.specs.Meaning.{Meaning, item, of, word}
@@ -36,7 +35,7 @@ pub record Stored (Held : Contents) (from size : ℕ) (b : Block) (k : ℕ) (own
 
 module _ {Self Operand : Type 0} (m : Meaning Self Operand) where
   -- the code stores something in a block, and lets go of what that owned
-  abbrev pub Puts : (Held : Contents) → (from size : ℕ) → (b : Block) → (k : ℕ) → (own : List Block) → (left : List ℕ) → (new : Self) → m.World → Form → Facts m → (s0 s : m.State) → Type 0
+  abbrev pub Puts : (Held : Contents) → (from size : ℕ) → (b : Block) → (k : ℕ) → (own : List Block) → (left : List ℕ) → (new : Self) → m.World → Peer m.Item → Facts m → (s0 s : m.State) → Type 0
   Puts Held from size b k own left new w f others s0 s =
       (s1 : m.State) × (after : Block) × (m.does w f (m.code new) s0 ≡ Done s1) × Stored Held from size b k own after
       × After m w new others [] (addresses own) s (by_storing after left (m.account s)) s1
@@ -46,7 +45,7 @@ module _ {Self Operand : Type 0} (m : Meaning Self Operand) where
   pub record LowersToMemory (realloc : Bool) (t : Shape) (o address : Operand) (offset : ArchitectureSize) (old new : Self) : Type 0 where
     pub adds : Adds m old new
     pub row : (heap : List Block) (v : Value t) (a : m.Item) (own : List Block) → IsListed t v → m.stands (way realloc heap) t v a own
-        → (w : m.World) (f : Form) (others : Facts m) (s0 s : m.State) (q k : ℕ) (b : Block) (left : List ℕ)
+        → (w : m.World) (f : Peer m.Item) (others : Facts m) (s0 s : m.State) (q k : ℕ) (b : Block) (left : List ℕ)
         → At m w f old new (of o (item a) ∷ of address (word (core.Pointer q)) ∷ others) s0 s → HasRoom m.width t (reached m q offset) b k (m.account s).heap → Releases (addresses own) (m.account s).taken left
         → Puts (Holds m.width (way realloc heap) t v) k (elem_size m.width (layout t)) b k own left new w f others s0 s
 
@@ -54,6 +53,6 @@ module _ {Self Operand : Type 0} (m : Meaning Self Operand) where
   pub record StoresParts (realloc : Bool) (ts : Shapes) (parts : List Operand) (address : Operand) (offset : ArchitectureSize) (behind : ℕ) (old new : Self) : Type 0 where
     pub adds : Adds m old new
     pub row : (heap : List Block) (v : Parts ts) (vals : List m.Item) (own : List Block) → AreListed ts v → PartsStand m (way realloc heap) ts v vals own
-        → (w : m.World) (f : Form) (others : Facts m) (s0 s : m.State) (q k : ℕ) (b : Block) (left : List ℕ)
+        → (w : m.World) (f : Peer m.Item) (others : Facts m) (s0 s : m.State) (q k : ℕ) (b : Block) (left : List ℕ)
         → At m w f old new (ofs m parts (item_data m vals) ++ of address (word (core.Pointer q)) ∷ others) s0 s → HavePlaces m.width ts behind (reached m q offset) b k (m.account s).heap → Releases (addresses own) (m.account s).taken left
         → Puts (PartsHold m.width (way realloc heap) ts v behind) (k + behind) (end (extents_of m.width (layouts ts)) behind - behind) b k own left new w f others s0 s

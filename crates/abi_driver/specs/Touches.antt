@@ -91,7 +91,7 @@ module _ {Self Operand : Type 0} (m : Meaning Self Operand) where
   -- a word is loaded
   abbrev pub LoadsWord : Access → ArchitectureSize → (os rs : List Operand) → (old new : Self) → Type 0
   LoadsWord a o os rs old new =
-      (address : ℕ) → Does m Word old new (ofs m os (word (core.Pointer address) ∷ [])) (λ f. loading m.width f a (reached address o))
+      (address : ℕ) → Does m Word old new (ofs m os (word (core.Pointer address) ∷ [])) (λ f. loading m.width f.form a (reached address o))
       (λ x fs. fs ≡ ofs m rs (word x ∷ [])) (λ x. []) (λ x. [])
 
   abbrev pub RowOfTouch : Touch → (os rs : List Operand) → (old new : Self) → Type 0
