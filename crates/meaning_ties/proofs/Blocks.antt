@@ -88,7 +88,7 @@ found_one {A} test read (c ∷ blocks) a h = by_test (test c) refl (found_one te
         record { block = rest.block; inside = (suc k, omega (below, arith), at); passes = rest.passes; reads = rest.reads }
 
 -- a block among well-formed ones is well formed, and so above address 0 and below 2^32
-one_of_all : (blocks : List Block) (b : Block) → list_all is_block blocks ≡ true → Contains blocks b → is_block b ≡ true
+pub one_of_all : (blocks : List Block) (b : Block) → list_all is_block blocks ≡ true → Contains blocks b → is_block b ≡ true
 one_of_all [] b h (k, below, at) = absurd (omega (below, arith))
 one_of_all (c ∷ blocks) b h (zero, below, at) = subst (λ x. is_block x ≡ true) at (and_parts (is_block c) (list_all is_block blocks) h).0
 one_of_all (c ∷ blocks) b h (suc k, below, at) = one_of_all blocks b (and_parts (is_block c) (list_all is_block blocks) h).1 (k, omega (below, arith), at)

@@ -26,7 +26,7 @@ use Rattle.meaning_ties.specs.Ties.{TakenWordsAreTold}
 use Rattle.meaning_ties.proofs.Blocks.{above_zero, all_in_split, found_there, same_bytes}
 use Rattle.meaning_ties.proofs.Scalars.{takes}
 
-places-append : (xs ys : List Block) → places (xs ++ ys) ≡ places xs ++ places ys
+pub places-append : (xs ys : List Block) → places (xs ++ ys) ≡ places xs ++ places ys
 places-append [] ys = refl
 places-append (x ∷ xs) ys = ap (λ z. (x.address, x.size) ∷ z) (places-append xs ys)
 
