@@ -1,0 +1,12 @@
+pub mod AlongRuns
+pub mod AreaWords
+pub mod FormedHeaps
+pub mod HeapBlocks
+pub mod HonestPeers
+pub mod KeptHeaps
+pub mod Refused
+pub mod Round
+pub mod SimpleSides
+pub mod TiedExport
+pub mod TiedImport
+pub mod TiedReturned

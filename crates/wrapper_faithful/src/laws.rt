@@ -1,0 +1,30 @@
+ghost use Rattle.wrapper_faithful.specs.KeptHeaps.{ExportKeepsHeap, ImportKeepsHeap, PostReturnKeepsHeap};
+ghost use Rattle.wrapper_faithful.specs.Landed.{ExportIsTied, ImportIsTied};
+ghost use Rattle.wrapper_faithful.specs.Laws.{RoundLeaves, RunLeaves};
+
+/// A run from a well-formed heap shows well-formed heaps alone, whatever the tree is and whatever is answered.
+pub fn heap_law()
+    ensures imports { ImportKeepsHeap }
+    ensures exports { ExportKeepsHeap }
+    ensures post_returns { PostReturnKeepsHeap }
+{}
+
+/// Of a faithful export and then its post-return function, nothing is left but what the implementation kept and the area.
+pub fn round_law()
+    ensures { RoundLeaves }
+{}
+
+/// Of a faithful export without a post-return function, nothing is left but what the implementation kept and the area.
+pub fn unreturned_law()
+    ensures { RunLeaves }
+{}
+
+/// An import of scalars and texts that is faithful as `wrapper_run` tells it is faithful as it is told here.
+pub fn import_tie_law()
+    ensures { ImportIsTied }
+{}
+
+/// An export of scalars and texts that is faithful as `wrapper_run` tells it is faithful as it is told here.
+pub fn export_tie_law()
+    ensures { ExportIsTied }
+{}
