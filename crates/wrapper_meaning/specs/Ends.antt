@@ -8,7 +8,7 @@ use Rattle.wrapper_data.specs.declared.run.CallPoint.{CallPoint}
 use Rattle.wrapper_data.specs.declared.run.Run.{Run}
 use Rattle.wrapper_data.specs.declared.run.Stop.{Stop}
 use Rattle.wrapper_data.specs.declared.run.Stop.TheVariants as stop
-use Rattle.wrapper_data.specs.Heap.{is_block, overlaps_any}
+use Rattle.wrapper_data.specs.Heap.{is_block, is_heap, overlaps_any}
 use Rattle.wrapper_meaning.specs.Due.{Bill, due}
 use Rattle.wrapper_meaning.specs.Items.{AtMost, SameItems}
 
@@ -64,10 +64,12 @@ pub record MeetsMisfit (b : Bill) (choices : List Choice) (run : Run) : Type 0 w
 
 -- 4. The ends
 
--- a run that ends early made no more requests than are due, that of the area at its place, and gives nothing
+-- a run that ends early made no more requests than are due, that of the area at its place, and gives nothing. Its heap
+-- is well formed
 pub record EndsEarly (b : Bill) (run : Run) : Type 0 where
   pub requests : AtMost run.requests (due b)
   pub area : AreaInPlace b.area b.before run.requests
+  pub formed : is_heap run.heap ≡ true
   pub words : run.words ≡ []
   pub value : run.value ≡ None
 

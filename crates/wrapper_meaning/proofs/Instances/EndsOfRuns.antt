@@ -64,7 +64,7 @@ out_of_place done = omega (ap (λ r. r.size) done.area, arith)
 refused : Ends bill (choice.At 512 ∷ choice.Refuse ∷ []) (call ∷ []) (λ run. Unit {0}) (run_of (stop.Refused eight) (eight ∷ eight ∷ []))
 refused = (
   inl (record { meets = record { earlier = eight ∷ []; last = refl; takes = refl }; due = (0, omega (arith), refl); no_area = refl }),
-  record { requests = λ weight. omega (arith); area = refl; words = refl; value = refl },
+  record { requests = λ weight. omega (arith); area = refl; formed = refl; words = refl; value = refl },
 )
 
 -- a run that asks alone for one, and meets a refusal, met it at the area
@@ -82,19 +82,19 @@ of_the_area (inr (there, large), early) = omega (large, arith)
 area_refused : Ends bill (choice.Refuse ∷ []) (call ∷ []) (λ run. Unit {0}) (run_of stop.BadChoice (eight ∷ []))
 area_refused = (
   record { request = eight; met = Some choice.Refuse; meets = record { earlier = []; last = refl; takes = refl }; misfits = refl },
-  record { requests = λ weight. omega (arith); area = refl; words = refl; value = refl },
+  record { requests = λ weight. omega (arith); area = refl; formed = refl; words = refl; value = refl },
 )
 
 misaligned : Ends bill (choice.At 513 ∷ []) (call ∷ []) (λ run. Unit {0}) (run_of stop.BadChoice (eight ∷ []))
 misaligned = (
   record { request = eight; met = Some (choice.At 513); meets = record { earlier = []; last = refl; takes = refl }; misfits = (omega (arith), refl) },
-  record { requests = λ weight. omega (arith); area = refl; words = refl; value = refl },
+  record { requests = λ weight. omega (arith); area = refl; formed = refl; words = refl; value = refl },
 )
 
 exhausted : Ends bill [] (call ∷ []) (λ run. Unit {0}) (run_of stop.BadChoice (eight ∷ []))
 exhausted = (
   record { request = eight; met = None; meets = record { earlier = []; last = refl; takes = refl }; misfits = tt },
-  record { requests = λ weight. omega (arith); area = refl; words = refl; value = refl },
+  record { requests = λ weight. omega (arith); area = refl; formed = refl; words = refl; value = refl },
 )
 
 -- a wrapper that never calls, since it asks for a block without an alignment, which no address fits
