@@ -4,6 +4,7 @@ pub mod FormedHeaps
 pub mod HeapBlocks
 pub mod HonestPeers
 pub mod KeptHeaps
+pub mod NoHandles
 pub mod PlainCall
 pub mod Refused
 pub mod Round

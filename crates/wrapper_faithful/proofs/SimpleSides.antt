@@ -1,5 +1,5 @@
 -- Scalars and texts have no handles and no blocks of their own to ask for; only a text comes back by an area.
-use Rattle.std.proofs.Common.{◌≡◌, ℕ, Bool, true, false, List, [], ◌∷◌, ◌++◌, map, Option, Some, None, refl, ap, ap₂, ◌∙◌, if◌then◌else◌}
+use Rattle.std.proofs.Common.{◌≡◌, ℕ, true, false, List, [], ◌∷◌, ◌++◌, map, Option, Some, None, refl, ap, ap₂, ◌∙◌, if◌then◌else◌}
 use Rattle.std.specs.Prelude.{option_map}
 use Rattle.std.specs.List.{AllByRecursion}
 use Rattle.wit_layout.specs.Extent.{Extent}
@@ -9,12 +9,10 @@ use Rattle.wit_model.specs.declared.types.TypeDef.{TypeDef}
 use Rattle.wit_model.specs.declared.types.WitType.{WitType}
 use Rattle.wrapper_data.specs.declared.choice.Choice.{Choice}
 use Rattle.wrapper_data.specs.declared.choice.Request.{Request}
-use Rattle.wrapper_data.specs.declared.run.CallPoint.{CallPoint}
 use Rattle.wrapper_data.specs.declared.run.Run.{Run}
-use Rattle.wrapper_data.specs.declared.run.Target.{Target}
 use Rattle.wrapper_meaning.specs.Areas.{area_for, import_area}
 use Rattle.wrapper_meaning.specs.Due.{Bill, import_bill}
-use Rattle.wrapper_meaning.specs.Handles.{all_resources, main_calls, own_resources, part_handles, result_handles}
+use Rattle.wrapper_meaning.specs.Handles.{all_resources, own_resources}
 use Rattle.wrapper_meaning.specs.Represents.{are_indirect}
 use Rattle.wrapper_meaning.specs.Requests.{block_for, part_requests, result_requests, room_for}
 use Rattle.wrapper_meaning.specs.Shape.{Shape, Shapes, payloads_in, shape_in, shapes}
@@ -25,6 +23,7 @@ use Rattle.meaning_ties.specs.Simple.{Simple, is_type, one, scalar_type, shape_o
 use Rattle.meaning_ties.proofs.Scalars.{same_shape}
 use Rattle.wrapper_faithful.specs.Landed.{IsSimple, IsType, simple}
 use Rattle.wrapper_faithful.specs.Passed.{Passed, passed}
+use Rattle.wrapper_faithful.proofs.NoHandles.{all_calls_count}
 use Rattle.wrapper_faithful.specs.Resources.{Resources, calls_of}
 
 -- 1. What the function passes
@@ -53,27 +52,13 @@ no_resources [] = refl
 no_resources (one s ∷ ts) = no_resources ts
 no_resources (string ∷ ts) = no_resources ts
 
-none_of_result : (ts : List Simple) (t : Option Simple) → own_resources (shapes_of ts) (option_map shape_of t) ≡ []
+pub none_of_result : (ts : List Simple) (t : Option Simple) → own_resources (shapes_of ts) (option_map shape_of t) ≡ []
 none_of_result ts None = no_resources ts
 none_of_result ts (Some (one s)) = ap (λ rs. rs ++ []) (no_resources ts)
 none_of_result ts (Some string) = ap (λ rs. rs ++ []) (no_resources ts)
 
-every_call : (drop_of : ℕ → Target) (calls : List CallPoint) → main_calls drop_of [] calls ≡ calls
-every_call drop_of [] = refl
-every_call drop_of (c ∷ calls) = ap (λ cs. c ∷ cs) (every_call drop_of calls)
-
 pub all_calls : (resources : Resources) (ts : List Simple) (t : Option Simple) (run : Run) → calls_of resources (simple ts t) run ≡ run.calls
-all_calls resources ts t run = ap (λ rs. main_calls resources.drop_of rs run.calls) (none_of_result ts t) ∙ every_call resources.drop_of run.calls
-
-pub no_result_handles : (counts : Bool → ℕ → Bool) (t : Option Simple) (u : Result (option_map shape_of t)) → result_handles counts (option_map shape_of t) u ≡ []
-no_result_handles counts None u = refl
-no_result_handles counts (Some (one s)) u = refl
-no_result_handles counts (Some string) u = refl
-
-pub no_part_handles : (counts : Bool → ℕ → Bool) (ts : List Simple) (vs : Parts (shapes_of ts)) → part_handles counts (shapes_of ts) vs ≡ []
-no_part_handles counts [] vs = refl
-no_part_handles counts (one s ∷ ts) vs = no_part_handles counts ts vs.1
-no_part_handles counts (string ∷ ts) vs = no_part_handles counts ts vs.1
+all_calls resources ts t run = all_calls_count resources (simple ts t) run (none_of_result ts t)
 
 -- 3. What is due
 

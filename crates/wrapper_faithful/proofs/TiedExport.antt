@@ -35,7 +35,6 @@ use Rattle.wrapper_meaning.specs.Direction.{give, take}
 use Rattle.wrapper_meaning.specs.Due.{Bill, export_bill}
 use Rattle.wrapper_meaning.specs.Ends.{Ends, EndsBy, IsDone}
 use Rattle.wrapper_meaning.specs.Gives.{GivesExport}
-use Rattle.wrapper_meaning.specs.Handles.{Drops, ExportDrops, is_lent, is_owned, part_handles}
 use Rattle.wrapper_meaning.specs.Honest.{HonestCaller, HonestImplementation}
 use Rattle.wrapper_meaning.specs.InMemory.{TextHolds, text_extent}
 use Rattle.wrapper_meaning.specs.Items.{total}
@@ -73,7 +72,8 @@ use Rattle.wrapper_faithful.proofs.AreaWords.{address_stands, length_stands}
 use Rattle.wrapper_faithful.proofs.FormedHeaps.{formed}
 use Rattle.wrapper_faithful.proofs.HeapBlocks.{all_in_heap, distinct_places, same_blocks}
 use Rattle.wrapper_faithful.proofs.HonestPeers.{told_result}
-use Rattle.wrapper_faithful.proofs.SimpleSides.{all_calls, asked, due_asked, no_areas_scalar, no_part_handles, no_requests, no_result_requests, passed_simple, simple_bill}
+use Rattle.wrapper_faithful.proofs.NoHandles.{nothing_is_dropped}
+use Rattle.wrapper_faithful.proofs.SimpleSides.{none_of_result, all_calls, asked, due_asked, no_areas_scalar, no_requests, no_result_requests, passed_simple, simple_bill}
 use Rattle.wrapper_faithful.proofs.TiedImport.{ShortResult, are_values, in_place, missed_told, no_place, one_place}
 use Rattle.wrapper_faithful.proofs.TiedReturned.{returned_told}
 use Rattle.wrapper_faithful.proofs.KeptHeaps.{export_keeps_heap}
@@ -339,17 +339,6 @@ export_billed results ts vs t v shares =
 taken_words : (ts : List Simple) (vs : Parts (shapes_of ts)) (words : List Word) (blocks : List Block) → are_indirect (shapes_of ts) ≡ false → TakesArguments 2 (shapes_of ts) vs words blocks → PartsSay 2 take (shapes_of ts) vs words blocks
 taken_words ts vs words blocks few h = subst (λ q. MatchBool q (TakesRecord 2 (shapes_of ts) vs words blocks) (PartsSay 2 take (shapes_of ts) vs words blocks)) few h
 
-drops_nothing : (resources : Resources) (ts : List Simple) (vs : Parts (shapes_of ts)) (call : CallPoint) (run : Run) → run.calls ≡ call ∷ [] → ExportDrops resources.drop_of resources.imported (shapes_of ts) vs call run.calls
-drops_nothing resources ts vs call run once = record {
-  earlier = [];
-  later = [];
-  order = once;
-  dropped = [];
-  lost = λ weight. ap (total weight) (no_part_handles is_owned ts vs ∙ sym (no_part_handles is_owned ts (all_settled (shapes_of ts) vs)) ∙ sym (append-nil (part_handles is_owned (shapes_of ts) (all_settled (shapes_of ts) vs))));
-  each = λ weight. refl;
-  lent = subst (λ hs. Drops resources.drop_of hs []) (sym (no_part_handles (is_lent resources.imported) ts vs)) (λ weight. refl);
-}
-
 -- what the landed claim says of a run
 met : (names : ExportNames) (tree : Tree) (nth : ℕ) (f : Function) (ts : List Simple) (t : Option Simple) (x : RunOfExport (simple ts t) tree nth) → IsSimple f ts t → landed.IsExportFaithful names tree nth f
     → landed.MeetsCall names.method f (told_all ts x.values) (places x.caller.blocks) x.heap x.choices x.answer x.run
@@ -402,7 +391,7 @@ simple_tied resources names results tree nth f ts t h shares faithful closed = r
       subst (λ b. Ends b x.choices.list (calls_of resources (simple ts t) x.run) (GivesExport 2 b x.choices.list (option_map shape_of t) v honest.heap honest.own) x.run) (sym (export_billed results ts x.values t v shares))
       (subst (λ cs. Ends (simple_bill t) x.choices.list cs (GivesExport 2 (simple_bill t) x.choices.list (option_map shape_of t) v honest.heap honest.own) x.run) (sym (all_calls resources ts t x.run))
       (ends_told names tree nth f ts t x v h faithful closed honest));
-  drops = λ x v call honest done once. drops_nothing resources ts x.values call x.run (sym (all_calls resources ts t x.run) ∙ once);
+  drops = λ x v call honest done once. (nothing_is_dropped resources (simple ts t) x.values v call x.run.calls (none_of_result ts t) (sym (all_calls resources ts t x.run) ∙ once)).1;
   returned = returned_told names.post_return tree nth f ts t h.answer faithful.returned;
 }
   where

@@ -27,7 +27,6 @@ use Rattle.wrapper_meaning.specs.Calls.{CallsImport, CallsOnce, NamesArea}
 use Rattle.wrapper_meaning.specs.Direction.{lend}
 use Rattle.wrapper_meaning.specs.Ends.{AreaInPlace, Ends, EndsBy, EndsEarly, IsDone, MeetsMisfit, Misfits}
 use Rattle.wrapper_meaning.specs.Gives.{GivesImport}
-use Rattle.wrapper_meaning.specs.Handles.{ImportDrops, is_owned, result_handles}
 use Rattle.wrapper_meaning.specs.Honest.{HonestPeer}
 use Rattle.wrapper_meaning.specs.InRange.{AreListed, IsListedResult}
 use Rattle.wrapper_meaning.specs.Items.{total}
@@ -55,7 +54,8 @@ use Rattle.wrapper_faithful.specs.Landed.{ImportIsTied, ImportFits, IsSimple, si
 use Rattle.wrapper_faithful.specs.Resources.{Resources, calls_of}
 use Rattle.wrapper_faithful.proofs.HonestPeers.{peer_short, peer_told, told_result}
 use Rattle.wrapper_faithful.proofs.KeptHeaps.{import_keeps_heap}
-use Rattle.wrapper_faithful.proofs.SimpleSides.{all_calls, asked, due_asked, import_asked, import_billed, no_area_scalar, no_areas_scalar, no_result_handles, passed_simple, simple_bill}
+use Rattle.wrapper_faithful.proofs.NoHandles.{nothing_is_dropped}
+use Rattle.wrapper_faithful.proofs.SimpleSides.{none_of_result, all_calls, asked, due_asked, import_asked, import_billed, no_area_scalar, no_areas_scalar, passed_simple, simple_bill}
 
 -- 1. What is given
 
@@ -242,16 +242,6 @@ ends_told target tree nth f ts t x u h closed honest (inl once) =
     subst (λ st. EndsBy st (simple_bill t) x.choices.list x.run.calls (GivesImport 2 false (option_map shape_of t) u x.given.args x.given.heap x.given.own) x.run) (sym carried.done)
     (done_told f ts t x.given.values u x.given.args x.given.heap x.given.own x.run once.point h once.once told.2 whole.end short (closed.answer_near x u honest) carried)
 
--- without handles, only the one call is made
-drops_nothing : (resources : Resources) (t : Option Simple) (u : Result (option_map shape_of t)) (call : CallPoint) (run : Run) → run.calls ≡ call ∷ [] → ImportDrops resources.drop_of (option_map shape_of t) u call run.calls
-drops_nothing resources t u call run once = record {
-  drops = [];
-  order = once;
-  dropped = [];
-  lost = λ weight. ap (total weight) (no_result_handles is_owned t u ∙ sym (no_result_handles is_owned t (settled_result (option_map shape_of t) u)) ∙ sym (append-nil (result_handles is_owned (option_map shape_of t) (settled_result (option_map shape_of t) u))));
-  each = λ weight. refl;
-}
-
 simple_tied : (resources : Resources) (target : Target) (tree : Tree) (nth : ℕ) (f : Function) (ts : List Simple) (t : Option Simple) → IsSimple f ts t → landed.IsFaithful target tree nth f → ImportFits f tree nth (simple ts t)
     → IsFaithful resources target false tree nth (simple ts t)
 simple_tied resources target tree nth f ts t h faithful closed = record {
@@ -261,7 +251,7 @@ simple_tied resources target tree nth f ts t h faithful closed = record {
       subst (λ b. Ends b x.choices.list (calls_of resources (simple ts t) x.run) (GivesImport 2 false (option_map shape_of t) u x.given.args x.given.heap x.given.own) x.run) (sym (import_billed ts x.given.values t u h.few))
       (subst (λ cs. Ends (simple_bill t) x.choices.list cs (GivesImport 2 false (option_map shape_of t) u x.given.args x.given.heap x.given.own) x.run) (sym (all_calls resources ts t x.run))
       (ends_told target tree nth f ts t x u h closed (subst (AnswersHonestly (simple ts t) u x.answer) (all_calls resources ts t x.run) honest) (carried x)));
-  drops = λ x u call honest done once. drops_nothing resources t u call x.run (sym (all_calls resources ts t x.run) ∙ once);
+  drops = λ x u call honest done once. (nothing_is_dropped resources (simple ts t) x.given.values u call x.run.calls (none_of_result ts t) (sym (all_calls resources ts t x.run) ∙ once)).0;
 }
   where
     carried : (x : RunOfImport (simple ts t) tree nth) → landed.CallsOnce target f (told_all ts x.given.values) x.given.heap x.choices x.answer x.run ⊎ landed.MissesArea f x.given.heap x.choices x.run
