@@ -1,17 +1,21 @@
 -- The same, by the lists of operands that were read.
-use Rattle.std.proofs.Common.{◌≡◌, ℕ, Bool, List, [], ◌∷◌, length, get_or, Some, subst, arith}
+use Rattle.std.proofs.Common.{◌≡◌, ℕ, Bool, List, [], ◌∷◌, length, get_or, Some, option_map, subst, arith}
 use Rattle.wit_model.specs.declared.name.TypeId.{TypeId}
+use Rattle.wit_model.specs.declared.size.ArchitectureSize.{ArchitectureSize}
 use Rattle.wit_model.specs.declared.types.Field.{Field}
 use Rattle.wit_model.specs.declared.types.TypeDef.{TypeDef}
 use Rattle.wit_model.specs.declared.types.WitType.{WitType}
+use Rattle.wit_model.specs.declared.wasm_type.WasmType.{WasmType}
 use Rattle.abi_driver.specs.declared.instruction.Instruction.{Instruction}
 use Rattle.abi_driver.specs.declared.instruction.Instruction.TheVariants as instruction
 use Rattle.abi_driver.specs.declared.plain.Place.{Place}
 use Rattle.abi_driver.specs.declared.plain.PlainBindgen.{PlainBindgen}
 use Rattle.abi_driver.specs.declared.plain.Step.TheVariants as step
+use Rattle.abi_driver.specs.declared.plain.words.WordTouch.TheVariants as touched
 use Rattle.abi_driver.specs.Instructions.{Emits, IsRecord}
-use Rattle.abi_driver.specs.Plain.{AddsStep, lifted_type, lowered_type, places_from, plain_meaning}
-use Rattle.abi_driver.proofs.PlainRows.{passes_scalar, passes_text, reads_scalar, splits_record, splits_tuple, takes_text}
+use Rattle.abi_driver.specs.Plain.{AddsStep, lifted_type, lowered_type, places_from, plain_meaning, word_touch}
+use Rattle.abi_driver.specs.Touches.{touch}
+use Rattle.abi_driver.proofs.PlainRows.{loads_word, passes_scalar, passes_text, reads_scalar, splits_record, splits_tuple, stores_word, takes_text}
 
 -- a list of one place, and of two
 abbrev pub OfOne : (List Place → Type 0) → Type 0
@@ -66,3 +70,16 @@ module _ (types : List TypeDef) (old new : PlainBindgen) where
   split_tuple n os read rs d len same adds places =
       one_of (λ os. AddsStep (step.Split (get_or os 0 d).number old.count) n old new → Emits plain_meaning types (instruction.TupleLower n) os rs old new) (λ o a. splits_tuple types old new n o rs a places) os len
       (subst (λ xs. AddsStep (step.Split (get_or xs 0 d).number old.count) n old new) same adds)
+
+  pub stored_word : (i : Instruction) (ty : WasmType) (grain : ℕ) (o : ArchitectureSize) (os one two rs : List Place) (d e : Place) → option_map word_touch (touch i) ≡ Some (touched.Store ty grain o) → length os ≡ 2 → one ≡ os → two ≡ os
+      → AddsStep (step.Store ty grain o (get_or one 0 d).number (get_or two 1 e).number) 0 old new → rs ≡ places_from old.count 0 → Emits plain_meaning types i os rs old new
+  stored_word i ty grain o os one two rs d e is len same1 same2 adds places =
+      two_of (λ os. AddsStep (step.Store ty grain o (get_or os 0 d).number (get_or os 1 e).number) 0 old new → Emits plain_meaning types i os rs old new) (λ p q a. stores_word types old new i ty grain o p q rs is a places) os len
+      (subst (λ xs. AddsStep (step.Store ty grain o (get_or os 0 d).number (get_or xs 1 e).number) 0 old new) same2
+      (subst (λ xs. AddsStep (step.Store ty grain o (get_or xs 0 d).number (get_or two 1 e).number) 0 old new) same1 adds))
+
+  pub loaded_word : (i : Instruction) (ty : WasmType) (grain : ℕ) (signed : Bool) (o : ArchitectureSize) (os read rs : List Place) (d : Place) → option_map word_touch (touch i) ≡ Some (touched.Load ty grain signed o) → length os ≡ 1 → read ≡ os
+      → AddsStep (step.Load ty grain signed o (get_or read 0 d).number old.count) 1 old new → rs ≡ places_from old.count 1 → Emits plain_meaning types i os rs old new
+  loaded_word i ty grain signed o os read rs d is len same adds places =
+      one_of (λ os. AddsStep (step.Load ty grain signed o (get_or os 0 d).number old.count) 1 old new → Emits plain_meaning types i os rs old new) (λ p a. loads_word types old new i ty grain signed o p rs is a places) os len
+      (subst (λ xs. AddsStep (step.Load ty grain signed o (get_or xs 0 d).number old.count) 1 old new) same adds)

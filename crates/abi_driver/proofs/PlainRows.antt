@@ -1,5 +1,5 @@
 -- The steps of a `PlainBindgen` do what the laws ask of their instructions.
-use Rattle.std.proofs.Common.{◌≡◌, ℕ, zero, suc, ◌+◌, ◌-◌, ◌^◌, ◌<◌, ◌⊎◌, Bool, true, false, ◌||◌, nat_eq, nat_lt, if◌then◌else◌, ℤ, pos, List, [], ◌∷◌, ◌++◌, length, map, find, Option, None, Some, refl, sym, ap, ap₂, ◌∙◌, subst, arith, append-nil}
+use Rattle.std.proofs.Common.{◌≡◌, ℕ, zero, suc, ◌+◌, ◌-◌, ◌^◌, ◌<◌, ◌⊎◌, Bool, true, false, ◌&&◌, ◌||◌, nat_eq, nat_lt, if◌then◌else◌, ℤ, pos, List, [], ◌∷◌, ◌++◌, length, map, find, Option, None, Some, is_some, option_map, refl, sym, ap, ap₂, ◌∙◌, subst, arith, append-nil}
 use mathlib.Core.Logic.{inl, inr}
 use Rattle.std.specs.Int.{w8, w16, w32, w64, cast_signed}
 use Rattle.std.specs.List.{AllByRecursion}
@@ -8,11 +8,14 @@ use Rattle.std.proofs.lemmas.Bool.Decides.{eqb_tells}
 use Rattle.std.proofs.lemmas.Int.{ints}
 use Rattle.std.proofs.lemmas.List.{length-map}
 use Rattle.wit_model.specs.declared.name.TypeId.{TypeId}
+use Rattle.wit_model.specs.declared.size.ArchitectureSize.{ArchitectureSize}
 use Rattle.wit_model.specs.declared.types.Field.{Field}
 use Rattle.wit_model.specs.declared.types.TypeDef.{TypeDef}
 use Rattle.wit_model.specs.declared.types.WitType.{WitType}
+use Rattle.wit_model.specs.declared.wasm_type.WasmType.{WasmType}
 use Rattle.wit_layout.specs.Flat.{core_type}
 use Rattle.wit_layout.specs.Tree.{Scalar}
+use Rattle.wrapper_data.specs.Answered.{with_writes}
 use Rattle.wrapper_data.specs.declared.block.Block.{Block}
 use Rattle.wrapper_data.specs.declared.form.Form.{Form}
 use Rattle.wrapper_data.specs.declared.form.Form.TheVariants as form
@@ -23,7 +26,7 @@ use Rattle.wrapper_data.specs.declared.word.Word.TheVariants as core
 use Rattle.wrapper_meaning.specs.Buffer.{Contents, IsPlaced}
 use Rattle.wrapper_meaning.specs.InMemory.{TextHolds}
 use Rattle.wrapper_meaning.specs.AsWords.{IsTaken, Says, passed_word}
-use Rattle.wrapper_meaning.specs.Cells.{bytes_from}
+use Rattle.wrapper_meaning.specs.Cells.{bytes_from, little}
 use Rattle.wrapper_meaning.specs.Direction.{Direction, take}
 use Rattle.wrapper_meaning.specs.InRange.{IsScalar}
 use Rattle.wrapper_meaning.specs.Items.{SameItems, total}
@@ -32,19 +35,25 @@ use Rattle.wrapper_meaning.specs.Shape.{Shape, Shapes}
 use Rattle.wrapper_meaning.specs.Shape.Shape.{scalar, text, fields, tuple}
 use Rattle.wrapper_meaning.specs.Shape.Shapes.{none, more}
 use Rattle.wrapper_meaning.specs.Value.{Parts, ScalarValue, Value}
+use Rattle.wrapper_meaning.specs.Words.{bits_of}
 use Rattle.wrapper_meaning.proofs.Lists.{some_same}
 use Rattle.abi_driver.specs.declared.instruction.Instruction.{Instruction}
 use Rattle.abi_driver.specs.declared.instruction.Instruction.TheVariants as instruction
 use Rattle.abi_driver.specs.declared.plain.Place.{Place}
 use Rattle.abi_driver.specs.declared.plain.PlainBindgen.{PlainBindgen}
 use Rattle.abi_driver.specs.declared.plain.Step.TheVariants as step
+use Rattle.abi_driver.specs.declared.plain.words.WordTouch.{WordTouch}
+use Rattle.abi_driver.specs.declared.plain.words.WordTouch.TheVariants as touched
 use Rattle.abi_driver.specs.Account.{Account, Done, Got, Outcome, Stopped, Stuck, Taken, addresses, checking, failing, found, gives, has_type, is_at, is_taken, reading, releasing, stay, taking, tested, without}
-use Rattle.abi_driver.specs.Instructions.{Emits, IsRecord, MakesBy, RowBy, field_shapes, lifted_scalar, lowered_scalar}
-use Rattle.abi_driver.specs.Laws.{Stays, core_data, item_data, ofs}
+use Rattle.abi_driver.specs.Instructions.{Emits, IsRecord, MakesBy, MakesTouch, RowBy, RowTouch, field_shapes, lifted_scalar, lowered_scalar}
+use Rattle.abi_driver.specs.Laws.{Adds, Stays, core_data, item_data, ofs}
 use Rattle.abi_driver.specs.Leaves.{LiftsScalar, LiftsText, LowersScalar, LowersText}
 use Rattle.abi_driver.specs.Meaning.{Datum, arg, item, of, word}
+use Rattle.abi_driver.specs.Memory.{Access, access, bytes_on, is_inside, is_reached, little_bytes, loaded, loading, storing}
+use Rattle.abi_driver.specs.Memory as memory
 use Rattle.abi_driver.specs.Parts.{LiftsParts, LowersParts, PartsStand, count}
-use Rattle.abi_driver.specs.Plain.{AddsStep, IsPlainText, IsRight, PlainItem, PlainItems, PlainPartsStand, PlainStands, PlainState, all_at, and_all, gathered, leaf, lifted_type, listed, lowered_type, normal, performs, places_from, plain_meaning, scalar_of, whole}
+use Rattle.abi_driver.specs.Plain.{AddsStep, IsPlainText, IsRight, PlainItem, PlainItems, PlainPartsStand, PlainStands, PlainState, all_at, and_all, gathered, leaf, lifted_type, listed, lowered_type, normal, performs, places_from, plain_meaning, scalar_of, whole, word_touch}
+use Rattle.abi_driver.specs.Touches.{LoadsWord, RowOfTouch, StoresWord, Touch, loads, reached, stores, touch, touch_makes}
 use Rattle.abi_driver.proofs.PlainPlaces.{places_count}
 use Rattle.abi_driver.proofs.PlainRuns.{plain_adds, plain_does}
 use Rattle.abi_driver.proofs.Records.{count-shapes, one_record}
@@ -209,7 +218,77 @@ normal_is Scalar.f32 v x hv e = e
 normal_is Scalar.f64 v x hv e = e
 normal_is Scalar.handle v x hv e = elim v [ ]
 
--- 4. Texts and parts
+-- 4. Words in memory
+
+touched_is : (i : Instruction) (t : Touch) → touch i ≡ Some t → (lowered_scalar i ≡ None) × (lifted_scalar i ≡ None)
+touched_is (instruction.I32Store8 o) t e = (refl, refl)
+touched_is (instruction.I32Store16 o) t e = (refl, refl)
+touched_is (instruction.I32Store o) t e = (refl, refl)
+touched_is (instruction.I64Store o) t e = (refl, refl)
+touched_is (instruction.F32Store o) t e = (refl, refl)
+touched_is (instruction.F64Store o) t e = (refl, refl)
+touched_is (instruction.PointerStore o) t e = (refl, refl)
+touched_is (instruction.LengthStore o) t e = (refl, refl)
+touched_is (instruction.I32Load8U o) t e = (refl, refl)
+touched_is (instruction.I32Load8S o) t e = (refl, refl)
+touched_is (instruction.I32Load16U o) t e = (refl, refl)
+touched_is (instruction.I32Load16S o) t e = (refl, refl)
+touched_is (instruction.I32Load o) t e = (refl, refl)
+touched_is (instruction.I64Load o) t e = (refl, refl)
+touched_is (instruction.F32Load o) t e = (refl, refl)
+touched_is (instruction.F64Load o) t e = (refl, refl)
+touched_is (instruction.PointerLoad o) t e = (refl, refl)
+touched_is (instruction.LengthLoad o) t e = (refl, refl)
+touched_is _ t e = absurd (let h = e in cc)
+
+storing_owns : (a : Access) (address : ℕ) (x : Word) (acc : Account PlainItem) → OnDone (storing 2 a address x acc) (λ y. y.account.taken ≡ acc.taken)
+storing_owns a address x acc =
+    let after = record acc { heap = record { blocks = with_writes acc.heap.blocks (bytes_on address (little_bytes (2 ^ a.grain) (bits_of x))) } } in
+    if_done (has_type a.word x && is_reached 2 a address && is_some (find (is_inside address (2 ^ a.grain)) acc.heap.blocks)) (stay after) (Stuck acc) (λ y. y.account.taken ≡ acc.taken) (λ e. refl) (λ e. tt)
+
+loaded_owns : (f : Form) (x : Option Word) (acc : Account PlainItem) → OnDone (loaded 2 f x acc) (λ y. y.account.taken ≡ acc.taken)
+loaded_owns f None acc = fails f trap.Pointer acc (λ y. y.account.taken ≡ acc.taken)
+loaded_owns f (Some x) acc = refl
+
+loading_owns : (f : Form) (a : Access) (address : ℕ) (acc : Account PlainItem) → OnDone (loading 2 f a address acc) (λ y. y.account.taken ≡ acc.taken)
+loading_owns f a address acc =
+    loaded_owns f (if is_reached 2 a address then option_map (λ bytes. memory.word_read 2 a (little bytes)) (memory.bytes_at address (2 ^ a.grain) acc.heap.blocks) else None) acc
+
+abbrev makes_of : WordTouch → ℕ
+makes_of (touched.Store ty grain o) = 0
+makes_of (touched.Load ty grain signed o) = 1
+
+makes_same : (t : Touch) → makes_of (word_touch t) ≡ touch_makes t
+makes_same (stores part ty o) = refl
+makes_same (loads part signed ty o) = refl
+
+-- an instruction that touches a word, where the step does what is asked of it
+module _ (os rs : List Place) (old new : PlainBindgen) where
+  abbrev RowOfWord : WordTouch → Type 0
+  RowOfWord (touched.Store ty grain o) = StoresWord plain_meaning (access ty grain) o os rs old new
+  RowOfWord (touched.Load ty grain signed o) = LoadsWord plain_meaning (record { word = ty; grain = grain; signed = signed }) o os rs old new
+
+  word_row : (t : Touch) → RowOfWord (word_touch t) → RowOfTouch plain_meaning t os rs old new
+  word_row (stores part ty o) h = h
+  word_row (loads part signed ty o) h = h
+
+  touches : (types : List TypeDef) (i : Instruction) (t : WordTouch) → option_map word_touch (touch i) ≡ Some t → Adds plain_meaning old new → length rs ≡ makes_of t → RowOfWord t → Emits plain_meaning types i os rs old new
+  touches types i t is adds len row = by (touch i) refl is
+    where
+      by : (x : Option Touch) → touch i ≡ x → option_map word_touch x ≡ Some t → Emits plain_meaning types i os rs old new
+      by None here e = absurd (let h = e in cc)
+      by (Some x) here e =
+          let same : word_touch x ≡ t = some_same _ _ e in
+          let no = touched_is i x here in
+          record {
+            adds = adds;
+            results = subst (λ p. MakesBy types i p (lifted_scalar i) (length rs)) (sym no.0) (subst (λ p. MakesBy types i None p (length rs)) (sym no.1)
+                (subst (λ p. MakesTouch types i p (length rs)) (sym here) (len ∙ ap makes_of (sym same) ∙ makes_same x)));
+            row = subst (λ p. RowBy plain_meaning types i p (lifted_scalar i) os rs old new) (sym no.0) (subst (λ p. RowBy plain_meaning types i None p os rs old new) (sym no.1)
+                (subst (λ p. RowTouch plain_meaning types i p os rs old new) (sym here) (word_row x (subst RowOfWord (sym same) row))));
+          }
+
+-- 5. Texts and parts
 
 address_in : List Word → ℕ
 address_in (core.Pointer q ∷ ws) = q
@@ -252,7 +331,7 @@ gathered_is (a ∷ vals) = ap (λ xs. a ∷ xs) (gathered_is vals)
 field_count : (types : List TypeDef) (members : List Field) → count (field_shapes types members) ≡ length members
 field_count types members = count-shapes types (map (λ (f : Field). f.ty) members) ∙ length-map members (λ (f : Field). f.ty)
 
--- 5. Rows
+-- 6. Rows
 
 module _ (types : List TypeDef) (old new : PlainBindgen) where
   pub passes_scalar : (i : Instruction) (ty : WitType) (o : Place) (rs : List Place) → lowered_type i ≡ Some ty → AddsStep (step.Pass o.number old.count) 1 old new → rs ≡ places_from old.count 1 → Emits plain_meaning types i (o ∷ []) rs old new
@@ -262,7 +341,7 @@ module _ (types : List TypeDef) (old new : PlainBindgen) where
       let row : LowersScalar plain_meaning s (o ∷ []) (places_from old.count 1) old new = λ dir v a own listed st0. (
         st0.1,
         plain_does st 1 old new adds (Unit {0}) (of o (item a) ∷ []) (item a ∷ []) (λ f. stay) (λ u. word (passed_word s v) ∷ []) (λ u fs. fs ≡ ofs plain_meaning (places_from old.count 1) (word (passed_word s v) ∷ [])) (λ u. []) (λ u. [])
-            refl (λ t h. one_at old t o (item a) h) (λ f acc. ap (λ (b : PlainItem). performs st f (item b ∷ []) acc) st0.0) (λ u. refl) (λ u. refl) (λ f acc x e. stay_owns acc x e),
+            (λ x values n. refl) (λ t h. one_at old t o (item a) h) (λ f acc. ap (λ (b : PlainItem). performs st f (item b ∷ []) acc) st0.0) (λ u. refl) (λ u. refl) (λ f acc x e. stay_owns acc x e),
       ) in
       record {
         adds = plain_adds st 1 old new adds;
@@ -279,7 +358,7 @@ module _ (types : List TypeDef) (old new : PlainBindgen) where
       let a : PlainItem = leaf (normal s x ∷ []) [] in
       plain_does st 1 old new adds (Unit {0}) (of o (word x) ∷ []) (word x ∷ []) (λ f. reading s f x) (λ u. item a ∷ [])
       (λ u fs. (c : PlainItem) × (fs ≡ ofs plain_meaning (places_from old.count 1) (item c ∷ [])) × ((v : ScalarValue s) → IsScalar s v → IsTaken s v x → PlainStands take (scalar s) v c []))
-      (λ u. []) (λ u. []) refl (λ t h. one_at old t o (word x) h) (λ f acc. refl) (λ u. refl)
+      (λ u. []) (λ u. []) (λ x values n. refl) (λ t h. one_at old t o (word x) h) (λ f acc. refl) (λ u. refl)
       (λ u. (a, refl, λ v hv h. (ap (λ w. leaf (w ∷ []) []) (normal_is s v x hv h), refl)))
       (λ f acc y e. same_owns y.account.taken acc.taken (ap (λ (c : Account PlainItem). c.taken) (done_is (reading s f x acc) (λ y. y.account ≡ acc) y (reading_stays s f x acc) e))) in
       record {
@@ -288,6 +367,30 @@ module _ (types : List TypeDef) (old new : PlainBindgen) where
         row = subst (λ p. RowBy plain_meaning types i p (lifted_scalar i) (o ∷ []) rs old new) (sym both.0)
             (subst (λ p. RowBy plain_meaning types i None p (o ∷ []) rs old new) (sym both.1) (subst (λ ps. LiftsScalar plain_meaning s (o ∷ []) ps old new) (sym places) row));
       }
+
+  pub stores_word : (i : Instruction) (ty : WasmType) (grain : ℕ) (o : ArchitectureSize) (p q : Place) (rs : List Place) → option_map word_touch (touch i) ≡ Some (touched.Store ty grain o)
+      → AddsStep (step.Store ty grain o p.number q.number) 0 old new → rs ≡ places_from old.count 0 → Emits plain_meaning types i (p ∷ q ∷ []) rs old new
+  stores_word i ty grain o p q rs is adds places =
+      let st = step.Store ty grain o p.number q.number in
+      let a = access ty grain in
+      let row : StoresWord plain_meaning a o (p ∷ q ∷ []) rs old new = λ x address.
+      let at = reached plain_meaning address o in
+      plain_does st 0 old new adds (Unit {0}) (of p (word x) ∷ of q (word (core.Pointer address)) ∷ []) (word x ∷ word (core.Pointer address) ∷ []) (λ f. storing 2 a at x) (λ u. []) (λ u fs. fs ≡ []) (λ u. []) (λ u. [])
+      (λ u values n. refl) (λ t h. two_at old t p q (word x) (word (core.Pointer address)) h) (λ f acc. refl) (λ u. refl) (λ u. refl)
+      (λ f acc y e. same_owns y.account.taken acc.taken (done_is (storing 2 a at x acc) (λ y. y.account.taken ≡ acc.taken) y (storing_owns a at x acc) e)) in
+      touches (p ∷ q ∷ []) rs old new types i (touched.Store ty grain o) is (plain_adds st 0 old new adds) (ap length places) row
+
+  pub loads_word : (i : Instruction) (ty : WasmType) (grain : ℕ) (signed : Bool) (o : ArchitectureSize) (p : Place) (rs : List Place) → option_map word_touch (touch i) ≡ Some (touched.Load ty grain signed o)
+      → AddsStep (step.Load ty grain signed o p.number old.count) 1 old new → rs ≡ places_from old.count 1 → Emits plain_meaning types i (p ∷ []) rs old new
+  loads_word i ty grain signed o p rs is adds places =
+      let st = step.Load ty grain signed o p.number old.count in
+      let a : Access = record { word = ty; grain = grain; signed = signed } in
+      let row : LoadsWord plain_meaning a o (p ∷ []) (places_from old.count 1) old new = λ address.
+      let at = reached plain_meaning address o in
+      plain_does st 1 old new adds Word (of p (word (core.Pointer address)) ∷ []) (word (core.Pointer address) ∷ []) (λ f. loading 2 f a at) (λ x. word x ∷ []) (λ x fs. fs ≡ ofs plain_meaning (places_from old.count 1) (word x ∷ [])) (λ x. []) (λ x. [])
+      (λ x values n. refl) (λ t h. one_at old t p (word (core.Pointer address)) h) (λ f acc. refl) (λ x. refl) (λ x. refl)
+      (λ f acc y e. same_owns y.account.taken acc.taken (done_is (loading 2 f a at acc) (λ y. y.account.taken ≡ acc.taken) y (loading_owns f a at acc) e)) in
+      touches (p ∷ []) rs old new types i (touched.Load ty grain signed o) is (plain_adds st 1 old new adds) (ap length places) (subst (λ ps. LoadsWord plain_meaning a o (p ∷ []) ps old new) (sym places) row)
 
   pub passes_text : (realloc : Bool) (o : Place) (rs : List Place) → AddsStep (step.Pass o.number old.count) 2 old new → rs ≡ places_from old.count 2 → Emits plain_meaning types (instruction.StringLower realloc) (o ∷ []) rs old new
   passes_text realloc o rs adds places =
@@ -298,7 +401,7 @@ module _ (types : List TypeDef) (old new : PlainBindgen) where
         st0.3,
         plain_does st 2 old new adds (Unit {0}) (of o (item a) ∷ []) (item a ∷ []) (λ f. releasing (addresses own)) (λ u. core_data plain_meaning ws)
             (λ u fs. fs ≡ ofs plain_meaning (places_from old.count 2) (core_data plain_meaning ws)) (λ u. []) (λ u. addresses own)
-            refl (λ t h. one_at old t o (item a) h) (λ f acc. ap (λ (b : PlainItem). performs st f (item b ∷ []) acc) st0.2) (λ u. refl) (λ u. refl)
+            (λ x values n. refl) (λ t h. one_at old t o (item a) h) (λ f acc. ap (λ (b : PlainItem). performs st f (item b ∷ []) acc) st0.2) (λ u. refl) (λ u. refl)
             (λ f acc x e. done_is (releasing (addresses own) acc) (λ x. SameItems (x.account.taken ++ addresses own) (acc.taken ++ [])) x (releasing_owns (addresses own) acc) e),
       ) in
       record { adds = plain_adds st 2 old new adds; results = ap length places; row = subst (λ ps. LowersText plain_meaning realloc (o ∷ []) ps old new) (sym places) row }
@@ -310,7 +413,7 @@ module _ (types : List TypeDef) (old new : PlainBindgen) where
       let ws : List Word = core.Pointer address ∷ core.Length n ∷ [] in
       plain_does st 1 old new adds Taken (of o (word (core.Pointer address)) ∷ of p (word (core.Length n)) ∷ []) (core_data plain_meaning ws) (λ f. taking f address n) (λ x. item (leaf ws x.blocks) ∷ [])
       (λ x fs. (a : PlainItem) × (fs ≡ ofs plain_meaning (places_from old.count 1) (item a ∷ [])) × (Says 2 take text x.bytes ws x.blocks → PlainStands take text x.bytes a x.blocks))
-      (λ x. addresses x.blocks) (λ x. []) refl (λ t h. two_at old t o p (word (core.Pointer address)) (word (core.Length n)) h) (λ f acc. refl) (λ x. refl)
+      (λ x. addresses x.blocks) (λ x. []) (λ x values n. refl) (λ t h. two_at old t o p (word (core.Pointer address)) (word (core.Length n)) h) (λ f acc. refl) (λ x. refl)
       (λ x. (leaf ws x.blocks, refl, λ h. says_text x.bytes address n x.blocks h))
       (λ f acc x e. let t = done_is (taking f address n acc) (TakesOver acc) x (taking_owns f address n acc) e in λ g. ap (λ xs. total g (xs ++ [])) t ∙ ap (total g) (append-nil (acc.taken ++ addresses x.result.blocks))) in
       record { adds = plain_adds st 1 old new adds; results = ap length places; row = subst (λ ps. LiftsText plain_meaning (o ∷ p ∷ []) ps old new) (sym places) row }
@@ -323,7 +426,7 @@ module _ (types : List TypeDef) (old new : PlainBindgen) where
         results = ap length places;
         row = λ d. subst (λ ps. Stays plain_meaning old new (arg n d ∷ []) (λ fs. fs ≡ ofs plain_meaning ps (d ∷ []))) (sym places)
             (plain_does st 1 old new adds (Unit {0}) (arg n d ∷ []) (d ∷ []) (λ f. stay) (λ u. d ∷ []) (λ u fs. fs ≡ ofs plain_meaning (places_from old.count 1) (d ∷ [])) (λ u. []) (λ u. [])
-            refl (λ t h. ap (λ x. and_all x (Some [])) h.0) (λ f acc. refl) (λ u. refl) (λ u. refl) (λ f acc x e. stay_owns acc x e));
+            (λ x values n. refl) (λ t h. ap (λ x. and_all x (Some [])) h.0) (λ f acc. refl) (λ u. refl) (λ u. refl) (λ f acc x e. stay_owns acc x e));
       }
 
   splits : (ts : Shapes) (t : Shape) (made : Parts ts → Value t) (n : ℕ) (o : Place) → count ts ≡ n
@@ -338,7 +441,7 @@ module _ (types : List TypeDef) (old new : PlainBindgen) where
         vals,
         ps,
         plain_does st n old new adds (Unit {0}) (of o (item a) ∷ []) (item a ∷ []) (λ f. stay) (λ u. item_data plain_meaning vals) (λ u fs. fs ≡ ofs plain_meaning (places_from old.count n) (item_data plain_meaning vals)) (λ u. []) (λ u. [])
-            refl (λ t h. one_at old t o (item a) h) (λ f acc. ap (λ (b : PlainItem). performs st f (item b ∷ []) acc) h.1) (λ u. len) (λ u. refl) (λ f acc x e. stay_owns acc x e),
+            (λ x values n. refl) (λ t h. one_at old t o (item a) h) (λ f acc. ap (λ (b : PlainItem). performs st f (item b ∷ []) acc) h.1) (λ u. len) (λ u. refl) (λ f acc x e. stay_owns acc x e),
       )
 
   joins : (ts : Shapes) (t : Shape) (made : Parts ts → Value t) (os : List Place) → length os ≡ count ts
@@ -351,7 +454,7 @@ module _ (types : List TypeDef) (old new : PlainBindgen) where
       let both : length os ≡ length ds = fits ∙ sym len ∙ sym (length-map vals (λ b. item b)) in
       plain_does st 1 old new adds (Unit {0}) (ofs plain_meaning os ds) ds (λ f. stay) (λ u. item a ∷ [])
       (λ u fs. (c : PlainItem) × (fs ≡ ofs plain_meaning (places_from old.count 1) (item c ∷ [])) × ((v : Parts ts) (own : List Block) → PartsStand plain_meaning take ts v vals own → PlainStands take t (made v) c own))
-      (λ u. []) (λ u. []) refl (λ t h. many_at old t os ds both h) (λ f acc. refl) (λ u. refl)
+      (λ u. []) (λ u. []) (λ x values n. refl) (λ t h. many_at old t os ds both h) (λ f acc. refl) (λ u. refl)
       (λ u. (a, refl, λ v own h. is v (gathered ds) own (subst (λ xs. PlainPartsStand take ts v xs own) (sym (gathered_is vals)) (plain_parts take ts v vals own h))))
       (λ f acc x e. stay_owns acc x e)
 

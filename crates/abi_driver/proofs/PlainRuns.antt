@@ -1,10 +1,13 @@
 -- What the steps of a `PlainBindgen` do: a run of more steps, the calls that they leave alone, and the action of a step.
-use Rattle.std.proofs.Common.{◌≡◌, ℕ, ◌+◌, ◌-◌, ◌^◌, ◌≤◌, Bool, true, false, not, nat_eq, nat_lt, if◌then◌else◌, List, [], ◌∷◌, ◌++◌, length, map, find, Option, None, Some, refl, sym, ap, ◌∙◌, subst, arith}
+use Rattle.std.proofs.Common.{◌≡◌, ℕ, ◌+◌, ◌-◌, ◌^◌, ◌≤◌, Bool, true, false, ◌&&◌, not, nat_eq, nat_lt, if◌then◌else◌, List, [], ◌∷◌, ◌++◌, length, map, find, Option, None, Some, is_some, option_map, refl, sym, ap, ◌∙◌, subst, arith}
 use Rattle.std.specs.List.{AllByRecursion}
 use Rattle.std.specs.Str.{is_utf8}
+use Rattle.wit_model.specs.Size.{bytes_at}
+use Rattle.wit_model.specs.declared.size.ArchitectureSize.{ArchitectureSize}
 use Rattle.wit_layout.specs.Filled.{IsFilledFor}
 use Rattle.wit_layout.specs.Flat.{core_type}
 use Rattle.wit_layout.specs.Tree.{Scalar}
+use Rattle.wrapper_data.specs.Answered.{with_writes}
 use Rattle.wrapper_data.specs.declared.block.Block.{Block}
 use Rattle.wrapper_data.specs.declared.form.Form.{Form}
 use Rattle.wrapper_data.specs.declared.form.Form.TheVariants as form
@@ -12,16 +15,19 @@ use Rattle.wrapper_data.specs.declared.run.TrapKind.{TrapKind}
 use Rattle.wrapper_data.specs.declared.run.TrapKind.TheVariants as trap
 use Rattle.wrapper_data.specs.declared.word.Word.{Word}
 use Rattle.wrapper_data.specs.declared.word.Word.TheVariants as core
-use Rattle.wrapper_meaning.specs.Cells.{bytes_from}
+use Rattle.wrapper_meaning.specs.Cells.{bytes_from, little}
 use Rattle.wrapper_meaning.specs.Items.{SameItems}
 use Rattle.wrapper_meaning.specs.Numbers.{is_scalar_value, low_bits}
+use Rattle.wrapper_meaning.specs.Words.{bits_of}
 use Rattle.abi_driver.specs.declared.plain.PlainBindgen.{PlainBindgen}
 use Rattle.abi_driver.specs.declared.plain.Step.{Step}
 use Rattle.abi_driver.specs.declared.plain.Step.TheVariants as step
 use Rattle.abi_driver.specs.Account.{Account, Act, Done, Follows, Got, Outcome, Stopped, Stops, Stuck, account_in, addresses, checking, failing, found, has_type, gives, is_at, is_taken, reading, releasing, stay, taking, tested, then_do, without}
 use Rattle.abi_driver.specs.Laws.{Adds, After, Does, Facts, ofs}
 use Rattle.abi_driver.specs.Meaning.{Datum, item, word}
-use Rattle.abi_driver.specs.Plain.{AddsStep, IsRight, PlainItem, PlainState, inputs, kept, leaf, normal, passing, performed, performs, places_from, plain_meaning, put, read_as, runs, scalar_of, splitting, take_text, whole, writes}
+use Rattle.abi_driver.specs.Memory.{Access, access, bytes_on, is_inside, is_reached, little_bytes, loaded, storing}
+use Rattle.abi_driver.specs.Memory as memory
+use Rattle.abi_driver.specs.Plain.{AddsStep, IsRight, PlainItem, PlainState, inputs, kept, leaf, load_word, normal, passing, performed, performs, places_from, plain_meaning, put, read_as, runs, scalar_of, splitting, store_word, take_text, whole, writes}
 use Rattle.abi_driver.specs.PlainSound.{all_both, all_left, all_right}
 use Rattle.abi_driver.proofs.PlainPlaces.{put_below, put_right, still_right}
 
@@ -93,6 +99,26 @@ splitting_quiet : (ds : List (Datum PlainItem)) (acc : Account PlainItem) → Qu
 splitting_quiet (item (whole items) ∷ []) acc = refl
 splitting_quiet _ acc = refl
 
+storing_quiet : {V : Type 0} (a : Access) (address : ℕ) (x : Word) (acc : Account V) → Quietly acc (storing 2 a address x acc)
+storing_quiet a address x acc =
+    let after = record acc { heap = record { blocks = with_writes acc.heap.blocks (bytes_on address (little_bytes (2 ^ a.grain) (bits_of x))) } } in
+    if_quiet acc (has_type a.word x && is_reached 2 a address && is_some (find (is_inside address (2 ^ a.grain)) acc.heap.blocks)) (stay after) (Stuck acc) refl refl
+
+loaded_quiet : {V : Type 0} (f : Form) (x : Option Word) (acc : Account V) → Quietly acc (loaded 2 f x acc)
+loaded_quiet f None acc = failing_quiet Word f trap.Pointer acc
+loaded_quiet f (Some x) acc = refl
+
+store_quiet : (a : Access) (o : ArchitectureSize) (ds : List (Datum PlainItem)) (acc : Account PlainItem) → Quietly acc (store_word a o ds acc)
+store_quiet a o (word x ∷ word (core.Pointer q) ∷ []) acc = then_quiet acc (storing 2 a (q + bytes_at o 4) x acc) (λ u. []) (storing_quiet a (q + bytes_at o 4) x acc)
+store_quiet a o _ acc = refl
+
+load_quiet : (a : Access) (o : ArchitectureSize) (f : Form) (ds : List (Datum PlainItem)) (acc : Account PlainItem) → Quietly acc (load_word a o f ds acc)
+load_quiet a o f (word (core.Pointer q) ∷ []) acc =
+    let at = q + bytes_at o 4 in
+    let read : Option Word = if is_reached 2 a at then option_map (λ bytes. memory.word_read 2 a (little bytes)) (memory.bytes_at at (2 ^ a.grain) acc.heap.blocks) else None in
+    then_quiet acc (loaded 2 f read acc) (λ x. word x ∷ []) (loaded_quiet f read acc)
+load_quiet a o f _ acc = refl
+
 performs_quiet : (st : Step) (f : Form) (ds : List (Datum PlainItem)) (acc : Account PlainItem) → Quietly acc (performs st f ds acc)
 performs_quiet (step.Argument n to) f ds acc = refl
 performs_quiet (step.Pass from to) f ds acc = passing_quiet ds acc
@@ -100,6 +126,8 @@ performs_quiet (step.Read ty from to) f ds acc = read_quiet (scalar_of ty) f ds 
 performs_quiet (step.Take at len to) f ds acc = take_quiet f ds acc
 performs_quiet (step.Split from to) f ds acc = splitting_quiet ds acc
 performs_quiet (step.Join from to) f ds acc = refl
+performs_quiet (step.Store ty grain o from at) f ds acc = store_quiet (access ty grain) o ds acc
+performs_quiet (step.Load ty grain signed o at to) f ds acc = load_quiet (record { word = ty; grain = grain; signed = signed }) o f ds acc
 
 -- 2. Runs of more steps
 
@@ -156,7 +184,7 @@ module _ (st : Step) (k : ℕ) (old new : PlainBindgen) (adds : AddsStep st k ol
 
   -- a step that does an action on the account, and gives results by what the action gives
   module _ (A : Type 0) (ins : Facts plain_meaning) (ds : List (Datum PlainItem)) (act : Form → Act PlainItem A) (res : A → List (Datum PlainItem)) (Outs : A → Facts plain_meaning → Type 0) (made gone : A → List ℕ)
-      (here : writes st ≡ old.count)
+      (here : (x : A) (values : ℕ → Option (Datum PlainItem)) (n : ℕ) → put (writes st) (res x) values n ≡ put old.count (res x) values n)
       (reads : (s : PlainState) → AllByRecursion (IsRight old s) ins → inputs st s ≡ Some ds)
       (does : (f : Form) (acc : Account PlainItem) → performs st f ds acc ≡ then_do (act f acc) (λ x. gives (res x.result) x.account))
       (fits : (x : A) → length (res x) ≡ k)
@@ -185,7 +213,7 @@ module _ (st : Step) (k : ℕ) (old new : PlainBindgen) (adds : AddsStep st k ol
         (λ x t. (fs : Facts plain_meaning) × Outs x.result fs × After plain_meaning w new (fs ++ others) (made x.result) (gone x.result) s x t) ran
         (λ x done.
         let t = after x in
-        let values : (n : ℕ) → t.values n ≡ put old.count (res x.result) s.values n = λ n. ap (λ to. put to (res x.result) s.values n) here in
+        let values : (n : ℕ) → t.values n ≡ put old.count (res x.result) s.values n = λ n. here x.result s.values n in
         let room : old.count + length (res x.result) ≤ new.count = omega (arith, adds.count, fits x.result) in
         let news = put_right new t old.count (res x.result) s.values room values in
         let olds = still_right old new s t others more (λ n l. values n ∙ put_below old.count (res x.result) s.values n l) (λ n. refl) (all_right (IsRight old s) ins others at.holds) in (

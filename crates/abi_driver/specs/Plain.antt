@@ -1,7 +1,9 @@
 -- What the code of a `PlainBindgen` means: a list of steps, over values that are held in memory by numbered places.
-use Rattle.std.specs.Prelude.{◌≡◌, ◌<◌, ◌+◌, ℕ, zero, suc, not, nat_eq, if◌then◌else◌, pos, List, [], ◌∷◌, ◌++◌, length, map, Option, None, Some}
+use Rattle.std.specs.Prelude.{◌≡◌, ◌<◌, ◌+◌, ℕ, zero, suc, not, false, nat_eq, if◌then◌else◌, pos, List, [], ◌∷◌, ◌++◌, length, map, Option, None, Some}
 use Rattle.std.specs.Int.{w8, w16, w32, w64, cast_signed}
 use Rattle.std.specs.List.{AllByRecursion}
+use Rattle.wit_model.specs.Size.{bytes_at}
+use Rattle.wit_model.specs.declared.size.ArchitectureSize.{ArchitectureSize}
 use Rattle.wit_model.specs.declared.types.WitType.{WitType}
 use Rattle.wit_model.specs.declared.types.WitType.TheVariants as wit
 use Rattle.wit_layout.specs.Filled.{IsFilledFor}
@@ -24,8 +26,12 @@ use Rattle.abi_driver.specs.declared.plain.Place.{Place}
 use Rattle.abi_driver.specs.declared.plain.PlainBindgen.{PlainBindgen}
 use Rattle.abi_driver.specs.declared.plain.Step.{Step}
 use Rattle.abi_driver.specs.declared.plain.Step.TheVariants as step
+use Rattle.abi_driver.specs.declared.plain.words.WordTouch.{WordTouch}
+use Rattle.abi_driver.specs.declared.plain.words.WordTouch.TheVariants as touched
 use Rattle.abi_driver.specs.Account.{Account, Act, Done, Got, Outcome, Stuck, addresses, gives, reading, releasing, taking, then_do}
 use Rattle.abi_driver.specs.Meaning.{Datum, Fact, Meaning, arg, item, of, word}
+use Rattle.abi_driver.specs.Memory.{Access, loading, storing}
+use Rattle.abi_driver.specs.Touches.{Touch, loads, part_grain, stores}
 
 -- 1. Values
 
@@ -135,6 +141,11 @@ normal Scalar.char (core.I32 z) = core.I32 (pos (low_bits 32 z))
 normal Scalar.u64 (core.I64 z) = core.I64 (cast_signed w64 (low_bits 64 z))
 normal _ x = x
 
+-- the word that an instruction touches, where a pointer has four bytes
+abbrev pub word_touch : Touch → WordTouch
+word_touch (stores part ty o) = touched.Store ty (part_grain 2 part ty) o
+word_touch (loads part signed ty o) = touched.Load ty (part_grain 2 part ty) signed o
+
 -- 3. Steps
 
 pub record PlainState : Type 0 where
@@ -163,6 +174,14 @@ abbrev pub splitting : List (Datum PlainItem) → PlainAct
 splitting (item (whole items) ∷ []) acc = gives (map (λ a. item a) (listed items)) acc
 splitting _ acc = Stuck acc
 
+abbrev pub store_word : Access → ArchitectureSize → List (Datum PlainItem) → PlainAct
+store_word a o (word x ∷ word (core.Pointer address) ∷ []) acc = then_do (storing 2 a (address + bytes_at o 4) x acc) (λ u. gives [] u.account)
+store_word a o _ acc = Stuck acc
+
+abbrev pub load_word : Access → ArchitectureSize → Form → List (Datum PlainItem) → PlainAct
+load_word a o f (word (core.Pointer address) ∷ []) acc = then_do (loading 2 f a (address + bytes_at o 4) acc) (λ x. gives (word x.result ∷ []) x.account)
+load_word a o f _ acc = Stuck acc
+
 -- what a step makes of the data that it reads
 abbrev pub performs : Step → Form → List (Datum PlainItem) → PlainAct
 performs (step.Argument number to) f ds acc = gives ds acc
@@ -171,6 +190,8 @@ performs (step.Read ty from to) f ds acc = read_as (scalar_of ty) f ds acc
 performs (step.Take at length to) f ds acc = take_text f ds acc
 performs (step.Split from to) f ds acc = splitting ds acc
 performs (step.Join from to) f ds acc = gives (item (whole (gathered ds)) ∷ []) acc
+performs (step.Store ty grain o from at) f ds acc = store_word (record { word = ty; grain = grain; signed = false }) o ds acc
+performs (step.Load ty grain signed o at to) f ds acc = load_word (record { word = ty; grain = grain; signed = signed }) o f ds acc
 
 -- all of them, where each is there
 abbrev pub and_all : Option (Datum PlainItem) → Option (List (Datum PlainItem)) → Option (List (Datum PlainItem))
@@ -189,8 +210,10 @@ inputs (step.Read ty from to) s = all_at s.values (from ∷ [])
 inputs (step.Take at length to) s = all_at s.values (at ∷ length ∷ [])
 inputs (step.Split from to) s = all_at s.values (from ∷ [])
 inputs (step.Join from to) s = all_at s.values (map (λ (p : Place). p.number) from)
+inputs (step.Store ty grain o from at) s = all_at s.values (from ∷ at ∷ [])
+inputs (step.Load ty grain signed o at to) s = all_at s.values (at ∷ [])
 
--- the first place that it writes
+-- the first place that it writes, where it writes any
 abbrev pub writes : Step → ℕ
 writes (step.Argument number to) = to
 writes (step.Pass from to) = to
@@ -198,6 +221,8 @@ writes (step.Read ty from to) = to
 writes (step.Take at length to) = to
 writes (step.Split from to) = to
 writes (step.Join from to) = to
+writes (step.Store ty grain o from at) = 0
+writes (step.Load ty grain signed o at to) = to
 
 -- places from one on with these data
 abbrev pub put : ℕ → List (Datum PlainItem) → (ℕ → Option (Datum PlainItem)) → ℕ → Option (Datum PlainItem)

@@ -3,6 +3,7 @@
 mod emit;
 mod lawful;
 mod scalars;
+mod words;
 
 ghost use Rattle.std.specs.Prelude.{◌≡◌};
 ghost use Rattle.abi_driver.specs.Laws.{IsNew};
@@ -10,7 +11,7 @@ ghost use Rattle.abi_driver.specs.Plain.{plain_meaning};
 
 use std::alloc::Global;
 use wit_layout::SizeAlign;
-use wit_model::{List, WitType};
+use wit_model::{ArchitectureSize, List, WasmType, WitType};
 
 /// A place in memory.
 #[derive(Clone, Copy)]
@@ -22,17 +23,54 @@ pub struct Place {
 #[derive(Drop)]
 pub enum Step {
     /// An argument of the code.
-    Argument { number: u32, to: u32 },
+    Argument {
+        number: u32,
+        to: u32,
+    },
     /// The words of a scalar or a text. It owns nothing any more.
-    Pass { from: u32, to: u32 },
+    Pass {
+        from: u32,
+        to: u32,
+    },
     /// The scalar of a type that is read from a word.
-    Read { ty: WitType, from: u32, to: u32 },
+    Read {
+        ty: WitType,
+        from: u32,
+        to: u32,
+    },
     /// The text that is taken over at an address, by its length.
-    Take { at: u32, length: u32, to: u32 },
+    Take {
+        at: u32,
+        length: u32,
+        to: u32,
+    },
     /// The parts of a value.
-    Split { from: u32, to: u32 },
+    Split {
+        from: u32,
+        to: u32,
+    },
     /// The value with these parts.
-    Join { from: List<Place>, to: u32 },
+    Join {
+        from: List<Place>,
+        to: u32,
+    },
+    /// A word is stored, of 2 to the `grain` bytes, at an offset from an address. It has no result.
+    Store {
+        word: WasmType,
+        grain: u32,
+        offset: ArchitectureSize,
+        from: u32,
+        at: u32,
+    },
+    /// The word that stands there, with its sign or without, where it is narrower.
+    Load {
+        word: WasmType,
+        grain: u32,
+        signed: bool,
+        offset: ArchitectureSize,
+        at: u32,
+        to: u32,
+    },
 }
 
 /// A `Bindgen` in memory, which shows that its laws can be met.

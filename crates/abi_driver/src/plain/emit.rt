@@ -11,7 +11,12 @@ use wit_model::{List, OutOfMemory, Resolve, TypeDefKind, TypeId, WitType};
 
 impl PlainBindgen {
     /// Adds a step with so many results.
-    fn add(&mut self, step: Step, count: u32, results: &mut List<Place>) -> Result<(), OutOfMemory>
+    pub(super) fn add(
+        &mut self,
+        step: Step,
+        count: u32,
+        results: &mut List<Place>,
+    ) -> Result<(), OutOfMemory>
         requires empty { results.old ≡ [] }
         ensures adds { OnOk result (AddsStep step count self.old self.new) }
         ensures places { OnOk result (results.new ≡ places_from self.old.count count) }

@@ -3,6 +3,7 @@
 use crate::bindgen::{Bindgen, Operand};
 use crate::instruction::Instruction;
 use crate::plain::scalars::{lifted_type, lowered_type};
+use crate::plain::words::{WordTouch, touched};
 use crate::plain::{Place, PlainBindgen};
 use std::alloc::Global;
 use wit_layout::SizeAlign;
@@ -24,8 +25,8 @@ impl Bindgen for PlainBindgen {
 
     ghost sound = { plain_sound };
 
-    /// The steps of arguments, scalars, texts, records and tuples. Of any other instruction, which has no row yet, the answer
-    /// is `OutOfMemory`.
+    /// The steps of arguments, scalars, texts, records and tuples, and of words in memory. Of any other instruction, which has
+    /// no row yet, the answer is `OutOfMemory`.
     fn emit(
         &mut self,
         resolve: &Resolve,
@@ -38,6 +39,15 @@ impl Bindgen for PlainBindgen {
         }
         if let Some(ty) = lifted_type(inst) {
             return self.read_scalar(resolve, inst, ty, operands, results);
+        }
+        match touched(inst) {
+            Some(WordTouch::Store(word, grain, o)) => {
+                return self.store_word(resolve, inst, word, grain, o, operands, results);
+            }
+            Some(WordTouch::Load(word, grain, signed, o)) => {
+                return self.load_word(resolve, inst, word, grain, signed, o, operands, results);
+            }
+            None => {}
         }
         match *inst {
             Instruction::GetArg(n) => self.argument(resolve, n, results),
