@@ -5,7 +5,9 @@ mod lawful;
 mod scalars;
 mod words;
 
-ghost use Rattle.std.specs.Prelude.{◌≡◌};
+ghost use Rattle.std.specs.Prelude.{◌≡◌, List, not};
+ghost use Rattle.wit_model.specs.declared.types.TypeDef.{TypeDef};
+ghost use Rattle.wit_layout.specs.Filled.{IsFilledFor};
 ghost use Rattle.abi_driver.specs.Laws.{IsNew};
 ghost use Rattle.abi_driver.specs.Plain.{plain_meaning};
 
@@ -86,9 +88,12 @@ pub struct PlainBindgen {
 }
 
 impl PlainBindgen {
-    /// One without code.
+    /// One without code, of imports or of exports, for the table of which these are the layouts.
     pub fn new(alloc: Global, sizes: SizeAlign, import: bool) -> PlainBindgen
-        ensures { IsNew plain_meaning result }
+        ensures begins { IsNew plain_meaning result }
+        ensures imports { plain_meaning.imports result ≡ import }
+        ensures exports { plain_meaning.exports result ≡ not import }
+        ensures knows { (types : List TypeDef) → IsFilledFor sizes types → plain_meaning.knows result types }
     {
         PlainBindgen {
             alloc,

@@ -1,5 +1,5 @@
 use Rattle.abi_driver.proofs.PlainNew.{plain_new}
 use Rattle.abi_driver.proofs.plain.PlainBindgen.new.Goals as goal
 
-pub returns : goal.returns
-returns c = plain_new _ c.new.ensures
+pub returns-clause-begins : goal.returns-clause-begins
+returns-clause-begins c = plain_new _ c.new.ensures
