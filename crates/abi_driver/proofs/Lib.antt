@@ -21,3 +21,7 @@ pub mod Replaced
 pub mod ScalarsInMemory
 pub mod Storing
 pub mod StoreSteps
+pub mod Freeing
+pub mod FreeSteps
+pub mod LeafFrees
+pub mod RecordPlaces

@@ -87,14 +87,19 @@ module _ (w : ℕ) (types : List TypeDef) where
   no_alias id tys h = not_alias h.0.kind tys h.2
 
   -- the place of a part
+  pub place_of : (tys : List WitType) (i : ℕ) (d : WitType) → i < length tys
+      → slice_index (field_offsets w (layout (fields (shapes_of types tys)))) i ≡ place (extent_of w (layout (shape_of types (get_or tys i d)))) (end (extents_of w (layouts (shapes_of types (take i tys)))) 0)
+  place_of tys i d l =
+      let f : WitType → Extent = λ ty. extent_of w (layout (shape_of types ty)) in
+      let short : i < length (map f tys) = omega (arith, l, length_all f tys) in
+      ap (λ es. slice_index (places es 0) i) (part_extents tys) ∙ place_at (map f tys) i 0 (f d) short ∙ ap (λ e. place e (end (take i (map f tys)) 0)) (map_get f tys i d l)
+      ∙ ap (λ es. place (f (get_or tys i d)) (end es 0)) (map_take f tys i ∙ sym (part_extents (take i tys)))
+
   pub part_offset : (id : TypeId) (tys : List WitType) (i : ℕ) (d : WitType) → GoesDown types → HasParts types id.0 tys → i < length tys
       → slice_index (field_offsets w (tree_at types id.0)) i ≡ place (extent_of w (layout (shape_of types (get_or tys i d)))) (end (extents_of w (layouts (shapes_of types (take i tys)))) 0)
   part_offset id tys i d down h l =
-      let f : WitType → Extent = λ ty. extent_of w (layout (shape_of types ty)) in
       let tree : tree_at types id.0 ≡ layout (fields (shapes_of types tys)) = sym (layout_is_tree types (wit.Id id)) ∙ kind_layout id.0 h.0 tys h.0.kind down h.1 refl h.2 in
-      let short : i < length (map f tys) = omega (arith, l, length_all f tys) in
-      ap (λ t. slice_index (field_offsets w t) i) tree ∙ ap (λ es. slice_index (places es 0) i) (part_extents tys) ∙ place_at (map f tys) i 0 (f d) short
-      ∙ ap (λ e. place e (end (take i (map f tys)) 0)) (map_get f tys i d l) ∙ ap (λ es. place (f (get_or tys i d)) (end es 0)) (map_take f tys i ∙ sym (part_extents (take i tys)))
+      ap (λ t. slice_index (field_offsets w t) i) tree ∙ place_of tys i d l
 
 -- 3. An offset that was read
 

@@ -134,7 +134,7 @@ replaced_twice after later (x ∷ blocks) same = by (nat_eq x.address after.addr
         cond-false (nat_eq x.address later.address) _ _ other ∙ ap (λ bs. x ∷ bs) rest ∙ sym (cond-false (nat_eq x.address later.address) _ _ other)
 
 -- a block at another address stays
-more_there : (x c : Block) (blocks : List Block) → Contains blocks c → Contains (x ∷ blocks) c
+pub more_there : (x c : Block) (blocks : List Block) → Contains blocks c → Contains (x ∷ blocks) c
 more_there x c blocks (k, l, e) = (suc k, omega (arith, l), e)
 
 others_at : (after c : Block) (blocks : List Block) (k : ℕ) → k < length blocks → slice_index_or blocks k c ≡ c → (c.address ≡ after.address → ⊥) → Contains (replaced after blocks) c

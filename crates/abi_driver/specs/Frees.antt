@@ -1,17 +1,21 @@
--- What the code is by which the blocks of a value in memory are freed.
-use Rattle.std.specs.Prelude.{◌≡◌, ℕ, ◌+◌, ◌-◌, ◌^◌, List, [], ◌∷◌, ◌++◌}
+-- What the code is by which the blocks of a value are freed: of a value in memory, and of one that core words represent.
+use Rattle.std.specs.Prelude.{◌≡◌, ℕ, ◌^◌, Bool, true, false, List, [], ◌∷◌, ◌++◌, length}
 use Rattle.std.specs.List.{AllByRecursion}
 use Rattle.wit_model.specs.Size.{bytes_at}
 use Rattle.wit_model.specs.declared.size.ArchitectureSize.{ArchitectureSize}
+use Rattle.wit_layout.specs.Flat.{flatten_record, flatten_type}
 use Rattle.wrapper_data.specs.declared.block.Block.{Block}
+use Rattle.wrapper_data.specs.declared.word.Word.{Word}
 use Rattle.wrapper_data.specs.declared.word.Word.TheVariants as core
+use Rattle.wrapper_meaning.specs.AsWords.{PartsSay, Says}
 use Rattle.wrapper_meaning.specs.Direction.{give}
 use Rattle.wrapper_meaning.specs.InMemory.{Holds, PartsHold}
 use Rattle.wrapper_meaning.specs.InRange.{AreListed, IsListed}
+use Rattle.wrapper_meaning.specs.Layout.{layout, layouts}
 use Rattle.wrapper_meaning.specs.Shape.{Shape, Shapes}
 use Rattle.wrapper_meaning.specs.Value.{Parts, Value}
 use Rattle.abi_driver.specs.Account.{Account, Done, Got, Peer, is_at}
-use Rattle.abi_driver.specs.Laws.{Adds, After, At, Does, Facts, ofs}
+use Rattle.abi_driver.specs.Laws.{Adds, After, At, Does, Facts, core_data, ofs}
 use Rattle.abi_driver.specs.Lifts.{MayTake}
 use Rattle.abi_driver.specs.Meaning.{Meaning, of, word}
 use Rattle.abi_driver.specs.Memory.{except, freeing}
@@ -32,6 +36,10 @@ pub record MayFree {V : Type 0} (own : List Block) (b : Block) (acc : Account V)
   pub may : MayTake own acc
   pub others : AllByRecursion (λ c. c.address ≡ b.address → ⊥) own
 
+-- no bytes and no pointers
+abbrev pub nowhere : ArchitectureSize
+nowhere = record { bytes = 0; pointers = 0 }
+
 module _ {Self Operand : Type 0} (m : Meaning Self Operand) where
   -- 1. What the instructions do
 
@@ -47,7 +55,7 @@ module _ {Self Operand : Type 0} (m : Meaning Self Operand) where
 
   -- 2. What the code does
 
-  -- these blocks are freed, and an operand that denotes their value's address is used up
+  -- these blocks are freed, and the operands by which they were found are used up
   abbrev pub Frees : (own : List Block) → (new : Self) → m.World → Peer m.Item → Facts m → (s0 s : m.State) → Type 0
   Frees own new w f others s0 s = (s1 : m.State) × (m.does w f (m.code new) s0 ≡ Done s1) × After m w new others [] [] s (by_freeing own (m.account s)) s1
 
@@ -64,3 +72,22 @@ module _ {Self Operand : Type 0} (m : Meaning Self Operand) where
     pub row : (v : Parts ts) (own : List Block) → AreListed ts v → (w : m.World) (f : Peer m.Item) (others : Facts m) (s0 s : m.State) (q k : ℕ) (b : Block)
         → At m w f old new (of address (word (core.Pointer q)) ∷ others) s0 s → HavePlaces m.width ts behind (reached m q offset) b k (m.account s).heap → PartsHold m.width give ts v behind b k own → MayFree own b (m.account s)
         → Frees own new w f others s0 s
+
+  -- exactly the blocks are freed of the value that some words represent
+  pub record FreesFlat (t : Shape) (os : List Operand) (old new : Self) : Type 0 where
+    pub adds : Adds m old new
+    pub fits : length os ≡ length (flatten_type (layout t))
+    pub row : (v : Value t) (ws : List Word) (own : List Block) → IsListed t v → Says m.width give t v ws own → (w : m.World) (f : Peer m.Item) (others : Facts m) (s0 s : m.State)
+        → At m w f old new (ofs m os (core_data m ws) ++ others) s0 s → MayTake own (m.account s) → Frees own new w f others s0 s
+
+  -- the same of parts, one after another
+  pub record FreesAll (ts : Shapes) (os : List Operand) (old new : Self) : Type 0 where
+    pub adds : Adds m old new
+    pub fits : length os ≡ length (flatten_record (layouts ts))
+    pub row : (v : Parts ts) (ws : List Word) (own : List Block) → AreListed ts v → PartsSay m.width give ts v ws own → (w : m.World) (f : Peer m.Item) (others : Facts m) (s0 s : m.State)
+        → At m w f old new (ofs m os (core_data m ws) ++ others) s0 s → MayTake own (m.account s) → Frees own new w f others s0 s
+
+  -- where they are passed indirectly, one operand denotes the address of a record of them; else the operands denote their words
+  abbrev pub FreesTypes : (indirect : Bool) → (ts : Shapes) → (os : List Operand) → (old new : Self) → Type 0
+  FreesTypes true ts os old new = (address : Operand) × (os ≡ address ∷ []) × FreesParts ts address nowhere 0 old new
+  FreesTypes false ts os old new = FreesAll ts os old new

@@ -9,7 +9,8 @@ use Rattle.wit_layout.specs.Tree.{Scalar}
 use Rattle.wrapper_meaning.specs.Shape.{Shapes, payloads_in, shapes}
 use Rattle.wrapper_meaning.specs.Shape.Shape.{fields, tuple}
 use Rattle.abi_driver.specs.declared.instruction.Instruction.{Instruction}
-use Rattle.abi_driver.specs.declared.instruction.Instruction.TheVariants.{GetArg, I32FromBool, I32FromU8, I32FromS8, I32FromU16, I32FromS16, I32FromU32, I32FromS32, I32FromChar, I64FromU64, I64FromS64, CoreF32FromF32, CoreF64FromF64, BoolFromI32, U8FromI32, S8FromI32, U16FromI32, S16FromI32, U32FromI32, S32FromI32, CharFromI32, U64FromI64, S64FromI64, F32FromCoreF32, F64FromCoreF64, StringLower, StringLift, RecordLower, RecordLift, TupleLower, TupleLift}
+use Rattle.abi_driver.specs.declared.instruction.Instruction.TheVariants.{GetArg, I32FromBool, I32FromU8, I32FromS8, I32FromU16, I32FromS16, I32FromU32, I32FromS32, I32FromChar, I64FromU64, I64FromS64, CoreF32FromF32, CoreF64FromF64, BoolFromI32, U8FromI32, S8FromI32, U16FromI32, S16FromI32, U32FromI32, S32FromI32, CharFromI32, U64FromI64, S64FromI64, F32FromCoreF32, F64FromCoreF64, StringLower, StringLift, RecordLower, RecordLift, TupleLower, TupleLift, GuestDeallocate, GuestDeallocateString}
+use Rattle.abi_driver.specs.Frees.{FreesBlock, FreesText}
 use Rattle.abi_driver.specs.Laws.{Adds, Stays, ofs}
 use Rattle.abi_driver.specs.Leaves.{LiftsScalar, LiftsText, LowersScalar, LowersText}
 use Rattle.abi_driver.specs.Meaning.{Datum, Meaning, arg}
@@ -107,6 +108,8 @@ ReadsOther types (RecordLower id) k = k ≡ 1
 ReadsOther types (RecordLift id) k = (members : List Field) → IsRecord types id.0 members → k ≡ length members
 ReadsOther types (TupleLower n) k = k ≡ 1
 ReadsOther types (TupleLift n) k = k ≡ n
+ReadsOther types (GuestDeallocate size align) k = k ≡ 1
+ReadsOther types GuestDeallocateString k = k ≡ 2
 ReadsOther types _ k = ⊥
 
 abbrev pub ReadsTouch : List TypeDef → Instruction → Option Touch → ℕ → Type 0
@@ -128,6 +131,8 @@ MakesOther types (RecordLower id) k = (members : List Field) → IsRecord types 
 MakesOther types (RecordLift id) k = k ≡ 1
 MakesOther types (TupleLower n) k = k ≡ n
 MakesOther types (TupleLift n) k = k ≡ 1
+MakesOther types (GuestDeallocate size align) k = k ≡ 0
+MakesOther types GuestDeallocateString k = k ≡ 0
 MakesOther types _ k = ⊥
 
 abbrev pub MakesTouch : List TypeDef → Instruction → Option Touch → ℕ → Type 0
@@ -169,6 +174,8 @@ module _ {Self Operand : Type 0} (m : Meaning Self Operand) where
   RowOther types (RecordLift id) os rs old new = (members : List Field) → IsRecord types id.0 members → LiftsParts m (field_shapes types members) (fields (field_shapes types members)) (λ v. v) os rs old new
   RowOther types (TupleLower n) os rs old new = (ts : Shapes) → count ts ≡ n → LowersParts m ts (tuple ts) (λ v. v) os rs old new
   RowOther types (TupleLift n) os rs old new = (ts : Shapes) → count ts ≡ n → LiftsParts m ts (tuple ts) (λ v. v) os rs old new
+  RowOther types (GuestDeallocate size align) os rs old new = FreesBlock m size os rs old new
+  RowOther types GuestDeallocateString os rs old new = FreesText m os rs old new
   RowOther types _ os rs old new = ⊥
 
   abbrev pub RowTouch : List TypeDef → Instruction → Option Touch → (os rs : List Operand) → (old new : Self) → Type 0

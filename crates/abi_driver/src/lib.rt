@@ -2,6 +2,7 @@
 #![tactic(auto)]
 
 mod bindgen;
+mod dealloc;
 mod has_list;
 mod instruction;
 mod lift;
@@ -12,6 +13,7 @@ mod plain;
 mod send;
 
 pub use bindgen::{Bindgen, Operand};
+pub use dealloc::deallocate_lists_in_types;
 pub use has_list::guest_export_needs_post_return;
 pub use instruction::Instruction;
 pub use lift::lift_flat;

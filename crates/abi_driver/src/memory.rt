@@ -1,9 +1,9 @@
 //! Values are put into memory, and read from it.
 
 mod load;
-mod place;
+pub(crate) mod place;
 mod store;
-mod word;
+pub(crate) mod word;
 
 pub use load::lift_from_memory;
 pub use store::lower_to_memory;

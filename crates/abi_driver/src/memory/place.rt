@@ -11,7 +11,7 @@ use crate::bindgen::Bindgen;
 use wit_model::{ArchitectureSize, OutOfMemory, TypeId, WitType};
 
 /// No bytes and no pointers.
-pub(super) const NOWHERE: ArchitectureSize = ArchitectureSize {
+pub(crate) const NOWHERE: ArchitectureSize = ArchitectureSize {
     bytes: 0,
     pointers: 0,
 };
@@ -35,7 +35,7 @@ fn sum(a: ArchitectureSize, b: ArchitectureSize) -> Result<ArchitectureSize, Out
 }
 
 /// One pointer further on.
-pub(super) fn behind_pointer(offset: ArchitectureSize) -> Result<ArchitectureSize, OutOfMemory>
+pub(crate) fn behind_pointer(offset: ArchitectureSize) -> Result<ArchitectureSize, OutOfMemory>
     ensures { IfOk result (λ c. (width : ℕ) → bytes_at c width ≡ bytes_at offset width + width) }
 {
     sum(
@@ -48,7 +48,7 @@ pub(super) fn behind_pointer(offset: ArchitectureSize) -> Result<ArchitectureSiz
 }
 
 /// Where a part of a record or a tuple of the table stands, which itself stands at an offset.
-pub(super) fn part_place<B: Bindgen>(
+pub(crate) fn part_place<B: Bindgen>(
     bindgen: &B,
     id: TypeId,
     nth: usize,

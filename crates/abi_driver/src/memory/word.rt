@@ -62,7 +62,7 @@ pub(super) fn store_word<B: Bindgen>(
 }
 
 /// Sends a load, and gives the word.
-pub(super) fn load_word<B: Bindgen>(
+pub(crate) fn load_word<B: Bindgen>(
     alloc: Global,
     resolve: &Resolve,
     bindgen: &mut B,

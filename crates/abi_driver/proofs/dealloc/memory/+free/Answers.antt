@@ -1,0 +1,128 @@
+use Rattle.std.proofs.Common.{rules, ◌≡◌, ◌<◌, ◌≤◌, ◌+◌, ◌^◌, true, List, length, map, get_or, sym, ap, ◌∙◌, subst, arith}
+use Rattle.std.specs.List.{list_all}
+use Rattle.std.proofs.lemmas.List.{drop_more}
+use Rattle.wit_model.specs.Size.{bytes_at}
+use Rattle.wit_model.specs.TypeOrder.{type_below}
+use Rattle.wit_model.specs.declared.types.Field.{Field}
+use Rattle.wit_model.specs.declared.types.TypeDefKind.TheVariants as kind
+use Rattle.wit_model.specs.declared.types.WitType.{WitType}
+use Rattle.wit_model.specs.declared.types.WitType.TheVariants as wit
+use Rattle.wit_layout.proofs.FlattenSteps.{rank}
+use Rattle.abi_driver.specs.Instructions.{field_shapes, shapes_of}
+use Rattle.abi_driver.specs.Places.{HasParts, IsOfParts}
+use Rattle.abi_driver.proofs.FreeSteps.{fields_free, frees_as, frees_parts_as, rest_last, rest_next, tuple_free}
+use Rattle.abi_driver.proofs.LeafFrees.{scalar_frees}
+use Rattle.abi_driver.proofs.PartOffsets.{behind_next, no_alias, part_offset}
+use Rattle.abi_driver.proofs.Records.{alias_below, alias_rank, alias_shape, entry_at, kind_at, part_below_table, part_ranked, record_below, record_shape, tuple_below, tuple_shape}
+use Rattle.abi_driver.proofs.Runs.{adds_both, adds_same}
+use Rattle.abi_driver.proofs.dealloc.memory.+free.Goals as goal
+
+pub free_id-free_type-requires : goal.free_id-free_type-requires
+free_id-free_type-requires g t c κs within =
+    let types = c.args.resolve.now.types in
+    let d = c.index-types-at.result in
+    let at = entry_at types c.as_slice-types.result.now c.args.id.0 d c.as_slice-types.ensures c.requires.within c.index-types-at.is in
+    let is = kind_at c.as_slice-types.result.now c.args.id.0 d (kind.Alias c.in-Alias.ty) c.index-types-at.is c.in-Alias.is in
+    let low : rank c.in-Alias.ty ≤ c.args.id.0 = alias_rank types c.requires.down c.args.id.0 d at c.in-Alias.ty is in
+    let below = alias_below types c.requires.down c.args.id.0 d at c.in-Alias.ty is c.requires.within in
+    search rules
+
+pub free_id-free_parts-requires : goal.free_id-free_parts-requires
+free_id-free_parts-requires g t c κs within =
+    let types = c.args.resolve.now.types in
+    let d = c.index-types-at.result in
+    let at = entry_at types c.as_slice-types.result.now c.args.id.0 d c.as_slice-types.ensures c.requires.within c.index-types-at.is in
+    let is = kind_at c.as_slice-types.result.now c.args.id.0 d (kind.Record c.in-Record.members) c.index-types-at.is c.in-Record.is in
+    let members = c.in-Record.members in
+    let read = c.as_slice-tys.result.now in
+    let same : read ≡ map (λ (f : Field). f.ty) members = c.as_slice-tys.ensures ∙ c.in_ok-tys-in-Record.ensures ∙ ap (map (λ (f : Field). f.ty)) c.as_slice.ensures in
+    let below = subst (λ (xs : List WitType). list_all (λ ty. type_below c.args.id.0 ty) xs ≡ true) (sym same) (record_below types c.requires.down c.args.id.0 d at members is) in
+    let parts : HasParts types c.args.id.0 read = (d, at, subst (λ k. IsOfParts k read) (sym is) same) in
+    search rules
+
+pub free_id-free_parts-requires-in-Tuple : goal.free_id-free_parts-requires-in-Tuple
+free_id-free_parts-requires-in-Tuple g t c κs within =
+    let types = c.args.resolve.now.types in
+    let d = c.index-types-at.result in
+    let at = entry_at types c.as_slice-types.result.now c.args.id.0 d c.as_slice-types.ensures c.requires.within c.index-types-at.is in
+    let is = kind_at c.as_slice-types.result.now c.args.id.0 d (kind.Tuple c.in-Tuple.members) c.index-types-at.is c.in-Tuple.is in
+    let read = c.as_slice-tys-in-Tuple.result.now in
+    let below = subst (λ (xs : List WitType). list_all (λ ty. type_below c.args.id.0 ty) xs ≡ true) (sym c.as_slice-tys-in-Tuple.ensures) (tuple_below types c.requires.down c.args.id.0 d at c.in-Tuple.members is) in
+    let parts : HasParts types c.args.id.0 read = (d, at, subst (λ k. IsOfParts k read) (sym is) c.as_slice-tys-in-Tuple.ensures) in
+    search rules
+
+pub free_id-returns-in_ok-free_type-in-Alias : goal.free_id-returns-in_ok-free_type-in-Alias
+free_id-returns-in_ok-free_type-in-Alias g t c =
+    let m = g.B.Bindgen.meaning in
+    let types = c.args.resolve.now.types in
+    let d = c.index-types-at.result in
+    let at = entry_at types c.as_slice-types.result.now c.args.id.0 d c.as_slice-types.ensures c.requires.within c.index-types-at.is in
+    let is = kind_at c.as_slice-types.result.now c.args.id.0 d (kind.Alias c.in-Alias.ty) c.index-types-at.is c.in-Alias.is in
+    frees_as m g.met.B.Bindgen.sound types _ _ _ _ c.args.address.now c.args.offset (alias_shape types c.requires.down c.args.id.0 d at c.in-Alias.ty is) c.in_ok-free_type-in-Alias.ensures
+
+pub free_id-returns-in_ok-free_parts-in-Record : goal.free_id-returns-in_ok-free_parts-in-Record
+free_id-returns-in_ok-free_parts-in-Record g t c =
+    let m = g.B.Bindgen.meaning in
+    let types = c.args.resolve.now.types in
+    let d = c.index-types-at.result in
+    let at = entry_at types c.as_slice-types.result.now c.args.id.0 d c.as_slice-types.ensures c.requires.within c.index-types-at.is in
+    let is = kind_at c.as_slice-types.result.now c.args.id.0 d (kind.Record c.in-Record.members) c.index-types-at.is c.in-Record.is in
+    let members = c.in-Record.members in
+    let same : c.as_slice-tys.result.now ≡ map (λ (f : Field). f.ty) members = c.as_slice-tys.ensures ∙ c.in_ok-tys-in-Record.ensures ∙ ap (map (λ (f : Field). f.ty)) c.as_slice.ensures in
+    let parts = frees_parts_as m g.met.B.Bindgen.sound types _ _ _ _ c.args.address.now c.args.offset 0 same c.in_ok-free_parts-in-Record.ensures in
+    let all = fields_free m g.met.B.Bindgen.sound types (field_shapes types members) _ _ c.args.address.now c.args.offset parts in
+    frees_as m g.met.B.Bindgen.sound types _ _ _ _ c.args.address.now c.args.offset (record_shape types c.requires.down c.args.id.0 d at members is) all
+
+pub free_id-returns-in_ok-free_parts-in-Tuple : goal.free_id-returns-in_ok-free_parts-in-Tuple
+free_id-returns-in_ok-free_parts-in-Tuple g t c =
+    let m = g.B.Bindgen.meaning in
+    let types = c.args.resolve.now.types in
+    let d = c.index-types-at.result in
+    let at = entry_at types c.as_slice-types.result.now c.args.id.0 d c.as_slice-types.ensures c.requires.within c.index-types-at.is in
+    let is = kind_at c.as_slice-types.result.now c.args.id.0 d (kind.Tuple c.in-Tuple.members) c.index-types-at.is c.in-Tuple.is in
+    let tys = c.in-Tuple.members in
+    let parts = frees_parts_as m g.met.B.Bindgen.sound types _ _ _ _ c.args.address.now c.args.offset 0 c.as_slice-tys-in-Tuple.ensures c.in_ok-free_parts-in-Tuple.ensures in
+    let all = tuple_free m g.met.B.Bindgen.sound types (shapes_of types tys) _ _ c.args.address.now c.args.offset parts in
+    frees_as m g.met.B.Bindgen.sound types _ _ _ _ c.args.address.now c.args.offset (tuple_shape types c.requires.down c.args.id.0 d at tys is) all
+
+pub free_parts-loop-i-init : goal.free_parts-loop-i-init
+free_parts-loop-i-init g t c =
+    let m = g.B.Bindgen.meaning in
+    record { adds = adds_same m _; rest = λ new h. h }
+
+pub free_parts-free_type-requires : goal.free_parts-free_type-requires
+free_parts-free_type-requires g t c κs within =
+    let types = c.args.resolve.now.types in
+    let short : c.loop-i.i < length c.args.tys.now = omega (arith, c.loop-i-test.true) in
+    let low : rank (get_or c.args.tys.now c.loop-i.i wit.Bool) ≤ c.args.id.0 = part_ranked c.args.id.0 c.args.tys.now c.requires.below c.loop-i.i wit.Bool short in
+    let below = part_below_table c.args.id.0 c.args.tys.now c.requires.below c.loop-i.i wit.Bool short (length types) c.requires.within in
+    let knows = c.loop-i.invariant.adds.grows.knows types c.requires.knows in
+    search rules
+
+pub free_parts-loop-i-preserved : goal.free_parts-loop-i-preserved
+free_parts-loop-i-preserved g t c =
+    let m = g.B.Bindgen.meaning in
+    let types = c.args.resolve.now.types in
+    let tys = c.args.tys.now in
+    let i = c.loop-i.i in
+    let short : i < length tys = omega (arith, c.loop-i-test.true) in
+    let knows = c.loop-i.invariant.adds.grows.knows types c.requires.knows in
+    let place = c.in_ok-place.ensures types c.requires.parts.0 knows c.requires.parts.1 (no_alias m.width types c.args.id.0 tys c.requires.parts) in
+    record {
+      adds = adds_both m _ _ _ c.loop-i.invariant.adds c.in_ok-free_type.ensures.adds;
+      rest = rest_next m g.met.B.Bindgen.sound types tys c.args.address.now c.args.offset c.in_ok-place.place i _ _ _ (get_or tys i wit.Bool)
+          (drop_more tys i wit.Bool short)
+          (behind_next m.width types tys i wit.Bool short)
+          (place ∙ ap (λ n. bytes_at c.args.offset (2 ^ m.width) + n) (part_offset m.width types c.args.id tys i wit.Bool c.requires.down c.requires.parts short))
+          c.in_ok-free_type.ensures c.loop-i.invariant.rest;
+    }
+
+pub free_parts-returns : goal.free_parts-returns
+free_parts-returns g t c =
+    let m = g.B.Bindgen.meaning in
+    let ended : length c.args.tys.now ≤ c.loop-i.i = omega (arith, c.loop-i-test.false) in
+    rest_last m g.met.B.Bindgen.sound c.args.resolve.now.types c.args.tys.now c.args.address.now c.args.offset c.loop-i.i _ _ ended c.loop-i.invariant.rest
+
+pub free_type-returns-in-Some : goal.free_type-returns-in-Some
+free_type-returns-in-Some g t c =
+    scalar_frees g.B.Bindgen.meaning g.met.B.Bindgen.sound c.args.resolve.now.types c.args.ty c.in-Some._lift c.args.bindgen.now c.args.address.now c.args.offset (sym c.scalar_lifting.ensures ∙ c.in-Some.is)

@@ -1,0 +1,40 @@
+//! The blocks of values are freed.
+
+mod memory;
+mod places;
+
+ghost use Rattle.std.specs.Prelude.{◌≡◌, true, length, OnOk};
+ghost use Rattle.std.specs.List.{list_all};
+ghost use Rattle.wit_model.specs.TypeOrder.{GoesDown, type_below};
+ghost use Rattle.abi_driver.specs.Frees.{FreesTypes};
+ghost use Rattle.abi_driver.specs.Instructions.{shapes_of};
+
+use crate::bindgen::Bindgen;
+use crate::dealloc::memory::free_record;
+use std::alloc::Global;
+use wit_model::{List, OutOfMemory, Resolve, WitType};
+
+/// Frees the blocks of values of some types, after `deallocate_lists_in_types` of wit-bindgen-core.
+///
+/// Where they were passed indirectly, one operand denotes the address of a record of them. So far they are scalars and texts, and
+/// records and tuples of such, also through aliases; of a type that holds any other, of more or fewer operands than one, and of
+/// values that were passed as words, the answer is `OutOfMemory`, as where memory is wanting.
+pub fn deallocate_lists_in_types<B: Bindgen>(
+    alloc: Global,
+    resolve: &Resolve,
+    types: &[WitType],
+    operands: &List<B::Operand>,
+    indirect: bool,
+    bindgen: &mut B,
+) -> Result<(), OutOfMemory>
+    requires down { GoesDown resolve.now.types }
+    requires below { list_all (λ ty. type_below (length resolve.now.types) ty) types.now ≡ true }
+    requires knows { B.meaning.knows bindgen.old resolve.now.types }
+    ensures { OnOk result (FreesTypes B.meaning indirect (shapes_of resolve.now.types types.now) operands.now bindgen.old bindgen.new) }
+{
+    if !indirect || operands.len() != 1 {
+        return Err(OutOfMemory);
+    }
+    free_record(alloc, resolve, types, &operands.as_slice()[0], bindgen)?;
+    Ok(())
+}

@@ -1,0 +1,167 @@
+//! The blocks of values in memory are freed.
+
+ghost use Rattle.std.specs.Prelude.{◌≡◌, ◌<◌, IsTrue, true, length, OnOk};
+ghost use Rattle.std.specs.List.{list_all};
+ghost use Rattle.wit_model.specs.TypeOrder.{GoesDown, type_below};
+ghost use Rattle.wrapper_meaning.specs.Shape.{shape_at, shape_of};
+ghost use Rattle.wrapper_meaning.specs.Shape.Shape.{text};
+ghost use Rattle.abi_driver.specs.Frees.{FreesInMemory, FreesParts, nowhere};
+ghost use Rattle.abi_driver.specs.Instructions.{shapes_of};
+ghost use Rattle.abi_driver.specs.Places.{HasParts};
+
+use crate::bindgen::Bindgen;
+use crate::dealloc::places::record_places;
+use crate::instruction::Instruction;
+use crate::lift::leaf::scalar_lifting;
+use crate::memory::place::{behind_pointer, part_place};
+use crate::memory::word::load_word;
+use crate::parts::field_types;
+use crate::send::{only, send};
+use std::alloc::Global;
+use wit_model::{ArchitectureSize, OutOfMemory, Resolve, TypeDefKind, TypeId, WitType};
+
+/// The blocks of the parts of a record of these types, which stands at the address that an operand denotes.
+pub(super) fn free_record<B: Bindgen>(
+    alloc: Global,
+    resolve: &Resolve,
+    types: &[WitType],
+    address: &B::Operand,
+    bindgen: &mut B,
+) -> Result<(), OutOfMemory>
+    requires down { GoesDown resolve.now.types }
+    requires below { list_all (λ ty. type_below (length resolve.now.types) ty) types.now ≡ true }
+    requires knows { B.meaning.knows bindgen.old resolve.now.types }
+    ensures { OnOk result (FreesParts B.meaning (shapes_of resolve.now.types types.now) address.now nowhere 0 bindgen.old bindgen.new) }
+{
+    let places = record_places(alloc, bindgen.sizes(), types)?;
+    for i in 0..types.len() {
+        let place = places.as_slice()[i];
+        free_type(alloc, resolve, bindgen, address, place, types[i])?;
+    }
+    Ok(())
+}
+
+/// The blocks of the value of a type that stands at an offset from the address that an operand denotes.
+#[cycle(free)]
+#[tactic(auto, unfolding(wit_model::specs::TypeOrder::type_below))]
+fn free_type<B: Bindgen>(
+    alloc: Global,
+    resolve: &Resolve,
+    bindgen: &mut B,
+    address: &B::Operand,
+    offset: ArchitectureSize,
+    ty: WitType,
+) -> Result<(), OutOfMemory>
+    requires down { GoesDown resolve.now.types }
+    requires below { IsTrue (type_below (length resolve.now.types) ty) }
+    requires knows { B.meaning.knows bindgen.old resolve.now.types }
+    ensures { OnOk result (FreesInMemory B.meaning (shape_of resolve.now.types ty) address.now offset bindgen.old bindgen.new) }
+{
+    if let Some(_lift) = scalar_lifting(ty) {
+        return Ok(());
+    }
+    match ty {
+        WitType::String => free_text(alloc, resolve, bindgen, address, offset),
+        WitType::Id(id) => free_id(alloc, resolve, bindgen, address, offset, id),
+        _ => Err(OutOfMemory),
+    }
+}
+
+/// The same, of the type at a place of the table.
+#[cycle(free)]
+fn free_id<B: Bindgen>(
+    alloc: Global,
+    resolve: &Resolve,
+    bindgen: &mut B,
+    address: &B::Operand,
+    offset: ArchitectureSize,
+    id: TypeId,
+) -> Result<(), OutOfMemory>
+    requires down { GoesDown resolve.now.types }
+    requires within { id.0 < length resolve.now.types }
+    requires knows { B.meaning.knows bindgen.old resolve.now.types }
+    ensures { OnOk result (FreesInMemory B.meaning (shape_at resolve.now.types id.0) address.now offset bindgen.old bindgen.new) }
+{
+    let types = resolve.types.as_slice();
+    let at = id.0 as usize;
+    match &types[at].kind {
+        TypeDefKind::Alias(ty) => {
+            free_type(alloc, resolve, bindgen, address, offset, *ty)?;
+            Ok(())
+        }
+        TypeDefKind::Record(members) => {
+            let tys = field_types(alloc, members.as_slice())?;
+            let tys = tys.as_slice();
+            free_parts(alloc, resolve, bindgen, address, offset, id, tys)?;
+            Ok(())
+        }
+        TypeDefKind::Tuple(members) => {
+            let tys = members.as_slice();
+            free_parts(alloc, resolve, bindgen, address, offset, id, tys)?;
+            Ok(())
+        }
+        _ => Err(OutOfMemory),
+    }
+}
+
+/// The blocks of the parts of a value of a record or a tuple of the table.
+#[cycle(free)]
+fn free_parts<B: Bindgen>(
+    alloc: Global,
+    resolve: &Resolve,
+    bindgen: &mut B,
+    address: &B::Operand,
+    offset: ArchitectureSize,
+    id: TypeId,
+    tys: &[WitType],
+) -> Result<(), OutOfMemory>
+    requires down { GoesDown resolve.now.types }
+    requires within { id.0 < length resolve.now.types }
+    requires below { list_all (λ ty. type_below id.0 ty) tys.now ≡ true }
+    requires parts { HasParts resolve.now.types id.0 tys.now }
+    requires knows { B.meaning.knows bindgen.old resolve.now.types }
+    ensures { OnOk result (FreesParts B.meaning (shapes_of resolve.now.types tys.now) address.now offset 0 bindgen.old bindgen.new) }
+{
+    for i in 0..tys.len() {
+        let place = part_place(bindgen, id, i, offset)?;
+        free_type(alloc, resolve, bindgen, address, place, tys[i])?;
+    }
+    Ok(())
+}
+
+/// The address and the length of a text are loaded, and its block is freed.
+fn free_text<B: Bindgen>(
+    alloc: Global,
+    resolve: &Resolve,
+    bindgen: &mut B,
+    address: &B::Operand,
+    offset: ArchitectureSize,
+) -> Result<(), OutOfMemory>
+    ensures { OnOk result (FreesInMemory B.meaning text address.now offset bindgen.old bindgen.new) }
+{
+    let behind = behind_pointer(offset)?;
+    let place = load_word(
+        alloc,
+        resolve,
+        bindgen,
+        address,
+        Instruction::PointerLoad(offset),
+    )?;
+    let length = load_word(
+        alloc,
+        resolve,
+        bindgen,
+        address,
+        Instruction::LengthLoad(behind),
+    )?;
+    let mut operands = only(alloc, place)?;
+    operands.push(length)?;
+    let _none = send(
+        alloc,
+        resolve,
+        bindgen,
+        Instruction::GuestDeallocateString,
+        operands,
+    )?;
+    Ok(())
+}
