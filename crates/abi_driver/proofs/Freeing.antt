@@ -1,5 +1,5 @@
 -- Blocks of a well-formed heap that nobody owns are freed, and the others stay.
-use Rattle.std.proofs.Common.{◌≡◌, ℕ, zero, suc, ◌+◌, ◌-◌, ◌*◌, ◌^◌, ◌<◌, ◌≤◌, Bool, true, false, not, ◌&&◌, ◌||◌, nat_eq, nat_lt, if◌then◌else◌, List, [], ◌∷◌, ◌++◌, length, find, Option, None, Some, Contains, refl, sym, ap, ap₂, ◌∙◌, subst, arith}
+use Rattle.std.proofs.Common.{◌≡◌, ℕ, zero, suc, ◌-◌, ◌*◌, ◌^◌, ◌<◌, Bool, true, false, not, ◌&&◌, ◌||◌, nat_eq, nat_lt, if◌then◌else◌, List, [], ◌∷◌, ◌++◌, length, find, Option, None, Contains, refl, sym, ap, ap₂, ◌∙◌, subst, arith}
 use Rattle.std.specs.List.{AllByRecursion, list_all, list_any, slice_index_or}
 use Rattle.std.proofs.lemmas.Bool.{and_parts, and_from, cond-false, eq-eqb, le-ltb, ne_eqb, or_parts, or_from, true≢false}
 use Rattle.std.proofs.lemmas.List.Folds.{list_any-append}
@@ -10,7 +10,7 @@ use Rattle.wrapper_meaning.specs.Buffer.{IsPlaced}
 use Rattle.wrapper_meaning.specs.Direction.{give}
 use Rattle.wrapper_meaning.specs.InMemory.{TextHolds}
 use Rattle.wrapper_meaning.specs.Items.{AllIn}
-use Rattle.abi_driver.specs.Account.{Account, Done, Got, Outcome, is_at, is_taken, stay}
+use Rattle.abi_driver.specs.Account.{Account, Done, Got, Outcome, is_at, is_taken}
 use Rattle.abi_driver.specs.Frees.{MayFree, by_freeing, without_blocks}
 use Rattle.abi_driver.specs.Lifts.{AreFree, MayTake}
 use Rattle.abi_driver.specs.Memory.{except, freed, freeing}

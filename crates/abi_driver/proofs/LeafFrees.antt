@@ -1,5 +1,5 @@
 -- A scalar has no blocks, and the block of a text is freed: by its address and its length, which are loaded, or which are there.
-use Rattle.std.proofs.Common.{◌≡◌, ℕ, ◌+◌, ◌%◌, ◌^◌, true, false, List, [], ◌∷◌, ◌++◌, length, Some, refl, sym, ap, ◌∙◌, subst, arith}
+use Rattle.std.proofs.Common.{◌≡◌, ◌+◌, ◌%◌, ◌^◌, false, List, [], ◌∷◌, ◌++◌, length, Some, refl, sym, ap, ◌∙◌, subst, arith}
 use Rattle.wit_model.specs.Size.{bytes_at}
 use Rattle.wit_model.specs.declared.size.ArchitectureSize.{ArchitectureSize}
 use Rattle.wit_model.specs.declared.types.TypeDef.{TypeDef}
@@ -15,10 +15,9 @@ use Rattle.wrapper_meaning.specs.Words.{word_of_bits}
 use Rattle.wrapper_meaning.proofs.PartPlaces.{aligned_part}
 use Rattle.abi_driver.specs.declared.instruction.Instruction.{Instruction}
 use Rattle.abi_driver.specs.declared.instruction.Instruction.TheVariants.{GuestDeallocateString, LengthLoad, PointerLoad}
-use Rattle.abi_driver.specs.Account.{Account}
 use Rattle.abi_driver.specs.Frees.{FreesInMemory, by_freeing}
 use Rattle.abi_driver.specs.Instructions.{Emits, lifting}
-use Rattle.abi_driver.specs.Laws.{At, Facts, Sound, core_data, ofs}
+use Rattle.abi_driver.specs.Laws.{At, Facts, Sound, ofs}
 use Rattle.abi_driver.specs.Meaning.{Meaning, of, word}
 use Rattle.abi_driver.specs.Memory.{freeing, loading}
 use Rattle.abi_driver.specs.Touches.{accessed, reached, whole}

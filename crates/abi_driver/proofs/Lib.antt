@@ -25,3 +25,4 @@ pub mod Freeing
 pub mod FreeSteps
 pub mod LeafFrees
 pub mod RecordPlaces
+pub mod FlatFrees

@@ -1,5 +1,5 @@
 -- Where the parts of a record or a tuple of the table stand.
-use Rattle.std.proofs.Common.{◌≡◌, ℕ, zero, suc, ◌+◌, ◌*◌, ◌^◌, ◌<◌, ◌≤◌, ◌⊎◌, Bool, true, false, List, [], ◌∷◌, ◌++◌, length, map, take, get_or, Option, None, Some, refl, sym, ap, ◌∙◌, subst, arith, add-mul}
+use Rattle.std.proofs.Common.{◌≡◌, ℕ, zero, suc, ◌+◌, ◌*◌, ◌^◌, ◌<◌, ◌⊎◌, false, List, [], ◌∷◌, ◌++◌, length, map, take, get_or, Some, refl, sym, ap, ◌∙◌, arith, add-mul}
 use mathlib.Core.Logic.{inl, inr}
 use Rattle.std.specs.List.{slice_get, slice_index}
 use Rattle.std.proofs.lemmas.List.{take_more}
@@ -21,10 +21,8 @@ use Rattle.wrapper_meaning.specs.Shape.{shape_at, shape_of}
 use Rattle.wrapper_meaning.specs.Shape.Shape.{fields}
 use Rattle.wrapper_meaning.proofs.LayoutIsTree.{layout_is_tree}
 use Rattle.abi_driver.specs.Instructions.{shapes_of}
-use Rattle.abi_driver.specs.Meaning.{Meaning}
 use Rattle.abi_driver.specs.Places.{HasParts, IsOfParts}
 use Rattle.abi_driver.proofs.Records.{record_shape, tuple_shape}
-use Rattle.abi_driver.proofs.StoreSteps.{behind_of}
 
 -- 1. Ends and places of lists
 

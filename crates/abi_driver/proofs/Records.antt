@@ -94,9 +94,12 @@ module _ (bound : ℕ) (tys : List WitType) (below : list_all (λ ty. type_below
   pub part_ranked : rank (get_or tys i d) ≤ bound
   part_ranked = payload_rank_below bound (Some (get_or tys i d)) part_low
 
-  pub part_below_table : (n : ℕ) → bound < n → type_below n (get_or tys i d) ≡ true
+  pub part_below_within : (n : ℕ) → bound ≤ n → type_below n (get_or tys i d) ≡ true
   unfolding payload_below
-  part_below_table n l = payload_below_more bound n (Some (get_or tys i d)) (omega (arith, l)) part_low
+  part_below_within n l = payload_below_more bound n (Some (get_or tys i d)) l part_low
+
+  pub part_below_table : (n : ℕ) → bound < n → type_below n (get_or tys i d) ≡ true
+  part_below_table n l = part_below_within n (omega (arith, l))
 
 pub drop-more : {A : Type 0} (xs : List A) (i : ℕ) (x : A) → i < length xs → x ≡ get_or xs i x → drop i xs ≡ x ∷ drop (i + 1) xs
 drop-more xs i x h e = drop_more xs i x h ∙ ap (λ y. y ∷ drop (i + 1) xs) (sym e)

@@ -1,5 +1,6 @@
 //! The blocks of values are freed.
 
+mod flat;
 mod memory;
 mod places;
 
@@ -10,15 +11,16 @@ ghost use Rattle.abi_driver.specs.Frees.{FreesTypes};
 ghost use Rattle.abi_driver.specs.Instructions.{shapes_of};
 
 use crate::bindgen::Bindgen;
+use crate::dealloc::flat::free_words;
 use crate::dealloc::memory::free_record;
 use std::alloc::Global;
 use wit_model::{List, OutOfMemory, Resolve, WitType};
 
 /// Frees the blocks of values of some types, after `deallocate_lists_in_types` of wit-bindgen-core.
 ///
-/// Where they were passed indirectly, one operand denotes the address of a record of them. So far they are scalars and texts, and
-/// records and tuples of such, also through aliases; of a type that holds any other, of more or fewer operands than one, and of
-/// values that were passed as words, the answer is `OutOfMemory`, as where memory is wanting.
+/// Where they were passed indirectly, one operand denotes the address of a record of them; else there is one for each of their
+/// words. So far they are scalars and texts, and records and tuples of such, also through aliases. Of a type that holds any
+/// other, of a record that is too large, and of more or fewer operands, the answer is `OutOfMemory`, as where memory is wanting.
 pub fn deallocate_lists_in_types<B: Bindgen>(
     alloc: Global,
     resolve: &Resolve,
@@ -32,9 +34,29 @@ pub fn deallocate_lists_in_types<B: Bindgen>(
     requires knows { B.meaning.knows bindgen.old resolve.now.types }
     ensures { OnOk result (FreesTypes B.meaning indirect (shapes_of resolve.now.types types.now) operands.now bindgen.old bindgen.new) }
 {
-    if !indirect || operands.len() != 1 {
+    let operands = operands.as_slice();
+    if indirect {
+        return free_at(alloc, resolve, types, operands, bindgen);
+    }
+    free_words(alloc, resolve, types, operands, bindgen)
+}
+
+/// The blocks of a record of these types, of which one operand denotes the address.
+fn free_at<B: Bindgen>(
+    alloc: Global,
+    resolve: &Resolve,
+    types: &[WitType],
+    operands: &[B::Operand],
+    bindgen: &mut B,
+) -> Result<(), OutOfMemory>
+    requires down { GoesDown resolve.now.types }
+    requires below { list_all (λ ty. type_below (length resolve.now.types) ty) types.now ≡ true }
+    requires knows { B.meaning.knows bindgen.old resolve.now.types }
+    ensures { OnOk result (FreesTypes B.meaning true (shapes_of resolve.now.types types.now) operands.now bindgen.old bindgen.new) }
+{
+    if operands.len() != 1 {
         return Err(OutOfMemory);
     }
-    free_record(alloc, resolve, types, &operands.as_slice()[0], bindgen)?;
+    free_record(alloc, resolve, types, &operands[0], bindgen)?;
     Ok(())
 }
