@@ -67,8 +67,8 @@ module _ {Self Operand : Type 0} (m : Meaning Self Operand) (sound : Sound m) (t
         let pair : List Word = core.Pointer q ∷ core.Length n ∷ [] in
         let facts : Facts m = ofs m (o ∷ p ∷ []) (core_data m pair) in
         let at1 : At m w f a b (facts ++ others) s0 st = record { serves = at.serves; done = at.done; holds = subst (λ zs. m.denotes w a (ofs m (o ∷ p ∷ []) (core_data m zs) ++ others) st) says.pair at.holds } in
-        let ran = does_done m (Unit {0}) a b facts (λ f. freeing f q n) (λ u fs. fs ≡ []) (λ u. []) (λ u. []) (e.row q n) w f others s0 st at1
-        (by_freeing own acc) (frees_text f q v own acc says.buffer.bounded says.buffer.placed may) in
+        let ran = does_done m (Unit {0}) a b facts (λ f. freeing f.form q n) (λ u fs. fs ≡ []) (λ u. []) (λ u. []) (e.row q n) w f others s0 st at1
+        (by_freeing own acc) (frees_text f.form q v own acc says.buffer.bounded says.buffer.placed may) in
         let after = ran.2.2 in (
           ran.0,
           ran.1,

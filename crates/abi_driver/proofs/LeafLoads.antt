@@ -10,13 +10,14 @@ use Rattle.wit_model.specs.declared.wasm_type.WasmType.{WasmType}
 use Rattle.wit_model.specs.declared.wasm_type.WasmType.TheVariants as wasm
 use Rattle.wit_layout.specs.Tree.{Scalar}
 use Rattle.wrapper_data.specs.declared.block.Block.{Block}
+use Rattle.wrapper_data.specs.declared.form.Form.{Form}
 use Rattle.wrapper_data.specs.declared.word.Word.{Word}
 use Rattle.wrapper_data.specs.declared.word.Word.TheVariants as core
 use Rattle.wrapper_meaning.specs.AsWords.{Says}
 use Rattle.wrapper_meaning.specs.Cells.{HasNumber}
-use Rattle.wrapper_meaning.specs.Direction.{take}
-use Rattle.wrapper_meaning.specs.InMemory.{stored_bits}
-use Rattle.wrapper_meaning.specs.Items.{total}
+use Rattle.wrapper_meaning.specs.Direction.{Direction, take}
+use Rattle.wrapper_meaning.specs.InMemory.{Holds, stored_bits}
+use Rattle.wrapper_meaning.specs.Items.{SameItems, total}
 use Rattle.wrapper_meaning.specs.Shape.{shape_of}
 use Rattle.wrapper_meaning.specs.Shape.Shape.{scalar, text}
 use Rattle.wrapper_meaning.specs.Words.{IsWord, word_of_bits}
@@ -24,13 +25,14 @@ use Rattle.wrapper_meaning.proofs.Lists.{some_same}
 use Rattle.wrapper_meaning.proofs.PartPlaces.{aligned_part}
 use Rattle.abi_driver.specs.declared.instruction.Instruction.{Instruction}
 use Rattle.abi_driver.specs.declared.instruction.Instruction.TheVariants.{LengthLoad, PointerLoad}
-use Rattle.abi_driver.specs.Account.{Account, addresses}
+use Rattle.abi_driver.specs.Account.{Account, Done, addresses}
 use Rattle.abi_driver.specs.Instructions.{Emits, IsSendable, Makes, RowBy, RowTouch, lifted_scalar, lifting, lowered_scalar}
 use Rattle.abi_driver.specs.Laws.{Adds, At, Facts, Sound, core_data, ofs}
 use Rattle.abi_driver.specs.Lifts.{LiftsFlat, MayTake, by_taking, took}
 use Rattle.abi_driver.specs.Loads.{LiftsFromMemory}
 use Rattle.abi_driver.specs.Meaning.{Meaning, of, word}
 use Rattle.abi_driver.specs.Memory.{loading, word_read}
+use Rattle.abi_driver.specs.Places.{HasRoom}
 use Rattle.abi_driver.specs.ScalarTouches.{scalar_load}
 use Rattle.abi_driver.specs.Touches.{LoadsWord, Part, accessed, loads, low_byte, low_half, reached, touch, whole}
 use Rattle.abi_driver.proofs.Done.{does_done}
@@ -155,55 +157,73 @@ module _ {Self Operand : Type 0} (m : Meaning Self Operand) (sound : Sound m) (t
       subst (λ z. LoadsWord m z offset (address ∷ []) (x ∷ []) a b) (k.is_access m.width) (load_row load k.part k.signed k.word_type offset (address ∷ []) (x ∷ []) a b k.lowers k.lifts k.touches e) in
       subst (λ t. LiftsFromMemory m t address offset r a c) (sym (k.shape types)) (scalar_at k.scalar_is a b c address x r offset e.adds row (subst (λ t. LiftsFlat m t (x ∷ []) r b c) (k.shape types) flat))
 
+  -- the words of a text that stands at an offset
+  abbrev pub WordsThere : (dir : Direction) (v : List ℕ) (own : List Block) (x n : Operand) (c : Self) → m.World → Peer m.Item → Facts m → (s0 s : m.State) → Type 0
+  WordsThere dir v own x n c w f others s0 s =
+      (t : m.State) × (m.does w f (m.code c) s0 ≡ Done t) × (ws : List Word) × Says m.width dir text v ws own × (m.account t ≡ m.account s) × SameItems (m.owns t) (m.owns s) × m.denotes w c (ofs m (x ∷ n ∷ []) (core_data m ws) ++ others) t
+
+  pub text_words : (dir : Direction) (a b c : Self) (address x n : Operand) (offset behind : ArchitectureSize) → bytes_at behind (2 ^ m.width) ≡ bytes_at offset (2 ^ m.width) + 2 ^ m.width → Emits m types (PointerLoad offset) (address ∷ []) (x ∷ []) a b
+      → Emits m types (LengthLoad behind) (address ∷ []) (n ∷ []) b c → (v : List ℕ) (own : List Block) (w : m.World) (f : Peer m.Item) (others : Facts m) (s0 st : m.State) (q k : ℕ) (blk : Block)
+      → At m w f a c (of address (word (core.Pointer q)) ∷ others) s0 st → HasRoom m.width text (reached m q offset) blk k (m.account st).heap → Holds m.width dir text v blk k own → WordsThere dir v own x n c w f others s0 st
+  text_words dir a b c address x n offset behind further pointers lengths v own w f others s0 st q k blk at room holds =
+      let acc = m.account st in
+      let wide = at_least m.width sound.wide in
+      let size = 2 ^ m.width in
+      let base = reached m q offset in
+      let pointer : Facts m = of address (word (core.Pointer q)) ∷ [] in
+      let place = holds.address in
+      let len = length v in
+      let is_place : word_of_bits m.width wasm.Pointer place ≡ core.Pointer place = ap core.Pointer (read_whole m.width place sound.wide holds.pointer.0) in
+      let is_len : word_of_bits m.width wasm.Length len ≡ core.Length len = ap core.Length (read_whole m.width len sound.wide holds.counted.0) in
+      let pointer_access = accessed m.width whole false wasm.Pointer in
+      let length_access = accessed m.width whole false wasm.Length in
+      let row1 = load_row (PointerLoad offset) whole false wasm.Pointer offset (address ∷ []) (x ∷ []) a b refl refl refl pointers in
+      let row2 = load_row (LengthLoad behind) whole false wasm.Length behind (address ∷ []) (n ∷ []) b c refl refl refl lengths in
+      let reach : reached m q behind ≡ base + size = ap (λ z. q + z) further ∙ omega arith in
+      let read1 = loads_from m.width f.form pointer_access base place blk k acc room.formed room.there room.starts (omega (arith, room.fits)) room.aligned wide holds.pointer in
+      let read2 = loads_from m.width f.form length_access (reached m q behind) len blk (k + size) acc room.formed room.there (reach ∙ omega (arith, room.starts)) (omega (arith, room.fits)) (subst (λ z. z % size ≡ 0) (sym reach) (aligned_part base size m.width m.width room.aligned (omega arith) (itself m.width sound.wide))) wide holds.counted in
+      let at1 : At m w f a b (ofs m (address ∷ []) (word (core.Pointer q) ∷ []) ++ (pointer ++ others)) s0 st =
+      record { serves = lengths.adds.grows.serves w at.serves; done = at.done; holds = sound.again w a address (core.Pointer q) others st at.holds } in
+      let one = does_done m Word a b (ofs m (address ∷ []) (word (core.Pointer q) ∷ [])) (λ f. loading m.width f.form pointer_access base) (λ z fs. fs ≡ ofs m (x ∷ []) (word z ∷ [])) (λ z. []) (λ z. []) (row1 q) w f (pointer ++ others) s0 st at1
+      (record { result = word_of_bits m.width wasm.Pointer place; account = acc }) read1 in
+      let s1 = one.0 in
+      let after1 = one.2.2 in
+      let first : Facts m = of x (word (core.Pointer place)) ∷ [] in
+      let second : Facts m = of n (word (core.Length len)) ∷ [] in
+      let facts1 : m.denotes w b (first ++ (pointer ++ others)) s1 = subst (λ fs. m.denotes w b (fs ++ (pointer ++ others)) s1) (one.2.1 ∙ ap (λ z. of x (word z) ∷ []) is_place) after1.denotes in
+      let at2 : At m w f b c (ofs m (address ∷ []) (word (core.Pointer q) ∷ []) ++ (first ++ others)) s0 s1 = record { serves = at.serves; done = one.1; holds = sound.swap w b first pointer others s1 facts1 } in
+      let two = does_done m Word b c (ofs m (address ∷ []) (word (core.Pointer q) ∷ [])) (λ f. loading m.width f.form length_access (reached m q behind)) (λ z fs. fs ≡ ofs m (n ∷ []) (word z ∷ [])) (λ z. []) (λ z. []) (row2 q) w f (first ++ others) s0 s1 at2
+      (record { result = word_of_bits m.width wasm.Length len; account = acc }) (ap (loading m.width f.form length_access (reached m q behind)) after1.account ∙ read2) in
+      let s2 = two.0 in
+      let after2 = two.2.2 in
+      let facts2 : m.denotes w c (second ++ (first ++ others)) s2 = subst (λ fs. m.denotes w c (fs ++ (first ++ others)) s2) (two.2.1 ∙ ap (λ z. of n (word z) ∷ []) is_len) after2.denotes in (
+        s2,
+        two.1,
+        core.Pointer place ∷ core.Length len ∷ [],
+        record { address = place; pair = refl; range = in_word m.width place sound.wide holds.pointer.0; buffer = holds.buffer },
+        after2.account,
+        λ g. omega (arith, after1.owns g, after2.owns g, total-append g (m.owns s2) [], total-append g (m.owns s1) [], total-append g (m.owns st) []),
+        sound.swap w c second first others s2 facts2,
+      )
+
   pub text_loads : (a b c d : Self) (address x n r : Operand) (offset behind : ArchitectureSize) → bytes_at behind (2 ^ m.width) ≡ bytes_at offset (2 ^ m.width) + 2 ^ m.width → Emits m types (PointerLoad offset) (address ∷ []) (x ∷ []) a b
       → Emits m types (LengthLoad behind) (address ∷ []) (n ∷ []) b c → LiftsFlat m text (x ∷ n ∷ []) r c d → LiftsFromMemory m text address offset r a d
   text_loads a b c d address x n r offset behind further pointers lengths flat = record {
     adds = adds_both m a b d pointers.adds (adds_both m b c d lengths.adds flat.adds);
     row = λ v own listed w f others s0 st q k blk at room holds may.
-        let acc = m.account st in
-        let wide = at_least m.width sound.wide in
-        let size = 2 ^ m.width in
-        let base = reached m q offset in
-        let pointer : Facts m = of address (word (core.Pointer q)) ∷ [] in
-        let place = holds.address in
-        let len = length v in
-        let is_place : word_of_bits m.width wasm.Pointer place ≡ core.Pointer place = ap core.Pointer (read_whole m.width place sound.wide holds.pointer.0) in
-        let is_len : word_of_bits m.width wasm.Length len ≡ core.Length len = ap core.Length (read_whole m.width len sound.wide holds.counted.0) in
-        let pointer_access = accessed m.width whole false wasm.Pointer in
-        let length_access = accessed m.width whole false wasm.Length in
-        let row1 = load_row (PointerLoad offset) whole false wasm.Pointer offset (address ∷ []) (x ∷ []) a b refl refl refl pointers in
-        let row2 = load_row (LengthLoad behind) whole false wasm.Length behind (address ∷ []) (n ∷ []) b c refl refl refl lengths in
-        let reach : reached m q behind ≡ base + size = ap (λ z. q + z) further ∙ omega arith in
-        let read1 = loads_from m.width f.form pointer_access base place blk k acc room.formed room.there room.starts (omega (arith, room.fits)) room.aligned wide holds.pointer in
-        let read2 = loads_from m.width f.form length_access (reached m q behind) len blk (k + size) acc room.formed room.there (reach ∙ omega (arith, room.starts)) (omega (arith, room.fits)) (subst (λ z. z % size ≡ 0) (sym reach) (aligned_part base size m.width m.width room.aligned (omega arith) (itself m.width sound.wide))) wide holds.counted in
-        let at1 : At m w f a b (ofs m (address ∷ []) (word (core.Pointer q) ∷ []) ++ (pointer ++ others)) s0 st =
-        record { serves = lengths.adds.grows.serves w (flat.adds.grows.serves w at.serves); done = at.done; holds = sound.again w a address (core.Pointer q) others st at.holds } in
-        let one = does_done m Word a b (ofs m (address ∷ []) (word (core.Pointer q) ∷ [])) (λ f. loading m.width f.form pointer_access base) (λ z fs. fs ≡ ofs m (x ∷ []) (word z ∷ [])) (λ z. []) (λ z. []) (row1 q) w f (pointer ++ others) s0 st at1
-        (record { result = word_of_bits m.width wasm.Pointer place; account = acc }) read1 in
-        let s1 = one.0 in
-        let after1 = one.2.2 in
-        let first : Facts m = of x (word (core.Pointer place)) ∷ [] in
-        let second : Facts m = of n (word (core.Length len)) ∷ [] in
-        let facts1 : m.denotes w b (first ++ (pointer ++ others)) s1 = subst (λ fs. m.denotes w b (fs ++ (pointer ++ others)) s1) (one.2.1 ∙ ap (λ z. of x (word z) ∷ []) is_place) after1.denotes in
-        let at2 : At m w f b c (ofs m (address ∷ []) (word (core.Pointer q) ∷ []) ++ (first ++ others)) s0 s1 = record { serves = flat.adds.grows.serves w at.serves; done = one.1; holds = sound.swap w b first pointer others s1 facts1 } in
-        let two = does_done m Word b c (ofs m (address ∷ []) (word (core.Pointer q) ∷ [])) (λ f. loading m.width f.form length_access (reached m q behind)) (λ z fs. fs ≡ ofs m (n ∷ []) (word z ∷ [])) (λ z. []) (λ z. []) (row2 q) w f (first ++ others) s0 s1 at2
-        (record { result = word_of_bits m.width wasm.Length len; account = acc }) (ap (loading m.width f.form length_access (reached m q behind)) after1.account ∙ read2) in
-        let s2 = two.0 in
-        let after2 = two.2.2 in
-        let facts2 : m.denotes w c (second ++ (first ++ others)) s2 = subst (λ fs. m.denotes w c (fs ++ (first ++ others)) s2) (two.2.1 ∙ ap (λ z. of n (word z) ∷ []) is_len) after2.denotes in
-        let ws : List Word = core.Pointer place ∷ core.Length len ∷ [] in
-        let at3 : At m w f c d (ofs m (x ∷ n ∷ []) (core_data m ws) ++ others) s0 s2 = record { serves = at.serves; done = two.1; holds = sound.swap w c second first others s2 facts2 } in
-        let says : Says m.width take text v ws own = record { address = place; pair = refl; range = in_word m.width place sound.wide holds.pointer.0; buffer = holds.buffer } in
-        let three = flat.row v ws own listed says w f others s0 s2 at3 (subst (MayTake own) (sym after2.account) may) in
-        let after3 = three.4 in (
-          three.0,
-          three.2,
-          three.1,
-          three.3,
+        let at1 : At m w f a c (of address (word (core.Pointer q)) ∷ others) s0 st = record { serves = flat.adds.grows.serves w at.serves; done = at.done; holds = at.holds } in
+        let one = text_words take a b c address x n offset behind further pointers lengths v own w f others s0 st q k blk at1 room holds in
+        let at2 : At m w f c d (ofs m (x ∷ n ∷ []) (core_data m one.2) ++ others) s0 one.0 = record { serves = at.serves; done = one.1; holds = one.6 } in
+        let two = flat.row v one.2 own listed one.3 w f others s0 one.0 at2 (subst (MayTake own) (sym one.4) may) in
+        let after = two.4 in (
+          two.0,
+          two.2,
+          two.1,
+          two.3,
           record {
-            account = after3.account ∙ ap (took own) after2.account;
-            owns = λ g. omega (arith, after1.owns g, after2.owns g, after3.owns g, total-append g (m.owns three.0) [], total-append g (m.owns s2) [], total-append g (m.owns s1) [], total-append g (m.owns st) [], total-append g (m.owns s2) (addresses own), total-append g (m.owns st) (addresses own));
-            denotes = after3.denotes;
+            account = after.account ∙ ap (took own) one.4;
+            owns = λ g. omega (arith, one.5 g, after.owns g, total-append g (m.owns two.0) [], total-append g (m.owns one.0) (addresses own), total-append g (m.owns st) (addresses own));
+            denotes = after.denotes;
           },
         );
   }
