@@ -10,7 +10,6 @@ use Rattle.wit_model.specs.declared.wasm_type.WasmType.{WasmType}
 use Rattle.wit_model.specs.declared.wasm_type.WasmType.TheVariants as wasm
 use Rattle.wit_layout.specs.Tree.{Scalar}
 use Rattle.wrapper_data.specs.declared.block.Block.{Block}
-use Rattle.wrapper_data.specs.declared.form.Form.{Form}
 use Rattle.wrapper_data.specs.declared.word.Word.{Word}
 use Rattle.wrapper_data.specs.declared.word.Word.TheVariants as core
 use Rattle.wrapper_meaning.specs.AsWords.{Says}
@@ -25,7 +24,7 @@ use Rattle.wrapper_meaning.proofs.Lists.{some_same}
 use Rattle.wrapper_meaning.proofs.PartPlaces.{aligned_part}
 use Rattle.abi_driver.specs.declared.instruction.Instruction.{Instruction}
 use Rattle.abi_driver.specs.declared.instruction.Instruction.TheVariants.{LengthLoad, PointerLoad}
-use Rattle.abi_driver.specs.Account.{Account, Done, addresses}
+use Rattle.abi_driver.specs.Account.{Account, Done, Peer, addresses}
 use Rattle.abi_driver.specs.Instructions.{Emits, IsSendable, Makes, RowBy, RowTouch, lifted_scalar, lifting, lowered_scalar}
 use Rattle.abi_driver.specs.Laws.{Adds, At, Facts, Sound, core_data, ofs}
 use Rattle.abi_driver.specs.Lifts.{LiftsFlat, MayTake, by_taking, took}
