@@ -1,0 +1,13 @@
+//! The instructions that the driver sends, by the steps of the implementation in memory.
+#![tactic(auto)]
+
+#[cfg(test)]
+mod flat;
+#[cfg(test)]
+mod memory;
+#[cfg(test)]
+mod post_return;
+#[cfg(test)]
+mod sample;
+#[cfg(test)]
+mod steps;

@@ -1,0 +1,85 @@
+//! What the tests compare of steps.
+
+use abi_driver::{Place, Step};
+use wit_model::{ArchitectureSize, WasmType, WitType};
+
+/// A step: what it reads, and last the first place that it writes. A word in memory is told by its type, its bytes as an
+/// exponent of 2 and its offset at pointers of four bytes, and behind its address.
+#[derive(Clone, Copy, Debug, PartialEq)]
+pub(crate) enum Told {
+    Argument(u32, u32),
+    Pass(u32, u32),
+    Read(WitType, u32, u32),
+    Take(u32, u32, u32),
+    Split(u32, u32),
+    Join(usize, [u32; 3], u32),
+    Store(WasmType, u32, u64, u32, u32),
+    Load(WasmType, u32, bool, u64, u32, u32),
+}
+
+/// The numbers of up to three places.
+fn numbers(places: &[Place]) -> [u32; 3] {
+    let mut all = [0; 3];
+    for i in 0..3 {
+        if i < places.len() {
+            all[i] = places[i].number;
+        }
+    }
+    all
+}
+
+fn at4(offset: ArchitectureSize) -> u64 {
+    offset.pointers.wrapping_mul(4).wrapping_add(offset.bytes)
+}
+
+fn seen(step: &Step) -> Told {
+    match step {
+        Step::Argument { number, to } => Told::Argument(*number, *to),
+        Step::Pass { from, to } => Told::Pass(*from, *to),
+        Step::Read { ty, from, to } => Told::Read(*ty, *from, *to),
+        Step::Take { at, length, to } => Told::Take(*at, *length, *to),
+        Step::Split { from, to } => Told::Split(*from, *to),
+        Step::Join { from, to } => Told::Join(from.len(), numbers(from.as_slice()), *to),
+        Step::Store {
+            word,
+            grain,
+            offset,
+            from,
+            at,
+        } => Told::Store(*word, *grain, at4(*offset), *from, *at),
+        Step::Load {
+            word,
+            grain,
+            signed,
+            offset,
+            at,
+            to,
+        } => Told::Load(*word, *grain, *signed, at4(*offset), *at, *to),
+    }
+}
+
+/// The first step that is not as it is told, if any.
+pub(crate) fn difference(steps: &[Step], rows: &[Told]) -> Option<usize> {
+    for i in 0..rows.len() {
+        if i >= steps.len() || seen(&steps[i]) != rows[i] {
+            return Some(i);
+        }
+    }
+    if steps.len() > rows.len() {
+        return Some(rows.len());
+    }
+    None
+}
+
+/// Whether these are the numbers of the places.
+pub(crate) fn are(places: &[Place], numbers: &[u32]) -> bool {
+    if places.len() != numbers.len() {
+        return false;
+    }
+    for i in 0..places.len() {
+        if places[i].number != numbers[i] {
+            return false;
+        }
+    }
+    true
+}
