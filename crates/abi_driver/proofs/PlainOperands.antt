@@ -1,6 +1,7 @@
 -- The same, by the lists of operands that were read.
 use Rattle.std.proofs.Common.{◌≡◌, ℕ, Bool, List, [], ◌∷◌, length, get_or, Some, option_map, subst, arith}
 use Rattle.wit_model.specs.declared.name.TypeId.{TypeId}
+use Rattle.wit_model.specs.declared.size.Alignment.{Alignment}
 use Rattle.wit_model.specs.declared.size.ArchitectureSize.{ArchitectureSize}
 use Rattle.wit_model.specs.declared.types.Field.{Field}
 use Rattle.wit_model.specs.declared.types.TypeDef.{TypeDef}
@@ -15,7 +16,7 @@ use Rattle.abi_driver.specs.declared.plain.words.WordTouch.TheVariants as touche
 use Rattle.abi_driver.specs.Instructions.{Emits, IsRecord}
 use Rattle.abi_driver.specs.Plain.{AddsStep, lifted_type, lowered_type, places_from, plain_meaning, word_touch}
 use Rattle.abi_driver.specs.Touches.{touch}
-use Rattle.abi_driver.proofs.PlainRows.{loads_word, passes_scalar, passes_text, reads_scalar, splits_record, splits_tuple, stores_word, takes_text}
+use Rattle.abi_driver.proofs.PlainRows.{frees_block, frees_text, loads_word, passes_scalar, passes_text, reads_scalar, splits_record, splits_tuple, stores_word, takes_text}
 
 -- a list of one place, and of two
 abbrev pub OfOne : (List Place → Type 0) → Type 0
@@ -83,3 +84,16 @@ module _ (types : List TypeDef) (old new : PlainBindgen) where
   loaded_word i ty grain signed o os read rs d is len same adds places =
       one_of (λ os. AddsStep (step.Load ty grain signed o (get_or os 0 d).number old.count) 1 old new → Emits plain_meaning types i os rs old new) (λ p a. loads_word types old new i ty grain signed o p rs is a places) os len
       (subst (λ xs. AddsStep (step.Load ty grain signed o (get_or xs 0 d).number old.count) 1 old new) same adds)
+
+  pub freed_text : (os one two rs : List Place) (d e : Place) → length os ≡ 2 → one ≡ os → two ≡ os → AddsStep (step.Free (get_or one 0 d).number (get_or two 1 e).number) 0 old new → rs ≡ places_from old.count 0
+      → Emits plain_meaning types instruction.GuestDeallocateString os rs old new
+  freed_text os one two rs d e len same1 same2 adds places =
+      two_of (λ os. AddsStep (step.Free (get_or os 0 d).number (get_or os 1 e).number) 0 old new → Emits plain_meaning types instruction.GuestDeallocateString os rs old new) (λ o p a. frees_text types old new o p rs a places) os len
+      (subst (λ xs. AddsStep (step.Free (get_or os 0 d).number (get_or xs 1 e).number) 0 old new) same2
+      (subst (λ xs. AddsStep (step.Free (get_or xs 0 d).number (get_or two 1 e).number) 0 old new) same1 adds))
+
+  pub freed_block : (size : ArchitectureSize) (align : Alignment) (os read rs : List Place) (d : Place) → length os ≡ 1 → read ≡ os → AddsStep (step.FreeSized size (get_or read 0 d).number) 0 old new → rs ≡ places_from old.count 0
+      → Emits plain_meaning types (instruction.GuestDeallocate size align) os rs old new
+  freed_block size align os read rs d len same adds places =
+      one_of (λ os. AddsStep (step.FreeSized size (get_or os 0 d).number) 0 old new → Emits plain_meaning types (instruction.GuestDeallocate size align) os rs old new) (λ o a. frees_block types old new size align o rs a places) os len
+      (subst (λ xs. AddsStep (step.FreeSized size (get_or xs 0 d).number) 0 old new) same adds)

@@ -8,6 +8,8 @@ use Rattle.std.proofs.lemmas.Bool.Decides.{eqb_tells}
 use Rattle.std.proofs.lemmas.Int.{ints}
 use Rattle.std.proofs.lemmas.List.{length-map}
 use Rattle.wit_model.specs.declared.name.TypeId.{TypeId}
+use Rattle.wit_model.specs.Size.{bytes_at}
+use Rattle.wit_model.specs.declared.size.Alignment.{Alignment}
 use Rattle.wit_model.specs.declared.size.ArchitectureSize.{ArchitectureSize}
 use Rattle.wit_model.specs.declared.types.Field.{Field}
 use Rattle.wit_model.specs.declared.types.TypeDef.{TypeDef}
@@ -49,7 +51,7 @@ use Rattle.abi_driver.specs.Instructions.{Emits, IsRecord, MakesBy, MakesTouch, 
 use Rattle.abi_driver.specs.Laws.{Adds, Stays, core_data, item_data, ofs}
 use Rattle.abi_driver.specs.Leaves.{LiftsScalar, LiftsText, LowersScalar, LowersText}
 use Rattle.abi_driver.specs.Meaning.{Datum, arg, item, of, word}
-use Rattle.abi_driver.specs.Memory.{Access, access, bytes_on, is_inside, is_reached, little_bytes, loaded, loading, storing}
+use Rattle.abi_driver.specs.Memory.{Access, access, bytes_on, freed, freeing, is_inside, is_reached, little_bytes, loaded, loading, storing}
 use Rattle.abi_driver.specs.Memory as memory
 use Rattle.abi_driver.specs.Parts.{LiftsParts, LowersParts, PartsStand, count}
 use Rattle.abi_driver.specs.Plain.{AddsStep, IsPlainText, IsRight, PlainItem, PlainItems, PlainPartsStand, PlainStands, PlainState, all_at, and_all, gathered, leaf, lifted_type, listed, lowered_type, normal, performs, places_from, plain_meaning, scalar_of, whole, word_touch}
@@ -254,6 +256,16 @@ loading_owns : (f : Form) (a : Access) (address : ℕ) (acc : Account PlainItem)
 loading_owns f a address acc =
     loaded_owns f (if is_reached 2 a address then option_map (λ bytes. memory.word_read 2 a (little bytes)) (memory.bytes_at address (2 ^ a.grain) acc.heap.blocks) else None) acc
 
+freed_owns : (f : Form) (address size : ℕ) (b : Option Block) (acc : Account PlainItem) → OnDone (freed f address size b acc) (λ y. y.account.taken ≡ acc.taken)
+freed_owns f address size None acc = fails f trap.Block acc (λ y. y.account.taken ≡ acc.taken)
+freed_owns f address size (Some b) acc = refl
+
+freeing_owns : (f : Form) (address size : ℕ) (acc : Account PlainItem) → OnDone (freeing f address size acc) (λ y. y.account.taken ≡ acc.taken)
+freeing_owns f address zero acc = refl
+freeing_owns f address (suc n) acc =
+    let b : Option Block = if is_taken address acc.taken then None else find (is_at address (suc n)) acc.heap.blocks in
+    if_done (nat_lt (2 ^ 31 - 1) (suc n)) (failing f trap.Size acc) (freed f address (suc n) b acc) (λ y. y.account.taken ≡ acc.taken) (λ e. fails f trap.Size acc (λ y. y.account.taken ≡ acc.taken)) (λ e. freed_owns f address (suc n) b acc)
+
 abbrev makes_of : WordTouch → ℕ
 makes_of (touched.Store ty grain o) = 0
 makes_of (touched.Load ty grain signed o) = 1
@@ -391,6 +403,32 @@ module _ (types : List TypeDef) (old new : PlainBindgen) where
       (λ x values n. refl) (λ t h. one_at old t p (word (core.Pointer address)) h) (λ f acc. refl) (λ x. refl) (λ x. refl)
       (λ f acc y e. same_owns y.account.taken acc.taken (done_is (loading 2 f a at acc) (λ y. y.account.taken ≡ acc.taken) y (loading_owns f a at acc) e)) in
       touches (p ∷ []) rs old new types i (touched.Load ty grain signed o) is (plain_adds st 1 old new adds) (ap length places) (subst (λ ps. LoadsWord plain_meaning a o (p ∷ []) ps old new) (sym places) row)
+
+  pub frees_text : (o p : Place) (rs : List Place) → AddsStep (step.Free o.number p.number) 0 old new → rs ≡ places_from old.count 0 → Emits plain_meaning types instruction.GuestDeallocateString (o ∷ p ∷ []) rs old new
+  frees_text o p rs adds places =
+      let st = step.Free o.number p.number in
+      record {
+        adds = plain_adds st 0 old new adds;
+        results = ap length places;
+        row = λ address n.
+            plain_does st 0 old new adds (Unit {0}) (of o (word (core.Pointer address)) ∷ of p (word (core.Length n)) ∷ []) (word (core.Pointer address) ∷ word (core.Length n) ∷ []) (λ f. freeing f address n) (λ u. []) (λ u fs. fs ≡ []) (λ u. []) (λ u. [])
+            (λ u values n. refl) (λ t h. two_at old t o p (word (core.Pointer address)) (word (core.Length n)) h) (λ f acc. refl) (λ u. refl) (λ u. refl)
+            (λ f acc y e. same_owns y.account.taken acc.taken (done_is (freeing f address n acc) (λ y. y.account.taken ≡ acc.taken) y (freeing_owns f address n acc) e));
+      }
+
+  pub frees_block : (size : ArchitectureSize) (align : Alignment) (o : Place) (rs : List Place) → AddsStep (step.FreeSized size o.number) 0 old new → rs ≡ places_from old.count 0
+      → Emits plain_meaning types (instruction.GuestDeallocate size align) (o ∷ []) rs old new
+  frees_block size align o rs adds places =
+      let st = step.FreeSized size o.number in
+      let n = bytes_at size 4 in
+      record {
+        adds = plain_adds st 0 old new adds;
+        results = ap length places;
+        row = λ address.
+            plain_does st 0 old new adds (Unit {0}) (of o (word (core.Pointer address)) ∷ []) (word (core.Pointer address) ∷ []) (λ f. freeing f address n) (λ u. []) (λ u fs. fs ≡ []) (λ u. []) (λ u. [])
+            (λ u values n. refl) (λ t h. one_at old t o (word (core.Pointer address)) h) (λ f acc. refl) (λ u. refl) (λ u. refl)
+            (λ f acc y e. same_owns y.account.taken acc.taken (done_is (freeing f address n acc) (λ y. y.account.taken ≡ acc.taken) y (freeing_owns f address n acc) e));
+      }
 
   pub passes_text : (realloc : Bool) (o : Place) (rs : List Place) → AddsStep (step.Pass o.number old.count) 2 old new → rs ≡ places_from old.count 2 → Emits plain_meaning types (instruction.StringLower realloc) (o ∷ []) rs old new
   passes_text realloc o rs adds places =

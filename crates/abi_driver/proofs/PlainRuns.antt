@@ -1,5 +1,5 @@
 -- What the steps of a `PlainBindgen` do: a run of more steps, the calls that they leave alone, and the action of a step.
-use Rattle.std.proofs.Common.{◌≡◌, ℕ, ◌+◌, ◌-◌, ◌^◌, ◌≤◌, Bool, true, false, ◌&&◌, not, nat_eq, nat_lt, if◌then◌else◌, List, [], ◌∷◌, ◌++◌, length, map, find, Option, None, Some, is_some, option_map, refl, sym, ap, ◌∙◌, subst, arith}
+use Rattle.std.proofs.Common.{◌≡◌, ℕ, zero, suc, ◌+◌, ◌-◌, ◌^◌, ◌≤◌, Bool, true, false, ◌&&◌, not, nat_eq, nat_lt, if◌then◌else◌, List, [], ◌∷◌, ◌++◌, length, map, find, Option, None, Some, is_some, option_map, refl, sym, ap, ◌∙◌, subst, arith}
 use Rattle.std.specs.List.{AllByRecursion}
 use Rattle.std.specs.Str.{is_utf8}
 use Rattle.wit_model.specs.Size.{bytes_at}
@@ -25,9 +25,9 @@ use Rattle.abi_driver.specs.declared.plain.Step.TheVariants as step
 use Rattle.abi_driver.specs.Account.{Account, Act, Done, Follows, Got, Outcome, Stopped, Stops, Stuck, account_in, addresses, checking, failing, found, has_type, gives, is_at, is_taken, reading, releasing, stay, taking, tested, then_do, without}
 use Rattle.abi_driver.specs.Laws.{Adds, After, Does, Facts, ofs}
 use Rattle.abi_driver.specs.Meaning.{Datum, item, word}
-use Rattle.abi_driver.specs.Memory.{Access, access, bytes_on, is_inside, is_reached, little_bytes, loaded, storing}
+use Rattle.abi_driver.specs.Memory.{Access, access, bytes_on, freed, freeing, is_inside, is_reached, little_bytes, loaded, storing}
 use Rattle.abi_driver.specs.Memory as memory
-use Rattle.abi_driver.specs.Plain.{AddsStep, IsRight, PlainItem, PlainState, inputs, kept, leaf, load_word, normal, passing, performed, performs, places_from, plain_meaning, put, read_as, runs, scalar_of, splitting, store_word, take_text, whole, writes}
+use Rattle.abi_driver.specs.Plain.{AddsStep, IsRight, PlainItem, PlainState, free_block, free_text, inputs, kept, leaf, load_word, normal, passing, performed, performs, places_from, plain_meaning, put, read_as, runs, scalar_of, splitting, store_word, take_text, whole, writes}
 use Rattle.abi_driver.specs.PlainSound.{all_both, all_left, all_right}
 use Rattle.abi_driver.proofs.PlainPlaces.{put_below, put_right, still_right}
 
@@ -119,6 +119,24 @@ load_quiet a o f (word (core.Pointer q) ∷ []) acc =
     then_quiet acc (loaded 2 f read acc) (λ x. word x ∷ []) (loaded_quiet f read acc)
 load_quiet a o f _ acc = refl
 
+freed_quiet : {V : Type 0} (f : Form) (address size : ℕ) (b : Option Block) (acc : Account V) → Quietly acc (freed f address size b acc)
+freed_quiet f address size None acc = failing_quiet (Unit {0}) f trap.Block acc
+freed_quiet f address size (Some b) acc = refl
+
+freeing_quiet : {V : Type 0} (f : Form) (address size : ℕ) (acc : Account V) → Quietly acc (freeing f address size acc)
+freeing_quiet f address zero acc = refl
+freeing_quiet f address (suc n) acc =
+    let b : Option Block = if is_taken address acc.taken then None else find (is_at address (suc n)) acc.heap.blocks in
+    if_quiet acc (nat_lt (2 ^ 31 - 1) (suc n)) (failing f trap.Size acc) (freed f address (suc n) b acc) (failing_quiet (Unit {0}) f trap.Size acc) (freed_quiet f address (suc n) b acc)
+
+free_text_quiet : (f : Form) (ds : List (Datum PlainItem)) (acc : Account PlainItem) → Quietly acc (free_text f ds acc)
+free_text_quiet f (word (core.Pointer q) ∷ word (core.Length n) ∷ []) acc = then_quiet acc (freeing f q n acc) (λ u. []) (freeing_quiet f q n acc)
+free_text_quiet f _ acc = refl
+
+free_block_quiet : (size : ArchitectureSize) (f : Form) (ds : List (Datum PlainItem)) (acc : Account PlainItem) → Quietly acc (free_block size f ds acc)
+free_block_quiet size f (word (core.Pointer q) ∷ []) acc = then_quiet acc (freeing f q (bytes_at size 4) acc) (λ u. []) (freeing_quiet f q (bytes_at size 4) acc)
+free_block_quiet size f _ acc = refl
+
 performs_quiet : (st : Step) (f : Form) (ds : List (Datum PlainItem)) (acc : Account PlainItem) → Quietly acc (performs st f ds acc)
 performs_quiet (step.Argument n to) f ds acc = refl
 performs_quiet (step.Pass from to) f ds acc = passing_quiet ds acc
@@ -128,6 +146,8 @@ performs_quiet (step.Split from to) f ds acc = splitting_quiet ds acc
 performs_quiet (step.Join from to) f ds acc = refl
 performs_quiet (step.Store ty grain o from at) f ds acc = store_quiet (access ty grain) o ds acc
 performs_quiet (step.Load ty grain signed o at to) f ds acc = load_quiet (record { word = ty; grain = grain; signed = signed }) o f ds acc
+performs_quiet (step.Free at length) f ds acc = free_text_quiet f ds acc
+performs_quiet (step.FreeSized size at) f ds acc = free_block_quiet size f ds acc
 
 -- 2. Runs of more steps
 

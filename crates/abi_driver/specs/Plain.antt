@@ -30,7 +30,7 @@ use Rattle.abi_driver.specs.declared.plain.words.WordTouch.{WordTouch}
 use Rattle.abi_driver.specs.declared.plain.words.WordTouch.TheVariants as touched
 use Rattle.abi_driver.specs.Account.{Account, Act, Done, Got, Outcome, Stuck, addresses, gives, reading, releasing, taking, then_do}
 use Rattle.abi_driver.specs.Meaning.{Datum, Fact, Meaning, arg, item, of, word}
-use Rattle.abi_driver.specs.Memory.{Access, loading, storing}
+use Rattle.abi_driver.specs.Memory.{Access, freeing, loading, storing}
 use Rattle.abi_driver.specs.Touches.{Touch, loads, part_grain, stores}
 
 -- 1. Values
@@ -182,6 +182,14 @@ abbrev pub load_word : Access → ArchitectureSize → Form → List (Datum Plai
 load_word a o f (word (core.Pointer address) ∷ []) acc = then_do (loading 2 f a (address + bytes_at o 4) acc) (λ x. gives (word x.result ∷ []) x.account)
 load_word a o f _ acc = Stuck acc
 
+abbrev pub free_text : Form → List (Datum PlainItem) → PlainAct
+free_text f (word (core.Pointer address) ∷ word (core.Length n) ∷ []) acc = then_do (freeing f address n acc) (λ u. gives [] u.account)
+free_text f _ acc = Stuck acc
+
+abbrev pub free_block : ArchitectureSize → Form → List (Datum PlainItem) → PlainAct
+free_block size f (word (core.Pointer address) ∷ []) acc = then_do (freeing f address (bytes_at size 4) acc) (λ u. gives [] u.account)
+free_block size f _ acc = Stuck acc
+
 -- what a step makes of the data that it reads
 abbrev pub performs : Step → Form → List (Datum PlainItem) → PlainAct
 performs (step.Argument number to) f ds acc = gives ds acc
@@ -192,6 +200,8 @@ performs (step.Split from to) f ds acc = splitting ds acc
 performs (step.Join from to) f ds acc = gives (item (whole (gathered ds)) ∷ []) acc
 performs (step.Store ty grain o from at) f ds acc = store_word (record { word = ty; grain = grain; signed = false }) o ds acc
 performs (step.Load ty grain signed o at to) f ds acc = load_word (record { word = ty; grain = grain; signed = signed }) o f ds acc
+performs (step.Free at length) f ds acc = free_text f ds acc
+performs (step.FreeSized size at) f ds acc = free_block size f ds acc
 
 -- all of them, where each is there
 abbrev pub and_all : Option (Datum PlainItem) → Option (List (Datum PlainItem)) → Option (List (Datum PlainItem))
@@ -212,6 +222,8 @@ inputs (step.Split from to) s = all_at s.values (from ∷ [])
 inputs (step.Join from to) s = all_at s.values (map (λ (p : Place). p.number) from)
 inputs (step.Store ty grain o from at) s = all_at s.values (from ∷ at ∷ [])
 inputs (step.Load ty grain signed o at to) s = all_at s.values (at ∷ [])
+inputs (step.Free at length) s = all_at s.values (at ∷ length ∷ [])
+inputs (step.FreeSized size at) s = all_at s.values (at ∷ [])
 
 -- the first place that it writes, where it writes any
 abbrev pub writes : Step → ℕ
@@ -223,6 +235,8 @@ writes (step.Split from to) = to
 writes (step.Join from to) = to
 writes (step.Store ty grain o from at) = 0
 writes (step.Load ty grain signed o at to) = to
+writes (step.Free at length) = 0
+writes (step.FreeSized size at) = 0
 
 -- places from one on with these data
 abbrev pub put : ℕ → List (Datum PlainItem) → (ℕ → Option (Datum PlainItem)) → ℕ → Option (Datum PlainItem)

@@ -1,6 +1,7 @@
 //! A `Bindgen` whose code is a list of steps over values that are held in memory, in numbered places.
 
 mod emit;
+mod frees;
 mod lawful;
 mod scalars;
 mod words;
@@ -72,6 +73,16 @@ pub enum Step {
         offset: ArchitectureSize,
         at: u32,
         to: u32,
+    },
+    /// The block at an address is freed, which has so many bytes. It has no result.
+    Free {
+        at: u32,
+        length: u32,
+    },
+    /// The same, of a size that is known.
+    FreeSized {
+        size: ArchitectureSize,
+        at: u32,
     },
 }
 

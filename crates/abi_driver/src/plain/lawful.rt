@@ -25,8 +25,8 @@ impl Bindgen for PlainBindgen {
 
     ghost sound = { plain_sound };
 
-    /// The steps of arguments, scalars, texts, records and tuples, and of words in memory. Of any other instruction, which has
-    /// no row yet, the answer is `OutOfMemory`.
+    /// The steps of arguments, scalars, texts, records and tuples, of words in memory, and of blocks that are freed. Of any
+    /// other instruction, which has no row yet, the answer is `OutOfMemory`.
     fn emit(
         &mut self,
         resolve: &Resolve,
@@ -59,6 +59,10 @@ impl Bindgen for PlainBindgen {
             Instruction::RecordLift(id) => self.join_record(resolve, id, operands, results),
             Instruction::TupleLower(n) => self.split_tuple(resolve, n, operands, results),
             Instruction::TupleLift(n) => self.join_tuple(resolve, n, operands, results),
+            Instruction::GuestDeallocateString => self.free_text(resolve, operands, results),
+            Instruction::GuestDeallocate(size, align) => self.free_block(
+                resolve, size, align, operands, results,
+            ),
             _ => Err(OutOfMemory),
         }
     }
