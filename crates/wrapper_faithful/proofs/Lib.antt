@@ -3,10 +3,9 @@ pub mod AreaWords
 pub mod FormedHeaps
 pub mod HeapBlocks
 pub mod HonestPeers
+pub mod Instances
 pub mod KeptHeaps
 pub mod NoHandles
-pub mod PlainCall
-pub mod Refused
 pub mod Round
 pub mod SimpleSides
 pub mod TiedExport

@@ -1,0 +1,4 @@
+-- Instances of the claims: wrappers that are faithful, and what is refused.
+pub mod PlainImport
+pub mod PlainExport
+pub mod Refused
