@@ -26,7 +26,7 @@ use Rattle.wrapper_meaning.specs.Shape.{Shape}
 use Rattle.wrapper_meaning.specs.Value.{Result, Value}
 use Rattle.wrapper_meaning.proofs.Lists.{first_or}
 use Rattle.wrapper_meaning.proofs.Permutations.{same_blocks_are_permuted}
-use Rattle.wrapper_run.specs.Honest as landed
+use Rattle.wrapper_run.specs.Honest as narrow
 use Rattle.wrapper_run.specs.Locals.{last}
 use Rattle.wrapper_run.specs.Memory.{loaded}
 use Rattle.wrapper_run.specs.StandsFor.{IsTextBlock}
@@ -57,7 +57,7 @@ last_one : (before : List Word) (x : Word) → last (λ w. true) (before ++ x �
 last_one [] x = refl
 last_one (y ∷ before) x = ap (λ o. option_or o (Some y)) (last_one before x)
 
-writes_in : (address size : ℕ) (writes : List (ℕ × ℕ)) → WritesIn address size writes → landed.WritesIn address size writes
+writes_in : (address size : ℕ) (writes : List (ℕ × ℕ)) → WritesIn address size writes → narrow.WritesIn address size writes
 writes_in address size [] h = tt
 writes_in address size (w ∷ writes) h = (h.0.0, h.0.1, writes_in address size writes h.1)
 
@@ -102,7 +102,7 @@ new_formed (b ∷ new) live h =
     let parts = and_parts (is_block b && not (overlaps_any b live)) (list_all (λ c. is_block c && not (overlaps_any c live)) new) h in
     and_from (is_block b) (list_all is_block new) (and_parts (is_block b) (not (overlaps_any b live)) parts.0).0 (new_formed new live parts.1)
 
-text_answer : (bytes : List ℕ) (a : Answer) (c : CallPoint) → is_heap c.heap ≡ true → HonestPeer 2 (Some Shape.text) bytes a c → landed.AnswersText bytes a c
+text_answer : (bytes : List ℕ) (a : Answer) (c : CallPoint) → is_heap c.heap ≡ true → HonestPeer 2 (Some Shape.text) bytes a c → narrow.AnswersText bytes a c
 text_answer bytes a c whole peer =
     let stands : ResultInArea 2 take Shape.text bytes peer.represents.words peer.represents.blocks peer.represents.area = peer.represents.takes in
     let placed : AnswersInArea 2 (Some Shape.text) peer.result peer.writes peer.new c peer.represents.words peer.represents.area = peer.represents.placed in
@@ -132,12 +132,12 @@ text_answer bytes a c whole peer =
 
 -- 3. Any
 
--- the landed type and value of a result
+-- the value of a result, as it is told there
 abbrev pub told_result : (t : Option Simple) → Result (option_map shape_of t) → Option told_value.WitValue
 told_result None u = None
 told_result (Some t) u = Some (told t u)
 
-scalar_answer : (s : Scalar) (u : Result (Some (Shape.scalar s))) (a : Answer) (c : CallPoint) → HonestPeer 2 (Some (Shape.scalar s)) u a c → landed.HonestPeer (Some (type_of (one s))) (Some (told (one s) u)) a c
+scalar_answer : (s : Scalar) (u : Result (Some (Shape.scalar s))) (a : Answer) (c : CallPoint) → HonestPeer 2 (Some (Shape.scalar s)) u a c → narrow.HonestPeer (Some (type_of (one s))) (Some (told (one s) u)) a c
 scalar_answer s u a c peer =
     let (x, words, taken, blocks) = peer.represents.takes.0 in
     let new : peer.new ≡ [] = empty_list peer.new (λ weight. peer.represents.brings weight ∙ ap (total weight) blocks) in
@@ -145,7 +145,7 @@ scalar_answer s u a c peer =
     (x, peer.answers ∙ ap (λ r. answer.Words r peer.writes peer.new) word ∙ ap (λ w. answer.Words (Some x) w peer.new) peer.represents.placed.1 ∙ ap (answer.Words (Some x) []) new, takes s u x peer.good taken)
 
 pub peer_told : (t : Option Simple) (u : Result (option_map shape_of t)) (a : Answer) (c : CallPoint) → is_heap c.heap ≡ true → HonestPeer 2 (option_map shape_of t) u a c
-    → landed.HonestPeer (option_map type_of t) (told_result t u) a c
+    → narrow.HonestPeer (option_map type_of t) (told_result t u) a c
 peer_told None u a c whole peer =
     let new : peer.new ≡ [] = empty_list peer.new (λ weight. peer.represents.brings weight ∙ ap (total weight) peer.represents.takes.1) in
     let word : peer.result ≡ None = none_listed peer.result (sym peer.represents.takes.0 ∙ peer.represents.placed.0) in

@@ -21,7 +21,7 @@ use Rattle.wrapper_meaning.specs.Value.{Parts, Result}
 use Rattle.wrapper_run.specs.Areas.{areas, due, needs_area, text_area}
 use Rattle.meaning_ties.specs.Simple.{Simple, is_type, one, scalar_type, shape_of, shapes_of, string, type_of}
 use Rattle.meaning_ties.proofs.Scalars.{same_shape}
-use Rattle.wrapper_faithful.specs.Landed.{IsSimple, IsType, simple}
+use Rattle.wrapper_faithful.specs.Ties.{IsSimple, IsType, simple}
 use Rattle.wrapper_faithful.specs.Passed.{Passed, passed}
 use Rattle.wrapper_faithful.proofs.NoHandles.{all_calls_count}
 use Rattle.wrapper_faithful.specs.Resources.{Resources, calls_of}

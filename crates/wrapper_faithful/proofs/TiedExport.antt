@@ -49,9 +49,9 @@ use Rattle.wrapper_meaning.proofs.Lists.{first_or}
 use Rattle.wrapper_meaning.proofs.PostReturn.{total-append}
 use Rattle.wrapper_run.specs.Areas.{areas, due, needs_area, places, text_area}
 use Rattle.wrapper_run.specs.Entries.{ExportNames}
-use Rattle.wrapper_run.specs.ExportFaithful as landed
+use Rattle.wrapper_run.specs.ExportFaithful as narrow
 use Rattle.wrapper_run.specs.Faithful.{fits_area, param_types}
-use Rattle.wrapper_run.specs.Honest as landed_honest
+use Rattle.wrapper_run.specs.Honest as narrow_honest
 use Rattle.wrapper_run.specs.Memory.{loaded}
 use Rattle.wrapper_run.specs.Owning.{listed}
 use Rattle.wrapper_run.specs.Represents as told_words
@@ -66,7 +66,7 @@ use Rattle.meaning_ties.proofs.Scalars.{same_given_word, same_rust, same_values}
 use Rattle.meaning_ties.proofs.TakenTexts.{places-append, taken_words_are_told}
 use Rattle.wrapper_faithful.specs.Export.{IsExportFaithful, RunOfExport}
 use Rattle.wrapper_faithful.specs.KeptHeaps.{LeavesHeap}
-use Rattle.wrapper_faithful.specs.Landed.{ExportIsTied, ExportFits, IsSimple, ReturnsArea, simple}
+use Rattle.wrapper_faithful.specs.Ties.{ExportIsTied, ExportFits, IsSimple, ReturnsArea, simple}
 use Rattle.wrapper_faithful.specs.Resources.{Resources, calls_of}
 use Rattle.wrapper_faithful.proofs.AreaWords.{address_stands, length_stands}
 use Rattle.wrapper_faithful.proofs.FormedHeaps.{formed}
@@ -86,7 +86,7 @@ words_short (one s ∷ ts) vs words blocks (front, back, first, rest, says, othe
 words_short (string ∷ ts) vs words blocks (front, back, first, rest, says, others, all, own) = (omega (says.buffer.bounded, arith), words_short ts vs.1 back rest others)
 
 caller_told : (f : Function) (ts : List Simple) (vs : Parts (shapes_of ts)) (words : List Word) (heap : Heap) → param_types f ≡ map type_of ts
-    → (c : HonestCaller 2 (shapes_of ts) vs words heap) → PartsSay 2 take (shapes_of ts) vs words c.blocks → landed.Taken f (told_all ts vs) words (places c.blocks) heap
+    → (c : HonestCaller 2 (shapes_of ts) vs words heap) → PartsSay 2 take (shapes_of ts) vs words c.blocks → narrow.Taken f (told_all ts vs) words (places c.blocks) heap
 caller_told f ts vs words heap types c says = record {
   good = subst (λ tys. told_value.AreValues tys (told_all ts vs)) (sym types) (are_values ts vs c.good (words_short ts vs words c.blocks says));
   takes = subst (λ tys. told_words.TakesAll heap tys (told_all ts vs) words (places c.blocks)) (sym types)
@@ -123,7 +123,7 @@ own_places (string ∷ ts) vs rs own (r, others, first, rest, is, here, there, a
     ap text_blocks is ∙ ap₂ (λ a b. a ++ b) (text_place vs.0 r first here) (own_places ts vs.1 others rest there) ∙ sym (places-append first rest) ∙ ap places (sym all)
 
 call_told : (target : Target) (f : Function) (ts : List Simple) (vs : Parts (shapes_of ts)) (words : List Word) (heap : Heap) (run : Run) → param_types f ≡ map type_of ts
-    → (c : HonestCaller 2 (shapes_of ts) vs words heap) → AreShort ts vs → landed.CallsMethod target f (told_all ts vs) (places c.blocks) heap run
+    → (c : HonestCaller 2 (shapes_of ts) vs words heap) → AreShort ts vs → narrow.CallsMethod target f (told_all ts vs) (places c.blocks) heap run
     → CallsOnce (CallsExport 2 target (shapes_of ts) vs heap c.blocks) run.calls
 call_told target f ts vs words heap run types c short call =
     let (own, stand, inside) = owned_arguments_stand heap ts vs call.values short (subst (λ tys. StandAllOwned heap tys (told_all ts vs) call.values) types call.stands) in
@@ -185,7 +185,7 @@ export_asked results (Some string) h = texts_asked results h
 
 -- 4. The answer
 
-answer_told : (t : Option Simple) (v : Result (option_map shape_of t)) (a : Answer) (h : HonestImplementation 2 (option_map shape_of t) v a) → landed_honest.HonestImplementation (option_map type_of t) (told_result t v) a × ShortResult t v
+answer_told : (t : Option Simple) (v : Result (option_map shape_of t)) (a : Answer) (h : HonestImplementation 2 (option_map shape_of t) v a) → narrow_honest.HonestImplementation (option_map type_of t) (told_result t v) a × ShortResult t v
 answer_told None v a h = ((h.heap, h.answers ∙ ap (λ r. answer.Value r h.heap) h.stands.0), tt)
 answer_told (Some t) v a h =
     let (r, is, stands) = h.stands in
@@ -288,7 +288,7 @@ same_answer r s g h e =
     (one, two)
 
 done_told : (f : Function) (t : Option Simple) (v : Result (option_map shape_of t)) (choices : Choices) (a : Answer) (run : Run) (c : CallPoint) → f.result ≡ option_map type_of t → run.calls ≡ c ∷ [] → is_heap run.heap ≡ true
-    → (h : HonestImplementation 2 (option_map shape_of t) v a) → (needs_area f.result ≡ true → ReturnsArea choices.list run) → landed.CarriesOut f (told_result t v) choices a run
+    → (h : HonestImplementation 2 (option_map shape_of t) v a) → (needs_area f.result ≡ true → ReturnsArea choices.list run) → narrow.CarriesOut f (told_result t v) choices a run
     → IsDone (simple_bill t) run.calls (GivesExport 2 (simple_bill t) choices.list (option_map shape_of t) v h.heap h.own) run
 done_told f t v choices a run c result once whole h returns out =
     let made : run.requests ≡ asked t = out.requests ∙ ap due result ∙ due_asked t in
@@ -339,46 +339,46 @@ export_billed results ts vs t v shares =
 taken_words : (ts : List Simple) (vs : Parts (shapes_of ts)) (words : List Word) (blocks : List Block) → are_indirect (shapes_of ts) ≡ false → TakesArguments 2 (shapes_of ts) vs words blocks → PartsSay 2 take (shapes_of ts) vs words blocks
 taken_words ts vs words blocks few h = subst (λ q. MatchBool q (TakesRecord 2 (shapes_of ts) vs words blocks) (PartsSay 2 take (shapes_of ts) vs words blocks)) few h
 
--- what the landed claim says of a run
-met : (names : ExportNames) (tree : Tree) (nth : ℕ) (f : Function) (ts : List Simple) (t : Option Simple) (x : RunOfExport (simple ts t) tree nth) → IsSimple f ts t → landed.IsExportFaithful names tree nth f
-    → landed.MeetsCall names.method f (told_all ts x.values) (places x.caller.blocks) x.heap x.choices x.answer x.run
+-- what the narrow claim says of a run
+met : (names : ExportNames) (tree : Tree) (nth : ℕ) (f : Function) (ts : List Simple) (t : Option Simple) (x : RunOfExport (simple ts t) tree nth) → IsSimple f ts t → narrow.IsExportFaithful names tree nth f
+    → narrow.MeetsCall names.method f (told_all ts x.values) (places x.caller.blocks) x.heap x.choices x.answer x.run
 met names tree nth f ts t x h faithful =
     faithful.carries x.form (told_all ts x.values) x.words (places x.caller.blocks) x.heap x.choices x.answer x.run x.ran
     (caller_told f ts x.values x.words x.heap h.params x.caller (taken_words ts x.values x.words x.caller.blocks h.few x.caller.takes))
 
-calls_told : (names : ExportNames) (tree : Tree) (nth : ℕ) (f : Function) (ts : List Simple) (t : Option Simple) (x : RunOfExport (simple ts t) tree nth) → IsSimple f ts t → landed.IsExportFaithful names tree nth f
+calls_told : (names : ExportNames) (tree : Tree) (nth : ℕ) (f : Function) (ts : List Simple) (t : Option Simple) (x : RunOfExport (simple ts t) tree nth) → IsSimple f ts t → narrow.IsExportFaithful names tree nth f
     → CallsOnce (CallsExport 2 names.method (shapes_of ts) x.values x.heap x.caller.blocks) x.run.calls
 calls_told names tree nth f ts t x h faithful =
     let says = taken_words ts x.values x.words x.caller.blocks h.few x.caller.takes in
     call_told names.method f ts x.values x.words x.heap x.run h.params x.caller (words_short ts x.values x.words x.caller.blocks says) (met names tree nth f ts t x h faithful).calls
 
 ends_told : (names : ExportNames) (tree : Tree) (nth : ℕ) (f : Function) (ts : List Simple) (t : Option Simple) (x : RunOfExport (simple ts t) tree nth) (v : Result (option_map shape_of t)) → IsSimple f ts t
-    → landed.IsExportFaithful names tree nth f → ExportFits f tree nth (simple ts t) → (honest : HonestImplementation 2 (option_map shape_of t) v x.answer)
+    → narrow.IsExportFaithful names tree nth f → ExportFits f tree nth (simple ts t) → (honest : HonestImplementation 2 (option_map shape_of t) v x.answer)
     → Ends (simple_bill t) x.choices.list x.run.calls (GivesExport 2 (simple_bill t) x.choices.list (option_map shape_of t) v honest.heap honest.own) x.run
 ends_told names tree nth f ts t x v h faithful closed honest =
     by_end (meets.ends (told_result t v) (subst (λ r. told_value.IsResult r (told_result t v)) (sym h.answer) (result_good t v honest.good told.1))
-    (subst (λ r. landed_honest.HonestImplementation r (told_result t v) x.answer) (sym h.answer) told.0))
+    (subst (λ r. narrow_honest.HonestImplementation r (told_result t v) x.answer) (sym h.answer) told.0))
   where
-    meets : landed.MeetsCall names.method f (told_all ts x.values) (places x.caller.blocks) x.heap x.choices x.answer x.run
+    meets : narrow.MeetsCall names.method f (told_all ts x.values) (places x.caller.blocks) x.heap x.choices x.answer x.run
     meets = met names tree nth f ts t x h faithful
 
-    told : landed_honest.HonestImplementation (option_map type_of t) (told_result t v) x.answer × ShortResult t v
+    told : narrow_honest.HonestImplementation (option_map type_of t) (told_result t v) x.answer × ShortResult t v
     told = answer_told t v x.answer honest
 
     whole : is_heap x.run.heap ≡ true
     whole = (export_keeps_heap tree nth x.words x.heap x.choices x.answer x.form x.run x.caller.formed (subst LeavesHeap (sym honest.answers) honest.formed) x.ran).end
 
-    by_end : landed.CarriesOut f (told_result t v) x.choices x.answer x.run ⊎ landed.MissesStatic f x.choices x.answer x.run
+    by_end : narrow.CarriesOut f (told_result t v) x.choices x.answer x.run ⊎ narrow.MissesStatic f x.choices x.answer x.run
         → Ends (simple_bill t) x.choices.list x.run.calls (GivesExport 2 (simple_bill t) x.choices.list (option_map shape_of t) v honest.heap honest.own) x.run
     by_end (inl out) =
         subst (λ st. EndsBy st (simple_bill t) x.choices.list x.run.calls (GivesExport 2 (simple_bill t) x.choices.list (option_map shape_of t) v honest.heap honest.own) x.run) (sym out.done)
-        (done_told f t v x.choices x.answer x.run (record { target = names.method; words = []; values = meets.calls.values; heap = x.heap }) h.answer meets.calls.once whole honest (closed.area x out.done) out)
+        (done_told f t v x.choices x.answer x.run (record { target = names.method; words = []; values = meets.calls.values; heap = x.heap }) h.answer meets.calls.once whole honest (closed.area x v honest out.done) out)
     by_end (inr missed) =
         subst (λ st. EndsBy st (simple_bill t) x.choices.list x.run.calls (GivesExport 2 (simple_bill t) x.choices.list (option_map shape_of t) v honest.heap honest.own) x.run) (sym missed.stopped)
         (missed_told t x.choices x.run (sym (ap needs_area h.answer) ∙ missed.needed) (subst (λ (g : Heap). fits_area x.choices.list g ≡ false) (sym missed.kept) missed.misfit) (missed.requests ∙ ap due h.answer ∙ due_asked t) missed.silent.0 missed.silent.1)
 
 simple_tied : (resources : Resources) (names : ExportNames) (results : List (Option Simple)) (tree : Tree) (nth : ℕ) (f : Function) (ts : List Simple) (t : Option Simple) → IsSimple f ts t → Contains results t
-    → landed.IsExportFaithful names tree nth f → ExportFits f tree nth (simple ts t) → IsExportFaithful resources names (map (λ r. option_map shape_of r) results) tree nth (simple ts t)
+    → narrow.IsExportFaithful names tree nth f → ExportFits f tree nth (simple ts t) → IsExportFaithful resources names (map (λ r. option_map shape_of r) results) tree nth (simple ts t)
 simple_tied resources names results tree nth f ts t h shares faithful closed = record {
   number = faithful.number;
   wrapper = faithful.wrapper;

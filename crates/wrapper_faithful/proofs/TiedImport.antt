@@ -36,9 +36,9 @@ use Rattle.wrapper_meaning.specs.StandsFor.{ArgumentsStand, ResultStands}
 use Rattle.wrapper_meaning.specs.Value.{Parts, Result}
 use Rattle.wrapper_meaning.proofs.Permutations.{same_blocks_are_permuted}
 use Rattle.wrapper_run.specs.Areas.{areas, due, needs_area, places, pointers, text_area}
-use Rattle.wrapper_run.specs.Faithful as landed
+use Rattle.wrapper_run.specs.Faithful as narrow
 use Rattle.wrapper_run.specs.Faithful.{fits_area, param_types}
-use Rattle.wrapper_run.specs.Honest as landed_honest
+use Rattle.wrapper_run.specs.Honest as narrow_honest
 use Rattle.wrapper_run.specs.Places.{area_block}
 use Rattle.wrapper_run.specs.Represents.{LendsAll}
 use Rattle.wrapper_run.specs.Run.{import_run}
@@ -50,7 +50,7 @@ use Rattle.meaning_ties.proofs.LentTexts.{arguments_are_told, same_lent_words}
 use Rattle.meaning_ties.proofs.OwnedTexts.{result_stands_for}
 use Rattle.meaning_ties.proofs.Scalars.{same_values}
 use Rattle.wrapper_faithful.specs.Import.{AnswersHonestly, IsFaithful, RunOfImport}
-use Rattle.wrapper_faithful.specs.Landed.{ImportIsTied, ImportFits, IsSimple, simple}
+use Rattle.wrapper_faithful.specs.Ties.{ImportIsTied, ImportFits, IsSimple, simple}
 use Rattle.wrapper_faithful.specs.Resources.{Resources, calls_of}
 use Rattle.wrapper_faithful.proofs.HonestPeers.{peer_short, peer_told, told_result}
 use Rattle.wrapper_faithful.proofs.KeptHeaps.{import_keeps_heap}
@@ -64,7 +64,7 @@ are_values [] vs listed short = tt
 are_values (t ∷ ts) vs listed short = ((same_values t vs.0).0 (listed.0, short.0), are_values ts vs.1 listed.1 short.1)
 
 given_told : (f : Function) (ts : List Simple) (vs : Parts (shapes_of ts)) (args : List RustValue) (heap : Heap) (own : List Block) → param_types f ≡ map type_of ts → is_heap heap ≡ true
-    → AreListed (shapes_of ts) vs → ArgumentsStand 2 heap.blocks (shapes_of ts) vs args own → landed.Given f (told_all ts vs) args heap
+    → AreListed (shapes_of ts) vs → ArgumentsStand 2 heap.blocks (shapes_of ts) vs args own → narrow.Given f (told_all ts vs) args heap
 given_told f ts vs args heap own types whole listed stand =
     let told = arguments_are_told heap ts vs args own whole stand in
     record {
@@ -111,7 +111,7 @@ area_named (Some (one s)) choices area placed = ap pointers (no_place area (plac
 area_named (Some string) choices area placed = refl
 
 call_told : (target : Target) (f : Function) (ts : List Simple) (t : Option Simple) (vs : Parts (shapes_of ts)) (heap : Heap) (choices : Choices) (c : CallPoint) → IsSimple f ts t → AreShort ts vs
-    → is_heap c.heap ≡ true → AllByRecursion IsNear c.words → (needs_area f.result ≡ true → fits_area choices.list heap ≡ true) → landed.CallsImport target f (told_all ts vs) heap choices c
+    → is_heap c.heap ≡ true → AllByRecursion IsNear c.words → (needs_area f.result ≡ true → fits_area choices.list heap ≡ true) → narrow.CallsImport target f (told_all ts vs) heap choices c
     → CallsImport 2 target (shapes_of ts) vs (option_map shape_of t) heap choices.list c
 call_told target f ts t vs heap choices c h short whole near fits call =
     let placed : places call.area ≡ places (areas (option_map type_of t) choices.list) = subst (λ r. places call.area ≡ places (areas r choices.list)) h.answer call.placed in
@@ -174,7 +174,7 @@ answered_short (Some t) u a c peer = peer_short t u a c peer
 
 -- a run that is done
 done_told : (f : Function) (ts : List Simple) (t : Option Simple) (vs : Parts (shapes_of ts)) (u : Result (option_map shape_of t)) (args : List RustValue) (heap : Heap) (own : List Block) (run : Run) (c : CallPoint)
-    → IsSimple f ts t → run.calls ≡ c ∷ [] → own ≡ [] → is_heap run.heap ≡ true → ShortResult t u → IsNearValue run.value → landed.Carries f (told_result t u) heap run
+    → IsSimple f ts t → run.calls ≡ c ∷ [] → own ≡ [] → is_heap run.heap ≡ true → ShortResult t u → IsNearValue run.value → narrow.Carries f (told_result t u) heap run
     → IsDone (simple_bill t) run.calls (GivesImport 2 false (option_map shape_of t) u args heap own) run
 done_told f ts t vs u args heap own run c h once nothing whole short near carried =
     let made : run.requests ≡ asked t = carried.requests ∙ ap due h.answer ∙ due_asked t in
@@ -213,7 +213,7 @@ abbrev CallOf : (target : Target) (ts : List Simple) (t : Option Simple) {tree :
 CallOf target ts t x = CallsImport 2 target (shapes_of ts) x.given.values (option_map shape_of t) x.given.heap x.choices.list
 
 calls_told : (target : Target) (tree : Tree) (nth : ℕ) (f : Function) (ts : List Simple) (t : Option Simple) (x : RunOfImport (simple ts t) tree nth) → IsSimple f ts t → ImportFits f tree nth (simple ts t)
-    → landed.CallsOnce target f (told_all ts x.given.values) x.given.heap x.choices x.answer x.run ⊎ landed.MissesArea f x.given.heap x.choices x.run → CallsOnce (CallOf target ts t x) x.run.calls
+    → narrow.CallsOnce target f (told_all ts x.given.values) x.given.heap x.choices x.answer x.run ⊎ narrow.MissesArea f x.given.heap x.choices x.run → CallsOnce (CallOf target ts t x) x.run.calls
 calls_told target tree nth f ts t x h closed (inr missed) = inl missed.calls
 calls_told target tree nth f ts t x h closed (inl once) =
     let told = arguments_are_told x.given.heap ts x.given.values x.given.args x.given.own x.given.formed x.given.stand in
@@ -225,7 +225,7 @@ calls_told target tree nth f ts t x h closed (inl once) =
     )
 
 ends_told : (target : Target) (tree : Tree) (nth : ℕ) (f : Function) (ts : List Simple) (t : Option Simple) (x : RunOfImport (simple ts t) tree nth) (u : Result (option_map shape_of t)) → IsSimple f ts t → ImportFits f tree nth (simple ts t)
-    → AnswersHonestly (simple ts t) u x.answer x.run.calls → landed.CallsOnce target f (told_all ts x.given.values) x.given.heap x.choices x.answer x.run ⊎ landed.MissesArea f x.given.heap x.choices x.run
+    → AnswersHonestly (simple ts t) u x.answer x.run.calls → narrow.CallsOnce target f (told_all ts x.given.values) x.given.heap x.choices x.answer x.run ⊎ narrow.MissesArea f x.given.heap x.choices x.run
     → Ends (simple_bill t) x.choices.list x.run.calls (GivesImport 2 false (option_map shape_of t) u x.given.args x.given.heap x.given.own) x.run
 ends_told target tree nth f ts t x u h closed honest (inr missed) =
     let made : x.run.requests ≡ asked t = missed.requests ∙ ap due h.answer ∙ due_asked t in
@@ -237,12 +237,12 @@ ends_told target tree nth f ts t x u h closed honest (inl once) =
     let at : HonestPeer 2 (option_map shape_of t) u x.answer once.point = (subst (AllByRecursion (HonestPeer 2 (option_map shape_of t) u x.answer)) once.once honest.honest).0 in
     let short = answered_short t u x.answer once.point at in
     let point_formed = call_formed tree nth x.given.args x.given.heap x.choices x.answer x.form x.run once.point x.given.formed x.ran once.once in
-    let carried : landed.Carries f (told_result t u) x.given.heap x.run = once.ends (told_result t u) (subst (λ r. told_value.IsResult r (told_result t u)) (sym h.answer) (is_result t u honest.good short))
-    (subst (λ r. landed_honest.HonestPeer r (told_result t u) x.answer once.point) (sym h.answer) (peer_told t u x.answer once.point point_formed at)) in
+    let carried : narrow.Carries f (told_result t u) x.given.heap x.run = once.ends (told_result t u) (subst (λ r. told_value.IsResult r (told_result t u)) (sym h.answer) (is_result t u honest.good short))
+    (subst (λ r. narrow_honest.HonestPeer r (told_result t u) x.answer once.point) (sym h.answer) (peer_told t u x.answer once.point point_formed at)) in
     subst (λ st. EndsBy st (simple_bill t) x.choices.list x.run.calls (GivesImport 2 false (option_map shape_of t) u x.given.args x.given.heap x.given.own) x.run) (sym carried.done)
     (done_told f ts t x.given.values u x.given.args x.given.heap x.given.own x.run once.point h once.once told.2 whole.end short (closed.answer_near x u honest) carried)
 
-simple_tied : (resources : Resources) (target : Target) (tree : Tree) (nth : ℕ) (f : Function) (ts : List Simple) (t : Option Simple) → IsSimple f ts t → landed.IsFaithful target tree nth f → ImportFits f tree nth (simple ts t)
+simple_tied : (resources : Resources) (target : Target) (tree : Tree) (nth : ℕ) (f : Function) (ts : List Simple) (t : Option Simple) → IsSimple f ts t → narrow.IsFaithful target tree nth f → ImportFits f tree nth (simple ts t)
     → IsFaithful resources target false tree nth (simple ts t)
 simple_tied resources target tree nth f ts t h faithful closed = record {
   there = faithful.there;
@@ -254,7 +254,7 @@ simple_tied resources target tree nth f ts t h faithful closed = record {
   drops = λ x u call honest done once. (nothing_is_dropped resources (simple ts t) x.given.values u call x.run.calls (none_of_result ts t) (sym (all_calls resources ts t x.run) ∙ once)).0;
 }
   where
-    carried : (x : RunOfImport (simple ts t) tree nth) → landed.CallsOnce target f (told_all ts x.given.values) x.given.heap x.choices x.answer x.run ⊎ landed.MissesArea f x.given.heap x.choices x.run
+    carried : (x : RunOfImport (simple ts t) tree nth) → narrow.CallsOnce target f (told_all ts x.given.values) x.given.heap x.choices x.answer x.run ⊎ narrow.MissesArea f x.given.heap x.choices x.run
     carried x =
         faithful.carries x.form (told_all ts x.given.values) x.given.args x.given.heap x.choices x.answer x.run x.ran (given_told f ts x.given.values x.given.args x.given.heap x.given.own h.params x.given.formed x.given.good.0 x.given.stand)
 

@@ -23,11 +23,11 @@ use Rattle.wrapper_run.specs.Areas.{needs_area}
 use Rattle.wrapper_run.specs.Memory.{block_at, loaded}
 use Rattle.wrapper_run.specs.Memory as memory
 use Rattle.wrapper_run.specs.Represents as told_words
-use Rattle.wrapper_run.specs.Returned as landed
+use Rattle.wrapper_run.specs.Returned as narrow
 use Rattle.wrapper_run.specs.Value as told_value
 use Rattle.meaning_ties.specs.Simple.{Simple, one, shapes_of, string, type_of}
 use Rattle.meaning_ties.proofs.Blocks.{same_bytes}
-use Rattle.wrapper_faithful.specs.Landed.{simple}
+use Rattle.wrapper_faithful.specs.Ties.{simple}
 use Rattle.wrapper_faithful.specs.Passed.{Passed}
 use Rattle.wrapper_faithful.specs.Returned.{IsReturned, IsUnreturned, Returns, RunOfPostReturn}
 use Rattle.wrapper_faithful.proofs.AreaWords.{address_loaded, length_loaded}
@@ -48,7 +48,7 @@ text_there heap p (x ∷ bytes) blocks f inside h =
 
 -- what the text's block leaves when it goes
 text_gone : (heap : Heap) (p : ℕ) (bytes : List ℕ) (blocks : List Block) → AreFormed heap.blocks → AllIn heap.blocks blocks → IsBuffer give true p (length bytes) text_extent (TextHolds bytes) blocks
-    → SameItems (landed.without_all (told_words.block_of p bytes) heap.blocks ++ blocks) heap.blocks
+    → SameItems (narrow.without_all (told_words.block_of p bytes) heap.blocks ++ blocks) heap.blocks
 text_gone heap p [] blocks f inside h = λ weight. ap (total weight) (ap (λ bs. heap.blocks ++ bs) h.placed.1 ∙ append-nil heap.blocks)
 text_gone heap p (x ∷ bytes) blocks f inside h =
     let held = h.placed in
@@ -57,7 +57,7 @@ text_gone heap p (x ∷ bytes) blocks f inside h =
     let there = found_at heap.blocks b p (length (x ∷ bytes)) f (subst (AllIn heap.blocks) whole inside).0 held.held.starts (omega (held.held.exact, arith)) in
     λ weight. ap (total weight) (ap (λ bs. memory.without p (length (x ∷ bytes)) heap.blocks ++ bs) whole) ∙ gone heap.blocks b p (length (x ∷ bytes)) there weight
 
-frees_told : (name : Bytes) (tree : Tree) (nth : ℕ) (f : Function) (params : Shapes) → f.result ≡ Some wit.String → landed.IsReturned name tree nth f
+frees_told : (name : Bytes) (tree : Tree) (nth : ℕ) (f : Function) (params : Shapes) → f.result ≡ Some wit.String → narrow.IsReturned name tree nth f
     → (x : RunOfPostReturn (record { params = params; result = Some Shape.text }) tree nth) → FreesWords x.blocks x.heap x.run
 frees_told name tree nth f params result returned x =
     let stands : ResultInArea 2 give Shape.text x.given.value x.words x.blocks x.given.area = x.given.represents in
@@ -97,17 +97,17 @@ frees_told name tree nth f params result returned x =
         still_there (blocks ++ b ∷ others) heap (λ weight. ap (total weight) (sym (append_assoc blocks (b ∷ []) others) ∙ ap (λ a. blocks ++ a ++ others) (sym is)) ∙ sym (live weight)) b (last_in blocks others b)
 
 -- where nothing is owned
-none_told : (name : Bytes) (tree : Tree) (nth : ℕ) (f : Function) (p : Passed) → result_has_list p.result ≡ false → landed.IsUnreturned name tree nth f → Returns name tree nth p
+none_told : (name : Bytes) (tree : Tree) (nth : ℕ) (f : Function) (p : Passed) → result_has_list p.result ≡ false → narrow.IsUnreturned name tree nth f → Returns name tree nth p
 none_told name tree nth f p none h =
     subst (λ q. MatchBool q (IsReturned name tree nth p) (IsUnreturned name tree nth p)) (sym none)
     (record { missing = h.missing; unnamed = h.unnamed; owns = λ v words blocks area good gives. result_has_no_blocks 2 give p.result v words blocks area none gives })
 
-pub returned_told : (name : Bytes) (tree : Tree) (nth : ℕ) (f : Function) (ts : List Simple) (t : Option Simple) → f.result ≡ option_map type_of t → landed.Returns (needs_area f.result) name tree nth f → Returns name tree nth (simple ts t)
-returned_told name tree nth f ts None result h = none_told name tree nth f (simple ts None) refl (subst (λ r. landed.Returns (needs_area r) name tree nth f) result h)
+pub returned_told : (name : Bytes) (tree : Tree) (nth : ℕ) (f : Function) (ts : List Simple) (t : Option Simple) → f.result ≡ option_map type_of t → narrow.Returns (needs_area f.result) name tree nth f → Returns name tree nth (simple ts t)
+returned_told name tree nth f ts None result h = none_told name tree nth f (simple ts None) refl (subst (λ r. narrow.Returns (needs_area r) name tree nth f) result h)
 returned_told name tree nth f ts (Some (one s)) result h =
-    none_told name tree nth f (simple ts (Some (one s))) refl (subst (λ q. landed.Returns q name tree nth f) (no_area_scalar s) (subst (λ r. landed.Returns (needs_area r) name tree nth f) result h))
+    none_told name tree nth f (simple ts (Some (one s))) refl (subst (λ q. narrow.Returns q name tree nth f) (no_area_scalar s) (subst (λ r. narrow.Returns (needs_area r) name tree nth f) result h))
 returned_told name tree nth f ts (Some string) result h =
-    let returned : landed.IsReturned name tree nth f = subst (λ r. landed.Returns (needs_area r) name tree nth f) result h in
+    let returned : narrow.IsReturned name tree nth f = subst (λ r. narrow.Returns (needs_area r) name tree nth f) result h in
     record {
       number = returned.number;
       function = returned.function;

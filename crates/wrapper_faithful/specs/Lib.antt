@@ -1,8 +1,8 @@
 pub mod Export
 pub mod Import
 pub mod KeptHeaps
-pub mod Landed
 pub mod Laws
 pub mod Passed
 pub mod Resources
 pub mod Returned
+pub mod Ties

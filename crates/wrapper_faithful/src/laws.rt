@@ -1,5 +1,5 @@
 ghost use Rattle.wrapper_faithful.specs.KeptHeaps.{ExportKeepsHeap, ImportKeepsHeap, PostReturnKeepsHeap};
-ghost use Rattle.wrapper_faithful.specs.Landed.{ExportIsTied, ImportIsTied};
+ghost use Rattle.wrapper_faithful.specs.Ties.{ExportIsTied, ImportIsTied};
 ghost use Rattle.wrapper_faithful.specs.Laws.{AllCallsCount, NothingIsDropped, RoundLeaves, RunLeaves};
 
 /// A run from a well-formed heap shows well-formed heaps alone, whatever the tree is and whatever is answered.
