@@ -50,7 +50,7 @@ pub record RunOfImport (p : Passed) (tree : Tree) (nth : ℕ) : Type 0 where
   pub run : Run
   pub ran : import_run tree nth given.args given.heap choices answer form ≡ Some run
 
--- at each of these calls the answer represents a value
+-- the value is in range, and at each of these calls the answer represents it
 pub record AnswersHonestly (p : Passed) (u : Result p.result) (a : Answer) (calls : List CallPoint) : Type 0 where
   pub good : IsListedResult p.result u
   pub honest : AllByRecursion (HonestPeer width p.result u a) calls
