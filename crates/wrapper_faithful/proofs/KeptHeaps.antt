@@ -55,9 +55,6 @@ fitting address r blocks h =
     let two = and_parts (is_block (area_block address r)) (not (overlaps_any (area_block address r) blocks)) parts.0 in
     (two.0, not-true (overlaps_any (area_block address r) blocks) two.1)
 
-heap_of : List Block → Heap
-heap_of blocks = record { blocks = blocks }
-
 placed : (s : State) (address : ℕ) (r : Request) → is_fitting address r s.heap.blocks ≡ true → Keeps s (with_area address r s)
 placed s address r fits =
     let stands = fitting address r s.heap.blocks fits in

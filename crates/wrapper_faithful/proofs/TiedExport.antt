@@ -323,9 +323,6 @@ done_told f t v choices a run c result once whole h returns out =
 
 -- 6. Whole
 
-part_room : (ts : List Simple) (vs : Parts (shapes_of ts)) → part_requests 2 room_for (shapes_of ts) vs ≡ []
-part_room ts vs = no_requests room_for ts vs
-
 billed : (area lowered rooms : List Request) → Bill
 billed area lowered rooms = record { area = area; lowered = lowered; rooms = rooms; before = length rooms }
 
@@ -333,7 +330,7 @@ export_billed : (results : List (Option Simple)) (ts : List Simple) (vs : Parts 
     → export_bill 2 (map (λ r. option_map shape_of r) results) (shapes_of ts) vs (option_map shape_of t) v ≡ simple_bill t
 unfolding billed
 export_billed results ts vs t v shares =
-    ap₂ (λ a l. billed a l (part_requests 2 room_for (shapes_of ts) vs)) (export_asked results t shares) (no_result_requests block_for t v) ∙ ap (billed (asked t) []) (part_room ts vs)
+    ap₂ (λ a l. billed a l (part_requests 2 room_for (shapes_of ts) vs)) (export_asked results t shares) (no_result_requests block_for t v) ∙ ap (billed (asked t) []) (no_requests room_for ts vs)
 
 -- the words of parameters that are few
 taken_words : (ts : List Simple) (vs : Parts (shapes_of ts)) (words : List Word) (blocks : List Block) → are_indirect (shapes_of ts) ≡ false → TakesArguments 2 (shapes_of ts) vs words blocks → PartsSay 2 take (shapes_of ts) vs words blocks
