@@ -4,6 +4,8 @@
 #[cfg(test)]
 mod flat;
 #[cfg(test)]
+mod frees;
+#[cfg(test)]
 mod memory;
 #[cfg(test)]
 mod post_return;

@@ -15,6 +15,8 @@ pub(crate) enum Told {
     Join(usize, [u32; 3], u32),
     Store(WasmType, u32, u64, u32, u32),
     Load(WasmType, u32, bool, u64, u32, u32),
+    Free(u32, u32),
+    FreeSized(u64, u32),
 }
 
 /// The numbers of up to three places.
@@ -55,6 +57,8 @@ fn seen(step: &Step) -> Told {
             at,
             to,
         } => Told::Load(*word, *grain, *signed, at4(*offset), *at, *to),
+        Step::Free { at, length } => Told::Free(*at, *length),
+        Step::FreeSized { size, at } => Told::FreeSized(at4(*size), *at),
     }
 }
 
