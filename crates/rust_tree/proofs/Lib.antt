@@ -1,3 +1,4 @@
+pub mod AskedLemmas
 pub mod Joins
 pub mod NamedLemmas
 pub mod NamedTypeLemmas

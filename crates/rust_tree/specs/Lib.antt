@@ -1,3 +1,4 @@
+pub mod Asked
 pub mod CodeText
 pub mod DefinitionText
 pub mod ExportText

@@ -2,6 +2,7 @@
 #![tactic(auto)]
 
 mod area;
+mod asked;
 mod bindings;
 mod export;
 mod expr;
@@ -21,6 +22,7 @@ mod well_named;
 mod wrappers;
 
 pub use area::{ReturnArea, StaticArea};
+pub use asked::asked_in;
 pub use bindings::Bindings;
 pub use export::{CallBlock, CoreParam, ExportFn, PostReturnFn};
 pub use expr::{CastType, Expr};
