@@ -50,15 +50,15 @@ use Rattle.wrapper_run.proofs.QuietSteps.{quiet_as_ptr, quiet_bool, quiet_boxed,
 use Rattle.wrapper_run.proofs.StepLemmas.{Quiet, bool_gives, call_gives, gives_plain, local_gives, quiet_bind, quiet_drop, quiet_give, quiet_leave, quiet_local, quiet_pure, quiet_runtime, quiet_then, runtime_gives}
 use Rattle.wrapper_run.proofs.TakeLemmas.{answered-empty, answered-text}
 use Rattle.rust_gen.specs.declared.scope.Scope.{Scope}
-use Rattle.rust_gen.specs.Body.{runtime_call, runtime_path}
+use Rattle.rust_gen.specs.Body.{runtime_call, runtime_path, lowering_item}
 use Rattle.rust_gen.specs.ExportBody.{DeclaresValue, IsExportBody, IsExportWritten, LowersBack, LowersResult, export_scope, forget_path, text_given, text_stored, value_local, value_name}
 use Rattle.rust_gen.specs.Exported.{export_params, export_result, guest_name, static_area, trait_fn}
 use Rattle.rust_gen.specs.Printed.{core_type, param_words, printed_result, printed_type}
-use Rattle.rust_gen.specs.Runtime.{asked_by_export, freeing_items, lifting_items, lowering_item, lowering_items, returning_items}
+use Rattle.rust_tree.specs.Asked.{asked_by_block, asked_by_call, asked_by_export, asked_by_expr, asked_by_stmt, asked_by_tail}
 use Rattle.rust_gen.specs.Faithful.{export_target}
 use Rattle.rust_gen.specs.Scope.{cleanup_list, numbered, ret_area}
 use Rattle.wit_model.specs.Bytes.{Bytes}
-use Rattle.rust_gen.proofs.AskedLemmas.{Found, found-first, found-left, found-right}
+use Rattle.rust_gen.proofs.AskedLemmas.{Found, found-called, found-left, found-right}
 use Rattle.rust_gen.proofs.GiveLemmas as Give
 use Rattle.rust_gen.proofs.GiveLemmas.{GivesOut, gives_out}
 use Rattle.rust_gen.proofs.LiftLemmas.{LiftedAll, arg_names, lift_all, no_text, owns_block, same-words, typed-words}
@@ -134,7 +134,7 @@ back-bool b w name before stmts e s (t, after, d, is, tail) at =
     }
 
 back-converted : (ty : WitType) (v : Scalar) (w : Setting) (name : Bytes) (stmts : List Stmt) (e : Expr) (s : State) → ty ≢ wit.Bool → IsScalar ty v → (stmts ≡ []) × (e ≡ runtime_call (lowering_item ty) (expr.Local name))
-    → runtime_item_named w.items (item_name (lowering_item ty)) ≡ Some (lowering_item ty) → value_of (local_named name s.locals) ≡ Some (val.Value (rust_value ty v)) → LoweredBack ty v w stmts e s
+    → Found w.items (asked_by_expr e) → value_of (local_named name s.locals) ≡ Some (val.Value (rust_value ty v)) → LoweredBack ty v w stmts e s
 back-converted ty v w name stmts e s no_bool good (is, tail) found at =
     let l = lent ty v good no_bool in
     let i = lowering_item ty in
@@ -147,12 +147,12 @@ back-converted ty v w name stmts e s no_bool good (is, tail) found at =
       gives =
           ap (λ e. eval w e s) tail
           ∙ call_gives w (runtime_path i) (expr.Local name ∷ []) (given ∷ []) s (local_gives w name given s at (owned-scalar ty v), tt)
-          ∙ runtime_gives w (runtime_path i) (item_name i) i given l.word s (calls_runtime i) found l.converts;
+          ∙ runtime_gives w (runtime_path i) (item_name i) i given l.word s (calls_runtime i) (found-called w.items i (expr.Local name ∷ []) (subst (λ e. Found w.items (asked_by_expr e)) tail found)) l.converts;
       lends = l.lends;
       is_word = l.is_word;
     }
 
-lowers_back : (ty : WitType) (v : Scalar) (w : Setting) (name : Bytes) (before : Scope) (stmts : List Stmt) (e : Expr) (s : State) → IsScalar ty v → LowersBack ty name before stmts e → Found w.items (lowering_items ty)
+lowers_back : (ty : WitType) (v : Scalar) (w : Setting) (name : Bytes) (before : Scope) (stmts : List Stmt) (e : Expr) (s : State) → IsScalar ty v → LowersBack ty name before stmts e → Found w.items (asked_by_expr e)
     → value_of (local_named name s.locals) ≡ Some (val.Value (rust_value ty v)) → LoweredBack ty v w stmts e s
 lowers_back wit.Bool (truth b) w name before stmts e s good l found at = back-bool b w name before stmts e s l at
 lowers_back wit.Bool (number z) w name before stmts e s good l found at = absurd (cc)
@@ -160,7 +160,7 @@ lowers_back wit.Bool (f32 bits) w name before stmts e s good l found at = absurd
 lowers_back wit.Bool (f64 bits) w name before stmts e s good l found at = absurd (cc)
 lowers_back wit.Bool (char c) w name before stmts e s good l found at = absurd (cc)
 lowers_back wit.String v w name before stmts e s good l found at = absurd (no_text wit.String v good refl)
-lowers_back ty v w name before stmts e s good l found at = back-converted ty v w name stmts e s (λ h. cc) good l (found-first w.items (lowering_item ty) [] found) at
+lowers_back ty v w name before stmts e s good l found at = back-converted ty v w name stmts e s (λ h. cc) good l found at
 
 -- behind the call: its scope ends, the value is kept, and it is made a word
 
@@ -234,7 +234,7 @@ finishes_unit w outer more t before rest s (n, q) (heap, a) split plain_outer pl
     }
 
 finishes_scalar : (w : Setting) (outer more : List Local) (ty : WitType) (x : Scalar) (t : ℕ) (before : Scope) (rest : Block) (s : State) → LowersResult (Some ty) t before rest.stmts rest.tail
-    → Found w.items (returning_items (Some ty)) → IsScalar ty x → HonestImplementation (Some ty) (Some (scalar x)) w.answer → s.locals ≡ outer ++ more → ArePlain outer → ArePlain more
+    → Found w.items (asked_by_block rest) → IsScalar ty x → HonestImplementation (Some ty) (Some (scalar x)) w.answer → s.locals ≡ outer ++ more → ArePlain outer → ArePlain more
     → FinishesOut w outer (Some ty) (Some (scalar x)) t rest s
 unfolding bind
 finishes_scalar w outer more ty x t before rest s (e, q, l) found good (heap, _, a, is) split plain_outer plain_more =
@@ -244,7 +244,8 @@ finishes_scalar w outer more ty x t before rest s (e, q, l) found good (heap, _,
     let back : State = record left { locals = outer } in
     let held : Local = record { name = value_name t; value = Some (val.Value r) } in
     let kept : State = record back { locals = outer ++ held ∷ [] } in
-    let g = lowers_back ty x w (value_name t) before rest.stmts e kept good l found (reads-new (value_name t) (Some (val.Value r)) outer) in
+    let asks = subst (λ tail. Found w.items (asked_by_tail tail)) q (found-right w.items (flat_map asked_by_stmt rest.stmts) (asked_by_tail rest.tail) found) in
+    let g = lowers_back ty x w (value_name t) before rest.stmts e kept good l asks (reads-new (value_name t) (Some (val.Value r)) outer) in
     let ends : State = record kept { locals = g.locals } in
     let gave : w.answer ≡ answer.Value (Some r) heap = a ∙ ap (λ r. answer.Value (Some r) heap) is in
     record {
@@ -359,7 +360,7 @@ finishes_text w outer more bytes t lifted before rest s d (e, q, l) area small (
     })
 
 finishes_out : (w : Setting) (outer more : List Local) (r : Option WitType) (v : Option WitValue) (t : ℕ) (lifted before : Scope) (rest : Block) (s : State) → DeclaresValue r lifted t before
-    → LowersResult r t before rest.stmts rest.tail → Found w.items (returning_items r) → (needs_area r ≡ true → area_in w.items ≡ Some static_area) → IsResult r v → HonestImplementation r v w.answer
+    → LowersResult r t before rest.stmts rest.tail → Found w.items (asked_by_block rest) → (needs_area r ≡ true → area_in w.items ≡ Some static_area) → IsResult r v → HonestImplementation r v w.answer
     → s.locals ≡ outer ++ more → s.place ≡ None → ArePlain outer → ArePlain more → FinishesOut w outer r v t rest s ⊎ MissesOut w outer r t rest s
 finishes_out w outer more None None t lifted before rest s d l found area good h split unplaced po pm = inl (finishes_unit w outer more t before rest s l h split po pm)
 finishes_out w outer more None (Some v) t lifted before rest s d l found area good h split unplaced po pm = absurd good
@@ -430,17 +431,17 @@ quiet_finish w outer r t before rest v l =
     (λ _. quiet_then (run_block w rest) (λ x. give_and_leave w (core_answer (export_result r) x)) (quiet_result w r t before rest l) (λ x. quiet_give w (core_answer (export_result r) x))))
 
 -- what a wrapper as it is written needs of its function and of the file
-pub record FitsExport (f : Function) (w : Setting) : Type 0 where
+pub record FitsExport (f : Function) (e : ExportFn) (w : Setting) : Type 0 where
   pub distinct : is_distinct (map (λ p. p.name) (export_params f)) ≡ true
   pub method : method_named w.items guest_name (rust_ident f.name) ≡ Some (trait_fn f)
-  pub found : Found w.items (asked_by_export f)
+  pub found : Found w.items (asked_by_export e)
   pub area : needs_area f.result ≡ true → area_in w.items ≡ Some static_area
 
 none_taken : (blocks : List (ℕ × ℕ)) → AreFree blocks []
 none_taken [] = tt
 none_taken (b ∷ blocks) = (refl, none_taken blocks)
 
-module _ (f : Function) (e : ExportFn) (written : IsExportWritten f e) (w : Setting) (fits : FitsExport f w) (vs : List WitValue) (words : List Word) (own : List (ℕ × ℕ)) (heap : Heap) (choices : Choices)
+module _ (f : Function) (e : ExportFn) (written : IsExportWritten f e) (w : Setting) (fits : FitsExport f e w) (vs : List WitValue) (words : List Word) (own : List (ℕ × ℕ)) (heap : Heap) (choices : Choices)
     (good : AreValues (param_types f) vs) (takes : TakesAll heap (param_types f) vs words own) (apart : are_distinct own ≡ true) where
   abbrev begin : State
   begin = start_export e words heap choices
@@ -459,10 +460,14 @@ module _ (f : Function) (e : ExportFn) (written : IsExportWritten f e) (w : Sett
       subst (λ ns. ReadsAll names (map val.Word words) (bound ns (map val.Word words))) (sym names_are)
       (reads_bound names (map val.Word words) fits.distinct (same-words 0 f.params vs heap words own good takes))
 
+  -- what the call asks for
+  asks : Found w.items (flat_map asked_by_stmt body.lifting ++ flat_map asked_by_expr body.arguments)
+  asks = subst (λ c. Found w.items (asked_by_call c)) body.is (found-left w.items (asked_by_call e.call) (asked_by_block e.rest) fits.found)
+
   lifting : LiftedAll w begin 0 f.params vs words own (export_scope f) body.lifted body.lifting body.arguments
   lifting =
       lift_all w begin 0 f.params vs words own (export_scope f) body.lifted body.lifting body.arguments body.lifts good takes
-      (found-left w.items (flat_map (λ p. lifting_items (Some p.ty)) f.params) (returning_items f.result ++ freeing_items f.result) fits.found)
+      (found-left w.items (flat_map asked_by_stmt body.lifting) (flat_map asked_by_expr body.arguments) asks)
       (all-used [] names (cleanup_list ∷ ret_area ∷ [])) arguments (none_taken own) apart
 
   plain : ArePlain begin.locals
@@ -541,7 +546,7 @@ module _ (f : Function) (e : ExportFn) (written : IsExportWritten f e) (w : Sett
   unfolding run
   carries_out v is_result honest =
       go (finishes_out w begin.locals lifting.left f.result v body.number body.lifted body.called e.rest recorded body.calls body.lowers
-      (found-left w.items (returning_items f.result) (freeing_items f.result) (found-right w.items (flat_map (λ p. lifting_items (Some p.ty)) f.params) (returning_items f.result ++ freeing_items f.result) fits.found))
+      (found-right w.items (asked_by_call e.call) (asked_by_block e.rest) fits.found)
       fits.area is_result honest (append-nil (begin.locals ++ lifting.left)) refl plain lifting.plain)
     where
       go : FinishesOut w begin.locals f.result v body.number e.rest recorded ⊎ MissesOut w begin.locals f.result body.number e.rest recorded

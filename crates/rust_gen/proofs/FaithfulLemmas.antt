@@ -20,19 +20,20 @@ use Rattle.wrapper_run.specs.Faithful.{CallsOnce, IsFaithful, MissesArea}
 use Rattle.wrapper_run.specs.Setting.{Setting}
 use Rattle.wrapper_run.specs.Run.{import_nth, import_run, run_item, import_at, runtime_item_named, setting_of}
 use Rattle.rust_gen.specs.Body.{IsWritten}
-use Rattle.rust_gen.specs.Bound.{Binds, Parts, export_items}
+use Rattle.rust_gen.specs.Bound.{Binds, Parts, export_items, own_items}
 use Rattle.rust_gen.specs.Cause.{is_well_named, is_built}
 use Rattle.rust_gen.specs.DeclaredNames.{are_distinct_functions, cabi_suffix, declares_well, export_prefix, has_distinct_names}
 use Rattle.rust_gen.proofs.DeclaredLemmas.{distinct_exports, distinct_methods, distinct_params}
 use Rattle.rust_gen.specs.Faithful.{AreFaithful, export_names, import_target}
-use Rattle.rust_gen.specs.Runtime.{asked_by, asked_by_export, freeing_items, is_same_item, lifting_items, returning_items, runtime_items, runtime_module}
+use Rattle.rust_gen.specs.Runtime.{runtime_items, runtime_module}
+use Rattle.rust_tree.specs.Asked.{asked_by_block, asked_by_item, asked_by_signature, asked_in}
 use Rattle.wit_model.proofs.AllLemmas.{all_at}
 use Rattle.rust_gen.proofs.SkipLemmas.{skip-area, skip-entries, skip-export, skip-exports, skip-import, skip-method, skip-post_return, skip-post_returns, skip-runtime_item, skip-wrappers}
-use Rattle.rust_gen.proofs.AskedLemmas.{Found, among-exports, among-imports, found-right, found_all}
+use Rattle.rust_gen.proofs.AskedLemmas.{Found, found-at, found-export, found-freed, found-parts, found-return, found-right, found-wrapper, found_all}
 use Rattle.std.proofs.lemmas.Bool.{and_parts}
 use Rattle.rust_gen.proofs.RunLemmas.{Fits}
 use Rattle.rust_gen.proofs.TextLemmas.{owes_written}
-use Rattle.rust_gen.proofs.TreeLemmas.{length-places_from}
+use Rattle.rust_gen.proofs.TreeLemmas.{length-places_from, own-first}
 use Rattle.std.proofs.Common.{◌<◌, ◌≤◌, ◌&&◌, ◌||◌, ◌^◌}
 use Rattle.wrapper_run.specs.Run.{numbered}
 use Rattle.rust_gen.specs.Built.{is_built_result, is_built_type}
@@ -309,8 +310,12 @@ module _ (opts : Opts) (resolve : Resolve) (id : ℕ) (world : World) (found : s
   abbrev ts : List TypeItem
   ts = b.items.types
 
+  -- what may ask for items of `_rt`
+  abbrev own : List Item
+  own = own_items ts ws es world
+
   abbrev asked : List RuntimeItem
-  asked = runtime_items ts world
+  asked = runtime_items own
 
   abbrev behind : List Item
   behind = trait_and_macro world ++ (area_of (exported_functions world) ++ (runtime_module asked ++ last_macro world))
@@ -319,12 +324,29 @@ module _ (opts : Opts) (resolve : Resolve) (id : ℕ) (world : World) (found : s
   abbrev others : List Item
   others = map item.Import ws ++ (flat_map export_items es ++ behind)
 
+  are : tree.items ≡ map item.Type ts ++ others
+  are = b.items.are ∙ own-first ts ws es world (runtime_module asked ++ last_macro world)
+
+  -- what these ask for is found
+  asks : Found tree.items (asked_in own)
+  asks x h =
+      ap (λ is. runtime_item_named is (item_name x)) are ∙ skip-runtime_item ts others (item_name x)
+      ∙ runtime-found ws es fs fs (guest_trait fs) (world_macro world) asked (last_macro world) (item_name x) x (found_all own x h)
+
+  asks-wrappers : Found tree.items (asked_in (map item.Import ws)) × Found tree.items (asked_in (flat_map export_items es))
+  asks-wrappers =
+      let last : List Item = trait_and_macro world ++ area_of fs in
+      let exports : List Item = flat_map export_items es ++ last in
+      let wrappers = found-parts tree.items asked_by_item (map item.Import ws) exports (map item.Import ws ++ exports) refl
+      (found-parts tree.items asked_by_item (map item.Type ts) (map item.Import ws ++ exports) own refl asks).1 in
+      (wrappers.0, (found-parts tree.items asked_by_item (flat_map export_items es) last exports refl wrappers.1).0)
+
   -- the number of the first item behind these
   start : (m : ℕ) × (wrappers_from 1 (map item.Type ts ++ others) (ps ++ qs) ≡ wrappers_from m others (ps ++ qs))
   start = skip-wrappers ts others (ps ++ qs) 1
 
   wrappers_are : wrappers_of tree ≡ wrappers_from start.0 others (ps ++ qs)
-  wrappers_are = ap (λ is. wrappers_from 1 is tree.places) b.items.are ∙ ap (wrappers_from 1 (map item.Type ts ++ others)) b.places ∙ start.1
+  wrappers_are = ap (λ is. wrappers_from 1 is tree.places) are ∙ ap (wrappers_from 1 (map item.Type ts ++ others)) b.places ∙ start.1
 
   placed : map side_of (wrappers_of tree) ≡ emitted_sides world
   placed =
@@ -344,14 +366,14 @@ module _ (opts : Opts) (resolve : Resolve) (id : ℕ) (world : World) (found : s
 
     there : import_at tree nth ≡ Some (info.0.item.0, wrapper.0)
     there =
-        ap (option_and_then (numbered tree nth)) (ap (import_nth nth) b.items.are ∙ skip-import ts others nth ∙ import_nth-at ws (flat_map export_items es ++ behind) nth wrapper.0 wrapper.1)
+        ap (option_and_then (numbered tree nth)) (ap (import_nth nth) are ∙ skip-import ts others nth ∙ import_nth-at ws (flat_map export_items es ++ behind) nth wrapper.0 wrapper.1)
         ∙ ap (option_map (λ w. (w.item.0, wrapper.0))) info.1
 
-    asked-import : Found tree.items (asked_by f)
-    asked-import x h =
-        ap (λ is. runtime_item_named is (item_name x)) b.items.are ∙ skip-runtime_item ts others (item_name x)
-        ∙ runtime-found ws es fs fs (guest_trait fs) (world_macro world) asked (last_macro world) (item_name x) x
-        (found_all ts (imported_functions world) fs x (among-imports x ts (imported_functions world) fs nth f e h))
+    asked-import : Found tree.items (asked_by_block wrapper.0.body)
+    asked-import =
+        let w : FnItem = wrapper.0 in
+        found-right tree.items (asked_by_signature w.params w.result) (asked_by_block w.body)
+        (found-at tree.items asked_by_item (map item.Import ws) nth (item.Import w) (get-map item.Import ws nth w wrapper.1) asks-wrappers.0)
 
   faithful-at : (nth : ℕ) (f : Function) → slice_get (imported_functions world) nth ≡ Some f → IsFaithful (import_target f) tree nth f
   faithful-at nth f e = record {
@@ -359,7 +381,7 @@ module _ (opts : Opts) (resolve : Resolve) (id : ℕ) (world : World) (found : s
     carries = λ form vs args heap choices a run is given.
         let w : Setting = setting_of tree (info nth f e).0.item.0 a form in
         let i = (wrapper nth f e).0 in
-        let fits : Fits f w = record { distinct = distinct_params opts resolve world named nth f e; found = asked-import nth f e } in
+        let fits : Fits f i w = record { distinct = distinct_params opts resolve world named nth f e; found = asked-import nth f e } in
         let run_of : import_run tree nth args heap choices a form ≡ Some (run_item w i args heap choices) =
         ap (option_map (λ p. run_item (setting_of tree p.0 a form) p.1 args heap choices)) (there nth f e) in
         let same : run_item w i args heap choices ≡ run = cc in
@@ -392,7 +414,7 @@ module _ (opts : Opts) (resolve : Resolve) (id : ℕ) (world : World) (found : s
     export-there : export_at tree place ≡ Some (export-info.0.item.0, export)
     export-there =
         ap (option_and_then (numbered tree place))
-        (ap (export_nth place) b.items.are ∙ skip-export ts others place ∙ ap (λ n. export_nth n (map item.Import ws ++ (flat_map export_items es ++ behind))) place_is
+        (ap (export_nth place) are ∙ skip-export ts others place ∙ ap (λ n. export_nth n (map item.Import ws ++ (flat_map export_items es ++ behind))) place_is
         ∙ export_nth-skip ws (flat_map export_items es ++ behind) nth ∙ export_nth-at es behind nth parts.0 parts.1)
         ∙ ap (option_map (λ w. (w.item.0, export))) export-info.1
 
@@ -410,7 +432,7 @@ module _ (opts : Opts) (resolve : Resolve) (id : ℕ) (world : World) (found : s
     later = some_export.1
 
     items_are : tree.items ≡ map item.Type ts ++ under (first ∷ later)
-    items_are = b.items.are ∙ ap (λ gs. map item.Type ts ++ under gs) some_export.2
+    items_are = are ∙ ap (λ gs. map item.Type ts ++ under gs) some_export.2
 
     method-there : method_named tree.items guest_name (rust_ident f.name) ≡ Some (trait_fn f)
     method-there =
@@ -418,11 +440,8 @@ module _ (opts : Opts) (resolve : Resolve) (id : ℕ) (world : World) (found : s
         ∙ method-found ws es first later (guest_trait fs) (world_macro world) (area_of fs ++ (runtime_module asked ++ last_macro world)) (rust_ident f.name) (trait_fn f)
         (find-named (λ t. t.name) (map trait_fn fs) nth (trait_fn f) (ap is_distinct (map-map (λ t. t.name) trait_fn fs) ∙ distinct-methods opts resolve world named) (get-map trait_fn fs nth f e))
 
-    asked-export : Found tree.items (asked_by_export f)
-    asked-export x h =
-        ap (λ is. runtime_item_named is (item_name x)) b.items.are ∙ skip-runtime_item ts others (item_name x)
-        ∙ runtime-found ws es fs fs (guest_trait fs) (world_macro world) asked (last_macro world) (item_name x) x
-        (found_all ts (imported_functions world) fs x (among-exports x ts (imported_functions world) fs nth f e h))
+    asked-parts : Found tree.items (asked_in (export_items parts.0))
+    asked-parts = found-export tree.items es nth parts.0 parts.1 asks-wrappers.1
 
     entries : entries_in tree.items ≡ flat_map entries_of fs
     entries = ap entries_in items_are ∙ skip-entries ts (under (first ∷ later)) ∙ entries-are ws es first later fs fs (guest_trait fs) (world_macro world) asked (file_macro world)
@@ -439,19 +458,19 @@ module _ (opts : Opts) (resolve : Resolve) (id : ℕ) (world : World) (found : s
       answer = sym written.answer;
       named =
           ap (λ base. filter (λ x. bytes_eq x.base base) (exports_in tree.items)) (sym written.base)
-          ∙ ap (filter (λ x. bytes_eq x.base export.base)) (ap exports_in b.items.are ∙ skip-exports ts others ∙ exports-of_parts ws es behind (no_exports-behind asked world))
+          ∙ ap (filter (λ x. bytes_eq x.base export.base)) (ap exports_in are ∙ skip-exports ts others ∙ exports-of_parts ws es behind (no_exports-behind asked world))
           ∙ alone-named (λ x. x.base) (map (λ x. x.0) es) nth export (ap is_distinct (map-map (λ x. x.base) (λ x. x.0) es ∙ bases-are fs es b.items.exported) ∙ distinct-bases opts resolve world named) (get-map (λ x. x.0) es nth parts.0 parts.1);
     }
 
     area-there : needs_area f.result ≡ true → area_in tree.items ≡ Some static_area
-    area-there h = ap area_in b.items.are ∙ skip-area ts others ∙ area-found ws es fs fs (guest_trait fs) (world_macro world) (runtime_module asked ++ last_macro world) nth f e h
+    area-there h = ap area_in are ∙ skip-area ts others ∙ area-found ws es fs fs (guest_trait fs) (world_macro world) (runtime_module asked ++ last_macro world) nth f e h
 
     no_returns : post_returns_in behind ≡ []
     no_returns = no_returns-behind asked world
 
     post-return-there : post_return_named export.base tree.items ≡ parts.0.1
     post-return-there =
-        ap (λ base. post_return_named base tree.items) written.base ∙ ap (post_return_named f.name.snake) b.items.are ∙ skip-post_return ts others f.name.snake
+        ap (λ base. post_return_named base tree.items) written.base ∙ ap (post_return_named f.name.snake) are ∙ skip-post_return ts others f.name.snake
         ∙ post_return_named-at ws es fs behind nth f parts.0 b.items.exported (distinct-bases opts resolve world named) e parts.1 no_returns
 
     return-at : post_return_at tree place ≡ option_map (λ p. (export-info.0.item.0, p)) parts.0.1
@@ -462,11 +481,6 @@ module _ (opts : Opts) (resolve : Resolve) (id : ℕ) (world : World) (found : s
     return-entries : entries_named (post_return_name f) tree.items ≡ where_area f (return_entry f)
     return-entries = ap (filter (λ x. bytes_eq x.export_name (post_return_name f))) entries ∙ alone-return fs nth f distinct-names forms e
 
-    dealloc-found : needs_area f.result ≡ true → runtime_item_named tree.items (item_name CabiDealloc) ≡ Some CabiDealloc
-    dealloc-found h =
-        found-right tree.items (returning_items f.result) (freeing_items f.result) (found-right tree.items (flat_map (λ p. lifting_items (Some p.ty)) f.params) (returning_items f.result ++ freeing_items f.result) asked-export)
-        CabiDealloc (ap (λ r. list_any (λ i. is_same_item i CabiDealloc) (freeing_items r)) (is_text f.result h))
-
     frees : (p : PostReturnFn) → IsReturnWritten f p → parts.0.1 ≡ Some p → needs_area f.result ≡ true → (form : Form) (v : Option WitValue) (words : List Word) (heap : Heap) (blocks : List (ℕ × ℕ)) (run : Run)
         → post_return_run tree place words heap form ≡ Some run → IsResult f.result v → GivesResult heap f.result v words blocks → Frees blocks heap run
     frees p is_written is needs form v words heap blocks run is_run good gives =
@@ -475,7 +489,7 @@ module _ (opts : Opts) (resolve : Resolve) (id : ℕ) (world : World) (found : s
         let run_of : post_return_run tree place words heap form ≡ Some (run_post_return_item w p words heap) = ap (option_map (λ p. run_post_return_item (post_return_setting tree p.0 form) p.1 words heap)) at in
         let same : run_post_return_item w p words heap ≡ run = cc in
         let r = is_text f.result needs in
-        subst (Frees blocks heap) same (go w v (subst (λ r. IsResult r v) r good) (subst (λ r. GivesResult heap r v words blocks) r gives) (dealloc-found needs))
+        subst (Frees blocks heap) same (go w v (subst (λ r. IsResult r v) r good) (subst (λ r. GivesResult heap r v words blocks) r gives) (found-freed tree.items p.body is_written.body (found-return tree.items parts.0 p is asked-parts)))
       where
         go : (w : Setting) (v : Option WitValue) → IsResult (Some wit.String) v → GivesResult heap (Some wit.String) v words blocks → runtime_item_named w.items (item_name CabiDealloc) ≡ Some CabiDealloc → Frees blocks heap (run_post_return_item w p words heap)
         go w None good gives found = absurd good
@@ -496,7 +510,7 @@ module _ (opts : Opts) (resolve : Resolve) (id : ℕ) (world : World) (found : s
           params = sym is_written.params;
           pinned = ap (map (λ p. p.ty)) is_written.params;
           answer = refl;
-          named = ap (filter (λ x. bytes_eq x.base f.name.snake)) (ap post_returns_in b.items.are ∙ skip-post_returns ts others) ∙ post_return-alone ws es fs behind nth f parts.0 p b.items.exported (distinct-bases opts resolve world named) e parts.1 no_returns is;
+          named = ap (filter (λ x. bytes_eq x.base f.name.snake)) (ap post_returns_in are ∙ skip-post_returns ts others) ∙ post_return-alone ws es fs behind nth f parts.0 p b.items.exported (distinct-bases opts resolve world named) e parts.1 no_returns is;
           frees = frees p is_written is needs;
         }
         go false needs none = record {
@@ -515,10 +529,10 @@ module _ (opts : Opts) (resolve : Resolve) (id : ℕ) (world : World) (found : s
         let n = length (imported_functions world) + nth in
         let w : Setting = setting_of tree (export-info nth f e).0.item.0 a form in
         let i = (parts nth f e).0.0 in
-        let fits : FitsExport f w = record {
+        let fits : FitsExport f i w = record {
           distinct = args-distinct (param_words f.params) (few-words opts resolve id nth world f built found e);
           method = method-there nth f e;
-          found = asked-export nth f e;
+          found = found-wrapper tree.items (parts nth f e).0 (asked-parts nth f e);
           area = area-there nth f e;
         } in
         let run_of : export_run tree n words heap choices a form ≡ Some (run_export_item w i words heap choices) =

@@ -27,7 +27,6 @@ mod PartLemmas
 mod PartsLemmas
 mod PathLemmas
 mod PrintedLemmas
-mod PrintedNames
 mod ReturnLemmas
 mod RunLemmas
 mod ScopeLemmas

@@ -12,7 +12,7 @@ use Rattle.wit_model.specs.declared.wasm_type.WasmType.{WasmType}
 use Rattle.wit_model.specs.declared.types.WitType.{WitType}
 use Rattle.wit_model.specs.declared.types.WitType.TheVariants as wit
 use Rattle.rust_tree.specs.declared.expr.Expr.{Expr}
-use Rattle.rust_tree.specs.declared.runtime_item.RuntimeItem.TheVariants.{StringLift, VecType}
+use Rattle.rust_tree.specs.Asked.{asked_by_stmt}
 use Rattle.rust_tree.specs.declared.stmt.Stmt.{Stmt}
 use Rattle.rust_tree.specs.declared.type_expr.TypeExpr.TheVariants as type
 use Rattle.wrapper_data.specs.declared.heap.Heap.{Heap}
@@ -46,10 +46,9 @@ use Rattle.rust_gen.specs.Body.{LiftsScalar, LiftsTaken, lift_kinds}
 use Rattle.rust_gen.specs.ExportBody.{LiftsAll, LiftsParam}
 use Rattle.rust_gen.specs.Exported.{arg_name, core_args, trait_param}
 use Rattle.rust_gen.specs.Printed.{core_type, core_words, param_words, printed_type}
-use Rattle.rust_gen.specs.Runtime.{lifting_items}
 use Rattle.rust_gen.specs.Scope.{is_used, numbered}
 use Rattle.wit_model.specs.Bytes.{Bytes}
-use Rattle.rust_gen.proofs.AskedLemmas.{Found, found-left, found-right}
+use Rattle.rust_gen.proofs.AskedLemmas.{Found, found-parts, found-taken}
 use Rattle.rust_gen.proofs.LowerLemmas.{core_words-one, run_stmts-append, types_of}
 use Rattle.rust_gen.proofs.ScopeLemmas.{Fresh, Grows, UsedAll, free-more, free-one, fresh-apart, fresh-append, fresh-before, grows-declared, reads-fresh, used-declared, used-first, used-grows, used-next}
 use Rattle.rust_gen.proofs.TakenLemmas.{AreFree, addresses, take_stmts, taken_over, takes_text}
@@ -179,7 +178,7 @@ record LiftedOne (w : Setting) (s : State) (n : ℕ) (ty : WitType) (v : WitValu
   pub owns : listed (text_block value) ≡ own
 
 lift_scalar : (w : Setting) (s : State) (n : ℕ) (ty : WitType) (v : Scalar) (words : List Word) (own : List (ℕ × ℕ)) (before after : Scope) (stmts : List Stmt) (e : Expr)
-    → LiftsParam ty n before stmts e after → IsScalar ty v → TakesWords s.heap ty (scalar v) words own → Found w.items (lifting_items (Some ty)) → UsedAll before.used (arg_names n (core_words ty))
+    → LiftsParam ty n before stmts e after → IsScalar ty v → TakesWords s.heap ty (scalar v) words own → Found w.items (flat_map asked_by_stmt stmts) → UsedAll before.used (arg_names n (core_words ty))
     → ReadsAll (arg_names n (core_words ty)) (map val.Word words) s.locals → LiftedOne w s n ty (scalar v) words own before after stmts e
 lift_scalar w s n ty v words own before after stmts e lifts good (x, is, takes, none) found used at =
     let nt = no_text ty v good in
@@ -217,7 +216,7 @@ abbrev text_locals : ℕ → ℕ → ℕ → Local → List Local
 text_locals t p n last = record { name = numbered kind.Length t; value = Some (val.Word (word.Length n)) } ∷ used_local (numbered kind.Bytes t) p n ∷ last ∷ []
 
 lift_text : (w : Setting) (s : State) (n : ℕ) (bytes : List ℕ) (words : List Word) (own : List (ℕ × ℕ)) (before after : Scope) (stmts : List Stmt) (e : Expr)
-    → LiftsTaken (arg_name n) (arg_name (n + 1)) before stmts e after → IsValue wit.String (text bytes) → TakesWords s.heap wit.String (text bytes) words own → Found w.items (lifting_items (Some wit.String))
+    → LiftsTaken (arg_name n) (arg_name (n + 1)) before stmts e after → IsValue wit.String (text bytes) → TakesWords s.heap wit.String (text bytes) words own → Found w.items (flat_map asked_by_stmt stmts)
     → UsedAll before.used (arg_names n (core_words wit.String)) → ReadsAll (arg_names n (core_words wit.String)) (map val.Word words) s.locals → AreFree own s.taken
     → LiftedOne w s n wit.String (text bytes) words own before after stmts e
 unfolding bind
@@ -237,7 +236,7 @@ lift_text w s n bytes words own before after stmts e (t, d, is, tail) (_, utf8, 
     let read_at = reads-fresh before.used s.locals (record { name = len; value = Some (val.Word (word.Length size)) } ∷ []) (arg_names n (core_words wit.String))
     (val.Word (word.Pointer p) ∷ val.Word (word.Length size) ∷ []) (free_len, tt) used read in
     let lift : run_stmts w (take_stmts (arg_name n) len by tx) s1 ≡ Done tt (taken_over by tx p bytes s1) =
-    takes_text w s1 p bytes (arg_name n) len by tx at.0 small (found-right w.items (VecType ∷ []) (StringLift ∷ []) found StringLift refl) read_at.0 (reads-new len (Some (val.Word (word.Length size))) s.locals) utf8 has (subst (λ bs. AreFree bs s.taken) block free) in
+    takes_text w s1 p bytes (arg_name n) len by tx at.0 small (found-taken w.items (arg_name n) (arg_name (n + 1)) t stmts is found) read_at.0 (reads-new len (Some (val.Word (word.Length size))) s.locals) utf8 has (subst (λ bs. AreFree bs s.taken) block free) in
     let used_tx = used-declared before after lift_kinds t tx d (used-next len tx (by ∷ tx ∷ []) (used-next by tx (tx ∷ []) (used-first tx []))) in
     let assoc : (last : Local) → (l1 ++ used_local by p size ∷ []) ++ last ∷ [] ≡ s.locals ++ text_locals t p size last =
     λ last. append_assoc l1 (used_local by p size ∷ []) (last ∷ []) ∙ append_assoc s.locals (record { name = len; value = Some (val.Word (word.Length size)) } ∷ []) (used_local by p size ∷ last ∷ []) in
@@ -269,7 +268,7 @@ lift_text w s n bytes words own before after stmts e (t, d, is, tail) (_, utf8, 
     }
 
 lift_one : (w : Setting) (s : State) (n : ℕ) (ty : WitType) (v : WitValue) (words : List Word) (own : List (ℕ × ℕ)) (before after : Scope) (stmts : List Stmt) (e : Expr)
-    → LiftsParam ty n before stmts e after → IsValue ty v → TakesWords s.heap ty v words own → Found w.items (lifting_items (Some ty)) → UsedAll before.used (arg_names n (core_words ty))
+    → LiftsParam ty n before stmts e after → IsValue ty v → TakesWords s.heap ty v words own → Found w.items (flat_map asked_by_stmt stmts) → UsedAll before.used (arg_names n (core_words ty))
     → ReadsAll (arg_names n (core_words ty)) (map val.Word words) s.locals → AreFree own s.taken → LiftedOne w s n ty v words own before after stmts e
 lift_one w s n ty (scalar v) words own before after stmts e lifts good takes found used reads free = lift_scalar w s n ty v words own before after stmts e lifts good takes found used reads
 lift_one w s n wit.String (text bytes) words own before after stmts e lifts good takes found used reads free = lift_text w s n bytes words own before after stmts e lifts good takes found used reads free
@@ -297,7 +296,7 @@ pub record LiftedAll (w : Setting) (s : State) (n : ℕ) (params : List Param) (
   pub owns : text_blocks values ≡ own
 
 pub lift_all : (w : Setting) (s : State) (n : ℕ) (params : List Param) (vs : List WitValue) (words : List Word) (own : List (ℕ × ℕ)) (before after : Scope) (stmts : List Stmt) (arguments : List Expr)
-    → LiftsAll n before params stmts arguments after → AreValues (types_of params) vs → TakesAll s.heap (types_of params) vs words own → Found w.items (flat_map (λ p. lifting_items (Some p.ty)) params)
+    → LiftsAll n before params stmts arguments after → AreValues (types_of params) vs → TakesAll s.heap (types_of params) vs words own → Found w.items (flat_map asked_by_stmt stmts)
     → UsedAll before.used (arg_names n (param_words params)) → ReadsAll (arg_names n (param_words params)) (map val.Word words) s.locals → AreFree own s.taken → are_distinct own ≡ true
     → LiftedAll w s n params vs words own before after stmts arguments
 lift_all w s n [] [] words own before after stmts arguments (is, es, same) good (ws, none) found used reads free distinct = record {
@@ -324,8 +323,7 @@ lift_all w s n (p ∷ params) (v ∷ vs) words own before after stmts arguments 
     let m : ℕ = n + length (core_words p.ty) in
     let ns : List Bytes = arg_names n (core_words p.ty) in
     let ms : List Bytes = arg_names m (param_words params) in
-    let lifting = lifting_items (Some p.ty) in
-    let further = flat_map (λ p. lifting_items (Some p.ty)) params in
+    let asks = found-parts w.items asked_by_stmt one later stmts is found in
     let parted : (front : List Local) → ReadsAll (arg_names n (param_words (p ∷ params))) (map val.Word words) front → ReadsAll ns (map val.Word first) front × ReadsAll ms (map val.Word rest) front =
     λ front h. reads-split ns ms (map val.Word first) (map val.Word rest) front (same-one n p.ty v s.heap first own1 good.0 takes)
     (subst (λ xs. ReadsAll (ns ++ ms) xs front) (ap (map val.Word) split ∙ map-append val.Word first rest) (subst (λ ns. ReadsAll ns (map val.Word words) front) (arg_names-append n (core_words p.ty) (param_words params)) h)) in
@@ -333,9 +331,9 @@ lift_all w s n (p ∷ params) (v ∷ vs) words own before after stmts arguments 
     let read = parted s.locals reads in
     let frees = subst (λ bs. AreFree bs s.taken) blocks free in
     let apart = subst (λ bs. are_distinct bs ≡ true) blocks distinct in
-    let a = lift_one w s n p.ty v first own1 before between one e l good.0 takes (found-left w.items lifting further found) names.0 read.0 (free-left own1 own2 s.taken frees) in
+    let a = lift_one w s n p.ty v first own1 before between one e l good.0 takes asks.0 names.0 read.0 (free-left own1 own2 s.taken frees) in
     let mid : State = record s { locals = s.locals ++ a.more; taken = s.taken ++ addresses own1 } in
-    let b = lift_all w mid m params vs rest own2 between after later es ls good.1 others (found-right w.items lifting further found)
+    let b = lift_all w mid m params vs rest own2 between after later es ls good.1 others asks.1
     (used-grows before.used between.used ms a.grows names.1) (reads-fresh before.used s.locals a.more ms (map val.Word rest) a.fresh names.1 read.1)
     (free-after own1 own2 s.taken frees apart) (distinct-left own1 own2 apart) in
     record {

@@ -36,11 +36,11 @@ use Rattle.wrapper_run.proofs.OwningLemmas.{Adds, adds-none, adds-one, adds-then
 use Rattle.wrapper_run.proofs.StepLemmas.{Give, as_ptr_gives, bool_gives, call_gives, cast_mut_gives, len_gives, local_gives, ref_gives, runtime_gives}
 use Rattle.rust_gen.specs.declared.scope.LocalKind.TheVariants as kind
 use Rattle.rust_gen.specs.declared.scope.Scope.{Scope}
-use Rattle.rust_gen.specs.Body.{LowersAll, LowersAs, converted, runtime_path, text_kinds}
+use Rattle.rust_gen.specs.Body.{LowersAll, LowersAs, converted, lowering_item, runtime_path, text_kinds}
 use Rattle.rust_gen.specs.Printed.{core_type, core_words, param_words}
-use Rattle.rust_gen.specs.Runtime.{lowering_item, lowering_items}
+use Rattle.rust_tree.specs.Asked.{asked_by_expr}
 use Rattle.rust_gen.specs.Scope.{is_used, numbered}
-use Rattle.rust_gen.proofs.AskedLemmas.{Found, found-first, found-left, found-right}
+use Rattle.rust_gen.proofs.AskedLemmas.{Found, found-parts, found-word}
 use Rattle.rust_gen.proofs.PathLemmas.{calls_runtime}
 use Rattle.rust_gen.proofs.ScopeLemmas.{Grows, Keeps, UsedAll, Within, free-more, free-one, grows-declared, keeps-bound, length-pointer, pointer-vec, reads-kept, used-declared, used-first, used-grows, used-next, within-bound}
 use Rattle.rust_gen.proofs.WordLemmas.{lent}
@@ -185,7 +185,7 @@ lower-text w s heap p bytes a before after stmts words is_text lies (t, d, is, w
 
 -- a scalar that a conversion makes a word
 lower-converted : (w : Setting) (s : State) (heap : Heap) (p : Param) (v : Scalar) (before after : Scope) (stmts : List Stmt) (words : List Expr) → p.ty ≢ wit.Bool → (p.ty ≡ wit.String → ⊥) → IsScalar p.ty v
-    → (stmts ≡ []) × (words ≡ converted p ∷ []) × (after ≡ before) → runtime_item_named w.items (item_name (lowering_item p.ty)) ≡ Some (lowering_item p.ty)
+    → (stmts ≡ []) × (words ≡ converted p ∷ []) × (after ≡ before) → Found w.items (flat_map asked_by_expr words)
     → is_used before.used (rust_ident p.name) ≡ true → value_of (local_named (rust_ident p.name) s.locals) ≡ Some (val.Value (rust_value p.ty v)) → Within before.used s.locals
     → LoweredOne w s heap p (scalar v) before after stmts words
 lower-converted w s heap p v before after stmts words no_bool no_text good (is, wd, same) found used at within =
@@ -205,16 +205,16 @@ lower-converted w s heap p v before after stmts words no_bool no_text good (is, 
           let here : value_of (local_named name u.locals) ≡ Some given = ap value_of (k name (ap (λ s. is_used s.used name) same ∙ used)) ∙ at in
           subst (λ ws. Give w u ws (val.Word l.word ∷ [])) (sym wd) (
             call_gives w (runtime_path i) (expr.Ref name ∷ []) (given ∷ []) u (ref_gives w name given u here (lent-scalar p.ty v), tt)
-                ∙ runtime_gives w (runtime_path i) (item_name i) i given l.word u (calls_runtime i) found l.converts,
+                ∙ runtime_gives w (runtime_path i) (item_name i) i given l.word u (calls_runtime i) (found-word w.items i (expr.Ref name) words wd found) l.converts,
             tt,
           );
       represents = (l.word, refl, l.lends);
       typed = typed-one p.ty l.word no_text l.is_word;
     }
 
--- what a parameter asks for is found: nothing for a bool
+-- what its word asks for is found: nothing for a bool
 lower-scalar : (w : Setting) (s : State) (heap : Heap) (p : Param) (v : Scalar) (before after : Scope) (stmts : List Stmt) (words : List Expr) (ty : WitType) → p.ty ≡ ty → IsScalar ty v
-    → LowersAs ty before p stmts words after → Found w.items (lowering_items ty) → is_used before.used (rust_ident p.name) ≡ true
+    → LowersAs ty before p stmts words after → Found w.items (flat_map asked_by_expr words) → is_used before.used (rust_ident p.name) ≡ true
     → value_of (local_named (rust_ident p.name) s.locals) ≡ Some (val.Value (rust_value ty v)) → Within before.used s.locals → LoweredOne w s heap p (scalar v) before after stmts words
 lower-scalar w s heap p (truth b) before after stmts words wit.Bool e good l found used at within = lower-bool w s heap p b before after stmts words e l at within
 lower-scalar w s heap p (number z) before after stmts words wit.Bool e good l found used at within = absurd (cc)
@@ -227,12 +227,10 @@ lower-scalar w s heap p (f32 bits) before after stmts words wit.String e good l 
 lower-scalar w s heap p (f64 bits) before after stmts words wit.String e good l found used at within = absurd (cc)
 lower-scalar w s heap p (char c) before after stmts words wit.String e good l found used at within = absurd (cc)
 lower-scalar w s heap p v before after stmts words ty e good l found used at within =
-    lower-converted w s heap p v before after stmts words (λ k. cc) (λ k. cc) (subst (λ t. IsScalar t v) (sym e) good) l
-    (ap (λ t. runtime_item_named w.items (item_name (lowering_item t))) e ∙ found-first w.items (lowering_item ty) [] found ∙ ap (λ t. Some (lowering_item t)) (sym e))
-    used (at ∙ ap (λ t. Some (val.Value (rust_value t v))) (sym e)) within
+    lower-converted w s heap p v before after stmts words (λ k. cc) (λ k. cc) (subst (λ t. IsScalar t v) (sym e) good) l found used (at ∙ ap (λ t. Some (val.Value (rust_value t v))) (sym e)) within
 
 lower-one : (w : Setting) (s : State) (heap : Heap) (p : Param) (v : WitValue) (r : RustValue) (before after : Scope) (stmts : List Stmt) (words : List Expr) → IsValue p.ty v → Stands heap p.ty v r
-    → LowersAs p.ty before p stmts words after → Found w.items (lowering_items p.ty) → is_used before.used (rust_ident p.name) ≡ true
+    → LowersAs p.ty before p stmts words after → Found w.items (flat_map asked_by_expr words) → is_used before.used (rust_ident p.name) ≡ true
     → value_of (local_named (rust_ident p.name) s.locals) ≡ Some (val.Value r) → Within before.used s.locals → LoweredOne w s heap p v before after stmts words
 lower-one w s heap p (scalar v) r before after stmts words good stand l found used at within =
     lower-scalar w s heap p v before after stmts words p.ty refl good l found used (at ∙ ap (λ r. Some (val.Value r)) stand) within
@@ -263,7 +261,7 @@ run_stmts-append w (c ∷ a) b s = go (run_stmt w c s) (λ t. run_stmts-append w
     go (Stopped e t) h = refl
 
 pub lower_all : (w : Setting) (s : State) (heap : Heap) (params : List Param) (vs : List WitValue) (args : List RustValue) (before after : Scope) (stmts : List Stmt) (words : List Expr)
-    → LowersAll before params stmts words after → AreValues (types_of params) vs → StandAll heap (types_of params) vs args → Found w.items (flat_map (λ p. lowering_items p.ty) params)
+    → LowersAll before params stmts words after → AreValues (types_of params) vs → StandAll heap (types_of params) vs args → Found w.items (flat_map asked_by_expr words)
     → UsedAll before.used (idents_of params) → ReadsAll (idents_of params) (map val.Value args) s.locals → Within before.used s.locals → Lowered w s heap params vs before after stmts words
 lower_all w s heap [] [] args before after stmts words (is, ws, same) good stand found used at within = record {
   locals = s.locals;
@@ -281,9 +279,10 @@ lower_all w s heap [] (v ∷ vs) args before after stmts words l good stand foun
 lower_all w s heap (p ∷ params) [] args before after stmts words l good stand found used at within = absurd good
 lower_all w s heap (p ∷ params) (v ∷ vs) args before after stmts words (first, ws, between, later, more, l, ls, is, wd) good (r, rest, e, one, stand) found used at within =
     let here = subst (λ rs. ReadsAll (idents_of (p ∷ params)) (map val.Value rs) s.locals) e at in
-    let a = lower-one w s heap p v r before between first ws good.0 one l (found-left w.items (lowering_items p.ty) (flat_map (λ p. lowering_items p.ty) params) found) used.0 here.0 within in
+    let asks = found-parts w.items asked_by_expr ws more words wd found in
+    let a = lower-one w s heap p v r before between first ws good.0 one l asks.0 used.0 here.0 within in
     let mid : State = record s { locals = a.locals } in
-    let b = lower_all w mid heap params vs rest between after later more ls good.1 stand (found-right w.items (lowering_items p.ty) (flat_map (λ p. lowering_items p.ty) params) found)
+    let b = lower_all w mid heap params vs rest between after later more ls good.1 stand asks.1
     (used-grows before.used between.used (idents_of params) a.grows used.1) (reads-kept before.used s.locals a.locals (idents_of params) (map val.Value rest) a.keeps used.1 here.1) a.within in
     record {
       locals = b.locals;

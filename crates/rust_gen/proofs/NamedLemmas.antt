@@ -17,7 +17,8 @@ use Rattle.rust_tree.specs.WellNamed.{are_named_core_params, are_well_named, is_
 use Rattle.wrapper_run.specs.Areas.{needs_area}
 use Rattle.rust_gen.specs.declared.opts.Opts.{Opts}
 use Rattle.rust_gen.specs.Body.{IsWritten}
-use Rattle.rust_gen.specs.Bound.{AreItems, export_items}
+use Rattle.rust_gen.specs.Bound.{AreItems, export_items, own_items}
+use Rattle.rust_gen.proofs.TreeLemmas.{own-first}
 use Rattle.rust_gen.specs.declared.opts.Opts.{Opts}
 use Rattle.rust_gen.specs.Cause.{is_accepted, is_well_named}
 use Rattle.rust_gen.specs.DeclaredNames.{cabi_suffix, declares_well, export_ident, export_prefix, has_distinct_names, is_empty, macro_idents, param_idents, where_exported}
@@ -173,14 +174,15 @@ items-named opts r id world items types written declared a =
     and_from (is_named_trait (guest_trait es)) (is_named_module_macro (world_macro world) && true) (trait-named es k.exports k.export_params)
     (and_from (is_named_module_macro (world_macro world)) true (and_from (is_ident_part (macro_name world)) (list_all is_named_entry (flat_map entries_of es)) (macro_name-part world (k.macros full)) (all-entries-named es exports k.exported)) refl)) in
     let last : list_all is_named_item (last_macro world) ≡ true = any-named es (item.RootMacro (file_macro world) ∷ []) (λ full. and_from (is_named_root_macro (file_macro world)) true (file_macro-named world (k.macros full)) refl) in
-    let runtime : List Item = runtime_module (runtime_items a.types world) in
+    let asked = runtime_items (own_items a.types a.wrappers a.exports world) in
+    let runtime : List Item = runtime_module asked in
     let definitions : list_all is_named_item (map item.Type a.types) ≡ true = list_all-map is_named_item item.Type a.types ∙ definitions-named opts r id world a.types types a.defined in
-    ap (list_all is_named_item) a.are
+    ap (list_all is_named_item) (a.are ∙ own-first a.types a.wrappers a.exports world (runtime ++ last_macro world))
     ∙ items-append (map item.Type a.types) (map item.Import a.wrappers ++ (flat_map export_items a.exports ++ (trait_and_macro world ++ (area_of es ++ (runtime ++ last_macro world))))) definitions
     (items-append (map item.Import a.wrappers) (flat_map export_items a.exports ++ (trait_and_macro world ++ (area_of es ++ (runtime ++ last_macro world)))) (imports-named fs a.wrappers imports k.imports k.import_params a.wraps)
     (items-append (flat_map export_items a.exports) (trait_and_macro world ++ (area_of es ++ (runtime ++ last_macro world))) (exports-named es a.exports k.exported k.exports a.exported)
     (items-append (trait_and_macro world) (area_of es ++ (runtime ++ last_macro world)) traits
-    (items-append (area_of es) (runtime ++ last_macro world) (area-named es) (items-append runtime (last_macro world) (runtime-named (runtime_items a.types world)) last)))))
+    (items-append (area_of es) (runtime ++ last_macro world) (area-named es) (items-append runtime (last_macro world) (runtime-named asked) last)))))
 
 line-named : list_all is_option_line (unused_types_line ∷ []) ≡ true
 unfolding unused_types_line

@@ -28,7 +28,6 @@ use Rattle.rust_gen.specs.ExportBody.{ArePartsWritten, ReturnWritten}
 use Rattle.rust_gen.specs.Emitted.{exported_functions}
 use Rattle.rust_gen.specs.Exported.{area_of, file_macro, guest_trait, last_macro, static_area, trait_and_macro, where_any, world_macro}
 use Rattle.rust_gen.specs.Runtime.{runtime_module}
-use Rattle.rust_gen.specs.Served.{types_of}
 use Rattle.rust_gen.proofs.ItemLemmas.{apart, found_of}
 
 -- the wrappers: those of exports, in their order
@@ -167,6 +166,3 @@ no_exports-behind asked world = nothing-behind exports_in (λ t m items. refl) (
 
 pub no_returns-behind : (asked : List RuntimeItem) (world : World) → post_returns_in (trait_and_macro world ++ (area_of (exported_functions world) ++ (runtime_module asked ++ last_macro world))) ≡ []
 no_returns-behind asked world = nothing-behind post_returns_in (λ t m items. refl) (λ items. refl) (λ parts items. refl) (λ r. refl) refl asked world
-
-pub no_types-behind : (asked : List RuntimeItem) (world : World) → types_of (trait_and_macro world ++ (area_of (exported_functions world) ++ (runtime_module asked ++ last_macro world))) ≡ []
-no_types-behind asked world = nothing-behind types_of (λ t m items. refl) (λ items. refl) (λ parts items. refl) (λ r. refl) refl asked world

@@ -50,14 +50,14 @@ use Rattle.wrapper_run.proofs.NumberLemmas.{answered-unit}
 use Rattle.wrapper_run.proofs.StepLemmas.{Quiet, answer_gives, call_gives, ended-calls, import_gives, no_answer_gives, quiet_answer, quiet_bind, quiet_then, quiet_cast, quiet_local, quiet_pure, quiet_runtime, answers_plain, quiet_answers, quiet_drop}
 use Rattle.rust_gen.specs.DeclaredNames.{param_idents}
 use Rattle.rust_gen.specs.Printed.{core_result, core_type, printed_result, printed_type, core_params, param_words, pointer_words}
-use Rattle.rust_gen.specs.Runtime.{asked_by, lifting_items, lowering_items, signature_items}
+use Rattle.rust_tree.specs.Asked.{asked_by_block, asked_by_stmt, asked_by_tail}
 use Rattle.rust_gen.specs.Wrapper.{printed_param}
 use Rattle.rust_tree.specs.declared.expr.CastType.{CastType}
 use Rattle.rust_gen.specs.Scope.{cleanup_list, first_scope, is_free, is_used, numbered, Declares}
 use Rattle.wit_model.specs.Bytes.{Bytes}
 use Rattle.rust_tree.specs.declared.expr.Expr.{Expr}
 use Rattle.rust_tree.specs.declared.item.FnItem.{FnItem}
-use Rattle.rust_gen.proofs.AskedLemmas.{Found, found-left, found-right}
+use Rattle.rust_gen.proofs.AskedLemmas.{Found, calling_stmts, found-left, found-parts, found-words}
 use Rattle.rust_gen.specs.declared.scope.LocalKind.{LocalKind}
 use Rattle.rust_gen.specs.declared.scope.Scope.{Scope}
 use Rattle.rust_tree.specs.declared.stmt.Stmt.{Stmt}
@@ -279,7 +279,7 @@ record Finishes (w : Setting) (t : ℕ) (r : Option WitType) (v : Option WitValu
   pub requests : state.requests ≡ s.requests
 
 finishes : (w : Setting) (t : ℕ) (r : Option WitType) (v : Option WitValue) (base : Bytes) (prior before : Scope) (lifting : List Stmt) (tail : Option Expr) (s : State) (c : CallPoint)
-    → NoText r → Declares prior (call_kinds (scalar_result r)) t before → Lifts r base (result_name t) before lifting tail → Found w.items (lifting_items r) → IsResult r v → HonestPeer r v w.answer c → ArePlain s.locals → Finishes w t r v lifting tail s
+    → NoText r → Declares prior (call_kinds (scalar_result r)) t before → Lifts r base (result_name t) before lifting tail → Found w.items (flat_map asked_by_stmt lifting) → IsResult r v → HonestPeer r v w.answer c → ArePlain s.locals → Finishes w t r v lifting tail s
 unfolding bind
 finishes w t None None base prior before lifting tail s c nt d (n, q) found good h plain = record {
   value = None;
@@ -350,11 +350,11 @@ all-used front (name ∷ names) more = (
 )
 
 -- what a wrapper as it is written needs of its function and of the file
-pub record Fits (f : Function) (w : Setting) : Type 0 where
+pub record Fits (f : Function) (i : FnItem) (w : Setting) : Type 0 where
   pub distinct : is_distinct (param_idents f) ≡ true
-  pub found : Found w.items (asked_by f)
+  pub found : Found w.items (asked_by_block i.body)
 
-module _ (f : Function) (i : FnItem) (written : IsWritten f i) (nt : NoText f.result) (w : Setting) (fits : Fits f w) (vs : List WitValue) (args : List RustValue) (heap : Heap) (choices : Choices)
+module _ (f : Function) (i : FnItem) (written : IsWritten f i) (nt : NoText f.result) (w : Setting) (fits : Fits f i w) (vs : List WitValue) (args : List RustValue) (heap : Heap) (choices : Choices)
     (good : AreValues (param_types f) vs) (stand : StandAll heap (param_types f) vs args) where
   abbrev begin : State
   begin = start i args heap choices
@@ -373,11 +373,18 @@ module _ (f : Function) (i : FnItem) (written : IsWritten f i) (nt : NoText f.re
       subst (λ ns. ReadsAll (param_idents f) (map val.Value args) (bound ns (map val.Value args))) (sym names)
       (reads_bound (param_idents f) (map val.Value args) fits.distinct (same-length heap f.params vs args stand))
 
+  -- what the call asks for, and what follows it
+  asks : Found w.items (flat_map asked_by_stmt (calling_stmts (import_decl body.number f) (scalar_result f.result) body.number body.words)) × Found w.items (flat_map asked_by_stmt body.lifting)
+  asks =
+      let whole = found-left w.items (flat_map asked_by_stmt i.body.stmts) (asked_by_tail i.body.tail) fits.found in
+      let behind = tail_stmts body.number f body.words body.lifting in
+      found-parts w.items asked_by_stmt (calling_stmts (import_decl body.number f) (scalar_result f.result) body.number body.words) body.lifting behind refl
+      (found-parts w.items asked_by_stmt body.lowering behind i.body.stmts body.stmts whole).1
+
   lowering : Lowered w begin heap f.params vs (first_scope f body.area) body.lowered body.lowering body.words
   lowering =
       lower_all w begin heap f.params vs args (first_scope f body.area) body.lowered body.lowering body.words body.lowers good stand
-      (found-right w.items (signature_items f.result) (flat_map (λ p. lowering_items p.ty) f.params)
-      (found-left w.items (signature_items f.result ++ flat_map (λ p. lowering_items p.ty) f.params) (lifting_items f.result) fits.found))
+      (found-words w.items (import_decl body.number f) (scalar_result f.result) body.number body.words asks.0)
       (all-used [] (param_idents f) (cleanup_list ∷ body.area ∷ [])) arguments within_first
 
   plain : ArePlain lowering.locals
@@ -453,7 +460,7 @@ module _ (f : Function) (i : FnItem) (written : IsWritten f i) (nt : NoText f.re
   unfolding run
   carries_plain v is_result honest =
       let g = finishes w body.number f.result v body.base body.lowered body.called body.lifting i.body.tail recorded here nt body.calls body.lifts
-      (found-right w.items (signature_items f.result ++ flat_map (λ p. lowering_items p.ty) f.params) (lifting_items f.result) fits.found) is_result honest plain in
+      asks.1 is_result honest plain in
       let e : run ≡ run_at stop_of.Done [] g.value g.state = ends ∙ ap ended g.runs in
       record {
         done = ap (λ r. r.stop) e;

@@ -5,6 +5,7 @@ use Rattle.std.specs.List.{Contains, flat_map, list_any}
 use Rattle.std.specs.Str.{bytes_eq}
 use Rattle.std.proofs.lemmas.Bool.{and_from, and_parts, not-true, or_cases, or_left, or_parts, or_right}
 use Rattle.std.proofs.lemmas.List.{map-append}
+use Rattle.std.proofs.lemmas.Grind.{flat_map-append}
 use Rattle.std.proofs.lemmas.List.Folds.{list_any-append}
 use Rattle.std.proofs.lemmas.Slice.Eq.{bytes_eq-Decides}
 use Rattle.wit_model.specs.Distinct.{is_distinct}
@@ -19,19 +20,21 @@ use Rattle.rust_tree.specs.declared.item.Item.TheVariants as item
 use Rattle.rust_tree.specs.declared.runtime_item.RuntimeItem.{RuntimeItem}
 use Rattle.rust_tree.specs.declared.runtime_item.RuntimeItem.TheVariants.{AsI32, AsI64, AsF32, AsF64, AllocCrate, StringType, VecType, BoolLift, CharLift, StringLift, StdAllocModule, CabiDealloc}
 use Rattle.rust_tree.specs.declared.type_item.TypeItem.{TypeItem}
+use Rattle.rust_tree.specs.Asked.{asked_by_item, asked_in}
 use Rattle.rust_tree.specs.Runtime.{item_name, needed_items}
+use Rattle.rust_tree.specs.declared.macros.RootMacro.{RootMacro}
 use Rattle.rust_tree.specs.Tree.{Tree}
 use Rattle.wrapper_run.specs.Areas.{needs_area}
 use Rattle.rust_gen.specs.declared.opts.Opts.{Opts}
 use Rattle.rust_gen.specs.Body.{IsWritten}
-use Rattle.rust_gen.specs.Bound.{Binds, Parts, export_items}
-use Rattle.rust_gen.specs.Emitted.{exported_functions, imported_functions}
+use Rattle.rust_gen.specs.Bound.{Binds, Parts, export_items, own_items}
+use Rattle.rust_gen.specs.Emitted.{exported_functions}
 use Rattle.rust_gen.specs.ExportBody.{ArePartsWritten}
 use Rattle.rust_gen.specs.Exported.{area_of, last_macro, static_area, trait_and_macro, where_any, guest_trait, world_macro, file_macro}
-use Rattle.rust_gen.specs.Runtime.{asked_items, is_same_item, runtime_items, runtime_module, with_asked, with_needed}
-use Rattle.rust_gen.specs.Served.{IsDue, Serves, asked_for, asked_of, needed_by, runtime_in, types_of}
-use Rattle.rust_gen.proofs.PartsLemmas.{no_types-behind}
-use Rattle.rust_gen.proofs.SkipLemmas.{skip-runtime, types-first}
+use Rattle.rust_gen.specs.Runtime.{is_same_item, runtime_items, runtime_module, with_asked, with_needed}
+use Rattle.rust_gen.specs.Served.{IsDue, Serves, asked_for, needed_by, runtime_in}
+use Rattle.rust_gen.proofs.TreeLemmas.{own-first}
+use Rattle.rust_gen.proofs.SkipLemmas.{skip-runtime}
 use Rattle.rust_gen.proofs.AskedLemmas.{IsAmong, asked-all, is-same, same-function, same-refl}
 
 -- an element of a list, and one that a test finds there
@@ -286,16 +289,15 @@ of-module (i ∷ parts) = append-nil (i ∷ parts)
 past : (xs ys : List Item) → runtime_in xs ≡ [] → runtime_in (xs ++ ys) ≡ runtime_in ys
 past xs ys e = runtime-append xs ys ∙ ap (λ is. is ++ runtime_in ys) e
 
--- the definitions of a file are those at its front
+-- what stands in `_rt` asks for nothing, and neither does the last macro
 
-no-types-imports : (ws : List FnItem) (items : List Item) → types_of (map item.Import ws ++ items) ≡ types_of items
-no-types-imports [] items = refl
-no-types-imports (w ∷ ws) items = no-types-imports ws items
+asked-module : (parts : List RuntimeItem) → asked_in (runtime_module parts) ≡ []
+asked-module [] = refl
+asked-module (i ∷ parts) = refl
 
-no-types-exports : (es : List Parts) (items : List Item) → types_of (flat_map export_items es ++ items) ≡ types_of items
-no-types-exports [] items = refl
-no-types-exports ((e, None) ∷ es) items = no-types-exports es items
-no-types-exports ((e, Some p) ∷ es) items = no-types-exports es items
+asked-last : (fs : List Function) (m : RootMacro) → asked_in (where_any fs (item.RootMacro m ∷ [])) ≡ []
+asked-last [] m = refl
+asked-last (f ∷ fs) m = refl
 
 module _ (opts : Opts) (r : Resolve) (id : WorldId) (world : World) (tree : Tree) (b : Binds IsWritten ArePartsWritten opts r id world tree) where
   abbrev ts : List TypeItem
@@ -304,15 +306,18 @@ module _ (opts : Opts) (r : Resolve) (id : WorldId) (world : World) (tree : Tree
   abbrev fs : List Function
   fs = exported_functions world
 
+  abbrev own : List Item
+  own = own_items ts b.items.wrappers b.items.exports world
+
   abbrev asked_part : List RuntimeItem
-  asked_part = runtime_items ts world
+  asked_part = runtime_items own
 
   abbrev last : List Item
   last = runtime_module asked_part ++ last_macro world
 
   runtime-is : runtime_in tree.items ≡ asked_part
   runtime-is =
-      ap runtime_in b.items.are
+      ap runtime_in (b.items.are ∙ own-first ts b.items.wrappers b.items.exports world last)
       ∙ skip-runtime ts (map item.Import b.items.wrappers ++ (flat_map export_items b.items.exports ++ (trait_and_macro world ++ (area_of fs ++ last))))
       ∙ past (map item.Import b.items.wrappers) (flat_map export_items b.items.exports ++ (trait_and_macro world ++ (area_of fs ++ last))) (none-imports b.items.wrappers)
       ∙ past (flat_map export_items b.items.exports) (trait_and_macro world ++ (area_of fs ++ last)) (none-exports b.items.exports)
@@ -322,17 +327,14 @@ module _ (opts : Opts) (r : Resolve) (id : WorldId) (world : World) (tree : Tree
       ∙ ap (λ is. runtime_in (runtime_module asked_part) ++ is) (none-any fs (item.RootMacro (file_macro world) ∷ []) refl)
       ∙ append-nil (runtime_in (runtime_module asked_part)) ∙ of-module asked_part
 
-  types-are : types_of tree.items ≡ ts
-  types-are =
-      ap types_of b.items.are
-      ∙ types-first ts (map item.Import b.items.wrappers ++ (flat_map export_items b.items.exports ++ (trait_and_macro world ++ (area_of fs ++ last))))
-      ∙ ap (λ us. ts ++ us)
-      (no-types-imports b.items.wrappers (flat_map export_items b.items.exports ++ (trait_and_macro world ++ (area_of fs ++ last)))
-      ∙ no-types-exports b.items.exports (trait_and_macro world ++ (area_of fs ++ last)) ∙ no_types-behind asked_part world)
-      ∙ append-nil ts
+  asked-is : asked_in tree.items ≡ asked_in own
+  asked-is =
+      ap asked_in b.items.are ∙ flat_map-append asked_by_item own last
+      ∙ ap (λ is. asked_in own ++ is)
+      (flat_map-append asked_by_item (runtime_module asked_part) (last_macro world)
+      ∙ ap (λ is. is ++ asked_in (last_macro world)) (asked-module asked_part) ∙ asked-last fs (file_macro world))
+      ∙ append-nil (asked_in own)
 
-  pub serves : Serves (asked_of world tree.items) (runtime_in tree.items)
-  serves =
-      let asked : List RuntimeItem = asked_items ts (imported_functions world) fs in
-      let same : asked ≡ asked_of world tree.items = ap (λ us. asked_items us (imported_functions world) fs) (sym types-are) in
-      subst (λ a. Serves a (runtime_in tree.items)) same (subst (Serves asked) (sym runtime-is) (serves-asked asked))
+  pub serves : Serves (asked_in tree.items) (runtime_in tree.items)
+  unfolding runtime_items
+  serves = subst (λ a. Serves a (runtime_in tree.items)) (sym asked-is) (subst (Serves (asked_in own)) (sym runtime-is) (serves-asked (asked_in own)))

@@ -12,7 +12,7 @@ use Rattle.wrapper_run.specs.Places.{area_in}
 use Rattle.wrapper_run.specs.PostReturn.{post_return_named}
 use Rattle.wrapper_run.specs.Returned.{post_returns_in}
 use Rattle.wrapper_run.specs.Run.{import_nth, runtime_item_named}
-use Rattle.rust_gen.specs.Served.{runtime_in, types_of}
+use Rattle.rust_gen.specs.Served.{runtime_in}
 
 pub skip-import : (ts : List TypeItem) (items : List Item) (nth : ℕ) → import_nth nth (map item.Type ts ++ items) ≡ import_nth nth items
 skip-import [] items nth = refl
@@ -63,7 +63,3 @@ skip-runtime (t ∷ ts) items = skip-runtime ts items
 pub skip-count : (ts : List TypeItem) (items : List Item) → wrapper_count (map item.Type ts ++ items) ≡ wrapper_count items
 skip-count [] items = refl
 skip-count (t ∷ ts) items = skip-count ts items
-
-pub types-first : (ts : List TypeItem) (items : List Item) → types_of (map item.Type ts ++ items) ≡ ts ++ types_of items
-types-first [] items = refl
-types-first (t ∷ ts) items = ap (λ us. t ∷ us) (types-first ts items)

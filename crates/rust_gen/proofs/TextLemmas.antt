@@ -63,14 +63,14 @@ use Rattle.wrapper_run.proofs.QuietSteps.{quiet_let}
 use Rattle.wrapper_run.proofs.TakeLemmas.{answered-text, area_gives, leaves_one, load_gives, used-plain, quiet_load, quiet_raw, text_gives, text_local, used_local, words_give}
 use Rattle.rust_gen.proofs.TakenLemmas.{AreFree, addresses, take_stmts, taken-last, taken_over, takes_text}
 use Rattle.wrapper_run.specs.Represents.{HasText, block_of}
-use Rattle.rust_gen.specs.Body.{IsBody, IsWritten, LiftsText, Lifts, Points, area_stmts, call_kinds, call_stmt, import_call, import_decl, import_name, local_path, result_name, runtime_call, runtime_path, word_at, text_area as area_of, text_area as area_of}
+use Rattle.rust_gen.specs.Body.{IsBody, IsWritten, LiftsText, Lifts, Points, area_stmts, call_kinds, call_stmt, import_call, import_decl, import_name, local_path, result_name, runtime_call, runtime_path, text_taken, word_at, text_area as area_of}
 use Rattle.rust_gen.specs.DeclaredNames.{param_idents}
 use Rattle.rust_gen.specs.Printed.{core_params, core_result, param_words, pointer_words, printed_result}
-use Rattle.rust_gen.specs.Runtime.{lifting_items, lowering_items, signature_items}
+use Rattle.rust_tree.specs.Asked.{asked_by_expr, asked_by_stmt, asked_by_tail}
 use Rattle.rust_gen.specs.Scope.{Declares, IsFixedName, cleanup_list, first_scope, is_used, numbered, ret_area}
 use Rattle.wit_model.specs.Bytes.{Bytes}
 use Rattle.rust_gen.specs.declared.scope.LocalKind.TheVariants as kind
-use Rattle.rust_gen.proofs.AskedLemmas.{Found, found-first, found-left, found-right}
+use Rattle.rust_gen.proofs.AskedLemmas.{Found, calling_stmts, found-left, found-parts, found-taken, found-words}
 use Rattle.rust_gen.proofs.LowerLemmas.{Lowered, give-append, lower_all, run_stmts-append, words-append, words_of-append}
 use Rattle.rust_gen.proofs.PathLemmas.{calls_alone, calls_runtime}
 use Rattle.rust_gen.proofs.RunLemmas.{Fits, all-used, and_then-assoc, call_is, calls_plain, declared, names-printed, plain_arg, plain_args, point, same-length, names_of}
@@ -290,7 +290,7 @@ text_only (Some (scalar (char c))) r = absurd (cc)
 
 -- a wrapper whose result is a text
 
-module _ (f : Function) (i : FnItem) (written : IsWritten f i) (is_text : f.result ≡ Some wit.String) (w : Setting) (fits : Fits f w) (vs : List WitValue) (args : List RustValue) (heap : Heap) (choices : Choices)
+module _ (f : Function) (i : FnItem) (written : IsWritten f i) (is_text : f.result ≡ Some wit.String) (w : Setting) (fits : Fits f i w) (vs : List WitValue) (args : List RustValue) (heap : Heap) (choices : Choices)
     (good : AreValues (param_types f) vs) (stand : StandAll heap (param_types f) vs args) where
   abbrev begin : State
   begin = start i args heap choices
@@ -347,6 +347,16 @@ module _ (f : Function) (i : FnItem) (written : IsWritten f i) (is_text : f.resu
       ∙ ap (λ ss. stmt.Area (area_of b.area) ∷ (b.lowering ++ (ss ++ stmt.Import (import_decl b.number f) ∷ stmt.Expr (import_call b.number (b.words ++ b.address)) ∷ b.lifting))) points.1
       ∙ ap (λ ws. stmt.Area (area_of b.area) ∷ (b.lowering ++ stmt.Let q (expr.ReturnPointer b.area) ∷ stmt.Import (import_decl b.number f) ∷ stmt.Expr (import_call b.number (b.words ++ ws)) ∷ b.lifting)) points.2
       ∙ ap (λ ss. stmt.Area (area_of b.area) ∷ (b.lowering ++ stmt.Let q (expr.ReturnPointer b.area) ∷ stmt.Import (import_decl b.number f) ∷ stmt.Expr (import_call b.number call_words) ∷ ss)) l.is
+
+  -- what the call asks for, and what follows it
+  asks : Found w.items (flat_map asked_by_stmt (calling_stmts (import_decl b.number f) None b.number call_words)) × Found w.items (flat_map asked_by_stmt lifting)
+  asks =
+      let whole = found-left w.items (flat_map asked_by_stmt i.body.stmts) (asked_by_tail i.body.tail) fits.found in
+      let calling = calling_stmts (import_decl b.number f) None b.number call_words in
+      let behind : List Stmt = stmt.Let q (expr.ReturnPointer b.area) ∷ (calling ++ lifting) in
+      found-parts w.items asked_by_stmt calling lifting (calling ++ lifting) refl
+      (found-parts w.items asked_by_stmt (stmt.Let q (expr.ReturnPointer b.area) ∷ []) (calling ++ lifting) behind refl
+      (found-parts w.items asked_by_stmt (stmt.Area (area_of b.area) ∷ b.lowering) behind i.body.stmts stmts_are whole).1).1
 
   tail_is : i.body.tail ≡ Some (expr.Local tx)
   tail_is = lifts.1 ∙ ap Some l.ends
@@ -417,8 +427,7 @@ module _ (f : Function) (i : FnItem) (written : IsWritten f i) (is_text : f.resu
     lowering : Lowered w s0 heap f.params vs (first_scope f b.area) b.lowered b.lowering b.words
     lowering =
         lower_all w s0 heap f.params vs args (first_scope f b.area) b.lowered b.lowering b.words b.lowers good stand
-        (found-right w.items (signature_items f.result) (flat_map (λ p. lowering_items p.ty) f.params)
-        (found-left w.items (signature_items f.result ++ flat_map (λ p. lowering_items p.ty) f.params) (lifting_items f.result) fits.found))
+        (found-parts w.items asked_by_expr b.words (expr.Local q ∷ []) call_words refl (found-words w.items (import_decl b.number f) None b.number call_words asks.0)).0
         (all-used [] (param_idents f) (cleanup_list ∷ b.area ∷ [])) arguments0 within0
 
     abbrev s1 : State
@@ -583,9 +592,8 @@ module _ (f : Function) (i : FnItem) (written : IsWritten f i) (is_text : f.resu
 
       found_lift : runtime_item_named w.items (item_name StringLift) ≡ Some StringLift
       found_lift =
-          found-first w.items StringLift []
-          (found-right w.items (VecType ∷ []) (StringLift ∷ [])
-          (subst (λ r. Found w.items (lifting_items r)) is_text (found-right w.items (signature_items f.result ++ flat_map (λ p. lowering_items p.ty) f.params) (lifting_items f.result) fits.found)))
+          found-taken w.items la lb l.third (text_taken la lb l.third) refl
+          (found-parts w.items asked_by_stmt (stmt.Let la (word_at q 0 core.Pointer) ∷ stmt.Let lb (word_at q 1 core.Length) ∷ []) (text_taken la lb l.third) lifting refl asks.1).1
 
       block_free : (t : Block) → h.blocks ≡ t ∷ [] → t.address ≡ h.place → (is_taken h.place s8.taken ≡ false) × (block_at t.address t.size s8.heap.blocks ≡ Some t)
       block_free t one at =
@@ -698,7 +706,7 @@ of_result None = inr (λ e. cc)
 of_result (Some wit.String) = inl refl
 of_result (Some _) = inr (λ e. cc)
 
-module _ (f : Function) (i : FnItem) (written : IsWritten f i) (w : Setting) (fits : Fits f w) (vs : List WitValue) (args : List RustValue) (heap : Heap) (choices : Choices)
+module _ (f : Function) (i : FnItem) (written : IsWritten f i) (w : Setting) (fits : Fits f i w) (vs : List WitValue) (args : List RustValue) (heap : Heap) (choices : Choices)
     (good : AreValues (param_types f) vs) (stand : StandAll heap (param_types f) vs args) where
   abbrev Owes : Type 0
   Owes = CallsOnce (import_target f) f vs heap choices w.answer (run_item w i args heap choices) ⊎ MissesArea f heap choices (run_item w i args heap choices)

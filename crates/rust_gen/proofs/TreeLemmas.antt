@@ -10,6 +10,7 @@ use Rattle.rust_tree.specs.declared.item.FnItem.{FnItem}
 use Rattle.rust_tree.specs.declared.item.Item.{Item}
 use Rattle.rust_tree.specs.declared.item.Item.TheVariants as item
 use Rattle.rust_tree.specs.declared.runtime_item.RuntimeItem.{RuntimeItem}
+use Rattle.rust_tree.specs.declared.type_item.TypeItem.{TypeItem}
 use Rattle.rust_tree.specs.declared.place.FuncPlace.{FuncPlace}
 use Rattle.rust_tree.specs.Tree.{wrapper_count}
 use Rattle.rust_gen.specs.declared.opts.Opts.{Opts}
@@ -22,7 +23,7 @@ use Rattle.wit_model.specs.declared.world.World.{World}
 use Rattle.rust_tree.specs.declared.macros.ModuleMacro.{ModuleMacro}
 use Rattle.rust_tree.specs.declared.macros.RootMacro.{RootMacro}
 use Rattle.rust_tree.specs.declared.trait_item.TraitItem.{TraitItem}
-use Rattle.rust_gen.specs.Bound.{AreItems, Parts, export_items}
+use Rattle.rust_gen.specs.Bound.{AreItems, Parts, export_items, own_items}
 use Rattle.rust_gen.specs.ExportBody.{ArePartsWritten}
 use Rattle.rust_gen.specs.Exported.{area_of, file_macro, guest_trait, last_macro, static_area, trait_and_macro, where_any, world_macro}
 use Rattle.wrapper_run.specs.Areas.{needs_area}
@@ -100,15 +101,29 @@ length-places_from n ((k, entry.Interface _) ∷ es) = length-places_from (n + 1
 length-places_from n ((k, entry.Function f) ∷ es) = ap suc (length-places_from (n + 1) es)
 length-places_from n ((k, entry.Named _) ∷ es) = length-places_from (n + 1) es
 
+-- the items of a file, one part behind another
+pub own-first : (ts : List TypeItem) (ws : List FnItem) (es : List Parts) (world : World) (behind : List Item)
+    → own_items ts ws es world ++ behind ≡ map item.Type ts ++ (map item.Import ws ++ (flat_map export_items es ++ (trait_and_macro world ++ (area_of (exported_functions world) ++ behind))))
+own-first ts ws es world behind =
+    let area = area_of (exported_functions world) in
+    let traits = trait_and_macro world in
+    let exports = flat_map export_items es in
+    let imports = map item.Import ws in
+    append_assoc (map item.Type ts) (imports ++ (exports ++ (traits ++ area))) behind
+    ∙ ap (λ is. map item.Type ts ++ is)
+    (append_assoc imports (exports ++ (traits ++ area)) behind
+    ∙ ap (λ is. imports ++ is) (append_assoc exports (traits ++ area) behind ∙ ap (λ is. exports ++ is) (append_assoc traits area behind)))
+
 -- there is a place for each wrapper
 pub places_fit : (opts : Opts) (r : Resolve) (id : WorldId) (world : World) (items : List Item) (places : List FuncPlace)
     → AreItems IsWritten ArePartsWritten opts r id world items → places ≡ emitted_places world → length places ≡ wrapper_count items
 places_fit opts r id world items places a p =
     let last = last_macro world in
-    let runtime = runtime_module (runtime_items a.types world) in
+    let asked = runtime_items (own_items a.types a.wrappers a.exports world) in
+    let runtime = runtime_module asked in
     let traits = trait_and_macro world in
     let traits_none : wrapper_count traits ≡ 0 = no_wrapper-trait (exported_functions world) (guest_trait (exported_functions world)) (world_macro world) in
-    let runtime_none : wrapper_count runtime ≡ 0 = no_wrapper-runtime (runtime_items a.types world) in
+    let runtime_none : wrapper_count runtime ≡ 0 = no_wrapper-runtime asked in
     let last_none : wrapper_count last ≡ 0 = no_wrapper-macro (exported_functions world) (file_macro world) in
     let area = area_of (exported_functions world) in
     let area_none : wrapper_count area ≡ 0 = no_wrapper-area (list_any (λ f. needs_area f.result) (exported_functions world)) in
@@ -121,7 +136,7 @@ places_fit opts r id world items places a p =
     let imports = wrapper_count-imports a.wrappers in
     let exports = wrapper_count-exports a.exports in
     let front = skip-count a.types (map item.Import a.wrappers ++ (flat_map export_items a.exports ++ behind)) in
-    let all = ap wrapper_count a.are in
+    let all = ap wrapper_count (a.are ∙ own-first a.types a.wrappers a.exports world (runtime ++ last)) in
     let counted : wrapper_count items ≡ length a.wrappers + length a.exports = omega arith in
     ap length p ∙ length-append (places_from 0 world.imports) (places_from 0 world.exports)
     ∙ ap (λ n. n + length (places_from 0 world.exports)) (length-places_from 0 world.imports ∙ sym (AllZip-long IsWritten (imported_functions world) a.wrappers a.wraps))

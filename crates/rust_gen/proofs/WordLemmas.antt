@@ -2,6 +2,8 @@
 use Rattle.std.proofs.Common.{◌≡◌, ℕ, List, true, Some, refl, sym, ap, ◌∙◌, subst, ◌≢◌, append-nil}
 use Rattle.std.specs.Prelude.{ℤ, unsigned_abs, ◌++◌, Bool, None, Ok, [], false, pos, ◌∷◌}
 use Rattle.std.specs.Int.{cast_signed, w8, w16}
+use Rattle.std.specs.List.{flat_map}
+use Rattle.rust_tree.specs.Asked.{asked_by_stmt}
 use Rattle.wit_model.specs.declared.types.WitType.{WitType}
 use Rattle.wit_model.specs.declared.types.WitType.TheVariants as wit
 use Rattle.rust_tree.specs.declared.expr.CastType.{CastType}
@@ -22,19 +24,18 @@ use Rattle.wrapper_run.specs.Locals.{local_named, value_of, bind}
 use Rattle.wrapper_run.specs.Represents.{Lends, Takes, TakesNumber}
 use Rattle.wrapper_run.specs.Setting.{Setting}
 use Rattle.wrapper_run.proofs.OwningLemmas.{ArePlain, owned-scalar}
-use Rattle.wrapper_run.specs.Run.{eval, run_stmts, runtime_item_named}
+use Rattle.wrapper_run.specs.Run.{eval, run_stmts}
 use Rattle.wrapper_run.specs.Value.{IsScalar, Scalar, char, f32, f64, number, truth}
 use Rattle.wrapper_run.proofs.NumberLemmas.{answered-i32, answered-i64, answered-number, converted-narrow, converted-wide, low_i32-u8, low_i32-u16, low_i32-s8, low_i32-s16, low_i32-s32, low_i64-s64, answered-bool, answered-char, answered-f32, answered-f64, converted-char, converted-f32, converted-f64, lifted-bool, lifted-char, not-converted}
 use Rattle.wrapper_run.proofs.StepLemmas.{cast_gives, local_gives, call_gives, lift_gives}
 use Rattle.wit_model.specs.declared.wasm_type.WasmType.TheVariants as core
 use Rattle.rust_tree.specs.declared.runtime_item.RuntimeItem.TheVariants as item
 use Rattle.rust_gen.specs.declared.scope.LocalKind.TheVariants as kind
-use Rattle.rust_gen.specs.Body.{LiftsBy, runtime_call, runtime_path, LiftsScalar}
+use Rattle.rust_gen.specs.Body.{LiftsBy, lowering_item, runtime_call, runtime_path, LiftsScalar}
 use Rattle.rust_gen.specs.Printed.{core_type, printed_type}
-use Rattle.rust_gen.specs.Runtime.{lowering_item, lifting_items}
 use Rattle.rust_tree.specs.declared.runtime_item.RuntimeItem.TheVariants.{BoolLift, CharLift}
 use Rattle.rust_tree.specs.declared.expr.Expr.{Expr}
-use Rattle.rust_gen.proofs.AskedLemmas.{Found, found-first}
+use Rattle.rust_gen.proofs.AskedLemmas.{Found, found-bound}
 use Rattle.wrapper_run.specs.declared.state.Local.{Local}
 use Rattle.rust_gen.specs.declared.scope.LocalKind.{LocalKind}
 use Rattle.rust_tree.specs.declared.runtime_item.RuntimeItem.{RuntimeItem}
@@ -127,7 +128,7 @@ at_once ty v w name x before after stmts e f s given (n, q, same) (used, at) g a
 -- a local that holds what a lift makes of a cast word
 by_item : (ty : WitType) (v : Scalar) (w : Setting) (k : LocalKind) (i : RuntimeItem) (to : CastType) (name : List ℕ) (x : Word) (z : ℤ) (before after : Scope) (stmts : List Stmt) (e : Expr) (s : State)
     → LiftsBy k i (expr.Cast (expr.Local name) to) before stmts e after → Reads before name x s → integer_of_word x ≡ Some z
-    → runtime_item_named w.items (item_name i) ≡ Some i → converted i (val.Value (cast_integer to z)) ≡ None → lift_of w.form i (val.Value (cast_integer to z)) ≡ Some (Ok (rust_value ty v))
+    → Found w.items (flat_map asked_by_stmt stmts) → converted i (val.Value (cast_integer to z)) ≡ None → lift_of w.form i (val.Value (cast_integer to z)) ≡ Some (Ok (rust_value ty v))
     → answer_of (printed_type ty) (val.Value (rust_value ty v)) ≡ Some (Some (rust_value ty v)) → LiftsTo ty v w name x before after stmts e s
 unfolding bind
 by_item ty v w k i to name x z before after stmts e s (t, d, is, tail) (used, at) n f c l a =
@@ -137,7 +138,7 @@ by_item ty v w k i to name x z before after stmts e s (t, d, is, tail) (used, at
     let plain : owned given ≡ [] = owned-scalar ty v in
     let call : eval w (runtime_call i (expr.Cast (expr.Local name) to)) s ≡ Done given s =
     call_gives w (runtime_path i) (expr.Cast (expr.Local name) to ∷ []) (val.Value (cast_integer to z) ∷ []) s (cast_gives w name to x z s at n, tt)
-    ∙ lift_gives w (runtime_path i) (item_name i) i (val.Value (cast_integer to z)) (rust_value ty v) s (calls_runtime i) f c l in
+    ∙ lift_gives w (runtime_path i) (item_name i) i (val.Value (cast_integer to z)) (rust_value ty v) s (calls_runtime i) (found-bound w.items i m (expr.Cast (expr.Local name) to) stmts is f) c l in
     record {
       more = made ∷ [];
       runs =
@@ -160,7 +161,7 @@ by_item ty v w k i to name x z before after stmts e s (t, d, is, tail) (used, at
 pub record Taken (ty : WitType) (v : Scalar) (x : Word) : Type 0 where
   pub is_word : is_word_of (core_type ty) x ≡ true
   pub lifts : (w : Setting) (name : List ℕ) (before after : Scope) (stmts : List Stmt) (e : Expr) (s : State) → LiftsScalar ty name before stmts e after
-      → Found w.items (lifting_items (Some ty)) → is_used before.used name ≡ true → value_of (local_named name s.locals) ≡ Some (val.Word x) → LiftsTo ty v w name x before after stmts e s
+      → Found w.items (flat_map asked_by_stmt stmts) → is_used before.used name ≡ true → value_of (local_named name s.locals) ≡ Some (val.Word x) → LiftsTo ty v w name x before after stmts e s
 
 taken_by : (ty : WitType) (v : ℤ) (x : Word) (p : Primitive) (to : CastType) (z u : ℤ)
     → ((name : List ℕ) (before after : Scope) (stmts : List Stmt) (e : Expr) → LiftsScalar ty name before stmts e after → (stmts ≡ []) × (e ≡ expr.Cast (expr.Local name) to) × (after ≡ before))
@@ -198,7 +199,7 @@ taken-bool : (b : Bool) (z : ℤ) → bit b ≡ low 8 z → Taken wit.Bool (trut
 taken-bool b z q = record {
   is_word = refl;
   lifts = λ w name before after stmts e s l found used at.
-      by_item wit.Bool (truth b) w kind.Bool BoolLift cast.U8 name (word.I32 z) z before after stmts e s l (used, at) refl (found-first w.items BoolLift [] found)
+      by_item wit.Bool (truth b) w kind.Bool BoolLift cast.U8 name (word.I32 z) z before after stmts e s l (used, at) refl found
       (not-converted (val.Value (cast_integer cast.U8 z))).0 (ap (λ n. lift_of w.form BoolLift (val.Value (value.Num wit.U8 n))) (sym q) ∙ lifted-bool w.form b) (answered-bool b);
 }
 
@@ -206,7 +207,7 @@ taken-char : (c : ℕ) (z : ℤ) → is_scalar c ≡ true → pos c ≡ low 32 z
 taken-char c z k q = record {
   is_word = refl;
   lifts = λ w name before after stmts e s l found used at.
-      by_item wit.Char (char c) w kind.Char CharLift cast.U32 name (word.I32 z) z before after stmts e s l (used, at) refl (found-first w.items CharLift [] found)
+      by_item wit.Char (char c) w kind.Char CharLift cast.U32 name (word.I32 z) z before after stmts e s l (used, at) refl found
       (not-converted (val.Value (cast_integer cast.U32 z))).1 (ap (λ n. lift_of w.form CharLift (val.Value (value.Num wit.U32 n))) (sym q) ∙ lifted-char w.form c k) (answered-char c k);
 }
 

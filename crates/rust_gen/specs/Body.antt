@@ -11,7 +11,7 @@ use Rattle.rust_tree.specs.declared.expr.Expr.TheVariants as expr
 use Rattle.rust_tree.specs.declared.item.FnItem.{FnItem}
 use Rattle.rust_tree.specs.declared.path.Path.{Path}
 use Rattle.rust_tree.specs.declared.runtime_item.RuntimeItem.{RuntimeItem}
-use Rattle.rust_tree.specs.declared.runtime_item.RuntimeItem.TheVariants.{BoolLift, CharLift, StringLift}
+use Rattle.rust_tree.specs.declared.runtime_item.RuntimeItem.TheVariants.{AsI32, AsI64, AsF32, AsF64, BoolLift, CharLift, StringLift}
 use Rattle.rust_tree.specs.declared.stmt.Block.{Block}
 use Rattle.rust_tree.specs.declared.stmt.ImportDecl.{ImportDecl}
 use Rattle.rust_tree.specs.declared.stmt.Stmt.{Stmt}
@@ -22,7 +22,6 @@ use Rattle.rust_gen.specs.declared.scope.LocalKind.{LocalKind}
 use Rattle.rust_gen.specs.declared.scope.LocalKind.TheVariants as kind
 use Rattle.rust_gen.specs.Docs.{doc_lines}
 use Rattle.rust_gen.specs.Printed.{printed_result, core_params, core_result, text_size}
-use Rattle.rust_gen.specs.Runtime.{lowering_item}
 use Rattle.rust_gen.specs.declared.scope.Scope.{Scope}
 use Rattle.rust_gen.specs.Scope.{Declares, IsFixedName, first_scope, numbered, ret_area}
 use Rattle.wit_model.specs.Bytes.{Bytes}
@@ -51,6 +50,14 @@ abbrev pub runtime_call : RuntimeItem → Expr → Expr
 runtime_call i e = expr.Call (runtime_path i) (e ∷ [])
 
 -- lowering
+
+-- the item that makes a value of this type a core value, where one does
+abbrev pub lowering_item : WitType → RuntimeItem
+lowering_item wit.U64 = AsI64
+lowering_item wit.S64 = AsI64
+lowering_item wit.F32 = AsF32
+lowering_item wit.F64 = AsF64
+lowering_item _ = AsI32
 
 -- a parameter as a core value by a conversion
 abbrev pub converted : Param → Expr

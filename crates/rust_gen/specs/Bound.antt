@@ -1,6 +1,6 @@
 -- How the tree of a world is made up: the definitions of its own types; one wrapper for each imported function, in the world's order, then one for each exported
 -- function, with its post-return function where it has one, with their places; the trait and the macros of the exported functions;
--- and between the macros their static area, and the runtime items that definitions and wrappers ask for.
+-- and between the macros their static area, and the runtime items that the items before them ask for.
 use Rattle.std.specs.Prelude.{◌≡◌, List, [], ◌∷◌, ◌++◌, Option, None, Some, map}
 use Rattle.std.specs.List.{AllZip, flat_map}
 use Rattle.wit_model.specs.declared.function.Function.{Function}
@@ -29,12 +29,17 @@ abbrev pub export_items : Parts → List Item
 export_items (e, None) = item.Export e ∷ []
 export_items (e, Some p) = item.Export e ∷ item.PostReturn p ∷ []
 
+-- the items that may ask for runtime items
+abbrev pub own_items : List TypeItem → List FnItem → List Parts → World → List Item
+own_items types wrappers exports world =
+    map item.Type types ++ (map item.Import wrappers ++ (flat_map export_items exports ++ (trait_and_macro world ++ area_of (exported_functions world))))
+
 -- `IsWrapper` says when an item is the wrapper of an imported function, and `IsExport` when parts are those of an exported function
 pub record AreItems (IsWrapper : Function → FnItem → Type 0) (IsExport : Function → Parts → Type 0) (opts : Opts) (r : Resolve) (id : WorldId) (world : World) (items : List Item) : Type 0 where
   pub types : List TypeItem
   pub wrappers : List FnItem
   pub exports : List Parts
-  pub are : items ≡ map item.Type types ++ (map item.Import wrappers ++ (flat_map export_items exports ++ (trait_and_macro world ++ (area_of (exported_functions world) ++ (runtime_module (runtime_items types world) ++ last_macro world)))))
+  pub are : items ≡ own_items types wrappers exports world ++ (runtime_module (runtime_items (own_items types wrappers exports world)) ++ last_macro world)
   pub defined : AreDefinitions opts r id world types
   pub wraps : AllZip IsWrapper (imported_functions world) wrappers
   pub exported : AllZip IsExport (exported_functions world) exports

@@ -5,6 +5,7 @@ use Rattle.wit_model.specs.declared.resolve.Resolve.{Resolve}
 use Rattle.wit_model.specs.declared.world.World.{World}
 use Rattle.wit_model.specs.Bytes.{Bytes}
 use Rattle.gen_files.specs.Entries.{Entry, entry_of, with_pushed}
+use Rattle.rust_tree.specs.Asked.{asked_in}
 use Rattle.rust_tree.specs.Text.{text}
 use Rattle.rust_tree.specs.Tree.{Tree}
 use Rattle.rust_tree.specs.WellNamed.{are_well_named}
@@ -13,7 +14,7 @@ use Rattle.rust_gen.specs.Body.{IsWritten}
 use Rattle.rust_gen.specs.Bound.{Binds}
 use Rattle.rust_gen.specs.ExportBody.{ArePartsWritten}
 use Rattle.rust_gen.specs.Faithful.{AreFaithful}
-use Rattle.rust_gen.specs.Served.{Serves, asked_of, runtime_in}
+use Rattle.rust_gen.specs.Served.{Serves, runtime_in}
 use Rattle.rust_gen.specs.Wrapper.{Wraps, WrapsParts}
 
 unfoldable pub rust_ending : Bytes
@@ -34,12 +35,12 @@ abbrev pub AreWritten : Opts → Resolve → WorldId → World → Tree → Type
 AreWritten opts r id world tree = Binds IsWritten ArePartsWritten opts r id world tree
 
 -- the tree is that of a world: it holds the definitions of the world's own types, and a wrapper for each function, which from outside has the signature and the core import or the
--- method of its function, is written as the format says, and carries each call of it; `_rt` holds what these ask for; and each name
+-- method of its function, is written as the format says, and carries each call of it; `_rt` holds what its items ask for; and each name
 -- is an identifier
 pub record IsTreeOf (opts : Opts) (r : Resolve) (id : WorldId) (world : World) (tree : Tree) : Type 0 where
   pub bound : Binds Wraps WrapsParts opts r id world tree
   pub written : AreWritten opts r id world tree
-  pub runtime : Serves (asked_of world tree.items) (runtime_in tree.items)
+  pub runtime : Serves (asked_in tree.items) (runtime_in tree.items)
   pub faithful : AreFaithful world tree
   pub well_named : are_well_named tree.options tree.items ≡ true
 

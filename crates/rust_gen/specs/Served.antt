@@ -1,15 +1,11 @@
--- The law of the module `_rt`: what stands in it, by what the definitions, the wrappers and the trait ask for.
+-- The law of the module `_rt`: what stands in it, by what the items of the file name.
 use Rattle.std.specs.Prelude.{◌≡◌, true, List, [], ◌∷◌, ◌++◌, map}
 use Rattle.std.specs.List.{Contains}
 use Rattle.wit_model.specs.Distinct.{is_distinct}
-use Rattle.wit_model.specs.declared.world.World.{World}
 use Rattle.rust_tree.specs.declared.item.Item.{Item}
 use Rattle.rust_tree.specs.declared.item.Item.TheVariants as item
 use Rattle.rust_tree.specs.declared.runtime_item.RuntimeItem.{RuntimeItem}
-use Rattle.rust_tree.specs.declared.type_item.TypeItem.{TypeItem}
 use Rattle.rust_tree.specs.Runtime.{item_name, needed_items}
-use Rattle.rust_gen.specs.Emitted.{exported_functions, imported_functions}
-use Rattle.rust_gen.specs.Runtime.{asked_items}
 
 -- the items of a file that stand in `_rt`
 abbrev pub runtime_in : List Item → List RuntimeItem
@@ -27,13 +23,3 @@ pub record Serves (asked items : List RuntimeItem) : Type 0 where
   pub once : is_distinct (map item_name items) ≡ true
   pub all : (i : RuntimeItem) → IsDue asked i → Contains items i
   pub no_other : (i : RuntimeItem) → Contains items i → IsDue asked i
-
--- the definitions of types of a file
-abbrev pub types_of : List Item → List TypeItem
-types_of [] = []
-types_of (item.Type t ∷ items) = t ∷ types_of items
-types_of (_ ∷ items) = types_of items
-
--- what a file's definitions ask for, the wrappers of its world, and the trait of its exports
-abbrev pub asked_of : World → List Item → List RuntimeItem
-asked_of world items = asked_items (types_of items) (imported_functions world) (exported_functions world)

@@ -1,14 +1,14 @@
 //! The forms of the tree that wrappers are made of.
 
 ghost use Rattle.std.specs.Prelude.{◌≡◌, [], ◌∷◌, IfOk};
-ghost use Rattle.rust_gen.specs.Body.{local_path, root_module, runtime_call, runtime_name, runtime_path};
+ghost use Rattle.rust_gen.specs.Body.{local_path, lowering_item, root_module, runtime_call, runtime_name, runtime_path};
 ghost use Rattle.rust_gen.specs.ExportBody.{forget_path};
 ghost use Rattle.rust_tree.specs.declared.expr.Expr.TheVariants as expr;
 
 use crate::lists::{one, two};
 use rust_tree::{CastType, Expr, Path, RuntimeItem};
 use std::alloc::Global;
-use wit_model::{Boxed, OutOfMemory, Text};
+use wit_model::{Boxed, OutOfMemory, Text, WitType};
 
 #[tactic(auto, unfolding(crate::specs::Body::runtime_name))]
 fn runtime_name(alloc: Global) -> Result<Text, OutOfMemory>
@@ -46,6 +46,19 @@ pub(crate) fn local_path(alloc: Global, name: Text) -> Result<Path, OutOfMemory>
         supers: 0,
         names,
     })
+}
+
+/// The item that makes a value of this type a core value, where one does.
+pub(crate) fn lowering_item(ty: WitType) -> RuntimeItem
+    ensures { result ≡ lowering_item ty }
+{
+    match ty {
+        WitType::U64 => RuntimeItem::AsI64,
+        WitType::S64 => RuntimeItem::AsI64,
+        WitType::F32 => RuntimeItem::AsF32,
+        WitType::F64 => RuntimeItem::AsF64,
+        _ => RuntimeItem::AsI32,
+    }
 }
 
 /// The call of a function of `_rt` on one operand.

@@ -10,8 +10,7 @@ ghost use Rattle.rust_gen.specs.Scope.{numbered};
 ghost use Rattle.rust_gen.specs.declared.scope.LocalKind.TheVariants as kind;
 
 use crate::export::value_name;
-use crate::forms::{forget_call, runtime_call};
-use crate::runtime::lowering_item;
+use crate::forms::{forget_call, lowering_item, runtime_call};
 use crate::scope::{LocalKind, Scope, numbered};
 use rust_tree::{Block, Expr, Stmt};
 use std::alloc::Global;

@@ -11,8 +11,7 @@ ghost use Rattle.rust_gen.specs.Lowering.{LowersOne, LowersParams};
 ghost use Rattle.rust_gen.specs.Scope.{Declares, numbered};
 ghost use Rattle.rust_gen.specs.declared.scope.LocalKind.TheVariants as kind;
 
-use crate::forms::runtime_call;
-use crate::runtime::lowering_item;
+use crate::forms::{lowering_item, runtime_call};
 use crate::scope::{LocalKind, Scope, numbered};
 use rust_tree::{Expr, Stmt, to_rust_ident};
 use std::alloc::Global;

@@ -115,17 +115,12 @@ fn world_items(
     let imports = functions_in(alloc, world.imports.as_slice())?;
     let exports = functions_in(alloc, world.exports.as_slice())?;
     let types = definitions_of(alloc, opts, resolve, id, world)?;
-    let asked = runtime_items(
-        alloc,
-        types.as_slice(),
-        imports.as_slice(),
-        exports.as_slice(),
-    )?;
     let mut items = type_items(alloc, types)?;
     push_imports(alloc, &mut items, imports.as_slice())?;
     push_exports(alloc, &mut items, exports.as_slice())?;
     push_trait_and_macro(alloc, &mut items, world, exports.as_slice())?;
     push_area(&mut items, exports.as_slice())?;
+    let asked = runtime_items(alloc, items.as_slice())?;
     push_runtime(&mut items, asked)?;
     push_last_macro(alloc, &mut items, world, exports.as_slice())?;
     Ok(items)

@@ -1,8 +1,0 @@
-use Rattle.std.proofs.Common.{◌≡◌, Some, fold, drop}
-use Rattle.std.specs.List.{flat_map}
-use Rattle.rust_gen.specs.Runtime.{lifting_items, with_asked}
-use Rattle.rust_gen.proofs.runtime.ask_for_lifts.Given as goal
-
-abbrev pub invariant-loop-p : goal.invariant-loop-p
-invariant-loop-p l =
-    fold with_asked l.items (flat_map (λ p. lifting_items (Some p.ty)) (drop l.p-index l.params)) ≡ fold with_asked l.initial.items (flat_map (λ p. lifting_items (Some p.ty)) l.params)
