@@ -36,7 +36,7 @@ use Rattle.wrapper_run.specs.Honest.{HonestImplementation}
 use Rattle.wrapper_run.specs.Locals.{bind, local_named, value_of}
 use Rattle.wrapper_run.specs.Places.{area_in}
 use Rattle.wrapper_run.specs.Represents.{GivesResult, GivesText, HasText, IsAddress, Lends, TakesAll, block_of}
-use Rattle.wrapper_run.specs.Run.{bound, eval, give_and_leave, run_at, run_block, run_stmts, run_tail, runtime_item_named}
+use Rattle.wrapper_run.specs.Run.{bound, eval, give_and_leave, run_at, run_block, run_stmts, run_tail}
 use Rattle.wrapper_run.specs.Setting.{Setting, stuck}
 use Rattle.wrapper_run.specs.StandsFor.{StandsAnswered, rust_value}
 use Rattle.wrapper_run.specs.TextBlocks.{are_distinct, text_blocks}

@@ -26,7 +26,7 @@ use Rattle.wrapper_run.specs.Act.{Outcome, Done, Stopped, and_then, pure}
 use Rattle.wrapper_run.specs.Effect.{bit, is_word_of, word_of}
 use Rattle.wrapper_run.specs.Locals.{bind, local_named, value_of}
 use Rattle.wrapper_run.specs.Represents.{LendsAll, LendsWords, LiesAt}
-use Rattle.wrapper_run.specs.Run.{run_stmt, run_stmts, runtime_item_named, words_of}
+use Rattle.wrapper_run.specs.Run.{run_stmt, run_stmts, words_of}
 use Rattle.wrapper_run.specs.Setting.{Setting}
 use Rattle.wrapper_run.specs.StandsFor.{StandAll, Stands, rust_value}
 use Rattle.wrapper_run.specs.Value.{AreValues, IsScalar, IsValue, Scalar, WitValue, char, f32, f64, number, scalar, text, truth}
