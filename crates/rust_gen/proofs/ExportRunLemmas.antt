@@ -217,7 +217,7 @@ finishes_unit w outer more t before rest s (n, q) (heap, a) split plain_outer pl
       words = [];
       state = record back { locals = [] };
       runs =
-          ap (λ o. and_then o (finish w (length outer) None t rest)) (value_gives w type.Unit None unit heap s a returned-unit)
+          ap (λ o. and_then o (finish w (length outer) None t rest)) (value_gives w type.Unit None unit heap s a (returned-unit w.items))
           ∙ ap (λ o. and_then o (λ _. keep_result w None unit >> run_to_words w None rest)) (leaves_inner w outer more left split plain_more)
           ∙ ap (λ o. and_then (free_all w o back) (λ _. run_to_words w None rest)) owned-unit
           ∙ ap (λ stmts. and_then (and_then (run_stmts w stmts back) (λ _. run_tail w rest.tail)) (λ v. give_and_leave w (core_answer None v))) n
@@ -252,7 +252,7 @@ finishes_scalar w outer more ty x t before rest s (e, q, l) found good (heap, _,
       words = g.word ∷ [];
       state = record ends { locals = [] };
       runs =
-          ap (λ o. and_then o (finish w (length outer) (Some ty) t rest)) (value_gives w (printed_type ty) (Some r) (val.Value r) heap s gave (returned-value (printed_type ty) r (answered-scalar ty x good)))
+          ap (λ o. and_then o (finish w (length outer) (Some ty) t rest)) (value_gives w (printed_type ty) (Some r) (val.Value r) heap s gave (returned-value w.items (printed_type ty) r (answered-scalar ty x good)))
           ∙ ap (λ c. and_then (leave_to w (length outer) left) (λ _. keep_result w (Some (value_name t)) (val.Value r) >> run_to_words w c rest)) (one_word ty nt)
           ∙ ap (λ o. and_then o (λ _. keep_result w (Some (value_name t)) (val.Value r) >> run_to_words w (Some (core_type ty)) rest)) (leaves_inner w outer more left split plain_more)
           ∙ ap (λ tail. and_then (and_then (run_stmts w rest.stmts kept) (λ _. run_tail w tail)) (λ v. give_and_leave w (core_answer (Some (core_type ty)) v))) q
@@ -325,7 +325,7 @@ finishes_text w outer more bytes t lifted before rest s d (e, q, l) area small (
     to_kept : and_then (take_value w type.String s) (finish w (length outer) (Some wit.String) t rest)
         ≡ and_then (and_then (run_stmts w rest.stmts kept) (λ _. eval w e)) (λ v. give_and_leave w (core_answer (Some core.Pointer) v))
     to_kept =
-        ap (λ o. and_then o (finish w (length outer) (Some wit.String) t rest)) (value_gives w type.String (Some r) (val.Value (value.Buffer g.address (length bytes) true)) heap s gave (returned-as type.String r (value.Buffer g.address (length bytes) true) g.answers))
+        ap (λ o. and_then o (finish w (length outer) (Some wit.String) t rest)) (value_gives w type.String (Some r) (val.Value (value.Buffer g.address (length bytes) true)) heap s gave (returned-as w.items type.String r (value.Buffer g.address (length bytes) true) g.answers))
         ∙ ap (λ o. and_then o (λ _. keep_result w (Some (value_name t)) (val.Value (value.Buffer g.address (length bytes) true)) >> run_to_words w (Some core.Pointer) rest)) (leaves_inner w outer more left split plain_more)
         ∙ ap (λ tail. and_then (and_then (run_stmts w rest.stmts kept) (λ _. run_tail w tail)) (λ v. give_and_leave w (core_answer (Some core.Pointer) v))) q
 

@@ -173,7 +173,7 @@ record LiftedOne (w : Setting) (s : State) (n : ℕ) (ty : WitType) (v : WitValu
   pub gives : (t : State) (front behind : List Local) → t.locals ≡ (front ++ more) ++ behind → Fresh after.used behind → ReadsAll (arg_names n (core_words ty)) (map val.Word words) front
       → eval w e t ≡ Done given (record t { locals = (front ++ left) ++ behind })
   pub value : RustValue
-  pub passes : passed_as (printed_type ty) given ≡ Some value
+  pub passes : passed_as w.items (printed_type ty) given ≡ Some value
   pub stands : StandsOwned s.heap ty v value
   pub owns : listed (text_block value) ≡ own
 
@@ -198,7 +198,7 @@ lift_scalar w s n ty v words own before after stmts e lifts good (x, is, takes, 
       given = l.given;
       gives = λ t front behind here fresh reads. l.gives t front behind here fresh (single front reads) ∙ ap (λ ls. Done l.given (record t { locals = ls })) here;
       value = r;
-      passes = passed (printed_type ty) l.given r l.answers;
+      passes = passed w.items (printed_type ty) l.given r l.answers;
       stands = refl;
       owns = ap listed (no_text_block ty v) ∙ sym none;
     }
@@ -262,7 +262,7 @@ lift_text w s n bytes words own before after stmts e (t, d, is, tail) (_, utf8, 
           ∙ text_gives w tx p size f2 behind u (here ∙ ap (λ ls. ls ++ behind) (split front (text_local tx p size))) (fresh-apart after.used behind tx fresh used_tx)
           ∙ ap (λ ls. Done v (record u { locals = ls ++ behind })) (sym (split front (used_local tx p size)));
       value = value.Buffer p size true;
-      passes = passed type.String v (value.Buffer p size true) (answered-text p size);
+      passes = passed w.items type.String v (value.Buffer p size true) (answered-text p size);
       stands = (p, at, refl, has);
       owns = owns_block p bytes ∙ sym block;
     }
@@ -291,7 +291,7 @@ pub record LiftedAll (w : Setting) (s : State) (n : ℕ) (params : List Param) (
   pub gives : (t : State) (front behind : List Local) → t.locals ≡ (front ++ more) ++ behind → Fresh after.used behind → ReadsAll (arg_names n (param_words params)) (map val.Word words) front
       → all (map (eval w) arguments) t ≡ Done given (record t { locals = (front ++ left) ++ behind })
   pub values : List RustValue
-  pub passes : values_of (map trait_param params) given ≡ Some values
+  pub passes : values_of w.items (map trait_param params) given ≡ Some values
   pub stands : StandAllOwned s.heap (types_of params) vs values
   pub owns : text_blocks values ≡ own
 
@@ -360,7 +360,7 @@ lift_all w s n (p ∷ params) (v ∷ vs) words own before after stmts arguments 
           ∙ ap (λ ls. Done (a.given ∷ b.given) (record t { locals = ls ++ behind })) (append_assoc front a.left b.left);
       values = a.value ∷ b.values;
       passes =
-          ap (option_and_then (λ r. option_map (λ rs. r ∷ rs) (values_of (map trait_param params) b.given))) a.passes
+          ap (option_and_then (λ r. option_map (λ rs. r ∷ rs) (values_of w.items (map trait_param params) b.given))) a.passes
           ∙ ap (option_map (λ rs. a.value ∷ rs)) b.passes;
       stands = (a.value, b.values, refl, a.stands, b.stands);
       owns = ap (λ bs. bs ++ text_blocks b.values) a.owns ∙ ap (λ bs. own1 ++ bs) b.owns ∙ sym blocks;

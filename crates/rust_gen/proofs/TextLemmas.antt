@@ -60,6 +60,7 @@ use Rattle.wrapper_run.proofs.LocalLemmas.{ReadsAll, last-append, reads-new, rea
 use Rattle.wrapper_run.proofs.OwningLemmas.{Adds, ArePlain, adds-one, adds-then, owned-unit}
 use Rattle.wrapper_run.proofs.StepLemmas.{Give, Quiet, call_gives, ended-calls, import_gives, local_gives, quiet_answer, quiet_answers, quiet_drop, quiet_local, quiet_pure, quiet_runtime, quiet_then}
 use Rattle.wrapper_run.proofs.QuietSteps.{quiet_let}
+use Rattle.wrapper_run.proofs.TypedLemmas.{answered_in}
 use Rattle.wrapper_run.proofs.TakeLemmas.{answered-text, area_gives, leaves_one, load_gives, used-plain, quiet_load, quiet_raw, text_gives, text_local, used_local, words_give}
 use Rattle.rust_gen.proofs.TakenLemmas.{AreFree, addresses, take_stmts, taken-last, taken_over, takes_text}
 use Rattle.wrapper_run.specs.Represents.{HasText, block_of}
@@ -657,7 +658,8 @@ module _ (f : Function) (i : FnItem) (written : IsWritten f i) (is_text : f.resu
           ∙ ap (λ o. and_then (and_then (and_then o (bind ln)) (λ _. run_stmts w (take_stmts la ln by tx))) (λ _. eval w (expr.Local tx) >>= behind)) (local_gives w lb size s7 (reads-new lb (Some size) l6) refl)
           ∙ sym (and_then-assoc (run_stmts w (take_stmts la ln by tx) s8) (λ _. eval w (expr.Local tx)) behind)
           ∙ ap (λ o. and_then o behind) te.runs
-          ∙ ap (λ o. and_then (or_stop (stuck w) o s9) (λ r. leave_to w 0 >> pure r)) (answered-text h.place (length bytes))
+          ∙ ap (λ o. and_then (or_stop (stuck w) o s9) (λ r. leave_to w 0 >> pure r))
+          (answered_in w.items type.String (val.Value buffer) (Some buffer) (answered-text h.place (length bytes)))
           ∙ ap (λ o. and_then o (λ _. pure (Some buffer))) leaves
 
       carries_text : Carries f (Some (text bytes)) heap (run_item w i args heap choices)

@@ -37,6 +37,7 @@ declared-append (stmt.Let n e ∷ a) b = declared-append a b
 declared-append (stmt.Expr e ∷ a) b = declared-append a b
 declared-append (stmt.Area r ∷ a) b = declared-append a b
 declared-append (stmt.Store p o t e ∷ a) b = declared-append a b
+declared-append (stmt.StoreSmall p o t e ∷ a) b = declared-append a b
 declared-append (stmt.LetParts p e ∷ a) b = declared-append a b
 
 lowers-none : (ty : WitType) (before : Scope) (p : Param) (stmts : List Stmt) (words : List Expr) (after : Scope) → LowersAs ty before p stmts words after → declared stmts ≡ []

@@ -27,6 +27,7 @@ declared (stmt.Let _ _ ∷ stmts) = declared stmts
 declared (stmt.Expr _ ∷ stmts) = declared stmts
 declared (stmt.Area _ ∷ stmts) = declared stmts
 declared (stmt.Store _ _ _ _ ∷ stmts) = declared stmts
+declared (stmt.StoreSmall _ _ _ _ ∷ stmts) = declared stmts
 declared (stmt.LetParts _ _ ∷ stmts) = declared stmts
 
 -- a declaration of the core import of a function of the world

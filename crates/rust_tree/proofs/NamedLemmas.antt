@@ -9,7 +9,8 @@ use Rattle.wit_model.specs.declared.wasm_type.WasmType.{WasmType}
 use Rattle.rust_tree.specs.declared.expr.CastType.{CastType}
 use Rattle.rust_tree.specs.declared.expr.Expr.{Expr, Expr-F, fold-roll-Expr, the_lemmas}
 use Rattle.rust_tree.specs.declared.expr.Expr.TheVariants as expr
-use Rattle.rust_tree.specs.declared.expr.Expr.TheVariants.{rolls-Array, rolls-Call, rolls-Cast, rolls-FromRawParts, rolls-I32FromBool, rolls-Load, rolls-Tuple}
+use Rattle.rust_tree.specs.declared.expr.Expr.TheVariants.{rolls-Array, rolls-Call, rolls-Cast, rolls-FromRawParts, rolls-I32FromBool, rolls-Load, rolls-LoadSmall, rolls-Tuple}
+use Rattle.rust_tree.specs.declared.expr.SmallType.{SmallType}
 use Rattle.rust_tree.specs.declared.path.Path.{Path}
 use Rattle.rust_tree.specs.Ident.{is_ident}
 use Rattle.rust_tree.specs.WellNamed.{are_path_names, is_named_expr, named_step}
@@ -49,6 +50,9 @@ is_named-bool e = ap is_named_expr (sym (rolls-I32FromBool e)) ∙ fold-roll-Exp
 
 pub is_named-load : (e : Expr) (offset : ArchitectureSize) (ty : WasmType) → is_named_expr (expr.Load e offset ty) ≡ is_named_expr e
 is_named-load e offset ty = ap is_named_expr (sym (rolls-Load e offset ty)) ∙ fold-roll-Expr Bool named_step (Expr-F.Load e offset ty)
+
+pub is_named-load_small : (e : Expr) (offset : ArchitectureSize) (ty : SmallType) → is_named_expr (expr.LoadSmall e offset ty) ≡ is_named_expr e
+is_named-load_small e offset ty = ap is_named_expr (sym (rolls-LoadSmall e offset ty)) ∙ fold-roll-Expr Bool named_step (Expr-F.LoadSmall e offset ty)
 
 pub is_named-raw : (e : Expr) (len : Bytes) → is_named_expr (expr.FromRawParts e len) ≡ (is_named_expr e && is_ident len)
 is_named-raw e len = ap is_named_expr (sym (rolls-FromRawParts e len)) ∙ fold-roll-Expr Bool named_step (Expr-F.FromRawParts e len)

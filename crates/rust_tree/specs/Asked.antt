@@ -68,6 +68,7 @@ asked_step (Expr-F.Len name) = []
 asked_step (Expr-F.CastMut name) = []
 asked_step (Expr-F.ReturnPointer name) = []
 asked_step (Expr-F.Load address offset ty) = address
+asked_step (Expr-F.LoadSmall address offset ty) = address
 asked_step (Expr-F.FromRawParts pointer len) = VecType ∷ pointer
 asked_step (Expr-F.IntoBoxedBytes name) = []
 asked_step Expr-F.StaticPointer = []
@@ -90,6 +91,7 @@ asked_by_stmt (stmt.Let name e) = asked_by_expr e
 asked_by_stmt (stmt.Expr e) = asked_by_expr e
 asked_by_stmt (stmt.Area a) = []
 asked_by_stmt (stmt.Store address offset ty e) = asked_by_expr address ++ asked_by_expr e
+asked_by_stmt (stmt.StoreSmall address offset ty e) = asked_by_expr address ++ asked_by_expr e
 asked_by_stmt (stmt.LetParts p e) = asked_by_pattern p ++ asked_by_expr e
 
 abbrev pub asked_by_tail : Option Expr → List RuntimeItem

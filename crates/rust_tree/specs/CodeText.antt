@@ -11,6 +11,8 @@ use Rattle.rust_tree.specs.declared.area.ReturnArea.{ReturnArea}
 use Rattle.rust_tree.specs.declared.expr.CastType.{CastType}
 use Rattle.rust_tree.specs.declared.expr.CastType.TheVariants as cast
 use Rattle.rust_tree.specs.declared.expr.Expr.{Expr, Expr-F, fold-Expr}
+use Rattle.rust_tree.specs.declared.expr.SmallType.{SmallType}
+use Rattle.rust_tree.specs.declared.expr.SmallType.TheVariants as small
 use Rattle.rust_tree.specs.declared.path.Path.{Path}
 use Rattle.rust_tree.specs.declared.pattern.Pattern.{Pattern}
 use Rattle.rust_tree.specs.declared.pattern.Pattern.TheVariants as pattern
@@ -23,7 +25,7 @@ use Rattle.rust_tree.specs.declared.type_expr.Primitive.TheVariants as primitive
 use Rattle.rust_tree.specs.declared.type_expr.TypeExpr.{TypeExpr, TypeExpr-F, fold-TypeExpr}
 use Rattle.rust_tree.specs.declared.print.word.area.AreaWord.TheVariants.{PointerAlign, Align, AlignEnd, AreaType, AreaValue, AreaEnd}
 use Rattle.rust_tree.specs.declared.print.word.definition.DefinitionWord.TheVariants.{TupleEnd}
-use Rattle.rust_tree.specs.declared.print.word.expr.ExprWord.TheVariants.{Match, BoolArms, AsPtr, Len, CastMut, AreaPointer, Dereference, Add, CastTo, CastEnd, FromRawParts, PointerCast, IntoBoxedBytes, StaticPointer, OpenFields, CloseFields, OpenArray, CloseArray, LoneComma}
+use Rattle.rust_tree.specs.declared.print.word.expr.ExprWord.TheVariants.{Match, BoolArms, AsPtr, Len, CastMut, AreaPointer, Dereference, Add, CastTo, CastEnd, FromRawParts, PointerCast, IntoBoxedBytes, StaticPointer, OpenFields, CloseFields, OpenArray, CloseArray, LoneComma, Widened}
 use Rattle.rust_tree.specs.declared.print.word.import.ImportWord.TheVariants.{WasmLink, ExternBlock, LinkedFn, OtherFn, Unreachable, UnnamedParam}
 use Rattle.rust_tree.specs.declared.print.word.item.ItemWord.TheVariants.{EmptyDoc, Doc, UnitType, StrType, StringName}
 use Rattle.rust_tree.specs.declared.print.word.sign.Sign.{Sign}
@@ -95,6 +97,12 @@ cast_type_text cast.I16 = codes "i16"
 cast_type_text cast.U32 = codes "u32"
 cast_type_text cast.U64 = codes "u64"
 
+abbrev pub small_type_text : SmallType → Bytes
+small_type_text small.U8 = codes "u8"
+small_type_text small.I8 = codes "i8"
+small_type_text small.U16 = codes "u16"
+small_type_text small.I16 = codes "i16"
+
 abbrev pub core_type_text : WasmType → Bytes
 core_type_text core.I32 = codes "i32"
 core_type_text core.I64 = codes "i64"
@@ -129,8 +137,8 @@ abbrev pub receiver_text : Spelled → Bytes
 receiver_text e = bracket e Open ++ e.text ++ bracket e Close
 
 -- `.add(offset).cast::<T>()`, behind an address
-abbrev pub place_text : ArchitectureSize → WasmType → Bytes
-place_text offset ty = expr_word Add ++ term_text offset ++ expr_word CastTo ++ core_type_text ty ++ expr_word CastEnd
+abbrev pub place_text : ArchitectureSize → Bytes → Bytes
+place_text offset ty = expr_word Add ++ term_text offset ++ expr_word CastTo ++ ty ++ expr_word CastEnd
 
 -- `.cast(), len, len)`, behind a pointer
 abbrev pub capacity_text : Bytes → Bytes
@@ -180,7 +188,8 @@ expr_step (Expr-F.AsPtr name) = compound (name ++ expr_word AsPtr)
 expr_step (Expr-F.Len name) = compound (name ++ expr_word Len)
 expr_step (Expr-F.CastMut name) = compound (name ++ expr_word CastMut)
 expr_step (Expr-F.ReturnPointer name) = compound (name ++ expr_word AreaPointer)
-expr_step (Expr-F.Load address offset ty) = compound (expr_word Dereference ++ receiver_text address ++ place_text offset ty)
+expr_step (Expr-F.Load address offset ty) = compound (expr_word Dereference ++ receiver_text address ++ place_text offset (core_type_text ty))
+expr_step (Expr-F.LoadSmall address offset ty) = compound (expr_word Widened ++ receiver_text address ++ place_text offset (small_type_text ty) ++ sign Close)
 expr_step (Expr-F.FromRawParts pointer len) = compound (expr_word FromRawParts ++ receiver_text pointer ++ capacity_text len)
 expr_step (Expr-F.IntoBoxedBytes name) = compound (sign Open ++ name ++ expr_word IntoBoxedBytes)
 expr_step Expr-F.StaticPointer = compound (expr_word StaticPointer)
@@ -247,7 +256,16 @@ let_parts_text p e = sign Let ++ pattern_text p ++ sign Equals ++ expr_text e ++
 -- `*address.add(offset).cast::<T>() = e;`
 abbrev pub store_text : Expr → ArchitectureSize → WasmType → Expr → Bytes
 store_text address offset ty e =
-    expr_word Dereference ++ receiver_text (expr_spelled address) ++ place_text offset ty ++ sign Equals ++ expr_text e ++ sign StatementEnd
+    expr_word Dereference ++ receiver_text (expr_spelled address) ++ place_text offset (core_type_text ty) ++ sign Equals ++ expr_text e ++ sign StatementEnd
+
+-- `(e) as T`
+abbrev pub narrowed_text : Expr → SmallType → Bytes
+narrowed_text e ty = sign Open ++ expr_text e ++ sign Close ++ sign As ++ small_type_text ty
+
+-- `*address.add(offset).cast::<T>() = (e) as T;`
+abbrev pub small_store_text : Expr → ArchitectureSize → SmallType → Expr → Bytes
+small_store_text address offset ty e =
+    expr_word Dereference ++ receiver_text (expr_spelled address) ++ place_text offset (small_type_text ty) ++ sign Equals ++ narrowed_text e ty ++ sign StatementEnd
 
 -- the attribute lines of an alignment
 abbrev pub align_text : Alignment → Bytes
@@ -271,6 +289,7 @@ stmt_text (stmt.Let name e) = let_text name e
 stmt_text (stmt.Expr e) = expr_text e ++ sign StatementEnd
 stmt_text (stmt.Area a) = area_text a
 stmt_text (stmt.Store address offset ty e) = store_text address offset ty e
+stmt_text (stmt.StoreSmall address offset ty e) = small_store_text address offset ty e
 stmt_text (stmt.LetParts p e) = let_parts_text p e
 
 -- the last expression, as a line of its own, or nothing

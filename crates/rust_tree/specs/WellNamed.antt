@@ -106,6 +106,7 @@ named_step (Expr-F.Len name) = is_ident name
 named_step (Expr-F.CastMut name) = is_ident name
 named_step (Expr-F.ReturnPointer name) = is_ident name
 named_step (Expr-F.Load address offset ty) = address
+named_step (Expr-F.LoadSmall address offset ty) = address
 named_step (Expr-F.FromRawParts pointer len) = pointer && is_ident len
 named_step (Expr-F.IntoBoxedBytes name) = is_ident name
 named_step Expr-F.StaticPointer = true
@@ -131,6 +132,7 @@ is_named_stmt (stmt.Let name e) = is_ident name && is_named_expr e
 is_named_stmt (stmt.Expr e) = is_named_expr e
 is_named_stmt (stmt.Area a) = is_ident a.name
 is_named_stmt (stmt.Store address offset ty e) = is_named_expr address && is_named_expr e
+is_named_stmt (stmt.StoreSmall address offset ty e) = is_named_expr address && is_named_expr e
 is_named_stmt (stmt.LetParts p e) = is_named_pattern p && is_named_expr e
 
 abbrev pub is_named_block : Block → Bool

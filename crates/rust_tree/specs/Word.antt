@@ -8,7 +8,7 @@ use Rattle.rust_tree.specs.declared.print.word.item.ItemWord.TheVariants.{Preamb
 use Rattle.rust_tree.specs.declared.print.word.import.ImportWord.{ImportWord}
 use Rattle.rust_tree.specs.declared.print.word.import.ImportWord.TheVariants.{WasmLink, ExternBlock, LinkedFn, OtherFn, Unreachable, UnnamedParam}
 use Rattle.rust_tree.specs.declared.print.word.expr.ExprWord.{ExprWord}
-use Rattle.rust_tree.specs.declared.print.word.expr.ExprWord.TheVariants.{Match, BoolArms, AsPtr, Len, CastMut, AreaPointer, Dereference, Add, CastTo, CastEnd, FromRawParts, PointerCast, IntoBoxedBytes, StaticPointer, OpenFields, CloseFields, OpenArray, CloseArray, LoneComma}
+use Rattle.rust_tree.specs.declared.print.word.expr.ExprWord.TheVariants.{Match, BoolArms, AsPtr, Len, CastMut, AreaPointer, Dereference, Add, CastTo, CastEnd, FromRawParts, PointerCast, IntoBoxedBytes, StaticPointer, OpenFields, CloseFields, OpenArray, CloseArray, LoneComma, Widened}
 use Rattle.rust_tree.specs.declared.print.word.area.AreaWord.{AreaWord}
 use Rattle.rust_tree.specs.declared.print.word.area.AreaWord.TheVariants.{PointerAlign, Align, AlignEnd, AreaType, AreaValue, AreaEnd, StaticArea}
 use Rattle.rust_tree.specs.declared.print.word.export.ExportWord.{ExportWord}
@@ -86,6 +86,7 @@ expr_word CloseFields = codes " }"
 expr_word OpenArray = codes "["
 expr_word CloseArray = codes "]"
 expr_word LoneComma = codes ","
+expr_word Widened = codes "i32::from(*"
 
 -- a return area, and a static one
 unfoldable pub area_word : AreaWord → Bytes

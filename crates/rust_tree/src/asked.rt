@@ -85,7 +85,9 @@ fn ask_by_expr(asked: &mut List<RuntimeItem>, e: &Expr) -> Result<(), OutOfMemor
             ask_by_path(asked, path)?;
             ask_by_exprs(asked, arguments.as_slice())
         }
-        Expr::Load(address, _, _) => ask_by_expr(asked, address.get()),
+        Expr::Load(address, _, _) | Expr::LoadSmall(address, _, _) => {
+            ask_by_expr(asked, address.get())
+        }
         Expr::FromRawParts(pointer, _) => {
             asked.push(RuntimeItem::VecType)?;
             ask_by_expr(asked, pointer.get())
@@ -134,7 +136,7 @@ fn ask_by_stmt(asked: &mut List<RuntimeItem>, stmt: &Stmt) -> Result<(), OutOfMe
     match stmt {
         Stmt::Import(_) | Stmt::Area(_) => Ok(()),
         Stmt::Let(_, e) | Stmt::Expr(e) => ask_by_expr(asked, e),
-        Stmt::Store(address, _, _, e) => {
+        Stmt::Store(address, _, _, e) | Stmt::StoreSmall(address, _, _, e) => {
             ask_by_expr(asked, address)?;
             ask_by_expr(asked, e)
         }

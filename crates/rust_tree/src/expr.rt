@@ -12,6 +12,15 @@ pub enum CastType {
     U64,
 }
 
+/// A number of one or two bytes in memory.
+#[derive(Clone, Copy, Debug, PartialEq, Eq)]
+pub enum SmallType {
+    U8,
+    I8,
+    U16,
+    I16,
+}
+
 /// An expression. Where a method is called on another expression, that one stands in brackets unless it is a local.
 #[derive(Debug, PartialEq, Drop)]
 pub enum Expr {
@@ -35,6 +44,8 @@ pub enum Expr {
     ReturnPointer(Text),
     /// A core value in memory, at an offset from an address: `*e.add(8).cast::<T>()`.
     Load(Boxed<Expr>, ArchitectureSize, WasmType),
+    /// A small number in memory, as an `i32`: `i32::from(*e.add(8).cast::<u8>())`.
+    LoadSmall(Boxed<Expr>, ArchitectureSize, SmallType),
     /// The bytes at an address, taken over with the length that a local holds: `_rt::Vec::from_raw_parts(e.cast(), n, n)`.
     FromRawParts(Boxed<Expr>, Text),
     /// The bytes of the text in a local, as a box without spare capacity: `(x.into_bytes()).into_boxed_slice()`.

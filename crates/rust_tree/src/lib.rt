@@ -25,7 +25,7 @@ pub use area::{ReturnArea, StaticArea};
 pub use asked::asked_in;
 pub use bindings::Bindings;
 pub use export::{CallBlock, CoreParam, ExportFn, PostReturnFn};
-pub use expr::{CastType, Expr};
+pub use expr::{CastType, Expr, SmallType};
 pub use ident::{is_ident, is_type_name, to_rust_ident, to_upper_camel_case};
 pub use item::{FnItem, FnParam, Item};
 pub use macros::{EntryKind, ExportEntry, ModuleMacro, RootMacro};

@@ -1,5 +1,5 @@
 use crate::area::ReturnArea;
-use crate::expr::Expr;
+use crate::expr::{Expr, SmallType};
 use crate::pattern::Pattern;
 use wit_model::{ArchitectureSize, List, Text, WasmType};
 
@@ -32,6 +32,9 @@ pub enum Stmt {
     /// A core value put into memory, at an offset from an address: `*e.add(8).cast::<T>() = e;`. The address stands in
     /// brackets unless it is a local.
     Store(Expr, ArchitectureSize, WasmType, Expr),
+    /// The low bytes of a number put into memory: `*e.add(8).cast::<u8>() = (x) as u8;`. What is stored always stands in
+    /// brackets.
+    StoreSmall(Expr, ArchitectureSize, SmallType, Expr),
     /// The parts of a value, each with a name: `let P { f: x } = e;`, `let (x, ) = e;` or `let [x, ] = e;`.
     LetParts(Pattern, Expr),
 }

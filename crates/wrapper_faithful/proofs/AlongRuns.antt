@@ -1,26 +1,21 @@
 -- What holds of one move of the machine after another holds along whole runs: whatever the tree is, a run goes by few kinds of moves.
-use Rattle.std.proofs.Common.{◌≡◌, ℕ, zero, suc, ◌+◌, ◌-◌, ◌^◌, ◌||◌, ◌%◌, ◌&&◌, Bool, true, false, cond, List, [], ◌∷◌, ◌++◌, map, drop, take, length, Option, None, Some, refl, sym, subst}
-use Rattle.std.specs.Prelude.{Result, Ok, Err, nat_eq, nat_lt, option_and_then}
+use Rattle.std.proofs.Common.{◌≡◌, ℕ, zero, suc, ◌+◌, ◌-◌, ◌^◌, ◌||◌, ◌%◌, ◌&&◌, Bool, true, false, cond, List, [], ◌∷◌, ◌++◌, map, drop, take, length, Option, None, Some, refl}
+use Rattle.std.specs.Prelude.{ℤ, nat_eq, nat_lt, option_and_then}
 use Rattle.std.specs.Option.{option_map}
 use Rattle.std.specs.Str.{is_utf8}
 use Rattle.wit_model.specs.Bytes.{Bytes}
-use Rattle.wit_model.specs.Size.{alignment_at, bytes_at}
+use Rattle.wit_model.specs.Size.{bytes_at}
 use Rattle.wit_model.specs.declared.size.ArchitectureSize.{ArchitectureSize}
 use Rattle.wit_model.specs.declared.wasm_type.WasmType.{WasmType}
-use Rattle.rust_tree.specs.declared.area.ReturnArea.{ReturnArea}
 use Rattle.rust_tree.specs.declared.area.StaticArea.{StaticArea}
 use Rattle.rust_tree.specs.declared.export.CallBlock.{CallBlock}
 use Rattle.rust_tree.specs.declared.export.CoreParam.{CoreParam}
 use Rattle.rust_tree.specs.declared.export.ExportFn.{ExportFn}
-use Rattle.rust_tree.specs.declared.expr.Expr.{Expr, Expr-F, fold-roll-Expr, ind-Expr, map-Expr, roll-Expr}
+use Rattle.rust_tree.specs.declared.expr.Expr.{Expr}
+use Rattle.rust_tree.specs.declared.expr.SmallType.{SmallType}
 use Rattle.rust_tree.specs.declared.item.FnItem.{FnItem}
-use Rattle.rust_tree.specs.declared.pattern.Pattern.{Pattern}
-use Rattle.rust_tree.specs.declared.runtime_item.RuntimeItem.{RuntimeItem}
-use Rattle.rust_tree.specs.declared.runtime_item.RuntimeItem.TheVariants.{CabiDealloc, StringLift}
-use Rattle.rust_tree.specs.declared.stmt.Block.{Block as Code}
 use Rattle.rust_tree.specs.declared.stmt.ImportDecl.{ImportDecl}
 use Rattle.rust_tree.specs.declared.stmt.Stmt.{Stmt}
-use Rattle.rust_tree.specs.declared.stmt.Stmt.TheVariants as stmt
 use Rattle.rust_tree.specs.declared.type_expr.TypeExpr.{TypeExpr}
 use Rattle.wrapper_data.specs.Answered.{answered}
 use Rattle.wrapper_data.specs.declared.answer.Answer.{Answer}
@@ -32,7 +27,6 @@ use Rattle.wrapper_data.specs.declared.choice.Request.{Request}
 use Rattle.wrapper_data.specs.declared.run.CallPoint.{CallPoint}
 use Rattle.wrapper_data.specs.declared.run.Stop.{Stop}
 use Rattle.wrapper_data.specs.declared.run.Stop.TheVariants as stop_of
-use Rattle.wrapper_data.specs.declared.run.TrapKind.{TrapKind}
 use Rattle.wrapper_data.specs.declared.run.TrapKind.TheVariants as trap
 use Rattle.wrapper_data.specs.declared.value.RustValue.{RustValue}
 use Rattle.wrapper_data.specs.declared.value.RustValue.TheVariants as value
@@ -43,16 +37,19 @@ use Rattle.wrapper_run.specs.declared.state.State.{State}
 use Rattle.wrapper_run.specs.declared.state.Val.{Val}
 use Rattle.wrapper_run.specs.declared.state.Val.TheVariants as val
 use Rattle.wrapper_run.specs.Act.{Act, Outcome, Done, Stopped, ◌>>=◌, ◌>>◌, all, and_then, or_stop, pure, stop}
-use Rattle.wrapper_run.specs.Blocks.{box_buffer, boxed, dealloc, dealloc_words, drop_local, drop_locals, drop_value, free, free_all, free_bytes, free_found, free_untaken, keep_blocks, keep_locals, leave_to, lift_buffer, lift_text, own, own_block, owned_block, owned_bytes, owner_of, release, release_all, release_found, store_word, take_over, tested, untaken, write_word}
-use Rattle.wrapper_run.specs.Effect.{answer_of, cast_to, converted, lift_of, word_of, word_of_bool}
+use Rattle.wrapper_run.specs.Blocks.{dealloc, drop_local, drop_locals, drop_value, free, free_all, free_bytes, free_found, free_untaken, keep_blocks, keep_locals, leave_to, lift_buffer, lift_text, own, own_block, owned_block, owned_bytes, owner_of, release, release_found, store_small, store_word, take_over, tested, untaken, write_small, write_word}
+use Rattle.wrapper_run.specs.Effect.{integer_of, word_of}
 use Rattle.wrapper_run.specs.ExportRun.{call_inside, call_method, call_with, core_answer, expect_words, keep_result, method_answer, method_call, returned_of, run_call, run_export_fn, run_to_words, take_value, are_words_of}
 use Rattle.wrapper_run.specs.Locals.{ask_local, bind, declare, lend_local, local_named, usable, use_local, used, value_of}
-use Rattle.wrapper_run.specs.Memory.{bytes_from, loaded, stored}
+use Rattle.wrapper_run.specs.Growth.{state_of}
+use Rattle.wrapper_run.specs.Memory.{bytes_from, bytes_of_small, loaded, loaded_small, low_bytes, stored, stored_small}
 use Rattle.wrapper_run.specs.Owning.{buffer_of, lent, listed, owned, owned_in, taken_by}
-use Rattle.wrapper_run.specs.Places.{area_in, declare_area, is_fitting, place_area, place_at, place_static, request_of, static_place, static_pointer, with_area}
-use Rattle.wrapper_run.specs.Run.{alone, answer_act, answer_and_leave, apply, apply_item, apply_one, call, call_callee, call_import, call_point, call_runtime, callee, Callee, converted_or_lifted, core_forget, eval, eval_step, forget_one, give_and_leave, lift_act, load_word, of_runtime, record_call, result_of, run_block, run_fn, run_stmt, run_stmts, run_tail, runtime_item_named, take_answer, take_bytes, unknown}
+use Rattle.wrapper_run.specs.Places.{area_in, is_fitting, place_area, place_at, place_static, request_of, static_place, static_pointer, with_area}
+use Rattle.wrapper_run.specs.Run.{answer_act, answer_and_leave, call, call_import, call_point, eval, give_and_leave, load_small, load_word, record_call, result_of, run_block, run_fn, run_stmts, take_answer, take_bytes}
 use Rattle.wrapper_run.specs.Setting.{Setting, failed, stuck}
-use Rattle.wrapper_run.specs.Whole.{bind_parts, field_acts, given_names, parts_of, take_apart, whole, whole_of}
+use Rattle.wrapper_run.specs.Typed.{answer_in}
+use Rattle.wrapper_run.proofs.GrowLemmas.{all_known}
+use Rattle.wrapper_run.proofs.Walk.{Everywhere, known_block, known_expr, known_stmts, walks_block, walks_expr, walks_stmts}
 use Rattle.rust_tree.specs.declared.export.PostReturnFn.{PostReturnFn}
 use Rattle.rust_tree.specs.declared.trait_item.TraitFn.{TraitFn}
 use Rattle.wrapper_data.specs.Answered.{with_writes}
@@ -63,10 +60,6 @@ use Rattle.wrapper_run.specs.Locals.{import_named}
 use Rattle.wrapper_run.specs.Memory.{bytes_of, bytes_of_type, is_inside, writes_from}
 use Rattle.wrapper_run.specs.PostReturn.{run_post_return_fn}
 use Rattle.wrapper_run.specs.Run.{called_with, point_of, unhidden, words_of}
-
-abbrev pub state_of : {A : Type 0} → Outcome A → State
-state_of (Done a s) = s
-state_of (Stopped e s) = s
 
 -- a relation of states that holds along each kind of move: nothing of the run's own changes; a request is made; a call is made, and shows
 -- the heap; a block goes; an area is placed; bytes are written; a peer answers; an implementation, whose answer fits, leaves a heap
@@ -168,15 +161,6 @@ module _ (R : State → State → Type 0) (Fits : Answer → Type 0) (m : Moves 
   unfolding release
   along_release w address = record { along = λ s. (along_released w address (owned_block address s)).along s }
 
-  along_release_all : (w : Setting) (addresses : List ℕ) → Along (release_all w addresses)
-  along_release_all w [] = along_pure tt
-  along_release_all w (a ∷ more) = along_then (release w a) (λ _. release_all w more) (along_release w a) (λ _. along_release_all w more)
-
-  along_forget : (w : Setting) (vs : List Val) → Along (forget_one w vs)
-  along_forget w [] = along_stop (stuck w)
-  along_forget w (v ∷ []) = along_then (release_all w (owned v)) (λ _. pure (val.Value value.Unit)) (along_release_all w (owned v)) (λ _. along_pure (val.Value value.Unit))
-  along_forget w (v ∷ u ∷ vs) = along_stop (stuck w)
-
   along_free_bytes : (w : Setting) (address size : ℕ) → Along (free_bytes w address size)
   along_free_bytes w address zero = along_pure tt
   along_free_bytes w address (suc n) = record { along = λ s. (go (untaken address (suc n) s)).along s }
@@ -192,11 +176,6 @@ module _ (R : State → State → Type 0) (Fits : Answer → Type 0) (m : Moves 
   along_dealloc : (w : Setting) (address size : ℕ) → Along (dealloc w address size)
   unfolding dealloc
   along_dealloc w address size = along_if (nat_lt (2 ^ 31 - 1) size) (stop (failed w trap.Size)) (free_bytes w address size) (along_stop (failed w trap.Size)) (along_free_bytes w address size)
-
-  along_dealloc_words : (w : Setting) (vs : List Val) → Along (dealloc_words w vs)
-  along_dealloc_words w (val.Word (word.Pointer address) ∷ val.Word (word.Length size) ∷ val.Word (word.Length align) ∷ []) =
-      along_then (dealloc w address size) (λ _. pure (val.Value value.Unit)) (along_dealloc w address size) (λ _. along_pure (val.Value value.Unit))
-  along_dealloc_words w _ = along_stop (stuck w)
 
   -- blocks that come in
 
@@ -230,37 +209,7 @@ module _ (R : State → State → Type 0) (Fits : Answer → Type 0) (m : Moves 
   along_lift w v (Some (address, size, true)) = record { along = λ s. (along_tested w v (owned_bytes address size s)).along s }
   along_lift w v _ = along_stop (stuck w)
 
-  along_boxed : (w : Setting) (v : Val) → Along (boxed w v)
-  unfolding boxed
-  along_boxed w v = go (buffer_of v)
-    where
-      go : (o : Option (ℕ × ℕ × Bool)) → Along (box_buffer w v o)
-      go (Some (address, size, true)) = along_pure v
-      go _ = along_stop (stuck w)
-
   -- calls
-
-  along_lift_act : (w : Setting) (o : Option (Result RustValue TrapKind)) → Along (lift_act w o)
-  along_lift_act w None = along_stop (stuck w)
-  along_lift_act w (Some (Ok v)) = along_pure (val.Value v)
-  along_lift_act w (Some (Err kind)) = along_stop (failed w kind)
-
-  along_converted : (w : Setting) (o : Option Word) (l : Option (Result RustValue TrapKind)) → Along (converted_or_lifted w o l)
-  along_converted w None l = along_lift_act w l
-  along_converted w (Some x) l = along_pure (val.Word x)
-
-  along_item : (w : Setting) (i : RuntimeItem) (v : Val) → Along (apply_item w i v)
-  unfolding lift_text
-  along_item w StringLift v = along_lift w v (buffer_of v)
-  along_item w i v = along_converted w (converted i v) (lift_of w.form i v)
-
-  along_apply_one : (w : Setting) (i : Option RuntimeItem) (vs : List Val) → Along (apply_one w i vs)
-  along_apply_one w (Some i) (v ∷ []) = along_item w i v
-  along_apply_one w _ _ = along_stop (stuck w)
-
-  along_apply : (w : Setting) (i : Option RuntimeItem) (vs : List Val) → Along (apply w i vs)
-  along_apply w (Some CabiDealloc) vs = along_dealloc_words w vs
-  along_apply w i vs = along_apply_one w i vs
 
   along_answer : (w : Setting) (ty : Option WasmType) → Along (take_answer w ty)
   unfolding take_answer
@@ -296,13 +245,6 @@ module _ (R : State → State → Type 0) (Fits : Answer → Type 0) (m : Moves 
   along_import : (w : Setting) (name : Bytes) (vs : List Val) → Along (call_import w name vs)
   along_import w name vs = record { along = λ s. along_shown (stuck w) (take_answer w) (along_answer w) s (call_point s name vs) (shown_import s name vs) }
 
-  along_callee : (w : Setting) (k : Callee) (vs : List Val) → Along (call_callee w k vs)
-  unfolding call_runtime
-  along_callee w (alone name) vs = along_import w name vs
-  along_callee w (of_runtime name) vs = along_apply w (runtime_item_named w.items name) vs
-  along_callee w core_forget vs = along_forget w vs
-  along_callee w unknown vs = along_stop (stuck w)
-
   -- areas
 
   along_place_at : (r : Request) (choices : List Choice) → Along (place_at r choices)
@@ -326,9 +268,6 @@ module _ (R : State → State → Type 0) (Fits : Answer → Type 0) (m : Moves 
           let asked : State = record s { requests = s.requests ++ r ∷ [] } in
           m.follow s asked _ (m.asked s r) ((along_place_at r s.choices).along asked)
 
-  along_declare_area : (w : Setting) (a : ReturnArea) → Along (declare_area w a)
-  along_declare_area w a = along_then (place_area w (request_of a.size a.align)) (λ p. bind a.name (val.Area p.0 p.1)) (along_place w (request_of a.size a.align)) (λ p. along_bind a.name (val.Area p.0 p.1))
-
   along_place_static : (w : Setting) (a : Option StaticArea) → Along (place_static w a)
   along_place_static w None = along_stop (stuck w)
   along_place_static w (Some a) =
@@ -349,13 +288,14 @@ module _ (R : State → State → Type 0) (Fits : Answer → Type 0) (m : Moves 
       record { along = λ s. (along_or_stop (failed w trap.Pointer) (option_map val.Word (loaded ty (address + bytes_at offset 4) s.heap.blocks))).along s }
   along_load w offset ty _ = along_stop (stuck w)
 
+  along_kept : (w : Setting) (address : ℕ) (bytes : List ℕ) (s : State) (b : Bool)
+      → R s (state_of ((or_stop (stuck w) (cond b (Some (with_writes s.heap.blocks (writes_from address bytes))) None) >>= keep_blocks) s))
+  along_kept w address bytes s true = m.written s (writes_from address bytes)
+  along_kept w address bytes s false = m.same s s refl refl refl
+
   along_stored : (w : Setting) (ty : WasmType) (address : ℕ) (x : Word) (s : State) → R s (state_of ((or_stop (stuck w) (stored ty address x s.heap.blocks) >>= keep_blocks) s))
   unfolding stored
-  along_stored w ty address x s = go (nat_eq (address % bytes_of_type ty) 0 && is_inside address (bytes_of_type ty) s.heap.blocks)
-    where
-      go : (b : Bool) → R s (state_of ((or_stop (stuck w) (cond b (Some (with_writes s.heap.blocks (writes_from address (bytes_of x)))) None) >>= keep_blocks) s))
-      go true = m.written s (writes_from address (bytes_of x))
-      go false = m.same s s refl refl refl
+  along_stored w ty address x s = along_kept w address (bytes_of x) s (nat_eq (address % bytes_of_type ty) 0 && is_inside address (bytes_of_type ty) s.heap.blocks)
 
   along_written : (w : Setting) (ty : WasmType) (address : ℕ) (o : Option Word) → Along (write_word w ty address o)
   along_written w ty address None = along_stop (stuck w)
@@ -365,105 +305,62 @@ module _ (R : State → State → Type 0) (Fits : Answer → Type 0) (m : Moves 
   along_store w offset ty v (val.Word (word.Pointer address)) = along_written w ty (address + bytes_at offset 4) (word_of ty v)
   along_store w offset ty v _ = along_stop (stuck w)
 
-  along_bind_parts : (w : Setting) (names : List Bytes) (rs : List RustValue) → Along (bind_parts w names rs)
-  along_bind_parts w [] [] = along_pure tt
-  along_bind_parts w [] (r ∷ rs) = along_stop (stuck w)
-  along_bind_parts w (name ∷ names) [] = along_stop (stuck w)
-  along_bind_parts w (name ∷ names) (r ∷ rs) = along_then (bind name (val.Value r)) (λ _. bind_parts w names rs) (along_bind name (val.Value r)) (λ _. along_bind_parts w names rs)
+  along_load_small : (w : Setting) (offset : ArchitectureSize) (ty : SmallType) (v : Val) → Along (load_small w offset ty v)
+  along_load_small w offset ty (val.Word (word.Pointer address)) =
+      record { along = λ s. (along_or_stop (failed w trap.Pointer) (option_map val.Word (loaded_small ty (address + bytes_at offset 4) s.heap.blocks))).along s }
+  along_load_small w offset ty _ = along_stop (stuck w)
 
-  along_apart : (w : Setting) (p : Pattern) (v : Val) → Along (take_apart w p v)
-  along_apart w p v = along_then (or_stop (stuck w) (parts_of v)) (bind_parts w (given_names p)) (along_or_stop (stuck w) (parts_of v)) (along_bind_parts w (given_names p))
+  along_stored_small : (w : Setting) (ty : SmallType) (address : ℕ) (z : ℤ) (s : State) → R s (state_of ((or_stop (stuck w) (stored_small ty address z s.heap.blocks) >>= keep_blocks) s))
+  unfolding stored_small
+  along_stored_small w ty address z s = along_kept w address (low_bytes ty z) s (nat_eq (address % bytes_of_small ty) 0 && is_inside address (bytes_of_small ty) s.heap.blocks)
 
-  -- several values, one after another
-  along_all : {X E A : Type 0} (act : E → Act A) (of : X → E) → ((x : X) → Along (act (of x))) → (xs : List X) → Along (all (map act (map of xs)))
-  along_all act of h [] = along_pure []
-  along_all act of h (x ∷ xs) =
-      along_then (act (of x)) (λ v. all (map act (map of xs)) >>= (λ vs. pure (v ∷ vs))) (h x)
-      (λ v. along_then (all (map act (map of xs))) (λ vs. pure (v ∷ vs)) (along_all act of h xs) (λ vs. along_pure (v ∷ vs)))
+  along_written_small : (w : Setting) (ty : SmallType) (address : ℕ) (o : Option ℤ) → Along (write_small w ty address o)
+  along_written_small w ty address None = along_stop (stuck w)
+  along_written_small w ty address (Some z) = record { along = along_stored_small w ty address z }
 
-  along_whole : (w : Setting) (acts : List (Act Val)) → Along (all acts) → Along (whole w acts)
-  along_whole w acts h = along_then (all acts) (λ vs. or_stop (stuck w) (whole_of vs)) h (λ vs. along_or_stop (stuck w) (whole_of vs))
+  along_store_small : (w : Setting) (offset : ArchitectureSize) (ty : SmallType) (v at : Val) → Along (store_small w offset ty v at)
+  along_store_small w offset ty v (val.Word (word.Pointer address)) = along_written_small w ty (address + bytes_at offset 4) (integer_of v)
+  along_store_small w offset ty v _ = along_stop (stuck w)
 
-  -- every expression
+  -- all code
 
-  -- the values of fields, by the layer of an expression
-  abbrev acts_of : {X : Type 0} → Setting → (X → Expr) → List (Bytes × X) → List (Act Val)
-  acts_of {X = X} w of fields = field_acts (map (λ (f : Bytes × Expr). (f.0, eval w f.1)) (map (λ (f : Bytes × X). (f.0, of f.1)) fields))
+  along_lift_text : (w : Setting) (v : Val) → Along (lift_text w v)
+  unfolding lift_text
+  along_lift_text w v = along_lift w v (buffer_of v)
 
-  along_fields : {X : Type 0} (w : Setting) (of : X → Expr) → ((x : X) → Along (eval w (of x))) → (fields : List (Bytes × X)) → Along (all (acts_of w of fields))
-  along_fields w of h [] = along_pure []
-  along_fields w of h (f ∷ fields) =
-      along_then (eval w (of f.1)) (λ v. all (acts_of w of fields) >>= (λ vs. pure (v ∷ vs))) (h f.1)
-      (λ v. along_then (all (acts_of w of fields)) (λ vs. pure (v ∷ vs)) (along_fields w of h fields) (λ vs. along_pure (v ∷ vs)))
-
-  -- what a method tells of a local
-
-  along_as_ptr : (w : Setting) (name : Bytes) → Along (eval_step w (Expr-F.AsPtr name))
+  along_everywhere : (w : Setting) (known : Bytes → Bool) → Everywhere w known (λ A act. Along act)
   unfolding ask_local
-  along_as_ptr w name = along_asked (stuck w) _
+  along_everywhere w known = record {
+    gives = λ A a. along_pure a;
+    stops = λ A e. along_stop e;
+    follows = λ A B act f. along_then act f;
+    uses = λ name _. along_use (stuck w) name;
+    lends = λ name _. along_lend (stuck w) name;
+    asks = λ of name _. along_asked (stuck w) _;
+    binds = λ name v _. along_bind name v;
+    declares = along_declare;
+    frees = along_free w;
+    releases = along_release w;
+    deallocates = along_dealloc w;
+    takes = λ name v _. record { along = λ s. (along_take w (value_of (local_named name s.locals)) v).along s };
+    lifts = along_lift_text w;
+    loads = along_load w;
+    loads_small = along_load_small w;
+    stores = along_store w;
+    stores_small = along_store_small w;
+    places = along_place w;
+    static = along_static w;
+    calls = λ name vs _. along_import w name vs;
+  }
 
-  along_len : (w : Setting) (name : Bytes) → Along (eval_step w (Expr-F.Len name))
-  unfolding ask_local
-  along_len w name = along_asked (stuck w) _
+  along_eval : (w : Setting) (e : Expr) → Along (eval w e)
+  along_eval w e = walks_expr w all_known (λ A act. Along act) (along_everywhere w all_known) e (known_expr all_known (λ name. refl) e)
 
-  along_cast_mut : (w : Setting) (name : Bytes) → Along (eval_step w (Expr-F.CastMut name))
-  unfolding ask_local
-  along_cast_mut w name = along_asked (stuck w) _
+  along_stmts : (w : Setting) (stmts : List Stmt) → Along (run_stmts w stmts)
+  along_stmts w stmts = walks_stmts w all_known (λ A act. Along act) (along_everywhere w all_known) stmts (known_stmts all_known (λ name. refl) stmts)
 
-  along_return_pointer : (w : Setting) (name : Bytes) → Along (eval_step w (Expr-F.ReturnPointer name))
-  unfolding ask_local
-  along_return_pointer w name = along_asked (stuck w) _
-
-  -- one layer, where it holds along the expressions in it
-  along_layer : {X : Type 0} (w : Setting) (of : X → Expr) → ((x : X) → Along (eval w (of x))) → (l : Expr-F X) → Along (eval_step w (map-Expr Expr (Act Val) (eval w) (map-Expr X Expr of l)))
-  along_layer w of h (Expr-F.Local name) = along_use (stuck w) name
-  along_layer w of h (Expr-F.Ref name) = along_lend (stuck w) name
-  along_layer w of h (Expr-F.Cast e to) = along_then (eval w (of e)) (λ v. or_stop (stuck w) (cast_to to v)) (h e) (λ v. along_or_stop (stuck w) (cast_to to v))
-  along_layer w of h (Expr-F.Call path arguments) = along_then (all (map (eval w) (map of arguments))) (λ vs. call w path vs) (along_all (eval w) of h arguments) (λ vs. along_callee w (callee path) vs)
-  along_layer w of h (Expr-F.I32FromBool e) =
-      along_then (eval w (of e)) (λ v. or_stop (stuck w) (option_map val.Word (word_of_bool v))) (h e) (λ v. along_or_stop (stuck w) (option_map val.Word (word_of_bool v)))
-  along_layer w of h (Expr-F.AsPtr name) = along_as_ptr w name
-  along_layer w of h (Expr-F.Len name) = along_len w name
-  along_layer w of h (Expr-F.CastMut name) = along_cast_mut w name
-  along_layer w of h (Expr-F.ReturnPointer name) = along_return_pointer w name
-  along_layer w of h (Expr-F.Load e offset ty) = along_then (eval w (of e)) (load_word w offset ty) (h e) (along_load w offset ty)
-  along_layer w of h (Expr-F.FromRawParts e length) =
-      along_then (eval w (of e)) (λ v. λ s. take_bytes w (value_of (local_named length s.locals)) v s) (h e) (λ v. record { along = λ s. (along_take w (value_of (local_named length s.locals)) v).along s })
-  along_layer w of h (Expr-F.IntoBoxedBytes name) = along_then (use_local (stuck w) name) (boxed w) (along_use (stuck w) name) (along_boxed w)
-  along_layer w of h Expr-F.StaticPointer = along_static w
-  along_layer w of h (Expr-F.Align align) = along_pure (val.Word (word.Length (alignment_at align 4)))
-  along_layer w of h (Expr-F.Record path fields) = along_whole w (acts_of w of fields) (along_fields w of h fields)
-  along_layer w of h (Expr-F.Tuple parts) = along_whole w (map (eval w) (map of parts)) (along_all (eval w) of h parts)
-  along_layer w of h (Expr-F.Array parts) = along_whole w (map (eval w) (map of parts)) (along_all (eval w) of h parts)
-
-  pub along_eval : (w : Setting) (e : Expr) → Along (eval w e)
-  along_eval w =
-      ind-Expr (λ e. Along (eval w e))
-      (λ l y is. subst (λ z. Along (eval w (roll-Expr z))) is
-      (subst Along (sym (fold-roll-Expr (Act Val) (eval_step w) (map-Expr _ Expr (λ e. e.0) y))) (along_layer w (λ e. e.0) (λ e. e.1) y)))
-
-  -- every statement, and blocks of them
-
-  along_stmt : (w : Setting) (s : Stmt) → Along (run_stmt w s)
-  along_stmt w (stmt.Import d) = along_declare d
-  along_stmt w (stmt.Let name e) = along_then (eval w e) (bind name) (along_eval w e) (along_bind name)
-  along_stmt w (stmt.Expr e) = along_then (eval w e) (drop_value w) (along_eval w e) (along_drop w)
-  along_stmt w (stmt.Area a) = along_declare_area w a
-  along_stmt w (stmt.LetParts p e) = along_then (eval w e) (take_apart w p) (along_eval w e) (along_apart w p)
-  along_stmt w (stmt.Store address offset ty e) =
-      along_then (eval w e) (λ v. eval w address >>= store_word w offset ty v) (along_eval w e)
-      (λ v. along_then (eval w address) (store_word w offset ty v) (along_eval w address) (along_store w offset ty v))
-
-  pub along_stmts : (w : Setting) (stmts : List Stmt) → Along (run_stmts w stmts)
-  along_stmts w [] = along_pure tt
-  along_stmts w (s ∷ stmts) = along_then (run_stmt w s) (λ _. run_stmts w stmts) (along_stmt w s) (λ _. along_stmts w stmts)
-
-  along_tail : (w : Setting) (tail : Option Expr) → Along (run_tail w tail)
-  along_tail w None = along_pure (val.Value value.Unit)
-  along_tail w (Some e) = along_eval w e
-
-  pub along_code : (w : Setting) (b : Code) → Along (run_block w b)
-  along_code w b = along_then (run_stmts w b.stmts) (λ _. run_tail w b.tail) (along_stmts w b.stmts) (λ _. along_tail w b.tail)
+  along_code : (w : Setting) (b : Code) → Along (run_block w b)
+  along_code w b = walks_block w all_known (λ A act. Along act) (along_everywhere w all_known) b (known_block all_known (λ name. refl) b)
 
   -- the whole run of a wrapper
 
@@ -471,14 +368,14 @@ module _ (R : State → State → Type 0) (Fits : Answer → Type 0) (m : Moves 
   along_give w o = along_then (or_stop (stuck w) o) (λ r. leave_to w 0 >> pure r) (along_or_stop (stuck w) o) (λ r. along_then (leave_to w 0) (λ _. pure r) (along_leave w 0) (λ _. along_pure r))
 
   pub along_fn : (w : Setting) (f : FnItem) → Along (run_fn w f)
-  along_fn w f = along_then (run_block w f.body) (answer_and_leave w f.result) (along_code w f.body) (λ v. along_give w (answer_of f.result v))
+  along_fn w f = along_then (run_block w f.body) (answer_and_leave w f.result) (along_code w f.body) (λ v. along_give w (answer_in w.items f.result v))
 
   along_left : (w : Setting) (ty : TypeExpr) (a : Answer) → Fits a → Along (method_answer w ty a)
   along_left w ty (answer.Value v heap) fits =
       record {
         along = λ s. m.follow s (record s { heap = heap }) _ (m.left s v heap fits)
             (m.follow (record s { heap = heap }) (record s { heap = heap; taken = taken_by (listed v) }) _ (m.same (record s { heap = heap }) (record s { heap = heap; taken = taken_by (listed v) }) refl refl refl)
-            ((along_or_stop (stuck w) (returned_of ty v)).along (record s { heap = heap; taken = taken_by (listed v) })));
+            ((along_or_stop (stuck w) (returned_of w.items ty v)).along (record s { heap = heap; taken = taken_by (listed v) })));
       }
   along_left w ty (answer.Words _ _ _) fits = along_stop (stuck w)
 
@@ -494,9 +391,9 @@ module _ (R : State → State → Type 0) (Fits : Answer → Type 0) (m : Moves 
       by_values f None = tt
       by_values f (Some values) = refl
 
-      by_function : (o : Option TraitFn) → ShowsHeap s.heap (option_and_then (λ f. option_map (λ values. (method_point bound name s.heap values, f.result)) (values_of f.params vs)) o)
+      by_function : (o : Option TraitFn) → ShowsHeap s.heap (option_and_then (λ f. option_map (λ values. (method_point bound name s.heap values, f.result)) (values_of w.items f.params vs)) o)
       by_function None = tt
-      by_function (Some f) = by_values f (values_of f.params vs)
+      by_function (Some f) = by_values f (values_of w.items f.params vs)
 
   along_method : (w : Setting) → Fits w.answer → (bound name : Bytes) (vs : List Val) → Along (call_method w bound name vs)
   along_method w fits bound name vs =

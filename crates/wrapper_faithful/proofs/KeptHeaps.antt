@@ -23,7 +23,8 @@ use Rattle.wrapper_run.specs.PostReturn.{post_return_at, post_return_setting, ru
 use Rattle.wrapper_run.specs.Run.{ended, import_at, run_fn, run_item, setting_of, start}
 use Rattle.wrapper_run.specs.declared.state.State.{State}
 use Rattle.wrapper_faithful.specs.KeptHeaps.{ExportKeepsHeap, ImportKeepsHeap, LeavesHeap, PostReturnKeepsHeap, ShowsHeaps}
-use Rattle.wrapper_faithful.proofs.AlongRuns.{Moves, along_export, along_fn, along_post_return, state_of}
+use Rattle.wrapper_run.specs.Growth.{state_of}
+use Rattle.wrapper_faithful.proofs.AlongRuns.{Moves, along_export, along_fn, along_post_return}
 use Rattle.wrapper_faithful.proofs.FormedHeaps.{formed, formed_added, formed_answered, formed_without, formed_written, is_formed}
 
 -- the heaps of a state: its own, and those of its calls

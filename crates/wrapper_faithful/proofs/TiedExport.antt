@@ -372,7 +372,7 @@ ends_told names tree nth f ts t x v h faithful closed honest =
         (done_told f t v x.choices x.answer x.run (record { target = names.method; words = []; values = meets.calls.values; heap = x.heap }) h.answer meets.calls.once whole honest (closed.area x v honest out.done) out)
     by_end (inr missed) =
         subst (λ st. EndsBy st (simple_bill t) x.choices.list x.run.calls (GivesExport 2 (simple_bill t) x.choices.list (option_map shape_of t) v honest.heap honest.own) x.run) (sym missed.stopped)
-        (missed_told t x.choices x.run (sym (ap needs_area h.answer) ∙ missed.needed) (subst (λ (g : Heap). fits_area x.choices.list g ≡ false) (sym missed.kept) missed.misfit) (missed.requests ∙ ap due h.answer ∙ due_asked t) missed.silent.0 missed.silent.1)
+        (missed_told t x.choices x.run (sym (ap needs_area h.answer) ∙ missed.needed) (subst (λ (g : Heap). fits_area x.choices.list g ≡ false) (sym missed.kept) missed.misfit) (missed.requests ∙ ap due h.answer ∙ due_asked t) whole missed.silent.0 missed.silent.1)
 
 simple_tied : (resources : Resources) (names : ExportNames) (results : List (Option Simple)) (tree : Tree) (nth : ℕ) (f : Function) (ts : List Simple) (t : Option Simple) → IsSimple f ts t → Contains results t
     → narrow.IsExportFaithful names tree nth f → ExportFits f tree nth (simple ts t) → IsExportFaithful resources names (map (λ r. option_map shape_of r) results) tree nth (simple ts t)

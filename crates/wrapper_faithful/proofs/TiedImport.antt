@@ -193,13 +193,13 @@ done_told f ts t vs u args heap own run c h once nothing whole short near carrie
     }
 
 -- a run that misses the area
-pub missed_told : (t : Option Simple) (choices : Choices) (run : Run) → needs_area (option_map type_of t) ≡ true → fits_area choices.list run.heap ≡ false → run.requests ≡ asked t → run.words ≡ [] → run.value ≡ None
+pub missed_told : (t : Option Simple) (choices : Choices) (run : Run) → needs_area (option_map type_of t) ≡ true → fits_area choices.list run.heap ≡ false → run.requests ≡ asked t → is_heap run.heap ≡ true → run.words ≡ [] → run.value ≡ None
     → MeetsMisfit (simple_bill t) choices.list run × EndsEarly (simple_bill t) run
-missed_told None choices run needs misfit made words value = absurd (true≢false (sym needs))
-missed_told (Some (one s)) choices run needs misfit made words value = absurd (true≢false (sym needs ∙ no_area_scalar s))
-missed_told (Some string) choices run needs misfit made words value = (
+missed_told None choices run needs misfit made formed words value = absurd (true≢false (sym needs))
+missed_told (Some (one s)) choices run needs misfit made formed words value = absurd (true≢false (sym needs ∙ no_area_scalar s))
+missed_told (Some string) choices run needs misfit made formed words value = (
   record { request = text_area; met = slice_get choices.list 0; meets = record { earlier = []; last = made; takes = refl }; misfits = misfits choices.list misfit },
-  record { requests = λ weight. omega (ap (total weight) made, arith); area = in_place (Some string) run.requests made; words = words; value = value },
+  record { requests = λ weight. omega (ap (total weight) made, arith); area = in_place (Some string) run.requests made; formed = formed; words = words; value = value },
 )
   where
     misfits : (list : List Choice) → fits_area list run.heap ≡ false → Misfits true run.heap.blocks text_area (slice_get list 0)
@@ -230,7 +230,8 @@ ends_told : (target : Target) (tree : Tree) (nth : ℕ) (f : Function) (ts : Lis
 ends_told target tree nth f ts t x u h closed honest (inr missed) =
     let made : x.run.requests ≡ asked t = missed.requests ∙ ap due h.answer ∙ due_asked t in
     subst (λ st. EndsBy st (simple_bill t) x.choices.list x.run.calls (GivesImport 2 false (option_map shape_of t) u x.given.args x.given.heap x.given.own) x.run) (sym missed.stopped)
-    (missed_told t x.choices x.run (sym (ap needs_area h.answer) ∙ missed.needed) (subst (λ (y : Heap). fits_area x.choices.list y ≡ false) (sym missed.kept) missed.misfit) made missed.silent.0 missed.silent.1)
+    (missed_told t x.choices x.run (sym (ap needs_area h.answer) ∙ missed.needed) (subst (λ (y : Heap). fits_area x.choices.list y ≡ false) (sym missed.kept) missed.misfit) made
+    (import_keeps_heap tree nth x.given.args x.given.heap x.choices x.answer x.form x.run x.given.formed x.ran).end missed.silent.0 missed.silent.1)
 ends_told target tree nth f ts t x u h closed honest (inl once) =
     let told = arguments_are_told x.given.heap ts x.given.values x.given.args x.given.own x.given.formed x.given.stand in
     let whole = import_keeps_heap tree nth x.given.args x.given.heap x.choices x.answer x.form x.run x.given.formed x.ran in

@@ -1,14 +1,25 @@
 -- The definitions hold of worked rows: a text of two bytes comes back by an area, and is lent; a record owns what stands in it, is
--- taken apart, and what it owned is freed once.
+-- taken apart by its struct, and what it owned is freed once; an area is no value; small numbers are read and written.
 use Rattle.std.proofs.Common.{◌≡◌, ℕ, Bool, true, false, List, [], ◌∷◌, None, Some, refl, ap, ◌∙◌, arith, rules}
-use Rattle.std.specs.Prelude.{codes, pos}
+use Rattle.std.specs.Prelude.{codes, negsuc, option_and_then, pos}
 use Rattle.wit_model.specs.Bytes.{Bytes}
 use Rattle.wit_model.specs.declared.types.WitType.TheVariants as wit
+use Rattle.rust_tree.specs.declared.expr.Expr.{Expr}
 use Rattle.rust_tree.specs.declared.expr.Expr.TheVariants as expr
+use Rattle.rust_tree.specs.declared.expr.SmallType.TheVariants as small
+use Rattle.rust_tree.specs.declared.item.Item.{Item}
+use Rattle.rust_tree.specs.declared.item.Item.TheVariants as item
 use Rattle.rust_tree.specs.declared.path.Path.{Path}
+use Rattle.rust_tree.specs.declared.pattern.Pattern.{Pattern}
 use Rattle.rust_tree.specs.declared.pattern.Pattern.TheVariants as pattern
-use Rattle.rust_tree.specs.declared.stmt.Stmt.{Stmt}
 use Rattle.rust_tree.specs.declared.stmt.Stmt.TheVariants as stmt
+use Rattle.rust_tree.specs.declared.type_expr.Primitive.TheVariants as prim
+use Rattle.rust_tree.specs.declared.type_expr.TypeExpr.{TypeExpr, the_lemmas as type_lemmas}
+use Rattle.rust_tree.specs.declared.type_expr.TypeExpr.TheVariants as type
+use Rattle.rust_tree.specs.declared.type_item.AliasItem.{AliasItem}
+use Rattle.rust_tree.specs.declared.type_item.StructField.{StructField}
+use Rattle.rust_tree.specs.declared.type_item.StructItem.{StructItem}
+use Rattle.rust_tree.specs.declared.type_item.TypeItem.TheVariants.{Alias, Struct}
 use Rattle.wrapper_data.specs.declared.block.Block.{Block}
 use Rattle.wrapper_data.specs.declared.value.RustValue.{RustValue, the_lemmas}
 use Rattle.wrapper_data.specs.declared.value.RustValue.TheVariants as value
@@ -18,20 +29,25 @@ use Rattle.wrapper_data.specs.declared.word.Word.TheVariants as word
 use Rattle.wrapper_data.specs.Answered.{with_block, written_block}
 use Rattle.wrapper_run.specs.declared.state.Local.{Local}
 use Rattle.wrapper_run.specs.declared.state.State.{State}
+use Rattle.wrapper_run.specs.declared.state.Val.{Val}
 use Rattle.wrapper_run.specs.declared.state.Val.TheVariants as val
-use Rattle.wrapper_run.specs.Act.{Done, ◌>>=◌, and_then, or_stop, pure}
+use Rattle.wrapper_run.specs.Act.{Act, Done, Stopped, ◌>>=◌, and_then, or_stop, pure}
 use Rattle.wrapper_run.specs.Blocks.{drop_value, forget, free, free_all, leave_to, release, release_all}
+use Rattle.wrapper_run.specs.Effect.{answer_of}
+use Rattle.wrapper_run.specs.Fields.{arranged}
 use Rattle.wrapper_run.specs.Honest.{AnswersText}
-use Rattle.wrapper_run.specs.Memory.{loaded}
+use Rattle.wrapper_run.specs.Locals.{lend_local, use_local}
+use Rattle.wrapper_run.specs.Memory.{loaded, loaded_small, stored_small}
 use Rattle.wrapper_run.specs.Owning.{lent, owned}
 use Rattle.wrapper_run.specs.Represents.{LiesAt}
-use Rattle.wrapper_run.specs.Run.{begin, eval, run_stmt}
+use Rattle.wrapper_run.specs.Run.{begin, call, eval, run_stmt}
 use Rattle.wrapper_run.specs.Setting.{Setting, stuck}
+use Rattle.wrapper_run.specs.Typed.{answer_in, unaliased}
 use Rattle.wrapper_run.specs.Value.{number}
 use Rattle.wrapper_run.specs.Whole.{whole_of}
 use Rattle.wrapper_run.proofs.OwningLemmas.{owned-block, owned-scalar}
 use Rattle.wrapper_run.proofs.PartSteps.{eval-record, takes_apart}
-use Rattle.wrapper_run.proofs.StepLemmas.{local_gives}
+use Rattle.wrapper_run.proofs.StepLemmas.{eval-call, eval-local, eval-ref, local_gives}
 use Rattle.wrapper_run.proofs.TakeLemmas.{leaves_one, text_gives, text_local, used_local}
 
 -- `hi` at 4096, by an area at 512
@@ -88,7 +104,8 @@ nested_forgotten : (w : Setting) → forget w (val.Value (nested true)) owning �
 unfolding release
 nested_forgotten w = ap (λ o. and_then (release_all w o owning) (λ _. pure (val.Value value.Unit))) nested_owns
 
--- `let P { f: c, g: d } = P { f: a, g: b };`, where `a` is a text that owns its block, and `b` a core word
+-- `let P { g: d, f: c } = P { g: b, f: a };`, where `a` is a text that owns its block, and `b` a core word; the struct `P` of the file
+-- has the fields `f` and `g`, in this order
 
 abbrev a_name : Bytes
 a_name = codes "a"
@@ -96,13 +113,24 @@ a_name = codes "a"
 abbrev b_name : Bytes
 b_name = codes "b"
 
+abbrev field : Bytes → TypeExpr → StructField
+field name ty = record { docs = []; name = name; wit = name; ty = ty }
+
+abbrev p_struct : StructItem
+p_struct = record { docs = []; repr_c = false; derives = []; name = codes "P"; fields = field (codes "f") type.String ∷ field (codes "g") (type.Primitive prim.I32) ∷ [] }
+
+-- a file that begins with this struct
+abbrev in_file : Setting → Setting
+in_file w = record w { items = item.Type (Struct p_struct) ∷ w.items }
+
 abbrev p_path : Path
 p_path = record { lead = false; supers = 0; names = codes "P" ∷ [] }
 
-abbrev parts_stmt : Stmt
-parts_stmt =
-    stmt.LetParts (pattern.Record p_path ((codes "f", codes "c") ∷ (codes "g", codes "d") ∷ []))
-    (expr.Record p_path ((codes "f", expr.Local a_name) ∷ (codes "g", expr.Local b_name) ∷ []))
+abbrev p_pattern : Pattern
+p_pattern = pattern.Record p_path ((codes "g", codes "d") ∷ (codes "f", codes "c") ∷ [])
+
+abbrev p_record : Expr
+p_record = expr.Record p_path ((codes "g", expr.Local b_name) ∷ (codes "f", expr.Local a_name) ∷ [])
 
 abbrev seven : Local
 seven = record { name = b_name; value = Some (val.Word (word.I32 (pos 7))) }
@@ -110,22 +138,40 @@ seven = record { name = b_name; value = Some (val.Word (word.I32 (pos 7))) }
 abbrev with_parts : State
 with_parts = begin (text_local a_name 4096 2 ∷ seven ∷ []) (4096 ∷ []) (record { blocks = block 4096 2 ∷ [] }) (record { list = [] })
 
--- `a` is moved; `c` owns the block, and `d` is a number
+-- `a` is moved
+abbrev a_used : State
+a_used = record with_parts { locals = used_local a_name 4096 2 ∷ seven ∷ [] }
+
+-- `c` owns the block, and `d` is a number
 abbrev apart_locals : List Local
 apart_locals = used_local a_name 4096 2 ∷ seven ∷ text_local (codes "c") 4096 2 ∷ record { name = codes "d"; value = Some (val.Value (value.Num wit.S32 (pos 7))) } ∷ []
 
-parts_runs : (w : Setting) → run_stmt w parts_stmt with_parts ≡ Done tt (record with_parts { locals = apart_locals })
+-- the values stand in the order of the struct
+record_runs : (w : Setting) → eval (in_file w) p_record with_parts ≡ Done (val.Value (value.Struct (value.Buffer 4096 2 true ∷ value.Num wit.S32 (pos 7) ∷ []))) a_used
+record_runs w =
+    let v = in_file w in
+    let end : List (Bytes × Val) → Act Val = λ vs. or_stop (stuck v) (option_and_then whole_of (arranged v.items p_path vs)) in
+    ap (λ act. act with_parts) (eval-record v p_path ((codes "g", expr.Local b_name) ∷ (codes "f", expr.Local a_name) ∷ []))
+    ∙ ap (λ o. and_then (and_then (and_then o (λ x. pure (codes "g", x))) (λ x. (eval v (expr.Local a_name) >>= (λ y. pure (codes "f", y)) >>= (λ y. pure [] >>= (λ ys. pure (y ∷ ys)))) >>= (λ ys. pure (x ∷ ys)))) end)
+    (local_gives v b_name (val.Word (word.I32 (pos 7))) with_parts refl refl)
+    ∙ ap (λ o. and_then (and_then (and_then (and_then o (λ y. pure (codes "f", y))) (λ y. pure [] >>= (λ ys. pure (y ∷ ys)))) (λ ys. pure ((codes "g", val.Word (word.I32 (pos 7))) ∷ ys))) end)
+    (text_gives v a_name 4096 2 [] (seven ∷ []) with_parts refl refl)
+
+parts_runs : (w : Setting) → run_stmt (in_file w) (stmt.LetParts p_pattern p_record) with_parts ≡ Done tt (record with_parts { locals = apart_locals })
 parts_runs w =
-    let rs : List RustValue = value.Buffer 4096 2 true ∷ value.Num wit.S32 (pos 7) ∷ [] in
-    let used : State = record with_parts { locals = used_local a_name 4096 2 ∷ seven ∷ [] } in
-    let first = text_gives w a_name 4096 2 [] (seven ∷ []) with_parts refl refl in
-    let second = local_gives w b_name (val.Word (word.I32 (pos 7))) used refl refl in
-    let both : eval w (expr.Record p_path ((codes "f", expr.Local a_name) ∷ (codes "g", expr.Local b_name) ∷ [])) with_parts ≡ Done (val.Value (value.Struct rs)) used =
-    ap (λ act. act with_parts) (eval-record w p_path ((codes "f", expr.Local a_name) ∷ (codes "g", expr.Local b_name) ∷ []))
-    ∙ ap (λ o. and_then (and_then o (λ x. (eval w (expr.Local b_name) >>= (λ y. pure [] >>= (λ xs. pure (y ∷ xs)))) >>= (λ xs. pure (x ∷ xs)))) (λ vs. or_stop (stuck w) (whole_of vs))) first
-    ∙ ap (λ o. and_then (and_then (and_then o (λ y. pure [] >>= (λ xs. pure (y ∷ xs)))) (λ xs. pure (val.Value (value.Buffer 4096 2 true) ∷ xs))) (λ vs. or_stop (stuck w) (whole_of vs))) second in
-    takes_apart w (pattern.Record p_path ((codes "f", codes "c") ∷ (codes "g", codes "d") ∷ []))
-    (expr.Record p_path ((codes "f", expr.Local a_name) ∷ (codes "g", expr.Local b_name) ∷ [])) rs with_parts used both tt
+    takes_apart (in_file w) p_pattern p_record (codes "c" ∷ codes "d" ∷ []) (value.Buffer 4096 2 true ∷ value.Num wit.S32 (pos 7) ∷ []) with_parts a_used refl (record_runs w) tt
+
+-- a record or a pattern that leaves a field out has no meaning, and none with a name that the struct lacks
+
+left_out : (items : List Item) → arranged (item.Type (Struct p_struct) ∷ items) p_path ((codes "f", codes "c") ∷ []) ≡ None
+left_out items = refl
+
+another_name : (items : List Item) → arranged (item.Type (Struct p_struct) ∷ items) p_path ((codes "f", codes "c") ∷ (codes "h", codes "d") ∷ []) ≡ None
+another_name items = refl
+
+-- outside of the file the tree's order counts
+other_path : arranged [] (record { lead = true; supers = 0; names = codes "P" ∷ [] }) ((codes "g", codes "d") ∷ (codes "f", codes "c") ∷ []) ≡ Some (codes "d" ∷ codes "c" ∷ [])
+other_path = refl
 
 -- at the end of the scope the block is freed, once
 parts_end : (w : Setting) → leave_to w 0 (record with_parts { locals = apart_locals }) ≡ Done tt (begin [] [] (record { blocks = [] }) (record { list = [] }))
@@ -133,3 +179,92 @@ parts_end w =
     let d : Local = record { name = codes "d"; value = Some (val.Value (value.Num wit.S32 (pos 7))) } in
     leaves_one w (used_local a_name 4096 2 ∷ seven ∷ []) (text_local (codes "c") 4096 2) (d ∷ []) 4096 (block 4096 2) (record with_parts { locals = apart_locals }) refl (refl, (refl, tt))
     (owned-block 4096 1) (owned-scalar wit.S32 (number (pos 7)), tt) refl
+
+-- a function whose result is printed as `Q`, where `type Q = P;`, answers a value of `P`: a text that owns its bytes, and a number
+
+abbrev q_alias : AliasItem
+q_alias = record { docs = []; name = codes "Q"; ty = type.Path p_path }
+
+abbrev two_types : List Item
+two_types = item.Type (Struct p_struct) ∷ item.Type (Alias q_alias) ∷ []
+
+abbrev q_type : TypeExpr
+q_type = type.Path (record { lead = false; supers = 0; names = codes "Q" ∷ [] })
+
+q_is_p : unaliased two_types q_type ≡ type.Path p_path
+q_is_p = search (rules, type_lemmas)
+
+abbrev text_and_seven : Bool → RustValue
+text_and_seven owned = value.Struct (value.Buffer 4096 2 owned ∷ value.Num wit.S32 (pos 7) ∷ [])
+
+q_answers : answer_in two_types q_type (val.Value (text_and_seven true)) ≡ Some (Some (text_and_seven true))
+unfolding answer_of
+q_answers = search (rules, the_lemmas, type_lemmas)
+
+-- one whose text owns nothing is none of that type
+q_not_lent : answer_in two_types q_type (val.Value (text_and_seven false)) ≡ None
+unfolding answer_of
+q_not_lent = search (rules, the_lemmas, type_lemmas)
+
+-- an area is no value: `::core::mem::forget(ret_area)` and `&ret_area` have no meaning, so no stack area outlives its body
+
+abbrev area_name : Bytes
+area_name = codes "ret_area"
+
+abbrev forget_path : Path
+forget_path = record { lead = true; supers = 0; names = codes "core" ∷ codes "mem" ∷ codes "forget" ∷ [] }
+
+abbrev with_area : State
+with_area = begin (record { name = area_name; value = Some (val.Area 512 8) } ∷ []) (512 ∷ []) (record { blocks = block 512 8 ∷ [] }) (record { list = [] })
+
+area_not_used : (w : Setting) → eval w (expr.Local area_name) with_area ≡ Stopped (stuck w) with_area
+unfolding use_local
+area_not_used w = ap (λ act. act with_area) (eval-local w area_name)
+
+area_not_forgotten : (w : Setting) → eval w (expr.Call forget_path (expr.Local area_name ∷ [])) with_area ≡ Stopped (stuck w) with_area
+area_not_forgotten w =
+    ap (λ act. act with_area) (eval-call w forget_path (expr.Local area_name ∷ []))
+    ∙ ap (λ o. and_then (and_then o (λ x. pure [] >>= (λ xs. pure (x ∷ xs)))) (λ vs. call w forget_path vs)) (area_not_used w)
+
+area_not_lent : (w : Setting) → eval w (expr.Ref area_name) with_area ≡ Stopped (stuck w) with_area
+unfolding lend_local
+area_not_lent w = ap (λ act. act with_area) (eval-ref w area_name)
+
+-- small numbers: the byte 255 and the bytes 254, 255 are read by their types, and the low bytes of a number are written
+
+abbrev small_block : List (ℕ × ℕ) → List Block
+small_block cells = record { address = 16; size = 4; cells = cells } ∷ []
+
+byte_read : loaded_small small.U8 17 (small_block ((1, 255) ∷ [])) ≡ Some (word.I32 (pos 255))
+unfolding loaded_small
+byte_read = refl
+
+signed_byte_read : loaded_small small.I8 17 (small_block ((1, 255) ∷ [])) ≡ Some (word.I32 (negsuc 0))
+unfolding loaded_small
+signed_byte_read = refl
+
+pair_read : loaded_small small.U16 18 (small_block ((2, 254) ∷ (3, 255) ∷ [])) ≡ Some (word.I32 (pos 65534))
+unfolding loaded_small
+pair_read = refl
+
+signed_pair_read : loaded_small small.I16 18 (small_block ((2, 254) ∷ (3, 255) ∷ [])) ≡ Some (word.I32 (negsuc 1))
+unfolding loaded_small
+signed_pair_read = refl
+
+-- two bytes at an odd address are none
+odd_pair : loaded_small small.U16 17 (small_block ((1, 254) ∷ (2, 255) ∷ [])) ≡ None
+unfolding loaded_small
+odd_pair = refl
+
+low_byte_written : stored_small small.U8 17 (negsuc 0) (small_block []) ≡ Some (small_block ((1, 255) ∷ []))
+unfolding stored_small written_block
+low_byte_written = refl
+
+low_pair_written : stored_small small.U16 18 (pos 131070) (small_block []) ≡ Some (small_block ((2, 254) ∷ (3, 255) ∷ []))
+unfolding stored_small written_block
+low_pair_written = refl
+
+-- what lies outside of the block is not written
+not_written : stored_small small.U8 20 (pos 1) (small_block []) ≡ None
+unfolding stored_small
+not_written = refl

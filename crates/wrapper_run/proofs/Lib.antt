@@ -1,3 +1,5 @@
+pub mod BesideActs
+pub mod BesideLemmas
 mod Examples
 pub mod FreeSteps
 pub mod GiveSteps
@@ -15,3 +17,6 @@ pub mod StepLemmas
 pub mod StoreLemmas
 pub mod TakeLemmas
 pub mod TextLemmas
+pub mod TypedLemmas
+pub mod UnusedLemmas
+pub mod Walk

@@ -2,6 +2,7 @@
 use Rattle.std.proofs.Common.{◌≡◌, List, [], ◌∷◌, ◌++◌, Option, None, Some, drop, length, map, take, refl, ap, ◌∙◌}
 use Rattle.std.specs.Prelude.{option_and_then}
 use Rattle.std.specs.Option.{option_map}
+use Rattle.rust_tree.specs.declared.item.Item.{Item}
 use Rattle.rust_tree.specs.declared.trait_item.TraitFn.{TraitFn}
 use Rattle.rust_tree.specs.declared.type_expr.TypeExpr.{TypeExpr}
 use Rattle.rust_tree.specs.declared.type_expr.TypeExpr.TheVariants as type
@@ -25,6 +26,7 @@ use Rattle.wrapper_run.specs.Owning.{listed, taken_by}
 use Rattle.wrapper_run.specs.Run.{bound, record_call}
 use Rattle.wrapper_run.specs.Setting.{Setting, stuck}
 use Rattle.wrapper_run.proofs.NumberLemmas.{answered-unit}
+use Rattle.wrapper_run.proofs.TypedLemmas.{answered_in}
 use Rattle.wrapper_run.proofs.OwningLemmas.{ArePlain, drops_plain}
 use Rattle.wrapper_run.proofs.StepLemmas.{Quiet, calls_at, quiet_or_stop}
 
@@ -59,41 +61,41 @@ plain_words (name ∷ names) (x ∷ words) = (refl, plain_words names words)
 abbrev answered_by : Setting → CallPoint × TypeExpr → Act Val
 answered_by w p = record_call p.0 >> take_value w p.1
 
-abbrev called_with : Bytes → Bytes → Heap → List Val → TraitFn → Option (CallPoint × TypeExpr)
-called_with named name heap vs f = option_map (λ values. (method_point named name heap values, f.result)) (values_of f.params vs)
+abbrev called_with : List Item → Bytes → Bytes → Heap → List Val → TraitFn → Option (CallPoint × TypeExpr)
+called_with items named name heap vs f = option_map (λ values. (method_point named name heap values, f.result)) (values_of items f.params vs)
 
 abbrev point_of : Bytes → Bytes → Heap → TraitFn → List RustValue → CallPoint × TypeExpr
 point_of named name heap f values = (method_point named name heap values, f.result)
 
-pub method_gives : (w : Setting) (named name : Bytes) (f : TraitFn) (vs : List Val) (values : List RustValue) (s : State) → method_named w.items named name ≡ Some f → values_of f.params vs ≡ Some values
+pub method_gives : (w : Setting) (named name : Bytes) (f : TraitFn) (vs : List Val) (values : List RustValue) (s : State) → method_named w.items named name ≡ Some f → values_of w.items f.params vs ≡ Some values
     → call_method w named name vs s ≡ take_value w f.result (record s { calls = s.calls ++ method_point named name s.heap values ∷ [] })
 unfolding method_call
 method_gives w named name f vs values s m p =
-    ap (λ o. and_then (or_stop (stuck w) (option_and_then (called_with named name s.heap vs) o) s) (answered_by w)) m
+    ap (λ o. and_then (or_stop (stuck w) (option_and_then (called_with w.items named name s.heap vs) o) s) (answered_by w)) m
     ∙ ap (λ o. and_then (or_stop (stuck w) (option_map (point_of named name s.heap f) o) s) (answered_by w)) p
 
-pub value_gives : (w : Setting) (ty : TypeExpr) (r : Option RustValue) (v : Val) (heap : Heap) (s : State) → w.answer ≡ answer.Value r heap → returned_of ty r ≡ Some v
+pub value_gives : (w : Setting) (ty : TypeExpr) (r : Option RustValue) (v : Val) (heap : Heap) (s : State) → w.answer ≡ answer.Value r heap → returned_of w.items ty r ≡ Some v
     → take_value w ty s ≡ Done v (record s { heap = heap; taken = taken_by (listed r) })
 unfolding take_value
 value_gives w ty r v heap s a e = ap (λ a. method_answer w ty a s) a ∙ ap (λ o. or_stop (stuck w) o (record s { heap = heap; taken = taken_by (listed r) })) e
 
-pub returned-unit : returned_of type.Unit None ≡ Some (val.Value value.Unit)
-returned-unit = ap (option_map (λ r. val.Value value.Unit)) answered-unit
+pub returned-unit : (items : List Item) → returned_of items type.Unit None ≡ Some (val.Value value.Unit)
+returned-unit items = ap (option_map (λ r. val.Value value.Unit)) (answered_in items type.Unit (val.Value value.Unit) None answered-unit)
 
-pub passed : (ty : TypeExpr) (v : Val) (r : RustValue) → answer_of ty v ≡ Some (Some r) → passed_as ty v ≡ Some r
-passed ty v r e = ap (option_and_then (λ r. r)) e
+pub passed : (items : List Item) (ty : TypeExpr) (v : Val) (r : RustValue) → answer_of ty v ≡ Some (Some r) → passed_as items ty v ≡ Some r
+passed items ty v r e = ap (option_and_then (λ r. r)) (answered_in items ty v (Some r) e)
 
 -- the machine may take a value for another
-pub returned-as : (ty : TypeExpr) (r held : RustValue) → answer_of ty (val.Value r) ≡ Some (Some held) → returned_of ty (Some r) ≡ Some (val.Value held)
-returned-as ty r held e = ap (option_map val.Value) (passed ty (val.Value r) held e)
+pub returned-as : (items : List Item) (ty : TypeExpr) (r held : RustValue) → answer_of ty (val.Value r) ≡ Some (Some held) → returned_of items ty (Some r) ≡ Some (val.Value held)
+returned-as items ty r held e = ap (option_map val.Value) (passed items ty (val.Value r) held e)
 
-pub returned-value : (ty : TypeExpr) (r : RustValue) → answer_of ty (val.Value r) ≡ Some (Some r) → returned_of ty (Some r) ≡ Some (val.Value r)
-returned-value ty r e = ap (option_map val.Value) (passed ty (val.Value r) r e)
+pub returned-value : (items : List Item) (ty : TypeExpr) (r : RustValue) → answer_of ty (val.Value r) ≡ Some (Some r) → returned_of items ty (Some r) ≡ Some (val.Value r)
+returned-value items ty r e = ap (option_map val.Value) (passed items ty (val.Value r) r e)
 
 -- to take an answer is no call, and the ended run shows the calls of an outcome
 
 quiet_answered : (w : Setting) (ty : TypeExpr) (a : Answer) → Quiet (method_answer w ty a)
-quiet_answered w ty (answer.Value v heap) = record { quiet = λ s. (quiet_or_stop (stuck w) (returned_of ty v)).quiet (record s { heap = heap; taken = taken_by (listed v) }) }
+quiet_answered w ty (answer.Value v heap) = record { quiet = λ s. (quiet_or_stop (stuck w) (returned_of w.items ty v)).quiet (record s { heap = heap; taken = taken_by (listed v) }) }
 quiet_answered w ty (answer.Words r writes blocks) = record { quiet = λ s. refl }
 
 pub quiet_taken : (w : Setting) (ty : TypeExpr) → Quiet (take_value w ty)

@@ -14,15 +14,15 @@ use Rattle.wrapper_run.specs.declared.state.Local.{Local}
 use Rattle.wrapper_run.specs.declared.state.State.{State}
 use Rattle.wrapper_run.specs.declared.state.Val.{Val}
 use Rattle.wrapper_run.specs.declared.state.Val.TheVariants as val
-use Rattle.wrapper_run.specs.Act.{Act, Done, and_then, or_stop}
+use Rattle.wrapper_run.specs.Act.{Act, Done, ◌>>=◌, and_then, or_stop}
 use Rattle.wrapper_run.specs.Locals.{bind}
 use Rattle.wrapper_run.specs.Run.{eval, eval_step, run_stmt}
 use Rattle.wrapper_run.specs.Setting.{Setting, stuck}
-use Rattle.wrapper_run.specs.Whole.{bind_parts, field_acts, given_names, parts_of, parts_of_level, rust_values, take_apart, whole}
+use Rattle.wrapper_run.specs.Whole.{bind_parts, given_names, parts_of, parts_of_level, record_of, rust_values, take_apart, whole}
 
 -- one level of an expression
 
-pub eval-record : (w : Setting) (path : Path) (fields : List (Bytes × Expr)) → eval w (expr.Record path fields) ≡ whole w (field_acts (map (λ f. (f.0, eval w f.1)) fields))
+pub eval-record : (w : Setting) (path : Path) (fields : List (Bytes × Expr)) → eval w (expr.Record path fields) ≡ record_of w path (map (λ f. (f.0, eval w f.1)) fields)
 eval-record w path fields = ap (eval w) (sym (rolls-Record path fields)) ∙ fold-roll-Expr (Act Val) (eval_step w) (Expr-F.Record path fields)
 
 pub eval-tuple : (w : Setting) (parts : List Expr) → eval w (expr.Tuple parts) ≡ whole w (map (eval w) parts)
@@ -65,7 +65,10 @@ binds_parts w (name ∷ names) (r ∷ rs) s h =
     ∙ ap (λ ls. Done tt (record s { locals = ls })) (append_assoc s.locals (l ∷ []) (part_locals names rs))
 
 -- a `let` that takes a value apart binds each part by its name
-pub takes_apart : (w : Setting) (p : Pattern) (e : Expr) (rs : List RustValue) (s t : State) → eval w e s ≡ Done (val.Value (value.Struct rs)) t → AsMany (given_names p) rs
-    → run_stmt w (stmt.LetParts p e) s ≡ Done tt (record t { locals = t.locals ++ part_locals (given_names p) rs })
-takes_apart w p e rs s t h many =
-    ap (λ o. and_then o (take_apart w p)) h ∙ ap (λ o. and_then (or_stop (stuck w) o t) (bind_parts w (given_names p))) (parts-whole rs) ∙ binds_parts w (given_names p) rs t many
+pub takes_apart : (w : Setting) (p : Pattern) (e : Expr) (names : List Bytes) (rs : List RustValue) (s t : State)
+    → given_names w.items p ≡ Some names → eval w e s ≡ Done (val.Value (value.Struct rs)) t → AsMany names rs
+    → run_stmt w (stmt.LetParts p e) s ≡ Done tt (record t { locals = t.locals ++ part_locals names rs })
+takes_apart w p e names rs s t given h many =
+    ap (λ o. and_then o (take_apart w p)) h
+    ∙ ap (λ o. and_then (or_stop (stuck w) o t) (λ rs. or_stop (stuck w) (given_names w.items p) >>= (λ names. bind_parts w names rs))) (parts-whole rs)
+    ∙ ap (λ o. and_then (or_stop (stuck w) o t) (λ names. bind_parts w names rs)) given ∙ binds_parts w names rs t many

@@ -48,6 +48,8 @@ use Rattle.wrapper_run.specs.Locals.{bind, lend_local, local_named, usable, use_
 use Rattle.wit_model.specs.Bytes.{Bytes}
 use Rattle.wrapper_run.specs.Owning.{lent, owned, owned_in}
 use Rattle.wrapper_run.specs.Setting.{Setting, failed, stuck}
+use Rattle.wrapper_run.specs.Typed.{answer_in}
+use Rattle.wrapper_run.proofs.TypedLemmas.{answered_in}
 use Rattle.wrapper_run.specs.Blocks.{dealloc, dealloc_words, drop_local, drop_locals, free, free_all, free_bytes, free_found, free_untaken, keep_locals, leave_to, lift_buffer, lift_text, owned_block, owned_bytes, tested, untaken}
 use Rattle.wrapper_run.specs.Run.{alone, of_runtime, call, call_callee, call_point, call_runtime, callee, answer_act, apply, apply_one, converted_or_lifted, lift_act, ended, eval, eval_step, record_call, result_of, runtime_item_named, take_answer, apply_item}
 
@@ -357,7 +359,7 @@ quiet_give w o =
 -- the answer of a body, and the end of its scope
 
 pub quiet_answers : (w : Setting) (ty : TypeExpr) (v : Val) → Quiet (answer_and_leave w ty v)
-quiet_answers w ty v = quiet_give w (answer_of ty v)
+quiet_answers w ty v = quiet_give w (answer_in w.items ty v)
 
 pub quiet_drop : (w : Setting) (v : Val) → Quiet (drop_value w v)
 quiet_drop w v = quiet_free_all w (owned v)
@@ -371,4 +373,4 @@ gives_plain w o r s e p =
     ∙ ap (λ o. and_then (and_then o (λ _. keep_locals [])) (λ _. pure r)) (drops_plain w s.locals (record s { locals = [] }) p)
 
 pub answers_plain : (w : Setting) (ty : TypeExpr) (v : Val) (r : Option RustValue) (s : State) → answer_of ty v ≡ Some r → ArePlain s.locals → answer_and_leave w ty v s ≡ Done r (record s { locals = [] })
-answers_plain w ty v r s e p = gives_plain w (answer_of ty v) r s e p
+answers_plain w ty v r s e p = gives_plain w (answer_in w.items ty v) r s (answered_in w.items ty v r e) p

@@ -1,6 +1,6 @@
 -- The bytes of core values, and an area of two pointers in which an address and a length are stored.
 use Rattle.std.proofs.Common.{◌≡◌, ℕ, ◌+◌, ◌-◌, ◌%◌, ◌^◌, ◌<◌, ◌≤◌, ◌&&◌, true, false, cond, List, [], ◌∷◌, ◌++◌, Option, None, Some, length, refl, ap, ◌∙◌, arith}
-use Rattle.std.specs.Prelude.{is_some, find, nat_eq, nat_le, option_and_then}
+use Rattle.std.specs.Prelude.{ℤ, is_some, find, nat_eq, nat_le, option_and_then}
 use Rattle.std.specs.Int.{to_le_bytes, w32}
 use Rattle.std.specs.Option.{option_map}
 use Rattle.std.proofs.lemmas.Bool.{and_from}
@@ -8,6 +8,8 @@ use Rattle.std.proofs.lemmas.Bool.Decides.{nat_tests}
 use Rattle.std.proofs.lemmas.Nat.{from_le_bytes-to_le_bytes_4}
 use Rattle.wit_model.specs.declared.wasm_type.WasmType.{WasmType}
 use Rattle.wit_model.specs.declared.wasm_type.WasmType.TheVariants as core
+use Rattle.rust_tree.specs.declared.expr.SmallType.{SmallType}
+use Rattle.rust_tree.specs.declared.expr.SmallType.TheVariants as small
 use Rattle.wrapper_data.specs.declared.block.Block.{Block}
 use Rattle.wrapper_data.specs.Answered.{with_cell, with_writes, written_block}
 use Rattle.wrapper_data.specs.Heap.{overlaps_any}
@@ -15,7 +17,7 @@ use Rattle.wrapper_data.specs.declared.word.Word.{Word}
 use Rattle.wrapper_data.specs.declared.word.Word.TheVariants as word
 use Rattle.wrapper_run.specs.Effect.{is_word_of}
 use Rattle.wrapper_run.specs.Honest.{WritesIn}
-use Rattle.wrapper_run.specs.Memory.{bytes_from, bytes_of, bytes_of_type, holds, is_inside, loaded, stored, word_from, writes_from}
+use Rattle.wrapper_run.specs.Memory.{bytes_from, bytes_of, bytes_of_small, bytes_of_type, holds, is_inside, loaded, low_bytes, stored, word_from, writes_from}
 use Rattle.wrapper_run.proofs.HeapLemmas.{area_written, found_inside, written_all}
 
 -- a value of a core type has as many bytes as the type
@@ -28,6 +30,12 @@ length_bytes_of core.Pointer (word.Pointer n) h = refl
 length_bytes_of core.Length (word.Length n) h = refl
 length_bytes_of core.PointerOrI64 (word.Slot (Some n)) h = refl
 length_bytes_of _ _ h = absurd (cc)
+
+pub length_low_bytes : (ty : SmallType) (z : ℤ) → length (low_bytes ty z) ≡ bytes_of_small ty
+length_low_bytes small.U8 z = refl
+length_low_bytes small.I8 z = refl
+length_low_bytes small.U16 z = refl
+length_low_bytes small.I16 z = refl
 
 -- an area of two pointers, by its address and its cells
 abbrev pub pair_with : ℕ → List (ℕ × ℕ) → Block

@@ -1,9 +1,10 @@
 -- What is done to blocks: a block is taken over or let go, a text is tested, blocks are freed, and a core value is written into one.
-use Rattle.std.specs.Prelude.{ℕ, zero, suc, ◌+◌, ◌-◌, ◌^◌, Bool, true, not, nat_eq, nat_lt, if◌then◌else◌, List, [], ◌∷◌, ◌++◌, Option, None, Some, filter, drop, take, option_and_then}
+use Rattle.std.specs.Prelude.{ℤ, ℕ, zero, suc, ◌+◌, ◌-◌, ◌^◌, Bool, true, not, nat_eq, nat_lt, if◌then◌else◌, List, [], ◌∷◌, ◌++◌, Option, None, Some, filter, drop, take, option_and_then}
 use Rattle.std.specs.Str.{is_utf8}
 use Rattle.wit_model.specs.declared.size.ArchitectureSize.{ArchitectureSize}
 use Rattle.wit_model.specs.declared.wasm_type.WasmType.{WasmType}
 use Rattle.wit_model.specs.Size.{bytes_at}
+use Rattle.rust_tree.specs.declared.expr.SmallType.{SmallType}
 use Rattle.wrapper_data.specs.declared.block.Block.{Block}
 use Rattle.wrapper_data.specs.declared.run.TrapKind.TheVariants as trap
 use Rattle.wrapper_data.specs.declared.value.RustValue.TheVariants as value
@@ -14,8 +15,8 @@ use Rattle.wrapper_run.specs.declared.state.State.{State}
 use Rattle.wrapper_run.specs.declared.state.Val.{Val}
 use Rattle.wrapper_run.specs.declared.state.Val.TheVariants as val
 use Rattle.wrapper_run.specs.Act.{Act, Done, ◌>>=◌, ◌>>◌, or_stop, pure, stop}
-use Rattle.wrapper_run.specs.Effect.{word_of}
-use Rattle.wrapper_run.specs.Memory.{block_at, block_from, bytes_from, stored, without}
+use Rattle.wrapper_run.specs.Effect.{integer_of, word_of}
+use Rattle.wrapper_run.specs.Memory.{block_at, block_from, bytes_from, stored, stored_small, without}
 use Rattle.wrapper_run.specs.Owning.{buffer_of, is_taken, owned, owned_in}
 use Rattle.wrapper_run.specs.Setting.{Setting, failed, stuck}
 
@@ -163,3 +164,14 @@ write_word w ty address (Some x) = λ s. (or_stop (stuck w) (stored ty address x
 abbrev pub store_word : Setting → ArchitectureSize → WasmType → Val → Val → Act (Unit {0})
 store_word w offset ty v (val.Word (word.Pointer address)) = write_word w ty (address + bytes_at offset 4) (word_of ty v)
 store_word w offset ty v _ = stop (stuck w)
+
+-- the low bytes of a number are written
+
+abbrev pub write_small : Setting → SmallType → ℕ → Option ℤ → Act (Unit {0})
+write_small w ty address None = stop (stuck w)
+write_small w ty address (Some z) = λ s. (or_stop (stuck w) (stored_small ty address z s.heap.blocks) >>= keep_blocks) s
+
+-- what is cut to a small type is written at an offset from an address
+abbrev pub store_small : Setting → ArchitectureSize → SmallType → Val → Val → Act (Unit {0})
+store_small w offset ty v (val.Word (word.Pointer address)) = write_small w ty (address + bytes_at offset 4) (integer_of v)
+store_small w offset ty v _ = stop (stuck w)

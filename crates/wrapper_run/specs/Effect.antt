@@ -272,7 +272,7 @@ text_of_level (RustValue-F.Buffer address len true) = Some (value.Buffer address
 text_of_level (RustValue-F.Buffer address zero false) = Some (value.Buffer address 0 true)
 text_of_level _ = None
 
--- what a function of this printed type answers: no value for `()`
+-- what a function of this plain printed type answers: no value for `()`
 abbrev pub answer_as : TypeExpr-F TypeExpr → Val → Option (Option RustValue)
 answer_as TypeExpr-F.Unit v = if is_unit v then Some None else None
 answer_as (TypeExpr-F.Primitive p) v = option_map Some (value_as p v)

@@ -4,11 +4,14 @@ pub mod Entries
 pub mod ExportFaithful
 pub mod ExportRun
 pub mod Faithful
+pub mod Fields
+pub mod Growth
 pub mod Honest
 pub mod Areas
 pub mod Blocks
 pub mod Locals
 pub mod Memory
+pub mod OtherBlocks
 pub mod Owning
 pub mod Places
 pub mod PostReturn
@@ -19,5 +22,7 @@ pub mod Seen
 pub mod Setting
 pub mod StandsFor
 pub mod TextBlocks
+pub mod Typed
+pub mod UnusedLocals
 pub mod Value
 pub mod Whole

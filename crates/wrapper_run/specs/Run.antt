@@ -6,6 +6,7 @@ use Rattle.wit_model.specs.declared.size.ArchitectureSize.{ArchitectureSize}
 use Rattle.wit_model.specs.declared.wasm_type.WasmType.{WasmType}
 use Rattle.wit_model.specs.Size.{alignment_at, bytes_at}
 use Rattle.rust_tree.specs.declared.expr.Expr.{Expr, Expr-F, fold-Expr}
+use Rattle.rust_tree.specs.declared.expr.SmallType.{SmallType}
 use Rattle.rust_tree.specs.declared.item.FnItem.{FnItem}
 use Rattle.rust_tree.specs.declared.item.FnParam.{FnParam}
 use Rattle.rust_tree.specs.declared.item.Item.{Item}
@@ -43,13 +44,14 @@ use Rattle.wrapper_run.specs.declared.owning.View.TheVariants as view_of
 use Rattle.wrapper_run.specs.declared.state.Val.{Val}
 use Rattle.wrapper_run.specs.declared.state.Val.TheVariants as val
 use Rattle.wrapper_run.specs.Setting.{Setting, failed, stuck}
-use Rattle.wrapper_run.specs.Blocks.{boxed, dealloc_words, drop_value, forget, leave_to, lift_text, store_word, take_over}
+use Rattle.wrapper_run.specs.Blocks.{boxed, dealloc_words, drop_value, forget, leave_to, lift_text, store_small, store_word, take_over}
 use Rattle.wrapper_run.specs.Places.{declare_area, static_pointer}
-use Rattle.wrapper_run.specs.Memory.{loaded}
-use Rattle.wrapper_run.specs.Whole.{field_acts, take_apart, whole}
+use Rattle.wrapper_run.specs.Memory.{loaded, loaded_small}
+use Rattle.wrapper_run.specs.Whole.{record_of, take_apart, whole}
 use Rattle.wrapper_run.specs.Owning.{taken_by}
 use Rattle.wrapper_run.specs.Act.{Act, Outcome, Done, Stopped, ◌>>=◌, ◌>>◌, all, or_stop, pure, stop}
-use Rattle.wrapper_run.specs.Effect.{answer_of, cast_to, converted, is_word_of, lift_of, word_of, word_of_bool}
+use Rattle.wrapper_run.specs.Effect.{cast_to, converted, is_word_of, lift_of, word_of, word_of_bool}
+use Rattle.wrapper_run.specs.Typed.{answer_in}
 use Rattle.wrapper_run.specs.Locals.{ask_local, bind, declare, import_named, lend_local, local_named, use_local, value_of}
 use Rattle.wit_model.specs.Bytes.{Bytes}
 
@@ -194,6 +196,12 @@ load_word w offset ty (val.Word (word.Pointer address)) =
     λ s. or_stop (failed w trap.Pointer) (option_map val.Word (loaded ty (address + bytes_at offset 4) s.heap.blocks)) s
 load_word w offset ty _ = stop (stuck w)
 
+-- a load of a small number
+abbrev pub load_small : Setting → ArchitectureSize → SmallType → Val → Act Val
+load_small w offset ty (val.Word (word.Pointer address)) =
+    λ s. or_stop (failed w trap.Pointer) (option_map val.Word (loaded_small ty (address + bytes_at offset 4) s.heap.blocks)) s
+load_small w offset ty _ = stop (stuck w)
+
 -- the take-over of as many bytes as a local says
 abbrev pub take_bytes : Setting → Option Val → Val → Act Val
 take_bytes w (Some (val.Word (word.Length n))) (val.Word (word.Pointer address)) = take_over w address n
@@ -211,11 +219,12 @@ eval_step w (Expr-F.Len name) = ask_local (stuck w) view_of.TextLength name
 eval_step w (Expr-F.CastMut name) = ask_local (stuck w) view_of.Pointer name
 eval_step w (Expr-F.ReturnPointer name) = ask_local (stuck w) view_of.AreaAddress name
 eval_step w (Expr-F.Load e offset ty) = e >>= load_word w offset ty
+eval_step w (Expr-F.LoadSmall e offset ty) = e >>= load_small w offset ty
 eval_step w (Expr-F.FromRawParts e length) = e >>= (λ v. λ s. take_bytes w (value_of (local_named length s.locals)) v s)
 eval_step w (Expr-F.IntoBoxedBytes name) = use_local (stuck w) name >>= boxed w
 eval_step w Expr-F.StaticPointer = static_pointer w
 eval_step w (Expr-F.Align align) = pure (val.Word (word.Length (alignment_at align 4)))
-eval_step w (Expr-F.Record path fields) = whole w (field_acts fields)
+eval_step w (Expr-F.Record path fields) = record_of w path fields
 eval_step w (Expr-F.Tuple parts) = whole w parts
 eval_step w (Expr-F.Array parts) = whole w parts
 
@@ -229,6 +238,7 @@ run_stmt w (stmt.Expr e) = eval w e >>= drop_value w
 run_stmt w (stmt.Area a) = declare_area w a
 run_stmt w (stmt.LetParts p e) = eval w e >>= take_apart w p
 run_stmt w (stmt.Store address offset ty value) = eval w value >>= (λ v. eval w address >>= store_word w offset ty v)
+run_stmt w (stmt.StoreSmall address offset ty value) = eval w value >>= (λ v. eval w address >>= store_small w offset ty v)
 
 abbrev pub run_stmts : Setting → List Stmt → Act (Unit {0})
 run_stmts w [] = pure tt
@@ -258,7 +268,7 @@ abbrev pub give_and_leave : {A : Type 0} → Setting → Option A → Act A
 give_and_leave w given = or_stop (stuck w) given >>= (λ r. leave_to w 0 >> pure r)
 
 abbrev pub answer_and_leave : Setting → TypeExpr → Val → Act (Option RustValue)
-answer_and_leave w ty v = give_and_leave w (answer_of ty v)
+answer_and_leave w ty v = give_and_leave w (answer_in w.items ty v)
 
 abbrev pub run_fn : Setting → FnItem → Act (Option RustValue)
 run_fn w f = run_block w f.body >>= answer_and_leave w f.result

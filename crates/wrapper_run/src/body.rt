@@ -10,6 +10,7 @@ use crate::freeing::drop_value;
 use crate::locals::{bind, declare};
 use crate::parts::take_apart;
 use crate::places::declare_area;
+use crate::small::store_small;
 use crate::state::{Halt, State, Val, World};
 use crate::store::store_word;
 use rust_tree::{Block, Expr, Stmt};
@@ -38,6 +39,11 @@ fn run_stmt(alloc: Global, world: &World, state: &mut State, s: &Stmt) -> Result
             let v = eval(alloc, world, state, value)?;
             let address = eval(alloc, world, state, address)?;
             store_word(alloc, world, state, offset, *ty, &v, &address)
+        }
+        Stmt::StoreSmall(address, offset, ty, value) => {
+            let v = eval(alloc, world, state, value)?;
+            let address = eval(alloc, world, state, address)?;
+            store_small(alloc, world, state, offset, *ty, &v, &address)
         }
     }
 }

@@ -8,7 +8,7 @@ ghost use Rattle.wrapper_run.specs.Effect as effect;
 ghost use Rattle.wrapper_run.specs.Locals.{local_named, use_local, value_of};
 ghost use Rattle.wrapper_run.specs.Run as spec;
 ghost use Rattle.wrapper_run.specs.Setting.{setting, stuck};
-ghost use Rattle.wrapper_run.specs.Whole.{field_acts, whole};
+ghost use Rattle.wrapper_run.specs.Whole.{field_act, record_of, whole};
 ghost use Rattle.wrapper_run.specs.declared.state.Val.TheVariants as val;
 
 use crate::blocks::{boxed, take_over};
@@ -18,10 +18,11 @@ use crate::conversion;
 use crate::locals::{ask_local, lend_local, use_local, value_named};
 use crate::memory::{align_at_four, at_four, loaded};
 use crate::owning::View;
-use crate::parts::whole_of;
+use crate::parts::{self, whole_of};
 use crate::places::static_pointer;
+use crate::small::load_small;
 use crate::state::{Halt, State, Val, World};
-use rust_tree::{CastType, Expr};
+use rust_tree::{CastType, Expr, Path};
 use std::alloc::Global;
 use wit_model::{ArchitectureSize, List, Text, WasmType};
 use wrapper_data::{TrapKind, Word};
@@ -112,8 +113,7 @@ pub(crate) fn eval(alloc: Global, world: &World, state: &mut State, e: &Expr) ->
             cast(world, state, *to, &v)
         }
         Expr::Call(path, arguments) => {
-            let vs = eval_all(alloc, world, state, arguments.as_slice())?;
-            call(alloc, world, state, path, vs.as_slice())
+            eval_call(alloc, world, state, path, arguments.as_slice())
         }
         Expr::I32FromBool(e) => {
             let v = eval(alloc, world, state, e.get())?;
@@ -123,6 +123,10 @@ pub(crate) fn eval(alloc: Global, world: &World, state: &mut State, e: &Expr) ->
             let v = eval(alloc, world, state, e.get())?;
             load_word(alloc, world, state, offset, *ty, &v)
         }
+        Expr::LoadSmall(e, offset, ty) => {
+            let v = eval(alloc, world, state, e.get())?;
+            load_small(alloc, world, state, offset, *ty, &v)
+        }
         Expr::FromRawParts(e, length) => {
             let v = eval(alloc, world, state, e.get())?;
             take_bytes(alloc, world, state, length, &v)
@@ -130,42 +134,65 @@ pub(crate) fn eval(alloc: Global, world: &World, state: &mut State, e: &Expr) ->
         Expr::IntoBoxedBytes(name) => box_local(alloc, world, state, name),
         Expr::StaticPointer => static_pointer(alloc, world, state),
         Expr::Align(align) => Ok(Val::Word(Word::Length(align_at_four(align)))),
-        Expr::Record(_, fields) => eval_record(alloc, world, state, fields.as_slice()),
+        Expr::Record(path, fields) => eval_record(alloc, world, state, path, fields.as_slice()),
         Expr::Tuple(parts) | Expr::Array(parts) => {
-            let vs = eval_all(alloc, world, state, parts.as_slice())?;
-            whole_of(alloc, world, state, vs.as_slice())
+            eval_whole(alloc, world, state, parts.as_slice())
         }
     }
 }
 
-/// The record whose fields have these expressions, in the order of the tree.
+#[cycle(eval)]
+fn eval_call(
+    alloc: Global,
+    world: &World,
+    state: &mut State,
+    path: &Path,
+    arguments: &[Expr],
+) -> Result<Val, Halt>
+    ensures { Runs (and_then (all (map (spec.eval (setting world.now)) arguments.now) state.old) (λ vs. spec.call (setting world.now) path.now vs)) result state.new }
+{
+    let vs = eval_all(alloc, world, state, arguments)?;
+    call(alloc, world, state, path, vs.as_slice())
+}
+
+/// The tuple or array whose parts have these expressions.
+#[cycle(eval)]
+fn eval_whole(alloc: Global, world: &World, state: &mut State, parts: &[Expr]) -> Result<Val, Halt>
+    ensures { Runs (whole (setting world.now) (map (spec.eval (setting world.now)) parts.now) state.old) result state.new }
+{
+    let vs = eval_all(alloc, world, state, parts)?;
+    whole_of(alloc, world, state, vs.as_slice())
+}
+
+/// The record whose fields have these expressions, computed in the order of the tree.
 #[cycle(eval)]
 fn eval_record(
     alloc: Global,
     world: &World,
     state: &mut State,
+    path: &Path,
     fields: &[(Text, Expr)],
 ) -> Result<Val, Halt>
-    ensures { Runs (whole (setting world.now) (field_acts (map (λ f. (f.0, spec.eval (setting world.now) f.1)) fields.now)) state.old) result state.new }
+    ensures { Runs (record_of (setting world.now) path.now (map (λ f. (f.0, spec.eval (setting world.now) f.1)) fields.now) state.old) result state.new }
 {
     let vs = eval_fields(alloc, world, state, fields)?;
-    whole_of(alloc, world, state, vs.as_slice())
+    parts::record_of(alloc, world, state, path, vs.as_slice())
 }
 
-/// The values of a record's fields, in the order of the tree.
+/// The values of a record's fields, each behind its name, computed in the order of the tree.
 #[cycle(eval)]
 fn eval_fields(
     alloc: Global,
     world: &World,
     state: &mut State,
     fields: &[(Text, Expr)],
-) -> Result<List<Val>, Halt>
-    ensures { Runs (all (field_acts (map (λ f. (f.0, spec.eval (setting world.now) f.1)) fields.now)) state.old) result state.new }
+) -> Result<List<(Text, Val)>, Halt>
+    ensures { Runs (all (map field_act (map (λ f. (f.0, spec.eval (setting world.now) f.1)) fields.now)) state.old) result state.new }
 {
     let mut vs = List::new(alloc);
     for field in fields {
         let v = eval(alloc, world, state, &field.1)?;
-        vs.push(v)?;
+        vs.push((field.0.copy(alloc)?, v))?;
     }
     Ok(vs)
 }

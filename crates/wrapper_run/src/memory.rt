@@ -111,7 +111,7 @@ pub(crate) fn holder(address: u128, size: u32, blocks: &[Block]) -> Option<&Bloc
 }
 
 /// The bytes at an address, which lie in one block.
-fn bytes_at(
+pub(crate) fn bytes_at(
     alloc: Global,
     address: u128,
     size: u32,

@@ -8,8 +8,8 @@ ghost use Rattle.wrapper_run.specs.Owning as owning;
 ghost use Rattle.wrapper_run.specs.Setting.{setting};
 
 use crate::owning::taken_by;
-use crate::printed::answer_of;
 use crate::state::{Halt, State, Val, World};
+use crate::typed::answer_in;
 use rust_tree::{FnParam, Item, TraitFn, TypeExpr};
 use std::alloc::Global;
 use wit_model::{List, OutOfMemory, Text};
@@ -43,31 +43,38 @@ fn method_named<'a>(items: &'a [Item], bound: &str, name: &str) -> Option<&'a Tr
 }
 
 /// The value that is passed for a parameter of a printed type, if the value is one of that type.
-fn passed_as(ty: &TypeExpr, v: &Val) -> Option<RustValue>
-    ensures { result ≡ spec.passed_as ty.now v.now }
+fn passed_as(
+    alloc: Global,
+    items: &[Item],
+    ty: &TypeExpr,
+    v: &Val,
+) -> Result<Option<RustValue>, OutOfMemory>
+    ensures { IfOk result (λ passed. passed ≡ spec.passed_as items.now ty.now v.now) }
 {
-    match answer_of(ty, v) {
-        None => None,
-        Some(passed) => passed,
+    match answer_in(alloc, items, ty, v)? {
+        None => Ok(None),
+        Some(passed) => Ok(passed),
     }
 }
 
 /// Puts the values of the arguments behind others, and tells whether each is of its parameter's type.
 fn push_values(
+    alloc: Global,
+    items: &[Item],
     values: &mut List<RustValue>,
     params: &[FnParam],
     vs: &[Val],
 ) -> Result<bool, OutOfMemory>
     ensures { IfOk result
-        (λ all. (if all then Some values.new else None) ≡ option_map (λ rs. values.old ++ rs) (spec.values_of params.now vs.now)) }
+        (λ all. (if all then Some values.new else None) ≡ option_map (λ rs. values.old ++ rs) (spec.values_of items.now params.now vs.now)) }
 {
     match (params.split_first(), vs.split_first()) {
         (None, None) => Ok(true),
-        (Some((p, params)), Some((v, vs))) => match passed_as(&p.ty, v) {
+        (Some((p, params)), Some((v, vs))) => match passed_as(alloc, items, &p.ty, v)? {
             None => Ok(false),
             Some(r) => {
                 values.push(r)?;
-                push_values(values, params, vs)
+                push_values(alloc, items, values, params, vs)
             }
         },
         _ => Ok(false),
@@ -77,13 +84,14 @@ fn push_values(
 /// The values of the arguments, each of its parameter's type, if they are that.
 fn values_of(
     alloc: Global,
+    items: &[Item],
     params: &[FnParam],
     vs: &[Val],
 ) -> Result<Option<List<RustValue>>, OutOfMemory>
-    ensures { IfOk result (λ values. values ≡ spec.values_of params.now vs.now) }
+    ensures { IfOk result (λ values. values ≡ spec.values_of items.now params.now vs.now) }
 {
     let mut values = List::new(alloc);
-    if push_values(&mut values, params, vs)? {
+    if push_values(alloc, items, &mut values, params, vs)? {
         Ok(Some(values))
     } else {
         Ok(None)
@@ -123,7 +131,7 @@ fn method_call<'a>(
 {
     match method_named(items, bound.as_str(), name.as_str()) {
         None => Ok(None),
-        Some(f) => match values_of(alloc, f.params.as_slice(), vs)? {
+        Some(f) => match values_of(alloc, items, f.params.as_slice(), vs)? {
             None => Ok(None),
             Some(values) => {
                 let point = method_point(alloc, bound, name, heap, values)?;
@@ -136,17 +144,18 @@ fn method_call<'a>(
 /// The value that a method of a printed type returns: none where the type is `()`.
 fn returned_of(
     alloc: Global,
+    items: &[Item],
     ty: &TypeExpr,
     value: &Option<RustValue>,
 ) -> Result<Option<Val>, OutOfMemory>
-    ensures { IfOk result (λ v. v ≡ spec.returned_of ty.now value.now) }
+    ensures { IfOk result (λ v. v ≡ spec.returned_of items.now ty.now value.now) }
 {
     match value {
-        None => match answer_of(ty, &Val::Value(RustValue::Unit)) {
+        None => match answer_in(alloc, items, ty, &Val::Value(RustValue::Unit))? {
             None => Ok(None),
             Some(_) => Ok(Some(Val::Value(RustValue::Unit))),
         },
-        Some(value) => match passed_as(ty, &Val::Value(value.copy(alloc)?)) {
+        Some(value) => match passed_as(alloc, items, ty, &Val::Value(value.copy(alloc)?))? {
             None => Ok(None),
             Some(returned) => Ok(Some(Val::Value(returned))),
         },
@@ -174,7 +183,7 @@ fn take_value(alloc: Global, world: &World, state: &mut State, ty: &TypeExpr) ->
         Answer::Value { value, heap } => {
             state.heap = heap.copy(alloc)?;
             state.taken = taken_by_value(alloc, value)?;
-            match returned_of(alloc, ty, value)? {
+            match returned_of(alloc, world.items, ty, value)? {
                 None => Err(Halt::Stopped(world.stuck())),
                 Some(v) => Ok(v),
             }

@@ -1,15 +1,17 @@
 //! Values with parts: how parts become one value, and how each part of a value gets a name.
 
-ghost use Rattle.std.specs.Prelude.{◌≡◌, ◌++◌, IfOk, map, Some, None, if◌then◌else◌};
+ghost use Rattle.std.specs.Prelude.{◌≡◌, ◌++◌, IfOk, Some, None, if◌then◌else◌, option_and_then};
 ghost use Rattle.std.specs.Option.{option_map};
 ghost use Rattle.wrapper_run.specs.Act.{Runs, or_stop};
 ghost use Rattle.wrapper_run.specs.Effect as effect;
+ghost use Rattle.wrapper_run.specs.Fields as fields_spec;
 ghost use Rattle.wrapper_run.specs.Setting.{setting, stuck};
 ghost use Rattle.wrapper_run.specs.Whole as spec;
 
+use crate::fields::arranged;
 use crate::locals::bind;
 use crate::state::{Halt, State, Val, World};
-use rust_tree::Pattern;
+use rust_tree::{Path, Pattern};
 use std::alloc::Global;
 use wit_model::{List, OutOfMemory, Text, WitType};
 use wrapper_data::{RustValue, Word};
@@ -70,14 +72,20 @@ pub(crate) fn whole_of(alloc: Global, world: &World, state: &State, vs: &[Val]) 
     }
 }
 
-fn field_names(alloc: Global, fields: &[(Text, Text)]) -> Result<List<Text>, OutOfMemory>
-    ensures { IfOk result (λ names. names ≡ map (λ f. f.1) fields.now) }
+/// The record whose fields have these values.
+pub(crate) fn record_of(
+    alloc: Global,
+    world: &World,
+    state: &State,
+    path: &Path,
+    fields: &[(Text, Val)],
+) -> Result<Val, Halt>
+    ensures { Runs (or_stop (stuck (setting world.now)) (option_and_then spec.whole_of (fields_spec.arranged world.now.items.now path.now fields.now)) state.now) result state.now }
 {
-    let mut names = List::new(alloc);
-    for field in fields {
-        names.push(field.1.copy(alloc)?)?;
+    match arranged(alloc, world.items, path, fields)? {
+        None => Err(Halt::Stopped(world.stuck())),
+        Some(vs) => whole_of(alloc, world, state, vs.as_slice()),
     }
-    Ok(names)
 }
 
 /// Binds as many parts as names.
@@ -116,9 +124,11 @@ pub(crate) fn take_apart(
         _ => return Err(Halt::Stopped(world.stuck())),
     };
     match pattern {
-        Pattern::Record(_, fields) => {
-            let names = field_names(alloc, fields.as_slice())?;
-            bind_parts(alloc, world, state, names.as_slice(), parts)
+        Pattern::Record(path, fields) => {
+            match arranged(alloc, world.items, path, fields.as_slice())? {
+                None => Err(Halt::Stopped(world.stuck())),
+                Some(names) => bind_parts(alloc, world, state, names.as_slice(), parts),
+            }
         }
         Pattern::Tuple(names) | Pattern::Array(names) => {
             bind_parts(alloc, world, state, names.as_slice(), parts)

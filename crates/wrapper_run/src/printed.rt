@@ -1,4 +1,4 @@
-//! What a function of a printed type answers.
+//! What a function of a plain printed type answers.
 
 ghost use Rattle.std.specs.Prelude.{◌≡◌, option_and_then};
 ghost use Rattle.wrapper_run.specs.Effect as spec;
@@ -101,7 +101,7 @@ pub(crate) fn is_unit(v: &Val) -> bool
     }
 }
 
-/// What a function of a printed type answers: no value for `()`. Nothing, where the value is none of that type.
+/// What a function of a plain printed type answers: no value for `()`. Nothing, where the value is none of that type.
 #[tactic(auto, unfolding(crate::specs::Effect::answer_of))]
 pub(crate) fn answer_of(ty: &TypeExpr, v: &Val) -> Option<Option<RustValue>>
     ensures { result ≡ spec.answer_of ty.now v.now }

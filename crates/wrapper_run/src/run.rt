@@ -8,8 +8,8 @@ ghost use Rattle.wrapper_run.specs.Setting.{setting};
 use crate::body::run_block;
 use crate::freeing::leave_to;
 use crate::owning::taken_by;
-use crate::printed::answer_of;
 use crate::state::{Halt, Local, State, Val, World};
+use crate::typed::answer_in;
 use rust_tree::{Bindings, FnItem, FnParam, Item, WrapperId};
 use std::alloc::Global;
 use wit_model::{List, OutOfMemory};
@@ -92,7 +92,7 @@ fn run_fn(
     ensures { Runs (spec.run_fn (setting world.now) f.now state.old) result state.new }
 {
     let v = run_block(alloc, world, state, &f.body)?;
-    let answer = match answer_of(&f.result, &v) {
+    let answer = match answer_in(alloc, world.items, &f.result, &v)? {
         None => return Err(Halt::Stopped(world.stuck())),
         Some(answer) => answer,
     };

@@ -46,7 +46,7 @@ fn writes_from(alloc: Global, address: u32, bytes: &[u8]) -> Result<Vec<(u32, u8
     Ok(writes)
 }
 
-fn is_inside(address: u128, size: u32, blocks: &[Block]) -> bool
+pub(crate) fn is_inside(address: u128, size: u32, blocks: &[Block]) -> bool
     requires { address < 2 ^ 100 }
     ensures { result ≡ spec.is_inside address size blocks.now }
 {
@@ -54,7 +54,7 @@ fn is_inside(address: u128, size: u32, blocks: &[Block]) -> bool
 }
 
 /// Writes bytes one after another, from an address on.
-fn write_bytes(
+pub(crate) fn write_bytes(
     alloc: Global,
     state: &mut State,
     address: u32,

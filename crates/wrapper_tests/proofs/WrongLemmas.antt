@@ -251,7 +251,7 @@ callee_of = record { result = Some (codes "result0"); stmts = []; method = codes
 answers : call_inside x (codes "Guest") callee_of s0 ≡ Done (val.Value held) answered_state
 answers =
     method_gives x (codes "Guest") (codes "name") (record { docs = []; name = codes "name"; params = []; result = type.String }) [] [] s0 refl refl
-    ∙ value_gives x type.String (Some held) (val.Value held) nothing (record s0 { calls = method ∷ [] }) refl (returned-value type.String held (answered-text 1 0))
+    ∙ value_gives x type.String (Some held) (val.Value held) nothing (record s0 { calls = method ∷ [] }) refl (returned-value x.items type.String held (answered-text 1 0))
 
 area_placed : run_stmt x area kept ≡ Done tt (with_area [])
 unfolding place_area bind

@@ -1,15 +1,16 @@
 ghost use Rattle.std.specs.Prelude.{◌≡◌, ◌++◌, OnOk, map};
-ghost use Rattle.rust_tree.specs.CodeText.{arguments_text, array_text, bracket, capacity_text, cast_type_text, expr_fields, expr_spelled, expr_text, fields_text, listed_text, parts_text, place_text};
+ghost use Rattle.rust_tree.specs.CodeText.{arguments_text, array_text, bracket, capacity_text, cast_type_text, expr_fields, expr_spelled, expr_text, fields_text, listed_text, parts_text, path_text, place_text, receiver_text, small_type_text};
 ghost use Rattle.rust_tree.specs.Word.{expr_word, sign};
 ghost use Rattle.rust_tree.specs.declared.print.word.expr.ExprWord.TheVariants.{IntoBoxedBytes};
 ghost use Rattle.rust_tree.specs.declared.print.word.sign.Sign.TheVariants.{As, Close, Colon, Open, Reference};
 
-use crate::expr::{CastType, Expr};
+use crate::expr::{CastType, Expr, SmallType};
+use crate::path::Path;
 use crate::print::path::push_path;
 use crate::print::size::{push_alignment, push_term};
-use crate::print::type_name::{push_cast_type, push_core_type};
+use crate::print::type_name::{core_type_name, push_cast_type, small_type_name};
 use crate::print::word::{ExprWord, Sign};
-use wit_model::{ArchitectureSize, OutOfMemory, Text, WasmType};
+use wit_model::{ArchitectureSize, OutOfMemory, Text};
 
 fn is_local(e: &Expr) -> bool
     ensures { result ≡ (expr_spelled e.now).is_local }
@@ -21,14 +22,6 @@ fn push_bracket(out: &mut Text, e: &Expr, w: Sign) -> Result<(), OutOfMemory>
     ensures { OnOk result (out.new ≡ out.old ++ bracket (expr_spelled e.now) w) }
 {
     if is_local(e) { Ok(()) } else { w.put(out) }
-}
-
-/// A word, and the bracket before an expression on which a method is called.
-pub(crate) fn push_open(out: &mut Text, w: ExprWord, e: &Expr) -> Result<(), OutOfMemory>
-    ensures { OnOk result (out.new ≡ out.old ++ (expr_word w ++ bracket (expr_spelled e.now) Open)) }
-{
-    w.put(out)?;
-    push_bracket(out, e, Sign::Open)
 }
 
 fn push_reference(out: &mut Text, name: &Text) -> Result<(), OutOfMemory>
@@ -52,22 +45,27 @@ fn push_behind(out: &mut Text, name: &Text, w: ExprWord) -> Result<(), OutOfMemo
     w.put(out)
 }
 
-/// What stands behind the expression of an address: the bracket, and the place that it is the address of.
+/// What stands behind an address: the place that it is the address of, of a type by its name.
 pub(crate) fn push_place(
     out: &mut Text,
-    address: &Expr,
     offset: ArchitectureSize,
-    ty: WasmType,
+    ty: &str,
 ) -> Result<(), OutOfMemory>
-    ensures { OnOk result
-        (out.new ≡ out.old ++ (bracket (expr_spelled address.now) Close ++ place_text offset ty)) }
+    ensures { OnOk result (out.new ≡ out.old ++ place_text offset ty.now) }
 {
-    push_bracket(out, address, Sign::Close)?;
     ExprWord::Add.put(out)?;
     push_term(out, offset)?;
     ExprWord::CastTo.put(out)?;
-    push_core_type(out, ty)?;
+    out.push_str(ty)?;
     ExprWord::CastEnd.put(out)
+}
+
+/// The same, and the bracket behind what is widened.
+fn push_widened(out: &mut Text, offset: ArchitectureSize, ty: SmallType) -> Result<(), OutOfMemory>
+    ensures { OnOk result (out.new ≡ out.old ++ (place_text offset (small_type_text ty) ++ sign Close)) }
+{
+    push_place(out, offset, small_type_name(ty))?;
+    Sign::Close.put(out)
 }
 
 /// The name of a field, before what stands for it.
@@ -85,12 +83,10 @@ fn push_boxed_bytes(out: &mut Text, name: &Text) -> Result<(), OutOfMemory>
     push_behind(out, name, ExprWord::IntoBoxedBytes)
 }
 
-/// What stands behind the expression of a pointer whose bytes are taken over: the bracket, the length and the capacity.
-fn push_capacity(out: &mut Text, pointer: &Expr, len: &Text) -> Result<(), OutOfMemory>
-    ensures { OnOk result
-        (out.new ≡ out.old ++ (bracket (expr_spelled pointer.now) Close ++ capacity_text len.now)) }
+/// What stands behind a pointer whose bytes are taken over: the length and the capacity.
+fn push_capacity(out: &mut Text, len: &Text) -> Result<(), OutOfMemory>
+    ensures { OnOk result (out.new ≡ out.old ++ capacity_text len.now) }
 {
-    push_bracket(out, pointer, Sign::Close)?;
     ExprWord::PointerCast.put(out)?;
     out.push_str(len.as_str())?;
     Sign::Comma.put(out)?;
@@ -109,10 +105,7 @@ pub(crate) fn push_expr(out: &mut Text, e: &Expr) -> Result<(), OutOfMemory>
             push_expr(out, e.get())?;
             push_as(out, *to)
         }
-        Expr::Call(path, arguments) => {
-            push_path(out, path)?;
-            push_arguments(out, arguments.as_slice())
-        }
+        Expr::Call(path, arguments) => push_call(out, path, arguments.as_slice()),
         Expr::I32FromBool(e) => {
             ExprWord::Match.put(out)?;
             push_expr(out, e.get())?;
@@ -123,25 +116,35 @@ pub(crate) fn push_expr(out: &mut Text, e: &Expr) -> Result<(), OutOfMemory>
         Expr::CastMut(name) => push_behind(out, name, ExprWord::CastMut),
         Expr::ReturnPointer(name) => push_behind(out, name, ExprWord::AreaPointer),
         Expr::Load(address, offset, ty) => {
-            push_open(out, ExprWord::Dereference, address.get())?;
-            push_expr(out, address.get())?;
-            push_place(out, address.get(), *offset, *ty)
+            push_receiver(out, ExprWord::Dereference, address.get())?;
+            push_place(out, *offset, core_type_name(*ty))
+        }
+        Expr::LoadSmall(address, offset, ty) => {
+            push_receiver(out, ExprWord::Widened, address.get())?;
+            push_widened(out, *offset, *ty)
         }
         Expr::FromRawParts(pointer, len) => {
-            push_open(out, ExprWord::FromRawParts, pointer.get())?;
-            push_expr(out, pointer.get())?;
-            push_capacity(out, pointer.get(), len)
+            push_receiver(out, ExprWord::FromRawParts, pointer.get())?;
+            push_capacity(out, len)
         }
         Expr::IntoBoxedBytes(name) => push_boxed_bytes(out, name),
         Expr::StaticPointer => ExprWord::StaticPointer.put(out),
         Expr::Align(align) => push_alignment(out, *align),
-        Expr::Record(path, fields) => {
-            push_path(out, path)?;
-            push_fields(out, fields.as_slice())
-        }
+        Expr::Record(path, fields) => push_record(out, path, fields.as_slice()),
         Expr::Tuple(parts) => push_parts(out, parts.as_slice()),
         Expr::Array(parts) => push_array(out, parts.as_slice()),
     }
+}
+
+/// A word, and behind it an expression on which a method is called.
+#[cycle(expr)]
+pub(crate) fn push_receiver(out: &mut Text, w: ExprWord, e: &Expr) -> Result<(), OutOfMemory>
+    ensures { OnOk result (out.new ≡ out.old ++ (expr_word w ++ receiver_text (expr_spelled e.now))) }
+{
+    w.put(out)?;
+    push_bracket(out, e, Sign::Open)?;
+    push_expr(out, e)?;
+    push_bracket(out, e, Sign::Close)
 }
 
 /// Expressions with a comma between any two.
@@ -167,11 +170,20 @@ pub(crate) fn push_arguments(out: &mut Text, arguments: &[Expr]) -> Result<(), O
     Sign::Close.put(out)
 }
 
-/// The values of a record's fields, each behind its name.
 #[cycle(expr)]
-fn push_fields(out: &mut Text, fields: &[(Text, Expr)]) -> Result<(), OutOfMemory>
-    ensures { OnOk result (out.new ≡ out.old ++ fields_text (expr_fields fields.now)) }
+fn push_call(out: &mut Text, path: &Path, arguments: &[Expr]) -> Result<(), OutOfMemory>
+    ensures { OnOk result (out.new ≡ out.old ++ (path_text path.now ++ arguments_text arguments.now)) }
 {
+    push_path(out, path)?;
+    push_arguments(out, arguments)
+}
+
+/// The path of a record, and the values of its fields, each behind its name.
+#[cycle(expr)]
+fn push_record(out: &mut Text, path: &Path, fields: &[(Text, Expr)]) -> Result<(), OutOfMemory>
+    ensures { OnOk result (out.new ≡ out.old ++ (path_text path.now ++ fields_text (expr_fields fields.now))) }
+{
+    push_path(out, path)?;
     ExprWord::OpenFields.put(out)?;
     for (i, field) in fields.iter().enumerate() {
         if i > 0 {

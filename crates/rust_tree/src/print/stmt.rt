@@ -1,13 +1,14 @@
 ghost use Rattle.std.specs.Prelude.{◌≡◌, ◌++◌, OnOk};
 ghost use Rattle.std.specs.List.{flat_map};
-ghost use Rattle.rust_tree.specs.CodeText.{block_text, let_parts_text, let_text, stmt_text, store_text, tail_text};
+ghost use Rattle.rust_tree.specs.CodeText.{block_text, let_parts_text, let_text, narrowed_text, small_store_text, stmt_text, store_text, tail_text};
 
-use crate::expr::Expr;
+use crate::expr::{Expr, SmallType};
 use crate::pattern::Pattern;
 use crate::print::area::push_area;
 use crate::print::core_import::{push_linked, push_unlinked};
-use crate::print::expr::{push_expr, push_open, push_place};
+use crate::print::expr::{push_expr, push_place, push_receiver};
 use crate::print::pattern::push_pattern;
+use crate::print::type_name::{core_type_name, small_type_name};
 use crate::print::word::{ExprWord, Sign};
 use crate::stmt::{Block, Stmt};
 use wit_model::{ArchitectureSize, OutOfMemory, Text, WasmType};
@@ -41,11 +42,37 @@ fn push_store(
 ) -> Result<(), OutOfMemory>
     ensures { OnOk result (out.new ≡ out.old ++ store_text address.now offset ty e.now) }
 {
-    push_open(out, ExprWord::Dereference, address)?;
-    push_expr(out, address)?;
-    push_place(out, address, offset, ty)?;
+    push_receiver(out, ExprWord::Dereference, address)?;
+    push_place(out, offset, core_type_name(ty))?;
     Sign::Equals.put(out)?;
     push_expr(out, e)?;
+    Sign::StatementEnd.put(out)
+}
+
+/// What is cut to a small type, in brackets.
+fn push_narrowed(out: &mut Text, e: &Expr, ty: SmallType) -> Result<(), OutOfMemory>
+    ensures { OnOk result (out.new ≡ out.old ++ narrowed_text e.now ty) }
+{
+    Sign::Open.put(out)?;
+    push_expr(out, e)?;
+    Sign::Close.put(out)?;
+    Sign::As.put(out)?;
+    out.push_str(small_type_name(ty))
+}
+
+fn push_small_store(
+    out: &mut Text,
+    address: &Expr,
+    offset: ArchitectureSize,
+    ty: SmallType,
+    e: &Expr,
+) -> Result<(), OutOfMemory>
+    ensures { OnOk result (out.new ≡ out.old ++ small_store_text address.now offset ty e.now) }
+{
+    push_receiver(out, ExprWord::Dereference, address)?;
+    push_place(out, offset, small_type_name(ty))?;
+    Sign::Equals.put(out)?;
+    push_narrowed(out, e, ty)?;
     Sign::StatementEnd.put(out)
 }
 
@@ -64,6 +91,9 @@ fn push_stmt(out: &mut Text, stmt: &Stmt) -> Result<(), OutOfMemory>
         }
         Stmt::Area(area) => push_area(out, area),
         Stmt::Store(address, offset, ty, e) => push_store(out, address, *offset, *ty, e),
+        Stmt::StoreSmall(address, offset, ty, e) => {
+            push_small_store(out, address, *offset, *ty, e)
+        }
         Stmt::LetParts(pattern, e) => push_let_parts(out, pattern, e),
     }
 }

@@ -1,7 +1,7 @@
 ghost use Rattle.std.specs.Prelude.{◌≡◌, ◌++◌, OnOk, map};
-ghost use Rattle.rust_tree.specs.CodeText.{cast_type_text, core_type_text, primitive_text, tuple_text, type_text};
+ghost use Rattle.rust_tree.specs.CodeText.{cast_type_text, core_type_text, primitive_text, small_type_text, tuple_text, type_text};
 
-use crate::expr::CastType;
+use crate::expr::{CastType, SmallType};
 use crate::print::path::push_path;
 use crate::print::word::{DefinitionWord, ItemWord, Sign};
 use crate::type_expr::{Primitive, TypeExpr};
@@ -39,7 +39,18 @@ fn cast_type_name(ty: CastType) -> &'static str
     }
 }
 
-fn core_type_name(ty: WasmType) -> &'static str
+pub(crate) fn small_type_name(ty: SmallType) -> &'static str
+    ensures { result.now ≡ small_type_text ty }
+{
+    match ty {
+        SmallType::U8 => "u8",
+        SmallType::I8 => "i8",
+        SmallType::U16 => "u16",
+        SmallType::I16 => "i16",
+    }
+}
+
+pub(crate) fn core_type_name(ty: WasmType) -> &'static str
     ensures { result.now ≡ core_type_text ty }
 {
     match ty {

@@ -23,6 +23,7 @@ fn is_named_expr(e: &Expr) -> bool
         Expr::Call(path, arguments) => are_path_names(path.names.as_slice())
             && are_named_exprs(arguments.as_slice()),
         Expr::Load(address, _, _) => is_named_expr(address.get()),
+        Expr::LoadSmall(address, _, _) => is_named_expr(address.get()),
         Expr::FromRawParts(pointer, len) => is_named_expr(pointer.get()) && is_name(len),
         Expr::StaticPointer | Expr::Align(_) => true,
         Expr::Record(path, fields) => {
@@ -100,6 +101,7 @@ fn is_named_stmt(stmt: &Stmt) -> bool
         Stmt::Expr(e) => is_named_expr(e),
         Stmt::Area(area) => is_name(&area.name),
         Stmt::Store(address, _, _, e) => is_named_expr(address) && is_named_expr(e),
+        Stmt::StoreSmall(address, _, _, e) => is_named_expr(address) && is_named_expr(e),
         Stmt::LetParts(pattern, e) => is_named_pattern(pattern) && is_named_expr(e),
     }
 }

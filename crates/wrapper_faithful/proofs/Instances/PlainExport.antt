@@ -112,7 +112,7 @@ left_state left heap choices = record (called_state heap choices) { heap = left;
 
 done_end : (w : Setting) (left heap : Heap) (choices : Choices) → w.answer ≡ answer.Value None left → ends_with w (called_state heap choices) ≡ Done [] (left_state left heap choices)
 done_end w left heap choices says =
-    ap (λ o. and_then (and_then (and_then o (λ v. leave_to w 0 >> pure v)) (keep_result w None)) (λ _. run_to_words w None wrapper.rest)) (value_gives w type.Unit None (val.Value value.Unit) left (called_state heap choices) says returned-unit)
+    ap (λ o. and_then (and_then (and_then o (λ v. leave_to w 0 >> pure v)) (keep_result w None)) (λ _. run_to_words w None wrapper.rest)) (value_gives w type.Unit None (val.Value value.Unit) left (called_state heap choices) says (returned-unit w.items))
     ∙ ap (λ o. and_then (and_then (and_then o (λ _. pure (val.Value value.Unit))) (keep_result w None)) (λ _. run_to_words w None wrapper.rest)) (leaves_inner w [] [] (left_state left heap choices) refl tt)
     ∙ ap (λ addresses. and_then (free_all w addresses (left_state left heap choices)) (λ _. run_to_words w None wrapper.rest)) owned-unit
     ∙ gives_plain w (core_answer None (val.Value value.Unit)) [] (left_state left heap choices) unit_words tt

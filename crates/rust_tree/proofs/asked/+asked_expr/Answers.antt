@@ -14,10 +14,10 @@ ask_by_expr-returns-in_ok-ask_by_path-in-Call t c =
 
 pub ask_by_expr-returns-in_ok-push-in-FromRawParts : goal.ask_by_expr-returns-in_ok-push-in-FromRawParts
 ask_by_expr-returns-in_ok-push-in-FromRawParts t c =
-    let rest = asked_by_expr c.get-in-FromRawParts.result.now in
-    let whole = ap asked_by_expr c.in-FromRawParts.is ∙ asked-raw c.in-FromRawParts.pointer c.in-FromRawParts.field-1 ∙ ap (λ e. VecType ∷ asked_by_expr e) (sym c.get-in-FromRawParts.ensures) in
-    subst (λ items. OnOk c.ask_by_expr-in-FromRawParts.result (c.ask_by_expr-in-FromRawParts.new.asked ≡ items))
-    (asked-behind c.args.asked.now c.push.new.self (VecType ∷ []) rest (asked_by_expr c.args.e.now) c.in_ok-push-in-FromRawParts.ensures.ok whole) c.ask_by_expr-in-FromRawParts.ensures
+    let rest = asked_by_expr c.get.result.now in
+    let whole = ap asked_by_expr c.in-FromRawParts.is ∙ asked-raw c.in-FromRawParts.pointer c.in-FromRawParts.field-1 ∙ ap (λ e. VecType ∷ asked_by_expr e) (sym c.get.ensures) in
+    subst (λ items. OnOk c.ask_by_expr.result (c.ask_by_expr.new.asked ≡ items))
+    (asked-behind c.args.asked.now c.push.new.self (VecType ∷ []) rest (asked_by_expr c.args.e.now) c.in_ok-push-in-FromRawParts.ensures.ok whole) c.ask_by_expr.ensures
 
 pub ask_by_expr-returns-in_ok-ask_by_path-in-Record : goal.ask_by_expr-returns-in_ok-ask_by_path-in-Record
 ask_by_expr-returns-in_ok-ask_by_path-in-Record t c =

@@ -25,6 +25,7 @@ pub(crate) enum ExprWord {
     OpenArray,
     CloseArray,
     LoneComma,
+    Widened,
 }
 
 impl ExprWord {
@@ -52,6 +53,7 @@ impl ExprWord {
             ExprWord::OpenArray => "[",
             ExprWord::CloseArray => "]",
             ExprWord::LoneComma => ",",
+            ExprWord::Widened => "i32::from(*",
         }
     }
 

@@ -6,15 +6,15 @@ use Rattle.wrapper_run.specs.declared.state.Val.{Val}
 use Rattle.wrapper_run.specs.Act.{Act, Runs}
 use Rattle.wrapper_run.specs.Run.{eval}
 use Rattle.wrapper_run.specs.Setting.{setting}
-use Rattle.wrapper_run.specs.Whole.{field_acts, whole}
+use Rattle.wrapper_run.specs.Whole.{record_of}
 use Rattle.wrapper_run.proofs.PartSteps.{eval-record}
 use Rattle.wrapper_run.proofs.eval.+eval.Goals as goal
 
 pub eval-returns-in-Record : goal.eval-returns-in-Record
 eval-returns-in-Record t c =
     let w = setting c.args.world.now in
-    let is : c.args.e.now ≡ expr.Record c.in-Record.field-0 c.in-Record.fields = search rules in
+    let is : c.args.e.now ≡ expr.Record c.in-Record.path c.in-Record.fields = search rules in
     let at : c.as_slice-in-Record.result.now ≡ c.in-Record.fields = search rules in
-    let acts : List (Bytes × Expr) → Act Val = λ fs. whole w (field_acts (map (λ (f : Bytes × Expr). (f.0, eval w f.1)) fs)) in
-    let same : eval w c.args.e.now ≡ acts c.as_slice-in-Record.result.now = ap (eval w) is ∙ eval-record w c.in-Record.field-0 c.in-Record.fields ∙ ap acts (sym at) in
+    let acts : List (Bytes × Expr) → Act Val = λ fs. record_of w c.in-Record.path (map (λ (f : Bytes × Expr). (f.0, eval w f.1)) fs) in
+    let same : eval w c.args.e.now ≡ acts c.as_slice-in-Record.result.now = ap (eval w) is ∙ eval-record w c.in-Record.path c.in-Record.fields ∙ ap acts (sym at) in
     subst (λ (act : Act Val). Runs (act c.args.state.now) c.eval_record.result c.eval_record.new.state) (sym same) c.eval_record.ensures

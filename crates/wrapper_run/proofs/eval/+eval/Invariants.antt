@@ -2,7 +2,7 @@ use Rattle.std.proofs.Common.{◌≡◌, ◌++◌, map, drop}
 use Rattle.wrapper_run.specs.Act.{◌>>=◌, all, pure}
 use Rattle.wrapper_run.specs.Run.{eval}
 use Rattle.wrapper_run.specs.Setting.{setting}
-use Rattle.wrapper_run.specs.Whole.{field_acts}
+use Rattle.wrapper_run.specs.Whole.{field_act}
 use Rattle.wrapper_run.proofs.eval.+eval.Given as goal
 
 -- the rest of the list, with the values so far in front
@@ -12,5 +12,5 @@ invariant-eval_all-loop-e l =
 
 abbrev pub invariant-eval_fields-loop-field : goal.invariant-eval_fields-loop-field
 invariant-eval_fields-loop-field l =
-    (all (field_acts (map (λ f. (f.0, eval (setting l.world) f.1)) (drop l.field-index l.fields))) >>= (λ vs. pure (l.vs ++ vs))) l.state
-    ≡ all (field_acts (map (λ f. (f.0, eval (setting l.world) f.1)) l.fields)) l.initial.state
+    (all (map field_act (map (λ f. (f.0, eval (setting l.world) f.1)) (drop l.field-index l.fields))) >>= (λ vs. pure (l.vs ++ vs))) l.state
+    ≡ all (map field_act (map (λ f. (f.0, eval (setting l.world) f.1)) l.fields)) l.initial.state

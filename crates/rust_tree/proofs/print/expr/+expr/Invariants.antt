@@ -10,6 +10,6 @@ abbrev pub invariant-push_listed-loop-i : goal.invariant-push_listed-loop-i
 invariant-push_listed-loop-i l =
     l.out ++ rest_from (λ e. e.text) (sign Comma) l.i (map expr_spelled (drop l.i l.es)) ≡ l.initial.out ++ listed_text (map expr_spelled l.es)
 
-abbrev pub invariant-push_fields-loop-i : goal.invariant-push_fields-loop-i
-invariant-push_fields-loop-i l =
+abbrev pub invariant-push_record-loop-i : goal.invariant-push_record-loop-i
+invariant-push_record-loop-i l =
     l.out ++ rest_from field_text (sign Comma) l.i (expr_fields (drop l.i l.fields)) ≡ l.initial.out ++ join_by field_text (sign Comma) (expr_fields l.fields)

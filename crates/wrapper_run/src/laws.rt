@@ -1,0 +1,23 @@
+//! Laws of the machine, each of any code: a proof above may cite them. The functions do nothing.
+
+ghost use Rattle.wrapper_run.specs.Growth.{BlocksGrow, ExportsGrow, ImportsGrow};
+ghost use Rattle.wrapper_run.specs.OtherBlocks.{IgnoresBlocks};
+ghost use Rattle.wrapper_run.specs.UnusedLocals.{IgnoresUnused};
+
+/// Along a run calls and requests only grow: those that a state has are the first of those that it comes to.
+pub fn growth_law()
+    ensures blocks { BlocksGrow }
+    ensures imports { ImportsGrow }
+    ensures exports { ExportsGrow }
+{}
+
+/// A block ends as it does without the locals that it does not name, and leaves these as they are.
+pub fn unused_law()
+    ensures { IgnoresUnused }
+{}
+
+/// A block that makes no call ends as it does without the blocks that stand beside its own, where the choices fit there
+/// too, and leaves these as they are.
+pub fn beside_law()
+    ensures { IgnoresBlocks }
+{}
