@@ -1,5 +1,5 @@
 -- Scalars and texts are loaded.
-use Rattle.std.proofs.Common.{◌≡◌, ℕ, suc, ◌+◌, ◌*◌, ◌%◌, ◌^◌, ◌<◌, ◌≤◌, ◌⊎◌, Bool, true, false, List, [], ◌∷◌, ◌++◌, length, Option, None, Some, refl, sym, ap, ◌∙◌, subst, arith}
+use Rattle.std.proofs.Common.{◌≡◌, ℕ, ◌+◌, ◌*◌, ◌%◌, ◌^◌, ◌<◌, ◌⊎◌, Bool, true, false, List, [], ◌∷◌, ◌++◌, length, None, Some, refl, sym, ap, ◌∙◌, subst, arith}
 use mathlib.Core.Logic.{inl, inr}
 use Rattle.wit_model.specs.Size.{bytes_at}
 use Rattle.wit_model.specs.declared.size.ArchitectureSize.{ArchitectureSize}
@@ -16,18 +16,18 @@ use Rattle.wrapper_meaning.specs.AsWords.{Says}
 use Rattle.wrapper_meaning.specs.Cells.{HasNumber}
 use Rattle.wrapper_meaning.specs.Direction.{Direction, take}
 use Rattle.wrapper_meaning.specs.InMemory.{Holds, stored_bits}
-use Rattle.wrapper_meaning.specs.Items.{SameItems, total}
+use Rattle.wrapper_meaning.specs.Items.{SameItems}
 use Rattle.wrapper_meaning.specs.Shape.{shape_of}
 use Rattle.wrapper_meaning.specs.Shape.Shape.{scalar, text}
-use Rattle.wrapper_meaning.specs.Words.{IsWord, word_of_bits}
+use Rattle.wrapper_meaning.specs.Words.{word_of_bits}
 use Rattle.wrapper_meaning.proofs.Lists.{some_same}
 use Rattle.wrapper_meaning.proofs.PartPlaces.{aligned_part}
 use Rattle.abi_driver.specs.declared.instruction.Instruction.{Instruction}
 use Rattle.abi_driver.specs.declared.instruction.Instruction.TheVariants.{LengthLoad, PointerLoad}
-use Rattle.abi_driver.specs.Account.{Account, Done, Peer, addresses}
+use Rattle.abi_driver.specs.Account.{Done, Peer, addresses}
 use Rattle.abi_driver.specs.Instructions.{Emits, IsSendable, Makes, RowBy, RowTouch, lifted_scalar, lifting, lowered_scalar}
 use Rattle.abi_driver.specs.Laws.{Adds, At, Facts, Sound, core_data, ofs}
-use Rattle.abi_driver.specs.Lifts.{LiftsFlat, MayTake, by_taking, took}
+use Rattle.abi_driver.specs.Lifts.{LiftsFlat, MayTake, took}
 use Rattle.abi_driver.specs.Loads.{LiftsFromMemory}
 use Rattle.abi_driver.specs.Meaning.{Meaning, of, word}
 use Rattle.abi_driver.specs.Memory.{loading, word_read}

@@ -1,5 +1,5 @@
 -- Scalars and texts are stored.
-use Rattle.std.proofs.Common.{◌≡◌, ℕ, suc, ◌+◌, ◌*◌, ◌%◌, ◌^◌, ◌<◌, ◌≤◌, ◌⊎◌, Bool, true, false, List, [], ◌∷◌, ◌++◌, length, get_or, Option, None, Some, option_map, refl, sym, ap, ap₂, ◌∙◌, subst, arith}
+use Rattle.std.proofs.Common.{◌≡◌, ℕ, ◌+◌, ◌*◌, ◌%◌, ◌^◌, ◌<◌, ◌≤◌, ◌⊎◌, Bool, true, false, List, [], ◌∷◌, ◌++◌, length, get_or, None, Some, option_map, refl, sym, ap, ap₂, ◌∙◌, subst, arith}
 use mathlib.Core.Logic.{inl, inr}
 use Rattle.wit_model.specs.Size.{bytes_at}
 use Rattle.wit_model.specs.declared.size.ArchitectureSize.{ArchitectureSize}
@@ -8,7 +8,6 @@ use Rattle.wit_model.specs.declared.types.WitType.{WitType}
 use Rattle.wit_model.specs.declared.types.WitType.TheVariants as wit
 use Rattle.wit_model.specs.declared.wasm_type.WasmType.{WasmType}
 use Rattle.wit_model.specs.declared.wasm_type.WasmType.TheVariants as wasm
-use Rattle.wit_layout.specs.Sizes.{elem_size}
 use Rattle.wit_layout.specs.Tree.{Scalar}
 use Rattle.wrapper_data.specs.declared.block.Block.{Block}
 use Rattle.wrapper_data.specs.declared.word.Word.{Word}
@@ -16,26 +15,24 @@ use Rattle.wrapper_data.specs.declared.word.Word.TheVariants as core
 use Rattle.wrapper_meaning.specs.AsWords.{SaysScalar, passed_word}
 use Rattle.wrapper_meaning.specs.Cells.{HasNumber, little}
 use Rattle.wrapper_meaning.specs.InMemory.{stored_bits}
-use Rattle.wrapper_meaning.specs.Items.{total}
-use Rattle.wrapper_meaning.specs.Layout.{layout}
-use Rattle.wrapper_meaning.specs.Shape.{Shape, shape_of}
+use Rattle.wrapper_meaning.specs.Shape.{shape_of}
 use Rattle.wrapper_meaning.specs.Shape.Shape.{scalar, text}
 use Rattle.wrapper_meaning.specs.Value.{ScalarValue}
 use Rattle.wrapper_meaning.proofs.Lists.{some_same}
 use Rattle.wrapper_meaning.proofs.PartPlaces.{aligned_part}
 use Rattle.abi_driver.specs.declared.instruction.Instruction.{Instruction}
 use Rattle.abi_driver.specs.declared.instruction.Instruction.TheVariants.{LengthStore, PointerStore}
-use Rattle.abi_driver.specs.Account.{Account, Done, Got, addresses, releasing}
+use Rattle.abi_driver.specs.Account.{Account, addresses, releasing}
 use Rattle.abi_driver.specs.Instructions.{Emits, MakesBy, RowBy, RowTouch, lifted_scalar, lowered_scalar, lowering}
-use Rattle.abi_driver.specs.Laws.{Adds, After, At, Facts, Sound, core_data, ofs}
+use Rattle.abi_driver.specs.Laws.{Adds, At, Facts, Sound, core_data, ofs}
 use Rattle.abi_driver.specs.Leaves.{way}
 use Rattle.abi_driver.specs.Lowers.{LowersFlat}
 use Rattle.abi_driver.specs.Meaning.{Meaning, item, of, word}
-use Rattle.abi_driver.specs.Memory.{Access, storing}
-use Rattle.abi_driver.specs.Places.{HasRoom, IsWritten, replaced}
+use Rattle.abi_driver.specs.Memory.{storing}
+use Rattle.abi_driver.specs.Places.{IsWritten, replaced}
 use Rattle.abi_driver.specs.ScalarTouches.{scalar_store}
-use Rattle.abi_driver.specs.Stores.{LowersToMemory, Releases, by_storing}
-use Rattle.abi_driver.specs.Touches.{Part, StoresWord, Touch, accessed, low_byte, low_half, reached, stores, touch, whole}
+use Rattle.abi_driver.specs.Stores.{LowersToMemory}
+use Rattle.abi_driver.specs.Touches.{Part, StoresWord, accessed, low_byte, low_half, reached, stores, touch, whole}
 use Rattle.abi_driver.proofs.Done.{does_done, lets_go}
 use Rattle.abi_driver.proofs.LowerSteps.{scalar_type}
 use Rattle.abi_driver.proofs.Replaced.{replaced_formed, replaced_twice}

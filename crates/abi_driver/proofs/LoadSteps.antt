@@ -1,5 +1,5 @@
 -- Values are loaded: parts, one after another, and what is made of them.
-use Rattle.std.proofs.Common.{◌≡◌, ℕ, suc, ◌+◌, ◌%◌, ◌^◌, ◌≤◌, Bool, true, List, [], ◌∷◌, ◌++◌, length, drop, take, refl, sym, ap, ◌∙◌, subst, arith, append_assoc, append-nil}
+use Rattle.std.proofs.Common.{◌≡◌, ℕ, ◌+◌, ◌%◌, ◌^◌, ◌≤◌, List, [], ◌∷◌, ◌++◌, length, drop, take, refl, sym, ap, ◌∙◌, subst, arith, append_assoc, append-nil}
 use Rattle.std.proofs.lemmas.List.{drop_all}
 use Rattle.wit_model.specs.Size.{bytes_at}
 use Rattle.wit_model.specs.declared.name.TypeId.{TypeId}
@@ -12,7 +12,7 @@ use Rattle.wit_layout.specs.Sizes.{alignment, elem_size, extent_of, extents_of}
 use Rattle.wrapper_data.specs.declared.block.Block.{Block}
 use Rattle.wrapper_data.specs.declared.word.Word.TheVariants as core
 use Rattle.wrapper_meaning.specs.Direction.{take as taking_over}
-use Rattle.wrapper_meaning.specs.InMemory.{Holds, PartsHold}
+use Rattle.wrapper_meaning.specs.InMemory.{PartsHold}
 use Rattle.wrapper_meaning.specs.InRange.{AreListed}
 use Rattle.wrapper_meaning.specs.Items.{total}
 use Rattle.wrapper_meaning.specs.Layout.{layout, layouts}
@@ -29,7 +29,7 @@ use Rattle.abi_driver.specs.Laws.{Adds, At, Facts, Sound, item_data, ofs}
 use Rattle.abi_driver.specs.Lifts.{MayTake, took}
 use Rattle.abi_driver.specs.Loads.{Gets, LiftsFromMemory, LoadsParts}
 use Rattle.abi_driver.specs.Meaning.{Meaning, item, of, word}
-use Rattle.abi_driver.specs.Parts.{LiftsParts, PartsStand, count}
+use Rattle.abi_driver.specs.Parts.{LiftsParts, count}
 use Rattle.abi_driver.specs.Places.{HasRoom, HavePlaces}
 use Rattle.abi_driver.specs.Touches.{reached}
 use Rattle.abi_driver.proofs.LiftSteps.{stand_count}

@@ -1,8 +1,7 @@
 -- Values are stored: scalars, texts, and parts.
-use Rattle.std.proofs.Common.{◌≡◌, ℕ, suc, ◌+◌, ◌-◌, ◌*◌, ◌%◌, ◌^◌, ◌<◌, ◌≤◌, ◌⊎◌, Bool, true, false, List, [], ◌∷◌, ◌++◌, length, drop, take, Option, None, Some, refl, sym, ap, ap₂, ◌∙◌, subst, arith, append_assoc, append-nil}
-use mathlib.Core.Logic.{inl, inr}
+use Rattle.std.proofs.Common.{◌≡◌, ℕ, ◌+◌, ◌-◌, ◌%◌, ◌^◌, ◌≤◌, Bool, List, [], ◌∷◌, ◌++◌, length, drop, take, refl, sym, ap, ap₂, ◌∙◌, subst, arith}
+use mathlib.Core.Logic.{inl}
 use Rattle.std.proofs.lemmas.List.{drop_all}
-use Rattle.std.specs.List.{Contains}
 use Rattle.wit_model.specs.Size.{bytes_at}
 use Rattle.wit_model.specs.declared.name.TypeId.{TypeId}
 use Rattle.wit_model.specs.declared.size.ArchitectureSize.{ArchitectureSize}
@@ -11,15 +10,12 @@ use Rattle.wit_model.specs.declared.types.TypeDef.{TypeDef}
 use Rattle.wit_model.specs.declared.types.WitType.{WitType}
 use Rattle.wit_layout.specs.Extent.{end, greatest, place, record_extent}
 use Rattle.wit_layout.specs.Sizes.{alignment, elem_size, extent_of, extents_of}
-use Rattle.wit_layout.specs.Tree.{Scalar}
-use Rattle.wrapper_data.specs.Heap.{is_heap}
 use Rattle.wrapper_data.specs.declared.block.Block.{Block}
 use Rattle.wrapper_data.specs.declared.word.Word.{Word}
 use Rattle.wrapper_data.specs.declared.word.Word.TheVariants as core
-use Rattle.wrapper_meaning.specs.Cells.{HasNumber}
 use Rattle.wrapper_meaning.specs.Direction.{Direction}
 use Rattle.wrapper_meaning.specs.InMemory.{Holds, PartsHold}
-use Rattle.wrapper_meaning.specs.InRange.{AreListed, IsListed}
+use Rattle.wrapper_meaning.specs.InRange.{AreListed}
 use Rattle.wrapper_meaning.specs.Layout.{layout, layouts}
 use Rattle.wrapper_meaning.specs.Shape.{Shape, Shapes, shape_of}
 use Rattle.wrapper_meaning.specs.Shape.Shape.{fields, tuple}
@@ -28,16 +24,16 @@ use Rattle.wrapper_meaning.specs.Value.{Parts, Value}
 use Rattle.wrapper_meaning.proofs.HoldsLocally.{holds_locally}
 use Rattle.wrapper_meaning.proofs.PartPlaces.{aligned_part, end_behind, grain_of_first, grain_of_rest, less_grain, parts_end, place_aligned, place_behind}
 use Rattle.abi_driver.specs.declared.instruction.Instruction.TheVariants.{RecordLower, TupleLower}
-use Rattle.abi_driver.specs.Account.{Account, Done, Got, Peer, addresses}
+use Rattle.abi_driver.specs.Account.{Account, Peer, addresses}
 use Rattle.abi_driver.specs.Instructions.{Emits, IsRecord, field_shapes, shapes_of}
-use Rattle.abi_driver.specs.Laws.{Adds, After, At, Facts, Sound, item_data, ofs}
+use Rattle.abi_driver.specs.Laws.{Adds, At, Facts, Sound, item_data, ofs}
 use Rattle.abi_driver.specs.Leaves.{way}
-use Rattle.abi_driver.specs.Meaning.{Fact, Meaning, item, of, word}
-use Rattle.abi_driver.specs.Parts.{LowersParts, PartsStand, count}
-use Rattle.abi_driver.specs.Places.{HasRoom, HavePlaces, IsWritten, replaced}
-use Rattle.abi_driver.specs.Stores.{LowersToMemory, Puts, Releases, Stored, StoresParts, by_storing}
+use Rattle.abi_driver.specs.Meaning.{Meaning, item, of, word}
+use Rattle.abi_driver.specs.Parts.{LowersParts, count}
+use Rattle.abi_driver.specs.Places.{HasRoom, HavePlaces, replaced}
+use Rattle.abi_driver.specs.Stores.{LowersToMemory, Puts, Releases, StoresParts}
 use Rattle.abi_driver.specs.Touches.{reached}
-use Rattle.abi_driver.proofs.Done.{does_done, lets_go, releases_both}
+use Rattle.abi_driver.proofs.Done.{releases_both}
 use Rattle.abi_driver.proofs.Runs.{adds_both, adds_same, addresses_both, total-append}
 use Rattle.wrapper_meaning.specs.Items.{total}
 use Rattle.abi_driver.proofs.Replaced.{block_formed, replaced_formed, replaced_same, replaced_twice}

@@ -1,5 +1,5 @@
 -- How core words stand in memory: how they are stored, loaded, and what is freed.
-use Rattle.std.specs.Prelude.{◌≡◌, ℕ, zero, suc, ◌+◌, ◌-◌, ◌*◌, ◌/◌, ◌%◌, ◌^◌, Bool, true, false, ◌&&◌, nat_eq, nat_le, nat_lt, if◌then◌else◌, find, List, [], ◌∷◌, Option, None, Some, IsSome, is_some, option_map, option_and_then}
+use Rattle.std.specs.Prelude.{ℕ, zero, suc, ◌+◌, ◌-◌, ◌*◌, ◌/◌, ◌%◌, ◌^◌, Bool, true, false, ◌&&◌, nat_eq, nat_le, nat_lt, if◌then◌else◌, find, List, [], ◌∷◌, Option, None, Some, is_some, option_map, option_and_then}
 use Rattle.std.specs.Int.{w8, w16, w32, cast_signed}
 use Rattle.wit_model.specs.declared.wasm_type.WasmType.{WasmType}
 use Rattle.wrapper_data.specs.Answered.{with_writes}
@@ -10,7 +10,7 @@ use Rattle.wrapper_data.specs.declared.word.Word.{Word}
 use Rattle.wrapper_data.specs.declared.word.Word.TheVariants as core
 use Rattle.wrapper_meaning.specs.Cells.{bytes_from, little}
 use Rattle.wrapper_meaning.specs.Words.{bits_of, word_of_bits}
-use Rattle.abi_driver.specs.Account.{Account, Act, Stuck, failing, gives, has_type, is_at, is_taken, stay}
+use Rattle.abi_driver.specs.Account.{Act, Stuck, failing, gives, has_type, is_at, is_taken, stay}
 
 -- 1. Bytes at addresses
 

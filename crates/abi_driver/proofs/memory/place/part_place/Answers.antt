@@ -1,4 +1,4 @@
-use Rattle.std.proofs.Common.{◌≡◌, ◌+◌, ◌^◌, Some, sym, ap, ◌∙◌}
+use Rattle.std.proofs.Common.{◌+◌, ◌^◌, Some, sym, ap, ◌∙◌}
 use Rattle.std.proofs.lemmas.Option.{slice_get-get_or}
 use Rattle.wit_model.specs.Size.{bytes_at}
 use Rattle.wit_layout.specs.Sizes.{field_offsets}

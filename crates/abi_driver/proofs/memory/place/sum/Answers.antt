@@ -1,4 +1,4 @@
-use Rattle.std.proofs.Common.{◌≡◌, ◌+◌, ◌*◌, ap₂, ◌∙◌}
+use Rattle.std.proofs.Common.{◌+◌, ◌*◌, ap₂, ◌∙◌}
 use Rattle.abi_driver.proofs.PartOffsets.{spread}
 use Rattle.abi_driver.proofs.memory.place.sum.Goals as goal
 

@@ -1,4 +1,4 @@
-use Rattle.std.proofs.Common.{◌++◌, ◌+◌, ◌*◌, List, drop}
+use Rattle.std.proofs.Common.{◌+◌, ◌*◌}
 use Rattle.wit_layout.proofs.FlattenSteps.{rank}
 use Rattle.abi_driver.specs.Laws.{Adds}
 use Rattle.abi_driver.proofs.StoreSteps.{Rest}

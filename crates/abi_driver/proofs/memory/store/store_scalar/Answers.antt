@@ -1,5 +1,4 @@
-use Rattle.std.proofs.Common.{◌≡◌, List, [], ◌∷◌, length, refl, sym, ap, ◌∙◌, subst, arith}
-use Rattle.abi_driver.specs.Instructions.{Emits}
+use Rattle.std.proofs.Common.{sym, ◌∙◌}
 use Rattle.abi_driver.proofs.LeafStores.{one_word, scalar_stores}
 use Rattle.abi_driver.proofs.LowerSteps.{scalar_lowers}
 use Rattle.abi_driver.proofs.memory.store.store_scalar.Goals as goal

@@ -1,4 +1,3 @@
-use Rattle.std.proofs.Common.{◌≡◌, List, [], ◌∷◌, length, refl, sym, ap, ◌∙◌, subst, arith}
 use Rattle.abi_driver.proofs.LeafStores.{text_stores, two_words}
 use Rattle.abi_driver.proofs.LowerSteps.{text_lowers}
 use Rattle.abi_driver.proofs.memory.store.store_text.Goals as goal
