@@ -1,9 +1,9 @@
-//! Forms of the tree that no worked example prints: every primitive and core type, casts, paths, loads and a stack area.
+//! Forms of the tree that no worked example prints: every primitive and core type, casts, paths, loads, small stores and a stack area.
 
 use crate::made::{called, file, import, path, place, text};
 use rust_tree::{
-    Bindings, CastType, Expr, FnParam, ImportDecl, Item, Primitive, ReturnArea, Stmt, TypeExpr,
-    text_of,
+    Bindings, CastType, Expr, FnParam, ImportDecl, Item, Primitive, ReturnArea, SmallType, Stmt,
+    TypeExpr, text_of,
 };
 use std::alloc::Global;
 use std::test::Fail;
@@ -39,6 +39,14 @@ let d = *x.add(4).cast::<i32>();
 let e = *x.add(2*::core::mem::size_of::<*const u8>()).cast::<i64>();
 let f = *(&x).add(8+1*::core::mem::size_of::<*const u8>()).cast::<f32>();
 let g = *(x as u32).add(0).cast::<f64>();
+let h = i32::from(*x.add(4).cast::<u8>());
+let i = i32::from(*x.add(0).cast::<i8>());
+let j = i32::from(*(&x).add(8+1*::core::mem::size_of::<*const u8>()).cast::<u16>());
+let k = i32::from(*x.add(2).cast::<i16>());
+*x.add(4).cast::<u8>() = (y) as u8;
+*x.add(0).cast::<i8>() = (y) as i8;
+*(&x).add(8+1*::core::mem::size_of::<*const u8>()).cast::<u16>() = (y as u32) as u16;
+*x.add(2).cast::<i16>() = (y) as i16;
 }
 }
 ";
@@ -155,6 +163,50 @@ fn push_loads(alloc: Global, stmts: &mut List<Stmt>) -> Result<(), OutOfMemory> 
     stmts.push(load(alloc, "g", x, size(0, 0), WasmType::F64)?)
 }
 
+/// `let name = i32::from(*address.add(offset).cast::<T>());`
+fn small_load(
+    alloc: Global,
+    name: &str,
+    address: Expr,
+    offset: ArchitectureSize,
+    ty: SmallType,
+) -> Result<Stmt, OutOfMemory> {
+    let address = Boxed::new(alloc, address)?;
+    Ok(Stmt::Let(text(alloc, name)?, Expr::LoadSmall(address, offset, ty)))
+}
+
+fn push_small_loads(alloc: Global, stmts: &mut List<Stmt>) -> Result<(), OutOfMemory> {
+    let x = Expr::Local(text(alloc, "x")?);
+    stmts.push(small_load(alloc, "h", x, size(4, 0), SmallType::U8)?)?;
+    let x = Expr::Local(text(alloc, "x")?);
+    stmts.push(small_load(alloc, "i", x, size(0, 0), SmallType::I8)?)?;
+    let lent = Expr::Ref(text(alloc, "x")?);
+    stmts.push(small_load(alloc, "j", lent, size(8, 1), SmallType::U16)?)?;
+    let x = Expr::Local(text(alloc, "x")?);
+    stmts.push(small_load(alloc, "k", x, size(2, 0), SmallType::I16)?)
+}
+
+fn push_small_stores(alloc: Global, stmts: &mut List<Stmt>) -> Result<(), OutOfMemory> {
+    let (x, y) = (
+        Expr::Local(text(alloc, "x")?),
+        Expr::Local(text(alloc, "y")?),
+    );
+    stmts.push(Stmt::StoreSmall(x, size(4, 0), SmallType::U8, y))?;
+    let (x, y) = (
+        Expr::Local(text(alloc, "x")?),
+        Expr::Local(text(alloc, "y")?),
+    );
+    stmts.push(Stmt::StoreSmall(x, size(0, 0), SmallType::I8, y))?;
+    let lent = Expr::Ref(text(alloc, "x")?);
+    let y = cast(alloc, Expr::Local(text(alloc, "y")?), CastType::U32)?;
+    stmts.push(Stmt::StoreSmall(lent, size(8, 1), SmallType::U16, y))?;
+    let (x, y) = (
+        Expr::Local(text(alloc, "x")?),
+        Expr::Local(text(alloc, "y")?),
+    );
+    stmts.push(Stmt::StoreSmall(x, size(2, 0), SmallType::I16, y))
+}
+
 fn stmts(alloc: Global) -> Result<List<Stmt>, OutOfMemory> {
     let mut stmts = List::new(alloc);
     stmts.push(declared(alloc)?)?;
@@ -162,6 +214,8 @@ fn stmts(alloc: Global) -> Result<List<Stmt>, OutOfMemory> {
     push_paths(alloc, &mut stmts)?;
     stmts.push(area(alloc)?)?;
     push_loads(alloc, &mut stmts)?;
+    push_small_loads(alloc, &mut stmts)?;
+    push_small_stores(alloc, &mut stmts)?;
     Ok(stmts)
 }
 
