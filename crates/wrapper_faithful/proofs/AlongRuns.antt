@@ -14,6 +14,7 @@ use Rattle.rust_tree.specs.declared.export.ExportFn.{ExportFn}
 use Rattle.rust_tree.specs.declared.expr.Expr.{Expr}
 use Rattle.rust_tree.specs.declared.expr.SmallType.{SmallType}
 use Rattle.rust_tree.specs.declared.item.FnItem.{FnItem}
+use Rattle.rust_tree.specs.declared.stmt.Block.{Block as Code}
 use Rattle.rust_tree.specs.declared.stmt.ImportDecl.{ImportDecl}
 use Rattle.rust_tree.specs.declared.stmt.Stmt.{Stmt}
 use Rattle.rust_tree.specs.declared.type_expr.TypeExpr.{TypeExpr}
@@ -45,7 +46,7 @@ use Rattle.wrapper_run.specs.Growth.{state_of}
 use Rattle.wrapper_run.specs.Memory.{bytes_from, bytes_of_small, loaded, loaded_small, low_bytes, stored, stored_small}
 use Rattle.wrapper_run.specs.Owning.{buffer_of, lent, listed, owned, owned_in, taken_by}
 use Rattle.wrapper_run.specs.Places.{area_in, is_fitting, place_area, place_at, place_static, request_of, static_place, static_pointer, with_area}
-use Rattle.wrapper_run.specs.Run.{answer_act, answer_and_leave, call, call_import, call_point, eval, give_and_leave, load_small, load_word, record_call, result_of, run_block, run_fn, run_stmts, take_answer, take_bytes}
+use Rattle.wrapper_run.specs.Run.{answer_act, answer_and_leave, call_import, call_point, eval, give_and_leave, load_small, load_word, record_call, result_of, run_block, run_fn, run_stmts, take_answer, take_bytes}
 use Rattle.wrapper_run.specs.Setting.{Setting, failed, stuck}
 use Rattle.wrapper_run.specs.Typed.{answer_in}
 use Rattle.wrapper_run.proofs.GrowLemmas.{all_known}
