@@ -1,1 +1,2 @@
+pub mod FormedHeaps
 mod Written

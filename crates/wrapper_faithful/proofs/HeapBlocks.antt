@@ -13,7 +13,7 @@ use Rattle.wrapper_run.specs.Areas.{places}
 use Rattle.wrapper_run.specs.Memory.{block_at, is_at, without}
 use Rattle.wrapper_run.specs.TextBlocks.{are_distinct}
 use Rattle.meaning_ties.proofs.Blocks.{found_there, one_of_all}
-use Rattle.wrapper_faithful.proofs.FormedHeaps.{AreFormed}
+use Rattle.wrapper_data.proofs.FormedHeaps.{AreFormed}
 
 -- 1. Some of the blocks of a heap are live in it
 

@@ -36,7 +36,7 @@ use Rattle.meaning_ties.specs.Ties.{IsShort}
 use Rattle.meaning_ties.proofs.Blocks.{above_zero, same_bytes}
 use Rattle.meaning_ties.proofs.Scalars.{takes}
 use Rattle.wrapper_faithful.proofs.AreaWords.{address_loaded, length_loaded}
-use Rattle.wrapper_faithful.proofs.FormedHeaps.{formed, formed_answered}
+use Rattle.wrapper_data.proofs.FormedHeaps.{formed, formed_answered}
 
 -- 1. Small lists
 

@@ -25,7 +25,8 @@ use Rattle.wrapper_run.specs.declared.state.State.{State}
 use Rattle.wrapper_faithful.specs.KeptHeaps.{ExportKeepsHeap, ImportKeepsHeap, LeavesHeap, PostReturnKeepsHeap, ShowsHeaps}
 use Rattle.wrapper_run.specs.Growth.{state_of}
 use Rattle.wrapper_faithful.proofs.AlongRuns.{Moves, along_export, along_fn, along_post_return}
-use Rattle.wrapper_faithful.proofs.FormedHeaps.{formed, formed_added, formed_answered, formed_without, formed_written, is_formed}
+use Rattle.wrapper_faithful.proofs.FormedWithout.{formed_without}
+use Rattle.wrapper_data.proofs.FormedHeaps.{formed, formed_added, formed_answered, formed_written, is_formed}
 
 -- the heaps of a state: its own, and those of its calls
 record IsFormed (s : State) : Type 0 where

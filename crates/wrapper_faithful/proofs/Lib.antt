@@ -1,6 +1,6 @@
 pub mod AlongRuns
 pub mod AreaWords
-pub mod FormedHeaps
+pub mod FormedWithout
 pub mod HeapBlocks
 pub mod HonestPeers
 pub mod Instances

@@ -69,7 +69,7 @@ use Rattle.wrapper_faithful.specs.KeptHeaps.{LeavesHeap}
 use Rattle.wrapper_faithful.specs.Ties.{ExportIsTied, ExportFits, IsSimple, ReturnsArea, simple}
 use Rattle.wrapper_faithful.specs.Resources.{Resources, calls_of}
 use Rattle.wrapper_faithful.proofs.AreaWords.{address_stands, length_stands}
-use Rattle.wrapper_faithful.proofs.FormedHeaps.{formed}
+use Rattle.wrapper_data.proofs.FormedHeaps.{formed}
 use Rattle.wrapper_faithful.proofs.HeapBlocks.{all_in_heap, distinct_places, same_blocks}
 use Rattle.wrapper_faithful.proofs.HonestPeers.{told_result}
 use Rattle.wrapper_faithful.proofs.NoHandles.{nothing_is_dropped}

@@ -8,7 +8,6 @@ use Rattle.wrapper_data.specs.Answered.{answered, with_block, with_blocks, with_
 use Rattle.wrapper_data.specs.declared.block.Block.{Block}
 use Rattle.wrapper_data.specs.declared.heap.Heap.{Heap}
 use Rattle.wrapper_data.specs.Heap.{are_apart, are_cells, covers, is_block, is_heap, overlaps, overlaps_any}
-use Rattle.wrapper_run.specs.Memory.{is_at, without}
 
 -- 1. Cells
 
@@ -197,35 +196,3 @@ formed_with_all blocks (b ∷ new) f = formed_with_all (with_block blocks b) new
 
 pub formed_answered : (heap : Heap) (new : List Block) (writes : List (ℕ × ℕ)) → AreFormed heap.blocks → AreFormed (answered new writes heap).blocks
 formed_answered heap new writes f = formed_written (with_blocks heap.blocks new) writes (formed_with_all heap.blocks new f)
-
--- a block goes
-
-each_without : (address size : ℕ) (blocks : List Block) → list_all is_block blocks ≡ true → list_all is_block (without address size blocks) ≡ true
-each_without address size [] h = refl
-each_without address size (b ∷ blocks) h = by_test (is_at address size b) (each_without address size blocks (and_parts (is_block b) (list_all is_block blocks) h).1)
-  where
-    by_test : (t : Bool) → list_all is_block (without address size blocks) ≡ true → list_all is_block (cond t blocks (b ∷ without address size blocks)) ≡ true
-    by_test true others = (and_parts (is_block b) (list_all is_block blocks) h).1
-    by_test false others = and_from (is_block b) (list_all is_block (without address size blocks)) (and_parts (is_block b) (list_all is_block blocks) h).0 others
-
-overlaps_without : (x : Block) (address size : ℕ) (blocks : List Block) → overlaps_any x blocks ≡ false → overlaps_any x (without address size blocks) ≡ false
-overlaps_without x address size [] h = refl
-overlaps_without x address size (b ∷ blocks) h = by_test (is_at address size b) (overlaps_without x address size blocks (or_parts (overlaps x b) (overlaps_any x blocks) h).1)
-  where
-    by_test : (t : Bool) → overlaps_any x (without address size blocks) ≡ false → overlaps_any x (cond t blocks (b ∷ without address size blocks)) ≡ false
-    by_test true others = (or_parts (overlaps x b) (overlaps_any x blocks) h).1
-    by_test false others = or_from (overlaps x b) (overlaps_any x (without address size blocks)) (or_parts (overlaps x b) (overlaps_any x blocks) h).0 others
-
-apart_without : (address size : ℕ) (blocks : List Block) → are_apart blocks ≡ true → are_apart (without address size blocks) ≡ true
-apart_without address size [] h = refl
-apart_without address size (b ∷ blocks) h = by_test (is_at address size b) (apart_without address size blocks (and_parts (not (overlaps_any b blocks)) (are_apart blocks) h).1)
-  where
-    by_test : (t : Bool) → are_apart (without address size blocks) ≡ true → are_apart (cond t blocks (b ∷ without address size blocks)) ≡ true
-    by_test true others = (and_parts (not (overlaps_any b blocks)) (are_apart blocks) h).1
-    by_test false others =
-        let parts = and_parts (not (overlaps_any b blocks)) (are_apart blocks) h in
-        and_from (not (overlaps_any b (without address size blocks))) (are_apart (without address size blocks)) (ap not (overlaps_without b address size blocks (not-true (overlaps_any b blocks) parts.0)))
-        others
-
-pub formed_without : (address size : ℕ) (blocks : List Block) → AreFormed blocks → AreFormed (without address size blocks)
-formed_without address size blocks f = record { each = each_without address size blocks f.each; apart = apart_without address size blocks f.apart }
