@@ -3,6 +3,7 @@ use Rattle.std.proofs.Common.{◌≡◌, ℕ, ◌+◌, ◌*◌, ◌%◌, ◌^◌
 use mathlib.Core.Logic.{inl, inr}
 use Rattle.wit_model.specs.Size.{bytes_at}
 use Rattle.wit_model.specs.declared.size.ArchitectureSize.{ArchitectureSize}
+use Rattle.wit_model.specs.declared.resolve.Resolve.{Resolve}
 use Rattle.wit_model.specs.declared.types.TypeDef.{TypeDef}
 use Rattle.wit_model.specs.declared.types.WitType.{WitType}
 use Rattle.wit_model.specs.declared.types.WitType.TheVariants as wit
@@ -36,6 +37,7 @@ use Rattle.abi_driver.specs.ScalarTouches.{scalar_load}
 use Rattle.abi_driver.specs.Touches.{LoadsWord, Part, accessed, loads, low_byte, low_half, reached, touch, whole}
 use Rattle.abi_driver.proofs.Done.{does_done}
 use Rattle.abi_driver.proofs.LeafStores.{at_least, itself}
+use Rattle.abi_driver.proofs.Ordinary.{adds_of, touches_ordinary}
 use Rattle.abi_driver.proofs.Runs.{adds_both, total-append}
 use Rattle.abi_driver.proofs.ScalarsInMemory.{load_access, load_grain, loaded_scalar, scalar_alignment, scalar_size, store_access}
 use Rattle.abi_driver.proofs.Storing.{loads_from}
@@ -154,7 +156,7 @@ module _ {Self Operand : Type 0} (m : Meaning Self Operand) (sound : Sound m) (t
       let k = load_type offset load ty is in
       let row : LoadsWord m (load_access k.scalar_is) offset (address ∷ []) (x ∷ []) a b =
       subst (λ z. LoadsWord m z offset (address ∷ []) (x ∷ []) a b) (k.is_access m.width) (load_row load k.part k.signed k.word_type offset (address ∷ []) (x ∷ []) a b k.lowers k.lifts k.touches e) in
-      subst (λ t. LiftsFromMemory m t address offset r a c) (sym (k.shape types)) (scalar_at k.scalar_is a b c address x r offset e.adds row (subst (λ t. LiftsFlat m t (x ∷ []) r b c) (k.shape types) flat))
+      subst (λ t. LiftsFromMemory m t address offset r a c) (sym (k.shape types)) (scalar_at k.scalar_is a b c address x r offset (adds_of m load (touches_ordinary load _ k.touches) a b e.adds) row (subst (λ t. LiftsFlat m t (x ∷ []) r b c) (k.shape types) flat))
 
   -- the words of a text that stands at an offset
   abbrev pub WordsThere : (dir : Direction) (v : List ℕ) (own : List Block) (x n : Operand) (c : Self) → m.World → Peer m.Item → Facts m → (s0 s : m.State) → Type 0
@@ -230,25 +232,25 @@ module _ {Self Operand : Type 0} (m : Meaning Self Operand) (sound : Sound m) (t
 -- 4. The instruction that lifts a scalar may be sent, and has one result
 
 module _ {Self Operand : Type 0} (m : Meaning Self Operand) (types : List TypeDef) where
-  lift_ready : (ty : WitType) (i : Instruction) (os : List Operand) (b : Self) → lifting ty ≡ Some i → length os ≡ 1 → IsSendable m types i os b
-  lift_ready wit.Bool i os b e len = subst (λ j. IsSendable m types j os b) (some_same _ _ e) (record { operands = len; suits = tt })
-  lift_ready wit.U8 i os b e len = subst (λ j. IsSendable m types j os b) (some_same _ _ e) (record { operands = len; suits = tt })
-  lift_ready wit.S8 i os b e len = subst (λ j. IsSendable m types j os b) (some_same _ _ e) (record { operands = len; suits = tt })
-  lift_ready wit.U16 i os b e len = subst (λ j. IsSendable m types j os b) (some_same _ _ e) (record { operands = len; suits = tt })
-  lift_ready wit.S16 i os b e len = subst (λ j. IsSendable m types j os b) (some_same _ _ e) (record { operands = len; suits = tt })
-  lift_ready wit.U32 i os b e len = subst (λ j. IsSendable m types j os b) (some_same _ _ e) (record { operands = len; suits = tt })
-  lift_ready wit.S32 i os b e len = subst (λ j. IsSendable m types j os b) (some_same _ _ e) (record { operands = len; suits = tt })
-  lift_ready wit.Char i os b e len = subst (λ j. IsSendable m types j os b) (some_same _ _ e) (record { operands = len; suits = tt })
-  lift_ready wit.U64 i os b e len = subst (λ j. IsSendable m types j os b) (some_same _ _ e) (record { operands = len; suits = tt })
-  lift_ready wit.S64 i os b e len = subst (λ j. IsSendable m types j os b) (some_same _ _ e) (record { operands = len; suits = tt })
-  lift_ready wit.F32 i os b e len = subst (λ j. IsSendable m types j os b) (some_same _ _ e) (record { operands = len; suits = tt })
-  lift_ready wit.F64 i os b e len = subst (λ j. IsSendable m types j os b) (some_same _ _ e) (record { operands = len; suits = tt })
-  lift_ready wit.String i os b e len = absurd (let h = e in cc)
-  lift_ready wit.ErrorContext i os b e len = absurd (let h = e in cc)
-  lift_ready (wit.Id id) i os b e len = absurd (let h = e in cc)
+  lift_ready : (r : Resolve) (ty : WitType) (i : Instruction) (os : List Operand) (b : Self) → lifting ty ≡ Some i → length os ≡ 1 → IsSendable m r i os b
+  lift_ready r wit.Bool i os b e len = subst (λ j. IsSendable m r j os b) (some_same _ _ e) (record { operands = len; suits = tt })
+  lift_ready r wit.U8 i os b e len = subst (λ j. IsSendable m r j os b) (some_same _ _ e) (record { operands = len; suits = tt })
+  lift_ready r wit.S8 i os b e len = subst (λ j. IsSendable m r j os b) (some_same _ _ e) (record { operands = len; suits = tt })
+  lift_ready r wit.U16 i os b e len = subst (λ j. IsSendable m r j os b) (some_same _ _ e) (record { operands = len; suits = tt })
+  lift_ready r wit.S16 i os b e len = subst (λ j. IsSendable m r j os b) (some_same _ _ e) (record { operands = len; suits = tt })
+  lift_ready r wit.U32 i os b e len = subst (λ j. IsSendable m r j os b) (some_same _ _ e) (record { operands = len; suits = tt })
+  lift_ready r wit.S32 i os b e len = subst (λ j. IsSendable m r j os b) (some_same _ _ e) (record { operands = len; suits = tt })
+  lift_ready r wit.Char i os b e len = subst (λ j. IsSendable m r j os b) (some_same _ _ e) (record { operands = len; suits = tt })
+  lift_ready r wit.U64 i os b e len = subst (λ j. IsSendable m r j os b) (some_same _ _ e) (record { operands = len; suits = tt })
+  lift_ready r wit.S64 i os b e len = subst (λ j. IsSendable m r j os b) (some_same _ _ e) (record { operands = len; suits = tt })
+  lift_ready r wit.F32 i os b e len = subst (λ j. IsSendable m r j os b) (some_same _ _ e) (record { operands = len; suits = tt })
+  lift_ready r wit.F64 i os b e len = subst (λ j. IsSendable m r j os b) (some_same _ _ e) (record { operands = len; suits = tt })
+  lift_ready r wit.String i os b e len = absurd (let h = e in cc)
+  lift_ready r wit.ErrorContext i os b e len = absurd (let h = e in cc)
+  lift_ready r (wit.Id id) i os b e len = absurd (let h = e in cc)
 
-  pub lift_sendable : (ty : WitType) (i : Instruction) (os : List Operand) (o : Operand) (b : Self) → lifting ty ≡ Some i → os ≡ o ∷ [] → IsSendable m types i os b
-  lift_sendable ty i os o b e is = lift_ready ty i os b e (ap length is)
+  pub lift_sendable : (r : Resolve) (ty : WitType) (i : Instruction) (os : List Operand) (o : Operand) (b : Self) → lifting ty ≡ Some i → os ≡ o ∷ [] → IsSendable m r i os b
+  lift_sendable r ty i os o b e is = lift_ready r ty i os b e (ap length is)
 
   pub lift_makes : (ty : WitType) (i : Instruction) (k : ℕ) → lifting ty ≡ Some i → Makes types i k → k ≡ 1
   lift_makes wit.Bool i k e h = subst (λ j. Makes types j k) (sym (some_same _ _ e)) h

@@ -1,12 +1,15 @@
 pub mod HasList
 pub mod LiftSteps
 pub mod LowerSteps
+pub mod Ordinary
+pub mod PlainCalls
 pub mod PlainOperands
 pub mod PlainPlaces
 pub mod PlainRows
 pub mod PlainRuns
 pub mod PlainNew
 pub mod Records
+pub mod ReturnSteps
 pub mod SaysLength
 pub mod TakingOver
 pub mod Done

@@ -17,9 +17,10 @@ args_right b s k (d ∷ ds) h =
     let here : k ≡ k + 0 = omega arith in
     (ap s.arguments here ∙ h 0, args_right b s (suc k) ds (λ i. let e : suc k + i ≡ k + suc i = omega arith in ap s.arguments e ∙ h (suc i)))
 
-pub plain_new : (b : PlainBindgen) → b.steps ≡ [] → IsNew plain_meaning b
-plain_new b e = record {
+pub plain_new : (b : PlainBindgen) → b.steps ≡ [] → b.returned ≡ None → IsNew plain_meaning b
+plain_new b e f = record {
   empty = e;
+  endless = f;
   world = tt;
   serves = tt;
   start = λ w ds acc sv count lent taken.

@@ -56,6 +56,7 @@ use Rattle.abi_driver.specs.Memory as memory
 use Rattle.abi_driver.specs.Parts.{LiftsParts, LowersParts, PartsStand, count}
 use Rattle.abi_driver.specs.Plain.{AddsStep, IsPlainText, IsRight, PlainItem, PlainItems, PlainPartsStand, PlainStands, PlainState, all_at, and_all, gathered, leaf, lifted_type, listed, lowered_type, normal, performs, places_from, plain_meaning, scalar_of, whole, word_touch}
 use Rattle.abi_driver.specs.Touches.{LoadsWord, RowOfTouch, StoresWord, Touch, loads, reached, stores, touch, touch_makes}
+use Rattle.abi_driver.proofs.Ordinary.{code_of, lifts_ordinary, lowers_ordinary, still_returned, touches_ordinary}
 use Rattle.abi_driver.proofs.PlainPlaces.{places_count}
 use Rattle.abi_driver.proofs.PlainRuns.{plain_adds, plain_does}
 use Rattle.abi_driver.proofs.Records.{count-shapes, one_record}
@@ -137,7 +138,7 @@ taking_owns f address n acc =
     (λ e. if_done (nat_eq n 0) (gives (record { bytes = []; blocks = [] }) acc) o3 P (λ e. sym (append-nil acc.taken))
     (λ e. if_done (is_taken address acc.taken) (failing f trap.Block acc) o4 P (λ e. fails f trap.Block acc P) (λ e. found_owns f n (find (is_at address n) acc.heap.blocks) acc))))
 
-same_owns : (xs ys : List ℕ) → xs ≡ ys → SameItems (xs ++ []) (ys ++ [])
+pub same_owns : (xs ys : List ℕ) → xs ≡ ys → SameItems (xs ++ []) (ys ++ [])
 same_owns xs ys e g = ap (λ zs. total g (zs ++ [])) e
 
 stay_owns : (acc : Account PlainItem) (x : Got PlainItem (Unit {0})) → stay acc ≡ Done x → SameItems (x.account.taken ++ []) (acc.taken ++ [])
@@ -151,7 +152,7 @@ one_at b s o d h = ap (λ x. and_all x (Some [])) h.0.1
 two_at : (b : PlainBindgen) (s : PlainState) (o p : Place) (d e : Datum PlainItem) → AllByRecursion (IsRight b s) (of o d ∷ of p e ∷ []) → all_at s.values (o.number ∷ p.number ∷ []) ≡ Some (d ∷ e ∷ [])
 two_at b s o p d e h = ap₂ (λ x y. and_all x (and_all y (Some []))) h.0.1 h.1.0.1
 
-many_at : (b : PlainBindgen) (s : PlainState) (os : List Place) (ds : List (Datum PlainItem)) → length os ≡ length ds → AllByRecursion (IsRight b s) (ofs plain_meaning os ds) → all_at s.values (map (λ (p : Place). p.number) os) ≡ Some ds
+pub many_at : (b : PlainBindgen) (s : PlainState) (os : List Place) (ds : List (Datum PlainItem)) → length os ≡ length ds → AllByRecursion (IsRight b s) (ofs plain_meaning os ds) → all_at s.values (map (λ (p : Place). p.number) os) ≡ Some ds
 many_at b s [] [] e h = refl
 many_at b s [] (d ∷ ds) e h = absurd (omega (arith, e))
 many_at b s (o ∷ os) [] e h = absurd (omega (arith, e))
@@ -284,8 +285,8 @@ module _ (os rs : List Place) (old new : PlainBindgen) where
   word_row (stores part ty o) h = h
   word_row (loads part signed ty o) h = h
 
-  touches : (types : List TypeDef) (i : Instruction) (t : WordTouch) → option_map word_touch (touch i) ≡ Some t → Adds plain_meaning old new → length rs ≡ makes_of t → RowOfWord t → Emits plain_meaning types i os rs old new
-  touches types i t is adds len row = by (touch i) refl is
+  touches : (types : List TypeDef) (i : Instruction) (t : WordTouch) → option_map word_touch (touch i) ≡ Some t → Adds plain_meaning old new → new.returned ≡ old.returned → length rs ≡ makes_of t → RowOfWord t → Emits plain_meaning types i os rs old new
+  touches types i t is adds still len row = by (touch i) refl is
     where
       by : (x : Option Touch) → touch i ≡ x → option_map word_touch x ≡ Some t → Emits plain_meaning types i os rs old new
       by None here e = absurd (let h = e in cc)
@@ -293,7 +294,8 @@ module _ (os rs : List Place) (old new : PlainBindgen) where
           let same : word_touch x ≡ t = some_same _ _ e in
           let no = touched_is i x here in
           record {
-            adds = adds;
+            adds = code_of plain_meaning i (touches_ordinary i x here) old new adds;
+            returned = still_returned plain_meaning i (touches_ordinary i x here) os old.returned new.returned still;
             results = subst (λ p. MakesBy types i p (lifted_scalar i) (length rs)) (sym no.0) (subst (λ p. MakesBy types i None p (length rs)) (sym no.1)
                 (subst (λ p. MakesTouch types i p (length rs)) (sym here) (len ∙ ap makes_of (sym same) ∙ makes_same x)));
             row = subst (λ p. RowBy plain_meaning types i p (lifted_scalar i) os rs old new) (sym no.0) (subst (λ p. RowBy plain_meaning types i None p os rs old new) (sym no.1)
@@ -353,10 +355,11 @@ module _ (types : List TypeDef) (old new : PlainBindgen) where
       let row : LowersScalar plain_meaning s (o ∷ []) (places_from old.count 1) old new = λ dir v a own listed st0. (
         st0.1,
         plain_does st 1 old new adds (Unit {0}) (of o (item a) ∷ []) (item a ∷ []) (λ f. stay) (λ u. word (passed_word s v) ∷ []) (λ u fs. fs ≡ ofs plain_meaning (places_from old.count 1) (word (passed_word s v) ∷ [])) (λ u. []) (λ u. [])
-            (λ x values n. refl) (λ t h. one_at old t o (item a) h) (λ f acc. ap (λ (b : PlainItem). performs st f (item b ∷ []) acc) st0.0) (λ u. refl) (λ u. refl) (λ f acc x e. stay_owns acc x e),
+            (λ x values n. refl) (λ t h. one_at old t o (item a) h) (λ f acc. ap (λ (b : PlainItem). performs st f (item b ∷ []) acc) st0.0) (λ p acc x e. refl) (λ u. refl) (λ f acc x e. stay_owns acc x e),
       ) in
       record {
-        adds = plain_adds st 1 old new adds;
+        adds = code_of plain_meaning i (lowers_ordinary i _ (lowered_is i ty is)) old new (plain_adds st 1 old new adds refl);
+        returned = still_returned plain_meaning i (lowers_ordinary i _ (lowered_is i ty is)) (o ∷ []) old.returned new.returned adds.returned;
         results = subst (λ x. MakesBy types i x (lifted_scalar i) (length rs)) (sym (lowered_is i ty is)) (ap length places);
         row = subst (λ x. RowBy plain_meaning types i x (lifted_scalar i) (o ∷ []) rs old new) (sym (lowered_is i ty is)) (subst (λ ps. LowersScalar plain_meaning s (o ∷ []) ps old new) (sym places) row);
       }
@@ -368,13 +371,14 @@ module _ (types : List TypeDef) (old new : PlainBindgen) where
       let both = lifted_is i ty is in
       let row : LiftsScalar plain_meaning s (o ∷ []) (places_from old.count 1) old new = λ x.
       let a : PlainItem = leaf (normal s x ∷ []) [] in
-      plain_does st 1 old new adds (Unit {0}) (of o (word x) ∷ []) (word x ∷ []) (λ f. reading s f x) (λ u. item a ∷ [])
+      plain_does st 1 old new adds (Unit {0}) (of o (word x) ∷ []) (word x ∷ []) (λ f. reading s f.form x) (λ u. item a ∷ [])
       (λ u fs. (c : PlainItem) × (fs ≡ ofs plain_meaning (places_from old.count 1) (item c ∷ [])) × ((v : ScalarValue s) → IsScalar s v → IsTaken s v x → PlainStands take (scalar s) v c []))
-      (λ u. []) (λ u. []) (λ x values n. refl) (λ t h. one_at old t o (word x) h) (λ f acc. refl) (λ u. refl)
+      (λ u. []) (λ u. []) (λ x values n. refl) (λ t h. one_at old t o (word x) h) (λ f acc. refl) (λ p acc x e. refl)
       (λ u. (a, refl, λ v hv h. (ap (λ w. leaf (w ∷ []) []) (normal_is s v x hv h), refl)))
-      (λ f acc y e. same_owns y.account.taken acc.taken (ap (λ (c : Account PlainItem). c.taken) (done_is (reading s f x acc) (λ y. y.account ≡ acc) y (reading_stays s f x acc) e))) in
+      (λ f acc y e. same_owns y.account.taken acc.taken (ap (λ (c : Account PlainItem). c.taken) (done_is (reading s f.form x acc) (λ y. y.account ≡ acc) y (reading_stays s f.form x acc) e))) in
       record {
-        adds = plain_adds st 1 old new adds;
+        adds = code_of plain_meaning i (lifts_ordinary i _ both.1) old new (plain_adds st 1 old new adds refl);
+        returned = still_returned plain_meaning i (lifts_ordinary i _ both.1) (o ∷ []) old.returned new.returned adds.returned;
         results = subst (λ p. MakesBy types i p (lifted_scalar i) (length rs)) (sym both.0) (subst (λ p. MakesBy types i None p (length rs)) (sym both.1) (ap length places));
         row = subst (λ p. RowBy plain_meaning types i p (lifted_scalar i) (o ∷ []) rs old new) (sym both.0)
             (subst (λ p. RowBy plain_meaning types i None p (o ∷ []) rs old new) (sym both.1) (subst (λ ps. LiftsScalar plain_meaning s (o ∷ []) ps old new) (sym places) row));
@@ -388,9 +392,9 @@ module _ (types : List TypeDef) (old new : PlainBindgen) where
       let row : StoresWord plain_meaning a o (p ∷ q ∷ []) rs old new = λ x address.
       let at = reached plain_meaning address o in
       plain_does st 0 old new adds (Unit {0}) (of p (word x) ∷ of q (word (core.Pointer address)) ∷ []) (word x ∷ word (core.Pointer address) ∷ []) (λ f. storing 2 a at x) (λ u. []) (λ u fs. fs ≡ []) (λ u. []) (λ u. [])
-      (λ u values n. refl) (λ t h. two_at old t p q (word x) (word (core.Pointer address)) h) (λ f acc. refl) (λ u. refl) (λ u. refl)
+      (λ u values n. refl) (λ t h. two_at old t p q (word x) (word (core.Pointer address)) h) (λ f acc. refl) (λ p acc x e. refl) (λ u. refl)
       (λ f acc y e. same_owns y.account.taken acc.taken (done_is (storing 2 a at x acc) (λ y. y.account.taken ≡ acc.taken) y (storing_owns a at x acc) e)) in
-      touches (p ∷ q ∷ []) rs old new types i (touched.Store ty grain o) is (plain_adds st 0 old new adds) (ap length places) row
+      touches (p ∷ q ∷ []) rs old new types i (touched.Store ty grain o) is (plain_adds st 0 old new adds refl) adds.returned (ap length places) row
 
   pub loads_word : (i : Instruction) (ty : WasmType) (grain : ℕ) (signed : Bool) (o : ArchitectureSize) (p : Place) (rs : List Place) → option_map word_touch (touch i) ≡ Some (touched.Load ty grain signed o)
       → AddsStep (step.Load ty grain signed o p.number old.count) 1 old new → rs ≡ places_from old.count 1 → Emits plain_meaning types i (p ∷ []) rs old new
@@ -399,21 +403,22 @@ module _ (types : List TypeDef) (old new : PlainBindgen) where
       let a : Access = record { word = ty; grain = grain; signed = signed } in
       let row : LoadsWord plain_meaning a o (p ∷ []) (places_from old.count 1) old new = λ address.
       let at = reached plain_meaning address o in
-      plain_does st 1 old new adds Word (of p (word (core.Pointer address)) ∷ []) (word (core.Pointer address) ∷ []) (λ f. loading 2 f a at) (λ x. word x ∷ []) (λ x fs. fs ≡ ofs plain_meaning (places_from old.count 1) (word x ∷ [])) (λ x. []) (λ x. [])
-      (λ x values n. refl) (λ t h. one_at old t p (word (core.Pointer address)) h) (λ f acc. refl) (λ x. refl) (λ x. refl)
-      (λ f acc y e. same_owns y.account.taken acc.taken (done_is (loading 2 f a at acc) (λ y. y.account.taken ≡ acc.taken) y (loading_owns f a at acc) e)) in
-      touches (p ∷ []) rs old new types i (touched.Load ty grain signed o) is (plain_adds st 1 old new adds) (ap length places) (subst (λ ps. LoadsWord plain_meaning a o (p ∷ []) ps old new) (sym places) row)
+      plain_does st 1 old new adds Word (of p (word (core.Pointer address)) ∷ []) (word (core.Pointer address) ∷ []) (λ f. loading 2 f.form a at) (λ x. word x ∷ []) (λ x fs. fs ≡ ofs plain_meaning (places_from old.count 1) (word x ∷ [])) (λ x. []) (λ x. [])
+      (λ x values n. refl) (λ t h. one_at old t p (word (core.Pointer address)) h) (λ f acc. refl) (λ p acc y e. refl) (λ x. refl)
+      (λ f acc y e. same_owns y.account.taken acc.taken (done_is (loading 2 f.form a at acc) (λ y. y.account.taken ≡ acc.taken) y (loading_owns f.form a at acc) e)) in
+      touches (p ∷ []) rs old new types i (touched.Load ty grain signed o) is (plain_adds st 1 old new adds refl) adds.returned (ap length places) (subst (λ ps. LoadsWord plain_meaning a o (p ∷ []) ps old new) (sym places) row)
 
   pub frees_text : (o p : Place) (rs : List Place) → AddsStep (step.Free o.number p.number) 0 old new → rs ≡ places_from old.count 0 → Emits plain_meaning types instruction.GuestDeallocateString (o ∷ p ∷ []) rs old new
   frees_text o p rs adds places =
       let st = step.Free o.number p.number in
       record {
-        adds = plain_adds st 0 old new adds;
+        adds = plain_adds st 0 old new adds refl;
+        returned = adds.returned;
         results = ap length places;
         row = λ address n.
-            plain_does st 0 old new adds (Unit {0}) (of o (word (core.Pointer address)) ∷ of p (word (core.Length n)) ∷ []) (word (core.Pointer address) ∷ word (core.Length n) ∷ []) (λ f. freeing f address n) (λ u. []) (λ u fs. fs ≡ []) (λ u. []) (λ u. [])
-            (λ u values n. refl) (λ t h. two_at old t o p (word (core.Pointer address)) (word (core.Length n)) h) (λ f acc. refl) (λ u. refl) (λ u. refl)
-            (λ f acc y e. same_owns y.account.taken acc.taken (done_is (freeing f address n acc) (λ y. y.account.taken ≡ acc.taken) y (freeing_owns f address n acc) e));
+            plain_does st 0 old new adds (Unit {0}) (of o (word (core.Pointer address)) ∷ of p (word (core.Length n)) ∷ []) (word (core.Pointer address) ∷ word (core.Length n) ∷ []) (λ f. freeing f.form address n) (λ u. []) (λ u fs. fs ≡ []) (λ u. []) (λ u. [])
+            (λ u values n. refl) (λ t h. two_at old t o p (word (core.Pointer address)) (word (core.Length n)) h) (λ f acc. refl) (λ p acc x e. refl) (λ u. refl)
+            (λ f acc y e. same_owns y.account.taken acc.taken (done_is (freeing f.form address n acc) (λ y. y.account.taken ≡ acc.taken) y (freeing_owns f.form address n acc) e));
       }
 
   pub frees_block : (size : ArchitectureSize) (align : Alignment) (o : Place) (rs : List Place) → AddsStep (step.FreeSized size o.number) 0 old new → rs ≡ places_from old.count 0
@@ -422,12 +427,13 @@ module _ (types : List TypeDef) (old new : PlainBindgen) where
       let st = step.FreeSized size o.number in
       let n = bytes_at size 4 in
       record {
-        adds = plain_adds st 0 old new adds;
+        adds = plain_adds st 0 old new adds refl;
+        returned = adds.returned;
         results = ap length places;
         row = λ address.
-            plain_does st 0 old new adds (Unit {0}) (of o (word (core.Pointer address)) ∷ []) (word (core.Pointer address) ∷ []) (λ f. freeing f address n) (λ u. []) (λ u fs. fs ≡ []) (λ u. []) (λ u. [])
-            (λ u values n. refl) (λ t h. one_at old t o (word (core.Pointer address)) h) (λ f acc. refl) (λ u. refl) (λ u. refl)
-            (λ f acc y e. same_owns y.account.taken acc.taken (done_is (freeing f address n acc) (λ y. y.account.taken ≡ acc.taken) y (freeing_owns f address n acc) e));
+            plain_does st 0 old new adds (Unit {0}) (of o (word (core.Pointer address)) ∷ []) (word (core.Pointer address) ∷ []) (λ f. freeing f.form address n) (λ u. []) (λ u fs. fs ≡ []) (λ u. []) (λ u. [])
+            (λ u values n. refl) (λ t h. one_at old t o (word (core.Pointer address)) h) (λ f acc. refl) (λ p acc x e. refl) (λ u. refl)
+            (λ f acc y e. same_owns y.account.taken acc.taken (done_is (freeing f.form address n acc) (λ y. y.account.taken ≡ acc.taken) y (freeing_owns f.form address n acc) e));
       }
 
   pub passes_text : (realloc : Bool) (o : Place) (rs : List Place) → AddsStep (step.Pass o.number old.count) 2 old new → rs ≡ places_from old.count 2 → Emits plain_meaning types (instruction.StringLower realloc) (o ∷ []) rs old new
@@ -439,32 +445,33 @@ module _ (types : List TypeDef) (old new : PlainBindgen) where
         st0.3,
         plain_does st 2 old new adds (Unit {0}) (of o (item a) ∷ []) (item a ∷ []) (λ f. releasing (addresses own)) (λ u. core_data plain_meaning ws)
             (λ u fs. fs ≡ ofs plain_meaning (places_from old.count 2) (core_data plain_meaning ws)) (λ u. []) (λ u. addresses own)
-            (λ x values n. refl) (λ t h. one_at old t o (item a) h) (λ f acc. ap (λ (b : PlainItem). performs st f (item b ∷ []) acc) st0.2) (λ u. refl) (λ u. refl)
+            (λ x values n. refl) (λ t h. one_at old t o (item a) h) (λ f acc. ap (λ (b : PlainItem). performs st f (item b ∷ []) acc) st0.2) (λ p acc x e. refl) (λ u. refl)
             (λ f acc x e. done_is (releasing (addresses own) acc) (λ x. SameItems (x.account.taken ++ addresses own) (acc.taken ++ [])) x (releasing_owns (addresses own) acc) e),
       ) in
-      record { adds = plain_adds st 2 old new adds; results = ap length places; row = subst (λ ps. LowersText plain_meaning realloc (o ∷ []) ps old new) (sym places) row }
+      record { adds = plain_adds st 2 old new adds refl; returned = adds.returned; results = ap length places; row = subst (λ ps. LowersText plain_meaning realloc (o ∷ []) ps old new) (sym places) row }
 
   pub takes_text : (o p : Place) (rs : List Place) → AddsStep (step.Take o.number p.number old.count) 1 old new → rs ≡ places_from old.count 1 → Emits plain_meaning types instruction.StringLift (o ∷ p ∷ []) rs old new
   takes_text o p rs adds places =
       let st = step.Take o.number p.number old.count in
       let row : LiftsText plain_meaning (o ∷ p ∷ []) (places_from old.count 1) old new = λ address n.
       let ws : List Word = core.Pointer address ∷ core.Length n ∷ [] in
-      plain_does st 1 old new adds Taken (of o (word (core.Pointer address)) ∷ of p (word (core.Length n)) ∷ []) (core_data plain_meaning ws) (λ f. taking f address n) (λ x. item (leaf ws x.blocks) ∷ [])
+      plain_does st 1 old new adds Taken (of o (word (core.Pointer address)) ∷ of p (word (core.Length n)) ∷ []) (core_data plain_meaning ws) (λ f. taking f.form address n) (λ x. item (leaf ws x.blocks) ∷ [])
       (λ x fs. (a : PlainItem) × (fs ≡ ofs plain_meaning (places_from old.count 1) (item a ∷ [])) × (Says 2 take text x.bytes ws x.blocks → PlainStands take text x.bytes a x.blocks))
-      (λ x. addresses x.blocks) (λ x. []) (λ x values n. refl) (λ t h. two_at old t o p (word (core.Pointer address)) (word (core.Length n)) h) (λ f acc. refl) (λ x. refl)
+      (λ x. addresses x.blocks) (λ x. []) (λ x values n. refl) (λ t h. two_at old t o p (word (core.Pointer address)) (word (core.Length n)) h) (λ f acc. refl) (λ p acc y e. refl)
       (λ x. (leaf ws x.blocks, refl, λ h. says_text x.bytes address n x.blocks h))
-      (λ f acc x e. let t = done_is (taking f address n acc) (TakesOver acc) x (taking_owns f address n acc) e in λ g. ap (λ xs. total g (xs ++ [])) t ∙ ap (total g) (append-nil (acc.taken ++ addresses x.result.blocks))) in
-      record { adds = plain_adds st 1 old new adds; results = ap length places; row = subst (λ ps. LiftsText plain_meaning (o ∷ p ∷ []) ps old new) (sym places) row }
+      (λ f acc x e. let t = done_is (taking f.form address n acc) (TakesOver acc) x (taking_owns f.form address n acc) e in λ g. ap (λ xs. total g (xs ++ [])) t ∙ ap (total g) (append-nil (acc.taken ++ addresses x.result.blocks))) in
+      record { adds = plain_adds st 1 old new adds refl; returned = adds.returned; results = ap length places; row = subst (λ ps. LiftsText plain_meaning (o ∷ p ∷ []) ps old new) (sym places) row }
 
   pub reads_argument : (n : ℕ) (rs : List Place) → AddsStep (step.Argument n old.count) 1 old new → rs ≡ places_from old.count 1 → Emits plain_meaning types (instruction.GetArg n) [] rs old new
   reads_argument n rs adds places =
       let st = step.Argument n old.count in
       record {
-        adds = plain_adds st 1 old new adds;
+        adds = plain_adds st 1 old new adds refl;
+        returned = adds.returned;
         results = ap length places;
         row = λ d. subst (λ ps. Stays plain_meaning old new (arg n d ∷ []) (λ fs. fs ≡ ofs plain_meaning ps (d ∷ []))) (sym places)
             (plain_does st 1 old new adds (Unit {0}) (arg n d ∷ []) (d ∷ []) (λ f. stay) (λ u. d ∷ []) (λ u fs. fs ≡ ofs plain_meaning (places_from old.count 1) (d ∷ [])) (λ u. []) (λ u. [])
-            (λ x values n. refl) (λ t h. ap (λ x. and_all x (Some [])) h.0) (λ f acc. refl) (λ u. refl) (λ u. refl) (λ f acc x e. stay_owns acc x e));
+            (λ x values n. refl) (λ t h. ap (λ x. and_all x (Some [])) h.0) (λ f acc. refl) (λ p acc x e. refl) (λ u. refl) (λ f acc x e. stay_owns acc x e));
       }
 
   splits : (ts : Shapes) (t : Shape) (made : Parts ts → Value t) (n : ℕ) (o : Place) → count ts ≡ n
@@ -479,7 +486,7 @@ module _ (types : List TypeDef) (old new : PlainBindgen) where
         vals,
         ps,
         plain_does st n old new adds (Unit {0}) (of o (item a) ∷ []) (item a ∷ []) (λ f. stay) (λ u. item_data plain_meaning vals) (λ u fs. fs ≡ ofs plain_meaning (places_from old.count n) (item_data plain_meaning vals)) (λ u. []) (λ u. [])
-            (λ x values n. refl) (λ t h. one_at old t o (item a) h) (λ f acc. ap (λ (b : PlainItem). performs st f (item b ∷ []) acc) h.1) (λ u. len) (λ u. refl) (λ f acc x e. stay_owns acc x e),
+            (λ x values n. refl) (λ t h. one_at old t o (item a) h) (λ f acc. ap (λ (b : PlainItem). performs st f (item b ∷ []) acc) h.1) (λ p acc x e. len) (λ u. refl) (λ f acc x e. stay_owns acc x e),
       )
 
   joins : (ts : Shapes) (t : Shape) (made : Parts ts → Value t) (os : List Place) → length os ≡ count ts
@@ -492,14 +499,15 @@ module _ (types : List TypeDef) (old new : PlainBindgen) where
       let both : length os ≡ length ds = fits ∙ sym len ∙ sym (length-map vals (λ b. item b)) in
       plain_does st 1 old new adds (Unit {0}) (ofs plain_meaning os ds) ds (λ f. stay) (λ u. item a ∷ [])
       (λ u fs. (c : PlainItem) × (fs ≡ ofs plain_meaning (places_from old.count 1) (item c ∷ [])) × ((v : Parts ts) (own : List Block) → PartsStand plain_meaning take ts v vals own → PlainStands take t (made v) c own))
-      (λ u. []) (λ u. []) (λ x values n. refl) (λ t h. many_at old t os ds both h) (λ f acc. refl) (λ u. refl)
+      (λ u. []) (λ u. []) (λ x values n. refl) (λ t h. many_at old t os ds both h) (λ f acc. refl) (λ p acc x e. refl)
       (λ u. (a, refl, λ v own h. is v (gathered ds) own (subst (λ xs. PlainPartsStand take ts v xs own) (sym (gathered_is vals)) (plain_parts take ts v vals own h))))
       (λ f acc x e. stay_owns acc x e)
 
   pub splits_record : (id : TypeId) (members : List Field) (o : Place) (rs : List Place) → IsRecord types id.0 members → AddsStep (step.Split o.number old.count) (length members) old new → rs ≡ places_from old.count (length members)
       → Emits plain_meaning types (instruction.RecordLower id) (o ∷ []) rs old new
   splits_record id members o rs is adds places = record {
-    adds = plain_adds (step.Split o.number old.count) (length members) old new adds;
+    adds = plain_adds (step.Split o.number old.count) (length members) old new adds refl;
+    returned = adds.returned;
     results = λ others other. ap length places ∙ places_count old.count (length members) ∙ ap length (one_record types id.0 members others is other);
     row = λ others other.
         subst (λ ms. LowersParts plain_meaning (field_shapes types ms) (fields (field_shapes types ms)) (λ v. v) (o ∷ []) rs old new) (one_record types id.0 members others is other)
@@ -510,7 +518,8 @@ module _ (types : List TypeDef) (old new : PlainBindgen) where
   pub joins_record : (id : TypeId) (members : List Field) (os rs : List Place) → IsRecord types id.0 members → length os ≡ length members → AddsStep (step.Join os old.count) 1 old new → rs ≡ places_from old.count 1
       → Emits plain_meaning types (instruction.RecordLift id) os rs old new
   joins_record id members os rs is len adds places = record {
-    adds = plain_adds (step.Join os old.count) 1 old new adds;
+    adds = plain_adds (step.Join os old.count) 1 old new adds refl;
+    returned = adds.returned;
     results = ap length places;
     row = λ others other.
         subst (λ ms. LiftsParts plain_meaning (field_shapes types ms) (fields (field_shapes types ms)) (λ v. v) os rs old new) (one_record types id.0 members others is other)
@@ -520,14 +529,16 @@ module _ (types : List TypeDef) (old new : PlainBindgen) where
 
   pub splits_tuple : (n : ℕ) (o : Place) (rs : List Place) → AddsStep (step.Split o.number old.count) n old new → rs ≡ places_from old.count n → Emits plain_meaning types (instruction.TupleLower n) (o ∷ []) rs old new
   splits_tuple n o rs adds places = record {
-    adds = plain_adds (step.Split o.number old.count) n old new adds;
+    adds = plain_adds (step.Split o.number old.count) n old new adds refl;
+    returned = adds.returned;
     results = ap length places ∙ places_count old.count n;
     row = λ ts fits. subst (λ ps. LowersParts plain_meaning ts (tuple ts) (λ v. v) (o ∷ []) ps old new) (sym places) (splits ts (tuple ts) (λ v. v) n o fits (λ dir v a own h. h) adds);
   }
 
   pub joins_tuple : (n : ℕ) (os rs : List Place) → length os ≡ n → AddsStep (step.Join os old.count) 1 old new → rs ≡ places_from old.count 1 → Emits plain_meaning types (instruction.TupleLift n) os rs old new
   joins_tuple n os rs len adds places = record {
-    adds = plain_adds (step.Join os old.count) 1 old new adds;
+    adds = plain_adds (step.Join os old.count) 1 old new adds refl;
+    returned = adds.returned;
     results = ap length places;
     row = λ ts fits. subst (λ ps. LiftsParts plain_meaning ts (tuple ts) (λ v. v) os ps old new) (sym places) (joins ts (tuple ts) (λ v. v) os (len ∙ sym fits) (λ v items own h. (items, refl, h)) adds);
   }

@@ -11,6 +11,7 @@ use Rattle.wrapper_data.specs.Answered.{with_writes}
 use Rattle.wrapper_data.specs.declared.block.Block.{Block}
 use Rattle.wrapper_data.specs.declared.form.Form.{Form}
 use Rattle.wrapper_data.specs.declared.form.Form.TheVariants as form
+use Rattle.wrapper_data.specs.declared.run.Target.TheVariants as target
 use Rattle.wrapper_data.specs.declared.run.TrapKind.{TrapKind}
 use Rattle.wrapper_data.specs.declared.run.TrapKind.TheVariants as trap
 use Rattle.wrapper_data.specs.declared.word.Word.{Word}
@@ -22,8 +23,8 @@ use Rattle.wrapper_meaning.specs.Words.{bits_of}
 use Rattle.abi_driver.specs.declared.plain.PlainBindgen.{PlainBindgen}
 use Rattle.abi_driver.specs.declared.plain.Step.{Step}
 use Rattle.abi_driver.specs.declared.plain.Step.TheVariants as step
-use Rattle.abi_driver.specs.Account.{Account, Act, Done, Follows, Got, Outcome, Stopped, Stops, Stuck, account_in, addresses, checking, failing, found, has_type, gives, is_at, is_taken, reading, releasing, stay, taking, tested, then_do, without}
-use Rattle.abi_driver.specs.Laws.{Adds, After, Does, Facts, ofs}
+use Rattle.abi_driver.specs.Account.{Account, Act, Done, Follows, Got, Outcome, Peer, Stopped, Stops, Stuck, account_in, addresses, checking, failing, found, has_type, gives, is_at, is_taken, reading, releasing, stay, taking, tested, then_do, without}
+use Rattle.abi_driver.specs.Laws.{Adds, After, Does, Facts, Grows, ofs}
 use Rattle.abi_driver.specs.Meaning.{Datum, item, word}
 use Rattle.abi_driver.specs.Memory.{Access, access, bytes_on, freed, freeing, is_inside, is_reached, little_bytes, loaded, storing}
 use Rattle.abi_driver.specs.Memory as memory
@@ -32,6 +33,10 @@ use Rattle.abi_driver.specs.PlainSound.{all_both, all_left, all_right}
 use Rattle.abi_driver.proofs.PlainPlaces.{put_below, put_right, still_right}
 
 -- 1. Calls are left alone
+
+abbrev pub makes_call : Step → Bool
+makes_call (step.Call core_module name from result to) = true
+makes_call _ = false
 
 failing_quiet : {V : Type 0} (A : Type 0) (f : Form) (kind : TrapKind) (acc : Account V) → (account_in (λ (x : Got V A). x.account) (failing f kind acc)).calls ≡ acc.calls
 failing_quiet A form.Debug kind acc = refl
@@ -137,17 +142,18 @@ free_block_quiet : (size : ArchitectureSize) (f : Form) (ds : List (Datum PlainI
 free_block_quiet size f (word (core.Pointer q) ∷ []) acc = then_quiet acc (freeing f q (bytes_at size 4) acc) (λ u. []) (freeing_quiet f q (bytes_at size 4) acc)
 free_block_quiet size f _ acc = refl
 
-performs_quiet : (st : Step) (f : Form) (ds : List (Datum PlainItem)) (acc : Account PlainItem) → Quietly acc (performs st f ds acc)
-performs_quiet (step.Argument n to) f ds acc = refl
-performs_quiet (step.Pass from to) f ds acc = passing_quiet ds acc
-performs_quiet (step.Read ty from to) f ds acc = read_quiet (scalar_of ty) f ds acc
-performs_quiet (step.Take at len to) f ds acc = take_quiet f ds acc
-performs_quiet (step.Split from to) f ds acc = splitting_quiet ds acc
-performs_quiet (step.Join from to) f ds acc = refl
-performs_quiet (step.Store ty grain o from at) f ds acc = store_quiet (access ty grain) o ds acc
-performs_quiet (step.Load ty grain signed o at to) f ds acc = load_quiet (record { word = ty; grain = grain; signed = signed }) o f ds acc
-performs_quiet (step.Free at length) f ds acc = free_text_quiet f ds acc
-performs_quiet (step.FreeSized size at) f ds acc = free_block_quiet size f ds acc
+performs_quiet : (st : Step) (p : Peer PlainItem) (ds : List (Datum PlainItem)) (acc : Account PlainItem) → makes_call st ≡ false → Quietly acc (performs st p ds acc)
+performs_quiet (step.Argument n to) p ds acc e = refl
+performs_quiet (step.Pass from to) p ds acc e = passing_quiet ds acc
+performs_quiet (step.Read ty from to) p ds acc e = read_quiet (scalar_of ty) p.form ds acc
+performs_quiet (step.Take at len to) p ds acc e = take_quiet p.form ds acc
+performs_quiet (step.Split from to) p ds acc e = splitting_quiet ds acc
+performs_quiet (step.Join from to) p ds acc e = refl
+performs_quiet (step.Store ty grain o from at) p ds acc e = store_quiet (access ty grain) o ds acc
+performs_quiet (step.Load ty grain signed o at to) p ds acc e = load_quiet (record { word = ty; grain = grain; signed = signed }) o p.form ds acc
+performs_quiet (step.Free at length) p ds acc e = free_text_quiet p.form ds acc
+performs_quiet (step.FreeSized size at) p ds acc e = free_block_quiet size p.form ds acc
+performs_quiet (step.Call core_module name from result to) p ds acc e = absurd (let h = e in cc)
 
 -- 2. Runs of more steps
 
@@ -156,7 +162,7 @@ then_runs (Done t) g h k e = e t
 then_runs (Stopped s acc) g h k e = refl
 then_runs (Stuck acc) g h k e = refl
 
-pub runs_both : (f : Form) (xs ys : List Step) (s : PlainState) → runs f (xs ++ ys) s ≡ then_do (runs f xs s) (λ t. runs f ys t)
+pub runs_both : (f : Peer PlainItem) (xs ys : List Step) (s : PlainState) → runs f (xs ++ ys) s ≡ then_do (runs f xs s) (λ t. runs f ys t)
 runs_both f [] ys s = refl
 runs_both f (x ∷ xs) ys s = then_runs (performed x f (inputs x s) s) (λ t. runs f (xs ++ ys) t) (λ t. runs f xs t) (λ t. runs f ys t) (λ t. runs_both f xs ys t)
 
@@ -176,40 +182,44 @@ keeps_calls st s (Done x) h = h
 keeps_calls st s (Stopped e acc) h = h
 keeps_calls st s (Stuck acc) h = h
 
-step_calls : (st : Step) (f : Form) (ds : Option (List (Datum PlainItem))) (s : PlainState) → (account_in (λ (t : PlainState). t.account) (then_do (performed st f ds s) (λ u. Done u))).calls ≡ s.account.calls
-step_calls st f None s = refl
-step_calls st f (Some ds) s = keeps_calls st s (performs st f ds s.account) (performs_quiet st f ds s.account)
+step_calls : (st : Step) (p : Peer PlainItem) (ds : Option (List (Datum PlainItem))) (s : PlainState) → makes_call st ≡ false → (account_in (λ (t : PlainState). t.account) (then_do (performed st p ds s) (λ u. Done u))).calls ≡ s.account.calls
+step_calls st p None s e = refl
+step_calls st p (Some ds) s e = keeps_calls st s (performs st p ds s.account) (performs_quiet st p ds s.account e)
 
 module _ (st : Step) (k : ℕ) (old new : PlainBindgen) (adds : AddsStep st k old new) where
-  longer : (f : Form) (s : PlainState) → runs f new.steps s ≡ then_do (runs f old.steps s) (λ t. runs f (st ∷ []) t)
+  longer : (f : Peer PlainItem) (s : PlainState) → runs f new.steps s ≡ then_do (runs f old.steps s) (λ t. runs f (st ∷ []) t)
   longer f s = ap (λ xs. runs f xs s) adds.steps ∙ runs_both f old.steps (st ∷ []) s
 
   -- 3. A step is added
 
-  pub plain_adds : Adds plain_meaning old new
-  plain_adds = record {
-    grows = record {
-      serves = λ w h. h;
-      more = λ w h. (w, h);
-      stops = λ w f s h. subst (Stops (λ (t : PlainState). t.account) (runs f.form old.steps s)) (sym (longer f.form s)) (stops_then (λ (t : PlainState). t.account) (runs f.form old.steps s) (λ t. runs f.form (st ∷ []) t));
-      imports = adds.import;
-      exports = ap not adds.import;
-      arguments = refl;
-      knows = λ types h. subst (λ sizes. IsFilledFor sizes types) (sym adds.sizes) h;
-    };
+  pub plain_grows : Grows plain_meaning old new
+  plain_grows = record {
+    serves = λ w h. h;
+    more = λ w h. (w, h);
+    stops = λ w f s h. subst (Stops (λ (t : PlainState). t.account) (runs f old.steps s)) (sym (longer f s)) (stops_then (λ (t : PlainState). t.account) (runs f old.steps s) (λ t. runs f (st ∷ []) t));
+    imports = adds.import;
+    exports = ap not adds.import;
+    arguments = refl;
+    knows = λ types h. subst (λ sizes. IsFilledFor sizes types) (sym adds.sizes) h;
+    target = λ f. ap (λ core_module. target.Core core_module f.name.wit) adds.core_module;
+  }
+
+  pub plain_adds : makes_call st ≡ false → Adds plain_meaning old new
+  plain_adds e = record {
+    grows = plain_grows;
     quiet = λ w f s h.
-        ap (λ o. (account_in (λ (t : PlainState). t.account) o).calls) (longer f.form s)
-        ∙ calls_then (λ (t : PlainState). t.account) (runs f.form old.steps s) (λ t. runs f.form (st ∷ []) t) (λ t. step_calls st f.form (inputs st t) t);
+        ap (λ o. (account_in (λ (t : PlainState). t.account) o).calls) (longer f s)
+        ∙ calls_then (λ (t : PlainState). t.account) (runs f old.steps s) (λ t. runs f (st ∷ []) t) (λ t. step_calls st f (inputs st t) t e);
   }
 
   -- a step that does an action on the account, and gives results by what the action gives
-  module _ (A : Type 0) (ins : Facts plain_meaning) (ds : List (Datum PlainItem)) (act : Form → Act PlainItem A) (res : A → List (Datum PlainItem)) (Outs : A → Facts plain_meaning → Type 0) (made gone : A → List ℕ)
+  module _ (A : Type 0) (ins : Facts plain_meaning) (ds : List (Datum PlainItem)) (act : Peer PlainItem → Act PlainItem A) (res : A → List (Datum PlainItem)) (Outs : A → Facts plain_meaning → Type 0) (made gone : A → List ℕ)
       (here : (x : A) (values : ℕ → Option (Datum PlainItem)) (n : ℕ) → put (writes st) (res x) values n ≡ put old.count (res x) values n)
       (reads : (s : PlainState) → AllByRecursion (IsRight old s) ins → inputs st s ≡ Some ds)
-      (does : (f : Form) (acc : Account PlainItem) → performs st f ds acc ≡ then_do (act f acc) (λ x. gives (res x.result) x.account))
-      (fits : (x : A) → length (res x) ≡ k)
+      (does : (f : Peer PlainItem) (acc : Account PlainItem) → performs st f ds acc ≡ then_do (act f acc) (λ x. gives (res x.result) x.account))
+      (fits : (f : Peer PlainItem) (acc : Account PlainItem) (x : Got PlainItem A) → act f acc ≡ Done x → length (res x.result) ≡ k)
       (outs : (x : A) → Outs x (ofs plain_meaning (places_from old.count k) (res x)))
-      (owns : (f : Form) (acc : Account PlainItem) (x : Got PlainItem A) → act f acc ≡ Done x → SameItems (x.account.taken ++ gone x.result) (acc.taken ++ made x.result)) where
+      (owns : (f : Peer PlainItem) (acc : Account PlainItem) (x : Got PlainItem A) → act f acc ≡ Done x → SameItems (x.account.taken ++ gone x.result) (acc.taken ++ made x.result)) where
     follows_step : (o : Outcome PlainItem (Got PlainItem A)) (q : Outcome PlainItem PlainState) (g : Got PlainItem A → PlainState) (P : Got PlainItem A → PlainState → Type 0)
         → q ≡ then_do o (λ x. Done (g x)) → ((x : Got PlainItem A) → o ≡ Done x → P x (g x)) → Follows (λ (t : PlainState). t.account) o q P
     follows_step (Done x) q g P e h = (g x, e, h x refl)
@@ -222,27 +232,27 @@ module _ (st : Step) (k : ℕ) (old new : PlainBindgen) (adds : AddsStep st k ol
     given_on (Stopped e acc) s = refl
     given_on (Stuck acc) s = refl
 
-    pub plain_does : Does plain_meaning A old new ins (λ p. act p.form) Outs made gone
+    pub plain_does : Does plain_meaning A old new ins act Outs made gone
     plain_does w f others s0 s at =
         let after : Got PlainItem A → PlainState = λ x. kept (writes st) (record { result = res x.result; account = x.account }) s in
-        let ran : runs f.form new.steps s0 ≡ then_do (act f.form s.account) (λ x. Done (after x)) =
-        longer f.form s0 ∙ ap (λ o. then_do o (λ t. runs f.form (st ∷ []) t)) at.done ∙ ap (λ i. then_do (performed st f.form i s) (λ u. Done u)) (reads s (all_left (IsRight old s) ins others at.holds))
-        ∙ ap (λ o. then_do (then_do o (λ x. Done (kept (writes st) x s))) (λ u. Done u)) (does f.form s.account) ∙ given_on (act f.form s.account) s in
+        let ran : runs f new.steps s0 ≡ then_do (act f s.account) (λ x. Done (after x)) =
+        longer f s0 ∙ ap (λ o. then_do o (λ t. runs f (st ∷ []) t)) at.done ∙ ap (λ i. then_do (performed st f i s) (λ u. Done u)) (reads s (all_left (IsRight old s) ins others at.holds))
+        ∙ ap (λ o. then_do (then_do o (λ x. Done (kept (writes st) x s))) (λ u. Done u)) (does f s.account) ∙ given_on (act f s.account) s in
         let more : old.count ≤ new.count = omega (arith, adds.count) in
-        follows_step (act f.form s.account) (runs f.form new.steps s0) after
+        follows_step (act f s.account) (runs f new.steps s0) after
         (λ x t. (fs : Facts plain_meaning) × Outs x.result fs × After plain_meaning w new (fs ++ others) (made x.result) (gone x.result) s x t) ran
         (λ x done.
         let t = after x in
         let values : (n : ℕ) → t.values n ≡ put old.count (res x.result) s.values n = λ n. here x.result s.values n in
-        let room : old.count + length (res x.result) ≤ new.count = omega (arith, adds.count, fits x.result) in
+        let room : old.count + length (res x.result) ≤ new.count = omega (arith, adds.count, fits f s.account x done) in
         let news = put_right new t old.count (res x.result) s.values room values in
         let olds = still_right old new s t others more (λ n l. values n ∙ put_below old.count (res x.result) s.values n l) (λ n. refl) (all_right (IsRight old s) ins others at.holds) in (
           ofs plain_meaning (places_from old.count k) (res x.result),
           outs x.result,
           record {
             account = refl;
-            owns = owns f.form s.account x done;
+            owns = owns f s.account x done;
             denotes = all_both (IsRight new t) (ofs plain_meaning (places_from old.count k) (res x.result)) others
-                (subst (λ n. AllByRecursion (IsRight new t) (ofs plain_meaning (places_from old.count n) (res x.result))) (fits x.result) news) olds;
+                (subst (λ n. AllByRecursion (IsRight new t) (ofs plain_meaning (places_from old.count n) (res x.result))) (fits f s.account x done) news) olds;
           },
         ))

@@ -57,7 +57,7 @@ addresses_both (x ∷ xs) ys = ap (λ zs. x.address ∷ zs) (addresses_both xs y
 
 module _ {Self Operand : Type 0} (m : Meaning Self Operand) where
   pub grows_same : (a : Self) → Grows m a a
-  grows_same a = record { serves = λ w h. h; more = λ w h. (w, h); stops = λ w f s h. stops_same m.account (m.does w f (m.code a) s); imports = refl; exports = refl; arguments = refl; knows = λ types h. h }
+  grows_same a = record { serves = λ w h. h; more = λ w h. (w, h); stops = λ w f s h. stops_same m.account (m.does w f (m.code a) s); imports = refl; exports = refl; arguments = refl; knows = λ types h. h; target = λ f. refl }
 
   pub adds_same : (a : Self) → Adds m a a
   adds_same a = record { grows = grows_same a; quiet = λ w f s h. refl }
@@ -72,6 +72,7 @@ module _ {Self Operand : Type 0} (m : Meaning Self Operand) where
       exports = h.grows.exports ∙ g.grows.exports;
       arguments = h.grows.arguments ∙ g.grows.arguments;
       knows = λ types k. h.grows.knows types (g.grows.knows types k);
+      target = λ fn. h.grows.target fn ∙ g.grows.target fn;
     };
     quiet = λ w f s v. h.quiet w f s v ∙ g.quiet w f s (h.grows.serves w v);
   }

@@ -105,7 +105,13 @@ has_type wasm.F32 (core.F32 x) = true
 has_type wasm.F64 (core.F64 x) = true
 has_type wasm.Pointer (core.Pointer address) = true
 has_type wasm.Length (core.Length n) = true
+has_type wasm.PointerOrI64 (core.Slot (Some x)) = true
 has_type _ _ = false
+
+abbrev pub have_types : List WasmType → List Word → Bool
+have_types [] [] = true
+have_types (ty ∷ types) (x ∷ xs) = has_type ty x && have_types types xs
+have_types _ _ = false
 
 -- of a bool the low eight bits are 0 or 1, and a char is a Unicode scalar value
 abbrev pub checking : {V : Type 0} → Scalar → Form → Word → Act V (Unit {0})

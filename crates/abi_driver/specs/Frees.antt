@@ -1,5 +1,5 @@
 -- What the code is by which the blocks of a value are freed: of a value in memory, and of one that core words represent.
-use Rattle.std.specs.Prelude.{◌≡◌, ℕ, ◌^◌, Bool, true, false, List, [], ◌∷◌, ◌++◌, length}
+use Rattle.std.specs.Prelude.{◌≡◌, ℕ, ◌^◌, Bool, true, false, List, [], ◌∷◌, ◌++◌, length, Option, None, Some}
 use Rattle.std.specs.List.{AllByRecursion}
 use Rattle.wit_model.specs.Size.{bytes_at}
 use Rattle.wit_model.specs.declared.size.ArchitectureSize.{ArchitectureSize}
@@ -17,7 +17,7 @@ use Rattle.wrapper_meaning.specs.Value.{Parts, Value}
 use Rattle.abi_driver.specs.Account.{Account, Done, Got, Peer, is_at}
 use Rattle.abi_driver.specs.Laws.{Adds, After, At, Does, Facts, core_data, ofs}
 use Rattle.abi_driver.specs.Lifts.{MayTake}
-use Rattle.abi_driver.specs.Meaning.{Meaning, of, word}
+use Rattle.abi_driver.specs.Meaning.{Meaning, arg, of, word}
 use Rattle.abi_driver.specs.Memory.{except, freeing}
 use Rattle.abi_driver.specs.Places.{HasRoom, HavePlaces}
 use Rattle.abi_driver.specs.Touches.{reached}
@@ -91,3 +91,19 @@ module _ {Self Operand : Type 0} (m : Meaning Self Operand) where
   abbrev pub FreesTypes : (indirect : Bool) → (ts : Shapes) → (os : List Operand) → (old new : Self) → Type 0
   FreesTypes true ts os old new = (address : Operand) × (os ≡ address ∷ []) × FreesParts ts address nowhere 0 old new
   FreesTypes false ts os old new = FreesAll ts os old new
+
+  -- 3. The post-return function of an export
+
+  -- exactly the blocks of a result are freed, whose address is the first argument
+  abbrev pub FreesResult : Option Shape → (old new : Self) → Type 0
+  FreesResult None old new = (w : m.World) (f : Peer m.Item) (others : Facts m) (s0 s : m.State) → At m w f old new others s0 s → Frees [] new w f others s0 s
+  FreesResult (Some t) old new =
+      (v : Value t) (own : List Block) → IsListed t v → (w : m.World) (f : Peer m.Item) (others : Facts m) (s0 s : m.State) (q k : ℕ) (b : Block)
+      → At m w f old new (arg 0 (word (core.Pointer q)) ∷ others) s0 s → HasRoom m.width t (reached m q nowhere) b k (m.account s).heap → Holds m.width give t v b k own → MayFree own b (m.account s)
+      → Frees own new w f others s0 s
+
+  -- and the code gives nothing
+  pub record PostReturns (r : Option Shape) (old new : Self) : Type 0 where
+    pub adds : Adds m old new
+    pub frees : FreesResult r old new
+    pub returned : m.returned new ≡ Some []

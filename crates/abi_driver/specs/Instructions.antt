@@ -1,5 +1,8 @@
 -- What each instruction does: one line an instruction. No code may be made yet of an instruction that has no line here.
 use Rattle.std.specs.Prelude.{◌≡◌, ◌<◌, ℕ, Bool, true, false, List, [], ◌∷◌, length, map, Option, None, Some, IfSome, slice_get}
+use Rattle.wit_model.specs.IndexRange.{function_in_range}
+use Rattle.wit_model.specs.WellFormed.{IsWellFormed}
+use Rattle.wit_model.specs.declared.resolve.Resolve.{Resolve}
 use Rattle.wit_model.specs.declared.types.Field.{Field}
 use Rattle.wit_model.specs.declared.types.TypeDef.{TypeDef}
 use Rattle.wit_model.specs.declared.types.TypeDefKind.TheVariants as kind
@@ -9,9 +12,10 @@ use Rattle.wit_layout.specs.Tree.{Scalar}
 use Rattle.wrapper_meaning.specs.Shape.{Shapes, payloads_in, shapes}
 use Rattle.wrapper_meaning.specs.Shape.Shape.{fields, tuple}
 use Rattle.abi_driver.specs.declared.instruction.Instruction.{Instruction}
-use Rattle.abi_driver.specs.declared.instruction.Instruction.TheVariants.{GetArg, I32FromBool, I32FromU8, I32FromS8, I32FromU16, I32FromS16, I32FromU32, I32FromS32, I32FromChar, I64FromU64, I64FromS64, CoreF32FromF32, CoreF64FromF64, BoolFromI32, U8FromI32, S8FromI32, U16FromI32, S16FromI32, U32FromI32, S32FromI32, CharFromI32, U64FromI64, S64FromI64, F32FromCoreF32, F64FromCoreF64, StringLower, StringLift, RecordLower, RecordLift, TupleLower, TupleLift, GuestDeallocate, GuestDeallocateString}
+use Rattle.abi_driver.specs.declared.instruction.Instruction.TheVariants.{CallWasm, Return, GetArg, I32FromBool, I32FromU8, I32FromS8, I32FromU16, I32FromS16, I32FromU32, I32FromS32, I32FromChar, I64FromU64, I64FromS64, CoreF32FromF32, CoreF64FromF64, BoolFromI32, U8FromI32, S8FromI32, U16FromI32, S16FromI32, U32FromI32, S32FromI32, CharFromI32, U64FromI64, S64FromI64, F32FromCoreF32, F64FromCoreF64, StringLower, StringLift, RecordLower, RecordLift, TupleLower, TupleLift, GuestDeallocate, GuestDeallocateString}
+use Rattle.abi_driver.specs.Calls.{CallsCore, Ends, import_params, import_results, is_call, returned_by}
 use Rattle.abi_driver.specs.Frees.{FreesBlock, FreesText}
-use Rattle.abi_driver.specs.Laws.{Adds, Stays, ofs}
+use Rattle.abi_driver.specs.Laws.{Adds, Grows, Stays, ofs}
 use Rattle.abi_driver.specs.Leaves.{LiftsScalar, LiftsText, LowersScalar, LowersText}
 use Rattle.abi_driver.specs.Meaning.{Datum, Meaning, arg}
 use Rattle.abi_driver.specs.Parts.{LiftsParts, LowersParts, count}
@@ -102,6 +106,8 @@ field_shapes types members = shapes_of types (map (λ f. f.ty) members)
 
 abbrev pub ReadsOther : List TypeDef → Instruction → ℕ → Type 0
 ReadsOther types (GetArg n) k = k ≡ 0
+ReadsOther types (CallWasm f) k = k ≡ length (import_params types f.now)
+ReadsOther types (Return n) k = k ≡ n
 ReadsOther types (StringLower realloc) k = k ≡ 1
 ReadsOther types StringLift k = k ≡ 2
 ReadsOther types (RecordLower id) k = k ≡ 1
@@ -125,6 +131,8 @@ Reads types i k = ReadsBy types i (lowered_scalar i) (lifted_scalar i) k
 
 abbrev pub MakesOther : List TypeDef → Instruction → ℕ → Type 0
 MakesOther types (GetArg n) k = k ≡ 1
+MakesOther types (CallWasm f) k = k ≡ length (import_results types f.now)
+MakesOther types (Return n) k = k ≡ 0
 MakesOther types (StringLower realloc) k = k ≡ 2
 MakesOther types StringLift k = k ≡ 1
 MakesOther types (RecordLower id) k = (members : List Field) → IsRecord types id.0 members → k ≡ length members
@@ -152,22 +160,25 @@ module _ {Self Operand : Type 0} (m : Meaning Self Operand) where
   IsSide false b = m.imports b ≡ true
   IsSide true b = m.exports b ≡ true
 
-  abbrev pub Suits : List TypeDef → Instruction → Self → Type 0
-  Suits types (GetArg n) b = IfSome (m.arguments b) (λ k. n < k)
-  Suits types (StringLower realloc) b = IsSide realloc b
-  Suits types (RecordLower id) b = (members : List Field) × IsRecord types id.0 members
-  Suits types (RecordLift id) b = (members : List Field) × IsRecord types id.0 members
-  Suits types _ b = Unit {0}
+  abbrev pub Suits : Resolve → Instruction → Self → Type 0
+  Suits r (GetArg n) b = IfSome (m.arguments b) (λ k. n < k)
+  Suits r (StringLower realloc) b = IsSide realloc b
+  Suits r (RecordLower id) b = (members : List Field) × IsRecord r.types id.0 members
+  Suits r (RecordLift id) b = (members : List Field) × IsRecord r.types id.0 members
+  Suits r (CallWasm f) b = (m.imports b ≡ true) × IsWellFormed r × (function_in_range r f.now ≡ true)
+  Suits r _ b = Unit {0}
 
   -- when an instruction may be sent
-  pub record IsSendable (types : List TypeDef) (i : Instruction) (os : List Operand) (b : Self) : Type 0 where
-    pub operands : Reads types i (length os)
-    pub suits : Suits types i b
+  pub record IsSendable (r : Resolve) (i : Instruction) (os : List Operand) (b : Self) : Type 0 where
+    pub operands : Reads r.types i (length os)
+    pub suits : Suits r i b
 
   -- 4. What it does
 
   abbrev pub RowOther : List TypeDef → Instruction → (os rs : List Operand) → (old new : Self) → Type 0
   RowOther types (GetArg n) os rs old new = (d : Datum m.Item) → Stays m old new (arg n d ∷ []) (λ fs. fs ≡ ofs m rs (d ∷ []))
+  RowOther types (CallWasm f) os rs old new = CallsCore m types f.now os rs old new
+  RowOther types (Return n) os rs old new = Ends m os old new
   RowOther types (StringLower realloc) os rs old new = LowersText m realloc os rs old new
   RowOther types StringLift os rs old new = LiftsText m os rs old new
   RowOther types (RecordLower id) os rs old new = (members : List Field) → IsRecord types id.0 members → LowersParts m (field_shapes types members) (fields (field_shapes types members)) (λ v. v) os rs old new
@@ -190,7 +201,13 @@ module _ {Self Operand : Type 0} (m : Meaning Self Operand) where
   abbrev pub Row : List TypeDef → Instruction → (os rs : List Operand) → (old new : Self) → Type 0
   Row types i os rs old new = RowBy types i (lowered_scalar i) (lifted_scalar i) os rs old new
 
+  -- code was added, which makes no call unless the instruction is one
+  abbrev pub AddsCode : (call : Bool) → (old new : Self) → Type 0
+  AddsCode true old new = Grows m old new
+  AddsCode false old new = Adds m old new
+
   pub record Emits (types : List TypeDef) (i : Instruction) (os rs : List Operand) (old new : Self) : Type 0 where
-    pub adds : Adds m old new
+    pub adds : AddsCode (is_call i) old new
+    pub returned : m.returned new ≡ returned_by i os (m.returned old)
     pub results : Makes types i (length rs)
     pub row : Row types i os rs old new

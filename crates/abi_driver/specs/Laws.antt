@@ -1,5 +1,6 @@
 -- What each meaning keeps, and in which sense code that was added does an action.
-use Rattle.std.specs.Prelude.{◌≡◌, ◌⊎◌, ℕ, suc, List, [], ◌∷◌, ◌++◌, length, map, Option, IfSome}
+use Rattle.std.specs.Prelude.{◌≡◌, ◌⊎◌, ℕ, suc, List, [], ◌∷◌, ◌++◌, length, map, Option, None, IfSome}
+use Rattle.wit_model.specs.declared.function.Function.{Function}
 use Rattle.wit_model.specs.declared.types.TypeDef.{TypeDef}
 use Rattle.wrapper_data.specs.declared.block.Block.{Block}
 use Rattle.wrapper_data.specs.declared.word.Word.{Word}
@@ -71,6 +72,7 @@ module _ {Self Operand : Type 0} (m : Meaning Self Operand) where
   -- account without owners, and for any arguments
   pub record IsNew (b : Self) : Type 0 where
     pub empty : m.code b ≡ m.nothing
+    pub endless : m.returned b ≡ None
     pub world : m.World
     pub serves : m.serves world b
     pub start : (w : m.World) (ds : Data) (acc : Account m.Item) → m.serves w b → IsCount (m.arguments b) (length ds) → AreLent ds → acc.taken ≡ []
@@ -87,6 +89,7 @@ module _ {Self Operand : Type 0} (m : Meaning Self Operand) where
     pub exports : m.exports new ≡ m.exports old
     pub arguments : m.arguments new ≡ m.arguments old
     pub knows : (types : List TypeDef) → m.knows old types → m.knows new types
+    pub target : (f : Function) → m.target new f ≡ m.target old f
 
   -- code that is no call makes none, from whatever state
   abbrev pub Quiet : (old new : Self) → Type 0

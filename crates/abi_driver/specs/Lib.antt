@@ -1,4 +1,5 @@
 pub mod Account
+pub mod Calls
 pub mod Frees
 pub mod HasList
 pub mod Instructions

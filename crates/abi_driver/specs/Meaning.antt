@@ -1,7 +1,9 @@
 -- What a `Bindgen` means.
 use Rattle.std.specs.Prelude.{ℕ, Bool, List, Option}
+use Rattle.wit_model.specs.declared.function.Function.{Function}
 use Rattle.wit_model.specs.declared.types.TypeDef.{TypeDef}
 use Rattle.wrapper_data.specs.declared.block.Block.{Block}
+use Rattle.wrapper_data.specs.declared.run.Target.{Target}
 use Rattle.wrapper_data.specs.declared.word.Word.{Word}
 use Rattle.wrapper_meaning.specs.Direction.{Direction}
 use Rattle.wrapper_meaning.specs.Shape.{Shape}
@@ -46,3 +48,7 @@ pub record Meaning (Self Operand : Type 0) : Type 1 where
   pub knows : Self → List TypeDef → Type 0
   -- how many arguments the code has; none where there is no bound
   pub arguments : Self → Option ℕ
+  -- what a call of a function goes to
+  pub target : Self → Function → Target
+  -- what the code gives, once it was told
+  pub returned : Self → Option (List Operand)

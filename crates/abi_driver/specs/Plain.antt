@@ -1,15 +1,18 @@
 -- What the code of a `PlainBindgen` means: a list of steps, over values that are held in memory by numbered places.
-use Rattle.std.specs.Prelude.{◌≡◌, ◌<◌, ◌+◌, ℕ, zero, suc, not, false, nat_eq, if◌then◌else◌, pos, List, [], ◌∷◌, ◌++◌, length, map, Option, None, Some}
+use Rattle.std.specs.Prelude.{◌≡◌, ◌<◌, ◌+◌, ℕ, zero, suc, not, false, nat_eq, if◌then◌else◌, option_to_list, pos, List, [], ◌∷◌, ◌++◌, length, map, Option, None, Some}
 use Rattle.std.specs.Int.{w8, w16, w32, w64, cast_signed}
 use Rattle.std.specs.List.{AllByRecursion}
 use Rattle.wit_model.specs.Size.{bytes_at}
 use Rattle.wit_model.specs.declared.size.ArchitectureSize.{ArchitectureSize}
 use Rattle.wit_model.specs.declared.types.WitType.{WitType}
 use Rattle.wit_model.specs.declared.types.WitType.TheVariants as wit
+use Rattle.wit_model.specs.declared.wasm_type.WasmType.{WasmType}
 use Rattle.wit_layout.specs.Filled.{IsFilledFor}
 use Rattle.wit_layout.specs.Tree.{Scalar}
 use Rattle.wrapper_data.specs.declared.block.Block.{Block}
 use Rattle.wrapper_data.specs.declared.form.Form.{Form}
+use Rattle.wrapper_data.specs.declared.run.Target.{Target}
+use Rattle.wrapper_data.specs.declared.run.Target.TheVariants as target
 use Rattle.wrapper_data.specs.declared.word.Word.{Word}
 use Rattle.wrapper_data.specs.declared.word.Word.TheVariants as core
 use Rattle.wrapper_meaning.specs.AsWords.{Says, passed_word}
@@ -28,7 +31,8 @@ use Rattle.abi_driver.specs.declared.plain.Step.{Step}
 use Rattle.abi_driver.specs.declared.plain.Step.TheVariants as step
 use Rattle.abi_driver.specs.declared.plain.words.WordTouch.{WordTouch}
 use Rattle.abi_driver.specs.declared.plain.words.WordTouch.TheVariants as touched
-use Rattle.abi_driver.specs.Account.{Account, Act, Done, Got, Outcome, Stuck, addresses, gives, reading, releasing, taking, then_do}
+use Rattle.abi_driver.specs.Account.{Account, Act, Done, Got, Outcome, Peer, Reply, Stuck, addresses, gives, reading, releasing, taking, then_do}
+use Rattle.abi_driver.specs.Calls.{calling}
 use Rattle.abi_driver.specs.Meaning.{Datum, Fact, Meaning, arg, item, of, word}
 use Rattle.abi_driver.specs.Memory.{Access, freeing, loading, storing}
 use Rattle.abi_driver.specs.Touches.{Touch, loads, part_grain, stores}
@@ -190,18 +194,32 @@ abbrev pub free_block : ArchitectureSize → Form → List (Datum PlainItem) →
 free_block size f (word (core.Pointer address) ∷ []) acc = then_do (freeing f address (bytes_at size 4) acc) (λ u. gives [] u.account)
 free_block size f _ acc = Stuck acc
 
+-- the words, where the data are words
+abbrev pub and_word : Datum PlainItem → Option (List Word) → Option (List Word)
+and_word (word x) (Some ws) = Some (x ∷ ws)
+and_word _ _ = None
+
+abbrev pub all_words : List (Datum PlainItem) → Option (List Word)
+all_words [] = Some []
+all_words (d ∷ ds) = and_word d (all_words ds)
+
+abbrev pub called : Target → List WasmType → Reply PlainItem → Option (List Word) → PlainAct
+called target types reply None acc = Stuck acc
+called target types reply (Some ws) acc = then_do (calling target ws types reply acc) (λ x. gives (map (λ w. word w) x.result) x.account)
+
 -- what a step makes of the data that it reads
-abbrev pub performs : Step → Form → List (Datum PlainItem) → PlainAct
-performs (step.Argument number to) f ds acc = gives ds acc
-performs (step.Pass from to) f ds acc = passing ds acc
-performs (step.Read ty from to) f ds acc = read_as (scalar_of ty) f ds acc
-performs (step.Take at length to) f ds acc = take_text f ds acc
-performs (step.Split from to) f ds acc = splitting ds acc
-performs (step.Join from to) f ds acc = gives (item (whole (gathered ds)) ∷ []) acc
-performs (step.Store ty grain o from at) f ds acc = store_word (record { word = ty; grain = grain; signed = false }) o ds acc
-performs (step.Load ty grain signed o at to) f ds acc = load_word (record { word = ty; grain = grain; signed = signed }) o f ds acc
-performs (step.Free at length) f ds acc = free_text f ds acc
-performs (step.FreeSized size at) f ds acc = free_block size f ds acc
+abbrev pub performs : Step → Peer PlainItem → List (Datum PlainItem) → PlainAct
+performs (step.Argument number to) p ds acc = gives ds acc
+performs (step.Pass from to) p ds acc = passing ds acc
+performs (step.Read ty from to) p ds acc = read_as (scalar_of ty) p.form ds acc
+performs (step.Take at length to) p ds acc = take_text p.form ds acc
+performs (step.Split from to) p ds acc = splitting ds acc
+performs (step.Join from to) p ds acc = gives (item (whole (gathered ds)) ∷ []) acc
+performs (step.Store ty grain o from at) p ds acc = store_word (record { word = ty; grain = grain; signed = false }) o ds acc
+performs (step.Load ty grain signed o at to) p ds acc = load_word (record { word = ty; grain = grain; signed = signed }) o p.form ds acc
+performs (step.Free at length) p ds acc = free_text p.form ds acc
+performs (step.FreeSized size at) p ds acc = free_block size p.form ds acc
+performs (step.Call core_module name from result to) p ds acc = called (target.Core core_module name) (option_to_list result) p.reply (all_words ds) acc
 
 -- all of them, where each is there
 abbrev pub and_all : Option (Datum PlainItem) → Option (List (Datum PlainItem)) → Option (List (Datum PlainItem))
@@ -224,6 +242,7 @@ inputs (step.Store ty grain o from at) s = all_at s.values (from ∷ at ∷ [])
 inputs (step.Load ty grain signed o at to) s = all_at s.values (at ∷ [])
 inputs (step.Free at length) s = all_at s.values (at ∷ length ∷ [])
 inputs (step.FreeSized size at) s = all_at s.values (at ∷ [])
+inputs (step.Call core_module name from result to) s = all_at s.values (map (λ (p : Place). p.number) from)
 
 -- the first place that it writes, where it writes any
 abbrev pub writes : Step → ℕ
@@ -237,6 +256,7 @@ writes (step.Store ty grain o from at) = 0
 writes (step.Load ty grain signed o at to) = to
 writes (step.Free at length) = 0
 writes (step.FreeSized size at) = 0
+writes (step.Call core_module name from result to) = to
 
 -- places from one on with these data
 abbrev pub put : ℕ → List (Datum PlainItem) → (ℕ → Option (Datum PlainItem)) → ℕ → Option (Datum PlainItem)
@@ -246,13 +266,13 @@ put to (d ∷ ds) values = put (suc to) ds (λ n. if nat_eq n to then Some d els
 abbrev pub kept : ℕ → Got PlainItem (List (Datum PlainItem)) → PlainState → PlainState
 kept to x s = record { account = x.account; arguments = s.arguments; values = put to x.result s.values }
 
-abbrev pub performed : Step → Form → Option (List (Datum PlainItem)) → PlainState → Outcome PlainItem PlainState
-performed st f None s = Stuck s.account
-performed st f (Some ds) s = then_do (performs st f ds s.account) (λ x. Done (kept (writes st) x s))
+abbrev pub performed : Step → Peer PlainItem → Option (List (Datum PlainItem)) → PlainState → Outcome PlainItem PlainState
+performed st p None s = Stuck s.account
+performed st p (Some ds) s = then_do (performs st p ds s.account) (λ x. Done (kept (writes st) x s))
 
-abbrev pub runs : Form → List Step → PlainState → Outcome PlainItem PlainState
-runs f [] s = Done s
-runs f (st ∷ steps) s = then_do (performed st f (inputs st s) s) (λ t. runs f steps t)
+abbrev pub runs : Peer PlainItem → List Step → PlainState → Outcome PlainItem PlainState
+runs p [] s = Done s
+runs p (st ∷ steps) s = then_do (performed st p (inputs st s) s) (λ t. runs p steps t)
 
 -- 4. The meaning
 
@@ -273,13 +293,15 @@ plain_meaning = record {
   account = λ s. s.account;
   owns = λ s. s.account.taken;
   nothing = [];
-  does = λ w p. runs p.form;
+  does = λ w p. runs p;
   denotes = λ w b facts s. AllByRecursion (IsRight b s) facts;
   code = λ b. b.steps;
   imports = λ b. b.import;
   exports = λ b. not b.import;
   knows = λ b types. IsFilledFor b.sizes types;
   arguments = λ b. None;
+  target = λ b f. target.Core b.core_module f.name.wit;
+  returned = λ b. b.returned;
 }
 
 -- 5. A step is added
@@ -294,4 +316,6 @@ pub record AddsStep (st : Step) (k : ℕ) (old new : PlainBindgen) : Type 0 wher
   pub steps : new.steps ≡ old.steps ++ st ∷ []
   pub count : new.count ≡ old.count + k
   pub import : new.import ≡ old.import
+  pub core_module : new.core_module ≡ old.core_module
+  pub returned : new.returned ≡ old.returned
   pub sizes : new.sizes ≡ old.sizes

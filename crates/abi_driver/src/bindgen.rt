@@ -41,7 +41,7 @@ pub trait Bindgen {
         operands: &mut List<Self::Operand>,
         results: &mut List<Self::Operand>,
     ) -> Result<(), OutOfMemory>
-        requires sendable { IsSendable meaning resolve.now.types inst.now operands.old self.old }
+        requires sendable { IsSendable meaning resolve.now inst.now operands.old self.old }
         requires empty { results.old ≡ [] }
         ensures { OnOk result (Emits meaning resolve.now.types inst.now operands.old results.new self.old self.new) };
 

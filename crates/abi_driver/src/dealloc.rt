@@ -1,7 +1,7 @@
 //! The blocks of values are freed.
 
 mod flat;
-mod memory;
+pub(crate) mod memory;
 mod places;
 
 ghost use Rattle.std.specs.Prelude.{◌≡◌, true, length, OnOk};

@@ -1,6 +1,7 @@
 //! The driver: it sends the instructions by which values are passed, to any lawful `Bindgen`.
 #![tactic(auto)]
 
+mod after_return;
 mod bindgen;
 mod dealloc;
 mod has_list;
@@ -12,6 +13,7 @@ mod parts;
 mod plain;
 mod send;
 
+pub use after_return::post_return;
 pub use bindgen::{Bindgen, Operand};
 pub use dealloc::deallocate_lists_in_types;
 pub use has_list::guest_export_needs_post_return;

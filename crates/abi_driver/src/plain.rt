@@ -1,5 +1,6 @@
 //! A `Bindgen` whose code is a list of steps over values that are held in memory, in numbered places.
 
+mod calls;
 mod emit;
 mod frees;
 mod lawful;
@@ -14,7 +15,7 @@ ghost use Rattle.abi_driver.specs.Plain.{plain_meaning};
 
 use std::alloc::Global;
 use wit_layout::SizeAlign;
-use wit_model::{ArchitectureSize, List, WasmType, WitType};
+use wit_model::{ArchitectureSize, List, Text, WasmType, WitType};
 
 /// A place in memory.
 #[derive(Clone, Copy)]
@@ -84,6 +85,14 @@ pub enum Step {
         size: ArchitectureSize,
         at: u32,
     },
+    /// The call of a core import, by its module and name, with words. It has a result of this type, or none.
+    Call {
+        core_module: Text,
+        name: Text,
+        from: List<Place>,
+        result: Option<WasmType>,
+        to: u32,
+    },
 }
 
 /// A `Bindgen` in memory, which shows that its laws can be met.
@@ -93,14 +102,19 @@ pub struct PlainBindgen {
     pub(crate) sizes: SizeAlign,
     /// Whether it makes code of imports; else of exports.
     pub(crate) import: bool,
+    /// The module of the core imports that are called.
+    pub(crate) core_module: Text,
     pub(crate) steps: List<Step>,
     /// How many places were written.
     pub(crate) count: u32,
+    /// Where that stands which the code gives, once it was told.
+    pub(crate) returned: Option<List<Place>>,
 }
 
 impl PlainBindgen {
-    /// One without code, of imports or of exports, for the table of which these are the layouts.
-    pub fn new(alloc: Global, sizes: SizeAlign, import: bool) -> PlainBindgen
+    /// One without code, of imports or of exports, for the table of which these are the layouts. Core imports that are called are
+    /// of this module.
+    pub fn new(alloc: Global, sizes: SizeAlign, import: bool, core_module: Text) -> PlainBindgen
         ensures begins { IsNew plain_meaning result }
         ensures imports { plain_meaning.imports result ≡ import }
         ensures exports { plain_meaning.exports result ≡ not import }
@@ -110,9 +124,18 @@ impl PlainBindgen {
             alloc,
             sizes,
             import,
+            core_module,
             steps: List::new(alloc),
             count: 0,
+            returned: None,
         }
+    }
+
+    /// Where that stands which the code gives, once `Return` was sent.
+    pub fn returned(&self) -> &Option<List<Place>>
+        ensures { result.now ≡ self.now.returned }
+    {
+        &self.returned
     }
 
     /// The steps so far.

@@ -1,6 +1,7 @@
 //! One instruction is sent.
 
-ghost use Rattle.std.specs.Prelude.{◌≡◌, ℕ, [], ◌∷◌, ◌++◌, IfOk, OnOk};
+ghost use Rattle.std.specs.Prelude.{◌≡◌, ◌<◌, ℕ, [], ◌∷◌, ◌++◌, IfOk, IfSome, OnOk};
+ghost use Rattle.abi_driver.specs.declared.instruction.Instruction.TheVariants as instruction;
 ghost use Rattle.abi_driver.specs.Instructions.{Emits, IsSendable, Makes};
 
 use crate::bindgen::{Bindgen, Operand};
@@ -16,7 +17,7 @@ pub(crate) fn send<B: Bindgen>(
     inst: Instruction,
     operands: List<B::Operand>,
 ) -> Result<List<B::Operand>, OutOfMemory>
-    requires { IsSendable B.meaning resolve.now.types inst operands bindgen.old }
+    requires { IsSendable B.meaning resolve.now inst operands bindgen.old }
     ensures { IfOk result (λ results. Emits B.meaning resolve.now.types inst.entry operands results bindgen.old bindgen.new) }
 {
     let mut operands = operands;
@@ -42,7 +43,7 @@ pub(crate) fn send_one<B: Bindgen>(
     inst: Instruction,
     operands: List<B::Operand>,
 ) -> Result<B::Operand, OutOfMemory>
-    requires ready { IsSendable B.meaning resolve.now.types inst operands bindgen.old }
+    requires ready { IsSendable B.meaning resolve.now inst operands bindgen.old }
     requires makes { (k : ℕ) → Makes resolve.now.types inst k → k ≡ 1 }
     ensures { IfOk result (λ o. Emits B.meaning resolve.now.types inst.entry operands (o ∷ []) bindgen.old bindgen.new) }
 {
@@ -62,4 +63,24 @@ pub(crate) fn push_copies<O: Operand>(
         all.push(operand.copy(alloc)?)?;
     }
     Ok(())
+}
+
+/// An argument of the code.
+pub(crate) fn argument<B: Bindgen>(
+    alloc: Global,
+    resolve: &Resolve,
+    bindgen: &mut B,
+    number: u32,
+) -> Result<B::Operand, OutOfMemory>
+    requires { IfSome (B.meaning.arguments bindgen.old) (λ k. number < k) }
+    ensures { IfOk result (λ o. Emits B.meaning resolve.now.types (instruction.GetArg number) [] (o ∷ []) bindgen.old bindgen.new) }
+{
+    let operand = send_one(
+        alloc,
+        resolve,
+        bindgen,
+        Instruction::GetArg(number),
+        List::new(alloc),
+    )?;
+    Ok(operand)
 }

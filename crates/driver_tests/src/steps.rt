@@ -17,6 +17,7 @@ pub(crate) enum Told {
     Load(WasmType, u32, bool, u64, u32, u32),
     Free(u32, u32),
     FreeSized(u64, u32),
+    Call(usize, [u32; 3], Option<WasmType>, u32),
 }
 
 /// The numbers of up to three places.
@@ -59,6 +60,13 @@ fn seen(step: &Step) -> Told {
         } => Told::Load(*word, *grain, *signed, at4(*offset), *at, *to),
         Step::Free { at, length } => Told::Free(*at, *length),
         Step::FreeSized { size, at } => Told::FreeSized(at4(*size), *at),
+        Step::Call {
+            core_module: _,
+            name: _,
+            from,
+            result,
+            to,
+        } => Told::Call(from.len(), numbers(from.as_slice()), *result, *to),
     }
 }
 

@@ -44,7 +44,7 @@ pub(super) fn free_record<B: Bindgen>(
 /// The blocks of the value of a type that stands at an offset from the address that an operand denotes.
 #[cycle(free)]
 #[tactic(auto, unfolding(wit_model::specs::TypeOrder::type_below))]
-fn free_type<B: Bindgen>(
+pub(crate) fn free_type<B: Bindgen>(
     alloc: Global,
     resolve: &Resolve,
     bindgen: &mut B,

@@ -38,7 +38,7 @@ pub(crate) fn lower_by<B: Bindgen>(
     value: B::Operand,
     inst: Instruction,
 ) -> Result<List<B::Operand>, OutOfMemory>
-    requires { IsSendable B.meaning resolve.now.types inst (value ∷ []) bindgen.old }
+    requires { IsSendable B.meaning resolve.now inst (value ∷ []) bindgen.old }
     ensures { IfOk result (λ os. Emits B.meaning resolve.now.types inst.entry (value ∷ []) os bindgen.old bindgen.new) }
 {
     let operands = only(alloc, value)?;

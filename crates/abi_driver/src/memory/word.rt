@@ -51,7 +51,7 @@ pub(super) fn store_word<B: Bindgen>(
     address: &B::Operand,
     inst: Instruction,
 ) -> Result<(), OutOfMemory>
-    requires sendable { IsSendable B.meaning resolve.now.types inst (word ∷ address.now ∷ []) bindgen.old }
+    requires sendable { IsSendable B.meaning resolve.now inst (word ∷ address.now ∷ []) bindgen.old }
     requires silent { (k : ℕ) → Makes resolve.now.types inst k → k ≡ 0 }
     ensures { OnOk result (Emits B.meaning resolve.now.types inst.entry (word ∷ address.now ∷ []) [] bindgen.old bindgen.new) }
 {
@@ -69,7 +69,7 @@ pub(crate) fn load_word<B: Bindgen>(
     address: &B::Operand,
     inst: Instruction,
 ) -> Result<B::Operand, OutOfMemory>
-    requires sendable { IsSendable B.meaning resolve.now.types inst (address.now ∷ []) bindgen.old }
+    requires sendable { IsSendable B.meaning resolve.now inst (address.now ∷ []) bindgen.old }
     requires makes { (k : ℕ) → Makes resolve.now.types inst k → k ≡ 1 }
     ensures { IfOk result (λ o. Emits B.meaning resolve.now.types inst.entry (address.now ∷ []) (o ∷ []) bindgen.old bindgen.new) }
 {

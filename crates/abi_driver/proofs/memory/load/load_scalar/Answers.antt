@@ -15,7 +15,7 @@ returns g c =
 
 pub send_one-requires-clause-ready : goal.send_one-requires-clause-ready
 send_one-requires-clause-ready g c =
-    lift_sendable g.B.Bindgen.meaning c.args.resolve.now.types c.args.ty c.args.lift c.in_ok-operands.operands c.in_ok-word.word _ c.requires c.in_ok-operands.ensures
+    lift_sendable g.B.Bindgen.meaning c.args.resolve.now.types c.args.resolve.now c.args.ty c.args.lift c.in_ok-operands.operands c.in_ok-word.word _ c.requires c.in_ok-operands.ensures
 
 pub send_one-requires-clause-makes : goal.send_one-requires-clause-makes
 send_one-requires-clause-makes g c = λ k h. lift_makes g.B.Bindgen.meaning c.args.resolve.now.types c.args.ty c.args.lift k c.requires h

@@ -1,5 +1,6 @@
+use Rattle.std.proofs.Common.{refl}
 use Rattle.abi_driver.proofs.PlainNew.{plain_new}
 use Rattle.abi_driver.proofs.plain.PlainBindgen.new.Goals as goal
 
 pub returns-clause-begins : goal.returns-clause-begins
-returns-clause-begins c = plain_new _ c.new.ensures
+returns-clause-begins c = plain_new _ c.new.ensures refl
