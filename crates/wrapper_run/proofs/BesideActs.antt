@@ -1,6 +1,6 @@
 -- Code that makes no call ends as it does without the blocks beside its own.
 use Rattle.std.proofs.Common.{◌≡◌, ℕ, zero, suc, ◌+◌, ◌-◌, ◌%◌, ◌^◌, ◌<◌, ◌||◌, ◌&&◌, inl, inr, Bool, true, false, not, cond, List, [], ◌∷◌, ◌++◌, Option, None, Some, length, refl, sym, ap, subst, ◌∙◌, append-nil, append_assoc}
-use Rattle.std.specs.Prelude.{ℤ, filter, find, is_some, nat_eq, nat_le, nat_lt, option_and_then}
+use Rattle.std.specs.Prelude.{ℤ, drop, filter, find, is_some, nat_eq, nat_le, nat_lt, option_and_then, take}
 use Rattle.std.specs.List.{list_any}
 use Rattle.std.specs.Option.{option_map}
 use Rattle.std.specs.Str.{is_utf8}
@@ -27,11 +27,12 @@ use Rattle.wrapper_data.specs.declared.value.RustValue.TheVariants as value
 use Rattle.wrapper_data.specs.declared.word.Word.{Word}
 use Rattle.wrapper_data.specs.declared.word.Word.TheVariants as word
 use Rattle.wrapper_run.specs.declared.owning.View.{View}
+use Rattle.wrapper_run.specs.declared.state.Local.{Local}
 use Rattle.wrapper_run.specs.declared.state.State.{State}
 use Rattle.wrapper_run.specs.declared.state.Val.{Val}
 use Rattle.wrapper_run.specs.declared.state.Val.TheVariants as val
 use Rattle.wrapper_run.specs.Act.{Act, Outcome, Done, Stopped, ◌>>=◌, ◌>>◌, and_then, or_stop, pure, stop}
-use Rattle.wrapper_run.specs.Blocks.{dealloc, free, free_bytes, free_found, free_untaken, keep_blocks, lift_buffer, lift_text, own, own_block, owned_block, owned_bytes, owner_of, release, release_found, store_small, store_word, take_over, tested, untaken, write_small, write_word}
+use Rattle.wrapper_run.specs.Blocks.{dealloc, drop_locals, free, free_bytes, free_found, free_untaken, in_scope, keep_blocks, keep_locals, leave_to, lift_buffer, lift_text, own, own_block, owned_block, owned_bytes, owner_of, release, release_found, store_small, store_word, take_over, tested, untaken, write_small, write_word}
 use Rattle.wrapper_run.specs.Effect.{integer_of, is_word_of}
 use Rattle.wrapper_run.specs.Growth.{Grows, Longer, state_of}
 use Rattle.wrapper_run.specs.Locals.{ask_local, bind, declare, lend_local, local_named, usable, use_local, used, value_of}
@@ -42,9 +43,9 @@ use Rattle.wrapper_run.specs.Places.{area_block, area_in, is_fitting, place_area
 use Rattle.wrapper_run.specs.Run.{call_import, call_point, load_small, load_word, record_call, take_answer, take_bytes}
 use Rattle.wrapper_run.specs.Setting.{Setting, failed, stuck}
 use Rattle.wrapper_run.proofs.BesideLemmas.{any_by, apart_others, at_begins, begun_size, between-any, between-behind, between-find, between-given, between-without, bytes-positive, clear_by, found_any, held_misses, meet_at, meet_beginning, meet_holding, misses, none_by, passes_found, placed_clear, sized_begins, small-positive, without_apart, written_beside}
-use Rattle.wrapper_run.proofs.GrowLemmas.{grows_answer, grows_ask, grows_bind, grows_dealloc, grows_declare, grows_free, grows_import, grows_lend, grows_lift_text, grows_load, grows_load_small, grows_place, grows_pure, grows_release, grows_static, grows_static_place, grows_stop, grows_store, grows_store_small, grows_take, grows_then, grows_use, longer-same}
+use Rattle.wrapper_run.proofs.GrowLemmas.{all_known, grows_answer, grows_ask, grows_bind, grows_dealloc, grows_declare, grows_free, grows_import, grows_leave, grows_lend, grows_lift_text, grows_load, grows_load_small, grows_place, grows_pure, grows_release, grows_scope, grows_static, grows_static_place, grows_stop, grows_store, grows_store_small, grows_take, grows_then, grows_use, longer-same}
 use Rattle.wrapper_run.proofs.StoreLemmas.{length_bytes_of, length_low_bytes}
-use Rattle.wrapper_run.proofs.Walk.{Everywhere}
+use Rattle.wrapper_run.proofs.Walk.{Everywhere, drops_locals}
 
 -- lists that grow to what they were
 
@@ -529,3 +530,27 @@ module _ (others : List Block) (held : List ℕ) (owned_by_others : are_held oth
     static = (grows_static w, alike_static w);
     calls = λ name vs _. (grows_import w name vs, alike_import w name vs);
   }
+
+  -- a scope, whose locals go at its end
+
+  alike_leave : (w : Setting) (kept : ℕ) → Alike others held (leave_to w kept)
+  unfolding leave_to
+  alike_leave w kept = record {
+    alike = λ s blocks taken b c.
+        let bare : State = record s { locals = [] } in
+        (gone (drop kept s.locals) (take kept s.locals)).1.alike bare blocks taken (moved_beside s bare blocks taken b refl refl) c;
+  }
+    where
+      gone : (locals rest : List Local) → Frames (Unit {0}) (drop_locals w locals >> keep_locals rest)
+      gone locals rest =
+          (frames_everywhere w all_known).follows (Unit {0}) (Unit {0}) (drop_locals w locals) (λ _. keep_locals rest) (drops_locals w all_known Frames (frames_everywhere w all_known) locals)
+          (λ _. (record { grows = λ s. longer-same s _ refl refl }, alike_blind (keep_locals rest) (λ s blocks taken. refl)))
+
+  pub frames_scope : {A : Type 0} (w : Setting) (act : Act A) → Frames A act → Frames A (in_scope w act)
+  frames_scope w act f = (grows_scope w act f.0, record { alike = λ s. (alike_then act (λ a. leave_to w (length s.locals) >> pure a) f.0 (λ a. grows_leaving s a) f.1 (λ a. alike_leaving s a)).alike s })
+    where
+      grows_leaving : {A : Type 0} (s : State) (a : A) → Grows (leave_to w (length s.locals) >> pure a)
+      grows_leaving s a = grows_then (leave_to w (length s.locals)) (λ _. pure a) (grows_leave w (length s.locals)) (λ _. grows_pure a)
+
+      alike_leaving : {A : Type 0} (s : State) (a : A) → Alike others held (leave_to w (length s.locals) >> pure a)
+      alike_leaving s a = alike_then (leave_to w (length s.locals)) (λ _. pure a) (grows_leave w (length s.locals)) (λ _. grows_pure a) (alike_leave w (length s.locals)) (λ _. alike_pure a)

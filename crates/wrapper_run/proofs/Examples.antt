@@ -1,10 +1,11 @@
 -- The definitions hold of worked rows: a text of two bytes comes back by an area, and is lent; a record owns what stands in it, is
--- taken apart by its struct, and what it owned is freed once; an area is no value; small numbers are read and written.
-use Rattle.std.proofs.Common.{◌≡◌, ℕ, Bool, true, false, List, [], ◌∷◌, None, Some, refl, ap, ◌∙◌, arith, rules}
+-- taken apart by its struct, and what it owned is freed once; a block gives two words; an area is no value; small numbers are read and
+-- written.
+use Rattle.std.proofs.Common.{◌≡◌, ℕ, Bool, true, false, List, [], ◌∷◌, map, None, Some, refl, ap, ◌∙◌, arith, rules}
 use Rattle.std.specs.Prelude.{codes, negsuc, option_and_then, pos}
 use Rattle.wit_model.specs.Bytes.{Bytes}
 use Rattle.wit_model.specs.declared.types.WitType.TheVariants as wit
-use Rattle.rust_tree.specs.declared.expr.Expr.{Expr}
+use Rattle.rust_tree.specs.declared.expr.Expr.{Expr, the_lemmas as expr_lemmas}
 use Rattle.rust_tree.specs.declared.expr.Expr.TheVariants as expr
 use Rattle.rust_tree.specs.declared.expr.SmallType.TheVariants as small
 use Rattle.rust_tree.specs.declared.item.Item.{Item}
@@ -31,7 +32,7 @@ use Rattle.wrapper_run.specs.declared.state.Local.{Local}
 use Rattle.wrapper_run.specs.declared.state.State.{State}
 use Rattle.wrapper_run.specs.declared.state.Val.{Val}
 use Rattle.wrapper_run.specs.declared.state.Val.TheVariants as val
-use Rattle.wrapper_run.specs.Act.{Act, Done, Stopped, ◌>>=◌, and_then, or_stop, pure}
+use Rattle.wrapper_run.specs.Act.{Act, Done, Stopped, ◌>>=◌, ◌>>◌, all, and_then, or_stop, pure}
 use Rattle.wrapper_run.specs.Blocks.{drop_value, forget, free, free_all, leave_to, release, release_all}
 use Rattle.wrapper_run.specs.Effect.{answer_of}
 use Rattle.wrapper_run.specs.Fields.{arranged}
@@ -40,6 +41,7 @@ use Rattle.wrapper_run.specs.Locals.{lend_local, use_local}
 use Rattle.wrapper_run.specs.Memory.{loaded, loaded_small, stored_small}
 use Rattle.wrapper_run.specs.Owning.{lent, owned}
 use Rattle.wrapper_run.specs.Represents.{LiesAt}
+use Rattle.wrapper_run.specs.Results.{results, run_inner}
 use Rattle.wrapper_run.specs.Run.{begin, call, eval, run_stmt}
 use Rattle.wrapper_run.specs.Setting.{Setting, stuck}
 use Rattle.wrapper_run.specs.Typed.{answer_in, unaliased}
@@ -179,6 +181,29 @@ parts_end w =
     let d : Local = record { name = codes "d"; value = Some (val.Value (value.Num wit.S32 (pos 7))) } in
     leaves_one w (used_local a_name 4096 2 ∷ seven ∷ []) (text_local (codes "c") 4096 2) (d ∷ []) 4096 (block 4096 2) (record with_parts { locals = apart_locals }) refl (refl, (refl, tt))
     (owned-block 4096 1) (owned-scalar wit.S32 (number (pos 7)), tt) refl
+
+-- a block gives the parts of a tuple that stands last in it, if they are two or more; a core word stays one
+
+two_results : (a b : Expr) → results (Some (expr.Tuple (a ∷ b ∷ []))) ≡ a ∷ b ∷ []
+two_results a b = search (rules, expr_lemmas)
+
+one_result : (a : Expr) → results (Some (expr.Tuple (a ∷ []))) ≡ expr.Tuple (a ∷ []) ∷ []
+one_result a = search (rules, expr_lemmas)
+
+abbrev c_pointer : Local
+c_pointer = record { name = codes "c"; value = Some (val.Word (word.Pointer 4096)) }
+
+abbrev two_words : State
+two_words = begin (seven ∷ c_pointer ∷ []) [] (record { blocks = [] }) (record { list = [] })
+
+words_given : (w : Setting) → run_inner w (record { stmts = []; tail = Some (expr.Tuple (expr.Local b_name ∷ expr.Local (codes "c") ∷ [])) }) two_words
+    ≡ Done (val.Word (word.I32 (pos 7)) ∷ val.Word (word.Pointer 4096) ∷ []) two_words
+unfolding leave_to
+words_given w =
+    let end : List Val → Act (List Val) = λ vs. leave_to w 2 >> pure vs in
+    ap (λ es. and_then (all (map (eval w) es) two_words) end) (two_results (expr.Local b_name) (expr.Local (codes "c")))
+    ∙ ap (λ o. and_then (and_then o (λ x. eval w (expr.Local (codes "c")) >>= (λ y. pure [] >>= (λ ys. pure (y ∷ ys))) >>= (λ ys. pure (x ∷ ys)))) end) (local_gives w b_name (val.Word (word.I32 (pos 7))) two_words refl refl)
+    ∙ ap (λ o. and_then (and_then (and_then o (λ y. pure [] >>= (λ ys. pure (y ∷ ys)))) (λ ys. pure (val.Word (word.I32 (pos 7)) ∷ ys))) end) (local_gives w (codes "c") (val.Word (word.Pointer 4096)) two_words refl refl)
 
 -- a function whose result is printed as `Q`, where `type Q = P;`, answers a value of `P`: a text that owns its bytes, and a number
 

@@ -38,19 +38,19 @@ use Rattle.wrapper_run.specs.declared.state.State.{State}
 use Rattle.wrapper_run.specs.declared.state.Val.{Val}
 use Rattle.wrapper_run.specs.declared.state.Val.TheVariants as val
 use Rattle.wrapper_run.specs.Act.{Act, Outcome, Done, Stopped, ◌>>=◌, ◌>>◌, all, and_then, or_stop, pure, stop}
-use Rattle.wrapper_run.specs.Blocks.{dealloc, drop_local, drop_locals, drop_value, free, free_all, free_bytes, free_found, free_untaken, keep_blocks, keep_locals, leave_to, lift_buffer, lift_text, own, own_block, owned_block, owned_bytes, owner_of, release, release_found, store_small, store_word, take_over, tested, untaken, write_small, write_word}
+use Rattle.wrapper_run.specs.Blocks.{dealloc, drop_local, drop_locals, drop_value, free, free_all, free_bytes, free_found, free_untaken, in_scope, keep_blocks, keep_locals, leave_to, lift_buffer, lift_text, own, own_block, owned_block, owned_bytes, owner_of, release, release_found, store_small, store_word, take_over, tested, untaken, write_small, write_word}
 use Rattle.wrapper_run.specs.Effect.{integer_of, word_of}
 use Rattle.wrapper_run.specs.ExportRun.{call_inside, call_method, call_with, core_answer, expect_words, keep_result, method_answer, method_call, returned_of, run_call, run_export_fn, run_to_words, take_value, are_words_of}
 use Rattle.wrapper_run.specs.Locals.{ask_local, bind, declare, lend_local, local_named, usable, use_local, used, value_of}
 use Rattle.wrapper_run.specs.Memory.{bytes_from, loaded, loaded_small, stored, stored_small}
 use Rattle.wrapper_run.specs.Owning.{buffer_of, lent, listed, owned, owned_in, taken_by, view}
 use Rattle.wrapper_run.specs.Places.{area_in, is_fitting, place_area, place_at, place_static, request_of, static_place, static_pointer, with_area}
-use Rattle.wrapper_run.specs.Run.{answer_act, answer_and_leave, call, call_import, call_point, eval, give_and_leave, load_small, load_word, record_call, result_of, run_block, run_fn, run_stmts, take_answer, take_bytes}
+use Rattle.wrapper_run.specs.Results.{run_inner, run_results}
+use Rattle.wrapper_run.specs.Run.{answer_act, answer_and_leave, call_import, call_point, eval, give_and_leave, load_small, load_word, record_call, result_of, run_block, run_fn, run_stmts, take_answer, take_bytes}
 use Rattle.wrapper_run.specs.Setting.{Setting, failed, stuck}
 use Rattle.wrapper_run.specs.Typed.{answer_in}
-use Rattle.wrapper_run.specs.Whole.{whole}
 use Rattle.wrapper_run.specs.Growth.{Grows, Longer, state_of}
-use Rattle.wrapper_run.proofs.Walk.{Everywhere, known_block, known_expr, known_stmts, walks_block, walks_expr, walks_stmts}
+use Rattle.wrapper_run.proofs.Walk.{Everywhere, known_block, known_expr, known_stmts, walks_block, walks_expr, walks_stmts, walks_given}
 
 -- states
 
@@ -136,7 +136,7 @@ grows_drops : (w : Setting) (locals : List Local) → Grows (drop_locals w local
 grows_drops w [] = grows_pure tt
 grows_drops w (l ∷ locals) = grows_then (drop_locals w locals) (λ _. drop_local w l.value) (grows_drops w locals) (λ _. grows_free_all w (owned_in l.value))
 
-grows_leave : (w : Setting) (kept : ℕ) → Grows (leave_to w kept)
+pub grows_leave : (w : Setting) (kept : ℕ) → Grows (leave_to w kept)
 unfolding leave_to
 grows_leave w kept = record { grows = λ s. go s (drop_locals w (drop kept s.locals) (record s { locals = [] })) ((grows_drops w (drop kept s.locals)).grows (record s { locals = [] })) }
   where
@@ -326,8 +326,17 @@ grows_eval w e = walks_expr w all_known (λ A act. Grows act) (grows_everywhere 
 grows_stmts : (w : Setting) (stmts : List Stmt) → Grows (run_stmts w stmts)
 grows_stmts w stmts = walks_stmts w all_known (λ A act. Grows act) (grows_everywhere w all_known) stmts (known_stmts all_known (λ name. refl) stmts)
 
+pub grows_scope : {A : Type 0} (w : Setting) (act : Act A) → Grows act → Grows (in_scope w act)
+grows_scope w act h = record {
+  grows = λ s. (grows_then act (λ a. leave_to w (length s.locals) >> pure a) h
+      (λ a. grows_then (leave_to w (length s.locals)) (λ _. pure a) (grows_leave w (length s.locals)) (λ _. grows_pure a))).grows s;
+}
+
 pub grows_code : (w : Setting) (b : Code) → Grows (run_block w b)
 grows_code w b = walks_block w all_known (λ A act. Grows act) (grows_everywhere w all_known) b (known_block all_known (λ name. refl) b)
+
+pub grows_inner : (w : Setting) (b : Code) → Grows (run_inner w b)
+grows_inner w b = grows_scope w (run_results w b) (walks_given w all_known (λ A act. Grows act) (grows_everywhere w all_known) b (known_block all_known (λ name. refl) b))
 
 -- the whole run of a wrapper
 
@@ -352,12 +361,9 @@ grows_method w bound name vs =
 
 grows_call : (w : Setting) (bound : Bytes) (c : CallBlock) → Grows (run_call w bound c)
 grows_call w bound c =
-    record {
-      grows = λ s. (grows_then (call_inside w bound c) (λ v. leave_to w (length s.locals) >> pure v)
-          (grows_then (run_stmts w c.stmts) (λ _. call_with w bound c) (grows_stmts w c.stmts)
-          (λ _. grows_then (all (map (eval w) c.arguments)) (call_method w bound c.method) (grows_arguments c.arguments) (grows_method w bound c.method)))
-          (λ v. grows_then (leave_to w (length s.locals)) (λ _. pure v) (grows_leave w (length s.locals)) (λ _. grows_pure v))).grows s;
-    }
+    grows_scope w (call_inside w bound c)
+    (grows_then (run_stmts w c.stmts) (λ _. call_with w bound c) (grows_stmts w c.stmts)
+    (λ _. grows_then (all (map (eval w) c.arguments)) (call_method w bound c.method) (grows_arguments c.arguments) (grows_method w bound c.method)))
   where
     grows_arguments : (es : List Expr) → Grows (all (map (eval w) es))
     grows_arguments [] = grows_pure []

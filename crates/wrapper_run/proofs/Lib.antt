@@ -13,6 +13,7 @@ pub mod OwningLemmas
 pub mod PartSteps
 pub mod PlaceLemmas
 pub mod QuietSteps
+pub mod ScopeLemmas
 pub mod StepLemmas
 pub mod StoreLemmas
 pub mod TakeLemmas

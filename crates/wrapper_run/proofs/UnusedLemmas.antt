@@ -52,8 +52,8 @@ abbrev with_locals : {A : Type 0} → List Local → Outcome A → Outcome A
 with_locals ls (Done a s) = Done a (record s { locals = ls })
 with_locals ls (Stopped e s) = Stopped e (record s { locals = ls })
 
-record Aside {A : Type 0} (act : Act A) : Type 0 where
-  aside : (s : State) (ls : List Local) → act (record s { locals = ls }) ≡ with_locals ls (act s)
+pub record Aside {A : Type 0} (act : Act A) : Type 0 where
+  pub aside : (s : State) (ls : List Local) → act (record s { locals = ls }) ≡ with_locals ls (act s)
 
 locals-set : {A : Type 0} (ls : List Local) (o : Outcome A) → (state_of (with_locals ls o)).locals ≡ ls
 locals-set ls (Done a s) = refl
@@ -63,26 +63,26 @@ narrowed-set : {A : Type 0} (known : Bytes → Bool) (ls : List Local) (o : Outc
 narrowed-set known ls (Done a s) e = ap (λ ls. Done a (record s { locals = known_locals known ls })) (sym e)
 narrowed-set known ls (Stopped x s) e = ap (λ ls. Stopped x (record s { locals = known_locals known ls })) (sym e)
 
+pub unchanged : {A : Type 0} (act : Act A) → Aside act → (s : State) → (state_of (act s)).locals ≡ s.locals
+unchanged act h s = ap (λ o. (state_of o).locals) (h.aside s s.locals) ∙ locals-set s.locals (act s)
+
 ignores_aside : {A : Type 0} (known : Bytes → Bool) (act : Act A) → Aside act → IgnoresOthers known act
 ignores_aside known act h = record {
-  same = λ s. h.aside s (known_locals known s.locals) ∙ narrowed-set known s.locals (act s) (unchanged s);
-  kept = λ s. ap (other_locals known) (unchanged s);
+  same = λ s. h.aside s (known_locals known s.locals) ∙ narrowed-set known s.locals (act s) (unchanged act h s);
+  kept = λ s. ap (other_locals known) (unchanged act h s);
 }
-  where
-    unchanged : (s : State) → (state_of (act s)).locals ≡ s.locals
-    unchanged s = ap (λ o. (state_of o).locals) (h.aside s s.locals) ∙ locals-set s.locals (act s)
 
-aside_pure : {A : Type 0} (a : A) → Aside (pure a)
+pub aside_pure : {A : Type 0} (a : A) → Aside (pure a)
 aside_pure a = record { aside = λ s ls. refl }
 
-aside_stop : {A : Type 0} (e : Stop) → Aside (stop {A = A} e)
+pub aside_stop : {A : Type 0} (e : Stop) → Aside (stop {A = A} e)
 aside_stop e = record { aside = λ s ls. refl }
 
-aside_or_stop : {A : Type 0} (e : Stop) (o : Option A) → Aside (or_stop e o)
+pub aside_or_stop : {A : Type 0} (e : Stop) (o : Option A) → Aside (or_stop e o)
 aside_or_stop e None = aside_stop e
 aside_or_stop e (Some a) = aside_pure a
 
-aside_then : {A B : Type 0} (act : Act A) (f : A → Act B) → Aside act → ((a : A) → Aside (f a)) → Aside (act >>= f)
+pub aside_then : {A B : Type 0} (act : Act A) (f : A → Act B) → Aside act → ((a : A) → Aside (f a)) → Aside (act >>= f)
 aside_then {A = A} {B = B} act f h k = record { aside = λ s ls. ap (λ o. and_then o f) (h.aside s ls) ∙ go ls (act s) }
   where
     go : (ls : List Local) (o : Outcome A) → and_then (with_locals ls o) f ≡ with_locals ls (and_then o f)
@@ -93,7 +93,7 @@ aside_if : {A : Type 0} (b : Bool) (p q : Act A) → Aside p → Aside q → Asi
 aside_if true p q h k = h
 aside_if false p q h k = k
 
-aside_declare : (d : ImportDecl) → Aside (declare d)
+pub aside_declare : (d : ImportDecl) → Aside (declare d)
 unfolding declare
 aside_declare d = record { aside = λ s ls. refl }
 
@@ -103,7 +103,7 @@ aside_found : (w : Setting) (address : ℕ) (o : Option Block) → Aside (free_f
 aside_found w address None = aside_stop (stuck w)
 aside_found w address (Some b) = record { aside = λ s ls. refl }
 
-aside_free : (w : Setting) (address : ℕ) → Aside (free w address)
+pub aside_free : (w : Setting) (address : ℕ) → Aside (free w address)
 unfolding free
 aside_free w address = record { aside = λ s ls. (aside_found w address (owned_block address s)).aside s ls }
 
@@ -111,7 +111,7 @@ aside_released : (w : Setting) (address : ℕ) (o : Option Block) → Aside (rel
 aside_released w address None = aside_stop (stuck w)
 aside_released w address (Some b) = record { aside = λ s ls. refl }
 
-aside_release : (w : Setting) (address : ℕ) → Aside (release w address)
+pub aside_release : (w : Setting) (address : ℕ) → Aside (release w address)
 unfolding release
 aside_release w address = record { aside = λ s ls. (aside_released w address (owned_block address s)).aside s ls }
 
@@ -123,7 +123,7 @@ aside_free_bytes w address (suc n) = record { aside = λ s ls. (go (untaken addr
     go None = aside_stop (failed w trap.Block)
     go (Some b) = record { aside = λ s ls. refl }
 
-aside_dealloc : (w : Setting) (address size : ℕ) → Aside (dealloc w address size)
+pub aside_dealloc : (w : Setting) (address size : ℕ) → Aside (dealloc w address size)
 unfolding dealloc
 aside_dealloc w address size = aside_if (nat_lt (2 ^ 31 - 1) size) (stop (failed w trap.Size)) (free_bytes w address size) (aside_stop (failed w trap.Size)) (aside_free_bytes w address size)
 
@@ -145,7 +145,7 @@ aside_take_over w p n =
     aside_if (nat_lt (2 ^ 31 - 1) n) (stop (failed w trap.Size)) (cond (nat_eq p 0) (stop (failed w trap.Pointer)) (own w p n)) (aside_stop (failed w trap.Size))
     (aside_if (nat_eq p 0) (stop (failed w trap.Pointer)) (own w p n) (aside_stop (failed w trap.Pointer)) (aside_own w p n))
 
-aside_take : (w : Setting) (o : Option Val) (v : Val) → Aside (take_bytes w o v)
+pub aside_take : (w : Setting) (o : Option Val) (v : Val) → Aside (take_bytes w o v)
 aside_take w (Some (val.Word (word.Length n))) (val.Word (word.Pointer address)) = aside_take_over w address n
 aside_take w _ _ = aside_stop (stuck w)
 
@@ -159,18 +159,18 @@ aside_lift w v (Some (address, zero, true)) = aside_tested w v (Some [])
 aside_lift w v (Some (address, suc n, true)) = record { aside = λ s ls. (aside_tested w v (owned_bytes address (suc n) s)).aside s ls }
 aside_lift w v _ = aside_stop (stuck w)
 
-aside_lift_text : (w : Setting) (v : Val) → Aside (lift_text w v)
+pub aside_lift_text : (w : Setting) (v : Val) → Aside (lift_text w v)
 unfolding lift_text
 aside_lift_text w v = aside_lift w v (buffer_of v)
 
 -- loads and stores
 
-aside_load : (w : Setting) (offset : ArchitectureSize) (ty : WasmType) (v : Val) → Aside (load_word w offset ty v)
+pub aside_load : (w : Setting) (offset : ArchitectureSize) (ty : WasmType) (v : Val) → Aside (load_word w offset ty v)
 aside_load w offset ty (val.Word (word.Pointer address)) =
     record { aside = λ s ls. (aside_or_stop (failed w trap.Pointer) (option_map val.Word (loaded ty (address + bytes_at offset 4) s.heap.blocks))).aside s ls }
 aside_load w offset ty _ = aside_stop (stuck w)
 
-aside_load_small : (w : Setting) (offset : ArchitectureSize) (ty : SmallType) (v : Val) → Aside (load_small w offset ty v)
+pub aside_load_small : (w : Setting) (offset : ArchitectureSize) (ty : SmallType) (v : Val) → Aside (load_small w offset ty v)
 aside_load_small w offset ty (val.Word (word.Pointer address)) =
     record { aside = λ s ls. (aside_or_stop (failed w trap.Pointer) (option_map val.Word (loaded_small ty (address + bytes_at offset 4) s.heap.blocks))).aside s ls }
 aside_load_small w offset ty _ = aside_stop (stuck w)
@@ -183,7 +183,7 @@ aside_written : (w : Setting) (ty : WasmType) (address : ℕ) (o : Option Word) 
 aside_written w ty address None = aside_stop (stuck w)
 aside_written w ty address (Some x) = record { aside = λ s ls. (aside_kept w (stored ty address x s.heap.blocks)).aside s ls }
 
-aside_store : (w : Setting) (offset : ArchitectureSize) (ty : WasmType) (v at : Val) → Aside (store_word w offset ty v at)
+pub aside_store : (w : Setting) (offset : ArchitectureSize) (ty : WasmType) (v at : Val) → Aside (store_word w offset ty v at)
 aside_store w offset ty v (val.Word (word.Pointer address)) = aside_written w ty (address + bytes_at offset 4) (word_of ty v)
 aside_store w offset ty v _ = aside_stop (stuck w)
 
@@ -191,7 +191,7 @@ aside_small_written : (w : Setting) (ty : SmallType) (address : ℕ) (o : Option
 aside_small_written w ty address None = aside_stop (stuck w)
 aside_small_written w ty address (Some z) = record { aside = λ s ls. (aside_kept w (stored_small ty address z s.heap.blocks)).aside s ls }
 
-aside_store_small : (w : Setting) (offset : ArchitectureSize) (ty : SmallType) (v at : Val) → Aside (store_small w offset ty v at)
+pub aside_store_small : (w : Setting) (offset : ArchitectureSize) (ty : SmallType) (v at : Val) → Aside (store_small w offset ty v at)
 aside_store_small w offset ty v (val.Word (word.Pointer address)) = aside_small_written w ty (address + bytes_at offset 4) (integer_of v)
 aside_store_small w offset ty v _ = aside_stop (stuck w)
 
@@ -206,7 +206,7 @@ aside_place_at r (choice.At address ∷ choices) = record { aside = λ s ls. go 
     go s ls true = refl
     go s ls false = refl
 
-aside_place : (w : Setting) (r : Request) → Aside (place_area w r)
+pub aside_place : (w : Setting) (r : Request) → Aside (place_area w r)
 unfolding place_area
 aside_place w r = record { aside = λ s ls. (go s.choices (nat_eq r.size 0 || nat_eq r.align 0)).aside s ls }
   where
@@ -214,7 +214,7 @@ aside_place w r = record { aside = λ s ls. (go s.choices (nat_eq r.size 0 || na
     go choices true = aside_stop (stuck w)
     go choices false = record { aside = λ s ls. (aside_place_at r choices).aside (record s { requests = s.requests ++ r ∷ [] }) ls }
 
-aside_static : (w : Setting) → Aside (static_pointer w)
+pub aside_static : (w : Setting) → Aside (static_pointer w)
 unfolding static_pointer
 aside_static w = record { aside = λ s ls. (aside_then (static_place w s.place) (λ address. pure (val.Word (word.Pointer address))) (go s.place) (λ address. aside_pure (val.Word (word.Pointer address)))).aside s ls }
   where
@@ -237,10 +237,10 @@ aside_answer w ty = go w.answer
     go (answer.Words r writes blocks) = record { aside = λ s ls. (aside_or_stop (stuck w) (result_of ty r)).aside (record s { heap = answered blocks writes s.heap }) ls }
     go (answer.Value v heap) = aside_stop (stuck w)
 
-abbrev call_with : Setting → Option Local → Bytes → List Val → Act Val
+abbrev pub call_with : Setting → Option Local → Bytes → List Val → Act Val
 call_with w l name vs = λ s. (or_stop (stuck w) (option_and_then (called_with s vs) (unhidden l (import_named name s.imports))) >>= (λ p. record_call p.0 >> take_answer w p.1)) s
 
-aside_call : (w : Setting) (l : Option Local) (name : Bytes) (vs : List Val) → Aside (call_with w l name vs)
+pub aside_call : (w : Setting) (l : Option Local) (name : Bytes) (vs : List Val) → Aside (call_with w l name vs)
 aside_call w l name vs = record { aside = λ s ls. (go (option_and_then (called_with s vs) (unhidden l (import_named name s.imports)))).aside s ls }
   where
     go : (o : Option (CallPoint × Option WasmType)) → Aside (or_stop (stuck w) o >>= (λ p. record_call p.0 >> take_answer w p.1))

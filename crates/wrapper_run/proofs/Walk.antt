@@ -10,7 +10,7 @@ use Rattle.wit_model.specs.Size.{alignment_at}
 use Rattle.wit_model.specs.declared.size.ArchitectureSize.{ArchitectureSize}
 use Rattle.wit_model.specs.declared.wasm_type.WasmType.{WasmType}
 use Rattle.rust_tree.specs.declared.area.ReturnArea.{ReturnArea}
-use Rattle.rust_tree.specs.declared.expr.Expr.{Expr, Expr-F, fold-roll-Expr, ind-Expr, map-Expr, roll-Expr}
+use Rattle.rust_tree.specs.declared.expr.Expr.{Expr, Expr-F, fold-roll-Expr, ind-Expr, map-Expr, out-Expr, roll-Expr, roll-out-Expr}
 use Rattle.rust_tree.specs.declared.expr.SmallType.{SmallType}
 use Rattle.rust_tree.specs.declared.item.Item.{Item}
 use Rattle.rust_tree.specs.declared.path.Path.{Path}
@@ -32,15 +32,17 @@ use Rattle.wrapper_data.specs.declared.word.Word.{Word}
 use Rattle.wrapper_data.specs.declared.word.Word.TheVariants as word
 use Rattle.wrapper_run.specs.declared.owning.View.{View}
 use Rattle.wrapper_run.specs.declared.owning.View.TheVariants as view_of
+use Rattle.wrapper_run.specs.declared.state.Local.{Local}
 use Rattle.wrapper_run.specs.declared.state.Val.{Val}
 use Rattle.wrapper_run.specs.declared.state.Val.TheVariants as val
 use Rattle.wrapper_run.specs.Act.{Act, ◌>>=◌, all, or_stop, pure, stop}
-use Rattle.wrapper_run.specs.Blocks.{box_buffer, boxed, dealloc, dealloc_words, drop_value, free, free_all, lift_text, release, release_all, store_small, store_word}
+use Rattle.wrapper_run.specs.Blocks.{box_buffer, boxed, dealloc, dealloc_words, drop_local, drop_locals, drop_value, free, free_all, lift_text, release, release_all, store_small, store_word}
 use Rattle.wrapper_run.specs.Effect.{cast_to, converted, lift_of, word_of_bool}
 use Rattle.wrapper_run.specs.Fields.{arranged, arranged_by, each_named, field_named, fields_in, in_order, root_name, type_named}
 use Rattle.wrapper_run.specs.Locals.{ask_local, bind, declare, lend_local, local_named, use_local, value_of}
-use Rattle.wrapper_run.specs.Owning.{buffer_of, owned}
+use Rattle.wrapper_run.specs.Owning.{buffer_of, owned, owned_in}
 use Rattle.wrapper_run.specs.Places.{declare_area, place_area, request_of, static_pointer}
+use Rattle.wrapper_run.specs.Results.{results, results_in, run_results}
 use Rattle.wrapper_run.specs.Run.{alone, apply, apply_item, apply_one, call_callee, call_import, call_runtime, Callee, callee, converted_or_lifted, core_forget, eval, eval_step, forget_one, lift_act, load_small, load_word, of_runtime, run_block, run_stmt, run_stmts, run_tail, runtime_item_named, take_bytes, unknown}
 use Rattle.wrapper_run.specs.Setting.{Setting, failed, stuck}
 use Rattle.wrapper_run.specs.UnusedLocals.{are_known, bound_names, is_block_known, is_callee_known, is_expr_known, is_stmt_known, is_tail_known, known_step}
@@ -200,6 +202,10 @@ module _ (w : Setting) (known : Bytes → Bool) (P : (A : Type 0) → Act A → 
 
   pub drops_value : (v : Val) → P (Unit {0}) (drop_value w v)
   drops_value v = frees_all (owned v)
+
+  pub drops_locals : (locals : List Local) → P (Unit {0}) (drop_locals w locals)
+  drops_locals [] = h.gives (Unit {0}) tt
+  drops_locals (l ∷ locals) = h.follows (Unit {0}) (Unit {0}) (drop_locals w locals) (λ _. drop_local w l.value) (drops_locals locals) (λ _. frees_all (owned_in l.value))
 
   releases_all : (addresses : List ℕ) → P (Unit {0}) (release_all w addresses)
   releases_all [] = h.gives (Unit {0}) tt
@@ -378,3 +384,25 @@ module _ (w : Setting) (known : Bytes → Bool) (P : (A : Type 0) → Act A → 
   walks_block b k =
       let both = and_parts (list_all (is_stmt_known known) b.stmts) (is_tail_known known b.tail) k in
       h.follows (Unit {0}) Val (run_stmts w b.stmts) (λ _. run_tail w b.tail) (walks_stmts b.stmts both.0) (λ _. walks_tail b.tail both.1)
+
+  -- the results of a block
+
+  walks_each : (es : List Expr) → are_known (map (is_expr_known known) es) ≡ true → P (List Val) (all (map (eval w) es))
+  walks_each [] k = h.gives (List Val) []
+  walks_each (e ∷ es) k =
+      let both = and_parts (is_expr_known known e) (are_known (map (is_expr_known known) es)) k in
+      h.follows Val (List Val) (eval w e) (λ v. all (map (eval w) es) >>= (λ vs. pure (v ∷ vs))) (walks_expr e both.0)
+      (λ v. h.follows (List Val) (List Val) (all (map (eval w) es)) (λ vs. pure (v ∷ vs)) (walks_each es both.1) (λ vs. h.gives (List Val) (v ∷ vs)))
+
+  walks_in : (e : Expr) (l : Expr-F Expr) → is_expr_known known e ≡ true → known_step known (map-Expr Expr Bool (is_expr_known known) l) ≡ true → P (List Val) (all (map (eval w) (results_in e l)))
+  walks_in e (Expr-F.Tuple (first ∷ second ∷ more)) k p = walks_each (first ∷ second ∷ more) p
+  walks_in e _ k p = walks_each (e ∷ []) (and_from (is_expr_known known e) true k refl)
+
+  walks_results : (tail : Option Expr) → is_tail_known known tail ≡ true → P (List Val) (all (map (eval w) (results tail)))
+  walks_results None k = h.gives (List Val) []
+  walks_results (Some e) k = walks_in e (out-Expr e) k (sym (fold-roll-Expr Bool (known_step known) (out-Expr e)) ∙ ap (is_expr_known known) (roll-out-Expr e) ∙ k)
+
+  pub walks_given : (b : Code) → is_block_known known b ≡ true → P (List Val) (run_results w b)
+  walks_given b k =
+      let both = and_parts (list_all (is_stmt_known known) b.stmts) (is_tail_known known b.tail) k in
+      h.follows (Unit {0}) (List Val) (run_stmts w b.stmts) (λ _. all (map (eval w) (results b.tail))) (walks_stmts b.stmts both.0) (λ _. walks_results b.tail both.1)

@@ -1,5 +1,5 @@
 -- What is done to blocks: a block is taken over or let go, a text is tested, blocks are freed, and a core value is written into one.
-use Rattle.std.specs.Prelude.{ℤ, ℕ, zero, suc, ◌+◌, ◌-◌, ◌^◌, Bool, true, not, nat_eq, nat_lt, if◌then◌else◌, List, [], ◌∷◌, ◌++◌, Option, None, Some, filter, drop, take, option_and_then}
+use Rattle.std.specs.Prelude.{ℤ, ℕ, zero, suc, ◌+◌, ◌-◌, ◌^◌, Bool, true, not, nat_eq, nat_lt, if◌then◌else◌, List, [], ◌∷◌, ◌++◌, Option, None, Some, filter, drop, length, take, option_and_then}
 use Rattle.std.specs.Str.{is_utf8}
 use Rattle.wit_model.specs.declared.size.ArchitectureSize.{ArchitectureSize}
 use Rattle.wit_model.specs.declared.wasm_type.WasmType.{WasmType}
@@ -114,6 +114,10 @@ keep_locals locals = λ s. Done tt (record s { locals = locals })
 -- a scope ends: its locals are dropped, and so many stay, which were there before it
 unfoldable pub leave_to : Setting → ℕ → Act (Unit {0})
 leave_to w kept = λ s. (drop_locals w (drop kept s.locals) >> keep_locals (take kept s.locals)) (record s { locals = [] })
+
+-- an act in a scope of its own: the locals that it makes are dropped once its value is there
+abbrev pub in_scope : {A : Type 0} → Setting → Act A → Act A
+in_scope w act = λ s. (act >>= (λ a. leave_to w (length s.locals) >> pure a)) s
 
 -- a block stays, and has no owner any more
 

@@ -9,6 +9,7 @@ use Rattle.wrapper_data.specs.declared.word.Word.{Word}
 use Rattle.wrapper_run.specs.declared.state.State.{State}
 use Rattle.wrapper_run.specs.Act.{Act, Outcome, Done, Stopped}
 use Rattle.wrapper_run.specs.ExportRun.{run_export_fn}
+use Rattle.wrapper_run.specs.Results.{run_inner}
 use Rattle.wrapper_run.specs.Run.{run_block, run_fn}
 use Rattle.wrapper_run.specs.Setting.{Setting}
 
@@ -32,6 +33,10 @@ pub record Grows {A : Type 0} (act : Act A) : Type 0 where
 
 abbrev pub BlocksGrow : Type 0
 BlocksGrow = (w : Setting) (b : Block) → Grows (run_block w b)
+
+-- and of one that is no body
+abbrev pub InnerBlocksGrow : Type 0
+InnerBlocksGrow = (w : Setting) (b : Block) → Grows (run_inner w b)
 
 abbrev pub ImportsGrow : Type 0
 ImportsGrow = (w : Setting) (f : FnItem) → Grows (run_fn w f)

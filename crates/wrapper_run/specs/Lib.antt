@@ -16,6 +16,7 @@ pub mod Owning
 pub mod Places
 pub mod PostReturn
 pub mod Represents
+pub mod Results
 pub mod Returned
 pub mod Run
 pub mod Seen

@@ -10,6 +10,7 @@ use Rattle.wrapper_run.specs.declared.state.State.{State}
 use Rattle.wrapper_run.specs.Act.{Outcome, Done, Stopped}
 use Rattle.wrapper_run.specs.Growth.{state_of}
 use Rattle.wrapper_run.specs.Memory.{begins_at}
+use Rattle.wrapper_run.specs.Results.{run_inner}
 use Rattle.wrapper_run.specs.Run.{run_block}
 use Rattle.wrapper_run.specs.Setting.{Setting}
 
@@ -51,3 +52,8 @@ EndsBeside others held (Done a t) end = IsBadChoice end ⊎ ((blocks : List Bloc
 abbrev pub IgnoresBlocks : Type 0
 IgnoresBlocks = (w : Setting) (b : Code) (others : List Block) (held : List ℕ) (s : State) (blocks : List Block) (taken : List ℕ) → are_held others held ≡ true → Beside others held s blocks taken
     → (state_of (run_block w b s)).calls ≡ s.calls → EndsBeside others held (run_block w b s) (run_block w b (widened blocks taken s))
+
+-- and so for a block that is no body
+abbrev pub InnerIgnoresBlocks : Type 0
+InnerIgnoresBlocks = (w : Setting) (b : Code) (others : List Block) (held : List ℕ) (s : State) (blocks : List Block) (taken : List ℕ) → are_held others held ≡ true → Beside others held s blocks taken
+    → (state_of (run_inner w b s)).calls ≡ s.calls → EndsBeside others held (run_inner w b s) (run_inner w b (widened blocks taken s))

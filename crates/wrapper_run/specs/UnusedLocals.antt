@@ -12,6 +12,7 @@ use Rattle.wrapper_run.specs.declared.state.Local.{Local}
 use Rattle.wrapper_run.specs.declared.state.State.{State}
 use Rattle.wrapper_run.specs.Act.{Act, Outcome, Done, Stopped}
 use Rattle.wrapper_run.specs.Growth.{state_of}
+use Rattle.wrapper_run.specs.Results.{run_inner}
 use Rattle.wrapper_run.specs.Run.{Callee, alone, callee, run_block}
 use Rattle.wrapper_run.specs.Setting.{Setting}
 
@@ -95,3 +96,13 @@ pub record IgnoresOthers {A : Type 0} (known : Bytes → Bool) (act : Act A) : T
 
 abbrev pub IgnoresUnused : Type 0
 IgnoresUnused = (w : Setting) (known : Bytes → Bool) (b : Block) → is_block_known known b ≡ true → IgnoresOthers known (run_block w b)
+
+-- the act ends as it does without the others. Where it is done, it leaves these as they are; where it is stopped, a scope may have ended
+-- half, and then has no locals
+pub record DoneIgnoresOthers {A : Type 0} (known : Bytes → Bool) (act : Act A) : Type 0 where
+  pub same : (s : State) → act (narrowed known s) ≡ narrowed_end known (act s)
+  pub kept : (s t : State) (a : A) → act s ≡ Done a t → other_locals known t.locals ≡ other_locals known s.locals
+
+-- a block that is no body
+abbrev pub InnerIgnoresUnused : Type 0
+InnerIgnoresUnused = (w : Setting) (known : Bytes → Bool) (b : Block) → is_block_known known b ≡ true → DoneIgnoresOthers known (run_inner w b)

@@ -1,12 +1,13 @@
 //! What a body does.
 
-ghost use Rattle.std.specs.Prelude.{◌≡◌};
-ghost use Rattle.wrapper_run.specs.Act.{Runs};
+ghost use Rattle.std.specs.Prelude.{◌≡◌, map};
+ghost use Rattle.wrapper_run.specs.Act.{Runs, all};
+ghost use Rattle.wrapper_run.specs.Results.{results, run_inner};
 ghost use Rattle.wrapper_run.specs.Run as spec;
 ghost use Rattle.wrapper_run.specs.Setting.{setting};
 
-use crate::eval::eval;
-use crate::freeing::drop_value;
+use crate::eval::{eval, eval_all};
+use crate::freeing::{drop_value, leave_to};
 use crate::locals::{bind, declare};
 use crate::parts::take_apart;
 use crate::places::declare_area;
@@ -15,6 +16,7 @@ use crate::state::{Halt, State, Val, World};
 use crate::store::store_word;
 use rust_tree::{Block, Expr, Stmt};
 use std::alloc::Global;
+use wit_model::List;
 use wrapper_data::RustValue;
 
 fn run_stmt(alloc: Global, world: &World, state: &mut State, s: &Stmt) -> Result<(), Halt>
@@ -74,6 +76,44 @@ fn run_tail(
         None => Ok(Val::Value(RustValue::Unit)),
         Some(e) => eval(alloc, world, state, e),
     }
+}
+
+/// The values of a block's results, in order.
+fn eval_results(
+    alloc: Global,
+    world: &World,
+    state: &mut State,
+    tail: &Option<Expr>,
+) -> Result<List<Val>, Halt>
+    ensures { Runs (all (map (spec.eval (setting world.now)) (results tail.now)) state.old) result state.new }
+{
+    match tail {
+        None => Ok(List::new(alloc)),
+        Some(Expr::Tuple(parts)) if parts.len() > 1 => {
+            eval_all(alloc, world, state, parts.as_slice())
+        }
+        Some(e) => {
+            let mut vs = List::new(alloc);
+            vs.push(eval(alloc, world, state, e)?)?;
+            Ok(vs)
+        }
+    }
+}
+
+/// Runs a block that is no body in a scope of its own, and gives its values: as many as its results are.
+pub(crate) fn run_inner(
+    alloc: Global,
+    world: &World,
+    state: &mut State,
+    b: &Block,
+) -> Result<List<Val>, Halt>
+    ensures { Runs (run_inner (setting world.now) b.now state.old) result state.new }
+{
+    let outer = state.locals.len();
+    run_stmts(alloc, world, state, b.stmts.as_slice())?;
+    let vs = eval_results(alloc, world, state, &b.tail)?;
+    leave_to(alloc, world, state, outer)?;
+    Ok(vs)
 }
 
 /// Runs a block, and gives its value.

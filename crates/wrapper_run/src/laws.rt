@@ -1,23 +1,26 @@
 //! Laws of the machine, each of any code: a proof above may cite them. The functions do nothing.
 
-ghost use Rattle.wrapper_run.specs.Growth.{BlocksGrow, ExportsGrow, ImportsGrow};
-ghost use Rattle.wrapper_run.specs.OtherBlocks.{IgnoresBlocks};
-ghost use Rattle.wrapper_run.specs.UnusedLocals.{IgnoresUnused};
+ghost use Rattle.wrapper_run.specs.Growth.{BlocksGrow, ExportsGrow, ImportsGrow, InnerBlocksGrow};
+ghost use Rattle.wrapper_run.specs.OtherBlocks.{IgnoresBlocks, InnerIgnoresBlocks};
+ghost use Rattle.wrapper_run.specs.UnusedLocals.{IgnoresUnused, InnerIgnoresUnused};
 
 /// Along a run calls and requests only grow: those that a state has are the first of those that it comes to.
 pub fn growth_law()
     ensures blocks { BlocksGrow }
+    ensures inner { InnerBlocksGrow }
     ensures imports { ImportsGrow }
     ensures exports { ExportsGrow }
 {}
 
 /// A block ends as it does without the locals that it does not name, and leaves these as they are.
 pub fn unused_law()
-    ensures { IgnoresUnused }
+    ensures bodies { IgnoresUnused }
+    ensures inner { InnerIgnoresUnused }
 {}
 
 /// A block that makes no call ends as it does without the blocks that stand beside its own, where the choices fit there
 /// too, and leaves these as they are.
 pub fn beside_law()
-    ensures { IgnoresBlocks }
+    ensures bodies { IgnoresBlocks }
+    ensures inner { InnerIgnoresBlocks }
 {}
