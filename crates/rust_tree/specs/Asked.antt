@@ -50,6 +50,8 @@ asked_type_step TypeExpr-F.String = StringType ∷ []
 asked_type_step (TypeExpr-F.Ref ty) = ty
 asked_type_step (TypeExpr-F.Path path) = asked_by_path path
 asked_type_step (TypeExpr-F.Tuple parts) = flat_map (λ part. part) parts
+asked_type_step (TypeExpr-F.Optional ty) = ty
+asked_type_step (TypeExpr-F.Array ty n) = ty
 
 abbrev pub asked_by_type : TypeExpr → List RuntimeItem
 asked_by_type = fold-TypeExpr (List RuntimeItem) asked_type_step

@@ -24,7 +24,7 @@ use Rattle.rust_tree.specs.declared.type_expr.Primitive.{Primitive}
 use Rattle.rust_tree.specs.declared.type_expr.Primitive.TheVariants as primitive
 use Rattle.rust_tree.specs.declared.type_expr.TypeExpr.{TypeExpr, TypeExpr-F, fold-TypeExpr}
 use Rattle.rust_tree.specs.declared.print.word.area.AreaWord.TheVariants.{PointerAlign, Align, AlignEnd, AreaType, AreaValue, AreaEnd}
-use Rattle.rust_tree.specs.declared.print.word.definition.DefinitionWord.TheVariants.{TupleEnd}
+use Rattle.rust_tree.specs.declared.print.word.definition.DefinitionWord.TheVariants.{TupleEnd, OptionType, OptionEnd, ArrayLength}
 use Rattle.rust_tree.specs.declared.print.word.expr.ExprWord.TheVariants.{Match, BoolArms, AsPtr, Len, CastMut, AreaPointer, Dereference, Add, CastTo, CastEnd, FromRawParts, PointerCast, IntoBoxedBytes, StaticPointer, OpenFields, CloseFields, OpenArray, CloseArray, LoneComma, Widened}
 use Rattle.rust_tree.specs.declared.print.word.import.ImportWord.TheVariants.{WasmLink, ExternBlock, LinkedFn, OtherFn, Unreachable, UnnamedParam}
 use Rattle.rust_tree.specs.declared.print.word.item.ItemWord.TheVariants.{EmptyDoc, Doc, UnitType, StrType, StringName}
@@ -76,6 +76,14 @@ primitive_text primitive.Char = codes "char"
 abbrev pub tuple_text : List Bytes → Bytes
 tuple_text parts = sign Open ++ join_by (λ part. part) (sign Comma) parts ++ definition_word TupleEnd
 
+-- `::core::option::Option<T>`
+abbrev pub option_text : Bytes → Bytes
+option_text ty = definition_word OptionType ++ ty ++ definition_word OptionEnd
+
+-- `[T; n]`
+abbrev pub array_type_text : Bytes → ℕ → Bytes
+array_type_text ty n = expr_word OpenArray ++ ty ++ definition_word ArrayLength ++ decimal n ++ expr_word CloseArray
+
 -- one level of a type, with the texts of the types in it
 abbrev pub type_step : TypeExpr-F Bytes → Bytes
 type_step (TypeExpr-F.Primitive p) = primitive_text p
@@ -85,6 +93,8 @@ type_step TypeExpr-F.String = item_word StringName
 type_step (TypeExpr-F.Ref ty) = sign Reference ++ ty
 type_step (TypeExpr-F.Path path) = path_text path
 type_step (TypeExpr-F.Tuple parts) = tuple_text parts
+type_step (TypeExpr-F.Optional ty) = option_text ty
+type_step (TypeExpr-F.Array ty n) = array_type_text ty n
 
 abbrev pub type_text : TypeExpr → Bytes
 type_text = fold-TypeExpr Bytes type_step

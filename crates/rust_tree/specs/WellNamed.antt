@@ -84,6 +84,8 @@ named_type_step TypeExpr-F.String = true
 named_type_step (TypeExpr-F.Ref ty) = ty
 named_type_step (TypeExpr-F.Path path) = is_type_path path
 named_type_step (TypeExpr-F.Tuple parts) = is_nonempty parts && list_all (λ part. part) parts
+named_type_step (TypeExpr-F.Optional ty) = ty
+named_type_step (TypeExpr-F.Array ty n) = ty
 
 abbrev pub is_named_type : TypeExpr → Bool
 is_named_type = fold-TypeExpr Bool named_type_step

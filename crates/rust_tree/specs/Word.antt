@@ -20,7 +20,7 @@ use Rattle.rust_tree.specs.declared.print.word.runtime.RuntimeWord.TheVariants.{
 use Rattle.rust_tree.specs.declared.print.word.conversion.ConversionWord.{ConversionWord}
 use Rattle.rust_tree.specs.declared.print.word.conversion.ConversionWord.TheVariants.{ConversionFn, ConversionBound, ConversionParam, ConvertParam, ReferenceBound, ReferenceTrait, ForReference, ConvertTarget, CallEnd, ConversionImpl, ImplFor, Inline, TakesSelf, CastSelf}
 use Rattle.rust_tree.specs.declared.print.word.definition.DefinitionWord.{DefinitionWord}
-use Rattle.rust_tree.specs.declared.print.word.definition.DefinitionWord.TheVariants.{ReprC, Derive, DeriveEnd, PublicStruct, PublicField, FieldEnd, DebugImpl, DebugFn, DebugStruct, DebugName, DebugField, DebugValue, Finish, PublicType, TupleEnd}
+use Rattle.rust_tree.specs.declared.print.word.definition.DefinitionWord.TheVariants.{ReprC, Derive, DeriveEnd, PublicStruct, PublicField, FieldEnd, DebugImpl, DebugFn, DebugStruct, DebugName, DebugField, DebugValue, Finish, PublicType, TupleEnd, OptionType, OptionEnd, ArrayLength}
 use Rattle.rust_tree.specs.declared.print.word.lift.LiftWord.{LiftWord}
 use Rattle.rust_tree.specs.declared.print.word.lift.LiftWord.TheVariants.{IfDebug, Otherwise, LiftEnd, BoolLiftType, CheckedBool, UncheckedBool, CharLiftType, CheckedChar, UncheckedChar, StringLiftType, CheckedString, UncheckedString}
 
@@ -173,7 +173,7 @@ lift_word StringLiftType = codes "(bytes: Vec<u8>) -> String"
 lift_word CheckedString = codes "String::from_utf8(bytes).unwrap()\n"
 lift_word UncheckedString = codes "unsafe { String::from_utf8_unchecked(bytes) }\n"
 
--- the definition of a struct, its `Debug`, the definition of another name, and the end of a tuple
+-- the definition of a struct, its `Debug`, the definition of another name; the end of a tuple, and words of options and arrays
 unfoldable pub definition_word : DefinitionWord → Bytes
 definition_word ReprC = codes "#[repr(C)]\n"
 definition_word Derive = codes "#[derive("
@@ -190,3 +190,6 @@ definition_word DebugValue = codes "\", &self."
 definition_word Finish = codes ".finish()\n"
 definition_word PublicType = codes "pub type "
 definition_word TupleEnd = codes ",)"
+definition_word OptionType = codes "::core::option::Option<"
+definition_word OptionEnd = codes ">"
+definition_word ArrayLength = codes "; "

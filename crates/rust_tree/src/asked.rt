@@ -56,7 +56,8 @@ fn ask_by_type(asked: &mut List<RuntimeItem>, ty: &TypeExpr) -> Result<(), OutOf
     match ty {
         TypeExpr::Primitive(_) | TypeExpr::Unit | TypeExpr::Str => Ok(()),
         TypeExpr::String => asked.push(RuntimeItem::StringType),
-        TypeExpr::Ref(ty) => ask_by_type(asked, ty.get()),
+        TypeExpr::Ref(ty) | TypeExpr::Optional(ty) => ask_by_type(asked, ty.get()),
+        TypeExpr::Array(ty, _) => ask_by_type(asked, ty.get()),
         TypeExpr::Path(path) => ask_by_path(asked, path),
         TypeExpr::Tuple(parts) => ask_by_types(asked, parts.as_slice()),
     }

@@ -35,6 +35,7 @@ f.debug_struct(\"Bare\").finish()
 }
 /// another name
 pub type Other = (Pair,);
+pub type Maybe = ::core::option::Option<[other::T; 4]>;
 ";
 
 fn named(alloc: Global, names: &[&str]) -> Result<TypeExpr, OutOfMemory> {
@@ -120,6 +121,12 @@ fn other(alloc: Global) -> Result<TypeItem, OutOfMemory> {
     alias(alloc, &["another name"], "Other", TypeExpr::Tuple(parts))
 }
 
+/// `::core::option::Option<[T; n]>`, of a type by its path.
+fn maybe(alloc: Global, names: &[&str], n: u32) -> Result<TypeExpr, OutOfMemory> {
+    let array = TypeExpr::Array(Boxed::new(alloc, named(alloc, names)?)?, n);
+    Ok(TypeExpr::Optional(Boxed::new(alloc, array)?))
+}
+
 #[test]
 fn definitions_of_types(rt: HostRuntime) -> Result<(), Fail> {
     let alloc = rt.alloc();
@@ -127,6 +134,7 @@ fn definitions_of_types(rt: HostRuntime) -> Result<(), Fail> {
     items.push(Item::Type(pair(alloc)?))?;
     items.push(Item::Type(bare(alloc)?))?;
     items.push(Item::Type(other(alloc)?))?;
+    items.push(Item::Type(alias(alloc, &[], "Maybe", maybe(alloc, &["other", "T"], 4)?)?))?;
     let tree = file(alloc, &[], items, List::new(alloc))?;
     assert_eq!(rt; text_of(alloc, &tree)?.as_str(), WANT);
     Ok(())
@@ -149,6 +157,17 @@ fn a_path_is_no_other_form_of_a_type(rt: HostRuntime) -> Result<(), Fail> {
     for (i, (names, want)) in PATHS.iter().enumerate() {
         let mut items = List::new(alloc);
         items.push(Item::Type(alias(alloc, &[], "T", named(alloc, names)?)?))?;
+        assert_eq!(rt; are_well_named(&[], items.as_slice()), *want, "at {i}");
+    }
+    Ok(())
+}
+
+#[test]
+fn a_path_within_another_type_is_no_other_form(rt: HostRuntime) -> Result<(), Fail> {
+    let alloc = rt.alloc();
+    for (i, (names, want)) in PATHS.iter().enumerate() {
+        let mut items = List::new(alloc);
+        items.push(Item::Type(alias(alloc, &[], "T", maybe(alloc, names, 2)?)?))?;
         assert_eq!(rt; are_well_named(&[], items.as_slice()), *want, "at {i}");
     }
     Ok(())

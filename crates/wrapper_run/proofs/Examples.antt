@@ -231,6 +231,37 @@ q_not_lent : answer_in two_types q_type (val.Value (text_and_seven false)) ≡ N
 unfolding answer_of
 q_not_lent = search (rules, the_lemmas, type_lemmas)
 
+-- the case 0 without a payload is an option
+
+abbrev number_option : TypeExpr
+number_option = type.Optional (type.Primitive prim.I32)
+
+option_none : answer_in [] number_option (val.Value (value.Case 0 None)) ≡ Some (Some (value.Case 0 None))
+unfolding answer_of
+option_none = search (rules, the_lemmas, type_lemmas)
+
+-- the case 1 without one, and another case, are none
+
+option_without : answer_in [] number_option (val.Value (value.Case 1 None)) ≡ None
+unfolding answer_of
+option_without = search (rules, the_lemmas, type_lemmas)
+
+option_other : answer_in [] number_option (val.Value (value.Case 2 None)) ≡ None
+unfolding answer_of
+option_other = search (rules, the_lemmas, type_lemmas)
+
+-- arrays: exactly so many values of the type, which may be another name
+abbrev two_qs : TypeExpr
+two_qs = type.Array q_type 2
+
+array_of_two : answer_in two_types two_qs (val.Value (value.Struct (text_and_seven true ∷ text_and_seven true ∷ []))) ≡ Some (Some (value.Struct (text_and_seven true ∷ text_and_seven true ∷ [])))
+unfolding answer_of
+array_of_two = search (rules, the_lemmas, type_lemmas)
+
+array_of_one : answer_in two_types two_qs (val.Value (value.Struct (text_and_seven true ∷ []))) ≡ None
+unfolding answer_of
+array_of_one = search (rules, the_lemmas, type_lemmas)
+
 -- an area is no value: `::core::mem::forget(ret_area)` and `&ret_area` have no meaning, so no stack area outlives its body
 
 abbrev area_name : Bytes

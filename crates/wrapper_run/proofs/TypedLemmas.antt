@@ -19,6 +19,8 @@ plain-target items v TypeExpr-F.Str r h = refl
 plain-target items v TypeExpr-F.String r h = refl
 plain-target items v (TypeExpr-F.Ref ty) r h = refl
 plain-target items v (TypeExpr-F.Tuple types) r h = refl
+plain-target items v (TypeExpr-F.Optional ty) r h = refl
+plain-target items v (TypeExpr-F.Array ty n) r h = refl
 plain-target items v (TypeExpr-F.Path path) r h = absurd (cc)
 
 pub answered_in : (items : List Item) (ty : TypeExpr) (v : Val) (r : Option RustValue) → answer_of ty v ≡ Some r → answer_in items ty v ≡ Some r

@@ -2,6 +2,7 @@
 
 ghost use Rattle.std.specs.Prelude.{◌≡◌, ◌++◌, IfOk, Some, None, if◌then◌else◌, map, option_and_then};
 ghost use Rattle.std.specs.Option.{option_copied, option_map};
+ghost use Rattle.rust_tree.specs.declared.type_expr.TypeExpr.{out-TypeExpr};
 ghost use Rattle.wrapper_data.specs.declared.value.RustValue.TheVariants as value;
 ghost use Rattle.wrapper_run.specs.Fields as fields;
 ghost use Rattle.wrapper_run.specs.Typed as spec;
@@ -11,7 +12,7 @@ use crate::printed::answer_of;
 use crate::state::Val;
 use rust_tree::{Item, Path, StructField, TypeExpr, TypeItem};
 use std::alloc::Global;
-use wit_model::{List, OutOfMemory};
+use wit_model::{Boxed, List, OutOfMemory};
 use wrapper_data::RustValue;
 
 /// The type of a path, at the root of the file.
@@ -80,6 +81,8 @@ fn typed(
     let ty = unaliased(items, ty);
     match value {
         RustValue::Struct(parts) => typed_parts(parts.as_slice(), alloc, items, ty),
+        RustValue::Case(number, payload) => typed_case(payload, alloc, items, *number, ty),
+        RustValue::Unit => Ok(typed_unit(ty)),
         RustValue::Bool(_) | RustValue::Num(_, _) | RustValue::F32(_) | RustValue::F64(_) => {
             Ok(plain_as(ty, &Val::Value(value.copy(alloc)?)))
         }
@@ -90,7 +93,61 @@ fn typed(
     }
 }
 
-/// A record or tuple of these parts, as one of a type that is no alias.
+/// The value `()`, as one of a type that is no alias.
+fn typed_unit(ty: &TypeExpr) -> Option<RustValue>
+    ensures { result ≡ spec.typed_unit (out-TypeExpr ty.now) }
+{
+    match ty {
+        TypeExpr::Unit => Some(RustValue::Unit),
+        _ => None,
+    }
+}
+
+/// A case with this payload, as one of a type that is no alias.
+#[cycle(typed)]
+fn typed_case(
+    payload: &Option<Boxed<RustValue>>,
+    alloc: Global,
+    items: &[Item],
+    number: u32,
+    ty: &TypeExpr,
+) -> Result<Option<RustValue>, OutOfMemory>
+    ensures { IfOk result
+        (λ r. r ≡ spec.typed_case number (option_map (spec.typed items.now) payload.now) (out-TypeExpr ty.now)) }
+{
+    match ty {
+        TypeExpr::Optional(ty) => typed_option(payload, alloc, items, number, ty.get()),
+        _ => Ok(None),
+    }
+}
+
+/// A case with this payload, as one of an option of a type.
+#[cycle(typed)]
+fn typed_option(
+    payload: &Option<Boxed<RustValue>>,
+    alloc: Global,
+    items: &[Item],
+    number: u32,
+    ty: &TypeExpr,
+) -> Result<Option<RustValue>, OutOfMemory>
+    ensures { IfOk result
+        (λ r. r ≡ spec.typed_option number (option_map (spec.typed items.now) payload.now) ty.now) }
+{
+    match (number, payload) {
+        (0, None) => Ok(Some(RustValue::Case(0, None))),
+        (0, Some(payload)) => match typed(payload.get(), alloc, items, &TypeExpr::Unit)? {
+            None => Ok(None),
+            Some(_) => Ok(Some(RustValue::Case(0, None))),
+        },
+        (1, Some(payload)) => match typed(payload.get(), alloc, items, ty)? {
+            None => Ok(None),
+            Some(r) => Ok(Some(RustValue::Case(1, Some(Boxed::new(alloc, r)?)))),
+        },
+        _ => Ok(None),
+    }
+}
+
+/// A record, tuple or array of these parts, as one of a type that is no alias.
 #[cycle(typed)]
 fn typed_parts(
     parts: &[RustValue],
@@ -99,11 +156,14 @@ fn typed_parts(
     ty: &TypeExpr,
 ) -> Result<Option<RustValue>, OutOfMemory>
     ensures { IfOk result
-        (λ r. r ≡ option_map value.Struct (option_and_then (spec.typed_each (map (spec.typed items.now) parts.now)) (spec.part_types items.now ty.now))) }
+        (λ r. r ≡ option_map value.Struct (spec.typed_parts items.now (map (spec.typed items.now) parts.now) (out-TypeExpr ty.now))) }
 {
     let mut whole = List::new(alloc);
     let all = match ty {
         TypeExpr::Tuple(types) => push_typed(parts, alloc, items, &mut whole, types.as_slice())?,
+        TypeExpr::Array(ty, n) if parts.len() == *n as usize => {
+            push_typed_alike(parts, alloc, items, &mut whole, ty.get())?
+        }
         TypeExpr::Path(path) => match type_at(items, path) {
             Some(TypeItem::Struct(s)) => {
                 push_typed_fields(parts, alloc, items, &mut whole, s.fields.as_slice())?
@@ -148,6 +208,27 @@ fn push_typed(
         None => Ok(true),
         Some(_) => Ok(false),
     }
+}
+
+/// Puts values behind others, and tells whether each is of a type.
+#[cycle(typed)]
+fn push_typed_alike(
+    parts: &[RustValue],
+    alloc: Global,
+    items: &[Item],
+    whole: &mut List<RustValue>,
+    ty: &TypeExpr,
+) -> Result<bool, OutOfMemory>
+    ensures { IfOk result
+        (λ all. (if all then Some whole.new else None) ≡ option_map (λ rs. whole.old ++ rs) (spec.typed_alike ty.now (map (spec.typed items.now) parts.now))) }
+{
+    for part in parts {
+        match typed(part, alloc, items, ty)? {
+            None => return Ok(false),
+            Some(r) => whole.push(r)?,
+        }
+    }
+    Ok(true)
 }
 
 /// Puts values behind others, and tells whether each is of its field's type.

@@ -5,6 +5,8 @@
 mod copies;
 #[cfg(test)]
 mod stuck;
+#[cfg(test)]
+mod typed;
 mod wrong;
 
 pub use wrong::{refuses_a_forgotten_area, refuses_another_word};

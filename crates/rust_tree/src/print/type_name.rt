@@ -1,9 +1,9 @@
 ghost use Rattle.std.specs.Prelude.{◌≡◌, ◌++◌, OnOk, map};
-ghost use Rattle.rust_tree.specs.CodeText.{cast_type_text, core_type_text, primitive_text, small_type_text, tuple_text, type_text};
+ghost use Rattle.rust_tree.specs.CodeText.{array_type_text, cast_type_text, core_type_text, option_text, primitive_text, small_type_text, tuple_text, type_text};
 
 use crate::expr::{CastType, SmallType};
 use crate::print::path::push_path;
-use crate::print::word::{DefinitionWord, ItemWord, Sign};
+use crate::print::word::{DefinitionWord, ExprWord, ItemWord, Sign};
 use crate::type_expr::{Primitive, TypeExpr};
 use wit_model::{OutOfMemory, Text, WasmType};
 
@@ -79,6 +79,8 @@ pub(crate) fn push_type(out: &mut Text, ty: &TypeExpr) -> Result<(), OutOfMemory
         }
         TypeExpr::Path(path) => push_path(out, path),
         TypeExpr::Tuple(parts) => push_tuple(out, parts.as_slice()),
+        TypeExpr::Optional(ty) => push_option(out, ty.get()),
+        TypeExpr::Array(ty, n) => push_array_type(out, ty.get(), *n),
     }
 }
 
@@ -94,6 +96,26 @@ fn push_tuple(out: &mut Text, parts: &[TypeExpr]) -> Result<(), OutOfMemory>
         push_type(out, part)?;
     }
     DefinitionWord::TupleEnd.put(out)
+}
+
+#[cycle(type_name)]
+fn push_option(out: &mut Text, ty: &TypeExpr) -> Result<(), OutOfMemory>
+    ensures { OnOk result (out.new ≡ out.old ++ option_text (type_text ty.now)) }
+{
+    DefinitionWord::OptionType.put(out)?;
+    push_type(out, ty)?;
+    DefinitionWord::OptionEnd.put(out)
+}
+
+#[cycle(type_name)]
+fn push_array_type(out: &mut Text, ty: &TypeExpr, n: u32) -> Result<(), OutOfMemory>
+    ensures { OnOk result (out.new ≡ out.old ++ array_type_text (type_text ty.now) n) }
+{
+    ExprWord::OpenArray.put(out)?;
+    push_type(out, ty)?;
+    DefinitionWord::ArrayLength.put(out)?;
+    out.push_number(u64::from(n))?;
+    ExprWord::CloseArray.put(out)
 }
 
 pub(crate) fn push_cast_type(out: &mut Text, ty: CastType) -> Result<(), OutOfMemory>

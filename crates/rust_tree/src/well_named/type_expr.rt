@@ -39,7 +39,8 @@ pub(crate) fn is_named_type(ty: &TypeExpr) -> bool
 {
     match ty {
         TypeExpr::Primitive(_) | TypeExpr::Unit | TypeExpr::Str | TypeExpr::String => true,
-        TypeExpr::Ref(ty) => is_named_type(ty.get()),
+        TypeExpr::Ref(ty) | TypeExpr::Optional(ty) => is_named_type(ty.get()),
+        TypeExpr::Array(ty, _) => is_named_type(ty.get()),
         TypeExpr::Path(path) => is_type_path(path),
         TypeExpr::Tuple(parts) => is_nonempty(parts.as_slice())
             && are_named_types(parts.as_slice()),

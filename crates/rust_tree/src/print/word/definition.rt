@@ -3,7 +3,7 @@ ghost use Rattle.rust_tree.specs.Word.{definition_word};
 
 use wit_model::{OutOfMemory, Text};
 
-/// The words of definitions of types.
+/// The words of definitions of types, and of types.
 #[derive(Clone, Copy)]
 pub(crate) enum DefinitionWord {
     ReprC,
@@ -21,6 +21,9 @@ pub(crate) enum DefinitionWord {
     Finish,
     PublicType,
     TupleEnd,
+    OptionType,
+    OptionEnd,
+    ArrayLength,
 }
 
 impl DefinitionWord {
@@ -45,6 +48,9 @@ impl DefinitionWord {
             DefinitionWord::Finish => ".finish()\n",
             DefinitionWord::PublicType => "pub type ",
             DefinitionWord::TupleEnd => ",)",
+            DefinitionWord::OptionType => "::core::option::Option<",
+            DefinitionWord::OptionEnd => ">",
+            DefinitionWord::ArrayLength => "; ",
         }
     }
 

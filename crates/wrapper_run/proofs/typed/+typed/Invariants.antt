@@ -1,6 +1,6 @@
 use Rattle.std.proofs.Common.{◌≡◌, ◌++◌, drop, map}
 use Rattle.std.specs.Option.{option_map}
-use Rattle.wrapper_run.specs.Typed.{typed, typed_each}
+use Rattle.wrapper_run.specs.Typed.{typed, typed_alike, typed_each}
 use Rattle.wrapper_run.proofs.typed.+typed.Given as goal
 
 -- the rest of the parts, with the values so far in front
@@ -13,3 +13,8 @@ abbrev pub invariant-push_typed_fields-loop-part : goal.invariant-push_typed_fie
 invariant-push_typed_fields-loop-part l =
     option_map (λ rs. l.whole ++ rs) (typed_each (map (typed l.items) (drop l.part-index l.parts)) (map (λ f. f.ty) l.left))
     ≡ option_map (λ rs. l.initial.whole ++ rs) (typed_each (map (typed l.items) l.parts) (map (λ f. f.ty) l.fields))
+
+abbrev pub invariant-push_typed_alike-loop-part : goal.invariant-push_typed_alike-loop-part
+invariant-push_typed_alike-loop-part l =
+    option_map (λ rs. l.whole ++ rs) (typed_alike l.ty (map (typed l.items) (drop l.part-index l.parts)))
+    ≡ option_map (λ rs. l.initial.whole ++ rs) (typed_alike l.ty (map (typed l.items) l.parts))
