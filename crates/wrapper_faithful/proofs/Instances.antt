@@ -2,3 +2,5 @@
 pub mod PlainImport
 pub mod PlainExport
 pub mod Refused
+pub mod OwnedArgument
+pub mod WidePointers
