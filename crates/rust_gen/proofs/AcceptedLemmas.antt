@@ -12,10 +12,12 @@ use Rattle.wit_model.specs.declared.world.World.{World}
 use Rattle.wit_model.specs.WellFormed.{IsWellFormed}
 use Rattle.wit_model.proofs.AllLemmas.{all_at}
 use Rattle.rust_gen.specs.declared.opts.Opts.{Opts}
-use Rattle.rust_gen.specs.Built.{are_built_options, are_built_tables, is_built_kind, is_built_world, is_empty, is_owning}
+use Rattle.rust_gen.specs.Built.{are_built_options, are_built_tables, is_built_kind, is_built_world, is_empty}
+use Rattle.type_defs.specs.Modes.{is_owning}
 use Rattle.rust_gen.specs.Cause.{is_accepted, is_built}
-use Rattle.rust_gen.specs.Defined.{are_defined_kinds, is_defined_kind}
-use Rattle.rust_gen.specs.DefinedNames.{AreDefinable}
+use Rattle.rust_gen.specs.TypeOpts.{type_opts}
+use Rattle.type_defs.specs.Defined.{are_defined_kinds, is_defined_kind}
+use Rattle.type_defs.specs.DefinedNames.{AreDefinable}
 use Rattle.rust_gen.proofs.ListedNameLemmas.{named-definition}
 use Rattle.rust_gen.proofs.UnusedLemmas.{unused}
 use Rattle.rust_gen.proofs.WithinLemmas.{listed-within}
@@ -33,7 +35,7 @@ defined-kinds (t ∷ types) h =
     and_from (is_defined_kind t.kind) (are_defined_kinds types) (defined-kind t.kind parts.0) (defined-kinds types parts.1)
 
 pub definable : (opts : Opts) (r : Resolve) (id : WorldId) (world : World) → IsWellFormed r → is_built opts r ≡ true → is_accepted opts r world ≡ true → slice_get r.worlds id.0 ≡ Some world
-    → AreDefinable opts r id world
+    → AreDefinable (type_opts opts) r id world
 unfolding is_built are_built_tables are_built_options
 definable opts r id world checked built accepted found =
     let both = and_parts (are_built_tables r) (are_built_options opts) built in

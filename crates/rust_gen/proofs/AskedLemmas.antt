@@ -20,7 +20,8 @@ use Rattle.rust_tree.specs.Asked.{asked_by_block, asked_by_export, asked_by_expr
 use Rattle.rust_tree.specs.Runtime.{item_of_name}
 use Rattle.rust_tree.proofs.AskedLemmas.{asked-call}
 use Rattle.wit_model.specs.Bytes.{Bytes}
-use Rattle.rust_gen.specs.Body.{call_stmt, import_call, import_name, local_path, runtime_call, runtime_name, runtime_path, text_taken, word_at}
+use Rattle.rust_gen.specs.Body.{call_stmt, import_call, import_name, runtime_call, runtime_name, runtime_path, text_taken, word_at}
+use Rattle.type_defs.specs.Paths.{local_path}
 use Rattle.rust_gen.specs.ExportBody.{FreesText, dealloc_call, text_freed}
 use Rattle.rust_gen.specs.Exported.{arg_name}
 use Rattle.rust_tree.specs.declared.export.PostReturnFn.{PostReturnFn}

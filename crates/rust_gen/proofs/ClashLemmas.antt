@@ -10,7 +10,7 @@ use Rattle.rust_gen.specs.contracts.declared.SpacePartialEq.TheImpl as impl
 use Rattle.rust_gen.specs.declared.declared.NameScope.{NameScope}
 use Rattle.rust_gen.specs.declared.error.Clash.TheVariants.{Twice, NotIdent}
 use Rattle.rust_gen.specs.Clash.{clash_behind, entry_in, is_name, is_same, is_same_space, space}
-use Rattle.rust_gen.proofs.CutLemmas.{drop_at, take_at}
+use Rattle.type_defs.proofs.CutLemmas.{drop_at, take_at}
 use Rattle.std.proofs.Math.Bool.{not-not}
 use Rattle.std.proofs.lemmas.List.Folds.{list_any-append}
 

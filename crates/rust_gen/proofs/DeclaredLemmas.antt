@@ -20,8 +20,9 @@ use Rattle.rust_gen.specs.declared.declared.Space.TheVariants.{Types, Values, Ma
 use Rattle.rust_gen.specs.declared.error.Clash.{Clash}
 use Rattle.rust_gen.specs.Clash.{clash_behind, clash_in, first_clash, is_name, is_same, is_same_space, space}
 use Rattle.rust_gen.specs.DeclaredNames.{all_declared, among_types, area_idents, area_type_idents, declared, declared_names, declares_well, export_ident, field_scope, macro_idents, module_scope, param_idents, param_scope, return_names, runtime_ident, trait_idents, trait_scope, where_exported}
-use Rattle.rust_gen.specs.PrintedTypes.{field_names, printed_types, type_name}
+use Rattle.type_defs.specs.PrintedTypes.{field_names, printed_types, type_name}
 use Rattle.rust_gen.specs.declared.opts.Opts.{Opts}
+use Rattle.rust_gen.specs.TypeOpts.{type_opts}
 use Rattle.wit_model.specs.declared.resolve.Resolve.{Resolve}
 use Rattle.wit_model.specs.declared.types.TypeDef.{TypeDef}
 use Rattle.rust_gen.specs.Emitted.{exported_functions, imported_functions}
@@ -197,7 +198,7 @@ module _ (opts : Opts) (r : Resolve) (world : World) (h : declares_well opts r w
   exports = exported_functions world
 
   abbrev printed : List TypeDef
-  printed = printed_types opts r world
+  printed = printed_types (type_opts opts) r world
 
   abbrev root : NameScope
   root = module_scope world printed imports exports

@@ -3,7 +3,8 @@ use Rattle.std.proofs.Common.{◌≡◌, ℕ, ◌+◌, ◌<◌, [], ◌∷◌, �
 use Rattle.std.proofs.lemmas.List.{take_more}
 use Rattle.wit_model.specs.declared.world.WorldKey.{WorldKey}
 use Rattle.wit_model.specs.declared.world.WorldItem.{WorldItem}
-use Rattle.rust_gen.specs.Emitted.{Entries, function_at, functions_in, place_at, places_from}
+use Rattle.rust_gen.specs.Emitted.{function_at, functions_in, place_at, places_from}
+use Rattle.type_defs.specs.ListedTypes.{Entries}
 
 pub functions_in-append : (xs : Entries) (e : WorldKey × WorldItem) → functions_in (xs ++ e ∷ []) ≡ functions_in xs ++ function_at e.1
 functions_in-append [] e = append-nil (function_at e.1)

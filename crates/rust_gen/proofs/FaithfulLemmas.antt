@@ -36,7 +36,7 @@ use Rattle.rust_gen.proofs.TextLemmas.{owes_written}
 use Rattle.rust_gen.proofs.TreeLemmas.{length-places_from, own-first}
 use Rattle.std.proofs.Common.{◌<◌, ◌≤◌, ◌&&◌, ◌||◌, ◌^◌}
 use Rattle.wrapper_run.specs.Run.{numbered}
-use Rattle.rust_gen.specs.Built.{is_built_result, is_built_type}
+use Rattle.rust_gen.specs.Built.{is_built_result, is_built_type, are_built_options, are_built_tables, is_built_function, is_built_item, is_built_world, is_no_type, is_under_itself}
 use Rattle.std.proofs.lemmas.Fmt.{decimal_injective}
 use Rattle.wrapper_run.specs.Areas.{needs_area}
 use Rattle.wrapper_run.specs.Entries.{IsExported, entries_in, entries_named, exports_in}
@@ -52,7 +52,8 @@ use Rattle.wrapper_data.specs.declared.run.Run.{Run}
 use Rattle.wrapper_data.specs.declared.word.Word.{Word}
 use Rattle.wit_model.specs.declared.types.WitType.{WitType}
 use Rattle.wit_model.specs.declared.types.WitType.TheVariants as wit
-use Rattle.rust_gen.specs.Emitted.{Entries, emitted_sides, exported_functions, functions_in, imported_functions, on_side, places_from}
+use Rattle.rust_gen.specs.Emitted.{emitted_sides, exported_functions, functions_in, imported_functions, on_side, places_from}
+use Rattle.type_defs.specs.ListedTypes.{Entries}
 use Rattle.rust_tree.specs.declared.export.ExportFn.{ExportFn}
 use Rattle.rust_gen.proofs.ExportRunLemmas.{FitsExport, meets_call}
 use Rattle.rust_tree.specs.declared.export.PostReturnFn.{PostReturnFn}
@@ -66,15 +67,15 @@ use Rattle.rust_gen.proofs.ReturnLemmas.{frees_words}
 use Rattle.rust_gen.specs.declared.opts.Opts.{Opts}
 use Rattle.wit_model.specs.declared.wasm_type.WasmType.{WasmType}
 use Rattle.rust_gen.proofs.ItemLemmas.{alone-named, area-found, distinct-image, entries-are, find-named, method-found, runtime-found}
-use Rattle.rust_gen.specs.Built.{are_built_options, are_built_tables, is_built_function, is_built_item, is_built_world, is_no_type, is_under_itself}
-use Rattle.rust_gen.specs.NameText.{are_written_tables, is_wit_form, is_written_entry, is_written_world}
+use Rattle.rust_gen.specs.NameText.{are_written_tables, is_written_entry, is_written_world}
+use Rattle.type_defs.specs.WitForm.{is_wit_form}
 use Rattle.rust_gen.specs.Exported.{area_of, arg_name, arg_prefix, core_args, entries_of, export_entry, file_macro, guest_name, guest_trait, last_macro, post_return_name, return_entry, static_area, trait_and_macro, trait_fn, where_any, where_area, world_macro}
 use Rattle.std.specs.Str.{bytes_eq}
 use Rattle.std.proofs.lemmas.Slice.Eq.{bytes_eq-Decides}
 use Rattle.wrapper_run.specs.ExportRun.{export_at, export_nth, export_run, method_named, run_export_item}
 use Rattle.rust_tree.specs.Runtime.{item_name}
 use Rattle.std.proofs.lemmas.Bool.Decides.{nat_tests}
-use Rattle.rust_gen.specs.Printed.{param_words}
+use Rattle.rust_gen.specs.Signature.{param_words}
 use Rattle.rust_tree.specs.Ident.{rust_ident}
 use Rattle.wit_model.specs.declared.world.WorldItem.TheVariants as entry
 

@@ -2,10 +2,7 @@ mod AcceptedLemmas
 mod AskedLemmas
 pub mod EmittedLemmas
 mod ClashLemmas
-mod CutLemmas
 mod DeclaredLemmas
-mod DefinedLemmas
-mod DefinedNameLemmas
 mod EntryLemmas
 mod ExportRunLemmas
 mod FaithfulLemmas
@@ -13,24 +10,21 @@ mod FixedLemmas
 mod GiveLemmas
 mod IdentLemmas
 mod ItemLemmas
-mod LevelLemmas
 mod LiftLemmas
 mod LiftingLemmas
 mod LowerLemmas
 mod ListedNameLemmas
-mod ListingLemmas
 mod LoweringLemmas
 mod NamedExportLemmas
 mod NamedImportLemmas
 mod NamedLemmas
-mod PartLemmas
 mod PartsLemmas
 mod PathLemmas
-mod PrintedLemmas
 mod ReturnLemmas
 mod RunLemmas
 mod ScopeLemmas
 mod ServedLemmas
+mod SignatureLemmas
 mod SkipLemmas
 mod TakenLemmas
 mod TextLemmas

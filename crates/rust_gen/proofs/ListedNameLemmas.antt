@@ -11,22 +11,25 @@ use Rattle.wit_model.specs.declared.types.TypeDefKind.TheVariants as kind
 use Rattle.wit_model.specs.declared.types.WitType.TheVariants.{Id}
 use Rattle.wit_model.specs.declared.world.World.{World}
 use Rattle.rust_tree.specs.Ident.{is_ident, is_type_name, rust_ident}
+use Rattle.type_defs.specs.declared.type_opts.TypeOpts.{TypeOpts}
 use Rattle.rust_gen.specs.declared.opts.Opts.{Opts}
-use Rattle.rust_gen.specs.Emitted.{listed_types}
+use Rattle.rust_gen.specs.TypeOpts.{type_opts}
+use Rattle.type_defs.specs.ListedTypes.{listed_types}
 use Rattle.rust_gen.specs.Cause.{is_accepted, is_well_named}
 use Rattle.rust_gen.specs.DeclaredNames.{declares_well, has_distinct_names}
-use Rattle.rust_gen.specs.Levels.{are_shallow, is_any_deeper, is_deeper, is_shallow, parts_of}
-use Rattle.rust_gen.specs.Listing.{are_listed_well, is_covered, lists, may_list}
-use Rattle.rust_gen.specs.NameText.{are_written_members, are_written_tables, is_wit_form, is_written_package, is_written_type, is_written_type_name, is_written_world}
-use Rattle.rust_gen.specs.PrintedTypes.{entry_at, entry_or_none, field_names, name_or_none, printed_types, type_name}
+use Rattle.type_defs.specs.Levels.{are_shallow, is_any_deeper, is_deeper, is_shallow, parts_of}
+use Rattle.type_defs.specs.Listing.{are_listed_well, is_covered, lists, may_list}
+use Rattle.rust_gen.specs.NameText.{are_written_members, are_written_tables, is_written_package, is_written_type, is_written_type_name, is_written_world}
+use Rattle.type_defs.specs.WitForm.{is_wit_form}
+use Rattle.type_defs.specs.PrintedTypes.{entry_at, entry_or_none, field_names, name_or_none, printed_types, type_name}
 use Rattle.rust_gen.specs.TooLarge.{are_small}
-use Rattle.rust_gen.specs.TypeNames.{are_type_names}
+use Rattle.type_defs.specs.TypeNames.{are_type_names}
 use Rattle.wit_model.specs.Parts.{parts}
 use Rattle.wit_model.proofs.AllLemmas.{all_at}
 use Rattle.std.specs.Prelude.{if◌then◌else◌}
 use Rattle.rust_gen.proofs.DeclaredLemmas.{field_idents, type_idents}
-use Rattle.rust_gen.proofs.ListingLemmas.{listed-reached, not-true, world-listing}
-use Rattle.rust_gen.specs.DefinedNames.{IsNamedDefinition, are_named_parts}
+use Rattle.type_defs.proofs.ListingLemmas.{listed-reached, not-true, world-listing}
+use Rattle.type_defs.specs.DefinedNames.{IsNamedDefinition, are_named_parts}
 
 all-contained : {A : Type 0} (test : A → Bool) (xs : List A) (x : A) → list_all test xs ≡ true → Contains xs x → test x ≡ true
 all-contained test [] x h (k, below, e) = absurd (omega arith)
@@ -71,7 +74,7 @@ shallow-low types id t shallow at =
     let entry : is_shallow types t ≡ true = all_at (is_shallow types) types id.0 t shallow at in
     ap (λ o. is_any_deeper types 99 (parts_of o)) at ∙ not-true (is_any_deeper types 99 (parts t.kind)) entry
 
-asked-all : (opts : Opts) (r : Resolve) (world : World) (test : TypeDef → Bool) → opts.generate_unused_types ≡ true → list_all test (printed_types opts r world) ≡ true
+asked-all : (opts : TypeOpts) (r : Resolve) (world : World) (test : TypeDef → Bool) → opts.generate_unused_types ≡ true → list_all test (printed_types opts r world) ≡ true
     → list_all test (flat_map (entry_at r.types) (listed_types world)) ≡ true
 unfolding printed_types
 asked-all opts r world test asked h = sym (ap (λ g. list_all test (if g then flat_map (entry_at r.types) (listed_types world) else [])) asked) ∙ h
@@ -90,8 +93,8 @@ named-definition opts r k world h found asked type listed =
     let written = (and_parts (list_all is_written_package r.packages) (list_all is_written_type r.types) (and_parts _ (list_all is_written_world r.worlds) tables).0).1 in
     let keep = all-contained (λ id. may_list k (slice_get r.types id.0) && is_covered r.types (listed_types world) 100 (Id id)) (listed_types world) type (world-listing r k world b.1 found) listed in
     let may = and_parts (may_list k (slice_get r.types type.0)) (is_covered r.types (listed_types world) 100 (Id type)) keep in
-    let names = asked-all opts r world (λ t. is_type_name (type_name t)) asked (sym (list_all-map is_type_name type_name (printed_types opts r world)) ∙ type_idents opts r world w.1) in
-    let fields = asked-all opts r world (λ t. list_all is_ident (field_names t.kind)) asked (field_idents opts r world w.1) in
+    let names = asked-all (type_opts opts) r world (λ t. is_type_name (type_name t)) asked (sym (list_all-map is_type_name type_name (printed_types (type_opts opts) r world)) ∙ type_idents opts r world w.1) in
+    let fields = asked-all (type_opts opts) r world (λ t. list_all is_ident (field_names t.kind)) asked (field_idents opts r world w.1) in
     go (slice_get r.types type.0) refl may.0 may.1 shallow names fields written
   where
     go : (o : Option TypeDef) → slice_get r.types type.0 ≡ o → may_list k (slice_get r.types type.0) ≡ true → is_covered r.types (listed_types world) 100 (Id type) ≡ true → are_shallow r.types ≡ true

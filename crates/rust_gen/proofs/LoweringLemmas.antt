@@ -5,7 +5,7 @@ use Rattle.wit_model.specs.declared.types.WitType.{WitType}
 use Rattle.wit_model.specs.declared.types.WitType.TheVariants as wit
 use Rattle.rust_gen.specs.declared.lower.Lowered.{Lowered}
 use Rattle.rust_gen.specs.declared.scope.Scope.{Scope}
-use Rattle.rust_gen.specs.Body.{LowersAll, LowersAs, Points, converted}
+use Rattle.rust_gen.specs.Body.{LowersAll, LowersAs, Points, converted, LiftsText, lift_kinds, text_kinds, text_lift, text_taken, word_at}
 use Rattle.wit_model.specs.Bytes.{Bytes}
 use Rattle.std.proofs.Common.{ℕ, Option, Some}
 use Rattle.rust_gen.specs.Lowering.{LowersOne, LowersParams, PointsTo}
@@ -14,7 +14,6 @@ use Rattle.rust_tree.specs.declared.expr.Expr.TheVariants as expr
 use Rattle.rust_tree.specs.declared.stmt.Stmt.{Stmt}
 use Rattle.rust_tree.specs.declared.stmt.Stmt.TheVariants as stmt
 use Rattle.rust_gen.specs.declared.scope.LocalKind.TheVariants as kind
-use Rattle.rust_gen.specs.Body.{LiftsText, lift_kinds, text_kinds, text_lift, text_taken, word_at}
 use Rattle.rust_gen.specs.ExportBody.{GivesText, text_boxed, text_given, text_stored}
 use Rattle.rust_gen.specs.Scope.{Declares, numbered}
 

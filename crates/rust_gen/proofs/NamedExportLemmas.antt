@@ -31,7 +31,7 @@ use Rattle.rust_gen.specs.Body.{runtime_name, runtime_path, word_at, lowering_it
 use Rattle.rust_gen.specs.Bound.{Parts, export_items}
 use Rattle.rust_gen.specs.ExportBody.{ArePartsWritten, IsExportBody, IsExportWritten, IsReturnWritten, LiftsAll, LiftsParam, LowersBack, LowersResult, ReturnWritten, dealloc_call, export_scope, forget_names, forget_path, text_boxed, text_freed, text_given, text_stored, value_local, value_name}
 use Rattle.rust_gen.specs.Exported.{arg_name, core_args, export_params, return_params}
-use Rattle.rust_gen.specs.Printed.{core_words, param_words}
+use Rattle.rust_gen.specs.Signature.{core_words, param_words}
 use Rattle.rust_gen.specs.Scope.{numbered}
 use Rattle.rust_gen.proofs.IdentLemmas.{arg_ident, forget_path-named, guest_ident, local_ident, runtime_path-named}
 use Rattle.rust_gen.proofs.NamedImportLemmas.{Exprs, Named, Stmts, expr_more, let_named, lift_scalar-named, lift_taken-named, load_named, local_named, runtime_named, stmt_more, stmts_append}

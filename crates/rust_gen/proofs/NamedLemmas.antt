@@ -16,29 +16,31 @@ use Rattle.rust_tree.specs.Ident.{is_ident, may_follow, rust_ident}
 use Rattle.rust_tree.specs.WellNamed.{are_named_core_params, are_well_named, is_ident_part, is_line, is_named_entry, is_named_item, is_named_method, is_named_module_macro, is_named_param, is_named_root_macro, is_named_trait, is_named_type, is_option_line, is_quotable}
 use Rattle.wrapper_run.specs.Areas.{needs_area}
 use Rattle.rust_gen.specs.declared.opts.Opts.{Opts}
+use Rattle.rust_gen.specs.TypeOpts.{type_opts}
 use Rattle.rust_gen.specs.Body.{IsWritten}
 use Rattle.rust_gen.specs.Bound.{AreItems, export_items, own_items}
 use Rattle.rust_gen.proofs.TreeLemmas.{own-first}
-use Rattle.rust_gen.specs.declared.opts.Opts.{Opts}
 use Rattle.rust_gen.specs.Cause.{is_accepted, is_well_named}
 use Rattle.rust_gen.specs.DeclaredNames.{cabi_suffix, declares_well, export_ident, export_prefix, has_distinct_names, is_empty, macro_idents, param_idents, where_exported}
-use Rattle.rust_gen.specs.DefinedNames.{AreDefinable}
-use Rattle.rust_gen.specs.Docs.{doc_lines}
+use Rattle.type_defs.specs.DefinedNames.{AreDefinable}
+use Rattle.type_defs.specs.Docs.{doc_lines}
 use Rattle.rust_gen.specs.Emitted.{exported_functions, imported_functions}
 use Rattle.rust_gen.specs.ExportBody.{ArePartsWritten}
 use Rattle.rust_gen.specs.Exported.{area_of, entries_of, export_entry, export_params, file_macro, guest_name, guest_trait, last_macro, macro_name, post_return_name, return_entry, return_params, static_area, trait_and_macro, trait_fn, trait_param, where_any, where_area, world_macro, world_prefix}
-use Rattle.rust_gen.specs.NameText.{are_written_tables, is_wit_form, is_written_entry, is_written_world}
+use Rattle.rust_gen.specs.NameText.{are_written_tables, is_written_entry, is_written_world}
+use Rattle.type_defs.specs.WitForm.{is_wit_form}
 use Rattle.rust_gen.specs.OptionLines.{option_lines, unused_types_line}
-use Rattle.rust_gen.specs.Printed.{printed_result}
+use Rattle.rust_gen.specs.Signature.{printed_result}
 use Rattle.rust_gen.specs.Runtime.{runtime_items, runtime_module}
-use Rattle.rust_gen.proofs.DefinedNameLemmas.{definitions-named}
+use Rattle.type_defs.proofs.DefinedNameLemmas.{definitions-named}
 use Rattle.rust_gen.proofs.DeclaredLemmas.{export_idents, import_idents, import_params, macro_names, method_idents}
 use Rattle.rust_gen.proofs.DeclaredLemmas as names
 use Rattle.rust_gen.proofs.EntryLemmas.{wit-forms}
-use Rattle.rust_gen.proofs.IdentLemmas.{docs-named, guest_ident, part_of, return-quotable, wit-quotable}
+use Rattle.rust_gen.proofs.IdentLemmas.{guest_ident, part_of, return-quotable}
+use Rattle.type_defs.proofs.NamedTextLemmas.{docs-named, wit-quotable}
 use Rattle.rust_gen.proofs.NamedExportLemmas.{export_params-named, exports-named, return_params-named}
 use Rattle.rust_gen.proofs.NamedImportLemmas.{imports-named}
-use Rattle.rust_gen.proofs.PrintedLemmas.{result-named, trait_params-named}
+use Rattle.rust_gen.proofs.SignatureLemmas.{result-named, trait_params-named}
 
 -- what is known of functions
 
@@ -161,7 +163,7 @@ known opts r world h = record {
     snake [] h full = cc
     snake (f ∷ exports) h full = part_of (codes "__export_world_") world.name.snake (codes "_cabi") (and_parts (is_ident (codes "__export_world_" ++ world.name.snake ++ codes "_cabi")) _ h).0
 
-items-named : (opts : Opts) (r : Resolve) (id : WorldId) (world : World) (items : List Item) → AreDefinable opts r id world → is_written_world world ≡ true → declares_well opts r world ≡ true
+items-named : (opts : Opts) (r : Resolve) (id : WorldId) (world : World) (items : List Item) → AreDefinable (type_opts opts) r id world → is_written_world world ≡ true → declares_well opts r world ≡ true
     → AreItems IsWritten ArePartsWritten opts r id world items → list_all is_named_item items ≡ true
 items-named opts r id world items types written declared a =
     let k = known opts r world declared in
@@ -176,7 +178,7 @@ items-named opts r id world items types written declared a =
     let last : list_all is_named_item (last_macro world) ≡ true = any-named es (item.RootMacro (file_macro world) ∷ []) (λ full. and_from (is_named_root_macro (file_macro world)) true (file_macro-named world (k.macros full)) refl) in
     let asked = runtime_items (own_items a.types a.wrappers a.exports world) in
     let runtime : List Item = runtime_module asked in
-    let definitions : list_all is_named_item (map item.Type a.types) ≡ true = list_all-map is_named_item item.Type a.types ∙ definitions-named opts r id world a.types types a.defined in
+    let definitions : list_all is_named_item (map item.Type a.types) ≡ true = list_all-map is_named_item item.Type a.types ∙ definitions-named (type_opts opts) r id world a.types types a.defined in
     ap (list_all is_named_item) (a.are ∙ own-first a.types a.wrappers a.exports world (runtime ++ last_macro world))
     ∙ items-append (map item.Type a.types) (map item.Import a.wrappers ++ (flat_map export_items a.exports ++ (trait_and_macro world ++ (area_of es ++ (runtime ++ last_macro world))))) definitions
     (items-append (map item.Import a.wrappers) (flat_map export_items a.exports ++ (trait_and_macro world ++ (area_of es ++ (runtime ++ last_macro world)))) (imports-named fs a.wrappers imports k.imports k.import_params a.wraps)
@@ -195,7 +197,7 @@ options-named opts = go opts.generate_unused_types
     go true = line-named
     go false = refl
 
-pub tree-named : (opts : Opts) (r : Resolve) (id : WorldId) (world : World) (options : List Bytes) (items : List Item) → AreDefinable opts r id world → is_written_world world ≡ true → declares_well opts r world ≡ true
+pub tree-named : (opts : Opts) (r : Resolve) (id : WorldId) (world : World) (options : List Bytes) (items : List Item) → AreDefinable (type_opts opts) r id world → is_written_world world ≡ true → declares_well opts r world ≡ true
     → options ≡ option_lines opts → AreItems IsWritten ArePartsWritten opts r id world items → are_well_named options items ≡ true
 tree-named opts r id world options items types written declared lines a =
     ap (λ o. are_well_named o items) lines

@@ -11,7 +11,8 @@ use Rattle.wit_model.specs.declared.types.WitType.TheVariants as wit
 use Rattle.rust_tree.specs.declared.expr.CastType.TheVariants as cast
 use Rattle.rust_tree.specs.declared.stmt.Stmt.TheVariants as stmt
 use Rattle.rust_gen.specs.declared.scope.LocalKind.TheVariants as kind
-use Rattle.rust_gen.specs.Body.{IsBody, IsWritten, Lifts, LiftsAs, LiftsBy, call_kinds, call_stmt, import_call, import_decl, import_name, local_path, result_name, root_module, runtime_call, runtime_path, LowersAll, Points, area_stmts, LiftsScalar}
+use Rattle.rust_gen.specs.Body.{IsBody, IsWritten, Lifts, LiftsAs, LiftsBy, call_kinds, call_stmt, import_call, import_decl, import_name, result_name, root_module, runtime_call, runtime_path, LowersAll, Points, area_stmts, LiftsScalar}
+use Rattle.type_defs.specs.Paths.{local_path}
 use Rattle.wit_model.specs.declared.types.WitType.{WitType}
 use Rattle.wit_model.specs.Distinct.{is_distinct}
 use Rattle.rust_tree.specs.declared.expr.Expr.TheVariants as expr
@@ -49,7 +50,8 @@ use Rattle.wrapper_run.proofs.LocalLemmas.{ReadsAll, SameLength, declared-alone,
 use Rattle.wrapper_run.proofs.NumberLemmas.{answered-unit}
 use Rattle.wrapper_run.proofs.StepLemmas.{Quiet, answer_gives, call_gives, ended-calls, import_gives, no_answer_gives, quiet_answer, quiet_bind, quiet_then, quiet_cast, quiet_local, quiet_pure, quiet_runtime, answers_plain, quiet_answers, quiet_drop}
 use Rattle.rust_gen.specs.DeclaredNames.{param_idents}
-use Rattle.rust_gen.specs.Printed.{core_result, core_type, printed_result, printed_type, core_params, param_words, pointer_words}
+use Rattle.rust_gen.specs.Signature.{core_result, core_type, printed_result, core_params, param_words, pointer_words}
+use Rattle.type_defs.specs.Printed.{printed_type}
 use Rattle.rust_tree.specs.Asked.{asked_by_block, asked_by_stmt, asked_by_tail}
 use Rattle.rust_gen.specs.Wrapper.{printed_param}
 use Rattle.rust_tree.specs.declared.expr.CastType.{CastType}

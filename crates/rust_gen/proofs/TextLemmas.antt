@@ -64,9 +64,10 @@ use Rattle.wrapper_run.proofs.TypedLemmas.{answered_in}
 use Rattle.wrapper_run.proofs.TakeLemmas.{answered-text, area_gives, leaves_one, load_gives, used-plain, quiet_load, quiet_raw, text_gives, text_local, used_local, words_give}
 use Rattle.rust_gen.proofs.TakenLemmas.{AreFree, addresses, take_stmts, taken-last, taken_over, takes_text}
 use Rattle.wrapper_run.specs.Represents.{HasText, block_of}
-use Rattle.rust_gen.specs.Body.{IsBody, IsWritten, LiftsText, Lifts, Points, area_stmts, call_kinds, call_stmt, import_call, import_decl, import_name, local_path, result_name, runtime_call, runtime_path, text_taken, word_at, text_area as area_of}
+use Rattle.rust_gen.specs.Body.{IsBody, IsWritten, LiftsText, Lifts, Points, area_stmts, call_kinds, call_stmt, import_call, import_decl, import_name, result_name, runtime_call, runtime_path, text_taken, word_at, text_area as area_of}
+use Rattle.type_defs.specs.Paths.{local_path}
 use Rattle.rust_gen.specs.DeclaredNames.{param_idents}
-use Rattle.rust_gen.specs.Printed.{core_params, core_result, param_words, pointer_words, printed_result}
+use Rattle.rust_gen.specs.Signature.{core_params, core_result, param_words, pointer_words, printed_result}
 use Rattle.rust_tree.specs.Asked.{asked_by_expr, asked_by_stmt, asked_by_tail}
 use Rattle.rust_gen.specs.Scope.{Declares, IsFixedName, cleanup_list, first_scope, is_used, numbered, ret_area}
 use Rattle.wit_model.specs.Bytes.{Bytes}

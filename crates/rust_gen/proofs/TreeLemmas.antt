@@ -15,7 +15,8 @@ use Rattle.rust_tree.specs.declared.place.FuncPlace.{FuncPlace}
 use Rattle.rust_tree.specs.Tree.{wrapper_count}
 use Rattle.rust_gen.specs.declared.opts.Opts.{Opts}
 use Rattle.rust_gen.specs.Body.{IsWritten}
-use Rattle.rust_gen.specs.Emitted.{Entries, functions_in, places_from, emitted_places, exported_functions, imported_functions}
+use Rattle.rust_gen.specs.Emitted.{functions_in, places_from, emitted_places, exported_functions, imported_functions}
+use Rattle.type_defs.specs.ListedTypes.{Entries}
 use Rattle.rust_gen.specs.Runtime.{runtime_module, runtime_items}
 use Rattle.wit_model.specs.declared.name.WorldId.{WorldId}
 use Rattle.wit_model.specs.declared.resolve.Resolve.{Resolve}
@@ -27,13 +28,8 @@ use Rattle.rust_gen.specs.Bound.{AreItems, Parts, export_items, own_items}
 use Rattle.rust_gen.specs.ExportBody.{ArePartsWritten}
 use Rattle.rust_gen.specs.Exported.{area_of, file_macro, guest_trait, last_macro, static_area, trait_and_macro, where_any, world_macro}
 use Rattle.wrapper_run.specs.Areas.{needs_area}
+use Rattle.type_defs.proofs.ZipLemmas.{AllZip-more}
 use Rattle.rust_gen.proofs.SkipLemmas.{skip-count}
-
-pub AllZip-more : {A B : Type 0} (R : A → B → Type 0) (xs : List A) (ys : List B) (x : A) (y : B) → AllZip R xs ys → R x y → AllZip R (xs ++ x ∷ []) (ys ++ y ∷ [])
-AllZip-more R [] [] x y z r = (r, tt)
-AllZip-more R [] (b ∷ ys) x y z r = absurd z
-AllZip-more R (a ∷ xs) [] x y z r = absurd z
-AllZip-more R (a ∷ xs) (b ∷ ys) x y z r = (z.0, AllZip-more R xs ys x y z.1 r)
 
 -- one more function with its wrapper
 pub wraps-more : {W : Type 0} (R : Function → W → Type 0) (fs : List (Bor Function)) (i : ℕ) (f : Bor Function) (ws : List W) (w : W)

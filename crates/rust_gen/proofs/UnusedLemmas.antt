@@ -20,8 +20,8 @@ use Rattle.type_facts.specs.declared.info.TypeInfo.{TypeInfo}
 use Rattle.type_facts.specs.Facts.{IsInfoOf}
 use Rattle.type_facts.specs.Roots.{Roots, export_side, import_side, both, function_roots, listed_roots, roots_of_world, world_roots}
 use Rattle.rust_gen.specs.Built.{is_built_function, is_built_item, is_built_result, is_built_type, is_built_world, is_no_type, is_under_itself}
-use Rattle.rust_gen.specs.Emitted.{Entries}
-use Rattle.rust_gen.specs.Modes.{is_used}
+use Rattle.type_defs.specs.ListedTypes.{Entries}
+use Rattle.type_defs.specs.Modes.{is_used}
 
 -- types of which none is in the table
 abbrev AreOutside : List WitType → Type 0

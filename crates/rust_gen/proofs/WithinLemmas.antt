@@ -9,7 +9,7 @@ use Rattle.wit_model.specs.declared.world.WorldItem.TheVariants as entry
 use Rattle.wit_model.specs.IndexRange.{item_in_range, key_in_range, listed_in_range, world_in_range, first_out_of_range}
 use Rattle.wit_model.specs.WellFormed.{IsWellFormed, first_fault}
 use Rattle.wit_model.proofs.InRange.{neither, passes_at, unmapped}
-use Rattle.rust_gen.specs.Emitted.{Entries, listed_types, types_in}
+use Rattle.type_defs.specs.ListedTypes.{Entries, listed_types, types_in}
 
 none-out : (r : Resolve) → first_fault r ≡ None → first_out_of_range r ≡ None
 unfolding first_fault

@@ -19,7 +19,7 @@ use Rattle.rust_gen.specs.Bound.{Binds, Parts}
 use Rattle.rust_gen.specs.declared.scope.Scope.{Scope}
 use Rattle.wit_model.specs.declared.wasm_type.WasmType.{WasmType}
 use Rattle.rust_tree.specs.declared.stmt.Block.{Block}
-use Rattle.rust_gen.specs.Printed.{core_result}
+use Rattle.rust_gen.specs.Signature.{core_result}
 use Rattle.rust_gen.specs.declared.scope.LocalKind.TheVariants as kind
 use Rattle.rust_gen.specs.Scope.{first_scope, numbered}
 use Rattle.wit_model.specs.Bytes.{Bytes}

@@ -20,8 +20,8 @@ use Rattle.rust_tree.specs.Ident.{rust_ident}
 use Rattle.rust_tree.specs.Runtime.{item_name}
 use Rattle.rust_gen.specs.declared.scope.LocalKind.{LocalKind}
 use Rattle.rust_gen.specs.declared.scope.LocalKind.TheVariants as kind
-use Rattle.rust_gen.specs.Docs.{doc_lines}
-use Rattle.rust_gen.specs.Printed.{printed_result, core_params, core_result, text_size}
+use Rattle.type_defs.specs.Docs.{doc_lines}
+use Rattle.rust_gen.specs.Signature.{printed_result, core_params, core_result, text_size}
 use Rattle.rust_gen.specs.declared.scope.Scope.{Scope}
 use Rattle.rust_gen.specs.Scope.{Declares, IsFixedName, first_scope, numbered, ret_area}
 use Rattle.wit_model.specs.Bytes.{Bytes}
@@ -42,9 +42,6 @@ runtime_name = codes "_rt"
 
 abbrev pub runtime_path : RuntimeItem → Path
 runtime_path i = record { lead = false; supers = 0; names = runtime_name ∷ item_name i ∷ [] }
-
-abbrev pub local_path : Bytes → Path
-local_path name = record { lead = false; supers = 0; names = name ∷ [] }
 
 abbrev pub runtime_call : RuntimeItem → Expr → Expr
 runtime_call i e = expr.Call (runtime_path i) (e ∷ [])

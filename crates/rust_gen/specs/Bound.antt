@@ -15,11 +15,12 @@ use Rattle.rust_tree.specs.declared.item.Item.TheVariants as item
 use Rattle.rust_tree.specs.declared.type_item.TypeItem.{TypeItem}
 use Rattle.rust_tree.specs.Tree.{Tree}
 use Rattle.rust_gen.specs.declared.opts.Opts.{Opts}
-use Rattle.rust_gen.specs.Defined.{AreDefinitions}
+use Rattle.type_defs.specs.Defined.{AreDefinitions}
 use Rattle.rust_gen.specs.Emitted.{emitted_places, exported_functions, imported_functions}
 use Rattle.rust_gen.specs.Exported.{area_of, last_macro, trait_and_macro}
 use Rattle.rust_gen.specs.OptionLines.{option_lines}
 use Rattle.rust_gen.specs.Runtime.{runtime_items, runtime_module}
+use Rattle.rust_gen.specs.TypeOpts.{type_opts}
 
 -- an exported function's wrapper, and its post-return function if it has one
 abbrev pub Parts : Type 0
@@ -40,7 +41,7 @@ pub record AreItems (IsWrapper : Function → FnItem → Type 0) (IsExport : Fun
   pub wrappers : List FnItem
   pub exports : List Parts
   pub are : items ≡ own_items types wrappers exports world ++ (runtime_module (runtime_items (own_items types wrappers exports world)) ++ last_macro world)
-  pub defined : AreDefinitions opts r id world types
+  pub defined : AreDefinitions (type_opts opts) r id world types
   pub wraps : AllZip IsWrapper (imported_functions world) wrappers
   pub exported : AllZip IsExport (exported_functions world) exports
 

@@ -14,10 +14,9 @@ use Rattle.wit_model.specs.declared.world.WorldItem.{WorldItem}
 use Rattle.wit_model.specs.declared.world.WorldItem.TheVariants as item
 use Rattle.wit_model.specs.declared.world.World.{World}
 use Rattle.wit_model.specs.declared.resolve.Resolve.{Resolve}
-use Rattle.rust_gen.specs.Printed.{param_words}
+use Rattle.rust_gen.specs.Signature.{param_words}
 use Rattle.rust_gen.specs.declared.opts.Opts.{Opts}
-use Rattle.rust_gen.specs.declared.opts.Ownership.{Ownership}
-use Rattle.rust_gen.specs.declared.opts.Ownership.TheVariants as ownership
+use Rattle.type_defs.specs.Modes.{is_owning}
 
 -- scalars and texts
 abbrev pub is_built_type : WitType → Bool
@@ -89,10 +88,6 @@ is_built_kind _ = false
 
 unfoldable pub are_built_tables : Resolve → Bool
 are_built_tables r = is_empty r.interfaces && list_all (λ t. is_built_kind t.kind) r.types && list_all is_built_world r.worlds
-
-abbrev pub is_owning : Ownership → Bool
-is_owning ownership.Owning = true
-is_owning (ownership.Borrowing _) = false
 
 abbrev pub are_flags_off : Opts → Bool
 are_flags_off o =

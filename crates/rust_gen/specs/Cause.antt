@@ -16,10 +16,10 @@ use Rattle.rust_gen.specs.declared.error.Lack.TheVariants.{Unbuilt}
 use Rattle.rust_gen.specs.declared.opts.Opts.{Opts}
 use Rattle.rust_gen.specs.Built.{are_built_tables, are_built_options}
 use Rattle.rust_gen.specs.DeclaredNames.{declares_well, has_distinct_names}
-use Rattle.rust_gen.specs.Listing.{are_listed_well}
+use Rattle.type_defs.specs.Listing.{are_listed_well}
 use Rattle.rust_gen.specs.NameText.{are_written_tables}
 use Rattle.rust_gen.specs.TooLarge.{are_small}
-use Rattle.rust_gen.specs.TypeNames.{are_type_names}
+use Rattle.type_defs.specs.TypeNames.{are_type_names}
 
 abbrev pub invalid : Rule × Place → GenError
 invalid f = InvalidWorld f.0 f.1.0 f.1.1

@@ -17,7 +17,8 @@ use Rattle.rust_gen.specs.declared.opts.Opts.{Opts}
 use Rattle.rust_gen.specs.Clash.{first_clash}
 use Rattle.rust_gen.specs.Emitted.{exported_functions, imported_functions}
 use Rattle.rust_gen.specs.Exported.{guest_name}
-use Rattle.rust_gen.specs.PrintedTypes.{field_names, printed_types, type_name}
+use Rattle.rust_gen.specs.TypeOpts.{type_opts}
+use Rattle.type_defs.specs.PrintedTypes.{field_names, printed_types, type_name}
 
 abbrev pub declared : Sort → Bytes → Declared
 declared sort name = record { sort = sort; name = name }
@@ -121,7 +122,7 @@ scopes_of world printed =
     ∷ map param_scope (imported_functions world) ++ map param_scope (exported_functions world))
 
 abbrev pub declared_names : Opts → Resolve → World → List NameScope
-declared_names opts r world = scopes_of world (printed_types opts r world)
+declared_names opts r world = scopes_of world (printed_types (type_opts opts) r world)
 
 -- they are identifiers, and none clashes with an earlier one
 unfoldable pub declares_well : Opts → Resolve → World → Bool

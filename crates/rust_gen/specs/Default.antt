@@ -1,7 +1,7 @@
 -- The options as they are where nothing is asked for.
 use Rattle.std.specs.Prelude.{[], None, false}
 use Rattle.rust_gen.specs.declared.opts.Opts.{Opts}
-use Rattle.rust_gen.specs.declared.opts.Ownership.TheVariants.{Owning}
+use Rattle.type_defs.specs.declared.ownership.Ownership.TheVariants.{Owning}
 
 abbrev pub default_opts : Opts
 default_opts = record {

@@ -1,16 +1,11 @@
--- Which functions of a world get a wrapper, and where each of them stands; and which types are its own.
+-- Which functions of a world get a wrapper, and where each of them stands.
 use Rattle.std.specs.Prelude.{ℕ, ◌+◌, Bool, true, false, List, [], ◌∷◌, ◌++◌, map, None}
 use Rattle.wit_model.specs.declared.function.Function.{Function}
-use Rattle.wit_model.specs.declared.name.TypeId.{TypeId}
-use Rattle.wit_model.specs.declared.world.WorldKey.{WorldKey}
 use Rattle.wit_model.specs.declared.world.WorldItem.{WorldItem}
 use Rattle.wit_model.specs.declared.world.WorldItem.TheVariants as item
 use Rattle.wit_model.specs.declared.world.World.{World}
 use Rattle.rust_tree.specs.declared.place.FuncPlace.{FuncPlace}
-
--- the imports, or the exports, of a world
-abbrev pub Entries : Type 0
-Entries = List (WorldKey × WorldItem)
+use Rattle.type_defs.specs.ListedTypes.{Entries}
 
 -- the function that an entry is, if it is one
 abbrev pub function_at : WorldItem → List Function
@@ -33,21 +28,6 @@ place_at nth (item.Named _) = []
 abbrev pub places_from : ℕ → Entries → List FuncPlace
 places_from nth [] = []
 places_from nth (entry ∷ entries) = place_at nth entry.1 ++ places_from (nth + 1) entries
-
--- the type that an entry is, if it is one
-abbrev pub type_at : WorldItem → List TypeId
-type_at (item.Interface _) = []
-type_at (item.Function _) = []
-type_at (item.Named id) = id ∷ []
-
--- the types among the entries, in their order
-abbrev pub types_in : Entries → List TypeId
-types_in [] = []
-types_in (entry ∷ entries) = type_at entry.1 ++ types_in entries
-
--- the types of a world itself
-abbrev pub listed_types : World → List TypeId
-listed_types world = types_in world.imports
 
 abbrev pub imported_functions : World → List Function
 imported_functions world = functions_in world.imports

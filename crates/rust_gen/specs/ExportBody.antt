@@ -24,7 +24,7 @@ use Rattle.rust_gen.specs.declared.scope.LocalKind.TheVariants as kind
 use Rattle.rust_gen.specs.declared.scope.Scope.{Scope}
 use Rattle.rust_gen.specs.Body.{LiftsScalar, LiftsTaken, lowering_item, runtime_call, runtime_path, text_kinds, word_at}
 use Rattle.rust_gen.specs.Exported.{arg_name, export_params, export_result, guest_name, return_params}
-use Rattle.rust_gen.specs.Printed.{core_words}
+use Rattle.rust_gen.specs.Signature.{core_words}
 use Rattle.rust_gen.specs.Scope.{Declares, numbered, ret_area, scope_over}
 use Rattle.wit_model.specs.Bytes.{Bytes}
 

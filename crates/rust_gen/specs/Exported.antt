@@ -22,9 +22,10 @@ use Rattle.rust_tree.specs.declared.item.Item.{Item}
 use Rattle.rust_tree.specs.declared.item.Item.TheVariants as item
 use Rattle.rust_tree.specs.Ident.{rust_ident}
 use Rattle.wrapper_run.specs.Areas.{needs_area}
-use Rattle.rust_gen.specs.Docs.{doc_lines}
+use Rattle.type_defs.specs.Docs.{doc_lines}
 use Rattle.rust_gen.specs.Emitted.{exported_functions}
-use Rattle.rust_gen.specs.Printed.{core_type, param_words, printed_result, printed_type, text_size}
+use Rattle.rust_gen.specs.Signature.{core_type, param_words, printed_result, text_size}
+use Rattle.type_defs.specs.Printed.{printed_type}
 use Rattle.wit_model.specs.Bytes.{Bytes}
 
 -- the trait

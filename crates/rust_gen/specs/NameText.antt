@@ -1,7 +1,6 @@
 -- Whether the names and versions of the tables are written as WIT writes them, and functions stand under names: rules that
 -- tables without interfaces can break.
-use Rattle.std.specs.Prelude.{ℕ, Bool, true, false, not, ◌&&◌, ◌||◌, nat_le, ◌==◌, List, [], ◌∷◌, Option, None, Some}
-use Rattle.std.specs.Char.{is_ascii_alphabetic, is_ascii_digit}
+use Rattle.std.specs.Prelude.{ℕ, Bool, true, false, not, ◌&&◌, ◌||◌, nat_le, ◌==◌, List, Option, None, Some}
 use Rattle.std.specs.List.{list_all}
 use Rattle.wit_model.specs.declared.function.Function.{Function}
 use Rattle.wit_model.specs.declared.name.Name.{Name}
@@ -15,17 +14,7 @@ use Rattle.wit_model.specs.declared.world.WorldKey.TheVariants as key
 use Rattle.wit_model.specs.declared.world.WorldItem.{WorldItem}
 use Rattle.wit_model.specs.declared.world.WorldItem.TheVariants as item
 use Rattle.wit_model.specs.declared.resolve.Resolve.{Resolve}
-
-abbrev pub is_nonempty : List ℕ → Bool
-is_nonempty [] = false
-is_nonempty (_ ∷ _) = true
-
--- an ASCII letter, a digit or `-`
-abbrev pub is_name_char : ℕ → Bool
-is_name_char c = is_ascii_alphabetic c || is_ascii_digit c || (c == 45)
-
-abbrev pub is_wit_form : List ℕ → Bool
-is_wit_form t = is_nonempty t && list_all is_name_char t
+use Rattle.type_defs.specs.WitForm.{is_nonempty, is_wit_form}
 
 -- `"`, `\`, `/`, `#` and `:` stand in no version
 abbrev pub is_version_mark : ℕ → Bool

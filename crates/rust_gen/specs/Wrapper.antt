@@ -12,9 +12,9 @@ use Rattle.rust_tree.specs.declared.stmt.Stmt.{Stmt}
 use Rattle.rust_tree.specs.declared.stmt.Stmt.TheVariants as stmt
 use Rattle.rust_tree.specs.Ident.{rust_ident}
 use Rattle.wrapper_run.specs.Areas.{needs_area}
-use Rattle.rust_gen.specs.Docs.{doc_lines}
+use Rattle.type_defs.specs.Docs.{doc_lines}
 use Rattle.rust_gen.specs.Exported.{export_params, export_result, return_params}
-use Rattle.rust_gen.specs.Printed.{param_type, printed_result, core_params, core_result}
+use Rattle.rust_gen.specs.Signature.{param_type, printed_result, core_params, core_result}
 
 abbrev pub printed_param : Param → FnParam
 printed_param p = record { name = rust_ident p.name; ty = param_type p.ty }

@@ -8,13 +8,12 @@ ghost use Rattle.rust_gen.specs.Cause.{IsAnswer, IsUnbuilt, cause, invalid, is_a
 use crate::built::{are_built_options, are_built_tables};
 use crate::clash::first_clash;
 use crate::error::{GenError, Lack};
-use crate::listing::are_listed_well;
 use crate::name_text::are_written_tables;
 use crate::names::{declared_names, have_distinct_names};
 use crate::opts::Opts;
 use crate::too_large::are_small;
-use crate::type_names::are_type_names;
 use std::alloc::Global;
+use type_defs::{are_listed_well, are_type_names};
 use wit_model::{OutOfMemory, Resolve, Rule, Table, World, WorldFault, WorldId};
 
 /// A rule that the tables break, and the first entry that breaks it.

@@ -2,10 +2,12 @@
 
 ghost use Rattle.std.specs.Prelude.{◌≡◌};
 ghost use Rattle.std.specs.List.{list_all};
-ghost use Rattle.rust_gen.specs.Built.{is_built_kind, is_built_part, is_built_type, is_built_result, is_freestanding, is_built_function, is_built_item, is_empty, is_no_type, is_under_itself, is_built_world, are_built_tables, are_flags_off, are_lists_empty, are_values_absent, is_owning, are_built_options};
+ghost use Rattle.rust_gen.specs.Built.{is_built_kind, is_built_part, is_built_type, is_built_result, is_freestanding, is_built_function, is_built_item, is_empty, is_no_type, is_under_itself, is_built_world, are_built_tables, are_flags_off, are_lists_empty, are_values_absent, are_built_options};
+ghost use Rattle.type_defs.specs.Modes.{is_owning};
 
 use crate::core_signature::are_at_most;
-use crate::opts::{Opts, Ownership};
+use crate::opts::Opts;
+use type_defs::Ownership;
 use wit_model::{
     Field, Function, FunctionKind, List, Param, Resolve, TypeDef, TypeDefKind, WitType, World,
     WorldItem, WorldKey,

@@ -1,7 +1,7 @@
 //! The core signatures of functions over scalars and texts.
 
 ghost use Rattle.std.specs.Prelude.{◌≡◌, ◌++◌, IfOk, OnOk, length, nat_le};
-ghost use Rattle.rust_gen.specs.Printed.{core_params, core_result, core_type, core_words, param_words, pointer_words};
+ghost use Rattle.rust_gen.specs.Signature.{core_params, core_result, core_type, core_words, param_words, pointer_words};
 
 use std::alloc::Global;
 use wit_model::{Function, List, OutOfMemory, Param, WasmType, WitType};

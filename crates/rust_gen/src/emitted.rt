@@ -1,11 +1,11 @@
-//! Which functions of a world get a wrapper, and where each of them stands; and which types are its own.
+//! Which functions of a world get a wrapper, and where each of them stands.
 
 ghost use Rattle.std.specs.Prelude.{◌≡◌, ◌++◌, IfOk, OnOk, map};
-ghost use Rattle.rust_gen.specs.Emitted.{function_at, functions_in, place_at, places_from, type_at, types_in};
+ghost use Rattle.rust_gen.specs.Emitted.{function_at, functions_in, place_at, places_from};
 
 use rust_tree::FuncPlace;
 use std::alloc::Global;
-use wit_model::{Function, List, OutOfMemory, TypeId, WorldItem, WorldKey};
+use wit_model::{Function, List, OutOfMemory, WorldItem, WorldKey};
 
 fn push_function<'a>(
     functions: &mut Vec<&'a Function>,
@@ -66,28 +66,4 @@ pub(crate) fn places_in(
         push_place(&mut places, nth, &entry.1)?;
     }
     Ok(places)
-}
-
-fn push_type(types: &mut List<TypeId>, item: &WorldItem) -> Result<(), OutOfMemory>
-    ensures { OnOk result (types.new ≡ types.old ++ type_at item.now) }
-{
-    match item {
-        WorldItem::Interface(_) => Ok(()),
-        WorldItem::Function(_) => Ok(()),
-        WorldItem::Named(id) => types.push(*id),
-    }
-}
-
-/// The types among imports or exports, in their order.
-pub(crate) fn types_in(
-    alloc: Global,
-    entries: &[(WorldKey, WorldItem)],
-) -> Result<List<TypeId>, OutOfMemory>
-    ensures { IfOk result (λ ids. ids ≡ types_in entries.now) }
-{
-    let mut types = List::new(alloc);
-    for entry in entries {
-        push_type(&mut types, &entry.1)?;
-    }
-    Ok(types)
 }

@@ -7,14 +7,13 @@ ghost use Rattle.rust_gen.specs.Exported.{area_of, arg_name, core_args, entries_
 
 use crate::area::{any_needs_area, needs_area, static_area};
 use crate::core_signature::{core_type, param_words};
-use crate::docs::doc_lines;
-use crate::lists::one;
-use crate::printed::{printed_result, printed_type};
+use crate::signature::printed_result;
 use rust_tree::{
     CoreParam, EntryKind, ExportEntry, FnParam, Item, ModuleMacro, RootMacro, TraitFn, TraitItem,
     to_rust_ident,
 };
 use std::alloc::Global;
+use type_defs::{doc_lines, one, printed_type};
 use wit_model::{Function, List, OutOfMemory, Param, Text, WasmType, WitType, World};
 
 /// The name of the trait.

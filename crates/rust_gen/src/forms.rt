@@ -1,13 +1,13 @@
 //! The forms of the tree that wrappers are made of.
 
 ghost use Rattle.std.specs.Prelude.{◌≡◌, [], ◌∷◌, IfOk};
-ghost use Rattle.rust_gen.specs.Body.{local_path, lowering_item, root_module, runtime_call, runtime_name, runtime_path};
+ghost use Rattle.rust_gen.specs.Body.{lowering_item, root_module, runtime_call, runtime_name, runtime_path};
 ghost use Rattle.rust_gen.specs.ExportBody.{forget_path};
 ghost use Rattle.rust_tree.specs.declared.expr.Expr.TheVariants as expr;
 
-use crate::lists::{one, two};
 use rust_tree::{CastType, Expr, Path, RuntimeItem};
 use std::alloc::Global;
+use type_defs::{one, two};
 use wit_model::{Boxed, OutOfMemory, Text, WitType};
 
 #[tactic(auto, unfolding(crate::specs::Body::runtime_name))]
@@ -30,17 +30,6 @@ pub(crate) fn runtime_path(alloc: Global, item: RuntimeItem) -> Result<Path, Out
 {
     let name = Text::from_str(alloc, item.name())?;
     let names = two(alloc, runtime_name(alloc)?, name)?;
-    Ok(Path {
-        lead: false,
-        supers: 0,
-        names,
-    })
-}
-
-pub(crate) fn local_path(alloc: Global, name: Text) -> Result<Path, OutOfMemory>
-    ensures { IfOk result (λ path. path ≡ local_path name) }
-{
-    let names = one(alloc, name)?;
     Ok(Path {
         lead: false,
         supers: 0,

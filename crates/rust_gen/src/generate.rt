@@ -5,10 +5,11 @@ ghost use Rattle.rust_gen.specs.Body.{IsWritten};
 ghost use Rattle.rust_gen.specs.Bound.{Binds};
 ghost use Rattle.rust_gen.specs.Cause.{IsAnswer, cause};
 ghost use Rattle.rust_gen.specs.DeclaredNames.{declares_well};
-ghost use Rattle.rust_gen.specs.DefinedNames.{AreDefinable};
+ghost use Rattle.type_defs.specs.DefinedNames.{AreDefinable};
 ghost use Rattle.rust_gen.specs.ExportBody.{ArePartsWritten};
 ghost use Rattle.rust_gen.specs.Generated.{Gains, Generates, file_name};
 ghost use Rattle.rust_gen.specs.NameText.{is_written_world};
+ghost use Rattle.rust_gen.specs.TypeOpts.{type_opts};
 
 use crate::accept::accepted_world;
 use crate::error::GenError;
@@ -68,7 +69,7 @@ fn write_file(
     world: &World,
     files: &mut Files,
 ) -> Result<Bindings, OutOfMemory>
-    requires types { AreDefinable opts.now resolve.now id world.now }
+    requires types { AreDefinable (type_opts opts.now) resolve.now id world.now }
     requires written { is_written_world world.now ≡ true }
     requires declared { declares_well opts.now resolve.now world.now ≡ true }
     ensures bound { IfOk result (Binds IsWritten ArePartsWritten opts.now resolve.now id world.now) }

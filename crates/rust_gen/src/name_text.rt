@@ -2,7 +2,8 @@
 
 ghost use Rattle.std.specs.Prelude.{◌≡◌};
 ghost use Rattle.std.specs.List.{list_all};
-ghost use Rattle.rust_gen.specs.NameText.{is_nonempty, is_name_char, is_wit_form, is_version_mark, is_version_char, is_version, is_written_package, are_written_members, is_written_type, is_written_type_name, is_written_function, is_written_item, is_written_key, is_written_entry, is_written_world, are_written_tables};
+ghost use Rattle.rust_gen.specs.NameText.{is_version_mark, is_version_char, is_version, is_written_package, are_written_members, is_written_type, is_written_type_name, is_written_function, is_written_item, is_written_key, is_written_entry, is_written_world, are_written_tables};
+ghost use Rattle.type_defs.specs.WitForm.{is_nonempty, is_name_char, is_wit_form};
 
 use wit_model::{
     Case, Field, Function, Member, Name, Package, Param, Resolve, Text, TypeDef, TypeDefKind,

@@ -6,16 +6,17 @@ ghost use Rattle.rust_tree.specs.Ident.{rust_ident};
 ghost use Rattle.rust_gen.specs.declared.declared.Sort.TheVariants.{Macro, Type_, Value, WorldType};
 ghost use Rattle.rust_gen.specs.DeclaredNames.{all_declared, among_types, are_distinct_functions, area_idents, area_type_idents, declared, declared_names, field_scope, export_ident, has_distinct_names, macro_idents, module_scope, param_scope, return_names, return_prefix, runtime_ident, scopes_of, trait_idents, trait_scope, where_exported};
 ghost use Rattle.rust_gen.specs.Emitted as emitted;
-ghost use Rattle.rust_gen.specs.PrintedTypes.{entry_at, field_names, printed_types, type_name};
+ghost use Rattle.type_defs.specs.PrintedTypes.{field_names, type_name};
 
 use crate::area::{any_needs_area, needs_area};
 use crate::declared::{Declared, NameScope, Sort};
-use crate::emitted::{functions_in, types_in};
+use crate::emitted::functions_in;
 use crate::opts::Opts;
-use rust_tree::{to_rust_ident, to_upper_camel_case};
+use rust_tree::to_rust_ident;
 use std::alloc::Global;
+use type_defs::{printed_types, type_name};
 use wit_model::{
-    Field, Function, List, OutOfMemory, Param, Resolve, Text, TypeDef, TypeDefKind, TypeId, World,
+    Field, Function, List, OutOfMemory, Param, Resolve, Text, TypeDef, TypeDefKind, World,
     WorldItem, WorldKey, are_distinct,
 };
 
@@ -295,65 +296,6 @@ fn declare_macros(
     declare_copies(alloc, names, Sort::Macro, macros.as_slice())
 }
 
-fn push_entry<'a>(
-    printed: &mut Vec<&'a TypeDef>,
-    resolve: &'a Resolve,
-    id: TypeId,
-) -> Result<(), OutOfMemory>
-    ensures { OnOk result
-        (map (λ t. t.now) printed.new.items ≡ map (λ t. t.now) printed.old.items ++ entry_at resolve.now.types id) }
-{
-    match resolve.type_def(id) {
-        None => Ok(()),
-        Some(entry) => {
-            printed.push(entry)?;
-            Ok(())
-        }
-    }
-}
-
-fn entries_of<'a>(
-    alloc: Global,
-    resolve: &'a Resolve,
-    listed: &[TypeId],
-) -> Result<Vec<&'a TypeDef>, OutOfMemory>
-    ensures { IfOk result
-        (λ ts. map (λ t. t.now) ts.items ≡ flat_map (entry_at resolve.now.types) listed.now) }
-{
-    let mut printed = Vec::new(alloc);
-    for id in listed {
-        push_entry(&mut printed, resolve, *id)?;
-    }
-    Ok(printed)
-}
-
-/// The types that are defined in the file of a world, in its order.
-#[tactic(auto, unfolding(crate::specs::PrintedTypes::printed_types))]
-fn printed_types<'a>(
-    alloc: Global,
-    opts: &Opts,
-    resolve: &'a Resolve,
-    world: &World,
-) -> Result<Vec<&'a TypeDef>, OutOfMemory>
-    ensures { IfOk result
-        (λ ts. map (λ t. t.now) ts.items ≡ printed_types opts.now resolve.now world.now) }
-{
-    if !opts.generate_unused_types {
-        return Ok(Vec::new(alloc));
-    }
-    let listed = types_in(alloc, world.imports.as_slice())?;
-    entries_of(alloc, resolve, listed.as_slice())
-}
-
-fn type_name(alloc: Global, entry: &TypeDef) -> Result<Text, OutOfMemory>
-    ensures { IfOk result (λ name. name ≡ type_name entry.now) }
-{
-    match &entry.name {
-        None => Ok(Text::new(alloc)),
-        Some(name) => to_upper_camel_case(alloc, name),
-    }
-}
-
 fn declare_types(
     alloc: Global,
     names: &mut List<Declared>,
@@ -530,6 +472,6 @@ pub(crate) fn declared_names(
 ) -> Result<List<NameScope>, OutOfMemory>
     ensures { IfOk result (λ scopes. scopes ≡ declared_names opts.now resolve.now world.now) }
 {
-    let printed = printed_types(alloc, opts, resolve, world)?;
+    let printed = printed_types(alloc, opts.type_opts(), resolve, world)?;
     scopes_of(alloc, world, printed.as_slice())
 }

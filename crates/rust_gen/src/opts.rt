@@ -3,27 +3,8 @@ ghost use Rattle.std.specs.Prelude.{◌≡◌, IfOk};
 use crate::try_copy::TryCopy;
 use std::alloc::Global;
 use std::fmt;
+use type_defs::{Ownership, TypeOpts};
 use wit_model::{List, OutOfMemory, Text};
-
-/// Whether printed types own what they hold or borrow it where they can.
-#[derive(Clone, Copy, Debug, PartialEq, Eq)]
-pub enum Ownership {
-    Owning,
-    Borrowing {
-        /// Whether a type that is used both ways gets two definitions.
-        duplicate_if_necessary: bool,
-    },
-}
-
-impl Default for Ownership {
-    ghost use Rattle.rust_gen.specs.declared.opts.Ownership.TheVariants.{Owning};
-
-    ghost is_default = { λ ownership. ownership ≡ Owning };
-
-    fn default() -> Ownership {
-        Ownership::Owning
-    }
-}
 
 /// What stands in for an imported interface or a type of one: a path outside the file, or generated code.
 #[derive(Debug, PartialEq, Drop)]
@@ -129,6 +110,7 @@ pub struct Opts {
 
 impl Opts {
     ghost use Rattle.rust_gen.specs.Default.{default_opts};
+    ghost use Rattle.rust_gen.specs.TypeOpts.{type_opts};
 
     /// Every flag off, every list empty, every value absent, and owning types. It takes no memory.
     pub fn default(alloc: Global) -> Opts
@@ -156,6 +138,16 @@ impl Opts {
             export_macro_name: None,
             merge_structurally_equal_types: None,
             chainable_methods: List::new(alloc),
+        }
+    }
+
+    /// What the options say of the definitions of types.
+    pub(crate) fn type_opts(&self) -> TypeOpts
+        ensures { result ≡ type_opts self.now }
+    {
+        TypeOpts {
+            ownership: self.ownership,
+            generate_unused_types: self.generate_unused_types,
         }
     }
 

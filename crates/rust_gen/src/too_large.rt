@@ -5,9 +5,8 @@ ghost use Rattle.wit_model.specs.WellFormed.{IsWellFormed};
 ghost use Rattle.wit_layout.specs.Filled.{first_too_large};
 ghost use Rattle.rust_gen.specs.TooLarge.{are_small};
 
-use crate::levels::are_shallow;
-use crate::unfolded::are_few;
 use std::alloc::Global;
+use type_defs::{are_few, are_shallow};
 use wit_layout::{LayoutFault, SizeAlign};
 use wit_model::{OutOfMemory, Resolve};
 

@@ -8,24 +8,24 @@ ghost use Rattle.rust_tree.specs.WellNamed.{are_well_named};
 ghost use Rattle.rust_gen.specs.Body.{IsWritten};
 ghost use Rattle.rust_gen.specs.Bound.{AreItems, Binds, Parts, export_items};
 ghost use Rattle.rust_gen.specs.DeclaredNames.{declares_well};
-ghost use Rattle.rust_gen.specs.DefinedNames.{AreDefinable};
+ghost use Rattle.type_defs.specs.DefinedNames.{AreDefinable};
 ghost use Rattle.rust_gen.specs.Emitted.{emitted_places};
 ghost use Rattle.rust_gen.specs.ExportBody.{ArePartsWritten};
 ghost use Rattle.rust_gen.specs.NameText.{is_written_world};
 ghost use Rattle.rust_gen.specs.OptionLines.{option_lines, unused_types_line};
 ghost use Rattle.rust_gen.specs.Runtime.{runtime_module};
+ghost use Rattle.rust_gen.specs.TypeOpts.{type_opts};
 
-use crate::define::definitions_of;
 use crate::emitted::{functions_in, places_in};
 use crate::export::export_wrapper;
 use crate::exported::{push_area, push_last_macro, push_trait_and_macro};
-use crate::lists::one;
 use crate::opts::Opts;
 use crate::post_return::post_return;
 use crate::runtime::runtime_items;
 use crate::wrapper::import_wrapper;
 use rust_tree::{Bindings, ExportFn, FuncPlace, Item, PostReturnFn, RuntimeItem, TypeItem};
 use std::alloc::Global;
+use type_defs::{definitions_of, one};
 use wit_model::{Function, List, OutOfMemory, Resolve, Text, World, WorldId};
 
 fn type_items(alloc: Global, types: List<TypeItem>) -> Result<List<Item>, OutOfMemory>
@@ -109,12 +109,12 @@ fn world_items(
     id: WorldId,
     world: &World,
 ) -> Result<List<Item>, OutOfMemory>
-    requires { AreDefinable opts.now resolve.now id world.now }
+    requires { AreDefinable (type_opts opts.now) resolve.now id world.now }
     ensures { IfOk result (AreItems IsWritten ArePartsWritten opts.now resolve.now id world.now) }
 {
     let imports = functions_in(alloc, world.imports.as_slice())?;
     let exports = functions_in(alloc, world.exports.as_slice())?;
-    let types = definitions_of(alloc, opts, resolve, id, world)?;
+    let types = definitions_of(alloc, opts.type_opts(), resolve, id, world)?;
     let mut items = type_items(alloc, types)?;
     push_imports(alloc, &mut items, imports.as_slice())?;
     push_exports(alloc, &mut items, exports.as_slice())?;
@@ -161,7 +161,7 @@ pub(crate) fn bindings_of(
     id: WorldId,
     world: &World,
 ) -> Result<Bindings, OutOfMemory>
-    requires types { AreDefinable opts.now resolve.now id world.now }
+    requires types { AreDefinable (type_opts opts.now) resolve.now id world.now }
     requires written { is_written_world world.now ≡ true }
     requires declared { declares_well opts.now resolve.now world.now ≡ true }
     ensures bound { IfOk result (Binds IsWritten ArePartsWritten opts.now resolve.now id world.now) }

@@ -6,20 +6,20 @@ ghost use Rattle.rust_tree.specs.declared.stmt.Stmt.{Stmt};
 ghost use Rattle.rust_tree.specs.declared.stmt.Stmt.TheVariants as stmt;
 ghost use Rattle.rust_gen.specs.Body.{IsBody, IsWritten, call_kinds, call_stmt, import_call, import_decl, import_name, result_name};
 ghost use Rattle.rust_gen.specs.DeclaredNames.{param_idents};
-ghost use Rattle.rust_gen.specs.Printed.{core_result};
+ghost use Rattle.rust_gen.specs.Signature.{core_result};
 ghost use Rattle.rust_gen.specs.Scope.{Declares, IsFixedName, ret_area};
 
 use crate::area::{area_stmts, point};
 use crate::core_signature::{core_params, core_result};
-use crate::docs::doc_lines;
-use crate::forms::{local_path, root_module};
+use crate::forms::root_module;
 use crate::lift::lift_result;
 use crate::lower::{Lowered, lower_all};
 use crate::names::param_idents;
-use crate::printed::{printed_params, printed_result};
 use crate::scope::{LocalKind, Scope, fixed_name, numbered, scope_over};
+use crate::signature::{printed_params, printed_result};
 use rust_tree::{Block, Expr, FnItem, ImportDecl, Stmt, to_rust_ident};
 use std::alloc::Global;
+use type_defs::{doc_lines, local_path};
 use wit_model::{Function, List, OutOfMemory, Text};
 
 fn import_name(alloc: Global, t: u32) -> Result<Text, OutOfMemory>

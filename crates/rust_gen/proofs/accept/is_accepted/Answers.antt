@@ -1,6 +1,6 @@
 use Rattle.std.proofs.Common.{◌≡◌, ◌∙◌, true, sym}
 use Rattle.std.proofs.lemmas.Bool.{and_parts}
-use Rattle.rust_gen.specs.Levels.{are_shallow}
+use Rattle.type_defs.specs.Levels.{are_shallow}
 use Rattle.rust_gen.specs.TooLarge.{are_small}
 use Rattle.rust_gen.proofs.accept.is_accepted.Goals as goal
 

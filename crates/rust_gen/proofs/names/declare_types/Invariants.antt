@@ -1,7 +1,7 @@
 use Rattle.std.proofs.Common.{◌≡◌, ◌++◌, map, take}
 use Rattle.rust_gen.specs.declared.declared.Sort.TheVariants.{WorldType}
 use Rattle.rust_gen.specs.DeclaredNames.{declared}
-use Rattle.rust_gen.specs.PrintedTypes.{type_name}
+use Rattle.type_defs.specs.PrintedTypes.{type_name}
 use Rattle.rust_gen.proofs.names.declare_types.Given as goal
 
 abbrev pub invariant-loop-entry : goal.invariant-loop-entry

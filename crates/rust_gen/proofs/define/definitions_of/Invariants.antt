@@ -1,8 +1,0 @@
-use Rattle.std.proofs.Common.{◌≡◌, List, take}
-use Rattle.std.specs.List.{AllZip, flat_map}
-use Rattle.rust_tree.specs.declared.type_item.TypeItem.{TypeItem}
-use Rattle.rust_gen.specs.Defined.{AreDefinitionsOf}
-use Rattle.rust_gen.proofs.define.definitions_of.Given as goal
-
-abbrev pub invariant-loop-own : goal.invariant-loop-own
-invariant-loop-own l = (owns : List (List TypeItem)) × (l.items ≡ flat_map (λ own. own) owns) × AllZip (AreDefinitionsOf l.opts l.resolve l.fn.id) (take l.own-index l.own-items) owns

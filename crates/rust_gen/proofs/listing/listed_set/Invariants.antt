@@ -1,7 +1,0 @@
-use Rattle.std.proofs.Common.{◌≡◌, ℕ, nat_eq, take}
-use Rattle.std.specs.HashSet as set
-use Rattle.rust_gen.specs.Listing.{lists}
-use Rattle.rust_gen.proofs.listing.listed_set.Given as goal
-
-abbrev pub invariant-loop-id : goal.invariant-loop-id
-invariant-loop-id l = (nth : ℕ) → set.contains nat_eq l.set nth ≡ lists (take l.id-index l.listed) nth

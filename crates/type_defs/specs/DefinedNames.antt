@@ -1,0 +1,41 @@
+-- When the names that definitions of types print may stand in a tree.
+use Rattle.std.specs.Prelude.{◌≡◌, Bool, true, ◌&&◌, ◌||◌, nat_lt, List, length, Some, slice_get}
+use Rattle.std.specs.List.{Contains, list_all}
+use Rattle.wit_model.specs.declared.name.Name.{Name}
+use Rattle.wit_model.specs.declared.name.TypeId.{TypeId}
+use Rattle.wit_model.specs.declared.name.WorldId.{WorldId}
+use Rattle.wit_model.specs.declared.resolve.Resolve.{Resolve}
+use Rattle.wit_model.specs.declared.types.TypeDef.{TypeDef}
+use Rattle.wit_model.specs.declared.types.TypeDefKind.{TypeDefKind}
+use Rattle.wit_model.specs.declared.types.TypeDefKind.TheVariants as kind
+use Rattle.wit_model.specs.declared.types.WitType.TheVariants.{Id}
+use Rattle.wit_model.specs.declared.world.World.{World}
+use Rattle.wit_model.specs.Reaches.{Reaches}
+use Rattle.wit_model.specs.WellFormed.{IsWellFormed}
+use Rattle.rust_tree.specs.Ident.{is_ident, is_type_name, rust_ident, type_ident}
+use Rattle.type_facts.specs.declared.info.TypeInfo.{TypeInfo}
+use Rattle.type_facts.specs.Facts.{IsInfoOf}
+use Rattle.type_defs.specs.declared.type_opts.TypeOpts.{TypeOpts}
+use Rattle.type_defs.specs.Modes.{is_owning, is_used}
+use Rattle.type_defs.specs.Defined.{are_defined_kinds}
+use Rattle.type_defs.specs.ListedTypes.{listed_types}
+use Rattle.type_defs.specs.WitForm.{is_wit_form}
+
+-- the fields of a record
+abbrev pub are_named_parts : TypeDefKind → Bool
+are_named_parts (kind.Record fields) = list_all (λ f. is_ident (rust_ident f.name) && is_wit_form f.name.wit) fields
+are_named_parts _ = true
+
+-- each named type that a type reaches has a name that a type may have, and so have its fields
+pub record IsNamedDefinition (types : List TypeDef) (id : TypeId) : Type 0 where
+  pub reached : (part : TypeId) (entry : TypeDef) (name : Name) → Reaches types (Id id) (Id part) → slice_get types part.0 ≡ Some entry → entry.name ≡ Some name → is_type_name (type_ident name) ≡ true
+  pub parts : (entry : TypeDef) → slice_get types id.0 ≡ Some entry → are_named_parts entry.kind ≡ true
+
+-- what is known of tables whose types are defined: they are well formed, their types are of kinds that are defined, types are
+-- owned, the world lists types of the table, and the names of each type that the world lists and the file defines may stand there
+pub record AreDefinable (opts : TypeOpts) (r : Resolve) (id : WorldId) (world : World) : Type 0 where
+  pub checked : IsWellFormed r
+  pub kinds : are_defined_kinds r.types ≡ true
+  pub owning : is_owning opts.ownership ≡ true
+  pub within : list_all (λ type. nat_lt type.0 (length r.types)) (listed_types world) ≡ true
+  pub named : (type : TypeId) (info : TypeInfo) → Contains (listed_types world) type → IsInfoOf r id type info → (is_used info || opts.generate_unused_types) ≡ true → IsNamedDefinition r.types type

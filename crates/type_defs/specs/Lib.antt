@@ -1,0 +1,15 @@
+pub mod Defined
+pub mod DefinedNames
+pub mod Docs
+pub mod Levels
+pub mod ListedTypes
+pub mod Listing
+pub mod Modes
+pub mod OwnershipText
+pub mod PartType
+pub mod Paths
+pub mod Printed
+pub mod PrintedTypes
+pub mod TypeNames
+pub mod Unfolded
+pub mod WitForm

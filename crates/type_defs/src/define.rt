@@ -1,0 +1,131 @@
+//! The definitions of a world's types.
+
+mod alias;
+mod derives;
+mod part;
+mod record;
+mod tuple;
+
+ghost use Rattle.std.specs.Prelude.{◌≡◌, ◌++◌, ◌||◌, ◌<◌, true, false, length, List, IfOk, OnOk};
+ghost use Rattle.type_facts.specs.Facts.{IsAnalysis};
+ghost use Rattle.type_defs.specs.Defined.{AreDefinitions, AreDefinitionsOf, are_defined_kinds, entry_definitions, entry_items, is_defined_kind, kind_items};
+ghost use Rattle.type_defs.specs.Modes.{is_owning, is_used};
+ghost use Rattle.type_defs.specs.DefinedNames.{AreDefinable};
+ghost use Rattle.rust_tree.specs.Ident.{type_ident};
+
+use crate::define::alias::alias_item;
+use crate::define::record::record_item;
+use crate::define::tuple::tuple_item;
+use crate::listed_types::types_in;
+use crate::type_opts::TypeOpts;
+use rust_tree::TypeItem;
+use std::alloc::Global;
+use type_facts::{TypeInfo, Types};
+use wit_model::{List, Name, OutOfMemory, Resolve, TypeDef, TypeDefKind, TypeId, World, WorldId};
+
+/// Puts the definition of a type under its name behind others, by its kind.
+fn push_kind(
+    alloc: Global,
+    items: &mut List<TypeItem>,
+    types: &[TypeDef],
+    info: TypeInfo,
+    entry: &TypeDef,
+    name: &Name,
+) -> Result<(), OutOfMemory>
+    ensures { OnOk result
+        (items.new ≡ items.old ++ kind_items types.now info entry.now.docs (type_ident name.now) entry.now.kind) }
+{
+    let item = match &entry.kind {
+        TypeDefKind::Record(fields) => record_item(
+            alloc,
+            types,
+            info,
+            entry,
+            name,
+            fields.as_slice(),
+        )?,
+        TypeDefKind::Alias(ty) => alias_item(alloc, types, entry, name, *ty)?,
+        TypeDefKind::Tuple(parts) => tuple_item(alloc, types, entry, name, parts.as_slice())?,
+        _ => return Ok(()),
+    };
+    items.push(item)
+}
+
+/// Whether a type is defined: a function uses it, or unused types are asked for.
+fn is_defined(opts: TypeOpts, info: TypeInfo) -> bool
+    ensures { result ≡ (is_used info || opts.generate_unused_types) }
+{
+    info.owned || info.borrowed || opts.generate_unused_types
+}
+
+/// Puts the definitions of an entry of the table behind others.
+fn push_entry(
+    alloc: Global,
+    items: &mut List<TypeItem>,
+    opts: TypeOpts,
+    types: &[TypeDef],
+    info: TypeInfo,
+    entry: &TypeDef,
+) -> Result<(), OutOfMemory>
+    requires owning { is_owning opts.ownership ≡ true }
+    requires owned { info.has_borrow_handle ≡ false }
+    requires kind { is_defined_kind entry.now.kind ≡ true }
+    ensures { OnOk result
+        (items.new ≡ items.old ++ entry_items types.now info entry.now (entry_definitions opts info entry.now.kind entry.now.name)) }
+{
+    let Some(name) = &entry.name else {
+        return Ok(());
+    };
+    if !is_defined(opts, info) {
+        return Ok(());
+    }
+    push_kind(alloc, items, types, info, entry, name)
+}
+
+/// Puts the definitions of a type of the table behind others.
+fn push_type(
+    alloc: Global,
+    items: &mut List<TypeItem>,
+    opts: TypeOpts,
+    resolve: &Resolve,
+    facts: &Types,
+    id: TypeId,
+) -> Result<(), OutOfMemory>
+    requires owning { is_owning opts.ownership ≡ true }
+    requires kinds { are_defined_kinds resolve.now.types ≡ true }
+    requires analyzed { (world : WorldId) × IsAnalysis resolve.now world facts.now }
+    requires within { id.0 < length resolve.now.types }
+    ensures { OnOk result
+        ((own : List TypeItem) × (items.new ≡ items.old ++ own) × ((world : WorldId) → IsAnalysis resolve.now world facts.now → AreDefinitionsOf opts resolve.now world id own)) }
+{
+    let types = resolve.types.as_slice();
+    push_entry(
+        alloc,
+        items,
+        opts,
+        types,
+        facts.get(id),
+        &types[id.0 as usize],
+    )?;
+    Ok(())
+}
+
+/// The definitions of the types that a world lists itself, in its order.
+pub fn definitions_of(
+    alloc: Global,
+    opts: TypeOpts,
+    resolve: &Resolve,
+    id: WorldId,
+    world: &World,
+) -> Result<List<TypeItem>, OutOfMemory>
+    requires { AreDefinable opts resolve.now id world.now }
+    ensures { IfOk result (AreDefinitions opts resolve.now id world.now) }
+{
+    let ids = types_in(alloc, world.imports.as_slice())?;
+    let facts = Types::analyze(alloc, resolve, id)?;
+    let mut items = List::new(alloc);
+    for own in ids.as_slice() {
+        push_type(alloc, &mut items, opts, resolve, &facts, *own)?;
+    }
+    Ok(items)
+}

@@ -1,0 +1,29 @@
+//! The definitions of a world's own types: which types may be defined, which are, and what each definition prints.
+#![tactic(auto)]
+
+mod define;
+mod defined_types;
+mod docs;
+mod levels;
+mod listed_types;
+mod listing;
+mod lists;
+mod ownership;
+mod paths;
+mod printed;
+mod type_names;
+mod type_opts;
+mod unfolded;
+
+pub use define::definitions_of;
+pub use defined_types::{printed_types, type_name};
+pub use docs::doc_lines;
+pub use levels::are_shallow;
+pub use listing::are_listed_well;
+pub use lists::{one, two};
+pub use ownership::{Ownership, OwnershipFault};
+pub use paths::local_path;
+pub use printed::printed_type;
+pub use type_names::are_type_names;
+pub use type_opts::TypeOpts;
+pub use unfolded::are_few;
