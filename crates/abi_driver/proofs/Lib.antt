@@ -8,6 +8,10 @@ pub mod PlainPlaces
 pub mod PlainRows
 pub mod PlainRuns
 pub mod PlainNew
+pub mod ArgumentSteps
+pub mod SaysTypes
+pub mod HonestAnswers
+pub mod ImportSteps
 pub mod Records
 pub mod ReturnSteps
 pub mod SaysLength

@@ -2,6 +2,7 @@ pub mod Account
 pub mod Calls
 pub mod Frees
 pub mod HasList
+pub mod Imports
 pub mod Instructions
 pub mod Laws
 pub mod Leaves

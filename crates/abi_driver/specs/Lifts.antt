@@ -1,5 +1,5 @@
 -- What the code is by which core words become values.
-use Rattle.std.specs.Prelude.{◌≡◌, ℕ, true, false, List, [], ◌∷◌, ◌++◌, length}
+use Rattle.std.specs.Prelude.{◌≡◌, ℕ, true, false, List, [], ◌∷◌, ◌++◌, length, Option, None, Some}
 use Rattle.wrapper_data.specs.Heap.{is_heap}
 use Rattle.wrapper_data.specs.declared.block.Block.{Block}
 use Rattle.wrapper_data.specs.declared.word.Word.{Word}
@@ -58,3 +58,8 @@ module _ {Self Operand : Type 0} (m : Meaning Self Operand) where
     pub adds : Adds m old new
     pub fits : length os ≡ length (flatten_record (layouts ts))
     pub row : (v : Parts ts) (ws : List Word) (own : List Block) → AreListed ts v → PartsSay m.width take ts v ws own → TakesOver (λ vals. PartsStand m take ts (all_settled ts v) vals own) os ws own rs old new
+
+  -- the words of an answer become an operand of it, where there is one
+  abbrev pub LiftsAnswer : (r : Option Shape) → (os rs : List Operand) → (old new : Self) → Type 0
+  LiftsAnswer None os rs old new = (rs ≡ []) × (new ≡ old)
+  LiftsAnswer (Some t) os rs old new = (o : Operand) × (rs ≡ o ∷ []) × LiftsFlat t os o old new

@@ -1,5 +1,5 @@
 -- What the code is by which values become core words.
-use Rattle.std.specs.Prelude.{◌≡◌, Bool, List, [], ◌∷◌, length}
+use Rattle.std.specs.Prelude.{◌≡◌, ℕ, Bool, List, [], ◌∷◌, length}
 use Rattle.wrapper_data.specs.declared.block.Block.{Block}
 use Rattle.wrapper_data.specs.declared.word.Word.{Word}
 use Rattle.wit_layout.specs.Flat.{flatten_record, flatten_type}
@@ -9,7 +9,7 @@ use Rattle.wrapper_meaning.specs.Layout.{layout, layouts}
 use Rattle.wrapper_meaning.specs.Shape.{Shape, Shapes}
 use Rattle.wrapper_meaning.specs.Value.{Parts, Value}
 use Rattle.abi_driver.specs.Account.{addresses, releasing}
-use Rattle.abi_driver.specs.Laws.{Adds, Does, Facts, core_data, item_data, ofs}
+use Rattle.abi_driver.specs.Laws.{Adds, Does, Facts, args, core_data, item_data, ofs}
 use Rattle.abi_driver.specs.Leaves.{way}
 use Rattle.abi_driver.specs.Meaning.{Meaning, item}
 use Rattle.abi_driver.specs.Parts.{PartsStand}
@@ -34,3 +34,10 @@ module _ {Self Operand : Type 0} (m : Meaning Self Operand) where
     pub fits : length os ≡ length (flatten_record (layouts ts))
     pub row : (heap : List Block) (v : Parts ts) (vals : List m.Item) (own : List Block) → AreListed ts v → PartsStand m (way realloc heap) ts v vals own →
         Passes (PartsSay m.width (way realloc heap) ts v) (ofs m parts (item_data m vals)) own os old new
+
+  -- the same of arguments, from one on
+  pub record LowersArguments (realloc : Bool) (ts : Shapes) (first : ℕ) (os : List Operand) (old new : Self) : Type 0 where
+    pub adds : Adds m old new
+    pub fits : length os ≡ length (flatten_record (layouts ts))
+    pub row : (heap : List Block) (v : Parts ts) (vals : List m.Item) (own : List Block) → AreListed ts v → PartsStand m (way realloc heap) ts v vals own →
+        Passes (PartsSay m.width (way realloc heap) ts v) (args m first (item_data m vals)) own os old new

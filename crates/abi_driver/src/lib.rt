@@ -3,6 +3,7 @@
 
 mod after_return;
 mod bindgen;
+mod call;
 mod dealloc;
 mod has_list;
 mod instruction;
@@ -15,6 +16,7 @@ mod send;
 
 pub use after_return::post_return;
 pub use bindgen::{Bindgen, Operand};
+pub use call::call_import;
 pub use dealloc::deallocate_lists_in_types;
 pub use has_list::guest_export_needs_post_return;
 pub use instruction::Instruction;

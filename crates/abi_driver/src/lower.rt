@@ -40,7 +40,7 @@ pub fn lower_flat<B: Bindgen>(
 /// The same, by a type that was read.
 #[cycle(lower)]
 #[tactic(auto, unfolding(wit_model::specs::TypeOrder::type_below))]
-fn lower_type<B: Bindgen>(
+pub(crate) fn lower_type<B: Bindgen>(
     alloc: Global,
     resolve: &Resolve,
     bindgen: &mut B,

@@ -3,7 +3,7 @@
 ghost use Rattle.std.specs.Prelude.{◌≡◌, length, map, IfOk};
 
 use std::alloc::Global;
-use wit_model::{Field, List, OutOfMemory, WitType};
+use wit_model::{Field, List, OutOfMemory, Param, WitType};
 
 /// The types of some fields.
 pub(crate) fn field_types(alloc: Global, members: &[Field]) -> Result<List<WitType>, OutOfMemory>
@@ -16,10 +16,29 @@ pub(crate) fn field_types(alloc: Global, members: &[Field]) -> Result<List<WitTy
     Ok(tys)
 }
 
+/// The types of some parameters.
+pub(crate) fn param_types(alloc: Global, params: &[Param]) -> Result<List<WitType>, OutOfMemory>
+    ensures { IfOk result (λ tys. tys ≡ map (λ p. p.ty) params.now) }
+{
+    let mut tys = List::new(alloc);
+    for param in params {
+        tys.push(param.ty)?;
+    }
+    Ok(tys)
+}
+
 /// How many there are.
 pub(crate) fn part_count(tys: &[WitType]) -> Result<u32, OutOfMemory>
     ensures { IfOk result (λ n. n ≡ length tys.now) }
 {
-    let n = u32::try_from(tys.len()).map_err(|_| OutOfMemory)?;
+    let n = numbered(tys.len())?;
     Ok(n)
+}
+
+/// A number as a `u32`.
+pub(crate) fn numbered(n: usize) -> Result<u32, OutOfMemory>
+    ensures { IfOk result (λ k. k ≡ n) }
+{
+    let k = u32::try_from(n).map_err(|_| OutOfMemory)?;
+    Ok(k)
 }

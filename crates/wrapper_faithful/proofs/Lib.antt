@@ -1,7 +1,7 @@
 pub mod AlongRuns
 pub mod AreaWords
 pub mod FormedWithout
-pub mod HeapBlocks
+pub mod HeapPlaces
 pub mod HonestPeers
 pub mod Instances
 pub mod KeptHeaps

@@ -70,7 +70,8 @@ use Rattle.wrapper_faithful.specs.Ties.{ExportIsTied, ExportFits, IsSimple, Retu
 use Rattle.wrapper_faithful.specs.Resources.{Resources, calls_of}
 use Rattle.wrapper_faithful.proofs.AreaWords.{address_stands, length_stands}
 use Rattle.wrapper_data.proofs.FormedHeaps.{formed}
-use Rattle.wrapper_faithful.proofs.HeapBlocks.{all_in_heap, distinct_places, same_blocks}
+use Rattle.wrapper_meaning.proofs.HeapBlocks.{all_in_heap}
+use Rattle.wrapper_faithful.proofs.HeapPlaces.{distinct_places, same_blocks}
 use Rattle.wrapper_faithful.proofs.HonestPeers.{told_result}
 use Rattle.wrapper_faithful.proofs.NoHandles.{nothing_is_dropped}
 use Rattle.wrapper_faithful.proofs.SimpleSides.{none_of_result, all_calls, asked, due_asked, no_areas_scalar, no_requests, no_result_requests, passed_simple, simple_bill}

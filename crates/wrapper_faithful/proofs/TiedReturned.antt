@@ -32,7 +32,8 @@ use Rattle.wrapper_faithful.specs.Passed.{Passed}
 use Rattle.wrapper_faithful.specs.Returned.{IsReturned, IsUnreturned, Returns, RunOfPostReturn}
 use Rattle.wrapper_faithful.proofs.AreaWords.{address_loaded, length_loaded}
 use Rattle.wrapper_data.proofs.FormedHeaps.{AreFormed, formed}
-use Rattle.wrapper_faithful.proofs.HeapBlocks.{all_in_heap, found_at, gone, still_there}
+use Rattle.wrapper_meaning.proofs.HeapBlocks.{all_in_heap, still_there}
+use Rattle.wrapper_faithful.proofs.HeapPlaces.{found_at, gone}
 use Rattle.wrapper_faithful.proofs.KeptHeaps.{post_return_keeps_heap}
 use Rattle.wrapper_faithful.proofs.SimpleSides.{no_area_scalar}
 

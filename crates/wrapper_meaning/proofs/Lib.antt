@@ -14,6 +14,8 @@ pub mod ShapeIsByKind
 pub mod PlainLists
 pub mod PostReturn
 pub mod Permutations
+pub mod HeapBlocks
+pub mod NewBlocks
 pub mod PlainIsCanonical
 pub mod Instances
 pub mod NoLists

@@ -1,0 +1,88 @@
+-- Arguments become words, one after another.
+use Rattle.std.proofs.Common.{◌≡◌, ℕ, suc, ◌+◌, ◌<◌, Option, None, Some, false, List, [], ◌∷◌, ◌++◌, length, drop, refl, sym, ap, ◌∙◌, subst, arith, ◌≤◌, append_assoc, append-nil}
+use Rattle.std.specs.Prelude.{IfSome}
+use Rattle.std.proofs.lemmas.List.{drop_all, length-append, length-map}
+use Rattle.wit_model.specs.declared.types.TypeDef.{TypeDef}
+use Rattle.wit_model.specs.declared.types.WitType.{WitType}
+use Rattle.wit_layout.specs.Flat.{flatten_record, flatten_type}
+use Rattle.wrapper_data.specs.declared.block.Block.{Block}
+use Rattle.wrapper_meaning.specs.AsWords.{PartsSay}
+use Rattle.wrapper_meaning.specs.Layout.{layout, layouts}
+use Rattle.wrapper_meaning.specs.Shape.{Shape, Shapes, shape_of}
+use Rattle.wrapper_meaning.specs.Shape.Shapes.{none, more}
+use Rattle.abi_driver.specs.declared.instruction.Instruction.TheVariants.{GetArg}
+use Rattle.abi_driver.specs.Account.{addresses, releasing}
+use Rattle.abi_driver.specs.Instructions.{Emits, shapes_of}
+use Rattle.abi_driver.specs.Laws.{Does, Facts, Sound, args, core_data, item_data, ofs}
+use Rattle.abi_driver.specs.Leaves.{way}
+use Rattle.abi_driver.specs.Lowers.{LowersArguments, LowersFlat, Passes}
+use Rattle.abi_driver.specs.Meaning.{Meaning, arg, item, of, word}
+use Rattle.abi_driver.proofs.Runs.{adds_both, adds_same, addresses_both, core_append, does_both, does_none, ofs_append, stays_then}
+
+-- the numbers of arguments are below their count
+pub within_count : (limit later : Option ℕ) (n i : ℕ) → later ≡ limit → IfSome limit (λ k. k ≡ n) → i < n → IfSome later (λ k. i < k)
+within_count limit later n i e h l = subst (λ o. IfSome o (λ k. i < k)) (sym e) (by limit h)
+  where
+    by : (o : Option ℕ) → IfSome o (λ k. k ≡ n) → IfSome o (λ k. i < k)
+    by None h = tt
+    by (Some k) h = omega (arith, h, l)
+
+module _ {Self Operand : Type 0} (m : Meaning Self Operand) (sound : Sound m) (types : List TypeDef) where
+  no_arguments : (first : ℕ) (a : Self) → LowersArguments m false none first [] a a
+  no_arguments first a = record {
+    adds = adds_same m a;
+    fits = refl;
+    row = λ heap v vals own listed st.
+        let P : List m.Item → List Block → Type 0 = λ vals own. Passes m (PartsSay m.width (way false heap) none v) (args m first (item_data m vals)) own [] a a in
+        subst (λ vs. P vs own) (sym st.0) (subst (P []) (sym st.1) ([], refl, (refl, refl), does_none m a));
+  }
+
+  argument_and : (t : Shape) (ts : Shapes) (first : ℕ) (a b c d : Self) (o : Operand) (os qs : List Operand) → Emits m types (GetArg first) [] (o ∷ []) a b → LowersFlat m false t o os b c
+      → LowersArguments m false ts (suc first) qs c d → LowersArguments m false (more t ts) first (os ++ qs) a d
+  argument_and t ts first a b c d o os qs read flat later = record {
+    adds = adds_both m a b d read.adds (adds_both m b c d flat.adds later.adds);
+    fits = length-append os qs ∙ omega (arith, flat.fits, later.fits, length-append (flatten_type (layout t)) (flatten_record (layouts ts)));
+    row = λ heap v vals own listed st.
+        let x = st.0 in
+        let rest = st.1 in
+        let own1 = st.2 in
+        let own2 = st.3 in
+        let P : List m.Item → List Block → Type 0 = λ vals own. Passes m (PartsSay m.width (way false heap) (more t ts) v) (args m first (item_data m vals)) own (os ++ qs) a d in
+        let one = flat.row heap v.0 x own1 listed.0 st.5 in
+        let two = later.row heap v.1 rest own2 listed.1 st.6 in
+        let D : List ℕ → Facts m → Type 0 = λ xs fs0. Does m (Unit {0}) a d (arg first (item x) ∷ args m (suc first) (item_data m rest)) (λ f. releasing xs) (λ u fs. fs ≡ fs0) (λ u. []) (λ u. xs) in
+        let from = stays_then m a b c (arg first (item x) ∷ []) (of o (item x) ∷ []) (ofs m os (core_data m one.0)) (addresses own1) flat.adds (read.row (item x)) one.3 in
+        let does = does_both m sound a c d (arg first (item x) ∷ []) (args m (suc first) (item_data m rest)) (ofs m os (core_data m one.0)) (ofs m qs (core_data m two.0)) (addresses own1) (addresses own2) later.adds from two.3 in
+        let len : length (core_data m one.0) ≡ length os = length-map one.0 (λ w. word w) ∙ one.1 in
+        let facts : ofs m os (core_data m one.0) ++ ofs m qs (core_data m two.0) ≡ ofs m (os ++ qs) (core_data m (one.0 ++ two.0)) =
+        sym (ap (ofs m (os ++ qs)) (core_append m one.0 two.0) ∙ ofs_append m os qs (core_data m one.0) (core_data m two.0) len) in
+        let whole : Passes m (PartsSay m.width (way false heap) (more t ts) v) (args m first (item_data m (x ∷ rest))) (own1 ++ own2) (os ++ qs) a d = (
+          one.0 ++ two.0,
+          length-append one.0 two.0 ∙ omega (arith, one.1, two.1, length-append os qs),
+          (one.0, two.0, own1, own2, one.2, two.2, refl, refl),
+          subst (λ xs. D xs (ofs m (os ++ qs) (core_data m (one.0 ++ two.0)))) (sym (addresses_both own1 own2)) (subst (D (addresses own1 ++ addresses own2)) facts does),
+        ) in
+        subst (λ vs. P vs own) (sym st.4) (subst (P (x ∷ rest)) (sym st.7) whole);
+  }
+
+  -- what lowers the arguments from one on, with what was lowered before it, lowers all
+
+  abbrev pub Rest : List WitType → ℕ → List Operand → (a b : Self) → Type 0
+  Rest tys i all a b = (new : Self) (later : List Operand) → LowersArguments m false (shapes_of types (drop i tys)) i later b new → LowersArguments m false (shapes_of types tys) 0 (all ++ later) a new
+
+  pub rest_first : (tys : List WitType) (a : Self) → Rest tys 0 [] a a
+  rest_first tys a new later h = h
+
+  pub rest_next : (tys : List WitType) (i : ℕ) (all os now : List Operand) (a b c d : Self) (ty : WitType) (o : Operand) → drop i tys ≡ ty ∷ drop (i + 1) tys → Emits m types (GetArg i) [] (o ∷ []) b c
+      → LowersFlat m false (shape_of types ty) o os c d → now ≡ all ++ os → Rest tys i all a b → Rest tys (i + 1) now a d
+  rest_next tys i all os now a b c d ty o et read one en rest new later h =
+      let next : i + 1 ≡ suc i = omega arith in
+      let after = subst (λ k. LowersArguments m false (shapes_of types (drop (i + 1) tys)) k later d new) next h in
+      let both = argument_and (shape_of types ty) (shapes_of types (drop (i + 1) tys)) i b c d new o os later read one after in
+      let back = subst (λ ts. LowersArguments m false (shapes_of types ts) i (os ++ later) b new) (sym et) both in
+      subst (λ ps. LowersArguments m false (shapes_of types tys) 0 ps a new) (sym (ap (λ xs. xs ++ later) en ∙ append_assoc all os later)) (rest new (os ++ later) back)
+
+  pub rest_last : (tys : List WitType) (i : ℕ) (all : List Operand) (a b : Self) → length tys ≤ i → Rest tys i all a b → LowersArguments m false (shapes_of types tys) 0 all a b
+  rest_last tys i all a b ended rest =
+      let none : LowersArguments m false (shapes_of types (drop i tys)) i [] b b = subst (λ ts. LowersArguments m false (shapes_of types ts) i [] b b) (sym (drop_all i tys ended)) (no_arguments i b) in
+      subst (λ ps. LowersArguments m false (shapes_of types tys) 0 ps a b) (append-nil all) (rest b [] none)

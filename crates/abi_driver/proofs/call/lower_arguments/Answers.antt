@@ -1,0 +1,34 @@
+use Rattle.std.proofs.Common.{◌<◌, ◌≤◌, [], ◌∷◌, ◌++◌, length, get_or, sym, subst, ap, ◌∙◌, arith}
+use Rattle.std.specs.Prelude.{IfSome}
+use Rattle.std.proofs.lemmas.List.{drop_more}
+use Rattle.wit_model.specs.declared.types.WitType.TheVariants as wit
+use Rattle.abi_driver.specs.declared.instruction.Instruction.TheVariants as instruction
+use Rattle.abi_driver.specs.Instructions.{Emits}
+use Rattle.abi_driver.proofs.ArgumentSteps.{rest_last, rest_next, within_count}
+use Rattle.abi_driver.proofs.Runs.{adds_both}
+use Rattle.abi_driver.proofs.call.lower_arguments.Goals as goal
+
+pub argument-requires : goal.argument-requires
+argument-requires g c =
+    let m = g.B.Bindgen.meaning in
+    let short : c.loop-i.i < length c.args.tys.now = omega (arith, c.loop-i-test.true) in
+    let here = within_count (m.arguments c.args.bindgen.now) (m.arguments c.loop-i.bindgen) (length c.args.tys.now) c.loop-i.i c.loop-i.invariant.adds.grows.arguments c.requires.arguments short in
+    subst (λ n. IfSome (m.arguments c.loop-i.bindgen) (λ k. n < k)) (sym c.in_ok-number.ensures) here
+
+pub loop-i-preserved : goal.loop-i-preserved
+loop-i-preserved g c =
+    let m = g.B.Bindgen.meaning in
+    let types = c.args.resolve.now.types in
+    let short : c.loop-i.i < length c.args.tys.now = omega (arith, c.loop-i-test.true) in
+    let read = subst (λ n. Emits m types (instruction.GetArg n) [] (c.in_ok-value.value ∷ []) c.loop-i.bindgen c.argument.new.bindgen) c.in_ok-number.ensures c.in_ok-value.ensures in
+    record {
+      adds = adds_both m _ _ _ c.loop-i.invariant.adds (adds_both m _ _ _ c.in_ok-value.ensures.adds c.in_ok-words.ensures.adds);
+      rest = rest_next m g.met.B.Bindgen.sound types c.args.tys.now c.loop-i.i c.loop-i.all.items c.in_ok-words.words c.push_copies.new.all.items _ _ _ _ (get_or c.args.tys.now c.loop-i.i wit.Bool) c.in_ok-value.value
+          (drop_more c.args.tys.now c.loop-i.i wit.Bool short) read c.in_ok-words.ensures (c.in_ok-push_copies.ensures ∙ ap (λ os. c.loop-i.all.items ++ os) c.as_slice.ensures) c.loop-i.invariant.rest;
+    }
+
+pub returns : goal.returns
+returns g c =
+    let m = g.B.Bindgen.meaning in
+    let ended : length c.args.tys.now ≤ c.loop-i.i = omega (arith, c.loop-i-test.false) in
+    rw c.from_vec.ensures (rest_last m g.met.B.Bindgen.sound c.args.resolve.now.types c.args.tys.now c.loop-i.i c.loop-i.all.items _ _ ended c.loop-i.invariant.rest)
