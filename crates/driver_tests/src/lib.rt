@@ -2,6 +2,8 @@
 #![tactic(auto)]
 
 #[cfg(test)]
+mod call;
+#[cfg(test)]
 mod flat;
 #[cfg(test)]
 mod frees;
