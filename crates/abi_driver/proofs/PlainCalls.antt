@@ -1,26 +1,29 @@
--- The step of a `PlainBindgen` that calls a core import, and the end of its code, do what the laws ask of them.
-use Rattle.std.proofs.Common.{◌≡◌, Bor, ℕ, suc, Bool, true, false, if◌then◌else◌, List, [], ◌∷◌, ◌++◌, length, Option, Some, option_to_list, refl, sym, ap, ◌∙◌, subst, arith}
-use Rattle.std.proofs.lemmas.Bool.{and_parts}
+-- The steps of a `PlainBindgen` that call a core import or a method, and the end of its code, do what the laws ask of them.
+use Rattle.std.proofs.Common.{◌≡◌, Bor, ℕ, suc, Bool, true, false, not, nat_eq, if◌then◌else◌, List, [], ◌∷◌, ◌++◌, length, Option, Some, option_to_list, refl, sym, ap, ◌∙◌, subst, arith}
+use Rattle.std.specs.List.{AllByRecursion, flat_map}
+use Rattle.std.proofs.lemmas.Bool.{and_parts, eqb-true}
 use Rattle.std.proofs.lemmas.List.{length-map}
 use Rattle.wit_model.specs.declared.function.Function.{Function}
 use Rattle.wit_model.specs.declared.types.TypeDef.{TypeDef}
 use Rattle.wit_model.specs.declared.wasm_type.WasmType.{WasmType}
 use Rattle.wrapper_data.specs.declared.run.Target.TheVariants as target
 use Rattle.wrapper_data.specs.declared.word.Word.{Word}
+use Rattle.wrapper_meaning.specs.Items.{SameItems, total}
 use Rattle.abi_driver.specs.declared.instruction.Instruction.TheVariants as instruction
 use Rattle.abi_driver.specs.declared.plain.Place.{Place}
 use Rattle.abi_driver.specs.declared.plain.PlainBindgen.{PlainBindgen}
 use Rattle.abi_driver.specs.declared.plain.Step.TheVariants as step
-use Rattle.abi_driver.specs.Account.{Account, Done, Got, Outcome, Peer, Reply, Stopped, Stuck, gives, has_type, have_types, then_do, value, words}
-use Rattle.abi_driver.specs.Calls.{answered_by, calling, import_params, import_results}
+use Rattle.abi_driver.specs.Account.{Account, Act, Done, Follows, Got, Outcome, Peer, Reply, Stopped, Stuck, gives, has_type, have_types, then_do, value, words}
+use Rattle.abi_driver.specs.Calls.{CallsMethod, answered_by, calling, handing, import_params, import_results, left_by, result_count}
 use Rattle.abi_driver.specs.Instructions.{Emits}
-use Rattle.abi_driver.specs.Laws.{Does, core_data, ofs}
-use Rattle.abi_driver.specs.Meaning.{word}
-use Rattle.abi_driver.specs.Plain.{AddsStep, PlainItem, PlainState, all_words, and_word, called, places_from, plain_meaning}
+use Rattle.abi_driver.specs.Laws.{Does, Facts, core_data, item_data, ofs}
+use Rattle.abi_driver.specs.Meaning.{item, word}
+use Rattle.abi_driver.specs.Plain.{AddsStep, IsRight, PlainItem, PlainState, all_items, all_words, and_item, and_word, called, handed, owned_by, places_from, plain_meaning, plain_target, runs}
+use Rattle.abi_driver.specs.PlainSound.{all_left}
 use Rattle.abi_driver.proofs.PlainPlaces.{places_count, still_right}
 use Rattle.abi_driver.proofs.PlainRows.{many_at, same_owns}
-use Rattle.abi_driver.proofs.PlainRuns.{plain_does, plain_grows}
-use Rattle.abi_driver.proofs.Runs.{stops_same}
+use Rattle.abi_driver.proofs.PlainRuns.{plain_does, plain_follows, plain_grows}
+use Rattle.abi_driver.proofs.Runs.{adds_same, follows_more, stops_same}
 
 pub types_length : (types : List WasmType) (ws : List Word) → have_types types ws ≡ true → length ws ≡ length types
 types_length [] [] e = refl
@@ -32,7 +35,9 @@ words_all : (ws : List Word) → all_words (core_data plain_meaning ws) ≡ Some
 words_all [] = refl
 words_all (x ∷ ws) = ap (and_word (word x)) (words_all ws)
 
--- what is answered: words of the types, and owners as they were
+-- 1. What is answered
+
+-- words of the types, and owners as they were
 pub record IsAnswer (types : List WasmType) (acc : Account PlainItem) (x : Got PlainItem (List Word)) : Type 0 where
   pub typed : have_types types x.result ≡ true
   pub owners : x.account.taken ≡ acc.taken
@@ -53,13 +58,52 @@ answers types (value v heap) acc = tt
 answer_is : (types : List WasmType) (acc : Account PlainItem) (o : Outcome PlainItem (Got PlainItem (List Word))) (x : Got PlainItem (List Word)) → Answered types acc o → o ≡ Done x → IsAnswer types acc x
 answer_is types acc o x h e = subst (Answered types acc) e h
 
+items_all : (vals : List PlainItem) → all_items (item_data plain_meaning vals) ≡ Some vals
+items_all [] = refl
+items_all (a ∷ vals) = ap (and_item (item a)) (items_all vals)
+
+-- so many items, which own all that has an owner
+pub record IsReply (due : ℕ) (x : Got PlainItem (List PlainItem)) : Type 0 where
+  pub many : length x.result ≡ due
+  pub owners : x.account.taken ≡ flat_map owned_by x.result
+
+abbrev Replied : ℕ → Outcome PlainItem (Got PlainItem (List PlainItem)) → Type 0
+Replied due (Done x) = IsReply due x
+Replied due (Stopped e acc) = Unit {0}
+Replied due (Stuck acc) = Unit {0}
+
+if_replied : (due : ℕ) (acc end : Account PlainItem) (vals : List PlainItem) (b : Bool) → nat_eq (length vals) due ≡ b → end.taken ≡ flat_map owned_by vals → Replied due (if b then gives vals end else Stuck acc)
+if_replied due acc end vals true e same = record { many = eqb-true (length vals) due e; owners = same }
+if_replied due acc end vals false e same = tt
+
+replies : (due : ℕ) (reply : Reply PlainItem) (acc : Account PlainItem) → Replied due (left_by owned_by due reply acc)
+replies due (words w writes blocks) acc = tt
+replies due (value v heap) acc = if_replied due acc _ (option_to_list v) (nat_eq (length (option_to_list v)) due) refl refl
+
+reply_is : (due : ℕ) (o : Outcome PlainItem (Got PlainItem (List PlainItem))) (x : Got PlainItem (List PlainItem)) → Replied due o → o ≡ Done x → IsReply due x
+reply_is due o x h e = subst (Replied due) e h
+
+-- 2. Where calls go
+
+core_target : (b : PlainBindgen) (f : Function) → b.import ≡ true → plain_target b f ≡ target.Core b.home f.name.wit
+core_target b f e = ap (λ c. if c then target.Core b.home f.name.wit else target.Method b.home f.name.snake) e
+
+method_target : (b : PlainBindgen) (f : Function) → not b.import ≡ true → plain_target b f ≡ target.Method b.home f.name.snake
+method_target b f e = by b.import e
+  where
+    by : (c : Bool) → not c ≡ true → (if c then target.Core b.home f.name.wit else target.Method b.home f.name.snake) ≡ target.Method b.home f.name.snake
+    by true h = absurd (let g = h in cc)
+    by false h = refl
+
+-- 3. The steps
+
 module _ (types : List TypeDef) (old new : PlainBindgen) where
-  pub calls_core : (fn : Bor Function) (os rs : List Place) (result : Option WasmType) (k : ℕ) → option_to_list result ≡ import_results types fn.now → k ≡ length (option_to_list result) → length os ≡ length (import_params types fn.now)
-      → AddsStep (step.Call old.core_module fn.now.name.wit os result old.count) k old new → rs ≡ places_from old.count k → Emits plain_meaning types (instruction.CallWasm fn) os rs old new
-  calls_core fn os rs result k is many len adds places =
+  pub calls_core : (fn : Bor Function) (os rs : List Place) (result : Option WasmType) (k : ℕ) → old.import ≡ true → option_to_list result ≡ import_results types fn.now → k ≡ length (option_to_list result) → length os ≡ length (import_params types fn.now)
+      → AddsStep (step.Call old.home fn.now.name.wit os result old.count) k old new → rs ≡ places_from old.count k → Emits plain_meaning types (instruction.CallWasm fn) os rs old new
+  calls_core fn os rs result k import is many len adds places =
       let f = fn.now in
-      let st = step.Call old.core_module f.name.wit os result old.count in
-      let goal = target.Core old.core_module f.name.wit in
+      let st = step.Call old.home f.name.wit os result old.count in
+      let goal = target.Core old.home f.name.wit in
       let answer = import_results types f in
       let row : (ws : List Word) → have_types (import_params types f) ws ≡ true →
       Does plain_meaning (List Word) old new (ofs plain_meaning os (core_data plain_meaning ws)) (λ p. calling goal ws answer p.reply) (λ back fs. fs ≡ ofs plain_meaning (places_from old.count k) (core_data plain_meaning back)) (λ back. []) (λ back. []) =
@@ -67,18 +111,59 @@ module _ (types : List TypeDef) (old new : PlainBindgen) where
       let given : length os ≡ length (core_data plain_meaning ws) = len ∙ sym (types_length (import_params types f) ws fit) ∙ sym (length-map ws (λ w. word w)) in
       let answered_is : (p : Peer PlainItem) (acc : Account PlainItem) (x : Got PlainItem (List Word)) → calling goal ws answer p.reply acc ≡ Done x → IsAnswer answer acc x = λ p acc x e.
       let at = answer_is answer _ _ x (answers answer p.reply _) e in record { typed = at.typed; owners = at.owners } in
-      plain_does st k old new adds (List Word) (ofs plain_meaning os (core_data plain_meaning ws)) (core_data plain_meaning ws) (λ p. calling goal ws answer p.reply) (λ back. core_data plain_meaning back)
-      (λ back fs. fs ≡ ofs plain_meaning (places_from old.count k) (core_data plain_meaning back)) (λ back. []) (λ back. []) (λ x values n. refl) (λ s h. many_at old s os (core_data plain_meaning ws) given h)
-      (λ p acc. ap (λ ys. called goal (option_to_list result) p.reply ys acc) (words_all ws) ∙ ap (λ tys. then_do (calling goal ws tys p.reply acc) (λ x. gives (core_data plain_meaning x.result) x.account)) is)
-      (λ p acc x e. length-map x.result (λ w. word w) ∙ types_length answer x.result (answered_is p acc x e).typed ∙ sym (ap length is) ∙ sym many)
-      (λ back. refl)
-      (λ p acc x e. same_owns x.account.taken acc.taken (answered_is p acc x e).owners) in
+      plain_does st k old new adds (List Word) (ofs plain_meaning os (core_data plain_meaning ws)) (core_data plain_meaning ws) (λ p. calling goal ws answer p.reply) (λ back. core_data plain_meaning back) (λ back fs. fs ≡ ofs plain_meaning (places_from old.count k) (core_data plain_meaning back))
+      (λ x values n. refl) (λ s h. many_at old s os (core_data plain_meaning ws) given h) (λ p acc. ap (λ ys. called goal (option_to_list result) p.reply ys acc) (words_all ws) ∙ ap (λ tys. then_do (calling goal ws tys p.reply acc) (λ x. gives (core_data plain_meaning x.result) x.account)) is) (λ p acc x e. length-map x.result (λ w. word w) ∙ types_length answer x.result (answered_is p acc x e).typed ∙ sym (ap length is) ∙ sym many) (λ back. refl)
+      (λ back. []) (λ back. []) (λ p acc x e. same_owns x.account.taken acc.taken (answered_is p acc x e).owners) in
       record {
         adds = plain_grows st k old new adds;
         returned = adds.returned;
         results = ap length places ∙ places_count old.count k ∙ many ∙ ap length is;
-        row = λ ws fit. subst (λ ps. Does plain_meaning (List Word) old new (ofs plain_meaning os (core_data plain_meaning ws)) (λ p. calling goal ws answer p.reply) (λ back fs. fs ≡ ofs plain_meaning ps (core_data plain_meaning back)) (λ back. []) (λ back. [])) (sym places) (row ws fit);
+        row = λ ws fit. subst (λ t. Does plain_meaning (List Word) old new (ofs plain_meaning os (core_data plain_meaning ws)) (λ p. calling t ws answer p.reply) (λ back fs. fs ≡ ofs plain_meaning rs (core_data plain_meaning back)) (λ back. []) (λ back. []))
+            (sym (core_target old f import))
+            (subst (λ ps. Does plain_meaning (List Word) old new (ofs plain_meaning os (core_data plain_meaning ws)) (λ p. calling goal ws answer p.reply) (λ back fs. fs ≡ ofs plain_meaning ps (core_data plain_meaning back)) (λ back. []) (λ back. []))
+            (sym places) (row ws fit));
       }
+
+  method_row : (f : Function) (os : List Place) (k : ℕ) → k ≡ result_count f → not old.import ≡ true → AddsStep (step.CallMethod old.home f.name.snake os k old.count) k old new → CallsMethod plain_meaning f os (places_from old.count k) old new
+  method_row f os k due export adds vals w p others s0 s many at own =
+      let goal = target.Method old.home f.name.snake in
+      let account : PlainState → Account PlainItem = λ t. t.account in
+      let ds = item_data plain_meaning vals in
+      let act : Peer PlainItem → Act PlainItem (List PlainItem) = λ q. handing owned_by goal vals k q.reply in
+      let Outs : List PlainItem → Facts plain_meaning → Type 0 = λ back fs. fs ≡ ofs plain_meaning (places_from old.count k) (item_data plain_meaning back) in
+      let R : Got PlainItem (List PlainItem) → PlainState → Type 0 = λ x t.
+      (t.account ≡ x.account) × SameItems t.account.taken (flat_map owned_by x.result) × plain_meaning.denotes w new (ofs plain_meaning (places_from old.count k) (item_data plain_meaning x.result)) t in
+      let given : length os ≡ length ds = sym many ∙ sym (length-map vals (λ a. item a)) in
+      let replied : (q : Peer PlainItem) (acc : Account PlainItem) (x : Got PlainItem (List PlainItem)) → act q acc ≡ Done x → IsReply k x = λ q acc x e. reply_is k _ x (replies k q.reply _) e in
+      let followed = plain_follows (step.CallMethod old.home f.name.snake os k old.count) k old new adds (List PlainItem) (ofs plain_meaning os ds) ds act (λ back. item_data plain_meaning back) Outs
+      (λ x values n. refl) (λ t h. many_at old t os ds given h) (λ q acc. ap (λ xs. handed goal k q.reply xs acc) (items_all vals))
+      (λ q acc x e. length-map x.result (λ a. item a) ∙ (replied q acc x e).many) (λ back. refl) w p others s0 s at in
+      subst (λ n. Follows account (handing owned_by (plain_target old f) vals n p.reply s.account) (runs p new.steps s0) R) due
+      (subst (λ t. Follows account (handing owned_by t vals k p.reply s.account) (runs p new.steps s0) R) (sym (method_target old f export))
+      (follows_more account (act p s.account) (runs p new.steps s0) _ R followed
+      (λ x t h. (
+        h.account,
+        λ g. ap (λ (acc : Account PlainItem). total g acc.taken) h.account ∙ ap (total g) (replied p s.account x h.done).owners,
+        subst (λ fs. AllByRecursion (IsRight new t) fs) h.tells (all_left (IsRight new t) h.facts others h.denotes),
+      ))))
+
+  pub calls_method : (fn : Bor Function) (os rs : List Place) (k : ℕ) → k ≡ result_count fn.now → not old.import ≡ true → length os ≡ length fn.now.params
+      → AddsStep (step.CallMethod old.home fn.now.name.snake os k old.count) k old new → rs ≡ places_from old.count k → Emits plain_meaning types (instruction.CallInterface fn) os rs old new
+  calls_method fn os rs k due export len adds places = record {
+    adds = plain_grows (step.CallMethod old.home fn.now.name.snake os k old.count) k old new adds;
+    returned = adds.returned;
+    results = ap length places ∙ places_count old.count k ∙ due;
+    row = subst (λ ps. CallsMethod plain_meaning fn.now os ps old new) (sym places) (method_row fn.now os k due export adds);
+  }
+
+  -- operands stand in their places already, and no step is added
+  pub flushes : (n : ℕ) (os rs : List Place) → length os ≡ n → rs ≡ os → new ≡ old → Emits plain_meaning types (instruction.Flush n) os rs old new
+  flushes n os rs len same is = subst (λ b. Emits plain_meaning types (instruction.Flush n) os rs old b) (sym is) (subst (λ ps. Emits plain_meaning types (instruction.Flush n) os ps old old) (sym same) (record {
+    adds = adds_same plain_meaning old;
+    returned = refl;
+    results = len;
+    row = λ ds w f others s0 s at. (s, at.done, (ofs plain_meaning os ds, refl, record { account = refl; owns = λ g. refl; denotes = at.holds }));
+  }))
 
   -- what is given is noted, and no step is added
   pub gives_back : (n : ℕ) (os : List Place) → new ≡ record old { returned = Some os } → Emits plain_meaning types (instruction.Return n) os [] old new

@@ -354,8 +354,9 @@ module _ (types : List TypeDef) (old new : PlainBindgen) where
       let s = scalar_of ty in
       let row : LowersScalar plain_meaning s (o ∷ []) (places_from old.count 1) old new = λ dir v a own listed st0. (
         st0.1,
-        plain_does st 1 old new adds (Unit {0}) (of o (item a) ∷ []) (item a ∷ []) (λ f. stay) (λ u. word (passed_word s v) ∷ []) (λ u fs. fs ≡ ofs plain_meaning (places_from old.count 1) (word (passed_word s v) ∷ [])) (λ u. []) (λ u. [])
-            (λ x values n. refl) (λ t h. one_at old t o (item a) h) (λ f acc. ap (λ (b : PlainItem). performs st f (item b ∷ []) acc) st0.0) (λ p acc x e. refl) (λ u. refl) (λ f acc x e. stay_owns acc x e),
+        plain_does st 1 old new adds (Unit {0}) (of o (item a) ∷ []) (item a ∷ []) (λ f. stay) (λ u. word (passed_word s v) ∷ []) (λ u fs. fs ≡ ofs plain_meaning (places_from old.count 1) (word (passed_word s v) ∷ []))
+            (λ x values n. refl) (λ t h. one_at old t o (item a) h) (λ f acc. ap (λ (b : PlainItem). performs st f (item b ∷ []) acc) st0.0) (λ p acc x e. refl) (λ u. refl)
+            (λ u. []) (λ u. []) (λ f acc x e. stay_owns acc x e),
       ) in
       record {
         adds = code_of plain_meaning i (lowers_ordinary i _ (lowered_is i ty is)) old new (plain_adds st 1 old new adds refl);
@@ -371,11 +372,9 @@ module _ (types : List TypeDef) (old new : PlainBindgen) where
       let both = lifted_is i ty is in
       let row : LiftsScalar plain_meaning s (o ∷ []) (places_from old.count 1) old new = λ x.
       let a : PlainItem = leaf (normal s x ∷ []) [] in
-      plain_does st 1 old new adds (Unit {0}) (of o (word x) ∷ []) (word x ∷ []) (λ f. reading s f.form x) (λ u. item a ∷ [])
-      (λ u fs. (c : PlainItem) × (fs ≡ ofs plain_meaning (places_from old.count 1) (item c ∷ [])) × ((v : ScalarValue s) → IsScalar s v → IsTaken s v x → PlainStands take (scalar s) v c []))
-      (λ u. []) (λ u. []) (λ x values n. refl) (λ t h. one_at old t o (word x) h) (λ f acc. refl) (λ p acc x e. refl)
-      (λ u. (a, refl, λ v hv h. (ap (λ w. leaf (w ∷ []) []) (normal_is s v x hv h), refl)))
-      (λ f acc y e. same_owns y.account.taken acc.taken (ap (λ (c : Account PlainItem). c.taken) (done_is (reading s f.form x acc) (λ y. y.account ≡ acc) y (reading_stays s f.form x acc) e))) in
+      plain_does st 1 old new adds (Unit {0}) (of o (word x) ∷ []) (word x ∷ []) (λ f. reading s f.form x) (λ u. item a ∷ []) (λ u fs. (c : PlainItem) × (fs ≡ ofs plain_meaning (places_from old.count 1) (item c ∷ [])) × ((v : ScalarValue s) → IsScalar s v → IsTaken s v x → PlainStands take (scalar s) v c []))
+      (λ x values n. refl) (λ t h. one_at old t o (word x) h) (λ f acc. refl) (λ p acc x e. refl) (λ u. (a, refl, λ v hv h. (ap (λ w. leaf (w ∷ []) []) (normal_is s v x hv h), refl)))
+      (λ u. []) (λ u. []) (λ f acc y e. same_owns y.account.taken acc.taken (ap (λ (c : Account PlainItem). c.taken) (done_is (reading s f.form x acc) (λ y. y.account ≡ acc) y (reading_stays s f.form x acc) e))) in
       record {
         adds = code_of plain_meaning i (lifts_ordinary i _ both.1) old new (plain_adds st 1 old new adds refl);
         returned = still_returned plain_meaning i (lifts_ordinary i _ both.1) (o ∷ []) old.returned new.returned adds.returned;
@@ -391,9 +390,9 @@ module _ (types : List TypeDef) (old new : PlainBindgen) where
       let a = access ty grain in
       let row : StoresWord plain_meaning a o (p ∷ q ∷ []) rs old new = λ x address.
       let at = reached plain_meaning address o in
-      plain_does st 0 old new adds (Unit {0}) (of p (word x) ∷ of q (word (core.Pointer address)) ∷ []) (word x ∷ word (core.Pointer address) ∷ []) (λ f. storing 2 a at x) (λ u. []) (λ u fs. fs ≡ []) (λ u. []) (λ u. [])
+      plain_does st 0 old new adds (Unit {0}) (of p (word x) ∷ of q (word (core.Pointer address)) ∷ []) (word x ∷ word (core.Pointer address) ∷ []) (λ f. storing 2 a at x) (λ u. []) (λ u fs. fs ≡ [])
       (λ u values n. refl) (λ t h. two_at old t p q (word x) (word (core.Pointer address)) h) (λ f acc. refl) (λ p acc x e. refl) (λ u. refl)
-      (λ f acc y e. same_owns y.account.taken acc.taken (done_is (storing 2 a at x acc) (λ y. y.account.taken ≡ acc.taken) y (storing_owns a at x acc) e)) in
+      (λ u. []) (λ u. []) (λ f acc y e. same_owns y.account.taken acc.taken (done_is (storing 2 a at x acc) (λ y. y.account.taken ≡ acc.taken) y (storing_owns a at x acc) e)) in
       touches (p ∷ q ∷ []) rs old new types i (touched.Store ty grain o) is (plain_adds st 0 old new adds refl) adds.returned (ap length places) row
 
   pub loads_word : (i : Instruction) (ty : WasmType) (grain : ℕ) (signed : Bool) (o : ArchitectureSize) (p : Place) (rs : List Place) → option_map word_touch (touch i) ≡ Some (touched.Load ty grain signed o)
@@ -403,9 +402,9 @@ module _ (types : List TypeDef) (old new : PlainBindgen) where
       let a : Access = record { word = ty; grain = grain; signed = signed } in
       let row : LoadsWord plain_meaning a o (p ∷ []) (places_from old.count 1) old new = λ address.
       let at = reached plain_meaning address o in
-      plain_does st 1 old new adds Word (of p (word (core.Pointer address)) ∷ []) (word (core.Pointer address) ∷ []) (λ f. loading 2 f.form a at) (λ x. word x ∷ []) (λ x fs. fs ≡ ofs plain_meaning (places_from old.count 1) (word x ∷ [])) (λ x. []) (λ x. [])
+      plain_does st 1 old new adds Word (of p (word (core.Pointer address)) ∷ []) (word (core.Pointer address) ∷ []) (λ f. loading 2 f.form a at) (λ x. word x ∷ []) (λ x fs. fs ≡ ofs plain_meaning (places_from old.count 1) (word x ∷ []))
       (λ x values n. refl) (λ t h. one_at old t p (word (core.Pointer address)) h) (λ f acc. refl) (λ p acc y e. refl) (λ x. refl)
-      (λ f acc y e. same_owns y.account.taken acc.taken (done_is (loading 2 f.form a at acc) (λ y. y.account.taken ≡ acc.taken) y (loading_owns f.form a at acc) e)) in
+      (λ x. []) (λ x. []) (λ f acc y e. same_owns y.account.taken acc.taken (done_is (loading 2 f.form a at acc) (λ y. y.account.taken ≡ acc.taken) y (loading_owns f.form a at acc) e)) in
       touches (p ∷ []) rs old new types i (touched.Load ty grain signed o) is (plain_adds st 1 old new adds refl) adds.returned (ap length places) (subst (λ ps. LoadsWord plain_meaning a o (p ∷ []) ps old new) (sym places) row)
 
   pub frees_text : (o p : Place) (rs : List Place) → AddsStep (step.Free o.number p.number) 0 old new → rs ≡ places_from old.count 0 → Emits plain_meaning types instruction.GuestDeallocateString (o ∷ p ∷ []) rs old new
@@ -416,9 +415,9 @@ module _ (types : List TypeDef) (old new : PlainBindgen) where
         returned = adds.returned;
         results = ap length places;
         row = λ address n.
-            plain_does st 0 old new adds (Unit {0}) (of o (word (core.Pointer address)) ∷ of p (word (core.Length n)) ∷ []) (word (core.Pointer address) ∷ word (core.Length n) ∷ []) (λ f. freeing f.form address n) (λ u. []) (λ u fs. fs ≡ []) (λ u. []) (λ u. [])
+            plain_does st 0 old new adds (Unit {0}) (of o (word (core.Pointer address)) ∷ of p (word (core.Length n)) ∷ []) (word (core.Pointer address) ∷ word (core.Length n) ∷ []) (λ f. freeing f.form address n) (λ u. []) (λ u fs. fs ≡ [])
             (λ u values n. refl) (λ t h. two_at old t o p (word (core.Pointer address)) (word (core.Length n)) h) (λ f acc. refl) (λ p acc x e. refl) (λ u. refl)
-            (λ f acc y e. same_owns y.account.taken acc.taken (done_is (freeing f.form address n acc) (λ y. y.account.taken ≡ acc.taken) y (freeing_owns f.form address n acc) e));
+            (λ u. []) (λ u. []) (λ f acc y e. same_owns y.account.taken acc.taken (done_is (freeing f.form address n acc) (λ y. y.account.taken ≡ acc.taken) y (freeing_owns f.form address n acc) e));
       }
 
   pub frees_block : (size : ArchitectureSize) (align : Alignment) (o : Place) (rs : List Place) → AddsStep (step.FreeSized size o.number) 0 old new → rs ≡ places_from old.count 0
@@ -431,9 +430,9 @@ module _ (types : List TypeDef) (old new : PlainBindgen) where
         returned = adds.returned;
         results = ap length places;
         row = λ address.
-            plain_does st 0 old new adds (Unit {0}) (of o (word (core.Pointer address)) ∷ []) (word (core.Pointer address) ∷ []) (λ f. freeing f.form address n) (λ u. []) (λ u fs. fs ≡ []) (λ u. []) (λ u. [])
+            plain_does st 0 old new adds (Unit {0}) (of o (word (core.Pointer address)) ∷ []) (word (core.Pointer address) ∷ []) (λ f. freeing f.form address n) (λ u. []) (λ u fs. fs ≡ [])
             (λ u values n. refl) (λ t h. one_at old t o (word (core.Pointer address)) h) (λ f acc. refl) (λ p acc x e. refl) (λ u. refl)
-            (λ f acc y e. same_owns y.account.taken acc.taken (done_is (freeing f.form address n acc) (λ y. y.account.taken ≡ acc.taken) y (freeing_owns f.form address n acc) e));
+            (λ u. []) (λ u. []) (λ f acc y e. same_owns y.account.taken acc.taken (done_is (freeing f.form address n acc) (λ y. y.account.taken ≡ acc.taken) y (freeing_owns f.form address n acc) e));
       }
 
   pub passes_text : (realloc : Bool) (o : Place) (rs : List Place) → AddsStep (step.Pass o.number old.count) 2 old new → rs ≡ places_from old.count 2 → Emits plain_meaning types (instruction.StringLower realloc) (o ∷ []) rs old new
@@ -443,10 +442,9 @@ module _ (types : List TypeDef) (old new : PlainBindgen) where
       let ws : List Word = core.Pointer st0.0 ∷ core.Length (length bytes) ∷ [] in (
         ws,
         st0.3,
-        plain_does st 2 old new adds (Unit {0}) (of o (item a) ∷ []) (item a ∷ []) (λ f. releasing (addresses own)) (λ u. core_data plain_meaning ws)
-            (λ u fs. fs ≡ ofs plain_meaning (places_from old.count 2) (core_data plain_meaning ws)) (λ u. []) (λ u. addresses own)
+        plain_does st 2 old new adds (Unit {0}) (of o (item a) ∷ []) (item a ∷ []) (λ f. releasing (addresses own)) (λ u. core_data plain_meaning ws) (λ u fs. fs ≡ ofs plain_meaning (places_from old.count 2) (core_data plain_meaning ws))
             (λ x values n. refl) (λ t h. one_at old t o (item a) h) (λ f acc. ap (λ (b : PlainItem). performs st f (item b ∷ []) acc) st0.2) (λ p acc x e. refl) (λ u. refl)
-            (λ f acc x e. done_is (releasing (addresses own) acc) (λ x. SameItems (x.account.taken ++ addresses own) (acc.taken ++ [])) x (releasing_owns (addresses own) acc) e),
+            (λ u. []) (λ u. addresses own) (λ f acc x e. done_is (releasing (addresses own) acc) (λ x. SameItems (x.account.taken ++ addresses own) (acc.taken ++ [])) x (releasing_owns (addresses own) acc) e),
       ) in
       record { adds = plain_adds st 2 old new adds refl; returned = adds.returned; results = ap length places; row = subst (λ ps. LowersText plain_meaning realloc (o ∷ []) ps old new) (sym places) row }
 
@@ -455,11 +453,9 @@ module _ (types : List TypeDef) (old new : PlainBindgen) where
       let st = step.Take o.number p.number old.count in
       let row : LiftsText plain_meaning (o ∷ p ∷ []) (places_from old.count 1) old new = λ address n.
       let ws : List Word = core.Pointer address ∷ core.Length n ∷ [] in
-      plain_does st 1 old new adds Taken (of o (word (core.Pointer address)) ∷ of p (word (core.Length n)) ∷ []) (core_data plain_meaning ws) (λ f. taking f.form address n) (λ x. item (leaf ws x.blocks) ∷ [])
-      (λ x fs. (a : PlainItem) × (fs ≡ ofs plain_meaning (places_from old.count 1) (item a ∷ [])) × (Says 2 take text x.bytes ws x.blocks → PlainStands take text x.bytes a x.blocks))
-      (λ x. addresses x.blocks) (λ x. []) (λ x values n. refl) (λ t h. two_at old t o p (word (core.Pointer address)) (word (core.Length n)) h) (λ f acc. refl) (λ p acc y e. refl)
-      (λ x. (leaf ws x.blocks, refl, λ h. says_text x.bytes address n x.blocks h))
-      (λ f acc x e. let t = done_is (taking f.form address n acc) (TakesOver acc) x (taking_owns f.form address n acc) e in λ g. ap (λ xs. total g (xs ++ [])) t ∙ ap (total g) (append-nil (acc.taken ++ addresses x.result.blocks))) in
+      plain_does st 1 old new adds Taken (of o (word (core.Pointer address)) ∷ of p (word (core.Length n)) ∷ []) (core_data plain_meaning ws) (λ f. taking f.form address n) (λ x. item (leaf ws x.blocks) ∷ []) (λ x fs. (a : PlainItem) × (fs ≡ ofs plain_meaning (places_from old.count 1) (item a ∷ [])) × (Says 2 take text x.bytes ws x.blocks → PlainStands take text x.bytes a x.blocks))
+      (λ x values n. refl) (λ t h. two_at old t o p (word (core.Pointer address)) (word (core.Length n)) h) (λ f acc. refl) (λ p acc y e. refl) (λ x. (leaf ws x.blocks, refl, λ h. says_text x.bytes address n x.blocks h))
+      (λ x. addresses x.blocks) (λ x. []) (λ f acc x e. let t = done_is (taking f.form address n acc) (TakesOver acc) x (taking_owns f.form address n acc) e in λ g. ap (λ xs. total g (xs ++ [])) t ∙ ap (total g) (append-nil (acc.taken ++ addresses x.result.blocks))) in
       record { adds = plain_adds st 1 old new adds refl; returned = adds.returned; results = ap length places; row = subst (λ ps. LiftsText plain_meaning (o ∷ p ∷ []) ps old new) (sym places) row }
 
   pub reads_argument : (n : ℕ) (rs : List Place) → AddsStep (step.Argument n old.count) 1 old new → rs ≡ places_from old.count 1 → Emits plain_meaning types (instruction.GetArg n) [] rs old new
@@ -470,8 +466,9 @@ module _ (types : List TypeDef) (old new : PlainBindgen) where
         returned = adds.returned;
         results = ap length places;
         row = λ d. subst (λ ps. Stays plain_meaning old new (arg n d ∷ []) (λ fs. fs ≡ ofs plain_meaning ps (d ∷ []))) (sym places)
-            (plain_does st 1 old new adds (Unit {0}) (arg n d ∷ []) (d ∷ []) (λ f. stay) (λ u. d ∷ []) (λ u fs. fs ≡ ofs plain_meaning (places_from old.count 1) (d ∷ [])) (λ u. []) (λ u. [])
-            (λ x values n. refl) (λ t h. ap (λ x. and_all x (Some [])) h.0) (λ f acc. refl) (λ p acc x e. refl) (λ u. refl) (λ f acc x e. stay_owns acc x e));
+            (plain_does st 1 old new adds (Unit {0}) (arg n d ∷ []) (d ∷ []) (λ f. stay) (λ u. d ∷ []) (λ u fs. fs ≡ ofs plain_meaning (places_from old.count 1) (d ∷ []))
+            (λ x values n. refl) (λ t h. ap (λ x. and_all x (Some [])) h.0) (λ f acc. refl) (λ p acc x e. refl) (λ u. refl)
+            (λ u. []) (λ u. []) (λ f acc x e. stay_owns acc x e));
       }
 
   splits : (ts : Shapes) (t : Shape) (made : Parts ts → Value t) (n : ℕ) (o : Place) → count ts ≡ n
@@ -485,8 +482,9 @@ module _ (types : List TypeDef) (old new : PlainBindgen) where
       let len : length (item_data plain_meaning vals) ≡ n = length-map vals (λ b. item b) ∙ parts_count dir ts v vals own ps ∙ fits in (
         vals,
         ps,
-        plain_does st n old new adds (Unit {0}) (of o (item a) ∷ []) (item a ∷ []) (λ f. stay) (λ u. item_data plain_meaning vals) (λ u fs. fs ≡ ofs plain_meaning (places_from old.count n) (item_data plain_meaning vals)) (λ u. []) (λ u. [])
-            (λ x values n. refl) (λ t h. one_at old t o (item a) h) (λ f acc. ap (λ (b : PlainItem). performs st f (item b ∷ []) acc) h.1) (λ p acc x e. len) (λ u. refl) (λ f acc x e. stay_owns acc x e),
+        plain_does st n old new adds (Unit {0}) (of o (item a) ∷ []) (item a ∷ []) (λ f. stay) (λ u. item_data plain_meaning vals) (λ u fs. fs ≡ ofs plain_meaning (places_from old.count n) (item_data plain_meaning vals))
+            (λ x values n. refl) (λ t h. one_at old t o (item a) h) (λ f acc. ap (λ (b : PlainItem). performs st f (item b ∷ []) acc) h.1) (λ p acc x e. len) (λ u. refl)
+            (λ u. []) (λ u. []) (λ f acc x e. stay_owns acc x e),
       )
 
   joins : (ts : Shapes) (t : Shape) (made : Parts ts → Value t) (os : List Place) → length os ≡ count ts
@@ -497,11 +495,9 @@ module _ (types : List TypeDef) (old new : PlainBindgen) where
       let ds = item_data plain_meaning vals in
       let a : PlainItem = whole (gathered ds) in
       let both : length os ≡ length ds = fits ∙ sym len ∙ sym (length-map vals (λ b. item b)) in
-      plain_does st 1 old new adds (Unit {0}) (ofs plain_meaning os ds) ds (λ f. stay) (λ u. item a ∷ [])
-      (λ u fs. (c : PlainItem) × (fs ≡ ofs plain_meaning (places_from old.count 1) (item c ∷ [])) × ((v : Parts ts) (own : List Block) → PartsStand plain_meaning take ts v vals own → PlainStands take t (made v) c own))
-      (λ u. []) (λ u. []) (λ x values n. refl) (λ t h. many_at old t os ds both h) (λ f acc. refl) (λ p acc x e. refl)
-      (λ u. (a, refl, λ v own h. is v (gathered ds) own (subst (λ xs. PlainPartsStand take ts v xs own) (sym (gathered_is vals)) (plain_parts take ts v vals own h))))
-      (λ f acc x e. stay_owns acc x e)
+      plain_does st 1 old new adds (Unit {0}) (ofs plain_meaning os ds) ds (λ f. stay) (λ u. item a ∷ []) (λ u fs. (c : PlainItem) × (fs ≡ ofs plain_meaning (places_from old.count 1) (item c ∷ [])) × ((v : Parts ts) (own : List Block) → PartsStand plain_meaning take ts v vals own → PlainStands take t (made v) c own))
+      (λ x values n. refl) (λ t h. many_at old t os ds both h) (λ f acc. refl) (λ p acc x e. refl) (λ u. (a, refl, λ v own h. is v (gathered ds) own (subst (λ xs. PlainPartsStand take ts v xs own) (sym (gathered_is vals)) (plain_parts take ts v vals own h))))
+      (λ u. []) (λ u. []) (λ f acc x e. stay_owns acc x e)
 
   pub splits_record : (id : TypeId) (members : List Field) (o : Place) (rs : List Place) → IsRecord types id.0 members → AddsStep (step.Split o.number old.count) (length members) old new → rs ≡ places_from old.count (length members)
       → Emits plain_meaning types (instruction.RecordLower id) (o ∷ []) rs old new

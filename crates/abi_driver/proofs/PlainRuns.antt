@@ -1,5 +1,5 @@
 -- What the steps of a `PlainBindgen` do: a run of more steps, the calls that they leave alone, and the action of a step.
-use Rattle.std.proofs.Common.{◌≡◌, ℕ, zero, suc, ◌+◌, ◌-◌, ◌^◌, ◌≤◌, Bool, true, false, ◌&&◌, not, nat_eq, nat_lt, if◌then◌else◌, List, [], ◌∷◌, ◌++◌, length, map, find, Option, None, Some, is_some, option_map, refl, sym, ap, ◌∙◌, subst, arith}
+use Rattle.std.proofs.Common.{◌≡◌, ℕ, zero, suc, ◌+◌, ◌-◌, ◌^◌, ◌≤◌, Bool, true, false, ◌&&◌, not, nat_eq, nat_lt, if◌then◌else◌, List, [], ◌∷◌, ◌++◌, length, map, find, Option, None, Some, is_some, option_map, refl, sym, ap, ap₂, ◌∙◌, subst, arith}
 use Rattle.std.specs.List.{AllByRecursion}
 use Rattle.std.specs.Str.{is_utf8}
 use Rattle.wit_model.specs.Size.{bytes_at}
@@ -17,25 +17,27 @@ use Rattle.wrapper_data.specs.declared.run.TrapKind.TheVariants as trap
 use Rattle.wrapper_data.specs.declared.word.Word.{Word}
 use Rattle.wrapper_data.specs.declared.word.Word.TheVariants as core
 use Rattle.wrapper_meaning.specs.Cells.{bytes_from, little}
-use Rattle.wrapper_meaning.specs.Items.{SameItems}
+use Rattle.wrapper_meaning.specs.Items.{SameItems, total}
 use Rattle.wrapper_meaning.specs.Numbers.{is_scalar_value, low_bits}
 use Rattle.wrapper_meaning.specs.Words.{bits_of}
 use Rattle.abi_driver.specs.declared.plain.PlainBindgen.{PlainBindgen}
 use Rattle.abi_driver.specs.declared.plain.Step.{Step}
 use Rattle.abi_driver.specs.declared.plain.Step.TheVariants as step
 use Rattle.abi_driver.specs.Account.{Account, Act, Done, Follows, Got, Outcome, Peer, Stopped, Stops, Stuck, account_in, addresses, checking, failing, found, has_type, gives, is_at, is_taken, reading, releasing, stay, taking, tested, then_do, without}
-use Rattle.abi_driver.specs.Laws.{Adds, After, Does, Facts, Grows, ofs}
+use Rattle.abi_driver.specs.Laws.{Adds, After, At, Does, Facts, Grows, ofs}
 use Rattle.abi_driver.specs.Meaning.{Datum, item, word}
 use Rattle.abi_driver.specs.Memory.{Access, access, bytes_on, freed, freeing, is_inside, is_reached, little_bytes, loaded, storing}
 use Rattle.abi_driver.specs.Memory as memory
 use Rattle.abi_driver.specs.Plain.{AddsStep, IsRight, PlainItem, PlainState, free_block, free_text, inputs, kept, leaf, load_word, normal, passing, performed, performs, places_from, plain_meaning, put, read_as, runs, scalar_of, splitting, store_word, take_text, whole, writes}
 use Rattle.abi_driver.specs.PlainSound.{all_both, all_left, all_right}
 use Rattle.abi_driver.proofs.PlainPlaces.{put_below, put_right, still_right}
+use Rattle.abi_driver.proofs.Runs.{follows_more}
 
 -- 1. Calls are left alone
 
 abbrev pub makes_call : Step → Bool
 makes_call (step.Call core_module name from result to) = true
+makes_call (step.CallMethod trait_path name from results to) = true
 makes_call _ = false
 
 failing_quiet : {V : Type 0} (A : Type 0) (f : Form) (kind : TrapKind) (acc : Account V) → (account_in (λ (x : Got V A). x.account) (failing f kind acc)).calls ≡ acc.calls
@@ -154,6 +156,7 @@ performs_quiet (step.Load ty grain signed o at to) p ds acc e = load_quiet (reco
 performs_quiet (step.Free at length) p ds acc e = free_text_quiet p.form ds acc
 performs_quiet (step.FreeSized size at) p ds acc e = free_block_quiet size p.form ds acc
 performs_quiet (step.Call core_module name from result to) p ds acc e = absurd (let h = e in cc)
+performs_quiet (step.CallMethod trait_path name from results to) p ds acc e = absurd (let h = e in cc)
 
 -- 2. Runs of more steps
 
@@ -201,7 +204,7 @@ module _ (st : Step) (k : ℕ) (old new : PlainBindgen) (adds : AddsStep st k ol
     exports = ap not adds.import;
     arguments = refl;
     knows = λ types h. subst (λ sizes. IsFilledFor sizes types) (sym adds.sizes) h;
-    target = λ f. ap (λ core_module. target.Core core_module f.name.wit) adds.core_module;
+    target = λ f. ap₂ (λ import home. if import then target.Core home f.name.wit else target.Method home f.name.snake) adds.import adds.home;
   }
 
   pub plain_adds : makes_call st ≡ false → Adds plain_meaning old new
@@ -213,13 +216,20 @@ module _ (st : Step) (k : ℕ) (old new : PlainBindgen) (adds : AddsStep st k ol
   }
 
   -- a step that does an action on the account, and gives results by what the action gives
-  module _ (A : Type 0) (ins : Facts plain_meaning) (ds : List (Datum PlainItem)) (act : Peer PlainItem → Act PlainItem A) (res : A → List (Datum PlainItem)) (Outs : A → Facts plain_meaning → Type 0) (made gone : A → List ℕ)
+  module _ (A : Type 0) (ins : Facts plain_meaning) (ds : List (Datum PlainItem)) (act : Peer PlainItem → Act PlainItem A) (res : A → List (Datum PlainItem)) (Outs : A → Facts plain_meaning → Type 0)
       (here : (x : A) (values : ℕ → Option (Datum PlainItem)) (n : ℕ) → put (writes st) (res x) values n ≡ put old.count (res x) values n)
       (reads : (s : PlainState) → AllByRecursion (IsRight old s) ins → inputs st s ≡ Some ds)
       (does : (f : Peer PlainItem) (acc : Account PlainItem) → performs st f ds acc ≡ then_do (act f acc) (λ x. gives (res x.result) x.account))
       (fits : (f : Peer PlainItem) (acc : Account PlainItem) (x : Got PlainItem A) → act f acc ≡ Done x → length (res x.result) ≡ k)
-      (outs : (x : A) → Outs x (ofs plain_meaning (places_from old.count k) (res x)))
-      (owns : (f : Peer PlainItem) (acc : Account PlainItem) (x : Got PlainItem A) → act f acc ≡ Done x → SameItems (x.account.taken ++ gone x.result) (acc.taken ++ made x.result)) where
+      (outs : (x : A) → Outs x (ofs plain_meaning (places_from old.count k) (res x))) where
+    -- whatever it does to the owners
+    pub record Followed (w : Unit {0}) (f : Peer PlainItem) (others : Facts plain_meaning) (s : PlainState) (x : Got PlainItem A) (t : PlainState) : Type 0 where
+      pub done : act f s.account ≡ Done x
+      pub account : t.account ≡ x.account
+      pub facts : Facts plain_meaning
+      pub tells : Outs x.result facts
+      pub denotes : plain_meaning.denotes w new (facts ++ others) t
+
     follows_step : (o : Outcome PlainItem (Got PlainItem A)) (q : Outcome PlainItem PlainState) (g : Got PlainItem A → PlainState) (P : Got PlainItem A → PlainState → Type 0)
         → q ≡ then_do o (λ x. Done (g x)) → ((x : Got PlainItem A) → o ≡ Done x → P x (g x)) → Follows (λ (t : PlainState). t.account) o q P
     follows_step (Done x) q g P e h = (g x, e, h x refl)
@@ -232,27 +242,39 @@ module _ (st : Step) (k : ℕ) (old new : PlainBindgen) (adds : AddsStep st k ol
     given_on (Stopped e acc) s = refl
     given_on (Stuck acc) s = refl
 
-    pub plain_does : Does plain_meaning A old new ins act Outs made gone
-    plain_does w f others s0 s at =
+    pub plain_follows : (w : Unit {0}) (f : Peer PlainItem) (others : Facts plain_meaning) (s0 s : PlainState) → At plain_meaning w f old new (ins ++ others) s0 s
+        → Follows (λ (t : PlainState). t.account) (act f s.account) (runs f new.steps s0) (Followed w f others s)
+    plain_follows w f others s0 s at =
         let after : Got PlainItem A → PlainState = λ x. kept (writes st) (record { result = res x.result; account = x.account }) s in
         let ran : runs f new.steps s0 ≡ then_do (act f s.account) (λ x. Done (after x)) =
         longer f s0 ∙ ap (λ o. then_do o (λ t. runs f (st ∷ []) t)) at.done ∙ ap (λ i. then_do (performed st f i s) (λ u. Done u)) (reads s (all_left (IsRight old s) ins others at.holds))
         ∙ ap (λ o. then_do (then_do o (λ x. Done (kept (writes st) x s))) (λ u. Done u)) (does f s.account) ∙ given_on (act f s.account) s in
         let more : old.count ≤ new.count = omega (arith, adds.count) in
         follows_step (act f s.account) (runs f new.steps s0) after
-        (λ x t. (fs : Facts plain_meaning) × Outs x.result fs × After plain_meaning w new (fs ++ others) (made x.result) (gone x.result) s x t) ran
+        (Followed w f others s) ran
         (λ x done.
         let t = after x in
         let values : (n : ℕ) → t.values n ≡ put old.count (res x.result) s.values n = λ n. here x.result s.values n in
         let room : old.count + length (res x.result) ≤ new.count = omega (arith, adds.count, fits f s.account x done) in
         let news = put_right new t old.count (res x.result) s.values room values in
-        let olds = still_right old new s t others more (λ n l. values n ∙ put_below old.count (res x.result) s.values n l) (λ n. refl) (all_right (IsRight old s) ins others at.holds) in (
-          ofs plain_meaning (places_from old.count k) (res x.result),
-          outs x.result,
-          record {
-            account = refl;
-            owns = owns f s.account x done;
-            denotes = all_both (IsRight new t) (ofs plain_meaning (places_from old.count k) (res x.result)) others
-                (subst (λ n. AllByRecursion (IsRight new t) (ofs plain_meaning (places_from old.count n) (res x.result))) (fits f s.account x done) news) olds;
-          },
+        let olds = still_right old new s t others more (λ n l. values n ∙ put_below old.count (res x.result) s.values n l) (λ n. refl) (all_right (IsRight old s) ins others at.holds) in
+        record {
+          done = done;
+          account = refl;
+          facts = ofs plain_meaning (places_from old.count k) (res x.result);
+          tells = outs x.result;
+          denotes = all_both (IsRight new t) (ofs plain_meaning (places_from old.count k) (res x.result)) others
+              (subst (λ n. AllByRecursion (IsRight new t) (ofs plain_meaning (places_from old.count n) (res x.result))) (fits f s.account x done) news) olds;
+        })
+
+    -- and where it makes owners and lets go of others by what it gives
+    pub plain_does : (made gone : A → List ℕ) → ((f : Peer PlainItem) (acc : Account PlainItem) (x : Got PlainItem A) → act f acc ≡ Done x → SameItems (x.account.taken ++ gone x.result) (acc.taken ++ made x.result))
+        → Does plain_meaning A old new ins act Outs made gone
+    plain_does made gone owns w f others s0 s at =
+        follows_more (λ (t : PlainState). t.account) (act f s.account) (runs f new.steps s0) (Followed w f others s)
+        (λ x t. (fs : Facts plain_meaning) × Outs x.result fs × After plain_meaning w new (fs ++ others) (made x.result) (gone x.result) s x t) (plain_follows w f others s0 s at)
+        (λ x t h. (
+          h.facts,
+          h.tells,
+          record { account = h.account; owns = λ g. ap (λ (acc : Account PlainItem). total g (acc.taken ++ gone x.result)) h.account ∙ owns f s.account x h.done g; denotes = h.denotes },
         ))

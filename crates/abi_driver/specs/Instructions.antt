@@ -12,8 +12,8 @@ use Rattle.wit_layout.specs.Tree.{Scalar}
 use Rattle.wrapper_meaning.specs.Shape.{Shapes, payloads_in, shapes}
 use Rattle.wrapper_meaning.specs.Shape.Shape.{fields, tuple}
 use Rattle.abi_driver.specs.declared.instruction.Instruction.{Instruction}
-use Rattle.abi_driver.specs.declared.instruction.Instruction.TheVariants.{CallWasm, Return, GetArg, I32FromBool, I32FromU8, I32FromS8, I32FromU16, I32FromS16, I32FromU32, I32FromS32, I32FromChar, I64FromU64, I64FromS64, CoreF32FromF32, CoreF64FromF64, BoolFromI32, U8FromI32, S8FromI32, U16FromI32, S16FromI32, U32FromI32, S32FromI32, CharFromI32, U64FromI64, S64FromI64, F32FromCoreF32, F64FromCoreF64, StringLower, StringLift, RecordLower, RecordLift, TupleLower, TupleLift, GuestDeallocate, GuestDeallocateString}
-use Rattle.abi_driver.specs.Calls.{CallsCore, Ends, import_params, import_results, is_call, returned_by}
+use Rattle.abi_driver.specs.declared.instruction.Instruction.TheVariants.{CallInterface, CallWasm, Flush, Return, GetArg, I32FromBool, I32FromU8, I32FromS8, I32FromU16, I32FromS16, I32FromU32, I32FromS32, I32FromChar, I64FromU64, I64FromS64, CoreF32FromF32, CoreF64FromF64, BoolFromI32, U8FromI32, S8FromI32, U16FromI32, S16FromI32, U32FromI32, S32FromI32, CharFromI32, U64FromI64, S64FromI64, F32FromCoreF32, F64FromCoreF64, StringLower, StringLift, RecordLower, RecordLift, TupleLower, TupleLift, GuestDeallocate, GuestDeallocateString}
+use Rattle.abi_driver.specs.Calls.{CallsCore, CallsMethod, Ends, Renames, import_params, import_results, is_call, result_count, returned_by}
 use Rattle.abi_driver.specs.Frees.{FreesBlock, FreesText}
 use Rattle.abi_driver.specs.Laws.{Adds, Grows, Stays, ofs}
 use Rattle.abi_driver.specs.Leaves.{LiftsScalar, LiftsText, LowersScalar, LowersText}
@@ -107,6 +107,8 @@ field_shapes types members = shapes_of types (map (λ f. f.ty) members)
 abbrev pub ReadsOther : List TypeDef → Instruction → ℕ → Type 0
 ReadsOther types (GetArg n) k = k ≡ 0
 ReadsOther types (CallWasm f) k = k ≡ length (import_params types f.now)
+ReadsOther types (CallInterface f) k = k ≡ length f.now.params
+ReadsOther types (Flush n) k = k ≡ n
 ReadsOther types (Return n) k = k ≡ n
 ReadsOther types (StringLower realloc) k = k ≡ 1
 ReadsOther types StringLift k = k ≡ 2
@@ -132,6 +134,8 @@ Reads types i k = ReadsBy types i (lowered_scalar i) (lifted_scalar i) k
 abbrev pub MakesOther : List TypeDef → Instruction → ℕ → Type 0
 MakesOther types (GetArg n) k = k ≡ 1
 MakesOther types (CallWasm f) k = k ≡ length (import_results types f.now)
+MakesOther types (CallInterface f) k = k ≡ result_count f.now
+MakesOther types (Flush n) k = k ≡ n
 MakesOther types (Return n) k = k ≡ 0
 MakesOther types (StringLower realloc) k = k ≡ 2
 MakesOther types StringLift k = k ≡ 1
@@ -166,6 +170,7 @@ module _ {Self Operand : Type 0} (m : Meaning Self Operand) where
   Suits r (RecordLower id) b = (members : List Field) × IsRecord r.types id.0 members
   Suits r (RecordLift id) b = (members : List Field) × IsRecord r.types id.0 members
   Suits r (CallWasm f) b = (m.imports b ≡ true) × IsWellFormed r × (function_in_range r f.now ≡ true)
+  Suits r (CallInterface f) b = m.exports b ≡ true
   Suits r _ b = Unit {0}
 
   -- when an instruction may be sent
@@ -178,6 +183,8 @@ module _ {Self Operand : Type 0} (m : Meaning Self Operand) where
   abbrev pub RowOther : List TypeDef → Instruction → (os rs : List Operand) → (old new : Self) → Type 0
   RowOther types (GetArg n) os rs old new = (d : Datum m.Item) → Stays m old new (arg n d ∷ []) (λ fs. fs ≡ ofs m rs (d ∷ []))
   RowOther types (CallWasm f) os rs old new = CallsCore m types f.now os rs old new
+  RowOther types (CallInterface f) os rs old new = CallsMethod m f.now os rs old new
+  RowOther types (Flush n) os rs old new = Renames m os rs old new
   RowOther types (Return n) os rs old new = Ends m os old new
   RowOther types (StringLower realloc) os rs old new = LowersText m realloc os rs old new
   RowOther types StringLift os rs old new = LiftsText m os rs old new

@@ -9,7 +9,7 @@ use Rattle.wrapper_meaning.specs.InRange.{IsListed}
 use Rattle.wrapper_meaning.specs.Items.{SameItems}
 use Rattle.wrapper_meaning.specs.Shape.{Shape}
 use Rattle.wrapper_meaning.specs.Value.{Value}
-use Rattle.abi_driver.specs.Account.{Account, Act, Done, Follows, Got, Peer, Stops, account_in, stay}
+use Rattle.abi_driver.specs.Account.{Account, Act, Done, Follows, Got, Peer, Stops, account_in, addresses, stay}
 use Rattle.abi_driver.specs.Meaning.{Datum, Fact, Meaning, arg, item, of, word}
 
 module _ {Self Operand : Type 0} (m : Meaning Self Operand) where
@@ -58,6 +58,9 @@ module _ {Self Operand : Type 0} (m : Meaning Self Operand) where
     pub taken : (t : Shape) (v : Value t) (a : m.Item) (own : List Block) → m.stands give t v a own → m.stands take t v a own
     -- what is lent has no blocks of its own
     pub bare : (t : Shape) (v : Value t) (a : m.Item) (given own : List Block) → m.stands (lend given) t v a own → own ≡ []
+    -- an item that was taken over owns exactly its blocks, and one that is lent none
+    pub owned : (t : Shape) (v : Value t) (a : m.Item) (own : List Block) → m.stands take t v a own → SameItems (m.owned a) (addresses own)
+    pub lent : (t : Shape) (v : Value t) (a : m.Item) (given own : List Block) → m.stands (lend given) t v a own → m.owned a ≡ []
 
   -- data that may be given to code: words, and items that are lent
   abbrev pub AreLent : Data → Type 0

@@ -36,6 +36,8 @@ pub record Meaning (Self Operand : Type 0) : Type 1 where
   pub account : State → Account Item
   -- the addresses of the blocks that locals own
   pub owns : State → List ℕ
+  -- those that an item owns
+  pub owned : Item → List ℕ
   pub nothing : Code
   pub does : World → Peer Item → Code → State → Outcome Item State
   -- the facts hold together

@@ -3,6 +3,7 @@ use Rattle.std.specs.Prelude.{◌≡◌, ◌<◌, ◌+◌, ℕ, zero, suc, not, 
 use Rattle.std.specs.Int.{w8, w16, w32, w64, cast_signed}
 use Rattle.std.specs.List.{AllByRecursion}
 use Rattle.wit_model.specs.Size.{bytes_at}
+use Rattle.wit_model.specs.declared.function.Function.{Function}
 use Rattle.wit_model.specs.declared.size.ArchitectureSize.{ArchitectureSize}
 use Rattle.wit_model.specs.declared.types.WitType.{WitType}
 use Rattle.wit_model.specs.declared.types.WitType.TheVariants as wit
@@ -32,7 +33,7 @@ use Rattle.abi_driver.specs.declared.plain.Step.TheVariants as step
 use Rattle.abi_driver.specs.declared.plain.words.WordTouch.{WordTouch}
 use Rattle.abi_driver.specs.declared.plain.words.WordTouch.TheVariants as touched
 use Rattle.abi_driver.specs.Account.{Account, Act, Done, Got, Outcome, Peer, Reply, Stuck, addresses, gives, reading, releasing, taking, then_do}
-use Rattle.abi_driver.specs.Calls.{calling}
+use Rattle.abi_driver.specs.Calls.{calling, handing}
 use Rattle.abi_driver.specs.Meaning.{Datum, Fact, Meaning, arg, item, of, word}
 use Rattle.abi_driver.specs.Memory.{Access, freeing, loading, storing}
 use Rattle.abi_driver.specs.Touches.{Touch, loads, part_grain, stores}
@@ -52,6 +53,16 @@ mutual
 abbrev pub listed : PlainItems → List PlainItem
 listed no_items = []
 listed (item_and a items) = a ∷ listed items
+
+-- the addresses of the blocks that an item owns
+abbrev mutual
+  pub owned_by : PlainItem → List ℕ
+  owned_by (leaf ws own) = addresses own
+  owned_by (whole items) = owned_by_all items
+
+  pub owned_by_all : PlainItems → List ℕ
+  owned_by_all no_items = []
+  owned_by_all (item_and a items) = owned_by a ++ owned_by_all items
 
 -- the items among some data
 abbrev pub gathered : List (Datum PlainItem) → PlainItems
@@ -207,6 +218,19 @@ abbrev pub called : Target → List WasmType → Reply PlainItem → Option (Lis
 called target types reply None acc = Stuck acc
 called target types reply (Some ws) acc = then_do (calling target ws types reply acc) (λ x. gives (map (λ w. word w) x.result) x.account)
 
+-- the items, where the data are items
+abbrev pub and_item : Datum PlainItem → Option (List PlainItem) → Option (List PlainItem)
+and_item (item a) (Some vals) = Some (a ∷ vals)
+and_item _ _ = None
+
+abbrev pub all_items : List (Datum PlainItem) → Option (List PlainItem)
+all_items [] = Some []
+all_items (d ∷ ds) = and_item d (all_items ds)
+
+abbrev pub handed : Target → (due : ℕ) → Reply PlainItem → Option (List PlainItem) → PlainAct
+handed target due reply None acc = Stuck acc
+handed target due reply (Some vals) acc = then_do (handing owned_by target vals due reply acc) (λ x. gives (map (λ a. item a) x.result) x.account)
+
 -- what a step makes of the data that it reads
 abbrev pub performs : Step → Peer PlainItem → List (Datum PlainItem) → PlainAct
 performs (step.Argument number to) p ds acc = gives ds acc
@@ -220,6 +244,7 @@ performs (step.Load ty grain signed o at to) p ds acc = load_word (record { word
 performs (step.Free at length) p ds acc = free_text p.form ds acc
 performs (step.FreeSized size at) p ds acc = free_block size p.form ds acc
 performs (step.Call core_module name from result to) p ds acc = called (target.Core core_module name) (option_to_list result) p.reply (all_words ds) acc
+performs (step.CallMethod trait_path name from results to) p ds acc = handed (target.Method trait_path name) results p.reply (all_items ds) acc
 
 -- all of them, where each is there
 abbrev pub and_all : Option (Datum PlainItem) → Option (List (Datum PlainItem)) → Option (List (Datum PlainItem))
@@ -243,6 +268,7 @@ inputs (step.Load ty grain signed o at to) s = all_at s.values (at ∷ [])
 inputs (step.Free at length) s = all_at s.values (at ∷ length ∷ [])
 inputs (step.FreeSized size at) s = all_at s.values (at ∷ [])
 inputs (step.Call core_module name from result to) s = all_at s.values (map (λ (p : Place). p.number) from)
+inputs (step.CallMethod trait_path name from results to) s = all_at s.values (map (λ (p : Place). p.number) from)
 
 -- the first place that it writes, where it writes any
 abbrev pub writes : Step → ℕ
@@ -257,6 +283,7 @@ writes (step.Load ty grain signed o at to) = to
 writes (step.Free at length) = 0
 writes (step.FreeSized size at) = 0
 writes (step.Call core_module name from result to) = to
+writes (step.CallMethod trait_path name from results to) = to
 
 -- places from one on with these data
 abbrev pub put : ℕ → List (Datum PlainItem) → (ℕ → Option (Datum PlainItem)) → ℕ → Option (Datum PlainItem)
@@ -281,6 +308,10 @@ abbrev pub IsRight : PlainBindgen → PlainState → Fact Place PlainItem → Ty
 IsRight b s (of o d) = (o.number < b.count) × (s.values o.number ≡ Some d)
 IsRight b s (arg n d) = s.arguments n ≡ Some d
 
+-- a call goes to the core import of the function's name, or to the method
+abbrev pub plain_target : PlainBindgen → Function → Target
+plain_target b f = if b.import then target.Core b.home f.name.wit else target.Method b.home f.name.snake
+
 abbrev pub plain_meaning : Meaning PlainBindgen Place
 plain_meaning = record {
   World = Unit {0};
@@ -292,6 +323,7 @@ plain_meaning = record {
   stands = PlainStands;
   account = λ s. s.account;
   owns = λ s. s.account.taken;
+  owned = owned_by;
   nothing = [];
   does = λ w p. runs p;
   denotes = λ w b facts s. AllByRecursion (IsRight b s) facts;
@@ -300,7 +332,7 @@ plain_meaning = record {
   exports = λ b. not b.import;
   knows = λ b types. IsFilledFor b.sizes types;
   arguments = λ b. None;
-  target = λ b f. target.Core b.core_module f.name.wit;
+  target = plain_target;
   returned = λ b. b.returned;
 }
 
@@ -316,6 +348,6 @@ pub record AddsStep (st : Step) (k : ℕ) (old new : PlainBindgen) : Type 0 wher
   pub steps : new.steps ≡ old.steps ++ st ∷ []
   pub count : new.count ≡ old.count + k
   pub import : new.import ≡ old.import
-  pub core_module : new.core_module ≡ old.core_module
+  pub home : new.home ≡ old.home
   pub returned : new.returned ≡ old.returned
   pub sizes : new.sizes ≡ old.sizes

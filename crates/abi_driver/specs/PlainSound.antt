@@ -1,15 +1,17 @@
 -- That the meaning of a `PlainBindgen` is one: it keeps the laws on facts, operands and items.
 use mathlib.Core.Logic.{inl}
 use Rattle.std.proofs.Common.{◌≡◌, ℕ, zero, suc, ◌<◌, true, List, [], ◌∷◌, ◌++◌, length, refl, sym, ap, ap₂, ◌∙◌, subst}
-use Rattle.std.specs.List.{AllByRecursion}
+use Rattle.std.specs.List.{AllByRecursion, flat_map}
+use Rattle.std.proofs.lemmas.List.{map-append}
 use Rattle.wrapper_data.specs.declared.block.Block.{Block}
 use Rattle.wrapper_data.specs.declared.word.Word.{Word}
 use Rattle.wrapper_data.specs.declared.word.Word.TheVariants as core
 use Rattle.wrapper_meaning.specs.AsWords.{Says, passed_word}
 use Rattle.wrapper_meaning.specs.Buffer.{Contents, IsPlaced}
-use Rattle.wrapper_meaning.specs.Direction.{give, lend, take}
+use Rattle.wrapper_meaning.specs.Direction.{Direction, give, lend, take}
 use Rattle.wrapper_meaning.specs.InMemory.{TextHolds}
 use Rattle.wrapper_meaning.specs.InRange.{AreListed, IsListed}
+use Rattle.wrapper_meaning.specs.Items.{total}
 use Rattle.wrapper_meaning.specs.Shape.{Shape, Shapes}
 use Rattle.wrapper_meaning.specs.Shape.Shape.{scalar, text, list, pairs, fixed, fields, tuple, cases, flags, handle, resource, other}
 use Rattle.wrapper_meaning.specs.Shape.Shapes.{none, more}
@@ -17,8 +19,9 @@ use Rattle.wrapper_meaning.specs.Value.{Parts, Value}
 use Rattle.wrapper_meaning.proofs.Lists.{some_same}
 use Rattle.wrapper_meaning.proofs.WordScalars.{word_same}
 use Rattle.wrapper_meaning.proofs.WordsDetermined.{words_determine}
+use Rattle.abi_driver.specs.Account.{addresses}
 use Rattle.abi_driver.specs.Laws.{Sound}
-use Rattle.abi_driver.specs.Plain.{IsPlainText, IsRight, PlainItem, PlainItems, PlainPartsStand, PlainStands, leaf, listed, no_items, plain_meaning, whole}
+use Rattle.abi_driver.specs.Plain.{IsPlainText, IsRight, PlainItem, PlainItems, PlainPartsStand, PlainStands, item_and, leaf, listed, no_items, owned_by, owned_by_all, plain_meaning, whole}
 
 -- 1. Lists of facts
 
@@ -234,7 +237,34 @@ mutual
   parts_bare heap none v items own h = h.1
   parts_bare heap (more t ts) v items own h = h.7 ∙ ap₂ (λ xs ys. xs ++ ys) (bare_on heap t v.0 h.0 h.2 h.5) (parts_bare heap ts v.1 h.1 h.3 h.6)
 
--- 5. The laws
+-- 5. What an item owns
+
+owned_listed : (items : PlainItems) → owned_by_all items ≡ flat_map owned_by (listed items)
+owned_listed no_items = refl
+owned_listed (item_and a items) = ap (λ xs. owned_by a ++ xs) (owned_listed items)
+
+-- in each direction it owns the blocks with which it stands for a value
+mutual
+  owned_is : (dir : Direction) (t : Shape) (v : Value t) (a : PlainItem) (own : List Block) → PlainStands dir t v a own → owned_by a ≡ addresses own
+  owned_is dir (scalar s) v a own h = ap owned_by h.0 ∙ ap addresses (sym h.1)
+  owned_is dir text v a own h = ap owned_by h.2
+  owned_is dir (fields ts) v a own h = ap owned_by h.1 ∙ owned_listed h.0 ∙ owned_parts dir ts v (listed h.0) own h.2
+  owned_is dir (tuple ts) v a own h = ap owned_by h.1 ∙ owned_listed h.0 ∙ owned_parts dir ts v (listed h.0) own h.2
+  owned_is dir (list t) v a own h = absurd h
+  owned_is dir (pairs k x) v a own h = absurd h
+  owned_is dir (fixed t n) v a own h = absurd h
+  owned_is dir (cases ts) v a own h = absurd h
+  owned_is dir (flags n) v a own h = absurd h
+  owned_is dir (handle owns n) v a own h = absurd h
+  owned_is dir (resource n) v a own h = absurd h
+  owned_is dir other v a own h = absurd h
+
+  owned_parts : (dir : Direction) (ts : Shapes) (v : Parts ts) (items : List PlainItem) (own : List Block) → PlainPartsStand dir ts v items own → flat_map owned_by items ≡ addresses own
+  owned_parts dir none v items own h = ap (flat_map owned_by) h.0 ∙ ap addresses (sym h.1)
+  owned_parts dir (more t ts) v items own h =
+      ap (flat_map owned_by) h.4 ∙ ap₂ (λ xs ys. xs ++ ys) (owned_is dir t v.0 h.0 h.2 h.5) (owned_parts dir ts v.1 h.1 h.3 h.6) ∙ sym (map-append (λ (b : Block). b.address) h.2 h.3) ∙ ap addresses (sym h.7)
+
+-- 6. The laws
 
 pub plain_sound : Sound plain_meaning
 plain_sound = record {
@@ -252,4 +282,6 @@ plain_sound = record {
   given = given_on;
   taken = taken_on;
   bare = λ t v a heap own h. bare_on heap t v a own h;
+  owned = λ t v a own h g. ap (total g) (owned_is take t v a own h);
+  lent = λ t v a heap own h. owned_is (lend heap) t v a own h ∙ ap addresses (bare_on heap t v a own h);
 }

@@ -93,6 +93,15 @@ pub enum Step {
         result: Option<WasmType>,
         to: u32,
     },
+    /// The call of a method, by its trait's path and its name, with values, which own all that has an owner. It has a result, or none,
+    /// which does so then.
+    CallMethod {
+        trait_path: Text,
+        name: Text,
+        from: List<Place>,
+        results: u32,
+        to: u32,
+    },
 }
 
 /// A `Bindgen` in memory, which shows that its laws can be met.
@@ -102,8 +111,8 @@ pub struct PlainBindgen {
     pub(crate) sizes: SizeAlign,
     /// Whether it makes code of imports; else of exports.
     pub(crate) import: bool,
-    /// The module of the core imports that are called.
-    pub(crate) core_module: Text,
+    /// Where calls go: the module of the core imports, or the path of the trait whose methods are called.
+    pub(crate) home: Text,
     pub(crate) steps: List<Step>,
     /// How many places were written.
     pub(crate) count: u32,
@@ -113,8 +122,8 @@ pub struct PlainBindgen {
 
 impl PlainBindgen {
     /// One without code, of imports or of exports, for the table of which these are the layouts. Core imports that are called are
-    /// of this module.
-    pub fn new(alloc: Global, sizes: SizeAlign, import: bool, core_module: Text) -> PlainBindgen
+    /// of the module `home`, and methods of the trait of that path.
+    pub fn new(alloc: Global, sizes: SizeAlign, import: bool, home: Text) -> PlainBindgen
         ensures begins { IsNew plain_meaning result }
         ensures imports { plain_meaning.imports result ≡ import }
         ensures exports { plain_meaning.exports result ≡ not import }
@@ -124,7 +133,7 @@ impl PlainBindgen {
             alloc,
             sizes,
             import,
-            core_module,
+            home,
             steps: List::new(alloc),
             count: 0,
             returned: None,

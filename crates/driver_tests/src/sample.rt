@@ -88,6 +88,6 @@ pub(crate) fn maker(alloc: Global, resolve: &Resolve, import: bool) -> Result<Pl
     ensures side { IfOk result (λ b. IsSide plain_meaning (not import) b) }
 {
     let sizes = SizeAlign::fill(alloc, resolve)?;
-    let core_module = Text::from_str(alloc, "$root")?;
-    Ok(PlainBindgen::new(alloc, sizes, import, core_module))
+    let home = Text::from_str(alloc, "$root")?;
+    Ok(PlainBindgen::new(alloc, sizes, import, home))
 }

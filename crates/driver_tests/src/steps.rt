@@ -18,6 +18,7 @@ pub(crate) enum Told {
     Free(u32, u32),
     FreeSized(u64, u32),
     Call(usize, [u32; 3], Option<WasmType>, u32),
+    CallMethod(usize, [u32; 3], u32, u32),
 }
 
 /// The numbers of up to three places.
@@ -67,6 +68,13 @@ fn seen(step: &Step) -> Told {
             result,
             to,
         } => Told::Call(from.len(), numbers(from.as_slice()), *result, *to),
+        Step::CallMethod {
+            trait_path: _,
+            name: _,
+            from,
+            results,
+            to,
+        } => Told::CallMethod(from.len(), numbers(from.as_slice()), *results, *to),
     }
 }
 

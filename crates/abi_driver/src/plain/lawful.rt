@@ -25,8 +25,7 @@ impl Bindgen for PlainBindgen {
 
     ghost sound = { plain_sound };
 
-    /// The steps of arguments, scalars, texts, records and tuples, of words in memory, of blocks that are freed, and of calls of core
-    /// imports. Of any other instruction, which has no row yet, the answer is `OutOfMemory`.
+    /// The steps of arguments, scalars, texts, records and tuples, of words in memory, of blocks that are freed, and of calls. Of any other instruction, which has no row yet, the answer is `OutOfMemory`.
     fn emit(
         &mut self,
         resolve: &Resolve,
@@ -52,6 +51,8 @@ impl Bindgen for PlainBindgen {
         match *inst {
             Instruction::GetArg(n) => self.argument(resolve, n, results),
             Instruction::CallWasm(func) => self.call(resolve, func, operands, results),
+            Instruction::CallInterface(func) => self.call_method(resolve, func, operands, results),
+            Instruction::Flush(n) => self.flush(resolve, n, operands, results),
             Instruction::Return(n) => self.give(resolve, n, operands, results),
             Instruction::StringLower(realloc) => self.pass_text(
                 resolve, realloc, operands, results,
