@@ -1,5 +1,9 @@
 -- Actions that are done, and owners that are let go.
-use Rattle.std.proofs.Common.{◌≡◌, ℕ, Bool, true, List, [], ◌∷◌, ◌++◌, if◌then◌else◌, refl, sym, ap, ◌∙◌, subst}
+use mathlib.Core.Logic.{inl, inr}
+use Rattle.std.proofs.Common.{◌≡◌, ◌⊎◌, ◌≤◌, ℕ, ◌+◌, ◌||◌, Bool, true, false, nat_eq, List, [], ◌∷◌, ◌++◌, if◌then◌else◌, refl, sym, ap, ◌∙◌, subst, arith}
+use Rattle.std.proofs.lemmas.Bool.{eq-eqb}
+use Rattle.std.proofs.lemmas.Bool.Decides.{eqb_tells}
+use Rattle.wrapper_meaning.specs.Items.{SameItems, total}
 use Rattle.abi_driver.specs.Account.{Account, Act, Done, Follows, Got, Outcome, Peer, Stuck, is_taken, releasing, without}
 use Rattle.abi_driver.specs.Laws.{After, At, Does, Facts}
 use Rattle.abi_driver.specs.Meaning.{Meaning}
@@ -18,6 +22,44 @@ lets_go {V} (a ∷ places) left acc h =
 pub releases_both : (xs ys taken left : List ℕ) → Releases (xs ++ ys) taken left → (mid : List ℕ) × Releases xs taken mid × Releases ys mid left
 releases_both [] ys taken left h = (taken, refl, h)
 releases_both (x ∷ xs) ys taken left h = let r = releases_both xs ys (without x taken) left h.1 in (r.0, (h.0, r.1), r.2)
+
+-- how often an address is
+abbrev pub is_it : ℕ → ℕ → ℕ
+is_it a t = if nat_eq t a then 1 else 0
+
+pub same_is : (n : ℕ) → is_it n n ≡ 1
+same_is n = ap (λ b. if b then 1 else 0) (eq-eqb n n refl)
+
+is_there : (a : ℕ) (taken : List ℕ) → 1 ≤ total (is_it a) taken → is_taken a taken ≡ true
+is_there a [] h = absurd (omega (arith, h))
+is_there a (t ∷ taken) h = by (nat_eq t a) (is_there a taken) h
+  where
+    by : (b : Bool) → (1 ≤ total (is_it a) taken → is_taken a taken ≡ true) → 1 ≤ (if b then 1 else 0) + total (is_it a) taken → (b || is_taken a taken) ≡ true
+    by true later h = refl
+    by false later h = later (omega (arith, h))
+
+pub without_one : (g : ℕ → ℕ) (a : ℕ) (taken : List ℕ) → is_taken a taken ≡ true → g a + total g (without a taken) ≡ total g taken
+without_one g a [] h = absurd (let e = h in cc)
+without_one g a (t ∷ taken) h = by (nat_eq t a) (eqb_tells t a) (without_one g a taken) h
+  where
+    by : (b : Bool) → (((nat_eq t a ≡ true) × (t ≡ a)) ⊎ ((nat_eq t a ≡ false) × (t ≡ a → ⊥))) → (is_taken a taken ≡ true → g a + total g (without a taken) ≡ total g taken)
+        → is_taken a (t ∷ taken) ≡ true → g a + total g (without a (t ∷ taken)) ≡ total g (t ∷ taken)
+    by b (inl (hit, same)) later h =
+        ap (λ c. g a + total g (if c then taken else t ∷ without a taken)) hit ∙ ap (λ x. g x + total g taken) (sym same)
+    by b (inr (miss, other)) later h =
+        let rest : is_taken a taken ≡ true = sym (ap (λ c. c || is_taken a taken) miss) ∙ h in
+        ap (λ c. g a + total g (if c then taken else t ∷ without a taken)) miss ∙ omega (arith, later rest)
+
+nothing_left : (taken : List ℕ) → SameItems taken [] → taken ≡ []
+nothing_left [] h = refl
+nothing_left (t ∷ taken) h = absurd (omega (arith, h (λ x. 1)))
+
+-- where these are all owners, nothing has one then
+pub releases_all : (places taken : List ℕ) → SameItems taken places → Releases places taken []
+releases_all [] taken h = sym (nothing_left taken h)
+releases_all (a ∷ places) taken h =
+    let here : is_taken a taken ≡ true = is_there a taken (omega (arith, h (is_it a), same_is a)) in
+    (here, releases_all places (without a taken) (λ g. omega (arith, h g, without_one g a taken here)))
 
 module _ {Self Operand : Type 0} (m : Meaning Self Operand) where
   -- code that does an action which is done

@@ -1,7 +1,6 @@
 -- An honest answer that passes as words: its words are of the result's core types, and its blocks may be taken over.
 use Rattle.std.proofs.Common.{◌≡◌, ◌≤◌, ℕ, ◌+◌, ◌||◌, Bool, true, false, nat_eq, if◌then◌else◌, MatchBool, List, [], ◌∷◌, ◌++◌, Option, None, Some, refl, sym, ap, ◌∙◌, subst, arith}
 use Rattle.std.specs.Prelude.{option_to_list}
-use Rattle.std.proofs.lemmas.Bool.{eq-eqb}
 use Rattle.wrapper_data.specs.Answered.{answered}
 use Rattle.wrapper_data.specs.Heap.{is_heap}
 use Rattle.wrapper_data.specs.declared.block.Block.{Block}
@@ -21,6 +20,7 @@ use Rattle.wrapper_meaning.proofs.NewBlocks.{new_blocks_behind}
 use Rattle.abi_driver.specs.Account.{Account, Call, Reply, have_types, is_taken}
 use Rattle.abi_driver.specs.Imports.{IsHonest, point_of}
 use Rattle.abi_driver.specs.Lifts.{AreFree, MayTake}
+use Rattle.abi_driver.proofs.Done.{is_it, same_is}
 use Rattle.abi_driver.proofs.Runs.{total-append}
 use Rattle.abi_driver.proofs.SaysTypes.{says_typed}
 
@@ -61,10 +61,6 @@ in_words w r u reply c honest one =
 
 -- 2. The blocks
 
--- how often an address is
-abbrev is_it : ℕ → ℕ → ℕ
-is_it a t = if nat_eq t a then 1 else 0
-
 not_taken : (a : ℕ) (taken : List ℕ) → total (is_it a) taken ≡ 0 → is_taken a taken ≡ false
 not_taken a [] h = refl
 not_taken a (t ∷ taken) h = by (nat_eq t a) (not_taken a taken) h
@@ -72,9 +68,6 @@ not_taken a (t ∷ taken) h = by (nat_eq t a) (not_taken a taken) h
     by : (b : Bool) → (total (is_it a) taken ≡ 0 → is_taken a taken ≡ false) → (if b then 1 else 0) + total (is_it a) taken ≡ 0 → (b || is_taken a taken) ≡ false
     by true later e = absurd (omega (arith, e))
     by false later e = later (omega (arith, e))
-
-same_is : (n : ℕ) → is_it n n ≡ 1
-same_is n = ap (λ b. if b then 1 else 0) (eq-eqb n n refl)
 
 -- blocks whose addresses are all different, and none of them taken, may be taken one after another
 free_once : (own : List Block) (taken : List ℕ) → ((a : ℕ) → total (at_address a) own + total (is_it a) taken ≤ 1) → AreFree own taken

@@ -5,6 +5,7 @@ use Rattle.wit_model.specs.declared.function.Function.{Function}
 use Rattle.wit_model.specs.declared.types.TypeDef.{TypeDef}
 use Rattle.wit_model.specs.declared.wasm_type.WasmType.{WasmType}
 use Rattle.wit_model.specs.declared.wasm_type.WasmType.TheVariants as wasm
+use Rattle.wit_layout.specs.declared.signature.AbiVariant.{AbiVariant}
 use Rattle.wit_layout.specs.declared.signature.AbiVariant.TheVariants.{GuestImport}
 use Rattle.wit_layout.specs.Flat.{flatten_record}
 use Rattle.wit_layout.specs.declared.signature.WasmSignature.{WasmSignature}
@@ -18,7 +19,7 @@ use Rattle.wrapper_data.specs.declared.word.Word.{Word}
 use Rattle.wrapper_meaning.specs.Areas.{IsArea, area_for, import_area, result_record}
 use Rattle.wrapper_meaning.specs.AsWords.{PartsSay}
 use Rattle.wrapper_meaning.specs.Calls.{pointers}
-use Rattle.wrapper_meaning.specs.Direction.{lend}
+use Rattle.wrapper_meaning.specs.Direction.{lend, take}
 use Rattle.wrapper_meaning.specs.InRange.{IsListedResult}
 use Rattle.wrapper_meaning.specs.Items.{total}
 use Rattle.wrapper_meaning.specs.Layout.{layouts}
@@ -39,7 +40,7 @@ use Rattle.abi_driver.specs.Lowers.{LowersArguments}
 use Rattle.abi_driver.specs.Meaning.{Meaning}
 use Rattle.abi_driver.proofs.Done.{does_done}
 use Rattle.abi_driver.proofs.HonestAnswers.{AnswerSays, answer_typed, in_words, may_take_new}
-use Rattle.abi_driver.proofs.Runs.{adds_both, adds_same, total-append}
+use Rattle.abi_driver.proofs.Runs.{adds_both, adds_same, ofs_none, total-append}
 use Rattle.abi_driver.proofs.SaysTypes.{parts_typed}
 use Rattle.abi_driver.proofs.TakingOver.{took_none}
 
@@ -66,8 +67,8 @@ import_is_direct types f d =
     let both = direct_core (signature.param_words types f.params) (signature.result_words types f.result) (ap are_many (sym same.0) ∙ d.few) (ap needs_pointer (sym same.1) ∙ d.one) in
     (both.0 ∙ sym same.0, both.1 ∙ sym same.1)
 
-pub direct_signature : (types : List TypeDef) (f : Function) (s : WasmSignature) → IsFlattenedFunctype types GuestImport f s → s.indirect_params ≡ false → s.retptr ≡ false → IsDirect (param_shapes types f) (result_shape types f)
-direct_signature types f s is few one =
+pub direct_signature : (types : List TypeDef) (variant : AbiVariant) (f : Function) (s : WasmSignature) → IsFlattenedFunctype types variant f s → s.indirect_params ≡ false → s.retptr ≡ false → IsDirect (param_shapes types f) (result_shape types f)
+direct_signature types variant f s is few one =
     let same = signature_is_by_shapes types f in
     record { few = ap are_many same.0 ∙ sym is.indirect ∙ few; one = ap needs_pointer same.1 ∙ sym is.pointed ∙ one }
 
@@ -80,7 +81,7 @@ no_area w ts r d = ap (λ c. area_for w ((if c then fields ts ∷ [] else []) ++
 
 -- 2. The call
 
-if_calls : {V S : Type 0} (account : S → Account V) (c : Bool) (o q : Outcome V S) (calls : List (Call V)) → (account_in account o).calls ≡ calls → (account_in account q).calls ≡ calls → (account_in account (if c then o else q)).calls ≡ calls
+pub if_calls : {V S : Type 0} (account : S → Account V) (c : Bool) (o q : Outcome V S) (calls : List (Call V)) → (account_in account o).calls ≡ calls → (account_in account q).calls ≡ calls → (account_in account (if c then o else q)).calls ≡ calls
 if_calls account true o q calls h k = h
 if_calls account false o q calls h k = k
 
@@ -90,7 +91,7 @@ calling_calls : {V : Type 0} (target : Target) (ws : List Word) (types : List Wa
 calling_calls target ws types (words w writes blocks) acc = if_calls (λ x. x.account) (have_types types (option_to_list w)) _ _ (acc.calls ++ call_point target ws acc ∷ []) refl refl
 calling_calls target ws types (value v heap) acc = refl
 
-follows_calls : {V A S : Type 0} (account : S → Account V) (o : Outcome V (Got V A)) (q : Outcome V S) (P : Got V A → S → Type 0) → Follows account o q P → ((x : Got V A) (t : S) → P x t → account t ≡ x.account)
+pub follows_calls : {V A S : Type 0} (account : S → Account V) (o : Outcome V (Got V A)) (q : Outcome V S) (P : Got V A → S → Type 0) → Follows account o q P → ((x : Got V A) (t : S) → P x t → account t ≡ x.account)
     → (account_in account q).calls ≡ (account_in (λ (x : Got V A). x.account) o).calls
 follows_calls account (Done x) q P h go = ap (λ o. (account_in account o).calls) h.1 ∙ ap (λ (acc : Account _). acc.calls) (go x h.0 h.2)
 follows_calls account (Stopped e acc) q P h go = ap (λ o. (account_in account o).calls) h
@@ -109,10 +110,6 @@ calling_done target ws types reply acc w writes new e h =
     ap (λ r. calling target ws types r acc) e ∙ ap (λ c. if c then gives (option_to_list w) (after_answer (call_point target ws acc) writes new acc) else Stuck (recorded (call_point target ws acc) acc)) h
 
 module _ {Self Operand : Type 0} (m : Meaning Self Operand) (sound : Sound m) where
-  ofs_none : (os : List Operand) → ofs m os [] ≡ []
-  ofs_none [] = refl
-  ofs_none (o ∷ os) = refl
-
   -- 3. What was answered becomes what is given
 
   -- the words of an answer are read, and its blocks taken over
@@ -120,7 +117,7 @@ module _ {Self Operand : Type 0} (m : Meaning Self Operand) (sound : Sound m) wh
     pub state : m.State
     pub done : m.does w f (m.code new) s0 ≡ Done state
     pub vals : List m.Item
-    pub stands : ResultStands m r (settled_result r u) vals own
+    pub stands : ResultStands m take r (settled_result r u) vals own
     pub after : After m w new (ofs m rs (item_data m vals) ++ others) (addresses own) [] s (by_taking own (m.account s)) state
 
   no_answer : (u : Result None) (os : List Operand) (ws : List Word) (own : List Block) (b : Self) (w : m.World) (f : Peer m.Item) (others : Facts m) (s0 s : m.State) → ws ≡ [] → own ≡ []
@@ -133,7 +130,7 @@ module _ {Self Operand : Type 0} (m : Meaning Self Operand) (sound : Sound m) wh
     after = record {
       account = sym (ap (λ xs. took xs (m.account s)) bare ∙ took_none (m.account s));
       owns = λ g. sym (ap (λ xs. total g (m.owns s ++ addresses xs)) bare);
-      denotes = subst (λ fs. m.denotes w b (fs ++ others) s) (ap (λ xs. ofs m os (core_data m xs)) none ∙ ofs_none os) at.holds;
+      denotes = subst (λ fs. m.denotes w b (fs ++ others) s) (ap (λ xs. ofs m os (core_data m xs)) none ∙ ofs_none m os) at.holds;
     };
   }
 

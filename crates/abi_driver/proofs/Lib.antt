@@ -9,6 +9,8 @@ pub mod PlainRows
 pub mod PlainRuns
 pub mod PlainNew
 pub mod ArgumentSteps
+pub mod ExportSteps
+pub mod ReadSteps
 pub mod SaysTypes
 pub mod HonestAnswers
 pub mod ImportSteps

@@ -37,7 +37,7 @@ use Rattle.abi_driver.proofs.SaysLength.{says_length}
 use Rattle.abi_driver.proofs.TakingOver.{may_first, may_rest, reads, taking_text, took_both, took_none}
 
 -- what follows an action that is done
-follows_done : {V A S : Type 0} (account : S → Account V) (o : Outcome V A) (q : Outcome V S) (P : A → S → Type 0) (x : A) → o ≡ Done x → Follows account o q P → (t : S) × (q ≡ Done t) × P x t
+pub follows_done : {V A S : Type 0} (account : S → Account V) (o : Outcome V A) (q : Outcome V S) (P : A → S → Type 0) (x : A) → o ≡ Done x → Follows account o q P → (t : S) × (q ≡ Done t) × P x t
 follows_done account o q P x e h = subst (λ z. Follows account z q P) e h
 
 -- the scalar of an instruction that was chosen by a type

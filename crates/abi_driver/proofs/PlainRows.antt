@@ -1,10 +1,8 @@
 -- The steps of a `PlainBindgen` do what the laws ask of their instructions.
-use Rattle.std.proofs.Common.{◌≡◌, ℕ, zero, suc, ◌+◌, ◌-◌, ◌^◌, ◌<◌, ◌⊎◌, Bool, true, false, ◌&&◌, ◌||◌, nat_eq, nat_lt, if◌then◌else◌, ℤ, pos, List, [], ◌∷◌, ◌++◌, length, map, find, Option, None, Some, is_some, option_map, refl, sym, ap, ap₂, ◌∙◌, subst, arith, append-nil}
-use mathlib.Core.Logic.{inl, inr}
+use Rattle.std.proofs.Common.{◌≡◌, ℕ, zero, suc, ◌-◌, ◌^◌, ◌<◌, Bool, true, false, ◌&&◌, nat_eq, nat_lt, if◌then◌else◌, ℤ, pos, List, [], ◌∷◌, ◌++◌, length, map, find, Option, None, Some, is_some, option_map, refl, sym, ap, ap₂, ◌∙◌, subst, arith, append-nil}
 use Rattle.std.specs.Int.{w8, w16, w32, w64, cast_signed}
 use Rattle.std.specs.List.{AllByRecursion}
 use Rattle.std.specs.Str.{is_utf8}
-use Rattle.std.proofs.lemmas.Bool.Decides.{eqb_tells}
 use Rattle.std.proofs.lemmas.Int.{ints}
 use Rattle.std.proofs.lemmas.List.{length-map}
 use Rattle.wit_model.specs.declared.name.TypeId.{TypeId}
@@ -56,6 +54,7 @@ use Rattle.abi_driver.specs.Memory as memory
 use Rattle.abi_driver.specs.Parts.{LiftsParts, LowersParts, PartsStand, count}
 use Rattle.abi_driver.specs.Plain.{AddsStep, IsPlainText, IsRight, PlainItem, PlainItems, PlainPartsStand, PlainStands, PlainState, all_at, and_all, gathered, leaf, lifted_type, listed, lowered_type, normal, performs, places_from, plain_meaning, scalar_of, whole, word_touch}
 use Rattle.abi_driver.specs.Touches.{LoadsWord, RowOfTouch, StoresWord, Touch, loads, reached, stores, touch, touch_makes}
+use Rattle.abi_driver.proofs.Done.{without_one}
 use Rattle.abi_driver.proofs.Ordinary.{code_of, lifts_ordinary, lowers_ordinary, still_returned, touches_ordinary}
 use Rattle.abi_driver.proofs.PlainPlaces.{places_count}
 use Rattle.abi_driver.proofs.PlainRuns.{plain_adds, plain_does}
@@ -79,18 +78,6 @@ if_done false o q P h k = k refl
 fails : {V A : Type 0} (f : Form) (kind : TrapKind) (acc : Account V) (P : Got V A → Type 0) → OnDone (failing f kind acc) P
 fails form.Debug kind acc P = tt
 fails form.Release kind acc P = tt
-
-without_one : (g : ℕ → ℕ) (a : ℕ) (taken : List ℕ) → is_taken a taken ≡ true → g a + total g (without a taken) ≡ total g taken
-without_one g a [] h = absurd (let e = h in cc)
-without_one g a (t ∷ taken) h = by (nat_eq t a) (eqb_tells t a) (without_one g a taken) h
-  where
-    by : (b : Bool) → (((nat_eq t a ≡ true) × (t ≡ a)) ⊎ ((nat_eq t a ≡ false) × (t ≡ a → ⊥))) → (is_taken a taken ≡ true → g a + total g (without a taken) ≡ total g taken)
-        → is_taken a (t ∷ taken) ≡ true → g a + total g (without a (t ∷ taken)) ≡ total g (t ∷ taken)
-    by b (inl (hit, same)) later h =
-        ap (λ c. g a + total g (if c then taken else t ∷ without a taken)) hit ∙ ap (λ x. g x + total g taken) (sym same)
-    by b (inr (miss, other)) later h =
-        let rest : is_taken a taken ≡ true = sym (ap (λ c. c || is_taken a taken) miss) ∙ h in
-        ap (λ c. g a + total g (if c then taken else t ∷ without a taken)) miss ∙ omega (arith, later rest)
 
 done_map : {V A : Type 0} (o : Outcome V (Got V A)) (P Q : Got V A → Type 0) → OnDone o P → ((x : Got V A) → P x → Q x) → OnDone o Q
 done_map (Done x) P Q h go = go x h

@@ -79,6 +79,10 @@ module _ {Self Operand : Type 0} (m : Meaning Self Operand) where
 
   -- 4. Facts of lists
 
+  pub ofs_none : (os : List Operand) → ofs m os [] ≡ []
+  ofs_none [] = refl
+  ofs_none (o ∷ os) = refl
+
   pub ofs_append : (os ps : List Operand) (ds es : Data m) → length ds ≡ length os → ofs m (os ++ ps) (ds ++ es) ≡ ofs m os ds ++ ofs m ps es
   ofs_append [] ps [] es e = refl
   ofs_append [] ps (d ∷ ds) es e = absurd (omega (arith, e))

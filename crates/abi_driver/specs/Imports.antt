@@ -9,7 +9,7 @@ use Rattle.wrapper_data.specs.declared.run.Target.{Target}
 use Rattle.wrapper_data.specs.declared.word.Word.{Word}
 use Rattle.wrapper_meaning.specs.Areas.{IsArea, import_area}
 use Rattle.wrapper_meaning.specs.Calls.{PassesWords}
-use Rattle.wrapper_meaning.specs.Direction.{lend, take}
+use Rattle.wrapper_meaning.specs.Direction.{Direction, lend, take}
 use Rattle.wrapper_meaning.specs.Honest.{AnswersValue}
 use Rattle.wrapper_meaning.specs.InRange.{AreListed, IsListedResult}
 use Rattle.wrapper_meaning.specs.Items.{SameItems}
@@ -50,10 +50,10 @@ abbrev pub by_answer : {V : Type 0} → Call V → (writes : List (ℕ × ℕ)) 
 by_answer c writes new own acc = by_taking own (record (recorded c acc) { heap = answered new writes acc.heap })
 
 module _ {Self Operand : Type 0} (m : Meaning Self Operand) where
-  -- what is given stands for the result, and owns these blocks
-  abbrev pub ResultStands : (r : Option Shape) → Result r → List m.Item → List Block → Type 0
-  ResultStands None u vals own = (vals ≡ []) × (own ≡ [])
-  ResultStands (Some t) u vals own = (a : m.Item) × (vals ≡ a ∷ []) × m.stands take t u a own
+  -- the item of a result, where there is one, stands for it with these blocks
+  abbrev pub ResultStands : Direction → (r : Option Shape) → Result r → List m.Item → List Block → Type 0
+  ResultStands dir None u vals own = (vals ≡ []) × (own ≡ [])
+  ResultStands dir (Some t) u vals own = (a : m.Item) × (vals ≡ a ∷ []) × m.stands dir t u a own
 
   -- a state to which the earlier code came, where the first arguments are lent and stand for values
   pub record Given (w : m.World) (p : Peer m.Item) (ts : Shapes) (vs : Parts ts) (vals : List m.Item) (old new : Self) (others : Facts m) (s0 s : m.State) : Type 0 where
@@ -69,7 +69,7 @@ module _ {Self Operand : Type 0} (m : Meaning Self Operand) where
     pub returned : m.returned new ≡ Some os
     pub vals : List m.Item
     pub own : List Block
-    pub stands : ResultStands r (settled_result r u) vals own
+    pub stands : ResultStands take r (settled_result r u) vals own
     pub all : SameItems own honest.new
     pub after : After m w new (ofs m os (item_data m vals) ++ others) (addresses own) [] s (by_answer c honest.writes honest.new own (m.account s)) state
 

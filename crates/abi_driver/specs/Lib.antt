@@ -1,5 +1,6 @@
 pub mod Account
 pub mod Calls
+pub mod Exports
 pub mod Frees
 pub mod HasList
 pub mod Imports

@@ -1,5 +1,5 @@
 -- What the code is by which values become core words.
-use Rattle.std.specs.Prelude.{◌≡◌, ℕ, Bool, List, [], ◌∷◌, length}
+use Rattle.std.specs.Prelude.{◌≡◌, ℕ, Bool, true, List, [], ◌∷◌, length, Option, None, Some}
 use Rattle.wrapper_data.specs.declared.block.Block.{Block}
 use Rattle.wrapper_data.specs.declared.word.Word.{Word}
 use Rattle.wit_layout.specs.Flat.{flatten_record, flatten_type}
@@ -41,3 +41,8 @@ module _ {Self Operand : Type 0} (m : Meaning Self Operand) where
     pub fits : length os ≡ length (flatten_record (layouts ts))
     pub row : (heap : List Block) (v : Parts ts) (vals : List m.Item) (own : List Block) → AreListed ts v → PartsStand m (way realloc heap) ts v vals own →
         Passes (PartsSay m.width (way realloc heap) ts v) (args m first (item_data m vals)) own os old new
+
+  -- the operand of a result is given away as words, where there is one
+  abbrev pub LowersAnswer : (r : Option Shape) → (os rs : List Operand) → (old new : Self) → Type 0
+  LowersAnswer None os rs old new = (rs ≡ []) × (new ≡ old)
+  LowersAnswer (Some t) os rs old new = (o : Operand) × (os ≡ o ∷ []) × LowersFlat true t o rs old new

@@ -16,7 +16,7 @@ mod send;
 
 pub use after_return::post_return;
 pub use bindgen::{Bindgen, Operand};
-pub use call::call_import;
+pub use call::{call_export, call_import};
 pub use dealloc::deallocate_lists_in_types;
 pub use has_list::guest_export_needs_post_return;
 pub use instruction::Instruction;

@@ -2,7 +2,7 @@
 
 pub(crate) mod leaf;
 
-ghost use Rattle.std.specs.Prelude.{◌≡◌, ◌<◌, ◌++◌, IsTrue, List, true, drop, length, IfOk};
+ghost use Rattle.std.specs.Prelude.{◌≡◌, ◌<◌, ◌≤◌, ◌++◌, IsTrue, List, true, drop, length, IfOk};
 ghost use Rattle.std.specs.List.{list_all};
 ghost use Rattle.wit_model.specs.TypeOrder.{GoesDown, type_below};
 ghost use Rattle.wrapper_meaning.specs.Shape.{shape_at, shape_of};
@@ -26,9 +26,9 @@ pub(crate) struct Lifted<O> {
 
 /// The parts that were made of words, and where those behind them begin.
 #[derive(Drop)]
-struct LiftedParts<O> {
-    parts: List<O>,
-    next: usize,
+pub(crate) struct LiftedParts<O> {
+    pub(crate) parts: List<O>,
+    pub(crate) next: usize,
 }
 
 /// What denotes the value that some core words represent, one operand for each word. What the words own is taken over.
@@ -127,9 +127,10 @@ fn lift_id<B: Bindgen>(
     }
 }
 
-/// The parts of a value whose type stands at a place of the table, of the words from a place on.
+/// The parts of a value whose type stands at a place of the table, of the words from a place on; or values of any types of the table,
+/// where that is the place behind it.
 #[cycle(lift)]
-fn lift_parts<B: Bindgen>(
+pub(crate) fn lift_parts<B: Bindgen>(
     alloc: Global,
     resolve: &Resolve,
     bindgen: &mut B,
@@ -139,7 +140,7 @@ fn lift_parts<B: Bindgen>(
     tys: &[WitType],
 ) -> Result<LiftedParts<B::Operand>, OutOfMemory>
     requires down { GoesDown resolve.now.types }
-    requires within { place < length resolve.now.types }
+    requires within { place ≤ length resolve.now.types }
     requires below { list_all (λ ty. type_below place ty) tys.now ≡ true }
     ensures count { IfOk result (λ r. length r.parts ≡ length tys.now) }
     ensures lifts { IfOk result (λ r. (used : List B.Operand) × (drop at words.now ≡ used ++ drop r.next words.now)

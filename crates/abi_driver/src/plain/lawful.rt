@@ -25,7 +25,8 @@ impl Bindgen for PlainBindgen {
 
     ghost sound = { plain_sound };
 
-    /// The steps of arguments, scalars, texts, records and tuples, of words in memory, of blocks that are freed, and of calls. Of any other instruction, which has no row yet, the answer is `OutOfMemory`.
+    /// The steps of arguments, scalars, texts, records and tuples, of words in memory, of blocks that are freed, and of calls. Of any
+    /// other instruction, which has no row yet, the answer is `OutOfMemory`.
     fn emit(
         &mut self,
         resolve: &Resolve,

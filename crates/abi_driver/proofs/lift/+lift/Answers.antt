@@ -9,7 +9,7 @@ use Rattle.wit_model.specs.declared.types.WitType.TheVariants as wit
 use Rattle.wit_layout.proofs.FlattenSteps.{rank}
 use Rattle.abi_driver.specs.Instructions.{IsRecord, shapes_of}
 use Rattle.abi_driver.proofs.LiftSteps.{lifts_all_as, lifts_as, record_lifts, rest_last, rest_next, tuple_lifts}
-use Rattle.abi_driver.proofs.Records.{alias_below, alias_rank, alias_shape, count-shapes, entry_at, kind_at, one_record, part_below_table, part_ranked, record_below, record_shape, tuple_below, tuple_shape}
+use Rattle.abi_driver.proofs.Records.{alias_below, alias_rank, alias_shape, count-shapes, entry_at, kind_at, one_record, part_below_within, part_ranked, record_below, record_shape, tuple_below, tuple_shape}
 use Rattle.abi_driver.proofs.lift.+lift.Goals as goal
 
 pub lift_id-lift_type-requires : goal.lift_id-lift_type-requires
@@ -95,7 +95,7 @@ lift_parts-lift_type-requires g t c κs within =
     let types = c.args.resolve.now.types in
     let short : c.loop-i.i < length c.args.tys.now = omega (arith, c.loop-i-test.true) in
     let low : rank (get_or c.args.tys.now c.loop-i.i wit.Bool) ≤ c.args.place = part_ranked c.args.place c.args.tys.now c.requires.below c.loop-i.i wit.Bool short in
-    let below = part_below_table c.args.place c.args.tys.now c.requires.below c.loop-i.i wit.Bool short (length types) c.requires.within in
+    let below = part_below_within c.args.place c.args.tys.now c.requires.below c.loop-i.i wit.Bool short (length types) c.requires.within in
     search rules
 
 pub lift_parts-loop-i-preserved : goal.lift_parts-loop-i-preserved

@@ -1,0 +1,126 @@
+//! The whole code of an export.
+
+ghost use Rattle.std.specs.Prelude.{◌≡◌, IsTrue, true, length, option_to_list, IfOk, OnOk};
+ghost use Rattle.std.specs.List.{list_all};
+ghost use Rattle.std.specs.Option.{option_map};
+ghost use Rattle.wit_layout.specs.Flat.{flatten_record};
+ghost use Rattle.wit_model.specs.IndexRange.{function_in_range};
+ghost use Rattle.wit_model.specs.TypeOrder.{GoesDown, payload_below, type_below};
+ghost use Rattle.wit_model.specs.WellFormed.{IsWellFormed};
+ghost use Rattle.wrapper_meaning.specs.Layout.{layouts};
+ghost use Rattle.wrapper_meaning.specs.Shape.{param_shapes, result_shape, shape_of};
+ghost use Rattle.abi_driver.specs.Exports.{CallsExport, ReadsWords, export_params};
+ghost use Rattle.abi_driver.specs.Instructions.{shapes_of};
+ghost use Rattle.abi_driver.specs.Laws.{IsCount};
+ghost use Rattle.abi_driver.specs.Lifts.{LiftsAll};
+ghost use Rattle.abi_driver.specs.Lowers.{LowersAnswer};
+
+use crate::bindgen::{Bindgen, Operand};
+use crate::instruction::Instruction;
+use crate::lift::{LiftedParts, lift_parts};
+use crate::lower::lower_type;
+use crate::parts::{numbered, param_types};
+use crate::send::{argument, send};
+use std::alloc::Global;
+use wit_layout::{AbiVariant, wasm_signature};
+use wit_model::{Function, List, OutOfMemory, Resolve, WitType};
+
+/// The code of an exported function, after `call` of wit-bindgen-core: its arguments are read and lifted, the method is called with the
+/// values, and what it answers is lowered and given away.
+///
+/// So far each parameter and the result is a scalar or a text, or a record or a tuple of such, also through aliases; they have at most
+/// sixteen words of parameters, and one of a result. Of any other function the answer is `OutOfMemory`, as where memory is wanting.
+pub fn call_export<B: Bindgen>(
+    alloc: Global,
+    resolve: &Resolve,
+    func: &Function,
+    bindgen: &mut B,
+) -> Result<(), OutOfMemory>
+    requires well { IsWellFormed resolve.now }
+    requires within { function_in_range resolve.now func.now ≡ true }
+    requires serves { B.meaning.exports bindgen.old ≡ true }
+    requires arguments { IsCount B.meaning (B.meaning.arguments bindgen.old) (length (export_params resolve.now.types func.now)) }
+    ensures { OnOk result (CallsExport B.meaning func.now (param_shapes resolve.now.types func.now) (result_shape resolve.now.types func.now) bindgen.old bindgen.new) }
+{
+    let signature = wasm_signature(resolve, AbiVariant::GuestExport, func);
+    if signature.indirect_params || signature.retptr {
+        return Err(OutOfMemory);
+    }
+    let tys = param_types(alloc, func.params.as_slice())?;
+    let words = read_words(alloc, resolve, bindgen, signature.params.count)?;
+    let values = lift_arguments(alloc, resolve, bindgen, words.as_slice(), tys.as_slice())?;
+    let answer = send(
+        alloc,
+        resolve,
+        bindgen,
+        Instruction::CallInterface(func),
+        values,
+    )?;
+    let given = lower_answer(alloc, resolve, bindgen, answer.as_slice(), func.result)?;
+    let count = numbered(given.len())?;
+    send(alloc, resolve, bindgen, Instruction::Return(count), given)?;
+    Ok(())
+}
+
+/// The arguments, which are so many words.
+fn read_words<B: Bindgen>(
+    alloc: Global,
+    resolve: &Resolve,
+    bindgen: &mut B,
+    count: u32,
+) -> Result<List<B::Operand>, OutOfMemory>
+    requires { IsCount B.meaning (B.meaning.arguments bindgen.old) count }
+    ensures { IfOk result (λ words. ReadsWords B.meaning count words bindgen.old bindgen.new) }
+{
+    let mut words = List::new(alloc);
+    for number in 0..count {
+        let word = argument(alloc, resolve, bindgen, number)?;
+        words.push(word)?;
+    }
+    Ok(words)
+}
+
+/// The values that the words represent, one after another.
+fn lift_arguments<B: Bindgen>(
+    alloc: Global,
+    resolve: &Resolve,
+    bindgen: &mut B,
+    words: &[B::Operand],
+    tys: &[WitType],
+) -> Result<List<B::Operand>, OutOfMemory>
+    requires down { GoesDown resolve.now.types }
+    requires below { list_all (λ ty. type_below (length resolve.now.types) ty) tys.now ≡ true }
+    requires fits { length words.now ≡ length (flatten_record (layouts (shapes_of resolve.now.types tys.now))) }
+    ensures count { IfOk result (λ values. length values ≡ length tys.now) }
+    ensures lifts { IfOk result (λ values. LiftsAll B.meaning (shapes_of resolve.now.types tys.now) words.now values bindgen.old bindgen.new) }
+{
+    let behind = resolve.types.len();
+    let lifted = lift_parts(alloc, resolve, bindgen, words, 0, behind, tys)?;
+    let LiftedParts { parts, next: _ } = lifted;
+    Ok(parts)
+}
+
+/// The words of the answer, where there is one.
+#[tactic(auto, unfolding(wit_model::specs::TypeOrder::payload_below))]
+fn lower_answer<B: Bindgen>(
+    alloc: Global,
+    resolve: &Resolve,
+    bindgen: &mut B,
+    answer: &[B::Operand],
+    ty: Option<WitType>,
+) -> Result<List<B::Operand>, OutOfMemory>
+    requires down { GoesDown resolve.now.types }
+    requires below { IsTrue (payload_below (length resolve.now.types) ty) }
+    requires serves { B.meaning.exports bindgen.old ≡ true }
+    requires due { length answer.now ≡ length (option_to_list ty) }
+    ensures { IfOk result (λ given. LowersAnswer B.meaning (option_map (shape_of resolve.now.types) ty) answer.now given bindgen.old bindgen.new) }
+{
+    match ty {
+        None => Ok(List::new(alloc)),
+        Some(ty) => {
+            let value = answer[0].copy(alloc)?;
+            let words = lower_type(alloc, resolve, bindgen, value, ty, true)?;
+            Ok(words)
+        }
+    }
+}
