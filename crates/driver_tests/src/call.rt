@@ -1,4 +1,4 @@
-//! An import with a number and a text is called, and its answer is given.
+//! An import and a method are called with a number and a text, and what they answer is given.
 
 ghost use Rattle.std.specs.Prelude.{◌≡◌, true, IfOk};
 ghost use Rattle.wit_model.specs.IndexRange.{function_in_range};
@@ -6,7 +6,7 @@ ghost use Rattle.wit_model.specs.declared.resolve.Resolve.{Resolve};
 
 use crate::sample::{docs, maker, no_name, sample};
 use crate::steps::{Told, are, difference};
-use abi_driver::call_import;
+use abi_driver::{call_export, call_import};
 use std::alloc::Global;
 use std::test::Fail;
 use wit_model::WasmType::I32;
@@ -55,6 +55,32 @@ fn an_import_is_called(rt: HostRuntime) -> Result<(), Fail> {
     let func = function(alloc)?;
     call_import(alloc, &resolve, &func, &mut code)?;
     assert_eq!(rt; difference(code.steps(), &CALLED), None);
+    match code.returned() {
+        Some(given) => assert!(rt; are(given.as_slice(), &[6])),
+        None => panic!(rt; "the code has no end"),
+    }
+    Ok(())
+}
+
+/// All words are read, each value is made of its own, and the method's answer becomes a word.
+const HANDED: [Told; 7] = [
+    Told::Argument(0, 0),
+    Told::Argument(1, 1),
+    Told::Argument(2, 2),
+    Told::Read(WitType::U32, 0, 3),
+    Told::Take(1, 2, 4),
+    Told::CallMethod(2, [3, 4, 0], 1, 5),
+    Told::Pass(5, 6),
+];
+
+#[test]
+fn a_method_is_called(rt: HostRuntime) -> Result<(), Fail> {
+    let alloc = rt.alloc();
+    let resolve = sample(alloc)?;
+    let mut code = maker(alloc, &resolve, false)?;
+    let func = function(alloc)?;
+    call_export(alloc, &resolve, &func, &mut code)?;
+    assert_eq!(rt; difference(code.steps(), &HANDED), None);
     match code.returned() {
         Some(given) => assert!(rt; are(given.as_slice(), &[6])),
         None => panic!(rt; "the code has no end"),
