@@ -19,3 +19,4 @@ pub mod PlainSound
 pub mod ScalarTouches
 pub mod Stores
 pub mod Touches
+pub mod WholeCalls

@@ -3,7 +3,7 @@
 
 mod after_return;
 mod bindgen;
-mod call;
+mod calls;
 mod dealloc;
 mod has_list;
 mod instruction;
@@ -16,7 +16,7 @@ mod send;
 
 pub use after_return::post_return;
 pub use bindgen::{Bindgen, Operand};
-pub use call::{call_export, call_import};
+pub use calls::{LiftLower, call};
 pub use dealloc::deallocate_lists_in_types;
 pub use has_list::guest_export_needs_post_return;
 pub use instruction::Instruction;

@@ -17,7 +17,7 @@ use Rattle.abi_driver.specs.Lowers.{LowersAnswer}
 use Rattle.abi_driver.proofs.ExportSteps.{calls_export, export_count}
 use Rattle.abi_driver.proofs.ImportSteps.{direct_signature}
 use Rattle.abi_driver.proofs.Records.{count-shapes}
-use Rattle.abi_driver.proofs.call.export.call_export.Goals as goal
+use Rattle.abi_driver.proofs.calls.export.call_export.Goals as goal
 
 pub lift_arguments-requires-clause-down : goal.lift_arguments-requires-clause-down
 lift_arguments-requires-clause-down g c = types_go_down c.args.resolve.now c.requires.well.unbroken

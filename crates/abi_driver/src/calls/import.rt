@@ -23,12 +23,8 @@ use std::alloc::Global;
 use wit_layout::{AbiVariant, wasm_signature};
 use wit_model::{Function, List, OutOfMemory, Resolve, WitType};
 
-/// The code of an imported function, after `call` of wit-bindgen-core: its arguments are lowered and lent, the core import is called, and
-/// what it answers is lifted and given.
-///
-/// So far each parameter and the result is a scalar or a text, or a record or a tuple of such, also through aliases; they have at most
-/// sixteen words of parameters, and one of a result. Of any other function the answer is `OutOfMemory`, as where memory is wanting.
-pub fn call_import<B: Bindgen>(
+/// The code of an imported function.
+pub(super) fn call_import<B: Bindgen>(
     alloc: Global,
     resolve: &Resolve,
     func: &Function,

@@ -6,7 +6,7 @@ use Rattle.abi_driver.specs.declared.instruction.Instruction.TheVariants as inst
 use Rattle.abi_driver.specs.Instructions.{Emits}
 use Rattle.abi_driver.proofs.ArgumentSteps.{rest_last, rest_next, within_count}
 use Rattle.abi_driver.proofs.Runs.{adds_both}
-use Rattle.abi_driver.proofs.call.import.lower_arguments.Goals as goal
+use Rattle.abi_driver.proofs.calls.import.lower_arguments.Goals as goal
 
 pub argument-requires : goal.argument-requires
 argument-requires g c =

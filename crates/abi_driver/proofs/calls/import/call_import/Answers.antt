@@ -10,7 +10,7 @@ use Rattle.wit_layout.proofs.SignatureSteps.{params_in_table, result_in_table}
 use Rattle.abi_driver.specs.Instructions.{shapes_of}
 use Rattle.abi_driver.specs.Lowers.{LowersArguments}
 use Rattle.abi_driver.proofs.ImportSteps.{calls_import, direct_signature, import_is_direct}
-use Rattle.abi_driver.proofs.call.import.call_import.Goals as goal
+use Rattle.abi_driver.proofs.calls.import.call_import.Goals as goal
 
 pub lower_arguments-requires-clause-down : goal.lower_arguments-requires-clause-down
 lower_arguments-requires-clause-down g c = types_go_down c.args.resolve.now c.requires.well.unbroken

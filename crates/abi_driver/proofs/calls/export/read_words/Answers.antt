@@ -1,7 +1,7 @@
 use Rattle.std.proofs.Common.{◌<◌, arith}
 use Rattle.abi_driver.proofs.ArgumentSteps.{within_count}
 use Rattle.abi_driver.proofs.ReadSteps.{reads_next}
-use Rattle.abi_driver.proofs.call.export.read_words.Goals as goal
+use Rattle.abi_driver.proofs.calls.export.read_words.Goals as goal
 
 pub argument-requires : goal.argument-requires
 argument-requires g c =

@@ -25,12 +25,8 @@ use std::alloc::Global;
 use wit_layout::{AbiVariant, wasm_signature};
 use wit_model::{Function, List, OutOfMemory, Resolve, WitType};
 
-/// The code of an exported function, after `call` of wit-bindgen-core: its arguments are read and lifted, the method is called with the
-/// values, and what it answers is lowered and given away.
-///
-/// So far each parameter and the result is a scalar or a text, or a record or a tuple of such, also through aliases; they have at most
-/// sixteen words of parameters, and one of a result. Of any other function the answer is `OutOfMemory`, as where memory is wanting.
-pub fn call_export<B: Bindgen>(
+/// The code of an exported function.
+pub(super) fn call_export<B: Bindgen>(
     alloc: Global,
     resolve: &Resolve,
     func: &Function,

@@ -2,7 +2,7 @@ use Rattle.std.proofs.Common.{◌++◌, false, List, drop}
 use Rattle.abi_driver.specs.Instructions.{shapes_of}
 use Rattle.abi_driver.specs.Laws.{Adds}
 use Rattle.abi_driver.specs.Lowers.{LowersArguments}
-use Rattle.abi_driver.proofs.call.import.lower_arguments.Given as goal
+use Rattle.abi_driver.proofs.calls.import.lower_arguments.Given as goal
 
 -- what lowers the arguments that are left, lowers them all
 abbrev pub invariant-loop-i : goal.invariant-loop-i

@@ -1,0 +1,55 @@
+//! The whole code of a function.
+
+mod export;
+mod import;
+
+ghost use Rattle.std.specs.Prelude.{◌≡◌, true, OnOk};
+ghost use Rattle.wit_model.specs.IndexRange.{function_in_range};
+ghost use Rattle.wit_model.specs.WellFormed.{IsWellFormed};
+ghost use Rattle.abi_driver.specs.WholeCalls.{CallsFunction, HasArguments, IsServed, IsWay};
+
+use crate::bindgen::Bindgen;
+use crate::calls::export::call_export;
+use crate::calls::import::call_import;
+use std::alloc::Global;
+use wit_layout::AbiVariant;
+use wit_model::{Function, OutOfMemory, Resolve};
+
+/// Which way values pass: arguments are lowered and results lifted, as in an import; or arguments are lifted and results lowered, as in
+/// an export.
+#[derive(Clone, Copy, Debug, PartialEq, Eq)]
+pub enum LiftLower {
+    LowerArgsLiftResults,
+    LiftArgsLowerResults,
+}
+
+/// The code of a function, after `call` of wit-bindgen-core. An import lowers and lends its arguments, calls the core import, and lifts and
+/// gives what that answers. An export reads and lifts its arguments, calls the method with them, and lowers and gives away what that answers.
+///
+/// So far each parameter and the result is a scalar or a text, or a record or a tuple of such, also through aliases; they have at most
+/// sixteen words of parameters, and one of a result. Of any other function the answer is `OutOfMemory`, as where memory is wanting.
+pub fn call<B: Bindgen>(
+    alloc: Global,
+    resolve: &Resolve,
+    variant: AbiVariant,
+    dir: LiftLower,
+    func: &Function,
+    bindgen: &mut B,
+) -> Result<(), OutOfMemory>
+    requires well { IsWellFormed resolve.now }
+    requires within { function_in_range resolve.now func.now ≡ true }
+    requires way { IsWay variant dir }
+    requires serves { IsServed B.meaning variant bindgen.old }
+    requires arguments { HasArguments B.meaning resolve.now.types variant func.now bindgen.old }
+    ensures { OnOk result (CallsFunction B.meaning resolve.now.types variant func.now bindgen.old bindgen.new) }
+{
+    match (variant, dir) {
+        (AbiVariant::GuestImport, LiftLower::LowerArgsLiftResults) => {
+            call_import(alloc, resolve, func, bindgen)
+        }
+        (AbiVariant::GuestExport, LiftLower::LiftArgsLowerResults) => {
+            call_export(alloc, resolve, func, bindgen)
+        }
+        _ => Err(OutOfMemory),
+    }
+}
