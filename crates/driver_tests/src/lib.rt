@@ -2,7 +2,7 @@
 #![tactic(auto)]
 
 #[cfg(test)]
-mod call;
+mod calls;
 #[cfg(test)]
 mod flat;
 #[cfg(test)]

@@ -6,9 +6,10 @@ ghost use Rattle.wit_model.specs.declared.resolve.Resolve.{Resolve};
 
 use crate::sample::{docs, maker, no_name, sample};
 use crate::steps::{Told, are, difference};
-use abi_driver::{call_export, call_import};
+use abi_driver::{LiftLower, call};
 use std::alloc::Global;
 use std::test::Fail;
+use wit_layout::AbiVariant;
 use wit_model::WasmType::I32;
 use wit_model::{Function, FunctionKind, List, OutOfMemory, Param, WitType};
 
@@ -53,7 +54,9 @@ fn an_import_is_called(rt: HostRuntime) -> Result<(), Fail> {
     let resolve = sample(alloc)?;
     let mut code = maker(alloc, &resolve, true)?;
     let func = function(alloc)?;
-    call_import(alloc, &resolve, &func, &mut code)?;
+    let variant = AbiVariant::GuestImport;
+    let dir = LiftLower::LowerArgsLiftResults;
+    call(alloc, &resolve, variant, dir, &func, &mut code)?;
     assert_eq!(rt; difference(code.steps(), &CALLED), None);
     match code.returned() {
         Some(given) => assert!(rt; are(given.as_slice(), &[6])),
@@ -79,7 +82,9 @@ fn a_method_is_called(rt: HostRuntime) -> Result<(), Fail> {
     let resolve = sample(alloc)?;
     let mut code = maker(alloc, &resolve, false)?;
     let func = function(alloc)?;
-    call_export(alloc, &resolve, &func, &mut code)?;
+    let variant = AbiVariant::GuestExport;
+    let dir = LiftLower::LiftArgsLowerResults;
+    call(alloc, &resolve, variant, dir, &func, &mut code)?;
     assert_eq!(rt; difference(code.steps(), &HANDED), None);
     match code.returned() {
         Some(given) => assert!(rt; are(given.as_slice(), &[6])),

@@ -2,7 +2,7 @@ use Rattle.std.proofs.Common.{List, ◌++◌, ◌∷◌, [], ap, ◌∙◌, refl
 use Rattle.wit_model.specs.declared.function.Param.{Param}
 use Rattle.wit_model.specs.declared.types.WitType.TheVariants as wit
 use Rattle.driver_tests.proofs.InRange.{number_and_text}
-use Rattle.driver_tests.proofs.call.function.Goals as goal
+use Rattle.driver_tests.proofs.calls.function.Goals as goal
 
 pub returns : goal.returns
 returns c = λ r.
