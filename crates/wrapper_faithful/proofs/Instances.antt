@@ -4,3 +4,4 @@ pub mod PlainExport
 pub mod Refused
 pub mod OwnedArgument
 pub mod WidePointers
+pub mod SixteenWords

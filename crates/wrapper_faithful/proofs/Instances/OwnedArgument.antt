@@ -1,6 +1,6 @@
 -- An argument that owns a block: a record with an own handle and a text, which an import is given as a whole, and frees; one whose
 -- text is another's, and a wrapper that leaves the block.
-use Rattle.std.proofs.Common.{◌≡◌, ℕ, true, false, List, [], ◌∷◌, None, codes, refl, sym, ap, arith, ◌∙◌}
+use Rattle.std.proofs.Common.{true, false, List, [], ◌∷◌, None, codes, refl, sym, ap, arith, ◌∙◌}
 use Rattle.std.proofs.lemmas.Bool.{true≢false}
 use Rattle.wrapper_data.specs.declared.block.Block.{Block}
 use Rattle.wrapper_data.specs.declared.heap.Heap.{Heap}
@@ -11,7 +11,7 @@ use Rattle.wrapper_data.specs.declared.value.RustValue.TheVariants as value
 use Rattle.wrapper_meaning.specs.Direction.{take}
 use Rattle.wrapper_meaning.specs.Gives.{GivesImport}
 use Rattle.wrapper_meaning.specs.Items.{total}
-use Rattle.wrapper_meaning.specs.Shape.{Shape, Shapes}
+use Rattle.wrapper_meaning.specs.Shape.{Shape}
 use Rattle.wrapper_meaning.specs.Shape.Shape.{fields, handle, text}
 use Rattle.wrapper_meaning.specs.Shape.Shapes.{none, more}
 use Rattle.wrapper_meaning.specs.StandsFor.{Stands}

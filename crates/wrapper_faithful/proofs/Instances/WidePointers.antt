@@ -1,5 +1,5 @@
 -- An honest peer at pointers of eight bytes, which writes an address and a length of eight bytes each to the area of a text.
-use Rattle.std.proofs.Common.{◌≡◌, ℕ, true, false, List, [], ◌∷◌, Some, None, codes, refl, ap, arith, ◌∙◌}
+use Rattle.std.proofs.Common.{◌≡◌, ℕ, List, [], ◌∷◌, Some, None, codes, refl, arith}
 use Rattle.wrapper_data.specs.declared.answer.Answer.TheVariants as answer
 use Rattle.wrapper_data.specs.declared.block.Block.{Block}
 use Rattle.wrapper_data.specs.declared.run.CallPoint.{CallPoint}
