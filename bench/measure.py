@@ -5,8 +5,8 @@
 
 It needs nothing but the built program and python3. For each document it prints the bytes in and out, the least time of
 several runs, the share of that time that reading the JSON takes at least (a document that is refused right behind the
-reading), the peak memory, and the ratios to the document of half as many functions. Where `jq` is there, it is run beside
-the program on the largest document. Then it does the same for aliases, each of the one before, and as many maps whose keys
+reading), the peak memory, also for a byte and for an object of the JSON, and the ratios to the document of half as many
+functions. Where `jq` is there, it is run beside the program on the largest document. Then it does the same for aliases, each of the one before, and as many maps whose keys
 are the last of them: a world that is not built, which must be refused in linear time.
 """
 
@@ -118,7 +118,7 @@ def measure(program, folder, what, make, counts, status):
         line = (
             f"{count} {what}: {len(data)} bytes in, {os.path.getsize(target)} out, "
             f"{seconds * 1000:.0f} ms ({reading / seconds:.0%} reading), {peak} KB, "
-            f"{peak * 1024 / len(data):.1f} bytes for a byte"
+            f"{peak * 1024 / len(data):.1f} bytes for a byte, {peak * 1024 / data.count(b'{'):.0f} for a JSON object"
         )
         if before:
             line += f", time x{seconds / before[0]:.2f}, memory x{peak / before[1]:.2f}"
