@@ -21,6 +21,7 @@ use Rattle.rust_tree.specs.Runtime.{item_name}
 use Rattle.rust_gen.specs.declared.scope.LocalKind.{LocalKind}
 use Rattle.rust_gen.specs.declared.scope.LocalKind.TheVariants as kind
 use Rattle.type_defs.specs.Docs.{doc_lines}
+use Rattle.type_defs.specs.Paths.{local_path}
 use Rattle.rust_gen.specs.Signature.{printed_result, core_params, core_result, text_size}
 use Rattle.rust_gen.specs.declared.scope.Scope.{Scope}
 use Rattle.rust_gen.specs.Scope.{Declares, IsFixedName, first_scope, numbered, ret_area}
