@@ -40,11 +40,8 @@ answer_says w None u ws own area one h = (h.0, h.1)
 answer_says w (Some t) u ws own area one h = (subst (λ b. MatchBool b (ResultInArea w take t u ws own area) (ResultInWord w take t u ws own area)) one h).0
 
 pub record InWords {V : Type 0} (w : ℕ) (r : Option Shape) (u : Result r) (reply : Reply V) (c : Call V) (honest : IsHonest w r u reply c) : Type 0 where
-  pub own : List Block
-  pub says : AnswerSays w r u (option_to_list honest.result) own
+  pub says : AnswerSays w r u (option_to_list honest.result) honest.represents.blocks
   pub silent : honest.writes ≡ []
-  pub brings : SameItems honest.new own
-  pub fresh : are_new honest.new c.heap ≡ true
 
 pub in_words : {V : Type 0} (w : ℕ) (r : Option Shape) (u : Result r) (reply : Reply V) (c : Call V) (honest : IsHonest w r u reply c) → is_indirect r ≡ false → InWords w r u reply c honest
 in_words w r u reply c honest one =
@@ -52,11 +49,8 @@ in_words w r u reply c honest one =
     let placed : AnswersInWord w honest.result honest.writes rep.words =
     subst (λ b. MatchBool b (AnswersInArea w r honest.result honest.writes honest.new (point_of c) rep.words rep.area) (AnswersInWord w honest.result honest.writes rep.words)) one rep.placed in
     record {
-      own = rep.blocks;
       says = subst (λ ws. AnswerSays w r u ws rep.blocks) placed.0 (answer_says w r u rep.words rep.blocks rep.area one rep.takes);
       silent = placed.1;
-      brings = rep.brings;
-      fresh = rep.fresh;
     }
 
 -- 2. The blocks
@@ -70,7 +64,7 @@ not_taken a (t ∷ taken) h = by (nat_eq t a) (not_taken a taken) h
     by false later e = later (omega (arith, e))
 
 -- blocks whose addresses are all different, and none of them taken, may be taken one after another
-free_once : (own : List Block) (taken : List ℕ) → ((a : ℕ) → total (at_address a) own + total (is_it a) taken ≤ 1) → AreFree own taken
+pub free_once : (own : List Block) (taken : List ℕ) → ((a : ℕ) → total (at_address a) own + total (is_it a) taken ≤ 1) → AreFree own taken
 free_once [] taken h = tt
 free_once (b ∷ own) taken h = (
   not_taken b.address taken (omega (arith, h b.address, same_is b.address)),

@@ -1,7 +1,11 @@
+pub mod AreaAsked
+pub mod AreaHeaps
+pub mod AreaSteps
 pub mod HasList
 pub mod LiftSteps
 pub mod LowerSteps
 pub mod Ordinary
+pub mod PlainArea
 pub mod PlainCalls
 pub mod PlainOperands
 pub mod PlainPlaces
@@ -34,4 +38,5 @@ pub mod Freeing
 pub mod FreeSteps
 pub mod LeafFrees
 pub mod RecordPlaces
+pub mod RecordStores
 pub mod FlatFrees

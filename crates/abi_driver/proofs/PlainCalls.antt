@@ -112,11 +112,12 @@ module _ (types : List TypeDef) (old new : PlainBindgen) where
       let answered_is : (p : Peer PlainItem) (acc : Account PlainItem) (x : Got PlainItem (List Word)) → calling goal ws answer p.reply acc ≡ Done x → IsAnswer answer acc x = λ p acc x e.
       let at = answer_is answer _ _ x (answers answer p.reply _) e in record { typed = at.typed; owners = at.owners } in
       plain_does st k old new adds (List Word) (ofs plain_meaning os (core_data plain_meaning ws)) (core_data plain_meaning ws) (λ p. calling goal ws answer p.reply) (λ back. core_data plain_meaning back) (λ back fs. fs ≡ ofs plain_meaning (places_from old.count k) (core_data plain_meaning back))
-      (λ x values n. refl) (λ s h. many_at old s os (core_data plain_meaning ws) given h) (λ p acc. ap (λ ys. called goal (option_to_list result) p.reply ys acc) (words_all ws) ∙ ap (λ tys. then_do (calling goal ws tys p.reply acc) (λ x. gives (core_data plain_meaning x.result) x.account)) is) (λ p acc x e. length-map x.result (λ w. word w) ∙ types_length answer x.result (answered_is p acc x e).typed ∙ sym (ap length is) ∙ sym many) (λ back. refl)
+      (λ x values n. refl) (λ s h. many_at old s os (core_data plain_meaning ws) given h) (λ area p acc. ap (λ ys. called goal (option_to_list result) p.reply ys acc) (words_all ws) ∙ ap (λ tys. then_do (calling goal ws tys p.reply acc) (λ x. gives (core_data plain_meaning x.result) x.account)) is) (λ p acc x e. length-map x.result (λ w. word w) ∙ types_length answer x.result (answered_is p acc x e).typed ∙ sym (ap length is) ∙ sym many) (λ back. refl)
       (λ back. []) (λ back. []) (λ p acc x e. same_owns x.account.taken acc.taken (answered_is p acc x e).owners) in
       record {
         adds = plain_grows st k old new adds;
         returned = adds.returned;
+        asked = adds.asked;
         results = ap length places ∙ places_count old.count k ∙ many ∙ ap length is;
         row = λ ws fit. subst (λ t. Does plain_meaning (List Word) old new (ofs plain_meaning os (core_data plain_meaning ws)) (λ p. calling t ws answer p.reply) (λ back fs. fs ≡ ofs plain_meaning rs (core_data plain_meaning back)) (λ back. []) (λ back. []))
             (sym (core_target old f import))
@@ -135,12 +136,12 @@ module _ (types : List TypeDef) (old new : PlainBindgen) where
       (t.account ≡ x.account) × SameItems t.account.taken (flat_map owned_by x.result) × plain_meaning.denotes w new (ofs plain_meaning (places_from old.count k) (item_data plain_meaning x.result)) t in
       let given : length os ≡ length ds = sym many ∙ sym (length-map vals (λ a. item a)) in
       let replied : (q : Peer PlainItem) (acc : Account PlainItem) (x : Got PlainItem (List PlainItem)) → act q acc ≡ Done x → IsReply k x = λ q acc x e. reply_is k _ x (replies k q.reply _) e in
-      let followed = plain_follows (step.CallMethod old.home f.name.snake os k old.count) k old new adds (List PlainItem) (ofs plain_meaning os ds) ds act (λ back. item_data plain_meaning back) Outs
-      (λ x values n. refl) (λ t h. many_at old t os ds given h) (λ q acc. ap (λ xs. handed goal k q.reply xs acc) (items_all vals))
-      (λ q acc x e. length-map x.result (λ a. item a) ∙ (replied q acc x e).many) (λ back. refl) w p others s0 s at in
-      subst (λ n. Follows account (handing owned_by (plain_target old f) vals n p.reply s.account) (runs p new.steps s0) R) due
-      (subst (λ t. Follows account (handing owned_by t vals k p.reply s.account) (runs p new.steps s0) R) (sym (method_target old f export))
-      (follows_more account (act p s.account) (runs p new.steps s0) _ R followed
+      let followed = plain_follows (step.CallMethod old.home f.name.snake os k old.count) k old new adds w (List PlainItem) (ofs plain_meaning os ds) ds act (λ back. item_data plain_meaning back) Outs
+      (λ x values n. refl) (λ q acc. ap (λ xs. handed goal k q.reply xs acc) (items_all vals))
+      (λ q acc x e. length-map x.result (λ a. item a) ∙ (replied q acc x e).many) (λ back. refl) p others s0 s (many_at old s os ds given (all_left (IsRight old s) (ofs plain_meaning os ds) others at.holds)) at in
+      subst (λ n. Follows account (handing owned_by (plain_target old f) vals n p.reply s.account) (runs w p new.steps s0) R) due
+      (subst (λ t. Follows account (handing owned_by t vals k p.reply s.account) (runs w p new.steps s0) R) (sym (method_target old f export))
+      (follows_more account (act p s.account) (runs w p new.steps s0) _ R followed
       (λ x t h. (
         h.account,
         λ g. ap (λ (acc : Account PlainItem). total g acc.taken) h.account ∙ ap (total g) (replied p s.account x h.done).owners,
@@ -152,6 +153,7 @@ module _ (types : List TypeDef) (old new : PlainBindgen) where
   calls_method fn os rs k due export len adds places = record {
     adds = plain_grows (step.CallMethod old.home fn.now.name.snake os k old.count) k old new adds;
     returned = adds.returned;
+    asked = adds.asked;
     results = ap length places ∙ places_count old.count k ∙ due;
     row = subst (λ ps. CallsMethod plain_meaning fn.now os ps old new) (sym places) (method_row fn.now os k due export adds);
   }
@@ -161,6 +163,7 @@ module _ (types : List TypeDef) (old new : PlainBindgen) where
   flushes n os rs len same is = subst (λ b. Emits plain_meaning types (instruction.Flush n) os rs old b) (sym is) (subst (λ ps. Emits plain_meaning types (instruction.Flush n) os ps old old) (sym same) (record {
     adds = adds_same plain_meaning old;
     returned = refl;
+    asked = refl;
     results = len;
     row = λ ds w f others s0 s at. (s, at.done, (ofs plain_meaning os ds, refl, record { account = refl; owns = λ g. refl; denotes = at.holds }));
   }))
@@ -171,8 +174,10 @@ module _ (types : List TypeDef) (old new : PlainBindgen) where
     adds = record {
       grows = record { serves = λ w h. h; more = λ w h. (w, h); stops = λ w f s h. stops_same (λ (t : PlainState). t.account) (plain_meaning.does w f old.steps s); imports = refl; exports = refl; arguments = refl; knows = λ types h. h; target = λ f. refl };
       quiet = λ w f s h. refl;
+      asked = refl;
     };
     returned = refl;
+    asked = refl;
     results = refl;
     row = λ ds w f others s0 s at. (
       s,

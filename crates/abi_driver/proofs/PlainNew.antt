@@ -1,7 +1,8 @@
 -- A new `PlainBindgen` can be run: from a state for each account, and for any arguments.
-use Rattle.std.proofs.Common.{◌≡◌, ℕ, zero, suc, ◌+◌, [], ◌∷◌, Option, None, Some, refl, ap, ◌∙◌, arith}
+use Rattle.std.proofs.Common.{◌≡◌, ℕ, zero, suc, ◌+◌, [], ◌∷◌, Option, None, Some, refl, sym, ap, ◌∙◌, subst, arith}
 use Rattle.std.specs.List.{AllByRecursion}
 use Rattle.abi_driver.specs.declared.plain.PlainBindgen.{PlainBindgen}
+use Rattle.abi_driver.specs.Area.{HoldsRecord}
 use Rattle.abi_driver.specs.Laws.{Data, IsNew, args}
 use Rattle.abi_driver.specs.Meaning.{Datum}
 use Rattle.abi_driver.specs.Plain.{IsRight, PlainItem, PlainState, plain_meaning}
@@ -17,13 +18,14 @@ args_right b s k (d ∷ ds) h =
     let here : k ≡ k + 0 = omega arith in
     (ap s.arguments here ∙ h 0, args_right b s (suc k) ds (λ i. let e : suc k + i ≡ k + suc i = omega arith in ap s.arguments e ∙ h (suc i)))
 
-pub plain_new : (b : PlainBindgen) → b.steps ≡ [] → b.returned ≡ None → IsNew plain_meaning b
-plain_new b e f = record {
+pub plain_new : (b : PlainBindgen) → b.steps ≡ [] → b.returned ≡ None → b.asked ≡ [] → IsNew plain_meaning b
+plain_new b e f unasked = record {
   empty = e;
   endless = f;
-  world = tt;
-  serves = tt;
-  start = λ w ds acc sv count lent taken.
-      let s : PlainState = record { account = acc; arguments = nth ds; values = λ n. None } in
-      (s, refl, taken, args_right b s 0 ds (λ i. let e : 0 + i ≡ i = omega arith in ap (nth ds) e));
+  unasked = unasked;
+  world = None;
+  serves = subst (AllByRecursion (HoldsRecord 2 None)) (sym unasked) tt;
+  start = λ w ds acc at sv count lent stands taken.
+      let s : PlainState = record { account = acc; arguments = nth ds; area = at; values = λ n. None } in
+      (s, refl, taken, refl, args_right b s 0 ds (λ i. let e : 0 + i ≡ i = omega arith in ap (nth ds) e));
 }

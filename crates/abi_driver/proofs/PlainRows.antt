@@ -272,8 +272,8 @@ module _ (os rs : List Place) (old new : PlainBindgen) where
   word_row (stores part ty o) h = h
   word_row (loads part signed ty o) h = h
 
-  touches : (types : List TypeDef) (i : Instruction) (t : WordTouch) → option_map word_touch (touch i) ≡ Some t → Adds plain_meaning old new → new.returned ≡ old.returned → length rs ≡ makes_of t → RowOfWord t → Emits plain_meaning types i os rs old new
-  touches types i t is adds still len row = by (touch i) refl is
+  touches : (types : List TypeDef) (i : Instruction) (t : WordTouch) → option_map word_touch (touch i) ≡ Some t → Adds plain_meaning old new → new.returned ≡ old.returned → new.asked ≡ old.asked → length rs ≡ makes_of t → RowOfWord t → Emits plain_meaning types i os rs old new
+  touches types i t is adds still same_asked len row = by (touch i) refl is
     where
       by : (x : Option Touch) → touch i ≡ x → option_map word_touch x ≡ Some t → Emits plain_meaning types i os rs old new
       by None here e = absurd (let h = e in cc)
@@ -283,6 +283,7 @@ module _ (os rs : List Place) (old new : PlainBindgen) where
           record {
             adds = code_of plain_meaning i (touches_ordinary i x here) old new adds;
             returned = still_returned plain_meaning i (touches_ordinary i x here) os old.returned new.returned still;
+            asked = same_asked;
             results = subst (λ p. MakesBy types i p (lifted_scalar i) (length rs)) (sym no.0) (subst (λ p. MakesBy types i None p (length rs)) (sym no.1)
                 (subst (λ p. MakesTouch types i p (length rs)) (sym here) (len ∙ ap makes_of (sym same) ∙ makes_same x)));
             row = subst (λ p. RowBy plain_meaning types i p (lifted_scalar i) os rs old new) (sym no.0) (subst (λ p. RowBy plain_meaning types i None p os rs old new) (sym no.1)
@@ -342,12 +343,13 @@ module _ (types : List TypeDef) (old new : PlainBindgen) where
       let row : LowersScalar plain_meaning s (o ∷ []) (places_from old.count 1) old new = λ dir v a own listed st0. (
         st0.1,
         plain_does st 1 old new adds (Unit {0}) (of o (item a) ∷ []) (item a ∷ []) (λ f. stay) (λ u. word (passed_word s v) ∷ []) (λ u fs. fs ≡ ofs plain_meaning (places_from old.count 1) (word (passed_word s v) ∷ []))
-            (λ x values n. refl) (λ t h. one_at old t o (item a) h) (λ f acc. ap (λ (b : PlainItem). performs st f (item b ∷ []) acc) st0.0) (λ p acc x e. refl) (λ u. refl)
+            (λ x values n. refl) (λ t h. one_at old t o (item a) h) (λ area f acc. ap (λ (b : PlainItem). performs area st f (item b ∷ []) acc) st0.0) (λ p acc x e. refl) (λ u. refl)
             (λ u. []) (λ u. []) (λ f acc x e. stay_owns acc x e),
       ) in
       record {
         adds = code_of plain_meaning i (lowers_ordinary i _ (lowered_is i ty is)) old new (plain_adds st 1 old new adds refl);
         returned = still_returned plain_meaning i (lowers_ordinary i _ (lowered_is i ty is)) (o ∷ []) old.returned new.returned adds.returned;
+        asked = adds.asked;
         results = subst (λ x. MakesBy types i x (lifted_scalar i) (length rs)) (sym (lowered_is i ty is)) (ap length places);
         row = subst (λ x. RowBy plain_meaning types i x (lifted_scalar i) (o ∷ []) rs old new) (sym (lowered_is i ty is)) (subst (λ ps. LowersScalar plain_meaning s (o ∷ []) ps old new) (sym places) row);
       }
@@ -360,11 +362,12 @@ module _ (types : List TypeDef) (old new : PlainBindgen) where
       let row : LiftsScalar plain_meaning s (o ∷ []) (places_from old.count 1) old new = λ x.
       let a : PlainItem = leaf (normal s x ∷ []) [] in
       plain_does st 1 old new adds (Unit {0}) (of o (word x) ∷ []) (word x ∷ []) (λ f. reading s f.form x) (λ u. item a ∷ []) (λ u fs. (c : PlainItem) × (fs ≡ ofs plain_meaning (places_from old.count 1) (item c ∷ [])) × ((v : ScalarValue s) → IsScalar s v → IsTaken s v x → PlainStands take (scalar s) v c []))
-      (λ x values n. refl) (λ t h. one_at old t o (word x) h) (λ f acc. refl) (λ p acc x e. refl) (λ u. (a, refl, λ v hv h. (ap (λ w. leaf (w ∷ []) []) (normal_is s v x hv h), refl)))
+      (λ x values n. refl) (λ t h. one_at old t o (word x) h) (λ area f acc. refl) (λ p acc x e. refl) (λ u. (a, refl, λ v hv h. (ap (λ w. leaf (w ∷ []) []) (normal_is s v x hv h), refl)))
       (λ u. []) (λ u. []) (λ f acc y e. same_owns y.account.taken acc.taken (ap (λ (c : Account PlainItem). c.taken) (done_is (reading s f.form x acc) (λ y. y.account ≡ acc) y (reading_stays s f.form x acc) e))) in
       record {
         adds = code_of plain_meaning i (lifts_ordinary i _ both.1) old new (plain_adds st 1 old new adds refl);
         returned = still_returned plain_meaning i (lifts_ordinary i _ both.1) (o ∷ []) old.returned new.returned adds.returned;
+        asked = adds.asked;
         results = subst (λ p. MakesBy types i p (lifted_scalar i) (length rs)) (sym both.0) (subst (λ p. MakesBy types i None p (length rs)) (sym both.1) (ap length places));
         row = subst (λ p. RowBy plain_meaning types i p (lifted_scalar i) (o ∷ []) rs old new) (sym both.0)
             (subst (λ p. RowBy plain_meaning types i None p (o ∷ []) rs old new) (sym both.1) (subst (λ ps. LiftsScalar plain_meaning s (o ∷ []) ps old new) (sym places) row));
@@ -378,9 +381,9 @@ module _ (types : List TypeDef) (old new : PlainBindgen) where
       let row : StoresWord plain_meaning a o (p ∷ q ∷ []) rs old new = λ x address.
       let at = reached plain_meaning address o in
       plain_does st 0 old new adds (Unit {0}) (of p (word x) ∷ of q (word (core.Pointer address)) ∷ []) (word x ∷ word (core.Pointer address) ∷ []) (λ f. storing 2 a at x) (λ u. []) (λ u fs. fs ≡ [])
-      (λ u values n. refl) (λ t h. two_at old t p q (word x) (word (core.Pointer address)) h) (λ f acc. refl) (λ p acc x e. refl) (λ u. refl)
+      (λ u values n. refl) (λ t h. two_at old t p q (word x) (word (core.Pointer address)) h) (λ area f acc. refl) (λ p acc x e. refl) (λ u. refl)
       (λ u. []) (λ u. []) (λ f acc y e. same_owns y.account.taken acc.taken (done_is (storing 2 a at x acc) (λ y. y.account.taken ≡ acc.taken) y (storing_owns a at x acc) e)) in
-      touches (p ∷ q ∷ []) rs old new types i (touched.Store ty grain o) is (plain_adds st 0 old new adds refl) adds.returned (ap length places) row
+      touches (p ∷ q ∷ []) rs old new types i (touched.Store ty grain o) is (plain_adds st 0 old new adds refl) adds.returned adds.asked (ap length places) row
 
   pub loads_word : (i : Instruction) (ty : WasmType) (grain : ℕ) (signed : Bool) (o : ArchitectureSize) (p : Place) (rs : List Place) → option_map word_touch (touch i) ≡ Some (touched.Load ty grain signed o)
       → AddsStep (step.Load ty grain signed o p.number old.count) 1 old new → rs ≡ places_from old.count 1 → Emits plain_meaning types i (p ∷ []) rs old new
@@ -390,9 +393,9 @@ module _ (types : List TypeDef) (old new : PlainBindgen) where
       let row : LoadsWord plain_meaning a o (p ∷ []) (places_from old.count 1) old new = λ address.
       let at = reached plain_meaning address o in
       plain_does st 1 old new adds Word (of p (word (core.Pointer address)) ∷ []) (word (core.Pointer address) ∷ []) (λ f. loading 2 f.form a at) (λ x. word x ∷ []) (λ x fs. fs ≡ ofs plain_meaning (places_from old.count 1) (word x ∷ []))
-      (λ x values n. refl) (λ t h. one_at old t p (word (core.Pointer address)) h) (λ f acc. refl) (λ p acc y e. refl) (λ x. refl)
+      (λ x values n. refl) (λ t h. one_at old t p (word (core.Pointer address)) h) (λ area f acc. refl) (λ p acc y e. refl) (λ x. refl)
       (λ x. []) (λ x. []) (λ f acc y e. same_owns y.account.taken acc.taken (done_is (loading 2 f.form a at acc) (λ y. y.account.taken ≡ acc.taken) y (loading_owns f.form a at acc) e)) in
-      touches (p ∷ []) rs old new types i (touched.Load ty grain signed o) is (plain_adds st 1 old new adds refl) adds.returned (ap length places) (subst (λ ps. LoadsWord plain_meaning a o (p ∷ []) ps old new) (sym places) row)
+      touches (p ∷ []) rs old new types i (touched.Load ty grain signed o) is (plain_adds st 1 old new adds refl) adds.returned adds.asked (ap length places) (subst (λ ps. LoadsWord plain_meaning a o (p ∷ []) ps old new) (sym places) row)
 
   pub frees_text : (o p : Place) (rs : List Place) → AddsStep (step.Free o.number p.number) 0 old new → rs ≡ places_from old.count 0 → Emits plain_meaning types instruction.GuestDeallocateString (o ∷ p ∷ []) rs old new
   frees_text o p rs adds places =
@@ -400,10 +403,11 @@ module _ (types : List TypeDef) (old new : PlainBindgen) where
       record {
         adds = plain_adds st 0 old new adds refl;
         returned = adds.returned;
+        asked = adds.asked;
         results = ap length places;
         row = λ address n.
             plain_does st 0 old new adds (Unit {0}) (of o (word (core.Pointer address)) ∷ of p (word (core.Length n)) ∷ []) (word (core.Pointer address) ∷ word (core.Length n) ∷ []) (λ f. freeing f.form address n) (λ u. []) (λ u fs. fs ≡ [])
-            (λ u values n. refl) (λ t h. two_at old t o p (word (core.Pointer address)) (word (core.Length n)) h) (λ f acc. refl) (λ p acc x e. refl) (λ u. refl)
+            (λ u values n. refl) (λ t h. two_at old t o p (word (core.Pointer address)) (word (core.Length n)) h) (λ area f acc. refl) (λ p acc x e. refl) (λ u. refl)
             (λ u. []) (λ u. []) (λ f acc y e. same_owns y.account.taken acc.taken (done_is (freeing f.form address n acc) (λ y. y.account.taken ≡ acc.taken) y (freeing_owns f.form address n acc) e));
       }
 
@@ -415,10 +419,11 @@ module _ (types : List TypeDef) (old new : PlainBindgen) where
       record {
         adds = plain_adds st 0 old new adds refl;
         returned = adds.returned;
+        asked = adds.asked;
         results = ap length places;
         row = λ address.
             plain_does st 0 old new adds (Unit {0}) (of o (word (core.Pointer address)) ∷ []) (word (core.Pointer address) ∷ []) (λ f. freeing f.form address n) (λ u. []) (λ u fs. fs ≡ [])
-            (λ u values n. refl) (λ t h. one_at old t o (word (core.Pointer address)) h) (λ f acc. refl) (λ p acc x e. refl) (λ u. refl)
+            (λ u values n. refl) (λ t h. one_at old t o (word (core.Pointer address)) h) (λ area f acc. refl) (λ p acc x e. refl) (λ u. refl)
             (λ u. []) (λ u. []) (λ f acc y e. same_owns y.account.taken acc.taken (done_is (freeing f.form address n acc) (λ y. y.account.taken ≡ acc.taken) y (freeing_owns f.form address n acc) e));
       }
 
@@ -430,10 +435,10 @@ module _ (types : List TypeDef) (old new : PlainBindgen) where
         ws,
         st0.3,
         plain_does st 2 old new adds (Unit {0}) (of o (item a) ∷ []) (item a ∷ []) (λ f. releasing (addresses own)) (λ u. core_data plain_meaning ws) (λ u fs. fs ≡ ofs plain_meaning (places_from old.count 2) (core_data plain_meaning ws))
-            (λ x values n. refl) (λ t h. one_at old t o (item a) h) (λ f acc. ap (λ (b : PlainItem). performs st f (item b ∷ []) acc) st0.2) (λ p acc x e. refl) (λ u. refl)
+            (λ x values n. refl) (λ t h. one_at old t o (item a) h) (λ area f acc. ap (λ (b : PlainItem). performs area st f (item b ∷ []) acc) st0.2) (λ p acc x e. refl) (λ u. refl)
             (λ u. []) (λ u. addresses own) (λ f acc x e. done_is (releasing (addresses own) acc) (λ x. SameItems (x.account.taken ++ addresses own) (acc.taken ++ [])) x (releasing_owns (addresses own) acc) e),
       ) in
-      record { adds = plain_adds st 2 old new adds refl; returned = adds.returned; results = ap length places; row = subst (λ ps. LowersText plain_meaning realloc (o ∷ []) ps old new) (sym places) row }
+      record { adds = plain_adds st 2 old new adds refl; returned = adds.returned; asked = adds.asked; results = ap length places; row = subst (λ ps. LowersText plain_meaning realloc (o ∷ []) ps old new) (sym places) row }
 
   pub takes_text : (o p : Place) (rs : List Place) → AddsStep (step.Take o.number p.number old.count) 1 old new → rs ≡ places_from old.count 1 → Emits plain_meaning types instruction.StringLift (o ∷ p ∷ []) rs old new
   takes_text o p rs adds places =
@@ -441,9 +446,9 @@ module _ (types : List TypeDef) (old new : PlainBindgen) where
       let row : LiftsText plain_meaning (o ∷ p ∷ []) (places_from old.count 1) old new = λ address n.
       let ws : List Word = core.Pointer address ∷ core.Length n ∷ [] in
       plain_does st 1 old new adds Taken (of o (word (core.Pointer address)) ∷ of p (word (core.Length n)) ∷ []) (core_data plain_meaning ws) (λ f. taking f.form address n) (λ x. item (leaf ws x.blocks) ∷ []) (λ x fs. (a : PlainItem) × (fs ≡ ofs plain_meaning (places_from old.count 1) (item a ∷ [])) × (Says 2 take text x.bytes ws x.blocks → PlainStands take text x.bytes a x.blocks))
-      (λ x values n. refl) (λ t h. two_at old t o p (word (core.Pointer address)) (word (core.Length n)) h) (λ f acc. refl) (λ p acc y e. refl) (λ x. (leaf ws x.blocks, refl, λ h. says_text x.bytes address n x.blocks h))
+      (λ x values n. refl) (λ t h. two_at old t o p (word (core.Pointer address)) (word (core.Length n)) h) (λ area f acc. refl) (λ p acc y e. refl) (λ x. (leaf ws x.blocks, refl, λ h. says_text x.bytes address n x.blocks h))
       (λ x. addresses x.blocks) (λ x. []) (λ f acc x e. let t = done_is (taking f.form address n acc) (TakesOver acc) x (taking_owns f.form address n acc) e in λ g. ap (λ xs. total g (xs ++ [])) t ∙ ap (total g) (append-nil (acc.taken ++ addresses x.result.blocks))) in
-      record { adds = plain_adds st 1 old new adds refl; returned = adds.returned; results = ap length places; row = subst (λ ps. LiftsText plain_meaning (o ∷ p ∷ []) ps old new) (sym places) row }
+      record { adds = plain_adds st 1 old new adds refl; returned = adds.returned; asked = adds.asked; results = ap length places; row = subst (λ ps. LiftsText plain_meaning (o ∷ p ∷ []) ps old new) (sym places) row }
 
   pub reads_argument : (n : ℕ) (rs : List Place) → AddsStep (step.Argument n old.count) 1 old new → rs ≡ places_from old.count 1 → Emits plain_meaning types (instruction.GetArg n) [] rs old new
   reads_argument n rs adds places =
@@ -451,10 +456,11 @@ module _ (types : List TypeDef) (old new : PlainBindgen) where
       record {
         adds = plain_adds st 1 old new adds refl;
         returned = adds.returned;
+        asked = adds.asked;
         results = ap length places;
         row = λ d. subst (λ ps. Stays plain_meaning old new (arg n d ∷ []) (λ fs. fs ≡ ofs plain_meaning ps (d ∷ []))) (sym places)
             (plain_does st 1 old new adds (Unit {0}) (arg n d ∷ []) (d ∷ []) (λ f. stay) (λ u. d ∷ []) (λ u fs. fs ≡ ofs plain_meaning (places_from old.count 1) (d ∷ []))
-            (λ x values n. refl) (λ t h. ap (λ x. and_all x (Some [])) h.0) (λ f acc. refl) (λ p acc x e. refl) (λ u. refl)
+            (λ x values n. refl) (λ t h. ap (λ x. and_all x (Some [])) h.0) (λ area f acc. refl) (λ p acc x e. refl) (λ u. refl)
             (λ u. []) (λ u. []) (λ f acc x e. stay_owns acc x e));
       }
 
@@ -470,7 +476,7 @@ module _ (types : List TypeDef) (old new : PlainBindgen) where
         vals,
         ps,
         plain_does st n old new adds (Unit {0}) (of o (item a) ∷ []) (item a ∷ []) (λ f. stay) (λ u. item_data plain_meaning vals) (λ u fs. fs ≡ ofs plain_meaning (places_from old.count n) (item_data plain_meaning vals))
-            (λ x values n. refl) (λ t h. one_at old t o (item a) h) (λ f acc. ap (λ (b : PlainItem). performs st f (item b ∷ []) acc) h.1) (λ p acc x e. len) (λ u. refl)
+            (λ x values n. refl) (λ t h. one_at old t o (item a) h) (λ area f acc. ap (λ (b : PlainItem). performs area st f (item b ∷ []) acc) h.1) (λ p acc x e. len) (λ u. refl)
             (λ u. []) (λ u. []) (λ f acc x e. stay_owns acc x e),
       )
 
@@ -483,7 +489,7 @@ module _ (types : List TypeDef) (old new : PlainBindgen) where
       let a : PlainItem = whole (gathered ds) in
       let both : length os ≡ length ds = fits ∙ sym len ∙ sym (length-map vals (λ b. item b)) in
       plain_does st 1 old new adds (Unit {0}) (ofs plain_meaning os ds) ds (λ f. stay) (λ u. item a ∷ []) (λ u fs. (c : PlainItem) × (fs ≡ ofs plain_meaning (places_from old.count 1) (item c ∷ [])) × ((v : Parts ts) (own : List Block) → PartsStand plain_meaning take ts v vals own → PlainStands take t (made v) c own))
-      (λ x values n. refl) (λ t h. many_at old t os ds both h) (λ f acc. refl) (λ p acc x e. refl) (λ u. (a, refl, λ v own h. is v (gathered ds) own (subst (λ xs. PlainPartsStand take ts v xs own) (sym (gathered_is vals)) (plain_parts take ts v vals own h))))
+      (λ x values n. refl) (λ t h. many_at old t os ds both h) (λ area f acc. refl) (λ p acc x e. refl) (λ u. (a, refl, λ v own h. is v (gathered ds) own (subst (λ xs. PlainPartsStand take ts v xs own) (sym (gathered_is vals)) (plain_parts take ts v vals own h))))
       (λ u. []) (λ u. []) (λ f acc x e. stay_owns acc x e)
 
   pub splits_record : (id : TypeId) (members : List Field) (o : Place) (rs : List Place) → IsRecord types id.0 members → AddsStep (step.Split o.number old.count) (length members) old new → rs ≡ places_from old.count (length members)
@@ -491,6 +497,7 @@ module _ (types : List TypeDef) (old new : PlainBindgen) where
   splits_record id members o rs is adds places = record {
     adds = plain_adds (step.Split o.number old.count) (length members) old new adds refl;
     returned = adds.returned;
+    asked = adds.asked;
     results = λ others other. ap length places ∙ places_count old.count (length members) ∙ ap length (one_record types id.0 members others is other);
     row = λ others other.
         subst (λ ms. LowersParts plain_meaning (field_shapes types ms) (fields (field_shapes types ms)) (λ v. v) (o ∷ []) rs old new) (one_record types id.0 members others is other)
@@ -503,6 +510,7 @@ module _ (types : List TypeDef) (old new : PlainBindgen) where
   joins_record id members os rs is len adds places = record {
     adds = plain_adds (step.Join os old.count) 1 old new adds refl;
     returned = adds.returned;
+    asked = adds.asked;
     results = ap length places;
     row = λ others other.
         subst (λ ms. LiftsParts plain_meaning (field_shapes types ms) (fields (field_shapes types ms)) (λ v. v) os rs old new) (one_record types id.0 members others is other)
@@ -514,6 +522,7 @@ module _ (types : List TypeDef) (old new : PlainBindgen) where
   splits_tuple n o rs adds places = record {
     adds = plain_adds (step.Split o.number old.count) n old new adds refl;
     returned = adds.returned;
+    asked = adds.asked;
     results = ap length places ∙ places_count old.count n;
     row = λ ts fits. subst (λ ps. LowersParts plain_meaning ts (tuple ts) (λ v. v) (o ∷ []) ps old new) (sym places) (splits ts (tuple ts) (λ v. v) n o fits (λ dir v a own h. h) adds);
   }
@@ -522,6 +531,7 @@ module _ (types : List TypeDef) (old new : PlainBindgen) where
   joins_tuple n os rs len adds places = record {
     adds = plain_adds (step.Join os old.count) 1 old new adds refl;
     returned = adds.returned;
+    asked = adds.asked;
     results = ap length places;
     row = λ ts fits. subst (λ ps. LiftsParts plain_meaning ts (tuple ts) (λ v. v) os ps old new) (sym places) (joins ts (tuple ts) (λ v. v) os (len ∙ sym fits) (λ v items own h. (items, refl, h)) adds);
   }

@@ -1,5 +1,5 @@
 -- What the steps of a `PlainBindgen` do: a run of more steps, the calls that they leave alone, and the action of a step.
-use Rattle.std.proofs.Common.{◌≡◌, ℕ, zero, suc, ◌+◌, ◌-◌, ◌^◌, ◌≤◌, Bool, true, false, ◌&&◌, not, nat_eq, nat_lt, if◌then◌else◌, List, [], ◌∷◌, ◌++◌, length, map, find, Option, None, Some, is_some, option_map, refl, sym, ap, ap₂, ◌∙◌, subst, arith}
+use Rattle.std.proofs.Common.{◌≡◌, ℕ, zero, suc, ◌+◌, ◌-◌, ◌^◌, ◌≤◌, Bool, true, false, ◌&&◌, ◌||◌, not, nat_eq, nat_lt, if◌then◌else◌, List, [], ◌∷◌, ◌++◌, length, map, find, Option, None, Some, is_some, option_map, refl, sym, ap, ap₂, ◌∙◌, subst, arith}
 use Rattle.std.specs.List.{AllByRecursion}
 use Rattle.std.specs.Str.{is_utf8}
 use Rattle.wit_model.specs.Size.{bytes_at}
@@ -9,13 +9,18 @@ use Rattle.wit_layout.specs.Flat.{core_type}
 use Rattle.wit_layout.specs.Tree.{Scalar}
 use Rattle.wrapper_data.specs.Answered.{with_writes}
 use Rattle.wrapper_data.specs.declared.block.Block.{Block}
+use Rattle.wrapper_data.specs.declared.choice.Choice.{Choice}
+use Rattle.wrapper_data.specs.declared.choice.Choice.TheVariants as choice
+use Rattle.wrapper_data.specs.declared.choice.Request.{Request}
 use Rattle.wrapper_data.specs.declared.form.Form.{Form}
 use Rattle.wrapper_data.specs.declared.form.Form.TheVariants as form
+use Rattle.wrapper_data.specs.declared.run.Stop.TheVariants as stop
 use Rattle.wrapper_data.specs.declared.run.Target.TheVariants as target
 use Rattle.wrapper_data.specs.declared.run.TrapKind.{TrapKind}
 use Rattle.wrapper_data.specs.declared.run.TrapKind.TheVariants as trap
 use Rattle.wrapper_data.specs.declared.word.Word.{Word}
 use Rattle.wrapper_data.specs.declared.word.Word.TheVariants as core
+use Rattle.wrapper_meaning.specs.Ends.{fits}
 use Rattle.wrapper_meaning.specs.Cells.{bytes_from, little}
 use Rattle.wrapper_meaning.specs.Items.{SameItems, total}
 use Rattle.wrapper_meaning.specs.Numbers.{is_scalar_value, low_bits}
@@ -24,11 +29,12 @@ use Rattle.abi_driver.specs.declared.plain.PlainBindgen.{PlainBindgen}
 use Rattle.abi_driver.specs.declared.plain.Step.{Step}
 use Rattle.abi_driver.specs.declared.plain.Step.TheVariants as step
 use Rattle.abi_driver.specs.Account.{Account, Act, Done, Follows, Got, Outcome, Peer, Stopped, Stops, Stuck, account_in, addresses, checking, failing, found, has_type, gives, is_at, is_taken, reading, releasing, stay, taking, tested, then_do, without}
+use Rattle.abi_driver.specs.Area.{HoldsRecord, placed, placing, with_area}
 use Rattle.abi_driver.specs.Laws.{Adds, After, At, Does, Facts, Grows, ofs}
 use Rattle.abi_driver.specs.Meaning.{Datum, item, word}
 use Rattle.abi_driver.specs.Memory.{Access, access, bytes_on, freed, freeing, is_inside, is_reached, little_bytes, loaded, storing}
 use Rattle.abi_driver.specs.Memory as memory
-use Rattle.abi_driver.specs.Plain.{AddsStep, IsRight, PlainItem, PlainState, free_block, free_text, inputs, kept, leaf, load_word, normal, passing, performed, performs, places_from, plain_meaning, put, read_as, runs, scalar_of, splitting, store_word, take_text, whole, writes}
+use Rattle.abi_driver.specs.Plain.{AddsStep, IsRight, PlainItem, PlainState, free_block, free_text, inputs, kept, leaf, load_word, normal, passing, performed, performs, places_from, pointed, plain_meaning, put, read_as, runs, scalar_of, splitting, store_word, take_text, whole, writes}
 use Rattle.abi_driver.specs.PlainSound.{all_both, all_left, all_right}
 use Rattle.abi_driver.proofs.PlainPlaces.{put_below, put_right, still_right}
 use Rattle.abi_driver.proofs.Runs.{follows_more}
@@ -144,19 +150,34 @@ free_block_quiet : (size : ArchitectureSize) (f : Form) (ds : List (Datum PlainI
 free_block_quiet size f (word (core.Pointer q) ∷ []) acc = then_quiet acc (freeing f q (bytes_at size 4) acc) (λ u. []) (freeing_quiet f q (bytes_at size 4) acc)
 free_block_quiet size f _ acc = refl
 
-performs_quiet : (st : Step) (p : Peer PlainItem) (ds : List (Datum PlainItem)) (acc : Account PlainItem) → makes_call st ≡ false → Quietly acc (performs st p ds acc)
-performs_quiet (step.Argument n to) p ds acc e = refl
-performs_quiet (step.Pass from to) p ds acc e = passing_quiet ds acc
-performs_quiet (step.Read ty from to) p ds acc e = read_quiet (scalar_of ty) p.form ds acc
-performs_quiet (step.Take at len to) p ds acc e = take_quiet p.form ds acc
-performs_quiet (step.Split from to) p ds acc e = splitting_quiet ds acc
-performs_quiet (step.Join from to) p ds acc e = refl
-performs_quiet (step.Store ty grain o from at) p ds acc e = store_quiet (access ty grain) o ds acc
-performs_quiet (step.Load ty grain signed o at to) p ds acc e = load_quiet (record { word = ty; grain = grain; signed = signed }) o p.form ds acc
-performs_quiet (step.Free at length) p ds acc e = free_text_quiet p.form ds acc
-performs_quiet (step.FreeSized size at) p ds acc e = free_block_quiet size p.form ds acc
-performs_quiet (step.Call core_module name from result to) p ds acc e = absurd (let h = e in cc)
-performs_quiet (step.CallMethod trait_path name from results to) p ds acc e = absurd (let h = e in cc)
+placed_quiet : {V : Type 0} (area : Request) (choices : List Choice) (acc : Account V) → Quietly acc (placed area choices acc)
+placed_quiet area (choice.At address ∷ later) acc = if_quiet acc (fits area address acc.heap.blocks) (gives address (with_area area address later acc)) (Stopped stop.BadChoice acc) refl refl
+placed_quiet area _ acc = refl
+
+placing_quiet : {V : Type 0} (area : Request) (acc : Account V) → Quietly acc (placing area acc)
+placing_quiet area acc =
+    let asked = record acc { requests = acc.requests ++ area ∷ [] } in
+    if_quiet acc (nat_eq area.size 0 || nat_eq area.align 0) (Stuck acc) (placed area acc.choices asked) refl (placed_quiet area acc.choices asked)
+
+pointed_quiet : (area : Option Request) (ds : List (Datum PlainItem)) (acc : Account PlainItem) → Quietly acc (pointed area ds acc)
+pointed_quiet area (word (core.Pointer address) ∷ []) acc = refl
+pointed_quiet (Some area) [] acc = then_quiet acc (placing area acc) (λ address. word (core.Pointer address) ∷ []) (placing_quiet area acc)
+pointed_quiet area _ acc = refl
+
+performs_quiet : (area : Option Request) (st : Step) (p : Peer PlainItem) (ds : List (Datum PlainItem)) (acc : Account PlainItem) → makes_call st ≡ false → Quietly acc (performs area st p ds acc)
+performs_quiet area (step.Argument n to) p ds acc e = refl
+performs_quiet area (step.Pass from to) p ds acc e = passing_quiet ds acc
+performs_quiet area (step.Read ty from to) p ds acc e = read_quiet (scalar_of ty) p.form ds acc
+performs_quiet area (step.Take at len to) p ds acc e = take_quiet p.form ds acc
+performs_quiet area (step.Split from to) p ds acc e = splitting_quiet ds acc
+performs_quiet area (step.Join from to) p ds acc e = refl
+performs_quiet area (step.Store ty grain o from at) p ds acc e = store_quiet (access ty grain) o ds acc
+performs_quiet area (step.Load ty grain signed o at to) p ds acc e = load_quiet (record { word = ty; grain = grain; signed = signed }) o p.form ds acc
+performs_quiet area (step.Free at length) p ds acc e = free_text_quiet p.form ds acc
+performs_quiet area (step.FreeSized size at) p ds acc e = free_block_quiet size p.form ds acc
+performs_quiet area (step.Call core_module name from result to) p ds acc e = absurd (let h = e in cc)
+performs_quiet area (step.CallMethod trait_path name from results to) p ds acc e = absurd (let h = e in cc)
+performs_quiet area (step.Area to) p ds acc e = pointed_quiet area ds acc
 
 -- 2. Runs of more steps
 
@@ -165,9 +186,9 @@ then_runs (Done t) g h k e = e t
 then_runs (Stopped s acc) g h k e = refl
 then_runs (Stuck acc) g h k e = refl
 
-pub runs_both : (f : Peer PlainItem) (xs ys : List Step) (s : PlainState) → runs f (xs ++ ys) s ≡ then_do (runs f xs s) (λ t. runs f ys t)
-runs_both f [] ys s = refl
-runs_both f (x ∷ xs) ys s = then_runs (performed x f (inputs x s) s) (λ t. runs f (xs ++ ys) t) (λ t. runs f xs t) (λ t. runs f ys t) (λ t. runs_both f xs ys t)
+pub runs_both : (area : Option Request) (f : Peer PlainItem) (xs ys : List Step) (s : PlainState) → runs area f (xs ++ ys) s ≡ then_do (runs area f xs s) (λ t. runs area f ys t)
+runs_both area f [] ys s = refl
+runs_both area f (x ∷ xs) ys s = then_runs (performed area x f (inputs x s) s) (λ t. runs area f (xs ++ ys) t) (λ t. runs area f xs t) (λ t. runs area f ys t) (λ t. runs_both area f xs ys t)
 
 stops_then : {V S : Type 0} (account : S → Account V) (o : Outcome V S) (next : S → Outcome V S) → Stops account o (then_do o next)
 stops_then account (Done s) next = tt
@@ -185,21 +206,21 @@ keeps_calls st s (Done x) h = h
 keeps_calls st s (Stopped e acc) h = h
 keeps_calls st s (Stuck acc) h = h
 
-step_calls : (st : Step) (p : Peer PlainItem) (ds : Option (List (Datum PlainItem))) (s : PlainState) → makes_call st ≡ false → (account_in (λ (t : PlainState). t.account) (then_do (performed st p ds s) (λ u. Done u))).calls ≡ s.account.calls
-step_calls st p None s e = refl
-step_calls st p (Some ds) s e = keeps_calls st s (performs st p ds s.account) (performs_quiet st p ds s.account e)
+step_calls : (area : Option Request) (st : Step) (p : Peer PlainItem) (ds : Option (List (Datum PlainItem))) (s : PlainState) → makes_call st ≡ false → (account_in (λ (t : PlainState). t.account) (then_do (performed area st p ds s) (λ u. Done u))).calls ≡ s.account.calls
+step_calls area st p None s e = refl
+step_calls area st p (Some ds) s e = keeps_calls st s (performs area st p ds s.account) (performs_quiet area st p ds s.account e)
 
 module _ (st : Step) (k : ℕ) (old new : PlainBindgen) (adds : AddsStep st k old new) where
-  longer : (f : Peer PlainItem) (s : PlainState) → runs f new.steps s ≡ then_do (runs f old.steps s) (λ t. runs f (st ∷ []) t)
-  longer f s = ap (λ xs. runs f xs s) adds.steps ∙ runs_both f old.steps (st ∷ []) s
+  longer : (area : Option Request) (f : Peer PlainItem) (s : PlainState) → runs area f new.steps s ≡ then_do (runs area f old.steps s) (λ t. runs area f (st ∷ []) t)
+  longer area f s = ap (λ xs. runs area f xs s) adds.steps ∙ runs_both area f old.steps (st ∷ []) s
 
   -- 3. A step is added
 
   pub plain_grows : Grows plain_meaning old new
   plain_grows = record {
-    serves = λ w h. h;
-    more = λ w h. (w, h);
-    stops = λ w f s h. subst (Stops (λ (t : PlainState). t.account) (runs f old.steps s)) (sym (longer f s)) (stops_then (λ (t : PlainState). t.account) (runs f old.steps s) (λ t. runs f (st ∷ []) t));
+    serves = λ w h. subst (AllByRecursion (HoldsRecord 2 w)) adds.asked h;
+    more = λ w h. (w, subst (AllByRecursion (HoldsRecord 2 w)) (sym adds.asked) h);
+    stops = λ w f s h. subst (Stops (λ (t : PlainState). t.account) (runs w f old.steps s)) (sym (longer w f s)) (stops_then (λ (t : PlainState). t.account) (runs w f old.steps s) (λ t. runs w f (st ∷ []) t));
     imports = adds.import;
     exports = ap not adds.import;
     arguments = refl;
@@ -210,26 +231,26 @@ module _ (st : Step) (k : ℕ) (old new : PlainBindgen) (adds : AddsStep st k ol
   pub plain_adds : makes_call st ≡ false → Adds plain_meaning old new
   plain_adds e = record {
     grows = plain_grows;
+    asked = adds.asked;
     quiet = λ w f s h.
-        ap (λ o. (account_in (λ (t : PlainState). t.account) o).calls) (longer f s)
-        ∙ calls_then (λ (t : PlainState). t.account) (runs f old.steps s) (λ t. runs f (st ∷ []) t) (λ t. step_calls st f (inputs st t) t e);
+        ap (λ o. (account_in (λ (t : PlainState). t.account) o).calls) (longer w f s)
+        ∙ calls_then (λ (t : PlainState). t.account) (runs w f old.steps s) (λ t. runs w f (st ∷ []) t) (λ t. step_calls w st f (inputs st t) t e);
   }
 
-  -- a step that does an action on the account, and gives results by what the action gives
-  module _ (A : Type 0) (ins : Facts plain_meaning) (ds : List (Datum PlainItem)) (act : Peer PlainItem → Act PlainItem A) (res : A → List (Datum PlainItem)) (Outs : A → Facts plain_meaning → Type 0)
+  -- the results of an action on the account, whatever it does to the owners
+  pub record Followed (A : Type 0) (act : Peer PlainItem → Act PlainItem A) (Outs : A → Facts plain_meaning → Type 0) (w : Option Request) (f : Peer PlainItem) (others : Facts plain_meaning) (s : PlainState) (x : Got PlainItem A) (t : PlainState) : Type 0 where
+    pub done : act f s.account ≡ Done x
+    pub account : t.account ≡ x.account
+    pub facts : Facts plain_meaning
+    pub tells : Outs x.result facts
+    pub denotes : plain_meaning.denotes w new (facts ++ others) t
+
+  -- a step that does an action on the account, and gives results by what the action gives, where this area is asked for
+  module _ (w : Option Request) (A : Type 0) (ins : Facts plain_meaning) (ds : List (Datum PlainItem)) (act : Peer PlainItem → Act PlainItem A) (res : A → List (Datum PlainItem)) (Outs : A → Facts plain_meaning → Type 0)
       (here : (x : A) (values : ℕ → Option (Datum PlainItem)) (n : ℕ) → put (writes st) (res x) values n ≡ put old.count (res x) values n)
-      (reads : (s : PlainState) → AllByRecursion (IsRight old s) ins → inputs st s ≡ Some ds)
-      (does : (f : Peer PlainItem) (acc : Account PlainItem) → performs st f ds acc ≡ then_do (act f acc) (λ x. gives (res x.result) x.account))
+      (does : (f : Peer PlainItem) (acc : Account PlainItem) → performs w st f ds acc ≡ then_do (act f acc) (λ x. gives (res x.result) x.account))
       (fits : (f : Peer PlainItem) (acc : Account PlainItem) (x : Got PlainItem A) → act f acc ≡ Done x → length (res x.result) ≡ k)
       (outs : (x : A) → Outs x (ofs plain_meaning (places_from old.count k) (res x))) where
-    -- whatever it does to the owners
-    pub record Followed (w : Unit {0}) (f : Peer PlainItem) (others : Facts plain_meaning) (s : PlainState) (x : Got PlainItem A) (t : PlainState) : Type 0 where
-      pub done : act f s.account ≡ Done x
-      pub account : t.account ≡ x.account
-      pub facts : Facts plain_meaning
-      pub tells : Outs x.result facts
-      pub denotes : plain_meaning.denotes w new (facts ++ others) t
-
     follows_step : (o : Outcome PlainItem (Got PlainItem A)) (q : Outcome PlainItem PlainState) (g : Got PlainItem A → PlainState) (P : Got PlainItem A → PlainState → Type 0)
         → q ≡ then_do o (λ x. Done (g x)) → ((x : Got PlainItem A) → o ≡ Done x → P x (g x)) → Follows (λ (t : PlainState). t.account) o q P
     follows_step (Done x) q g P e h = (g x, e, h x refl)
@@ -242,16 +263,16 @@ module _ (st : Step) (k : ℕ) (old new : PlainBindgen) (adds : AddsStep st k ol
     given_on (Stopped e acc) s = refl
     given_on (Stuck acc) s = refl
 
-    pub plain_follows : (w : Unit {0}) (f : Peer PlainItem) (others : Facts plain_meaning) (s0 s : PlainState) → At plain_meaning w f old new (ins ++ others) s0 s
-        → Follows (λ (t : PlainState). t.account) (act f s.account) (runs f new.steps s0) (Followed w f others s)
-    plain_follows w f others s0 s at =
+    pub plain_follows : (f : Peer PlainItem) (others : Facts plain_meaning) (s0 s : PlainState) → inputs st s ≡ Some ds → At plain_meaning w f old new (ins ++ others) s0 s
+        → Follows (λ (t : PlainState). t.account) (act f s.account) (runs w f new.steps s0) (Followed A act Outs w f others s)
+    plain_follows f others s0 s reads at =
         let after : Got PlainItem A → PlainState = λ x. kept (writes st) (record { result = res x.result; account = x.account }) s in
-        let ran : runs f new.steps s0 ≡ then_do (act f s.account) (λ x. Done (after x)) =
-        longer f s0 ∙ ap (λ o. then_do o (λ t. runs f (st ∷ []) t)) at.done ∙ ap (λ i. then_do (performed st f i s) (λ u. Done u)) (reads s (all_left (IsRight old s) ins others at.holds))
+        let ran : runs w f new.steps s0 ≡ then_do (act f s.account) (λ x. Done (after x)) =
+        longer w f s0 ∙ ap (λ o. then_do o (λ t. runs w f (st ∷ []) t)) at.done ∙ ap (λ i. then_do (performed w st f i s) (λ u. Done u)) reads
         ∙ ap (λ o. then_do (then_do o (λ x. Done (kept (writes st) x s))) (λ u. Done u)) (does f s.account) ∙ given_on (act f s.account) s in
         let more : old.count ≤ new.count = omega (arith, adds.count) in
-        follows_step (act f s.account) (runs f new.steps s0) after
-        (Followed w f others s) ran
+        follows_step (act f s.account) (runs w f new.steps s0) after
+        (Followed A act Outs w f others s) ran
         (λ x done.
         let t = after x in
         let values : (n : ℕ) → t.values n ≡ put old.count (res x.result) s.values n = λ n. here x.result s.values n in
@@ -267,14 +288,21 @@ module _ (st : Step) (k : ℕ) (old new : PlainBindgen) (adds : AddsStep st k ol
               (subst (λ n. AllByRecursion (IsRight new t) (ofs plain_meaning (places_from old.count n) (res x.result))) (fits f s.account x done) news) olds;
         })
 
-    -- and where it makes owners and lets go of others by what it gives
-    pub plain_does : (made gone : A → List ℕ) → ((f : Peer PlainItem) (acc : Account PlainItem) (x : Got PlainItem A) → act f acc ≡ Done x → SameItems (x.account.taken ++ gone x.result) (acc.taken ++ made x.result))
-        → Does plain_meaning A old new ins act Outs made gone
-    plain_does made gone owns w f others s0 s at =
-        follows_more (λ (t : PlainState). t.account) (act f s.account) (runs f new.steps s0) (Followed w f others s)
-        (λ x t. (fs : Facts plain_meaning) × Outs x.result fs × After plain_meaning w new (fs ++ others) (made x.result) (gone x.result) s x t) (plain_follows w f others s0 s at)
-        (λ x t h. (
-          h.facts,
-          h.tells,
-          record { account = h.account; owns = λ g. ap (λ (acc : Account PlainItem). total g (acc.taken ++ gone x.result)) h.account ∙ owns f s.account x h.done g; denotes = h.denotes },
-        ))
+  -- the same whatever area is asked for, where it makes owners and lets go of others by what it gives
+  pub plain_does : (A : Type 0) (ins : Facts plain_meaning) (ds : List (Datum PlainItem)) (act : Peer PlainItem → Act PlainItem A) (res : A → List (Datum PlainItem)) (Outs : A → Facts plain_meaning → Type 0)
+      → ((x : A) (values : ℕ → Option (Datum PlainItem)) (n : ℕ) → put (writes st) (res x) values n ≡ put old.count (res x) values n)
+      → ((s : PlainState) → AllByRecursion (IsRight old s) ins → inputs st s ≡ Some ds)
+      → ((area : Option Request) (f : Peer PlainItem) (acc : Account PlainItem) → performs area st f ds acc ≡ then_do (act f acc) (λ x. gives (res x.result) x.account))
+      → ((f : Peer PlainItem) (acc : Account PlainItem) (x : Got PlainItem A) → act f acc ≡ Done x → length (res x.result) ≡ k)
+      → ((x : A) → Outs x (ofs plain_meaning (places_from old.count k) (res x)))
+      → (made gone : A → List ℕ) → ((f : Peer PlainItem) (acc : Account PlainItem) (x : Got PlainItem A) → act f acc ≡ Done x → SameItems (x.account.taken ++ gone x.result) (acc.taken ++ made x.result))
+      → Does plain_meaning A old new ins act Outs made gone
+  plain_does A ins ds act res Outs here reads does fits outs made gone owns w f others s0 s at =
+      follows_more (λ (t : PlainState). t.account) (act f s.account) (runs w f new.steps s0) (Followed A act Outs w f others s)
+      (λ x t. (fs : Facts plain_meaning) × Outs x.result fs × After plain_meaning w new (fs ++ others) (made x.result) (gone x.result) s x t)
+      (plain_follows w A ins ds act res Outs here (does w) fits outs f others s0 s (reads s (all_left (IsRight old s) ins others at.holds)) at)
+      (λ x t h. (
+        h.facts,
+        h.tells,
+        record { account = h.account; owns = λ g. ap (λ (acc : Account PlainItem). total g (acc.taken ++ gone x.result)) h.account ∙ owns f s.account x h.done g; denotes = h.denotes },
+      ))

@@ -5,8 +5,9 @@ use Rattle.std.proofs.Math.Seq.{get_or-append_seam}
 use Rattle.std.proofs.lemmas.Bool.{ltb-false, ltb-true}
 use Rattle.std.proofs.lemmas.List.{get_or_append_left}
 use Rattle.std.specs.List.{list_all}
-use Rattle.wit_model.specs.Size.{bytes_at}
+use Rattle.wit_model.specs.Size.{alignment_at, bytes_at}
 use Rattle.wit_model.specs.TypeOrder.{type_below}
+use Rattle.wit_model.specs.declared.size.Alignment.{Alignment}
 use Rattle.wit_model.specs.declared.size.ArchitectureSize.{ArchitectureSize}
 use Rattle.wit_model.specs.declared.types.TypeDef.{TypeDef}
 use Rattle.wit_model.specs.declared.types.WitType.{WitType}
@@ -14,7 +15,7 @@ use Rattle.wit_layout.specs.declared.size_align.SizeAlign.{SizeAlign}
 use Rattle.wit_layout.specs.Extent.{end, place}
 use Rattle.wit_layout.specs.Filled.{IsFilledFor, have_sizes}
 use Rattle.wit_layout.specs.Sizes.{extent_of, extents_of, field_offsets}
-use Rattle.wit_layout.specs.Told.{IsPairOf}
+use Rattle.wit_layout.specs.Told.{IsAlignmentOf, IsPairOf}
 use Rattle.wit_layout.specs.Tree.{Tree, payloads_in as tree_payloads, record_of}
 use Rattle.wrapper_meaning.specs.Layout.{layout, layouts}
 use Rattle.wrapper_meaning.specs.Shape.{shape_of, shapes}
@@ -47,13 +48,18 @@ one_more sizes types places now place k count is before here table n d filled l 
 pub have_places : (sizes : SizeAlign) (table : List TypeDef) (types : List WitType) → IsFilledFor sizes table → list_all (λ ty. type_below (length table) ty) types ≡ true → have_sizes sizes types ≡ true
 have_places sizes table types filled below = subst (λ n. list_all (λ ty. type_below n ty) types ≡ true) (sym filled.count) below
 
-module _ (w : ℕ) (types : List TypeDef) where
-  record_layout : (tys : List WitType) → record_of types tys ≡ layout (fields (shapes_of types tys))
-  record_layout tys = ap Tree.fields (sym (of_payloads (shapes types) (map (λ ty. Some ty) tys) ∙ ap (λ ts. tree_payloads ts (map (λ ty. Some ty) tys)) (layouts_are_trees types)))
-
-  at_width : (s : ArchitectureSize) (f : ℕ → ℕ) → (w ≡ 2) ⊎ (w ≡ 3) → IsPairOf s f → bytes_at s (2 ^ w) ≡ f w
+module _ (w : ℕ) where
+  pub at_width : (s : ArchitectureSize) (f : ℕ → ℕ) → (w ≡ 2) ⊎ (w ≡ 3) → IsPairOf s f → bytes_at s (2 ^ w) ≡ f w
   at_width s f (inl e) pair = ap (λ k. bytes_at s (2 ^ k)) e ∙ pair.0 ∙ ap f (sym e)
   at_width s f (inr e) pair = ap (λ k. bytes_at s (2 ^ k)) e ∙ pair.1 ∙ ap f (sym e)
+
+  pub align_at_width : (a : Alignment) (f : ℕ → ℕ) → (w ≡ 2) ⊎ (w ≡ 3) → IsAlignmentOf a f → alignment_at a (2 ^ w) ≡ f w
+  align_at_width a f (inl e) both = ap (λ k. alignment_at a (2 ^ k)) e ∙ both.0 ∙ ap f (sym e)
+  align_at_width a f (inr e) both = ap (λ k. alignment_at a (2 ^ k)) e ∙ both.1 ∙ ap f (sym e)
+
+module _ (w : ℕ) (types : List TypeDef) where
+  pub record_layout : (tys : List WitType) → record_of types tys ≡ layout (fields (shapes_of types tys))
+  record_layout tys = ap Tree.fields (sym (of_payloads (shapes types) (map (λ ty. Some ty) tys) ∙ ap (λ ts. tree_payloads ts (map (λ ty. Some ty) tys)) (layouts_are_trees types)))
 
   -- the place of a part of a record that stands at the address itself
   pub record_place : (tys : List WitType) (i : ℕ) (d : WitType) (s : ArchitectureSize) → (w ≡ 2) ⊎ (w ≡ 3) → i < length tys → IsPairOf s (λ w. slice_index (field_offsets w (record_of types tys)) i)
@@ -61,4 +67,4 @@ module _ (w : ℕ) (types : List TypeDef) where
   record_place tys i d s wide l pair =
       let here = place (extent_of w (layout (shape_of types (get_or tys i d)))) (end (extents_of w (layouts (shapes_of types (take i tys)))) 0) in
       let none : here ≡ bytes_at nowhere (2 ^ w) + here = omega arith in
-      at_width s (λ v. slice_index (field_offsets v (record_of types tys)) i) wide pair ∙ ap (λ t. slice_index (field_offsets w t) i) (record_layout tys) ∙ place_of w types tys i d l ∙ none
+      at_width w s (λ v. slice_index (field_offsets v (record_of types tys)) i) wide pair ∙ ap (λ t. slice_index (field_offsets w t) i) (record_layout tys) ∙ place_of w types tys i d l ∙ none

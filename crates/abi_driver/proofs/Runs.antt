@@ -5,7 +5,7 @@ use Rattle.wrapper_data.specs.declared.word.Word.{Word}
 use Rattle.wrapper_meaning.specs.Items.{total}
 use Rattle.abi_driver.specs.Account.{Account, Done, Follows, Got, Outcome, Stopped, Stops, Stuck, account_in, addresses, is_taken, releasing, then_do, without}
 use Rattle.abi_driver.specs.Instructions.{IsSide}
-use Rattle.abi_driver.specs.Laws.{Adds, After, At, Data, Does, Facts, Grows, Sound, Stays, core_data, ofs}
+use Rattle.abi_driver.specs.Laws.{Adds, After, At, Data, Does, Facts, Grows, Quiet, Sound, Stays, core_data, ofs}
 use Rattle.abi_driver.specs.Meaning.{Meaning, of, word}
 
 pub total-append : {A : Type 0} (f : A → ℕ) (xs ys : List A) → total f (xs ++ ys) ≡ total f xs + total f ys
@@ -60,22 +60,25 @@ module _ {Self Operand : Type 0} (m : Meaning Self Operand) where
   grows_same a = record { serves = λ w h. h; more = λ w h. (w, h); stops = λ w f s h. stops_same m.account (m.does w f (m.code a) s); imports = refl; exports = refl; arguments = refl; knows = λ types h. h; target = λ f. refl }
 
   pub adds_same : (a : Self) → Adds m a a
-  adds_same a = record { grows = grows_same a; quiet = λ w f s h. refl }
+  adds_same a = record { grows = grows_same a; quiet = λ w f s h. refl; asked = refl }
+
+  pub grows_both : (a b c : Self) → Grows m a b → Grows m b c → Quiet m b c → Grows m a c
+  grows_both a b c g h quiet = record {
+    serves = λ w s. g.serves w (h.serves w s);
+    more = λ w s. let x = g.more w s in h.more x.0 x.1;
+    stops = λ w f s v. stops_both m.account (m.does w f (m.code a) s) (m.does w f (m.code b) s) (m.does w f (m.code c) s) (g.stops w f s (h.serves w v)) (h.stops w f s v) (quiet w f s v);
+    imports = h.imports ∙ g.imports;
+    exports = h.exports ∙ g.exports;
+    arguments = h.arguments ∙ g.arguments;
+    knows = λ types k. h.knows types (g.knows types k);
+    target = λ fn. h.target fn ∙ g.target fn;
+  }
+
+  pub quiet_both : (a b c : Self) → Quiet m a b → Grows m b c → Quiet m b c → Quiet m a c
+  quiet_both a b c g h quiet w f s v = quiet w f s v ∙ g w f s (h.serves w v)
 
   pub adds_both : (a b c : Self) → Adds m a b → Adds m b c → Adds m a c
-  adds_both a b c g h = record {
-    grows = record {
-      serves = λ w s. g.grows.serves w (h.grows.serves w s);
-      more = λ w s. let x = g.grows.more w s in h.grows.more x.0 x.1;
-      stops = λ w f s v. stops_both m.account (m.does w f (m.code a) s) (m.does w f (m.code b) s) (m.does w f (m.code c) s) (g.grows.stops w f s (h.grows.serves w v)) (h.grows.stops w f s v) (h.quiet w f s v);
-      imports = h.grows.imports ∙ g.grows.imports;
-      exports = h.grows.exports ∙ g.grows.exports;
-      arguments = h.grows.arguments ∙ g.grows.arguments;
-      knows = λ types k. h.grows.knows types (g.grows.knows types k);
-      target = λ fn. h.grows.target fn ∙ g.grows.target fn;
-    };
-    quiet = λ w f s v. h.quiet w f s v ∙ g.quiet w f s (h.grows.serves w v);
-  }
+  adds_both a b c g h = record { grows = grows_both a b c g.grows h.grows h.quiet; quiet = quiet_both a b c g.quiet h.grows h.quiet; asked = h.asked ∙ g.asked }
 
   -- 4. Facts of lists
 

@@ -31,7 +31,7 @@ use Rattle.abi_driver.specs.Leaves.{way}
 use Rattle.abi_driver.specs.Meaning.{Meaning, item, of, word}
 use Rattle.abi_driver.specs.Parts.{LowersParts, count}
 use Rattle.abi_driver.specs.Places.{HasRoom, HavePlaces, replaced}
-use Rattle.abi_driver.specs.Stores.{LowersToMemory, Puts, Releases, StoresParts}
+use Rattle.abi_driver.specs.Stores.{LowersToMemory, Puts, Releases, StoresFrom, StoresParts}
 use Rattle.abi_driver.specs.Touches.{reached}
 use Rattle.abi_driver.proofs.Done.{releases_both}
 use Rattle.abi_driver.proofs.Runs.{adds_both, adds_same, addresses_both, total-append}
@@ -60,13 +60,13 @@ module _ {Self Operand : Type 0} (m : Meaning Self Operand) (sound : Sound m) (t
       sound.swap w b front y (y ++ others) s behind
 
   -- no parts are stored by no code
-  pub none_stores : (realloc : Bool) (address : Operand) (offset : ArchitectureSize) (behind : ℕ) (a : Self) → StoresParts m realloc none [] address offset behind a a
-  none_stores realloc address offset behind a = record {
+  pub none_stores : (realloc : Bool) (Ins : List m.Item → Facts m) (address : Operand) (offset : ArchitectureSize) (behind : ℕ) (a : Self) → Ins [] ≡ [] → StoresFrom m realloc none Ins address offset behind a a
+  none_stores realloc Ins address offset behind a bare = record {
     adds = adds_same m a;
     row = λ heap v vals own listed stands w f others s0 s q k b left at places goes.
         let empty : own ≡ [] = stands.1 in
         let is_left : left ≡ (m.account s).taken = subst (λ bs. Releases (addresses bs) (m.account s).taken left) empty goes in
-        let here : m.denotes w a (of address (word (core.Pointer q)) ∷ others) s = subst (λ vs. m.denotes w a (ofs m [] (item_data m vs) ++ of address (word (core.Pointer q)) ∷ others) s) stands.0 at.holds in
+        let here : m.denotes w a (of address (word (core.Pointer q)) ∷ others) s = subst (λ fs. m.denotes w a (fs ++ of address (word (core.Pointer q)) ∷ others) s) (ap Ins stands.0 ∙ bare) at.holds in
         let same = replaced_same (m.account s).heap.blocks b places.formed places.there in (
           s,
           b,
@@ -91,10 +91,11 @@ module _ {Self Operand : Type 0} (m : Meaning Self Operand) (sound : Sound m) (t
     abbrev last : ℕ
     last = end (extents_of m.width (layouts ts)) next
 
-    -- a part and then others
-    pub more_stores : (a b c : Self) (o : Operand) (parts : List Operand) (address : Operand) (offset first_offset : ArchitectureSize) → bytes_at first_offset (2 ^ m.width) ≡ bytes_at offset (2 ^ m.width) + here
-        → LowersToMemory m realloc t o address first_offset a b → StoresParts m realloc ts parts address offset next b c → StoresParts m realloc (more t ts) (o ∷ parts) address offset behind a c
-    more_stores a b c o parts address offset first_offset is first later = record {
+    -- a part and then others, which stand in other facts
+    pub more_stores : (a b c : Self) (o : Operand) (Ins Rest : List m.Item → Facts m) (address : Operand) (offset first_offset : ArchitectureSize) → ((x : m.Item) (rest : List m.Item) → Ins (x ∷ rest) ≡ of o (item x) ∷ Rest rest)
+        → bytes_at first_offset (2 ^ m.width) ≡ bytes_at offset (2 ^ m.width) + here
+        → LowersToMemory m realloc t o address first_offset a b → StoresFrom m realloc ts Rest address offset next b c → StoresFrom m realloc (more t ts) Ins address offset behind a c
+    more_stores a b c o Ins Rest address offset first_offset splits is first later = record {
       adds = adds_both m a b c first.adds later.adds;
       row = λ heap v vals own listed stands w f others s0 s q k blk left at places goes.
           let acc = m.account s in
@@ -106,11 +107,11 @@ module _ {Self Operand : Type 0} (m : Meaning Self Operand) (sound : Sound m) (t
           let es = extents_of m.width (layouts ts) in
           let base = reached m q offset in
           let pointer : Facts m = of address (word (core.Pointer q)) ∷ [] in
-          let ys : Facts m = ofs m parts (item_data m rest) in
+          let ys : Facts m = Rest rest in
           let low : behind ≤ here = place_behind e behind in
           let ends : next ≤ last = end_behind es next in
           let split = releases_both (addresses own1) (addresses own2) acc.taken left (subst (λ zs. Releases zs acc.taken left) (ap addresses stands.7 ∙ addresses_both own1 own2) goes) in
-          let facts : m.denotes w a (((of o (item x) ∷ []) ++ ys) ++ of address (word (core.Pointer q)) ∷ others) s = subst (λ vs. m.denotes w a (ofs m (o ∷ parts) (item_data m vs) ++ of address (word (core.Pointer q)) ∷ others) s) stands.4 at.holds in
+          let facts : m.denotes w a (((of o (item x) ∷ []) ++ ys) ++ of address (word (core.Pointer q)) ∷ others) s = subst (λ fs. m.denotes w a (fs ++ of address (word (core.Pointer q)) ∷ others) s) (ap Ins stands.4 ∙ splits x rest) at.holds in
           let doubled : m.denotes w a (pointer ++ ((of o (item x) ∷ []) ++ (ys ++ (pointer ++ others)))) s = word_again w a ((of o (item x) ∷ []) ++ ys) others address (core.Pointer q) s facts in
           let at1 : At m w f a b (of o (item x) ∷ of address (word (core.Pointer q)) ∷ (ys ++ (pointer ++ others))) s0 s =
           record { serves = later.adds.grows.serves w at.serves; done = at.done; holds = sound.swap w a pointer (of o (item x) ∷ []) (ys ++ (pointer ++ others)) s doubled } in
@@ -236,11 +237,11 @@ module _ {Self Operand : Type 0} (m : Meaning Self Operand) (sound : Sound m) (t
       → bytes_at first_offset (2 ^ m.width) ≡ bytes_at offset (2 ^ m.width) + place (extent_of m.width (layout (shape_of types ty))) (behind_of m types tys i)
       → LowersToMemory m realloc (shape_of types ty) o address first_offset b c → Rest m types realloc tys parts address offset i a b → Rest m types realloc tys parts address offset (i + 1) a c
   rest_next realloc tys parts address offset first_offset i a b c ty o et eo next is one rest new h =
-      let both = more_stores realloc (shape_of types ty) (shapes_of types (drop (i + 1) tys)) (behind_of m types tys i) b c new o (drop (i + 1) parts) address offset first_offset is one (subst (λ n. StoresParts m realloc (shapes_of types (drop (i + 1) tys)) (drop (i + 1) parts) address offset n c new) next h) in
+      let both = more_stores realloc (shape_of types ty) (shapes_of types (drop (i + 1) tys)) (behind_of m types tys i) b c new o (λ vals. ofs m (o ∷ drop (i + 1) parts) (item_data m vals)) (λ vals. ofs m (drop (i + 1) parts) (item_data m vals)) address offset first_offset (λ x rest. refl) is one (subst (λ n. StoresParts m realloc (shapes_of types (drop (i + 1) tys)) (drop (i + 1) parts) address offset n c new) next h) in
       rest new (subst (λ ps. StoresParts m realloc (shapes_of types (drop i tys)) ps address offset (behind_of m types tys i) b new) (sym eo)
       (subst (λ ts. StoresParts m realloc (shapes_of types ts) (o ∷ drop (i + 1) parts) address offset (behind_of m types tys i) b new) (sym et) both))
 
   pub rest_last : (realloc : Bool) (tys : List WitType) (parts : List Operand) (address : Operand) (offset : ArchitectureSize) (i : ℕ) (a b : Self) → length tys ≤ i → length parts ≤ i → Rest m types realloc tys parts address offset i a b → StoresParts m realloc (shapes_of types tys) parts address offset 0 a b
   rest_last realloc tys parts address offset i a b ht hp rest =
       rest b (subst (λ ps. StoresParts m realloc (shapes_of types (drop i tys)) ps address offset (behind_of m types tys i) b b) (sym (drop_all i parts hp))
-      (subst (λ ts. StoresParts m realloc (shapes_of types ts) [] address offset (behind_of m types tys i) b b) (sym (drop_all i tys ht)) (none_stores realloc address offset (behind_of m types tys i) b)))
+      (subst (λ ts. StoresParts m realloc (shapes_of types ts) [] address offset (behind_of m types tys i) b b) (sym (drop_all i tys ht)) (none_stores realloc (λ vals. ofs m [] (item_data m vals)) address offset (behind_of m types tys i) b refl)))

@@ -216,5 +216,6 @@ module _ {Self Operand : Type 0} (m : Meaning Self Operand) where
   pub record Emits (types : List TypeDef) (i : Instruction) (os rs : List Operand) (old new : Self) : Type 0 where
     pub adds : AddsCode (is_call i) old new
     pub returned : m.returned new ≡ returned_by i os (m.returned old)
+    pub asked : m.asked new ≡ m.asked old
     pub results : Makes types i (length rs)
     pub row : Row types i os rs old new

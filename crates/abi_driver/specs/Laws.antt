@@ -1,15 +1,19 @@
 -- What each meaning keeps, and in which sense code that was added does an action.
-use Rattle.std.specs.Prelude.{◌≡◌, ◌⊎◌, ℕ, suc, List, [], ◌∷◌, ◌++◌, length, map, Option, None, IfSome}
+use Rattle.std.specs.Prelude.{◌≡◌, ◌⊎◌, ℕ, suc, List, [], ◌∷◌, ◌++◌, length, map, Option, None, IfSome, option_to_list}
+use Rattle.std.specs.List.{AllByRecursion}
 use Rattle.wit_model.specs.declared.function.Function.{Function}
 use Rattle.wit_model.specs.declared.types.TypeDef.{TypeDef}
 use Rattle.wrapper_data.specs.declared.block.Block.{Block}
 use Rattle.wrapper_data.specs.declared.word.Word.{Word}
+use Rattle.wrapper_data.specs.declared.word.Word.TheVariants as core
 use Rattle.wrapper_meaning.specs.Direction.{give, lend, take}
 use Rattle.wrapper_meaning.specs.InRange.{IsListed}
 use Rattle.wrapper_meaning.specs.Items.{SameItems}
 use Rattle.wrapper_meaning.specs.Shape.{Shape}
 use Rattle.wrapper_meaning.specs.Value.{Value}
+use Rattle.abi_driver.specs.declared.bindgen.Asked.{Asked}
 use Rattle.abi_driver.specs.Account.{Account, Act, Done, Follows, Got, Peer, Stops, account_in, addresses, stay}
+use Rattle.abi_driver.specs.Area.{HoldsRecord, MayStand, newly, pointing}
 use Rattle.abi_driver.specs.Meaning.{Datum, Fact, Meaning, arg, item, of, word}
 
 module _ {Self Operand : Type 0} (m : Meaning Self Operand) where
@@ -44,6 +48,8 @@ module _ {Self Operand : Type 0} (m : Meaning Self Operand) where
     -- facts hold in any order, and fewer of them hold too
     pub swap : (w : m.World) (b : Self) (one two others : Facts) (s : m.State) → m.denotes w b (one ++ (two ++ others)) s → m.denotes w b (two ++ (one ++ others)) s
     pub fewer : (w : m.World) (b : Self) (some others : Facts) (s : m.State) → m.denotes w b (some ++ others) s → m.denotes w b others s
+    -- the area of a whole that serves has room for each record for which it was asked for
+    pub room : (w : m.World) (b : Self) → m.serves w b → AllByRecursion (HoldsRecord m.width (m.area w)) (m.asked b)
     -- an operand denotes one datum
     pub one : (w : m.World) (b : Self) (o : Operand) (d e : Datum m.Item) (s : m.State) → m.denotes w b (of o d ∷ []) s → m.denotes w b (of o e ∷ []) s → d ≡ e
     -- a word may be read again
@@ -72,14 +78,15 @@ module _ {Self Operand : Type 0} (m : Meaning Self Operand) where
   IsCount limit n = IfSome limit (λ k. k ≡ n)
 
   -- a `Bindgen` at its beginning: it has no code, and there is a whole that serves it, in which code can be run from a state for each
-  -- account without owners, and for any arguments
+  -- account in which nothing but the area has an owner, and for any arguments
   pub record IsNew (b : Self) : Type 0 where
     pub empty : m.code b ≡ m.nothing
     pub endless : m.returned b ≡ None
+    pub unasked : m.asked b ≡ []
     pub world : m.World
     pub serves : m.serves world b
-    pub start : (w : m.World) (ds : Data) (acc : Account m.Item) → m.serves w b → IsCount (m.arguments b) (length ds) → AreLent ds → acc.taken ≡ []
-        → (s : m.State) × (m.account s ≡ acc) × (m.owns s ≡ []) × m.denotes w b (args 0 ds) s
+    pub start : (w : m.World) (ds : Data) (acc : Account m.Item) (at : Option ℕ) → m.serves w b → IsCount (m.arguments b) (length ds) → AreLent ds → MayStand (m.imports b) (m.area w) at acc.heap → acc.taken ≡ option_to_list at
+        → (s : m.State) × (m.account s ≡ acc) × (m.owns s ≡ option_to_list at) × (m.area_at s ≡ at) × m.denotes w b (args 0 ds) s
 
   -- 2. Code is added
 
@@ -98,10 +105,11 @@ module _ {Self Operand : Type 0} (m : Meaning Self Operand) where
   abbrev pub Quiet : (old new : Self) → Type 0
   Quiet old new = (w : m.World) (f : Peer m.Item) (s : m.State) → m.serves w new → (account_in m.account (m.does w f (m.code new) s)).calls ≡ (account_in m.account (m.does w f (m.code old) s)).calls
 
-  -- code was added that makes no call
+  -- code was added that makes no call, and does not ask for the area
   pub record Adds (old new : Self) : Type 0 where
     pub grows : Grows old new
     pub quiet : Quiet old new
+    pub asked : m.asked new ≡ m.asked old
 
   -- 3. It does an action
 
@@ -127,3 +135,15 @@ module _ {Self Operand : Type 0} (m : Meaning Self Operand) where
   -- nothing but what operands denote is changed
   abbrev pub Stays : (old new : Self) → (ins : Facts) → (Facts → Type 0) → Type 0
   Stays old new ins Outs = Does (Unit {0}) old new ins (λ f. stay) (λ x fs. Outs fs) (λ x. []) (λ x. [])
+
+  -- 4. The area
+
+  -- an operand denotes the address of the area, which has room for one more record. It stands already, or it is asked for the first time
+  pub record PointsTo (a : Asked) (o : Operand) (old new : Self) : Type 0 where
+    pub grows : Grows old new
+    pub quiet : Quiet old new
+    pub returned : m.returned new ≡ m.returned old
+    pub asked : m.asked new ≡ m.asked old ++ a ∷ []
+    pub row : (w : m.World) (f : Peer m.Item) (others : Facts) (s0 s : m.State) (at : Option ℕ) → At w f old new others s0 s → m.area_at s0 ≡ at → (at ≡ None → m.asked old ≡ [])
+        → Follows m.account (pointing (m.area w) at (m.account s)) (m.does w f (m.code new) s0)
+        (λ x t. After w new (of o (word (core.Pointer x.result)) ∷ others) (newly at x.result) [] s x t)

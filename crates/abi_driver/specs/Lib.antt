@@ -1,4 +1,5 @@
 pub mod Account
+pub mod Area
 pub mod Calls
 pub mod Exports
 pub mod Frees

@@ -3,11 +3,13 @@ use Rattle.std.specs.Prelude.{ℕ, Bool, List, Option}
 use Rattle.wit_model.specs.declared.function.Function.{Function}
 use Rattle.wit_model.specs.declared.types.TypeDef.{TypeDef}
 use Rattle.wrapper_data.specs.declared.block.Block.{Block}
+use Rattle.wrapper_data.specs.declared.choice.Request.{Request}
 use Rattle.wrapper_data.specs.declared.run.Target.{Target}
 use Rattle.wrapper_data.specs.declared.word.Word.{Word}
 use Rattle.wrapper_meaning.specs.Direction.{Direction}
 use Rattle.wrapper_meaning.specs.Shape.{Shape}
 use Rattle.wrapper_meaning.specs.Value.{Value}
+use Rattle.abi_driver.specs.declared.bindgen.Asked.{Asked}
 use Rattle.abi_driver.specs.Account.{Account, Outcome, Peer}
 
 -- a core word, or a value of the code's own side
@@ -31,6 +33,9 @@ pub record Meaning (Self Operand : Type 0) : Type 1 where
   pub width : ℕ
   -- the whole has what the code needs
   pub serves : World → Self → Type 0
+  -- the return area of the whole, as it was asked for, and where it stands already when code begins
+  pub area : World → Option Request
+  pub area_at : State → Option ℕ
   -- in a direction an item stands for a value, which has these blocks
   pub stands : Direction → (t : Shape) → Value t → Item → List Block → Type 0
   pub account : State → Account Item
@@ -52,5 +57,7 @@ pub record Meaning (Self Operand : Type 0) : Type 1 where
   pub arguments : Self → Option ℕ
   -- what a call of a function goes to
   pub target : Self → Function → Target
+  -- the records for which the code asked for the area
+  pub asked : Self → List Asked
   -- what the code gives, once it was told
   pub returned : Self → Option (List Operand)

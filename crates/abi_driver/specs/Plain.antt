@@ -11,6 +11,7 @@ use Rattle.wit_model.specs.declared.wasm_type.WasmType.{WasmType}
 use Rattle.wit_layout.specs.Filled.{IsFilledFor}
 use Rattle.wit_layout.specs.Tree.{Scalar}
 use Rattle.wrapper_data.specs.declared.block.Block.{Block}
+use Rattle.wrapper_data.specs.declared.choice.Request.{Request}
 use Rattle.wrapper_data.specs.declared.form.Form.{Form}
 use Rattle.wrapper_data.specs.declared.run.Target.{Target}
 use Rattle.wrapper_data.specs.declared.run.Target.TheVariants as target
@@ -33,6 +34,7 @@ use Rattle.abi_driver.specs.declared.plain.Step.TheVariants as step
 use Rattle.abi_driver.specs.declared.plain.words.WordTouch.{WordTouch}
 use Rattle.abi_driver.specs.declared.plain.words.WordTouch.TheVariants as touched
 use Rattle.abi_driver.specs.Account.{Account, Act, Done, Got, Outcome, Peer, Reply, Stuck, addresses, gives, reading, releasing, taking, then_do}
+use Rattle.abi_driver.specs.Area.{HoldsRecord, placing}
 use Rattle.abi_driver.specs.Calls.{calling, handing}
 use Rattle.abi_driver.specs.Meaning.{Datum, Fact, Meaning, arg, item, of, word}
 use Rattle.abi_driver.specs.Memory.{Access, freeing, loading, storing}
@@ -166,6 +168,8 @@ word_touch (loads part signed ty o) = touched.Load ty (part_grain 2 part ty) sig
 pub record PlainState : Type 0 where
   pub account : Account PlainItem
   pub arguments : ℕ → Option (Datum PlainItem)
+  -- where the area stands already when the steps begin
+  pub area : Option ℕ
   -- what stands in each place
   pub values : ℕ → Option (Datum PlainItem)
 
@@ -231,20 +235,32 @@ abbrev pub handed : Target → (due : ℕ) → Reply PlainItem → Option (List 
 handed target due reply None acc = Stuck acc
 handed target due reply (Some vals) acc = then_do (handing owned_by target vals due reply acc) (λ x. gives (map (λ a. item a) x.result) x.account)
 
--- what a step makes of the data that it reads
-abbrev pub performs : Step → Peer PlainItem → List (Datum PlainItem) → PlainAct
-performs (step.Argument number to) p ds acc = gives ds acc
-performs (step.Pass from to) p ds acc = passing ds acc
-performs (step.Read ty from to) p ds acc = read_as (scalar_of ty) p.form ds acc
-performs (step.Take at length to) p ds acc = take_text p.form ds acc
-performs (step.Split from to) p ds acc = splitting ds acc
-performs (step.Join from to) p ds acc = gives (item (whole (gathered ds)) ∷ []) acc
-performs (step.Store ty grain o from at) p ds acc = store_word (record { word = ty; grain = grain; signed = false }) o ds acc
-performs (step.Load ty grain signed o at to) p ds acc = load_word (record { word = ty; grain = grain; signed = signed }) o p.form ds acc
-performs (step.Free at length) p ds acc = free_text p.form ds acc
-performs (step.FreeSized size at) p ds acc = free_block size p.form ds acc
-performs (step.Call core_module name from result to) p ds acc = called (target.Core core_module name) (option_to_list result) p.reply (all_words ds) acc
-performs (step.CallMethod trait_path name from results to) p ds acc = handed (target.Method trait_path name) results p.reply (all_items ds) acc
+-- the address of the area, which is read where it stands already, and is placed else
+abbrev pub pointed : Option Request → List (Datum PlainItem) → PlainAct
+pointed area (word (core.Pointer address) ∷ []) acc = gives (word (core.Pointer address) ∷ []) acc
+pointed (Some area) [] acc = then_do (placing area acc) (λ x. gives (word (core.Pointer x.result) ∷ []) x.account)
+pointed area _ acc = Stuck acc
+
+-- what a step makes of the data that it reads, where this area is asked for
+abbrev pub performs : Option Request → Step → Peer PlainItem → List (Datum PlainItem) → PlainAct
+performs area (step.Argument number to) p ds acc = gives ds acc
+performs area (step.Pass from to) p ds acc = passing ds acc
+performs area (step.Read ty from to) p ds acc = read_as (scalar_of ty) p.form ds acc
+performs area (step.Take at length to) p ds acc = take_text p.form ds acc
+performs area (step.Split from to) p ds acc = splitting ds acc
+performs area (step.Join from to) p ds acc = gives (item (whole (gathered ds)) ∷ []) acc
+performs area (step.Store ty grain o from at) p ds acc = store_word (record { word = ty; grain = grain; signed = false }) o ds acc
+performs area (step.Load ty grain signed o at to) p ds acc = load_word (record { word = ty; grain = grain; signed = signed }) o p.form ds acc
+performs area (step.Free at length) p ds acc = free_text p.form ds acc
+performs area (step.FreeSized size at) p ds acc = free_block size p.form ds acc
+performs area (step.Call core_module name from result to) p ds acc = called (target.Core core_module name) (option_to_list result) p.reply (all_words ds) acc
+performs area (step.CallMethod trait_path name from results to) p ds acc = handed (target.Method trait_path name) results p.reply (all_items ds) acc
+performs area (step.Area to) p ds acc = pointed area ds acc
+
+-- where an area stands, as data
+abbrev pub area_data : Option ℕ → List (Datum PlainItem)
+area_data None = []
+area_data (Some address) = word (core.Pointer address) ∷ []
 
 -- all of them, where each is there
 abbrev pub and_all : Option (Datum PlainItem) → Option (List (Datum PlainItem)) → Option (List (Datum PlainItem))
@@ -269,6 +285,7 @@ inputs (step.Free at length) s = all_at s.values (at ∷ length ∷ [])
 inputs (step.FreeSized size at) s = all_at s.values (at ∷ [])
 inputs (step.Call core_module name from result to) s = all_at s.values (map (λ (p : Place). p.number) from)
 inputs (step.CallMethod trait_path name from results to) s = all_at s.values (map (λ (p : Place). p.number) from)
+inputs (step.Area to) s = Some (area_data s.area)
 
 -- the first place that it writes, where it writes any
 abbrev pub writes : Step → ℕ
@@ -284,6 +301,7 @@ writes (step.Free at length) = 0
 writes (step.FreeSized size at) = 0
 writes (step.Call core_module name from result to) = to
 writes (step.CallMethod trait_path name from results to) = to
+writes (step.Area to) = to
 
 -- places from one on with these data
 abbrev pub put : ℕ → List (Datum PlainItem) → (ℕ → Option (Datum PlainItem)) → ℕ → Option (Datum PlainItem)
@@ -291,15 +309,15 @@ put to [] values = values
 put to (d ∷ ds) values = put (suc to) ds (λ n. if nat_eq n to then Some d else values n)
 
 abbrev pub kept : ℕ → Got PlainItem (List (Datum PlainItem)) → PlainState → PlainState
-kept to x s = record { account = x.account; arguments = s.arguments; values = put to x.result s.values }
+kept to x s = record { account = x.account; arguments = s.arguments; area = s.area; values = put to x.result s.values }
 
-abbrev pub performed : Step → Peer PlainItem → Option (List (Datum PlainItem)) → PlainState → Outcome PlainItem PlainState
-performed st p None s = Stuck s.account
-performed st p (Some ds) s = then_do (performs st p ds s.account) (λ x. Done (kept (writes st) x s))
+abbrev pub performed : Option Request → Step → Peer PlainItem → Option (List (Datum PlainItem)) → PlainState → Outcome PlainItem PlainState
+performed area st p None s = Stuck s.account
+performed area st p (Some ds) s = then_do (performs area st p ds s.account) (λ x. Done (kept (writes st) x s))
 
-abbrev pub runs : Peer PlainItem → List Step → PlainState → Outcome PlainItem PlainState
-runs p [] s = Done s
-runs p (st ∷ steps) s = then_do (performed st p (inputs st s) s) (λ t. runs p steps t)
+abbrev pub runs : Option Request → Peer PlainItem → List Step → PlainState → Outcome PlainItem PlainState
+runs area p [] s = Done s
+runs area p (st ∷ steps) s = then_do (performed area st p (inputs st s) s) (λ t. runs area p steps t)
 
 -- 4. The meaning
 
@@ -314,18 +332,20 @@ plain_target b f = if b.import then target.Core b.home f.name.wit else target.Me
 
 abbrev pub plain_meaning : Meaning PlainBindgen Place
 plain_meaning = record {
-  World = Unit {0};
+  World = Option Request;
   State = PlainState;
   Code = List Step;
   Item = PlainItem;
   width = 2;
-  serves = λ w b. Unit {0};
+  serves = λ w b. AllByRecursion (HoldsRecord 2 w) b.asked;
+  area = λ w. w;
+  area_at = λ s. s.area;
   stands = PlainStands;
   account = λ s. s.account;
   owns = λ s. s.account.taken;
   owned = owned_by;
   nothing = [];
-  does = λ w p. runs p;
+  does = λ w p. runs w p;
   denotes = λ w b facts s. AllByRecursion (IsRight b s) facts;
   code = λ b. b.steps;
   imports = λ b. b.import;
@@ -333,6 +353,7 @@ plain_meaning = record {
   knows = λ b types. IsFilledFor b.sizes types;
   arguments = λ b. None;
   target = plain_target;
+  asked = λ b. b.asked;
   returned = λ b. b.returned;
 }
 
@@ -350,4 +371,5 @@ pub record AddsStep (st : Step) (k : ℕ) (old new : PlainBindgen) : Type 0 wher
   pub import : new.import ≡ old.import
   pub home : new.home ≡ old.home
   pub returned : new.returned ≡ old.returned
+  pub asked : new.asked ≡ old.asked
   pub sizes : new.sizes ≡ old.sizes

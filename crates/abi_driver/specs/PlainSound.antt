@@ -274,6 +274,7 @@ plain_sound = record {
       let later = all_right P one (two ++ others) h in
       all_both P two (one ++ others) (all_left P two others later) (all_both P one others (all_left P one (two ++ others) h) (all_right P two others later));
   fewer = λ w b some others s h. all_right (IsRight b s) some others h;
+  room = λ w b h. h;
   one = λ w b o d e s h g. some_same d e (sym h.0.1 ∙ g.0.1);
   again = λ w b o x facts s h. (h.0, h);
   arg_again = λ w b n x facts s h. (h.0, h);

@@ -1,5 +1,5 @@
 -- What the code is by which values are put into memory.
-use Rattle.std.specs.Prelude.{◌≡◌, ℕ, ◌-◌, ◌+◌, Bool, true, List, [], ◌∷◌, ◌++◌}
+use Rattle.std.specs.Prelude.{◌≡◌, ℕ, ◌-◌, ◌+◌, Bool, true, false, List, [], ◌∷◌, ◌++◌}
 use Rattle.wit_model.specs.declared.size.ArchitectureSize.{ArchitectureSize}
 use Rattle.wit_layout.specs.Extent.{end}
 use Rattle.wit_layout.specs.Sizes.{elem_size, extents_of}
@@ -12,7 +12,8 @@ use Rattle.wrapper_meaning.specs.Layout.{layout, layouts}
 use Rattle.wrapper_meaning.specs.Shape.{Shape, Shapes}
 use Rattle.wrapper_meaning.specs.Value.{Parts, Value}
 use Rattle.abi_driver.specs.Account.{Account, Done, Got, Peer, addresses, is_taken, without}
-use Rattle.abi_driver.specs.Laws.{Adds, After, At, Facts, item_data, ofs}
+use Rattle.abi_driver.specs.Frees.{nowhere}
+use Rattle.abi_driver.specs.Laws.{Adds, After, At, Facts, args, item_data, ofs}
 use Rattle.abi_driver.specs.Leaves.{way}
 use Rattle.abi_driver.specs.Meaning.{Meaning, item, of, word}
 use Rattle.abi_driver.specs.Parts.{PartsStand}
@@ -49,10 +50,17 @@ module _ {Self Operand : Type 0} (m : Meaning Self Operand) where
         → At m w f old new (of o (item a) ∷ of address (word (core.Pointer q)) ∷ others) s0 s → HasRoom m.width t (reached m q offset) b k (m.account s).heap → Releases (addresses own) (m.account s).taken left
         → Puts (Holds m.width (way realloc heap) t v) k (elem_size m.width (layout t)) b k own left new w f others s0 s
 
-  -- the same of parts, of which the first comes behind so many bytes
-  pub record StoresParts (realloc : Bool) (ts : Shapes) (parts : List Operand) (address : Operand) (offset : ArchitectureSize) (behind : ℕ) (old new : Self) : Type 0 where
+  -- the same of parts, of which the first comes behind so many bytes, and which stand in such facts
+  pub record StoresFrom (realloc : Bool) (ts : Shapes) (Ins : List m.Item → Facts m) (address : Operand) (offset : ArchitectureSize) (behind : ℕ) (old new : Self) : Type 0 where
     pub adds : Adds m old new
     pub row : (heap : List Block) (v : Parts ts) (vals : List m.Item) (own : List Block) → AreListed ts v → PartsStand m (way realloc heap) ts v vals own
         → (w : m.World) (f : Peer m.Item) (others : Facts m) (s0 s : m.State) (q k : ℕ) (b : Block) (left : List ℕ)
-        → At m w f old new (ofs m parts (item_data m vals) ++ of address (word (core.Pointer q)) ∷ others) s0 s → HavePlaces m.width ts behind (reached m q offset) b k (m.account s).heap → Releases (addresses own) (m.account s).taken left
+        → At m w f old new (Ins vals ++ of address (word (core.Pointer q)) ∷ others) s0 s → HavePlaces m.width ts behind (reached m q offset) b k (m.account s).heap → Releases (addresses own) (m.account s).taken left
         → Puts (PartsHold m.width (way realloc heap) ts v behind) (k + behind) (end (extents_of m.width (layouts ts)) behind - behind) b k own left new w f others s0 s
+
+  -- the parts are those that operands denote, or arguments, from one on
+  abbrev pub StoresParts : Bool → Shapes → (parts : List Operand) → Operand → ArchitectureSize → ℕ → (old new : Self) → Type 0
+  StoresParts realloc ts parts address offset behind old new = StoresFrom realloc ts (λ vals. ofs m parts (item_data m vals)) address offset behind old new
+
+  abbrev pub StoresArguments : Shapes → (first : ℕ) → Operand → ℕ → (old new : Self) → Type 0
+  StoresArguments ts first address behind old new = StoresFrom false ts (λ vals. args m first (item_data m vals)) address nowhere behind old new

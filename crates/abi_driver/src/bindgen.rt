@@ -4,7 +4,8 @@ ghost use Rattle.std.specs.Prelude.{◌≡◌, List, [], OnOk, IfOk};
 ghost use Rattle.wit_model.specs.declared.types.TypeDef.{TypeDef};
 ghost use Rattle.wit_layout.specs.Filled.{IsFilledFor};
 ghost use Rattle.abi_driver.specs.Instructions.{Emits, IsSendable};
-ghost use Rattle.abi_driver.specs.Laws.{Sound};
+ghost use Rattle.abi_driver.specs.Area.{IsAlignment};
+ghost use Rattle.abi_driver.specs.Laws.{PointsTo, Sound};
 ghost use Rattle.abi_driver.specs.Meaning.{Meaning};
 
 use crate::instruction::Instruction;
@@ -19,12 +20,21 @@ pub trait Operand: Drop {
         ensures { IfOk result (λ o. o ≡ self.now) };
 }
 
+/// A record for which the return area was asked for.
+#[derive(Clone, Copy, Debug, PartialEq, Eq)]
+pub struct Asked {
+    /// Its size, in bytes and pointers.
+    pub size: ArchitectureSize,
+    /// Its alignment.
+    pub align: Alignment,
+}
+
 /// What makes code of instructions, after the trait `Bindgen` of wit-bindgen-core.
 ///
 /// What its code means is the ghost member `meaning`. The laws say what the code of each instruction does, so that a caller
 /// that knows no more than this trait knows what the code that it asked for does. A constructor ensures `IsNew`: without it
-/// the laws could be met by code that never runs. After an `Err` it is given up. Blocks, areas and the instructions that
-/// have no line in `specs/Instructions` have no law so far.
+/// the laws could be met by code that never runs. After an `Err` it is given up. Blocks and the instructions that have no
+/// line in `specs/Instructions` have no law so far.
 pub trait Bindgen {
     /// What denotes a word or a value in the code.
     type Operand: Operand;
@@ -51,12 +61,15 @@ pub trait Bindgen {
     /// Ends the block with these results, and resumes the code before it.
     fn finish_block(&mut self, operands: &mut List<Self::Operand>) -> Result<(), OutOfMemory>;
 
-    /// What denotes the address of the return area, which has this size and alignment at least.
+    /// What denotes the address of the return area, which has this size and alignment at least. The area of an import stands when its
+    /// code begins, and that of an export is placed when it is first asked for.
     fn return_pointer(
         &mut self,
         size: ArchitectureSize,
         align: Alignment,
-    ) -> Result<Self::Operand, OutOfMemory>;
+    ) -> Result<Self::Operand, OutOfMemory>
+        requires aligned { IsAlignment align }
+        ensures { IfOk result (λ o. PointsTo meaning (record { size = size; align = align }) o self.old self.new) };
 
     /// The layouts of the types of the table that it is for.
     fn sizes(&self) -> &SizeAlign

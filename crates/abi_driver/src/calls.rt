@@ -1,5 +1,6 @@
 //! The whole code of a function.
 
+mod area;
 mod export;
 mod import;
 
@@ -40,6 +41,7 @@ pub fn call<B: Bindgen>(
     requires within { function_in_range resolve.now func.now ≡ true }
     requires way { IsWay variant dir }
     requires serves { IsServed B.meaning variant bindgen.old }
+    requires knows { B.meaning.knows bindgen.old resolve.now.types }
     requires arguments { HasArguments B.meaning resolve.now.types variant func.now bindgen.old }
     ensures { OnOk result (CallsFunction B.meaning resolve.now.types variant func.now bindgen.old bindgen.new) }
 {

@@ -2,7 +2,7 @@
 
 mod flat;
 pub(crate) mod memory;
-mod places;
+pub(crate) mod places;
 
 ghost use Rattle.std.specs.Prelude.{◌≡◌, true, length, OnOk};
 ghost use Rattle.std.specs.List.{list_all};

@@ -15,7 +15,7 @@ mod plain;
 mod send;
 
 pub use after_return::post_return;
-pub use bindgen::{Bindgen, Operand};
+pub use bindgen::{Asked, Bindgen, Operand};
 pub use calls::{LiftLower, call};
 pub use dealloc::deallocate_lists_in_types;
 pub use has_list::guest_export_needs_post_return;

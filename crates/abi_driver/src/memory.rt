@@ -2,7 +2,7 @@
 
 mod load;
 pub(crate) mod place;
-mod store;
+pub(crate) mod store;
 pub(crate) mod word;
 
 pub use load::lift_from_memory;

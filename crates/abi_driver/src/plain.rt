@@ -1,5 +1,6 @@
 //! A `Bindgen` whose code is a list of steps over values that are held in memory, in numbered places.
 
+mod area;
 mod calls;
 mod emit;
 mod frees;
@@ -13,6 +14,7 @@ ghost use Rattle.wit_layout.specs.Filled.{IsFilledFor};
 ghost use Rattle.abi_driver.specs.Laws.{IsNew};
 ghost use Rattle.abi_driver.specs.Plain.{plain_meaning};
 
+use crate::bindgen::Asked;
 use std::alloc::Global;
 use wit_layout::SizeAlign;
 use wit_model::{ArchitectureSize, List, Text, WasmType, WitType};
@@ -93,13 +95,17 @@ pub enum Step {
         result: Option<WasmType>,
         to: u32,
     },
-    /// The call of a method, by its trait's path and its name, with values, which own all that has an owner. It has a result, or none,
-    /// which does so then.
+    /// The call of a method, by its trait's path and its name, with values, which own all that has an owner. It has so many results, one
+    /// or none, which do so then.
     CallMethod {
         trait_path: Text,
         name: Text,
         from: List<Place>,
         results: u32,
+        to: u32,
+    },
+    /// The address of the return area.
+    Area {
         to: u32,
     },
 }
@@ -116,6 +122,8 @@ pub struct PlainBindgen {
     pub(crate) steps: List<Step>,
     /// How many places were written.
     pub(crate) count: u32,
+    /// The records for which the return area was asked for.
+    pub(crate) asked: List<Asked>,
     /// Where that stands which the code gives, once it was told.
     pub(crate) returned: Option<List<Place>>,
 }
@@ -136,6 +144,7 @@ impl PlainBindgen {
             home,
             steps: List::new(alloc),
             count: 0,
+            asked: List::new(alloc),
             returned: None,
         }
     }
@@ -145,6 +154,13 @@ impl PlainBindgen {
         ensures { result.now ≡ self.now.returned }
     {
         &self.returned
+    }
+
+    /// The records for which the return area was asked for, in order: it has room for each.
+    pub fn asked(&self) -> &[Asked]
+        ensures { result.now ≡ self.now.asked }
+    {
+        self.asked.as_slice()
     }
 
     /// The steps so far.

@@ -1,22 +1,31 @@
 //! The whole code of an import.
 
-ghost use Rattle.std.specs.Prelude.{◌≡◌, IsTrue, true, false, length, IfOk, OnOk};
+ghost use Rattle.std.specs.Prelude.{◌≡◌, ◌++◌, IsTrue, Some, true, false, length, IfOk, OnOk};
 ghost use Rattle.std.specs.List.{list_all};
 ghost use Rattle.std.specs.Option.{option_map};
 ghost use Rattle.wit_model.specs.IndexRange.{function_in_range};
 ghost use Rattle.wit_model.specs.TypeOrder.{GoesDown, payload_below, type_below};
 ghost use Rattle.wit_model.specs.WellFormed.{IsWellFormed};
+ghost use Rattle.wrapper_meaning.specs.Represents.{are_indirect, is_indirect};
 ghost use Rattle.wrapper_meaning.specs.Shape.{param_shapes, result_shape, shape_of};
-ghost use Rattle.abi_driver.specs.Imports.{CallsImport};
+ghost use Rattle.abi_driver.specs.Imports.{
+  CallsImport,
+  LoadsAnswer,
+  PassesArguments,
+  PointsAtResult,
+  ReadsAnswer,
+};
 ghost use Rattle.abi_driver.specs.Instructions.{shapes_of};
 ghost use Rattle.abi_driver.specs.Laws.{IsCount};
 ghost use Rattle.abi_driver.specs.Lifts.{LiftsAnswer};
 ghost use Rattle.abi_driver.specs.Lowers.{LowersArguments};
 
-use crate::bindgen::Bindgen;
+use crate::bindgen::{Bindgen, Operand};
+use crate::calls::area::{point_at, store_arguments};
 use crate::instruction::Instruction;
 use crate::lift::lift_flat;
 use crate::lower::lower_type;
+use crate::memory::lift_from_memory;
 use crate::parts::{numbered, param_types};
 use crate::send::{argument, only, push_copies, send};
 use std::alloc::Global;
@@ -33,20 +42,65 @@ pub(super) fn call_import<B: Bindgen>(
     requires well { IsWellFormed resolve.now }
     requires within { function_in_range resolve.now func.now ≡ true }
     requires serves { B.meaning.imports bindgen.old ≡ true }
+    requires knows { B.meaning.knows bindgen.old resolve.now.types }
     requires arguments { IsCount B.meaning (B.meaning.arguments bindgen.old) (length func.now.params) }
     ensures { OnOk result (CallsImport B.meaning func.now (param_shapes resolve.now.types func.now) (result_shape resolve.now.types func.now) bindgen.old bindgen.new) }
 {
     let signature = wasm_signature(resolve, AbiVariant::GuestImport, func);
-    if signature.indirect_params || signature.retptr {
-        return Err(OutOfMemory);
-    }
+    let indirect = signature.indirect_params;
+    let retptr = signature.retptr;
     let tys = param_types(alloc, func.params.as_slice())?;
-    let words = lower_arguments(alloc, resolve, bindgen, tys.as_slice())?;
-    let answer = send(alloc, resolve, bindgen, Instruction::CallWasm(func), words)?;
-    let given = lift_answer(alloc, resolve, bindgen, &answer, func.result)?;
+    let words = pass_arguments(alloc, resolve, bindgen, tys.as_slice(), indirect)?;
+    let pointer = point_at_result(alloc, resolve, bindgen, func.result, retptr)?;
+    let all = both(alloc, words.as_slice(), pointer.as_slice())?;
+    let answer = send(alloc, resolve, bindgen, Instruction::CallWasm(func), all)?;
+    let given = read_answer(
+        alloc,
+        resolve,
+        bindgen,
+        pointer.as_slice(),
+        &answer,
+        func.result,
+        retptr,
+    )?;
     let count = numbered(given.len())?;
     send(alloc, resolve, bindgen, Instruction::Return(count), given)?;
     Ok(())
+}
+
+/// Some operands and then others.
+fn both<O: Operand>(alloc: Global, first: &[O], later: &[O]) -> Result<List<O>, OutOfMemory>
+    ensures { IfOk result (λ all. all ≡ first.now ++ later.now) }
+{
+    let mut all = Vec::new(alloc);
+    push_copies(&mut all, alloc, first)?;
+    push_copies(&mut all, alloc, later)?;
+    Ok(List::from_vec(all))
+}
+
+/// The words of all arguments, or the address of the record of them.
+fn pass_arguments<B: Bindgen>(
+    alloc: Global,
+    resolve: &Resolve,
+    bindgen: &mut B,
+    tys: &[WitType],
+    indirect: bool,
+) -> Result<List<B::Operand>, OutOfMemory>
+    requires down { GoesDown resolve.now.types }
+    requires below { list_all (λ ty. type_below (length resolve.now.types) ty) tys.now ≡ true }
+    requires serves { B.meaning.imports bindgen.old ≡ true }
+    requires knows { B.meaning.knows bindgen.old resolve.now.types }
+    requires arguments { IsCount B.meaning (B.meaning.arguments bindgen.old) (length tys.now) }
+    requires indirect { indirect ≡ are_indirect (shapes_of resolve.now.types tys.now) }
+    ensures { IfOk result (λ os. PassesArguments B.meaning (shapes_of resolve.now.types tys.now) os bindgen.old bindgen.new) }
+{
+    if indirect {
+        let address = store_arguments(alloc, resolve, bindgen, tys)?;
+        let stored = only(alloc, address)?;
+        return Ok(stored);
+    }
+    let words = lower_arguments(alloc, resolve, bindgen, tys)?;
+    Ok(words)
 }
 
 /// The words of all arguments, one after another.
@@ -72,24 +126,84 @@ fn lower_arguments<B: Bindgen>(
     Ok(List::from_vec(all))
 }
 
-/// What denotes the answer, where there is one.
+/// What denotes the address of the area, where the result passes by it.
 #[tactic(auto, unfolding(wit_model::specs::TypeOrder::payload_below))]
+fn point_at_result<B: Bindgen>(
+    alloc: Global,
+    resolve: &Resolve,
+    bindgen: &mut B,
+    ty: Option<WitType>,
+    retptr: bool,
+) -> Result<List<B::Operand>, OutOfMemory>
+    requires knows { B.meaning.knows bindgen.old resolve.now.types }
+    requires retptr { retptr ≡ is_indirect (option_map (shape_of resolve.now.types) ty) }
+    ensures { IfOk result (λ pointer. PointsAtResult B.meaning (option_map (shape_of resolve.now.types) ty) pointer bindgen.old bindgen.new) }
+{
+    match ty {
+        Some(ty) if retptr => {
+            let pointer = point_at(resolve, bindgen, ty)?;
+            only(alloc, pointer)
+        }
+        _ => Ok(List::new(alloc)),
+    }
+}
+
+/// What denotes the answer, where there is one: it is loaded from the area, or lifted from its word.
+#[tactic(auto, unfolding(wit_model::specs::TypeOrder::payload_below))]
+fn read_answer<B: Bindgen>(
+    alloc: Global,
+    resolve: &Resolve,
+    bindgen: &mut B,
+    pointer: &[B::Operand],
+    words: &List<B::Operand>,
+    ty: Option<WitType>,
+    retptr: bool,
+) -> Result<List<B::Operand>, OutOfMemory>
+    requires down { GoesDown resolve.now.types }
+    requires below { IsTrue (payload_below (length resolve.now.types) ty) }
+    requires knows { B.meaning.knows bindgen.old resolve.now.types }
+    requires retptr { retptr ≡ is_indirect (option_map (shape_of resolve.now.types) ty) }
+    requires pointed { retptr ≡ true → length pointer.now ≡ 1 }
+    ensures { IfOk result (λ given. ReadsAnswer B.meaning (option_map (shape_of resolve.now.types) ty) pointer.now words.now given bindgen.old bindgen.new) }
+{
+    match ty {
+        None => Ok(List::new(alloc)),
+        Some(ty) if retptr => load_answer(alloc, resolve, bindgen, pointer, ty),
+        Some(ty) => lift_answer(alloc, resolve, bindgen, words, ty),
+    }
+}
+
+/// What denotes the answer, which stands in the area.
+fn load_answer<B: Bindgen>(
+    alloc: Global,
+    resolve: &Resolve,
+    bindgen: &mut B,
+    pointer: &[B::Operand],
+    ty: WitType,
+) -> Result<List<B::Operand>, OutOfMemory>
+    requires down { GoesDown resolve.now.types }
+    requires below { IsTrue (type_below (length resolve.now.types) ty) }
+    requires knows { B.meaning.knows bindgen.old resolve.now.types }
+    requires pointed { length pointer.now ≡ 1 }
+    ensures { IfOk result (λ given. LoadsAnswer B.meaning (shape_of resolve.now.types ty) pointer.now given bindgen.old bindgen.new) }
+{
+    let address = pointer[0].copy(alloc)?;
+    let value = lift_from_memory(alloc, resolve, bindgen, address, &ty)?;
+    only(alloc, value)
+}
+
+/// What denotes the answer, which is a word.
 fn lift_answer<B: Bindgen>(
     alloc: Global,
     resolve: &Resolve,
     bindgen: &mut B,
     words: &List<B::Operand>,
-    ty: Option<WitType>,
+    ty: WitType,
 ) -> Result<List<B::Operand>, OutOfMemory>
     requires down { GoesDown resolve.now.types }
-    requires below { IsTrue (payload_below (length resolve.now.types) ty) }
-    ensures { IfOk result (λ given. LiftsAnswer B.meaning (option_map (shape_of resolve.now.types) ty) words.now given bindgen.old bindgen.new) }
+    requires below { IsTrue (type_below (length resolve.now.types) ty) }
+    ensures { IfOk result (λ given. LiftsAnswer B.meaning (Some (shape_of resolve.now.types ty)) words.now given bindgen.old bindgen.new) }
 {
-    match ty {
-        None => Ok(List::new(alloc)),
-        Some(ty) => {
-            let value = lift_flat(alloc, resolve, bindgen, words, &ty)?;
-            only(alloc, value)
-        }
-    }
+    let value = lift_flat(alloc, resolve, bindgen, words, &ty)?;
+    only(alloc, value)
 }

@@ -13,7 +13,7 @@ use wit_layout::{RunningOffset, SizeAlign};
 use wit_model::{ArchitectureSize, List, OutOfMemory, WitType};
 
 /// The places of these types in a record of all of them. Of one that is too large the answer is `OutOfMemory`.
-pub(super) fn record_places(
+pub(crate) fn record_places(
     alloc: Global,
     sizes: &SizeAlign,
     types: &[WitType],

@@ -46,7 +46,7 @@ pub fn lower_to_memory<B: Bindgen>(
 /// The same at an offset, by a type that was read.
 #[cycle(store)]
 #[tactic(auto, unfolding(wit_model::specs::TypeOrder::type_below))]
-fn store_type<B: Bindgen>(
+pub(crate) fn store_type<B: Bindgen>(
     alloc: Global,
     resolve: &Resolve,
     bindgen: &mut B,

@@ -81,10 +81,10 @@ impl Bindgen for PlainBindgen {
 
     fn return_pointer(
         &mut self,
-        _size: ArchitectureSize,
-        _align: Alignment,
+        size: ArchitectureSize,
+        align: Alignment,
     ) -> Result<Place, OutOfMemory> {
-        Err(OutOfMemory)
+        self.point(size, align)
     }
 
     fn sizes(&self) -> &SizeAlign {

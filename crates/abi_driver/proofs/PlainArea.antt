@@ -1,0 +1,175 @@
+-- The return area of a `PlainBindgen`: what serves it can be made to have room for one more record, and its step points to it.
+use Rattle.std.proofs.Common.{◌≡◌, ◌≤◌, ℕ, ◌+◌, ◌*◌, ◌/◌, ◌%◌, ◌^◌, ◌||◌, Bool, true, false, nat_eq, if◌then◌else◌, List, [], ◌∷◌, ◌++◌, Option, None, Some, refl, sym, ap, ◌∙◌, subst, arith, append-nil}
+use Rattle.std.specs.List.{AllByRecursion}
+use Rattle.std.proofs.Math.Nat.{mod-add-div', mul-mod_left}
+use Rattle.wit_model.specs.Size.{alignment_at, bytes_at}
+use Rattle.wrapper_data.specs.declared.choice.Choice.{Choice}
+use Rattle.wrapper_data.specs.declared.choice.Choice.TheVariants as choice
+use Rattle.wrapper_data.specs.declared.choice.Request.{Request}
+use Rattle.wrapper_data.specs.declared.word.Word.TheVariants as core
+use Rattle.wrapper_meaning.specs.Ends.{fits}
+use Rattle.wrapper_meaning.specs.Items.{SameItems, total}
+use Rattle.abi_driver.specs.declared.bindgen.Asked.{Asked}
+use Rattle.abi_driver.specs.declared.plain.Place.{Place}
+use Rattle.abi_driver.specs.declared.plain.PlainBindgen.{PlainBindgen}
+use Rattle.abi_driver.specs.declared.plain.Step.{Step}
+use Rattle.abi_driver.specs.declared.plain.Step.TheVariants as step
+use Rattle.abi_driver.specs.Account.{Account, Act, Done, Follows, Got, Outcome, Peer, Stopped, Stuck, gives, then_do}
+use Rattle.abi_driver.specs.Area.{HasRoomFor, HoldsRecord, newly, placed, placing, pointing}
+use Rattle.abi_driver.specs.Laws.{After, At, Facts, Grows, PointsTo, Quiet, ofs}
+use Rattle.abi_driver.specs.Meaning.{Datum, of, word}
+use Rattle.abi_driver.specs.Plain.{AddsStep, PlainItem, PlainState, area_data, inputs, kept, performed, performs, places_from, plain_meaning, pointed, runs, writes}
+use Rattle.abi_driver.specs.PlainSound.{all_both, all_left}
+use Rattle.abi_driver.proofs.PlainPlaces.{still_right}
+use Rattle.abi_driver.proofs.PlainRuns.{Followed, plain_adds, plain_follows}
+use Rattle.abi_driver.proofs.Runs.{follows_more, grows_both, quiet_both, stops_same, total-append}
+
+-- 1. Room for one more record
+
+-- what is aligned for a product is aligned for each factor
+factor_left : (x y q : ℕ) → q % (x * y) ≡ 0 → q % x ≡ 0
+factor_left x y q h =
+    let c = q / (x * y) in
+    let is : q ≡ (c * y) * x = omega (arith, mod-add-div' q (x * y), h) in
+    ap (λ n. n % x) is ∙ mul-mod_left (c * y) x
+
+factor_right : (x y q : ℕ) → q % (x * y) ≡ 0 → q % y ≡ 0
+factor_right x y q h =
+    let c = q / (x * y) in
+    let is : q ≡ (c * x) * y = omega (arith, mod-add-div' q (x * y), h) in
+    ap (λ n. n % y) is ∙ mul-mod_left (c * x) y
+
+abbrev before : Option Request → Request
+before None = record { size = 0; align = 1 }
+before (Some area) = area
+
+-- an area with room for all that the one before had room for, and for this record
+abbrev wider : Option Request → Asked → Request
+wider area a = record { size = (before area).size + bytes_at a.size 4; align = (before area).align * alignment_at a.align 4 }
+
+one_wider : (area : Option Request) (a b : Asked) → HoldsRecord 2 area b → HasRoomFor 2 (wider area a) b
+one_wider None a b h = absurd h
+one_wider (Some area) a b h = record {
+  size = let l = h.size in omega (arith, l);
+  aligned = λ q e. h.aligned q (factor_left area.align (alignment_at a.align 4) q e);
+}
+
+all_wider : (area : Option Request) (a : Asked) (asked : List Asked) → AllByRecursion (HoldsRecord 2 area) asked → AllByRecursion (HoldsRecord 2 (Some (wider area a))) asked
+all_wider area a [] h = tt
+all_wider area a (b ∷ asked) h = (one_wider area a b h.0, all_wider area a asked h.1)
+
+itself_wider : (area : Option Request) (a : Asked) → HasRoomFor 2 (wider area a) a
+itself_wider area a = record {
+  size = omega arith;
+  aligned = λ q e. factor_right (before area).align (alignment_at a.align 4) q e;
+}
+
+-- it is noted that the area was asked for, and no step is added
+noted_grows : (a : Asked) (old mid : PlainBindgen) → mid ≡ record old { asked = old.asked ++ a ∷ [] } → Grows plain_meaning old mid
+noted_grows a old mid is = subst (Grows plain_meaning old) (sym is) (record {
+  serves = λ w h. all_left (HoldsRecord 2 w) old.asked (a ∷ []) h;
+  more = λ w h. (Some (wider w a), all_both (HoldsRecord 2 (Some (wider w a))) old.asked (a ∷ []) (all_wider w a old.asked h) (itself_wider w a, tt));
+  stops = λ w f s h. stops_same (λ (t : PlainState). t.account) (plain_meaning.does w f old.steps s);
+  imports = refl;
+  exports = refl;
+  arguments = refl;
+  knows = λ types h. h;
+  target = λ f. refl;
+})
+
+noted_quiet : (a : Asked) (old mid : PlainBindgen) → mid ≡ record old { asked = old.asked ++ a ∷ [] } → Quiet plain_meaning old mid
+noted_quiet a old mid is = subst (Quiet plain_meaning old) (sym is) (λ w f s h. refl)
+
+-- 2. The step
+
+abbrev place_data : ℕ → List (Datum PlainItem)
+place_data address = word (core.Pointer address) ∷ []
+
+points : (area : Option Request) (at : Option ℕ) (acc : Account PlainItem) → pointed area (area_data at) acc ≡ then_do (pointing area at acc) (λ x. gives (place_data x.result) x.account)
+points area (Some address) acc = refl
+points (Some area) None acc = refl
+points None None acc = refl
+
+-- an area that is placed has an owner then
+abbrev Owns : Account PlainItem → Option ℕ → Outcome PlainItem (Got PlainItem ℕ) → Type 0
+Owns acc at (Done x) = SameItems (x.account.taken ++ []) (acc.taken ++ newly at x.result)
+Owns acc at (Stopped e end) = Unit {0}
+Owns acc at (Stuck end) = Unit {0}
+
+if_owns : (acc : Account PlainItem) (at : Option ℕ) (b : Bool) (o q : Outcome PlainItem (Got PlainItem ℕ)) → Owns acc at o → Owns acc at q → Owns acc at (if b then o else q)
+if_owns acc at true o q h k = h
+if_owns acc at false o q h k = k
+
+placed_owns : (area : Request) (choices : List Choice) (acc : Account PlainItem) → Owns acc None (placed area choices acc)
+placed_owns area [] acc = tt
+placed_owns area (choice.Refuse ∷ later) acc = tt
+placed_owns area (choice.At address ∷ later) acc = if_owns acc None (fits area address acc.heap.blocks) _ _ (λ g. ap (total g) (append-nil (acc.taken ++ address ∷ []))) tt
+
+pointing_owns : (area : Option Request) (at : Option ℕ) (acc : Account PlainItem) → Owns acc at (pointing area at acc)
+pointing_owns area (Some address) acc = λ g. refl
+pointing_owns (Some area) None acc = if_owns acc None (nat_eq area.size 0 || nat_eq area.align 0) _ _ tt (placed_owns area acc.choices (record acc { requests = acc.requests ++ area ∷ [] }))
+pointing_owns None None acc = tt
+
+owns_is : (acc : Account PlainItem) (at : Option ℕ) (o : Outcome PlainItem (Got PlainItem ℕ)) (x : Got PlainItem ℕ) → Owns acc at o → o ≡ Done x → SameItems (x.account.taken ++ []) (acc.taken ++ newly at x.result)
+owns_is acc at o x h e = subst (Owns acc at) e h
+
+-- no step moves the area
+abbrev Keeps : PlainState → Outcome PlainItem PlainState → Type 0
+Keeps s (Done t) = t.area ≡ s.area
+Keeps s (Stopped e acc) = Unit {0}
+Keeps s (Stuck acc) = Unit {0}
+
+keeps_from : (s t : PlainState) (o : Outcome PlainItem PlainState) → t.area ≡ s.area → Keeps t o → Keeps s o
+keeps_from s t (Done u) e h = h ∙ e
+keeps_from s t (Stopped x acc) e h = tt
+keeps_from s t (Stuck acc) e h = tt
+
+then_keeps : (s : PlainState) (o : Outcome PlainItem PlainState) (next : PlainState → Outcome PlainItem PlainState) → Keeps s o → ((t : PlainState) → Keeps t (next t)) → Keeps s (then_do o next)
+then_keeps s (Done t) next h k = keeps_from s t (next t) h (k t)
+then_keeps s (Stopped e acc) next h k = tt
+then_keeps s (Stuck acc) next h k = tt
+
+kept_keeps : (n : ℕ) (s : PlainState) (o : Outcome PlainItem (Got PlainItem (List (Datum PlainItem)))) → Keeps s (then_do o (λ x. Done (kept n x s)))
+kept_keeps n s (Done x) = refl
+kept_keeps n s (Stopped e acc) = tt
+kept_keeps n s (Stuck acc) = tt
+
+performed_keeps : (w : Option Request) (st : Step) (f : Peer PlainItem) (ds : Option (List (Datum PlainItem))) (s : PlainState) → Keeps s (performed w st f ds s)
+performed_keeps w st f None s = tt
+performed_keeps w st f (Some ds) s = kept_keeps (writes st) s (performs w st f ds s.account)
+
+runs_keep : (w : Option Request) (f : Peer PlainItem) (steps : List Step) (s : PlainState) → Keeps s (runs w f steps s)
+runs_keep w f [] s = refl
+runs_keep w f (st ∷ steps) s = then_keeps s (performed w st f (inputs st s) s) (λ t. runs w f steps t) (performed_keeps w st f (inputs st s) s) (λ t. runs_keep w f steps t)
+
+same_area : (w : Option Request) (f : Peer PlainItem) (steps : List Step) (s0 s : PlainState) → runs w f steps s0 ≡ Done s → s.area ≡ s0.area
+same_area w f steps s0 s e = subst (Keeps s0) e (runs_keep w f steps s0)
+
+module _ (a : Asked) (old mid new : PlainBindgen) (is : mid ≡ record old { asked = old.asked ++ a ∷ [] }) (adds : AddsStep (step.Area mid.count) 1 mid new) where
+  old_at_mid : (w : Option Request) (f : Peer PlainItem) (others : Facts plain_meaning) (s0 s : PlainState) → At plain_meaning w f old new others s0 s → At plain_meaning w f mid new others s0 s
+  old_at_mid w f others s0 s at = record {
+    serves = at.serves;
+    done = ap (λ (b : PlainBindgen). runs w f b.steps s0) is ∙ at.done;
+    holds = subst (λ (b : PlainBindgen). plain_meaning.denotes w b others s) (sym is) (still_right old (record old { asked = old.asked ++ a ∷ [] }) s s others (omega arith) (λ n l. refl) (λ n. refl) at.holds);
+  }
+
+  pub plain_points : PointsTo plain_meaning a (record { number = mid.count }) old new
+  plain_points = record {
+    grows = let step_adds = plain_adds (step.Area mid.count) 1 mid new adds refl in grows_both plain_meaning old mid new (noted_grows a old mid is) step_adds.grows step_adds.quiet;
+    quiet = let step_adds = plain_adds (step.Area mid.count) 1 mid new adds refl in quiet_both plain_meaning old mid new (noted_quiet a old mid is) step_adds.grows step_adds.quiet;
+    returned = adds.returned ∙ ap (λ (b : PlainBindgen). b.returned) is;
+    asked = adds.asked ∙ ap (λ (b : PlainBindgen). b.asked) is;
+    row = λ w f others s0 s at stands here first.
+        let o : Place = record { number = mid.count } in
+        let Outs : ℕ → Facts plain_meaning → Type 0 = λ x fs. fs ≡ ofs plain_meaning (places_from mid.count 1) (place_data x) in
+        let act : Peer PlainItem → Act PlainItem ℕ = λ g. pointing w at in
+        let reads : inputs (step.Area mid.count) s ≡ Some (area_data at) = ap (λ p. Some (area_data p)) (same_area w f old.steps s0 s stands.done ∙ here) in
+        follows_more (λ (t : PlainState). t.account) (pointing w at s.account) (runs w f new.steps s0) (Followed (step.Area mid.count) 1 mid new adds ℕ act Outs w f others s)
+        (λ x t. After plain_meaning w new (of o (word (core.Pointer x.result)) ∷ others) (newly at x.result) [] s x t)
+        (plain_follows (step.Area mid.count) 1 mid new adds w ℕ [] (area_data at) act place_data Outs (λ x values n. refl) (λ g acc. points w at acc) (λ g acc x e. refl) (λ x. refl) f others s0 s reads (old_at_mid w f others s0 s stands))
+        (λ x t h. record {
+          account = h.account;
+          owns = λ g. ap (λ (acc : Account PlainItem). total g (acc.taken ++ [])) h.account ∙ owns_is s.account at (pointing w at s.account) x (pointing_owns w at s.account) h.done g;
+          denotes = subst (λ fs. plain_meaning.denotes w new (fs ++ others) t) h.tells h.denotes;
+        });
+  }

@@ -1,0 +1,13 @@
+use Rattle.abi_driver.proofs.AreaAsked.{asks_for, is_power}
+use Rattle.abi_driver.proofs.calls.area.point_at.Goals as goal
+
+pub return_pointer-requires : goal.return_pointer-requires
+return_pointer-requires g c =
+    let types = c.args.resolve.now.types in
+    record { aligned = is_power types c.args.ty c.align-align.result (c.align-align.ensures types (c.sizes-sizes.ensures types c.requires.knows)) }
+
+pub returns : goal.returns
+returns g c =
+    let types = c.args.resolve.now.types in
+    let filled = c.sizes-sizes.ensures types c.requires.knows in
+    asks_for g.B.Bindgen.meaning types c.args.ty c.size-size.result c.align-align.result _ _ _ (c.size-size.ensures types filled) (c.align-align.ensures types filled) c.in_ok-operand.ensures

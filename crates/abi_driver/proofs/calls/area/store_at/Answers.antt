@@ -1,0 +1,50 @@
+use Rattle.std.proofs.Common.{◌<◌, ◌≤◌, [], ◌∷◌, List, length, get_or, slice_index, sym, subst, arith}
+use Rattle.std.specs.Prelude.{IfSome}
+use Rattle.std.proofs.lemmas.List.{drop_more}
+use Rattle.wit_model.specs.declared.size.ArchitectureSize.{ArchitectureSize}
+use Rattle.wit_model.specs.declared.types.WitType.TheVariants as wit
+use Rattle.wit_layout.specs.Sizes.{field_offsets}
+use Rattle.wit_layout.specs.Told.{IsPairOf}
+use Rattle.wit_layout.specs.Tree.{record_of}
+use Rattle.abi_driver.specs.declared.instruction.Instruction.TheVariants as instruction
+use Rattle.abi_driver.specs.Frees.{nowhere}
+use Rattle.abi_driver.specs.Instructions.{Emits}
+use Rattle.abi_driver.proofs.ArgumentSteps.{within_count}
+use Rattle.abi_driver.proofs.PartOffsets.{behind_next}
+use Rattle.abi_driver.proofs.RecordPlaces.{record_place}
+use Rattle.abi_driver.proofs.RecordStores.{rest_last, rest_next}
+use Rattle.abi_driver.proofs.Runs.{adds_both}
+use Rattle.abi_driver.proofs.calls.area.store_at.Goals as goal
+
+pub argument-requires : goal.argument-requires
+argument-requires g c =
+    let m = g.B.Bindgen.meaning in
+    let short : c.loop-i.i < length c.args.tys.now = omega (arith, c.loop-i-test.true) in
+    let here = within_count (m.arguments c.args.bindgen.now) (m.arguments c.loop-i.bindgen) (length c.args.tys.now) c.loop-i.i c.loop-i.invariant.adds.grows.arguments c.requires.arguments short in
+    subst (λ n. IfSome (m.arguments c.loop-i.bindgen) (λ k. n < k)) (sym c.in_ok-number.ensures) here
+
+pub loop-i-preserved : goal.loop-i-preserved
+loop-i-preserved g c =
+    let m = g.B.Bindgen.meaning in
+    let sound = g.met.B.Bindgen.sound in
+    let types = c.args.resolve.now.types in
+    let tys = c.args.tys.now in
+    let i = c.loop-i.i in
+    let short : i < length tys = omega (arith, c.loop-i-test.true) in
+    let read = subst (λ n. Emits m types (instruction.GetArg n) [] (c.in_ok-value.value ∷ []) c.loop-i.bindgen c.argument.new.bindgen) c.in_ok-number.ensures c.in_ok-value.ensures in
+    let filled = c.sizes-sizes.ensures types c.requires.knows in
+    let pair = subst (λ (ps : List ArchitectureSize). IsPairOf (get_or ps i nowhere) (λ w. slice_index (field_offsets w (record_of types tys)) i)) (sym c.as_slice.ensures) (c.in_ok-places.ensures.each types i nowhere filled short) in
+    record {
+      adds = adds_both m _ _ _ c.loop-i.invariant.adds (adds_both m _ _ _ c.in_ok-value.ensures.adds c.in_ok-store_type.ensures.adds);
+      rest = rest_next m sound types tys c.args.address.now (get_or c.as_slice.result.now i nowhere) i _ _ _ _ (get_or tys i wit.Bool) c.in_ok-value.value
+          (drop_more tys i wit.Bool short) read
+          (behind_next m.width types tys i wit.Bool short)
+          (record_place m.width types tys i wit.Bool (get_or c.as_slice.result.now i nowhere) sound.wide short pair)
+          c.in_ok-store_type.ensures c.loop-i.invariant.rest;
+    }
+
+pub returns : goal.returns
+returns g c =
+    let m = g.B.Bindgen.meaning in
+    let ended : length c.args.tys.now ≤ c.loop-i.i = omega (arith, c.loop-i-test.false) in
+    rest_last m g.met.B.Bindgen.sound c.args.resolve.now.types c.args.tys.now c.args.address.now c.loop-i.i _ _ ended c.loop-i.invariant.rest
