@@ -1,5 +1,6 @@
 -- Instances of the definitions, and what they refuse.
 pub mod Forms
+pub mod OkAnswer
 pub mod TwoTexts
 pub mod IndirectParameters
 pub mod ListOfTexts

@@ -1,11 +1,10 @@
 -- A list of two records of a byte and a number of 16 bits, which lies in memory as it is, with a byte between the two that need not be written;
 -- and the same list of tuples, which does not.
-use Rattle.std.proofs.Common.{◌≡◌, ◌%◌, ℕ, true, false, pos, [], ◌∷◌, None, refl, ap, arith}
+use Rattle.std.proofs.Common.{◌≡◌, ◌%◌, true, false, pos, [], ◌∷◌, None, refl, ap, arith}
 use Rattle.wit_layout.specs.Extent.{extent}
 use Rattle.wit_layout.specs.Tree.{Scalar}
 use Rattle.wrapper_data.specs.declared.block.Block.{Block}
 use Rattle.wrapper_data.specs.declared.value.RustValue.TheVariants as value
-use Rattle.wrapper_data.specs.declared.word.Word.{Word}
 use Rattle.wrapper_data.specs.declared.word.Word.TheVariants as word
 use Rattle.wrapper_meaning.specs.AsWords.{Says}
 use Rattle.wrapper_meaning.specs.Buffer.{IsBuffer}
@@ -17,7 +16,7 @@ use Rattle.wrapper_meaning.specs.Shape.Shape.{scalar, list, fields, tuple}
 use Rattle.wrapper_meaning.specs.Shape.Shapes.{none, more}
 use Rattle.wrapper_meaning.specs.StandsFor.{Stands}
 use Rattle.wrapper_meaning.specs.Value.{Value}
-use Rattle.wrapper_meaning.proofs.Instances.Forms.{pair_words}
+use Rattle.wrapper_meaning.proofs.Instances.Forms.{address_in, pair_words}
 use Rattle.wrapper_meaning.proofs.Lists.{first_or}
 
 abbrev parts : Shapes
@@ -65,12 +64,7 @@ block_due = refl
 
 -- at an odd address
 
-pointed : Word → ℕ
-pointed (word.Pointer address) = address
-pointed _ = 0
-
 misaligned : Says 2 give (list (fields parts)) [] (pair_words 65 0) [] → ⊥
-unfolding pointed
 misaligned says =
-    let place : 65 ≡ says.address = ap (λ ws. pointed (first_or (word.Pointer 0) ws)) says.pair in
+    let place : 65 ≡ says.address = ap (λ ws. address_in (first_or (word.Pointer 0) ws)) says.pair in
     omega (ap (λ a. a % 2) place, says.buffer.aligned, arith)

@@ -7,6 +7,7 @@ use Rattle.wrapper_data.specs.declared.run.Target.TheVariants as target
 use Rattle.wrapper_data.specs.declared.value.RustValue.TheVariants as value
 use Rattle.wrapper_data.specs.declared.word.Word.{Word}
 use Rattle.wrapper_data.specs.declared.word.Word.TheVariants as word
+use Rattle.wrapper_meaning.specs.AsWords.{handle_word}
 use Rattle.wrapper_meaning.specs.Direction.{take}
 use Rattle.wrapper_meaning.specs.Gives.{ImportAnswers}
 use Rattle.wrapper_meaning.specs.Handles.{ExportDrops, ImportDrops, handles, is_owned, main_calls, own_resources}
@@ -84,6 +85,30 @@ import_call = record { target = target.Core (codes "t:p/i") (codes "f"); words =
 
 drops_first : ImportDrops drop_of (Some by_number) listed import_call (import_call ∷ drops_handle 7 ∷ [])
 drops_first = record { drops = drops_handle 7 ∷ []; order = refl; dropped = (0, 7) ∷ []; lost = λ weight. omega (arith); each = λ weight. refl }
+
+-- without that call the handle is lost (`lost`)
+undropped_entry : ImportDrops drop_of (Some by_number) listed import_call (import_call ∷ []) → ⊥
+undropped_entry kept =
+    omega (
+      kept.lost (λ h. 1),
+      kept.each (λ c. 1),
+      total-map {B = Target × List Word} (λ c. (c.target, c.words)) kept.drops,
+      total-map {B = Target × List Word} (λ h. (drop_of h.0, handle_word h.1 ∷ [])) kept.dropped,
+      ap (total (λ c. 1)) kept.order,
+      arith,
+    )
+
+-- and a handle that an argument passed on is not to be dropped (`lost`)
+drops_a_passed_handle : ImportDrops drop_of None tt import_call (import_call ∷ drops_handle 7 ∷ []) → ⊥
+drops_a_passed_handle wrong =
+    omega (
+      wrong.lost (λ h. 1),
+      wrong.each (λ c. 1),
+      total-map {B = Target × List Word} (λ c. (c.target, c.words)) wrong.drops,
+      total-map {B = Target × List Word} (λ h. (drop_of h.0, handle_word h.1 ∷ [])) wrong.dropped,
+      ap (total (λ c. 1)) wrong.order,
+      arith,
+    )
 
 -- 4. A chained method gives its `self`
 

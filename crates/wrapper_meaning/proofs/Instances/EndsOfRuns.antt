@@ -10,6 +10,8 @@ use Rattle.wrapper_data.specs.declared.run.Run.{Run}
 use Rattle.wrapper_data.specs.declared.run.Stop.{Stop}
 use Rattle.wrapper_data.specs.declared.run.Stop.TheVariants as stop
 use Rattle.wrapper_data.specs.declared.run.Target.TheVariants as target
+use Rattle.wrapper_data.specs.declared.run.TrapKind.TheVariants as trap
+use Rattle.wrapper_data.specs.declared.word.Word.TheVariants as word
 use Rattle.wrapper_meaning.specs.Due.{Bill, due, export_bill}
 use Rattle.wrapper_meaning.specs.Ends.{Ends, Meets, Misfits, is_areas}
 use Rattle.wrapper_meaning.specs.Shape.Shape.{text, list}
@@ -52,6 +54,10 @@ asks_otherwise done = omega (ap (λ r. r.size) done.area, arith)
 is_stuck : Ends bill [] [] (λ run. Unit {0}) (run_of (stop.Stuck 0) []) → ⊥
 is_stuck ends = ends
 
+-- one that traps
+traps : Ends bill [] [] (λ run. Unit {0}) (run_of (stop.Trap trap.Pointer) []) → ⊥
+traps ends = ends
+
 -- the area is asked for first
 abbrev of_two : Bill
 of_two = export_bill 2 (Some (list text) ∷ []) none tt (Some (list text)) (codes "a" ∷ [] ∷ [])
@@ -66,6 +72,14 @@ refused = (
   inl (record { meets = record { earlier = eight ∷ []; last = refl; takes = refl }; due = (0, omega (arith), refl); no_area = refl }),
   record { requests = λ weight. omega (arith); area = refl; formed = refl; words = refl; value = refl },
 )
+
+-- one that asks for the block before the area (`area`)
+block_before_area : Ends of_two (choice.Refuse ∷ []) (call ∷ []) (λ run. Unit {0}) (run_of (stop.Refused (record { size = 16; align = 4 })) (record { size = 16; align = 4 } ∷ [])) → ⊥
+block_before_area (refusal, early) = omega (ap (λ r. r.size) early.area, arith)
+
+-- one that gives a word all the same
+gives_though_refused : Ends bill (choice.At 512 ∷ choice.Refuse ∷ []) (call ∷ []) (λ run. Unit {0}) (record (run_of (stop.Refused eight) (eight ∷ eight ∷ [])) { words = word.Pointer 512 ∷ [] }) → ⊥
+gives_though_refused (refusal, early) = omega (ap length early.words, arith)
 
 -- a run that asks alone for one, and meets a refusal, met it at the area
 first_met : (b : Bill) (choices : List Choice) (request : Request) (met : Option Choice) (m : Meets choices (request ∷ []) request met) → length m.earlier ≡ 0
@@ -96,6 +110,10 @@ exhausted = (
   record { request = eight; met = None; meets = record { earlier = []; last = refl; takes = refl }; misfits = tt },
   record { requests = λ weight. omega (arith); area = refl; formed = refl; words = refl; value = refl },
 )
+
+-- a wrapper that takes most of the memory first, so that nothing else fits (`requests`)
+takes_the_memory : Ends bill (choice.At 4096 ∷ choice.At 8192 ∷ []) [] (λ run. Unit {0}) (run_of stop.BadChoice (record { size = 2147483647; align = 1 } ∷ eight ∷ [])) → ⊥
+takes_the_memory (misfit, early) = omega (early.requests (λ r. r.size), arith)
 
 -- a wrapper that never calls, since it asks for a block without an alignment, which no address fits
 abbrev rooms : Bill

@@ -1,11 +1,15 @@
 -- How instances are written: blocks by their bytes, and texts that lie in them.
-use Rattle.std.proofs.Common.{◌≡◌, ◌<◌, ◌≤◌, ◌+◌, ◌/◌, ◌%◌, ◌^◌, ℕ, zero, suc, true, List, [], ◌∷◌, ◌++◌, length, slice_index_or, refl, arith}
+use Rattle.std.proofs.Common.{◌≡◌, ◌<◌, ◌≤◌, ◌+◌, ◌/◌, ◌%◌, ◌^◌, ℕ, zero, suc, true, List, [], ◌∷◌, ◌++◌, length, Option, Some, slice_index_or, refl, arith}
 use Rattle.std.specs.List.{enumerate_from, list_all}
 use Rattle.std.specs.Prelude.{nat_lt, slice_index}
 use Rattle.std.specs.Str.{is_utf8}
 use Rattle.std.proofs.lemmas.Bool.{and_parts, ltb-true}
 use Rattle.std.proofs.lemmas.Str.{IsUtf8-from_ascii, is_utf8-from_IsUtf8}
 use Rattle.wrapper_data.specs.declared.block.Block.{Block}
+use Rattle.wrapper_data.specs.declared.choice.Choice.{Choice}
+use Rattle.wrapper_data.specs.declared.choice.Choice.TheVariants as choice
+use Rattle.wrapper_data.specs.declared.run.Target.{Target}
+use Rattle.wrapper_data.specs.declared.run.Target.TheVariants as target
 use Rattle.wrapper_data.specs.declared.word.Word.{Word}
 use Rattle.wrapper_data.specs.declared.word.Word.TheVariants as word
 use Rattle.wrapper_meaning.specs.Buffer.{IsBuffer}
@@ -27,6 +31,20 @@ pair address n = four address ++ four n
 
 abbrev pub pair_words : ℕ → ℕ → List Word
 pair_words address n = word.Pointer address ∷ word.Length n ∷ []
+
+-- what tells two words, two choices or two targets apart
+
+abbrev pub address_in : Word → ℕ
+address_in (word.Pointer address) = address
+address_in _ = 0
+
+abbrev pub chosen : Option Choice → ℕ
+chosen (Some (choice.At address)) = address
+chosen _ = 0
+
+abbrev pub name_of : Target → List ℕ
+name_of (target.Core place name) = name
+name_of (target.Method place name) = name
 
 -- texts of ASCII are UTF-8
 

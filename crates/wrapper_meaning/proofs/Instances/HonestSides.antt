@@ -1,6 +1,7 @@
 -- A peer, an implementation and a caller that are honest, and some that are not.
-use Rattle.std.proofs.Common.{ℕ, true, false, List, [], ◌∷◌, ◌++◌, Some, None, codes, refl, sym, ap, arith, ◌∙◌}
+use Rattle.std.proofs.Common.{ℕ, true, false, List, [], ◌∷◌, ◌++◌, Some, None, codes, pos, refl, sym, ap, arith, ◌∙◌}
 use Rattle.std.proofs.lemmas.Bool.{true≢false}
+use Rattle.wit_layout.specs.Tree.{Scalar}
 use Rattle.wrapper_data.specs.declared.answer.Answer.{Answer}
 use Rattle.wrapper_data.specs.declared.answer.Answer.TheVariants as answer
 use Rattle.wrapper_data.specs.declared.block.Block.{Block}
@@ -14,60 +15,41 @@ use Rattle.wrapper_meaning.specs.AsWords.{Says}
 use Rattle.wrapper_meaning.specs.Direction.{take}
 use Rattle.wrapper_meaning.specs.Honest.{HonestCaller, HonestImplementation, HonestPeer}
 use Rattle.wrapper_meaning.specs.Items.{total}
-use Rattle.wrapper_meaning.specs.Shape.Shape.{text}
+use Rattle.wrapper_meaning.specs.Shape.Shape.{scalar, text}
 use Rattle.wrapper_meaning.specs.Shape.Shapes.{none, more}
 use Rattle.wrapper_meaning.specs.StandsFor.{Stands}
-use Rattle.wrapper_meaning.proofs.Instances.Forms.{ascii, block_at, pair_words, text_taken}
+use Rattle.wrapper_meaning.proofs.Instances.Forms.{address_in, ascii, block_at, pair_words, text_taken}
+use Rattle.wrapper_meaning.proofs.Instances.OkAnswer.{area_of, lies_inside, names_ok, ok, ok_begins, ok_taken, written}
 use Rattle.wrapper_meaning.proofs.Lists.{first_or}
 use Rattle.wrapper_meaning.proofs.PostReturn.{total-append}
 use Rattle.wrapper_meaning.proofs.RustValues.{owned_same}
 
 -- 1. A peer that answers `ok`: it writes an address and a length to the area of 68 bytes, and brings the block
 
-abbrev area : List (ℕ × ℕ) → Block
-area cells = record { address = 4096; size = 68; cells = cells }
-
-abbrev ok : Block
-ok = block_at 8192 (codes "ok")
-
-abbrev written : List (ℕ × ℕ)
-written = (4096, 0) ∷ (4097, 32) ∷ (4098, 0) ∷ (4099, 0) ∷ (4100, 2) ∷ (4101, 0) ∷ (4102, 0) ∷ (4103, 0) ∷ []
-
-abbrev after : Block
-after = area ((0, 0) ∷ (1, 32) ∷ (2, 0) ∷ (3, 0) ∷ (4, 2) ∷ (5, 0) ∷ (6, 0) ∷ (7, 0) ∷ [])
-
 abbrev call : CallPoint
-call = record { target = target.Core [] []; words = word.Pointer 4096 ∷ word.Pointer 4096 ∷ []; values = []; heap = record { blocks = area [] ∷ [] } }
+call = record { target = target.Core [] []; words = word.Pointer 4096 ∷ word.Pointer 4096 ∷ []; values = []; heap = record { blocks = area_of 68 [] ∷ [] } }
 
-peer : HonestPeer 2 (Some text) (codes "ok") (answer.Words None written (ok ∷ [])) call
+peer : HonestPeer 2 (Some text) (codes "ok") (answer.Words None (written names_ok) (ok ∷ [])) call
 unfolding with_block written_block
 peer = record {
   good = ascii (codes "ok") refl;
   result = None;
-  writes = written;
+  writes = written names_ok;
   new = ok ∷ [];
   answers = refl;
   represents = record {
     words = word.Pointer 4096 ∷ [];
     blocks = ok ∷ [];
-    area = after ∷ [];
-    takes = record {
-      block = after;
-      is_area = refl;
-      named = refl;
-      stands = record { aligned = refl; room = omega (arith); holds = record { address = 8192; pointer = (omega (arith), refl); counted = (omega (arith), refl); buffer = text_taken ok 111 (107 ∷ []) refl (omega (arith)) refl } };
-    };
+    area = area_of 68 names_ok ∷ [];
+    takes = record { block = area_of 68 names_ok; is_area = refl; named = refl; stands = ok_begins 68 (omega (arith)) };
     placed = record {
-      block = after;
+      block = area_of 68 names_ok;
       is_area = refl;
       before = word.Pointer 4096 ∷ [];
       last = refl;
       silent = refl;
       live = (0, omega (arith), refl);
-      inside = (
-        (omega (arith), omega (arith)),
-        ((omega (arith), omega (arith)), ((omega (arith), omega (arith)), ((omega (arith), omega (arith)), ((omega (arith), omega (arith)), ((omega (arith), omega (arith)), ((omega (arith), omega (arith)), ((omega (arith), omega (arith)), tt))))))),
-      );
+      inside = lies_inside 8 names_ok (omega (arith));
     };
     fresh = refl;
     brings = λ weight. refl;
@@ -79,7 +61,7 @@ result_of : Answer → List Word
 result_of (answer.Words (Some x) writes blocks) = x ∷ []
 result_of _ = []
 
-with_a_word : HonestPeer 2 (Some text) (codes "ok") (answer.Words (Some (word.Pointer 4096)) written (ok ∷ [])) call → ⊥
+with_a_word : HonestPeer 2 (Some text) (codes "ok") (answer.Words (Some (word.Pointer 4096)) (written names_ok) (ok ∷ [])) call → ⊥
 unfolding result_of
 with_a_word p = omega (ap (λ a. total (λ x. 1) (result_of a)) (p.answers ∙ ap (λ r. answer.Words r p.writes p.new) p.represents.placed.silent), arith)
 
@@ -89,7 +71,7 @@ new_of : Answer → List Block
 new_of (answer.Words result writes blocks) = blocks
 new_of _ = []
 
-with_another_block : HonestPeer 2 (Some text) (codes "ok") (answer.Words None written (ok ∷ record { address = 64; size = 4; cells = [] } ∷ [])) call → ⊥
+with_another_block : HonestPeer 2 (Some text) (codes "ok") (answer.Words None (written names_ok) (ok ∷ record { address = 64; size = 4; cells = [] } ∷ [])) call → ⊥
 unfolding new_of
 with_another_block p =
     let held = p.represents.takes.stands.holds.buffer.placed in
@@ -103,6 +85,37 @@ with_another_block p =
       ap one held.holds.1,
       arith,
     )
+
+-- one that answers a number in a word, and one that writes besides
+
+abbrev answers_seven : List (ℕ × ℕ) → Answer
+answers_seven writes = answer.Words (Some (word.I32 (pos 7))) writes []
+
+peer_of_a_number : HonestPeer 2 (Some (scalar Scalar.u32)) (pos 7) (answers_seven []) call
+peer_of_a_number = record {
+  good = refl;
+  result = Some (word.I32 (pos 7));
+  writes = [];
+  new = [];
+  answers = refl;
+  represents = record {
+    words = word.I32 (pos 7) ∷ [];
+    blocks = [];
+    area = [];
+    takes = ((word.I32 (pos 7), refl, (pos 7, refl, refl), refl), refl);
+    placed = (refl, refl);
+    fresh = refl;
+    brings = λ weight. refl;
+  };
+}
+
+writes_of : Answer → List (ℕ × ℕ)
+writes_of (answer.Words result writes blocks) = writes
+writes_of _ = []
+
+writes_besides : HonestPeer 2 (Some (scalar Scalar.u32)) (pos 7) (answers_seven ((4096, 0) ∷ [])) call → ⊥
+unfolding writes_of
+writes_besides p = omega (ap (λ a. total (λ x. 1) (writes_of a)) p.answers, ap (total (λ x. 1)) p.represents.placed.1, arith)
 
 -- 2. An implementation that answers `abc`, and leaves another block too
 
@@ -145,7 +158,7 @@ caller = record {
   formed = refl;
   blocks = ok ∷ [];
   others = kept ∷ [];
-  takes = (pair_words 8192 2, [], ok ∷ [], [], record { address = 8192; pair = refl; range = omega (arith); buffer = text_taken ok 111 (107 ∷ []) refl (omega (arith)) refl }, (refl, refl), refl, refl);
+  takes = (pair_words 8192 2, [], ok ∷ [], [], record { address = 8192; pair = refl; range = omega (arith); buffer = ok_taken }, (refl, refl), refl, refl);
   live = λ weight. omega (arith);
 }
 
@@ -174,8 +187,4 @@ in_one_block dishonest =
 
 -- an empty text at address 0
 at_zero : Says 2 take text [] (word.Pointer 0 ∷ word.Length 0 ∷ []) [] → ⊥
-at_zero says = omega (ap (λ ws. pointed (first_or (word.Pointer 0) ws)) says.pair, says.buffer.placed.0, arith)
-  where
-    pointed : Word → ℕ
-    pointed (word.Pointer a) = a
-    pointed _ = 0
+at_zero says = omega (ap (λ ws. address_in (first_or (word.Pointer 0) ws)) says.pair, says.buffer.placed.0, arith)

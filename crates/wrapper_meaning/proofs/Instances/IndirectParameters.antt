@@ -1,12 +1,11 @@
 -- Seventeen numbers as the parameters of an import, and a text as its result: both pass by one area of 68 bytes.
-use Rattle.std.proofs.Common.{◌≡◌, ◌+◌, ◌-◌, ℕ, zero, suc, pos, List, [], ◌∷◌, ◌++◌, Option, Some, refl, ap, arith, sym, ap₂, ◌∙◌}
+use Rattle.std.proofs.Common.{◌≡◌, ◌+◌, ◌-◌, ℕ, zero, suc, pos, List, [], ◌∷◌, ◌++◌, Some, refl, ap, arith, sym, ap₂, ◌∙◌}
 use Rattle.wit_model.specs.declared.types.WitType.TheVariants as wit
 use Rattle.wit_model.specs.declared.wasm_type.WasmType.TheVariants as core
 use Rattle.wit_layout.specs.declared.signature.AbiVariant.TheVariants.{GuestImport}
 use Rattle.wit_layout.specs.Signature.{core_params}
 use Rattle.wit_layout.specs.Tree.{Scalar}
 use Rattle.wrapper_data.specs.declared.block.Block.{Block}
-use Rattle.wrapper_data.specs.declared.choice.Choice.{Choice}
 use Rattle.wrapper_data.specs.declared.choice.Choice.TheVariants as choice
 use Rattle.wrapper_data.specs.declared.run.CallPoint.{CallPoint}
 use Rattle.wrapper_data.specs.declared.run.Target.TheVariants as target
@@ -16,14 +15,15 @@ use Rattle.wrapper_data.specs.declared.word.Word.{Word}
 use Rattle.wrapper_data.specs.declared.word.Word.TheVariants as word
 use Rattle.wrapper_meaning.specs.Areas.{IsArea, import_area}
 use Rattle.wrapper_meaning.specs.Calls.{CallsImport, pointers}
+use Rattle.wrapper_meaning.specs.Direction.{Direction, lend, take}
 use Rattle.wrapper_meaning.specs.Due.{due, import_bill}
-use Rattle.wrapper_meaning.specs.Represents.{LendsArguments, param_words, result_words}
+use Rattle.wrapper_meaning.specs.Represents.{Begins, LendsArguments, TakesArguments, param_words, result_words}
 use Rattle.wrapper_meaning.specs.Shape.{Shapes}
-use Rattle.wrapper_meaning.specs.Shape.Shape.{scalar, text}
+use Rattle.wrapper_meaning.specs.Shape.Shape.{fields, scalar, text}
 use Rattle.wrapper_meaning.specs.Shape.Shapes.{none, more}
 use Rattle.wrapper_meaning.specs.StandsFor.{ArgumentsStand}
 use Rattle.wrapper_meaning.specs.Value.{Parts}
-use Rattle.wrapper_meaning.proofs.Instances.Forms.{block_at, four}
+use Rattle.wrapper_meaning.proofs.Instances.Forms.{block_at, chosen, four}
 use Rattle.wrapper_meaning.proofs.Lists.{first_or}
 
 abbrev u32s : ℕ → Shapes
@@ -60,17 +60,26 @@ bytes_of first (suc n) = four first ++ bytes_of (first + 1) n
 abbrev area : Block
 area = block_at 4096 (bytes_of 0 17)
 
-by_address : LendsArguments 2 (area ∷ []) (area ∷ []) seventeen numbers (word.Pointer 4096 ∷ [])
-by_address = record {
-  block = area;
-  is_area = refl;
-  named = refl;
-  stands = record {
-    aligned = refl;
-    room = omega (arith);
-    holds = ([], [], ((omega (arith), refl), refl), ([], [], ((omega (arith), refl), refl), ([], [], ((omega (arith), refl), refl), ([], [], ((omega (arith), refl), refl), ([], [], ((omega (arith), refl), refl), ([], [], ((omega (arith), refl), refl), ([], [], ((omega (arith), refl), refl), ([], [], ((omega (arith), refl), refl), ([], [], ((omega (arith), refl), refl), ([], [], ((omega (arith), refl), refl), ([], [], ((omega (arith), refl), refl), ([], [], ((omega (arith), refl), refl), ([], [], ((omega (arith), refl), refl), ([], [], ((omega (arith), refl), refl), ([], [], ((omega (arith), refl), refl), ([], [], ((omega (arith), refl), refl), ([], [], ((omega (arith), refl), refl), refl, refl), refl), refl), refl), refl), refl), refl), refl), refl), refl), refl), refl), refl), refl), refl), refl), refl);
-  };
+-- the record of the numbers, in any direction
+record_stands : (dir : Direction) → Begins 2 dir (fields seventeen) numbers area []
+record_stands dir = record {
+  aligned = refl;
+  room = omega (arith);
+  holds = ([], [], ((omega (arith), refl), refl), ([], [], ((omega (arith), refl), refl), ([], [], ((omega (arith), refl), refl), ([], [], ((omega (arith), refl), refl), ([], [], ((omega (arith), refl), refl), ([], [], ((omega (arith), refl), refl), ([], [], ((omega (arith), refl), refl), ([], [], ((omega (arith), refl), refl), ([], [], ((omega (arith), refl), refl), ([], [], ((omega (arith), refl), refl), ([], [], ((omega (arith), refl), refl), ([], [], ((omega (arith), refl), refl), ([], [], ((omega (arith), refl), refl), ([], [], ((omega (arith), refl), refl), ([], [], ((omega (arith), refl), refl), ([], [], ((omega (arith), refl), refl), ([], [], ((omega (arith), refl), refl), refl, refl), refl), refl), refl), refl), refl), refl), refl), refl), refl), refl), refl), refl), refl), refl), refl), refl);
 }
+
+by_address : LendsArguments 2 (area ∷ []) (area ∷ []) seventeen numbers (word.Pointer 4096 ∷ [])
+by_address = record { block = area; is_area = refl; named = refl; stands = record_stands (lend (area ∷ [])) }
+
+-- an export takes them in a block of exactly their size, which is theirs
+in_a_block : TakesArguments 2 seventeen numbers (word.Pointer 4096 ∷ []) (area ∷ [])
+in_a_block = record { block = area; inner = []; named = refl; exact = refl; stands = record_stands take; all = refl }
+
+abbrev larger : Block
+larger = record area { size = 72 }
+
+in_a_larger_block : TakesArguments 2 seventeen numbers (word.Pointer 4096 ∷ []) (larger ∷ []) → ⊥
+in_a_larger_block takes = omega (takes.exact, ap (λ (b : Block). b.size) (ap (first_or larger) takes.all), arith)
 
 abbrev values : ℕ → ℕ → List RustValue
 values first zero = []
@@ -106,13 +115,8 @@ in_no_area lends = absurd cc
 
 -- an area elsewhere than where the choice puts it
 
-address_of : Option Choice → ℕ
-address_of (Some (choice.At address)) = address
-address_of _ = 0
-
 elsewhere : IsArea (import_area 2 seventeen (Some text)) (Some (choice.At 8192)) (area ∷ []) → ⊥
-unfolding address_of
-elsewhere stands = omega (ap address_of stands.chosen, ap (λ b. b.address) (ap (first_or area) stands.is), arith)
+elsewhere stands = omega (ap chosen stands.chosen, ap (λ b. b.address) (ap (first_or area) stands.is), arith)
 
 -- a call that names another area for the result
 
@@ -121,9 +125,9 @@ second (x ∷ word.Pointer address ∷ words) = address
 second _ = 0
 
 names_another : (c : CallPoint) → c.words ≡ word.Pointer 4096 ∷ word.Pointer 64 ∷ [] → CallsImport 2 (target.Core [] []) seventeen numbers (Some text) (record { blocks = [] }) (choice.At 4096 ∷ []) c → ⊥
-unfolding second address_of
+unfolding second
 names_another c words wrong =
     let passed = wrong.words in
     let both : c.words ≡ word.Pointer passed.represents.block.address ∷ pointers wrong.area = passed.all ∙ ap₂ (λ a b. a ++ b) passed.represents.named passed.named in
     let last : c.words ≡ word.Pointer passed.represents.block.address ∷ word.Pointer wrong.stands.block.address ∷ [] = both ∙ ap (λ area. word.Pointer passed.represents.block.address ∷ pointers area) wrong.stands.is in
-    omega (ap second (sym words ∙ last), ap address_of wrong.stands.chosen, arith)
+    omega (ap second (sym words ∙ last), ap chosen wrong.stands.chosen, arith)

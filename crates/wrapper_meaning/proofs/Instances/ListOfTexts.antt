@@ -1,7 +1,8 @@
 -- A list of two texts, `ann` and an empty one, as the result of an export: its words, its blocks, its requests, and what its post-return
 -- function leaves.
-use Rattle.std.proofs.Common.{◌≡◌, [], ◌∷◌, ◌++◌, Some, None, codes, refl, ap, arith, ◌∙◌}
+use Rattle.std.proofs.Common.{◌≡◌, [], ◌∷◌, ◌++◌, Some, None, codes, length, refl, ap, arith, ◌∙◌}
 use Rattle.wrapper_data.specs.declared.block.Block.{Block}
+use Rattle.wrapper_data.specs.declared.run.CallPoint.{CallPoint}
 use Rattle.wrapper_data.specs.declared.run.Run.{Run}
 use Rattle.wrapper_data.specs.declared.run.Stop.TheVariants as stop
 use Rattle.wrapper_data.specs.declared.word.Word.TheVariants as word
@@ -104,3 +105,23 @@ kept = record { stop = stop.Done; calls = []; requests = []; heap = record { blo
 
 of_the_outer_block_alone : FreesWords (names ∷ ann ∷ []) (record { blocks = area ∷ names ∷ ann ∷ [] }) kept → ⊥
 of_the_outer_block_alone frees = omega (frees.account (λ b. 1), arith)
+
+-- one that frees the area too
+of_the_area_too : FreesWords (names ∷ ann ∷ []) (record { blocks = area ∷ names ∷ ann ∷ [] }) (record after { heap = record { blocks = [] } }) → ⊥
+of_the_area_too frees = omega (frees.account (λ b. 1), arith)
+
+-- one that stops before its end (`done`)
+stuck : FreesWords (names ∷ ann ∷ []) (record { blocks = area ∷ names ∷ ann ∷ [] }) (record after { stop = stop.Stuck 0 }) → ⊥
+stuck frees = let stops : stop.Stuck 0 ≡ stop.Done = frees.done in absurd (cc)
+
+-- one that asks for memory (`requests`)
+asks : FreesWords (names ∷ ann ∷ []) (record { blocks = area ∷ names ∷ ann ∷ [] }) (record after { requests = record { size = 8; align = 4 } ∷ [] }) → ⊥
+asks frees = omega (ap length frees.requests, arith)
+
+-- one that gives a word (`words`)
+gives_a_word : FreesWords (names ∷ ann ∷ []) (record { blocks = area ∷ names ∷ ann ∷ [] }) (record after { words = word.Pointer 512 ∷ [] }) → ⊥
+gives_a_word frees = omega (ap length frees.words, arith)
+
+-- one that calls (`calls`)
+calls : (c : CallPoint) → FreesWords (names ∷ ann ∷ []) (record { blocks = area ∷ names ∷ ann ∷ [] }) (record after { calls = c ∷ [] }) → ⊥
+calls c frees = omega (ap length frees.calls, arith)

@@ -1,5 +1,5 @@
 -- A list of entries of 1,073,741,832 bytes, as an argument of an import: one entry is asked for, and two are too many.
-use Rattle.std.proofs.Common.{length-append, ◌≡◌, ℕ, List, [], ◌∷◌, Option, Some, None, length, slice_get, refl, sym, ap, arith, ◌∙◌}
+use Rattle.std.proofs.Common.{length-append, ◌≡◌, List, [], ◌∷◌, Some, None, length, slice_get, refl, sym, ap, arith, ◌∙◌}
 use mathlib.Core.Logic.{inl, inr}
 use Rattle.wit_layout.specs.Tree.{Scalar}
 use Rattle.wrapper_data.specs.declared.choice.Choice.{Choice}
@@ -9,6 +9,7 @@ use Rattle.wrapper_meaning.specs.Ends.{IsRefusable}
 use Rattle.wrapper_meaning.specs.Shape.{Shapes}
 use Rattle.wrapper_meaning.specs.Shape.Shape.{scalar, list, fixed, fields, cases}
 use Rattle.wrapper_meaning.specs.Shape.Shapes.{none, more}
+use Rattle.wrapper_meaning.proofs.Instances.Forms.{chosen}
 
 -- options of a fixed-length list of 134,217,728 numbers of eight bytes
 abbrev large : Shapes
@@ -39,9 +40,5 @@ one_is_granted : IsRefusable one (choice.At 8 ∷ []) (record { size = 107374183
 one_is_granted (inl met) =
     let none_before : length met.meets.earlier ≡ 0 = omega (ap length met.meets.last, length-append met.meets.earlier (record { size = 1073741832; align = 8 } ∷ []), arith) in
     let refused : Some (choice.At 8) ≡ Some choice.Refuse = ap (slice_get (choice.At 8 ∷ [])) (sym none_before) ∙ met.meets.takes in
-    omega (ap address_of refused, arith)
-  where
-    address_of : Option Choice → ℕ
-    address_of (Some (choice.At address)) = address
-    address_of _ = 0
+    omega (ap chosen refused, arith)
 one_is_granted (inr large) = omega (large.1, arith)

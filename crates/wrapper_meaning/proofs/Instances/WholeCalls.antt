@@ -1,8 +1,8 @@
 -- Whole calls: an export that takes the text `ok` and gives the text `abc`, and an import that gives the text `ok`; and wrappers that drop,
 -- leak or misdirect.
-use Rattle.std.proofs.Common.{◌≡◌, ℕ, true, false, List, [], ◌∷◌, Option, Some, None, codes, refl, sym, ap, arith, ◌∙◌}
+use Rattle.std.proofs.Common.{◌≡◌, ℕ, true, false, List, [], ◌∷◌, Some, None, codes, pos, refl, sym, ap, arith, ◌∙◌}
+use Rattle.std.proofs.lemmas.Bool.{true≢false}
 use Rattle.wrapper_data.specs.declared.block.Block.{Block}
-use Rattle.wrapper_data.specs.declared.choice.Choice.{Choice}
 use Rattle.wrapper_data.specs.declared.choice.Choice.TheVariants as choice
 use Rattle.wrapper_data.specs.declared.run.CallPoint.{CallPoint}
 use Rattle.wrapper_data.specs.declared.run.Run.{Run}
@@ -12,6 +12,7 @@ use Rattle.wrapper_data.specs.declared.run.Target.TheVariants as target
 use Rattle.wrapper_data.specs.declared.value.RustValue.TheVariants as value
 use Rattle.wrapper_data.specs.declared.word.Word.{Word}
 use Rattle.wrapper_data.specs.declared.word.Word.TheVariants as word
+use Rattle.wrapper_data.specs.Heap.{is_heap}
 use Rattle.wrapper_meaning.specs.Calls.{CallsExport, CallsImport}
 use Rattle.wrapper_meaning.specs.Due.{Bill, export_bill}
 use Rattle.wrapper_meaning.specs.Ends.{Ends}
@@ -19,12 +20,11 @@ use Rattle.wrapper_meaning.specs.Gives.{GivesExport, GivesImport}
 use Rattle.wrapper_meaning.specs.Items.{total}
 use Rattle.wrapper_meaning.specs.Shape.Shape.{text}
 use Rattle.wrapper_meaning.specs.Shape.Shapes.{none, more}
-use Rattle.wrapper_meaning.proofs.Instances.Forms.{block_at, pair, text_given, text_taken}
-use Rattle.wrapper_meaning.proofs.Lists.{first_or}
+use Rattle.wrapper_meaning.proofs.Instances.Forms.{address_in, block_at, chosen, name_of, pair, text_given}
+use Rattle.wrapper_meaning.proofs.Instances.OkAnswer.{ok, ok_taken}
+use Rattle.wrapper_meaning.proofs.Lists.{first_or, some_same}
 use Rattle.wrapper_meaning.proofs.PostReturn.{total-append}
-
-abbrev ok : Block
-ok = block_at 8192 (codes "ok")
+use Rattle.wrapper_meaning.proofs.RustValues.{buffer_same}
 
 abbrev abc : Block
 abc = block_at 4096 (codes "abc")
@@ -45,7 +45,7 @@ calls = record {
   aimed = refl;
   words = refl;
   own = ok ∷ [];
-  stands = (value.Buffer 8192 2 true, [], ok ∷ [], [], refl, record { address = 8192; nonzero = omega (arith); range = omega (arith); owned = true; flag = refl; is = refl; buffer = text_taken ok 111 (107 ∷ []) refl (omega (arith)) refl }, (refl, refl), refl);
+  stands = (value.Buffer 8192 2 true, [], ok ∷ [], [], refl, record { address = 8192; nonzero = omega (arith); range = omega (arith); owned = true; flag = refl; is = refl; buffer = ok_taken }, (refl, refl), refl);
   formed = refl;
   account = λ weight. refl;
 }
@@ -92,7 +92,7 @@ import_run blocks = record { stop = stop.Done; calls = []; requests = []; heap =
 imports : GivesImport 2 false (Some text) (codes "ok") [] (record { blocks = [] }) [] (import_run (ok ∷ []))
 imports = record {
   blocks = ok ∷ [];
-  answers = (value.Buffer 8192 2 true, refl, record { address = 8192; nonzero = omega (arith); range = omega (arith); owned = true; flag = refl; is = refl; buffer = text_taken ok 111 (107 ∷ []) refl (omega (arith)) refl });
+  answers = (value.Buffer 8192 2 true, refl, record { address = 8192; nonzero = omega (arith); range = omega (arith); owned = true; flag = refl; is = refl; buffer = ok_taken });
   words = refl;
   formed = refl;
   account = λ weight. refl;
@@ -122,12 +122,7 @@ frees c empty wrong =
 
 -- one that calls another method
 
-name_of : Target → List ℕ
-name_of (target.Core place name) = name
-name_of (target.Method place name) = name
-
 misdirects : CallsExport 2 (target.Method (codes "Guest") (codes "g")) (more text none) (codes "ok", tt) (record { blocks = kept ∷ ok ∷ [] }) (ok ∷ []) call → ⊥
-unfolding name_of
 misdirects wrong = omega (ap (λ t. total (λ x. x) (name_of t)) wrong.aimed, arith)
 
 -- one that frees a text of the words before the call
@@ -148,18 +143,73 @@ drops c heap values wrong =
       arith,
     )
 
+-- and one of an import that calls another core import (`aimed`)
+calls_another : (c : CallPoint) → c.target ≡ target.Core (codes "t:p/i") (codes "g") → CallsImport 2 (target.Core (codes "t:p/i") (codes "f")) none tt None (record { blocks = [] }) [] c → ⊥
+calls_another c calls wrong = omega (ap (λ t. total (λ x. x) (name_of t)) (sym calls ∙ wrong.aimed), arith)
+
+-- one that passes a word more (`words`)
+passes_a_word_more : (c : CallPoint) → c.words ≡ word.I32 (pos 0) ∷ [] → CallsImport 2 method none tt None (record { blocks = [] }) [] c → ⊥
+passes_a_word_more c words wrong =
+    let passed = wrong.words in
+    let one : List Word → ℕ = total (λ x. 1) in
+    omega (ap one words, ap one passed.all, total-append (λ x. 1) passed.arguments passed.pointer, ap one passed.represents.0, ap one passed.named, arith)
+
+-- an import's wrapper that passes a value, and an export's that passes a word (`values`, `words`)
+
+passes_a_value : (c : CallPoint) → c.values ≡ value.Unit ∷ [] → CallsImport 2 method none tt None (record { blocks = [] }) [] c → ⊥
+passes_a_value c values wrong = omega (ap (total (λ v. 1)) values, ap (total (λ v. 1)) wrong.values, arith)
+
+passes_a_word : (c : CallPoint) → c.words ≡ word.I32 (pos 0) ∷ [] → CallsExport 2 method none tt (record { blocks = [] }) [] c → ⊥
+passes_a_word c words wrong = omega (ap (total (λ x. 1)) words, ap (total (λ x. 1)) wrong.words, arith)
+
+-- one that passes another text to the method, and one that gives another (`stands`, `answers`)
+
+passes_another : (c : CallPoint) → c.values ≡ value.Buffer 8192 1 true ∷ [] → CallsExport 2 method (more text none) (codes "ok", tt) (record { blocks = kept ∷ ok ∷ [] }) (ok ∷ []) c → ⊥
+passes_another c values wrong =
+    let (r, others, first, rest, is, stands, end, all) = wrong.stands in
+    let same : value.Buffer 8192 1 true ≡ r = ap (first_or r) (sym values ∙ is) in
+    omega ((buffer_same _ _ _ _ _ _ (same ∙ stands.is)).1, arith)
+
+gives_another : GivesImport 2 false (Some text) (codes "ok") [] (record { blocks = [] }) [] (record (import_run (ok ∷ [])) { value = Some (value.Buffer 8192 1 true) }) → ⊥
+gives_another wrong =
+    let (r, is, stands) = wrong.answers in
+    omega ((buffer_same _ _ _ _ _ _ (some_same _ r is ∙ stands.is)).1, arith)
+
+-- one that calls in a heap that is none, with a block twice (`formed`)
+calls_in_no_heap : (c : CallPoint) → c.heap ≡ record { blocks = kept ∷ kept ∷ [] } → CallsExport 2 method none tt (record { blocks = kept ∷ kept ∷ [] }) [] c → ⊥
+calls_in_no_heap c twice wrong = true≢false (sym wrong.formed ∙ ap is_heap twice)
+
+-- one that ends so (`formed`)
+ends_in_no_heap : GivesImport 2 false (Some text) (codes "ok") [] (record { blocks = [] }) [] (import_run (ok ∷ ok ∷ [])) → ⊥
+ends_in_no_heap wrong = true≢false (sym wrong.formed)
+
+-- an import's wrapper that gives a word, and an export's that gives a value (`words`, `value`)
+
+gives_a_word : GivesImport 2 false (Some text) (codes "ok") [] (record { blocks = [] }) [] (record (import_run (ok ∷ [])) { words = word.Pointer 8192 ∷ [] }) → ⊥
+gives_a_word wrong = omega (ap (total (λ x. 1)) wrong.words, arith)
+
+gives_a_value : GivesExport 2 bill (choice.At 512 ∷ []) (Some text) (codes "abc") (record { blocks = kept ∷ abc ∷ [] }) (abc ∷ []) (record run { value = Some value.Unit }) → ⊥
+gives_a_value wrong = let some : Some value.Unit ≡ None = wrong.value in absurd (cc)
+
+-- one that copies the text of the result and forgets the copy (`account`)
+leaks_a_copy : GivesExport 2 bill (choice.At 512 ∷ []) (Some text) (codes "abc") (record { blocks = kept ∷ abc ∷ [] }) (abc ∷ []) (record run { heap = record { blocks = kept ∷ abc ∷ area ∷ block_at 1024 (codes "abc") ∷ [] } }) → ⊥
+leaks_a_copy wrong =
+    let held = wrong.represents.stands.holds.buffer.placed in
+    let one : List Block → ℕ = total (λ b. 1) in
+    omega (
+      wrong.account (λ b. 1),
+      total-append (λ b. 1) wrong.blocks wrong.area,
+      ap one held.all,
+      total-append (λ b. 1) held.own held.inner,
+      ap one held.held.itself,
+      ap one held.holds.1,
+      ap one wrong.represents.is_area,
+      arith,
+    )
+
 -- one that returns a block that is not where its area was put
 
-address_in : Word → ℕ
-address_in (word.Pointer address) = address
-address_in _ = 0
-
-chosen : Option Choice → ℕ
-chosen (Some (choice.At address)) = address
-chosen _ = 0
-
 leaks_its_area : GivesExport 2 bill (choice.At 1024 ∷ []) (Some text) (codes "abc") (record { blocks = kept ∷ abc ∷ [] }) (abc ∷ []) run → ⊥
-unfolding address_in chosen
 leaks_its_area wrong =
     let same = ap (first_or wrong.stands.block) (sym wrong.stands.is ∙ wrong.represents.is_area) in
     omega (ap (λ ws. address_in (first_or (word.Pointer 0) ws)) wrong.represents.named, ap (λ b. b.address) same, ap chosen wrong.stands.chosen, arith)
