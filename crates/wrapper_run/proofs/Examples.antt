@@ -1,8 +1,9 @@
 -- The definitions hold of worked rows: a text of two bytes comes back by an area, and is lent; a record owns what stands in it, is
 -- taken apart by its struct, and what it owned is freed once; a block gives two words; an area is no value; small numbers are read and
 -- written.
-use Rattle.std.proofs.Common.{◌≡◌, ℕ, Bool, true, false, List, [], ◌∷◌, map, None, Some, refl, ap, ◌∙◌, arith, rules}
+use Rattle.std.proofs.Common.{◌≡◌, ℕ, Bool, true, false, List, [], ◌∷◌, map, None, Some, refl, sym, ap, ◌∙◌, arith, rules}
 use Rattle.std.specs.Prelude.{codes, negsuc, option_and_then, pos}
+use Rattle.std.specs.Option.{option_map}
 use Rattle.wit_model.specs.Bytes.{Bytes}
 use Rattle.wit_model.specs.declared.types.WitType.TheVariants as wit
 use Rattle.rust_tree.specs.declared.expr.Expr.{Expr, the_lemmas as expr_lemmas}
@@ -15,15 +16,16 @@ use Rattle.rust_tree.specs.declared.pattern.Pattern.{Pattern}
 use Rattle.rust_tree.specs.declared.pattern.Pattern.TheVariants as pattern
 use Rattle.rust_tree.specs.declared.stmt.Stmt.TheVariants as stmt
 use Rattle.rust_tree.specs.declared.type_expr.Primitive.TheVariants as prim
-use Rattle.rust_tree.specs.declared.type_expr.TypeExpr.{TypeExpr, the_lemmas as type_lemmas}
+use Rattle.rust_tree.specs.declared.type_expr.TypeExpr.{TypeExpr, TypeExpr-F, out-TypeExpr, the_lemmas as type_lemmas}
 use Rattle.rust_tree.specs.declared.type_expr.TypeExpr.TheVariants as type
 use Rattle.rust_tree.specs.declared.type_item.AliasItem.{AliasItem}
 use Rattle.rust_tree.specs.declared.type_item.StructField.{StructField}
 use Rattle.rust_tree.specs.declared.type_item.StructItem.{StructItem}
 use Rattle.rust_tree.specs.declared.type_item.TypeItem.TheVariants.{Alias, Struct}
 use Rattle.wrapper_data.specs.declared.block.Block.{Block}
-use Rattle.wrapper_data.specs.declared.value.RustValue.{RustValue, the_lemmas}
+use Rattle.wrapper_data.specs.declared.value.RustValue.{RustValue, RustValue-F, fold-roll-RustValue, the_lemmas}
 use Rattle.wrapper_data.specs.declared.value.RustValue.TheVariants as value
+use Rattle.wrapper_data.specs.declared.value.RustValue.TheVariants.{rolls-Case}
 use Rattle.wrapper_data.specs.declared.answer.Answer.TheVariants as answer
 use Rattle.wrapper_data.specs.declared.run.Target.TheVariants as target
 use Rattle.wrapper_data.specs.declared.word.Word.TheVariants as word
@@ -44,7 +46,7 @@ use Rattle.wrapper_run.specs.Represents.{LiesAt}
 use Rattle.wrapper_run.specs.Results.{results, run_inner}
 use Rattle.wrapper_run.specs.Run.{begin, call, eval, run_stmt}
 use Rattle.wrapper_run.specs.Setting.{Setting, stuck}
-use Rattle.wrapper_run.specs.Typed.{answer_in, unaliased}
+use Rattle.wrapper_run.specs.Typed.{Typed, answer_in, typed, typed_case, typed_level, unaliased}
 use Rattle.wrapper_run.specs.Value.{number}
 use Rattle.wrapper_run.specs.Whole.{whole_of}
 use Rattle.wrapper_run.proofs.OwningLemmas.{owned-block, owned-scalar}
@@ -239,6 +241,40 @@ number_option = type.Optional (type.Primitive prim.I32)
 option_none : answer_in [] number_option (val.Value (value.Case 0 None)) ≡ Some (Some (value.Case 0 None))
 unfolding answer_of
 option_none = search (rules, the_lemmas, type_lemmas)
+
+-- and so is the case 1 with a payload of its type
+
+some_is_typed : (r : RustValue) → typed [] (value.Case 1 (Some r)) number_option ≡ option_map (λ x. value.Case 1 (Some x)) (typed [] r (type.Primitive prim.I32))
+some_is_typed r =
+    ap (λ v. typed [] v number_option) (sym (rolls-Case 1 (Some r)))
+    ∙ ap (λ (f : Typed). f number_option) (fold-roll-RustValue Typed (λ l ty. typed_level [] l (unaliased [] ty)) (RustValue-F.Case 1 (Some r)))
+    ∙ ap (typed_case 1 (Some (typed [] r))) number_opened
+  where
+    number_opened : out-TypeExpr number_option ≡ TypeExpr-F.Optional (type.Primitive prim.I32)
+    number_opened = search (rules, type_lemmas)
+
+seven_is_typed : typed [] (value.Num wit.S32 (pos 7)) (type.Primitive prim.I32) ≡ Some (value.Num wit.S32 (pos 7))
+unfolding answer_of
+seven_is_typed = search (rules, the_lemmas, type_lemmas)
+
+option_some : typed [] (value.Case 1 (Some (value.Num wit.S32 (pos 7)))) number_option ≡ Some (value.Case 1 (Some (value.Num wit.S32 (pos 7))))
+option_some = some_is_typed (value.Num wit.S32 (pos 7)) ∙ ap (option_map (λ x. value.Case 1 (Some x))) seven_is_typed
+
+-- one with a payload of another type, whether another number or a bool, is none
+
+unsigned_is_none : typed [] (value.Num wit.U32 (pos 7)) (type.Primitive prim.I32) ≡ None
+unfolding answer_of
+unsigned_is_none = search (rules, the_lemmas, type_lemmas)
+
+option_of_another : typed [] (value.Case 1 (Some (value.Num wit.U32 (pos 7)))) number_option ≡ None
+option_of_another = some_is_typed (value.Num wit.U32 (pos 7)) ∙ ap (option_map (λ x. value.Case 1 (Some x))) unsigned_is_none
+
+bool_is_none : typed [] (value.Bool true) (type.Primitive prim.I32) ≡ None
+unfolding answer_of
+bool_is_none = search (rules, the_lemmas, type_lemmas)
+
+option_of_bool : typed [] (value.Case 1 (Some (value.Bool true))) number_option ≡ None
+option_of_bool = some_is_typed (value.Bool true) ∙ ap (option_map (λ x. value.Case 1 (Some x))) bool_is_none
 
 -- the case 1 without one, and another case, are none
 
