@@ -2,6 +2,12 @@
 pub mod PlainImport
 pub mod PlainExport
 pub mod Refused
+pub mod MissingWrappers
+pub mod Misdirected
+pub mod WrongEntries
+pub mod WrongSignatures
+pub mod WrongPostReturns
+pub mod SharedAreas
 pub mod OwnedArgument
 pub mod WidePointers
 pub mod SixteenWords

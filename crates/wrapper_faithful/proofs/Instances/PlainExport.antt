@@ -50,31 +50,31 @@ use Rattle.wrapper_faithful.proofs.SimpleSides.{all_calls}
 
 -- 1. The wrapper, its method and its entry
 
-abbrev body : CallBlock
+abbrev pub body : CallBlock
 body = record { result = None; stmts = []; method = codes "f"; arguments = [] }
 
-abbrev wrapper : ExportFn
+abbrev pub wrapper : ExportFn
 wrapper = record { base = codes "f"; bound = codes "Guest"; params = []; result = None; call = body; rest = record { stmts = []; tail = None } }
 
-abbrev method : TraitFn
+abbrev pub method : TraitFn
 method = record { docs = []; name = codes "f"; params = []; result = type.Unit }
 
-abbrev guest : TraitItem
+abbrev pub guest : TraitItem
 guest = record { name = codes "Guest"; functions = method ∷ [] }
 
-abbrev entry : ExportEntry
+abbrev pub entry : ExportEntry
 entry = record { kind = Wrapper; export_name = codes "f"; base = codes "f"; params = []; result = None }
 
 abbrev entries : ModuleMacro
 entries = record { name = codes "w"; entries = entry ∷ [] }
 
-abbrev tree : Tree
+abbrev pub tree : Tree
 tree = record { options = []; items = item.Export wrapper ∷ item.Trait guest ∷ item.ModuleMacro entries ∷ []; places = record { interface = None; nth = 0 } ∷ [] }
 
-abbrev names : ExportNames
+abbrev pub names : ExportNames
 names = record { method = target.Method (codes "Guest") (codes "f"); entry = codes "f"; post_return = codes "cabi_post_f" }
 
-abbrev nothing : Passed
+abbrev pub nothing : Passed
 nothing = record { params = none; result = None }
 
 -- 2. Its run: one call, and then what is done with the answer
@@ -82,7 +82,7 @@ nothing = record { params = none; result = None }
 abbrev setting : Answer → Form → Setting
 setting a form = setting_of tree 1 a form
 
-abbrev point : Heap → CallPoint
+abbrev pub point : Heap → CallPoint
 point heap = record { target = names.method; words = []; values = []; heap = heap }
 
 abbrev called_state : Heap → Choices → State
@@ -117,7 +117,7 @@ done_end w left heap choices says =
     ∙ ap (λ addresses. and_then (free_all w addresses (left_state left heap choices)) (λ _. run_to_words w None wrapper.rest)) owned-unit
     ∙ gives_plain w (core_answer None (val.Value value.Unit)) [] (left_state left heap choices) unit_words tt
 
-abbrev run_of : Answer → Form → Heap → Choices → Run
+abbrev pub run_of : Answer → Form → Heap → Choices → Run
 run_of a form heap choices = run_export_item (setting a form) wrapper [] heap choices
 
 run_is : (a : Answer) (form : Form) (heap : Heap) (choices : Choices) → run_of a form heap choices ≡ ended_export (ends_with (setting a form) (called_state heap choices))
@@ -154,7 +154,7 @@ carries x = record {
   account = λ weight. ap (λ (bs : List Block). total weight (x.heap.blocks ++ bs)) x.caller.takes.1;
 }
 
-made : (resources : Resources) (x : RunOfExport nothing tree 0) → calls_of resources nothing x.run ≡ point x.heap ∷ []
+pub made : (resources : Resources) (x : RunOfExport nothing tree 0) → calls_of resources nothing x.run ≡ point x.heap ∷ []
 made resources x = all_calls resources [] None x.run ∙ ap (λ (r : Run). r.calls) (same_run x) ∙ run_calls x.answer x.form x.heap x.choices
 
 run_left : (x : RunOfExport nothing tree 0) (h : HonestImplementation 2 None tt x.answer) → x.run ≡ done_run h.heap x.heap

@@ -50,22 +50,22 @@ use Rattle.wrapper_faithful.proofs.SimpleSides.{all_calls}
 
 -- 1. The wrapper
 
-abbrev decl : ImportDecl
+abbrev pub decl : ImportDecl
 decl = record { «module» = codes "$root"; link_name = codes "f"; name = codes "wit_import0"; params = []; result = None }
 
-abbrev path : Path
+abbrev pub path : Path
 path = record { lead = false; supers = 0; names = codes "wit_import0" ∷ [] }
 
-abbrev wrapper : FnItem
+abbrev pub wrapper : FnItem
 wrapper = record { docs = []; name = codes "f"; params = []; result = type.Unit; body = record { stmts = stmt.Import decl ∷ stmt.Expr (expr.Call path []) ∷ []; tail = None } }
 
-abbrev tree : Tree
+abbrev pub tree : Tree
 tree = record { options = []; items = item.Import wrapper ∷ []; places = record { interface = None; nth = 0 } ∷ [] }
 
-abbrev aim : Target
+abbrev pub aim : Target
 aim = target.Core (codes "$root") (codes "f")
 
-abbrev nothing : Passed
+abbrev pub nothing : Passed
 nothing = record { params = none; result = None }
 
 -- 2. Its run: one call, and then what is done with the answer
@@ -73,7 +73,7 @@ nothing = record { params = none; result = None }
 abbrev setting : Answer → Form → Setting
 setting a form = setting_of tree 1 a form
 
-abbrev point : Heap → CallPoint
+abbrev pub point : Heap → CallPoint
 point heap = record { target = aim; words = []; values = []; heap = heap }
 
 abbrev declared_state : Heap → Choices → State
@@ -108,7 +108,7 @@ done_behind w s alone says =
     ∙ ap (λ addresses. and_then (and_then (and_then (free_all w addresses s) (λ _. run_stmts w [])) (λ _. run_tail w None)) (answer_and_leave w type.Unit)) owned-unit
     ∙ answers_plain w type.Unit (val.Value value.Unit) None s answered-unit (subst ArePlain (sym alone) tt)
 
-abbrev run_of : Answer → Form → Heap → Choices → Run
+abbrev pub run_of : Answer → Form → Heap → Choices → Run
 run_of a form heap choices = run_item (setting a form) wrapper [] heap choices
 
 run_is : (a : Answer) (form : Form) (heap : Heap) (choices : Choices) → run_of a form heap choices ≡ ended (behind (setting a form) (called_state heap choices))
@@ -147,7 +147,7 @@ carries heap x is = record {
   kept = λ weight. ap (total weight) (sym (append-nil heap.blocks) ∙ sym (append-nil (heap.blocks ++ [])));
 }
 
-made : (resources : Resources) (x : RunOfImport nothing tree 0) → calls_of resources nothing x.run ≡ point x.given.heap ∷ []
+pub made : (resources : Resources) (x : RunOfImport nothing tree 0) → calls_of resources nothing x.run ≡ point x.given.heap ∷ []
 made resources x = all_calls resources [] None x.run ∙ ap (λ (r : Run). r.calls) (same_run x) ∙ run_calls x.answer x.form x.given.heap x.choices
 
 -- the one honest answer

@@ -37,10 +37,11 @@ use Rattle.wrapper_faithful.specs.Import.{IsFaithful, RunOfImport}
 use Rattle.wrapper_faithful.specs.Passed.{Passed, width}
 use Rattle.wrapper_faithful.specs.Resources.{Resources, calls_of}
 use Rattle.wrapper_faithful.specs.Returned.{IsEntered}
+use Rattle.wrapper_faithful.proofs.Instances.PlainImport.{nothing}
 
 -- 1. An export that gives a text, and takes its area from a block that it makes and forgets: it is refused memory, where only an area is due
 
-abbrev texts : Passed
+abbrev pub texts : Passed
 texts = record { params = none; result = Some text }
 
 abbrev area : Request
@@ -119,9 +120,6 @@ asks = record {
 
 abbrev asking_tree : Tree
 asking_tree = record { options = []; items = item.Import asks ∷ []; places = record { interface = None; nth = 0 } ∷ [] }
-
-abbrev nothing : Passed
-nothing = record { params = none; result = None }
 
 abbrev asking_run : Run
 asking_run = run_item (setting_of asking_tree 1 (answer.Words None [] []) form.Debug) asks [] (record { blocks = [] }) (record { list = [] })

@@ -25,7 +25,8 @@ use Rattle.wrapper_meaning.specs.Represents.{param_words}
 use Rattle.wrapper_meaning.specs.Shape.Shape.{fixed, scalar, text}
 use Rattle.wrapper_meaning.specs.Shape.Shapes.{none, more}
 use Rattle.wrapper_meaning.specs.StandsFor.{EachStands, Stands}
-use Rattle.wrapper_meaning.proofs.Instances.Forms.{ascii, block_at, text_taken}
+use Rattle.wrapper_meaning.proofs.Instances.Forms.{ascii}
+use Rattle.wrapper_meaning.proofs.Instances.OkAnswer.{area_of, lies_inside, names_ok, ok, ok_begins, written}
 use Rattle.wrapper_faithful.specs.Import.{ImportGiven}
 use Rattle.wrapper_faithful.specs.Passed.{Passed, width}
 
@@ -82,11 +83,8 @@ given = record {
 abbrev aim : Target
 aim = target.Core (codes "$root") (codes "f")
 
-abbrev area : List (ℕ × ℕ) → Block
-area cells = record { address = 4096; size = 8; cells = cells }
-
 abbrev call_with : List Word → CallPoint
-call_with words = record { target = aim; words = words; values = []; heap = record { blocks = area [] ∷ [] } }
+call_with words = record { target = aim; words = words; values = []; heap = record { blocks = area_of 8 [] ∷ [] } }
 
 abbrev call : CallPoint
 call = call_with (map word_of numbers ++ word.Pointer 4096 ∷ [])
@@ -95,13 +93,13 @@ calls : CallsImport width aim sixteen.params (numbers, tt) sixteen.result empty 
 unfolding repeated
 calls = record {
   aimed = refl;
-  area = area [] ∷ [];
-  stands = record { block = area []; is = refl; chosen = refl; aligned = refl; exact = refl };
+  area = area_of 8 [] ∷ [];
+  stands = record { block = area_of 8 []; is = refl; chosen = refl; aligned = refl; exact = refl };
   words = record {
     arguments = map word_of numbers;
     pointer = word.Pointer 4096 ∷ [];
     all = refl;
-    represents = (map word_of numbers, [], [], [], each_says (area [] ∷ []) numbers, (refl, refl), refl, refl);
+    represents = (map word_of numbers, [], [], [], each_says (area_of 8 [] ∷ []) numbers, (refl, refl), refl, refl);
     named = refl;
   };
   values = refl;
@@ -112,44 +110,27 @@ calls = record {
 
 -- an honest peer: it writes the address of `ok` and its length where the seventeenth word says
 
-abbrev ok : Block
-ok = block_at 8192 (codes "ok")
-
-abbrev written : List (ℕ × ℕ)
-written = (4096, 0) ∷ (4097, 32) ∷ (4098, 0) ∷ (4099, 0) ∷ (4100, 2) ∷ (4101, 0) ∷ (4102, 0) ∷ (4103, 0) ∷ []
-
-abbrev after : Block
-after = area ((0, 0) ∷ (1, 32) ∷ (2, 0) ∷ (3, 0) ∷ (4, 2) ∷ (5, 0) ∷ (6, 0) ∷ (7, 0) ∷ [])
-
-peer : HonestPeer width sixteen.result (codes "ok") (answer.Words None written (ok ∷ [])) call
+peer : HonestPeer width sixteen.result (codes "ok") (answer.Words None (written names_ok) (ok ∷ [])) call
 unfolding with_block written_block
 peer = record {
   good = ascii (codes "ok") refl;
   result = None;
-  writes = written;
+  writes = written names_ok;
   new = ok ∷ [];
   answers = refl;
   represents = record {
     words = word.Pointer 4096 ∷ [];
     blocks = ok ∷ [];
-    area = after ∷ [];
-    takes = record {
-      block = after;
-      is_area = refl;
-      named = refl;
-      stands = record { aligned = refl; room = omega (arith); holds = record { address = 8192; pointer = (omega (arith), refl); counted = (omega (arith), refl); buffer = text_taken ok 111 (107 ∷ []) refl (omega (arith)) refl } };
-    };
+    area = area_of 8 names_ok ∷ [];
+    takes = record { block = area_of 8 names_ok; is_area = refl; named = refl; stands = ok_begins 8 (omega (arith)) };
     placed = record {
-      block = after;
+      block = area_of 8 names_ok;
       is_area = refl;
       before = map word_of numbers;
       last = refl;
       silent = refl;
       live = (0, omega (arith), refl);
-      inside = (
-        (omega (arith), omega (arith)),
-        ((omega (arith), omega (arith)), ((omega (arith), omega (arith)), ((omega (arith), omega (arith)), ((omega (arith), omega (arith)), ((omega (arith), omega (arith)), ((omega (arith), omega (arith)), ((omega (arith), omega (arith)), tt))))))),
-      );
+      inside = lies_inside 8 names_ok (omega (arith));
     };
     fresh = refl;
     brings = λ weight. refl;
@@ -180,4 +161,4 @@ refuses_sixteen wrong =
     )
   where
     wrong_blocks : List Block
-    wrong_blocks = area [] ∷ []
+    wrong_blocks = area_of 8 [] ∷ []

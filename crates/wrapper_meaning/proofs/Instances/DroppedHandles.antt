@@ -52,6 +52,21 @@ undropped : ExportDrops drop_of (λ r. true) (more (handle false 0) none) (5, tt
 undropped kept =
     omega (kept.lent (λ d. 1), total-map {B = Target × List Word} (λ c. (c.target, c.words)) kept.later, ap (total (λ c. 1)) kept.order, total-append (λ c. 1) kept.earlier (call ∷ kept.later), arith)
 
+-- nor may an export drop a handle that its result passes on (`each`, `lent`)
+drops_a_given_handle : ExportDrops drop_of (λ r. true) none tt call (call ∷ drops_handle 7 ∷ []) → ⊥
+drops_a_given_handle wrong =
+    omega (
+      wrong.lost (λ h. 1),
+      wrong.each (λ d. 1),
+      total-map {B = Target × List Word} (λ c. (c.target, c.words)) wrong.earlier,
+      total-map {B = Target × List Word} (λ h. (drop_of h.0, handle_word h.1 ∷ [])) wrong.dropped,
+      wrong.lent (λ d. 1),
+      total-map {B = Target × List Word} (λ c. (c.target, c.words)) wrong.later,
+      ap (total (λ c. 1)) wrong.order,
+      total-append (λ c. 1) wrong.earlier (call ∷ wrong.later),
+      arith,
+    )
+
 -- the calls that drop handles of a function's resource are no main calls
 of_the_call : main_calls drop_of (own_resources (more (handle false 0) none) None) (call ∷ drops_handle 5 ∷ []) ≡ call ∷ []
 unfolding drop_of
