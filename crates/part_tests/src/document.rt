@@ -107,6 +107,11 @@ const PARTS: &[(&str, &str, &str)] = &[
         "exports: List { items: [(Type(TypeId(0)), Named(TypeId(0)))] }",
     ),
     (
+        r#""exports":[]}],"#,
+        r#""exports":[{"type":null,"type":1}]}],"#,
+        "exports: List { items: [(Type(TypeId(1)), Named(TypeId(1)))] }",
+    ),
+    (
         r#""world":0"#,
         r#""world":0,"options":{}"#,
         "options: DocumentOptions { generate_unused_types: false }",
@@ -125,6 +130,7 @@ const WRONG: &[(&str, &str)] = &[
     (r#""types":[]"#, r#""types":[{}]"#),
     (r#""exports":[]"#, r#""exports":[{"type":0,"more":0}]"#),
     (r#""world":0"#, r#""world":0,"options":null"#),
+    (r#""world":0"#, r#""world":1e999,"world":0"#),
 ];
 
 fn text_of(alloc: Global, text: &str) -> Result<String, Fail> {
@@ -175,5 +181,22 @@ fn refuses_what_is_no_document(rt: HostRuntime) -> Result<(), Fail> {
         assert!(rt; is_refused(rt.alloc(), document.as_bytes()), "{new}");
     }
     assert!(rt; is_refused(rt.alloc(), b"\xff"));
+    Ok(())
+}
+
+#[test]
+fn hides_what_a_later_equal_key_hides(rt: HostRuntime) -> Result<(), Fail> {
+    for (depth, refused) in [(126, false), (127, true)] {
+        let (open, close) = (
+            "[".repeat(rt.alloc(), depth)?,
+            "]".repeat(rt.alloc(), depth)?,
+        );
+        let world = format!(in rt.alloc(); r#""world":{open}{close},"world":0"#)?;
+        let document = REFERENCE.replacen(rt.alloc(), r#""world":0"#, world.as_str(), 1)?;
+        assert!(rt;
+            is_refused(rt.alloc(), document.as_bytes()) == refused,
+            "{depth}"
+        );
+    }
     Ok(())
 }

@@ -1,3 +1,5 @@
+pub mod Data
+pub mod InRange
 pub mod Keys
 pub mod Parts
 pub mod Texts

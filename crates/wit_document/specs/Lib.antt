@@ -1,4 +1,5 @@
 pub mod Reads
+pub mod View
 pub mod Members
 pub mod Name
 pub mod Types

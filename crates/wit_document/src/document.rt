@@ -5,7 +5,8 @@ use crate::fault::DocumentFault;
 use crate::members::{empty_list, given, only, required};
 use crate::options::DocumentOptions;
 use crate::reading::Readable;
-use serde_json::Value;
+use crate::value::parse;
+use json::{Scratch, Value};
 use std::alloc::Global;
 use wit_model::{Resolve, WorldId};
 
@@ -27,10 +28,13 @@ pub struct Document {
 pub fn document_of(alloc: Global, bytes: &[u8]) -> Result<Document, DocumentFault>
     ensures { Reads result (document_in bytes.now) }
 {
-    match Value::from_slice(alloc, bytes) {
+    let Ok(text) = std::str::from_utf8(bytes) else {
+        return Err(DocumentFault::BadJson);
+    };
+    let mut scratch = Scratch::new(alloc);
+    match parse(alloc, text, &mut scratch) {
         Ok(value) => Document::read(alloc, &value),
-        Err(error) if error.is_memory() => Err(DocumentFault::OutOfMemory),
-        Err(_) => Err(DocumentFault::BadJson),
+        Err(fault) => Err(fault),
     }
 }
 
@@ -38,7 +42,7 @@ pub fn document_of(alloc: Global, bytes: &[u8]) -> Result<Document, DocumentFaul
 impl Readable for Document {
     ghost read_of = { document };
 
-    fn read(alloc: Global, value: &Value) -> Result<Document, DocumentFault> {
+    fn read(alloc: Global, value: &Value<'_>) -> Result<Document, DocumentFault> {
         only(value, &["resolve", "world", "options"])?;
         let resolve = required(alloc, value, "resolve")?;
         let world = required(alloc, value, "world")?;
@@ -55,7 +59,7 @@ impl Readable for Document {
 impl Readable for Resolve {
     ghost read_of = { resolve_of };
 
-    fn read(alloc: Global, value: &Value) -> Result<Resolve, DocumentFault> {
+    fn read(alloc: Global, value: &Value<'_>) -> Result<Resolve, DocumentFault> {
         only(value, &["worlds", "packages", "interfaces", "types"])?;
         Ok(Resolve {
             worlds: required(alloc, value, "worlds")?,

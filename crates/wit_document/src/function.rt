@@ -1,13 +1,14 @@
 ghost use Rattle.std.specs.Prelude.{◌≡◌};
 ghost use Rattle.wit_document.specs.Function.{free_kind, bound_kind, bound_kind_of, kind_of, param_of, function_of};
-ghost use Rattle.serde_json.specs.View.{view};
+ghost use Rattle.wit_document.specs.View.{view};
 ghost use Rattle.wit_document.specs.Reads.{Reads};
 
 use crate::fault::DocumentFault;
 use crate::members::{only, optional, required, sole_member};
 use crate::name::docs_in;
 use crate::reading::Readable;
-use serde_json::Value;
+use crate::value::as_str;
+use json::Value;
 use std::alloc::Global;
 use wit_model::{Function, FunctionKind, Param, TypeId};
 
@@ -15,8 +16,8 @@ use wit_model::{Function, FunctionKind, Param, TypeId};
 impl Readable for FunctionKind {
     ghost read_of = { kind_of };
 
-    fn read(alloc: Global, value: &Value) -> Result<FunctionKind, DocumentFault> {
-        match value.as_str() {
+    fn read(alloc: Global, value: &Value<'_>) -> Result<FunctionKind, DocumentFault> {
+        match as_str(value) {
             Some(word) => free_kind(word).ok_or(DocumentFault::BadJson),
             None => read_bound_kind(alloc, value),
         }
@@ -35,7 +36,7 @@ fn free_kind(word: &str) -> Option<FunctionKind>
 }
 
 #[tactic(auto, unfolding(crate::specs::Function::bound_kind_of))]
-fn read_bound_kind(alloc: Global, value: &Value) -> Result<FunctionKind, DocumentFault>
+fn read_bound_kind(alloc: Global, value: &Value<'_>) -> Result<FunctionKind, DocumentFault>
     ensures { Reads result (bound_kind_of (view value.now)) }
 {
     let Some((word, member)) = sole_member(value) else {
@@ -63,7 +64,7 @@ fn bound_kind(word: &str, id: TypeId) -> Option<FunctionKind>
 impl Readable for Param {
     ghost read_of = { param_of };
 
-    fn read(alloc: Global, value: &Value) -> Result<Param, DocumentFault> {
+    fn read(alloc: Global, value: &Value<'_>) -> Result<Param, DocumentFault> {
         only(value, &["name", "ty"])?;
         Ok(Param {
             name: required(alloc, value, "name")?,
@@ -76,7 +77,7 @@ impl Readable for Param {
 impl Readable for Function {
     ghost read_of = { function_of };
 
-    fn read(alloc: Global, value: &Value) -> Result<Function, DocumentFault> {
+    fn read(alloc: Global, value: &Value<'_>) -> Result<Function, DocumentFault> {
         only(value, &["name", "kind", "params", "result", "docs"])?;
         Ok(Function {
             name: required(alloc, value, "name")?,

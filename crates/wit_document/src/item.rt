@@ -1,19 +1,19 @@
 //! The imports and exports of a world.
 
 ghost use Rattle.std.specs.Prelude.{◌≡◌, IfOk};
-ghost use Rattle.serde_json.specs.View.{view};
+ghost use Rattle.wit_document.specs.View.{view};
 ghost use Rattle.wit_document.specs.Reads.{Reads};
 ghost use Rattle.wit_document.specs.Items.{item_at, item_of, own_key, entry_of};
 
 use crate::fault::DocumentFault;
 use crate::members::sole_member;
 use crate::reading::Readable;
-use serde_json::Value;
+use json::Value;
 use std::alloc::Global;
 use wit_model::{Function, OutOfMemory, TypeId, WorldItem, WorldKey};
 
 #[tactic(auto, unfolding(crate::specs::Items::item_at))]
-fn read_item_at(alloc: Global, word: &str, value: &Value) -> Result<WorldItem, DocumentFault>
+fn read_item_at(alloc: Global, word: &str, value: &Value<'_>) -> Result<WorldItem, DocumentFault>
     ensures { Reads result (item_at word.now (view value.now)) }
 {
     match word {
@@ -27,7 +27,7 @@ fn read_item_at(alloc: Global, word: &str, value: &Value) -> Result<WorldItem, D
 impl Readable for WorldItem {
     ghost read_of = { item_of };
 
-    fn read(alloc: Global, value: &Value) -> Result<WorldItem, DocumentFault> {
+    fn read(alloc: Global, value: &Value<'_>) -> Result<WorldItem, DocumentFault> {
         match sole_member(value) {
             Some((word, member)) => read_item_at(alloc, word, member),
             None => Err(DocumentFault::BadJson),
@@ -50,7 +50,7 @@ fn own_key(alloc: Global, item: &WorldItem) -> Result<WorldKey, OutOfMemory>
 impl Readable for (WorldKey, WorldItem) {
     ghost read_of = { entry_of };
 
-    fn read(alloc: Global, value: &Value) -> Result<(WorldKey, WorldItem), DocumentFault> {
+    fn read(alloc: Global, value: &Value<'_>) -> Result<(WorldKey, WorldItem), DocumentFault> {
         let item = WorldItem::read(alloc, value)?;
         let key = own_key(alloc, &item)?;
         Ok((key, item))

@@ -1,6 +1,6 @@
 //! The kinds of types.
 
-ghost use Rattle.serde_json.specs.View.{view};
+ghost use Rattle.wit_document.specs.View.{view};
 ghost use Rattle.wit_document.specs.Reads.{Reads};
 ghost use Rattle.wit_document.specs.Kinds.{alias_of, unknown_of, kind_at, type_kind_of};
 
@@ -16,21 +16,21 @@ use crate::members::{null, sole_member};
 use crate::reading::Readable;
 use flags::{read_enum, read_flags};
 use handle::{read_borrow, read_own, read_resource};
+use json::Value;
 use list::{read_fixed, read_list, read_map};
 use record::{read_record, read_tuple};
-use serde_json::Value;
 use std::alloc::Global;
 use stream::{read_future, read_stream};
 use variant::{read_option, read_result, read_variant};
 use wit_model::{TypeDefKind, WitType};
 
-fn read_alias(alloc: Global, value: &Value) -> Result<TypeDefKind, DocumentFault>
+fn read_alias(alloc: Global, value: &Value<'_>) -> Result<TypeDefKind, DocumentFault>
     ensures { Reads result (alias_of (view value.now)) }
 {
     Ok(TypeDefKind::Alias(WitType::read(alloc, value)?))
 }
 
-fn read_unknown(value: &Value) -> Result<TypeDefKind, DocumentFault>
+fn read_unknown(value: &Value<'_>) -> Result<TypeDefKind, DocumentFault>
     ensures { Reads result (unknown_of (view value.now)) }
 {
     null(value)?;
@@ -39,7 +39,7 @@ fn read_unknown(value: &Value) -> Result<TypeDefKind, DocumentFault>
 
 /// What stands at the word of a kind.
 #[tactic(auto, unfolding(crate::specs::Kinds::kind_at, crate::specs::Kinds::kind_reader))]
-fn read_at(alloc: Global, word: &str, value: &Value) -> Result<TypeDefKind, DocumentFault>
+fn read_at(alloc: Global, word: &str, value: &Value<'_>) -> Result<TypeDefKind, DocumentFault>
     ensures { Reads result (kind_at word.now (view value.now)) }
 {
     match word {
@@ -68,7 +68,7 @@ fn read_at(alloc: Global, word: &str, value: &Value) -> Result<TypeDefKind, Docu
 impl Readable for TypeDefKind {
     ghost read_of = { type_kind_of };
 
-    fn read(alloc: Global, value: &Value) -> Result<TypeDefKind, DocumentFault> {
+    fn read(alloc: Global, value: &Value<'_>) -> Result<TypeDefKind, DocumentFault> {
         match sole_member(value) {
             Some((word, member)) => read_at(alloc, word, member),
             None => Err(DocumentFault::BadJson),

@@ -8,10 +8,13 @@ mod item;
 mod kind;
 mod members;
 mod name;
+mod number;
 mod options;
+mod range;
 mod reading;
 mod type_table;
 mod types;
+mod value;
 mod world;
 
 pub use document::{Document, document_of};

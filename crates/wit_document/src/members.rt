@@ -1,23 +1,24 @@
-ghost use Rattle.std.specs.Prelude.{◌≡◌, option_map, map, string_bytes};
+ghost use Rattle.std.specs.Prelude.{◌≡◌, option_map, map};
 ghost use Rattle.std.specs.List.{list_any, list_all};
 ghost use Rattle.std.specs.Str.{bytes_eq};
 ghost use Rattle.serde_json.specs.Find.{as_null};
-ghost use Rattle.serde_json.specs.View.{view};
+ghost use Rattle.wit_document.specs.View.{view};
 ghost use Rattle.wit_document.specs.Reads.{Reads};
 ghost use Rattle.wit_document.specs.Members.{only, required, optional, given, empty_of, sole_member};
 
 use crate::fault::DocumentFault;
 use crate::reading::Readable;
-use serde_json::{Map, Value};
+use crate::value::{as_array, as_object, get, is_null};
+use json::Value;
 use std::alloc::Global;
 use wit_model::List;
 
 /// That a value is an object, and each of its keys is among these.
 #[tactic(auto, unfolding(crate::specs::Members::only))]
-pub(crate) fn only(value: &Value, keys: &[&str]) -> Result<(), DocumentFault>
+pub(crate) fn only(value: &Value<'_>, keys: &[&str]) -> Result<(), DocumentFault>
     ensures { Reads result (only (map (λ k. k.now) keys.now) (view value.now)) }
 {
-    let Some(members) = value.as_object() else {
+    let Some(members) = as_object(value) else {
         return Err(DocumentFault::BadJson);
     };
     if has_no_key_but(members, keys) {
@@ -27,12 +28,11 @@ pub(crate) fn only(value: &Value, keys: &[&str]) -> Result<(), DocumentFault>
     }
 }
 
-fn has_no_key_but(members: &Map<String, Value>, keys: &[&str]) -> bool
+fn has_no_key_but(members: &[(&str, Value<'_>)], keys: &[&str]) -> bool
     ensures { result
-        ≡ list_all (λ key. list_any (λ k. bytes_eq k.now (string_bytes key)) keys.now)
-        (map (λ e. e.0) members.now.entries) }
+        ≡ list_all (λ m. list_any (λ k. bytes_eq k.now m.0.now) keys.now) members.now }
 {
-    members.keys().all(|key| is_among(key.as_str(), keys))
+    members.iter().all(|member| is_among(member.0, keys))
 }
 
 fn is_among(key: &str, keys: &[&str]) -> bool
@@ -45,12 +45,12 @@ fn is_among(key: &str, keys: &[&str]) -> bool
 #[tactic(auto, unfolding(crate::specs::Members::required))]
 pub(crate) fn required<T: Readable>(
     alloc: Global,
-    value: &Value,
+    value: &Value<'_>,
     key: &str,
 ) -> Result<T, DocumentFault>
     ensures { Reads result (required T.read_of key.now (view value.now)) }
 {
-    match value.get(key) {
+    match get(value, key) {
         Some(member) => T::read(alloc, member),
         None => Err(DocumentFault::BadJson),
     }
@@ -60,13 +60,13 @@ pub(crate) fn required<T: Readable>(
 #[tactic(auto, unfolding(crate::specs::Members::optional))]
 pub(crate) fn optional<T: Readable>(
     alloc: Global,
-    value: &Value,
+    value: &Value<'_>,
     key: &str,
 ) -> Result<Option<T>, DocumentFault>
     ensures { Reads result (optional T.read_of key.now (view value.now)) }
 {
-    match value.get(key) {
-        Some(member) if !member.is_null() => Ok(Some(T::read(alloc, member)?)),
+    match get(value, key) {
+        Some(member) if !is_null(member) => Ok(Some(T::read(alloc, member)?)),
         _ => Ok(None),
     }
 }
@@ -75,44 +75,48 @@ pub(crate) fn optional<T: Readable>(
 #[tactic(auto, unfolding(crate::specs::Members::given))]
 pub(crate) fn given<T: Readable>(
     alloc: Global,
-    value: &Value,
+    value: &Value<'_>,
     key: &str,
 ) -> Result<Option<T>, DocumentFault>
     ensures { Reads result (given T.read_of key.now (view value.now)) }
 {
-    match value.get(key) {
+    match get(value, key) {
         Some(member) => Ok(Some(T::read(alloc, member)?)),
         None => Ok(None),
     }
 }
 
 /// That a value is null.
-pub(crate) fn null(value: &Value) -> Result<(), DocumentFault>
+pub(crate) fn null(value: &Value<'_>) -> Result<(), DocumentFault>
     ensures { Reads result (as_null (view value.now)) }
 {
-    value.as_null().ok_or(DocumentFault::BadJson)
+    if is_null(value) {
+        Ok(())
+    } else {
+        Err(DocumentFault::BadJson)
+    }
 }
 
 /// The items of the array at a key, which must be there and have none.
 #[tactic(auto, unfolding(crate::specs::Members::required))]
 pub(crate) fn empty_list<T>(
     alloc: Global,
-    value: &Value,
+    value: &Value<'_>,
     key: &str,
 ) -> Result<List<T>, DocumentFault>
     ensures { Reads result (required empty_of key.now (view value.now)) }
 {
-    match value.get(key) {
+    match get(value, key) {
         Some(member) => read_no_items(alloc, member),
         None => Err(DocumentFault::BadJson),
     }
 }
 
 #[tactic(auto, unfolding(crate::specs::Members::empty_of))]
-fn read_no_items<T>(alloc: Global, value: &Value) -> Result<List<T>, DocumentFault>
+fn read_no_items<T>(alloc: Global, value: &Value<'_>) -> Result<List<T>, DocumentFault>
     ensures { Reads result (empty_of (view value.now)) }
 {
-    let Some(items) = value.as_array() else {
+    let Some(items) = as_array(value) else {
         return Err(DocumentFault::BadJson);
     };
     if items.is_empty() {
@@ -124,13 +128,20 @@ fn read_no_items<T>(alloc: Global, value: &Value) -> Result<List<T>, DocumentFau
 
 /// The key and the value of an object that has one member.
 #[tactic(auto, unfolding(crate::specs::Members::sole_member))]
-pub(crate) fn sole_member(value: &Value) -> Option<(&str, &Value)>
+pub(crate) fn sole_member<'v, 'a>(value: &'v Value<'a>) -> Option<(&'a str, &'v Value<'a>)>
     ensures { option_map (λ m. (m.0.now, view m.1.now)) result ≡ sole_member (view value.now) }
 {
-    let members = value.as_object()?;
-    if members.len() != 1 {
+    let members = as_object(value)?;
+    let key = members.first()?.0;
+    if !has_only_key(members, key) {
         return None;
     }
-    let (key, member) = members.first_key_value()?;
-    Some((key.as_str(), member))
+    Some((key, get(value, key)?))
+}
+
+/// Whether all members stand at one key.
+fn has_only_key(members: &[(&str, Value<'_>)], key: &str) -> bool
+    ensures { result ≡ list_all (λ m. bytes_eq m.0.now key.now) members.now }
+{
+    members.iter().all(|member| member.0 == key)
 }

@@ -1,11 +1,11 @@
-ghost use Rattle.serde_json.specs.View.{view};
+ghost use Rattle.wit_document.specs.View.{view};
 ghost use Rattle.wit_document.specs.Reads.{Reads};
 ghost use Rattle.wit_document.specs.Name.{name_of, docs_in};
 
 use crate::fault::DocumentFault;
 use crate::members::{only, optional, required};
 use crate::reading::Readable;
-use serde_json::Value;
+use json::Value;
 use std::alloc::Global;
 use wit_model::{Docs, Name};
 
@@ -13,7 +13,7 @@ use wit_model::{Docs, Name};
 impl Readable for Name {
     ghost read_of = { name_of };
 
-    fn read(alloc: Global, value: &Value) -> Result<Name, DocumentFault> {
+    fn read(alloc: Global, value: &Value<'_>) -> Result<Name, DocumentFault> {
         only(value, &["wit", "snake", "camel", "upper"])?;
         Ok(Name {
             wit: required(alloc, value, "wit")?,
@@ -26,7 +26,7 @@ impl Readable for Name {
 
 /// The docs of the item that an object is, which it may lack.
 #[tactic(auto, unfolding(crate::specs::Name::docs_in))]
-pub(crate) fn docs_in(alloc: Global, value: &Value) -> Result<Docs, DocumentFault>
+pub(crate) fn docs_in(alloc: Global, value: &Value<'_>) -> Result<Docs, DocumentFault>
     ensures { Reads result (docs_in (view value.now)) }
 {
     Ok(Docs {

@@ -4,7 +4,7 @@ ghost use Rattle.wit_document.specs.Options.{no_options, options_of};
 use crate::fault::DocumentFault;
 use crate::members::{given, only};
 use crate::reading::Readable;
-use serde_json::Value;
+use json::Value;
 use std::alloc::Global;
 
 /// The options that a document asks for.
@@ -29,7 +29,7 @@ impl DocumentOptions {
 impl Readable for DocumentOptions {
     ghost read_of = { options_of };
 
-    fn read(alloc: Global, value: &Value) -> Result<DocumentOptions, DocumentFault> {
+    fn read(alloc: Global, value: &Value<'_>) -> Result<DocumentOptions, DocumentFault> {
         only(value, &["generate-unused-types"])?;
         let unused = given(alloc, value, "generate-unused-types")?;
         Ok(DocumentOptions {

@@ -1,7 +1,7 @@
 //! The table of types.
 
 ghost use Rattle.std.specs.Prelude.{◌≡◌};
-ghost use Rattle.serde_json.specs.View.{view};
+ghost use Rattle.wit_document.specs.View.{view};
 ghost use Rattle.wit_document.specs.Reads.{Reads};
 ghost use Rattle.wit_document.specs.TypeTable.{owner_at, named_owner_of, owner_of, type_def_of};
 
@@ -9,7 +9,8 @@ use crate::fault::DocumentFault;
 use crate::members::{only, optional, required, sole_member};
 use crate::name::docs_in;
 use crate::reading::Readable;
-use serde_json::Value;
+use crate::value::is_null;
+use json::Value;
 use std::alloc::Global;
 use wit_model::{InterfaceId, TypeDef, TypeOwner, WorldId};
 
@@ -25,7 +26,7 @@ fn owner_at(word: &str, number: u32) -> Option<TypeOwner>
 }
 
 #[tactic(auto, unfolding(crate::specs::TypeTable::named_owner_of))]
-fn read_named_owner(alloc: Global, value: &Value) -> Result<TypeOwner, DocumentFault>
+fn read_named_owner(alloc: Global, value: &Value<'_>) -> Result<TypeOwner, DocumentFault>
     ensures { Reads result (named_owner_of (view value.now)) }
 {
     let Some((word, member)) = sole_member(value) else {
@@ -39,8 +40,8 @@ fn read_named_owner(alloc: Global, value: &Value) -> Result<TypeOwner, DocumentF
 impl Readable for TypeOwner {
     ghost read_of = { owner_of };
 
-    fn read(alloc: Global, value: &Value) -> Result<TypeOwner, DocumentFault> {
-        if value.is_null() {
+    fn read(alloc: Global, value: &Value<'_>) -> Result<TypeOwner, DocumentFault> {
+        if is_null(value) {
             return Ok(TypeOwner::None);
         }
         read_named_owner(alloc, value)
@@ -51,7 +52,7 @@ impl Readable for TypeOwner {
 impl Readable for TypeDef {
     ghost read_of = { type_def_of };
 
-    fn read(alloc: Global, value: &Value) -> Result<TypeDef, DocumentFault> {
+    fn read(alloc: Global, value: &Value<'_>) -> Result<TypeDef, DocumentFault> {
         only(value, &["name", "owner", "kind", "docs"])?;
         Ok(TypeDef {
             name: optional(alloc, value, "name")?,

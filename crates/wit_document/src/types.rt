@@ -3,7 +3,8 @@ ghost use Rattle.wit_document.specs.Types.{id_of, type_id_of, type_named, type_o
 
 use crate::fault::DocumentFault;
 use crate::reading::Readable;
-use serde_json::Value;
+use crate::value::{as_str, as_u64};
+use json::Value;
 use std::alloc::Global;
 use wit_model::{TypeId, WitType};
 
@@ -11,8 +12,8 @@ use wit_model::{TypeId, WitType};
 impl Readable for u32 {
     ghost read_of = { id_of };
 
-    fn read(_alloc: Global, value: &Value) -> Result<u32, DocumentFault> {
-        match value.as_u64() {
+    fn read(_alloc: Global, value: &Value<'_>) -> Result<u32, DocumentFault> {
+        match as_u64(value) {
             Some(n) if n <= u64::from(u32::MAX) => Ok(n as u32),
             _ => Err(DocumentFault::BadJson),
         }
@@ -23,7 +24,7 @@ impl Readable for u32 {
 impl Readable for TypeId {
     ghost read_of = { type_id_of };
 
-    fn read(alloc: Global, value: &Value) -> Result<TypeId, DocumentFault> {
+    fn read(alloc: Global, value: &Value<'_>) -> Result<TypeId, DocumentFault> {
         Ok(TypeId(u32::read(alloc, value)?))
     }
 }
@@ -32,8 +33,8 @@ impl Readable for TypeId {
 impl Readable for WitType {
     ghost read_of = { type_of };
 
-    fn read(alloc: Global, value: &Value) -> Result<WitType, DocumentFault> {
-        match value.as_str() {
+    fn read(alloc: Global, value: &Value<'_>) -> Result<WitType, DocumentFault> {
+        match as_str(value) {
             Some(word) => type_named(word).ok_or(DocumentFault::BadJson),
             None => Ok(WitType::Id(TypeId::read(alloc, value)?)),
         }

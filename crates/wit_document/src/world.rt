@@ -3,7 +3,7 @@ ghost use Rattle.wit_document.specs.World.{world_id_of, package_id_of, package_o
 use crate::fault::DocumentFault;
 use crate::members::{only, optional, required};
 use crate::reading::Readable;
-use serde_json::Value;
+use json::Value;
 use std::alloc::Global;
 use wit_model::{Package, PackageId, World, WorldId};
 
@@ -11,7 +11,7 @@ use wit_model::{Package, PackageId, World, WorldId};
 impl Readable for WorldId {
     ghost read_of = { world_id_of };
 
-    fn read(alloc: Global, value: &Value) -> Result<WorldId, DocumentFault> {
+    fn read(alloc: Global, value: &Value<'_>) -> Result<WorldId, DocumentFault> {
         Ok(WorldId(u32::read(alloc, value)?))
     }
 }
@@ -20,7 +20,7 @@ impl Readable for WorldId {
 impl Readable for PackageId {
     ghost read_of = { package_id_of };
 
-    fn read(alloc: Global, value: &Value) -> Result<PackageId, DocumentFault> {
+    fn read(alloc: Global, value: &Value<'_>) -> Result<PackageId, DocumentFault> {
         Ok(PackageId(u32::read(alloc, value)?))
     }
 }
@@ -29,7 +29,7 @@ impl Readable for PackageId {
 impl Readable for Package {
     ghost read_of = { package_of };
 
-    fn read(alloc: Global, value: &Value) -> Result<Package, DocumentFault> {
+    fn read(alloc: Global, value: &Value<'_>) -> Result<Package, DocumentFault> {
         only(value, &["namespace", "name", "version", "module"])?;
         Ok(Package {
             namespace: required(alloc, value, "namespace")?,
@@ -44,7 +44,7 @@ impl Readable for Package {
 impl Readable for World {
     ghost read_of = { world_of };
 
-    fn read(alloc: Global, value: &Value) -> Result<World, DocumentFault> {
+    fn read(alloc: Global, value: &Value<'_>) -> Result<World, DocumentFault> {
         only(value, &["name", "package", "imports", "exports"])?;
         Ok(World {
             name: required(alloc, value, "name")?,

@@ -1,6 +1,6 @@
 //! Records and tuples.
 
-ghost use Rattle.serde_json.specs.View.{view};
+ghost use Rattle.wit_document.specs.View.{view};
 ghost use Rattle.wit_document.specs.Reads.{Reads};
 ghost use Rattle.wit_document.specs.Kinds.{field_of, record_of, tuple_of};
 
@@ -8,7 +8,7 @@ use crate::fault::DocumentFault;
 use crate::members::{only, required};
 use crate::name::docs_in;
 use crate::reading::Readable;
-use serde_json::Value;
+use json::Value;
 use std::alloc::Global;
 use wit_model::{Field, List, TypeDefKind};
 
@@ -16,7 +16,7 @@ use wit_model::{Field, List, TypeDefKind};
 impl Readable for Field {
     ghost read_of = { field_of };
 
-    fn read(alloc: Global, value: &Value) -> Result<Field, DocumentFault> {
+    fn read(alloc: Global, value: &Value<'_>) -> Result<Field, DocumentFault> {
         only(value, &["name", "ty", "docs"])?;
         Ok(Field {
             name: required(alloc, value, "name")?,
@@ -26,13 +26,13 @@ impl Readable for Field {
     }
 }
 
-pub(crate) fn read_record(alloc: Global, value: &Value) -> Result<TypeDefKind, DocumentFault>
+pub(crate) fn read_record(alloc: Global, value: &Value<'_>) -> Result<TypeDefKind, DocumentFault>
     ensures { Reads result (record_of (view value.now)) }
 {
     Ok(TypeDefKind::Record(List::read(alloc, value)?))
 }
 
-pub(crate) fn read_tuple(alloc: Global, value: &Value) -> Result<TypeDefKind, DocumentFault>
+pub(crate) fn read_tuple(alloc: Global, value: &Value<'_>) -> Result<TypeDefKind, DocumentFault>
     ensures { Reads result (tuple_of (view value.now)) }
 {
     Ok(TypeDefKind::Tuple(List::read(alloc, value)?))

@@ -1,6 +1,6 @@
 use Rattle.std.proofs.Common.{◌≡◌, ◌≢◌, length, sym, arith}
 use Rattle.std.proofs.lemmas.Bool.Decides.{nat_tests}
-use Rattle.serde_json.specs.View.{view}
+use Rattle.wit_document.specs.View.{view}
 use Rattle.wit_document.proofs.Parts.{empty_of-empty, empty_of-some}
 use Rattle.wit_document.proofs.members.read_no_items.Goals as goal
 

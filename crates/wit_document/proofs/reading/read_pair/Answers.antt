@@ -1,5 +1,5 @@
 use Rattle.std.proofs.Common.{◌≡◌, length, sym, arith}
-use Rattle.serde_json.specs.View.{view}
+use Rattle.wit_document.specs.View.{view}
 use Rattle.wit_document.proofs.Parts.{pair_of-none}
 use Rattle.wit_document.proofs.reading.read_pair.Goals as goal
 use Rattle.wit_document.proofs.reading.read_pair.Goals.{in_default-as_slice-via-then-as_slice-lt2, in_default-as_slice-via-else-as_slice-lt2+else-this-lt3}

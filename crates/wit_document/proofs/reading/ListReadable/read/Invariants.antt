@@ -1,5 +1,5 @@
 use Rattle.std.proofs.Common.{◌≡◌, option_map, drop, ◌++◌}
-use Rattle.serde_json.specs.View.{items_view}
+use Rattle.wit_document.specs.View.{items_view}
 use Rattle.wit_document.specs.Members.{items_of}
 use Rattle.wit_document.proofs.reading.ListReadable.read.Given as goal
 
