@@ -10,7 +10,7 @@ use Rattle.std.specs.Int.{cast_signed, w8, w16}
 use Rattle.wrapper_meaning.specs.Numbers.{bit, is_signed, is_unsigned, low_bits}
 use Rattle.wrapper_meaning.specs.StandsFor.{rust_scalar}
 use Rattle.wrapper_meaning.specs.Value.{ScalarValue}
-use Rattle.wrapper_run.specs.Effect.{low, bit as bit_number}
+use Rattle.wrapper_values.specs.Effect.{low, bit as bit_number}
 use Rattle.wrapper_run.specs.Represents.{Lends, Takes}
 use Rattle.wrapper_run.specs.StandsFor.{rust_value}
 use Rattle.wrapper_run.specs.Value as run

@@ -22,22 +22,22 @@ use Rattle.wrapper_data.specs.declared.run.CallPoint.{CallPoint}
 use Rattle.wrapper_data.specs.declared.run.Run.{Run}
 use Rattle.wrapper_data.specs.declared.value.RustValue.{RustValue}
 use Rattle.wrapper_data.specs.declared.word.Word.{Word}
-use Rattle.wrapper_run.specs.declared.state.Local.{Local}
-use Rattle.wrapper_run.specs.declared.state.State.{State}
-use Rattle.wrapper_run.specs.declared.state.Val.{Val}
-use Rattle.wrapper_run.specs.Act.{Act, Outcome, Done, Stopped, ◌>>=◌, ◌>>◌, all, and_then, pure}
+use Rattle.wrapper_values.specs.declared.state.Local.{Local}
+use Rattle.wrapper_values.specs.declared.state.State.{State}
+use Rattle.wrapper_values.specs.declared.state.Val.{Val}
+use Rattle.wrapper_values.specs.Act.{Act, Outcome, Done, Stopped, ◌>>=◌, ◌>>◌, all, and_then, pure}
 use Rattle.wrapper_run.specs.Blocks.{free_all, leave_to}
-use Rattle.wrapper_run.specs.Effect.{answer_of, bit, is_word_of, is_of_kind}
+use Rattle.wrapper_values.specs.Effect.{answer_of, bit, is_word_of, is_of_kind}
 use Rattle.wrapper_run.specs.Areas.{areas, due, needs_area, places}
 use Rattle.wrapper_run.specs.ExportFaithful.{CallsMethod, CarriesOut, MeetsCall, MissesStatic}
 use Rattle.wrapper_run.specs.ExportRun.{are_words_of, call_inside, call_method, core_answer, ended_export, keep_result, method_named, method_point, run_call, run_export_fn, run_export_item, run_to_words, start_export, take_value}
 use Rattle.wrapper_run.specs.Faithful.{fits_area, param_types}
 use Rattle.wrapper_run.specs.Honest.{HonestImplementation}
-use Rattle.wrapper_run.specs.Locals.{bind, local_named, value_of}
+use Rattle.wrapper_values.specs.Locals.{bind, local_named, value_of}
 use Rattle.wrapper_run.specs.Places.{area_in}
 use Rattle.wrapper_run.specs.Represents.{GivesResult, GivesText, HasText, IsAddress, Lends, TakesAll, block_of}
 use Rattle.wrapper_run.specs.Run.{bound, eval, give_and_leave, run_at, run_block, run_stmts, run_tail}
-use Rattle.wrapper_run.specs.Setting.{Setting, stuck}
+use Rattle.wrapper_values.specs.Setting.{Setting, stuck}
 use Rattle.wrapper_run.specs.StandsFor.{StandsAnswered, rust_value}
 use Rattle.wrapper_run.specs.TextBlocks.{are_distinct, text_blocks}
 use Rattle.wrapper_run.specs.Value.{AreValues, IsResult, IsScalar, Scalar, WitValue, char, f32, f64, number, scalar, text, truth}
@@ -68,7 +68,7 @@ use Rattle.rust_gen.proofs.RunLemmas.{all-used}
 use Rattle.rust_gen.proofs.WordLemmas.{lent}
 use Rattle.rust_gen.proofs.ScopeLemmas.{used-declared, used-first}
 use Rattle.rust_gen.proofs.TakenLemmas.{AreFree, addresses}
-use Rattle.wrapper_run.specs.Owning.{listed, taken_by}
+use Rattle.wrapper_values.specs.Owning.{listed, taken_by}
 use Rattle.wit_model.specs.declared.wasm_type.WasmType.TheVariants as core
 use Rattle.std.specs.Prelude.{ℤ}
 use Rattle.wit_model.specs.declared.types.WitType.TheVariants as wit
@@ -79,7 +79,7 @@ use Rattle.wrapper_data.specs.declared.answer.Answer.TheVariants as answer
 use Rattle.wrapper_data.specs.declared.run.Stop.TheVariants as stop_of
 use Rattle.wrapper_data.specs.declared.value.RustValue.TheVariants as value
 use Rattle.wrapper_data.specs.declared.word.Word.TheVariants as word
-use Rattle.wrapper_run.specs.declared.state.Val.TheVariants as val
+use Rattle.wrapper_values.specs.declared.state.Val.TheVariants as val
 use Rattle.rust_gen.specs.declared.scope.LocalKind.TheVariants as kind
 
 -- a scalar is what a method of its type answers

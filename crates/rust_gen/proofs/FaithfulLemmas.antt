@@ -17,7 +17,7 @@ use Rattle.rust_tree.specs.declared.place.FuncPlace.{FuncPlace}
 use Rattle.rust_tree.specs.declared.place.WrapperInfo.{WrapperInfo}
 use Rattle.rust_tree.specs.Tree.{Tree, wrappers_from, wrappers_of, wrapper_info}
 use Rattle.wrapper_run.specs.Faithful.{CallsOnce, IsFaithful, MissesArea}
-use Rattle.wrapper_run.specs.Setting.{Setting}
+use Rattle.wrapper_values.specs.Setting.{Setting}
 use Rattle.wrapper_run.specs.Run.{import_nth, import_run, run_item, import_at, runtime_item_named, setting_of}
 use Rattle.rust_gen.specs.Body.{IsWritten}
 use Rattle.rust_gen.specs.Bound.{Binds, Parts, export_items, own_items}

@@ -9,18 +9,18 @@ use Rattle.wrapper_data.specs.declared.block.Block.{Block}
 use Rattle.wrapper_data.specs.declared.run.Stop.TheVariants as stop_of
 use Rattle.wrapper_data.specs.declared.value.RustValue.TheVariants as value
 use Rattle.wrapper_data.specs.declared.word.Word.TheVariants as word
-use Rattle.wrapper_run.specs.declared.state.Local.{Local}
-use Rattle.wrapper_run.specs.declared.state.State.{State}
-use Rattle.wrapper_run.specs.declared.state.Val.TheVariants as val
-use Rattle.wrapper_run.specs.Act.{Done, Stopped}
+use Rattle.wrapper_values.specs.declared.state.Local.{Local}
+use Rattle.wrapper_values.specs.declared.state.State.{State}
+use Rattle.wrapper_values.specs.declared.state.Val.TheVariants as val
+use Rattle.wrapper_values.specs.Act.{Done, Stopped}
 use Rattle.wrapper_run.specs.Areas.{text_area}
 use Rattle.wrapper_run.specs.Faithful.{fits_area}
-use Rattle.wrapper_run.specs.Owning.{taken_by}
+use Rattle.wrapper_values.specs.Owning.{taken_by}
 use Rattle.wrapper_run.specs.Places.{area_in}
 use Rattle.wrapper_run.specs.Represents.{HasText, IsAddress, block_of}
 use Rattle.wrapper_run.specs.Represents.{GivesText as WordsGive}
 use Rattle.wrapper_run.specs.Run.{eval, run_stmts}
-use Rattle.wrapper_run.specs.Setting.{Setting}
+use Rattle.wrapper_values.specs.Setting.{Setting}
 use Rattle.wrapper_run.proofs.GiveSteps.{Apart, boxed-plain, fits-pair, give_misses, give_runs, given, given_pointer, has_text_still, owns_text, word_local}
 use Rattle.wrapper_run.proofs.OwningLemmas.{ArePlain}
 use Rattle.wrapper_run.proofs.PlaceLemmas.{Misplaces, Places, asked, places_pair}

@@ -18,7 +18,7 @@ use Rattle.rust_tree.specs.declared.item.Item.{Item}
 use Rattle.rust_tree.specs.declared.runtime_item.RuntimeItem.{RuntimeItem}
 use Rattle.wrapper_run.specs.Areas.{needs_area}
 use Rattle.wrapper_run.specs.Entries.{entries_in}
-use Rattle.wrapper_run.specs.Owning.{listed}
+use Rattle.wrapper_values.specs.Owning.{listed}
 use Rattle.wrapper_run.specs.Places.{area_in}
 use Rattle.wrapper_run.specs.ExportRun.{method_in, method_named, method_of}
 use Rattle.wrapper_run.specs.Run.{found_in, runtime_item_named, bound}

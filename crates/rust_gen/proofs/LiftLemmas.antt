@@ -20,18 +20,18 @@ use Rattle.wrapper_data.specs.declared.value.RustValue.{RustValue}
 use Rattle.wrapper_data.specs.declared.value.RustValue.TheVariants as value
 use Rattle.wrapper_data.specs.declared.word.Word.{Word}
 use Rattle.wrapper_data.specs.declared.word.Word.TheVariants as word
-use Rattle.wrapper_run.specs.declared.state.Local.{Local}
-use Rattle.wrapper_run.specs.declared.state.State.{State}
-use Rattle.wrapper_run.specs.declared.state.Val.{Val}
-use Rattle.wrapper_run.specs.declared.state.Val.TheVariants as val
-use Rattle.wrapper_run.specs.Act.{Act, Done, ◌>>=◌, all, and_then, pure}
-use Rattle.wrapper_run.specs.Effect.{is_of_kind, is_word_of}
+use Rattle.wrapper_values.specs.declared.state.Local.{Local}
+use Rattle.wrapper_values.specs.declared.state.State.{State}
+use Rattle.wrapper_values.specs.declared.state.Val.{Val}
+use Rattle.wrapper_values.specs.declared.state.Val.TheVariants as val
+use Rattle.wrapper_values.specs.Act.{Act, Done, ◌>>=◌, all, and_then, pure}
+use Rattle.wrapper_values.specs.Effect.{is_of_kind, is_word_of}
 use Rattle.wrapper_run.specs.ExportRun.{are_words_of, passed_as, values_of}
-use Rattle.wrapper_run.specs.Locals.{bind, local_named, value_of}
-use Rattle.wrapper_run.specs.Owning.{is_taken, listed}
+use Rattle.wrapper_values.specs.Locals.{bind, local_named, value_of}
+use Rattle.wrapper_values.specs.Owning.{is_taken, listed}
 use Rattle.wrapper_run.specs.Represents.{TakesAll, TakesWords, block_of}
 use Rattle.wrapper_run.specs.Run.{eval, run_stmts}
-use Rattle.wrapper_run.specs.Setting.{Setting}
+use Rattle.wrapper_values.specs.Setting.{Setting}
 use Rattle.wrapper_run.specs.StandsFor.{StandAllOwned, StandsOwned, rust_value}
 use Rattle.wrapper_run.specs.TextBlocks.{are_distinct, text_block, text_blocks}
 use Rattle.wrapper_run.specs.Value.{AreValues, IsScalar, IsValue, Scalar, WitValue, char, f32, f64, number, scalar, text, truth}

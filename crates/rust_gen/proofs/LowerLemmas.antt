@@ -18,16 +18,16 @@ use Rattle.wrapper_data.specs.declared.value.RustValue.{RustValue}
 use Rattle.wrapper_data.specs.declared.value.RustValue.TheVariants as value
 use Rattle.wrapper_data.specs.declared.word.Word.{Word}
 use Rattle.wrapper_data.specs.declared.word.Word.TheVariants as word
-use Rattle.wrapper_run.specs.declared.state.Local.{Local}
-use Rattle.wrapper_run.specs.declared.state.State.{State}
-use Rattle.wrapper_run.specs.declared.state.Val.{Val}
-use Rattle.wrapper_run.specs.declared.state.Val.TheVariants as val
-use Rattle.wrapper_run.specs.Act.{Outcome, Done, Stopped, and_then, pure}
-use Rattle.wrapper_run.specs.Effect.{bit, is_word_of, word_of}
-use Rattle.wrapper_run.specs.Locals.{bind, local_named, value_of}
+use Rattle.wrapper_values.specs.declared.state.Local.{Local}
+use Rattle.wrapper_values.specs.declared.state.State.{State}
+use Rattle.wrapper_values.specs.declared.state.Val.{Val}
+use Rattle.wrapper_values.specs.declared.state.Val.TheVariants as val
+use Rattle.wrapper_values.specs.Act.{Outcome, Done, Stopped, and_then, pure}
+use Rattle.wrapper_values.specs.Effect.{bit, is_word_of, word_of}
+use Rattle.wrapper_values.specs.Locals.{bind, local_named, value_of}
 use Rattle.wrapper_run.specs.Represents.{LendsAll, LendsWords, LiesAt}
 use Rattle.wrapper_run.specs.Run.{run_stmt, run_stmts, words_of}
-use Rattle.wrapper_run.specs.Setting.{Setting}
+use Rattle.wrapper_values.specs.Setting.{Setting}
 use Rattle.wrapper_run.specs.StandsFor.{StandAll, Stands, rust_value}
 use Rattle.wrapper_run.specs.Value.{AreValues, IsScalar, IsValue, Scalar, WitValue, char, f32, f64, number, scalar, text, truth}
 use Rattle.wrapper_run.proofs.LocalLemmas.{ReadsAll, reads-new, reads-past}

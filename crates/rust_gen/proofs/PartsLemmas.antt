@@ -19,7 +19,7 @@ use Rattle.rust_tree.specs.declared.runtime_item.RuntimeItem.{RuntimeItem}
 use Rattle.wrapper_run.specs.Areas.{needs_area}
 use Rattle.wrapper_run.specs.Entries.{exports_in}
 use Rattle.wit_model.specs.Bytes.{Bytes}
-use Rattle.wrapper_run.specs.Owning.{listed}
+use Rattle.wrapper_values.specs.Owning.{listed}
 use Rattle.wrapper_run.specs.PostReturn.{post_return_named}
 use Rattle.wrapper_run.specs.Returned.{post_returns_in}
 use Rattle.wrapper_run.proofs.LocalLemmas.{bytes_eq-same}

@@ -15,19 +15,19 @@ use Rattle.wrapper_data.specs.declared.run.Stop.TheVariants as stop_of
 use Rattle.wrapper_data.specs.declared.value.RustValue.TheVariants as value
 use Rattle.wrapper_data.specs.declared.word.Word.{Word}
 use Rattle.wrapper_data.specs.declared.word.Word.TheVariants as word
-use Rattle.wrapper_run.specs.declared.state.Local.{Local}
-use Rattle.wrapper_run.specs.declared.state.State.{State}
-use Rattle.wrapper_run.specs.declared.state.Val.{Val}
-use Rattle.wrapper_run.specs.declared.state.Val.TheVariants as val
-use Rattle.wrapper_run.specs.Act.{Done, ◌>>◌, and_then, pure}
+use Rattle.wrapper_values.specs.declared.state.Local.{Local}
+use Rattle.wrapper_values.specs.declared.state.State.{State}
+use Rattle.wrapper_values.specs.declared.state.Val.{Val}
+use Rattle.wrapper_values.specs.declared.state.Val.TheVariants as val
+use Rattle.wrapper_values.specs.Act.{Done, ◌>>◌, and_then, pure}
 use Rattle.wrapper_run.specs.ExportRun.{bound_words, core_answer, ended_export, expect_words, run_to_words}
-use Rattle.wrapper_run.specs.Locals.{bind, local_named, value_of}
+use Rattle.wrapper_values.specs.Locals.{bind, local_named, value_of}
 use Rattle.wrapper_run.specs.Memory.{loaded}
 use Rattle.wrapper_run.specs.PostReturn.{run_post_return_item}
 use Rattle.wrapper_run.specs.Represents.{GivesText, HasText}
 use Rattle.wrapper_run.specs.Returned.{Frees, without_all}
 use Rattle.wrapper_run.specs.Run.{begin, give_and_leave, run_at, run_block, run_stmts, run_tail, runtime_item_named}
-use Rattle.wrapper_run.specs.Setting.{Setting, stuck}
+use Rattle.wrapper_values.specs.Setting.{Setting, stuck}
 use Rattle.wrapper_run.proofs.FreeSteps.{align_gives, dealloc_gives, frees_text, unit_dropped, unit_words, without_text}
 use Rattle.wrapper_run.proofs.LocalLemmas.{reads-new}
 use Rattle.wrapper_run.proofs.StepLemmas.{gives_plain, local_gives}

@@ -28,19 +28,19 @@ use Rattle.wrapper_data.specs.declared.run.Stop.TheVariants as stop_of
 use Rattle.wrapper_data.specs.declared.value.RustValue.{RustValue}
 use Rattle.wrapper_data.specs.declared.value.RustValue.TheVariants as value
 use Rattle.wrapper_data.specs.declared.word.Word.{Word}
-use Rattle.wrapper_run.specs.declared.state.State.{State}
-use Rattle.wrapper_run.specs.declared.state.Val.{Val}
-use Rattle.wrapper_run.specs.declared.state.Val.TheVariants as val
-use Rattle.wrapper_run.specs.Act.{Act, Outcome, Done, Stopped, ◌>>=◌, and_then, pure, ◌>>◌}
+use Rattle.wrapper_values.specs.declared.state.State.{State}
+use Rattle.wrapper_values.specs.declared.state.Val.{Val}
+use Rattle.wrapper_values.specs.declared.state.Val.TheVariants as val
+use Rattle.wrapper_values.specs.Act.{Act, Outcome, Done, Stopped, ◌>>=◌, and_then, pure, ◌>>◌}
 use Rattle.std.specs.List.Sorted.{IsPermutation}
 use Rattle.std.proofs.lemmas.List.Sorted.{IsPermutation-refl}
 use Rattle.wrapper_run.specs.Faithful.{CallsImport, CallsOnce, Carries, param_types}
 use Rattle.rust_gen.specs.Faithful.{import_target}
 use Rattle.wrapper_run.specs.Honest.{HonestPeer}
-use Rattle.wrapper_run.specs.Locals.{bind, declare, import_named, local_named}
-use Rattle.wrapper_run.specs.Setting.{Setting}
+use Rattle.wrapper_values.specs.Locals.{bind, declare, import_named, local_named}
+use Rattle.wrapper_values.specs.Setting.{Setting}
 use Rattle.wrapper_run.specs.Blocks.{drop_value, free_all}
-use Rattle.wrapper_run.specs.Owning.{owned}
+use Rattle.wrapper_values.specs.Owning.{owned}
 use Rattle.rust_tree.specs.declared.item.FnParam.{FnParam}
 use Rattle.wrapper_run.proofs.OwningLemmas.{ArePlain, adds-plain, owned-lent, owned-scalar, owned-unit, plain-append}
 use Rattle.wrapper_run.specs.Run.{answer_and_leave, call_point, called_with, ended, eval, point_of, run_at, run_fn, run_item, start, take_answer, unhidden, words_of, run_stmt, run_stmts, run_tail, bound}

@@ -13,19 +13,19 @@ use Rattle.rust_tree.specs.Runtime.{item_name}
 use Rattle.wrapper_data.specs.declared.block.Block.{Block}
 use Rattle.wrapper_data.specs.declared.value.RustValue.TheVariants as value
 use Rattle.wrapper_data.specs.declared.word.Word.TheVariants as word
-use Rattle.wrapper_run.specs.declared.state.Local.{Local}
-use Rattle.wrapper_run.specs.declared.state.State.{State}
-use Rattle.wrapper_run.specs.declared.state.Val.{Val}
-use Rattle.wrapper_run.specs.declared.state.Val.TheVariants as val
-use Rattle.wrapper_run.specs.Act.{Done, and_then, pure}
+use Rattle.wrapper_values.specs.declared.state.Local.{Local}
+use Rattle.wrapper_values.specs.declared.state.State.{State}
+use Rattle.wrapper_values.specs.declared.state.Val.{Val}
+use Rattle.wrapper_values.specs.declared.state.Val.TheVariants as val
+use Rattle.wrapper_values.specs.Act.{Done, and_then, pure}
 use Rattle.wrapper_run.specs.Blocks.{owned_bytes}
-use Rattle.wrapper_run.specs.Locals.{bind, local_named, value_of}
+use Rattle.wrapper_values.specs.Locals.{bind, local_named, value_of}
 use Rattle.wit_model.specs.Bytes.{Bytes}
 use Rattle.wrapper_run.specs.Memory.{block_at, bytes_from}
-use Rattle.wrapper_run.specs.Owning.{is_taken}
+use Rattle.wrapper_values.specs.Owning.{is_taken}
 use Rattle.wrapper_run.specs.Represents.{HasText, block_of}
 use Rattle.wrapper_run.specs.Run.{run_stmts, runtime_item_named}
-use Rattle.wrapper_run.specs.Setting.{Setting}
+use Rattle.wrapper_values.specs.Setting.{Setting}
 use Rattle.wrapper_run.proofs.LocalLemmas.{reads-new}
 use Rattle.wrapper_run.proofs.StepLemmas.{local_gives}
 use Rattle.wrapper_run.proofs.OwningLemmas.{owned-empty}

@@ -35,11 +35,11 @@ use Rattle.wrapper_data.specs.declared.value.RustValue.{RustValue}
 use Rattle.wrapper_data.specs.declared.value.RustValue.TheVariants as value
 use Rattle.wrapper_data.specs.declared.word.Word.{Word}
 use Rattle.wrapper_data.specs.declared.word.Word.TheVariants as word
-use Rattle.wrapper_run.specs.declared.state.Local.{Local}
-use Rattle.wrapper_run.specs.declared.state.State.{State}
-use Rattle.wrapper_run.specs.declared.state.Val.{Val}
-use Rattle.wrapper_run.specs.declared.state.Val.TheVariants as val
-use Rattle.wrapper_run.specs.Act.{Act, Outcome, Done, Stopped, ◌>>=◌, ◌>>◌, and_then, or_stop, pure}
+use Rattle.wrapper_values.specs.declared.state.Local.{Local}
+use Rattle.wrapper_values.specs.declared.state.State.{State}
+use Rattle.wrapper_values.specs.declared.state.Val.{Val}
+use Rattle.wrapper_values.specs.declared.state.Val.TheVariants as val
+use Rattle.wrapper_values.specs.Act.{Act, Outcome, Done, Stopped, ◌>>=◌, ◌>>◌, and_then, or_stop, pure}
 use Rattle.wrapper_run.specs.Areas.{areas, due, needs_area, places as places_of, text_area, text_areas}
 use Rattle.wrapper_run.specs.Blocks.{drop_value, free_all, leave_to, owned_block, without_block}
 use Rattle.wrapper_run.specs.Places.{declare_area, is_fitting}
@@ -48,11 +48,11 @@ use Rattle.std.proofs.lemmas.List.Sorted.{IsPermutation-refl}
 use Rattle.wrapper_run.specs.Faithful.{CallsImport, CallsOnce, Carries, MissesArea, param_types, fits_area}
 use Rattle.rust_gen.specs.Faithful.{import_target}
 use Rattle.wrapper_run.specs.Honest.{AnswersText, HonestPeer, WritesIn, are_new}
-use Rattle.wrapper_run.specs.Locals.{bind, declare, last, local_named, value_of}
+use Rattle.wrapper_values.specs.Locals.{bind, declare, last, local_named, value_of}
 use Rattle.wrapper_run.specs.Memory.{block_at, block_from, bytes_from, loaded, without}
-use Rattle.wrapper_run.specs.Owning.{is_taken, taken_by}
+use Rattle.wrapper_values.specs.Owning.{is_taken, taken_by}
 use Rattle.wrapper_run.specs.Run.{answer_and_leave, ended, eval, run_at, run_fn, run_item, run_stmts, run_tail, runtime_item_named, start, take_answer, words_of, bound}
-use Rattle.wrapper_run.specs.Setting.{Setting, stuck}
+use Rattle.wrapper_values.specs.Setting.{Setting, stuck}
 use Rattle.wrapper_run.specs.StandsFor.{IsTextBlock, StandAll, StandsResult}
 use Rattle.wrapper_run.specs.Value.{AreValues, IsResult, IsValue, WitValue, char, f32, f64, number, scalar, text, truth}
 use Rattle.wrapper_run.proofs.HeapLemmas.{SamePlace, added, area_begins, area_removed, found_behind, lends-behind, size-positive, writes_in_area}

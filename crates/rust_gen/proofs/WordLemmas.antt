@@ -15,14 +15,14 @@ use Rattle.rust_tree.specs.declared.type_expr.TypeExpr.TheVariants as type
 use Rattle.wrapper_data.specs.declared.value.RustValue.TheVariants as value
 use Rattle.wrapper_data.specs.declared.word.Word.{Word}
 use Rattle.wrapper_data.specs.declared.word.Word.TheVariants as word
-use Rattle.wrapper_run.specs.declared.state.State.{State}
-use Rattle.wrapper_run.specs.declared.state.Val.{Val}
-use Rattle.wrapper_run.specs.declared.state.Val.TheVariants as val
-use Rattle.wrapper_run.specs.Act.{Done, and_then, pure}
-use Rattle.wrapper_run.specs.Effect.{answer_of, cast_integer, converted, integer_of_word, is_printed_as, is_word_of, low, low_i32, low_i64, bit, is_narrow, is_of_kind, is_scalar, lift_of}
-use Rattle.wrapper_run.specs.Locals.{local_named, value_of, bind}
+use Rattle.wrapper_values.specs.declared.state.State.{State}
+use Rattle.wrapper_values.specs.declared.state.Val.{Val}
+use Rattle.wrapper_values.specs.declared.state.Val.TheVariants as val
+use Rattle.wrapper_values.specs.Act.{Done, and_then, pure}
+use Rattle.wrapper_values.specs.Effect.{answer_of, cast_integer, converted, integer_of_word, is_printed_as, is_word_of, low, low_i32, low_i64, bit, is_narrow, is_of_kind, is_scalar, lift_of}
+use Rattle.wrapper_values.specs.Locals.{local_named, value_of, bind}
 use Rattle.wrapper_run.specs.Represents.{Lends, Takes, TakesNumber}
-use Rattle.wrapper_run.specs.Setting.{Setting}
+use Rattle.wrapper_values.specs.Setting.{Setting}
 use Rattle.wrapper_run.proofs.OwningLemmas.{ArePlain, owned-scalar}
 use Rattle.wrapper_run.specs.Run.{eval, run_stmts}
 use Rattle.wrapper_run.specs.Value.{IsScalar, Scalar, char, f32, f64, number, truth}
@@ -37,7 +37,7 @@ use Rattle.type_defs.specs.Printed.{printed_type}
 use Rattle.rust_tree.specs.declared.runtime_item.RuntimeItem.TheVariants.{BoolLift, CharLift}
 use Rattle.rust_tree.specs.declared.expr.Expr.{Expr}
 use Rattle.rust_gen.proofs.AskedLemmas.{Found, found-bound}
-use Rattle.wrapper_run.specs.declared.state.Local.{Local}
+use Rattle.wrapper_values.specs.declared.state.Local.{Local}
 use Rattle.rust_gen.specs.declared.scope.LocalKind.{LocalKind}
 use Rattle.rust_tree.specs.declared.runtime_item.RuntimeItem.{RuntimeItem}
 use Rattle.rust_gen.specs.declared.scope.Scope.{Scope}
@@ -47,7 +47,7 @@ use Rattle.rust_tree.specs.Runtime.{item_name}
 use Rattle.rust_gen.specs.Scope.{numbered, is_used}
 use Rattle.wrapper_run.proofs.LocalLemmas.{reads-new, reads_front}
 use Rattle.wrapper_run.specs.StandsFor.{rust_value}
-use Rattle.wrapper_run.specs.Owning.{owned}
+use Rattle.wrapper_values.specs.Owning.{owned}
 use Rattle.rust_gen.proofs.ScopeLemmas.{Fresh, Grows, free-one, fresh-apart, grows-declared, used-declared, used-first}
 
 -- the word of a value that a conversion gives

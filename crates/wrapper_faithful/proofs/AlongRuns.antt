@@ -33,22 +33,22 @@ use Rattle.wrapper_data.specs.declared.value.RustValue.{RustValue}
 use Rattle.wrapper_data.specs.declared.value.RustValue.TheVariants as value
 use Rattle.wrapper_data.specs.declared.word.Word.{Word}
 use Rattle.wrapper_data.specs.declared.word.Word.TheVariants as word
-use Rattle.wrapper_run.specs.declared.state.Local.{Local}
-use Rattle.wrapper_run.specs.declared.state.State.{State}
-use Rattle.wrapper_run.specs.declared.state.Val.{Val}
-use Rattle.wrapper_run.specs.declared.state.Val.TheVariants as val
-use Rattle.wrapper_run.specs.Act.{Act, Outcome, Done, Stopped, ◌>>=◌, ◌>>◌, all, and_then, or_stop, pure, stop}
+use Rattle.wrapper_values.specs.declared.state.Local.{Local}
+use Rattle.wrapper_values.specs.declared.state.State.{State}
+use Rattle.wrapper_values.specs.declared.state.Val.{Val}
+use Rattle.wrapper_values.specs.declared.state.Val.TheVariants as val
+use Rattle.wrapper_values.specs.Act.{Act, Outcome, Done, Stopped, ◌>>=◌, ◌>>◌, all, and_then, or_stop, pure, stop}
 use Rattle.wrapper_run.specs.Blocks.{dealloc, drop_local, drop_locals, drop_value, free, free_all, free_bytes, free_found, free_untaken, keep_blocks, keep_locals, leave_to, lift_buffer, lift_text, own, own_block, owned_block, owned_bytes, owner_of, release, release_found, store_small, store_word, take_over, tested, untaken, write_small, write_word}
-use Rattle.wrapper_run.specs.Effect.{integer_of, word_of}
+use Rattle.wrapper_values.specs.Effect.{integer_of, word_of}
 use Rattle.wrapper_run.specs.ExportRun.{call_inside, call_method, call_with, core_answer, expect_words, keep_result, method_answer, method_call, returned_of, run_call, run_export_fn, run_to_words, take_value, are_words_of}
-use Rattle.wrapper_run.specs.Locals.{ask_local, bind, declare, lend_local, local_named, usable, use_local, used, value_of}
+use Rattle.wrapper_values.specs.Locals.{ask_local, bind, declare, lend_local, local_named, usable, use_local, used, value_of}
 use Rattle.wrapper_run.specs.Growth.{state_of}
 use Rattle.wrapper_run.specs.Memory.{bytes_from, bytes_of_small, loaded, loaded_small, low_bytes, stored, stored_small}
-use Rattle.wrapper_run.specs.Owning.{buffer_of, lent, listed, owned, owned_in, taken_by}
+use Rattle.wrapper_values.specs.Owning.{buffer_of, lent, listed, owned, owned_in, taken_by}
 use Rattle.wrapper_run.specs.Places.{area_in, is_fitting, place_area, place_at, place_static, request_of, static_place, static_pointer, with_area}
 use Rattle.wrapper_run.specs.Run.{answer_act, answer_and_leave, call_import, call_point, eval, give_and_leave, load_small, load_word, record_call, result_of, run_block, run_fn, run_stmts, take_answer, take_bytes}
-use Rattle.wrapper_run.specs.Setting.{Setting, failed, stuck}
-use Rattle.wrapper_run.specs.Typed.{answer_in}
+use Rattle.wrapper_values.specs.Setting.{Setting, failed, stuck}
+use Rattle.wrapper_values.specs.Typed.{answer_in}
 use Rattle.wrapper_run.proofs.GrowLemmas.{all_known}
 use Rattle.wrapper_run.proofs.Walk.{Everywhere, known_block, known_expr, known_stmts, walks_block, walks_expr, walks_stmts}
 use Rattle.rust_tree.specs.declared.export.PostReturnFn.{PostReturnFn}
@@ -57,7 +57,7 @@ use Rattle.wrapper_data.specs.Answered.{with_writes}
 use Rattle.wrapper_data.specs.declared.heap.Heap.{Heap}
 use Rattle.wrapper_run.specs.Blocks.{removed, without_block, without_owner}
 use Rattle.wrapper_run.specs.ExportRun.{method_named, method_point, values_of}
-use Rattle.wrapper_run.specs.Locals.{import_named}
+use Rattle.wrapper_values.specs.Locals.{import_named}
 use Rattle.wrapper_run.specs.Memory.{bytes_of, bytes_of_type, is_inside, writes_from}
 use Rattle.wrapper_run.specs.PostReturn.{run_post_return_fn}
 use Rattle.wrapper_run.specs.Run.{called_with, point_of, unhidden, words_of}

@@ -27,7 +27,7 @@ use Rattle.wrapper_meaning.specs.Value.{Result, Value}
 use Rattle.wrapper_meaning.proofs.Lists.{first_or}
 use Rattle.wrapper_meaning.proofs.Permutations.{same_blocks_are_permuted}
 use Rattle.wrapper_run.specs.Honest as narrow
-use Rattle.wrapper_run.specs.Locals.{last}
+use Rattle.wrapper_values.specs.Locals.{last}
 use Rattle.wrapper_run.specs.Memory.{loaded}
 use Rattle.wrapper_run.specs.StandsFor.{IsTextBlock}
 use Rattle.wrapper_run.specs.Value as told_value

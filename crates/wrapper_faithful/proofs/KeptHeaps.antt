@@ -15,13 +15,13 @@ use Rattle.wrapper_data.specs.Heap.{is_block, is_heap, overlaps_any}
 use Rattle.rust_tree.specs.declared.export.ExportFn.{ExportFn}
 use Rattle.rust_tree.specs.declared.export.PostReturnFn.{PostReturnFn}
 use Rattle.rust_tree.specs.declared.item.FnItem.{FnItem}
-use Rattle.wrapper_run.specs.Act.{Outcome, Done, Stopped}
+use Rattle.wrapper_values.specs.Act.{Outcome, Done, Stopped}
 use Rattle.wrapper_run.specs.Blocks.{removed}
 use Rattle.wrapper_run.specs.ExportRun.{ended_export, export_at, run_export_fn, run_export_item, start_export}
 use Rattle.wrapper_run.specs.Places.{area_block, is_fitting, with_area}
 use Rattle.wrapper_run.specs.PostReturn.{post_return_at, post_return_setting, run_post_return_fn, run_post_return_item, start_post_return}
 use Rattle.wrapper_run.specs.Run.{ended, import_at, run_fn, run_item, setting_of, start}
-use Rattle.wrapper_run.specs.declared.state.State.{State}
+use Rattle.wrapper_values.specs.declared.state.State.{State}
 use Rattle.wrapper_faithful.specs.KeptHeaps.{ExportKeepsHeap, ImportKeepsHeap, LeavesHeap, PostReturnKeepsHeap, ShowsHeaps}
 use Rattle.wrapper_run.specs.Growth.{state_of}
 use Rattle.wrapper_faithful.proofs.AlongRuns.{Moves, along_export, along_fn, along_post_return}

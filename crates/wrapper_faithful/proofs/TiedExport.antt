@@ -53,7 +53,7 @@ use Rattle.wrapper_run.specs.ExportFaithful as narrow
 use Rattle.wrapper_run.specs.Faithful.{fits_area, param_types}
 use Rattle.wrapper_run.specs.Honest as narrow_honest
 use Rattle.wrapper_run.specs.Memory.{loaded}
-use Rattle.wrapper_run.specs.Owning.{listed}
+use Rattle.wrapper_values.specs.Owning.{listed}
 use Rattle.wrapper_run.specs.Represents as told_words
 use Rattle.wrapper_run.specs.StandsFor.{StandAllOwned}
 use Rattle.wrapper_run.specs.TextBlocks.{text_block, text_blocks}

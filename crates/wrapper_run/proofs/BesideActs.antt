@@ -26,22 +26,22 @@ use Rattle.wrapper_data.specs.declared.run.TrapKind.TheVariants as trap
 use Rattle.wrapper_data.specs.declared.value.RustValue.TheVariants as value
 use Rattle.wrapper_data.specs.declared.word.Word.{Word}
 use Rattle.wrapper_data.specs.declared.word.Word.TheVariants as word
-use Rattle.wrapper_run.specs.declared.owning.View.{View}
-use Rattle.wrapper_run.specs.declared.state.Local.{Local}
-use Rattle.wrapper_run.specs.declared.state.State.{State}
-use Rattle.wrapper_run.specs.declared.state.Val.{Val}
-use Rattle.wrapper_run.specs.declared.state.Val.TheVariants as val
-use Rattle.wrapper_run.specs.Act.{Act, Outcome, Done, Stopped, ◌>>=◌, ◌>>◌, and_then, or_stop, pure, stop}
+use Rattle.wrapper_values.specs.declared.owning.View.{View}
+use Rattle.wrapper_values.specs.declared.state.Local.{Local}
+use Rattle.wrapper_values.specs.declared.state.State.{State}
+use Rattle.wrapper_values.specs.declared.state.Val.{Val}
+use Rattle.wrapper_values.specs.declared.state.Val.TheVariants as val
+use Rattle.wrapper_values.specs.Act.{Act, Outcome, Done, Stopped, ◌>>=◌, ◌>>◌, and_then, or_stop, pure, stop}
 use Rattle.wrapper_run.specs.Blocks.{dealloc, drop_locals, free, free_bytes, free_found, free_untaken, in_scope, keep_blocks, keep_locals, leave_to, lift_buffer, lift_text, own, own_block, owned_block, owned_bytes, owner_of, release, release_found, store_small, store_word, take_over, tested, untaken, write_small, write_word}
-use Rattle.wrapper_run.specs.Effect.{integer_of, is_word_of}
+use Rattle.wrapper_values.specs.Effect.{integer_of, is_word_of}
 use Rattle.wrapper_run.specs.Growth.{Grows, Longer, state_of}
-use Rattle.wrapper_run.specs.Locals.{ask_local, bind, declare, lend_local, local_named, usable, use_local, used, value_of}
+use Rattle.wrapper_values.specs.Locals.{ask_local, bind, declare, lend_local, local_named, usable, use_local, used, value_of}
 use Rattle.wrapper_run.specs.Memory.{begins_at, block_at, block_from, bytes_at, bytes_from, bytes_of, bytes_of_small, bytes_of_type, holds, is_at, is_inside, loaded, loaded_small, low_bytes, number_from, stored, stored_small, without, word_from, writes_from}
 use Rattle.wrapper_run.specs.OtherBlocks.{Beside, Between, EndsBeside, are_clear, are_held, widened}
-use Rattle.wrapper_run.specs.Owning.{buffer_of, is_taken, lent, owned, view}
+use Rattle.wrapper_values.specs.Owning.{buffer_of, is_taken, lent, owned, view}
 use Rattle.wrapper_run.specs.Places.{area_block, area_in, is_fitting, place_area, place_at, place_static, request_of, static_place, static_pointer, with_area}
 use Rattle.wrapper_run.specs.Run.{call_import, call_point, load_small, load_word, record_call, take_answer, take_bytes}
-use Rattle.wrapper_run.specs.Setting.{Setting, failed, stuck}
+use Rattle.wrapper_values.specs.Setting.{Setting, failed, stuck}
 use Rattle.wrapper_run.proofs.BesideLemmas.{any_by, apart_others, at_begins, begun_size, between-any, between-behind, between-find, between-given, between-without, bytes-positive, clear_by, found_any, held_misses, meet_at, meet_beginning, meet_holding, misses, none_by, passes_found, placed_clear, sized_begins, small-positive, without_apart, written_beside}
 use Rattle.wrapper_run.proofs.GrowLemmas.{all_known, grows_answer, grows_ask, grows_bind, grows_dealloc, grows_declare, grows_free, grows_import, grows_leave, grows_lend, grows_lift_text, grows_load, grows_load_small, grows_place, grows_pure, grows_release, grows_scope, grows_static, grows_static_place, grows_stop, grows_store, grows_store_small, grows_take, grows_then, grows_use, longer-same}
 use Rattle.wrapper_run.proofs.StoreLemmas.{length_bytes_of, length_low_bytes}

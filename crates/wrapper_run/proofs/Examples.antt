@@ -30,25 +30,25 @@ use Rattle.wrapper_data.specs.declared.answer.Answer.TheVariants as answer
 use Rattle.wrapper_data.specs.declared.run.Target.TheVariants as target
 use Rattle.wrapper_data.specs.declared.word.Word.TheVariants as word
 use Rattle.wrapper_data.specs.Answered.{with_block, written_block}
-use Rattle.wrapper_run.specs.declared.state.Local.{Local}
-use Rattle.wrapper_run.specs.declared.state.State.{State}
-use Rattle.wrapper_run.specs.declared.state.Val.{Val}
-use Rattle.wrapper_run.specs.declared.state.Val.TheVariants as val
-use Rattle.wrapper_run.specs.Act.{Act, Done, Stopped, ◌>>=◌, ◌>>◌, all, and_then, or_stop, pure}
+use Rattle.wrapper_values.specs.declared.state.Local.{Local}
+use Rattle.wrapper_values.specs.declared.state.State.{State}
+use Rattle.wrapper_values.specs.declared.state.Val.{Val}
+use Rattle.wrapper_values.specs.declared.state.Val.TheVariants as val
+use Rattle.wrapper_values.specs.Act.{Act, Done, Stopped, ◌>>=◌, ◌>>◌, all, and_then, or_stop, pure}
 use Rattle.wrapper_run.specs.Blocks.{drop_value, forget, free, free_all, leave_to, release, release_all}
-use Rattle.wrapper_run.specs.Effect.{answer_of}
-use Rattle.wrapper_run.specs.Fields.{arranged}
+use Rattle.wrapper_values.specs.Effect.{answer_of}
+use Rattle.wrapper_values.specs.Fields.{arranged}
 use Rattle.wrapper_run.specs.Honest.{AnswersText}
-use Rattle.wrapper_run.specs.Locals.{lend_local, use_local}
+use Rattle.wrapper_values.specs.Locals.{lend_local, use_local}
 use Rattle.wrapper_run.specs.Memory.{loaded, loaded_small, stored_small}
-use Rattle.wrapper_run.specs.Owning.{lent, owned}
+use Rattle.wrapper_values.specs.Owning.{lent, owned}
 use Rattle.wrapper_run.specs.Represents.{LiesAt}
 use Rattle.wrapper_run.specs.Results.{results, run_inner}
 use Rattle.wrapper_run.specs.Run.{begin, call, eval, run_stmt}
-use Rattle.wrapper_run.specs.Setting.{Setting, stuck}
-use Rattle.wrapper_run.specs.Typed.{Typed, answer_in, typed, typed_case, typed_level, unaliased}
+use Rattle.wrapper_values.specs.Setting.{Setting, stuck}
+use Rattle.wrapper_values.specs.Typed.{Typed, answer_in, typed, typed_case, typed_level, unaliased}
 use Rattle.wrapper_run.specs.Value.{number}
-use Rattle.wrapper_run.specs.Whole.{whole_of}
+use Rattle.wrapper_values.specs.Whole.{whole_of}
 use Rattle.wrapper_run.proofs.OwningLemmas.{owned-block, owned-scalar}
 use Rattle.wrapper_run.proofs.PartSteps.{eval-record, takes_apart}
 use Rattle.wrapper_run.proofs.StepLemmas.{eval-call, eval-local, eval-ref, local_gives}

@@ -14,20 +14,20 @@ use Rattle.wrapper_data.specs.declared.run.TrapKind.TheVariants as trap
 use Rattle.wrapper_data.specs.declared.value.RustValue.{RustValue-F, out-RustValue, the_lemmas as value_lemmas}
 use Rattle.wrapper_data.specs.declared.value.RustValue.TheVariants as value
 use Rattle.wrapper_data.specs.declared.word.Word.TheVariants as word
-use Rattle.wrapper_run.specs.declared.state.State.{State}
-use Rattle.wrapper_run.specs.declared.state.Val.{Val}
-use Rattle.wrapper_run.specs.declared.state.Val.TheVariants as val
-use Rattle.wrapper_run.specs.Act.{Done, and_then, pure, stop}
+use Rattle.wrapper_values.specs.declared.state.State.{State}
+use Rattle.wrapper_values.specs.declared.state.Val.{Val}
+use Rattle.wrapper_values.specs.declared.state.Val.TheVariants as val
+use Rattle.wrapper_values.specs.Act.{Done, and_then, pure, stop}
 use Rattle.wrapper_run.specs.Blocks.{dealloc, drop_value, free_all, free_bytes, free_untaken, removed}
-use Rattle.wrapper_run.specs.Effect.{is_unit_level}
+use Rattle.wrapper_values.specs.Effect.{is_unit_level}
 use Rattle.wrapper_run.specs.ExportRun.{core_answer}
 use Rattle.wit_model.specs.Bytes.{Bytes}
 use Rattle.wrapper_run.specs.Memory.{block_at, bytes_from}
-use Rattle.wrapper_run.specs.Owning.{is_taken}
+use Rattle.wrapper_values.specs.Owning.{is_taken}
 use Rattle.wrapper_run.specs.Represents.{HasText, block_of}
 use Rattle.wrapper_run.specs.Returned.{without_all}
 use Rattle.wrapper_run.specs.Run.{apply, call_callee, call_runtime, callee, eval, of_runtime, run_stmt, runtime_item_named}
-use Rattle.wrapper_run.specs.Setting.{Setting, failed}
+use Rattle.wrapper_values.specs.Setting.{Setting, failed}
 use Rattle.wrapper_run.proofs.OwningLemmas.{owned-unit}
 use Rattle.wrapper_run.proofs.StepLemmas.{Give, call_gives}
 

@@ -27,20 +27,20 @@ use Rattle.wrapper_run.proofs.PlaceLemmas.{Places, asked, with_pair}
 use Rattle.wrapper_data.specs.declared.value.RustValue.TheVariants as value
 use Rattle.wrapper_data.specs.declared.word.Word.{Word}
 use Rattle.wrapper_data.specs.declared.word.Word.TheVariants as word
-use Rattle.wrapper_run.specs.declared.state.Local.{Local}
-use Rattle.wrapper_run.specs.declared.state.State.{State}
-use Rattle.wrapper_run.specs.declared.state.Val.{Val}
-use Rattle.wrapper_run.specs.declared.state.Val.TheVariants as val
-use Rattle.wrapper_run.specs.Act.{Act, Outcome, Done, Stopped, ◌>>=◌, and_then, or_stop, pure}
+use Rattle.wrapper_values.specs.declared.state.Local.{Local}
+use Rattle.wrapper_values.specs.declared.state.State.{State}
+use Rattle.wrapper_values.specs.declared.state.Val.{Val}
+use Rattle.wrapper_values.specs.declared.state.Val.TheVariants as val
+use Rattle.wrapper_values.specs.Act.{Act, Outcome, Done, Stopped, ◌>>=◌, and_then, or_stop, pure}
 use Rattle.wrapper_run.specs.Blocks.{box_buffer, boxed, drop_value, forget, free_all, keep_blocks, release, release_all, release_found, store_word, write_word}
-use Rattle.wrapper_run.specs.Effect.{word_of}
-use Rattle.wrapper_run.specs.Locals.{bind, local_named, use_local, value_of}
+use Rattle.wrapper_values.specs.Effect.{word_of}
+use Rattle.wrapper_values.specs.Locals.{bind, local_named, use_local, value_of}
 use Rattle.wit_model.specs.Bytes.{Bytes}
 use Rattle.wrapper_run.specs.Memory.{block_from, bytes_from, stored}
-use Rattle.wrapper_run.specs.Owning.{is_taken, owned_in, taken_by}
+use Rattle.wrapper_values.specs.Owning.{is_taken, owned_in, taken_by}
 use Rattle.wrapper_run.specs.Places.{area_in, is_fitting, place_area, place_static, request_of, static_place, static_pointer}
 use Rattle.wrapper_run.specs.Run.{call, call_callee, callee, core_forget, eval, run_stmt, run_stmts}
-use Rattle.wrapper_run.specs.Setting.{Setting, stuck}
+use Rattle.wrapper_values.specs.Setting.{Setting, stuck}
 use Rattle.wrapper_run.proofs.LocalLemmas.{reads-new, reads-past}
 use Rattle.wrapper_run.proofs.OwningLemmas.{ArePlain, buffer-text, owned-block, owned-empty, owned-unit, plain-append}
 use Rattle.wrapper_run.proofs.StepLemmas.{as_ptr_gives, cast_mut_gives, len_gives, local_gives, eval-call, eval-local}

@@ -13,18 +13,18 @@ use Rattle.wrapper_data.specs.declared.run.CallPoint.{CallPoint}
 use Rattle.wrapper_data.specs.declared.value.RustValue.{RustValue}
 use Rattle.wrapper_data.specs.declared.value.RustValue.TheVariants as value
 use Rattle.wrapper_data.specs.declared.word.Word.{Word}
-use Rattle.wrapper_run.specs.declared.state.Local.{Local}
-use Rattle.wrapper_run.specs.declared.state.State.{State}
-use Rattle.wrapper_run.specs.declared.state.Val.{Val}
-use Rattle.wrapper_run.specs.declared.state.Val.TheVariants as val
-use Rattle.wrapper_run.specs.Act.{Act, Outcome, Done, Stopped, ◌>>◌, and_then, or_stop}
+use Rattle.wrapper_values.specs.declared.state.Local.{Local}
+use Rattle.wrapper_values.specs.declared.state.State.{State}
+use Rattle.wrapper_values.specs.declared.state.Val.{Val}
+use Rattle.wrapper_values.specs.declared.state.Val.TheVariants as val
+use Rattle.wrapper_values.specs.Act.{Act, Outcome, Done, Stopped, ◌>>◌, and_then, or_stop}
 use Rattle.wrapper_run.specs.Blocks.{drop_locals, keep_locals, leave_to}
-use Rattle.wrapper_run.specs.Effect.{answer_of}
+use Rattle.wrapper_values.specs.Effect.{answer_of}
 use Rattle.wrapper_run.specs.ExportRun.{call_method, ended_export, method_answer, method_call, method_named, method_point, passed_as, returned_of, take_value, values_of}
 use Rattle.wit_model.specs.Bytes.{Bytes}
-use Rattle.wrapper_run.specs.Owning.{listed, taken_by}
+use Rattle.wrapper_values.specs.Owning.{listed, taken_by}
 use Rattle.wrapper_run.specs.Run.{bound, record_call}
-use Rattle.wrapper_run.specs.Setting.{Setting, stuck}
+use Rattle.wrapper_values.specs.Setting.{Setting, stuck}
 use Rattle.wrapper_run.proofs.NumberLemmas.{answered-unit}
 use Rattle.wrapper_run.proofs.TypedLemmas.{answered_in}
 use Rattle.wrapper_run.proofs.OwningLemmas.{ArePlain, drops_plain}

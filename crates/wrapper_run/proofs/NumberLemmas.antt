@@ -21,9 +21,9 @@ use Rattle.wrapper_data.specs.declared.value.RustValue.{RustValue, RustValue-F, 
 use Rattle.wrapper_data.specs.declared.value.RustValue.TheVariants as value
 use Rattle.wrapper_data.specs.declared.value.RustValue.{the_lemmas}
 use Rattle.wrapper_data.specs.declared.word.Word.TheVariants as word
-use Rattle.wrapper_run.specs.declared.state.Val.{Val}
-use Rattle.wrapper_run.specs.declared.state.Val.TheVariants as val
-use Rattle.wrapper_run.specs.Effect.{answer_as, answer_of, bit, bool_of, bool_of_level, char_of, char_of_level, converted, f32_of_level, f64_of_level, i32_of_char, i32_of_number, i64_of_number, is_narrow, is_of_kind, is_printed_as, is_scalar, is_signed, is_unit_level, is_unsigned, lift_of, lift_of_number, low_i32, low_i64, num_of, num_of_level, number_as, seen_as, value_as, word_of_bool}
+use Rattle.wrapper_values.specs.declared.state.Val.{Val}
+use Rattle.wrapper_values.specs.declared.state.Val.TheVariants as val
+use Rattle.wrapper_values.specs.Effect.{answer_as, answer_of, bit, bool_of, bool_of_level, char_of, char_of_level, converted, f32_of_level, f64_of_level, i32_of_char, i32_of_number, i64_of_number, is_narrow, is_of_kind, is_printed_as, is_scalar, is_signed, is_unit_level, is_unsigned, lift_of, lift_of_number, low_i32, low_i64, num_of, num_of_level, number_as, seen_as, value_as, word_of_bool}
 
 low_i32-fits : (z : ℤ) → FitsSigned w32 z → low_i32 z ≡ z
 unfolding int_wrap

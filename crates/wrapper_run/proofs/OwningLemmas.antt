@@ -4,13 +4,13 @@ use Rattle.wit_model.specs.declared.types.WitType.{WitType}
 use Rattle.std.specs.Prelude.{option_and_then}
 use Rattle.wrapper_data.specs.declared.value.RustValue.{RustValue-F, out-RustValue, the_lemmas}
 use Rattle.wrapper_data.specs.declared.value.RustValue.TheVariants as value
-use Rattle.wrapper_run.specs.declared.state.Local.{Local}
-use Rattle.wrapper_run.specs.declared.state.State.{State}
-use Rattle.wrapper_run.specs.declared.state.Val.TheVariants as val
-use Rattle.wrapper_run.specs.Act.{Outcome, Done, Stopped, and_then, pure}
+use Rattle.wrapper_values.specs.declared.state.Local.{Local}
+use Rattle.wrapper_values.specs.declared.state.State.{State}
+use Rattle.wrapper_values.specs.declared.state.Val.TheVariants as val
+use Rattle.wrapper_values.specs.Act.{Outcome, Done, Stopped, and_then, pure}
 use Rattle.wrapper_run.specs.Blocks.{drop_local, drop_locals, free, free_all}
-use Rattle.wrapper_run.specs.Owning.{buffer_of, buffer_of_level, lent, owned, owned_in, owned_level}
-use Rattle.wrapper_run.specs.Setting.{Setting}
+use Rattle.wrapper_values.specs.Owning.{buffer_of, buffer_of_level, lent, owned, owned_in, owned_level}
+use Rattle.wrapper_values.specs.Setting.{Setting}
 use Rattle.wrapper_run.specs.StandsFor.{rust_value}
 use Rattle.wrapper_run.specs.TextBlocks.{block_of_buffer, text_block}
 use Rattle.wrapper_run.specs.Value.{Scalar, char, f32, f64, number, truth}

@@ -10,15 +10,15 @@ use Rattle.rust_tree.specs.declared.pattern.Pattern.{Pattern}
 use Rattle.rust_tree.specs.declared.stmt.Stmt.TheVariants as stmt
 use Rattle.wrapper_data.specs.declared.value.RustValue.{RustValue, RustValue-F, out-RustValue, the_lemmas}
 use Rattle.wrapper_data.specs.declared.value.RustValue.TheVariants as value
-use Rattle.wrapper_run.specs.declared.state.Local.{Local}
-use Rattle.wrapper_run.specs.declared.state.State.{State}
-use Rattle.wrapper_run.specs.declared.state.Val.{Val}
-use Rattle.wrapper_run.specs.declared.state.Val.TheVariants as val
-use Rattle.wrapper_run.specs.Act.{Act, Done, ◌>>=◌, and_then, or_stop}
-use Rattle.wrapper_run.specs.Locals.{bind}
+use Rattle.wrapper_values.specs.declared.state.Local.{Local}
+use Rattle.wrapper_values.specs.declared.state.State.{State}
+use Rattle.wrapper_values.specs.declared.state.Val.{Val}
+use Rattle.wrapper_values.specs.declared.state.Val.TheVariants as val
+use Rattle.wrapper_values.specs.Act.{Act, Done, ◌>>=◌, and_then, or_stop}
+use Rattle.wrapper_values.specs.Locals.{bind}
 use Rattle.wrapper_run.specs.Run.{eval, eval_step, run_stmt}
-use Rattle.wrapper_run.specs.Setting.{Setting, stuck}
-use Rattle.wrapper_run.specs.Whole.{bind_parts, given_names, parts_of, parts_of_level, record_of, rust_values, take_apart, whole}
+use Rattle.wrapper_values.specs.Setting.{Setting, stuck}
+use Rattle.wrapper_values.specs.Whole.{bind_parts, given_names, parts_of, parts_of_level, record_of, rust_values, take_apart, whole}
 
 -- one level of an expression
 

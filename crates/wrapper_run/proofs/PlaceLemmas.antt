@@ -4,12 +4,12 @@ use Rattle.wrapper_data.specs.declared.choice.Choice.{Choice}
 use Rattle.wrapper_data.specs.declared.choice.Choice.TheVariants as choice
 use Rattle.wrapper_data.specs.declared.block.Block.{Block}
 use Rattle.wrapper_data.specs.declared.run.Stop.TheVariants as stop_of
-use Rattle.wrapper_run.specs.declared.state.State.{State}
-use Rattle.wrapper_run.specs.Act.{Outcome, Done, Stopped}
+use Rattle.wrapper_values.specs.declared.state.State.{State}
+use Rattle.wrapper_values.specs.Act.{Outcome, Done, Stopped}
 use Rattle.wrapper_run.specs.Areas.{text_area}
 use Rattle.wrapper_run.specs.Faithful.{fits_area}
 use Rattle.wrapper_run.specs.Places.{is_fitting, place_area, place_at}
-use Rattle.wrapper_run.specs.Setting.{Setting}
+use Rattle.wrapper_values.specs.Setting.{Setting}
 
 abbrev pub pair_block : ℕ → Block
 pair_block a = record { address = a; size = 8; cells = [] }

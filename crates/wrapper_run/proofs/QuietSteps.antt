@@ -20,20 +20,20 @@ use Rattle.wrapper_data.specs.declared.run.Stop.TheVariants as stop_of
 use Rattle.wrapper_data.specs.declared.value.RustValue.TheVariants as value
 use Rattle.wrapper_data.specs.declared.word.Word.{Word}
 use Rattle.wrapper_data.specs.declared.word.Word.TheVariants as word
-use Rattle.wrapper_run.specs.declared.owning.View.{View}
-use Rattle.wrapper_run.specs.declared.owning.View.TheVariants as view_of
-use Rattle.wrapper_run.specs.declared.state.State.{State}
-use Rattle.wrapper_run.specs.declared.state.Val.{Val}
-use Rattle.wrapper_run.specs.declared.state.Val.TheVariants as val
-use Rattle.wrapper_run.specs.Act.{Done, Stopped, ◌>>=◌, all, or_stop, pure}
+use Rattle.wrapper_values.specs.declared.owning.View.{View}
+use Rattle.wrapper_values.specs.declared.owning.View.TheVariants as view_of
+use Rattle.wrapper_values.specs.declared.state.State.{State}
+use Rattle.wrapper_values.specs.declared.state.Val.{Val}
+use Rattle.wrapper_values.specs.declared.state.Val.TheVariants as val
+use Rattle.wrapper_values.specs.Act.{Done, Stopped, ◌>>=◌, all, or_stop, pure}
 use Rattle.wrapper_run.specs.Blocks.{box_buffer, boxed, drop_value, keep_blocks, owned_block, release, release_all, release_found, store_word, write_word}
-use Rattle.wrapper_run.specs.Effect.{word_of, word_of_bool}
-use Rattle.wrapper_run.specs.Locals.{ask_local, bind, local_named, use_local, value_of}
+use Rattle.wrapper_values.specs.Effect.{word_of, word_of_bool}
+use Rattle.wrapper_values.specs.Locals.{ask_local, bind, local_named, use_local, value_of}
 use Rattle.wrapper_run.specs.Memory.{stored}
-use Rattle.wrapper_run.specs.Owning.{buffer_of, owned, view}
+use Rattle.wrapper_values.specs.Owning.{buffer_of, owned, view}
 use Rattle.wrapper_run.specs.Places.{area_in, is_fitting, place_area, place_at, place_static, request_of, static_place, static_pointer, with_area}
 use Rattle.wrapper_run.specs.Run.{call, call_callee, callee, core_forget, eval, forget_one, run_stmt, run_stmts}
-use Rattle.wrapper_run.specs.Setting.{Setting, stuck}
+use Rattle.wrapper_values.specs.Setting.{Setting, stuck}
 use Rattle.wrapper_run.proofs.GiveSteps.{eval-boxed, eval-static}
 use Rattle.wrapper_run.proofs.StepLemmas.{Quiet, calls_at, eval-as_ptr, eval-bool, eval-call, eval-cast_mut, eval-len, quiet_bind, quiet_drop, quiet_one, quiet_or_stop, quiet_pure, quiet_then, quiet_use}
 

@@ -10,21 +10,21 @@ use Rattle.std.proofs.lemmas.List.{length-append, length-map, take-append-drop, 
 use Rattle.std.proofs.lemmas.List.Elements.{filter-append}
 use Rattle.wit_model.specs.Bytes.{Bytes}
 use Rattle.rust_tree.specs.declared.stmt.Block.{Block as Code}
-use Rattle.wrapper_run.specs.declared.owning.View.{View}
-use Rattle.wrapper_run.specs.declared.state.Local.{Local}
-use Rattle.wrapper_run.specs.declared.state.State.{State}
-use Rattle.wrapper_run.specs.declared.state.Val.{Val}
-use Rattle.wrapper_run.specs.declared.state.Val.TheVariants as val
+use Rattle.wrapper_values.specs.declared.owning.View.{View}
+use Rattle.wrapper_values.specs.declared.state.Local.{Local}
+use Rattle.wrapper_values.specs.declared.state.State.{State}
+use Rattle.wrapper_values.specs.declared.state.Val.{Val}
+use Rattle.wrapper_values.specs.declared.state.Val.TheVariants as val
 use Rattle.wrapper_data.specs.declared.run.Stop.{Stop}
-use Rattle.wrapper_run.specs.Act.{Act, Outcome, Done, Stopped, ◌>>=◌, ◌>>◌, and_then, or_stop, pure, stop}
+use Rattle.wrapper_values.specs.Act.{Act, Outcome, Done, Stopped, ◌>>=◌, ◌>>◌, and_then, or_stop, pure, stop}
 use Rattle.wrapper_run.specs.Blocks.{dealloc, drop_local, drop_locals, free, free_all, in_scope, keep_locals, leave_to, lift_text, release, store_small, store_word}
 use Rattle.wrapper_run.specs.Growth.{state_of}
-use Rattle.wrapper_run.specs.Locals.{ask_local, bind, declare, emptied, lend_local, local_named, moved, usable, use_local, used, value_of}
-use Rattle.wrapper_run.specs.Owning.{lent, owned, owned_in, view}
+use Rattle.wrapper_values.specs.Locals.{ask_local, bind, declare, emptied, lend_local, local_named, moved, usable, use_local, used, value_of}
+use Rattle.wrapper_values.specs.Owning.{lent, owned, owned_in, view}
 use Rattle.wrapper_run.specs.Places.{place_area, static_pointer}
 use Rattle.wrapper_run.specs.Results.{run_inner, run_results}
 use Rattle.wrapper_run.specs.Run.{call_import, call_point, load_small, load_word, take_bytes}
-use Rattle.wrapper_run.specs.Setting.{Setting, stuck}
+use Rattle.wrapper_values.specs.Setting.{Setting, stuck}
 use Rattle.wrapper_run.specs.UnusedLocals.{DoneIgnoresOthers, IgnoresOthers, is_block_known, known_locals, narrowed, narrowed_end, other_locals}
 use Rattle.wrapper_run.proofs.UnusedLemmas.{Aside, aside_call, aside_dealloc, aside_declare, aside_free, aside_lift_text, aside_load, aside_load_small, aside_or_stop, aside_place, aside_pure, aside_release, aside_static, aside_stop, aside_store, aside_store_small, aside_take, aside_then, call_with, ignores_everywhere, unchanged}
 use Rattle.wrapper_run.proofs.Walk.{Everywhere, walks_given}

@@ -14,18 +14,18 @@ use Rattle.rust_tree.specs.declared.runtime_item.RuntimeItem.TheVariants.{CabiDe
 use Rattle.std.specs.Str.{is_utf8}
 use Rattle.std.proofs.Common.{Bool, false}
 use Rattle.wrapper_data.specs.declared.run.TrapKind.TheVariants as trap
-use Rattle.wrapper_run.specs.declared.state.Local.{Local}
-use Rattle.wrapper_run.specs.Act.{stop}
-use Rattle.wrapper_run.specs.Owning.{buffer_of}
+use Rattle.wrapper_values.specs.declared.state.Local.{Local}
+use Rattle.wrapper_values.specs.Act.{stop}
+use Rattle.wrapper_values.specs.Owning.{buffer_of}
 use Rattle.wrapper_run.proofs.NumberLemmas.{no_dealloc, no_text}
 use Rattle.wrapper_run.proofs.OwningLemmas.{ArePlain, buffer-text, drops_plain}
-use Rattle.wrapper_run.specs.declared.owning.View.{View}
-use Rattle.wrapper_run.specs.declared.owning.View.TheVariants as view_of
+use Rattle.wrapper_values.specs.declared.owning.View.{View}
+use Rattle.wrapper_values.specs.declared.owning.View.TheVariants as view_of
 use Rattle.wrapper_data.specs.declared.word.Word.TheVariants as word
-use Rattle.wrapper_run.specs.Owning.{view}
-use Rattle.wrapper_run.specs.Locals.{ask_local}
+use Rattle.wrapper_values.specs.Owning.{view}
+use Rattle.wrapper_values.specs.Locals.{ask_local}
 use Rattle.rust_tree.specs.declared.type_expr.TypeExpr.{TypeExpr}
-use Rattle.wrapper_run.specs.Effect.{answer_of}
+use Rattle.wrapper_values.specs.Effect.{answer_of}
 use Rattle.wrapper_run.specs.Run.{answer_and_leave, give_and_leave}
 use Rattle.std.proofs.Common.{drop, take}
 use Rattle.wrapper_run.specs.Blocks.{drop_value}
@@ -39,16 +39,16 @@ use Rattle.wrapper_data.specs.declared.run.TrapKind.{TrapKind}
 use Rattle.wrapper_data.specs.declared.value.RustValue.{RustValue}
 use Rattle.wrapper_data.specs.declared.value.RustValue.TheVariants as value
 use Rattle.wrapper_data.specs.declared.word.Word.{Word}
-use Rattle.wrapper_run.specs.declared.state.State.{State}
-use Rattle.wrapper_run.specs.declared.state.Val.{Val}
-use Rattle.wrapper_run.specs.declared.state.Val.TheVariants as val
-use Rattle.wrapper_run.specs.Act.{Act, Outcome, Done, Stopped, ◌>>=◌, ◌>>◌, all, and_then, or_stop, pure}
-use Rattle.wrapper_run.specs.Effect.{cast_integer, cast_to, converted, integer_of_word, is_word_of, lift_of, word_of_bool}
-use Rattle.wrapper_run.specs.Locals.{bind, lend_local, local_named, usable, use_local, used, value_of}
+use Rattle.wrapper_values.specs.declared.state.State.{State}
+use Rattle.wrapper_values.specs.declared.state.Val.{Val}
+use Rattle.wrapper_values.specs.declared.state.Val.TheVariants as val
+use Rattle.wrapper_values.specs.Act.{Act, Outcome, Done, Stopped, ◌>>=◌, ◌>>◌, all, and_then, or_stop, pure}
+use Rattle.wrapper_values.specs.Effect.{cast_integer, cast_to, converted, integer_of_word, is_word_of, lift_of, word_of_bool}
+use Rattle.wrapper_values.specs.Locals.{bind, lend_local, local_named, usable, use_local, used, value_of}
 use Rattle.wit_model.specs.Bytes.{Bytes}
-use Rattle.wrapper_run.specs.Owning.{lent, owned, owned_in}
-use Rattle.wrapper_run.specs.Setting.{Setting, failed, stuck}
-use Rattle.wrapper_run.specs.Typed.{answer_in}
+use Rattle.wrapper_values.specs.Owning.{lent, owned, owned_in}
+use Rattle.wrapper_values.specs.Setting.{Setting, failed, stuck}
+use Rattle.wrapper_values.specs.Typed.{answer_in}
 use Rattle.wrapper_run.proofs.TypedLemmas.{answered_in}
 use Rattle.wrapper_run.specs.Blocks.{dealloc, dealloc_words, drop_local, drop_locals, free, free_all, free_bytes, free_found, free_untaken, keep_locals, leave_to, lift_buffer, lift_text, owned_block, owned_bytes, tested, untaken}
 use Rattle.wrapper_run.specs.Run.{alone, of_runtime, call, call_callee, call_point, call_runtime, callee, answer_act, apply, apply_one, converted_or_lifted, lift_act, ended, eval, eval_step, record_call, result_of, runtime_item_named, take_answer, apply_item}

@@ -15,7 +15,7 @@ use Rattle.wrapper_data.specs.Answered.{with_cell, with_writes, written_block}
 use Rattle.wrapper_data.specs.Heap.{overlaps_any}
 use Rattle.wrapper_data.specs.declared.word.Word.{Word}
 use Rattle.wrapper_data.specs.declared.word.Word.TheVariants as word
-use Rattle.wrapper_run.specs.Effect.{is_word_of}
+use Rattle.wrapper_values.specs.Effect.{is_word_of}
 use Rattle.wrapper_run.specs.Honest.{WritesIn}
 use Rattle.wrapper_run.specs.Memory.{bytes_from, bytes_of, bytes_of_small, bytes_of_type, holds, is_inside, loaded, low_bytes, stored, word_from, writes_from}
 use Rattle.wrapper_run.proofs.HeapLemmas.{area_written, found_inside, written_all}

@@ -17,19 +17,20 @@ use Rattle.wrapper_data.specs.declared.value.RustValue.TheVariants as value
 use Rattle.wrapper_data.specs.declared.run.TrapKind.TheVariants as trap
 use Rattle.wrapper_data.specs.declared.word.Word.{Word}
 use Rattle.wrapper_data.specs.declared.word.Word.TheVariants as word
-use Rattle.wrapper_run.specs.declared.state.Local.{Local}
-use Rattle.wrapper_run.specs.declared.state.State.{State}
-use Rattle.wrapper_run.specs.declared.state.Val.{Val}
-use Rattle.wrapper_run.specs.declared.state.Val.TheVariants as val
-use Rattle.wrapper_run.specs.Act.{Act, Done, ◌>>=◌, and_then, or_stop, pure, stop}
+use Rattle.wrapper_values.specs.declared.state.Local.{Local}
+use Rattle.wrapper_values.specs.declared.state.State.{State}
+use Rattle.wrapper_values.specs.declared.state.Val.{Val}
+use Rattle.wrapper_values.specs.declared.state.Val.TheVariants as val
+use Rattle.wrapper_values.specs.Act.{Act, Done, ◌>>=◌, and_then, or_stop, pure, stop}
 use Rattle.wrapper_run.specs.Blocks.{untaken, lift_buffer, lift_text, own, own_block, owned_bytes, owner_of, take_over, tested}
-use Rattle.wrapper_run.specs.Locals.{local_named, moved, usable, use_local, used, value_of}
+use Rattle.wrapper_values.specs.Locals.{local_named, moved, usable, use_local, used, value_of}
 use Rattle.wit_model.specs.Bytes.{Bytes}
 use Rattle.wrapper_run.specs.Memory.{block_at, bytes_from, loaded}
-use Rattle.wrapper_run.specs.Owning.{is_taken, owned}
+use Rattle.wrapper_values.specs.Owning.{is_taken, owned}
 use Rattle.wrapper_run.specs.Run.{apply, call, call_callee, call_runtime, callee, eval, eval_step, load_word, of_runtime, runtime_item_named, take_bytes}
-use Rattle.wrapper_run.specs.Setting.{Setting, failed, stuck}
-use Rattle.wrapper_run.proofs.LocalLemmas.{bytes_eq-same, moved_front, moved_last, reads-new, reads_front}
+use Rattle.wrapper_values.specs.Setting.{Setting, failed, stuck}
+use Rattle.wrapper_run.proofs.LocalLemmas.{bytes_eq-same, reads-new, reads_front}
+use Rattle.wrapper_values.proofs.MovedLemmas.{moved_front, moved_last}
 use Rattle.std.specs.List.{list_any}
 use Rattle.std.specs.Str.{bytes_eq}
 use Rattle.wrapper_run.proofs.OwningLemmas.{buffer-text, owned-block, owned-empty}
@@ -41,11 +42,11 @@ use Rattle.wrapper_data.specs.Answered.{answered}
 use Rattle.wrapper_data.specs.declared.answer.Answer.TheVariants as answer
 use Rattle.wrapper_data.specs.declared.value.RustValue.{RustValue-F, out-RustValue, the_lemmas as value_lemmas}
 use Rattle.rust_tree.specs.declared.expr.Expr.{the_lemmas}
-use Rattle.wrapper_run.specs.declared.owning.View.TheVariants as view_of
+use Rattle.wrapper_values.specs.declared.owning.View.TheVariants as view_of
 use Rattle.wrapper_run.specs.Blocks.{drop_locals, free, free_found, keep_locals, leave_to, owned_block, without_block}
-use Rattle.wrapper_run.specs.Effect.{answer_as, answer_of, text_of_level}
-use Rattle.wrapper_run.specs.Locals.{ask_local}
-use Rattle.wrapper_run.specs.Owning.{owned_in}
+use Rattle.wrapper_values.specs.Effect.{answer_as, answer_of, text_of_level}
+use Rattle.wrapper_values.specs.Locals.{ask_local}
+use Rattle.wrapper_values.specs.Owning.{owned_in}
 use Rattle.wrapper_run.specs.Run.{answer_act, take_answer}
 use Rattle.wrapper_run.proofs.OwningLemmas.{ArePlain, drops_one}
 use Rattle.wrapper_run.proofs.StepLemmas.{ask_gives}

@@ -4,9 +4,9 @@ use Rattle.std.specs.Option.{option_map, option_or}
 use Rattle.rust_tree.specs.declared.item.Item.{Item}
 use Rattle.rust_tree.specs.declared.type_expr.TypeExpr.{TypeExpr, TypeExpr-F, out-TypeExpr}
 use Rattle.wrapper_data.specs.declared.value.RustValue.{RustValue}
-use Rattle.wrapper_run.specs.declared.state.Val.{Val}
-use Rattle.wrapper_run.specs.Effect.{answer_as, answer_of}
-use Rattle.wrapper_run.specs.Typed.{answer_in, behind, behind_one, definition_in, target_in, target_of, unaliased, whole_as}
+use Rattle.wrapper_values.specs.declared.state.Val.{Val}
+use Rattle.wrapper_values.specs.Effect.{answer_as, answer_of}
+use Rattle.wrapper_values.specs.Typed.{answer_in, behind, behind_one, definition_in, target_in, target_of, unaliased, whole_as}
 
 behind-itself : (fuel items : List Item) (ty : TypeExpr) → target_of items ty ≡ None → behind fuel items ty ≡ ty
 behind-itself [] items ty h = refl

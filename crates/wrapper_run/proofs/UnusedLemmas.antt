@@ -28,21 +28,21 @@ use Rattle.wrapper_data.specs.declared.run.TrapKind.TheVariants as trap
 use Rattle.wrapper_data.specs.declared.value.RustValue.TheVariants as value
 use Rattle.wrapper_data.specs.declared.word.Word.{Word}
 use Rattle.wrapper_data.specs.declared.word.Word.TheVariants as word
-use Rattle.wrapper_run.specs.declared.owning.View.{View}
-use Rattle.wrapper_run.specs.declared.state.Local.{Local}
-use Rattle.wrapper_run.specs.declared.state.State.{State}
-use Rattle.wrapper_run.specs.declared.state.Val.{Val}
-use Rattle.wrapper_run.specs.declared.state.Val.TheVariants as val
-use Rattle.wrapper_run.specs.Act.{Act, Outcome, Done, Stopped, ◌>>=◌, ◌>>◌, and_then, or_stop, pure, stop}
+use Rattle.wrapper_values.specs.declared.owning.View.{View}
+use Rattle.wrapper_values.specs.declared.state.Local.{Local}
+use Rattle.wrapper_values.specs.declared.state.State.{State}
+use Rattle.wrapper_values.specs.declared.state.Val.{Val}
+use Rattle.wrapper_values.specs.declared.state.Val.TheVariants as val
+use Rattle.wrapper_values.specs.Act.{Act, Outcome, Done, Stopped, ◌>>=◌, ◌>>◌, and_then, or_stop, pure, stop}
 use Rattle.wrapper_run.specs.Blocks.{dealloc, free, free_bytes, free_found, free_untaken, keep_blocks, lift_buffer, lift_text, own, own_block, owned_block, owned_bytes, owner_of, release, release_found, store_small, store_word, take_over, tested, untaken, write_small, write_word}
-use Rattle.wrapper_run.specs.Effect.{integer_of, word_of}
+use Rattle.wrapper_values.specs.Effect.{integer_of, word_of}
 use Rattle.wrapper_run.specs.Growth.{state_of}
-use Rattle.wrapper_run.specs.Locals.{ask_local, bind, declare, emptied, import_named, lend_local, local_named, moved, usable, use_local, used, value_of}
+use Rattle.wrapper_values.specs.Locals.{ask_local, bind, declare, emptied, import_named, lend_local, local_named, moved, usable, use_local, used, value_of}
 use Rattle.wrapper_run.specs.Memory.{bytes_from, loaded, loaded_small, stored, stored_small}
-use Rattle.wrapper_run.specs.Owning.{buffer_of, lent, owned, view}
+use Rattle.wrapper_values.specs.Owning.{buffer_of, lent, owned, view}
 use Rattle.wrapper_run.specs.Places.{area_in, is_fitting, place_area, place_at, place_static, request_of, static_place, static_pointer, with_area}
 use Rattle.wrapper_run.specs.Run.{answer_act, call_import, call_point, called_with, load_small, load_word, record_call, result_of, take_answer, take_bytes, unhidden}
-use Rattle.wrapper_run.specs.Setting.{Setting, failed, stuck}
+use Rattle.wrapper_values.specs.Setting.{Setting, failed, stuck}
 use Rattle.wrapper_run.specs.UnusedLocals.{IgnoresOthers, known_locals, narrowed, narrowed_end, other_locals}
 use Rattle.wrapper_run.proofs.Walk.{Everywhere}
 

@@ -30,23 +30,23 @@ use Rattle.wrapper_data.specs.declared.value.RustValue.{RustValue}
 use Rattle.wrapper_data.specs.declared.value.RustValue.TheVariants as value
 use Rattle.wrapper_data.specs.declared.word.Word.{Word}
 use Rattle.wrapper_data.specs.declared.word.Word.TheVariants as word
-use Rattle.wrapper_run.specs.declared.owning.View.{View}
-use Rattle.wrapper_run.specs.declared.owning.View.TheVariants as view_of
-use Rattle.wrapper_run.specs.declared.state.Local.{Local}
-use Rattle.wrapper_run.specs.declared.state.Val.{Val}
-use Rattle.wrapper_run.specs.declared.state.Val.TheVariants as val
-use Rattle.wrapper_run.specs.Act.{Act, ◌>>=◌, all, or_stop, pure, stop}
+use Rattle.wrapper_values.specs.declared.owning.View.{View}
+use Rattle.wrapper_values.specs.declared.owning.View.TheVariants as view_of
+use Rattle.wrapper_values.specs.declared.state.Local.{Local}
+use Rattle.wrapper_values.specs.declared.state.Val.{Val}
+use Rattle.wrapper_values.specs.declared.state.Val.TheVariants as val
+use Rattle.wrapper_values.specs.Act.{Act, ◌>>=◌, all, or_stop, pure, stop}
 use Rattle.wrapper_run.specs.Blocks.{box_buffer, boxed, dealloc, dealloc_words, drop_local, drop_locals, drop_value, free, free_all, lift_text, release, release_all, store_small, store_word}
-use Rattle.wrapper_run.specs.Effect.{cast_to, converted, lift_of, word_of_bool}
-use Rattle.wrapper_run.specs.Fields.{arranged, arranged_by, each_named, field_named, fields_in, in_order, root_name, type_named}
-use Rattle.wrapper_run.specs.Locals.{ask_local, bind, declare, lend_local, local_named, use_local, value_of}
-use Rattle.wrapper_run.specs.Owning.{buffer_of, owned, owned_in}
+use Rattle.wrapper_values.specs.Effect.{cast_to, converted, lift_of, word_of_bool}
+use Rattle.wrapper_values.specs.Fields.{arranged, arranged_by, each_named, field_named, fields_in, in_order, root_name, type_named}
+use Rattle.wrapper_values.specs.Locals.{ask_local, bind, declare, lend_local, local_named, use_local, value_of}
+use Rattle.wrapper_values.specs.Owning.{buffer_of, owned, owned_in}
 use Rattle.wrapper_run.specs.Places.{declare_area, place_area, request_of, static_pointer}
 use Rattle.wrapper_run.specs.Results.{results, results_in, run_results}
 use Rattle.wrapper_run.specs.Run.{alone, apply, apply_item, apply_one, call_callee, call_import, call_runtime, Callee, callee, converted_or_lifted, core_forget, eval, eval_step, forget_one, lift_act, load_small, load_word, of_runtime, run_block, run_stmt, run_stmts, run_tail, runtime_item_named, take_bytes, unknown}
-use Rattle.wrapper_run.specs.Setting.{Setting, failed, stuck}
+use Rattle.wrapper_values.specs.Setting.{Setting, failed, stuck}
 use Rattle.wrapper_run.specs.UnusedLocals.{are_known, bound_names, is_block_known, is_callee_known, is_expr_known, is_stmt_known, is_tail_known, known_step}
-use Rattle.wrapper_run.specs.Whole.{bind_parts, field_act, given_names, parts_of, record_of, take_apart, whole, whole_of}
+use Rattle.wrapper_values.specs.Whole.{bind_parts, field_act, given_names, parts_of, record_of, take_apart, whole, whole_of}
 
 -- what holds of each of these acts, at known names, and of one after the other
 pub record Everywhere (w : Setting) (known : Bytes → Bool) (P : (A : Type 0) → Act A → Type 0) : Type 1 where

@@ -10,15 +10,15 @@ use Rattle.wrapper_data.specs.declared.run.TrapKind.TheVariants as trap
 use Rattle.wrapper_data.specs.declared.value.RustValue.TheVariants as value
 use Rattle.wrapper_data.specs.declared.word.Word.{Word}
 use Rattle.wrapper_data.specs.declared.word.Word.TheVariants as word
-use Rattle.wrapper_run.specs.declared.state.Local.{Local}
-use Rattle.wrapper_run.specs.declared.state.State.{State}
-use Rattle.wrapper_run.specs.declared.state.Val.{Val}
-use Rattle.wrapper_run.specs.declared.state.Val.TheVariants as val
-use Rattle.wrapper_run.specs.Act.{Act, Done, ◌>>=◌, ◌>>◌, or_stop, pure, stop}
-use Rattle.wrapper_run.specs.Effect.{integer_of, word_of}
+use Rattle.wrapper_values.specs.declared.state.Local.{Local}
+use Rattle.wrapper_values.specs.declared.state.State.{State}
+use Rattle.wrapper_values.specs.declared.state.Val.{Val}
+use Rattle.wrapper_values.specs.declared.state.Val.TheVariants as val
+use Rattle.wrapper_values.specs.Act.{Act, Done, ◌>>=◌, ◌>>◌, or_stop, pure, stop}
+use Rattle.wrapper_values.specs.Effect.{integer_of, word_of}
 use Rattle.wrapper_run.specs.Memory.{block_at, block_from, bytes_from, stored, stored_small, without}
-use Rattle.wrapper_run.specs.Owning.{buffer_of, is_taken, owned, owned_in}
-use Rattle.wrapper_run.specs.Setting.{Setting, failed, stuck}
+use Rattle.wrapper_values.specs.Owning.{buffer_of, is_taken, owned, owned_in}
+use Rattle.wrapper_values.specs.Setting.{Setting, failed, stuck}
 
 -- the bytes at an address become a text's own
 

@@ -6,13 +6,13 @@ use Rattle.rust_tree.specs.declared.stmt.Block.{Block as Code}
 use Rattle.wrapper_data.specs.Heap.{overlaps_any}
 use Rattle.wrapper_data.specs.declared.block.Block.{Block}
 use Rattle.wrapper_data.specs.declared.run.Stop.TheVariants as stop_of
-use Rattle.wrapper_run.specs.declared.state.State.{State}
-use Rattle.wrapper_run.specs.Act.{Outcome, Done, Stopped}
+use Rattle.wrapper_values.specs.declared.state.State.{State}
+use Rattle.wrapper_values.specs.Act.{Outcome, Done, Stopped}
 use Rattle.wrapper_run.specs.Growth.{state_of}
 use Rattle.wrapper_run.specs.Memory.{begins_at}
 use Rattle.wrapper_run.specs.Results.{run_inner}
 use Rattle.wrapper_run.specs.Run.{run_block}
-use Rattle.wrapper_run.specs.Setting.{Setting}
+use Rattle.wrapper_values.specs.Setting.{Setting}
 
 -- two lists in one, each in its order: others, those that code knows, and all
 pub data Between (A : Type 0) : List A → List A → List A → Type 0 where

@@ -3,11 +3,11 @@
 use Rattle.std.specs.Prelude.{List, [], ◌∷◌, Option, None, Some, map}
 use Rattle.rust_tree.specs.declared.expr.Expr.{Expr, Expr-F, out-Expr}
 use Rattle.rust_tree.specs.declared.stmt.Block.{Block}
-use Rattle.wrapper_run.specs.declared.state.Val.{Val}
-use Rattle.wrapper_run.specs.Act.{Act, ◌>>◌, all}
+use Rattle.wrapper_values.specs.declared.state.Val.{Val}
+use Rattle.wrapper_values.specs.Act.{Act, ◌>>◌, all}
 use Rattle.wrapper_run.specs.Blocks.{in_scope}
 use Rattle.wrapper_run.specs.Run.{eval, run_stmts}
-use Rattle.wrapper_run.specs.Setting.{Setting}
+use Rattle.wrapper_values.specs.Setting.{Setting}
 
 -- the parts of a tuple, or the expression itself
 abbrev pub results_in : Expr → Expr-F Expr → List Expr

@@ -38,21 +38,21 @@ use Rattle.wrapper_data.specs.declared.value.RustValue.TheVariants as value
 use Rattle.wrapper_data.specs.declared.word.Word.{Word}
 use Rattle.wrapper_data.specs.declared.word.Word.TheVariants as word
 use Rattle.wrapper_data.specs.declared.run.TrapKind.TheVariants as trap
-use Rattle.wrapper_run.specs.declared.state.Local.{Local}
-use Rattle.wrapper_run.specs.declared.state.State.{State}
-use Rattle.wrapper_run.specs.declared.owning.View.TheVariants as view_of
-use Rattle.wrapper_run.specs.declared.state.Val.{Val}
-use Rattle.wrapper_run.specs.declared.state.Val.TheVariants as val
-use Rattle.wrapper_run.specs.Setting.{Setting, failed, stuck}
+use Rattle.wrapper_values.specs.declared.state.Local.{Local}
+use Rattle.wrapper_values.specs.declared.state.State.{State}
+use Rattle.wrapper_values.specs.declared.owning.View.TheVariants as view_of
+use Rattle.wrapper_values.specs.declared.state.Val.{Val}
+use Rattle.wrapper_values.specs.declared.state.Val.TheVariants as val
+use Rattle.wrapper_values.specs.Setting.{Setting, failed, stuck}
 use Rattle.wrapper_run.specs.Blocks.{boxed, dealloc_words, drop_value, forget, leave_to, lift_text, store_small, store_word, take_over}
 use Rattle.wrapper_run.specs.Places.{declare_area, static_pointer}
 use Rattle.wrapper_run.specs.Memory.{loaded, loaded_small}
-use Rattle.wrapper_run.specs.Whole.{record_of, take_apart, whole}
-use Rattle.wrapper_run.specs.Owning.{taken_by}
-use Rattle.wrapper_run.specs.Act.{Act, Outcome, Done, Stopped, ◌>>=◌, ◌>>◌, all, or_stop, pure, stop}
-use Rattle.wrapper_run.specs.Effect.{cast_to, converted, is_word_of, lift_of, word_of, word_of_bool}
-use Rattle.wrapper_run.specs.Typed.{answer_in}
-use Rattle.wrapper_run.specs.Locals.{ask_local, bind, declare, import_named, lend_local, local_named, use_local, value_of}
+use Rattle.wrapper_values.specs.Whole.{record_of, take_apart, whole}
+use Rattle.wrapper_values.specs.Owning.{taken_by}
+use Rattle.wrapper_values.specs.Act.{Act, Outcome, Done, Stopped, ◌>>=◌, ◌>>◌, all, or_stop, pure, stop}
+use Rattle.wrapper_values.specs.Effect.{cast_to, converted, is_word_of, lift_of, word_of, word_of_bool}
+use Rattle.wrapper_values.specs.Typed.{answer_in}
+use Rattle.wrapper_values.specs.Locals.{ask_local, bind, declare, import_named, lend_local, local_named, use_local, value_of}
 use Rattle.wit_model.specs.Bytes.{Bytes}
 
 -- names

@@ -2,8 +2,8 @@
 use Rattle.std.specs.Prelude.{ℕ, suc, Bool, true, not, ◌&&◌, nat_eq, List, [], ◌∷◌, Option, None, Some, option_and_then}
 use Rattle.std.specs.List.{flat_map, list_all}
 use Rattle.wrapper_data.specs.declared.value.RustValue.{RustValue}
-use Rattle.wrapper_run.specs.declared.state.Val.TheVariants as val
-use Rattle.wrapper_run.specs.Owning.{buffer_of, listed}
+use Rattle.wrapper_values.specs.declared.state.Val.TheVariants as val
+use Rattle.wrapper_values.specs.Owning.{buffer_of, listed}
 
 -- an empty text has no block
 abbrev pub block_of_buffer : ℕ × ℕ × Bool → Option (ℕ × ℕ)

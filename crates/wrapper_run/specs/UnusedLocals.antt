@@ -8,13 +8,13 @@ use Rattle.rust_tree.specs.declared.pattern.Pattern.TheVariants as pattern
 use Rattle.rust_tree.specs.declared.stmt.Block.{Block}
 use Rattle.rust_tree.specs.declared.stmt.Stmt.{Stmt}
 use Rattle.rust_tree.specs.declared.stmt.Stmt.TheVariants as stmt
-use Rattle.wrapper_run.specs.declared.state.Local.{Local}
-use Rattle.wrapper_run.specs.declared.state.State.{State}
-use Rattle.wrapper_run.specs.Act.{Act, Outcome, Done, Stopped}
+use Rattle.wrapper_values.specs.declared.state.Local.{Local}
+use Rattle.wrapper_values.specs.declared.state.State.{State}
+use Rattle.wrapper_values.specs.Act.{Act, Outcome, Done, Stopped}
 use Rattle.wrapper_run.specs.Growth.{state_of}
 use Rattle.wrapper_run.specs.Results.{run_inner}
 use Rattle.wrapper_run.specs.Run.{Callee, alone, callee, run_block}
-use Rattle.wrapper_run.specs.Setting.{Setting}
+use Rattle.wrapper_values.specs.Setting.{Setting}
 
 -- which names code names
 

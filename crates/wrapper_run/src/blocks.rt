@@ -3,19 +3,18 @@
 ghost use Rattle.std.specs.Prelude.{◌≡◌, IfOk, true};
 ghost use Rattle.std.specs.Option.{option_copied};
 ghost use Rattle.std.specs.Str.{is_utf8};
-ghost use Rattle.wrapper_run.specs.Act.{Runs};
+ghost use Rattle.wrapper_values.specs.Act.{Runs};
 ghost use Rattle.wrapper_run.specs.Blocks as spec;
-ghost use Rattle.wrapper_run.specs.Setting.{setting};
+ghost use Rattle.wrapper_values.specs.Setting.{setting};
 ghost use Rattle.wrapper_data.specs.declared.value.RustValue.TheVariants as value;
-ghost use Rattle.wrapper_run.specs.declared.state.Val.TheVariants as val;
+ghost use Rattle.wrapper_values.specs.declared.state.Val.TheVariants as val;
 
 use crate::memory::{block_at, bytes_from};
-use crate::owning::is_taken;
-use crate::state::{Halt, State, Val, World};
 use std::alloc::Global;
 use std::str;
 use wit_model::{List, OutOfMemory};
 use wrapper_data::{Block, RustValue, TrapKind};
+use wrapper_values::{Halt, State, Val, World, is_taken};
 
 /// The block of exactly this address and size, where no owner has it.
 pub(crate) fn untaken(state: &State, address: u32, size: u32) -> Option<&Block>

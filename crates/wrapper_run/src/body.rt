@@ -1,23 +1,21 @@
 //! What a body does.
 
 ghost use Rattle.std.specs.Prelude.{◌≡◌, map};
-ghost use Rattle.wrapper_run.specs.Act.{Runs, all};
+ghost use Rattle.wrapper_values.specs.Act.{Runs, all};
 ghost use Rattle.wrapper_run.specs.Results.{results, run_inner};
 ghost use Rattle.wrapper_run.specs.Run as spec;
-ghost use Rattle.wrapper_run.specs.Setting.{setting};
+ghost use Rattle.wrapper_values.specs.Setting.{setting};
 
 use crate::eval::{eval, eval_all};
 use crate::freeing::{drop_value, leave_to};
-use crate::locals::{bind, declare};
-use crate::parts::take_apart;
 use crate::places::declare_area;
 use crate::small::store_small;
-use crate::state::{Halt, State, Val, World};
 use crate::store::store_word;
 use rust_tree::{Block, Expr, Stmt};
 use std::alloc::Global;
 use wit_model::List;
 use wrapper_data::RustValue;
+use wrapper_values::{Halt, State, Val, World, bind, declare, take_apart};
 
 fn run_stmt(alloc: Global, world: &World, state: &mut State, s: &Stmt) -> Result<(), Halt>
     ensures { Runs (spec.run_stmt (setting world.now) s.now state.old) result state.new }

@@ -3,49 +3,22 @@
 ghost use Rattle.std.specs.Prelude.{◌≡◌, ◌++◌, IfOk, OnOk, Some, None, if◌then◌else◌};
 ghost use Rattle.std.specs.Option.{option_map};
 ghost use Rattle.wrapper_data.specs.Answered.{answered};
-ghost use Rattle.wrapper_run.specs.Act.{Runs};
-ghost use Rattle.wrapper_run.specs.Effect as effect;
-ghost use Rattle.wrapper_run.specs.Effect.{is_word_of, word_of};
+ghost use Rattle.wrapper_values.specs.Act.{Runs};
+ghost use Rattle.wrapper_values.specs.Effect as effect;
 ghost use Rattle.wrapper_run.specs.Run as spec;
-ghost use Rattle.wrapper_run.specs.Setting.{setting};
+ghost use Rattle.wrapper_values.specs.Setting.{setting};
 
 use crate::blocks::lift_text;
 use crate::callee::{Callee, callee_of};
-use crate::conversion::{converted, lift_of};
 use crate::freeing::{dealloc_words, forget};
-use crate::locals::{import_named, local_named};
-use crate::state::{Halt, State, Val, World};
 use rust_tree::{ImportDecl, Item, Path, RuntimeItem};
 use std::alloc::Global;
 use std::mem;
 use wit_model::{List, OutOfMemory, Text, WasmType};
 use wrapper_data::{Answer, Block, CallPoint, Heap, RustValue, Target, TrapKind, Word};
-
-/// Whether a word is a core value of a type. A slot is one only once it is written.
-pub fn is_word_of(ty: WasmType, w: Word) -> bool
-    ensures { result ≡ is_word_of ty w }
-{
-    match (ty, w) {
-        (WasmType::I32, Word::I32(_)) => true,
-        (WasmType::I64, Word::I64(_)) => true,
-        (WasmType::F32, Word::F32(_)) => true,
-        (WasmType::F64, Word::F64(_)) => true,
-        (WasmType::Pointer, Word::Pointer(_)) => true,
-        (WasmType::PointerOrI64, Word::Slot(Some(_))) => true,
-        (WasmType::Length, Word::Length(_)) => true,
-        _ => false,
-    }
-}
-
-/// The word that a value is, if it is a core value of this type.
-pub(crate) fn word_of(ty: WasmType, v: &Val) -> Option<Word>
-    ensures { result ≡ word_of ty v.now }
-{
-    match v {
-        Val::Word(w) => { if is_word_of(ty, *w) { Some(*w) } else { None } }
-        _ => None,
-    }
-}
+use wrapper_values::{
+    Halt, State, Val, World, converted, import_named, is_word_of, lift_of, local_named, word_of,
+};
 
 /// Puts the words of the arguments behind others, and tells whether each is of its parameter's type.
 fn push_words(words: &mut List<Word>, types: &[WasmType], vs: &[Val]) -> Result<bool, OutOfMemory>

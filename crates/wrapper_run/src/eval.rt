@@ -2,35 +2,32 @@
 
 ghost use Rattle.std.specs.Prelude.{◌≡◌, map};
 ghost use Rattle.std.specs.Option.{option_map};
-ghost use Rattle.wrapper_run.specs.Act.{Runs, all, and_then, or_stop};
+ghost use Rattle.wrapper_values.specs.Act.{Runs, all, and_then, or_stop};
 ghost use Rattle.wrapper_run.specs.Blocks as blocks;
-ghost use Rattle.wrapper_run.specs.Effect as effect;
-ghost use Rattle.wrapper_run.specs.Locals.{local_named, use_local, value_of};
+ghost use Rattle.wrapper_values.specs.Effect as effect;
+ghost use Rattle.wrapper_values.specs.Locals.{local_named, use_local, value_of};
 ghost use Rattle.wrapper_run.specs.Run as spec;
-ghost use Rattle.wrapper_run.specs.Setting.{setting, stuck};
-ghost use Rattle.wrapper_run.specs.Whole.{field_act, record_of, whole};
-ghost use Rattle.wrapper_run.specs.declared.state.Val.TheVariants as val;
+ghost use Rattle.wrapper_values.specs.Setting.{setting, stuck};
+ghost use Rattle.wrapper_values.specs.Whole.{field_act, record_of, whole};
+ghost use Rattle.wrapper_values.specs.declared.state.Val.TheVariants as val;
 
 use crate::blocks::{boxed, take_over};
 use crate::call::call;
-use crate::casts::cast_to;
-use crate::conversion;
-use crate::locals::{ask_local, lend_local, use_local, value_named};
 use crate::memory::{align_at_four, at_four, loaded};
-use crate::owning::View;
-use crate::parts::{self, whole_of};
 use crate::places::static_pointer;
 use crate::small::load_small;
-use crate::state::{Halt, State, Val, World};
 use rust_tree::{CastType, Expr, Path};
 use std::alloc::Global;
 use wit_model::{ArchitectureSize, List, Text, WasmType};
 use wrapper_data::{TrapKind, Word};
+use wrapper_values::{
+    Halt, State, Val, View, World, ask_local, cast_to, lend_local, use_local, value_named, whole_of,
+};
 
 fn word_of_bool(world: &World, state: &State, v: &Val) -> Result<Val, Halt>
     ensures { Runs (or_stop (stuck (setting world.now)) (option_map val.Word (effect.word_of_bool v.now)) state.now) result state.now }
 {
-    match conversion::word_of_bool(v) {
+    match wrapper_values::word_of_bool(v) {
         None => Err(Halt::Stopped(world.stuck())),
         Some(w) => Ok(Val::Word(w)),
     }
@@ -176,7 +173,7 @@ fn eval_record(
     ensures { Runs (record_of (setting world.now) path.now (map (λ f. (f.0, spec.eval (setting world.now) f.1)) fields.now) state.old) result state.new }
 {
     let vs = eval_fields(alloc, world, state, fields)?;
-    parts::record_of(alloc, world, state, path, vs.as_slice())
+    wrapper_values::record_of(alloc, world, state, path, vs.as_slice())
 }
 
 /// The values of a record's fields, each behind its name, computed in the order of the tree.

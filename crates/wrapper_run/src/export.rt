@@ -2,23 +2,20 @@
 
 ghost use Rattle.std.specs.Prelude.{◌≡◌, ◌++◌, IfOk, IsSome, OnOk, Some, option_map};
 ghost use Rattle.std.specs.Option.{option_copied};
-ghost use Rattle.wrapper_run.specs.Act.{Runs};
+ghost use Rattle.wrapper_values.specs.Act.{Runs};
 ghost use Rattle.wrapper_run.specs.ExportRun as spec;
-ghost use Rattle.wrapper_run.specs.Setting.{setting};
+ghost use Rattle.wrapper_values.specs.Setting.{setting};
 
 use crate::body::{run_block, run_stmts};
-use crate::call::{is_word_of, word_of};
 use crate::eval::eval_all;
 use crate::freeing::{drop_value, leave_to};
-use crate::locals::bind;
 use crate::method::call_method;
-use crate::printed::is_unit;
 use crate::run::{begin, item_number, run_at};
-use crate::state::{Halt, Local, State, Val, World};
 use rust_tree::{Bindings, Block, CallBlock, CoreParam, ExportFn, Item, WrapperId};
 use std::alloc::Global;
 use wit_model::{List, OutOfMemory, Text, WasmType};
 use wrapper_data::{Answer, Choices, Form, Heap, Run, Stop, Word};
+use wrapper_values::{Halt, Local, State, Val, World, bind, is_unit, is_word_of, word_of};
 
 /// Puts the parameters, with their words, behind other locals.
 pub(crate) fn push_words(

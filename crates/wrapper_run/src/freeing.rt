@@ -2,18 +2,17 @@
 
 ghost use Rattle.std.specs.Prelude.{◌≡◌, IfOk, OnOk, filter, nat_eq, not};
 ghost use Rattle.std.specs.Option.{option_copied};
-ghost use Rattle.wrapper_run.specs.Act.{Runs};
+ghost use Rattle.wrapper_values.specs.Act.{Runs};
 ghost use Rattle.wrapper_run.specs.Blocks as spec;
-ghost use Rattle.wrapper_run.specs.Setting.{setting};
+ghost use Rattle.wrapper_values.specs.Setting.{setting};
 
 use crate::blocks::untaken;
 use crate::memory::{block_from, place_of};
-use crate::owning::is_taken;
-use crate::state::{Halt, Local, State, Val, World};
 use std::alloc::Global;
 use std::mem;
 use wit_model::{List, OutOfMemory};
 use wrapper_data::{Block, RustValue, TrapKind, Word};
+use wrapper_values::{Halt, Local, State, Val, World, is_taken};
 
 /// Removes the block of exactly this address and size.
 #[tactic(auto, using(crate::proofs::MemoryLemmas::removed_at, crate::proofs::MemoryLemmas::removed_none))]

@@ -2,18 +2,16 @@
 
 ghost use Rattle.std.specs.Prelude.{◌≡◌, ◌++◌, IfOk, Some, None, if◌then◌else◌, option_map};
 ghost use Rattle.std.specs.Option.{option_copied};
-ghost use Rattle.wrapper_run.specs.Act.{Runs};
+ghost use Rattle.wrapper_values.specs.Act.{Runs};
 ghost use Rattle.wrapper_run.specs.ExportRun as spec;
-ghost use Rattle.wrapper_run.specs.Owning as owning;
-ghost use Rattle.wrapper_run.specs.Setting.{setting};
+ghost use Rattle.wrapper_values.specs.Owning as owning;
+ghost use Rattle.wrapper_values.specs.Setting.{setting};
 
-use crate::owning::taken_by;
-use crate::state::{Halt, State, Val, World};
-use crate::typed::answer_in;
 use rust_tree::{FnParam, Item, TraitFn, TypeExpr};
 use std::alloc::Global;
 use wit_model::{List, OutOfMemory, Text};
 use wrapper_data::{Answer, CallPoint, Heap, RustValue, Target};
+use wrapper_values::{Halt, State, Val, World, answer_in, taken_by};
 
 fn method_in<'a>(functions: &'a [TraitFn], name: &str) -> Option<&'a TraitFn>
     ensures { option_copied result ≡ spec.method_in functions.now name.now }

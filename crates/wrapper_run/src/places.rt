@@ -2,17 +2,16 @@
 
 ghost use Rattle.std.specs.Prelude.{◌≡◌, ◌≢◌, if◌then◌else◌, Some, None, IfOk};
 ghost use Rattle.std.specs.Option.{option_copied};
-ghost use Rattle.wrapper_run.specs.Act.{Runs};
+ghost use Rattle.wrapper_values.specs.Act.{Runs};
 ghost use Rattle.wrapper_run.specs.Places as spec;
-ghost use Rattle.wrapper_run.specs.Setting.{setting};
+ghost use Rattle.wrapper_values.specs.Setting.{setting};
 
-use crate::locals::bind;
 use crate::memory::{align_at_four, at_four};
-use crate::state::{Halt, State, Val, World};
 use rust_tree::{Item, ReturnArea, StaticArea};
 use std::alloc::Global;
 use wit_model::{Alignment, ArchitectureSize, List, OutOfMemory};
 use wrapper_data::{Block, Choice, Request, Stop, Word};
+use wrapper_values::{Halt, State, Val, World, bind};
 
 fn request_of(size: &ArchitectureSize, align: &Alignment) -> Request
     ensures { result ≡ spec.request_of size.now align.now }

@@ -2,17 +2,17 @@
 
 ghost use Rattle.std.specs.Prelude.{◌≡◌, IfOk, IsSome, Some, is_some, option_map};
 ghost use Rattle.std.specs.Option.{option_copied};
-ghost use Rattle.wrapper_run.specs.Act.{Runs};
+ghost use Rattle.wrapper_values.specs.Act.{Runs};
 ghost use Rattle.wrapper_run.specs.PostReturn as spec;
-ghost use Rattle.wrapper_run.specs.Setting.{setting};
+ghost use Rattle.wrapper_values.specs.Setting.{setting};
 
 use crate::export::{expect_words, export_at, push_words, run_to_words};
 use crate::run::{begin, run_at};
-use crate::state::{Halt, State, World};
 use rust_tree::{Bindings, Item, PostReturnFn, WrapperId};
 use std::alloc::Global;
 use wit_model::{List, OutOfMemory};
 use wrapper_data::{Answer, Choices, Form, Heap, Run, Stop, Word};
+use wrapper_values::{Halt, State, World};
 
 /// The post-return function of a base name.
 fn post_return_named<'a>(items: &'a [Item], base: &str) -> Option<&'a PostReturnFn>

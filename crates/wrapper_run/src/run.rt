@@ -1,19 +1,17 @@
 ghost use Rattle.std.specs.Prelude.{◌≡◌, ◌++◌, ◌<◌, IfOk, IsSome, OnOk, Some, option_map, slice_get};
 ghost use Rattle.std.specs.Option.{option_copied};
 ghost use Rattle.rust_tree.specs.Tree.{wrappers_of};
-ghost use Rattle.wrapper_run.specs.Act.{Runs};
+ghost use Rattle.wrapper_values.specs.Act.{Runs};
 ghost use Rattle.wrapper_run.specs.Run as spec;
-ghost use Rattle.wrapper_run.specs.Setting.{setting};
+ghost use Rattle.wrapper_values.specs.Setting.{setting};
 
 use crate::body::run_block;
 use crate::freeing::leave_to;
-use crate::owning::taken_by;
-use crate::state::{Halt, Local, State, Val, World};
-use crate::typed::answer_in;
 use rust_tree::{Bindings, FnItem, FnParam, Item, WrapperId};
 use std::alloc::Global;
 use wit_model::{List, OutOfMemory};
 use wrapper_data::{Answer, Choices, Form, Heap, Run, RustValue, Stop, Word};
+use wrapper_values::{Halt, Local, State, Val, World, answer_in, taken_by};
 
 /// Puts the parameters, with their arguments, behind other locals.
 fn push_args(

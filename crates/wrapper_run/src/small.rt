@@ -2,21 +2,20 @@
 
 ghost use Rattle.std.specs.Prelude.{◌≡◌, ◌<◌, ◌^◌, IfOk, length};
 ghost use Rattle.std.specs.Int.{from_le_bytes, w8, w16};
-ghost use Rattle.wrapper_run.specs.Act.{Runs};
+ghost use Rattle.wrapper_values.specs.Act.{Runs};
 ghost use Rattle.wrapper_run.specs.Blocks as blocks;
-ghost use Rattle.wrapper_run.specs.Effect as effect;
+ghost use Rattle.wrapper_values.specs.Effect as effect;
 ghost use Rattle.wrapper_run.specs.Memory as spec;
 ghost use Rattle.wrapper_run.specs.Run as run;
-ghost use Rattle.wrapper_run.specs.Setting.{setting};
+ghost use Rattle.wrapper_values.specs.Setting.{setting};
 
 use crate::memory::{at_four, bytes_at};
-use crate::state::{Halt, State, Val, World};
 use crate::store::{is_inside, write_bytes};
-use crate::views::integer_of;
 use rust_tree::SmallType;
 use std::alloc::Global;
 use wit_model::{ArchitectureSize, OutOfMemory};
 use wrapper_data::{Block, TrapKind, Word};
+use wrapper_values::{Halt, State, Val, World, integer_of};
 
 fn bytes_of_small(ty: SmallType) -> u32
     ensures { result ≡ spec.bytes_of_small ty }

@@ -2,19 +2,18 @@
 
 ghost use Rattle.std.specs.Prelude.{◌≡◌, ◌≤◌, ◌<◌, ◌+◌, ◌^◌, ◌++◌, IfOk, OnOk, length};
 ghost use Rattle.wrapper_data.specs.Answered.{with_writes};
-ghost use Rattle.wrapper_run.specs.Act.{Runs};
+ghost use Rattle.wrapper_values.specs.Act.{Runs};
 ghost use Rattle.wrapper_run.specs.Blocks as blocks;
-ghost use Rattle.wrapper_run.specs.Effect as effect;
+ghost use Rattle.wrapper_values.specs.Effect as effect;
 ghost use Rattle.wrapper_run.specs.Memory as spec;
-ghost use Rattle.wrapper_run.specs.Setting.{setting};
+ghost use Rattle.wrapper_values.specs.Setting.{setting};
 
-use crate::call::word_of;
 use crate::memory::{at_four, bytes_of_type, holder};
-use crate::state::{Halt, State, Val, World};
 use std::alloc::Global;
 use std::mem;
 use wit_model::{ArchitectureSize, List, OutOfMemory, WasmType};
 use wrapper_data::{Block, Heap, Word};
+use wrapper_values::{Halt, State, Val, World, word_of};
 
 /// The bytes of a core value, the low byte first.
 fn bytes_of(alloc: Global, w: Word) -> Result<Vec<u8>, OutOfMemory>

@@ -29,23 +29,23 @@ use Rattle.wrapper_data.specs.declared.value.RustValue.{RustValue}
 use Rattle.wrapper_data.specs.declared.value.RustValue.TheVariants as value
 use Rattle.wrapper_data.specs.declared.word.Word.{Word}
 use Rattle.wrapper_data.specs.declared.word.Word.TheVariants as word
-use Rattle.wrapper_run.specs.declared.state.Local.{Local}
-use Rattle.wrapper_run.specs.declared.state.State.{State}
-use Rattle.wrapper_run.specs.declared.state.Val.{Val}
-use Rattle.wrapper_run.specs.declared.state.Val.TheVariants as val
-use Rattle.wrapper_run.specs.Act.{Done, Stopped, ◌>>=◌, ◌>>◌, and_then, pure}
+use Rattle.wrapper_values.specs.declared.state.Local.{Local}
+use Rattle.wrapper_values.specs.declared.state.State.{State}
+use Rattle.wrapper_values.specs.declared.state.Val.{Val}
+use Rattle.wrapper_values.specs.declared.state.Val.TheVariants as val
+use Rattle.wrapper_values.specs.Act.{Done, Stopped, ◌>>=◌, ◌>>◌, and_then, pure}
 use Rattle.wrapper_run.specs.Areas.{places, pointers}
 use Rattle.wrapper_run.specs.Blocks.{drop_value, leave_to}
 use Rattle.wrapper_run.specs.Entries.{ExportNames}
 use Rattle.wrapper_run.specs.ExportFaithful.{CarriesOut, IsExportFaithful, MissesStatic}
 use Rattle.wrapper_run.specs.ExportRun.{call_inside, core_answer, ended_export, keep_result, run_export_item, run_to_words}
 use Rattle.wrapper_run.specs.Faithful.{CallsOnce, IsFaithful, MissesArea}
-use Rattle.wrapper_run.specs.Locals.{bind, declare, use_local}
+use Rattle.wrapper_values.specs.Locals.{bind, declare, use_local}
 use Rattle.wrapper_run.specs.Memory.{loaded, stored}
 use Rattle.wrapper_run.specs.Places.{place_area}
-use Rattle.wrapper_run.specs.Owning.{taken_by}
+use Rattle.wrapper_values.specs.Owning.{taken_by}
 use Rattle.wrapper_run.specs.Run.{answer_and_leave, begin, call, callee, call_point, ended, eval, give_and_leave, run_item, run_stmt, run_stmts, run_tail, setting_of, take_answer}
-use Rattle.wrapper_run.specs.Setting.{Setting, stuck}
+use Rattle.wrapper_values.specs.Setting.{Setting, stuck}
 use Rattle.wrapper_run.proofs.FreeSteps.{align_gives}
 use Rattle.wrapper_run.proofs.GiveSteps.{stores}
 use Rattle.wrapper_run.specs.Value.{text}

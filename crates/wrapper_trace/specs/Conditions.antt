@@ -8,7 +8,7 @@ use Rattle.wrapper_data.specs.declared.answer.Answer.{Answer}
 use Rattle.wrapper_data.specs.declared.answer.Answer.TheVariants as answer
 use Rattle.wrapper_data.specs.declared.word.Word.{Word}
 use Rattle.wrapper_data.specs.declared.word.Word.TheVariants as word
-use Rattle.wrapper_run.specs.Effect.{is_word_of}
+use Rattle.wrapper_values.specs.Effect.{is_word_of}
 
 -- the type of the core result of the import that is declared first
 abbrev pub core_result : List Stmt → Option WasmType

@@ -30,14 +30,14 @@ use Rattle.wrapper_meaning.specs.Gives.{GivesExport}
 use Rattle.wrapper_meaning.specs.Honest.{HonestImplementation}
 use Rattle.wrapper_meaning.specs.Items.{total}
 use Rattle.wrapper_meaning.specs.Shape.Shapes.{none}
-use Rattle.wrapper_run.specs.declared.state.State.{State}
-use Rattle.wrapper_run.specs.declared.state.Val.TheVariants as val
-use Rattle.wrapper_run.specs.Act.{Act, Done, ◌>>=◌, ◌>>◌, and_then, pure}
+use Rattle.wrapper_values.specs.declared.state.State.{State}
+use Rattle.wrapper_values.specs.declared.state.Val.TheVariants as val
+use Rattle.wrapper_values.specs.Act.{Act, Done, ◌>>=◌, ◌>>◌, and_then, pure}
 use Rattle.wrapper_run.specs.Blocks.{free_all, leave_to}
 use Rattle.wrapper_run.specs.Entries.{ExportNames}
 use Rattle.wrapper_run.specs.ExportRun.{call_inside, core_answer, ended_export, keep_result, run_export_fn, run_export_item, run_to_words, take_value}
 use Rattle.wrapper_run.specs.Run.{begin, give_and_leave, setting_of}
-use Rattle.wrapper_run.specs.Setting.{Setting}
+use Rattle.wrapper_values.specs.Setting.{Setting}
 use Rattle.wrapper_run.proofs.FreeSteps.{unit_words}
 use Rattle.wrapper_run.proofs.MethodLemmas.{ended-words, leaves_inner, method_gives, quiet_taken, returned-unit, value_gives}
 use Rattle.wrapper_run.proofs.OwningLemmas.{owned-unit}

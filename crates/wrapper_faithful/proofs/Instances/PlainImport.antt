@@ -32,13 +32,13 @@ use Rattle.wrapper_meaning.specs.Gives.{GivesImport}
 use Rattle.wrapper_meaning.specs.Honest.{HonestPeer}
 use Rattle.wrapper_meaning.specs.Items.{total}
 use Rattle.wrapper_meaning.specs.Shape.Shapes.{none}
-use Rattle.wrapper_run.specs.declared.state.State.{State}
-use Rattle.wrapper_run.specs.declared.state.Val.TheVariants as val
-use Rattle.wrapper_run.specs.Act.{Act, Done, ◌>>=◌, ◌>>◌, and_then}
+use Rattle.wrapper_values.specs.declared.state.State.{State}
+use Rattle.wrapper_values.specs.declared.state.Val.TheVariants as val
+use Rattle.wrapper_values.specs.Act.{Act, Done, ◌>>=◌, ◌>>◌, and_then}
 use Rattle.wrapper_run.specs.Blocks.{drop_value, free_all}
-use Rattle.wrapper_run.specs.Locals.{declare}
+use Rattle.wrapper_values.specs.Locals.{declare}
 use Rattle.wrapper_run.specs.Run.{answer_and_leave, begin, call_point, callee, ended, eval, run_fn, run_item, run_stmts, run_tail, setting_of, take_answer}
-use Rattle.wrapper_run.specs.Setting.{Setting}
+use Rattle.wrapper_values.specs.Setting.{Setting}
 use Rattle.wrapper_run.proofs.NumberLemmas.{answered-unit}
 use Rattle.wrapper_run.proofs.OwningLemmas.{ArePlain, owned-unit}
 use Rattle.wrapper_run.proofs.StepLemmas.{Quiet, answers_plain, call_gives, ended-calls, import_gives, no_answer_gives, quiet_answer, quiet_answers, quiet_drop, quiet_pure, quiet_then}

@@ -23,9 +23,9 @@ use Rattle.wrapper_meaning.specs.Shape.{Shape}
 use Rattle.wrapper_meaning.proofs.Instances.Forms.{ascii, text_given}
 use Rattle.wrapper_meaning.proofs.Instances.OkAnswer.{area_of, names_ok, ok}
 use Rattle.wrapper_meaning.proofs.Lists.{first_or}
-use Rattle.wrapper_run.specs.declared.state.State.{State}
-use Rattle.wrapper_run.specs.declared.state.Val.TheVariants as val
-use Rattle.wrapper_run.specs.Act.{Done}
+use Rattle.wrapper_values.specs.declared.state.State.{State}
+use Rattle.wrapper_values.specs.declared.state.Val.TheVariants as val
+use Rattle.wrapper_values.specs.Act.{Done}
 use Rattle.wrapper_run.specs.Entries.{ExportNames}
 use Rattle.wrapper_run.specs.ExportRun.{core_answer, ended_export}
 use Rattle.wrapper_run.specs.PostReturn.{post_return_setting, run_post_return_item, start_post_return}

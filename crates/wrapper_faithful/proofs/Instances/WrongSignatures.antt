@@ -26,13 +26,13 @@ use Rattle.wrapper_meaning.specs.Shape.{Shape}
 use Rattle.wrapper_meaning.specs.Shape.Shape.{scalar}
 use Rattle.wrapper_meaning.specs.Shape.Shapes.{none, more}
 use Rattle.wrapper_meaning.proofs.Lists.{some_or}
-use Rattle.wrapper_run.specs.declared.state.State.{State}
-use Rattle.wrapper_run.specs.Act.{Stopped, and_then}
+use Rattle.wrapper_values.specs.declared.state.State.{State}
+use Rattle.wrapper_values.specs.Act.{Stopped, and_then}
 use Rattle.wrapper_run.specs.Blocks.{drop_value}
 use Rattle.wrapper_run.specs.Entries.{ExportNames}
-use Rattle.wrapper_run.specs.Locals.{declare}
+use Rattle.wrapper_values.specs.Locals.{declare}
 use Rattle.wrapper_run.specs.Run.{answer_and_leave, begin, call_point, callee, ended, eval, run_item, run_stmts, run_tail, setting_of, take_answer}
-use Rattle.wrapper_run.specs.Setting.{Setting, stuck}
+use Rattle.wrapper_values.specs.Setting.{Setting, stuck}
 use Rattle.wrapper_run.proofs.StepLemmas.{call_gives, import_gives}
 use Rattle.wrapper_faithful.specs.Export.{IsExportFaithful}
 use Rattle.wrapper_faithful.specs.Import.{IsFaithful, RunOfImport}

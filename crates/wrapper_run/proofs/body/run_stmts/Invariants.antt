@@ -1,6 +1,6 @@
 use Rattle.std.proofs.Common.{◌≡◌, drop}
 use Rattle.wrapper_run.specs.Run.{run_stmts}
-use Rattle.wrapper_run.specs.Setting.{setting}
+use Rattle.wrapper_values.specs.Setting.{setting}
 use Rattle.wrapper_run.proofs.body.run_stmts.Given as goal
 
 abbrev pub invariant-loop-s : goal.invariant-loop-s

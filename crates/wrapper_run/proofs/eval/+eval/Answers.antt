@@ -2,11 +2,11 @@ use Rattle.std.proofs.Common.{rules, ◌≡◌, List, ap, sym, subst, ◌∙◌,
 use Rattle.wit_model.specs.Bytes.{Bytes}
 use Rattle.rust_tree.specs.declared.expr.Expr.{Expr}
 use Rattle.rust_tree.specs.declared.expr.Expr.TheVariants as expr
-use Rattle.wrapper_run.specs.declared.state.Val.{Val}
-use Rattle.wrapper_run.specs.Act.{Act, Runs}
+use Rattle.wrapper_values.specs.declared.state.Val.{Val}
+use Rattle.wrapper_values.specs.Act.{Act, Runs}
 use Rattle.wrapper_run.specs.Run.{eval}
-use Rattle.wrapper_run.specs.Setting.{setting}
-use Rattle.wrapper_run.specs.Whole.{record_of}
+use Rattle.wrapper_values.specs.Setting.{setting}
+use Rattle.wrapper_values.specs.Whole.{record_of}
 use Rattle.wrapper_run.proofs.PartSteps.{eval-record}
 use Rattle.wrapper_run.proofs.eval.+eval.Goals as goal
 

@@ -1,8 +1,8 @@
 use Rattle.std.proofs.Common.{◌≡◌, ◌++◌, map, drop}
-use Rattle.wrapper_run.specs.Act.{◌>>=◌, all, pure}
+use Rattle.wrapper_values.specs.Act.{◌>>=◌, all, pure}
 use Rattle.wrapper_run.specs.Run.{eval}
-use Rattle.wrapper_run.specs.Setting.{setting}
-use Rattle.wrapper_run.specs.Whole.{field_act}
+use Rattle.wrapper_values.specs.Setting.{setting}
+use Rattle.wrapper_values.specs.Whole.{field_act}
 use Rattle.wrapper_run.proofs.eval.+eval.Given as goal
 
 -- the rest of the list, with the values so far in front

@@ -1,6 +1,6 @@
 use Rattle.std.proofs.Common.{◌≡◌, drop}
 use Rattle.wrapper_run.specs.Blocks.{release_all}
-use Rattle.wrapper_run.specs.Setting.{setting}
+use Rattle.wrapper_values.specs.Setting.{setting}
 use Rattle.wrapper_run.proofs.freeing.release_all.Given as goal
 
 abbrev pub invariant-loop-address : goal.invariant-loop-address

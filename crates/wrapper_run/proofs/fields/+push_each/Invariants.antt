@@ -1,5 +1,0 @@
-use Rattle.std.proofs.Common.{length}
-use Rattle.wrapper_run.proofs.fields.+push_each.Given as goal
-
-abbrev pub decreases-push_each : goal.decreases-push_each
-decreases-push_each g l = length l.of.now

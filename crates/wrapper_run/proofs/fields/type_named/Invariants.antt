@@ -1,6 +1,0 @@
-use Rattle.std.proofs.Common.{◌≡◌, drop}
-use Rattle.wrapper_run.specs.Fields.{type_named}
-use Rattle.wrapper_run.proofs.fields.type_named.Given as goal
-
-abbrev pub invariant-loop-item : goal.invariant-loop-item
-invariant-loop-item l = type_named (drop l.item-index l.items) l.name ≡ type_named l.items l.name

@@ -1,8 +1,0 @@
-use Rattle.std.proofs.Common.{◌≡◌, drop}
-use Rattle.std.specs.Option.{option_copied, option_or}
-use Rattle.std.specs.Str.{bytes_eq}
-use Rattle.wrapper_run.specs.Locals.{last, import_named}
-use Rattle.wrapper_run.proofs.locals.import_named.Given as goal
-
-abbrev pub invariant-loop-each : goal.invariant-loop-each
-invariant-loop-each l = option_or (last (λ x. bytes_eq x.name l.name) (drop l.each-index l.imports)) (option_copied l.found) ≡ import_named l.name l.imports

@@ -1,5 +1,0 @@
-use Rattle.std.proofs.Common.{length}
-use Rattle.wrapper_run.proofs.parts.+bind_parts.Given as goal
-
-abbrev pub decreases-bind_parts : goal.decreases-bind_parts
-decreases-bind_parts l = length l.names.now

@@ -1,5 +1,0 @@
-use Rattle.std.proofs.Common.{length}
-use Rattle.wrapper_run.proofs.parts.+push_rust_values.Given as goal
-
-abbrev pub decreases-push_rust_values : goal.decreases-push_rust_values
-decreases-push_rust_values l = length l.vs.now

@@ -1,0 +1,117 @@
+-- Which values are those of a printed type, where the type may be one of the file, an alias or a record; or a tuple, an array or an option.
+use Rattle.std.specs.Prelude.{ℕ, zero, suc, List, [], ◌∷◌, Option, None, Some, if◌then◌else◌, length, map, nat_eq, option_and_then}
+use Rattle.std.specs.Option.{option_map, option_or}
+use Rattle.rust_tree.specs.declared.item.Item.{Item}
+use Rattle.rust_tree.specs.declared.type_expr.TypeExpr.{TypeExpr, TypeExpr-F, out-TypeExpr}
+use Rattle.rust_tree.specs.declared.type_expr.TypeExpr.TheVariants as type
+use Rattle.rust_tree.specs.declared.type_item.TypeItem.{TypeItem}
+use Rattle.rust_tree.specs.declared.type_item.TypeItem.TheVariants.{Alias}
+use Rattle.wrapper_data.specs.declared.value.RustValue.{RustValue, RustValue-F, fold-RustValue}
+use Rattle.wrapper_data.specs.declared.value.RustValue.TheVariants as value
+use Rattle.wrapper_values.specs.declared.state.Val.{Val}
+use Rattle.wrapper_values.specs.declared.state.Val.TheVariants as val
+use Rattle.wrapper_values.specs.Effect.{answer_of}
+use Rattle.wrapper_values.specs.Fields.{fields_in, root_name, type_named}
+
+-- types of the file
+
+-- the definition of a type that is named by a path
+abbrev pub definition_in : List Item → TypeExpr-F TypeExpr → Option TypeItem
+definition_in items (TypeExpr-F.Path path) = option_and_then (type_named items) (root_name path)
+definition_in items _ = None
+
+abbrev pub target_in : Option TypeItem → Option TypeExpr
+target_in (Some (Alias a)) = Some a.ty
+target_in _ = None
+
+-- the type that a type is another name of
+abbrev pub target_of : List Item → TypeExpr → Option TypeExpr
+target_of items ty = target_in (definition_in items (out-TypeExpr ty))
+
+abbrev pub behind_one : (TypeExpr → TypeExpr) → TypeExpr → Option TypeExpr → TypeExpr
+behind_one further ty None = ty
+behind_one further ty (Some target) = further target
+
+-- behind at most as many aliases as there are such items
+abbrev pub behind : List Item → List Item → TypeExpr → TypeExpr
+behind [] items ty = ty
+behind (_ ∷ more) items ty = behind_one (behind more items) ty (target_of items ty)
+
+-- a type behind all aliases of the file
+abbrev pub unaliased : List Item → TypeExpr → TypeExpr
+unaliased items ty = behind items items ty
+
+-- the types of the parts of a tuple or record
+abbrev pub part_types_in : List Item → TypeExpr-F TypeExpr → Option (List TypeExpr)
+part_types_in items (TypeExpr-F.Tuple types) = Some types
+part_types_in items l = option_map (map (λ f. f.ty)) (fields_in (definition_in items l))
+
+-- values
+
+-- the value of the Rust side that is passed for one of a plain type
+abbrev pub plain_as : TypeExpr → Val → Option RustValue
+plain_as ty v = option_and_then (λ r. r) (answer_of ty v)
+
+-- a value without parts
+abbrev pub leaf_of : {A : Type 0} → RustValue-F A → Option RustValue
+leaf_of (RustValue-F.Bool b) = Some (value.Bool b)
+leaf_of (RustValue-F.Num kind z) = Some (value.Num kind z)
+leaf_of (RustValue-F.F32 bits) = Some (value.F32 bits)
+leaf_of (RustValue-F.F64 bits) = Some (value.F64 bits)
+leaf_of (RustValue-F.Char c) = Some (value.Char c)
+leaf_of (RustValue-F.Buffer address len owned) = Some (value.Buffer address len owned)
+leaf_of _ = None
+
+-- a value, as one of a type
+abbrev pub Typed : Type 0
+Typed = TypeExpr → Option RustValue
+
+-- each part of the type of its place
+abbrev pub typed_each : List Typed → List TypeExpr → Option (List RustValue)
+typed_each [] [] = Some []
+typed_each [] (_ ∷ _) = None
+typed_each (_ ∷ _) [] = None
+typed_each (part ∷ parts) (ty ∷ types) = option_and_then (λ r. option_map (λ rs. r ∷ rs) (typed_each parts types)) (part ty)
+
+-- each part of one type
+abbrev pub typed_alike : TypeExpr → List Typed → Option (List RustValue)
+typed_alike ty [] = Some []
+typed_alike ty (part ∷ parts) = option_and_then (λ r. option_map (λ rs. r ∷ rs) (typed_alike ty parts)) (part ty)
+
+-- the parts of an array, which are so many; and of a tuple or record
+abbrev pub typed_parts : List Item → List Typed → TypeExpr-F TypeExpr → Option (List RustValue)
+typed_parts items parts (TypeExpr-F.Array ty n) = if nat_eq (length parts) n then typed_alike ty parts else None
+typed_parts items parts l = option_and_then (typed_each parts) (part_types_in items l)
+
+-- an option of a type: the case 0 without a payload, or with `()`; or the case 1, with a payload of the type
+abbrev pub typed_option : ℕ → Option Typed → TypeExpr → Option RustValue
+typed_option zero None ty = Some (value.Case 0 None)
+typed_option zero (Some payload) ty = option_map (λ r. value.Case 0 None) (payload type.Unit)
+typed_option (suc zero) (Some payload) ty = option_map (λ r. value.Case 1 (Some r)) (payload ty)
+typed_option _ _ ty = None
+
+abbrev pub typed_case : ℕ → Option Typed → TypeExpr-F TypeExpr → Option RustValue
+typed_case number payload (TypeExpr-F.Optional ty) = typed_option number payload ty
+typed_case number payload _ = None
+
+abbrev pub typed_unit : TypeExpr-F TypeExpr → Option RustValue
+typed_unit TypeExpr-F.Unit = Some value.Unit
+typed_unit _ = None
+
+-- one level of a value, with its parts, as one of a type that is no alias
+abbrev pub typed_level : List Item → RustValue-F Typed → Typed
+typed_level items (RustValue-F.Struct parts) ty = option_map value.Struct (typed_parts items parts (out-TypeExpr ty))
+typed_level items (RustValue-F.Case number payload) ty = typed_case number payload (out-TypeExpr ty)
+typed_level items RustValue-F.Unit ty = typed_unit (out-TypeExpr ty)
+typed_level items l ty = option_and_then (λ r. plain_as ty (val.Value r)) (leaf_of l)
+
+abbrev pub typed : List Item → RustValue → Typed
+typed items = fold-RustValue Typed (λ l ty. typed_level items l (unaliased items ty))
+
+abbrev pub whole_as : List Item → TypeExpr → Val → Option RustValue
+whole_as items ty (val.Value r) = typed items r ty
+whole_as items ty _ = None
+
+-- what a function of this printed type answers: no value for `()`
+abbrev pub answer_in : List Item → TypeExpr → Val → Option (Option RustValue)
+answer_in items ty v = option_or (answer_of (unaliased items ty) v) (option_map Some (whole_as items ty v))

@@ -1,0 +1,27 @@
+//! The values of the machine: what they are, what they own, the locals that hold them, and what the forms of the tree do to
+//! them.
+#![tactic(auto)]
+
+mod casts;
+mod conversion;
+mod fields;
+mod locals;
+mod owned;
+mod owning;
+mod parts;
+mod printed;
+mod state;
+mod typed;
+mod views;
+
+pub use casts::cast_to;
+pub use conversion::{converted, lift_of, word_of_bool};
+pub use locals::{
+    ask_local, bind, declare, import_named, lend_local, local_named, use_local, value_named,
+};
+pub use owning::{View, is_taken, taken_by};
+pub use parts::{record_of, take_apart, whole_of};
+pub use printed::is_unit;
+pub use state::{Halt, Local, State, Val, World};
+pub use typed::answer_in;
+pub use views::{integer_of, is_word_of, word_of};
