@@ -2,7 +2,7 @@
 
 use crate::runs::DOCUMENT;
 use gen_files::Files;
-use rust_gen::{GenError, Opts};
+use rust_gen::{Build, GenError, Opts};
 use std::alloc::Global;
 use std::test::Fail;
 use wit_document::{Document, document_of};

@@ -10,11 +10,11 @@ use Rattle.wit_model.specs.Distinct.{is_distinct}
 use Rattle.wit_model.specs.declared.function.Function.{Function}
 use Rattle.wit_model.specs.declared.world.WorldItem.TheVariants as entry
 use Rattle.rust_tree.specs.declared.macros.ExportEntry.{ExportEntry}
-use Rattle.wrapper_run.specs.Areas.{needs_area}
-use Rattle.rust_gen.specs.Emitted.{functions_in}
+use Rattle.gen_accept.specs.Area.{needs_area}
+use Rattle.gen_accept.specs.Emitted.{functions_in}
 use Rattle.type_defs.specs.ListedTypes.{Entries}
 use Rattle.rust_gen.specs.Exported.{entries_of, export_entry, post_return_name, return_entry, where_area}
-use Rattle.rust_gen.specs.NameText.{is_written_entry, is_written_function, is_written_key}
+use Rattle.gen_accept.specs.NameText.{is_written_entry, is_written_function, is_written_key}
 use Rattle.type_defs.specs.WitForm.{is_name_char, is_nonempty, is_wit_form}
 use Rattle.rust_gen.proofs.ItemLemmas.{alone-named}
 use Rattle.wit_model.specs.Bytes.{Bytes}

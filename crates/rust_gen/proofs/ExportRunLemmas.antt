@@ -52,8 +52,10 @@ use Rattle.wrapper_run.proofs.TakeLemmas.{answered-empty, answered-text}
 use Rattle.rust_gen.specs.declared.scope.Scope.{Scope}
 use Rattle.rust_gen.specs.Body.{runtime_call, runtime_path, lowering_item}
 use Rattle.rust_gen.specs.ExportBody.{DeclaresValue, IsExportBody, IsExportWritten, LowersBack, LowersResult, export_scope, forget_path, text_given, text_stored, value_local, value_name}
-use Rattle.rust_gen.specs.Exported.{export_params, export_result, guest_name, static_area, trait_fn}
-use Rattle.rust_gen.specs.Signature.{core_type, param_words, printed_result}
+use Rattle.gen_accept.specs.DeclaredNames.{guest_name}
+use Rattle.rust_gen.specs.Exported.{export_params, export_result, static_area, trait_fn}
+use Rattle.gen_accept.specs.CoreWords.{core_type, param_words}
+use Rattle.rust_gen.specs.Signature.{printed_result}
 use Rattle.type_defs.specs.Printed.{printed_type}
 use Rattle.rust_tree.specs.Asked.{asked_by_block, asked_by_call, asked_by_export, asked_by_expr, asked_by_stmt, asked_by_tail}
 use Rattle.rust_gen.specs.Faithful.{export_target}

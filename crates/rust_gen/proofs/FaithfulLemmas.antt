@@ -21,9 +21,9 @@ use Rattle.wrapper_values.specs.Setting.{Setting}
 use Rattle.wrapper_run.specs.Run.{import_nth, import_run, run_item, import_at, runtime_item_named, setting_of}
 use Rattle.rust_gen.specs.Body.{IsWritten}
 use Rattle.rust_gen.specs.Bound.{Binds, Parts, export_items, own_items}
-use Rattle.rust_gen.specs.Cause.{is_well_named, is_built}
-use Rattle.rust_gen.specs.DeclaredNames.{are_distinct_functions, cabi_suffix, declares_well, export_prefix, has_distinct_names}
-use Rattle.rust_gen.proofs.DeclaredLemmas.{distinct_exports, distinct_methods, distinct_params}
+use Rattle.gen_accept.specs.Cause.{is_well_named, is_built}
+use Rattle.gen_accept.specs.DeclaredNames.{are_distinct_functions, cabi_suffix, declares_well, export_prefix, guest_name, has_distinct_names}
+use Rattle.gen_accept.proofs.DeclaredLemmas.{distinct_exports, distinct_methods, distinct_params}
 use Rattle.rust_gen.specs.Faithful.{AreFaithful, export_names, import_target}
 use Rattle.rust_gen.specs.Runtime.{runtime_items, runtime_module}
 use Rattle.rust_tree.specs.Asked.{asked_by_block, asked_by_item, asked_by_signature, asked_in}
@@ -36,9 +36,9 @@ use Rattle.rust_gen.proofs.TextLemmas.{owes_written}
 use Rattle.rust_gen.proofs.TreeLemmas.{length-places_from, own-first}
 use Rattle.std.proofs.Common.{◌<◌, ◌≤◌, ◌&&◌, ◌||◌, ◌^◌}
 use Rattle.wrapper_run.specs.Run.{numbered}
-use Rattle.rust_gen.specs.Built.{is_built_result, is_built_type, are_built_options, are_built_tables, is_built_function, is_built_item, is_built_world, is_no_type, is_under_itself}
+use Rattle.gen_accept.specs.Built.{is_built_result, is_built_type, are_built_options, are_built_tables, is_built_function, is_built_item, is_built_world, is_no_type, is_under_itself}
 use Rattle.std.proofs.lemmas.Fmt.{decimal_injective}
-use Rattle.wrapper_run.specs.Areas.{needs_area}
+use Rattle.gen_accept.specs.Area.{needs_area}
 use Rattle.wrapper_run.specs.Entries.{IsExported, entries_in, entries_named, exports_in}
 use Rattle.wrapper_run.specs.ExportFaithful.{IsExportFaithful, MeetsCall}
 use Rattle.wrapper_run.specs.Places.{area_in}
@@ -52,7 +52,7 @@ use Rattle.wrapper_data.specs.declared.run.Run.{Run}
 use Rattle.wrapper_data.specs.declared.word.Word.{Word}
 use Rattle.wit_model.specs.declared.types.WitType.{WitType}
 use Rattle.wit_model.specs.declared.types.WitType.TheVariants as wit
-use Rattle.rust_gen.specs.Emitted.{emitted_sides, exported_functions, functions_in, imported_functions, on_side, places_from}
+use Rattle.gen_accept.specs.Emitted.{emitted_sides, exported_functions, functions_in, imported_functions, on_side, places_from}
 use Rattle.type_defs.specs.ListedTypes.{Entries}
 use Rattle.rust_tree.specs.declared.export.ExportFn.{ExportFn}
 use Rattle.rust_gen.proofs.ExportRunLemmas.{FitsExport, meets_call}
@@ -64,18 +64,18 @@ use Rattle.rust_gen.proofs.EntryLemmas.{alone-return, alone-wrapper, wit-forms}
 use Rattle.rust_gen.proofs.LiftLemmas.{no_text}
 use Rattle.rust_gen.proofs.PartsLemmas.{exports-of_parts, no_exports-behind, no_returns-behind, post_return-alone, post_return_named-at}
 use Rattle.rust_gen.proofs.ReturnLemmas.{frees_words}
-use Rattle.rust_gen.specs.declared.opts.Opts.{Opts}
+use Rattle.gen_accept.specs.declared.opts.Opts.{Opts}
 use Rattle.wit_model.specs.declared.wasm_type.WasmType.{WasmType}
 use Rattle.rust_gen.proofs.ItemLemmas.{alone-named, area-found, distinct-image, entries-are, find-named, method-found, runtime-found}
-use Rattle.rust_gen.specs.NameText.{are_written_tables, is_written_entry, is_written_world}
+use Rattle.gen_accept.specs.NameText.{are_written_tables, is_written_entry, is_written_world}
 use Rattle.type_defs.specs.WitForm.{is_wit_form}
-use Rattle.rust_gen.specs.Exported.{area_of, arg_name, arg_prefix, core_args, entries_of, export_entry, file_macro, guest_name, guest_trait, last_macro, post_return_name, return_entry, static_area, trait_and_macro, trait_fn, where_any, where_area, world_macro}
+use Rattle.rust_gen.specs.Exported.{area_of, arg_name, arg_prefix, core_args, entries_of, export_entry, file_macro, guest_trait, last_macro, post_return_name, return_entry, static_area, trait_and_macro, trait_fn, where_any, where_area, world_macro}
 use Rattle.std.specs.Str.{bytes_eq}
 use Rattle.std.proofs.lemmas.Slice.Eq.{bytes_eq-Decides}
 use Rattle.wrapper_run.specs.ExportRun.{export_at, export_nth, export_run, method_named, run_export_item}
 use Rattle.rust_tree.specs.Runtime.{item_name}
 use Rattle.std.proofs.lemmas.Bool.Decides.{nat_tests}
-use Rattle.rust_gen.specs.Signature.{param_words}
+use Rattle.gen_accept.specs.CoreWords.{param_words}
 use Rattle.rust_tree.specs.Ident.{rust_ident}
 use Rattle.wit_model.specs.declared.world.WorldItem.TheVariants as entry
 

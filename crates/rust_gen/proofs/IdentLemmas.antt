@@ -19,7 +19,8 @@ use Rattle.rust_gen.specs.declared.scope.LocalKind.{LocalKind}
 use Rattle.rust_gen.specs.declared.scope.LocalKind.TheVariants as kind
 use Rattle.rust_gen.specs.Body.{root_module, runtime_name}
 use Rattle.rust_gen.specs.ExportBody.{forget_names}
-use Rattle.rust_gen.specs.Exported.{arg_name, arg_prefix, guest_name, post_return_name}
+use Rattle.gen_accept.specs.DeclaredNames.{guest_name}
+use Rattle.rust_gen.specs.Exported.{arg_name, arg_prefix, post_return_name}
 use Rattle.type_defs.proofs.NamedTextLemmas.{path_from}
 use Rattle.rust_gen.specs.Scope.{IsFixedName, numbered, prefix_of, ret_area}
 

@@ -16,7 +16,7 @@ use Rattle.rust_tree.specs.declared.trait_item.TraitItem.{TraitItem}
 use Rattle.rust_tree.specs.declared.item.FnItem.{FnItem}
 use Rattle.rust_tree.specs.declared.item.Item.{Item}
 use Rattle.rust_tree.specs.declared.runtime_item.RuntimeItem.{RuntimeItem}
-use Rattle.wrapper_run.specs.Areas.{needs_area}
+use Rattle.gen_accept.specs.Area.{needs_area}
 use Rattle.wrapper_run.specs.Entries.{entries_in}
 use Rattle.wrapper_values.specs.Owning.{listed}
 use Rattle.wrapper_run.specs.Places.{area_in}

@@ -1,8 +1,4 @@
-mod AcceptedLemmas
 mod AskedLemmas
-pub mod EmittedLemmas
-mod ClashLemmas
-mod DeclaredLemmas
 mod EntryLemmas
 mod ExportRunLemmas
 mod FaithfulLemmas
@@ -13,7 +9,6 @@ mod ItemLemmas
 mod LiftLemmas
 mod LiftingLemmas
 mod LowerLemmas
-mod ListedNameLemmas
 mod LoweringLemmas
 mod NamedExportLemmas
 mod NamedImportLemmas
@@ -31,5 +26,3 @@ mod TextLemmas
 pub mod TreeLemmas
 mod WordLemmas
 pub mod WrapperLemmas
-mod UnusedLemmas
-mod WithinLemmas

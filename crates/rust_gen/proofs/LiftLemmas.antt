@@ -45,7 +45,7 @@ use Rattle.rust_gen.specs.declared.scope.Scope.{Scope}
 use Rattle.rust_gen.specs.Body.{LiftsScalar, LiftsTaken, lift_kinds}
 use Rattle.rust_gen.specs.ExportBody.{LiftsAll, LiftsParam}
 use Rattle.rust_gen.specs.Exported.{arg_name, core_args, trait_param}
-use Rattle.rust_gen.specs.Signature.{core_type, core_words, param_words}
+use Rattle.gen_accept.specs.CoreWords.{core_type, core_words, param_words}
 use Rattle.type_defs.specs.Printed.{printed_type}
 use Rattle.rust_gen.specs.Scope.{is_used, numbered}
 use Rattle.wit_model.specs.Bytes.{Bytes}

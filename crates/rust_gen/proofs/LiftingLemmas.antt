@@ -5,7 +5,7 @@ use Rattle.rust_gen.specs.declared.export.Lifted.{Lifted}
 use Rattle.rust_gen.specs.declared.scope.Scope.{Scope}
 use Rattle.rust_gen.specs.ExportBody.{LiftsAll}
 use Rattle.rust_gen.specs.ExportLifting.{LiftsOne, LiftsParams}
-use Rattle.rust_gen.specs.Signature.{core_words}
+use Rattle.gen_accept.specs.CoreWords.{core_words}
 
 pub lifts_none : (n : ℕ) (s : Scope) (b : Lifted) (params : List Param) → length params ≡ 0 → LiftsParams n s b params s b
 lifts_none n s b [] e = ([], [], (refl, refl, refl), sym (append-nil b.stmts), sym (append-nil b.arguments))

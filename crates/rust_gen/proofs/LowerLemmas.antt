@@ -37,7 +37,7 @@ use Rattle.wrapper_run.proofs.StepLemmas.{Give, as_ptr_gives, bool_gives, call_g
 use Rattle.rust_gen.specs.declared.scope.LocalKind.TheVariants as kind
 use Rattle.rust_gen.specs.declared.scope.Scope.{Scope}
 use Rattle.rust_gen.specs.Body.{LowersAll, LowersAs, converted, lowering_item, runtime_path, text_kinds}
-use Rattle.rust_gen.specs.Signature.{core_type, core_words, param_words}
+use Rattle.gen_accept.specs.CoreWords.{core_type, core_words, param_words}
 use Rattle.rust_tree.specs.Asked.{asked_by_expr}
 use Rattle.rust_gen.specs.Scope.{is_used, numbered}
 use Rattle.rust_gen.proofs.AskedLemmas.{Found, found-parts, found-word}

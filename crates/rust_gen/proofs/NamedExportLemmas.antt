@@ -24,14 +24,14 @@ use Rattle.rust_tree.specs.Ident.{is_ident, rust_ident}
 use Rattle.rust_tree.specs.Runtime.{item_name}
 use Rattle.rust_tree.specs.WellNamed.{are_named_core_params, are_path_names, is_absent_or, is_ident_part, is_named_block, is_named_call, is_named_export, is_named_expr, is_named_item, is_named_post_return, is_named_stmt}
 use Rattle.rust_tree.proofs.NamedLemmas.{is_named-align, is_named-as_ptr, is_named-bool, is_named-boxed, is_named-call, is_named-cast_mut, is_named-len, is_named-local, is_named-static}
-use Rattle.wrapper_run.specs.Areas.{needs_area}
+use Rattle.gen_accept.specs.Area.{needs_area}
 use Rattle.rust_gen.specs.declared.scope.LocalKind.TheVariants as kind
 use Rattle.rust_gen.specs.declared.scope.Scope.{Scope}
 use Rattle.rust_gen.specs.Body.{runtime_name, runtime_path, word_at, lowering_item}
 use Rattle.rust_gen.specs.Bound.{Parts, export_items}
 use Rattle.rust_gen.specs.ExportBody.{ArePartsWritten, IsExportBody, IsExportWritten, IsReturnWritten, LiftsAll, LiftsParam, LowersBack, LowersResult, ReturnWritten, dealloc_call, export_scope, forget_names, forget_path, text_boxed, text_freed, text_given, text_stored, value_local, value_name}
 use Rattle.rust_gen.specs.Exported.{arg_name, core_args, export_params, return_params}
-use Rattle.rust_gen.specs.Signature.{core_words, param_words}
+use Rattle.gen_accept.specs.CoreWords.{core_words, param_words}
 use Rattle.rust_gen.specs.Scope.{numbered}
 use Rattle.rust_gen.proofs.IdentLemmas.{arg_ident, forget_path-named, guest_ident, local_ident, runtime_path-named}
 use Rattle.rust_gen.proofs.NamedImportLemmas.{Exprs, Named, Stmts, expr_more, let_named, lift_scalar-named, lift_taken-named, load_named, local_named, runtime_named, stmt_more, stmts_append}

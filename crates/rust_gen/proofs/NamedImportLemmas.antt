@@ -29,7 +29,7 @@ use Rattle.rust_gen.specs.declared.scope.LocalKind.TheVariants as kind
 use Rattle.rust_gen.specs.declared.scope.Scope.{Scope}
 use Rattle.rust_gen.specs.Body.{IsBody, IsWritten, Lifts, LiftsAs, LiftsBy, LiftsScalar, LiftsTaken, LiftsText, LowersAll, LowersAs, Points, area_stmts, call_stmt, converted, import_call, import_decl, import_name, lifted, result_name, root_module, runtime_call, runtime_name, runtime_path, text_stmts, text_taken, text_words, word_at, lowering_item}
 use Rattle.type_defs.specs.Paths.{local_path}
-use Rattle.rust_gen.specs.DeclaredNames.{param_idents}
+use Rattle.gen_accept.specs.DeclaredNames.{param_idents}
 use Rattle.rust_gen.specs.Signature.{core_result}
 use Rattle.rust_gen.specs.Scope.{first_scope, numbered}
 use Rattle.rust_gen.proofs.SignatureLemmas.{params-named, result-named}

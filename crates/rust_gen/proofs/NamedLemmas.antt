@@ -14,27 +14,27 @@ use Rattle.rust_tree.specs.declared.item.Item.TheVariants as item
 use Rattle.rust_tree.specs.declared.runtime_item.RuntimeItem.{RuntimeItem}
 use Rattle.rust_tree.specs.Ident.{is_ident, may_follow, rust_ident}
 use Rattle.rust_tree.specs.WellNamed.{are_named_core_params, are_well_named, is_ident_part, is_line, is_named_entry, is_named_item, is_named_method, is_named_module_macro, is_named_param, is_named_root_macro, is_named_trait, is_named_type, is_option_line, is_quotable}
-use Rattle.wrapper_run.specs.Areas.{needs_area}
-use Rattle.rust_gen.specs.declared.opts.Opts.{Opts}
-use Rattle.rust_gen.specs.TypeOpts.{type_opts}
+use Rattle.gen_accept.specs.Area.{needs_area}
+use Rattle.gen_accept.specs.declared.opts.Opts.{Opts}
+use Rattle.gen_accept.specs.TypeOpts.{type_opts}
 use Rattle.rust_gen.specs.Body.{IsWritten}
 use Rattle.rust_gen.specs.Bound.{AreItems, export_items, own_items}
 use Rattle.rust_gen.proofs.TreeLemmas.{own-first}
-use Rattle.rust_gen.specs.Cause.{is_accepted, is_well_named}
-use Rattle.rust_gen.specs.DeclaredNames.{cabi_suffix, declares_well, export_ident, export_prefix, has_distinct_names, is_empty, macro_idents, param_idents, where_exported}
+use Rattle.gen_accept.specs.Cause.{is_accepted, is_well_named}
+use Rattle.gen_accept.specs.DeclaredNames.{cabi_suffix, declares_well, export_ident, export_prefix, guest_name, has_distinct_names, is_empty, macro_idents, param_idents, where_exported}
 use Rattle.type_defs.specs.DefinedNames.{AreDefinable}
 use Rattle.type_defs.specs.Docs.{doc_lines}
-use Rattle.rust_gen.specs.Emitted.{exported_functions, imported_functions}
+use Rattle.gen_accept.specs.Emitted.{exported_functions, imported_functions}
 use Rattle.rust_gen.specs.ExportBody.{ArePartsWritten}
-use Rattle.rust_gen.specs.Exported.{area_of, entries_of, export_entry, export_params, file_macro, guest_name, guest_trait, last_macro, macro_name, post_return_name, return_entry, return_params, static_area, trait_and_macro, trait_fn, trait_param, where_any, where_area, world_macro, world_prefix}
-use Rattle.rust_gen.specs.NameText.{are_written_tables, is_written_entry, is_written_world}
+use Rattle.rust_gen.specs.Exported.{area_of, entries_of, export_entry, export_params, file_macro, guest_trait, last_macro, macro_name, post_return_name, return_entry, return_params, static_area, trait_and_macro, trait_fn, trait_param, where_any, where_area, world_macro, world_prefix}
+use Rattle.gen_accept.specs.NameText.{are_written_tables, is_written_entry, is_written_world}
 use Rattle.type_defs.specs.WitForm.{is_wit_form}
 use Rattle.rust_gen.specs.OptionLines.{option_lines, unused_types_line}
 use Rattle.rust_gen.specs.Signature.{printed_result}
 use Rattle.rust_gen.specs.Runtime.{runtime_items, runtime_module}
 use Rattle.type_defs.proofs.DefinedNameLemmas.{definitions-named}
-use Rattle.rust_gen.proofs.DeclaredLemmas.{export_idents, import_idents, import_params, macro_names, method_idents}
-use Rattle.rust_gen.proofs.DeclaredLemmas as names
+use Rattle.gen_accept.proofs.DeclaredLemmas.{export_idents, import_idents, import_params, macro_names, method_idents}
+use Rattle.gen_accept.proofs.DeclaredLemmas as names
 use Rattle.rust_gen.proofs.EntryLemmas.{wit-forms}
 use Rattle.rust_gen.proofs.IdentLemmas.{guest_ident, part_of, return-quotable}
 use Rattle.type_defs.proofs.NamedTextLemmas.{docs-named, wit-quotable}

@@ -16,7 +16,7 @@ use Rattle.rust_tree.specs.declared.item.FnItem.{FnItem}
 use Rattle.rust_tree.specs.declared.item.Item.{Item}
 use Rattle.rust_tree.specs.declared.item.Item.TheVariants as item
 use Rattle.rust_tree.specs.declared.runtime_item.RuntimeItem.{RuntimeItem}
-use Rattle.wrapper_run.specs.Areas.{needs_area}
+use Rattle.gen_accept.specs.Area.{needs_area}
 use Rattle.wrapper_run.specs.Entries.{exports_in}
 use Rattle.wit_model.specs.Bytes.{Bytes}
 use Rattle.wrapper_values.specs.Owning.{listed}
@@ -25,7 +25,7 @@ use Rattle.wrapper_run.specs.Returned.{post_returns_in}
 use Rattle.wrapper_run.proofs.LocalLemmas.{bytes_eq-same}
 use Rattle.rust_gen.specs.Bound.{Parts, export_items}
 use Rattle.rust_gen.specs.ExportBody.{ArePartsWritten, ReturnWritten}
-use Rattle.rust_gen.specs.Emitted.{exported_functions}
+use Rattle.gen_accept.specs.Emitted.{exported_functions}
 use Rattle.rust_gen.specs.Exported.{area_of, file_macro, guest_trait, last_macro, static_area, trait_and_macro, where_any, world_macro}
 use Rattle.rust_gen.specs.Runtime.{runtime_module}
 use Rattle.rust_gen.proofs.ItemLemmas.{apart, found_of}

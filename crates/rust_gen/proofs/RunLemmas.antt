@@ -49,8 +49,9 @@ use Rattle.wrapper_run.specs.Value.{WitValue, AreValues, IsResult, scalar, text}
 use Rattle.wrapper_run.proofs.LocalLemmas.{ReadsAll, SameLength, declared-alone, reads-new, unbound, bytes_eq-same, reads_bound}
 use Rattle.wrapper_run.proofs.NumberLemmas.{answered-unit}
 use Rattle.wrapper_run.proofs.StepLemmas.{Quiet, answer_gives, call_gives, ended-calls, import_gives, no_answer_gives, quiet_answer, quiet_bind, quiet_then, quiet_cast, quiet_local, quiet_pure, quiet_runtime, answers_plain, quiet_answers, quiet_drop}
-use Rattle.rust_gen.specs.DeclaredNames.{param_idents}
-use Rattle.rust_gen.specs.Signature.{core_result, core_type, printed_result, core_params, param_words, pointer_words}
+use Rattle.gen_accept.specs.DeclaredNames.{param_idents}
+use Rattle.gen_accept.specs.CoreWords.{core_type, param_words}
+use Rattle.rust_gen.specs.Signature.{core_result, printed_result, core_params, pointer_words}
 use Rattle.type_defs.specs.Printed.{printed_type}
 use Rattle.rust_tree.specs.Asked.{asked_by_block, asked_by_stmt, asked_by_tail}
 use Rattle.rust_gen.specs.Wrapper.{printed_param}

@@ -24,11 +24,11 @@ use Rattle.rust_tree.specs.Asked.{asked_by_item, asked_in}
 use Rattle.rust_tree.specs.Runtime.{item_name, needed_items}
 use Rattle.rust_tree.specs.declared.macros.RootMacro.{RootMacro}
 use Rattle.rust_tree.specs.Tree.{Tree}
-use Rattle.wrapper_run.specs.Areas.{needs_area}
-use Rattle.rust_gen.specs.declared.opts.Opts.{Opts}
+use Rattle.gen_accept.specs.Area.{needs_area}
+use Rattle.gen_accept.specs.declared.opts.Opts.{Opts}
 use Rattle.rust_gen.specs.Body.{IsWritten}
 use Rattle.rust_gen.specs.Bound.{Binds, Parts, export_items, own_items}
-use Rattle.rust_gen.specs.Emitted.{exported_functions}
+use Rattle.gen_accept.specs.Emitted.{exported_functions}
 use Rattle.rust_gen.specs.ExportBody.{ArePartsWritten}
 use Rattle.rust_gen.specs.Exported.{area_of, last_macro, static_area, trait_and_macro, where_any, guest_trait, world_macro, file_macro}
 use Rattle.rust_gen.specs.Runtime.{is_same_item, runtime_items, runtime_module, with_asked, with_needed}

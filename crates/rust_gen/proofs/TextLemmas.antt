@@ -66,8 +66,9 @@ use Rattle.rust_gen.proofs.TakenLemmas.{AreFree, addresses, take_stmts, taken-la
 use Rattle.wrapper_run.specs.Represents.{HasText, block_of}
 use Rattle.rust_gen.specs.Body.{IsBody, IsWritten, LiftsText, Lifts, Points, area_stmts, call_kinds, call_stmt, import_call, import_decl, import_name, result_name, runtime_call, runtime_path, text_taken, word_at, text_area as area_of}
 use Rattle.type_defs.specs.Paths.{local_path}
-use Rattle.rust_gen.specs.DeclaredNames.{param_idents}
-use Rattle.rust_gen.specs.Signature.{core_params, core_result, param_words, pointer_words, printed_result}
+use Rattle.gen_accept.specs.DeclaredNames.{param_idents}
+use Rattle.gen_accept.specs.CoreWords.{param_words}
+use Rattle.rust_gen.specs.Signature.{core_params, core_result, pointer_words, printed_result}
 use Rattle.rust_tree.specs.Asked.{asked_by_expr, asked_by_stmt, asked_by_tail}
 use Rattle.rust_gen.specs.Scope.{Declares, IsFixedName, cleanup_list, first_scope, is_used, numbered, ret_area}
 use Rattle.wit_model.specs.Bytes.{Bytes}

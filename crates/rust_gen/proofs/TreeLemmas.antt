@@ -13,9 +13,9 @@ use Rattle.rust_tree.specs.declared.runtime_item.RuntimeItem.{RuntimeItem}
 use Rattle.rust_tree.specs.declared.type_item.TypeItem.{TypeItem}
 use Rattle.rust_tree.specs.declared.place.FuncPlace.{FuncPlace}
 use Rattle.rust_tree.specs.Tree.{wrapper_count}
-use Rattle.rust_gen.specs.declared.opts.Opts.{Opts}
+use Rattle.gen_accept.specs.declared.opts.Opts.{Opts}
 use Rattle.rust_gen.specs.Body.{IsWritten}
-use Rattle.rust_gen.specs.Emitted.{functions_in, places_from, emitted_places, exported_functions, imported_functions}
+use Rattle.gen_accept.specs.Emitted.{functions_in, places_from, emitted_places, exported_functions, imported_functions}
 use Rattle.type_defs.specs.ListedTypes.{Entries}
 use Rattle.rust_gen.specs.Runtime.{runtime_module, runtime_items}
 use Rattle.wit_model.specs.declared.name.WorldId.{WorldId}
@@ -27,7 +27,7 @@ use Rattle.rust_tree.specs.declared.trait_item.TraitItem.{TraitItem}
 use Rattle.rust_gen.specs.Bound.{AreItems, Parts, export_items, own_items}
 use Rattle.rust_gen.specs.ExportBody.{ArePartsWritten}
 use Rattle.rust_gen.specs.Exported.{area_of, file_macro, guest_trait, last_macro, static_area, trait_and_macro, where_any, world_macro}
-use Rattle.wrapper_run.specs.Areas.{needs_area}
+use Rattle.gen_accept.specs.Area.{needs_area}
 use Rattle.type_defs.proofs.ZipLemmas.{AllZip-more}
 use Rattle.rust_gen.proofs.SkipLemmas.{skip-count}
 

@@ -32,7 +32,7 @@ use Rattle.wit_model.specs.declared.wasm_type.WasmType.TheVariants as core
 use Rattle.rust_tree.specs.declared.runtime_item.RuntimeItem.TheVariants as item
 use Rattle.rust_gen.specs.declared.scope.LocalKind.TheVariants as kind
 use Rattle.rust_gen.specs.Body.{LiftsBy, lowering_item, runtime_call, runtime_path, LiftsScalar}
-use Rattle.rust_gen.specs.Signature.{core_type}
+use Rattle.gen_accept.specs.CoreWords.{core_type}
 use Rattle.type_defs.specs.Printed.{printed_type}
 use Rattle.rust_tree.specs.declared.runtime_item.RuntimeItem.TheVariants.{BoolLift, CharLift}
 use Rattle.rust_tree.specs.declared.expr.Expr.{Expr}

@@ -8,7 +8,7 @@ use Rattle.wit_model.specs.declared.types.WitType.TheVariants as wit
 use Rattle.wit_model.specs.declared.name.WorldId.{WorldId}
 use Rattle.wit_model.specs.declared.resolve.Resolve.{Resolve}
 use Rattle.wit_model.specs.declared.world.World.{World}
-use Rattle.rust_gen.specs.declared.opts.Opts.{Opts}
+use Rattle.gen_accept.specs.declared.opts.Opts.{Opts}
 use Rattle.rust_tree.specs.declared.expr.Expr.{Expr}
 use Rattle.rust_tree.specs.declared.item.FnItem.{FnItem}
 use Rattle.rust_tree.specs.declared.stmt.Stmt.{Stmt}
@@ -27,8 +27,8 @@ use Rattle.rust_gen.specs.Wrapper.{Declares, HasReturn, Wraps, WrapsParts, Wraps
 use Rattle.rust_tree.specs.declared.export.ExportFn.{ExportFn}
 use Rattle.rust_tree.specs.declared.export.PostReturnFn.{PostReturnFn}
 use Rattle.rust_gen.specs.ExportBody.{ArePartsWritten, IsExportWritten, IsReturnWritten, ReturnWritten}
-use Rattle.wrapper_run.specs.Areas.{needs_area}
-use Rattle.rust_gen.specs.Exported.{guest_name}
+use Rattle.gen_accept.specs.Area.{needs_area}
+use Rattle.gen_accept.specs.DeclaredNames.{guest_name}
 
 declared-append : (a b : List Stmt) → declared (a ++ b) ≡ declared a ++ declared b
 declared-append [] b = refl

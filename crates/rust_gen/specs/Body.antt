@@ -26,7 +26,7 @@ use Rattle.rust_gen.specs.Signature.{printed_result, core_params, core_result, t
 use Rattle.rust_gen.specs.declared.scope.Scope.{Scope}
 use Rattle.rust_gen.specs.Scope.{Declares, IsFixedName, first_scope, numbered, ret_area}
 use Rattle.wit_model.specs.Bytes.{Bytes}
-use Rattle.rust_gen.specs.DeclaredNames.{param_idents}
+use Rattle.gen_accept.specs.DeclaredNames.{param_idents}
 use Rattle.wit_model.specs.declared.size.Alignment.TheVariants as alignment
 use Rattle.wit_model.specs.declared.wasm_type.WasmType.{WasmType}
 use Rattle.wit_model.specs.declared.wasm_type.WasmType.TheVariants as core

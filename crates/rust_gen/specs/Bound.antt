@@ -14,13 +14,13 @@ use Rattle.rust_tree.specs.declared.item.Item.{Item}
 use Rattle.rust_tree.specs.declared.item.Item.TheVariants as item
 use Rattle.rust_tree.specs.declared.type_item.TypeItem.{TypeItem}
 use Rattle.rust_tree.specs.Tree.{Tree}
-use Rattle.rust_gen.specs.declared.opts.Opts.{Opts}
+use Rattle.gen_accept.specs.declared.opts.Opts.{Opts}
 use Rattle.type_defs.specs.Defined.{AreDefinitions}
-use Rattle.rust_gen.specs.Emitted.{emitted_places, exported_functions, imported_functions}
+use Rattle.gen_accept.specs.Emitted.{emitted_places, exported_functions, imported_functions}
 use Rattle.rust_gen.specs.Exported.{area_of, last_macro, trait_and_macro}
 use Rattle.rust_gen.specs.OptionLines.{option_lines}
 use Rattle.rust_gen.specs.Runtime.{runtime_items, runtime_module}
-use Rattle.rust_gen.specs.TypeOpts.{type_opts}
+use Rattle.gen_accept.specs.TypeOpts.{type_opts}
 
 -- an exported function's wrapper, and its post-return function if it has one
 abbrev pub Parts : Type 0

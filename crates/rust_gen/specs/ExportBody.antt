@@ -19,12 +19,13 @@ use Rattle.rust_tree.specs.declared.stmt.Block.{Block}
 use Rattle.rust_tree.specs.declared.stmt.Stmt.{Stmt}
 use Rattle.rust_tree.specs.declared.stmt.Stmt.TheVariants as stmt
 use Rattle.rust_tree.specs.Ident.{rust_ident}
-use Rattle.wrapper_run.specs.Areas.{needs_area}
+use Rattle.gen_accept.specs.Area.{needs_area}
 use Rattle.rust_gen.specs.declared.scope.LocalKind.TheVariants as kind
 use Rattle.rust_gen.specs.declared.scope.Scope.{Scope}
 use Rattle.rust_gen.specs.Body.{LiftsScalar, LiftsTaken, lowering_item, runtime_call, runtime_path, text_kinds, word_at}
-use Rattle.rust_gen.specs.Exported.{arg_name, export_params, export_result, guest_name, return_params}
-use Rattle.rust_gen.specs.Signature.{core_words}
+use Rattle.gen_accept.specs.DeclaredNames.{guest_name}
+use Rattle.rust_gen.specs.Exported.{arg_name, export_params, export_result, return_params}
+use Rattle.gen_accept.specs.CoreWords.{core_words}
 use Rattle.rust_gen.specs.Scope.{Declares, numbered, ret_area, scope_over}
 use Rattle.wit_model.specs.Bytes.{Bytes}
 

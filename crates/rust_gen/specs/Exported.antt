@@ -21,17 +21,16 @@ use Rattle.rust_tree.specs.declared.item.FnParam.{FnParam}
 use Rattle.rust_tree.specs.declared.item.Item.{Item}
 use Rattle.rust_tree.specs.declared.item.Item.TheVariants as item
 use Rattle.rust_tree.specs.Ident.{rust_ident}
-use Rattle.wrapper_run.specs.Areas.{needs_area}
+use Rattle.gen_accept.specs.Area.{needs_area}
 use Rattle.type_defs.specs.Docs.{doc_lines}
-use Rattle.rust_gen.specs.Emitted.{exported_functions}
-use Rattle.rust_gen.specs.Signature.{core_type, param_words, printed_result, text_size}
+use Rattle.gen_accept.specs.DeclaredNames.{guest_name}
+use Rattle.gen_accept.specs.Emitted.{exported_functions}
+use Rattle.gen_accept.specs.CoreWords.{core_type, param_words}
+use Rattle.rust_gen.specs.Signature.{printed_result, text_size}
 use Rattle.type_defs.specs.Printed.{printed_type}
 use Rattle.wit_model.specs.Bytes.{Bytes}
 
 -- the trait
-
-unfoldable pub guest_name : Bytes
-guest_name = codes "Guest"
 
 abbrev pub trait_param : Param → FnParam
 trait_param p = record { name = rust_ident p.name; ty = printed_type p.ty }

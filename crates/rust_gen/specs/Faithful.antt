@@ -9,7 +9,7 @@ use Rattle.wrapper_data.specs.declared.run.Target.TheVariants as target
 use Rattle.wrapper_run.specs.Entries.{ExportNames}
 use Rattle.wrapper_run.specs.ExportFaithful.{IsExportFaithful}
 use Rattle.wrapper_run.specs.Faithful.{IsFaithful}
-use Rattle.rust_gen.specs.Emitted.{emitted_sides, exported_functions, imported_functions}
+use Rattle.gen_accept.specs.Emitted.{emitted_sides, exported_functions, imported_functions}
 use Rattle.rust_gen.specs.Exported.{post_return_name}
 
 -- the core import of a function of the world

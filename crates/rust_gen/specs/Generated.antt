@@ -9,7 +9,7 @@ use Rattle.rust_tree.specs.Asked.{asked_in}
 use Rattle.rust_tree.specs.Text.{text}
 use Rattle.rust_tree.specs.Tree.{Tree}
 use Rattle.rust_tree.specs.WellNamed.{are_well_named}
-use Rattle.rust_gen.specs.declared.opts.Opts.{Opts}
+use Rattle.gen_accept.specs.declared.opts.Opts.{Opts}
 use Rattle.rust_gen.specs.Body.{IsWritten}
 use Rattle.rust_gen.specs.Bound.{Binds}
 use Rattle.rust_gen.specs.ExportBody.{ArePartsWritten}

@@ -1,6 +1,6 @@
 -- Which lines of a file's head name the options that are set.
 use Rattle.std.specs.Prelude.{List, [], ◌∷◌, codes, if◌then◌else◌}
-use Rattle.rust_gen.specs.declared.opts.Opts.{Opts}
+use Rattle.gen_accept.specs.declared.opts.Opts.{Opts}
 use Rattle.wit_model.specs.Bytes.{Bytes}
 
 unfoldable pub unused_types_line : Bytes

@@ -6,7 +6,7 @@ use Rattle.wit_model.specs.declared.function.Function.{Function}
 use Rattle.rust_gen.specs.declared.scope.LocalKind.{LocalKind}
 use Rattle.rust_gen.specs.declared.scope.LocalKind.TheVariants as kind
 use Rattle.rust_gen.specs.declared.scope.Scope.{Scope}
-use Rattle.rust_gen.specs.DeclaredNames.{param_idents}
+use Rattle.gen_accept.specs.DeclaredNames.{param_idents}
 use Rattle.wit_model.specs.Bytes.{Bytes}
 
 -- what the name of each kind of local begins with

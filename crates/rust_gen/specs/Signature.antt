@@ -1,9 +1,7 @@
--- How the types of a function's parameters and result are printed, which core types they flatten to, and what a text takes in
--- memory. So far this covers scalars and texts; a function over any other type is refused before it is printed.
+-- How the types of a function's parameters and result are printed, what its core parameters and result are, and what a text takes
+-- in memory. So far this covers scalars and texts; a function over any other type is refused before it is printed.
 use Rattle.std.specs.Prelude.{List, [], ◌∷◌, ◌++◌, Option, None, Some}
-use Rattle.std.specs.List.{flat_map}
 use Rattle.wit_model.specs.declared.function.Function.{Function}
-use Rattle.wit_model.specs.declared.function.Param.{Param}
 use Rattle.wit_model.specs.declared.size.ArchitectureSize.{ArchitectureSize}
 use Rattle.wit_model.specs.declared.types.WitType.{WitType}
 use Rattle.wit_model.specs.declared.types.WitType.TheVariants as wit
@@ -11,6 +9,7 @@ use Rattle.wit_model.specs.declared.wasm_type.WasmType.{WasmType}
 use Rattle.wit_model.specs.declared.wasm_type.WasmType.TheVariants as core
 use Rattle.rust_tree.specs.declared.type_expr.TypeExpr.{TypeExpr}
 use Rattle.rust_tree.specs.declared.type_expr.TypeExpr.TheVariants as type
+use Rattle.gen_accept.specs.CoreWords.{core_type, param_words}
 use Rattle.type_defs.specs.Printed.{printed_type}
 
 -- a parameter's type: a text is lent
@@ -23,25 +22,9 @@ abbrev pub printed_result : Option WitType → TypeExpr
 printed_result None = type.Unit
 printed_result (Some ty) = printed_type ty
 
--- the core type of a value that is one core value
-abbrev pub core_type : WitType → WasmType
-core_type wit.U64 = core.I64
-core_type wit.S64 = core.I64
-core_type wit.F32 = core.F32
-core_type wit.F64 = core.F64
-core_type _ = core.I32
-
--- the core types of a parameter: a text is an address and a length
-abbrev pub core_words : WitType → List WasmType
-core_words wit.String = core.Pointer ∷ core.Length ∷ []
-core_words ty = core_type ty ∷ []
-
 -- a text in memory: its address and its length
 abbrev pub text_size : ArchitectureSize
 text_size = record { bytes = 0; pointers = 2 }
-
-abbrev pub param_words : List Param → List WasmType
-param_words params = flat_map (λ p. core_words p.ty) params
 
 -- a text comes back by a pointer, which stands behind the parameters
 abbrev pub pointer_words : Option WitType → List WasmType

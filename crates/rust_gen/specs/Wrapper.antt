@@ -11,7 +11,7 @@ use Rattle.rust_tree.specs.declared.stmt.ImportDecl.{ImportDecl}
 use Rattle.rust_tree.specs.declared.stmt.Stmt.{Stmt}
 use Rattle.rust_tree.specs.declared.stmt.Stmt.TheVariants as stmt
 use Rattle.rust_tree.specs.Ident.{rust_ident}
-use Rattle.wrapper_run.specs.Areas.{needs_area}
+use Rattle.gen_accept.specs.Area.{needs_area}
 use Rattle.type_defs.specs.Docs.{doc_lines}
 use Rattle.rust_gen.specs.Exported.{export_params, export_result, return_params}
 use Rattle.rust_gen.specs.Signature.{param_type, printed_result, core_params, core_result}

@@ -1,8 +1,6 @@
 //! The return area of a body, and the local that holds its address.
 
-ghost use Rattle.std.specs.Prelude.{◌≡◌, ◌++◌, ◌∷◌, [], List, IfOk, OnOk, map};
-ghost use Rattle.std.specs.List.{list_any};
-ghost use Rattle.wrapper_run.specs.Areas.{needs_area};
+ghost use Rattle.std.specs.Prelude.{◌≡◌, ◌++◌, ◌∷◌, [], List, IfOk, OnOk};
 ghost use Rattle.rust_tree.specs.declared.expr.Expr.{Expr};
 ghost use Rattle.rust_tree.specs.declared.expr.Expr.TheVariants as expr;
 ghost use Rattle.rust_tree.specs.declared.stmt.Stmt.{Stmt};
@@ -17,26 +15,7 @@ use crate::lower::Lowered;
 use crate::scope::{LocalKind, Scope, numbered};
 use rust_tree::{Expr, ReturnArea, StaticArea, Stmt};
 use std::alloc::Global;
-use wit_model::{Alignment, ArchitectureSize, Function, List, OutOfMemory, Text, WitType};
-
-/// Whether a result passes by an area.
-pub(crate) fn needs_area(answer: &Option<WitType>) -> bool
-    ensures { result ≡ needs_area answer.now }
-{
-    matches!(answer, Some(WitType::String))
-}
-
-/// Whether the result of one of these functions does.
-pub(crate) fn any_needs_area(functions: &[&Function]) -> bool
-    ensures { result ≡ list_any (λ f. needs_area f.result) (map (λ f. f.now) functions.now) }
-{
-    for function in functions {
-        if needs_area(&function.result) {
-            return true;
-        }
-    }
-    false
-}
+use wit_model::{Alignment, ArchitectureSize, List, OutOfMemory, Text, WitType};
 
 /// The size of a text in memory: an address and a length.
 const TEXT_SIZE: ArchitectureSize = ArchitectureSize {

@@ -1,7 +1,8 @@
 //! The core signatures of functions over scalars and texts.
 
-ghost use Rattle.std.specs.Prelude.{◌≡◌, ◌++◌, IfOk, OnOk, length, nat_le};
-ghost use Rattle.rust_gen.specs.Signature.{core_params, core_result, core_type, core_words, param_words, pointer_words};
+ghost use Rattle.std.specs.Prelude.{◌≡◌, ◌++◌, IfOk, OnOk};
+ghost use Rattle.gen_accept.specs.CoreWords.{core_type, core_words, param_words};
+ghost use Rattle.rust_gen.specs.Signature.{core_params, core_result, pointer_words};
 
 use std::alloc::Global;
 use wit_model::{Function, List, OutOfMemory, Param, WasmType, WitType};
@@ -56,29 +57,6 @@ pub(crate) fn core_params(alloc: Global, f: &Function) -> Result<List<WasmType>,
     let mut types = param_words(alloc, f.params.as_slice())?;
     push_pointer(&mut types, &f.result)?;
     Ok(types)
-}
-
-/// How many core values a parameter is.
-pub(crate) fn word_count(ty: WitType) -> u32
-    ensures { result ≡ length (core_words ty) }
-{
-    match ty {
-        WitType::String => 2,
-        _ => 1,
-    }
-}
-
-/// Whether the core parameters are at most so many.
-pub(crate) fn are_at_most(params: &[Param], most: usize) -> bool
-    ensures { result ≡ nat_le (length (param_words params.now)) most }
-{
-    match params.split_first() {
-        None => true,
-        Some((p, params)) => {
-            let count = word_count(p.ty) as usize;
-            count <= most && are_at_most(params, most - count)
-        }
-    }
 }
 
 /// The core result, if there is one.

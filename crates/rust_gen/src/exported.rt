@@ -2,12 +2,14 @@
 
 ghost use Rattle.std.specs.Prelude.{◌≡◌, ◌++◌, ◌+◌, IfOk, OnOk, map};
 ghost use Rattle.std.specs.List.{flat_map};
-ghost use Rattle.rust_gen.specs.Emitted.{exported_functions};
-ghost use Rattle.rust_gen.specs.Exported.{area_of, arg_name, core_args, entries_of, export_entry, export_params, export_result, file_macro, guest_name, guest_trait, last_macro, macro_name, post_return_name, return_entry, return_params, trait_and_macro, trait_fn, trait_param, world_macro};
+ghost use Rattle.gen_accept.specs.Emitted.{exported_functions};
+ghost use Rattle.gen_accept.specs.DeclaredNames.{guest_name};
+ghost use Rattle.rust_gen.specs.Exported.{area_of, arg_name, core_args, entries_of, export_entry, export_params, export_result, file_macro, guest_trait, last_macro, macro_name, post_return_name, return_entry, return_params, trait_and_macro, trait_fn, trait_param, world_macro};
 
-use crate::area::{any_needs_area, needs_area, static_area};
+use crate::area::static_area;
 use crate::core_signature::{core_type, param_words};
 use crate::signature::printed_result;
+use gen_accept::{any_needs_area, needs_area};
 use rust_tree::{
     CoreParam, EntryKind, ExportEntry, FnParam, Item, ModuleMacro, RootMacro, TraitFn, TraitItem,
     to_rust_ident,
@@ -17,7 +19,7 @@ use type_defs::{doc_lines, one, printed_type};
 use wit_model::{Function, List, OutOfMemory, Param, Text, WasmType, WitType, World};
 
 /// The name of the trait.
-#[tactic(auto, unfolding(crate::specs::Exported::guest_name))]
+#[tactic(auto, unfolding(gen_accept::specs::DeclaredNames::guest_name))]
 pub(crate) fn guest_name(alloc: Global) -> Result<Text, OutOfMemory>
     ensures { IfOk result (λ name. name ≡ guest_name) }
 {

@@ -3,18 +3,16 @@ ghost use Rattle.rust_tree.specs.Text.{text};
 ghost use Rattle.rust_tree.specs.WellNamed.{are_well_named};
 ghost use Rattle.rust_gen.specs.Body.{IsWritten};
 ghost use Rattle.rust_gen.specs.Bound.{Binds};
-ghost use Rattle.rust_gen.specs.Cause.{IsAnswer, cause};
-ghost use Rattle.rust_gen.specs.DeclaredNames.{declares_well};
+ghost use Rattle.gen_accept.specs.Cause.{IsAnswer, cause};
+ghost use Rattle.gen_accept.specs.DeclaredNames.{declares_well};
 ghost use Rattle.type_defs.specs.DefinedNames.{AreDefinable};
 ghost use Rattle.rust_gen.specs.ExportBody.{ArePartsWritten};
 ghost use Rattle.rust_gen.specs.Generated.{Gains, Generates, file_name};
-ghost use Rattle.rust_gen.specs.NameText.{is_written_world};
-ghost use Rattle.rust_gen.specs.TypeOpts.{type_opts};
+ghost use Rattle.gen_accept.specs.NameText.{is_written_world};
+ghost use Rattle.gen_accept.specs.TypeOpts.{type_opts};
 
-use crate::accept::accepted_world;
-use crate::error::GenError;
-use crate::opts::Opts;
 use crate::tree::bindings_of;
+use gen_accept::{GenError, Opts, accepted_world};
 use gen_files::Files;
 use rust_tree::{Bindings, text_of};
 use std::alloc::Global;
@@ -29,16 +27,21 @@ pub struct RustWasm {
 }
 
 impl Model for RustWasm {
-    ghost use Rattle.rust_gen.specs.declared.opts.Opts.{Opts};
+    ghost use Rattle.gen_accept.specs.declared.opts.Opts.{Opts};
 
     ghost Value = { Opts };
 
     ghost view = { λ g. g.opts };
 }
 
-impl Opts {
+/// What a generator is made of.
+pub trait Build {
     /// A generator with exactly these options.
-    pub fn build(self, alloc: Global) -> Result<RustWasm, OutOfMemory>
+    fn build(self, alloc: Global) -> Result<RustWasm, OutOfMemory>;
+}
+
+impl Build for Opts {
+    fn build(self, alloc: Global) -> Result<RustWasm, OutOfMemory>
         ensures { IfOk result (λ g. g ≡ self) }
     {
         Ok(RustWasm { alloc, opts: self })

@@ -2,14 +2,14 @@
 
 ghost use Rattle.std.specs.Prelude.{◌≡◌, IfOk};
 ghost use Rattle.rust_gen.specs.ExportBody.{FreesText, IsReturnWritten, ReturnWritten, dealloc_call};
-ghost use Rattle.wrapper_run.specs.Areas.{needs_area};
+ghost use Rattle.gen_accept.specs.Area.{needs_area};
 
-use crate::area::needs_area;
 use crate::export::scope_of;
 use crate::exported::{arg_name, guest_name, return_params};
 use crate::forms::runtime_path;
 use crate::lift::push_load;
 use crate::scope::{LocalKind, numbered};
+use gen_accept::needs_area;
 use rust_tree::{Block, Expr, PostReturnFn, RuntimeItem, Stmt};
 use std::alloc::Global;
 use wit_model::{Alignment, Function, List, OutOfMemory, WasmType};

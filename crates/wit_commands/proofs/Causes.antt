@@ -1,10 +1,10 @@
 -- The cause of a refusal, carried from the call that finds it to the whole run.
 use Rattle.std.proofs.Common.{◌≡◌, ◌≢◌, ◌∙◌, ap, ℕ, ◌+◌, List, [], true, Err, Some, refl, subst, sym, arith}
 use Rattle.std.proofs.Common.{inl, inr}
-use Rattle.rust_gen.specs.declared.error.GenError.{GenError}
-use Rattle.rust_gen.specs.declared.error.GenError.TheVariants as error
+use Rattle.gen_accept.specs.declared.error.GenError.{GenError}
+use Rattle.gen_accept.specs.declared.error.GenError.TheVariants as error
 use Rattle.gen_files.specs.Entries.{Entry, with_pushed}
-use Rattle.rust_gen.specs.Cause.{IsAnswer, cause}
+use Rattle.gen_accept.specs.Cause.{IsAnswer, cause}
 use Rattle.rust_gen.specs.Generated.{Gains}
 use Rattle.wit_ends.specs.Input.{Loses}
 use Rattle.wit_refusal.specs.declared.refusal.Refusal.{Refusal}

@@ -1,8 +1,8 @@
 -- Which tables, which world and which options the bytes of a document ask for.
 use Rattle.std.specs.Prelude.{List, ℕ, Option}
 use Rattle.std.specs.Option.{option_map}
-use Rattle.rust_gen.specs.Default.{default_opts}
-use Rattle.rust_gen.specs.declared.opts.Opts.{Opts}
+use Rattle.gen_accept.specs.Default.{default_opts}
+use Rattle.gen_accept.specs.declared.opts.Opts.{Opts}
 use Rattle.wit_document.specs.declared.document.Document.{Document}
 use Rattle.wit_document.specs.declared.options.DocumentOptions.{DocumentOptions}
 use Rattle.wit_document.specs.Document.{document_in}

@@ -3,9 +3,9 @@ use Rattle.std.specs.Prelude.{◌≡◌, ℕ, List, [], ◌∷◌, Some, None, s
 use Rattle.gen_files.specs.Entries.{Entry}
 use Rattle.wit_model.specs.declared.world.World.{World}
 use Rattle.rust_tree.specs.Tree.{Tree}
-use Rattle.rust_gen.specs.declared.error.GenError.{GenError}
-use Rattle.rust_gen.specs.declared.error.GenError.TheVariants as error
-use Rattle.rust_gen.specs.Cause.{cause}
+use Rattle.gen_accept.specs.declared.error.GenError.{GenError}
+use Rattle.gen_accept.specs.declared.error.GenError.TheVariants as error
+use Rattle.gen_accept.specs.Cause.{cause}
 use Rattle.rust_gen.specs.Generated.{IsTreeOf}
 use Rattle.wit_refusal.specs.declared.refusal.Refusal.{Refusal}
 use Rattle.wit_refusal.specs.declared.refusal.Refusal.TheVariants as refusal

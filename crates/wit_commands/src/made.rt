@@ -3,13 +3,13 @@
 ghost use Rattle.std.specs.Prelude.{◌≡◌, Some, IfOk, IfErr};
 ghost use Rattle.rust_tree.specs.Text.{text};
 ghost use Rattle.rust_gen.specs.Bound.{Binds};
-ghost use Rattle.rust_gen.specs.Cause.{IsAnswer, cause};
+ghost use Rattle.gen_accept.specs.Cause.{IsAnswer, cause};
 ghost use Rattle.rust_gen.specs.Wrapper.{Wraps};
 ghost use Rattle.wit_commands.specs.Input.{input_in};
 ghost use Rattle.wit_commands.specs.Made.{IsBoundFor, IsBytesCause, Makes, only_bytes};
 
 use crate::input::{Input, InputFault2, input_of};
-use rust_gen::{Files, GenError};
+use rust_gen::{Build, Files, GenError};
 use rust_tree::Bindings;
 use std::alloc::Global;
 use wit_refusal::Refusal;

@@ -1,15 +1,15 @@
 -- The line of each cause for which no file is made, with its line feed.
 use Rattle.std.specs.Prelude.{ℕ, ◌||◌, List, [], ◌∷◌, ◌++◌, ◌==◌, if◌then◌else◌, decimal}
 use Rattle.std.specs.List.{flat_map, join_by}
-use Rattle.rust_gen.specs.declared.error.Clash.{Clash}
-use Rattle.rust_gen.specs.declared.error.Clash.TheVariants.{Twice, NotIdent}
-use Rattle.rust_gen.specs.declared.error.Entry.{Entry}
-use Rattle.rust_gen.specs.declared.error.GenError.{GenError}
-use Rattle.rust_gen.specs.declared.error.GenError.TheVariants as error
-use Rattle.rust_gen.specs.declared.error.Lack.{Lack}
-use Rattle.rust_gen.specs.declared.error.TooLarge.{TooLarge}
-use Rattle.rust_gen.specs.declared.error.TooLarge.TheVariants.{Type_, Func}
-use Rattle.rust_gen.specs.LackText.{lack_text}
+use Rattle.gen_accept.specs.declared.error.Clash.{Clash}
+use Rattle.gen_accept.specs.declared.error.Clash.TheVariants.{Twice, NotIdent}
+use Rattle.gen_accept.specs.declared.error.Entry.{Entry}
+use Rattle.gen_accept.specs.declared.error.GenError.{GenError}
+use Rattle.gen_accept.specs.declared.error.GenError.TheVariants as error
+use Rattle.gen_accept.specs.declared.error.Lack.{Lack}
+use Rattle.gen_accept.specs.declared.error.TooLarge.{TooLarge}
+use Rattle.gen_accept.specs.declared.error.TooLarge.TheVariants.{Type_, Func}
+use Rattle.gen_accept.specs.LackText.{lack_text}
 use Rattle.wit_model.specs.declared.resolve.Rule.{Rule}
 use Rattle.wit_model.specs.declared.resolve.Table.{Table}
 use Rattle.wit_refusal.specs.declared.refusal.Refusal.{Refusal}

@@ -1,7 +1,7 @@
 -- The exit status of each cause for which no file is made.
 use Rattle.std.specs.Prelude.{ℕ}
-use Rattle.rust_gen.specs.declared.error.GenError.{GenError}
-use Rattle.rust_gen.specs.declared.error.GenError.TheVariants as error
+use Rattle.gen_accept.specs.declared.error.GenError.{GenError}
+use Rattle.gen_accept.specs.declared.error.GenError.TheVariants as error
 use Rattle.wit_refusal.specs.declared.refusal.Refusal.{Refusal}
 use Rattle.wit_refusal.specs.declared.refusal.Refusal.TheVariants.{Usage, ReadFault, InputTooLong, BadJson, Gen, WriteFault, OutOfMemory}
 

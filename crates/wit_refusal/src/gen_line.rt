@@ -4,7 +4,7 @@ ghost use Rattle.wit_refusal.specs.Line.{gen_line_of, invalid_option_line, inval
 use crate::names::{rule_number, table_name};
 use crate::quote::push_quoted_list;
 use crate::word::{Word, put};
-use rust_gen::{Clash, Entry, GenError, Lack, TooLarge};
+use gen_accept::{Clash, Entry, GenError, Lack, TooLarge};
 use wit_model::{OutOfMemory, Rule, Table, Text};
 
 fn push_invalid_world(

@@ -1,7 +1,7 @@
 use crate::gen_line::push_gen_line;
 use crate::status::gen_status;
 use crate::word::{Word, put};
-use rust_gen::GenError;
+use gen_accept::GenError;
 use std::alloc::Global;
 use wit_model::{OutOfMemory, Text};
 

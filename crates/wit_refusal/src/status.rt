@@ -1,7 +1,7 @@
 ghost use Rattle.std.specs.Prelude.{◌≡◌};
 ghost use Rattle.wit_refusal.specs.Status.{gen_status_of};
 
-use rust_gen::GenError;
+use gen_accept::GenError;
 
 /// The exit status for a refusal of the generator.
 pub(crate) fn gen_status(error: &GenError) -> u8

@@ -3,7 +3,7 @@
 ghost use Rattle.std.specs.Prelude.{◌<◌, IfOk, IfSome, length};
 
 use crate::fault::LineFault;
-use rust_gen::{Files, GenError};
+use rust_gen::{Build, Files, GenError};
 use rust_tree::Bindings;
 use serde_json::Value;
 use std::alloc::Global;

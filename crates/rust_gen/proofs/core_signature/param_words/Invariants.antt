@@ -1,5 +1,5 @@
 use Rattle.std.proofs.Common.{◌≡◌, ◌++◌, drop}
-use Rattle.rust_gen.specs.Signature.{param_words}
+use Rattle.gen_accept.specs.CoreWords.{param_words}
 use Rattle.rust_gen.proofs.core_signature.param_words.Given as goal
 
 abbrev pub invariant-loop-p : goal.invariant-loop-p

@@ -1,6 +1,6 @@
 use Rattle.std.proofs.Common.{subst}
 use Rattle.rust_gen.specs.Generated.{Generates}
-use Rattle.rust_gen.proofs.AcceptedLemmas.{definable}
+use Rattle.gen_accept.proofs.AcceptedLemmas.{definable}
 use Rattle.rust_gen.proofs.FaithfulLemmas.{are_faithful}
 use Rattle.rust_gen.proofs.NamedLemmas.{accepted-names, well-named}
 use Rattle.rust_gen.proofs.ServedLemmas.{serves}

@@ -1,0 +1,108 @@
+-- Which tables and options hold only what the generator builds so far.
+use Rattle.std.specs.Prelude.{Bool, true, false, not, ◌&&◌, ◌==◌, nat_le, List, [], ◌∷◌, length, Option, None, Some, is_none}
+use Rattle.std.specs.List.{list_all}
+use Rattle.wit_model.specs.declared.types.WitType.{WitType}
+use Rattle.wit_model.specs.declared.types.WitType.TheVariants as wit
+use Rattle.wit_model.specs.declared.types.TypeDefKind.{TypeDefKind}
+use Rattle.wit_model.specs.declared.types.TypeDefKind.TheVariants as sort
+use Rattle.wit_model.specs.declared.function.Function.{Function}
+use Rattle.wit_model.specs.declared.function.FunctionKind.{FunctionKind}
+use Rattle.wit_model.specs.declared.function.FunctionKind.TheVariants as kind
+use Rattle.wit_model.specs.declared.world.WorldKey.{WorldKey}
+use Rattle.wit_model.specs.declared.world.WorldKey.TheVariants as key
+use Rattle.wit_model.specs.declared.world.WorldItem.{WorldItem}
+use Rattle.wit_model.specs.declared.world.WorldItem.TheVariants as item
+use Rattle.wit_model.specs.declared.world.World.{World}
+use Rattle.wit_model.specs.declared.resolve.Resolve.{Resolve}
+use Rattle.gen_accept.specs.CoreWords.{param_words}
+use Rattle.gen_accept.specs.declared.opts.Opts.{Opts}
+use Rattle.type_defs.specs.Modes.{is_owning}
+
+-- scalars and texts
+abbrev pub is_built_type : WitType → Bool
+is_built_type wit.Bool = true
+is_built_type wit.String = true
+is_built_type wit.Char = true
+is_built_type wit.F32 = true
+is_built_type wit.F64 = true
+is_built_type wit.U8 = true
+is_built_type wit.U16 = true
+is_built_type wit.U32 = true
+is_built_type wit.U64 = true
+is_built_type wit.S8 = true
+is_built_type wit.S16 = true
+is_built_type wit.S32 = true
+is_built_type wit.S64 = true
+is_built_type _ = false
+
+-- no result, or one of a built type
+abbrev pub is_built_result : Option WitType → Bool
+is_built_result None = true
+is_built_result (Some ty) = is_built_type ty
+
+abbrev pub is_freestanding : FunctionKind → Bool
+is_freestanding kind.Freestanding = true
+is_freestanding _ = false
+
+-- sixteen core values are passed one by one
+abbrev pub is_built_function : Function → Bool
+is_built_function f =
+    is_freestanding f.kind && nat_le (length (param_words f.params)) 16 && list_all (λ p. is_built_type p.ty) f.params && is_built_result f.result
+
+abbrev pub is_built_item : WorldItem → Bool
+is_built_item (item.Function f) = is_built_function f
+is_built_item (item.Named _) = true
+is_built_item (item.Interface _) = false
+
+-- a type stands under itself
+abbrev pub is_under_itself : WorldKey → WorldItem → Bool
+is_under_itself (key.Type under) (item.Named id) = under.0 == id.0
+is_under_itself _ (item.Named _) = false
+is_under_itself _ _ = true
+
+abbrev pub is_no_type : WorldItem → Bool
+is_no_type (item.Named _) = false
+is_no_type _ = true
+
+abbrev pub is_empty : {A : Type 0} → List A → Bool
+is_empty [] = true
+is_empty (_ ∷ _) = false
+
+-- types stand among the imports alone
+unfoldable pub is_built_world : World → Bool
+is_built_world world =
+    list_all (λ entry. is_built_item entry.1) world.imports && list_all (λ entry. is_built_item entry.1) world.exports
+    && list_all (λ entry. is_under_itself entry.0 entry.1) world.imports && list_all (λ entry. is_no_type entry.1) world.exports
+
+-- a type that the table may have, as long as no function reaches it: an alias, a record or a tuple. The types that it names
+-- are looked at by themselves
+abbrev pub is_built_part : WitType → Bool
+is_built_part wit.ErrorContext = false
+is_built_part _ = true
+
+abbrev pub is_built_kind : TypeDefKind → Bool
+is_built_kind (sort.Alias ty) = is_built_part ty
+is_built_kind (sort.Tuple members) = list_all is_built_part members
+is_built_kind (sort.Record fields) = list_all (λ f. is_built_part f.ty) fields
+is_built_kind _ = false
+
+unfoldable pub are_built_tables : Resolve → Bool
+are_built_tables r = is_empty r.interfaces && list_all (λ t. is_built_kind t.kind) r.types && list_all is_built_world r.worlds
+
+abbrev pub are_flags_off : Opts → Bool
+are_flags_off o =
+    not o.std_feature && not o.raw_strings && not o.stubs && not o.generate_all && not o.pub_export_macro
+
+abbrev pub are_lists_empty : Opts → Bool
+are_lists_empty o =
+    is_empty o.skip && is_empty o.additional_derive_ignore && is_empty o.additional_derive_attributes && is_empty o.additional_type_attributes
+    && is_empty o.additional_member_attributes && is_empty o.with && is_empty o.chainable_methods
+
+abbrev pub are_values_absent : Opts → Bool
+are_values_absent o =
+    is_none o.export_prefix && is_none o.runtime_path && is_none o.map_type && is_none o.bitflags_path && is_none o.default_bindings_module
+    && is_none o.export_macro_name && is_none o.merge_structurally_equal_types
+
+-- every option but that for unused types is at its default
+unfoldable pub are_built_options : Opts → Bool
+are_built_options o = are_flags_off o && are_lists_empty o && are_values_absent o && is_owning o.ownership

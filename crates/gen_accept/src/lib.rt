@@ -1,0 +1,26 @@
+//! Which worlds are built, and why one is refused: options, causes, the names that a file declares, and their clashes.
+#![tactic(auto)]
+
+mod accept;
+mod area;
+mod built;
+mod clash;
+mod core_words;
+mod declared;
+mod emitted;
+mod error;
+mod export_key;
+mod name_text;
+mod names;
+mod opts;
+mod too_large;
+mod try_copy;
+
+pub use accept::accepted_world;
+pub use area::{any_needs_area, needs_area};
+pub use core_words::word_count;
+pub use emitted::{functions_in, places_in};
+pub use error::{Clash, Entry, GenError, Lack, MissingWith, TooLarge};
+pub use export_key::ExportKey;
+pub use names::param_idents;
+pub use opts::{ChainingMode, Opts, WithOption};

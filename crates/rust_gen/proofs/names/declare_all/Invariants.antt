@@ -1,6 +1,0 @@
-use Rattle.std.proofs.Common.{◌≡◌, ◌++◌, map, take}
-use Rattle.rust_gen.specs.DeclaredNames.{declared}
-use Rattle.rust_gen.proofs.names.declare_all.Given as goal
-
-abbrev pub invariant-loop-word : goal.invariant-loop-word
-invariant-loop-word l = l.names ≡ l.initial.names ++ map (declared l.sort) (map (λ w. w.now) (take l.word-index l.words))

@@ -1,6 +1,0 @@
-use Rattle.std.proofs.Common.{◌≡◌, ◌++◌, map, take}
-use Rattle.rust_gen.specs.DeclaredNames.{declared}
-use Rattle.rust_gen.proofs.names.declare_copies.Given as goal
-
-abbrev pub invariant-loop-text : goal.invariant-loop-text
-invariant-loop-text l = l.names ≡ l.initial.names ++ map (declared l.sort) (take l.text-index l.texts)

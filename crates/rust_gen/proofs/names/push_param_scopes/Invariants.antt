@@ -1,6 +1,0 @@
-use Rattle.std.proofs.Common.{◌≡◌, ◌++◌, map, take}
-use Rattle.rust_gen.specs.DeclaredNames.{param_scope}
-use Rattle.rust_gen.proofs.names.push_param_scopes.Given as goal
-
-abbrev pub invariant-loop-function : goal.invariant-loop-function
-invariant-loop-function l = l.scopes ≡ l.initial.scopes ++ map param_scope (map (λ f. f.now) (take l.function-index l.functions))
