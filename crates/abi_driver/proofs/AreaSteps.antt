@@ -49,7 +49,7 @@ same_area [] = tt
 same_area (b ∷ area) = (refl, refl, same_area area)
 
 -- the last record for which it was asked has room
-last_room : {A : Type 0} (P : A → Type 0) (xs : List A) (x : A) → AllByRecursion P (xs ++ x ∷ []) → P x
+pub last_room : {A : Type 0} (P : A → Type 0) (xs : List A) (x : A) → AllByRecursion P (xs ++ x ∷ []) → P x
 last_room P [] x h = h.0
 last_room P (y ∷ xs) x h = last_room P xs x h.1
 

@@ -30,7 +30,7 @@ is_it a t = if nat_eq t a then 1 else 0
 pub same_is : (n : ℕ) → is_it n n ≡ 1
 same_is n = ap (λ b. if b then 1 else 0) (eq-eqb n n refl)
 
-is_there : (a : ℕ) (taken : List ℕ) → 1 ≤ total (is_it a) taken → is_taken a taken ≡ true
+pub is_there : (a : ℕ) (taken : List ℕ) → 1 ≤ total (is_it a) taken → is_taken a taken ≡ true
 is_there a [] h = absurd (omega (arith, h))
 is_there a (t ∷ taken) h = by (nat_eq t a) (is_there a taken) h
   where

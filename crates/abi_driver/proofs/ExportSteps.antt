@@ -1,7 +1,7 @@
 -- The whole code of an export: its words become values, the method is called, and what is answered becomes words.
-use Rattle.std.proofs.Common.{◌≡◌, Bor, ℕ, ◌+◌, true, false, nat_eq, nat_lt, min, if◌then◌else◌, MatchBool, List, [], ◌∷◌, ◌++◌, length, Option, None, Some, refl, sym, ap, ap₂, ◌∙◌, subst, arith, append-nil}
+use Rattle.std.proofs.Common.{◌≡◌, Bor, ℕ, ◌+◌, Bool, true, false, nat_eq, nat_lt, min, if◌then◌else◌, MatchBool, List, [], ◌∷◌, ◌++◌, length, Option, None, Some, refl, sym, ap, ap₂, ◌∙◌, subst, arith, append-nil}
 use Rattle.std.specs.Prelude.{option_to_list}
-use Rattle.std.specs.List.{flat_map}
+use Rattle.std.specs.List.{AllByRecursion, flat_map}
 use Rattle.std.specs.Option.{option_map}
 use Rattle.std.proofs.Math.Nat.{min-eq_right}
 use Rattle.std.proofs.lemmas.Bool.{eq-eqb, ltb-false}
@@ -11,54 +11,70 @@ use Rattle.wit_model.specs.declared.wasm_type.WasmType.TheVariants as wasm
 use Rattle.wit_layout.specs.declared.signature.AbiVariant.TheVariants.{GuestExport}
 use Rattle.wit_layout.specs.declared.signature.WasmSignature.{WasmSignature}
 use Rattle.wit_layout.specs.Flat.{flatten_record}
-use Rattle.wit_layout.specs.Signature.{IsFlattenedFunctype, are_many}
+use Rattle.wit_layout.specs.Signature.{IsFlattenedFunctype, are_many, core_params, needs_pointer}
 use Rattle.wit_layout.specs.Signature as signature
+use Rattle.wit_layout.specs.Sizes.{alignment, elem_size}
+use Rattle.wrapper_data.specs.Heap.{is_heap}
 use Rattle.wrapper_data.specs.declared.block.Block.{Block}
 use Rattle.wrapper_data.specs.declared.heap.Heap.{Heap}
 use Rattle.wrapper_data.specs.declared.run.Target.{Target}
 use Rattle.wrapper_data.specs.declared.word.Word.{Word}
+use Rattle.wrapper_data.specs.declared.word.Word.TheVariants as core
 use Rattle.wrapper_meaning.specs.AsWords.{PartsSay}
+use Rattle.wrapper_meaning.specs.Areas.{result_record}
 use Rattle.wrapper_meaning.specs.Direction.{give, take}
+use Rattle.wrapper_meaning.specs.InRange.{IsListed}
 use Rattle.wrapper_meaning.specs.Items.{SameItems, total}
-use Rattle.wrapper_meaning.specs.Layout.{layouts}
-use Rattle.wrapper_meaning.specs.Represents.{GivesResult, ResultInArea, ResultInWord, TakesRecord, is_indirect}
+use Rattle.wrapper_meaning.specs.Layout.{layout, layouts}
+use Rattle.wrapper_meaning.specs.Represents.{GivesResult, ResultInArea, ResultInWord, are_indirect, is_indirect}
 use Rattle.wrapper_meaning.specs.Settled.{IsResult, all_settled}
 use Rattle.wrapper_meaning.specs.Shape.{Shape, Shapes, param_shapes, result_shape}
 use Rattle.wrapper_meaning.specs.Shape.Shapes.{none, more}
-use Rattle.wrapper_meaning.specs.Value.{Parts, Result}
+use Rattle.wrapper_meaning.specs.Value.{Parts, Result, Value}
 use Rattle.wrapper_meaning.proofs.LayoutIsTree.{signature_is_by_shapes}
+use Rattle.abi_driver.specs.declared.bindgen.Asked.{Asked}
 use Rattle.abi_driver.specs.declared.instruction.Instruction.TheVariants.{CallInterface, Return}
 use Rattle.abi_driver.specs.Account.{Account, Call, Done, Follows, Got, Outcome, Peer, Reply, Stuck, account_in, addresses, gives, releasing, value, words}
+use Rattle.abi_driver.specs.Area.{AreFor, AreaStands, HoldsRecord, newly, pointing}
 use Rattle.abi_driver.specs.Calls.{handing, method_point, recorded, result_count}
-use Rattle.abi_driver.specs.Exports.{CallsExport, GivesWords, IsHonestMethod, PassesItems, ReadsWords, Received, export_params, handed_on}
+use Rattle.abi_driver.specs.Exports.{CallsExport, EndsWithWords, GivesAnswer, GivesWords, IsHonestMethod, PassesItems, Received, StoresAnswer, TakesArgumentsOver, TookOver, argument_words, export_params, handed_on, placing_result}
 use Rattle.abi_driver.specs.Imports.{ResultStands}
 use Rattle.abi_driver.specs.Instructions.{Emits}
-use Rattle.abi_driver.specs.Laws.{Adds, At, Facts, Sound, args, core_data, item_data, ofs}
+use Rattle.abi_driver.specs.Laws.{Adds, After, At, Facts, Grows, Quiet, Sound, args, core_data, item_data, ofs}
 use Rattle.abi_driver.specs.Lifts.{LiftsAll, MayTake, took}
 use Rattle.abi_driver.specs.Lowers.{LowersAnswer}
-use Rattle.abi_driver.specs.Meaning.{Meaning, item, of}
+use Rattle.abi_driver.specs.Meaning.{Meaning, item, of, word}
 use Rattle.abi_driver.specs.Parts.{PartsStand, count}
+use Rattle.abi_driver.proofs.AnswerArea.{StoredThere, follows_known, pointing_is, stored_there}
+use Rattle.abi_driver.proofs.AreaSteps.{last_room}
 use Rattle.abi_driver.proofs.Done.{does_done, lets_go, releases_all}
-use Rattle.abi_driver.proofs.ImportSteps.{IsDirect, follows_calls, if_calls}
+use Rattle.abi_driver.proofs.ImportSteps.{follows_calls, if_calls, no_result_record}
 use Rattle.abi_driver.proofs.LiftSteps.{follows_done, stand_count}
-use Rattle.abi_driver.proofs.Runs.{adds_both, adds_same, addresses_both, ofs_none, total-append}
+use Rattle.abi_driver.proofs.RecordPlaces.{align_at_width, at_width}
+use Rattle.abi_driver.proofs.Runs.{adds_both, adds_same, addresses_both, follows_then, grows_both, ofs_none, quiet_both, total-append}
 use Rattle.abi_driver.proofs.SaysLength.{parts_length}
 
 -- 1. The call
 
-pub export_is_direct : (types : List TypeDef) (f : Function) → IsDirect (param_shapes types f) (result_shape types f) → export_params types f ≡ flatten_record (layouts (param_shapes types f))
-export_is_direct types f d =
-    let same = signature_is_by_shapes types f in
-    let ps = signature.param_words types f.params in
-    ap (λ c. if c then wasm.Pointer ∷ [] else ps) (ap are_many (sym same.0) ∙ d.few) ∙ sym same.0
+pub export_words : (types : List TypeDef) (f : Function) → export_params types f ≡ argument_words (param_shapes types f)
+export_words types f = ap (λ ps. core_params GuestExport ps (signature.result_words types f.result)) (sym (signature_is_by_shapes types f).0)
 
 few_words : (n : ℕ) → nat_lt 16 n ≡ false → min 16 n ≡ n
 few_words n e = min-eq_right (ltb-false 16 n e)
 
-pub export_count : (types : List TypeDef) (f : Function) (s : WasmSignature) → IsFlattenedFunctype types GuestExport f s → IsDirect (param_shapes types f) (result_shape types f)
-    → s.params.count ≡ length (flatten_record (layouts (param_shapes types f)))
-export_count types f s is d =
-    is.params_told.count ∙ ap (λ tys. min 16 (length tys)) (export_is_direct types f d) ∙ few_words (length (flatten_record (layouts (param_shapes types f)))) d.few
+pub export_count : (types : List TypeDef) (f : Function) (s : WasmSignature) → IsFlattenedFunctype types GuestExport f s → s.params.count ≡ length (argument_words (param_shapes types f))
+export_count types f s is = is.params_told.count ∙ ap (λ tys. min 16 (length tys)) (export_words types f) ∙ by (are_indirect (param_shapes types f)) refl
+  where
+    by : (c : Bool) → are_indirect (param_shapes types f) ≡ c → min 16 (length (if c then wasm.Pointer ∷ [] else flatten_record (layouts (param_shapes types f)))) ≡ length (if c then wasm.Pointer ∷ [] else flatten_record (layouts (param_shapes types f)))
+    by true e = refl
+    by false e = few_words (length (flatten_record (layouts (param_shapes types f)))) e
+
+-- the signature tells whether the arguments pass by a record, and whether the result does
+pub export_indirect : (types : List TypeDef) (f : Function) (s : WasmSignature) → IsFlattenedFunctype types GuestExport f s → s.indirect_params ≡ are_indirect (param_shapes types f)
+export_indirect types f s is = is.indirect ∙ sym (ap are_many (signature_is_by_shapes types f).0)
+
+pub export_pointer : (types : List TypeDef) (f : Function) (s : WasmSignature) → IsFlattenedFunctype types GuestExport f s → s.retptr ≡ is_indirect (result_shape types f)
+export_pointer types f s is = is.pointed ∙ sym (ap needs_pointer (signature_is_by_shapes types f).1)
 
 -- whatever is answered, the call was made
 handing_calls : {V : Type 0} (owned : V → List ℕ) (target : Target) (vals : List V) (due : ℕ) (reply : Reply V) (acc : Account V)
@@ -153,74 +169,171 @@ module _ {Self Operand : Type 0} (m : Meaning Self Operand) (sound : Sound m) wh
         denotes = subst (λ fs. m.denotes w c fs ran.0) (ap (λ fs. fs ++ []) ran.2.1 ∙ append-nil (ofs m rs (core_data m flat.0))) after.denotes;
       }
 
+  -- or it is stored in the area, which is placed for it
+
+  module _ (t : Shape) (back given : List Operand) (d e : Self) (h : StoresAnswer m t back given d e) where
+    middle_later : Adds m h.middle e
+    middle_later = h.stores.adds
+
+    stores_grows : Grows m d e
+    stores_grows = grows_both m d h.middle e h.points.2.grows middle_later.grows middle_later.quiet
+
+    stores_quiet : Quiet m d e
+    stores_quiet = quiet_both m d h.middle e h.points.2.quiet middle_later.grows middle_later.quiet
+
+    module _ (types : List TypeDef) (z : Self) (n : ℕ) (empty : List Operand) (ended : Emits m types (Return n) given empty e z) (many : is_indirect (Some t) ≡ true) (v : Value t) (a : m.Item) (own : List Block) (listed : IsListed t v) (stands : m.stands give t v a own)
+        (w : m.World) (p : Peer m.Item) (s0 s2 : m.State) (serves : m.serves w z) (done : m.does w p (m.code d) s0 ≡ Done s2) (good : is_heap (m.account s2).heap ≡ true) (owners : SameItems (m.account s2).taken (addresses own)) (owns : SameItems (m.owns s2) (addresses own))
+        (unplaced : m.area_at s0 ≡ None) (unasked : m.asked d ≡ []) (denotes : m.denotes w d (of h.value (item a) ∷ []) s2) where
+      abbrev acc : Account m.Item
+      acc = m.account s2
+
+      serves_middle : m.serves w h.middle
+      serves_middle = middle_later.grows.serves w (ended.adds.grows.serves w serves)
+
+      abbrev Pointing : Got m.Item ℕ → m.State → Type 0
+      Pointing x s3 = After m w h.middle (of h.address (word (core.Pointer x.result)) ∷ of h.value (item a) ∷ []) (newly None x.result) [] s2 x s3
+
+      pointed_so : Follows m.account (pointing (m.area w) None acc) (m.does w p (m.code h.middle) s0) (λ x s3. (pointing (m.area w) None acc ≡ Done x) × Pointing x s3)
+      pointed_so =
+          follows_known m.account (pointing (m.area w) None acc) (m.does w p (m.code h.middle) s0) Pointing
+          (h.points.2.row w p (of h.value (item a) ∷ []) s0 s2 None (record { serves = serves_middle; done = done; holds = denotes }) unplaced (λ e. unasked))
+
+      holds : HoldsRecord m.width (m.area w) h.points.0
+      holds = last_room (HoldsRecord m.width (m.area w)) (m.asked d) h.points.0 (subst (AllByRecursion (HoldsRecord m.width (m.area w))) h.points.2.asked (sound.room w h.middle serves_middle))
+
+      there : (x : Got m.Item ℕ) (s3 : m.State) → m.does w p (m.code h.middle) s0 ≡ Done s3 → pointing (m.area w) None acc ≡ Done x → Pointing x s3 → StoredThere m sound t v own acc.heap (m.area w) h.address e w p x s0 s3
+      there x s3 done3 known after =
+          stored_there m sound t h.value h.address h.middle e h.stores v a own listed stands w p s0 s3 h.points.0 holds
+          (at_width m.width h.points.0.size (λ w. elem_size w (layout t)) sound.wide h.points.1.0) (align_at_width m.width h.points.0.align (λ w. alignment w (layout t)) sound.wide h.points.1.1)
+          acc good owners x (pointing_is (m.area w) acc x known) after.account (ended.adds.grows.serves w serves) done3 after.denotes
+
+      gives_in_area : (x : Got m.Item ℕ) (s3 : m.State) → m.does w p (m.code h.middle) s0 ≡ Done s3 → pointing (m.area w) None acc ≡ Done x → Pointing x s3
+          → (t' : m.State) × (m.does w p (m.code z) s0 ≡ Done t') × GivesWords m w (Some t) v own acc.heap given z (record { result = x.result ∷ []; account = x.account }) t'
+      gives_in_area x s3 done3 known after =
+          let st = there x s3 done3 known after in
+          let q = x.result in
+          let ws = core.Pointer q ∷ [] in
+          let facts : ofs m given (core_data m ws) ≡ of h.address (word (core.Pointer q)) ∷ [] = ap (λ os. ofs m os (core_data m ws)) h.gives in
+          let at4 : At m w p e z (ofs m given (core_data m ws) ++ []) s0 st.state = record { serves = serves; done = st.done; holds = subst (λ fs. m.denotes w e fs st.state) (sym (append-nil (ofs m given (core_data m ws)) ∙ facts)) st.denotes } in
+          let end = ended.row (core_data m ws) w p [] s0 st.state at4 in
+          let after5 = end.2.2 in (
+            end.0,
+            end.1,
+            record {
+              ws = ws;
+              area = st.block ∷ [];
+              placed = subst (λ ts. AreaStands ts (m.area w) (Some q) (st.block ∷ [])) (sym (ap (λ c. if c then t ∷ [] else []) many)) st.placed;
+              represents = subst (λ c. MatchBool c (ResultInArea m.width give t v ws own (st.block ∷ [])) (ResultInWord m.width give t v ws own (st.block ∷ []))) (sym many)
+                  (record { block = st.block; is_area = refl; named = ap (λ n. core.Pointer n ∷ []) (sym st.at); stands = st.begins });
+              heap = st.heap;
+              formed = st.formed;
+              all = st.all;
+              account = after5.account ∙ st.account;
+              owns = λ g. omega (
+                arith,
+                after5.owns g,
+                st.owns g,
+                after.owns g,
+                owns g,
+                total-append g (m.owns end.0) [],
+                total-append g (m.owns st.state) [],
+                total-append g (m.owns st.state) (addresses own),
+                total-append g (m.owns s3) [],
+                total-append g (m.owns s2) (q ∷ []),
+              );
+              denotes = subst (λ fs. m.denotes w z fs end.0) (ap (λ fs. fs ++ []) end.2.1 ∙ append-nil (ofs m given (core_data m ws))) after5.denotes;
+            },
+          )
+
+      pub ends_in_area : EndsWithWords m w p (Some t) v own acc.heap given z s0 acc
+      ends_in_area =
+          let Q : Got m.Item (List ℕ) → m.State → Type 0 = λ x s4. GivesWords m w (Some t) v own acc.heap given z x s4 in
+          let on : Adds m h.middle z = adds_both m h.middle e z middle_later ended.adds in
+          subst (λ c. Follows m.account (placing_result c (m.area w) acc) (m.does w p (m.code z) s0) Q) (sym many)
+          (follows_then m.account (pointing (m.area w) None acc) (λ x. gives (x.result ∷ []) x.account) (m.does w p (m.code h.middle) s0) (m.does w p (m.code z) s0)
+          (λ x s3. (pointing (m.area w) None acc ≡ Done x) × Pointing x s3) Q pointed_so (on.grows.stops w p s0 serves) (on.quiet w p s0 serves)
+          (λ x s3 done3 h3. gives_in_area x s3 done3 h3.0 h3.1))
+
   -- 4. All of it
 
-  module _ (types : List TypeDef) (fn : Bor Function) (direct : IsDirect (param_shapes types fn.now) (result_shape types fn.now)) (a b c d e z : Self) (read values back given empty : List Operand) (n : ℕ)
-      (reads : ReadsWords m (length (flatten_record (layouts (param_shapes types fn.now)))) read a b) (many : length values ≡ count (param_shapes types fn.now)) (lifts : LiftsAll m (param_shapes types fn.now) read values b c)
-      (called : Emits m types (CallInterface fn) values back c d) (lowers : LowersAnswer m (result_shape types fn.now) back given d e) (ended : Emits m types (Return n) given empty e z) where
+  -- what an answer becomes, makes no call; and the area is asked for the record that passes by it
+
+  pub record GivenOn (r : Option Shape) (d e : Self) : Type 0 where
+    pub grows : Grows m d e
+    pub quiet : Quiet m d e
+    pub records : List Asked
+    pub for : AreFor (result_record r) records
+    pub asked : m.asked e ≡ m.asked d ++ records
+
+  given_direct : (r : Option Shape) (back given : List Operand) (d e : Self) → is_indirect r ≡ false → LowersAnswer m r back given d e → GivenOn r d e
+  given_direct r back given d e one h =
+      let adds = lowered_adds r back given d e h in
+      record { grows = adds.grows; quiet = adds.quiet; records = []; for = subst (λ ts. AreFor ts []) (sym (no_result_record r one)) tt; asked = adds.asked ∙ sym (append-nil (m.asked d)) }
+
+  given_on : (r : Option Shape) (back given : List Operand) (d e : Self) → GivesAnswer m r back given d e → GivenOn r d e
+  given_on None back given d e h = given_direct None back given d e refl h
+  given_on (Some t) back given d e h = by (is_indirect (Some t)) refl h
+    where
+      by : (c : Bool) → is_indirect (Some t) ≡ c → MatchBool c (StoresAnswer m t back given d e) (LowersAnswer m (Some t) back given d e) → GivenOn (Some t) d e
+      by true many h = record {
+        grows = stores_grows t back given d e h;
+        quiet = stores_quiet t back given d e h;
+        records = h.points.0 ∷ [];
+        for = subst (λ ts. AreFor ts (h.points.0 ∷ [])) (sym (ap (λ c. if c then t ∷ [] else []) many)) h.points.1;
+        asked = h.stores.adds.asked ∙ h.points.2.asked;
+      }
+      by false one h = given_direct (Some t) back given d e one h
+
+  lowers_direct : (r : Option Shape) (back given : List Operand) (d e : Self) → is_indirect r ≡ false → GivesAnswer m r back given d e → LowersAnswer m r back given d e
+  lowers_direct None back given d e one h = h
+  lowers_direct (Some t) back given d e one h = subst (λ c. MatchBool c (StoresAnswer m t back given d e) (LowersAnswer m (Some t) back given d e)) one h
+
+  -- the words of a result that passes by the area
+  ends_by_area : (types : List TypeDef) (r : Option Shape) (back given : List Operand) (d e z : Self) (n : ℕ) (empty : List Operand) → Emits m types (Return n) given empty e z → is_indirect r ≡ true → GivesAnswer m r back given d e
+      → (v : Result r) (vals : List m.Item) (own : List Block) → IsResult r v → ResultStands m give r v vals own → (w : m.World) (p : Peer m.Item) (s0 s2 : m.State) → m.serves w z → m.does w p (m.code d) s0 ≡ Done s2 → is_heap (m.account s2).heap ≡ true
+      → (m.account s2).taken ≡ flat_map m.owned vals → SameItems (m.owns s2) (flat_map m.owned vals) → m.area_at s0 ≡ None → m.asked d ≡ [] → m.denotes w d (ofs m back (item_data m vals)) s2 → EndsWithWords m w p r v own (m.account s2).heap given z s0 (m.account s2)
+  ends_by_area types None back given d e z n empty ended many gives v vals own good stands w p s0 s2 serves done formed taken owns unplaced unasked denotes = absurd (let g = many in cc)
+  ends_by_area types (Some t) back given d e z n empty ended many gives v vals own good stands w p s0 s2 serves done formed taken owns unplaced unasked denotes =
+      let h = subst (λ c. MatchBool c (StoresAnswer m t back given d e) (LowersAnswer m (Some t) back given d e)) many gives in
+      let owned : SameItems (flat_map m.owned vals) (addresses own) = owned_answer (Some t) v vals own stands in
+      let facts : m.denotes w d (of h.value (item stands.0) ∷ []) s2 = subst (λ fs. m.denotes w d fs s2) (ap₂ (λ os xs. ofs m os (item_data m xs)) h.answered stands.1) denotes in
+      ends_in_area t back given d e h types z n empty ended many v stands.0 own good.0 stands.2 w p s0 s2 serves done formed (λ g. ap (total g) taken ∙ owned g) (λ g. owns g ∙ owned g) unplaced unasked facts
+
+  module _ (types : List TypeDef) (fn : Bor Function) (a c d e z : Self) (values back given empty : List Operand) (n : ℕ)
+      (takes : TakesArgumentsOver m (param_shapes types fn.now) values a c)
+      (called : Emits m types (CallInterface fn) values back c d) (lowers : GivesAnswer m (result_shape types fn.now) back given d e) (ended : Emits m types (Return n) given empty e z) where
     abbrev ts : Shapes
     ts = param_shapes types fn.now
 
     abbrev r : Option Shape
     r = result_shape types fn.now
 
-    later : Adds m d z
-    later = adds_both m d e z (lowered_adds r back given d e lowers) ended.adds
+    on : GivenOn r d e
+    on = given_on r back given d e lowers
+
+    later_grows : Grows m d z
+    later_grows = grows_both m d e z on.grows ended.adds.grows ended.adds.quiet
+
+    later_quiet : Quiet m d z
+    later_quiet = quiet_both m d e z on.quiet ended.adds.grows ended.adds.quiet
 
     module _ (w : m.World) (p : Peer m.Item) (us : Parts ts) (ws : List Word) (blocks : List Block) (others : Facts m) (s0 s : m.State) (is : Received m w p ts us ws blocks a z others s0 s) where
       serves_e : m.serves w e
       serves_e = ended.adds.grows.serves w is.at.serves
 
       serves_d : m.serves w d
-      serves_d = later.grows.serves w is.at.serves
+      serves_d = later_grows.serves w is.at.serves
 
       serves_c : m.serves w c
       serves_c = called.adds.serves w serves_d
 
-      serves_b : m.serves w b
-      serves_b = lifts.adds.grows.serves w serves_c
+      -- the arguments were taken over
+      lifted : TookOver m w p ts us blocks values c others s0 s
+      lifted = takes.row w p us ws blocks others s0 s is.listed is.represents is.may (record { serves = serves_c; done = is.at.done; holds = is.at.holds })
 
-      says : PartsSay m.width take ts us ws blocks
-      says = subst (λ q. MatchBool q (TakesRecord m.width ts us ws blocks) (PartsSay m.width take ts us ws blocks)) direct.few is.represents
-
-      -- the words were read, and what they own was taken over
-      pub record Lifted : Type 0 where
-        pub vals : List m.Item
-        pub stands : PartsStand m take ts (all_settled ts us) vals blocks
-        pub state : m.State
-        pub done : m.does w p (m.code c) s0 ≡ Done state
-        pub account : m.account state ≡ took blocks (m.account s)
-        pub owns : SameItems (m.owns state) (flat_map m.owned vals)
-        pub denotes : m.denotes w c (ofs m values (item_data m vals) ++ others) state
-
-      lifted : Lifted
-      lifted =
-          let fit = parts_length m.width take ts us ws blocks is.listed says in
-          let one = does_done m (Unit {0}) a b (args m 0 (core_data m ws)) (λ f. releasing []) (λ u fs. fs ≡ ofs m read (core_data m ws)) (λ u. []) (λ u. []) (reads.row ws fit) w p others s0 s
-          (record { serves = serves_b; done = is.at.done; holds = is.at.holds }) (record { result = tt {0}; account = m.account s }) refl in
-          let after1 = one.2.2 in
-          let at1 : At m w p b c (ofs m read (core_data m ws) ++ others) s0 one.0 = record { serves = serves_c; done = one.1; holds = subst (λ fs. m.denotes w b (fs ++ others) one.0) one.2.1 after1.denotes } in
-          let two = lifts.row us ws blocks is.listed says w p others s0 one.0 at1 (subst (MayTake blocks) (sym after1.account) is.may) in
-          let after2 = two.4 in
-          record {
-            vals = two.2;
-            stands = two.3;
-            state = two.0;
-            done = two.1;
-            account = after2.account ∙ ap (took blocks) after1.account;
-            owns = λ g. omega (
-              arith,
-              after1.owns g,
-              after2.owns g,
-              is.bare g,
-              owned_parts ts (all_settled ts us) two.2 blocks two.3 g,
-              total-append g (m.owns two.0) [],
-              total-append g (m.owns one.0) (addresses blocks),
-              total-append g (m.owns one.0) [],
-              total-append g (m.owns s) [],
-            );
-            denotes = after2.denotes;
-          }
+      lifted_owns : SameItems (m.owns lifted.state) (flat_map m.owned lifted.vals)
+      lifted_owns g =
+          omega (arith, lifted.after.owns g, is.bare g, owned_parts ts (all_settled ts us) lifted.vals lifted.own lifted.stands g, total-append g (m.owns lifted.state) [], total-append g (m.owns s) (addresses lifted.own))
 
       abbrev call : Call m.Item
       call = method_point (m.target c fn.now) lifted.vals (m.account lifted.state)
@@ -233,70 +346,115 @@ module _ {Self Operand : Type 0} (m : Meaning Self Operand) (sound : Sound m) wh
 
       answered : Follows m.account answering (m.does w p (m.code d) s0) Answered
       answered =
-          called.row lifted.vals w p others s0 lifted.state (stand_count m sound types ts (all_settled ts us) lifted.vals blocks lifted.stands ∙ sym many)
-          (record { serves = serves_d; done = lifted.done; holds = lifted.denotes }) lifted.owns
+          called.row lifted.vals w p others s0 lifted.state (stand_count m sound types ts (all_settled ts us) lifted.vals lifted.own lifted.stands ∙ sym takes.many)
+          (record { serves = serves_d; done = lifted.done; holds = lifted.after.denotes }) lifted_owns
 
       passed : PassesItems m (m.target a fn.now) ts us blocks (m.account s) call
       passed = record {
-        aimed = lifts.adds.grows.target fn.now ∙ reads.adds.grows.target fn.now;
+        aimed = takes.adds.grows.target fn.now;
         words = refl;
+        own = lifted.own;
         stands = lifted.stands;
-        heap = ap (λ acc. acc.heap) lifted.account;
+        formed = ap (λ acc. is_heap acc.heap) lifted.after.account ∙ lifted.formed;
+        kept = λ g. ap (λ acc. total g (acc.heap.blocks ++ blocks)) lifted.after.account ∙ lifted.kept g;
       }
 
       made : (account_in m.account (m.does w p (m.code z) s0)).calls ≡ (m.account s).calls ++ call ∷ []
       made =
-          later.quiet w p s0 is.at.serves
+          later_quiet w p s0 is.at.serves
           ∙ follows_calls m.account answering (m.does w p (m.code d) s0) Answered answered (λ x t h. h.0)
           ∙ handing_calls m.owned (m.target c fn.now) lifted.vals (result_count fn.now) p.reply (m.account lifted.state)
-          ∙ ap (λ acc. acc.calls ++ call ∷ []) lifted.account
+          ∙ ap (λ acc. acc.calls ++ call ∷ []) lifted.after.account
 
-      gives_words : (v : Result r) → (honest : IsHonestMethod m r v p.reply) → GivesWords m w p r v call honest z s0 s
-      gives_words v honest =
+      -- the account when the method has answered
+      abbrev answered_account : (v : Result r) → IsHonestMethod m r v p.reply → Account m.Item
+      answered_account v honest = handed_on call honest.heap (flat_map m.owned (option_to_list honest.item)) (m.account s)
+
+      record Answering (v : Result r) (honest : IsHonestMethod m r v p.reply) : Type 0 where
+        pub state : m.State
+        pub done : m.does w p (m.code d) s0 ≡ Done state
+        pub account : m.account state ≡ answered_account v honest
+        pub owns : SameItems (m.owns state) (flat_map m.owned (option_to_list honest.item))
+        pub denotes : m.denotes w d (ofs m back (item_data m (option_to_list honest.item))) state
+
+      answered_so : (v : Result r) (honest : IsHonestMethod m r v p.reply) → Answering v honest
+      answered_so v honest =
           let vals = option_to_list honest.item in
           let due : nat_eq (length vals) (result_count fn.now) ≡ true = eq-eqb (length vals) (result_count fn.now) (answer_count r v vals honest.own honest.stands ∙ count_mapped _ fn.now.result) in
           let got : Got m.Item (List m.Item) = record { result = vals; account = after_answer m.owned call honest.heap vals (m.account lifted.state) } in
           let two = follows_done m.account answering (m.does w p (m.code d) s0) Answered got
           (handing_done m.owned (m.target c fn.now) lifted.vals (result_count fn.now) p.reply (m.account lifted.state) honest.item honest.heap honest.answers due) answered in
-          let at3 : At m w p d e (ofs m back (item_data m vals)) s0 two.0 = record { serves = serves_e; done = two.1; holds = two.2.2 } in
-          let low = answer_lowered r back given d e lowers direct.one v vals honest.own honest.good honest.stands w p s0 two.0 (ap (λ acc. acc.taken) two.2.0) at3 in
+          record { state = two.0; done = two.1; account = two.2.0 ∙ ap (handed_on call honest.heap (flat_map m.owned vals)) lifted.after.account; owns = two.2.1; denotes = two.2.2 }
+
+      -- a result that passes as a word
+      gives_word : is_indirect r ≡ false → (v : Result r) → (honest : IsHonestMethod m r v p.reply) → EndsWithWords m w p r v honest.own honest.heap given z s0 (answered_account v honest)
+      gives_word one v honest =
+          let vals = option_to_list honest.item in
+          let two = answered_so v honest in
+          let at3 : At m w p d e (ofs m back (item_data m vals)) s0 two.state = record { serves = serves_e; done = two.done; holds = two.denotes } in
+          let low = answer_lowered r back given d e (lowers_direct r back given d e one lowers) one v vals honest.own honest.good honest.stands w p s0 two.state (ap (λ acc. acc.taken) two.account) at3 in
           let out = ofs m given (core_data m low.ws) in
           let at4 : At m w p e z (out ++ []) s0 low.state = record { serves = is.at.serves; done = low.done; holds = subst (λ fs. m.denotes w e fs low.state) (sym (append-nil out)) low.denotes } in
           let end = ended.row (core_data m low.ws) w p [] s0 low.state at4 in
           let after = end.2.2 in
-          record {
-            state = end.0;
-            done = end.1;
-            os = given;
-            returned = ended.returned;
-            ws = low.ws;
-            represents = low.represents;
-            account = after.account ∙ low.account ∙ ap (λ (acc : Account m.Item). record acc { taken = [] }) two.2.0 ∙ ap (handed_on call honest.heap) lifted.account;
-            bare = λ g. omega (
-              arith,
-              after.owns g,
-              low.owns g,
-              two.2.1 g,
-              owned_answer r v vals honest.own honest.stands g,
-              total-append g (m.owns end.0) [],
-              total-append g (m.owns low.state) [],
-              total-append g (m.owns low.state) (addresses honest.own),
-            );
-            denotes = subst (λ fs. m.denotes w z fs end.0) (ap (λ fs. fs ++ []) end.2.1 ∙ append-nil out) after.denotes;
-          }
+          subst (λ q. Follows m.account (placing_result q (m.area w) (answered_account v honest)) (m.does w p (m.code z) s0) (λ x t. GivesWords m w r v honest.own honest.heap given z x t)) (sym one) (
+            end.0,
+            end.1,
+            record {
+              ws = low.ws;
+              area = [];
+              placed = subst (λ ts. AreaStands ts (m.area w) None []) (sym (no_result_record r one)) refl;
+              represents = low.represents;
+              heap = honest.heap;
+              formed = honest.formed;
+              all = λ g. ap (total g) (sym (append-nil honest.heap.blocks));
+              account = after.account ∙ low.account ∙ ap (λ (acc : Account m.Item). record acc { taken = [] }) two.account;
+              owns = λ g. omega (
+                arith,
+                after.owns g,
+                low.owns g,
+                two.owns g,
+                owned_answer r v vals honest.own honest.stands g,
+                total-append g (m.owns end.0) [],
+                total-append g (m.owns low.state) [],
+                total-append g (m.owns low.state) (addresses honest.own),
+              );
+              denotes = subst (λ fs. m.denotes w z fs end.0) (ap (λ fs. fs ++ []) end.2.1 ∙ append-nil out) after.denotes;
+            },
+          )
+
+      -- and one that passes by the area
+      gives_record : is_indirect r ≡ true → (v : Result r) → (honest : IsHonestMethod m r v p.reply) → EndsWithWords m w p r v honest.own honest.heap given z s0 (answered_account v honest)
+      gives_record many v honest =
+          let vals = option_to_list honest.item in
+          let two = answered_so v honest in
+          let unasked : m.asked d ≡ [] = called.asked ∙ takes.adds.asked ∙ is.unasked in
+          let ends = ends_by_area types r back given d e z n empty ended many lowers v vals honest.own honest.good honest.stands w p s0 two.state is.at.serves two.done (ap (λ acc. is_heap acc.heap) two.account ∙ honest.formed) (ap (λ acc. acc.taken) two.account) two.owns is.unplaced unasked two.denotes in
+          subst (λ acc. EndsWithWords m w p r v honest.own acc.heap given z s0 acc) two.account ends
+
+      gives_words : (v : Result r) → (honest : IsHonestMethod m r v p.reply) → EndsWithWords m w p r v honest.own honest.heap given z s0 (answered_account v honest)
+      gives_words v honest = by (is_indirect r) refl
+        where
+          by : (c : Bool) → is_indirect r ≡ c → EndsWithWords m w p r v honest.own honest.heap given z s0 (answered_account v honest)
+          by false one = gives_word one v honest
+          by true many = gives_record many v honest
 
     pub calls_export : CallsExport m fn.now ts r a z
     calls_export = record {
-      serves = λ w h. reads.adds.grows.serves w (lifts.adds.grows.serves w (called.adds.serves w (later.grows.serves w h)));
+      serves = λ w h. takes.adds.grows.serves w (called.adds.serves w (later_grows.serves w h));
       more = λ w h.
-          let one = reads.adds.grows.more w h in
-          let two = lifts.adds.grows.more one.0 one.1 in
-          let three = called.adds.more two.0 two.1 in
-          later.grows.more three.0 three.1;
+          let first = takes.adds.grows.more w h in
+          let second = called.adds.more first.0 first.1 in
+          later_grows.more second.0 second.1;
+      records = on.records;
+      for = on.for;
+      asked = ended.adds.asked ∙ on.asked ∙ ap (λ xs. xs ++ on.records) (called.asked ∙ takes.adds.asked);
       row = λ w p us ws blocks others s0 s is. record {
         call = call w p us ws blocks others s0 s is;
         passes = passed w p us ws blocks others s0 s is;
         made = made w p us ws blocks others s0 s is;
+        os = given;
+        returned = ended.returned;
         gives = gives_words w p us ws blocks others s0 s is;
       };
     }

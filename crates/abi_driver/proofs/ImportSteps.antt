@@ -60,12 +60,7 @@ use Rattle.abi_driver.proofs.TakingOver.{took_none}
 abbrev no_words : List Word
 no_words = []
 
--- 1. Direct signatures
-
--- parameters and a result that pass as words
-pub record IsDirect (ts : Shapes) (r : Option Shape) : Type 0 where
-  pub few : are_indirect ts ≡ false
-  pub one : is_indirect r ≡ false
+-- 1. Signatures
 
 -- the core words by which an import passes its arguments, and those that name the area of its result
 abbrev pub argument_types : Shapes → List WasmType
@@ -81,11 +76,6 @@ import_words types f =
       ap (λ ps. core_params GuestImport ps (signature.result_words types f.result)) (sym same.0) ∙ ap (λ rs. core_params GuestImport (flatten_record (layouts (param_shapes types f))) rs) (sym same.1),
       ap (core_results GuestImport) (sym same.1),
     )
-
-pub direct_signature : (types : List TypeDef) (variant : AbiVariant) (f : Function) (s : WasmSignature) → IsFlattenedFunctype types variant f s → s.indirect_params ≡ false → s.retptr ≡ false → IsDirect (param_shapes types f) (result_shape types f)
-direct_signature types variant f s is few one =
-    let same = signature_is_by_shapes types f in
-    record { few = ap are_many same.0 ∙ sym is.indirect ∙ few; one = ap needs_pointer same.1 ∙ sym is.pointed ∙ one }
 
 -- 2. The call
 
@@ -192,6 +182,10 @@ words_count m types f os pointer a b c d passes points =
         by : (q : Bool) → MatchBool q ((o : _) × (t : Shape) × (r ≡ Some t) × (pointer ≡ o ∷ []) × Points m t o c d) ((pointer ≡ []) × (d ≡ c)) → length pointer ≡ length (if q then wasm.Pointer ∷ [] else [])
         by true h = ap length h.3
         by false h = ap length h.0
+
+pub no_result_record : (r : Option Shape) → is_indirect r ≡ false → result_record r ≡ []
+no_result_record None one = refl
+no_result_record (Some t) one = ap (λ c. if c then t ∷ [] else []) one
 
 -- the last of a list
 last_word : List Word → Word
@@ -340,10 +334,6 @@ module _ {Self Operand : Type 0} (m : Meaning Self Operand) (sound : Sound m) wh
 
   result_is : (r : Option Shape) (t : Shape) → r ≡ Some t → is_indirect r ≡ true → result_record r ≡ t ∷ []
   result_is r t e many = ap result_record e ∙ ap (λ c. if c then t ∷ [] else []) (sym (ap is_indirect e) ∙ many)
-
-  no_result_record : (r : Option Shape) → is_indirect r ≡ false → result_record r ≡ []
-  no_result_record None one = refl
-  no_result_record (Some t) one = ap (λ c. if c then t ∷ [] else []) one
 
   asked_for_result : (r : Option Shape) (os : List Operand) (b c : Self) → PointsAtResult m r os b c → (records : List Asked) × AreFor (result_record r) records × (m.asked c ≡ m.asked b ++ records)
   asked_for_result r os b c h = by (is_indirect r) refl h

@@ -1,3 +1,4 @@
+pub mod AnswerArea
 pub mod AreaAsked
 pub mod AreaHeaps
 pub mod AreaSteps
@@ -37,6 +38,7 @@ pub mod StoreSteps
 pub mod Freeing
 pub mod FreeSteps
 pub mod LeafFrees
+pub mod RecordArguments
 pub mod RecordPlaces
 pub mod RecordStores
 pub mod FlatFrees

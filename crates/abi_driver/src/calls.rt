@@ -3,6 +3,7 @@
 mod area;
 mod export;
 mod import;
+mod record;
 
 ghost use Rattle.std.specs.Prelude.{◌≡◌, true, OnOk};
 ghost use Rattle.wit_model.specs.IndexRange.{function_in_range};
@@ -27,8 +28,11 @@ pub enum LiftLower {
 /// The code of a function, after `call` of wit-bindgen-core. An import lowers and lends its arguments, calls the core import, and lifts and
 /// gives what that answers. An export reads and lifts its arguments, calls the method with them, and lowers and gives away what that answers.
 ///
-/// So far each parameter and the result is a scalar or a text, or a record or a tuple of such, also through aliases; they have at most
-/// sixteen words of parameters, and one of a result. Of any other function the answer is `OutOfMemory`, as where memory is wanting.
+/// Arguments of more than sixteen core words pass by the address of a record of them: of an import it is stored in the return area, and
+/// of an export it is a block, which is freed when it was read. A result of more than one word passes by the address of the area.
+///
+/// So far each parameter and the result is a scalar or a text, or a record or a tuple of such, also through aliases. Of any other function,
+/// and of a record of parameters of more than 2^31 - 1 bytes where pointers have 8, the answer is `OutOfMemory`, as where memory is wanting.
 pub fn call<B: Bindgen>(
     alloc: Global,
     resolve: &Resolve,

@@ -1,6 +1,6 @@
 //! Values are put into memory, and read from it.
 
-mod load;
+pub(crate) mod load;
 pub(crate) mod place;
 pub(crate) mod store;
 pub(crate) mod word;

@@ -1,6 +1,6 @@
 //! The whole code of an export.
 
-ghost use Rattle.std.specs.Prelude.{◌≡◌, IsTrue, true, length, option_to_list, IfOk, OnOk};
+ghost use Rattle.std.specs.Prelude.{◌≡◌, IsTrue, Some, true, length, option_to_list, IfOk, OnOk};
 ghost use Rattle.std.specs.List.{list_all};
 ghost use Rattle.std.specs.Option.{option_map};
 ghost use Rattle.wit_layout.specs.Flat.{flatten_record};
@@ -8,19 +8,32 @@ ghost use Rattle.wit_model.specs.IndexRange.{function_in_range};
 ghost use Rattle.wit_model.specs.TypeOrder.{GoesDown, payload_below, type_below};
 ghost use Rattle.wit_model.specs.WellFormed.{IsWellFormed};
 ghost use Rattle.wrapper_meaning.specs.Layout.{layouts};
+ghost use Rattle.wrapper_meaning.specs.Represents.{are_indirect, is_indirect};
 ghost use Rattle.wrapper_meaning.specs.Shape.{param_shapes, result_shape, shape_of};
-ghost use Rattle.abi_driver.specs.Exports.{CallsExport, ReadsWords, export_params};
+ghost use Rattle.abi_driver.specs.Exports.{
+  CallsExport,
+  GivesAnswer,
+  ReadsWords,
+  StoresAnswer,
+  TakesArgumentsOver,
+  argument_words,
+  export_params,
+};
 ghost use Rattle.abi_driver.specs.Instructions.{shapes_of};
 ghost use Rattle.abi_driver.specs.Laws.{IsCount};
 ghost use Rattle.abi_driver.specs.Lifts.{LiftsAll};
 ghost use Rattle.abi_driver.specs.Lowers.{LowersAnswer};
 
 use crate::bindgen::{Bindgen, Operand};
+use crate::calls::area::point_at;
+use crate::calls::record::load_arguments;
 use crate::instruction::Instruction;
 use crate::lift::{LiftedParts, lift_parts};
 use crate::lower::lower_type;
+use crate::memory::place::NOWHERE;
+use crate::memory::store::store_type;
 use crate::parts::{numbered, param_types};
-use crate::send::{argument, send};
+use crate::send::{argument, only, send};
 use std::alloc::Global;
 use wit_layout::{AbiVariant, wasm_signature};
 use wit_model::{Function, List, OutOfMemory, Resolve, WitType};
@@ -35,16 +48,16 @@ pub(super) fn call_export<B: Bindgen>(
     requires well { IsWellFormed resolve.now }
     requires within { function_in_range resolve.now func.now ≡ true }
     requires serves { B.meaning.exports bindgen.old ≡ true }
+    requires knows { B.meaning.knows bindgen.old resolve.now.types }
     requires arguments { IsCount B.meaning (B.meaning.arguments bindgen.old) (length (export_params resolve.now.types func.now)) }
     ensures { OnOk result (CallsExport B.meaning func.now (param_shapes resolve.now.types func.now) (result_shape resolve.now.types func.now) bindgen.old bindgen.new) }
 {
     let signature = wasm_signature(resolve, AbiVariant::GuestExport, func);
-    if signature.indirect_params || signature.retptr {
-        return Err(OutOfMemory);
-    }
+    let indirect = signature.indirect_params;
+    let retptr = signature.retptr;
+    let count = signature.params.count;
     let tys = param_types(alloc, func.params.as_slice())?;
-    let words = read_words(alloc, resolve, bindgen, signature.params.count)?;
-    let values = lift_arguments(alloc, resolve, bindgen, words.as_slice(), tys.as_slice())?;
+    let values = take_arguments(alloc, resolve, bindgen, tys.as_slice(), indirect, count)?;
     let answer = send(
         alloc,
         resolve,
@@ -52,10 +65,49 @@ pub(super) fn call_export<B: Bindgen>(
         Instruction::CallInterface(func),
         values,
     )?;
-    let given = lower_answer(alloc, resolve, bindgen, answer.as_slice(), func.result)?;
-    let count = numbered(given.len())?;
-    send(alloc, resolve, bindgen, Instruction::Return(count), given)?;
+    let given = give_answer(
+        alloc,
+        resolve,
+        bindgen,
+        answer.as_slice(),
+        func.result,
+        retptr,
+    )?;
+    let given_count = numbered(given.len())?;
+    send(
+        alloc,
+        resolve,
+        bindgen,
+        Instruction::Return(given_count),
+        given,
+    )?;
     Ok(())
+}
+
+/// The values of the arguments, which are so many words, or the address of a record.
+fn take_arguments<B: Bindgen>(
+    alloc: Global,
+    resolve: &Resolve,
+    bindgen: &mut B,
+    tys: &[WitType],
+    indirect: bool,
+    count: u32,
+) -> Result<List<B::Operand>, OutOfMemory>
+    requires down { GoesDown resolve.now.types }
+    requires below { list_all (λ ty. type_below (length resolve.now.types) ty) tys.now ≡ true }
+    requires knows { B.meaning.knows bindgen.old resolve.now.types }
+    requires arguments { IsCount B.meaning (B.meaning.arguments bindgen.old) count }
+    requires indirect { indirect ≡ are_indirect (shapes_of resolve.now.types tys.now) }
+    requires words { count ≡ length (argument_words (shapes_of resolve.now.types tys.now)) }
+    ensures { IfOk result (λ values. TakesArgumentsOver B.meaning (shapes_of resolve.now.types tys.now) values bindgen.old bindgen.new) }
+{
+    if indirect {
+        let loaded = load_arguments(alloc, resolve, bindgen, tys)?;
+        return Ok(loaded);
+    }
+    let words = read_words(alloc, resolve, bindgen, count)?;
+    let values = lift_arguments(alloc, resolve, bindgen, words.as_slice(), tys)?;
+    Ok(values)
 }
 
 /// The arguments, which are so many words.
@@ -96,27 +148,68 @@ fn lift_arguments<B: Bindgen>(
     Ok(parts)
 }
 
-/// The words of the answer, where there is one.
+/// The words of the answer, where there is one, or the address of the area in which it was stored.
 #[tactic(auto, unfolding(wit_model::specs::TypeOrder::payload_below))]
-fn lower_answer<B: Bindgen>(
+fn give_answer<B: Bindgen>(
     alloc: Global,
     resolve: &Resolve,
     bindgen: &mut B,
     answer: &[B::Operand],
     ty: Option<WitType>,
+    retptr: bool,
 ) -> Result<List<B::Operand>, OutOfMemory>
     requires down { GoesDown resolve.now.types }
     requires below { IsTrue (payload_below (length resolve.now.types) ty) }
     requires serves { B.meaning.exports bindgen.old ≡ true }
+    requires knows { B.meaning.knows bindgen.old resolve.now.types }
     requires due { length answer.now ≡ length (option_to_list ty) }
-    ensures { IfOk result (λ given. LowersAnswer B.meaning (option_map (shape_of resolve.now.types) ty) answer.now given bindgen.old bindgen.new) }
+    requires retptr { retptr ≡ is_indirect (option_map (shape_of resolve.now.types) ty) }
+    ensures { IfOk result (λ given. GivesAnswer B.meaning (option_map (shape_of resolve.now.types) ty) answer.now given bindgen.old bindgen.new) }
 {
     match ty {
         None => Ok(List::new(alloc)),
-        Some(ty) => {
-            let value = answer[0].copy(alloc)?;
-            let words = lower_type(alloc, resolve, bindgen, value, ty, true)?;
-            Ok(words)
-        }
+        Some(ty) if retptr => store_answer(alloc, resolve, bindgen, answer, ty),
+        Some(ty) => lower_answer(alloc, resolve, bindgen, answer, ty),
     }
+}
+
+/// The answer is given away as words.
+fn lower_answer<B: Bindgen>(
+    alloc: Global,
+    resolve: &Resolve,
+    bindgen: &mut B,
+    answer: &[B::Operand],
+    ty: WitType,
+) -> Result<List<B::Operand>, OutOfMemory>
+    requires down { GoesDown resolve.now.types }
+    requires below { IsTrue (type_below (length resolve.now.types) ty) }
+    requires serves { B.meaning.exports bindgen.old ≡ true }
+    requires due { length answer.now ≡ 1 }
+    ensures { IfOk result (λ given. LowersAnswer B.meaning (Some (shape_of resolve.now.types ty)) answer.now given bindgen.old bindgen.new) }
+{
+    let value = answer[0].copy(alloc)?;
+    let words = lower_type(alloc, resolve, bindgen, value, ty, true)?;
+    Ok(words)
+}
+
+/// The answer is given away in the area.
+fn store_answer<B: Bindgen>(
+    alloc: Global,
+    resolve: &Resolve,
+    bindgen: &mut B,
+    answer: &[B::Operand],
+    ty: WitType,
+) -> Result<List<B::Operand>, OutOfMemory>
+    requires down { GoesDown resolve.now.types }
+    requires below { IsTrue (type_below (length resolve.now.types) ty) }
+    requires serves { B.meaning.exports bindgen.old ≡ true }
+    requires knows { B.meaning.knows bindgen.old resolve.now.types }
+    requires due { length answer.now ≡ 1 }
+    ensures { IfOk result (λ given. StoresAnswer B.meaning (shape_of resolve.now.types ty) answer.now given bindgen.old bindgen.new) }
+{
+    let address = point_at(resolve, bindgen, ty)?;
+    let value = answer[0].copy(alloc)?;
+    store_type(alloc, resolve, bindgen, &address, NOWHERE, value, ty, true)?;
+    let given = only(alloc, address)?;
+    Ok(given)
 }

@@ -42,7 +42,7 @@ pub fn lift_from_memory<B: Bindgen>(
 /// The same at an offset, by a type that was read.
 #[cycle(load)]
 #[tactic(auto, unfolding(wit_model::specs::TypeOrder::type_below))]
-fn load_type<B: Bindgen>(
+pub(crate) fn load_type<B: Bindgen>(
     alloc: Global,
     resolve: &Resolve,
     bindgen: &mut B,

@@ -1,0 +1,42 @@
+use Rattle.std.proofs.Common.{◌+◌, ◌<◌, ◌≤◌, [], ◌∷◌, List, length, get_or, slice_index, sym, ap, ◌∙◌, subst, arith}
+use Rattle.std.proofs.lemmas.List.{drop_more, length-append}
+use Rattle.wit_model.specs.declared.size.ArchitectureSize.{ArchitectureSize}
+use Rattle.wit_model.specs.declared.types.WitType.TheVariants as wit
+use Rattle.wit_layout.specs.Sizes.{field_offsets}
+use Rattle.wit_layout.specs.Told.{IsPairOf}
+use Rattle.wit_layout.specs.Tree.{record_of}
+use Rattle.abi_driver.specs.Frees.{nowhere}
+use Rattle.abi_driver.proofs.LoadSteps.{rest_last, rest_next}
+use Rattle.abi_driver.proofs.PartOffsets.{behind_next}
+use Rattle.abi_driver.proofs.RecordPlaces.{record_place}
+use Rattle.abi_driver.proofs.Runs.{adds_both}
+use Rattle.abi_driver.proofs.calls.record.load_at.Goals as goal
+
+pub loop-i-preserved : goal.loop-i-preserved
+loop-i-preserved g c =
+    let m = g.B.Bindgen.meaning in
+    let sound = g.met.B.Bindgen.sound in
+    let types = c.args.resolve.now.types in
+    let tys = c.args.tys.now in
+    let i = c.loop-i.i in
+    let short : i < length tys = omega (arith, c.loop-i-test.true) in
+    let filled = c.sizes-sizes.ensures types c.requires.knows in
+    let pair = subst (λ (ps : List ArchitectureSize). IsPairOf (get_or ps i nowhere) (λ w. slice_index (field_offsets w (record_of types tys)) i)) (sym c.as_slice.ensures) (c.in_ok-places.ensures.each types i nowhere filled short) in
+    record {
+      adds = adds_both m _ _ _ c.loop-i.invariant.adds c.in_ok-part.ensures.adds;
+      count = ap length c.in_ok-push.ensures.ok ∙ length-append c.loop-i.parts (c.in_ok-part.part ∷ []) ∙ ap (λ n. n + 1) c.loop-i.invariant.count;
+      rest = rest_next m sound types tys c.args.address.now nowhere (get_or c.as_slice.result.now i nowhere) i c.loop-i.parts c.push.new.self _ _ _ (get_or tys i wit.Bool) c.in_ok-part.part
+          (drop_more tys i wit.Bool short)
+          (behind_next m.width types tys i wit.Bool short)
+          (record_place m.width types tys i wit.Bool (get_or c.as_slice.result.now i nowhere) sound.wide short pair)
+          c.in_ok-part.ensures c.in_ok-push.ensures.ok c.loop-i.invariant.rest;
+    }
+
+pub returns-clause-count : goal.returns-clause-count
+returns-clause-count g c = let count = c.loop-i.invariant.count in omega (arith, count, c.loop-i-test.false, c.loop-i.auto.i-end)
+
+pub returns-clause-loads : goal.returns-clause-loads
+returns-clause-loads g c =
+    let m = g.B.Bindgen.meaning in
+    let ended : length c.args.tys.now ≤ c.loop-i.i = omega (arith, c.loop-i-test.false) in
+    rest_last m g.met.B.Bindgen.sound c.args.resolve.now.types c.args.tys.now c.args.address.now nowhere c.loop-i.i c.loop-i.parts _ _ ended c.loop-i.invariant.rest
