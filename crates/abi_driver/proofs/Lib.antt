@@ -18,6 +18,7 @@ pub mod ExportSteps
 pub mod ReadSteps
 pub mod SaysTypes
 pub mod HonestAnswers
+pub mod Instances
 pub mod ImportSteps
 pub mod Records
 pub mod ReturnSteps

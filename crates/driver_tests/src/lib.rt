@@ -2,6 +2,8 @@
 #![tactic(auto)]
 
 #[cfg(test)]
+mod area;
+#[cfg(test)]
 mod calls;
 #[cfg(test)]
 mod flat;

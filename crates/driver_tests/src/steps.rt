@@ -19,6 +19,7 @@ pub(crate) enum Told {
     FreeSized(u64, u32),
     Call(usize, [u32; 3], Option<WasmType>, u32),
     CallMethod(usize, [u32; 3], u32, u32),
+    Area(u32),
 }
 
 /// The numbers of up to three places.
@@ -75,6 +76,7 @@ fn seen(step: &Step) -> Told {
             results,
             to,
         } => Told::CallMethod(from.len(), numbers(from.as_slice()), *results, *to),
+        Step::Area { to } => Told::Area(*to),
     }
 }
 
@@ -102,4 +104,21 @@ pub(crate) fn are(places: &[Place], numbers: &[u32]) -> bool {
         }
     }
     true
+}
+
+/// Whether the step at a place calls a core import with these words.
+pub(crate) fn calls_with(steps: &[Step], at: usize, words: &[u32]) -> bool {
+    if at >= steps.len() {
+        return false;
+    }
+    match &steps[at] {
+        Step::Call {
+            core_module: _,
+            name: _,
+            from,
+            result: _,
+            to: _,
+        } => are(from.as_slice(), words),
+        _ => false,
+    }
 }

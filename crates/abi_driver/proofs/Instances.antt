@@ -1,0 +1,4 @@
+-- Runs of the whole codes of imports.
+pub mod Forms
+pub mod SeventeenParameters
+pub mod SixteenAndAText
