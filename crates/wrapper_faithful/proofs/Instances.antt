@@ -8,6 +8,7 @@ pub mod WrongEntries
 pub mod WrongSignatures
 pub mod WrongPostReturns
 pub mod SharedAreas
+pub mod IllFormedHeaps
 pub mod OwnedArgument
 pub mod WidePointers
 pub mod SixteenWords
