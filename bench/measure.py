@@ -101,6 +101,28 @@ def best(command, source, target, wanted):
     return min(r[0] for r in results), max(r[1] for r in results)
 
 
+def put(make, count, world, path):
+    """Writes a document. A child makes it: a program that starts here counts in its own peak what python holds then."""
+    child = os.fork()
+    if child == 0:
+        with open(path, "wb") as f:
+            f.write(make(count, world))
+        os._exit(0)
+    _, status = os.waitpid(child, 0)
+    if status != 0:
+        sys.exit(f"{path}: no document could be written")
+
+
+def objects_in(path):
+    """The length of a document, and how many objects it has."""
+    length, count = 0, 0
+    with open(path, "rb") as f:
+        while part := f.read(1 << 16):
+            length += len(part)
+            count += part.count(b"{")
+    return length, count
+
+
 def measure(program, folder, what, make, counts, status):
     """A line for each count of a form of document, which gives this status. It returns the last time and the last document."""
     source = os.path.join(folder, "in.json")
@@ -108,17 +130,15 @@ def measure(program, folder, what, make, counts, status):
     before = None
     for count in counts:
         # A world out of range is refused as soon as the tables have been read.
-        with open(source, "wb") as f:
-            f.write(make(count, 1))
+        put(make, count, 1, source)
         reading, _ = best([program, "generate"], source, target, 6)
-        data = make(count, 0)
-        with open(source, "wb") as f:
-            f.write(data)
+        put(make, count, 0, source)
+        length, objects = objects_in(source)
         seconds, peak = best([program, "generate"], source, target, status)
         line = (
-            f"{count} {what}: {len(data)} bytes in, {os.path.getsize(target)} out, "
+            f"{count} {what}: {length} bytes in, {os.path.getsize(target)} out, "
             f"{seconds * 1000:.0f} ms ({reading / seconds:.0%} reading), {peak} KB, "
-            f"{peak * 1024 / len(data):.1f} bytes for a byte, {peak * 1024 / data.count(b'{'):.0f} for a JSON object"
+            f"{seconds * 1e9 / length:.0f} ns and {peak * 1024 / length:.1f} bytes for a byte, {peak * 1024 / objects:.0f} for a JSON object"
         )
         if before:
             line += f", time x{seconds / before[0]:.2f}, memory x{peak / before[1]:.2f}"
