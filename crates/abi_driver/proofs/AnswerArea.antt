@@ -1,6 +1,5 @@
 -- The answer of an export that passes by the area: the area is placed, and the answer is stored in it.
-use Rattle.std.proofs.Common.{◌≡◌, ◌≤◌, ℕ, ◌+◌, ◌%◌, ◌^◌, ◌&&◌, ◌||◌, Bool, true, false, not, nat_eq, if◌then◌else◌, List, [], ◌∷◌, ◌++◌, Option, None, Some, Contains, slice_get, refl, sym, ap, ap₂, ◌∙◌, subst, arith, append-nil}
-use Rattle.std.specs.List.{AllByRecursion}
+use Rattle.std.proofs.Common.{◌≡◌, ℕ, ◌+◌, ◌%◌, ◌^◌, ◌&&◌, ◌||◌, Bool, true, false, not, nat_eq, if◌then◌else◌, List, [], ◌∷◌, ◌++◌, Option, None, Some, Contains, refl, sym, ap, ap₂, ◌∙◌, subst, arith, append-nil}
 use Rattle.std.proofs.lemmas.Bool.{and_parts, eqb-true, not-true}
 use Rattle.wit_model.specs.Size.{alignment_at, bytes_at}
 use Rattle.wit_layout.specs.Sizes.{alignment, elem_size}
@@ -21,10 +20,10 @@ use Rattle.wrapper_meaning.specs.Represents.{Begins}
 use Rattle.wrapper_meaning.specs.Shape.{Shape}
 use Rattle.wrapper_meaning.specs.Value.{Value}
 use Rattle.abi_driver.specs.declared.bindgen.Asked.{Asked}
-use Rattle.abi_driver.specs.Account.{Account, Done, Follows, Got, Outcome, Peer, Stopped, Stuck, addresses, gives, is_taken, then_do, without}
+use Rattle.abi_driver.specs.Account.{Account, Done, Follows, Got, Outcome, Peer, Stopped, Stuck, addresses, is_taken, without}
 use Rattle.abi_driver.specs.Area.{HasRoomFor, HoldsRecord, NeedsArea, placed, placing, pointing}
 use Rattle.abi_driver.specs.Frees.{nowhere}
-use Rattle.abi_driver.specs.Laws.{After, At, Facts, Sound}
+use Rattle.abi_driver.specs.Laws.{At, Facts, Sound}
 use Rattle.abi_driver.specs.Meaning.{Meaning, item, of, word}
 use Rattle.abi_driver.specs.Places.{HasRoom, replaced}
 use Rattle.abi_driver.specs.Stores.{LowersToMemory, Releases}

@@ -1,6 +1,5 @@
 -- The area is asked for a value of a type, or for a record of some types.
-use Rattle.std.proofs.Common.{◌≡◌, ℕ, ◌^◌, List, [], ◌∷◌, refl, sym, ap, ◌∙◌, subst}
-use Rattle.wit_model.specs.Size.{alignment_at}
+use Rattle.std.proofs.Common.{◌≡◌, List, sym, subst}
 use Rattle.wit_model.specs.declared.size.Alignment.{Alignment}
 use Rattle.wit_model.specs.declared.size.Alignment.TheVariants.{Bytes, Pointer}
 use Rattle.wit_model.specs.declared.size.ArchitectureSize.{ArchitectureSize}

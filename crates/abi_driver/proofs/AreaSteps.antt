@@ -1,21 +1,18 @@
 -- The return area of an import: arguments that are lent as words or stored in it, and an operand that denotes its address.
-use Rattle.std.proofs.Common.{◌≡◌, ◌⊎◌, ◌≤◌, ℕ, ◌+◌, ◌%◌, ◌^◌, Bool, true, false, if◌then◌else◌, MatchBool, List, [], ◌∷◌, ◌++◌, length, Option, None, Some, Contains, refl, sym, ap, ◌∙◌, subst, arith, append_assoc, append-nil}
+use Rattle.std.proofs.Common.{◌≡◌, ◌≤◌, ℕ, ◌%◌, ◌^◌, Bool, true, false, if◌then◌else◌, MatchBool, List, [], ◌∷◌, ◌++◌, length, Option, None, Some, refl, sym, ap, ◌∙◌, subst, arith, append-nil}
 use Rattle.std.specs.List.{AllByRecursion}
 use Rattle.wit_model.specs.Size.{alignment_at, bytes_at}
-use Rattle.wit_layout.specs.Extent.{end, greatest, record_extent}
+use Rattle.wit_layout.specs.Extent.{greatest}
 use Rattle.wit_layout.specs.Sizes.{alignment, elem_size, extents_of}
-use Rattle.wrapper_data.specs.Heap.{is_heap}
 use Rattle.wrapper_data.specs.declared.block.Block.{Block}
 use Rattle.wrapper_data.specs.declared.choice.Request.{Request}
-use Rattle.wrapper_data.specs.declared.heap.Heap.{Heap}
 use Rattle.wrapper_data.specs.declared.word.Word.{Word}
 use Rattle.wrapper_data.specs.declared.word.Word.TheVariants as core
 use Rattle.wrapper_meaning.specs.Areas.{parameter_record, result_record}
 use Rattle.wrapper_meaning.specs.AsWords.{PartsSay}
-use Rattle.wrapper_meaning.specs.Calls.{NamesArea, pointers}
 use Rattle.wrapper_meaning.specs.Direction.{lend}
 use Rattle.wrapper_meaning.specs.Honest.{result_size}
-use Rattle.wrapper_meaning.specs.Items.{SameItems, total}
+use Rattle.wrapper_meaning.specs.Items.{SameItems}
 use Rattle.wrapper_meaning.specs.Layout.{layout, layouts}
 use Rattle.wrapper_meaning.specs.Represents.{LendsRecord, are_indirect, is_indirect, param_words}
 use Rattle.wrapper_meaning.specs.Shape.{Shape, Shapes}
@@ -23,8 +20,8 @@ use Rattle.wrapper_meaning.specs.Shape.Shape.{fields}
 use Rattle.wrapper_meaning.specs.Value.{Parts}
 use Rattle.wrapper_meaning.proofs.PartPlaces.{parts_end}
 use Rattle.abi_driver.specs.declared.bindgen.Asked.{Asked}
-use Rattle.abi_driver.specs.Account.{Account, Done, Got, Peer, gives, releasing}
-use Rattle.abi_driver.specs.Area.{AreFor, AreaStands, HoldsRecord, IsAreaBlock, NeedsArea, SameArea, newly, pointing}
+use Rattle.abi_driver.specs.Account.{Account, Done, Got, Peer, releasing}
+use Rattle.abi_driver.specs.Area.{AreFor, AreaStands, HoldsRecord, NeedsArea, SameArea, newly, pointing}
 use Rattle.abi_driver.specs.Frees.{nowhere}
 use Rattle.abi_driver.specs.Imports.{AreGiven, Lent, PassesArguments, PassesRecord, Points, PointsAtResult}
 use Rattle.abi_driver.specs.Laws.{After, At, Facts, Grows, Quiet, Sound, args, core_data, item_data, ofs}

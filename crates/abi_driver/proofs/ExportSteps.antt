@@ -16,11 +16,8 @@ use Rattle.wit_layout.specs.Signature as signature
 use Rattle.wit_layout.specs.Sizes.{alignment, elem_size}
 use Rattle.wrapper_data.specs.Heap.{is_heap}
 use Rattle.wrapper_data.specs.declared.block.Block.{Block}
-use Rattle.wrapper_data.specs.declared.heap.Heap.{Heap}
-use Rattle.wrapper_data.specs.declared.run.Target.{Target}
 use Rattle.wrapper_data.specs.declared.word.Word.{Word}
 use Rattle.wrapper_data.specs.declared.word.Word.TheVariants as core
-use Rattle.wrapper_meaning.specs.AsWords.{PartsSay}
 use Rattle.wrapper_meaning.specs.Areas.{result_record}
 use Rattle.wrapper_meaning.specs.Direction.{give, take}
 use Rattle.wrapper_meaning.specs.InRange.{IsListed}
@@ -34,25 +31,24 @@ use Rattle.wrapper_meaning.specs.Value.{Parts, Result, Value}
 use Rattle.wrapper_meaning.proofs.LayoutIsTree.{signature_is_by_shapes}
 use Rattle.abi_driver.specs.declared.bindgen.Asked.{Asked}
 use Rattle.abi_driver.specs.declared.instruction.Instruction.TheVariants.{CallInterface, Return}
-use Rattle.abi_driver.specs.Account.{Account, Call, Done, Follows, Got, Outcome, Peer, Reply, Stuck, account_in, addresses, gives, releasing, value, words}
+use Rattle.abi_driver.specs.Account.{Account, Call, Crossing, Done, Follows, Got, Outcome, Peer, account_in, addresses, gives, releasing}
 use Rattle.abi_driver.specs.Area.{AreFor, AreaStands, HoldsRecord, newly, pointing}
-use Rattle.abi_driver.specs.Calls.{handing, method_point, recorded, result_count}
-use Rattle.abi_driver.specs.Exports.{CallsExport, EndsWithWords, GivesAnswer, GivesWords, IsHonestMethod, PassesItems, Received, StoresAnswer, TakesArgumentsOver, TookOver, argument_words, export_params, handed_on, placing_result}
+use Rattle.abi_driver.specs.Calls.{handing, method_point, result_count}
+use Rattle.abi_driver.specs.Exports.{CallsExport, EndsWithWords, GivesAnswer, GivesWords, HandsBack, IsHonestMethod, PassesItems, Received, StoresAnswer, TakesArgumentsOver, TookOver, argument_words, export_params, handed_on, placing_result}
 use Rattle.abi_driver.specs.Imports.{ResultStands}
 use Rattle.abi_driver.specs.Instructions.{Emits}
-use Rattle.abi_driver.specs.Laws.{Adds, After, At, Facts, Grows, Quiet, Sound, args, core_data, item_data, ofs}
-use Rattle.abi_driver.specs.Lifts.{LiftsAll, MayTake, took}
+use Rattle.abi_driver.specs.Laws.{Adds, After, At, Facts, Grows, Quiet, Sound, core_data, item_data, ofs}
 use Rattle.abi_driver.specs.Lowers.{LowersAnswer}
 use Rattle.abi_driver.specs.Meaning.{Meaning, item, of, word}
-use Rattle.abi_driver.specs.Parts.{PartsStand, count}
+use Rattle.abi_driver.specs.Parts.{PartsStand}
 use Rattle.abi_driver.proofs.AnswerArea.{StoredThere, follows_known, pointing_is, stored_there}
 use Rattle.abi_driver.proofs.AreaSteps.{last_room}
 use Rattle.abi_driver.proofs.Done.{does_done, lets_go, releases_all}
-use Rattle.abi_driver.proofs.ImportSteps.{follows_calls, if_calls, no_result_record}
+use Rattle.abi_driver.proofs.ImportSteps.{follows_calls, no_result_record}
 use Rattle.abi_driver.proofs.LiftSteps.{follows_done, stand_count}
+use Rattle.abi_driver.proofs.MethodCalls.{Came, after_answer, came_in, handing_calls, handing_done, live_owners}
 use Rattle.abi_driver.proofs.RecordPlaces.{align_at_width, at_width}
 use Rattle.abi_driver.proofs.Runs.{adds_both, adds_same, addresses_both, follows_then, grows_both, ofs_none, quiet_both, total-append}
-use Rattle.abi_driver.proofs.SaysLength.{parts_length}
 
 -- 1. The call
 
@@ -75,22 +71,6 @@ export_indirect types f s is = is.indirect ∙ sym (ap are_many (signature_is_by
 
 pub export_pointer : (types : List TypeDef) (f : Function) (s : WasmSignature) → IsFlattenedFunctype types GuestExport f s → s.retptr ≡ is_indirect (result_shape types f)
 export_pointer types f s is = is.pointed ∙ sym (ap needs_pointer (signature_is_by_shapes types f).1)
-
--- whatever is answered, the call was made
-handing_calls : {V : Type 0} (owned : V → List ℕ) (target : Target) (vals : List V) (due : ℕ) (reply : Reply V) (acc : Account V)
-    → (account_in (λ (x : Got V (List V)). x.account) (handing owned target vals due reply acc)).calls ≡ acc.calls ++ method_point target vals acc ∷ []
-handing_calls owned target vals due (words w writes blocks) acc = refl
-handing_calls owned target vals due (value v heap) acc = if_calls (λ x. x.account) (nat_eq (length (option_to_list v)) due) _ _ (acc.calls ++ method_point target vals acc ∷ []) refl refl
-
--- the account after an answer
-abbrev after_answer : {V : Type 0} → (V → List ℕ) → Call V → Heap → List V → Account V → Account V
-after_answer owned c heap back acc = record (recorded c acc) { heap = heap; taken = flat_map owned back }
-
-handing_done : {V : Type 0} (owned : V → List ℕ) (target : Target) (vals : List V) (due : ℕ) (reply : Reply V) (acc : Account V) (v : Option V) (heap : Heap) → reply ≡ value v heap → nat_eq (length (option_to_list v)) due ≡ true
-    → handing owned target vals due reply acc ≡ Done (record { result = option_to_list v; account = after_answer owned (method_point target vals acc) heap (option_to_list v) acc })
-handing_done owned target vals due reply acc v heap e h =
-    let c = method_point target vals acc in
-    ap (λ r. handing owned target vals due r acc) e ∙ ap (λ b. if b then gives (option_to_list v) (after_answer owned c heap (option_to_list v) acc) else Stuck (recorded c acc)) h
 
 count_mapped : {A B : Type 0} (f : A → B) (o : Option A) → length (option_to_list (option_map f o)) ≡ length (option_to_list o)
 count_mapped f None = refl
@@ -338,16 +318,22 @@ module _ {Self Operand : Type 0} (m : Meaning Self Operand) (sound : Sound m) wh
       abbrev call : Call m.Item
       call = method_point (m.target c fn.now) lifted.vals (m.account lifted.state)
 
+      abbrev crossing : Crossing m.Item
+      crossing = m.crosses w d fn.now
+
       abbrev answering : Outcome m.Item (Got m.Item (List m.Item))
-      answering = handing m.owned (m.target c fn.now) lifted.vals (result_count fn.now) p.reply (m.account lifted.state)
+      answering = handing m.owned crossing (m.target c fn.now) lifted.vals (result_count fn.now) p.reply (m.account lifted.state)
 
       abbrev Answered : Got m.Item (List m.Item) → m.State → Type 0
       Answered x t = (m.account t ≡ x.account) × SameItems (m.owns t) (flat_map m.owned x.result) × m.denotes w d (ofs m back (item_data m x.result)) t
 
       answered : Follows m.account answering (m.does w p (m.code d) s0) Answered
       answered =
-          called.row lifted.vals w p others s0 lifted.state (stand_count m sound types ts (all_settled ts us) lifted.vals lifted.own lifted.stands ∙ sym takes.many)
+          called.row.row lifted.vals w p others s0 lifted.state (stand_count m sound types ts (all_settled ts us) lifted.vals lifted.own lifted.stands ∙ sym takes.many)
           (record { serves = serves_d; done = lifted.done; holds = lifted.after.denotes }) lifted_owns
+
+      as_they_are : crossing.passes lifted.vals ≡ Some lifted.vals
+      as_they_are = called.row.passes w us lifted.vals lifted.own serves_d is.listed lifted.stands
 
       passed : PassesItems m (m.target a fn.now) ts us blocks (m.account s) call
       passed = record {
@@ -363,36 +349,43 @@ module _ {Self Operand : Type 0} (m : Meaning Self Operand) (sound : Sound m) wh
       made =
           later_quiet w p s0 is.at.serves
           ∙ follows_calls m.account answering (m.does w p (m.code d) s0) Answered answered (λ x t h. h.0)
-          ∙ handing_calls m.owned (m.target c fn.now) lifted.vals (result_count fn.now) p.reply (m.account lifted.state)
+          ∙ handing_calls m.owned crossing (m.target c fn.now) lifted.vals (result_count fn.now) p.reply (m.account lifted.state) as_they_are
           ∙ ap (λ acc. acc.calls ++ call ∷ []) lifted.after.account
+
+      -- what came in of an answer
+      back_in : (v : Result r) (honest : IsHonestMethod m r v p.reply) → Came m r (m.crosses w d fn.now).receives v honest.item honest.own
+      back_in v honest = came_in m r (m.crosses w d fn.now).receives (λ t u a own e listed stands. called.row.receives w t u a own serves_d e listed stands) v honest.item honest.own honest.good honest.stands
 
       -- the account when the method has answered
       abbrev answered_account : (v : Result r) → IsHonestMethod m r v p.reply → Account m.Item
-      answered_account v honest = handed_on call honest.heap (flat_map m.owned (option_to_list honest.item)) (m.account s)
+      answered_account v honest = handed_on call honest.heap (flat_map m.owned (back_in v honest).vals) (m.account s)
 
       record Answering (v : Result r) (honest : IsHonestMethod m r v p.reply) : Type 0 where
         pub state : m.State
         pub done : m.does w p (m.code d) s0 ≡ Done state
         pub account : m.account state ≡ answered_account v honest
-        pub owns : SameItems (m.owns state) (flat_map m.owned (option_to_list honest.item))
-        pub denotes : m.denotes w d (ofs m back (item_data m (option_to_list honest.item))) state
+        pub owns : SameItems (m.owns state) (flat_map m.owned (back_in v honest).vals)
+        pub denotes : m.denotes w d (ofs m back (item_data m (back_in v honest).vals)) state
 
       answered_so : (v : Result r) (honest : IsHonestMethod m r v p.reply) → Answering v honest
       answered_so v honest =
           let vals = option_to_list honest.item in
+          let in_vals = (back_in v honest).vals in
           let due : nat_eq (length vals) (result_count fn.now) ≡ true = eq-eqb (length vals) (result_count fn.now) (answer_count r v vals honest.own honest.stands ∙ count_mapped _ fn.now.result) in
-          let got : Got m.Item (List m.Item) = record { result = vals; account = after_answer m.owned call honest.heap vals (m.account lifted.state) } in
+          let live = live_owners (flat_map m.owned in_vals) honest.heap honest.own honest.others honest.formed honest.live (owned_answer r v in_vals honest.own (back_in v honest).stands) in
+          let got : Got m.Item (List m.Item) = record { result = in_vals; account = after_answer m.owned call honest.heap in_vals (m.account lifted.state) } in
           let two = follows_done m.account answering (m.does w p (m.code d) s0) Answered got
-          (handing_done m.owned (m.target c fn.now) lifted.vals (result_count fn.now) p.reply (m.account lifted.state) honest.item honest.heap honest.answers due) answered in
-          record { state = two.0; done = two.1; account = two.2.0 ∙ ap (handed_on call honest.heap (flat_map m.owned vals)) lifted.after.account; owns = two.2.1; denotes = two.2.2 }
+          (handing_done m.owned crossing (m.target c fn.now) lifted.vals (result_count fn.now) p.reply (m.account lifted.state) honest.item honest.heap in_vals as_they_are honest.answers due (back_in v honest).came live) answered in
+          record { state = two.0; done = two.1; account = two.2.0 ∙ ap (handed_on call honest.heap (flat_map m.owned in_vals)) lifted.after.account; owns = two.2.1; denotes = two.2.2 }
 
       -- a result that passes as a word
       gives_word : is_indirect r ≡ false → (v : Result r) → (honest : IsHonestMethod m r v p.reply) → EndsWithWords m w p r v honest.own honest.heap given z s0 (answered_account v honest)
       gives_word one v honest =
-          let vals = option_to_list honest.item in
+          let vals = (back_in v honest).vals in
+          let stands = (back_in v honest).stands in
           let two = answered_so v honest in
           let at3 : At m w p d e (ofs m back (item_data m vals)) s0 two.state = record { serves = serves_e; done = two.done; holds = two.denotes } in
-          let low = answer_lowered r back given d e (lowers_direct r back given d e one lowers) one v vals honest.own honest.good honest.stands w p s0 two.state (ap (λ acc. acc.taken) two.account) at3 in
+          let low = answer_lowered r back given d e (lowers_direct r back given d e one lowers) one v vals honest.own honest.good stands w p s0 two.state (ap (λ acc. acc.taken) two.account) at3 in
           let out = ofs m given (core_data m low.ws) in
           let at4 : At m w p e z (out ++ []) s0 low.state = record { serves = is.at.serves; done = low.done; holds = subst (λ fs. m.denotes w e fs low.state) (sym (append-nil out)) low.denotes } in
           let end = ended.row (core_data m low.ws) w p [] s0 low.state at4 in
@@ -414,7 +407,7 @@ module _ {Self Operand : Type 0} (m : Meaning Self Operand) (sound : Sound m) wh
                 after.owns g,
                 low.owns g,
                 two.owns g,
-                owned_answer r v vals honest.own honest.stands g,
+                owned_answer r v vals honest.own stands g,
                 total-append g (m.owns end.0) [],
                 total-append g (m.owns low.state) [],
                 total-append g (m.owns low.state) (addresses honest.own),
@@ -426,14 +419,15 @@ module _ {Self Operand : Type 0} (m : Meaning Self Operand) (sound : Sound m) wh
       -- and one that passes by the area
       gives_record : is_indirect r ≡ true → (v : Result r) → (honest : IsHonestMethod m r v p.reply) → EndsWithWords m w p r v honest.own honest.heap given z s0 (answered_account v honest)
       gives_record many v honest =
-          let vals = option_to_list honest.item in
+          let vals = (back_in v honest).vals in
+          let stands = (back_in v honest).stands in
           let two = answered_so v honest in
           let unasked : m.asked d ≡ [] = called.asked ∙ takes.adds.asked ∙ is.unasked in
-          let ends = ends_by_area types r back given d e z n empty ended many lowers v vals honest.own honest.good honest.stands w p s0 two.state is.at.serves two.done (ap (λ acc. is_heap acc.heap) two.account ∙ honest.formed) (ap (λ acc. acc.taken) two.account) two.owns is.unplaced unasked two.denotes in
+          let ends = ends_by_area types r back given d e z n empty ended many lowers v vals honest.own honest.good stands w p s0 two.state is.at.serves two.done (ap (λ acc. is_heap acc.heap) two.account ∙ honest.formed) (ap (λ acc. acc.taken) two.account) two.owns is.unplaced unasked two.denotes in
           subst (λ acc. EndsWithWords m w p r v honest.own acc.heap given z s0 acc) two.account ends
 
-      gives_words : (v : Result r) → (honest : IsHonestMethod m r v p.reply) → EndsWithWords m w p r v honest.own honest.heap given z s0 (answered_account v honest)
-      gives_words v honest = by (is_indirect r) refl
+      gives_words : (v : Result r) → (honest : IsHonestMethod m r v p.reply) → HandsBack m w p r v honest.own honest.heap call given z s0 s
+      gives_words v honest = record { owners = flat_map m.owned (back_in v honest).vals; same = owned_answer r v (back_in v honest).vals honest.own (back_in v honest).stands; ends = by (is_indirect r) refl }
         where
           by : (c : Bool) → is_indirect r ≡ c → EndsWithWords m w p r v honest.own honest.heap given z s0 (answered_account v honest)
           by false one = gives_word one v honest

@@ -55,7 +55,7 @@ in_words w r u reply c honest one =
 
 -- 2. The blocks
 
-not_taken : (a : ℕ) (taken : List ℕ) → total (is_it a) taken ≡ 0 → is_taken a taken ≡ false
+pub not_taken : (a : ℕ) (taken : List ℕ) → total (is_it a) taken ≡ 0 → is_taken a taken ≡ false
 not_taken a [] h = refl
 not_taken a (t ∷ taken) h = by (nat_eq t a) (not_taken a taken) h
   where

@@ -8,7 +8,6 @@ use Rattle.wit_model.specs.declared.function.Function.{Function}
 use Rattle.wit_model.specs.declared.types.TypeDef.{TypeDef}
 use Rattle.wit_model.specs.declared.wasm_type.WasmType.{WasmType}
 use Rattle.wit_model.specs.declared.wasm_type.WasmType.TheVariants as wasm
-use Rattle.wit_layout.specs.declared.signature.AbiVariant.{AbiVariant}
 use Rattle.wit_layout.specs.declared.signature.AbiVariant.TheVariants.{GuestImport}
 use Rattle.wit_layout.specs.Flat.{flatten_record}
 use Rattle.wit_layout.specs.declared.signature.WasmSignature.{WasmSignature}

@@ -15,6 +15,7 @@ pub mod PlainRuns
 pub mod PlainNew
 pub mod ArgumentSteps
 pub mod ExportSteps
+pub mod MethodCalls
 pub mod ReadSteps
 pub mod SaysTypes
 pub mod HonestAnswers

@@ -1,5 +1,5 @@
 -- The return area of a `PlainBindgen`: what serves it can be made to have room for one more record, and its step points to it.
-use Rattle.std.proofs.Common.{◌≡◌, ◌≤◌, ℕ, ◌+◌, ◌*◌, ◌/◌, ◌%◌, ◌^◌, ◌||◌, Bool, true, false, nat_eq, if◌then◌else◌, List, [], ◌∷◌, ◌++◌, Option, None, Some, refl, sym, ap, ◌∙◌, subst, arith, append-nil}
+use Rattle.std.proofs.Common.{◌≡◌, ℕ, ◌+◌, ◌*◌, ◌/◌, ◌%◌, ◌||◌, Bool, true, false, nat_eq, if◌then◌else◌, List, [], ◌∷◌, ◌++◌, Option, None, Some, refl, sym, ap, ◌∙◌, subst, arith, append-nil}
 use Rattle.std.specs.List.{AllByRecursion}
 use Rattle.std.proofs.Math.Nat.{mod-add-div', mul-mod_left}
 use Rattle.wit_model.specs.Size.{alignment_at, bytes_at}
@@ -14,15 +14,15 @@ use Rattle.abi_driver.specs.declared.plain.Place.{Place}
 use Rattle.abi_driver.specs.declared.plain.PlainBindgen.{PlainBindgen}
 use Rattle.abi_driver.specs.declared.plain.Step.{Step}
 use Rattle.abi_driver.specs.declared.plain.Step.TheVariants as step
-use Rattle.abi_driver.specs.Account.{Account, Act, Done, Follows, Got, Outcome, Peer, Stopped, Stuck, gives, then_do}
-use Rattle.abi_driver.specs.Area.{HasRoomFor, HoldsRecord, newly, placed, placing, pointing}
+use Rattle.abi_driver.specs.Account.{Account, Act, Done, Got, Outcome, Peer, Stopped, Stuck, gives, then_do}
+use Rattle.abi_driver.specs.Area.{HasRoomFor, HoldsRecord, newly, placed, pointing}
 use Rattle.abi_driver.specs.Laws.{After, At, Facts, Grows, PointsTo, Quiet, ofs}
 use Rattle.abi_driver.specs.Meaning.{Datum, of, word}
 use Rattle.abi_driver.specs.Plain.{AddsStep, PlainItem, PlainState, area_data, inputs, kept, performed, performs, places_from, plain_meaning, pointed, runs, writes}
 use Rattle.abi_driver.specs.PlainSound.{all_both, all_left}
 use Rattle.abi_driver.proofs.PlainPlaces.{still_right}
 use Rattle.abi_driver.proofs.PlainRuns.{Followed, plain_adds, plain_follows}
-use Rattle.abi_driver.proofs.Runs.{follows_more, grows_both, quiet_both, stops_same, total-append}
+use Rattle.abi_driver.proofs.Runs.{follows_more, grows_both, quiet_both, stops_same}
 
 -- 1. Room for one more record
 

@@ -1,5 +1,5 @@
 -- The steps of a `PlainBindgen` that call a core import or a method, and the end of its code, do what the laws ask of them.
-use Rattle.std.proofs.Common.{◌≡◌, Bor, ℕ, suc, Bool, true, false, not, nat_eq, if◌then◌else◌, List, [], ◌∷◌, ◌++◌, length, Option, Some, option_to_list, refl, sym, ap, ◌∙◌, subst, arith}
+use Rattle.std.proofs.Common.{◌≡◌, Bor, ℕ, suc, Bool, true, false, not, nat_eq, if◌then◌else◌, List, [], ◌∷◌, ◌++◌, length, Option, None, Some, option_to_list, refl, sym, ap, ◌∙◌, subst, arith}
 use Rattle.std.specs.List.{AllByRecursion, flat_map}
 use Rattle.std.proofs.lemmas.Bool.{and_parts, eqb-true}
 use Rattle.std.proofs.lemmas.List.{length-map}
@@ -14,11 +14,11 @@ use Rattle.abi_driver.specs.declared.plain.Place.{Place}
 use Rattle.abi_driver.specs.declared.plain.PlainBindgen.{PlainBindgen}
 use Rattle.abi_driver.specs.declared.plain.Step.TheVariants as step
 use Rattle.abi_driver.specs.Account.{Account, Act, Done, Follows, Got, Outcome, Peer, Reply, Stopped, Stuck, gives, has_type, have_types, then_do, value, words}
-use Rattle.abi_driver.specs.Calls.{CallsMethod, answered_by, calling, handing, import_params, import_results, left_by, result_count}
+use Rattle.abi_driver.specs.Calls.{HandsOver, answered_by, are_live, calling, coming, handing, import_params, import_results, left_by, result_count, returned_with}
 use Rattle.abi_driver.specs.Instructions.{Emits}
 use Rattle.abi_driver.specs.Laws.{Does, Facts, core_data, item_data, ofs}
 use Rattle.abi_driver.specs.Meaning.{item, word}
-use Rattle.abi_driver.specs.Plain.{AddsStep, IsRight, PlainItem, PlainState, all_items, all_words, and_item, and_word, called, handed, owned_by, places_from, plain_meaning, plain_target, runs}
+use Rattle.abi_driver.specs.Plain.{AddsStep, IsRight, PlainItem, PlainState, all_items, all_words, and_item, and_word, called, handed, owned_by, places_from, plainly, plain_meaning, plain_target, runs}
 use Rattle.abi_driver.specs.PlainSound.{all_left}
 use Rattle.abi_driver.proofs.PlainPlaces.{places_count, still_right}
 use Rattle.abi_driver.proofs.PlainRows.{many_at, same_owns}
@@ -72,13 +72,22 @@ Replied due (Done x) = IsReply due x
 Replied due (Stopped e acc) = Unit {0}
 Replied due (Stuck acc) = Unit {0}
 
-if_replied : (due : ℕ) (acc end : Account PlainItem) (vals : List PlainItem) (b : Bool) → nat_eq (length vals) due ≡ b → end.taken ≡ flat_map owned_by vals → Replied due (if b then gives vals end else Stuck acc)
-if_replied due acc end vals true e same = record { many = eqb-true (length vals) due e; owners = same }
-if_replied due acc end vals false e same = tt
+if_replied : (due : ℕ) (acc : Account PlainItem) (end : Outcome PlainItem (Got PlainItem (List PlainItem))) {n : ℕ} (b : Bool) → nat_eq n due ≡ b → (n ≡ due → Replied due end) → Replied due (if b then end else Stuck acc)
+if_replied due acc end {n} true e then_so = then_so (eqb-true n due e)
+if_replied due acc end false e then_so = tt
 
-replies : (due : ℕ) (reply : Reply PlainItem) (acc : Account PlainItem) → Replied due (left_by owned_by due reply acc)
+coming_in : (v : Option PlainItem) → coming plainly.receives v ≡ Some (option_to_list v)
+coming_in None = refl
+coming_in (Some a) = refl
+
+if_live : (due : ℕ) (acc end : Account PlainItem) (vals : List PlainItem) (b : Bool) → length vals ≡ due → end.taken ≡ flat_map owned_by vals → Replied due (if b then gives vals end else Stuck acc)
+if_live due acc end vals true many same = record { many = many; owners = same }
+if_live due acc end vals false many same = tt
+
+replies : (due : ℕ) (reply : Reply PlainItem) (acc : Account PlainItem) → Replied due (returned_with owned_by plainly.receives due reply acc)
 replies due (words w writes blocks) acc = tt
-replies due (value v heap) acc = if_replied due acc _ (option_to_list v) (nat_eq (length (option_to_list v)) due) refl refl
+replies due (value v heap) acc = if_replied due acc (left_by owned_by heap (coming plainly.receives v) acc) (nat_eq (length (option_to_list v)) due) refl
+    (λ many. subst (λ vals. Replied due (left_by owned_by heap vals acc)) (sym (coming_in v)) (if_live due acc _ (option_to_list v) (are_live (flat_map owned_by (option_to_list v)) heap.blocks) many refl))
 
 reply_is : (due : ℕ) (o : Outcome PlainItem (Got PlainItem (List PlainItem))) (x : Got PlainItem (List PlainItem)) → Replied due o → o ≡ Done x → IsReply due x
 reply_is due o x h e = subst (Replied due) e h
@@ -125,12 +134,12 @@ module _ (types : List TypeDef) (old new : PlainBindgen) where
             (sym places) (row ws fit));
       }
 
-  method_row : (f : Function) (os : List Place) (k : ℕ) → k ≡ result_count f → not old.import ≡ true → AddsStep (step.CallMethod old.home f.name.snake os k old.count) k old new → CallsMethod plain_meaning f os (places_from old.count k) old new
+  method_row : (f : Function) (os : List Place) (k : ℕ) → k ≡ result_count f → not old.import ≡ true → AddsStep (step.CallMethod old.home f.name.snake os k old.count) k old new → HandsOver plain_meaning f os (places_from old.count k) old new
   method_row f os k due export adds vals w p others s0 s many at own =
       let goal = target.Method old.home f.name.snake in
       let account : PlainState → Account PlainItem = λ t. t.account in
       let ds = item_data plain_meaning vals in
-      let act : Peer PlainItem → Act PlainItem (List PlainItem) = λ q. handing owned_by goal vals k q.reply in
+      let act : Peer PlainItem → Act PlainItem (List PlainItem) = λ q. handing owned_by plainly goal vals k q.reply in
       let Outs : List PlainItem → Facts plain_meaning → Type 0 = λ back fs. fs ≡ ofs plain_meaning (places_from old.count k) (item_data plain_meaning back) in
       let R : Got PlainItem (List PlainItem) → PlainState → Type 0 = λ x t.
       (t.account ≡ x.account) × SameItems t.account.taken (flat_map owned_by x.result) × plain_meaning.denotes w new (ofs plain_meaning (places_from old.count k) (item_data plain_meaning x.result)) t in
@@ -139,8 +148,8 @@ module _ (types : List TypeDef) (old new : PlainBindgen) where
       let followed = plain_follows (step.CallMethod old.home f.name.snake os k old.count) k old new adds w (List PlainItem) (ofs plain_meaning os ds) ds act (λ back. item_data plain_meaning back) Outs
       (λ x values n. refl) (λ q acc. ap (λ xs. handed goal k q.reply xs acc) (items_all vals))
       (λ q acc x e. length-map x.result (λ a. item a) ∙ (replied q acc x e).many) (λ back. refl) p others s0 s (many_at old s os ds given (all_left (IsRight old s) (ofs plain_meaning os ds) others at.holds)) at in
-      subst (λ n. Follows account (handing owned_by (plain_target old f) vals n p.reply s.account) (runs w p new.steps s0) R) due
-      (subst (λ t. Follows account (handing owned_by t vals k p.reply s.account) (runs w p new.steps s0) R) (sym (method_target old f export))
+      subst (λ n. Follows account (handing owned_by plainly (plain_target old f) vals n p.reply s.account) (runs w p new.steps s0) R) due
+      (subst (λ t. Follows account (handing owned_by plainly t vals k p.reply s.account) (runs w p new.steps s0) R) (sym (method_target old f export))
       (follows_more account (act p s.account) (runs w p new.steps s0) _ R followed
       (λ x t h. (
         h.account,
@@ -155,7 +164,11 @@ module _ (types : List TypeDef) (old new : PlainBindgen) where
     returned = adds.returned;
     asked = adds.asked;
     results = ap length places ∙ places_count old.count k ∙ due;
-    row = subst (λ ps. CallsMethod plain_meaning fn.now os ps old new) (sym places) (method_row fn.now os k due export adds);
+    row = record {
+      row = subst (λ ps. HandsOver plain_meaning fn.now os ps old new) (sym places) (method_row fn.now os k due export adds);
+      passes = λ w us vals own serves listed stands. refl;
+      receives = λ w t v a own serves is listed stands. (a, refl, stands);
+    };
   }
 
   -- operands stand in their places already, and no step is added

@@ -49,7 +49,7 @@ use Rattle.abi_driver.specs.Instructions.{Emits, IsRecord, MakesBy, MakesTouch, 
 use Rattle.abi_driver.specs.Laws.{Adds, Stays, core_data, item_data, ofs}
 use Rattle.abi_driver.specs.Leaves.{LiftsScalar, LiftsText, LowersScalar, LowersText}
 use Rattle.abi_driver.specs.Meaning.{Datum, arg, item, of, word}
-use Rattle.abi_driver.specs.Memory.{Access, access, bytes_on, freed, freeing, is_inside, is_reached, little_bytes, loaded, loading, storing}
+use Rattle.abi_driver.specs.Memory.{Access, access, bytes_on, freed, freeing, is_aligned, is_inside, is_reached, little_bytes, loaded, loading, storing}
 use Rattle.abi_driver.specs.Memory as memory
 use Rattle.abi_driver.specs.Parts.{LiftsParts, LowersParts, PartsStand, count}
 use Rattle.abi_driver.specs.Plain.{AddsStep, IsPlainText, IsRight, PlainItem, PlainItems, PlainPartsStand, PlainStands, PlainState, all_at, and_all, gathered, leaf, lifted_type, listed, lowered_type, normal, performs, places_from, plain_meaning, scalar_of, whole, word_touch}
@@ -107,7 +107,8 @@ TakesOver acc y = y.account.taken ≡ acc.taken ++ addresses y.result.blocks
 tested_owns : (f : Form) (b : Block) (bytes : Option (List ℕ)) (acc : Account PlainItem) → OnDone (tested f b bytes acc) (TakesOver acc)
 tested_owns f b None acc = fails f trap.Pointer acc (TakesOver acc)
 tested_owns f b (Some bytes) acc =
-    if_done (is_utf8 bytes) (gives (record { bytes = bytes; blocks = b ∷ [] }) (record acc { taken = acc.taken ++ b.address ∷ [] })) (failing f trap.Utf8 acc) (TakesOver acc) (λ e. refl) (λ e. fails f trap.Utf8 acc (TakesOver acc))
+    let owned : Account PlainItem = record acc { taken = acc.taken ++ b.address ∷ [] } in
+    if_done (is_utf8 bytes) (gives (record { bytes = bytes; blocks = b ∷ [] }) owned) (failing f trap.Utf8 owned) (TakesOver acc) (λ e. refl) (λ e. fails f trap.Utf8 owned (TakesOver acc))
 
 found_owns : (f : Form) (n : ℕ) (b : Option Block) (acc : Account PlainItem) → OnDone (found f n b acc) (TakesOver acc)
 found_owns f n None acc = fails f trap.Block acc (TakesOver acc)
@@ -242,7 +243,7 @@ loaded_owns f (Some x) acc = refl
 
 loading_owns : (f : Form) (a : Access) (address : ℕ) (acc : Account PlainItem) → OnDone (loading 2 f a address acc) (λ y. y.account.taken ≡ acc.taken)
 loading_owns f a address acc =
-    loaded_owns f (if is_reached 2 a address then option_map (λ bytes. memory.word_read 2 a (little bytes)) (memory.bytes_at address (2 ^ a.grain) acc.heap.blocks) else None) acc
+    loaded_owns f (if is_aligned a address then option_map (λ bytes. memory.word_read 2 a (little bytes)) (memory.bytes_at address (2 ^ a.grain) acc.heap.blocks) else None) acc
 
 freed_owns : (f : Form) (address size : ℕ) (b : Option Block) (acc : Account PlainItem) → OnDone (freed f address size b acc) (λ y. y.account.taken ≡ acc.taken)
 freed_owns f address size None acc = fails f trap.Block acc (λ y. y.account.taken ≡ acc.taken)

@@ -32,7 +32,7 @@ use Rattle.abi_driver.specs.Account.{Account, Act, Done, Follows, Got, Outcome, 
 use Rattle.abi_driver.specs.Area.{HoldsRecord, placed, placing, with_area}
 use Rattle.abi_driver.specs.Laws.{Adds, After, At, Does, Facts, Grows, ofs}
 use Rattle.abi_driver.specs.Meaning.{Datum, item, word}
-use Rattle.abi_driver.specs.Memory.{Access, access, bytes_on, freed, freeing, is_inside, is_reached, little_bytes, loaded, storing}
+use Rattle.abi_driver.specs.Memory.{Access, access, bytes_on, freed, freeing, is_aligned, is_inside, is_reached, little_bytes, loaded, storing}
 use Rattle.abi_driver.specs.Memory as memory
 use Rattle.abi_driver.specs.Plain.{AddsStep, IsRight, PlainItem, PlainState, free_block, free_text, inputs, kept, leaf, load_word, normal, passing, performed, performs, places_from, pointed, plain_meaning, put, read_as, runs, scalar_of, splitting, store_word, take_text, whole, writes}
 use Rattle.abi_driver.specs.PlainSound.{all_both, all_left, all_right}
@@ -73,7 +73,8 @@ reading_quiet s f x acc = if_quiet acc (has_type (core_type s) x) (checking s f 
 tested_quiet : {V : Type 0} (f : Form) (b : Block) (bytes : Option (List ℕ)) (acc : Account V) → Quietly acc (tested f b bytes acc)
 tested_quiet f b None acc = failing_quiet _ f trap.Pointer acc
 tested_quiet f b (Some bytes) acc =
-    if_quiet acc (is_utf8 bytes) (gives (record { bytes = bytes; blocks = b ∷ [] }) (record acc { taken = acc.taken ++ b.address ∷ [] })) (failing f trap.Utf8 acc) refl (failing_quiet _ f trap.Utf8 acc)
+    let owned : Account _ = record acc { taken = acc.taken ++ b.address ∷ [] } in
+    if_quiet acc (is_utf8 bytes) (gives (record { bytes = bytes; blocks = b ∷ [] }) owned) (failing f trap.Utf8 owned) refl (failing_quiet _ f trap.Utf8 owned)
 
 found_quiet : {V : Type 0} (f : Form) (n : ℕ) (b : Option Block) (acc : Account V) → Quietly acc (found f n b acc)
 found_quiet f n None acc = failing_quiet _ f trap.Block acc
@@ -128,7 +129,7 @@ store_quiet a o _ acc = refl
 load_quiet : (a : Access) (o : ArchitectureSize) (f : Form) (ds : List (Datum PlainItem)) (acc : Account PlainItem) → Quietly acc (load_word a o f ds acc)
 load_quiet a o f (word (core.Pointer q) ∷ []) acc =
     let at = q + bytes_at o 4 in
-    let read : Option Word = if is_reached 2 a at then option_map (λ bytes. memory.word_read 2 a (little bytes)) (memory.bytes_at at (2 ^ a.grain) acc.heap.blocks) else None in
+    let read : Option Word = if is_aligned a at then option_map (λ bytes. memory.word_read 2 a (little bytes)) (memory.bytes_at at (2 ^ a.grain) acc.heap.blocks) else None in
     then_quiet acc (loaded 2 f read acc) (λ x. word x ∷ []) (loaded_quiet f read acc)
 load_quiet a o f _ acc = refl
 

@@ -1,38 +1,36 @@
 -- The arguments of an export: words that are read and lifted, or a record that is loaded and then freed.
-use Rattle.std.proofs.Common.{◌≡◌, ◌⊎◌, ◌≤◌, ◌<◌, ℕ, zero, suc, ◌+◌, ◌-◌, ◌*◌, ◌%◌, ◌^◌, ◌||◌, Bool, true, false, nat_eq, nat_lt, if◌then◌else◌, MatchBool, List, [], ◌∷◌, ◌++◌, length, find, Option, None, Some, Contains, refl, sym, ap, ap₂, ◌∙◌, subst, arith, append-nil}
-use Rattle.std.specs.List.{list_any}
+use Rattle.std.proofs.Common.{◌≡◌, ◌⊎◌, ◌<◌, ℕ, zero, suc, ◌+◌, ◌-◌, ◌%◌, ◌^◌, ◌||◌, Bool, true, false, nat_eq, nat_lt, if◌then◌else◌, MatchBool, List, [], ◌∷◌, ◌++◌, length, find, None, Some, Contains, refl, sym, ap, ◌∙◌, subst, arith, append-nil}
 use mathlib.Core.Logic.{inl, inr}
 use Rattle.std.proofs.lemmas.Bool.{cond-false, eq-eqb, eqb-true, le-ltb, or_from, or_left, or_parts, or_right, true≢false}
 use Rattle.std.proofs.lemmas.List.Folds.{list_any-append}
 use Rattle.wit_model.specs.Size.{bytes_at}
 use Rattle.wit_model.specs.declared.size.ArchitectureSize.{ArchitectureSize}
 use Rattle.wit_model.specs.declared.types.TypeDef.{TypeDef}
-use Rattle.wit_layout.specs.Extent.{end, greatest}
-use Rattle.wit_layout.specs.Sizes.{alignment, elem_size, extents_of}
+use Rattle.wit_layout.specs.Extent.{greatest}
+use Rattle.wit_layout.specs.Sizes.{elem_size, extents_of}
 use Rattle.wit_layout.specs.Told.{IsPairOf}
-use Rattle.wrapper_data.specs.Heap.{is_block, is_heap}
+use Rattle.wrapper_data.specs.Heap.{is_heap}
 use Rattle.wrapper_data.specs.declared.block.Block.{Block}
 use Rattle.wrapper_data.specs.declared.form.Form.{Form}
 use Rattle.wrapper_data.specs.declared.run.TrapKind.TheVariants as trap
-use Rattle.wrapper_data.specs.declared.word.Word.{Word}
 use Rattle.wrapper_data.specs.declared.word.Word.TheVariants as core
 use Rattle.wrapper_meaning.specs.AsWords.{PartsSay}
 use Rattle.wrapper_meaning.specs.Direction.{take}
 use Rattle.wrapper_meaning.specs.InRange.{AreListed}
-use Rattle.wrapper_meaning.specs.Items.{AllIn, SameItems, total}
+use Rattle.wrapper_meaning.specs.Items.{SameItems, total}
 use Rattle.wrapper_meaning.specs.Layout.{layout, layouts}
-use Rattle.wrapper_meaning.specs.Represents.{Begins, TakesArguments, TakesRecord, are_indirect, param_words}
+use Rattle.wrapper_meaning.specs.Represents.{Begins, TakesRecord, are_indirect, param_words}
 use Rattle.wrapper_meaning.specs.Settled.{all_settled}
-use Rattle.wrapper_meaning.specs.Shape.{Shape, Shapes}
+use Rattle.wrapper_meaning.specs.Shape.{Shapes}
 use Rattle.wrapper_meaning.specs.Shape.Shape.{fields}
 use Rattle.wrapper_meaning.specs.Value.{Parts}
 use Rattle.wrapper_meaning.proofs.Lists.{some_same}
 use Rattle.wrapper_meaning.proofs.PartPlaces.{parts_end}
 use Rattle.abi_driver.specs.Account.{Account, Done, Got, Outcome, Peer, addresses, failing, is_at, is_taken, releasing, stay}
-use Rattle.abi_driver.specs.Exports.{FreesArguments, ReadsWords, TakesArgumentsOver, TakesRecordOver, TookOver}
+use Rattle.abi_driver.specs.Exports.{ReadsWords, TakesArgumentsOver, TakesRecordOver, TookOver}
 use Rattle.abi_driver.specs.Frees.{nowhere}
-use Rattle.abi_driver.specs.Laws.{Adds, After, At, Facts, Sound, args, core_data, item_data, ofs}
-use Rattle.abi_driver.specs.Lifts.{AreFree, LiftsAll, MayTake, by_taking, took}
+use Rattle.abi_driver.specs.Laws.{Adds, At, Facts, Sound, args, core_data, item_data, ofs}
+use Rattle.abi_driver.specs.Lifts.{AreFree, LiftsAll, MayTake, took}
 use Rattle.abi_driver.specs.Meaning.{Meaning, arg, of, word}
 use Rattle.abi_driver.specs.Memory.{except, freed, freeing}
 use Rattle.abi_driver.specs.Parts.{PartsStand, count}

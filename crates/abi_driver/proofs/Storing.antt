@@ -12,7 +12,7 @@ use Rattle.wrapper_data.specs.declared.word.Word.{Word}
 use Rattle.wrapper_meaning.specs.Cells.{HasNumber, bytes_from, little}
 use Rattle.wrapper_meaning.specs.Words.{bits_of}
 use Rattle.abi_driver.specs.Account.{Account, Done, Got, Outcome, has_type, is_at}
-use Rattle.abi_driver.specs.Memory.{Access, bytes_at, bytes_on, is_inside, is_reached, little_bytes, loaded, loading, storing, word_read}
+use Rattle.abi_driver.specs.Memory.{Access, bytes_at, bytes_on, is_aligned, is_inside, is_reached, little_bytes, loaded, loading, storing, word_read}
 use Rattle.abi_driver.specs.Places.{IsWritten, SameOutside, replaced}
 use Rattle.abi_driver.proofs.Bytes.{length-little_bytes, little-little_bytes, some_numbers}
 use Rattle.abi_driver.proofs.CellWrites.{none_read, put, put_before, put_behind, put_here, put_in_order, read_both, with_cell_is_put}
@@ -178,9 +178,8 @@ pub loads_from : {V : Type 0} (w : ℕ) (f : Form) (a : Access) (address x : ℕ
 loads_from {V} w f a address x b k acc formed there at room aligned wide number =
     let n = 2 ^ a.grain in
     let blocks = acc.heap.blocks in
-    let good = block_formed blocks b formed there in
-    let may : is_reached w a (b.address + k) ≡ true = in_reach w a b k good room (ap (λ p. p % n) (sym at) ∙ aligned) wide in
+    let may : is_aligned a (b.address + k) ≡ true = eq-eqb ((b.address + k) % n) 0 (ap (λ p. p % n) (sym at) ∙ aligned) in
     let offset : b.address + k - b.address ≡ k = omega arith in
     let read : bytes_at (b.address + k) n blocks ≡ bytes_from b.cells k n = ap (λ o. option_and_then (λ c. bytes_from c.cells (b.address + k - c.address) n) o) (find_inside blocks b k n formed there (pow_pos a.grain) room) ∙ ap (λ j. bytes_from b.cells j n) offset in
     let finish : Option Word → Outcome V (Got V Word) = λ o. loaded w f o acc in
-    ap (λ p. loading w f a p acc) at ∙ ap finish (cond-true (is_reached w a (b.address + k)) _ _ may ∙ ap (option_map (λ bytes. word_read w a (little bytes))) read ∙ map_both little (word_read w a) (bytes_from b.cells k n) x number.1)
+    ap (λ p. loading w f a p acc) at ∙ ap finish (cond-true (is_aligned a (b.address + k)) _ _ may ∙ ap (option_map (λ bytes. word_read w a (little bytes))) read ∙ map_both little (word_read w a) (bytes_from b.cells k n) x number.1)

@@ -146,7 +146,7 @@ block_taken {V} f b bytes acc utf8 some bounded read may =
     ∙ if_false (is_taken b.address acc.taken) (failing f trap.Block acc) o4 may.free.0
     ∙ ap (λ x. found f b.size x acc) (find_at acc.heap.blocks b there.0 heap.0 heap.1 some there.1 there.2)
     ∙ ap (λ x. tested f b x acc) read
-    ∙ if_true (is_utf8 bytes) (gives (record { bytes = bytes; blocks = b ∷ [] }) (record acc { taken = acc.taken ++ b.address ∷ [] })) (failing f trap.Utf8 acc) utf8
+    ∙ if_true (is_utf8 bytes) (gives (record { bytes = bytes; blocks = b ∷ [] }) (took (b ∷ []) acc)) (failing f trap.Utf8 (took (b ∷ []) acc)) utf8
 
 pub taking_text : {V : Type 0} (f : Form) (address : ℕ) (bytes : List ℕ) (own : List Block) (acc : Account V) → is_utf8 bytes ≡ true → length bytes * 1 < 2 ^ 31
     → IsPlaced take true address (length bytes) 1 (TextHolds bytes) own → MayTake own acc → taking f address (length bytes) acc ≡ Done (record { result = record { bytes = bytes; blocks = own }; account = took own acc })

@@ -41,6 +41,11 @@ pub record Peer (V : Type 0) : Type 0 where
   pub form : Form
   pub reply : Reply V
 
+-- how values cross the call of a method: as which they are passed, and as which its answer comes in; none where a value is none of its types
+pub record Crossing (V : Type 0) : Type 0 where
+  pub passes : List V → Option (List V)
+  pub receives : V → Option V
+
 pub record Account (V : Type 0) : Type 0 where
   pub heap : Heap
   -- what the allocator answers from here on
@@ -131,10 +136,13 @@ pub record Taken : Type 0 where
   pub bytes : List ℕ
   pub blocks : List Block
 
+-- bytes are owned before they are tested
+abbrev pub as_text : {V : Type 0} → Form → Block → List ℕ → Act V Taken
+as_text f b bytes acc = if is_utf8 bytes then gives (record { bytes = bytes; blocks = b ∷ [] }) acc else failing f trap.Utf8 acc
+
 abbrev pub tested : {V : Type 0} → Form → Block → Option (List ℕ) → Act V Taken
 tested f b None acc = failing f trap.Pointer acc
-tested f b (Some bytes) acc =
-    if is_utf8 bytes then gives (record { bytes = bytes; blocks = b ∷ [] }) (record acc { taken = acc.taken ++ b.address ∷ [] }) else failing f trap.Utf8 acc
+tested f b (Some bytes) acc = as_text f b bytes (record acc { taken = acc.taken ++ b.address ∷ [] })
 
 abbrev pub found : {V : Type 0} → Form → ℕ → Option Block → Act V Taken
 found f n None acc = failing f trap.Block acc

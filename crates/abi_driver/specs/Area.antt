@@ -1,5 +1,5 @@
 -- The return area: for which records code asks for it, how it is placed, and what then stands there.
-use Rattle.std.specs.Prelude.{◌≡◌, ◌≤◌, ℕ, ◌%◌, ◌^◌, ◌||◌, Bool, true, false, nat_eq, if◌then◌else◌, List, [], ◌∷◌, ◌++◌, Option, None, Some, Contains}
+use Rattle.std.specs.Prelude.{◌≡◌, ◌≤◌, ◌<◌, ℕ, ◌%◌, ◌^◌, ◌||◌, Bool, true, false, nat_eq, if◌then◌else◌, List, [], ◌∷◌, ◌++◌, Option, None, Some, Contains}
 use Rattle.wit_model.specs.Size.{alignment_at, bytes_at}
 use Rattle.wit_model.specs.declared.size.Alignment.{Alignment}
 use Rattle.wit_model.specs.declared.size.Alignment.TheVariants.{Bytes, Pointer}
@@ -42,8 +42,9 @@ AreFor _ _ = ⊥
 
 -- 2. Where it stands
 
--- a block of a heap at this address, aligned, of exactly the size that was asked for
+-- a block of a heap at this address, aligned, of exactly the size that was asked for, which is some
 pub record StandsIn (area : Request) (address : ℕ) (heap : Heap) : Type 0 where
+  pub some : 0 < area.size
   pub block : Block
   pub there : Contains heap.blocks block
   pub at : block.address ≡ address

@@ -1,6 +1,5 @@
 -- What the code of an export does: it calls the method once, whatever is answered, and gives words of what an honest one answers.
 use Rattle.std.specs.Prelude.{◌≡◌, ◌<◌, ◌^◌, ℕ, Bool, true, false, if◌then◌else◌, MatchBool, List, [], ◌∷◌, ◌++◌, length, Option, None, Some, option_to_list, slice_get}
-use Rattle.std.specs.List.{flat_map}
 use Rattle.wit_model.specs.declared.function.Function.{Function}
 use Rattle.wit_model.specs.declared.size.Alignment.{Alignment}
 use Rattle.wit_model.specs.declared.size.ArchitectureSize.{ArchitectureSize}
@@ -180,6 +179,12 @@ module _ {Self Operand : Type 0} (m : Meaning Self Operand) where
   GivesAnswer None answer given old new = LowersAnswer m None answer given old new
   GivesAnswer (Some t) answer given old new = MatchBool (is_indirect (Some t)) (StoresAnswer t answer given old new) (LowersAnswer m (Some t) answer given old new)
 
+  -- the code ends with words of what was answered. Till then exactly its blocks have owners
+  pub record HandsBack (w : m.World) (p : Peer m.Item) (r : Option Shape) (v : Result r) (own : List Block) (left : Heap) (c : Call m.Item) (os : List Operand) (new : Self) (s0 s : m.State) : Type 0 where
+    pub owners : List ℕ
+    pub same : SameItems owners (addresses own)
+    pub ends : EndsWithWords w p r v own left os new s0 (handed_on c left owners (m.account s))
+
   -- one call is made, whatever is answered; and where the answer is honest, the code ends and gives words of it
   pub record HandsOn (w : m.World) (p : Peer m.Item) (target : Target) (ts : Shapes) (us : Parts ts) (r : Option Shape) (blocks : List Block) (new : Self) (s0 s : m.State) : Type 0 where
     pub call : Call m.Item
@@ -187,8 +192,7 @@ module _ {Self Operand : Type 0} (m : Meaning Self Operand) where
     pub made : (account_in m.account (m.does w p (m.code new) s0)).calls ≡ (m.account s).calls ++ call ∷ []
     pub os : List Operand
     pub returned : m.returned new ≡ Some os
-    pub gives : (v : Result r) → (honest : IsHonestMethod r v p.reply)
-        → EndsWithWords w p r v honest.own honest.heap os new s0 (handed_on call honest.heap (flat_map m.owned (option_to_list honest.item)) (m.account s))
+    pub gives : (v : Result r) → (honest : IsHonestMethod r v p.reply) → HandsBack w p r v honest.own honest.heap call os new s0 s
 
   -- the code of an export was added
   pub record CallsExport (f : Function) (ts : Shapes) (r : Option Shape) (old new : Self) : Type 0 where

@@ -183,7 +183,7 @@ module _ {Self Operand : Type 0} (m : Meaning Self Operand) where
   abbrev pub RowOther : List TypeDef → Instruction → (os rs : List Operand) → (old new : Self) → Type 0
   RowOther types (GetArg n) os rs old new = (d : Datum m.Item) → Stays m old new (arg n d ∷ []) (λ fs. fs ≡ ofs m rs (d ∷ []))
   RowOther types (CallWasm f) os rs old new = CallsCore m types f.now os rs old new
-  RowOther types (CallInterface f) os rs old new = CallsMethod m f.now os rs old new
+  RowOther types (CallInterface f) os rs old new = CallsMethod m types f.now os rs old new
   RowOther types (Flush n) os rs old new = Renames m os rs old new
   RowOther types (Return n) os rs old new = Ends m os old new
   RowOther types (StringLower realloc) os rs old new = LowersText m realloc os rs old new

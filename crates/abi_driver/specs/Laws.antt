@@ -50,8 +50,9 @@ module _ {Self Operand : Type 0} (m : Meaning Self Operand) where
     pub fewer : (w : m.World) (b : Self) (some others : Facts) (s : m.State) → m.denotes w b (some ++ others) s → m.denotes w b others s
     -- the area of a whole that serves has room for each record for which it was asked for
     pub room : (w : m.World) (b : Self) → m.serves w b → AllByRecursion (HoldsRecord m.width (m.area w)) (m.asked b)
-    -- an operand denotes one datum
-    pub one : (w : m.World) (b : Self) (o : Operand) (d e : Datum m.Item) (s : m.State) → m.denotes w b (of o d ∷ []) s → m.denotes w b (of o e ∷ []) s → d ≡ e
+    -- an operand denotes one word at most, and one value at most; a word may be a value too
+    pub one_word : (w : m.World) (b : Self) (o : Operand) (x y : Word) (s : m.State) → m.denotes w b (of o (word x) ∷ []) s → m.denotes w b (of o (word y) ∷ []) s → x ≡ y
+    pub one_item : (w : m.World) (b : Self) (o : Operand) (x y : m.Item) (s : m.State) → m.denotes w b (of o (item x) ∷ []) s → m.denotes w b (of o (item y) ∷ []) s → x ≡ y
     -- a word may be read again
     pub again : (w : m.World) (b : Self) (o : Operand) (x : Word) (facts : Facts) (s : m.State) → m.denotes w b (of o (word x) ∷ facts) s → m.denotes w b (of o (word x) ∷ of o (word x) ∷ facts) s
     pub arg_again : (w : m.World) (b : Self) (n : ℕ) (x : Word) (facts : Facts) (s : m.State) → m.denotes w b (arg n (word x) ∷ facts) s → m.denotes w b (arg n (word x) ∷ arg n (word x) ∷ facts) s

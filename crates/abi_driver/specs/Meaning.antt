@@ -10,7 +10,7 @@ use Rattle.wrapper_meaning.specs.Direction.{Direction}
 use Rattle.wrapper_meaning.specs.Shape.{Shape}
 use Rattle.wrapper_meaning.specs.Value.{Value}
 use Rattle.abi_driver.specs.declared.bindgen.Asked.{Asked}
-use Rattle.abi_driver.specs.Account.{Account, Outcome, Peer}
+use Rattle.abi_driver.specs.Account.{Account, Crossing, Outcome, Peer}
 
 -- a core word, or a value of the code's own side
 pub data Datum (V : Type 0) : Type 0 where
@@ -57,6 +57,8 @@ pub record Meaning (Self Operand : Type 0) : Type 1 where
   pub arguments : Self → Option ℕ
   -- what a call of a function goes to
   pub target : Self → Function → Target
+  -- how values cross the call of a function of the code's own side
+  pub crosses : World → Self → Function → Crossing Item
   -- the records for which the code asked for the area
   pub asked : Self → List Asked
   -- what the code gives, once it was told

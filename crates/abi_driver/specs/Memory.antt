@@ -52,15 +52,18 @@ with_sign zero x = core.I32 (cast_signed w8 x)
 with_sign (suc zero) x = core.I32 (cast_signed w16 x)
 with_sign _ x = core.I32 (cast_signed w32 x)
 
+abbrev pub is_aligned : Access → ℕ → Bool
+is_aligned a address = nat_eq (address % 2 ^ a.grain) 0
+
 -- A pointer has 2 ^ w bytes
 module _ (w : ℕ) where
   -- the word of which a number stands in memory
   abbrev pub word_read : Access → ℕ → Word
   word_read a x = if a.signed then with_sign a.grain x else word_of_bits w a.word x
 
-  -- an address is aligned, and not behind the last one
+  -- an address is aligned, and a word there ends where addresses do
   abbrev pub is_reached : Access → ℕ → Bool
-  is_reached a address = nat_eq (address % 2 ^ a.grain) 0 && nat_le (address + 2 ^ a.grain) (2 ^ (8 * 2 ^ w))
+  is_reached a address = is_aligned a address && nat_le (address + 2 ^ a.grain) (2 ^ (8 * 2 ^ w))
 
   -- 3. Actions
 
@@ -78,7 +81,7 @@ module _ (w : ℕ) where
   -- a word is loaded, which stands there
   abbrev pub loading : {V : Type 0} → Form → Access → ℕ → Act V Word
   loading f a address acc =
-      loaded f (if is_reached a address then option_map (λ bytes. word_read a (little bytes)) (bytes_at address (2 ^ a.grain) acc.heap.blocks) else None) acc
+      loaded f (if is_aligned a address then option_map (λ bytes. word_read a (little bytes)) (bytes_at address (2 ^ a.grain) acc.heap.blocks) else None) acc
 
 -- the blocks without the first that passes
 abbrev pub except : (Block → Bool) → List Block → List Block

@@ -33,7 +33,7 @@ use Rattle.abi_driver.specs.declared.plain.Step.{Step}
 use Rattle.abi_driver.specs.declared.plain.Step.TheVariants as step
 use Rattle.abi_driver.specs.declared.plain.words.WordTouch.{WordTouch}
 use Rattle.abi_driver.specs.declared.plain.words.WordTouch.TheVariants as touched
-use Rattle.abi_driver.specs.Account.{Account, Act, Done, Got, Outcome, Peer, Reply, Stuck, addresses, gives, reading, releasing, taking, then_do}
+use Rattle.abi_driver.specs.Account.{Account, Act, Crossing, Done, Got, Outcome, Peer, Reply, Stuck, addresses, gives, reading, releasing, taking, then_do}
 use Rattle.abi_driver.specs.Area.{HoldsRecord, placing}
 use Rattle.abi_driver.specs.Calls.{calling, handing}
 use Rattle.abi_driver.specs.Meaning.{Datum, Fact, Meaning, arg, item, of, word}
@@ -231,9 +231,13 @@ abbrev pub all_items : List (Datum PlainItem) → Option (List PlainItem)
 all_items [] = Some []
 all_items (d ∷ ds) = and_item d (all_items ds)
 
+-- a method is passed items as they are, and what it answers comes in as it is
+abbrev pub plainly : Crossing PlainItem
+plainly = record { passes = λ vals. Some vals; receives = λ a. Some a }
+
 abbrev pub handed : Target → (due : ℕ) → Reply PlainItem → Option (List PlainItem) → PlainAct
 handed target due reply None acc = Stuck acc
-handed target due reply (Some vals) acc = then_do (handing owned_by target vals due reply acc) (λ x. gives (map (λ a. item a) x.result) x.account)
+handed target due reply (Some vals) acc = then_do (handing owned_by plainly target vals due reply acc) (λ x. gives (map (λ a. item a) x.result) x.account)
 
 -- the address of the area, which is read where it stands already, and is placed else
 abbrev pub pointed : Option Request → List (Datum PlainItem) → PlainAct
@@ -353,6 +357,7 @@ plain_meaning = record {
   knows = λ b types. IsFilledFor b.sizes types;
   arguments = λ b. None;
   target = plain_target;
+  crosses = λ w b f. plainly;
   asked = λ b. b.asked;
   returned = λ b. b.returned;
 }

@@ -20,6 +20,7 @@ use Rattle.wrapper_meaning.proofs.Lists.{some_same}
 use Rattle.wrapper_meaning.proofs.WordScalars.{word_same}
 use Rattle.wrapper_meaning.proofs.WordsDetermined.{words_determine}
 use Rattle.abi_driver.specs.Account.{addresses}
+use Rattle.abi_driver.specs.Meaning.{Datum, item, word}
 use Rattle.abi_driver.specs.Laws.{Sound}
 use Rattle.abi_driver.specs.Plain.{IsPlainText, IsRight, PlainItem, PlainItems, PlainPartsStand, PlainStands, item_and, leaf, listed, no_items, owned_by, owned_by_all, plain_meaning, whole}
 
@@ -266,6 +267,14 @@ mutual
 
 -- 6. The laws
 
+abbrev word_or : Word → Datum PlainItem → Word
+word_or d (word x) = x
+word_or d (item a) = d
+
+abbrev item_or : PlainItem → Datum PlainItem → PlainItem
+item_or d (word x) = d
+item_or d (item a) = a
+
 pub plain_sound : Sound plain_meaning
 plain_sound = record {
   wide = inl refl;
@@ -275,7 +284,8 @@ plain_sound = record {
       all_both P two (one ++ others) (all_left P two others later) (all_both P one others (all_left P one (two ++ others) h) (all_right P two others later));
   fewer = λ w b some others s h. all_right (IsRight b s) some others h;
   room = λ w b h. h;
-  one = λ w b o d e s h g. some_same d e (sym h.0.1 ∙ g.0.1);
+  one_word = λ w b o x y s h g. ap (word_or x) (some_same (word x) (word y) (sym h.0.1 ∙ g.0.1));
+  one_item = λ w b o x y s h g. ap (item_or x) (some_same (item x) (item y) (sym h.0.1 ∙ g.0.1));
   again = λ w b o x facts s h. (h.0, h);
   arg_again = λ w b n x facts s h. (h.0, h);
   nothing = λ w f s. refl;

@@ -1,7 +1,6 @@
 -- How instances are written: numbers as arguments, an area, a peer that answers the text `ok` in it, and what code is to make of that.
 use Rattle.std.proofs.Common.{◌≡◌, ◌+◌, ℕ, false, pos, nat_lt, if◌then◌else◌, List, [], ◌∷◌, ◌++◌, Option, Some, None, codes, refl, ap, arith}
 use Rattle.wit_model.specs.declared.wasm_type.WasmType.TheVariants as wasm
-use Rattle.wrapper_data.specs.declared.block.Block.{Block}
 use Rattle.wrapper_data.specs.declared.choice.Request.{Request}
 use Rattle.wrapper_data.specs.declared.form.Form.{Form}
 use Rattle.wrapper_data.specs.declared.run.Target.{Target}
@@ -10,13 +9,13 @@ use Rattle.wrapper_data.specs.declared.run.TrapKind.TheVariants as trap
 use Rattle.wrapper_data.specs.declared.word.Word.TheVariants as core
 use Rattle.wrapper_meaning.specs.Direction.{take}
 use Rattle.wrapper_meaning.specs.Shape.Shape.{text}
-use Rattle.wrapper_meaning.proofs.Instances.Forms.{ascii, block_at, pair, pair_words, text_taken}
+use Rattle.wrapper_meaning.proofs.Instances.Forms.{ascii, pair_words}
+use Rattle.wrapper_meaning.proofs.Instances.OkAnswer.{area_of, names_ok, ok, ok_taken, written}
 use Rattle.abi_driver.specs.declared.plain.Place.{Place}
 use Rattle.abi_driver.specs.declared.plain.Step.{Step}
 use Rattle.abi_driver.specs.declared.plain.Step.TheVariants as step
-use Rattle.abi_driver.specs.Account.{Account, Act, Call, Done, Got, Outcome, Peer, Stopped, Stuck, Taken, failing, gives, tested, then_do, words}
+use Rattle.abi_driver.specs.Account.{Account, Call, Done, Got, Outcome, Peer, Stopped, Stuck, Taken, failing, gives, tested, then_do, words}
 use Rattle.abi_driver.specs.Meaning.{Datum, item}
-use Rattle.abi_driver.specs.Memory.{bytes_on}
 use Rattle.abi_driver.specs.Plain.{PlainItem, PlainStands, PlainState, kept, leaf, runs}
 
 -- 1. Where code begins
@@ -28,14 +27,14 @@ numbers many n = if nat_lt n many then Some (item (leaf (core.I32 (pos n) ∷ []
 -- the area stands at 4096, without a byte that was written, and nothing else is in the heap
 abbrev pub start : (size many : ℕ) → PlainState
 start size many = record {
-  account = record { heap = record { blocks = record { address = 4096; size = size; cells = [] } ∷ [] }; choices = []; requests = []; calls = []; taken = 4096 ∷ [] };
+  account = record { heap = record { blocks = area_of size [] ∷ [] }; choices = []; requests = []; calls = []; taken = 4096 ∷ [] };
   arguments = numbers many;
   area = Some 4096;
   values = λ n. None;
 }
 
-abbrev pub area_of : ℕ → Option Request
-area_of size = Some (record { size = size; align = 4 })
+abbrev pub area_request : ℕ → Option Request
+area_request size = Some (record { size = size; align = 4 })
 
 -- 2. The steps at the call
 
@@ -55,12 +54,9 @@ load_text address to =
 
 -- 3. What is answered, and what becomes of it
 
-abbrev pub ok : Block
-ok = block_at 8192 (codes "ok")
-
--- the block is brought, and its address and size are written into the area
+-- the block of `ok` is brought, and its address and length are written into the area
 abbrev pub peer : Form → Peer PlainItem
-peer f = record { form = f; reply = words None (bytes_on 4096 (pair 8192 2)) (ok ∷ []) }
+peer f = record { form = f; reply = words None (written names_ok) (ok ∷ []) }
 
 abbrev pub state_in : PlainState → Outcome PlainItem PlainState → PlainState
 state_in s (Done t) = t
@@ -71,13 +67,13 @@ abbrev pub ok_item : PlainItem
 ok_item = leaf (pair_words 8192 2) (ok ∷ [])
 
 pub stands_for_ok : PlainStands take text (codes "ok") ok_item (ok ∷ [])
-stands_for_ok = (8192, λ empty. omega (arith), refl, record { address = 8192; pair = refl; range = omega (arith); buffer = text_taken ok 111 (107 ∷ []) refl (omega (arith)) refl })
+stands_for_ok = (8192, λ empty. omega (arith), refl, record { address = 8192; pair = refl; range = omega (arith); buffer = ok_taken })
 
 -- its bytes are UTF-8
 ok_is_text : (f : Form) (acc : Account PlainItem) → tested f ok (Some (codes "ok")) acc ≡ gives (record { bytes = codes "ok"; blocks = ok ∷ [] }) (record acc { taken = acc.taken ++ 8192 ∷ [] })
 ok_is_text f acc =
-    let good : Act PlainItem Taken = λ acc. gives (record { bytes = codes "ok"; blocks = ok ∷ [] }) (record acc { taken = acc.taken ++ 8192 ∷ [] }) in
-    ap (λ b. if b then good acc else failing f trap.Utf8 acc) (ascii (codes "ok") refl)
+    let owned : Account PlainItem = record acc { taken = acc.taken ++ 8192 ∷ [] } in
+    ap (λ b. if b then gives (record { bytes = codes "ok"; blocks = ok ∷ [] }) owned else failing f trap.Utf8 owned) (ascii (codes "ok") refl)
 
 -- the state in which it was taken over
 abbrev pub with_ok : (to : ℕ) → PlainState → PlainState
@@ -94,7 +90,7 @@ takes_ok f to s = ap (then_taken to s) (ok_is_text f s.account)
 -- and owns its block
 pub record GivesOk (size many : ℕ) (f : Form) (steps : List Step) (call : Call PlainItem) (place : ℕ) : Type 0 where
   pub end : PlainState
-  pub done : runs (area_of size) (peer f) steps (start size many) ≡ Done end
+  pub done : runs (area_request size) (peer f) steps (start size many) ≡ Done end
   pub once : end.account.calls ≡ call ∷ []
   pub nothing_asked : end.account.requests ≡ []
   pub given : PlainItem

@@ -1,17 +1,18 @@
 -- Seventeen numbers as the parameters of an import, and a text as its result: both pass by one area of 68 bytes.
-use Rattle.std.proofs.Common.{◌≡◌, ◌+◌, ◌*◌, ℕ, zero, suc, List, [], ◌∷◌, ◌++◌, refl, ap, arith}
+use Rattle.std.proofs.Common.{◌≡◌, ◌+◌, ◌*◌, ℕ, zero, suc, List, [], ◌∷◌, ◌++◌, length, refl, ap, arith}
 use Rattle.wit_model.specs.declared.wasm_type.WasmType.TheVariants as wasm
 use Rattle.wrapper_data.specs.Answered.{with_block, written_block}
 use Rattle.wrapper_data.specs.declared.block.Block.{Block}
 use Rattle.wrapper_data.specs.declared.form.Form.{Form}
 use Rattle.wrapper_data.specs.declared.word.Word.TheVariants as core
 use Rattle.wrapper_meaning.specs.Cells.{HasBytes}
-use Rattle.wrapper_meaning.proofs.Instances.Forms.{block_at, four}
+use Rattle.wrapper_meaning.proofs.Instances.Forms.{four}
+use Rattle.wrapper_meaning.proofs.Instances.OkAnswer.{area_of}
 use Rattle.abi_driver.specs.declared.plain.Step.{Step}
 use Rattle.abi_driver.specs.declared.plain.Step.TheVariants as step
 use Rattle.abi_driver.specs.Account.{Call, Done, Outcome, Stopped, Stuck}
 use Rattle.abi_driver.specs.Plain.{PlainItem, PlainState, runs}
-use Rattle.abi_driver.proofs.Instances.Forms.{GivesOk, area_of, at, call_f, import_f, load_text, ok_item, peer, stands_for_ok, start, state_in, takes_ok, with_ok}
+use Rattle.abi_driver.proofs.Instances.Forms.{GivesOk, area_request, at, call_f, import_f, load_text, ok_item, peer, stands_for_ok, start, state_in, takes_ok, with_ok}
 
 -- each number, so many from one on, is read, becomes its word, and is stored at its place in the record
 abbrev stores : (first n : ℕ) → List Step
@@ -32,17 +33,17 @@ bytes_of first (suc n) = four first ++ bytes_of (first + 1) n
 
 -- at the call the numbers stand in the area
 abbrev record_of_numbers : Block
-record_of_numbers = block_at 4096 (bytes_of 0 17)
+record_of_numbers = area_of 68 (bytes_of 0 17)
 
 -- the last of them
-sixteen_stands_last : (record_of_numbers.size ≡ 68) × HasBytes record_of_numbers 64 4 (16 ∷ 0 ∷ 0 ∷ 0 ∷ [])
+sixteen_stands_last : (length (bytes_of 0 17) ≡ 68) × HasBytes record_of_numbers 64 4 (16 ∷ 0 ∷ 0 ∷ 0 ∷ [])
 sixteen_stands_last = (refl, refl)
 
 abbrev call : Call PlainItem
 call = record { target = import_f; words = core.Pointer 4096 ∷ core.Pointer 4096 ∷ []; values = []; heap = record { blocks = record_of_numbers ∷ [] } }
 
 abbrev loaded : Form → PlainState
-loaded f = state_in (start 68 17) (runs (area_of 68) (peer f) to_loads (start 68 17))
+loaded f = state_in (start 68 17) (runs (area_request 68) (peer f) to_loads (start 68 17))
 
 gives_ok : (f : Form) → GivesOk 68 17 f steps call 38
 unfolding with_block written_block

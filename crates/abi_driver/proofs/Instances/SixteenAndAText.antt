@@ -9,7 +9,7 @@ use Rattle.abi_driver.specs.declared.plain.Step.{Step}
 use Rattle.abi_driver.specs.declared.plain.Step.TheVariants as step
 use Rattle.abi_driver.specs.Account.{Call}
 use Rattle.abi_driver.specs.Plain.{PlainItem, PlainState, runs}
-use Rattle.abi_driver.proofs.Instances.Forms.{GivesOk, area_of, at, call_f, import_f, load_text, ok_item, peer, stands_for_ok, start, state_in, takes_ok, with_ok}
+use Rattle.abi_driver.proofs.Instances.Forms.{GivesOk, area_request, at, call_f, import_f, load_text, ok_item, peer, stands_for_ok, start, state_in, takes_ok, with_ok}
 
 -- each number, so many from one on, is read and becomes its word
 abbrev passes : (first n : ℕ) → List Step
@@ -37,7 +37,7 @@ abbrev call : Call PlainItem
 call = record { target = import_f; words = words_of 0 16 ++ core.Pointer 4096 ∷ []; values = []; heap = (start 8 16).account.heap }
 
 abbrev loaded : Form → PlainState
-loaded f = state_in (start 8 16) (runs (area_of 8) (peer f) to_loads (start 8 16))
+loaded f = state_in (start 8 16) (runs (area_request 8) (peer f) to_loads (start 8 16))
 
 gives_ok : (f : Form) → GivesOk 8 16 f steps call 35
 unfolding with_block written_block

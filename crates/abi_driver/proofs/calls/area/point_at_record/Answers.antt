@@ -1,7 +1,4 @@
-use Rattle.std.proofs.Common.{subst}
-use mathlib.Core.Logic.{inr}
 use Rattle.abi_driver.proofs.AreaAsked.{asks_for_record, record_is_power}
-use Rattle.abi_driver.proofs.RecordPlaces.{have_places}
 use Rattle.abi_driver.proofs.calls.area.point_at_record.Goals as goal
 
 pub return_pointer-requires : goal.return_pointer-requires

@@ -1,4 +1,4 @@
-use Rattle.std.proofs.Common.{length, sym, ap, ◌∙◌}
+use Rattle.std.proofs.Common.{sym, ◌∙◌}
 use Rattle.abi_driver.proofs.Records.{count-shapes}
 use Rattle.abi_driver.proofs.calls.record.load_arguments.Goals as goal
 

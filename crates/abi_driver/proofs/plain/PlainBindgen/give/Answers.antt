@@ -1,8 +1,5 @@
-use Rattle.std.proofs.Common.{List, Some, ap, subst}
-use Rattle.abi_driver.specs.declared.instruction.Instruction.TheVariants as instruction
+use Rattle.std.proofs.Common.{List, Some, ap}
 use Rattle.abi_driver.specs.declared.plain.Place.{Place}
-use Rattle.abi_driver.specs.Instructions.{Emits}
-use Rattle.abi_driver.specs.Plain.{plain_meaning}
 use Rattle.abi_driver.proofs.PlainCalls.{gives_back}
 use Rattle.abi_driver.proofs.plain.PlainBindgen.give.Goals as goal
 
