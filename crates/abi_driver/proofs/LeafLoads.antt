@@ -156,7 +156,7 @@ module _ {Self Operand : Type 0} (m : Meaning Self Operand) (sound : Sound m) (t
       let k = load_type offset load ty is in
       let row : LoadsWord m (load_access k.scalar_is) offset (address ∷ []) (x ∷ []) a b =
       subst (λ z. LoadsWord m z offset (address ∷ []) (x ∷ []) a b) (k.is_access m.width) (load_row load k.part k.signed k.word_type offset (address ∷ []) (x ∷ []) a b k.lowers k.lifts k.touches e) in
-      subst (λ t. LiftsFromMemory m t address offset r a c) (sym (k.shape types)) (scalar_at k.scalar_is a b c address x r offset (adds_of m load (touches_ordinary load _ k.touches) a b e.adds) row (subst (λ t. LiftsFlat m t (x ∷ []) r b c) (k.shape types) flat))
+      subst (λ t. LiftsFromMemory m t address offset r a c) (sym (k.shape types)) (scalar_at k.scalar_is a b c address x r offset (adds_of m load (touches_ordinary load _ k.touches) types a b e.adds) row (subst (λ t. LiftsFlat m t (x ∷ []) r b c) (k.shape types) flat))
 
   -- the words of a text that stands at an offset
   abbrev pub WordsThere : (dir : Direction) (v : List ℕ) (own : List Block) (x n : Operand) (c : Self) → m.World → Peer m.Item → Facts m → (s0 s : m.State) → Type 0

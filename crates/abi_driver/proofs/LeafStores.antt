@@ -172,7 +172,7 @@ module _ {Self Operand : Type 0} (m : Meaning Self Operand) (sound : Sound m) (t
       let row : StoresWord m (store_access k.scalar_is) offset (r ∷ address ∷ []) [] b c =
       subst (λ a. StoresWord m a offset (r ∷ address ∷ []) [] b c) (k.is_access m.width) (store_row store k.part k.word_type offset (r ∷ address ∷ []) [] b c k.lowers k.lifts k.touches e) in
       subst (λ t. LowersToMemory m realloc t o address offset a c) (sym (k.shape types))
-      (scalar_at realloc k.scalar_is a b c o r address offset (subst (λ t. LowersFlat m realloc t o (r ∷ []) a b) (k.shape types) (subst (λ xs. LowersFlat m realloc (shape_of types ty) o xs a b) one flat)) (adds_of m store (touches_ordinary store _ k.touches) b c e.adds) row)
+      (scalar_at realloc k.scalar_is a b c o r address offset (subst (λ t. LowersFlat m realloc t o (r ∷ []) a b) (k.shape types) (subst (λ xs. LowersFlat m realloc (shape_of types ty) o xs a b) one flat)) (adds_of m store (touches_ordinary store _ k.touches) types b c e.adds) row)
 
   pub text_stores : (realloc : Bool) (a b c d : Self) (o r n address : Operand) (os : List Operand) (offset behind : ArchitectureSize) → bytes_at behind (2 ^ m.width) ≡ bytes_at offset (2 ^ m.width) + 2 ^ m.width → os ≡ r ∷ n ∷ []
       → LowersFlat m realloc text o os a b → Emits m types (LengthStore behind) (n ∷ address ∷ []) [] b c → Emits m types (PointerStore offset) (r ∷ address ∷ []) [] c d → LowersToMemory m realloc text o address offset a d

@@ -94,7 +94,7 @@ module _ {Self Operand : Type 0} (m : Meaning Self Operand) (sound : Sound m) (t
       let s = lifted_type ty i is in
       let row : LiftsScalar m s.scalar_is (o ∷ []) (r ∷ []) a b =
       subst (λ x. RowBy m types i None x (o ∷ []) (r ∷ []) a b) s.lifts (subst (λ x. RowBy m types i x (lifted_scalar i) (o ∷ []) (r ∷ []) a b) s.lowers e.row) in
-      subst (λ t. LiftsFlat m t (o ∷ []) r a b) (sym (s.shape types)) (scalar_row s.scalar_is a b o r (adds_of m i (lifts_ordinary i s.scalar_is s.lifts) a b e.adds) row)
+      subst (λ t. LiftsFlat m t (o ∷ []) r a b) (sym (s.shape types)) (scalar_row s.scalar_is a b o r (adds_of m i (lifts_ordinary i s.scalar_is s.lifts) types a b e.adds) row)
 
   pub text_lifts : (a b : Self) (o p r : Operand) → Emits m types StringLift (o ∷ p ∷ []) (r ∷ []) a b → LiftsFlat m text (o ∷ p ∷ []) r a b
   text_lifts a b o p r e = record {

@@ -77,7 +77,7 @@ module _ {Self Operand : Type 0} (m : Meaning Self Operand) (sound : Sound m) (t
       let s = scalar_type ty i is in
       let one : length os ≡ 1 = subst (λ x. MakesBy types i x (lifted_scalar i) (length os)) s.lowers e.results in
       let row : LowersScalar m s.scalar_is (o ∷ []) os a b = subst (λ x. RowBy m types i x (lifted_scalar i) (o ∷ []) os a b) s.lowers e.row in
-      subst (λ t. LowersFlat m realloc t o os a b) (sym (s.shape types)) (scalar_words s.scalar_is a b o os (adds_of m i (lowers_ordinary i s.scalar_is s.lowers) a b e.adds) one row)
+      subst (λ t. LowersFlat m realloc t o os a b) (sym (s.shape types)) (scalar_words s.scalar_is a b o os (adds_of m i (lowers_ordinary i s.scalar_is s.lowers) types a b e.adds) one row)
 
   pub text_lowers : (a b : Self) (o : Operand) (os : List Operand) → Emits m types (StringLower realloc) (o ∷ []) os a b → LowersFlat m realloc text o os a b
   text_lowers a b o os e = record {

@@ -75,6 +75,8 @@ noted_grows a old mid is = subst (Grows plain_meaning old) (sym is) (record {
   arguments = refl;
   knows = λ types h. h;
   target = λ f. refl;
+  opened = refl;
+  known = λ w facts s h. still_right old (record old { asked = old.asked ++ a ∷ [] }) s s facts (omega arith) (λ n l. refl) (λ n. refl) h;
 })
 
 noted_quiet : (a : Asked) (old mid : PlainBindgen) → mid ≡ record old { asked = old.asked ++ a ∷ [] } → Quiet plain_meaning old mid
@@ -159,6 +161,7 @@ module _ (a : Asked) (old mid new : PlainBindgen) (is : mid ≡ record old { ask
     quiet = let step_adds = plain_adds (step.Area mid.count) 1 mid new adds refl in quiet_both plain_meaning old mid new (noted_quiet a old mid is) step_adds.grows step_adds.quiet;
     returned = adds.returned ∙ ap (λ (b : PlainBindgen). b.returned) is;
     asked = adds.asked ∙ ap (λ (b : PlainBindgen). b.asked) is;
+    blocks = refl;
     row = λ w f others s0 s at stands here first.
         let o : Place = record { number = mid.count } in
         let Outs : ℕ → Facts plain_meaning → Type 0 = λ x fs. fs ≡ ofs plain_meaning (places_from mid.count 1) (place_data x) in

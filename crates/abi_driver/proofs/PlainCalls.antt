@@ -127,6 +127,7 @@ module _ (types : List TypeDef) (old new : PlainBindgen) where
         adds = plain_grows st k old new adds;
         returned = adds.returned;
         asked = adds.asked;
+        blocks = refl;
         results = ap length places ∙ places_count old.count k ∙ many ∙ ap length is;
         row = λ ws fit. subst (λ t. Does plain_meaning (List Word) old new (ofs plain_meaning os (core_data plain_meaning ws)) (λ p. calling t ws answer p.reply) (λ back fs. fs ≡ ofs plain_meaning rs (core_data plain_meaning back)) (λ back. []) (λ back. []))
             (sym (core_target old f import))
@@ -163,6 +164,7 @@ module _ (types : List TypeDef) (old new : PlainBindgen) where
     adds = plain_grows (step.CallMethod old.home fn.now.name.snake os k old.count) k old new adds;
     returned = adds.returned;
     asked = adds.asked;
+    blocks = refl;
     results = ap length places ∙ places_count old.count k ∙ due;
     row = record {
       row = subst (λ ps. HandsOver plain_meaning fn.now os ps old new) (sym places) (method_row fn.now os k due export adds);
@@ -177,6 +179,7 @@ module _ (types : List TypeDef) (old new : PlainBindgen) where
     adds = adds_same plain_meaning old;
     returned = refl;
     asked = refl;
+    blocks = refl;
     results = len;
     row = λ ds w f others s0 s at. (s, at.done, (ofs plain_meaning os ds, refl, record { account = refl; owns = λ g. refl; denotes = at.holds }));
   }))
@@ -185,12 +188,14 @@ module _ (types : List TypeDef) (old new : PlainBindgen) where
   pub gives_back : (n : ℕ) (os : List Place) → new ≡ record old { returned = Some os } → Emits plain_meaning types (instruction.Return n) os [] old new
   gives_back n os is = subst (λ b. Emits plain_meaning types (instruction.Return n) os [] old b) (sym is) (record {
     adds = record {
-      grows = record { serves = λ w h. h; more = λ w h. (w, h); stops = λ w f s h. stops_same (λ (t : PlainState). t.account) (plain_meaning.does w f old.steps s); imports = refl; exports = refl; arguments = refl; knows = λ types h. h; target = λ f. refl };
+      grows = record { serves = λ w h. h; more = λ w h. (w, h); stops = λ w f s h. stops_same (λ (t : PlainState). t.account) (plain_meaning.does w f old.steps s); imports = refl; exports = refl; arguments = refl; knows = λ types h. h; target = λ f. refl; opened = refl; known = λ w facts s h. still_right old (record old { returned = Some os }) s s facts (omega arith) (λ n l. refl) (λ n. refl) h };
       quiet = λ w f s h. refl;
       asked = refl;
+      blocks = refl;
     };
     returned = refl;
     asked = refl;
+    blocks = refl;
     results = refl;
     row = λ ds w f others s0 s at. (
       s,

@@ -23,9 +23,11 @@ plain_new b e f unasked = record {
   empty = e;
   endless = f;
   unasked = unasked;
+  closed = refl;
+  unfinished = refl;
   world = None;
   serves = subst (AllByRecursion (HoldsRecord 2 None)) (sym unasked) tt;
-  start = λ w ds acc at sv count lent stands taken.
+  start = λ w ds acc at sv count lent stands taken unguarded.
       let s : PlainState = record { account = acc; arguments = nth ds; area = at; values = λ n. None } in
       (s, refl, taken, refl, args_right b s 0 ds (λ i. let e : 0 + i ≡ i = omega arith in ap (nth ds) e));
 }

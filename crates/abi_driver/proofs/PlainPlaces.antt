@@ -5,7 +5,7 @@ use Rattle.std.proofs.lemmas.Bool.{ne_eqb}
 use Rattle.std.proofs.lemmas.Bool.Decides.{eqb_tells}
 use Rattle.abi_driver.specs.declared.plain.PlainBindgen.{PlainBindgen}
 use Rattle.abi_driver.specs.Laws.{Facts, ofs}
-use Rattle.abi_driver.specs.Meaning.{Datum, arg, of}
+use Rattle.abi_driver.specs.Meaning.{Datum, arg, bound, of}
 use Rattle.abi_driver.specs.Plain.{IsRight, PlainItem, PlainState, places_from, plain_meaning, put}
 
 pub places_next : (n m : ℕ) → n < m → places_from n (m - n) ≡ record { number = n } ∷ places_from (n + 1) (m - (n + 1))
@@ -46,3 +46,4 @@ pub still_right : (old new : PlainBindgen) (s t : PlainState) (facts : Facts pla
 still_right old new s t [] l e a h = tt
 still_right old new s t (of o d ∷ facts) l e a h = ((omega (arith, l, h.0.0), e o.number h.0.0 ∙ h.0.1), still_right old new s t facts l e a h.1)
 still_right old new s t (arg n d ∷ facts) l e a h = (a n ∙ h.0, still_right old new s t facts l e a h.1)
+still_right old new s t (bound slot name d ∷ facts) l e a h = absurd h.0

@@ -1,5 +1,5 @@
 -- The steps of a `PlainBindgen` do what the laws ask of their instructions.
-use Rattle.std.proofs.Common.{◌≡◌, ℕ, zero, suc, ◌-◌, ◌^◌, ◌<◌, Bool, true, false, ◌&&◌, nat_eq, nat_lt, if◌then◌else◌, ℤ, pos, List, [], ◌∷◌, ◌++◌, length, map, find, Option, None, Some, is_some, option_map, refl, sym, ap, ap₂, ◌∙◌, subst, arith, append-nil}
+use Rattle.std.proofs.Common.{◌≡◌, ℕ, zero, suc, ◌-◌, ◌^◌, ◌<◌, Bool, true, false, ◌&&◌, nat_eq, nat_lt, if◌then◌else◌, ℤ, pos, List, [], ◌∷◌, ◌++◌, drop, length, map, find, Option, None, Some, is_some, option_map, refl, sym, ap, ap₂, ◌∙◌, subst, arith, append-nil}
 use Rattle.std.specs.Int.{w8, w16, w32, w64, cast_signed}
 use Rattle.std.specs.List.{AllByRecursion}
 use Rattle.std.specs.Str.{is_utf8}
@@ -45,7 +45,7 @@ use Rattle.abi_driver.specs.declared.plain.Step.TheVariants as step
 use Rattle.abi_driver.specs.declared.plain.words.WordTouch.{WordTouch}
 use Rattle.abi_driver.specs.declared.plain.words.WordTouch.TheVariants as touched
 use Rattle.abi_driver.specs.Account.{Account, Done, Got, Outcome, Stopped, Stuck, Taken, addresses, checking, failing, found, gives, has_type, is_at, is_taken, reading, releasing, stay, taking, tested, without}
-use Rattle.abi_driver.specs.Instructions.{Emits, IsRecord, MakesBy, MakesTouch, RowBy, RowTouch, field_shapes, lifted_scalar, lowered_scalar}
+use Rattle.abi_driver.specs.Instructions.{Emits, IsRecord, MakesBy, MakesTouch, RowBy, RowTouch, block_results, field_shapes, lifted_scalar, lowered_scalar}
 use Rattle.abi_driver.specs.Laws.{Adds, Stays, core_data, item_data, ofs}
 use Rattle.abi_driver.specs.Leaves.{LiftsScalar, LiftsText, LowersScalar, LowersText}
 use Rattle.abi_driver.specs.Meaning.{Datum, arg, item, of, word}
@@ -60,6 +60,13 @@ use Rattle.abi_driver.proofs.PlainPlaces.{places_count}
 use Rattle.abi_driver.proofs.PlainRuns.{plain_adds, plain_does}
 use Rattle.abi_driver.proofs.Records.{count-shapes, one_record}
 use Rattle.abi_driver.proofs.Runs.{total-append}
+
+abbrev no_blocks : List ⊥
+no_blocks = []
+
+none_dropped : (n : ℕ) → no_blocks ≡ drop n no_blocks
+none_dropped zero = refl
+none_dropped (suc n) = refl
 
 -- 1. What actions leave of the owners
 
@@ -282,9 +289,10 @@ module _ (os rs : List Place) (old new : PlainBindgen) where
           let same : word_touch x ≡ t = some_same _ _ e in
           let no = touched_is i x here in
           record {
-            adds = code_of plain_meaning i (touches_ordinary i x here) old new adds;
+            adds = code_of plain_meaning i (touches_ordinary i x here) types old new adds;
             returned = still_returned plain_meaning i (touches_ordinary i x here) os old.returned new.returned still;
             asked = same_asked;
+            blocks = none_dropped (length (block_results types i));
             results = subst (λ p. MakesBy types i p (lifted_scalar i) (length rs)) (sym no.0) (subst (λ p. MakesBy types i None p (length rs)) (sym no.1)
                 (subst (λ p. MakesTouch types i p (length rs)) (sym here) (len ∙ ap makes_of (sym same) ∙ makes_same x)));
             row = subst (λ p. RowBy plain_meaning types i p (lifted_scalar i) os rs old new) (sym no.0) (subst (λ p. RowBy plain_meaning types i None p os rs old new) (sym no.1)
@@ -348,9 +356,10 @@ module _ (types : List TypeDef) (old new : PlainBindgen) where
             (λ u. []) (λ u. []) (λ f acc x e. stay_owns acc x e),
       ) in
       record {
-        adds = code_of plain_meaning i (lowers_ordinary i _ (lowered_is i ty is)) old new (plain_adds st 1 old new adds refl);
+        adds = code_of plain_meaning i (lowers_ordinary i _ (lowered_is i ty is)) types old new (plain_adds st 1 old new adds refl);
         returned = still_returned plain_meaning i (lowers_ordinary i _ (lowered_is i ty is)) (o ∷ []) old.returned new.returned adds.returned;
         asked = adds.asked;
+        blocks = none_dropped (length (block_results types i));
         results = subst (λ x. MakesBy types i x (lifted_scalar i) (length rs)) (sym (lowered_is i ty is)) (ap length places);
         row = subst (λ x. RowBy plain_meaning types i x (lifted_scalar i) (o ∷ []) rs old new) (sym (lowered_is i ty is)) (subst (λ ps. LowersScalar plain_meaning s (o ∷ []) ps old new) (sym places) row);
       }
@@ -366,9 +375,10 @@ module _ (types : List TypeDef) (old new : PlainBindgen) where
       (λ x values n. refl) (λ t h. one_at old t o (word x) h) (λ area f acc. refl) (λ p acc x e. refl) (λ u. (a, refl, λ v hv h. (ap (λ w. leaf (w ∷ []) []) (normal_is s v x hv h), refl)))
       (λ u. []) (λ u. []) (λ f acc y e. same_owns y.account.taken acc.taken (ap (λ (c : Account PlainItem). c.taken) (done_is (reading s f.form x acc) (λ y. y.account ≡ acc) y (reading_stays s f.form x acc) e))) in
       record {
-        adds = code_of plain_meaning i (lifts_ordinary i _ both.1) old new (plain_adds st 1 old new adds refl);
+        adds = code_of plain_meaning i (lifts_ordinary i _ both.1) types old new (plain_adds st 1 old new adds refl);
         returned = still_returned plain_meaning i (lifts_ordinary i _ both.1) (o ∷ []) old.returned new.returned adds.returned;
         asked = adds.asked;
+        blocks = none_dropped (length (block_results types i));
         results = subst (λ p. MakesBy types i p (lifted_scalar i) (length rs)) (sym both.0) (subst (λ p. MakesBy types i None p (length rs)) (sym both.1) (ap length places));
         row = subst (λ p. RowBy plain_meaning types i p (lifted_scalar i) (o ∷ []) rs old new) (sym both.0)
             (subst (λ p. RowBy plain_meaning types i None p (o ∷ []) rs old new) (sym both.1) (subst (λ ps. LiftsScalar plain_meaning s (o ∷ []) ps old new) (sym places) row));
@@ -405,6 +415,7 @@ module _ (types : List TypeDef) (old new : PlainBindgen) where
         adds = plain_adds st 0 old new adds refl;
         returned = adds.returned;
         asked = adds.asked;
+        blocks = refl;
         results = ap length places;
         row = λ address n.
             plain_does st 0 old new adds (Unit {0}) (of o (word (core.Pointer address)) ∷ of p (word (core.Length n)) ∷ []) (word (core.Pointer address) ∷ word (core.Length n) ∷ []) (λ f. freeing f.form address n) (λ u. []) (λ u fs. fs ≡ [])
@@ -421,6 +432,7 @@ module _ (types : List TypeDef) (old new : PlainBindgen) where
         adds = plain_adds st 0 old new adds refl;
         returned = adds.returned;
         asked = adds.asked;
+        blocks = refl;
         results = ap length places;
         row = λ address.
             plain_does st 0 old new adds (Unit {0}) (of o (word (core.Pointer address)) ∷ []) (word (core.Pointer address) ∷ []) (λ f. freeing f.form address n) (λ u. []) (λ u fs. fs ≡ [])
@@ -439,7 +451,7 @@ module _ (types : List TypeDef) (old new : PlainBindgen) where
             (λ x values n. refl) (λ t h. one_at old t o (item a) h) (λ area f acc. ap (λ (b : PlainItem). performs area st f (item b ∷ []) acc) st0.2) (λ p acc x e. refl) (λ u. refl)
             (λ u. []) (λ u. addresses own) (λ f acc x e. done_is (releasing (addresses own) acc) (λ x. SameItems (x.account.taken ++ addresses own) (acc.taken ++ [])) x (releasing_owns (addresses own) acc) e),
       ) in
-      record { adds = plain_adds st 2 old new adds refl; returned = adds.returned; asked = adds.asked; results = ap length places; row = subst (λ ps. LowersText plain_meaning realloc (o ∷ []) ps old new) (sym places) row }
+      record { adds = plain_adds st 2 old new adds refl; returned = adds.returned; asked = adds.asked; blocks = refl; results = ap length places; row = subst (λ ps. LowersText plain_meaning realloc (o ∷ []) ps old new) (sym places) row }
 
   pub takes_text : (o p : Place) (rs : List Place) → AddsStep (step.Take o.number p.number old.count) 1 old new → rs ≡ places_from old.count 1 → Emits plain_meaning types instruction.StringLift (o ∷ p ∷ []) rs old new
   takes_text o p rs adds places =
@@ -449,7 +461,7 @@ module _ (types : List TypeDef) (old new : PlainBindgen) where
       plain_does st 1 old new adds Taken (of o (word (core.Pointer address)) ∷ of p (word (core.Length n)) ∷ []) (core_data plain_meaning ws) (λ f. taking f.form address n) (λ x. item (leaf ws x.blocks) ∷ []) (λ x fs. (a : PlainItem) × (fs ≡ ofs plain_meaning (places_from old.count 1) (item a ∷ [])) × (Says 2 take text x.bytes ws x.blocks → PlainStands take text x.bytes a x.blocks))
       (λ x values n. refl) (λ t h. two_at old t o p (word (core.Pointer address)) (word (core.Length n)) h) (λ area f acc. refl) (λ p acc y e. refl) (λ x. (leaf ws x.blocks, refl, λ h. says_text x.bytes address n x.blocks h))
       (λ x. addresses x.blocks) (λ x. []) (λ f acc x e. let t = done_is (taking f.form address n acc) (TakesOver acc) x (taking_owns f.form address n acc) e in λ g. ap (λ xs. total g (xs ++ [])) t ∙ ap (total g) (append-nil (acc.taken ++ addresses x.result.blocks))) in
-      record { adds = plain_adds st 1 old new adds refl; returned = adds.returned; asked = adds.asked; results = ap length places; row = subst (λ ps. LiftsText plain_meaning (o ∷ p ∷ []) ps old new) (sym places) row }
+      record { adds = plain_adds st 1 old new adds refl; returned = adds.returned; asked = adds.asked; blocks = refl; results = ap length places; row = subst (λ ps. LiftsText plain_meaning (o ∷ p ∷ []) ps old new) (sym places) row }
 
   pub reads_argument : (n : ℕ) (rs : List Place) → AddsStep (step.Argument n old.count) 1 old new → rs ≡ places_from old.count 1 → Emits plain_meaning types (instruction.GetArg n) [] rs old new
   reads_argument n rs adds places =
@@ -458,6 +470,7 @@ module _ (types : List TypeDef) (old new : PlainBindgen) where
         adds = plain_adds st 1 old new adds refl;
         returned = adds.returned;
         asked = adds.asked;
+        blocks = refl;
         results = ap length places;
         row = λ d. subst (λ ps. Stays plain_meaning old new (arg n d ∷ []) (λ fs. fs ≡ ofs plain_meaning ps (d ∷ []))) (sym places)
             (plain_does st 1 old new adds (Unit {0}) (arg n d ∷ []) (d ∷ []) (λ f. stay) (λ u. d ∷ []) (λ u fs. fs ≡ ofs plain_meaning (places_from old.count 1) (d ∷ []))
@@ -499,6 +512,7 @@ module _ (types : List TypeDef) (old new : PlainBindgen) where
     adds = plain_adds (step.Split o.number old.count) (length members) old new adds refl;
     returned = adds.returned;
     asked = adds.asked;
+    blocks = refl;
     results = λ others other. ap length places ∙ places_count old.count (length members) ∙ ap length (one_record types id.0 members others is other);
     row = λ others other.
         subst (λ ms. LowersParts plain_meaning (field_shapes types ms) (fields (field_shapes types ms)) (λ v. v) (o ∷ []) rs old new) (one_record types id.0 members others is other)
@@ -512,6 +526,7 @@ module _ (types : List TypeDef) (old new : PlainBindgen) where
     adds = plain_adds (step.Join os old.count) 1 old new adds refl;
     returned = adds.returned;
     asked = adds.asked;
+    blocks = refl;
     results = ap length places;
     row = λ others other.
         subst (λ ms. LiftsParts plain_meaning (field_shapes types ms) (fields (field_shapes types ms)) (λ v. v) os rs old new) (one_record types id.0 members others is other)
@@ -524,6 +539,7 @@ module _ (types : List TypeDef) (old new : PlainBindgen) where
     adds = plain_adds (step.Split o.number old.count) n old new adds refl;
     returned = adds.returned;
     asked = adds.asked;
+    blocks = refl;
     results = ap length places ∙ places_count old.count n;
     row = λ ts fits. subst (λ ps. LowersParts plain_meaning ts (tuple ts) (λ v. v) (o ∷ []) ps old new) (sym places) (splits ts (tuple ts) (λ v. v) n o fits (λ dir v a own h. h) adds);
   }
@@ -533,6 +549,7 @@ module _ (types : List TypeDef) (old new : PlainBindgen) where
     adds = plain_adds (step.Join os old.count) 1 old new adds refl;
     returned = adds.returned;
     asked = adds.asked;
+    blocks = refl;
     results = ap length places;
     row = λ ts fits. subst (λ ps. LiftsParts plain_meaning ts (tuple ts) (λ v. v) os ps old new) (sym places) (joins ts (tuple ts) (λ v. v) os (len ∙ sym fits) (λ v items own h. (items, refl, h)) adds);
   }

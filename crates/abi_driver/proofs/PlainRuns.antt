@@ -227,12 +227,15 @@ module _ (st : Step) (k : ℕ) (old new : PlainBindgen) (adds : AddsStep st k ol
     arguments = refl;
     knows = λ types h. subst (λ sizes. IsFilledFor sizes types) (sym adds.sizes) h;
     target = λ f. ap₂ (λ import home. if import then target.Core home f.name.wit else target.Method home f.name.snake) adds.import adds.home;
+    opened = refl;
+    known = λ w facts s h. still_right old new s s facts (omega (arith, adds.count)) (λ n l. refl) (λ n. refl) h;
   }
 
   pub plain_adds : makes_call st ≡ false → Adds plain_meaning old new
   plain_adds e = record {
     grows = plain_grows;
     asked = adds.asked;
+    blocks = refl;
     quiet = λ w f s h.
         ap (λ o. (account_in (λ (t : PlainState). t.account) o).calls) (longer w f s)
         ∙ calls_then (λ (t : PlainState). t.account) (runs w f old.steps s) (λ t. runs w f (st ∷ []) t) (λ t. step_calls w st f (inputs st t) t e);

@@ -51,9 +51,12 @@ pub record Account (V : Type 0) : Type 0 where
   -- what the allocator answers from here on
   pub choices : List Choice
   pub requests : List Request
+  -- but those that drop a handle
   pub calls : List (Call V)
   -- the addresses of the blocks that have an owner
   pub taken : List ℕ
+  -- those of them that are kept until the code ends, and then freed
+  pub guarded : List ℕ
 
 -- how a run of code ends: in a state; at a stop, or where the code has no meaning, with what was done so far
 pub data Outcome (V S : Type 0) : Type 0 where

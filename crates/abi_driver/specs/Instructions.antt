@@ -1,5 +1,5 @@
 -- What each instruction does: one line an instruction. No code may be made yet of an instruction that has no line here.
-use Rattle.std.specs.Prelude.{◌≡◌, ◌<◌, ℕ, Bool, true, false, List, [], ◌∷◌, length, map, Option, None, Some, IfSome, slice_get}
+use Rattle.std.specs.Prelude.{◌≡◌, ◌<◌, ℕ, Bool, true, false, List, [], ◌∷◌, drop, length, map, Option, None, Some, IfSome, slice_get}
 use Rattle.wit_model.specs.IndexRange.{function_in_range}
 use Rattle.wit_model.specs.WellFormed.{IsWellFormed}
 use Rattle.wit_model.specs.declared.resolve.Resolve.{Resolve}
@@ -15,7 +15,7 @@ use Rattle.abi_driver.specs.declared.instruction.Instruction.{Instruction}
 use Rattle.abi_driver.specs.declared.instruction.Instruction.TheVariants.{CallInterface, CallWasm, Flush, Return, GetArg, I32FromBool, I32FromU8, I32FromS8, I32FromU16, I32FromS16, I32FromU32, I32FromS32, I32FromChar, I64FromU64, I64FromS64, CoreF32FromF32, CoreF64FromF64, BoolFromI32, U8FromI32, S8FromI32, U16FromI32, S16FromI32, U32FromI32, S32FromI32, CharFromI32, U64FromI64, S64FromI64, F32FromCoreF32, F64FromCoreF64, StringLower, StringLift, RecordLower, RecordLift, TupleLower, TupleLift, GuestDeallocate, GuestDeallocateString}
 use Rattle.abi_driver.specs.Calls.{CallsCore, CallsMethod, Ends, Renames, import_params, import_results, is_call, result_count, returned_by}
 use Rattle.abi_driver.specs.Frees.{FreesBlock, FreesText}
-use Rattle.abi_driver.specs.Laws.{Adds, Grows, Stays, ofs}
+use Rattle.abi_driver.specs.Laws.{Adds, Grows, Quiet, Stays, ofs}
 use Rattle.abi_driver.specs.Leaves.{LiftsScalar, LiftsText, LowersScalar, LowersText}
 use Rattle.abi_driver.specs.Meaning.{Datum, Meaning, arg}
 use Rattle.abi_driver.specs.Parts.{LiftsParts, LowersParts, count}
@@ -158,6 +158,10 @@ MakesBy types i _ _ k = k ≡ 1
 abbrev pub Makes : List TypeDef → Instruction → ℕ → Type 0
 Makes types i k = MakesBy types i (lowered_scalar i) (lifted_scalar i) k
 
+-- the blocks that it uses up, the last finished one first, by how many results each has
+abbrev pub block_results : List TypeDef → Instruction → List ℕ
+block_results types _ = []
+
 module _ {Self Operand : Type 0} (m : Meaning Self Operand) where
   -- lists are lent by imports alone, and given away by exports alone
   abbrev pub IsSide : (realloc : Bool) → Self → Type 0
@@ -208,13 +212,15 @@ module _ {Self Operand : Type 0} (m : Meaning Self Operand) where
   abbrev pub Row : List TypeDef → Instruction → (os rs : List Operand) → (old new : Self) → Type 0
   Row types i os rs old new = RowBy types i (lowered_scalar i) (lifted_scalar i) os rs old new
 
-  -- code was added, which makes no call unless the instruction is one
-  abbrev pub AddsCode : (call : Bool) → (old new : Self) → Type 0
-  AddsCode true old new = Grows m old new
-  AddsCode false old new = Adds m old new
+  -- code was added, which makes no call unless the instruction is one, and leaves the finished blocks unless it uses some up
+  abbrev pub AddsCode : (call : Bool) → (used : List ℕ) → (old new : Self) → Type 0
+  AddsCode true used old new = Grows m old new
+  AddsCode false [] old new = Adds m old new
+  AddsCode false (k ∷ used) old new = Grows m old new × Quiet m old new
 
   pub record Emits (types : List TypeDef) (i : Instruction) (os rs : List Operand) (old new : Self) : Type 0 where
-    pub adds : AddsCode (is_call i) old new
+    pub adds : AddsCode (is_call i) (block_results types i) old new
+    pub blocks : m.blocks new ≡ drop (length (block_results types i)) (m.blocks old)
     pub returned : m.returned new ≡ returned_by i os (m.returned old)
     pub asked : m.asked new ≡ m.asked old
     pub results : Makes types i (length rs)

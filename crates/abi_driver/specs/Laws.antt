@@ -14,11 +14,11 @@ use Rattle.wrapper_meaning.specs.Value.{Value}
 use Rattle.abi_driver.specs.declared.bindgen.Asked.{Asked}
 use Rattle.abi_driver.specs.Account.{Account, Act, Done, Follows, Got, Peer, Stops, account_in, addresses, stay}
 use Rattle.abi_driver.specs.Area.{HoldsRecord, MayStand, newly, pointing}
-use Rattle.abi_driver.specs.Meaning.{Datum, Fact, Meaning, arg, item, of, word}
+use Rattle.abi_driver.specs.Meaning.{Datum, Fact, Meaning, Name, arg, bound, item, of, word}
 
 module _ {Self Operand : Type 0} (m : Meaning Self Operand) where
   abbrev pub Facts : Type 0
-  Facts = List (Fact Operand m.Item)
+  Facts = List (Fact Operand m.Slot m.Item)
 
   abbrev pub Data : Type 0
   Data = List (Datum m.Item)
@@ -56,6 +56,7 @@ module _ {Self Operand : Type 0} (m : Meaning Self Operand) where
     -- a word may be read again
     pub again : (w : m.World) (b : Self) (o : Operand) (x : Word) (facts : Facts) (s : m.State) → m.denotes w b (of o (word x) ∷ facts) s → m.denotes w b (of o (word x) ∷ of o (word x) ∷ facts) s
     pub arg_again : (w : m.World) (b : Self) (n : ℕ) (x : Word) (facts : Facts) (s : m.State) → m.denotes w b (arg n (word x) ∷ facts) s → m.denotes w b (arg n (word x) ∷ arg n (word x) ∷ facts) s
+    pub bound_again : (w : m.World) (b : Self) (slot : m.Slot) (name : Name) (x : Word) (facts : Facts) (s : m.State) → m.denotes w b (bound slot name (word x) ∷ facts) s → m.denotes w b (bound slot name (word x) ∷ bound slot name (word x) ∷ facts) s
     -- no code does nothing
     pub nothing : (w : m.World) (f : Peer m.Item) (s : m.State) → m.does w f m.nothing s ≡ Done s
     -- an item with its blocks stands for one value
@@ -84,9 +85,11 @@ module _ {Self Operand : Type 0} (m : Meaning Self Operand) where
     pub empty : m.code b ≡ m.nothing
     pub endless : m.returned b ≡ None
     pub unasked : m.asked b ≡ []
+    pub closed : m.opened b ≡ []
+    pub unfinished : m.blocks b ≡ []
     pub world : m.World
     pub serves : m.serves world b
-    pub start : (w : m.World) (ds : Data) (acc : Account m.Item) (at : Option ℕ) → m.serves w b → IsCount (m.arguments b) (length ds) → AreLent ds → MayStand (m.imports b) (m.area w) at acc.heap → acc.taken ≡ option_to_list at
+    pub start : (w : m.World) (ds : Data) (acc : Account m.Item) (at : Option ℕ) → m.serves w b → IsCount (m.arguments b) (length ds) → AreLent ds → MayStand (m.imports b) (m.area w) at acc.heap → acc.taken ≡ option_to_list at → acc.guarded ≡ []
         → (s : m.State) × (m.account s ≡ acc) × (m.owns s ≡ option_to_list at) × (m.area_at s ≡ at) × m.denotes w b (args 0 ds) s
 
   -- 2. Code is added
@@ -101,16 +104,20 @@ module _ {Self Operand : Type 0} (m : Meaning Self Operand) where
     pub arguments : m.arguments new ≡ m.arguments old
     pub knows : (types : List TypeDef) → m.knows old types → m.knows new types
     pub target : (f : Function) → m.target new f ≡ m.target old f
+    pub opened : m.opened new ≡ m.opened old
+    -- what was known of a state is known of it still
+    pub known : (w : m.World) (facts : Facts) (s : m.State) → m.denotes w old facts s → m.denotes w new facts s
 
   -- code that is no call makes none, from whatever state
   abbrev pub Quiet : (old new : Self) → Type 0
   Quiet old new = (w : m.World) (f : Peer m.Item) (s : m.State) → m.serves w new → (account_in m.account (m.does w f (m.code new) s)).calls ≡ (account_in m.account (m.does w f (m.code old) s)).calls
 
-  -- code was added that makes no call, and does not ask for the area
+  -- code was added that makes no call, does not ask for the area, and leaves the finished blocks
   pub record Adds (old new : Self) : Type 0 where
     pub grows : Grows old new
     pub quiet : Quiet old new
     pub asked : m.asked new ≡ m.asked old
+    pub blocks : m.blocks new ≡ m.blocks old
 
   -- 3. It does an action
 
@@ -145,6 +152,7 @@ module _ {Self Operand : Type 0} (m : Meaning Self Operand) where
     pub quiet : Quiet old new
     pub returned : m.returned new ≡ m.returned old
     pub asked : m.asked new ≡ m.asked old ++ a ∷ []
+    pub blocks : m.blocks new ≡ m.blocks old
     pub row : (w : m.World) (f : Peer m.Item) (others : Facts) (s0 s : m.State) (at : Option ℕ) → At w f old new others s0 s → m.area_at s0 ≡ at → (at ≡ None → m.asked old ≡ [])
         → Follows m.account (pointing (m.area w) at (m.account s)) (m.does w f (m.code new) s0)
         (λ x t. After w new (of o (word (core.Pointer x.result)) ∷ others) (newly at x.result) [] s x t)

@@ -1,5 +1,6 @@
 pub mod Account
 pub mod Area
+pub mod Blocks
 pub mod Calls
 pub mod Exports
 pub mod Frees

@@ -36,7 +36,7 @@ use Rattle.abi_driver.specs.declared.plain.words.WordTouch.TheVariants as touche
 use Rattle.abi_driver.specs.Account.{Account, Act, Crossing, Done, Got, Outcome, Peer, Reply, Stuck, addresses, gives, reading, releasing, taking, then_do}
 use Rattle.abi_driver.specs.Area.{HoldsRecord, placing}
 use Rattle.abi_driver.specs.Calls.{calling, handing}
-use Rattle.abi_driver.specs.Meaning.{Datum, Fact, Meaning, arg, item, of, word}
+use Rattle.abi_driver.specs.Meaning.{Datum, Fact, Meaning, arg, bound, item, of, word}
 use Rattle.abi_driver.specs.Memory.{Access, freeing, loading, storing}
 use Rattle.abi_driver.specs.Touches.{Touch, loads, part_grain, stores}
 
@@ -323,12 +323,13 @@ abbrev pub runs : Option Request → Peer PlainItem → List Step → PlainState
 runs area p [] s = Done s
 runs area p (st ∷ steps) s = then_do (performed area st p (inputs st s) s) (λ t. runs area p steps t)
 
--- 4. The meaning
+-- 4. The meaning. It has no blocks
 
 -- an operand denotes what stands in its place, which was written
-abbrev pub IsRight : PlainBindgen → PlainState → Fact Place PlainItem → Type 0
+abbrev pub IsRight : PlainBindgen → PlainState → Fact Place (Unit {0}) PlainItem → Type 0
 IsRight b s (of o d) = (o.number < b.count) × (s.values o.number ≡ Some d)
 IsRight b s (arg n d) = s.arguments n ≡ Some d
+IsRight b s (bound slot name d) = ⊥
 
 -- a call goes to the core import of the function's name, or to the method
 abbrev pub plain_target : PlainBindgen → Function → Target
@@ -339,6 +340,8 @@ plain_meaning = record {
   World = Option Request;
   State = PlainState;
   Code = List Step;
+  Block = ⊥;
+  Slot = Unit {0};
   Item = PlainItem;
   width = 2;
   serves = λ w b. AllByRecursion (HoldsRecord 2 w) b.asked;
@@ -350,8 +353,13 @@ plain_meaning = record {
   owned = owned_by;
   nothing = [];
   does = λ w p. runs w p;
+  runs = λ w p block with s. absurd block;
+  enter = λ slot with s. s;
+  results_of = λ block. absurd block;
   denotes = λ w b facts s. AllByRecursion (IsRight b s) facts;
   code = λ b. b.steps;
+  opened = λ b. [];
+  blocks = λ b. [];
   imports = λ b. b.import;
   exports = λ b. not b.import;
   knows = λ b types. IsFilledFor b.sizes types;

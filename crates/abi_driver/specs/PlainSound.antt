@@ -288,6 +288,7 @@ plain_sound = record {
   one_item = λ w b o x y s h g. ap (item_or x) (some_same (item x) (item y) (sym h.0.1 ∙ g.0.1));
   again = λ w b o x facts s h. (h.0, h);
   arg_again = λ w b n x facts s h. (h.0, h);
+  bound_again = λ w b slot name x facts s h. (h.0, h);
   nothing = λ w f s. refl;
   determined = λ t v u a own hv hu h g. (stands_same t v u a a own own refl hv hu h g).0;
   given = given_on;

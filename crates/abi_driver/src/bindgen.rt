@@ -3,6 +3,7 @@
 ghost use Rattle.std.specs.Prelude.{◌≡◌, List, [], OnOk, IfOk};
 ghost use Rattle.wit_model.specs.declared.types.TypeDef.{TypeDef};
 ghost use Rattle.wit_layout.specs.Filled.{IsFilledFor};
+ghost use Rattle.abi_driver.specs.Blocks.{Finishes, IsOpen, Pushes};
 ghost use Rattle.abi_driver.specs.Instructions.{Emits, IsSendable};
 ghost use Rattle.abi_driver.specs.Area.{IsAlignment};
 ghost use Rattle.abi_driver.specs.Laws.{PointsTo, Sound};
@@ -33,8 +34,7 @@ pub struct Asked {
 ///
 /// What its code means is the ghost member `meaning`. The laws say what the code of each instruction does, so that a caller
 /// that knows no more than this trait knows what the code that it asked for does. A constructor ensures `IsNew`: without it
-/// the laws could be met by code that never runs. After an `Err` it is given up. Blocks and the instructions that have no
-/// line in `specs/Instructions` have no law so far.
+/// the laws could be met by code that never runs. After an `Err` it is given up.
 pub trait Bindgen {
     /// What denotes a word or a value in the code.
     type Operand: Operand;
@@ -55,11 +55,14 @@ pub trait Bindgen {
         requires empty { results.old ≡ [] }
         ensures { OnOk result (Emits meaning resolve.now.types inst.now operands.old results.new self.old self.new) };
 
-    /// Suspends the code, and begins a block.
-    fn push_block(&mut self) -> Result<(), OutOfMemory>;
+    /// Suspends the code, and opens a block.
+    fn push_block(&mut self) -> Result<(), OutOfMemory>
+        ensures { OnOk result (Pushes meaning self.old self.new) };
 
-    /// Ends the block with these results, and resumes the code before it.
-    fn finish_block(&mut self, operands: &mut List<Self::Operand>) -> Result<(), OutOfMemory>;
+    /// Closes the innermost open block with these results, and resumes the code before it. The operands are used up.
+    fn finish_block(&mut self, operands: &mut List<Self::Operand>) -> Result<(), OutOfMemory>
+        requires { IsOpen meaning self.old }
+        ensures { OnOk result (Finishes meaning operands.old self.old self.new) };
 
     /// What denotes the address of the return area, which has this size and alignment at least. The area of an import stands when its
     /// code begins, and that of an export is placed when it is first asked for.

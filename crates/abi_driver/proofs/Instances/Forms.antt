@@ -27,7 +27,7 @@ numbers many n = if nat_lt n many then Some (item (leaf (core.I32 (pos n) ∷ []
 -- the area stands at 4096, without a byte that was written, and nothing else is in the heap
 abbrev pub start : (size many : ℕ) → PlainState
 start size many = record {
-  account = record { heap = record { blocks = area_of size [] ∷ [] }; choices = []; requests = []; calls = []; taken = 4096 ∷ [] };
+  account = record { heap = record { blocks = area_of size [] ∷ [] }; choices = []; requests = []; calls = []; taken = 4096 ∷ []; guarded = [] };
   arguments = numbers many;
   area = Some 4096;
   values = λ n. None;
