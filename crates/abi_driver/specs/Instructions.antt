@@ -1,23 +1,43 @@
--- What each instruction does: one line an instruction. No code may be made yet of an instruction that has no line here.
-use Rattle.std.specs.Prelude.{◌≡◌, ◌<◌, ℕ, Bool, true, false, List, [], ◌∷◌, drop, length, map, Option, None, Some, IfSome, slice_get}
+-- What each instruction does: one line an instruction in each table.
+use Rattle.std.specs.Prelude.{◌≡◌, ◌<◌, ℕ, Bool, true, false, List, [], ◌∷◌, drop, length, map, replicate, Option, None, Some, IfSome, slice_get}
 use Rattle.wit_model.specs.IndexRange.{function_in_range}
+use Rattle.wit_model.specs.MapKey.{is_key}
 use Rattle.wit_model.specs.WellFormed.{IsWellFormed}
 use Rattle.wit_model.specs.declared.resolve.Resolve.{Resolve}
+use Rattle.wit_model.specs.declared.types.Case.{Case}
 use Rattle.wit_model.specs.declared.types.Field.{Field}
+use Rattle.wit_model.specs.declared.types.Member.{Member}
 use Rattle.wit_model.specs.declared.types.TypeDef.{TypeDef}
 use Rattle.wit_model.specs.declared.types.TypeDefKind.TheVariants as kind
 use Rattle.wit_model.specs.declared.types.WitType.{WitType}
 use Rattle.wit_model.specs.declared.types.WitType.TheVariants as wit
+use Rattle.wit_layout.specs.Flat.{words_of_flags}
+use Rattle.wit_layout.specs.Sizes.{elem_size}
 use Rattle.wit_layout.specs.Tree.{Scalar}
-use Rattle.wrapper_meaning.specs.Shape.{Shapes, payloads_in, shapes}
-use Rattle.wrapper_meaning.specs.Shape.Shape.{fields, tuple}
+use Rattle.wrapper_meaning.specs.InMemory.{entry_extent}
+use Rattle.wrapper_meaning.specs.Kinds.{is_plain}
+use Rattle.wrapper_meaning.specs.Layout.{layout}
+use Rattle.wrapper_meaning.specs.Shape.{Shapes, handle_in, payloads_in, shape_of, shapes}
+use Rattle.wrapper_meaning.specs.Shape.Shape.{fields, list, tuple}
 use Rattle.abi_driver.specs.declared.instruction.Instruction.{Instruction}
-use Rattle.abi_driver.specs.declared.instruction.Instruction.TheVariants.{CallInterface, CallWasm, Flush, Return, GetArg, I32FromBool, I32FromU8, I32FromS8, I32FromU16, I32FromS16, I32FromU32, I32FromS32, I32FromChar, I64FromU64, I64FromS64, CoreF32FromF32, CoreF64FromF64, BoolFromI32, U8FromI32, S8FromI32, U16FromI32, S16FromI32, U32FromI32, S32FromI32, CharFromI32, U64FromI64, S64FromI64, F32FromCoreF32, F64FromCoreF64, StringLower, StringLift, RecordLower, RecordLift, TupleLower, TupleLift, GuestDeallocate, GuestDeallocateString}
+use Rattle.abi_driver.specs.declared.instruction.Instruction.TheVariants.{CallInterface, CallWasm, Flush, Return, GetArg, I32FromBool, I32FromU8, I32FromS8, I32FromU16, I32FromS16, I32FromU32, I32FromS32, I32FromChar, I64FromU64, I64FromS64, CoreF32FromF32, CoreF64FromF64, BoolFromI32, U8FromI32, S8FromI32, U16FromI32, S16FromI32, U32FromI32, S32FromI32, CharFromI32, U64FromI64, S64FromI64, F32FromCoreF32, F64FromCoreF64, StringLower, StringLift, RecordLower, RecordLift, TupleLower, TupleLift, GuestDeallocate, GuestDeallocateString, I32Const, ConstZero, Bitcasts, FlagsLower, FlagsLift, HandleLower, HandleLift, VariantPayloadName, IterElem, IterMapKey, IterMapValue, IterBasePointer, VariantLower, OptionLower, ResultLower, EnumLower, VariantLift, OptionLift, ResultLift, EnumLift, ListCanonLower, ListCanonLift, ListLower, ListLift, MapLower, MapLift, FixedLengthListLower, FixedLengthListLift, FixedLengthListLowerToMemory, FixedLengthListLiftFromMemory, GuestDeallocateVariant, GuestDeallocateList, GuestDeallocateMap, GuestDeallocateFixed}
+use Rattle.abi_driver.specs.Arms.{FreesCase, serves_none, serves_others}
+use Rattle.abi_driver.specs.Blocks.{AreFinished, IsOpen, ReadsName}
 use Rattle.abi_driver.specs.Calls.{CallsCore, CallsMethod, Ends, Renames, import_params, import_results, is_call, result_count, returned_by}
+use Rattle.abi_driver.specs.Cases.{LiftsCase, LiftsEnum, LowersCase, LowersEnum, case_shapes, payload_counts, payloads_at}
+use Rattle.abi_driver.specs.Constants.{CastsWords, MakesNumber, MakesZeros}
+use Rattle.abi_driver.specs.Entries.{FreesEntries}
+use Rattle.abi_driver.specs.FixedLists.{FreesFixed, LiftsFixed, LoadsFixed, LowersFixed, StoresFixed}
+use Rattle.abi_driver.specs.FlagSets.{AreFlags, LiftsFlags, LowersFlags}
 use Rattle.abi_driver.specs.Frees.{FreesBlock, FreesText}
+use Rattle.abi_driver.specs.Handles.{IsHandle, LiftsHandleOf, LowersHandleOf}
+use Rattle.abi_driver.specs.HasList.{IsKindOf}
 use Rattle.abi_driver.specs.Laws.{Adds, Grows, Quiet, Stays, ofs}
-use Rattle.abi_driver.specs.Leaves.{LiftsScalar, LiftsText, LowersScalar, LowersText}
-use Rattle.abi_driver.specs.Meaning.{Datum, Meaning, arg}
+use Rattle.abi_driver.specs.Leaves.{LiftsScalar, LiftsText, LowersBuffer, LowersScalar, LowersText}
+pub use Rattle.abi_driver.specs.Leaves.{IsSide}
+use Rattle.abi_driver.specs.Lists.{LiftsCanonical, LiftsList, LowersList}
+use Rattle.abi_driver.specs.Maps.{LiftsMap, LowersMap}
+use Rattle.abi_driver.specs.Meaning.{Datum, Meaning, arg, the_base, the_element, the_key, the_payload, the_value}
 use Rattle.abi_driver.specs.Parts.{LiftsParts, LowersParts, count}
 use Rattle.abi_driver.specs.Touches.{RowOfTouch, Touch, touch, touch_makes, touch_reads}
 
@@ -118,6 +138,40 @@ ReadsOther types (TupleLower n) k = k ≡ 1
 ReadsOther types (TupleLift n) k = k ≡ n
 ReadsOther types (GuestDeallocate size align) k = k ≡ 1
 ReadsOther types GuestDeallocateString k = k ≡ 2
+ReadsOther types (I32Const z) k = k ≡ 0
+ReadsOther types (ConstZero zeros) k = k ≡ 0
+ReadsOther types (Bitcasts casts) k = k ≡ length casts.now
+ReadsOther types (FlagsLower id) k = k ≡ 1
+ReadsOther types (FlagsLift id) k = (n : ℕ) → AreFlags types id.0 n → k ≡ length (words_of_flags n)
+ReadsOther types (HandleLower h) k = k ≡ 1
+ReadsOther types (HandleLift h) k = k ≡ 1
+ReadsOther types VariantPayloadName k = k ≡ 0
+ReadsOther types IterElem k = k ≡ 0
+ReadsOther types IterMapKey k = k ≡ 0
+ReadsOther types IterMapValue k = k ≡ 0
+ReadsOther types IterBasePointer k = k ≡ 0
+ReadsOther types (VariantLower id n) k = k ≡ 1
+ReadsOther types (OptionLower id n) k = k ≡ 1
+ReadsOther types (ResultLower id n) k = k ≡ 1
+ReadsOther types (EnumLower id) k = k ≡ 1
+ReadsOther types (VariantLift id) k = k ≡ 1
+ReadsOther types (OptionLift id) k = k ≡ 1
+ReadsOther types (ResultLift id) k = k ≡ 1
+ReadsOther types (EnumLift id) k = k ≡ 1
+ReadsOther types (ListCanonLower ty realloc) k = k ≡ 1
+ReadsOther types (ListCanonLift ty) k = k ≡ 2
+ReadsOther types (ListLower ty realloc) k = k ≡ 1
+ReadsOther types (ListLift ty) k = k ≡ 2
+ReadsOther types (MapLower key val realloc) k = k ≡ 1
+ReadsOther types (MapLift key val) k = k ≡ 2
+ReadsOther types (FixedLengthListLower ty n) k = k ≡ 1
+ReadsOther types (FixedLengthListLift ty n) k = k ≡ n
+ReadsOther types (FixedLengthListLowerToMemory ty n) k = k ≡ 2
+ReadsOther types (FixedLengthListLiftFromMemory ty n) k = k ≡ 1
+ReadsOther types (GuestDeallocateVariant n) k = k ≡ 1
+ReadsOther types (GuestDeallocateList ty) k = k ≡ 2
+ReadsOther types (GuestDeallocateMap key val) k = k ≡ 2
+ReadsOther types (GuestDeallocateFixed ty n) k = k ≡ 1
 ReadsOther types _ k = ⊥
 
 abbrev pub ReadsTouch : List TypeDef → Instruction → Option Touch → ℕ → Type 0
@@ -145,6 +199,40 @@ MakesOther types (TupleLower n) k = k ≡ n
 MakesOther types (TupleLift n) k = k ≡ 1
 MakesOther types (GuestDeallocate size align) k = k ≡ 0
 MakesOther types GuestDeallocateString k = k ≡ 0
+MakesOther types (I32Const z) k = k ≡ 1
+MakesOther types (ConstZero zeros) k = k ≡ length zeros.now
+MakesOther types (Bitcasts casts) k = k ≡ length casts.now
+MakesOther types (FlagsLower id) k = (n : ℕ) → AreFlags types id.0 n → k ≡ length (words_of_flags n)
+MakesOther types (FlagsLift id) k = k ≡ 1
+MakesOther types (HandleLower h) k = k ≡ 1
+MakesOther types (HandleLift h) k = k ≡ 1
+MakesOther types VariantPayloadName k = k ≡ 1
+MakesOther types IterElem k = k ≡ 1
+MakesOther types IterMapKey k = k ≡ 1
+MakesOther types IterMapValue k = k ≡ 1
+MakesOther types IterBasePointer k = k ≡ 1
+MakesOther types (VariantLower id n) k = k ≡ n
+MakesOther types (OptionLower id n) k = k ≡ n
+MakesOther types (ResultLower id n) k = k ≡ n
+MakesOther types (EnumLower id) k = k ≡ 1
+MakesOther types (VariantLift id) k = k ≡ 1
+MakesOther types (OptionLift id) k = k ≡ 1
+MakesOther types (ResultLift id) k = k ≡ 1
+MakesOther types (EnumLift id) k = k ≡ 1
+MakesOther types (ListCanonLower ty realloc) k = k ≡ 2
+MakesOther types (ListCanonLift ty) k = k ≡ 1
+MakesOther types (ListLower ty realloc) k = k ≡ 2
+MakesOther types (ListLift ty) k = k ≡ 1
+MakesOther types (MapLower key val realloc) k = k ≡ 2
+MakesOther types (MapLift key val) k = k ≡ 1
+MakesOther types (FixedLengthListLower ty n) k = k ≡ n
+MakesOther types (FixedLengthListLift ty n) k = k ≡ 1
+MakesOther types (FixedLengthListLowerToMemory ty n) k = k ≡ 0
+MakesOther types (FixedLengthListLiftFromMemory ty n) k = k ≡ 1
+MakesOther types (GuestDeallocateVariant n) k = k ≡ 0
+MakesOther types (GuestDeallocateList ty) k = k ≡ 0
+MakesOther types (GuestDeallocateMap key val) k = k ≡ 0
+MakesOther types (GuestDeallocateFixed ty n) k = k ≡ 0
 MakesOther types _ k = ⊥
 
 abbrev pub MakesTouch : List TypeDef → Instruction → Option Touch → ℕ → Type 0
@@ -160,21 +248,65 @@ Makes types i k = MakesBy types i (lowered_scalar i) (lifted_scalar i) k
 
 -- the blocks that it uses up, the last finished one first, by how many results each has
 abbrev pub block_results : List TypeDef → Instruction → List ℕ
+block_results types (VariantLower id n) = replicate (length (payloads_at types id.0)) n
+block_results types (OptionLower id n) = n ∷ n ∷ []
+block_results types (ResultLower id n) = n ∷ n ∷ []
+block_results types (VariantLift id) = payload_counts (payloads_at types id.0)
+block_results types (OptionLift id) = payload_counts (payloads_at types id.0)
+block_results types (ResultLift id) = payload_counts (payloads_at types id.0)
+block_results types (ListLower ty realloc) = 0 ∷ []
+block_results types (ListLift ty) = 1 ∷ []
+block_results types (MapLower key val realloc) = 0 ∷ []
+block_results types (MapLift key val) = 2 ∷ []
+block_results types (FixedLengthListLowerToMemory ty n) = 0 ∷ []
+block_results types (FixedLengthListLiftFromMemory ty n) = 1 ∷ []
+block_results types (GuestDeallocateVariant n) = replicate n 0
+block_results types (GuestDeallocateList ty) = 0 ∷ []
+block_results types (GuestDeallocateMap key val) = 0 ∷ []
+block_results types (GuestDeallocateFixed ty n) = 0 ∷ []
 block_results types _ = []
 
 module _ {Self Operand : Type 0} (m : Meaning Self Operand) where
-  -- lists are lent by imports alone, and given away by exports alone
-  abbrev pub IsSide : (realloc : Bool) → Self → Type 0
-  IsSide false b = m.imports b ≡ true
-  IsSide true b = m.exports b ≡ true
+  -- so many of the finished blocks are there, with so many results each
+  abbrev pub HasBlocks : List ℕ → Self → Type 0
+  HasBlocks used b = AreFinished m b used (m.blocks b)
 
   abbrev pub Suits : Resolve → Instruction → Self → Type 0
   Suits r (GetArg n) b = IfSome (m.arguments b) (λ k. n < k)
-  Suits r (StringLower realloc) b = IsSide realloc b
+  Suits r (StringLower realloc) b = IsSide m realloc b
   Suits r (RecordLower id) b = (members : List Field) × IsRecord r.types id.0 members
   Suits r (RecordLift id) b = (members : List Field) × IsRecord r.types id.0 members
   Suits r (CallWasm f) b = (m.imports b ≡ true) × IsWellFormed r × (function_in_range r f.now ≡ true)
   Suits r (CallInterface f) b = m.exports b ≡ true
+  Suits r (FlagsLower id) b = (n : ℕ) × AreFlags r.types id.0 n
+  Suits r (FlagsLift id) b = (n : ℕ) × AreFlags r.types id.0 n
+  Suits r (HandleLower h) b = IsHandle (handle_in (shapes r.types) h)
+  Suits r (HandleLift h) b = IsHandle (handle_in (shapes r.types) h)
+  Suits r VariantPayloadName b = IsOpen m b
+  Suits r IterElem b = IsOpen m b
+  Suits r IterMapKey b = IsOpen m b
+  Suits r IterMapValue b = IsOpen m b
+  Suits r IterBasePointer b = IsOpen m b
+  Suits r (VariantLower id n) b = (members : List Case) × IsKindOf r.types id.0 (kind.Variant members) × HasBlocks (block_results r.types (VariantLower id n)) b
+  Suits r (OptionLower id n) b = (ty : WitType) × IsKindOf r.types id.0 (kind.Option ty) × HasBlocks (block_results r.types (OptionLower id n)) b
+  Suits r (ResultLower id n) b = (ok : Option WitType) × (err : Option WitType) × IsKindOf r.types id.0 (kind.Result ok err) × HasBlocks (block_results r.types (ResultLower id n)) b
+  Suits r (EnumLower id) b = (members : List Member) × IsKindOf r.types id.0 (kind.Enum members)
+  Suits r (VariantLift id) b = (members : List Case) × IsKindOf r.types id.0 (kind.Variant members) × HasBlocks (block_results r.types (VariantLift id)) b
+  Suits r (OptionLift id) b = (ty : WitType) × IsKindOf r.types id.0 (kind.Option ty) × HasBlocks (block_results r.types (OptionLift id)) b
+  Suits r (ResultLift id) b = (ok : Option WitType) × (err : Option WitType) × IsKindOf r.types id.0 (kind.Result ok err) × HasBlocks (block_results r.types (ResultLift id)) b
+  Suits r (EnumLift id) b = (members : List Member) × IsKindOf r.types id.0 (kind.Enum members)
+  Suits r (ListCanonLower ty realloc) b = IsSide m realloc b × (is_plain (shape_of r.types ty) ≡ true)
+  Suits r (ListCanonLift ty) b = is_plain (shape_of r.types ty) ≡ true
+  Suits r (ListLower ty realloc) b = IsSide m realloc b × (is_plain (shape_of r.types ty) ≡ false) × HasBlocks (0 ∷ []) b
+  Suits r (ListLift ty) b = (is_plain (shape_of r.types ty) ≡ false) × HasBlocks (1 ∷ []) b
+  Suits r (MapLower key val realloc) b = IsSide m realloc b × HasBlocks (0 ∷ []) b
+  Suits r (MapLift key val) b = (is_key r.types key ≡ true) × HasBlocks (2 ∷ []) b
+  Suits r (FixedLengthListLowerToMemory ty n) b = HasBlocks (0 ∷ []) b
+  Suits r (FixedLengthListLiftFromMemory ty n) b = HasBlocks (1 ∷ []) b
+  Suits r (GuestDeallocateVariant n) b = HasBlocks (replicate n 0) b
+  Suits r (GuestDeallocateList ty) b = HasBlocks (0 ∷ []) b
+  Suits r (GuestDeallocateMap key val) b = HasBlocks (0 ∷ []) b
+  Suits r (GuestDeallocateFixed ty n) b = HasBlocks (0 ∷ []) b
   Suits r _ b = Unit {0}
 
   -- when an instruction may be sent
@@ -198,6 +330,40 @@ module _ {Self Operand : Type 0} (m : Meaning Self Operand) where
   RowOther types (TupleLift n) os rs old new = (ts : Shapes) → count ts ≡ n → LiftsParts m ts (tuple ts) (λ v. v) os rs old new
   RowOther types (GuestDeallocate size align) os rs old new = FreesBlock m size os rs old new
   RowOther types GuestDeallocateString os rs old new = FreesText m os rs old new
+  RowOther types (I32Const z) os rs old new = MakesNumber m z rs old new
+  RowOther types (ConstZero zeros) os rs old new = MakesZeros m zeros.now rs old new
+  RowOther types (Bitcasts casts) os rs old new = CastsWords m casts.now os rs old new
+  RowOther types (FlagsLower id) os rs old new = (n : ℕ) → AreFlags types id.0 n → LowersFlags m n os rs old new
+  RowOther types (FlagsLift id) os rs old new = (n : ℕ) → AreFlags types id.0 n → LiftsFlags m n os rs old new
+  RowOther types (HandleLower h) os rs old new = LowersHandleOf m (handle_in (shapes types) h) os rs old new
+  RowOther types (HandleLift h) os rs old new = LiftsHandleOf m (handle_in (shapes types) h) os rs old new
+  RowOther types VariantPayloadName os rs old new = ReadsName m the_payload rs old new
+  RowOther types IterElem os rs old new = ReadsName m the_element rs old new
+  RowOther types IterMapKey os rs old new = ReadsName m the_key rs old new
+  RowOther types IterMapValue os rs old new = ReadsName m the_value rs old new
+  RowOther types IterBasePointer os rs old new = ReadsName m the_base rs old new
+  RowOther types (VariantLower id n) os rs old new = LowersCase m (case_shapes types id.0) os rs old new
+  RowOther types (OptionLower id n) os rs old new = LowersCase m (case_shapes types id.0) os rs old new
+  RowOther types (ResultLower id n) os rs old new = LowersCase m (case_shapes types id.0) os rs old new
+  RowOther types (EnumLower id) os rs old new = LowersEnum m (case_shapes types id.0) os rs old new
+  RowOther types (VariantLift id) os rs old new = LiftsCase m serves_others (case_shapes types id.0) os rs old new
+  RowOther types (OptionLift id) os rs old new = LiftsCase m serves_none (case_shapes types id.0) os rs old new
+  RowOther types (ResultLift id) os rs old new = LiftsCase m serves_none (case_shapes types id.0) os rs old new
+  RowOther types (EnumLift id) os rs old new = LiftsEnum m (case_shapes types id.0) os rs old new
+  RowOther types (ListCanonLower ty realloc) os rs old new = LowersBuffer m realloc (list (shape_of types ty)) os rs old new
+  RowOther types (ListCanonLift ty) os rs old new = LiftsCanonical m (shape_of types ty) os rs old new
+  RowOther types (ListLower ty realloc) os rs old new = LowersList m realloc (shape_of types ty) os rs old new
+  RowOther types (ListLift ty) os rs old new = LiftsList m (shape_of types ty) os rs old new
+  RowOther types (MapLower key val realloc) os rs old new = LowersMap m realloc (shape_of types key) (shape_of types val) os rs old new
+  RowOther types (MapLift key val) os rs old new = LiftsMap m (shape_of types key) (shape_of types val) os rs old new
+  RowOther types (FixedLengthListLower ty n) os rs old new = LowersFixed m (shape_of types ty) n os rs old new
+  RowOther types (FixedLengthListLift ty n) os rs old new = LiftsFixed m (shape_of types ty) n os rs old new
+  RowOther types (FixedLengthListLowerToMemory ty n) os rs old new = StoresFixed m (shape_of types ty) n os old new
+  RowOther types (FixedLengthListLiftFromMemory ty n) os rs old new = LoadsFixed m (shape_of types ty) n os rs old new
+  RowOther types (GuestDeallocateVariant n) os rs old new = FreesCase m n os old new
+  RowOther types (GuestDeallocateList ty) os rs old new = FreesEntries m (elem_size m.width (layout (shape_of types ty))) os old new
+  RowOther types (GuestDeallocateMap key val) os rs old new = FreesEntries m (entry_extent m.width (shape_of types key) (shape_of types val)).bytes os old new
+  RowOther types (GuestDeallocateFixed ty n) os rs old new = FreesFixed m (shape_of types ty) n os old new
   RowOther types _ os rs old new = ⊥
 
   abbrev pub RowTouch : List TypeDef → Instruction → Option Touch → (os rs : List Operand) → (old new : Self) → Type 0

@@ -7,8 +7,9 @@ use Rattle.wrapper_data.specs.declared.word.Word.TheVariants as core
 use Rattle.wrapper_meaning.specs.AsWords.{IsTaken, Says, passed_word}
 use Rattle.wrapper_meaning.specs.Direction.{Direction, give, lend, take}
 use Rattle.wrapper_meaning.specs.InRange.{IsScalar}
+use Rattle.wrapper_meaning.specs.Shape.{Shape}
 use Rattle.wrapper_meaning.specs.Shape.Shape.{scalar, text}
-use Rattle.wrapper_meaning.specs.Value.{ScalarValue}
+use Rattle.wrapper_meaning.specs.Value.{ScalarValue, Value}
 use Rattle.abi_driver.specs.Account.{Taken, addresses, reading, releasing, taking}
 use Rattle.abi_driver.specs.Laws.{Does, Stays, core_data, ofs}
 use Rattle.abi_driver.specs.Meaning.{Meaning, item, word}
@@ -19,6 +20,11 @@ way false heap = lend heap
 way true heap = give
 
 module _ {Self Operand : Type 0} (m : Meaning Self Operand) where
+  -- lists are lent by imports alone, and given away by exports alone
+  abbrev pub IsSide : (realloc : Bool) → Self → Type 0
+  IsSide false b = m.imports b ≡ true
+  IsSide true b = m.exports b ≡ true
+
   -- a scalar becomes its word
   abbrev pub LowersScalar : Scalar → (os rs : List Operand) → (old new : Self) → Type 0
   LowersScalar s os rs old new =
@@ -32,12 +38,15 @@ module _ {Self Operand : Type 0} (m : Meaning Self Operand) where
       (λ u fs. (a : m.Item) × (fs ≡ ofs m rs (item a ∷ [])) × ((v : ScalarValue s) → IsScalar s v → IsTaken s v x → m.stands take (scalar s) v a []))
       (λ u. []) (λ u. [])
 
-  -- a text becomes its address and its length; where it is given away, its block has no owner any more
-  abbrev pub LowersText : Bool → (os rs : List Operand) → (old new : Self) → Type 0
-  LowersText realloc os rs old new =
-      (heap : List Block) (bytes : List ℕ) (a : m.Item) (own : List Block) → m.stands (way realloc heap) text bytes a own →
-      (ws : List Word) × Says m.width (way realloc heap) text bytes ws own
+  -- a value that lies in memory as it is becomes its address and its length; where it is given away, its block has no owner any more
+  abbrev pub LowersBuffer : Bool → (t : Shape) → (os rs : List Operand) → (old new : Self) → Type 0
+  LowersBuffer realloc t os rs old new =
+      (heap : List Block) (v : Value t) (a : m.Item) (own : List Block) → m.stands (way realloc heap) t v a own →
+      (ws : List Word) × Says m.width (way realloc heap) t v ws own
       × Does m (Unit {0}) old new (ofs m os (item a ∷ [])) (λ f. releasing (addresses own)) (λ u fs. fs ≡ ofs m rs (core_data m ws)) (λ u. []) (λ u. addresses own)
+
+  abbrev pub LowersText : Bool → (os rs : List Operand) → (old new : Self) → Type 0
+  LowersText realloc os rs old new = LowersBuffer realloc text os rs old new
 
   -- an address and a length become the text that is taken over there
   abbrev pub LiftsText : (os rs : List Operand) → (old new : Self) → Type 0
