@@ -54,9 +54,9 @@ module _ {Self Operand : Type 0} (m : Meaning Self Operand) where
   LoadsFixed t n os rs old new =
       (body : m.Block) (later : List m.Block) → m.blocks old ≡ body ∷ later → (address : ℕ) (w : m.World) (p : Peer m.Item) (others : Facts m) (s0 s : m.State)
       → At m w p old new (ofs m os (word (core.Pointer address) ∷ []) ++ others) s0 s
-      → (begin : Account m.Item → m.State) × ((acc : Account m.Item) → Moved m w old (ofs m os (word (core.Pointer address) ∷ [])) [] s acc (begin acc))
-      × (by : PutsBy m (λ vals. flat_map m.owned vals) w p old body begin)
-      × Follows m.account (gathers m (m.runs w p body) (one_more m) by.put (places m (elem_size m.width (layout t)) address n) [] (begin (m.account s))) (m.does w p (m.code new) s0)
+      → (begin : m.State) × Moved m w old (ofs m os (word (core.Pointer address) ∷ [])) [] s (m.account s) begin
+      × (by : PutsBy m (λ vals. flat_map m.owned vals) (one_more m) w p old body begin)
+      × Follows m.account (gathers m (m.runs w p body) (one_more m) by.put (places m (elem_size m.width (layout t)) address n) [] begin) (m.does w p (m.code new) s0)
         (Arrives m w old new others
           (λ vals fs. (a : m.Item) × (fs ≡ ofs m rs (item a ∷ [])) × ((vs : List (Value t)) (own : List Block) → EachStands (m.stands take t) vs vals own → m.stands take (fixed t n) vs a own))
           (λ vals. []))

@@ -52,13 +52,13 @@ module _ {Self Operand : Type 0} (m : Meaning Self Operand) where
   -- 3. What the turns give is gathered
 
   -- it is put by, in a local that no operand needs and no block changes, and which owns what was put there last
-  pub record PutsBy {R : Type 0} (owned : R → List ℕ) (w : m.World) (p : Peer m.Item) (old : Self) (body : m.Block) (begin : Account m.Item → m.State) : Type 0 where
+  pub record PutsBy {R : Type 0} (owned : R → List ℕ) (add : Data m → R → Act m.Item R) (w : m.World) (p : Peer m.Item) (old : Self) (body : m.Block) (begin : m.State) : Type 0 where
     pub put : R → Account m.Item → m.State → m.State
     pub held : m.State → List ℕ
-    pub begins : (acc : Account m.Item) → held (begin acc) ≡ []
+    pub begins : held begin ≡ []
     pub stays : (with : Bound m.Item) (s : m.State) (e : Ended m.Item m.State) → m.runs w p body with s ≡ Done e → held e.state ≡ held s
     pub puts : (r : R) (acc : Account m.Item) (s : m.State) → held (put r acc s) ≡ owned r
-    pub account : (r : R) (acc : Account m.Item) (s : m.State) → m.account (put r acc s) ≡ acc
+    pub account : (ds : Data m) (r : R) (s : m.State) (x : Got m.Item R) → add ds r (m.account s) ≡ Done x → m.account (put x.result x.account s) ≡ x.account
     pub owns : (r : R) (acc : Account m.Item) (s : m.State) → SameItems (m.owns (put r acc s) ++ held s) (m.owns s ++ owned r)
     pub denotes : (r : R) (acc : Account m.Item) (s : m.State) (facts : Facts m) → m.denotes w old facts s → m.denotes w old facts (put r acc s)
 

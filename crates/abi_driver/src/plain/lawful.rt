@@ -26,7 +26,7 @@ impl Bindgen for PlainBindgen {
     ghost sound = { plain_sound };
 
     /// The steps of arguments, scalars, texts, records and tuples, of words in memory, of blocks that are freed, and of calls. Of any
-    /// other instruction, which has no row yet, the answer is `OutOfMemory`.
+    /// other instruction the answer is `OutOfMemory`, and so it is where a block of code is opened.
     fn emit(
         &mut self,
         resolve: &Resolve,
