@@ -27,6 +27,22 @@ within_count limit later n i e h l = subst (λ o. IfSome o (λ k. i < k)) (sym e
     by None h = tt
     by (Some k) h = omega (arith, h, l)
 
+-- and so are those below a number up to which there are arguments
+pub within_limit : (limit later : Option ℕ) (n i : ℕ) → later ≡ limit → IfSome limit (λ k. n ≤ k) → i < n → IfSome later (λ k. i < k)
+within_limit limit later n i e h l = subst (λ o. IfSome o (λ k. i < k)) (sym e) (by limit h)
+  where
+    by : (o : Option ℕ) → IfSome o (λ k. n ≤ k) → IfSome o (λ k. i < k)
+    by None h = tt
+    by (Some k) h = omega (arith, h, l)
+
+-- arguments up to one behind which there are so many more
+pub within_words : (limit later : Option ℕ) (n first here left : ℕ) → later ≡ limit → IfSome limit (λ k. k ≡ n) → first + left ≡ n → here ≤ left → IfSome later (λ k. first + here ≤ k)
+within_words limit later n first here left e h sum l = subst (λ o. IfSome o (λ k. first + here ≤ k)) (sym e) (by limit h)
+  where
+    by : (o : Option ℕ) → IfSome o (λ k. k ≡ n) → IfSome o (λ k. first + here ≤ k)
+    by None h = tt
+    by (Some k) h = omega (arith, h, sum, l)
+
 module _ {Self Operand : Type 0} (m : Meaning Self Operand) (sound : Sound m) (types : List TypeDef) where
   no_arguments : (first : ℕ) (a : Self) → LowersArguments m false none first [] a a
   no_arguments first a = record {

@@ -55,16 +55,6 @@ use Rattle.abi_driver.proofs.Runs.{adds_both, adds_same, addresses_both, follows
 pub export_words : (types : List TypeDef) (f : Function) → export_params types f ≡ argument_words (param_shapes types f)
 export_words types f = ap (λ ps. core_params GuestExport ps (signature.result_words types f.result)) (sym (signature_is_by_shapes types f).0)
 
-few_words : (n : ℕ) → nat_lt 16 n ≡ false → min 16 n ≡ n
-few_words n e = min-eq_right (ltb-false 16 n e)
-
-pub export_count : (types : List TypeDef) (f : Function) (s : WasmSignature) → IsFlattenedFunctype types GuestExport f s → s.params.count ≡ length (argument_words (param_shapes types f))
-export_count types f s is = is.params_told.count ∙ ap (λ tys. min 16 (length tys)) (export_words types f) ∙ by (are_indirect (param_shapes types f)) refl
-  where
-    by : (c : Bool) → are_indirect (param_shapes types f) ≡ c → min 16 (length (if c then wasm.Pointer ∷ [] else flatten_record (layouts (param_shapes types f)))) ≡ length (if c then wasm.Pointer ∷ [] else flatten_record (layouts (param_shapes types f)))
-    by true e = refl
-    by false e = few_words (length (flatten_record (layouts (param_shapes types f)))) e
-
 -- the signature tells whether the arguments pass by a record, and whether the result does
 pub export_indirect : (types : List TypeDef) (f : Function) (s : WasmSignature) → IsFlattenedFunctype types GuestExport f s → s.indirect_params ≡ are_indirect (param_shapes types f)
 export_indirect types f s is = is.indirect ∙ sym (ap are_many (signature_is_by_shapes types f).0)

@@ -4,6 +4,7 @@ pub mod AreaHeaps
 pub mod AreaSteps
 pub mod HasList
 pub mod LiftSteps
+pub mod LiftedArguments
 pub mod LowerSteps
 pub mod Ordinary
 pub mod PlainArea

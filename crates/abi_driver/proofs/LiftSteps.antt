@@ -28,7 +28,7 @@ use Rattle.abi_driver.specs.Account.{Account, Done, Follows, Got, Outcome, Taken
 use Rattle.abi_driver.specs.Instructions.{Emits, IsRecord, RowBy, field_shapes, lifted_scalar, lifting, lowered_scalar, shapes_of}
 use Rattle.abi_driver.specs.Laws.{Adds, After, At, Facts, Sound, core_data, item_data, ofs}
 use Rattle.abi_driver.specs.Leaves.{LiftsScalar}
-use Rattle.abi_driver.specs.Lifts.{LiftsAll, LiftsFlat, MayTake, TakesOver, took}
+use Rattle.abi_driver.specs.Lifts.{LiftsAll, LiftsFlat, MayTake, OneStands, TakesOver, took}
 use Rattle.abi_driver.specs.Meaning.{Meaning, item, of, word}
 use Rattle.abi_driver.specs.Parts.{LiftsParts, PartsStand, count}
 use Rattle.abi_driver.proofs.Ordinary.{adds_of, lifts_ordinary}
@@ -142,46 +142,53 @@ module _ {Self Operand : Type 0} (m : Meaning Self Operand) (sound : Sound m) (t
         );
   }
 
+  -- what takes over the words of a value, and then what takes over those of other parts
+  pub takes_both : (t : Shape) (ts : Shapes) (v : Parts (more t ts)) (xs ys : Facts m) (own1 own2 : List Block) (a b c : Self) (o : Operand) (parts : List Operand) → Adds m b c
+      → TakesOver m (OneStands m t v.0 own1) xs own1 (o ∷ []) a b → TakesOver m (λ vals. PartsStand m take ts (all_settled ts v.1) vals own2) ys own2 parts b c
+      → TakesOver m (λ vals. PartsStand m take (more t ts) (all_settled (more t ts) v) vals (own1 ++ own2)) (xs ++ ys) (own1 ++ own2) (o ∷ parts) a c
+  takes_both t ts v xs ys own1 own2 a b c o parts adds first later w f others s0 st at may =
+      let acc = m.account st in
+      let at1 : At m w f a b (xs ++ (ys ++ others)) s0 st = record { serves = adds.grows.serves w at.serves; done = at.done; holds = subst (λ fs. m.denotes w a fs st) (append_assoc xs ys others) at.holds } in
+      let one = first w f (ys ++ others) s0 st at1 (may_first own1 own2 acc may) in
+      let t1 = one.0 in
+      let x = one.3.0 in
+      let after1 = one.4 in
+      let holds2 : m.denotes w b ((of o (item x) ∷ []) ++ (ys ++ others)) t1 = subst (λ vs. m.denotes w b (ofs m (o ∷ []) (item_data m vs) ++ (ys ++ others)) t1) one.3.1 after1.denotes in
+      let at2 : At m w f b c (ys ++ ((of o (item x) ∷ []) ++ others)) s0 t1 = record { serves = at.serves; done = one.1; holds = sound.swap w b (of o (item x) ∷ []) ys others t1 holds2 } in
+      let may2 : MayTake own2 (m.account t1) = subst (MayTake own2) (sym after1.account) (may_rest own1 own2 acc may) in
+      let two = later w f ((of o (item x) ∷ []) ++ others) s0 t1 at2 may2 in
+      let u = two.0 in
+      let zs : Facts m = ofs m parts (item_data m two.2) in
+      let after2 = two.4 in (
+        u,
+        two.1,
+        x ∷ two.2,
+        (x, two.2, own1, own2, refl, one.3.2, two.3, refl),
+        record {
+          account = after2.account ∙ ap (took own2) after1.account ∙ took_both own1 own2 acc;
+          owns = λ g.
+              let all : total g (addresses (own1 ++ own2)) ≡ total g (addresses own1) + total g (addresses own2) = ap (total g) (addresses_both own1 own2) ∙ total-append g (addresses own1) (addresses own2) in
+              omega (arith, all, after1.owns g, after2.owns g, total-append g (m.owns u) [], total-append g (m.owns t1) [], total-append g (m.owns t1) (addresses own2), total-append g (m.owns st) (addresses own1), total-append g (m.owns st) (addresses (own1 ++ own2)));
+          denotes = sound.swap w c zs (of o (item x) ∷ []) others u after2.denotes;
+        },
+      )
+
   pub more_lifts : (t : Shape) (ts : Shapes) (a b c : Self) (os qs : List Operand) (o : Operand) (parts : List Operand) → LiftsFlat m t os o a b → LiftsAll m ts qs parts b c → LiftsAll m (more t ts) (os ++ qs) (o ∷ parts) a c
   more_lifts t ts a b c os qs o parts first later = record {
     adds = adds_both m a b c first.adds later.adds;
     fits = length-append os qs ∙ omega (arith, first.fits, later.fits, length-append (flatten_type (layout t)) (flatten_record (layouts ts)));
-    row = λ v ws own listed says w f others s0 st at may.
+    row = λ v ws own listed says.
         let ws1 = says.0 in
         let ws2 = says.1 in
         let own1 = says.2 in
         let own2 = says.3 in
-        let acc = m.account st in
         let xs : Facts m = ofs m os (core_data m ws1) in
         let ys : Facts m = ofs m qs (core_data m ws2) in
         let len : length (core_data m ws1) ≡ length os = length-map ws1 (λ w. word w) ∙ says_length m.width take t v.0 ws1 own1 listed.0 says.4 ∙ sym first.fits in
         let facts : ofs m (os ++ qs) (core_data m ws) ≡ xs ++ ys = ap (λ zs. ofs m (os ++ qs) (core_data m zs)) says.6 ∙ ap (ofs m (os ++ qs)) (core_append m ws1 ws2) ∙ ofs_append m os qs (core_data m ws1) (core_data m ws2) len in
-        let holds1 : m.denotes w a (xs ++ (ys ++ others)) st = subst (λ fs. m.denotes w a fs st) (ap (λ fs. fs ++ others) facts ∙ append_assoc xs ys others) at.holds in
-        let at1 : At m w f a b (xs ++ (ys ++ others)) s0 st = record { serves = later.adds.grows.serves w at.serves; done = at.done; holds = holds1 } in
-        let may1 : MayTake (own1 ++ own2) acc = subst (λ bs. MayTake bs acc) says.7 may in
-        let one = first.row v.0 ws1 own1 listed.0 says.4 w f (ys ++ others) s0 st at1 (may_first own1 own2 acc may1) in
-        let t1 = one.0 in
-        let x = one.3.0 in
-        let after1 = one.4 in
-        let holds2 : m.denotes w b ((of o (item x) ∷ []) ++ (ys ++ others)) t1 = subst (λ vs. m.denotes w b (ofs m (o ∷ []) (item_data m vs) ++ (ys ++ others)) t1) one.3.1 after1.denotes in
-        let at2 : At m w f b c (ys ++ ((of o (item x) ∷ []) ++ others)) s0 t1 = record { serves = at.serves; done = one.1; holds = sound.swap w b (of o (item x) ∷ []) ys others t1 holds2 } in
-        let may2 : MayTake own2 (m.account t1) = subst (MayTake own2) (sym after1.account) (may_rest own1 own2 acc may1) in
-        let two = later.row v.1 ws2 own2 listed.1 says.5 w f ((of o (item x) ∷ []) ++ others) s0 t1 at2 may2 in
-        let u = two.0 in
-        let zs : Facts m = ofs m parts (item_data m two.2) in
-        let after2 = two.4 in (
-          u,
-          two.1,
-          x ∷ two.2,
-          (x, two.2, own1, own2, refl, one.3.2, two.3, says.7),
-          record {
-            account = after2.account ∙ ap (took own2) after1.account ∙ took_both own1 own2 acc ∙ ap (λ bs. took bs acc) (sym says.7);
-            owns = λ g.
-                let all : total g (addresses own) ≡ total g (addresses own1) + total g (addresses own2) = ap (λ bs. total g (addresses bs)) says.7 ∙ ap (total g) (addresses_both own1 own2) ∙ total-append g (addresses own1) (addresses own2) in
-                omega (arith, all, after1.owns g, after2.owns g, total-append g (m.owns u) [], total-append g (m.owns t1) [], total-append g (m.owns t1) (addresses own2), total-append g (m.owns st) (addresses own1), total-append g (m.owns st) (addresses own));
-            denotes = sound.swap w c zs (of o (item x) ∷ []) others u after2.denotes;
-          },
-        );
+        let P : Facts m → List Block → Type 0 = λ ins bs. TakesOver m (λ vals. PartsStand m take (more t ts) (all_settled (more t ts) v) vals bs) ins bs (o ∷ parts) a c in
+        let both = takes_both t ts v xs ys own1 own2 a b c o parts later.adds (first.row v.0 ws1 own1 listed.0 says.4) (later.row v.1 ws2 own2 listed.1 says.5) in
+        subst (λ ins. P ins own) (sym facts) (subst (P (xs ++ ys)) (sym says.7) both);
   }
 
   pub stand_count : (ts : Shapes) (v : Parts ts) (vals : List m.Item) (own : List Block) → PartsStand m take ts v vals own → length vals ≡ count ts
@@ -190,7 +197,7 @@ module _ {Self Operand : Type 0} (m : Meaning Self Operand) (sound : Sound m) (t
 
   -- what a value becomes of its parts
   parts_row : (ts : Shapes) (t : Shape) (whole : Parts ts → Value t) (a b c : Self) (os parts : List Operand) (r : Operand) → LiftsAll m ts os parts a b → Adds m b c → LiftsParts m ts t whole parts (r ∷ []) b c
-      → (v : Parts ts) (ws : List Word) (own : List Block) → AreListed ts v → PartsSay m.width take ts v ws own → TakesOver m (λ vals. (x : m.Item) × (vals ≡ x ∷ []) × m.stands take t (whole (all_settled ts v)) x own) os ws own (r ∷ []) a c
+      → (v : Parts ts) (ws : List Word) (own : List Block) → AreListed ts v → PartsSay m.width take ts v ws own → TakesOver m (λ vals. (x : m.Item) × (vals ≡ x ∷ []) × m.stands take t (whole (all_settled ts v)) x own) (ofs m os (core_data m ws)) own (r ∷ []) a c
   parts_row ts t whole a b c os parts r first adds row v ws own listed says w f others s0 st at may =
       let at1 : At m w f a b (ofs m os (core_data m ws) ++ others) s0 st = record { serves = adds.grows.serves w at.serves; done = at.done; holds = at.holds } in
       let one = first.row v ws own listed says w f others s0 st at1 may in

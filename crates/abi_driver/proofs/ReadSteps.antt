@@ -1,4 +1,4 @@
--- The arguments of an export are read, one word after another.
+-- Arguments of an export are read, one word after another.
 use Rattle.std.proofs.Common.{◌≡◌, ℕ, zero, suc, ◌+◌, List, [], ◌∷◌, ◌++◌, length, refl, sym, ap, ◌∙◌, subst, arith}
 use Rattle.std.proofs.lemmas.List.{length-append, length-map}
 use Rattle.wit_model.specs.declared.types.TypeDef.{TypeDef}
@@ -32,27 +32,31 @@ module _ {Self Operand : Type 0} (m : Meaning Self Operand) (sound : Sound m) (t
       let e : suc n + length ds ≡ n + suc (length ds) = omega arith in
       ap (λ fs. arg n d ∷ fs) (args_append (suc n) ds es ∙ ap (λ k. args m (suc n) ds ++ args m k es) e)
 
-  no_words : (a : Self) (ws : List Word) → length ws ≡ 0 → Stays m a a (args m 0 (core_data m ws)) (λ fs. fs ≡ ofs m [] (core_data m ws))
-  no_words a [] e = does_none m a
-  no_words a (x ∷ ws) e = absurd (omega (arith, e))
+  -- words of which so many come first
+  pub args_both : (first n : ℕ) (ws xs ys : List Word) → ws ≡ xs ++ ys → length xs ≡ n → args m first (core_data m ws) ≡ args m first (core_data m xs) ++ args m (first + n) (core_data m ys)
+  args_both first n ws xs ys is many =
+      ap (λ zs. args m first (core_data m zs)) is ∙ ap (args m first) (core_append m xs ys) ∙ args_append first (core_data m xs) (core_data m ys)
+      ∙ ap (λ k. args m first (core_data m xs) ++ args m (first + k) (core_data m ys)) (length-map xs (λ w. word w) ∙ many)
 
-  pub reads_none : (a : Self) → ReadsWords m 0 [] a a
-  reads_none a = record { adds = adds_same m a; fits = refl; row = no_words a }
+  no_words : (first : ℕ) (a : Self) (ws : List Word) → length ws ≡ 0 → Stays m a a (args m first (core_data m ws)) (λ fs. fs ≡ ofs m [] (core_data m ws))
+  no_words first a [] e = does_none m a
+  no_words first a (x ∷ ws) e = absurd (omega (arith, e))
 
-  pub reads_next : (n : ℕ) (os now : List Operand) (a b c : Self) (o : Operand) → ReadsWords m n os a b → Emits m types (GetArg n) [] (o ∷ []) b c → now ≡ os ++ o ∷ [] → ReadsWords m (n + 1) now a c
-  reads_next n os now a b c o first e is = subst (λ xs. ReadsWords m (n + 1) xs a c) (sym is) (record {
-    adds = adds_both m a b c first.adds e.adds;
-    fits = length-append os (o ∷ []) ∙ ap (λ k. k + 1) first.fits;
+  pub reads_none : (first : ℕ) (a : Self) → ReadsWords m first 0 [] a a
+  reads_none first a = record { adds = adds_same m a; fits = refl; row = no_words first a }
+
+  pub reads_next : (first n : ℕ) (os now : List Operand) (a b c : Self) (o : Operand) → ReadsWords m first n os a b → Emits m types (GetArg (first + n)) [] (o ∷ []) b c → now ≡ os ++ o ∷ [] → ReadsWords m first (n + 1) now a c
+  reads_next first n os now a b c o before e is = subst (λ xs. ReadsWords m first (n + 1) xs a c) (sym is) (record {
+    adds = adds_both m a b c before.adds e.adds;
+    fits = length-append os (o ∷ []) ∙ ap (λ k. k + 1) before.fits;
     row = λ ws len.
         let l = ended n ws len in
         let ds = core_data m l.first in
         let many : length ds ≡ n = length-map l.first (λ w. word w) ∙ l.many in
-        let at : 0 + length ds ≡ n = omega (arith, many) in
-        let ins : args m 0 (core_data m ws) ≡ args m 0 ds ++ arg n (word l.last) ∷ [] =
-        ap (λ zs. args m 0 (core_data m zs)) l.is ∙ ap (args m 0) (core_append m l.first (l.last ∷ [])) ∙ args_append 0 ds (word l.last ∷ []) ∙ ap (λ k. args m 0 ds ++ arg k (word l.last) ∷ []) at in
+        let ins : args m first (core_data m ws) ≡ args m first ds ++ arg (first + n) (word l.last) ∷ [] = args_both first n ws l.first (l.last ∷ []) l.is l.many in
         let outs : ofs m (os ++ o ∷ []) (core_data m ws) ≡ ofs m os ds ++ of o (word l.last) ∷ [] =
-        ap (λ zs. ofs m (os ++ o ∷ []) (core_data m zs)) l.is ∙ ap (ofs m (os ++ o ∷ [])) (core_append m l.first (l.last ∷ [])) ∙ ofs_append m os (o ∷ []) ds (word l.last ∷ []) (many ∙ sym first.fits) in
-        let both = does_both m sound a b c (args m 0 ds) (arg n (word l.last) ∷ []) (ofs m os ds) (of o (word l.last) ∷ []) [] [] e.adds (first.row l.first l.many) (e.row (word l.last)) in
+        ap (λ zs. ofs m (os ++ o ∷ []) (core_data m zs)) l.is ∙ ap (ofs m (os ++ o ∷ [])) (core_append m l.first (l.last ∷ [])) ∙ ofs_append m os (o ∷ []) ds (word l.last ∷ []) (many ∙ sym before.fits) in
+        let both = does_both m sound a b c (args m first ds) (arg (first + n) (word l.last) ∷ []) (ofs m os ds) (of o (word l.last) ∷ []) [] [] e.adds (before.row l.first l.many) (e.row (word l.last)) in
         subst (λ fs. Stays m a c fs (λ gs. gs ≡ ofs m (os ++ o ∷ []) (core_data m ws))) (sym ins)
-        (subst (λ (fs : Facts m). Stays m a c (args m 0 ds ++ arg n (word l.last) ∷ []) (λ gs. gs ≡ fs)) (sym outs) both);
+        (subst (λ (fs : Facts m). Stays m a c (args m first ds ++ arg (first + n) (word l.last) ∷ []) (λ gs. gs ≡ fs)) (sym outs) both);
   })

@@ -1,5 +1,6 @@
--- The arguments of an export: words that are read and lifted, or a record that is loaded and then freed.
-use Rattle.std.proofs.Common.{◌≡◌, ◌⊎◌, ◌<◌, ℕ, zero, suc, ◌+◌, ◌-◌, ◌%◌, ◌^◌, ◌||◌, Bool, true, false, nat_eq, nat_lt, if◌then◌else◌, MatchBool, List, [], ◌∷◌, ◌++◌, length, find, None, Some, Contains, refl, sym, ap, ◌∙◌, subst, arith, append-nil}
+-- The arguments of an export: words that are lifted, or a record that is loaded and then freed.
+use Rattle.std.proofs.Common.{◌≡◌, ◌⊎◌, ◌≤◌, ◌<◌, ℕ, zero, suc, ◌+◌, ◌-◌, ◌*◌, ◌%◌, ◌^◌, ◌||◌, Bool, true, false, nat_eq, nat_lt, if◌then◌else◌, MatchBool, List, [], ◌∷◌, ◌++◌, length, find, Option, None, Some, Contains, refl, sym, ap, ap₂, ◌∙◌, subst, arith, append-nil}
+use Rattle.std.specs.List.{list_any}
 use mathlib.Core.Logic.{inl, inr}
 use Rattle.std.proofs.lemmas.Bool.{cond-false, eq-eqb, eqb-true, le-ltb, or_from, or_left, or_parts, or_right, true≢false}
 use Rattle.std.proofs.lemmas.List.Folds.{list_any-append}
@@ -19,18 +20,18 @@ use Rattle.wrapper_meaning.specs.Direction.{take}
 use Rattle.wrapper_meaning.specs.InRange.{AreListed}
 use Rattle.wrapper_meaning.specs.Items.{SameItems, total}
 use Rattle.wrapper_meaning.specs.Layout.{layout, layouts}
-use Rattle.wrapper_meaning.specs.Represents.{Begins, TakesRecord, are_indirect, param_words}
+use Rattle.wrapper_meaning.specs.Represents.{Begins, TakesArguments, TakesRecord, are_indirect}
 use Rattle.wrapper_meaning.specs.Settled.{all_settled}
 use Rattle.wrapper_meaning.specs.Shape.{Shapes}
 use Rattle.wrapper_meaning.specs.Shape.Shape.{fields}
 use Rattle.wrapper_meaning.specs.Value.{Parts}
 use Rattle.wrapper_meaning.proofs.Lists.{some_same}
 use Rattle.wrapper_meaning.proofs.PartPlaces.{parts_end}
-use Rattle.abi_driver.specs.Account.{Account, Done, Got, Outcome, Peer, addresses, failing, is_at, is_taken, releasing, stay}
-use Rattle.abi_driver.specs.Exports.{ReadsWords, TakesArgumentsOver, TakesRecordOver, TookOver}
+use Rattle.abi_driver.specs.Account.{Account, Done, Got, Outcome, Peer, addresses, failing, is_at, is_taken, stay}
+use Rattle.abi_driver.specs.Exports.{FreesArguments, TakesArgumentsOver, TakesRecordOver, TookOver}
 use Rattle.abi_driver.specs.Frees.{nowhere}
-use Rattle.abi_driver.specs.Laws.{Adds, At, Facts, Sound, args, core_data, item_data, ofs}
-use Rattle.abi_driver.specs.Lifts.{AreFree, LiftsAll, MayTake, took}
+use Rattle.abi_driver.specs.Laws.{Adds, After, At, Facts, Sound, args, core_data, item_data, ofs}
+use Rattle.abi_driver.specs.Lifts.{AreFree, LiftsArguments, MayTake, by_taking, took}
 use Rattle.abi_driver.specs.Meaning.{Meaning, arg, of, word}
 use Rattle.abi_driver.specs.Memory.{except, freed, freeing}
 use Rattle.abi_driver.specs.Parts.{PartsStand, count}
@@ -41,7 +42,6 @@ use Rattle.abi_driver.proofs.Freeing.{without_formed}
 use Rattle.abi_driver.proofs.RecordPlaces.{at_width}
 use Rattle.abi_driver.proofs.Replaced.{IsSized, is_sized, split}
 use Rattle.abi_driver.proofs.Runs.{adds_both, total-append}
-use Rattle.abi_driver.proofs.SaysLength.{parts_length}
 use Rattle.abi_driver.proofs.Storing.{find_block}
 
 -- 1. Blocks that nobody owns
@@ -122,35 +122,14 @@ small_size size w f (inr e) pair small = let same : f w ≡ f 3 = ap f e in omeg
 module _ {Self Operand : Type 0} (m : Meaning Self Operand) (sound : Sound m) (types : List TypeDef) where
   -- 3. Words
 
-  pub takes_words : (ts : Shapes) (n : ℕ) (read values : List Operand) (a b c : Self) → are_indirect ts ≡ false → n ≡ length (param_words ts) → length values ≡ count ts → ReadsWords m n read a b → LiftsAll m ts read values b c → TakesArgumentsOver m ts values a c
-  takes_words ts n read values a b c few fit many reads lifts = record {
-    adds = adds_both m a b c reads.adds lifts.adds;
-    many = many;
+  pub takes_words : (ts : Shapes) (values : List Operand) (a c : Self) → are_indirect ts ≡ false → LiftsArguments m ts 0 values a c → TakesArgumentsOver m ts values a c
+  takes_words ts values a c few lifts = record {
+    adds = lifts.adds;
+    many = lifts.many;
     row = λ w p us ws blocks others s0 s listed represents may at.
         let says : PartsSay m.width take ts us ws blocks = subst (λ q. MatchBool q (TakesRecord m.width ts us ws blocks) (PartsSay m.width take ts us ws blocks)) few represents in
-        let serves_b = lifts.adds.grows.serves w at.serves in
-        let len : length ws ≡ n = parts_length m.width take ts us ws blocks listed says ∙ sym fit in
-        let one = does_done m (Unit {0}) a b (args m 0 (core_data m ws)) (λ f. releasing []) (λ u fs. fs ≡ ofs m read (core_data m ws)) (λ u. []) (λ u. []) (reads.row ws len) w p others s0 s
-        (record { serves = serves_b; done = at.done; holds = at.holds }) (record { result = tt {0}; account = m.account s }) refl in
-        let after1 = one.2.2 in
-        let at1 : At m w p b c (ofs m read (core_data m ws) ++ others) s0 one.0 = record { serves = at.serves; done = one.1; holds = subst (λ fs. m.denotes w b (fs ++ others) one.0) one.2.1 after1.denotes } in
-        let two = lifts.row us ws blocks listed says w p others s0 one.0 at1 (subst (MayTake blocks) (sym after1.account) may) in
-        let after2 = two.4 in
-        record {
-          vals = two.2;
-          own = blocks;
-          stands = two.3;
-          heap = (m.account s).heap;
-          formed = may.formed;
-          kept = λ g. refl;
-          state = two.0;
-          done = two.1;
-          after = record {
-            account = after2.account ∙ ap (took blocks) after1.account;
-            owns = λ g. omega (arith, after1.owns g, after2.owns g, total-append g (m.owns two.0) [], total-append g (m.owns one.0) (addresses blocks), total-append g (m.owns one.0) [], total-append g (m.owns s) [], total-append g (m.owns s) (addresses blocks));
-            denotes = after2.denotes;
-          };
-        };
+        let one = lifts.row us ws blocks listed says w p others s0 s at may in
+        record { vals = one.2; own = blocks; stands = one.3; heap = (m.account s).heap; formed = may.formed; kept = λ g. refl; state = one.0; done = one.1; after = one.4 };
   }
 
   -- 4. A record

@@ -61,11 +61,11 @@ placing_result false area acc = gives [] acc
 placing_result true area acc = then_do (pointing area None acc) (λ x. gives (x.result ∷ []) x.account)
 
 module _ {Self Operand : Type 0} (m : Meaning Self Operand) where
-  -- the first arguments of the code, so many, become operands, where they are words
-  pub record ReadsWords (n : ℕ) (os : List Operand) (old new : Self) : Type 0 where
+  -- arguments of the code from one on, so many, become operands, where they are words
+  pub record ReadsWords (first n : ℕ) (os : List Operand) (old new : Self) : Type 0 where
     pub adds : Adds m old new
     pub fits : length os ≡ n
-    pub row : (ws : List Word) → length ws ≡ n → Stays m old new (args m 0 (core_data m ws)) (λ fs. fs ≡ ofs m os (core_data m ws))
+    pub row : (ws : List Word) → length ws ≡ n → Stays m old new (args m first (core_data m ws)) (λ fs. fs ≡ ofs m os (core_data m ws))
 
   -- items that stand for what is handed on of the values were made of their words. Of the words' blocks those are left that the items own
   pub record TookOver (w : m.World) (p : Peer m.Item) (ts : Shapes) (us : Parts ts) (blocks : List Block) (values : List Operand) (new : Self) (others : Facts m) (s0 s : m.State) : Type 0 where

@@ -13,9 +13,9 @@ use Rattle.wrapper_meaning.specs.Settled.{all_settled, settled}
 use Rattle.wrapper_meaning.specs.Shape.{Shape, Shapes}
 use Rattle.wrapper_meaning.specs.Value.{Parts, Value}
 use Rattle.abi_driver.specs.Account.{Account, Done, Got, Peer, addresses, is_taken}
-use Rattle.abi_driver.specs.Laws.{Adds, After, At, Facts, core_data, item_data, ofs}
+use Rattle.abi_driver.specs.Laws.{Adds, After, At, Facts, args, core_data, item_data, ofs}
 use Rattle.abi_driver.specs.Meaning.{Meaning}
-use Rattle.abi_driver.specs.Parts.{PartsStand}
+use Rattle.abi_driver.specs.Parts.{PartsStand, count}
 
 -- nobody owns these blocks, and none stands twice among them
 abbrev pub AreFree : List Block → List ℕ → Type 0
@@ -36,10 +36,10 @@ abbrev pub by_taking : {V : Type 0} → List Block → Account V → Got V (Unit
 by_taking blocks acc = record { result = tt; account = took blocks acc }
 
 module _ {Self Operand : Type 0} (m : Meaning Self Operand) where
-  -- operands that denote these words become operands of items that stand for something, and own the blocks of the words
-  abbrev pub TakesOver : (Stand : List m.Item → Type 0) → (os : List Operand) → List Word → List Block → (rs : List Operand) → (old new : Self) → Type 0
-  TakesOver Stand os ws own rs old new =
-      (w : m.World) (f : Peer m.Item) (others : Facts m) (s0 s : m.State) → At m w f old new (ofs m os (core_data m ws) ++ others) s0 s → MayTake own (m.account s) →
+  -- words of which there are such facts become operands of items that stand for something, and own the blocks of the words
+  abbrev pub TakesOver : (Stand : List m.Item → Type 0) → (ins : Facts m) → List Block → (rs : List Operand) → (old new : Self) → Type 0
+  TakesOver Stand ins own rs old new =
+      (w : m.World) (f : Peer m.Item) (others : Facts m) (s0 s : m.State) → At m w f old new (ins ++ others) s0 s → MayTake own (m.account s) →
       (t : m.State) × (m.does w f (m.code new) s0 ≡ Done t)
       × (vals : List m.Item) × Stand vals × After m w new (ofs m rs (item_data m vals) ++ others) (addresses own) [] s (by_taking own (m.account s)) t
 
@@ -51,13 +51,19 @@ module _ {Self Operand : Type 0} (m : Meaning Self Operand) where
   pub record LiftsFlat (t : Shape) (os : List Operand) (r : Operand) (old new : Self) : Type 0 where
     pub adds : Adds m old new
     pub fits : length os ≡ length (flatten_type (layout t))
-    pub row : (v : Value t) (ws : List Word) (own : List Block) → IsListed t v → Says m.width take t v ws own → TakesOver (OneStands t v own) os ws own (r ∷ []) old new
+    pub row : (v : Value t) (ws : List Word) (own : List Block) → IsListed t v → Says m.width take t v ws own → TakesOver (OneStands t v own) (ofs m os (core_data m ws)) own (r ∷ []) old new
 
   -- the same of parts, one after another
   pub record LiftsAll (ts : Shapes) (os rs : List Operand) (old new : Self) : Type 0 where
     pub adds : Adds m old new
     pub fits : length os ≡ length (flatten_record (layouts ts))
-    pub row : (v : Parts ts) (ws : List Word) (own : List Block) → AreListed ts v → PartsSay m.width take ts v ws own → TakesOver (λ vals. PartsStand m take ts (all_settled ts v) vals own) os ws own rs old new
+    pub row : (v : Parts ts) (ws : List Word) (own : List Block) → AreListed ts v → PartsSay m.width take ts v ws own → TakesOver (λ vals. PartsStand m take ts (all_settled ts v) vals own) (ofs m os (core_data m ws)) own rs old new
+
+  -- the same of arguments, of which the first words are from one on
+  pub record LiftsArguments (ts : Shapes) (first : ℕ) (rs : List Operand) (old new : Self) : Type 0 where
+    pub adds : Adds m old new
+    pub many : length rs ≡ count ts
+    pub row : (v : Parts ts) (ws : List Word) (own : List Block) → AreListed ts v → PartsSay m.width take ts v ws own → TakesOver (λ vals. PartsStand m take ts (all_settled ts v) vals own) (args m first (core_data m ws)) own rs old new
 
   -- the words of an answer become an operand of it, where there is one
   abbrev pub LiftsAnswer : (r : Option Shape) → (os rs : List Operand) → (old new : Self) → Type 0

@@ -65,14 +65,14 @@ fn an_import_is_called(rt: HostRuntime) -> Result<(), Fail> {
     Ok(())
 }
 
-/// All words are read, each value is made of its own, and the method's answer becomes a word.
+/// The words of each value are read and it is made of them, and the method's answer becomes a word.
 const HANDED: [Told; 7] = [
     Told::Argument(0, 0),
-    Told::Argument(1, 1),
-    Told::Argument(2, 2),
-    Told::Read(WitType::U32, 0, 3),
-    Told::Take(1, 2, 4),
-    Told::CallMethod(2, [3, 4, 0], 1, 5),
+    Told::Read(WitType::U32, 0, 1),
+    Told::Argument(1, 2),
+    Told::Argument(2, 3),
+    Told::Take(2, 3, 4),
+    Told::CallMethod(2, [1, 4, 0], 1, 5),
     Told::Pass(5, 6),
 ];
 

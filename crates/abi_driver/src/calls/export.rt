@@ -1,14 +1,12 @@
 //! The whole code of an export.
 
-ghost use Rattle.std.specs.Prelude.{◌≡◌, IsTrue, Some, true, length, option_to_list, IfOk, OnOk};
+ghost use Rattle.std.specs.Prelude.{◌≡◌, ◌≤◌, ◌+◌, IsTrue, Some, true, false, length, option_to_list, IfOk, IfSome, OnOk};
 ghost use Rattle.std.specs.List.{list_all};
 ghost use Rattle.std.specs.Option.{option_map};
-ghost use Rattle.wit_layout.specs.Flat.{flatten_record};
 ghost use Rattle.wit_model.specs.IndexRange.{function_in_range};
 ghost use Rattle.wit_model.specs.TypeOrder.{GoesDown, payload_below, type_below};
 ghost use Rattle.wit_model.specs.WellFormed.{IsWellFormed};
-ghost use Rattle.wrapper_meaning.specs.Layout.{layouts};
-ghost use Rattle.wrapper_meaning.specs.Represents.{are_indirect, is_indirect};
+ghost use Rattle.wrapper_meaning.specs.Represents.{are_indirect, is_indirect, param_words};
 ghost use Rattle.wrapper_meaning.specs.Shape.{param_shapes, result_shape, shape_of};
 ghost use Rattle.abi_driver.specs.Exports.{
   CallsExport,
@@ -21,21 +19,21 @@ ghost use Rattle.abi_driver.specs.Exports.{
 };
 ghost use Rattle.abi_driver.specs.Instructions.{shapes_of};
 ghost use Rattle.abi_driver.specs.Laws.{IsCount};
-ghost use Rattle.abi_driver.specs.Lifts.{LiftsAll};
+ghost use Rattle.abi_driver.specs.Lifts.{LiftsArguments};
 ghost use Rattle.abi_driver.specs.Lowers.{LowersAnswer};
 
 use crate::bindgen::{Bindgen, Operand};
 use crate::calls::area::point_at;
 use crate::calls::record::load_arguments;
 use crate::instruction::Instruction;
-use crate::lift::{LiftedParts, lift_parts};
+use crate::lift::lift_flat;
 use crate::lower::lower_type;
 use crate::memory::place::NOWHERE;
 use crate::memory::store::store_type;
 use crate::parts::{numbered, param_types};
 use crate::send::{argument, only, send};
 use std::alloc::Global;
-use wit_layout::{AbiVariant, wasm_signature};
+use wit_layout::{AbiVariant, flat_types, wasm_signature};
 use wit_model::{Function, List, OutOfMemory, Resolve, WitType};
 
 /// The code of an exported function.
@@ -55,9 +53,8 @@ pub(super) fn call_export<B: Bindgen>(
     let signature = wasm_signature(resolve, AbiVariant::GuestExport, func);
     let indirect = signature.indirect_params;
     let retptr = signature.retptr;
-    let count = signature.params.count;
     let tys = param_types(alloc, func.params.as_slice())?;
-    let values = take_arguments(alloc, resolve, bindgen, tys.as_slice(), indirect, count)?;
+    let values = take_arguments(alloc, resolve, bindgen, tys.as_slice(), indirect)?;
     let answer = send(
         alloc,
         resolve,
@@ -84,68 +81,73 @@ pub(super) fn call_export<B: Bindgen>(
     Ok(())
 }
 
-/// The values of the arguments, which are so many words, or the address of a record.
+/// The values of the arguments, which are words, or the address of a record.
 fn take_arguments<B: Bindgen>(
     alloc: Global,
     resolve: &Resolve,
     bindgen: &mut B,
     tys: &[WitType],
     indirect: bool,
-    count: u32,
 ) -> Result<List<B::Operand>, OutOfMemory>
-    requires down { GoesDown resolve.now.types }
+    requires well { IsWellFormed resolve.now }
     requires below { list_all (λ ty. type_below (length resolve.now.types) ty) tys.now ≡ true }
     requires knows { B.meaning.knows bindgen.old resolve.now.types }
-    requires arguments { IsCount B.meaning (B.meaning.arguments bindgen.old) count }
+    requires arguments { IsCount B.meaning (B.meaning.arguments bindgen.old) (length (argument_words (shapes_of resolve.now.types tys.now))) }
     requires indirect { indirect ≡ are_indirect (shapes_of resolve.now.types tys.now) }
-    requires words { count ≡ length (argument_words (shapes_of resolve.now.types tys.now)) }
     ensures { IfOk result (λ values. TakesArgumentsOver B.meaning (shapes_of resolve.now.types tys.now) values bindgen.old bindgen.new) }
 {
     if indirect {
         let loaded = load_arguments(alloc, resolve, bindgen, tys)?;
         return Ok(loaded);
     }
-    let words = read_words(alloc, resolve, bindgen, count)?;
-    let values = lift_arguments(alloc, resolve, bindgen, words.as_slice(), tys)?;
+    let values = lift_arguments(alloc, resolve, bindgen, tys)?;
     Ok(values)
 }
 
-/// The arguments, which are so many words.
-fn read_words<B: Bindgen>(
-    alloc: Global,
-    resolve: &Resolve,
-    bindgen: &mut B,
-    count: u32,
-) -> Result<List<B::Operand>, OutOfMemory>
-    requires { IsCount B.meaning (B.meaning.arguments bindgen.old) count }
-    ensures { IfOk result (λ words. ReadsWords B.meaning count words bindgen.old bindgen.new) }
-{
-    let mut words = List::new(alloc);
-    for number in 0..count {
-        let word = argument(alloc, resolve, bindgen, number)?;
-        words.push(word)?;
-    }
-    Ok(words)
-}
-
-/// The values that the words represent, one after another.
+/// The values of the arguments, which are words: those of each are read and lifted before those of the next.
 fn lift_arguments<B: Bindgen>(
     alloc: Global,
     resolve: &Resolve,
     bindgen: &mut B,
-    words: &[B::Operand],
     tys: &[WitType],
 ) -> Result<List<B::Operand>, OutOfMemory>
-    requires down { GoesDown resolve.now.types }
+    requires well { IsWellFormed resolve.now }
     requires below { list_all (λ ty. type_below (length resolve.now.types) ty) tys.now ≡ true }
-    requires fits { length words.now ≡ length (flatten_record (layouts (shapes_of resolve.now.types tys.now))) }
-    ensures count { IfOk result (λ values. length values ≡ length tys.now) }
-    ensures lifts { IfOk result (λ values. LiftsAll B.meaning (shapes_of resolve.now.types tys.now) words.now values bindgen.old bindgen.new) }
+    requires direct { are_indirect (shapes_of resolve.now.types tys.now) ≡ false }
+    requires arguments { IsCount B.meaning (B.meaning.arguments bindgen.old) (length (param_words (shapes_of resolve.now.types tys.now))) }
+    ensures { IfOk result (λ values. LiftsArguments B.meaning (shapes_of resolve.now.types tys.now) 0 values bindgen.old bindgen.new) }
 {
-    let behind = resolve.types.len();
-    let lifted = lift_parts(alloc, resolve, bindgen, words, 0, behind, tys)?;
-    let LiftedParts { parts, next: _ } = lifted;
-    Ok(parts)
+    let mut values = List::new(alloc);
+    let mut first = 0;
+    for i in 0..tys.len() {
+        let flat = flat_types(resolve, &tys[i]);
+        let count = flat.count;
+        let words = read_words(alloc, resolve, bindgen, first, count)?;
+        let value = lift_flat(alloc, resolve, bindgen, &words, &tys[i])?;
+        values.push(value)?;
+        first += count;
+    }
+    Ok(values)
+}
+
+/// The arguments from one on, which are so many words.
+fn read_words<B: Bindgen>(
+    alloc: Global,
+    resolve: &Resolve,
+    bindgen: &mut B,
+    first: u32,
+    count: u32,
+) -> Result<List<B::Operand>, OutOfMemory>
+    requires few { first + count ≤ 16 }
+    requires arguments { IfSome (B.meaning.arguments bindgen.old) (λ k. first + count ≤ k) }
+    ensures { IfOk result (λ words. ReadsWords B.meaning first count words bindgen.old bindgen.new) }
+{
+    let mut words = List::new(alloc);
+    for i in 0..count {
+        let word = argument(alloc, resolve, bindgen, first + i)?;
+        words.push(word)?;
+    }
+    Ok(words)
 }
 
 /// The words of the answer, where there is one, or the address of the area in which it was stored.

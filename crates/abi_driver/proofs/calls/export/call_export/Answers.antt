@@ -12,12 +12,9 @@ use Rattle.wrapper_meaning.specs.Shape.{result_shape}
 use Rattle.abi_driver.specs.Exports.{GivesAnswer, TakesArgumentsOver, argument_words}
 use Rattle.abi_driver.specs.Instructions.{shapes_of}
 use Rattle.abi_driver.specs.Laws.{IsCount}
-use Rattle.abi_driver.proofs.ExportSteps.{calls_export, export_count, export_indirect, export_pointer, export_words}
+use Rattle.abi_driver.proofs.ExportSteps.{calls_export, export_indirect, export_pointer, export_words}
 use Rattle.abi_driver.proofs.Records.{count-shapes}
 use Rattle.abi_driver.proofs.calls.export.call_export.Goals as goal
-
-pub take_arguments-requires-clause-down : goal.take_arguments-requires-clause-down
-take_arguments-requires-clause-down g c = types_go_down c.args.resolve.now c.requires.well.unbroken
 
 pub take_arguments-requires-clause-below : goal.take_arguments-requires-clause-below
 take_arguments-requires-clause-below g c =
@@ -31,7 +28,8 @@ take_arguments-requires-clause-arguments g c =
     let m = g.B.Bindgen.meaning in
     let types = c.args.resolve.now.types in
     let f = c.args.func.now in
-    subst (IsCount m (m.arguments c.args.bindgen.now)) (ap length (export_words types f) ∙ sym (export_count types f c.wasm_signature-signature.result c.wasm_signature-signature.ensures)) c.requires.arguments
+    let same : c.as_slice-2.result.now ≡ map (λ (p : Param). p.ty) f.params = c.as_slice-2.ensures ∙ c.in_ok-tys.ensures ∙ ap (map (λ (p : Param). p.ty)) c.as_slice.ensures in
+    subst (IsCount m (m.arguments c.args.bindgen.now)) (ap length (export_words types f) ∙ sym (ap (λ (tys : List WitType). length (argument_words (shapes_of types tys))) same)) c.requires.arguments
 
 pub take_arguments-requires-clause-indirect : goal.take_arguments-requires-clause-indirect
 take_arguments-requires-clause-indirect g c =
@@ -39,13 +37,6 @@ take_arguments-requires-clause-indirect g c =
     let f = c.args.func.now in
     let same : c.as_slice-2.result.now ≡ map (λ (p : Param). p.ty) f.params = c.as_slice-2.ensures ∙ c.in_ok-tys.ensures ∙ ap (map (λ (p : Param). p.ty)) c.as_slice.ensures in
     export_indirect types f c.wasm_signature-signature.result c.wasm_signature-signature.ensures ∙ sym (ap (λ (tys : List WitType). are_indirect (shapes_of types tys)) same)
-
-pub take_arguments-requires-clause-words : goal.take_arguments-requires-clause-words
-take_arguments-requires-clause-words g c =
-    let types = c.args.resolve.now.types in
-    let f = c.args.func.now in
-    let same : c.as_slice-2.result.now ≡ map (λ (p : Param). p.ty) f.params = c.as_slice-2.ensures ∙ c.in_ok-tys.ensures ∙ ap (map (λ (p : Param). p.ty)) c.as_slice.ensures in
-    export_count types f c.wasm_signature-signature.result c.wasm_signature-signature.ensures ∙ sym (ap (λ (tys : List WitType). length (argument_words (shapes_of types tys))) same)
 
 pub give_answer-requires-clause-down : goal.give_answer-requires-clause-down
 give_answer-requires-clause-down g c = types_go_down c.args.resolve.now c.requires.well.unbroken

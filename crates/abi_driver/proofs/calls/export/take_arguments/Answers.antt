@@ -1,11 +1,32 @@
-use Rattle.std.proofs.Common.{List, [], ◌∷◌, length, if◌then◌else◌, sym, ap, ◌∙◌, subst}
+use Rattle.std.proofs.Common.{◌≡◌, ◌<◌, length, if◌then◌else◌, [], ◌∷◌, refl, sym, ap, ◌∙◌, subst, arith}
 use Rattle.wit_model.specs.declared.wasm_type.WasmType.TheVariants as wasm
+use Rattle.wit_model.proofs.WellFormedLemmas.{types_go_down}
 use Rattle.wrapper_meaning.specs.Represents.{param_words}
+use Rattle.abi_driver.specs.Exports.{argument_words}
 use Rattle.abi_driver.specs.Instructions.{shapes_of}
-use Rattle.abi_driver.specs.Lifts.{LiftsAll}
+use Rattle.abi_driver.specs.Laws.{IsCount}
+use Rattle.abi_driver.proofs.ArgumentSteps.{within_count}
 use Rattle.abi_driver.proofs.RecordArguments.{takes_record, takes_words}
-use Rattle.abi_driver.proofs.Records.{count-shapes}
 use Rattle.abi_driver.proofs.calls.export.take_arguments.Goals as goal
+
+pub load_arguments-requires-clause-down : goal.load_arguments-requires-clause-down
+load_arguments-requires-clause-down g c = types_go_down c.args.resolve.now c.requires.well.unbroken
+
+pub load_arguments-requires-clause-arguments : goal.load_arguments-requires-clause-arguments
+load_arguments-requires-clause-arguments g c =
+    let m = g.B.Bindgen.meaning in
+    let ts = shapes_of c.args.resolve.now.types c.args.tys.now in
+    let many = sym c.requires.indirect ∙ c.if-indirect.true in
+    let limit = m.arguments c.args.bindgen.now in
+    let one : length (argument_words ts) ≡ 1 = ap (λ q. length (if q then wasm.Pointer ∷ [] else param_words ts)) many in
+    within_count limit limit 1 0 refl (subst (IsCount m limit) one c.requires.arguments) (omega arith)
+
+pub lift_arguments-requires-clause-arguments : goal.lift_arguments-requires-clause-arguments
+lift_arguments-requires-clause-arguments g c =
+    let m = g.B.Bindgen.meaning in
+    let ts = shapes_of c.args.resolve.now.types c.args.tys.now in
+    let few = sym c.requires.indirect ∙ c.if-indirect.false in
+    subst (IsCount m (m.arguments c.args.bindgen.now)) (ap (λ q. length (if q then wasm.Pointer ∷ [] else param_words ts)) few) c.requires.arguments
 
 pub returns-then-indirect : goal.returns-then-indirect
 returns-then-indirect g c =
@@ -14,12 +35,5 @@ returns-then-indirect g c =
 
 pub returns : goal.returns
 returns g c =
-    let m = g.B.Bindgen.meaning in
     let types = c.args.resolve.now.types in
-    let tys = c.args.tys.now in
-    let ts = shapes_of types tys in
-    let few = sym c.requires.indirect ∙ c.if-indirect.false in
-    let lifts = subst (λ (os : List _). LiftsAll m ts os c.in_ok-values.values c.read_words.new.bindgen c.lift_arguments.new.bindgen) c.as_slice.ensures c.in_ok-values.ensures.lifts in
-    takes_words m g.met.B.Bindgen.sound types ts c.args.count c.in_ok-words.words c.in_ok-values.values _ _ _ few
-    (c.requires.words ∙ ap (λ q. length (if q then wasm.Pointer ∷ [] else param_words ts)) few)
-    (c.in_ok-values.ensures.count ∙ sym (count-shapes types tys)) c.in_ok-words.ensures lifts
+    takes_words g.B.Bindgen.meaning g.met.B.Bindgen.sound types (shapes_of types c.args.tys.now) _ _ _ (sym c.requires.indirect ∙ c.if-indirect.false) c.in_ok-values.ensures

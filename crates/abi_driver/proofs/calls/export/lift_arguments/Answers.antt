@@ -1,0 +1,80 @@
+use Rattle.std.proofs.Common.{◌<◌, ◌≤◌, length, get_or, arith}
+use Rattle.std.proofs.lemmas.Bool.{ltb-false}
+use Rattle.std.proofs.lemmas.List.{drop_more}
+use Rattle.wit_model.specs.declared.types.WitType.TheVariants as wit
+use Rattle.wit_model.proofs.WellFormedLemmas.{types_go_down}
+use Rattle.wrapper_meaning.specs.Represents.{param_words}
+use Rattle.abi_driver.specs.Instructions.{shapes_of}
+use Rattle.abi_driver.proofs.ArgumentSteps.{within_words}
+use Rattle.abi_driver.proofs.LiftedArguments.{rest_first, rest_last, rest_next, told_within, words_left, words_next}
+use Rattle.abi_driver.proofs.Runs.{adds_both, adds_same}
+use Rattle.abi_driver.proofs.calls.export.lift_arguments.Goals as goal
+
+pub loop-i-init : goal.loop-i-init
+loop-i-init g c =
+    let m = g.B.Bindgen.meaning in
+    record {
+      adds = adds_same m c.args.bindgen.now;
+      words = omega arith;
+      rest = rest_first m g.met.B.Bindgen.sound c.args.resolve.now.types c.args.tys.now c.new-values.result c.args.bindgen.now c.new-values.ensures;
+    }
+
+pub read_words-requires-clause-few : goal.read_words-requires-clause-few
+read_words-requires-clause-few g c =
+    let types = c.args.resolve.now.types in
+    let tys = c.args.tys.now in
+    let i = c.loop-i.i in
+    let ty = get_or tys i wit.Bool in
+    let short : i < length tys = omega (arith, c.loop-i-test.true) in
+    let told = told_within types tys i ty c.flat_types-flat.result (drop_more tys i wit.Bool short) c.flat_types-flat.ensures in
+    let most = ltb-false 16 (length (param_words (shapes_of types tys))) c.requires.direct in
+    omega (arith, told, most, c.loop-i.invariant.words)
+
+pub read_words-requires-clause-arguments : goal.read_words-requires-clause-arguments
+read_words-requires-clause-arguments g c =
+    let m = g.B.Bindgen.meaning in
+    let types = c.args.resolve.now.types in
+    let tys = c.args.tys.now in
+    let i = c.loop-i.i in
+    let ty = get_or tys i wit.Bool in
+    let short : i < length tys = omega (arith, c.loop-i-test.true) in
+    let told = told_within types tys i ty c.flat_types-flat.result (drop_more tys i wit.Bool short) c.flat_types-flat.ensures in
+    let inv = c.loop-i.invariant in
+    within_words (m.arguments c.args.bindgen.now) (m.arguments c.loop-i.bindgen) (length (param_words (shapes_of types tys))) c.loop-i.first c.flat_types-flat.result.count (words_left types tys i) inv.adds.grows.arguments c.requires.arguments inv.words told
+
+pub lift_flat-requires-clause-down : goal.lift_flat-requires-clause-down
+lift_flat-requires-clause-down g c = types_go_down c.args.resolve.now c.requires.well.unbroken
+
+pub overflow_add-first : goal.overflow_add-first
+overflow_add-first g c =
+    let types = c.args.resolve.now.types in
+    let tys = c.args.tys.now in
+    let i = c.loop-i.i in
+    let ty = get_or tys i wit.Bool in
+    let short : i < length tys = omega (arith, c.loop-i-test.true) in
+    let told = told_within types tys i ty c.flat_types-flat.result (drop_more tys i wit.Bool short) c.flat_types-flat.ensures in
+    let most = ltb-false 16 (length (param_words (shapes_of types tys))) c.requires.direct in
+    omega (arith, told, most, c.loop-i.invariant.words)
+
+pub loop-i-preserved : goal.loop-i-preserved
+loop-i-preserved g c =
+    let m = g.B.Bindgen.meaning in
+    let sound = g.met.B.Bindgen.sound in
+    let types = c.args.resolve.now.types in
+    let tys = c.args.tys.now in
+    let i = c.loop-i.i in
+    let ty = get_or tys i wit.Bool in
+    let short : i < length tys = omega (arith, c.loop-i-test.true) in
+    let et = drop_more tys i wit.Bool short in
+    let inv = c.loop-i.invariant in
+    record {
+      adds = adds_both m _ _ _ inv.adds (adds_both m _ _ _ c.in_ok-words.ensures.adds c.in_ok-value.ensures.adds);
+      words = omega (arith, inv.words, words_next types tys i ty et, c.in_ok-words.ensures.fits, c.in_ok-value.ensures.fits);
+      rest = rest_next m sound types tys i c.loop-i.first c.flat_types-flat.result.count c.loop-i.values c.in_ok-words.words c.push.new.self _ _ _ _ ty c.in_ok-value.value et c.in_ok-words.ensures c.in_ok-value.ensures c.in_ok-push.ensures.ok inv.rest;
+    }
+
+pub returns : goal.returns
+returns g c =
+    let m = g.B.Bindgen.meaning in
+    let ended : length c.args.tys.now ≤ c.loop-i.i = omega (arith, c.loop-i-test.false) in
+    rest_last m g.met.B.Bindgen.sound c.args.resolve.now.types c.args.tys.now c.loop-i.i c.loop-i.first c.loop-i.values _ _ ended c.loop-i.invariant.rest
