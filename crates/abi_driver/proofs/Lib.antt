@@ -45,3 +45,6 @@ pub mod RecordArguments
 pub mod RecordPlaces
 pub mod RecordStores
 pub mod FlatFrees
+pub mod CodeByKind
+pub mod FlatCode
+pub mod SendSteps

@@ -23,12 +23,12 @@ pub count-shapes : (types : List TypeDef) (tys : List WitType) → count (shapes
 count-shapes types [] = refl
 count-shapes types (ty ∷ tys) = ap suc (count-shapes types tys)
 
-map-twice : (members : List Field) → map (λ ty. Some ty) (map (λ (f : Field). f.ty) members) ≡ map (λ (f : Field). Some f.ty) members
+pub map-twice : (members : List Field) → map (λ ty. Some ty) (map (λ (f : Field). f.ty) members) ≡ map (λ (f : Field). Some f.ty) members
 map-twice [] = refl
 map-twice (f ∷ members) = ap (λ ps. Some f.ty ∷ ps) (map-twice members)
 
 -- a list that is bounded as payloads is bounded as types
-all_below : (bound : ℕ) (tys : List WitType) → list_all (λ p. payload_below bound p) (map (λ ty. Some ty) tys) ≡ true → list_all (λ ty. type_below bound ty) tys ≡ true
+pub all_below : (bound : ℕ) (tys : List WitType) → list_all (λ p. payload_below bound p) (map (λ ty. Some ty) tys) ≡ true → list_all (λ ty. type_below bound ty) tys ≡ true
 unfolding payload_below
 all_below bound [] h = refl
 all_below bound (ty ∷ tys) h = let b = and_parts _ _ h in ap₂ (λ x y. x && y) b.0 (all_below bound tys b.1)

@@ -6,6 +6,7 @@ pub mod Calls
 pub mod Cases
 pub mod Constants
 pub mod Entries
+pub mod Code
 pub mod Exports
 pub mod FixedLists
 pub mod FlagSets
@@ -29,6 +30,7 @@ pub mod Plain
 pub mod PlainSound
 pub mod Requested
 pub mod ScalarTouches
+pub mod Sends
 pub mod Stores
 pub mod Touches
 pub mod Turns

@@ -2,12 +2,15 @@
 
 pub(crate) mod leaf;
 
-ghost use Rattle.std.specs.Prelude.{◌≡◌, ◌<◌, IsTrue, true, length, IfOk};
+ghost use Rattle.std.specs.Prelude.{◌≡◌, ◌<◌, IsTrue, true, length, IfOk, OnOk};
 ghost use Rattle.std.specs.List.{list_all};
 ghost use Rattle.wit_model.specs.TypeOrder.{GoesDown, type_below};
+ghost use Rattle.wit_model.specs.declared.types.WitType.TheVariants.{Id};
 ghost use Rattle.wrapper_meaning.specs.Shape.{shape_at, shape_of};
+ghost use Rattle.abi_driver.specs.Code.{each, lower_code};
 ghost use Rattle.abi_driver.specs.Instructions.{IsSide, shapes_of};
 ghost use Rattle.abi_driver.specs.Lowers.{LowersAll, LowersFlat};
+ghost use Rattle.abi_driver.specs.Sends.{Sends};
 
 use crate::bindgen::{Bindgen, Operand};
 use crate::instruction::Instruction;
@@ -32,7 +35,8 @@ pub fn lower_flat<B: Bindgen>(
     requires down { GoesDown resolve.now.types }
     requires below { IsTrue (type_below (length resolve.now.types) ty.now) }
     requires side { IsSide B.meaning realloc bindgen.old }
-    ensures { IfOk result (λ os. LowersFlat B.meaning realloc (shape_of resolve.now.types ty.now) value os bindgen.old bindgen.new) }
+    ensures lowers { IfOk result (λ os. LowersFlat B.meaning realloc (shape_of resolve.now.types ty.now) value os bindgen.old bindgen.new) }
+    ensures sends { OnOk result (Sends B.meaning resolve.now.types (lower_code resolve.now.types realloc ty.now) bindgen.old bindgen.new) }
 {
     lower_type(alloc, resolve, bindgen, value, *ty, realloc)
 }
@@ -51,7 +55,8 @@ pub(crate) fn lower_type<B: Bindgen>(
     requires down { GoesDown resolve.now.types }
     requires below { IsTrue (type_below (length resolve.now.types) ty) }
     requires side { IsSide B.meaning realloc bindgen.old }
-    ensures { IfOk result (λ os. LowersFlat B.meaning realloc (shape_of resolve.now.types ty) value os bindgen.old bindgen.new) }
+    ensures lowers { IfOk result (λ os. LowersFlat B.meaning realloc (shape_of resolve.now.types ty) value os bindgen.old bindgen.new) }
+    ensures sends { OnOk result (Sends B.meaning resolve.now.types (lower_code resolve.now.types realloc ty) bindgen.old bindgen.new) }
 {
     if let Some(inst) = scalar_lowering(ty) {
         let words = lower_by(alloc, resolve, bindgen, value, inst)?;
@@ -81,7 +86,8 @@ fn lower_id<B: Bindgen>(
     requires down { GoesDown resolve.now.types }
     requires within { id.0 < length resolve.now.types }
     requires side { IsSide B.meaning realloc bindgen.old }
-    ensures { IfOk result (λ os. LowersFlat B.meaning realloc (shape_at resolve.now.types id.0) value os bindgen.old bindgen.new) }
+    ensures lowers { IfOk result (λ os. LowersFlat B.meaning realloc (shape_at resolve.now.types id.0) value os bindgen.old bindgen.new) }
+    ensures sends { OnOk result (Sends B.meaning resolve.now.types (lower_code resolve.now.types realloc (Id id)) bindgen.old bindgen.new) }
 {
     let types = resolve.types.as_slice();
     let at = id.0 as usize;
@@ -124,7 +130,8 @@ fn lower_parts<B: Bindgen>(
     requires below { list_all (λ ty. type_below at ty) tys.now ≡ true }
     requires enough { length parts.now ≡ length tys.now }
     requires side { IsSide B.meaning realloc bindgen.old }
-    ensures { IfOk result (λ os. LowersAll B.meaning realloc (shapes_of resolve.now.types tys.now) parts.now os bindgen.old bindgen.new) }
+    ensures lowers { IfOk result (λ os. LowersAll B.meaning realloc (shapes_of resolve.now.types tys.now) parts.now os bindgen.old bindgen.new) }
+    ensures sends { OnOk result (Sends B.meaning resolve.now.types (each (λ n ty. lower_code resolve.now.types realloc ty) 0 tys.now) bindgen.old bindgen.new) }
 {
     let mut all = Vec::new(alloc);
     for i in 0..tys.len() {

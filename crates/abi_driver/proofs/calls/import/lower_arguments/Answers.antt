@@ -22,9 +22,9 @@ loop-i-preserved g c =
     let short : c.loop-i.i < length c.args.tys.now = omega (arith, c.loop-i-test.true) in
     let read = subst (λ n. Emits m types (instruction.GetArg n) [] (c.in_ok-value.value ∷ []) c.loop-i.bindgen c.argument.new.bindgen) c.in_ok-number.ensures c.in_ok-value.ensures in
     record {
-      adds = adds_both m _ _ _ c.loop-i.invariant.adds (adds_both m _ _ _ c.in_ok-value.ensures.adds c.in_ok-words.ensures.adds);
+      adds = adds_both m _ _ _ c.loop-i.invariant.adds (adds_both m _ _ _ c.in_ok-value.ensures.adds c.in_ok-words.ensures.lowers.adds);
       rest = rest_next m g.met.B.Bindgen.sound types c.args.tys.now c.loop-i.i c.loop-i.all.items c.in_ok-words.words c.push_copies.new.all.items _ _ _ _ (get_or c.args.tys.now c.loop-i.i wit.Bool) c.in_ok-value.value
-          (drop_more c.args.tys.now c.loop-i.i wit.Bool short) read c.in_ok-words.ensures (c.in_ok-push_copies.ensures ∙ ap (λ os. c.loop-i.all.items ++ os) c.as_slice.ensures) c.loop-i.invariant.rest;
+          (drop_more c.args.tys.now c.loop-i.i wit.Bool short) read c.in_ok-words.ensures.lowers (c.in_ok-push_copies.ensures ∙ ap (λ os. c.loop-i.all.items ++ os) c.as_slice.ensures) c.loop-i.invariant.rest;
     }
 
 pub returns : goal.returns

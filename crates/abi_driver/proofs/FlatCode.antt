@@ -1,0 +1,97 @@
+-- What is sent for core words, by the kind of a type.
+use Rattle.std.proofs.Common.{◌≡◌, ℕ, Bool, true, false, List, [], ◌∷◌, ◌++◌, length, map, Some, refl, sym, ap, ◌∙◌, append-nil}
+use Rattle.std.specs.List.{slice_get}
+use Rattle.wit_model.specs.TypeOrder.{GoesDown}
+use Rattle.wit_model.specs.declared.name.TypeId.{TypeId}
+use Rattle.wit_model.specs.declared.types.Field.{Field}
+use Rattle.wit_model.specs.declared.types.TypeDef.{TypeDef}
+use Rattle.wit_model.specs.declared.types.TypeDefKind.TheVariants as kind
+use Rattle.wit_model.specs.declared.types.WitType.{WitType}
+use Rattle.wit_model.specs.declared.types.WitType.TheVariants as wit
+use Rattle.abi_driver.specs.declared.instruction.Instruction.{Instruction}
+use Rattle.abi_driver.specs.declared.instruction.Instruction.TheVariants.{GuestDeallocateString, RecordLift, RecordLower, StringLift, StringLower, TupleLift, TupleLower}
+use Rattle.abi_driver.specs.Code.{Sent, each, free_words_code, free_words_kind, free_words_leaf, lift_code, lift_kind, lift_leaf, lower_code, lower_kind, lower_leaf, sends, sent}
+use Rattle.abi_driver.specs.Instructions.{lifting, lowering}
+use Rattle.abi_driver.proofs.CodeByKind.{made_by_kind}
+use Rattle.abi_driver.proofs.SendSteps.{each_map}
+
+pub lower_scalar_code : (types : List TypeDef) (realloc : Bool) (ty : WitType) (i : Instruction) → lowering ty ≡ Some i → lower_code types realloc ty ≡ sends i ∷ []
+unfolding lower_code
+lower_scalar_code types realloc wit.String i e = absurd (let h = e in cc)
+lower_scalar_code types realloc (wit.Id id) i e = absurd (let h = e in cc)
+lower_scalar_code types realloc _ i e = ap sent e
+
+pub lower_text_code : (types : List TypeDef) (realloc : Bool) → lower_code types realloc wit.String ≡ sends (StringLower realloc) ∷ []
+unfolding lower_code
+lower_text_code types realloc = refl
+
+pub lift_scalar_code : (types : List TypeDef) (ty : WitType) (i : Instruction) → lifting ty ≡ Some i → lift_code types ty ≡ sends i ∷ []
+unfolding lift_code
+lift_scalar_code types wit.String i e = absurd (let h = e in cc)
+lift_scalar_code types (wit.Id id) i e = absurd (let h = e in cc)
+lift_scalar_code types _ i e = ap sent e
+
+pub lift_text_code : (types : List TypeDef) → lift_code types wit.String ≡ sends StringLift ∷ []
+unfolding lift_code
+lift_text_code types = refl
+
+pub free_words_scalar_code : (types : List TypeDef) (ty : WitType) (i : Instruction) → lifting ty ≡ Some i → free_words_code types ty ≡ []
+unfolding free_words_code
+free_words_scalar_code types wit.String i e = absurd (let h = e in cc)
+free_words_scalar_code types (wit.Id id) i e = absurd (let h = e in cc)
+free_words_scalar_code types _ i e = refl
+
+pub free_words_text_code : (types : List TypeDef) → free_words_code types wit.String ≡ sends GuestDeallocateString ∷ []
+unfolding free_words_code
+free_words_text_code types = refl
+
+-- an entry of the table
+module _ (types : List TypeDef) (down : GoesDown types) (id : TypeId) (entry : TypeDef) (at : slice_get types id.0 ≡ Some entry) where
+  pub lower_alias_code : (realloc : Bool) (ty : WitType) → entry.kind ≡ kind.Alias ty → lower_code types realloc (wit.Id id) ≡ lower_code types realloc ty
+  unfolding lower_code
+  lower_alias_code realloc ty e = made_by_kind (lower_leaf realloc) lower_kind types id entry (kind.Alias ty) down at e ∙ append-nil _
+
+  pub lower_record_code : (realloc : Bool) (members : List Field) → entry.kind ≡ kind.Record members
+      → lower_code types realloc (wit.Id id) ≡ sends (RecordLower id) ∷ each (λ n ty. lower_code types realloc ty) 0 (map (λ f. f.ty) members)
+  unfolding lower_code
+  lower_record_code realloc members e =
+      made_by_kind (lower_leaf realloc) lower_kind types id entry (kind.Record members) down at e
+      ∙ ap (λ steps. sends (RecordLower id) ∷ steps) (each_map (λ n part. part) (lower_code types realloc) 0 (map (λ (f : Field). f.ty) members))
+
+  pub lower_tuple_code : (realloc : Bool) (tys : List WitType) → entry.kind ≡ kind.Tuple tys
+      → lower_code types realloc (wit.Id id) ≡ sends (TupleLower (length tys)) ∷ each (λ n ty. lower_code types realloc ty) 0 tys
+  unfolding lower_code
+  lower_tuple_code realloc tys e =
+      made_by_kind (lower_leaf realloc) lower_kind types id entry (kind.Tuple tys) down at e
+      ∙ ap (λ steps. sends (TupleLower (length tys)) ∷ steps) (each_map (λ n part. part) (lower_code types realloc) 0 tys)
+
+  pub lift_alias_code : (ty : WitType) → entry.kind ≡ kind.Alias ty → lift_code types (wit.Id id) ≡ lift_code types ty
+  unfolding lift_code
+  lift_alias_code ty e = made_by_kind lift_leaf lift_kind types id entry (kind.Alias ty) down at e ∙ append-nil _
+
+  pub lift_record_code : (members : List Field) → entry.kind ≡ kind.Record members
+      → lift_code types (wit.Id id) ≡ each (λ n ty. lift_code types ty) 0 (map (λ f. f.ty) members) ++ sends (RecordLift id) ∷ []
+  unfolding lift_code
+  lift_record_code members e =
+      made_by_kind lift_leaf lift_kind types id entry (kind.Record members) down at e
+      ∙ ap (λ steps. steps ++ sends (RecordLift id) ∷ []) (each_map (λ n part. part) (lift_code types) 0 (map (λ (f : Field). f.ty) members))
+
+  pub lift_tuple_code : (tys : List WitType) → entry.kind ≡ kind.Tuple tys
+      → lift_code types (wit.Id id) ≡ each (λ n ty. lift_code types ty) 0 tys ++ sends (TupleLift (length tys)) ∷ []
+  unfolding lift_code
+  lift_tuple_code tys e =
+      made_by_kind lift_leaf lift_kind types id entry (kind.Tuple tys) down at e
+      ∙ ap (λ steps. steps ++ sends (TupleLift (length tys)) ∷ []) (each_map (λ n part. part) (lift_code types) 0 tys)
+
+  pub free_words_alias_code : (ty : WitType) → entry.kind ≡ kind.Alias ty → free_words_code types (wit.Id id) ≡ free_words_code types ty
+  unfolding free_words_code
+  free_words_alias_code ty e = made_by_kind free_words_leaf free_words_kind types id entry (kind.Alias ty) down at e ∙ append-nil _
+
+  pub free_words_record_code : (members : List Field) → entry.kind ≡ kind.Record members → free_words_code types (wit.Id id) ≡ each (λ n ty. free_words_code types ty) 0 (map (λ f. f.ty) members)
+  unfolding free_words_code
+  free_words_record_code members e =
+      made_by_kind free_words_leaf free_words_kind types id entry (kind.Record members) down at e ∙ each_map (λ n part. part) (free_words_code types) 0 (map (λ (f : Field). f.ty) members)
+
+  pub free_words_tuple_code : (tys : List WitType) → entry.kind ≡ kind.Tuple tys → free_words_code types (wit.Id id) ≡ each (λ n ty. free_words_code types ty) 0 tys
+  unfolding free_words_code
+  free_words_tuple_code tys e = made_by_kind free_words_leaf free_words_kind types id entry (kind.Tuple tys) down at e ∙ each_map (λ n part. part) (free_words_code types) 0 tys

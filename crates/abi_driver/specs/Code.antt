@@ -1,0 +1,238 @@
+-- Which instructions are sent for a type and for a function, and in which order. Of types that the driver answers an error on there are none.
+use Rattle.std.specs.Borrow.{Bor}
+use Rattle.std.specs.Prelude.{ℕ, suc, ◌+◌, Bool, true, false, if◌then◌else◌, List, [], ◌∷◌, ◌++◌, length, map, Option, None, Some, option_map, option_to_list, slice_index, slice_index_or}
+use Rattle.wit_model.specs.Size.{paired}
+use Rattle.wit_model.specs.declared.function.Function.{Function}
+use Rattle.wit_model.specs.declared.size.ArchitectureSize.{ArchitectureSize}
+use Rattle.wit_model.specs.declared.types.TypeDef.{TypeDef}
+use Rattle.wit_model.specs.declared.types.TypeDefKind.{TypeDefKind}
+use Rattle.wit_model.specs.declared.types.TypeDefKind.TheVariants as kind
+use Rattle.wit_model.specs.declared.types.WitType.{WitType}
+use Rattle.wit_model.specs.declared.types.WitType.TheVariants as wit
+use Rattle.wit_layout.specs.declared.signature.AbiVariant.{AbiVariant}
+use Rattle.wit_layout.specs.declared.signature.AbiVariant.TheVariants.{GuestExport, GuestImport}
+use Rattle.wit_layout.specs.Flat.{flatten_type}
+use Rattle.wit_layout.specs.Signature.{core_results}
+use Rattle.wit_layout.specs.Sizes.{elem_size, field_offsets}
+use Rattle.wit_layout.specs.Tree.{Tree, record_of, tree_at, tree_of}
+use Rattle.wrapper_meaning.specs.Areas.{stored_alignment}
+use Rattle.wrapper_meaning.specs.Layout.{layout}
+use Rattle.wrapper_meaning.specs.Represents.{are_indirect, is_indirect, result_words}
+use Rattle.wrapper_meaning.specs.Shape.{Shape, result_shape, shape_of}
+use Rattle.wrapper_meaning.specs.Shape.Shape.{fields}
+use Rattle.abi_driver.specs.declared.bindgen.Asked.{Asked}
+use Rattle.abi_driver.specs.declared.instruction.Instruction.{Instruction}
+use Rattle.abi_driver.specs.declared.instruction.Instruction.TheVariants.{CallInterface, CallWasm, Flush, GetArg, GuestDeallocate, GuestDeallocateString, LengthLoad, LengthStore, PointerLoad, PointerStore, RecordLift, RecordLower, Return, StringLift, StringLower, TupleLift, TupleLower}
+use Rattle.abi_driver.specs.Frees.{nowhere}
+use Rattle.abi_driver.specs.Instructions.{lifting, lowering, shapes_of}
+use Rattle.abi_driver.specs.ScalarTouches.{scalar_load, scalar_store}
+
+-- an instruction is sent, or the area is asked for
+pub data Sent : Type 0 where
+  sends : Instruction → Sent
+  asks : Asked → Sent
+
+-- the instruction for a scalar; none elsewhere
+abbrev pub sent : Option Instruction → List Sent
+sent i = map (λ i. sends i) (option_to_list i)
+
+-- what is sent for each, in order, by its number
+abbrev pub each : {A : Type 0} → (ℕ → A → List Sent) → ℕ → List A → List Sent
+each f n [] = []
+each f n (x ∷ xs) = f n x ++ each f (suc n) xs
+
+-- 1. What is made for each type of a table, of what was made for the types that it names
+
+-- the types of the parts, and the one that an alias names
+abbrev pub members_of : TypeDefKind → List WitType
+members_of (kind.Alias ty) = ty ∷ []
+members_of (kind.Record members) = map (λ f. f.ty) members
+members_of (kind.Tuple members) = members
+members_of _ = []
+
+-- by what was made for the entries before it
+abbrev pub made_in : {A : Type 0} → (leaf : WitType → A) → List A → WitType → A
+made_in leaf before (wit.Id id) = slice_index_or before id.0 (leaf (wit.Id id))
+made_in leaf before ty = leaf ty
+
+module _ {A : Type 0} (leaf : WitType → A) (by_kind : ℕ → TypeDefKind → List A → A) where
+  abbrev pub made_behind : List A → List TypeDef → List A
+  made_behind before [] = before
+  made_behind before (t ∷ types) = made_behind (before ++ by_kind (length before) t.kind (map (λ ty. made_in leaf before ty) (members_of t.kind)) ∷ []) types
+
+  unfoldable pub made : List TypeDef → List A
+  made types = made_behind [] types
+
+  abbrev pub made_for : List TypeDef → WitType → A
+  made_for types ty = made_in leaf (made types) ty
+
+-- 2. Core words
+
+abbrev pub in_turn : List (List Sent) → List Sent
+in_turn parts = each (λ n part. part) 0 parts
+
+abbrev pub lower_leaf : Bool → WitType → List Sent
+lower_leaf realloc wit.String = sends (StringLower realloc) ∷ []
+lower_leaf realloc ty = sent (lowering ty)
+
+abbrev pub lower_kind : ℕ → TypeDefKind → List (List Sent) → List Sent
+lower_kind id (kind.Alias ty) parts = in_turn parts
+lower_kind id (kind.Record members) parts = sends (RecordLower (record { 0 = id })) ∷ in_turn parts
+lower_kind id (kind.Tuple members) parts = sends (TupleLower (length members)) ∷ in_turn parts
+lower_kind id _ parts = []
+
+unfoldable pub lower_code : List TypeDef → Bool → WitType → List Sent
+lower_code types realloc ty = made_for (lower_leaf realloc) lower_kind types ty
+
+abbrev pub lift_leaf : WitType → List Sent
+lift_leaf wit.String = sends StringLift ∷ []
+lift_leaf ty = sent (lifting ty)
+
+abbrev pub lift_kind : ℕ → TypeDefKind → List (List Sent) → List Sent
+lift_kind id (kind.Alias ty) parts = in_turn parts
+lift_kind id (kind.Record members) parts = in_turn parts ++ sends (RecordLift (record { 0 = id })) ∷ []
+lift_kind id (kind.Tuple members) parts = in_turn parts ++ sends (TupleLift (length members)) ∷ []
+lift_kind id _ parts = []
+
+unfoldable pub lift_code : List TypeDef → WitType → List Sent
+lift_code types ty = made_for lift_leaf lift_kind types ty
+
+abbrev pub free_words_leaf : WitType → List Sent
+free_words_leaf wit.String = sends GuestDeallocateString ∷ []
+free_words_leaf ty = []
+
+abbrev pub free_words_kind : ℕ → TypeDefKind → List (List Sent) → List Sent
+free_words_kind id k parts = in_turn parts
+
+-- blocks are freed which words name
+unfoldable pub free_words_code : List TypeDef → WitType → List Sent
+free_words_code types ty = made_for free_words_leaf free_words_kind types ty
+
+-- 3. Memory, at an offset from an address
+
+abbrev pub beyond : ArchitectureSize → ArchitectureSize → ArchitectureSize
+beyond a b = record { bytes = a.bytes + b.bytes; pointers = a.pointers + b.pointers }
+
+abbrev pub one_pointer : ArchitectureSize
+one_pointer = record { bytes = 0; pointers = 1 }
+
+-- where a part of a record stands in it
+abbrev pub part_place : Tree → ℕ → ArchitectureSize
+part_place t n = paired (slice_index (field_offsets 2 t) n) (slice_index (field_offsets 3 t) n)
+
+abbrev pub all_at : List (ArchitectureSize → List Sent) → ArchitectureSize → List Sent
+all_at parts offset = each (λ n part. part offset) 0 parts
+
+-- each part of a type of the table at its place
+abbrev pub at_places : List TypeDef → ℕ → List (ArchitectureSize → List Sent) → ArchitectureSize → List Sent
+at_places types id parts offset = each (λ n part. part (beyond offset (part_place (tree_at types id) n))) 0 parts
+
+abbrev pub store_leaf : Bool → WitType → ArchitectureSize → List Sent
+store_leaf realloc wit.String offset = sends (StringLower realloc) ∷ sends (LengthStore (beyond offset one_pointer)) ∷ sends (PointerStore offset) ∷ []
+store_leaf realloc ty offset = sent (lowering ty) ++ sent (scalar_store ty offset)
+
+abbrev pub store_kind : List TypeDef → ℕ → TypeDefKind → List (ArchitectureSize → List Sent) → ArchitectureSize → List Sent
+store_kind types id (kind.Alias ty) parts offset = all_at parts offset
+store_kind types id (kind.Record members) parts offset = sends (RecordLower (record { 0 = id })) ∷ at_places types id parts offset
+store_kind types id (kind.Tuple members) parts offset = sends (TupleLower (length members)) ∷ at_places types id parts offset
+store_kind types id _ parts offset = []
+
+unfoldable pub store_code : List TypeDef → Bool → WitType → ArchitectureSize → List Sent
+store_code types realloc ty offset = made_for (store_leaf realloc) (store_kind types) types ty offset
+
+abbrev pub load_leaf : WitType → ArchitectureSize → List Sent
+load_leaf wit.String offset = sends (PointerLoad offset) ∷ sends (LengthLoad (beyond offset one_pointer)) ∷ sends StringLift ∷ []
+load_leaf ty offset = sent (scalar_load ty offset) ++ sent (lifting ty)
+
+abbrev pub load_kind : List TypeDef → ℕ → TypeDefKind → List (ArchitectureSize → List Sent) → ArchitectureSize → List Sent
+load_kind types id (kind.Alias ty) parts offset = all_at parts offset
+load_kind types id (kind.Record members) parts offset = at_places types id parts offset ++ sends (RecordLift (record { 0 = id })) ∷ []
+load_kind types id (kind.Tuple members) parts offset = at_places types id parts offset ++ sends (TupleLift (length members)) ∷ []
+load_kind types id _ parts offset = []
+
+unfoldable pub load_code : List TypeDef → WitType → ArchitectureSize → List Sent
+load_code types ty offset = made_for load_leaf (load_kind types) types ty offset
+
+abbrev pub free_leaf : WitType → ArchitectureSize → List Sent
+free_leaf wit.String offset = sends (PointerLoad offset) ∷ sends (LengthLoad (beyond offset one_pointer)) ∷ sends GuestDeallocateString ∷ []
+free_leaf ty offset = []
+
+abbrev pub free_kind : List TypeDef → ℕ → TypeDefKind → List (ArchitectureSize → List Sent) → ArchitectureSize → List Sent
+free_kind types id (kind.Alias ty) parts offset = all_at parts offset
+free_kind types id k parts offset = at_places types id parts offset
+
+unfoldable pub free_code : List TypeDef → WitType → ArchitectureSize → List Sent
+free_code types ty offset = made_for free_leaf (free_kind types) types ty offset
+
+-- 4. Values of some types, one after another, or in a record of them
+
+abbrev pub free_types_code : List TypeDef → (indirect : Bool) → List WitType → List Sent
+free_types_code types true tys = each (λ n ty. free_code types ty (part_place (record_of types tys) n)) 0 tys
+free_types_code types false tys = each (λ n ty. free_words_code types ty) 0 tys
+
+abbrev pub lower_arguments : List TypeDef → List WitType → List Sent
+lower_arguments types tys = each (λ n ty. sends (GetArg n) ∷ lower_code types false ty) 0 tys
+
+abbrev pub store_arguments : List TypeDef → List WitType → List Sent
+store_arguments types tys = each (λ n ty. sends (GetArg n) ∷ store_code types false ty (part_place (record_of types tys) n)) 0 tys
+
+-- the first word of the types is the argument of this number
+abbrev pub lift_arguments : List TypeDef → ℕ → List WitType → List Sent
+lift_arguments types first [] = []
+lift_arguments types first (ty ∷ tys) =
+    let words = flatten_type (tree_of types ty) in each (λ n word. sends (GetArg n) ∷ []) first words ++ lift_code types ty ++ lift_arguments types (first + length words) tys
+
+abbrev pub load_arguments : List TypeDef → List WitType → List Sent
+load_arguments types tys = each (λ n ty. load_code types ty (part_place (record_of types tys) n)) 0 tys
+
+-- 5. The whole code of a function
+
+abbrev pub record_size : Shape → ArchitectureSize
+record_size t = paired (elem_size 2 (layout t)) (elem_size 3 (layout t))
+
+abbrev pub ask_for : Shape → List Sent
+ask_for t = asks (record { size = record_size t; align = stored_alignment t }) ∷ []
+
+abbrev pub pass_code : List TypeDef → List WitType → List Sent
+pass_code types tys =
+    let ts = shapes_of types tys in if are_indirect ts then ask_for (fields ts) ++ store_arguments types tys else lower_arguments types tys
+
+abbrev pub point_code : List TypeDef → Option WitType → List Sent
+point_code types None = []
+point_code types (Some ty) = if is_indirect (Some (shape_of types ty)) then ask_for (shape_of types ty) else []
+
+abbrev pub read_code : List TypeDef → Option WitType → List Sent
+read_code types None = []
+read_code types (Some ty) = if is_indirect (Some (shape_of types ty)) then load_code types ty nowhere else lift_code types ty
+
+abbrev pub import_code : List TypeDef → Bor Function → List Sent
+import_code types func =
+    let f = func.now in
+    pass_code types (map (λ p. p.ty) f.params) ++ point_code types f.result ++ sends (CallWasm func) ∷ read_code types f.result ++ sends (Return (length (option_to_list f.result))) ∷ []
+
+-- the record is freed by its address, which is read again
+abbrev pub free_record_code : Shape → List Sent
+free_record_code t = sends (GetArg 0) ∷ sends (GuestDeallocate (record_size t) (stored_alignment t)) ∷ []
+
+abbrev pub take_code : List TypeDef → List WitType → List Sent
+take_code types tys =
+    let ts = shapes_of types tys in
+    if are_indirect ts then sends (GetArg 0) ∷ load_arguments types tys ++ sends (Flush (length tys)) ∷ free_record_code (fields ts) else lift_arguments types 0 tys
+
+abbrev pub give_code : List TypeDef → Option WitType → List Sent
+give_code types None = []
+give_code types (Some ty) =
+    if is_indirect (Some (shape_of types ty)) then ask_for (shape_of types ty) ++ store_code types true ty nowhere else lower_code types true ty
+
+abbrev pub export_code : List TypeDef → Bor Function → List Sent
+export_code types func =
+    let f = func.now in
+    take_code types (map (λ p. p.ty) f.params) ++ sends (CallInterface func) ∷ give_code types f.result ++ sends (Return (length (core_results GuestExport (result_words (result_shape types f))))) ∷ []
+
+abbrev pub call_code : List TypeDef → AbiVariant → Bor Function → List Sent
+call_code types GuestImport func = import_code types func
+call_code types GuestExport func = export_code types func
+
+abbrev pub post_return_code : List TypeDef → Option WitType → List Sent
+post_return_code types None = sends (Return 0) ∷ []
+post_return_code types (Some ty) = sends (GetArg 0) ∷ free_code types ty nowhere ++ sends (Return 0) ∷ []
