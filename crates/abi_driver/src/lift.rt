@@ -2,12 +2,15 @@
 
 pub(crate) mod leaf;
 
-ghost use Rattle.std.specs.Prelude.{◌≡◌, ◌<◌, ◌≤◌, ◌++◌, IsTrue, List, true, drop, length, IfOk};
+ghost use Rattle.std.specs.Prelude.{◌≡◌, ◌<◌, ◌≤◌, ◌++◌, IsTrue, List, true, drop, length, IfOk, OnOk};
 ghost use Rattle.std.specs.List.{list_all};
 ghost use Rattle.wit_model.specs.TypeOrder.{GoesDown, type_below};
+ghost use Rattle.wit_model.specs.declared.types.WitType.TheVariants.{Id};
 ghost use Rattle.wrapper_meaning.specs.Shape.{shape_at, shape_of};
+ghost use Rattle.abi_driver.specs.Code.{each, lift_code};
 ghost use Rattle.abi_driver.specs.Instructions.{shapes_of};
 ghost use Rattle.abi_driver.specs.Lifts.{LiftsAll, LiftsFlat};
+ghost use Rattle.abi_driver.specs.Sends.{Sends};
 
 use crate::bindgen::Bindgen;
 use crate::instruction::Instruction;
@@ -44,7 +47,8 @@ pub fn lift_flat<B: Bindgen>(
 ) -> Result<B::Operand, OutOfMemory>
     requires down { GoesDown resolve.now.types }
     requires below { IsTrue (type_below (length resolve.now.types) ty.now) }
-    ensures { IfOk result (λ o. LiftsFlat B.meaning (shape_of resolve.now.types ty.now) words.now o bindgen.old bindgen.new) }
+    ensures lifts { IfOk result (λ o. LiftsFlat B.meaning (shape_of resolve.now.types ty.now) words.now o bindgen.old bindgen.new) }
+    ensures sends { OnOk result (Sends B.meaning resolve.now.types (lift_code resolve.now.types ty.now) bindgen.old bindgen.new) }
 {
     let count = words.len();
     let lifted = lift_type(alloc, resolve, bindgen, words.as_slice(), 0, *ty)?;
@@ -68,8 +72,9 @@ fn lift_type<B: Bindgen>(
 ) -> Result<Lifted<B::Operand>, OutOfMemory>
     requires down { GoesDown resolve.now.types }
     requires below { IsTrue (type_below (length resolve.now.types) ty) }
-    ensures { IfOk result (λ r. (used : List B.Operand) × (drop at words.now ≡ used ++ drop r.next words.now)
+    ensures lifts { IfOk result (λ r. (used : List B.Operand) × (drop at words.now ≡ used ++ drop r.next words.now)
         × LiftsFlat B.meaning (shape_of resolve.now.types ty) used r.operand bindgen.old bindgen.new) }
+    ensures sends { OnOk result (Sends B.meaning resolve.now.types (lift_code resolve.now.types ty) bindgen.old bindgen.new) }
 {
     if let Some(inst) = scalar_lifting(ty) {
         let lifted = lift_scalar(alloc, resolve, bindgen, words, at, ty, inst)?;
@@ -97,8 +102,9 @@ fn lift_id<B: Bindgen>(
 ) -> Result<Lifted<B::Operand>, OutOfMemory>
     requires down { GoesDown resolve.now.types }
     requires within { id.0 < length resolve.now.types }
-    ensures { IfOk result (λ r. (used : List B.Operand) × (drop at words.now ≡ used ++ drop r.next words.now)
+    ensures lifts { IfOk result (λ r. (used : List B.Operand) × (drop at words.now ≡ used ++ drop r.next words.now)
         × LiftsFlat B.meaning (shape_at resolve.now.types id.0) used r.operand bindgen.old bindgen.new) }
+    ensures sends { OnOk result (Sends B.meaning resolve.now.types (lift_code resolve.now.types (Id id)) bindgen.old bindgen.new) }
 {
     let types = resolve.types.as_slice();
     let place = id.0 as usize;
@@ -145,6 +151,7 @@ pub(crate) fn lift_parts<B: Bindgen>(
     ensures count { IfOk result (λ r. length r.parts ≡ length tys.now) }
     ensures lifts { IfOk result (λ r. (used : List B.Operand) × (drop at words.now ≡ used ++ drop r.next words.now)
         × LiftsAll B.meaning (shapes_of resolve.now.types tys.now) used r.parts bindgen.old bindgen.new) }
+    ensures sends { OnOk result (Sends B.meaning resolve.now.types (each (λ n ty. lift_code resolve.now.types ty) 0 tys.now) bindgen.old bindgen.new) }
 {
     let mut parts = List::new(alloc);
     let mut next = at;

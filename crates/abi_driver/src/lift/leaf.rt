@@ -1,10 +1,13 @@
 //! What one instruction lifts.
 
-ghost use Rattle.std.specs.Prelude.{◌≡◌, ◌++◌, List, Some, drop, IfOk};
+ghost use Rattle.std.specs.Prelude.{◌≡◌, ◌++◌, List, Some, drop, IfOk, OnOk};
+ghost use Rattle.wit_model.specs.declared.types.WitType.TheVariants.{String};
 ghost use Rattle.wrapper_meaning.specs.Shape.{shape_of};
 ghost use Rattle.wrapper_meaning.specs.Shape.Shape.{text};
+ghost use Rattle.abi_driver.specs.Code.{lift_code};
 ghost use Rattle.abi_driver.specs.Instructions.{lifting};
 ghost use Rattle.abi_driver.specs.Lifts.{LiftsFlat};
+ghost use Rattle.abi_driver.specs.Sends.{Sends};
 
 use crate::bindgen::{Bindgen, Operand};
 use crate::instruction::Instruction;
@@ -45,8 +48,9 @@ pub(crate) fn lift_scalar<B: Bindgen>(
     inst: Instruction,
 ) -> Result<Lifted<B::Operand>, OutOfMemory>
     requires { lifting ty ≡ Some inst }
-    ensures { IfOk result (λ r. (used : List B.Operand) × (drop at words.now ≡ used ++ drop r.next words.now)
+    ensures lifts { IfOk result (λ r. (used : List B.Operand) × (drop at words.now ≡ used ++ drop r.next words.now)
         × LiftsFlat B.meaning (shape_of resolve.now.types ty) used r.operand bindgen.old bindgen.new) }
+    ensures sends { OnOk result (Sends B.meaning resolve.now.types (lift_code resolve.now.types ty) bindgen.old bindgen.new) }
 {
     if at >= words.len() {
         return Err(OutOfMemory);
@@ -68,8 +72,9 @@ pub(crate) fn lift_text<B: Bindgen>(
     words: &[B::Operand],
     at: usize,
 ) -> Result<Lifted<B::Operand>, OutOfMemory>
-    ensures { IfOk result (λ r. (used : List B.Operand) × (drop at words.now ≡ used ++ drop r.next words.now)
+    ensures lifts { IfOk result (λ r. (used : List B.Operand) × (drop at words.now ≡ used ++ drop r.next words.now)
         × LiftsFlat B.meaning text used r.operand bindgen.old bindgen.new) }
+    ensures sends { OnOk result (Sends B.meaning resolve.now.types (lift_code resolve.now.types String) bindgen.old bindgen.new) }
 {
     if words.len() < 2 || at > words.len() - 2 {
         return Err(OutOfMemory);

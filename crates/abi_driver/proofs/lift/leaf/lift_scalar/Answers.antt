@@ -1,7 +1,9 @@
 use Rattle.std.proofs.Common.{◌<◌, List, [], ◌∷◌, length, refl, subst, arith}
 use Rattle.abi_driver.specs.Instructions.{Emits}
+use Rattle.abi_driver.proofs.FlatCode.{lift_scalar_code}
 use Rattle.abi_driver.proofs.LiftSteps.{scalar_lifts}
 use Rattle.abi_driver.proofs.Records.{drop-same}
+use Rattle.abi_driver.proofs.SendSteps.{sends_as, sends_one}
 use Rattle.abi_driver.proofs.lift.leaf.lift_scalar.Goals as goal
 
 pub returns : goal.returns
@@ -9,8 +11,12 @@ returns g c =
     let m = g.B.Bindgen.meaning in
     let types = c.args.resolve.now.types in
     let e = subst (λ (os : List g.row.B-Operand.Denot). Emits m types c.args.inst os (c.in_ok-operand.operand ∷ []) c.args.bindgen.now c.send_one.new.bindgen) c.in_ok-operands.ensures c.in_ok-operand.ensures in
-    let short : c.args.at < length c.args.words.now = omega (arith, c.if-at-words.false) in (
-      c.in_ok-word.word ∷ [],
-      drop-same c.args.words.now c.args.words.now c.args.at c.in_ok-word.word c.index-words-at.result refl short c.index-words-at.is c.in_ok-word.ensures,
-      scalar_lifts m g.met.B.Bindgen.sound types c.args.ty c.args.inst _ _ c.in_ok-word.word c.in_ok-operand.operand c.requires e,
-    )
+    let short : c.args.at < length c.args.words.now = omega (arith, c.if-at-words.false) in
+    record {
+      lifts = (
+        c.in_ok-word.word ∷ [],
+        drop-same c.args.words.now c.args.words.now c.args.at c.in_ok-word.word c.index-words-at.result refl short c.index-words-at.is c.in_ok-word.ensures,
+        scalar_lifts m g.met.B.Bindgen.sound types c.args.ty c.args.inst _ _ c.in_ok-word.word c.in_ok-operand.operand c.requires e,
+      );
+      sends = sends_as m types _ _ _ _ (lift_scalar_code types c.args.ty c.args.inst c.requires) (sends_one m types c.args.inst _ _ _ _ c.in_ok-operand.ensures);
+    }
