@@ -47,4 +47,5 @@ pub mod RecordStores
 pub mod FlatFrees
 pub mod CodeByKind
 pub mod FlatCode
+pub mod MemoryCode
 pub mod SendSteps

@@ -1,9 +1,9 @@
 -- Where the parts of a record or a tuple of the table stand.
-use Rattle.std.proofs.Common.{◌≡◌, ℕ, zero, suc, ◌+◌, ◌*◌, ◌^◌, ◌<◌, ◌⊎◌, false, List, [], ◌∷◌, ◌++◌, length, map, take, get_or, Some, refl, sym, ap, ◌∙◌, arith, add-mul}
-use mathlib.Core.Logic.{inl, inr}
+use Rattle.std.proofs.Common.{◌≡◌, ℕ, zero, suc, ◌+◌, ◌-◌, ◌*◌, ◌/◌, ◌<◌, false, List, [], ◌∷◌, ◌++◌, length, map, take, get_or, Some, refl, sym, ap, ap₂, ◌∙◌, arith, add-mul}
+use Rattle.std.proofs.Math.Nat.{mul-div_cancel}
 use Rattle.std.specs.List.{slice_get, slice_index}
 use Rattle.std.proofs.lemmas.List.{take_more}
-use Rattle.wit_model.specs.Size.{bytes_at}
+use Rattle.wit_model.specs.Size.{bytes_at, paired}
 use Rattle.wit_model.specs.TypeOrder.{GoesDown}
 use Rattle.wit_model.specs.declared.name.TypeId.{TypeId}
 use Rattle.wit_model.specs.declared.size.ArchitectureSize.{ArchitectureSize}
@@ -14,12 +14,13 @@ use Rattle.wit_model.specs.declared.types.WitType.{WitType}
 use Rattle.wit_model.specs.declared.types.WitType.TheVariants as wit
 use Rattle.wit_layout.specs.Extent.{Extent, end, place, places}
 use Rattle.wit_layout.specs.Sizes.{elem_size, extent_of, extents_of, field_offsets}
-use Rattle.wit_layout.specs.Told.{ArePairsOf, is_alias}
-use Rattle.wit_layout.specs.Tree.{tree_at}
+use Rattle.wit_layout.specs.Told.{ArePairsOf, IsPairOf, is_alias}
+use Rattle.wit_layout.specs.Tree.{Tree, tree_at}
 use Rattle.wrapper_meaning.specs.Layout.{layout, layouts}
 use Rattle.wrapper_meaning.specs.Shape.{shape_at, shape_of}
 use Rattle.wrapper_meaning.specs.Shape.Shape.{fields}
 use Rattle.wrapper_meaning.proofs.LayoutIsTree.{layout_is_tree}
+use Rattle.abi_driver.specs.Code.{beyond, one_pointer, place_in}
 use Rattle.abi_driver.specs.Instructions.{shapes_of}
 use Rattle.abi_driver.specs.Places.{HasParts, IsOfParts}
 use Rattle.abi_driver.proofs.Records.{record_shape, tuple_shape}
@@ -106,11 +107,32 @@ get_in [] n width s e = absurd (let h = e in cc)
 get_in (z ∷ sizes) zero width s e = ap (λ (z : ArchitectureSize). bytes_at z width) (let h = e in cc)
 get_in (z ∷ sizes) (suc n) width s e = get_in sizes n width s e
 
--- at the width of pointers of four bytes, or of eight
-pub offset_read : (w : ℕ) (sizes : List ArchitectureSize) (f : ℕ → List ℕ) (n : ℕ) (s : ArchitectureSize) → (w ≡ 2) ⊎ (w ≡ 3) → ArePairsOf sizes f → slice_get sizes n ≡ Some s → bytes_at s (2 ^ w) ≡ slice_index (f w) n
-offset_read w sizes f n s (inl e) pairs at = ap (λ k. bytes_at s (2 ^ k)) e ∙ sym (get_in sizes n 4 s at) ∙ ap (λ (xs : List ℕ). slice_index xs n) pairs.0 ∙ ap (λ k. slice_index (f k) n) (sym e)
-offset_read w sizes f n s (inr e) pairs at = ap (λ k. bytes_at s (2 ^ k)) e ∙ sym (get_in sizes n 8 s at) ∙ ap (λ (xs : List ℕ). slice_index xs n) pairs.1 ∙ ap (λ k. slice_index (f k) n) (sym e)
+pub pair_read : (sizes : List ArchitectureSize) (f : ℕ → List ℕ) (n : ℕ) (s : ArchitectureSize) → ArePairsOf sizes f → slice_get sizes n ≡ Some s → IsPairOf s (λ w. slice_index (f w) n)
+pair_read sizes f n s pairs at = (
+  sym (get_in sizes n 4 s at) ∙ ap (λ (xs : List ℕ). slice_index xs n) pairs.0,
+  sym (get_in sizes n 8 s at) ∙ ap (λ (xs : List ℕ). slice_index xs n) pairs.1,
+)
 
 -- bytes and pointers, each with a sum of two, are the sum
 pub spread : (x y p r width : ℕ) → x + y + (p + r) * width ≡ x + p * width + (y + r * width)
 spread x y p r width = omega (arith, add-mul p r width)
+
+pub beyond_at : (a b : ArchitectureSize) (width : ℕ) → bytes_at (beyond a b) width ≡ bytes_at a width + bytes_at b width
+beyond_at a b width = spread a.bytes b.bytes a.pointers b.pointers width
+
+pub behind_at : (a c : ArchitectureSize) (width : ℕ) → c ≡ beyond a one_pointer → bytes_at c width ≡ bytes_at a width + width
+behind_at a c width e = ap (λ s. bytes_at s width) e ∙ beyond_at a one_pointer width ∙ omega arith
+
+-- a size that is told at both widths
+pub pair_is : (s : ArchitectureSize) (f : ℕ → ℕ) → IsPairOf s f → s ≡ paired (f 2) (f 3)
+pair_is s f pair =
+    let four = pair.0 in
+    let eight = pair.1 in
+    let bytes : s.bytes ≡ 2 * f 2 - f 3 = omega (arith, four, eight) in
+    let apart : s.pointers * 4 ≡ f 3 - f 2 = omega (arith, four, eight) in
+    let pointers : s.pointers ≡ (f 3 - f 2) / 4 = sym (mul-div_cancel s.pointers {n = 4} (omega arith)) ∙ ap (λ n. n / 4) apart in
+    ap₂ (λ x y. record { bytes = x; pointers = y }) bytes pointers
+
+-- the place of a part, which was told at both widths
+pub place_sent : (place offset at : ArchitectureSize) (t : Tree) (n : ℕ) → place ≡ beyond offset at → IsPairOf at (λ w. slice_index (field_offsets w t) n) → place ≡ beyond offset (place_in t n)
+place_sent place offset at t n e pair = e ∙ ap (beyond offset) (pair_is at (λ w. slice_index (field_offsets w t) n) pair)

@@ -21,9 +21,10 @@ use Rattle.wrapper_meaning.specs.Layout.{layout, layouts}
 use Rattle.wrapper_meaning.specs.Shape.{shape_of, shapes}
 use Rattle.wrapper_meaning.specs.Shape.Shape.{fields}
 use Rattle.wrapper_meaning.proofs.LayoutIsTree.{layouts_are_trees, of_payloads}
+use Rattle.abi_driver.specs.Code.{beyond}
 use Rattle.abi_driver.specs.Frees.{nowhere}
 use Rattle.abi_driver.specs.Instructions.{shapes_of}
-use Rattle.abi_driver.proofs.PartOffsets.{place_of}
+use Rattle.abi_driver.proofs.PartOffsets.{beyond_at, place_of}
 
 -- the first so many places are those of the first so many types
 abbrev pub ArePlaces : SizeAlign → List WitType → List ArchitectureSize → ℕ → Type 0
@@ -56,6 +57,10 @@ module _ (w : ℕ) where
   pub align_at_width : (a : Alignment) (f : ℕ → ℕ) → (w ≡ 2) ⊎ (w ≡ 3) → IsAlignmentOf a f → alignment_at a (2 ^ w) ≡ f w
   align_at_width a f (inl e) both = ap (λ k. alignment_at a (2 ^ k)) e ∙ both.0 ∙ ap f (sym e)
   align_at_width a f (inr e) both = ap (λ k. alignment_at a (2 ^ k)) e ∙ both.1 ∙ ap f (sym e)
+
+  -- so far beyond an offset
+  pub place_told : (place offset at : ArchitectureSize) (f : ℕ → ℕ) → (w ≡ 2) ⊎ (w ≡ 3) → place ≡ beyond offset at → IsPairOf at f → bytes_at place (2 ^ w) ≡ bytes_at offset (2 ^ w) + f w
+  place_told place offset at f wide e pair = ap (λ s. bytes_at s (2 ^ w)) e ∙ beyond_at offset at (2 ^ w) ∙ ap (λ n. bytes_at offset (2 ^ w) + n) (at_width at f wide pair)
 
 module _ (w : ℕ) (types : List TypeDef) where
   pub record_layout : (tys : List WitType) → record_of types tys ≡ layout (fields (shapes_of types tys))

@@ -33,6 +33,13 @@ module _ {Self Operand : Type 0} (m : Meaning Self Operand) (types : List TypeDe
   pub sends_one : (i : Instruction) (os rs : List Operand) (a b : Self) → Emits m types i os rs a b → Sends m types (sends i ∷ []) a b
   sends_one i os rs a b e = (os, rs, b, e, refl)
 
+  pub sends_two : (i j : Instruction) (os rs ps qs : List Operand) (a b c : Self) → Emits m types i os rs a b → Emits m types j ps qs b c → Sends m types (sends i ∷ sends j ∷ []) a c
+  sends_two i j os rs ps qs a b c e f = (os, rs, b, e, sends_one j ps qs b c f)
+
+  pub sends_three : (i j k : Instruction) (os rs ps qs us vs : List Operand) (a b c d : Self) → Emits m types i os rs a b → Emits m types j ps qs b c → Emits m types k us vs c d
+      → Sends m types (sends i ∷ sends j ∷ sends k ∷ []) a d
+  sends_three i j k os rs ps qs us vs a b c d e f g = (os, rs, b, e, sends_two j k ps qs us vs b c d f g)
+
   pub sends_as : (steps others : List Sent) (a b : Self) → others ≡ steps → Sends m types steps a b → Sends m types others a b
   sends_as steps others a b e h = subst (λ xs. Sends m types xs a b) (sym e) h
 

@@ -117,15 +117,15 @@ abbrev pub one_pointer : ArchitectureSize
 one_pointer = record { bytes = 0; pointers = 1 }
 
 -- where a part of a record stands in it
-abbrev pub part_place : Tree → ℕ → ArchitectureSize
-part_place t n = paired (slice_index (field_offsets 2 t) n) (slice_index (field_offsets 3 t) n)
+abbrev pub place_in : Tree → ℕ → ArchitectureSize
+place_in t n = paired (slice_index (field_offsets 2 t) n) (slice_index (field_offsets 3 t) n)
 
 abbrev pub all_at : List (ArchitectureSize → List Sent) → ArchitectureSize → List Sent
 all_at parts offset = each (λ n part. part offset) 0 parts
 
 -- each part of a type of the table at its place
 abbrev pub at_places : List TypeDef → ℕ → List (ArchitectureSize → List Sent) → ArchitectureSize → List Sent
-at_places types id parts offset = each (λ n part. part (beyond offset (part_place (tree_at types id) n))) 0 parts
+at_places types id parts offset = each (λ n part. part (beyond offset (place_in (tree_at types id) n))) 0 parts
 
 abbrev pub store_leaf : Bool → WitType → ArchitectureSize → List Sent
 store_leaf realloc wit.String offset = sends (StringLower realloc) ∷ sends (LengthStore (beyond offset one_pointer)) ∷ sends (PointerStore offset) ∷ []
@@ -167,14 +167,14 @@ free_code types ty offset = made_for free_leaf (free_kind types) types ty offset
 -- 4. Values of some types, one after another, or in a record of them
 
 abbrev pub free_types_code : List TypeDef → (indirect : Bool) → List WitType → List Sent
-free_types_code types true tys = each (λ n ty. free_code types ty (part_place (record_of types tys) n)) 0 tys
+free_types_code types true tys = each (λ n ty. free_code types ty (place_in (record_of types tys) n)) 0 tys
 free_types_code types false tys = each (λ n ty. free_words_code types ty) 0 tys
 
 abbrev pub lower_arguments : List TypeDef → List WitType → List Sent
 lower_arguments types tys = each (λ n ty. sends (GetArg n) ∷ lower_code types false ty) 0 tys
 
 abbrev pub store_arguments : List TypeDef → List WitType → List Sent
-store_arguments types tys = each (λ n ty. sends (GetArg n) ∷ store_code types false ty (part_place (record_of types tys) n)) 0 tys
+store_arguments types tys = each (λ n ty. sends (GetArg n) ∷ store_code types false ty (place_in (record_of types tys) n)) 0 tys
 
 -- the first word of the types is the argument of this number
 abbrev pub lift_arguments : List TypeDef → ℕ → List WitType → List Sent
@@ -183,7 +183,7 @@ lift_arguments types first (ty ∷ tys) =
     let words = flatten_type (tree_of types ty) in each (λ n word. sends (GetArg n) ∷ []) first words ++ lift_code types ty ++ lift_arguments types (first + length words) tys
 
 abbrev pub load_arguments : List TypeDef → List WitType → List Sent
-load_arguments types tys = each (λ n ty. load_code types ty (part_place (record_of types tys) n)) 0 tys
+load_arguments types tys = each (λ n ty. load_code types ty (place_in (record_of types tys) n)) 0 tys
 
 -- 5. The whole code of a function
 
@@ -211,13 +211,13 @@ import_code types func =
     pass_code types (map (λ p. p.ty) f.params) ++ point_code types f.result ++ sends (CallWasm func) ∷ read_code types f.result ++ sends (Return (length (option_to_list f.result))) ∷ []
 
 -- the record is freed by its address, which is read again
-abbrev pub free_record_code : Shape → List Sent
-free_record_code t = sends (GetArg 0) ∷ sends (GuestDeallocate (record_size t) (stored_alignment t)) ∷ []
+abbrev pub free_block_code : Shape → List Sent
+free_block_code t = sends (GetArg 0) ∷ sends (GuestDeallocate (record_size t) (stored_alignment t)) ∷ []
 
 abbrev pub take_code : List TypeDef → List WitType → List Sent
 take_code types tys =
     let ts = shapes_of types tys in
-    if are_indirect ts then sends (GetArg 0) ∷ load_arguments types tys ++ sends (Flush (length tys)) ∷ free_record_code (fields ts) else lift_arguments types 0 tys
+    if are_indirect ts then sends (GetArg 0) ∷ load_arguments types tys ++ sends (Flush (length tys)) ∷ free_block_code (fields ts) else lift_arguments types 0 tys
 
 abbrev pub give_code : List TypeDef → Option WitType → List Sent
 give_code types None = []
@@ -233,6 +233,10 @@ abbrev pub call_code : List TypeDef → AbiVariant → Bor Function → List Sen
 call_code types GuestImport func = import_code types func
 call_code types GuestExport func = export_code types func
 
+-- a result is freed that stands at the address which is the first argument
+abbrev pub free_result_code : List TypeDef → Option WitType → List Sent
+free_result_code types None = []
+free_result_code types (Some ty) = sends (GetArg 0) ∷ free_code types ty nowhere
+
 abbrev pub post_return_code : List TypeDef → Option WitType → List Sent
-post_return_code types None = sends (Return 0) ∷ []
-post_return_code types (Some ty) = sends (GetArg 0) ∷ free_code types ty nowhere ++ sends (Return 0) ∷ []
+post_return_code types r = free_result_code types r ++ sends (Return 0) ∷ []

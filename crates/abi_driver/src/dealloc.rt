@@ -7,8 +7,10 @@ pub(crate) mod places;
 ghost use Rattle.std.specs.Prelude.{◌≡◌, true, length, OnOk};
 ghost use Rattle.std.specs.List.{list_all};
 ghost use Rattle.wit_model.specs.TypeOrder.{GoesDown, type_below};
+ghost use Rattle.abi_driver.specs.Code.{free_types_code};
 ghost use Rattle.abi_driver.specs.Frees.{FreesTypes};
 ghost use Rattle.abi_driver.specs.Instructions.{shapes_of};
+ghost use Rattle.abi_driver.specs.Sends.{Sends};
 
 use crate::bindgen::Bindgen;
 use crate::dealloc::flat::free_words;
@@ -32,7 +34,8 @@ pub fn deallocate_lists_in_types<B: Bindgen>(
     requires down { GoesDown resolve.now.types }
     requires below { list_all (λ ty. type_below (length resolve.now.types) ty) types.now ≡ true }
     requires knows { B.meaning.knows bindgen.old resolve.now.types }
-    ensures { OnOk result (FreesTypes B.meaning indirect (shapes_of resolve.now.types types.now) operands.now bindgen.old bindgen.new) }
+    ensures frees { OnOk result (FreesTypes B.meaning indirect (shapes_of resolve.now.types types.now) operands.now bindgen.old bindgen.new) }
+    ensures sends { OnOk result (Sends B.meaning resolve.now.types (free_types_code resolve.now.types indirect types.now) bindgen.old bindgen.new) }
 {
     let operands = operands.as_slice();
     if indirect {
@@ -52,7 +55,8 @@ fn free_at<B: Bindgen>(
     requires down { GoesDown resolve.now.types }
     requires below { list_all (λ ty. type_below (length resolve.now.types) ty) types.now ≡ true }
     requires knows { B.meaning.knows bindgen.old resolve.now.types }
-    ensures { OnOk result (FreesTypes B.meaning true (shapes_of resolve.now.types types.now) operands.now bindgen.old bindgen.new) }
+    ensures frees { OnOk result (FreesTypes B.meaning true (shapes_of resolve.now.types types.now) operands.now bindgen.old bindgen.new) }
+    ensures sends { OnOk result (Sends B.meaning resolve.now.types (free_types_code resolve.now.types true types.now) bindgen.old bindgen.new) }
 {
     if operands.len() != 1 {
         return Err(OutOfMemory);

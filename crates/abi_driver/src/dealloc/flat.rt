@@ -3,10 +3,13 @@
 ghost use Rattle.std.specs.Prelude.{◌≡◌, ◌<◌, ◌≤◌, ◌∷◌, ◌++◌, IsTrue, List, true, drop, length, IfOk, OnOk};
 ghost use Rattle.std.specs.List.{list_all};
 ghost use Rattle.wit_model.specs.TypeOrder.{GoesDown, type_below};
+ghost use Rattle.wit_model.specs.declared.types.WitType.TheVariants.{Id, String};
 ghost use Rattle.wrapper_meaning.specs.Shape.{shape_at, shape_of};
 ghost use Rattle.wrapper_meaning.specs.Shape.Shape.{text};
+ghost use Rattle.abi_driver.specs.Code.{each, free_words_code};
 ghost use Rattle.abi_driver.specs.Frees.{FreesAll, FreesFlat};
 ghost use Rattle.abi_driver.specs.Instructions.{shapes_of};
+ghost use Rattle.abi_driver.specs.Sends.{Sends};
 
 use crate::bindgen::{Bindgen, Operand};
 use crate::instruction::Instruction;
@@ -26,7 +29,8 @@ pub(super) fn free_words<B: Bindgen>(
 ) -> Result<(), OutOfMemory>
     requires down { GoesDown resolve.now.types }
     requires below { list_all (λ ty. type_below (length resolve.now.types) ty) types.now ≡ true }
-    ensures { OnOk result (FreesAll B.meaning (shapes_of resolve.now.types types.now) words.now bindgen.old bindgen.new) }
+    ensures frees { OnOk result (FreesAll B.meaning (shapes_of resolve.now.types types.now) words.now bindgen.old bindgen.new) }
+    ensures sends { OnOk result (Sends B.meaning resolve.now.types (each (λ n ty. free_words_code resolve.now.types ty) 0 types.now) bindgen.old bindgen.new) }
 {
     let count = resolve.types.len();
     let next = free_parts(alloc, resolve, bindgen, words, 0, count, types)?;
@@ -49,8 +53,9 @@ fn free_type<B: Bindgen>(
 ) -> Result<usize, OutOfMemory>
     requires down { GoesDown resolve.now.types }
     requires below { IsTrue (type_below (length resolve.now.types) ty) }
-    ensures { IfOk result (λ next. (used : List B.Operand) × (drop at words.now ≡ used ++ drop next words.now)
+    ensures frees { IfOk result (λ next. (used : List B.Operand) × (drop at words.now ≡ used ++ drop next words.now)
         × FreesFlat B.meaning (shape_of resolve.now.types ty) used bindgen.old bindgen.new) }
+    ensures sends { OnOk result (Sends B.meaning resolve.now.types (free_words_code resolve.now.types ty) bindgen.old bindgen.new) }
 {
     if let Some(_lift) = scalar_lifting(ty) {
         let next = pass_word(words, at)?;
@@ -78,8 +83,9 @@ fn free_id<B: Bindgen>(
 ) -> Result<usize, OutOfMemory>
     requires down { GoesDown resolve.now.types }
     requires within { id.0 < length resolve.now.types }
-    ensures { IfOk result (λ next. (used : List B.Operand) × (drop at words.now ≡ used ++ drop next words.now)
+    ensures frees { IfOk result (λ next. (used : List B.Operand) × (drop at words.now ≡ used ++ drop next words.now)
         × FreesFlat B.meaning (shape_at resolve.now.types id.0) used bindgen.old bindgen.new) }
+    ensures sends { OnOk result (Sends B.meaning resolve.now.types (free_words_code resolve.now.types (Id id)) bindgen.old bindgen.new) }
 {
     let types = resolve.types.as_slice();
     let place = id.0 as usize;
@@ -117,8 +123,9 @@ fn free_parts<B: Bindgen>(
     requires down { GoesDown resolve.now.types }
     requires within { place ≤ length resolve.now.types }
     requires below { list_all (λ ty. type_below place ty) tys.now ≡ true }
-    ensures { IfOk result (λ next. (used : List B.Operand) × (drop at words.now ≡ used ++ drop next words.now)
+    ensures frees { IfOk result (λ next. (used : List B.Operand) × (drop at words.now ≡ used ++ drop next words.now)
         × FreesAll B.meaning (shapes_of resolve.now.types tys.now) used bindgen.old bindgen.new) }
+    ensures sends { OnOk result (Sends B.meaning resolve.now.types (each (λ n ty. free_words_code resolve.now.types ty) 0 tys.now) bindgen.old bindgen.new) }
 {
     let mut next = at;
     for i in 0..tys.len() {
@@ -145,8 +152,9 @@ fn free_text<B: Bindgen>(
     words: &[B::Operand],
     at: usize,
 ) -> Result<usize, OutOfMemory>
-    ensures { IfOk result (λ next. (used : List B.Operand) × (drop at words.now ≡ used ++ drop next words.now)
+    ensures frees { IfOk result (λ next. (used : List B.Operand) × (drop at words.now ≡ used ++ drop next words.now)
         × FreesFlat B.meaning text used bindgen.old bindgen.new) }
+    ensures sends { OnOk result (Sends B.meaning resolve.now.types (free_words_code resolve.now.types String) bindgen.old bindgen.new) }
 {
     if words.len() < 2 || at > words.len() - 2 {
         return Err(OutOfMemory);

@@ -3,11 +3,15 @@
 ghost use Rattle.std.specs.Prelude.{◌≡◌, ◌<◌, IsTrue, true, length, OnOk};
 ghost use Rattle.std.specs.List.{list_all};
 ghost use Rattle.wit_model.specs.TypeOrder.{GoesDown, type_below};
+ghost use Rattle.wit_model.specs.declared.types.WitType.TheVariants.{Id, String};
+ghost use Rattle.wit_layout.specs.Tree.{record_of, tree_at};
 ghost use Rattle.wrapper_meaning.specs.Shape.{shape_at, shape_of};
 ghost use Rattle.wrapper_meaning.specs.Shape.Shape.{text};
+ghost use Rattle.abi_driver.specs.Code.{beyond, each, free_code, place_in};
 ghost use Rattle.abi_driver.specs.Frees.{FreesInMemory, FreesParts, nowhere};
 ghost use Rattle.abi_driver.specs.Instructions.{shapes_of};
 ghost use Rattle.abi_driver.specs.Places.{HasParts};
+ghost use Rattle.abi_driver.specs.Sends.{Sends};
 
 use crate::bindgen::Bindgen;
 use crate::dealloc::places::record_places;
@@ -31,7 +35,8 @@ pub(super) fn free_record<B: Bindgen>(
     requires down { GoesDown resolve.now.types }
     requires below { list_all (λ ty. type_below (length resolve.now.types) ty) types.now ≡ true }
     requires knows { B.meaning.knows bindgen.old resolve.now.types }
-    ensures { OnOk result (FreesParts B.meaning (shapes_of resolve.now.types types.now) address.now nowhere 0 bindgen.old bindgen.new) }
+    ensures frees { OnOk result (FreesParts B.meaning (shapes_of resolve.now.types types.now) address.now nowhere 0 bindgen.old bindgen.new) }
+    ensures sends { OnOk result (Sends B.meaning resolve.now.types (each (λ n ty. free_code resolve.now.types ty (place_in (record_of resolve.now.types types.now) n)) 0 types.now) bindgen.old bindgen.new) }
 {
     let places = record_places(alloc, bindgen.sizes(), types)?;
     for i in 0..types.len() {
@@ -55,7 +60,8 @@ pub(crate) fn free_type<B: Bindgen>(
     requires down { GoesDown resolve.now.types }
     requires below { IsTrue (type_below (length resolve.now.types) ty) }
     requires knows { B.meaning.knows bindgen.old resolve.now.types }
-    ensures { OnOk result (FreesInMemory B.meaning (shape_of resolve.now.types ty) address.now offset bindgen.old bindgen.new) }
+    ensures frees { OnOk result (FreesInMemory B.meaning (shape_of resolve.now.types ty) address.now offset bindgen.old bindgen.new) }
+    ensures sends { OnOk result (Sends B.meaning resolve.now.types (free_code resolve.now.types ty offset) bindgen.old bindgen.new) }
 {
     if let Some(_lift) = scalar_lifting(ty) {
         return Ok(());
@@ -80,7 +86,8 @@ fn free_id<B: Bindgen>(
     requires down { GoesDown resolve.now.types }
     requires within { id.0 < length resolve.now.types }
     requires knows { B.meaning.knows bindgen.old resolve.now.types }
-    ensures { OnOk result (FreesInMemory B.meaning (shape_at resolve.now.types id.0) address.now offset bindgen.old bindgen.new) }
+    ensures frees { OnOk result (FreesInMemory B.meaning (shape_at resolve.now.types id.0) address.now offset bindgen.old bindgen.new) }
+    ensures sends { OnOk result (Sends B.meaning resolve.now.types (free_code resolve.now.types (Id id) offset) bindgen.old bindgen.new) }
 {
     let types = resolve.types.as_slice();
     let at = id.0 as usize;
@@ -120,7 +127,8 @@ fn free_parts<B: Bindgen>(
     requires below { list_all (λ ty. type_below id.0 ty) tys.now ≡ true }
     requires parts { HasParts resolve.now.types id.0 tys.now }
     requires knows { B.meaning.knows bindgen.old resolve.now.types }
-    ensures { OnOk result (FreesParts B.meaning (shapes_of resolve.now.types tys.now) address.now offset 0 bindgen.old bindgen.new) }
+    ensures frees { OnOk result (FreesParts B.meaning (shapes_of resolve.now.types tys.now) address.now offset 0 bindgen.old bindgen.new) }
+    ensures sends { OnOk result (Sends B.meaning resolve.now.types (each (λ n ty. free_code resolve.now.types ty (beyond offset (place_in (tree_at resolve.now.types id.0) n))) 0 tys.now) bindgen.old bindgen.new) }
 {
     for i in 0..tys.len() {
         let place = part_place(bindgen, id, i, offset)?;
@@ -137,7 +145,8 @@ fn free_text<B: Bindgen>(
     address: &B::Operand,
     offset: ArchitectureSize,
 ) -> Result<(), OutOfMemory>
-    ensures { OnOk result (FreesInMemory B.meaning text address.now offset bindgen.old bindgen.new) }
+    ensures frees { OnOk result (FreesInMemory B.meaning text address.now offset bindgen.old bindgen.new) }
+    ensures sends { OnOk result (Sends B.meaning resolve.now.types (free_code resolve.now.types String offset) bindgen.old bindgen.new) }
 {
     let behind = behind_pointer(offset)?;
     let place = load_word(

@@ -1,13 +1,17 @@
 //! Values are read from memory.
 
-ghost use Rattle.std.specs.Prelude.{◌≡◌, ◌<◌, IsTrue, true, length, Some, IfOk};
+ghost use Rattle.std.specs.Prelude.{◌≡◌, ◌<◌, IsTrue, true, length, Some, IfOk, OnOk};
 ghost use Rattle.std.specs.List.{list_all};
 ghost use Rattle.wit_model.specs.TypeOrder.{GoesDown, type_below};
+ghost use Rattle.wit_model.specs.declared.types.WitType.TheVariants.{Id, String};
+ghost use Rattle.wit_layout.specs.Tree.{tree_at};
 ghost use Rattle.wrapper_meaning.specs.Shape.{shape_at, shape_of};
 ghost use Rattle.wrapper_meaning.specs.Shape.Shape.{text};
+ghost use Rattle.abi_driver.specs.Code.{beyond, each, load_code, place_in};
 ghost use Rattle.abi_driver.specs.Instructions.{lifting, shapes_of};
 ghost use Rattle.abi_driver.specs.Loads.{LiftsFromMemory, LoadsParts};
 ghost use Rattle.abi_driver.specs.Places.{HasParts};
+ghost use Rattle.abi_driver.specs.Sends.{Sends};
 
 use crate::bindgen::{Bindgen, Operand};
 use crate::instruction::Instruction;
@@ -34,7 +38,8 @@ pub fn lift_from_memory<B: Bindgen>(
     requires down { GoesDown resolve.now.types }
     requires below { IsTrue (type_below (length resolve.now.types) ty.now) }
     requires knows { B.meaning.knows bindgen.old resolve.now.types }
-    ensures { IfOk result (λ r. LiftsFromMemory B.meaning (shape_of resolve.now.types ty.now) address NOWHERE r bindgen.old bindgen.new) }
+    ensures loads { IfOk result (λ r. LiftsFromMemory B.meaning (shape_of resolve.now.types ty.now) address NOWHERE r bindgen.old bindgen.new) }
+    ensures sends { OnOk result (Sends B.meaning resolve.now.types (load_code resolve.now.types ty.now NOWHERE) bindgen.old bindgen.new) }
 {
     load_type(alloc, resolve, bindgen, &address, NOWHERE, *ty)
 }
@@ -53,7 +58,8 @@ pub(crate) fn load_type<B: Bindgen>(
     requires down { GoesDown resolve.now.types }
     requires below { IsTrue (type_below (length resolve.now.types) ty) }
     requires knows { B.meaning.knows bindgen.old resolve.now.types }
-    ensures { IfOk result (λ r. LiftsFromMemory B.meaning (shape_of resolve.now.types ty) address.now offset r bindgen.old bindgen.new) }
+    ensures loads { IfOk result (λ r. LiftsFromMemory B.meaning (shape_of resolve.now.types ty) address.now offset r bindgen.old bindgen.new) }
+    ensures sends { OnOk result (Sends B.meaning resolve.now.types (load_code resolve.now.types ty offset) bindgen.old bindgen.new) }
 {
     if let Some(lift) = scalar_lifting(ty) {
         return load_scalar(alloc, resolve, bindgen, address, offset, ty, lift);
@@ -78,7 +84,8 @@ fn load_id<B: Bindgen>(
     requires down { GoesDown resolve.now.types }
     requires within { id.0 < length resolve.now.types }
     requires knows { B.meaning.knows bindgen.old resolve.now.types }
-    ensures { IfOk result (λ r. LiftsFromMemory B.meaning (shape_at resolve.now.types id.0) address.now offset r bindgen.old bindgen.new) }
+    ensures loads { IfOk result (λ r. LiftsFromMemory B.meaning (shape_at resolve.now.types id.0) address.now offset r bindgen.old bindgen.new) }
+    ensures sends { OnOk result (Sends B.meaning resolve.now.types (load_code resolve.now.types (Id id) offset) bindgen.old bindgen.new) }
 {
     let types = resolve.types.as_slice();
     let at = id.0 as usize;
@@ -123,6 +130,7 @@ fn load_parts<B: Bindgen>(
     requires knows { B.meaning.knows bindgen.old resolve.now.types }
     ensures count { IfOk result (λ parts. length parts ≡ length tys.now) }
     ensures loads { IfOk result (λ parts. LoadsParts B.meaning (shapes_of resolve.now.types tys.now) address.now offset 0 parts bindgen.old bindgen.new) }
+    ensures sends { OnOk result (Sends B.meaning resolve.now.types (each (λ n ty. load_code resolve.now.types ty (beyond offset (place_in (tree_at resolve.now.types id.0) n))) 0 tys.now) bindgen.old bindgen.new) }
 {
     let mut parts = List::new(alloc);
     for i in 0..tys.len() {
@@ -144,7 +152,8 @@ fn load_scalar<B: Bindgen>(
     lift: Instruction,
 ) -> Result<B::Operand, OutOfMemory>
     requires { lifting ty ≡ Some lift }
-    ensures { IfOk result (λ r. LiftsFromMemory B.meaning (shape_of resolve.now.types ty) address.now offset r bindgen.old bindgen.new) }
+    ensures loads { IfOk result (λ r. LiftsFromMemory B.meaning (shape_of resolve.now.types ty) address.now offset r bindgen.old bindgen.new) }
+    ensures sends { OnOk result (Sends B.meaning resolve.now.types (load_code resolve.now.types ty offset) bindgen.old bindgen.new) }
 {
     let Some(load) = scalar_load(ty, offset) else {
         return Err(OutOfMemory);
@@ -163,7 +172,8 @@ fn load_text<B: Bindgen>(
     address: &B::Operand,
     offset: ArchitectureSize,
 ) -> Result<B::Operand, OutOfMemory>
-    ensures { IfOk result (λ r. LiftsFromMemory B.meaning text address.now offset r bindgen.old bindgen.new) }
+    ensures loads { IfOk result (λ r. LiftsFromMemory B.meaning text address.now offset r bindgen.old bindgen.new) }
+    ensures sends { OnOk result (Sends B.meaning resolve.now.types (load_code resolve.now.types String offset) bindgen.old bindgen.new) }
 {
     let behind = behind_pointer(offset)?;
     let place = load_word(

@@ -1,11 +1,12 @@
 //! Where a part stands.
 
-ghost use Rattle.std.specs.Prelude.{◌≡◌, ◌<◌, ◌+◌, ◌^◌, ℕ, List, Some, false, length, IfOk, slice_get, slice_index};
-ghost use Rattle.wit_model.specs.Size.{bytes_at};
+ghost use Rattle.std.specs.Prelude.{◌≡◌, ◌+◌, ℕ, List, Some, false, IfOk, slice_get, slice_index};
+ghost use Rattle.wit_model.specs.declared.size.ArchitectureSize.{ArchitectureSize};
 ghost use Rattle.wit_model.specs.declared.types.TypeDef.{TypeDef};
 ghost use Rattle.wit_layout.specs.Sizes.{field_offsets};
-ghost use Rattle.wit_layout.specs.Told.{is_alias};
+ghost use Rattle.wit_layout.specs.Told.{IsPairOf, is_alias};
 ghost use Rattle.wit_layout.specs.Tree.{tree_at};
+ghost use Rattle.abi_driver.specs.Code.{beyond, one_pointer};
 
 use crate::bindgen::Bindgen;
 use wit_model::{ArchitectureSize, OutOfMemory, TypeId, WitType};
@@ -25,9 +26,9 @@ fn added(a: u64, b: u64) -> Result<u64, OutOfMemory>
     }
 }
 
-/// The sum of two offsets, at each width.
+/// The sum of two offsets.
 fn sum(a: ArchitectureSize, b: ArchitectureSize) -> Result<ArchitectureSize, OutOfMemory>
-    ensures { IfOk result (λ c. (width : ℕ) → bytes_at c width ≡ bytes_at a width + bytes_at b width) }
+    ensures { IfOk result (λ c. c ≡ beyond a b) }
 {
     let bytes = added(a.bytes, b.bytes)?;
     let pointers = added(a.pointers, b.pointers)?;
@@ -36,7 +37,7 @@ fn sum(a: ArchitectureSize, b: ArchitectureSize) -> Result<ArchitectureSize, Out
 
 /// One pointer further on.
 pub(crate) fn behind_pointer(offset: ArchitectureSize) -> Result<ArchitectureSize, OutOfMemory>
-    ensures { IfOk result (λ c. (width : ℕ) → bytes_at c width ≡ bytes_at offset width + width) }
+    ensures { IfOk result (λ c. c ≡ beyond offset one_pointer) }
 {
     sum(
         offset,
@@ -55,7 +56,7 @@ pub(crate) fn part_place<B: Bindgen>(
     offset: ArchitectureSize,
 ) -> Result<ArchitectureSize, OutOfMemory>
     ensures { IfOk result (λ place. (types : List TypeDef) (entry : TypeDef) → B.meaning.knows bindgen.now types → slice_get types id.0 ≡ Some entry → is_alias entry.kind ≡ false
-        → bytes_at place (2 ^ B.meaning.width) ≡ bytes_at offset (2 ^ B.meaning.width) + slice_index (field_offsets B.meaning.width (tree_at types id.0)) nth) }
+        → (at : ArchitectureSize) × (place ≡ beyond offset at) × IsPairOf at (λ w. slice_index (field_offsets w (tree_at types id.0)) nth)) }
 {
     let sizes = bindgen.sizes();
     if !sizes.has_size(&WitType::Id(id)) {

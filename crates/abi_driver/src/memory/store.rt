@@ -3,11 +3,15 @@
 ghost use Rattle.std.specs.Prelude.{◌≡◌, ◌<◌, Bool, IsTrue, true, length, Some, OnOk};
 ghost use Rattle.std.specs.List.{list_all};
 ghost use Rattle.wit_model.specs.TypeOrder.{GoesDown, type_below};
+ghost use Rattle.wit_model.specs.declared.types.WitType.TheVariants.{Id, String};
+ghost use Rattle.wit_layout.specs.Tree.{tree_at};
 ghost use Rattle.wrapper_meaning.specs.Shape.{shape_at, shape_of};
 ghost use Rattle.wrapper_meaning.specs.Shape.Shape.{text};
+ghost use Rattle.abi_driver.specs.Code.{beyond, each, place_in, store_code};
 ghost use Rattle.abi_driver.specs.Instructions.{IsSide, lowering, shapes_of};
 ghost use Rattle.abi_driver.specs.ScalarTouches.{scalar_store};
 ghost use Rattle.abi_driver.specs.Places.{HasParts};
+ghost use Rattle.abi_driver.specs.Sends.{Sends};
 ghost use Rattle.abi_driver.specs.Stores.{LowersToMemory, StoresParts};
 
 use crate::bindgen::{Bindgen, Operand};
@@ -36,7 +40,8 @@ pub fn lower_to_memory<B: Bindgen>(
     requires below { IsTrue (type_below (length resolve.now.types) ty.now) }
     requires side { IsSide B.meaning realloc bindgen.old }
     requires knows { B.meaning.knows bindgen.old resolve.now.types }
-    ensures { OnOk result (LowersToMemory B.meaning realloc (shape_of resolve.now.types ty.now) value address NOWHERE bindgen.old bindgen.new) }
+    ensures stores { OnOk result (LowersToMemory B.meaning realloc (shape_of resolve.now.types ty.now) value address NOWHERE bindgen.old bindgen.new) }
+    ensures sends { OnOk result (Sends B.meaning resolve.now.types (store_code resolve.now.types realloc ty.now NOWHERE) bindgen.old bindgen.new) }
 {
     store_type(
         alloc, resolve, bindgen, &address, NOWHERE, value, *ty, realloc,
@@ -60,7 +65,8 @@ pub(crate) fn store_type<B: Bindgen>(
     requires below { IsTrue (type_below (length resolve.now.types) ty) }
     requires side { IsSide B.meaning realloc bindgen.old }
     requires knows { B.meaning.knows bindgen.old resolve.now.types }
-    ensures { OnOk result (LowersToMemory B.meaning realloc (shape_of resolve.now.types ty) value address.now offset bindgen.old bindgen.new) }
+    ensures stores { OnOk result (LowersToMemory B.meaning realloc (shape_of resolve.now.types ty) value address.now offset bindgen.old bindgen.new) }
+    ensures sends { OnOk result (Sends B.meaning resolve.now.types (store_code resolve.now.types realloc ty offset) bindgen.old bindgen.new) }
 {
     if let Some(lower) = scalar_lowering(ty) {
         return store_scalar(alloc, resolve, bindgen, address, offset, value, ty, lower);
@@ -88,7 +94,8 @@ fn store_id<B: Bindgen>(
     requires within { id.0 < length resolve.now.types }
     requires side { IsSide B.meaning realloc bindgen.old }
     requires knows { B.meaning.knows bindgen.old resolve.now.types }
-    ensures { OnOk result (LowersToMemory B.meaning realloc (shape_at resolve.now.types id.0) value address.now offset bindgen.old bindgen.new) }
+    ensures stores { OnOk result (LowersToMemory B.meaning realloc (shape_at resolve.now.types id.0) value address.now offset bindgen.old bindgen.new) }
+    ensures sends { OnOk result (Sends B.meaning resolve.now.types (store_code resolve.now.types realloc (Id id) offset) bindgen.old bindgen.new) }
 {
     let types = resolve.types.as_slice();
     let at = id.0 as usize;
@@ -141,7 +148,8 @@ fn store_parts<B: Bindgen>(
     requires enough { length parts.now ≡ length tys.now }
     requires side { IsSide B.meaning realloc bindgen.old }
     requires knows { B.meaning.knows bindgen.old resolve.now.types }
-    ensures { OnOk result (StoresParts B.meaning realloc (shapes_of resolve.now.types tys.now) parts.now address.now offset 0 bindgen.old bindgen.new) }
+    ensures stores { OnOk result (StoresParts B.meaning realloc (shapes_of resolve.now.types tys.now) parts.now address.now offset 0 bindgen.old bindgen.new) }
+    ensures sends { OnOk result (Sends B.meaning resolve.now.types (each (λ n ty. store_code resolve.now.types realloc ty (beyond offset (place_in (tree_at resolve.now.types id.0) n))) 0 tys.now) bindgen.old bindgen.new) }
 {
     for i in 0..tys.len() {
         let place = part_place(bindgen, id, i, offset)?;
@@ -165,7 +173,8 @@ fn store_scalar<B: Bindgen>(
     lower: Instruction,
 ) -> Result<(), OutOfMemory>
     requires { lowering ty ≡ Some lower }
-    ensures { (realloc : Bool) → OnOk result (LowersToMemory B.meaning realloc (shape_of resolve.now.types ty) value address.now offset bindgen.old bindgen.new) }
+    ensures stores { (realloc : Bool) → OnOk result (LowersToMemory B.meaning realloc (shape_of resolve.now.types ty) value address.now offset bindgen.old bindgen.new) }
+    ensures sends { (realloc : Bool) → OnOk result (Sends B.meaning resolve.now.types (store_code resolve.now.types realloc ty offset) bindgen.old bindgen.new) }
 {
     let Some(store) = scalar_store(ty, offset) else {
         return Err(OutOfMemory);
@@ -187,7 +196,8 @@ fn store_text<B: Bindgen>(
     realloc: bool,
 ) -> Result<(), OutOfMemory>
     requires { IsSide B.meaning realloc bindgen.old }
-    ensures { OnOk result (LowersToMemory B.meaning realloc text value address.now offset bindgen.old bindgen.new) }
+    ensures stores { OnOk result (LowersToMemory B.meaning realloc text value address.now offset bindgen.old bindgen.new) }
+    ensures sends { OnOk result (Sends B.meaning resolve.now.types (store_code resolve.now.types realloc String offset) bindgen.old bindgen.new) }
 {
     let words = lower_by(
         alloc,

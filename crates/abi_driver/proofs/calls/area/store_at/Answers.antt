@@ -35,12 +35,12 @@ loop-i-preserved g c =
     let filled = c.sizes-sizes.ensures types c.requires.knows in
     let pair = subst (λ (ps : List ArchitectureSize). IsPairOf (get_or ps i nowhere) (λ w. slice_index (field_offsets w (record_of types tys)) i)) (sym c.as_slice.ensures) (c.in_ok-places.ensures.each types i nowhere filled short) in
     record {
-      adds = adds_both m _ _ _ c.loop-i.invariant.adds (adds_both m _ _ _ c.in_ok-value.ensures.adds c.in_ok-store_type.ensures.adds);
+      adds = adds_both m _ _ _ c.loop-i.invariant.adds (adds_both m _ _ _ c.in_ok-value.ensures.adds c.in_ok-store_type.ensures.stores.adds);
       rest = rest_next m sound types tys c.args.address.now (get_or c.as_slice.result.now i nowhere) i _ _ _ _ (get_or tys i wit.Bool) c.in_ok-value.value
           (drop_more tys i wit.Bool short) read
           (behind_next m.width types tys i wit.Bool short)
           (record_place m.width types tys i wit.Bool (get_or c.as_slice.result.now i nowhere) sound.wide short pair)
-          c.in_ok-store_type.ensures c.loop-i.invariant.rest;
+          c.in_ok-store_type.ensures.stores c.loop-i.invariant.rest;
     }
 
 pub returns : goal.returns

@@ -23,13 +23,13 @@ loop-i-preserved g c =
     let filled = c.sizes-sizes.ensures types c.requires.knows in
     let pair = subst (λ (ps : List ArchitectureSize). IsPairOf (get_or ps i nowhere) (λ w. slice_index (field_offsets w (record_of types tys)) i)) (sym c.as_slice.ensures) (c.in_ok-places.ensures.each types i nowhere filled short) in
     record {
-      adds = adds_both m _ _ _ c.loop-i.invariant.adds c.in_ok-part.ensures.adds;
+      adds = adds_both m _ _ _ c.loop-i.invariant.adds c.in_ok-part.ensures.loads.adds;
       count = ap length c.in_ok-push.ensures.ok ∙ length-append c.loop-i.parts (c.in_ok-part.part ∷ []) ∙ ap (λ n. n + 1) c.loop-i.invariant.count;
       rest = rest_next m sound types tys c.args.address.now nowhere (get_or c.as_slice.result.now i nowhere) i c.loop-i.parts c.push.new.self _ _ _ (get_or tys i wit.Bool) c.in_ok-part.part
           (drop_more tys i wit.Bool short)
           (behind_next m.width types tys i wit.Bool short)
           (record_place m.width types tys i wit.Bool (get_or c.as_slice.result.now i nowhere) sound.wide short pair)
-          c.in_ok-part.ensures c.in_ok-push.ensures.ok c.loop-i.invariant.rest;
+          c.in_ok-part.ensures.loads c.in_ok-push.ensures.ok c.loop-i.invariant.rest;
     }
 
 pub returns-clause-count : goal.returns-clause-count

@@ -7,9 +7,12 @@ use Rattle.wit_model.specs.declared.types.TypeDefKind.TheVariants as kind
 use Rattle.wit_model.specs.declared.types.WitType.{WitType}
 use Rattle.wit_model.specs.declared.types.WitType.TheVariants as wit
 use Rattle.wit_layout.proofs.FlattenSteps.{rank}
+use Rattle.abi_driver.specs.Code.{each, free_words_code}
 use Rattle.abi_driver.specs.Instructions.{field_shapes, shapes_of}
+use Rattle.abi_driver.proofs.FlatCode.{free_words_alias_code, free_words_record_code, free_words_scalar_code, free_words_tuple_code}
 use Rattle.abi_driver.proofs.FlatFrees.{all_freed_as, fields_freed, freed_as, rest_last, rest_next, scalar_passed, tuple_freed}
 use Rattle.abi_driver.proofs.Records.{alias_below, alias_rank, alias_shape, entry_at, kind_at, part_below_within, part_ranked, record_below, record_shape, tuple_below, tuple_shape}
+use Rattle.abi_driver.proofs.SendSteps.{sends_as, sends_last, sends_next}
 use Rattle.abi_driver.proofs.dealloc.flat.+free.Goals as goal
 
 pub free_id-free_type-requires : goal.free_id-free_type-requires
@@ -52,7 +55,10 @@ free_id-returns-in_ok-next-in-Alias g t c =
     let d = c.index-types-place.result in
     let at = entry_at types c.as_slice-types.result.now c.args.id.0 d c.as_slice-types.ensures c.requires.within c.index-types-place.is in
     let is = kind_at c.as_slice-types.result.now c.args.id.0 d (kind.Alias c.in-Alias.ty) c.index-types-place.is c.in-Alias.is in
-    freed_as m g.met.B.Bindgen.sound types _ _ _ _ c.args.words.now c.args.at _ (alias_shape types c.requires.down c.args.id.0 d at c.in-Alias.ty is) c.in_ok-next-in-Alias.ensures
+    record {
+      frees = freed_as m g.met.B.Bindgen.sound types _ _ _ _ c.args.words.now c.args.at _ (alias_shape types c.requires.down c.args.id.0 d at c.in-Alias.ty is) c.in_ok-next-in-Alias.ensures.frees;
+      sends = sends_as m types _ _ _ _ (free_words_alias_code types c.requires.down c.args.id d at c.in-Alias.ty is) c.in_ok-next-in-Alias.ensures.sends;
+    }
 
 pub free_id-returns-in_ok-next-in-Record : goal.free_id-returns-in_ok-next-in-Record
 free_id-returns-in_ok-next-in-Record g t c =
@@ -63,9 +69,12 @@ free_id-returns-in_ok-next-in-Record g t c =
     let is = kind_at c.as_slice-types.result.now c.args.id.0 d (kind.Record c.in-Record.members) c.index-types-place.is c.in-Record.is in
     let members = c.in-Record.members in
     let same : c.as_slice-tys.result.now ≡ map (λ (f : Field). f.ty) members = c.as_slice-tys.ensures ∙ c.in_ok-tys-in-Record.ensures ∙ ap (map (λ (f : Field). f.ty)) c.as_slice.ensures in
-    let parts = all_freed_as m g.met.B.Bindgen.sound types _ _ _ _ c.args.words.now c.args.at _ same c.in_ok-next-in-Record.ensures in
+    let parts = all_freed_as m g.met.B.Bindgen.sound types _ _ _ _ c.args.words.now c.args.at _ same c.in_ok-next-in-Record.ensures.frees in
     let whole = fields_freed m g.met.B.Bindgen.sound types (field_shapes types members) _ _ c.args.words.now c.args.at _ parts in
-    freed_as m g.met.B.Bindgen.sound types _ _ _ _ c.args.words.now c.args.at _ (record_shape types c.requires.down c.args.id.0 d at members is) whole
+    record {
+      frees = freed_as m g.met.B.Bindgen.sound types _ _ _ _ c.args.words.now c.args.at _ (record_shape types c.requires.down c.args.id.0 d at members is) whole;
+      sends = sends_as m types _ _ _ _ (free_words_record_code types c.requires.down c.args.id d at members is ∙ ap (each (λ n ty. free_words_code types ty) 0) (sym same)) c.in_ok-next-in-Record.ensures.sends;
+    }
 
 pub free_id-returns-in_ok-next-in-Tuple : goal.free_id-returns-in_ok-next-in-Tuple
 free_id-returns-in_ok-next-in-Tuple g t c =
@@ -75,12 +84,15 @@ free_id-returns-in_ok-next-in-Tuple g t c =
     let at = entry_at types c.as_slice-types.result.now c.args.id.0 d c.as_slice-types.ensures c.requires.within c.index-types-place.is in
     let is = kind_at c.as_slice-types.result.now c.args.id.0 d (kind.Tuple c.in-Tuple.members) c.index-types-place.is c.in-Tuple.is in
     let tys = c.in-Tuple.members in
-    let parts = all_freed_as m g.met.B.Bindgen.sound types _ _ _ _ c.args.words.now c.args.at _ c.as_slice-tys-in-Tuple.ensures c.in_ok-next-in-Tuple.ensures in
+    let parts = all_freed_as m g.met.B.Bindgen.sound types _ _ _ _ c.args.words.now c.args.at _ c.as_slice-tys-in-Tuple.ensures c.in_ok-next-in-Tuple.ensures.frees in
     let whole = tuple_freed m g.met.B.Bindgen.sound types (shapes_of types tys) _ _ c.args.words.now c.args.at _ parts in
-    freed_as m g.met.B.Bindgen.sound types _ _ _ _ c.args.words.now c.args.at _ (tuple_shape types c.requires.down c.args.id.0 d at tys is) whole
+    record {
+      frees = freed_as m g.met.B.Bindgen.sound types _ _ _ _ c.args.words.now c.args.at _ (tuple_shape types c.requires.down c.args.id.0 d at tys is) whole;
+      sends = sends_as m types _ _ _ _ (free_words_tuple_code types c.requires.down c.args.id d at tys is ∙ ap (each (λ n ty. free_words_code types ty) 0) (sym c.as_slice-tys-in-Tuple.ensures)) c.in_ok-next-in-Tuple.ensures.sends;
+    }
 
 pub free_parts-loop-i-init : goal.free_parts-loop-i-init
-free_parts-loop-i-init g t c = ([], refl, λ new qs h. h)
+free_parts-loop-i-init g t c = record { sent = refl; rest = ([], refl, λ new qs h. h) }
 
 pub free_parts-free_type-requires : goal.free_parts-free_type-requires
 free_parts-free_type-requires g t c κs within =
@@ -96,14 +108,28 @@ free_parts-loop-i-preserved g t c =
     let tys = c.args.tys.now in
     let i = c.loop-i.i in
     let short : i < length tys = omega (arith, c.loop-i-test.true) in
-    rest_next m g.met.B.Bindgen.sound c.args.resolve.now.types tys i c.args.at c.args.words.now c.loop-i.next _ _ _ _ (get_or tys i wit.Bool) (drop_more tys i wit.Bool short) c.in_ok-next.ensures c.loop-i.invariant
+    let types = c.args.resolve.now.types in
+    record {
+      sent = sends_next m types (λ n ty. free_words_code types ty) tys i wit.Bool _ _ _ short c.loop-i.invariant.sent c.in_ok-next.ensures.sends;
+      rest = rest_next m g.met.B.Bindgen.sound types tys i c.args.at c.args.words.now c.loop-i.next _ _ _ _ (get_or tys i wit.Bool) (drop_more tys i wit.Bool short) c.in_ok-next.ensures.frees c.loop-i.invariant.rest;
+    }
 
 pub free_parts-returns : goal.free_parts-returns
 free_parts-returns g t c =
     let m = g.B.Bindgen.meaning in
     let ended : length c.args.tys.now ≤ c.loop-i.i = omega (arith, c.loop-i-test.false) in
-    rest_last m g.met.B.Bindgen.sound c.args.resolve.now.types c.args.tys.now c.loop-i.i c.args.at c.args.words.now c.loop-i.next _ _ ended c.loop-i.invariant
+    let types = c.args.resolve.now.types in
+    record {
+      frees = rest_last m g.met.B.Bindgen.sound types c.args.tys.now c.loop-i.i c.args.at c.args.words.now c.loop-i.next _ _ ended c.loop-i.invariant.rest;
+      sends = sends_last m types (λ n ty. free_words_code types ty) c.args.tys.now c.loop-i.i _ _ ended c.loop-i.invariant.sent;
+    }
 
 pub free_type-returns-in-Some : goal.free_type-returns-in-Some
 free_type-returns-in-Some g t c =
-    scalar_passed g.B.Bindgen.meaning g.met.B.Bindgen.sound c.args.resolve.now.types c.args.ty c.in-Some._lift c.args.bindgen.now c.args.words.now c.args.at c.in_ok-next.next (sym c.scalar_lifting.ensures ∙ c.in-Some.is) c.in_ok-next.ensures
+    let m = g.B.Bindgen.meaning in
+    let types = c.args.resolve.now.types in
+    let is = sym c.scalar_lifting.ensures ∙ c.in-Some.is in
+    record {
+      frees = scalar_passed m g.met.B.Bindgen.sound types c.args.ty c.in-Some._lift c.args.bindgen.now c.args.words.now c.args.at c.in_ok-next.next is c.in_ok-next.ensures;
+      sends = sends_as m types [] _ _ _ (free_words_scalar_code types c.args.ty c.in-Some._lift is) refl;
+    }

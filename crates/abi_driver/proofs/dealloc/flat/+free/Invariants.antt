@@ -1,5 +1,7 @@
-use Rattle.std.proofs.Common.{◌+◌, ◌*◌}
+use Rattle.std.proofs.Common.{◌+◌, ◌*◌, take}
 use Rattle.wit_layout.proofs.FlattenSteps.{rank}
+use Rattle.abi_driver.specs.Code.{each, free_words_code}
+use Rattle.abi_driver.specs.Sends.{Sends}
 use Rattle.abi_driver.proofs.FlatFrees.{Rest}
 use Rattle.abi_driver.proofs.dealloc.flat.+free.Given as goal
 
@@ -12,7 +14,12 @@ decreases-free_id g l = 4 * l.id.0 + 3
 abbrev pub decreases-free_parts : goal.decreases-free_parts
 decreases-free_parts g l = 4 * l.place + 1
 
--- what frees the parts that are left, frees them all
+-- what frees the parts that are left, frees them all; and what was sent is the code of the parts so far
 abbrev pub invariant-free_parts-loop-i : goal.invariant-free_parts-loop-i
 invariant-free_parts-loop-i g l =
-    Rest g.B.Bindgen.meaning g.met.B.Bindgen.sound l.resolve.types l.tys l.i l.at l.words l.next l.initial.bindgen l.bindgen
+    let m = g.B.Bindgen.meaning in
+    let types = l.resolve.types in
+    record {
+      sent : Sends m types (each (λ n ty. free_words_code types ty) 0 (take l.i l.tys)) l.initial.bindgen l.bindgen;
+      rest : Rest m g.met.B.Bindgen.sound types l.tys l.i l.at l.words l.next l.initial.bindgen l.bindgen;
+    }

@@ -1,8 +1,10 @@
 use Rattle.std.proofs.Common.{◌≡◌, ◌<◌, ◌+◌, List, [], ◌∷◌, ◌++◌, length, drop, refl, ap, ◌∙◌, subst, arith}
 use Rattle.abi_driver.specs.Instructions.{Emits}
 use Rattle.abi_driver.specs.declared.instruction.Instruction.TheVariants.{GuestDeallocateString}
+use Rattle.abi_driver.proofs.FlatCode.{free_words_text_code}
 use Rattle.abi_driver.proofs.FlatFrees.{text_freed}
 use Rattle.abi_driver.proofs.Records.{drop-same}
+use Rattle.abi_driver.proofs.SendSteps.{sends_as, sends_one}
 use Rattle.abi_driver.proofs.dealloc.flat.free_text.Goals as goal
 
 pub returns : goal.returns
@@ -15,8 +17,12 @@ returns g c =
     let shorter : c.args.at + 1 < length c.args.words.now = omega (arith, c.if-at-words.false, c.if-words-lt2.false) in
     let first = drop-same c.args.words.now c.args.words.now c.args.at c.in_ok-address.address c.index-words-at.result refl short c.index-words-at.is c.in_ok-address.ensures in
     let second = drop-same c.args.words.now c.args.words.now (c.args.at + 1) c.in_ok-length.length c.index-words-at-2.result refl shorter c.index-words-at-2.is c.in_ok-length.ensures in
-    let two : c.args.at + 1 + 1 ≡ c.args.at + 2 = omega arith in (
-      c.in_ok-address.address ∷ c.in_ok-length.length ∷ [],
-      first ∙ ap (λ os. c.in_ok-address.address ∷ os) (second ∙ ap (λ k. c.in_ok-length.length ∷ drop k c.args.words.now) two),
-      text_freed m g.met.B.Bindgen.sound types _ _ c.in_ok-address.address c.in_ok-length.length c.in_ok-_none._none e,
-    )
+    let two : c.args.at + 1 + 1 ≡ c.args.at + 2 = omega arith in
+    record {
+      frees = (
+        c.in_ok-address.address ∷ c.in_ok-length.length ∷ [],
+        first ∙ ap (λ os. c.in_ok-address.address ∷ os) (second ∙ ap (λ k. c.in_ok-length.length ∷ drop k c.args.words.now) two),
+        text_freed m g.met.B.Bindgen.sound types _ _ c.in_ok-address.address c.in_ok-length.length c.in_ok-_none._none e,
+      );
+      sends = sends_as m types _ _ _ _ (free_words_text_code types) (sends_one m types GuestDeallocateString _ _ _ _ e);
+    }

@@ -1,5 +1,5 @@
-use Rattle.std.proofs.Common.{rules, ◌≡◌, ◌<◌, ◌≤◌, ◌+◌, ◌^◌, true, List, length, map, get_or, sym, ap, ◌∙◌, subst, arith}
-use Rattle.std.specs.List.{list_all}
+use Rattle.std.proofs.Common.{rules, ◌≡◌, ℕ, ◌<◌, ◌≤◌, ◌+◌, ◌^◌, true, List, [], length, map, get_or, refl, sym, ap, ◌∙◌, subst, arith}
+use Rattle.std.specs.List.{list_all, slice_index}
 use Rattle.std.proofs.lemmas.List.{drop_more}
 use Rattle.wit_model.specs.Size.{bytes_at}
 use Rattle.wit_model.specs.TypeOrder.{type_below}
@@ -8,13 +8,19 @@ use Rattle.wit_model.specs.declared.types.TypeDefKind.TheVariants as kind
 use Rattle.wit_model.specs.declared.types.WitType.{WitType}
 use Rattle.wit_model.specs.declared.types.WitType.TheVariants as wit
 use Rattle.wit_layout.proofs.FlattenSteps.{rank}
+use Rattle.wit_layout.specs.Sizes.{field_offsets}
+use Rattle.wit_layout.specs.Tree.{tree_at}
+use Rattle.abi_driver.specs.Code.{Sent, beyond, each, free_code, place_in}
 use Rattle.abi_driver.specs.Instructions.{field_shapes, shapes_of}
 use Rattle.abi_driver.specs.Places.{HasParts, IsOfParts}
 use Rattle.abi_driver.proofs.FreeSteps.{fields_free, frees_as, frees_parts_as, rest_last, rest_next, tuple_free}
 use Rattle.abi_driver.proofs.LeafFrees.{scalar_frees}
-use Rattle.abi_driver.proofs.PartOffsets.{behind_next, no_alias, part_offset}
+use Rattle.abi_driver.proofs.MemoryCode.{free_alias_code, free_record_code, free_scalar_code, free_tuple_code}
+use Rattle.abi_driver.proofs.PartOffsets.{behind_next, no_alias, part_offset, place_sent}
+use Rattle.abi_driver.proofs.RecordPlaces.{place_told}
 use Rattle.abi_driver.proofs.Records.{alias_below, alias_rank, alias_shape, entry_at, kind_at, part_below_table, part_ranked, record_below, record_shape, tuple_below, tuple_shape}
 use Rattle.abi_driver.proofs.Runs.{adds_both, adds_same}
+use Rattle.abi_driver.proofs.SendSteps.{sends_as, sends_last, sends_next}
 use Rattle.abi_driver.proofs.dealloc.memory.+free.Goals as goal
 
 pub free_id-free_type-requires : goal.free_id-free_type-requires
@@ -58,7 +64,10 @@ free_id-returns-in_ok-free_type-in-Alias g t c =
     let d = c.index-types-at.result in
     let at = entry_at types c.as_slice-types.result.now c.args.id.0 d c.as_slice-types.ensures c.requires.within c.index-types-at.is in
     let is = kind_at c.as_slice-types.result.now c.args.id.0 d (kind.Alias c.in-Alias.ty) c.index-types-at.is c.in-Alias.is in
-    frees_as m g.met.B.Bindgen.sound types _ _ _ _ c.args.address.now c.args.offset (alias_shape types c.requires.down c.args.id.0 d at c.in-Alias.ty is) c.in_ok-free_type-in-Alias.ensures
+    record {
+      frees = frees_as m g.met.B.Bindgen.sound types _ _ _ _ c.args.address.now c.args.offset (alias_shape types c.requires.down c.args.id.0 d at c.in-Alias.ty is) c.in_ok-free_type-in-Alias.ensures.frees;
+      sends = sends_as m types _ _ _ _ (free_alias_code types c.requires.down c.args.id d at c.args.offset c.in-Alias.ty is) c.in_ok-free_type-in-Alias.ensures.sends;
+    }
 
 pub free_id-returns-in_ok-free_parts-in-Record : goal.free_id-returns-in_ok-free_parts-in-Record
 free_id-returns-in_ok-free_parts-in-Record g t c =
@@ -69,9 +78,13 @@ free_id-returns-in_ok-free_parts-in-Record g t c =
     let is = kind_at c.as_slice-types.result.now c.args.id.0 d (kind.Record c.in-Record.members) c.index-types-at.is c.in-Record.is in
     let members = c.in-Record.members in
     let same : c.as_slice-tys.result.now ≡ map (λ (f : Field). f.ty) members = c.as_slice-tys.ensures ∙ c.in_ok-tys-in-Record.ensures ∙ ap (map (λ (f : Field). f.ty)) c.as_slice.ensures in
-    let parts = frees_parts_as m g.met.B.Bindgen.sound types _ _ _ _ c.args.address.now c.args.offset 0 same c.in_ok-free_parts-in-Record.ensures in
+    let parts = frees_parts_as m g.met.B.Bindgen.sound types _ _ _ _ c.args.address.now c.args.offset 0 same c.in_ok-free_parts-in-Record.ensures.frees in
     let all = fields_free m g.met.B.Bindgen.sound types (field_shapes types members) _ _ c.args.address.now c.args.offset parts in
-    frees_as m g.met.B.Bindgen.sound types _ _ _ _ c.args.address.now c.args.offset (record_shape types c.requires.down c.args.id.0 d at members is) all
+    let code : ℕ → WitType → List Sent = λ n ty. free_code types ty (beyond c.args.offset (place_in (tree_at types c.args.id.0) n)) in
+    record {
+      frees = frees_as m g.met.B.Bindgen.sound types _ _ _ _ c.args.address.now c.args.offset (record_shape types c.requires.down c.args.id.0 d at members is) all;
+      sends = sends_as m types _ _ _ _ (free_record_code types c.requires.down c.args.id d at c.args.offset members is ∙ ap (each code 0) (sym same)) c.in_ok-free_parts-in-Record.ensures.sends;
+    }
 
 pub free_id-returns-in_ok-free_parts-in-Tuple : goal.free_id-returns-in_ok-free_parts-in-Tuple
 free_id-returns-in_ok-free_parts-in-Tuple g t c =
@@ -81,14 +94,18 @@ free_id-returns-in_ok-free_parts-in-Tuple g t c =
     let at = entry_at types c.as_slice-types.result.now c.args.id.0 d c.as_slice-types.ensures c.requires.within c.index-types-at.is in
     let is = kind_at c.as_slice-types.result.now c.args.id.0 d (kind.Tuple c.in-Tuple.members) c.index-types-at.is c.in-Tuple.is in
     let tys = c.in-Tuple.members in
-    let parts = frees_parts_as m g.met.B.Bindgen.sound types _ _ _ _ c.args.address.now c.args.offset 0 c.as_slice-tys-in-Tuple.ensures c.in_ok-free_parts-in-Tuple.ensures in
+    let parts = frees_parts_as m g.met.B.Bindgen.sound types _ _ _ _ c.args.address.now c.args.offset 0 c.as_slice-tys-in-Tuple.ensures c.in_ok-free_parts-in-Tuple.ensures.frees in
     let all = tuple_free m g.met.B.Bindgen.sound types (shapes_of types tys) _ _ c.args.address.now c.args.offset parts in
-    frees_as m g.met.B.Bindgen.sound types _ _ _ _ c.args.address.now c.args.offset (tuple_shape types c.requires.down c.args.id.0 d at tys is) all
+    let code : ℕ → WitType → List Sent = λ n ty. free_code types ty (beyond c.args.offset (place_in (tree_at types c.args.id.0) n)) in
+    record {
+      frees = frees_as m g.met.B.Bindgen.sound types _ _ _ _ c.args.address.now c.args.offset (tuple_shape types c.requires.down c.args.id.0 d at tys is) all;
+      sends = sends_as m types _ _ _ _ (free_tuple_code types c.requires.down c.args.id d at c.args.offset tys is ∙ ap (each code 0) (sym c.as_slice-tys-in-Tuple.ensures)) c.in_ok-free_parts-in-Tuple.ensures.sends;
+    }
 
 pub free_parts-loop-i-init : goal.free_parts-loop-i-init
 free_parts-loop-i-init g t c =
     let m = g.B.Bindgen.meaning in
-    record { adds = adds_same m _; rest = λ new h. h }
+    record { adds = adds_same m _; sent = refl; rest = λ new h. h }
 
 pub free_parts-free_type-requires : goal.free_parts-free_type-requires
 free_parts-free_type-requires g t c κs within =
@@ -107,22 +124,37 @@ free_parts-loop-i-preserved g t c =
     let i = c.loop-i.i in
     let short : i < length tys = omega (arith, c.loop-i-test.true) in
     let knows = c.loop-i.invariant.adds.grows.knows types c.requires.knows in
-    let place = c.in_ok-place.ensures types c.requires.parts.0 knows c.requires.parts.1 (no_alias m.width types c.args.id.0 tys c.requires.parts) in
+    let tree = tree_at types c.args.id.0 in
+    let found = c.in_ok-place.ensures types c.requires.parts.0 knows c.requires.parts.1 (no_alias m.width types c.args.id.0 tys c.requires.parts) in
+    let place = place_told m.width c.in_ok-place.place c.args.offset found.0 (λ w. slice_index (field_offsets w tree) i) g.met.B.Bindgen.sound.wide found.1 found.2 in
+    let here = ap (free_code types (get_or tys i wit.Bool)) (sym (place_sent c.in_ok-place.place c.args.offset found.0 tree i found.1 found.2)) in
     record {
-      adds = adds_both m _ _ _ c.loop-i.invariant.adds c.in_ok-free_type.ensures.adds;
+      adds = adds_both m _ _ _ c.loop-i.invariant.adds c.in_ok-free_type.ensures.frees.adds;
+      sent = sends_next m types (λ n ty. free_code types ty (beyond c.args.offset (place_in tree n))) tys i wit.Bool _ _ _ short c.loop-i.invariant.sent (sends_as m types _ _ _ _ here c.in_ok-free_type.ensures.sends);
       rest = rest_next m g.met.B.Bindgen.sound types tys c.args.address.now c.args.offset c.in_ok-place.place i _ _ _ (get_or tys i wit.Bool)
           (drop_more tys i wit.Bool short)
           (behind_next m.width types tys i wit.Bool short)
           (place ∙ ap (λ n. bytes_at c.args.offset (2 ^ m.width) + n) (part_offset m.width types c.args.id tys i wit.Bool c.requires.down c.requires.parts short))
-          c.in_ok-free_type.ensures c.loop-i.invariant.rest;
+          c.in_ok-free_type.ensures.frees c.loop-i.invariant.rest;
     }
 
 pub free_parts-returns : goal.free_parts-returns
 free_parts-returns g t c =
     let m = g.B.Bindgen.meaning in
     let ended : length c.args.tys.now ≤ c.loop-i.i = omega (arith, c.loop-i-test.false) in
-    rest_last m g.met.B.Bindgen.sound c.args.resolve.now.types c.args.tys.now c.args.address.now c.args.offset c.loop-i.i _ _ ended c.loop-i.invariant.rest
+    let types = c.args.resolve.now.types in
+    let code : ℕ → WitType → List Sent = λ n ty. free_code types ty (beyond c.args.offset (place_in (tree_at types c.args.id.0) n)) in
+    record {
+      frees = rest_last m g.met.B.Bindgen.sound types c.args.tys.now c.args.address.now c.args.offset c.loop-i.i _ _ ended c.loop-i.invariant.rest;
+      sends = sends_last m types code c.args.tys.now c.loop-i.i _ _ ended c.loop-i.invariant.sent;
+    }
 
 pub free_type-returns-in-Some : goal.free_type-returns-in-Some
 free_type-returns-in-Some g t c =
-    scalar_frees g.B.Bindgen.meaning g.met.B.Bindgen.sound c.args.resolve.now.types c.args.ty c.in-Some._lift c.args.bindgen.now c.args.address.now c.args.offset (sym c.scalar_lifting.ensures ∙ c.in-Some.is)
+    let m = g.B.Bindgen.meaning in
+    let types = c.args.resolve.now.types in
+    let is = sym c.scalar_lifting.ensures ∙ c.in-Some.is in
+    record {
+      frees = scalar_frees m g.met.B.Bindgen.sound types c.args.ty c.in-Some._lift c.args.bindgen.now c.args.address.now c.args.offset is;
+      sends = sends_as m types [] _ _ _ (free_scalar_code types c.args.offset c.args.ty c.in-Some._lift is) refl;
+    }

@@ -1,15 +1,17 @@
-use Rattle.std.proofs.Common.{◌<◌, ◌≤◌, List, length, get_or, slice_index, sym, subst, arith}
+use Rattle.std.proofs.Common.{◌<◌, ◌≤◌, List, length, get_or, slice_index, sym, ap, subst, arith}
 use Rattle.std.proofs.lemmas.List.{drop_more}
 use Rattle.wit_model.specs.declared.size.ArchitectureSize.{ArchitectureSize}
 use Rattle.wit_model.specs.declared.types.WitType.TheVariants as wit
 use Rattle.wit_layout.specs.Sizes.{field_offsets}
 use Rattle.wit_layout.specs.Told.{IsPairOf}
 use Rattle.wit_layout.specs.Tree.{record_of}
+use Rattle.abi_driver.specs.Code.{free_code, place_in}
 use Rattle.abi_driver.specs.Frees.{nowhere}
 use Rattle.abi_driver.proofs.FreeSteps.{rest_last, rest_next}
-use Rattle.abi_driver.proofs.PartOffsets.{behind_next}
+use Rattle.abi_driver.proofs.PartOffsets.{behind_next, pair_is}
 use Rattle.abi_driver.proofs.RecordPlaces.{record_place}
 use Rattle.abi_driver.proofs.Runs.{adds_both}
+use Rattle.abi_driver.proofs.SendSteps.{sends_as, sends_last, sends_next}
 use Rattle.abi_driver.proofs.dealloc.memory.free_record.Goals as goal
 
 pub loop-i-preserved : goal.loop-i-preserved
@@ -22,17 +24,24 @@ loop-i-preserved g c =
     let short : i < length tys = omega (arith, c.loop-i-test.true) in
     let filled = c.sizes.ensures types c.requires.knows in
     let pair = subst (λ (ps : List ArchitectureSize). IsPairOf (get_or ps i nowhere) (λ w. slice_index (field_offsets w (record_of types tys)) i)) (sym c.as_slice.ensures) (c.in_ok-places.ensures.each types i nowhere filled short) in
+    let here = ap (free_code types (get_or tys i wit.Bool)) (sym (pair_is (get_or c.as_slice.result.now i nowhere) (λ w. slice_index (field_offsets w (record_of types tys)) i) pair)) in
     record {
-      adds = adds_both m _ _ _ c.loop-i.invariant.adds c.in_ok-free_type.ensures.adds;
+      adds = adds_both m _ _ _ c.loop-i.invariant.adds c.in_ok-free_type.ensures.frees.adds;
+      sent = sends_next m types (λ n ty. free_code types ty (place_in (record_of types tys) n)) tys i wit.Bool _ _ _ short c.loop-i.invariant.sent (sends_as m types _ _ _ _ here c.in_ok-free_type.ensures.sends);
       rest = rest_next m sound types tys c.args.address.now nowhere (get_or c.as_slice.result.now i nowhere) i _ _ _ (get_or tys i wit.Bool)
           (drop_more tys i wit.Bool short)
           (behind_next m.width types tys i wit.Bool short)
           (record_place m.width types tys i wit.Bool (get_or c.as_slice.result.now i nowhere) sound.wide short pair)
-          c.in_ok-free_type.ensures c.loop-i.invariant.rest;
+          c.in_ok-free_type.ensures.frees c.loop-i.invariant.rest;
     }
 
 pub returns : goal.returns
 returns g c =
     let m = g.B.Bindgen.meaning in
     let ended : length c.args.types.now ≤ c.loop-i.i = omega (arith, c.loop-i-test.false) in
-    rest_last m g.met.B.Bindgen.sound c.args.resolve.now.types c.args.types.now c.args.address.now nowhere c.loop-i.i _ _ ended c.loop-i.invariant.rest
+    let types = c.args.resolve.now.types in
+    let tys = c.args.types.now in
+    record {
+      frees = rest_last m g.met.B.Bindgen.sound types tys c.args.address.now nowhere c.loop-i.i _ _ ended c.loop-i.invariant.rest;
+      sends = sends_last m types (λ n ty. free_code types ty (place_in (record_of types tys) n)) tys c.loop-i.i _ _ ended c.loop-i.invariant.sent;
+    }

@@ -1,8 +1,12 @@
-use Rattle.std.proofs.Common.{List, [], ◌∷◌, ◌++◌, ap, ◌∙◌, subst}
+use Rattle.std.proofs.Common.{List, [], ◌∷◌, ◌++◌, sym, ap, ◌∙◌, subst}
 use Rattle.abi_driver.specs.Instructions.{Emits}
-use Rattle.abi_driver.specs.declared.instruction.Instruction.TheVariants.{GuestDeallocateString}
+use Rattle.abi_driver.specs.declared.instruction.Instruction.TheVariants.{GuestDeallocateString, LengthLoad, PointerLoad}
+use Rattle.abi_driver.specs.Code.{sends}
 use Rattle.abi_driver.proofs.FlatFrees.{text_freed}
 use Rattle.abi_driver.proofs.LeafFrees.{text_frees}
+use Rattle.abi_driver.proofs.MemoryCode.{free_text_code}
+use Rattle.abi_driver.proofs.PartOffsets.{behind_at}
+use Rattle.abi_driver.proofs.SendSteps.{sends_as, sends_three}
 use Rattle.abi_driver.proofs.dealloc.memory.free_text.Goals as goal
 
 pub returns : goal.returns
@@ -13,4 +17,10 @@ returns g c =
     let operands = c.in_ok-push.ensures.ok ∙ ap (λ (os : List g.row.B-Operand.Denot). os ++ c.in_ok-length.length ∷ []) c.in_ok-operands.ensures in
     let e = subst (λ (os : List g.row.B-Operand.Denot). Emits m types GuestDeallocateString os c.in_ok-_none._none c.load_word-2.new.bindgen c.send.new.bindgen) operands c.in_ok-_none.ensures in
     let flat = text_freed m sound types _ _ c.in_ok-place.place c.in_ok-length.length c.in_ok-_none._none e in
-    text_frees m sound types _ _ _ _ c.args.address.now c.in_ok-place.place c.in_ok-length.length c.args.offset c.in_ok-behind.behind (c.in_ok-behind.ensures _) c.in_ok-place.ensures c.in_ok-length.ensures flat
+    let behind = c.in_ok-behind.behind in
+    let code = free_text_code types c.args.offset ∙ ap (λ o. sends (PointerLoad c.args.offset) ∷ sends (LengthLoad o) ∷ sends GuestDeallocateString ∷ []) (sym c.in_ok-behind.ensures) in
+    let steps = sends_three m types (PointerLoad c.args.offset) (LengthLoad behind) GuestDeallocateString _ _ _ _ _ _ _ _ _ _ c.in_ok-place.ensures c.in_ok-length.ensures e in
+    record {
+      frees = text_frees m sound types _ _ _ _ c.args.address.now c.in_ok-place.place c.in_ok-length.length c.args.offset behind (behind_at c.args.offset behind _ c.in_ok-behind.ensures) c.in_ok-place.ensures c.in_ok-length.ensures flat;
+      sends = sends_as m types _ _ _ _ code steps;
+    }

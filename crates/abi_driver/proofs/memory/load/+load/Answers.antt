@@ -1,5 +1,5 @@
-use Rattle.std.proofs.Common.{rules, ◌≡◌, ◌<◌, ◌≤◌, ◌+◌, ◌^◌, true, List, [], ◌∷◌, ◌++◌, length, map, get_or, sym, ap, ◌∙◌, subst, arith}
-use Rattle.std.specs.List.{list_all}
+use Rattle.std.proofs.Common.{rules, ◌≡◌, ℕ, ◌<◌, ◌≤◌, ◌+◌, ◌^◌, true, List, [], ◌∷◌, ◌++◌, length, map, get_or, refl, sym, ap, ◌∙◌, subst, arith}
+use Rattle.std.specs.List.{list_all, slice_index}
 use Rattle.std.proofs.lemmas.List.{drop_more, length-append, length-map}
 use Rattle.wit_model.specs.Size.{bytes_at}
 use Rattle.wit_model.specs.TypeOrder.{type_below}
@@ -8,13 +8,20 @@ use Rattle.wit_model.specs.declared.types.TypeDefKind.TheVariants as kind
 use Rattle.wit_model.specs.declared.types.WitType.{WitType}
 use Rattle.wit_model.specs.declared.types.WitType.TheVariants as wit
 use Rattle.wit_layout.proofs.FlattenSteps.{rank}
+use Rattle.wit_layout.specs.Sizes.{field_offsets}
+use Rattle.wit_layout.specs.Tree.{tree_at}
+use Rattle.abi_driver.specs.declared.instruction.Instruction.TheVariants.{RecordLift, TupleLift}
+use Rattle.abi_driver.specs.Code.{Sent, beyond, each, load_code, place_in, sends}
 use Rattle.abi_driver.specs.Instructions.{IsRecord, shapes_of}
 use Rattle.abi_driver.specs.Loads.{LoadsParts}
 use Rattle.abi_driver.specs.Places.{HasParts, IsOfParts}
 use Rattle.abi_driver.proofs.LoadSteps.{loads_as, loads_parts_as, record_loads, rest_last, rest_next, tuple_loads}
-use Rattle.abi_driver.proofs.PartOffsets.{behind_next, no_alias, part_offset}
+use Rattle.abi_driver.proofs.MemoryCode.{load_alias_code, load_record_code, load_tuple_code}
+use Rattle.abi_driver.proofs.PartOffsets.{behind_next, no_alias, part_offset, place_sent}
+use Rattle.abi_driver.proofs.RecordPlaces.{place_told}
 use Rattle.abi_driver.proofs.Records.{alias_below, alias_rank, alias_shape, count-shapes, entry_at, kind_at, one_record, part_below_table, part_ranked, record_below, record_shape, tuple_below, tuple_shape}
 use Rattle.abi_driver.proofs.Runs.{adds_both, adds_same}
+use Rattle.abi_driver.proofs.SendSteps.{sends_as, sends_both, sends_last, sends_next, sends_one}
 use Rattle.abi_driver.proofs.memory.load.+load.Goals as goal
 
 pub load_id-load_type-requires : goal.load_id-load_type-requires
@@ -70,7 +77,10 @@ load_id-returns-in_ok-operand-in-Alias g t c =
     let d = c.index-types-at.result in
     let at = entry_at types c.as_slice-types.result.now c.args.id.0 d c.as_slice-types.ensures c.requires.within c.index-types-at.is in
     let is = kind_at c.as_slice-types.result.now c.args.id.0 d (kind.Alias c.in-Alias.ty) c.index-types-at.is c.in-Alias.is in
-    loads_as m g.met.B.Bindgen.sound types _ _ _ _ _ _ c.args.offset (alias_shape types c.requires.down c.args.id.0 d at c.in-Alias.ty is) c.in_ok-operand-in-Alias.ensures
+    record {
+      loads = loads_as m g.met.B.Bindgen.sound types _ _ _ _ _ _ c.args.offset (alias_shape types c.requires.down c.args.id.0 d at c.in-Alias.ty is) c.in_ok-operand-in-Alias.ensures.loads;
+      sends = sends_as m types _ _ _ _ (load_alias_code types c.requires.down c.args.id d at c.args.offset c.in-Alias.ty is) c.in_ok-operand-in-Alias.ensures.sends;
+    }
 
 pub load_id-returns-in_ok-operand-in-Record : goal.load_id-returns-in_ok-operand-in-Record
 load_id-returns-in_ok-operand-in-Record g t c =
@@ -83,7 +93,12 @@ load_id-returns-in_ok-operand-in-Record g t c =
     let same : c.as_slice-tys.result.now ≡ map (λ (f : Field). f.ty) members = c.as_slice-tys.ensures ∙ c.in_ok-tys-in-Record.ensures ∙ ap (map (λ (f : Field). f.ty)) c.as_slice.ensures in
     let loads = loads_parts_as m g.met.B.Bindgen.sound types _ _ _ _ c.in_ok-parts-in-Record.parts c.args.address.now c.args.offset 0 same c.in_ok-parts-in-Record.ensures.loads in
     let all = record_loads m g.met.B.Bindgen.sound types c.args.id members _ _ _ c.in_ok-parts-in-Record.parts c.args.address.now c.in_ok-operand-in-Record.operand c.args.offset (record { entry = d; at = at; kind = is }) loads c.in_ok-operand-in-Record.ensures in
-    loads_as m g.met.B.Bindgen.sound types _ _ _ _ _ c.in_ok-operand-in-Record.operand c.args.offset (record_shape types c.requires.down c.args.id.0 d at members is) all
+    let code : ℕ → WitType → List Sent = λ n ty. load_code types ty (beyond c.args.offset (place_in (tree_at types c.args.id.0) n)) in
+    let parts = sends_as m types _ _ _ _ (ap (each code 0) (sym same)) c.in_ok-parts-in-Record.ensures.sends in
+    record {
+      loads = loads_as m g.met.B.Bindgen.sound types _ _ _ _ _ c.in_ok-operand-in-Record.operand c.args.offset (record_shape types c.requires.down c.args.id.0 d at members is) all;
+      sends = sends_as m types _ _ _ _ (load_record_code types c.requires.down c.args.id d at c.args.offset members is) (sends_both m types _ _ _ _ _ parts (sends_one m types (RecordLift c.args.id) _ _ _ _ c.in_ok-operand-in-Record.ensures));
+    }
 
 pub load_id-returns-in_ok-operand-in-Tuple : goal.load_id-returns-in_ok-operand-in-Tuple
 load_id-returns-in_ok-operand-in-Tuple g t c =
@@ -96,7 +111,14 @@ load_id-returns-in_ok-operand-in-Tuple g t c =
     let loads = loads_parts_as m g.met.B.Bindgen.sound types _ _ _ _ c.in_ok-parts-in-Tuple.parts c.args.address.now c.args.offset 0 c.as_slice-tys-in-Tuple.ensures c.in_ok-parts-in-Tuple.ensures.loads in
     let count = count-shapes types tys ∙ sym (c.in_ok-part_count-in-Tuple.ensures ∙ ap length c.as_slice-tys-in-Tuple.ensures) in
     let all = tuple_loads m g.met.B.Bindgen.sound types c.in_ok-part_count-in-Tuple.field-0 (shapes_of types tys) _ _ _ c.in_ok-parts-in-Tuple.parts c.args.address.now c.in_ok-operand-in-Tuple.operand c.args.offset count loads c.in_ok-operand-in-Tuple.ensures in
-    loads_as m g.met.B.Bindgen.sound types _ _ _ _ _ c.in_ok-operand-in-Tuple.operand c.args.offset (tuple_shape types c.requires.down c.args.id.0 d at tys is) all
+    let many : length tys ≡ c.in_ok-part_count-in-Tuple.field-0 = sym (c.in_ok-part_count-in-Tuple.ensures ∙ ap length c.as_slice-tys-in-Tuple.ensures) in
+    let code : ℕ → WitType → List Sent = λ n ty. load_code types ty (beyond c.args.offset (place_in (tree_at types c.args.id.0) n)) in
+    let parts = sends_as m types _ _ _ _ (ap (each code 0) (sym c.as_slice-tys-in-Tuple.ensures)) c.in_ok-parts-in-Tuple.ensures.sends in
+    let all_code = load_tuple_code types c.requires.down c.args.id d at c.args.offset tys is ∙ ap (λ n. each code 0 tys ++ sends (TupleLift n) ∷ []) many in
+    record {
+      loads = loads_as m g.met.B.Bindgen.sound types _ _ _ _ _ c.in_ok-operand-in-Tuple.operand c.args.offset (tuple_shape types c.requires.down c.args.id.0 d at tys is) all;
+      sends = sends_as m types _ _ _ _ all_code (sends_both m types _ _ _ _ _ parts (sends_one m types (TupleLift c.in_ok-part_count-in-Tuple.field-0) _ _ _ _ c.in_ok-operand-in-Tuple.ensures));
+    }
 
 pub load_parts-loop-i-init : goal.load_parts-loop-i-init
 load_parts-loop-i-init g t c =
@@ -104,6 +126,7 @@ load_parts-loop-i-init g t c =
     record {
       adds = adds_same m _;
       count = ap length c.new-parts.ensures;
+      sent = refl;
       rest = λ new later h.
           subst (λ (ps : List g.row.B-Operand.Denot). LoadsParts m (shapes_of c.args.resolve.now.types c.args.tys.now) c.args.address.now c.args.offset 0 (ps ++ later) c.args.bindgen.now new) (sym c.new-parts.ensures) h;
     }
@@ -125,15 +148,19 @@ load_parts-loop-i-preserved g t c =
     let i = c.loop-i.i in
     let short : i < length tys = omega (arith, c.loop-i-test.true) in
     let knows = c.loop-i.invariant.adds.grows.knows types c.requires.knows in
-    let place = c.in_ok-place.ensures types c.requires.parts.0 knows c.requires.parts.1 (no_alias m.width types c.args.id.0 tys c.requires.parts) in
+    let tree = tree_at types c.args.id.0 in
+    let found = c.in_ok-place.ensures types c.requires.parts.0 knows c.requires.parts.1 (no_alias m.width types c.args.id.0 tys c.requires.parts) in
+    let place = place_told m.width c.in_ok-place.place c.args.offset found.0 (λ w. slice_index (field_offsets w tree) i) g.met.B.Bindgen.sound.wide found.1 found.2 in
+    let here = ap (load_code types (get_or tys i wit.Bool)) (sym (place_sent c.in_ok-place.place c.args.offset found.0 tree i found.1 found.2)) in
     record {
-      adds = adds_both m _ _ _ c.loop-i.invariant.adds c.in_ok-part.ensures.adds;
+      adds = adds_both m _ _ _ c.loop-i.invariant.adds c.in_ok-part.ensures.loads.adds;
+      sent = sends_next m types (λ n ty. load_code types ty (beyond c.args.offset (place_in tree n))) tys i wit.Bool _ _ _ short c.loop-i.invariant.sent (sends_as m types _ _ _ _ here c.in_ok-part.ensures.sends);
       count = ap length c.in_ok-push.ensures.ok ∙ length-append c.loop-i.parts (c.in_ok-part.part ∷ []) ∙ ap (λ n. n + 1) c.loop-i.invariant.count;
       rest = rest_next m g.met.B.Bindgen.sound types tys c.args.address.now c.args.offset c.in_ok-place.place i c.loop-i.parts c.push.new.self _ _ _ (get_or tys i wit.Bool) c.in_ok-part.part
           (drop_more tys i wit.Bool short)
           (behind_next m.width types tys i wit.Bool short)
           (place ∙ ap (λ n. bytes_at c.args.offset (2 ^ m.width) + n) (part_offset m.width types c.args.id tys i wit.Bool c.requires.down c.requires.parts short))
-          c.in_ok-part.ensures c.in_ok-push.ensures.ok c.loop-i.invariant.rest;
+          c.in_ok-part.ensures.loads c.in_ok-push.ensures.ok c.loop-i.invariant.rest;
     }
 
 pub load_parts-returns-clause-loads : goal.load_parts-returns-clause-loads
@@ -141,3 +168,10 @@ load_parts-returns-clause-loads g t c =
     let m = g.B.Bindgen.meaning in
     let ended : length c.args.tys.now ≤ c.loop-i.i = omega (arith, c.loop-i-test.false) in
     rest_last m g.met.B.Bindgen.sound c.args.resolve.now.types c.args.tys.now c.args.address.now c.args.offset c.loop-i.i c.loop-i.parts _ _ ended c.loop-i.invariant.rest
+
+pub load_parts-returns-clause-sends : goal.load_parts-returns-clause-sends
+load_parts-returns-clause-sends g t c =
+    let types = c.args.resolve.now.types in
+    let ended : length c.args.tys.now ≤ c.loop-i.i = omega (arith, c.loop-i-test.false) in
+    let code : ℕ → WitType → List Sent = λ n ty. load_code types ty (beyond c.args.offset (place_in (tree_at types c.args.id.0) n)) in
+    sends_last g.B.Bindgen.meaning types code c.args.tys.now c.loop-i.i _ _ ended c.loop-i.invariant.sent

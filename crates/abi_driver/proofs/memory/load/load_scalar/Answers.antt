@@ -2,6 +2,8 @@ use Rattle.std.proofs.Common.{List, [], ◌∷◌, sym, ◌∙◌, subst}
 use Rattle.abi_driver.specs.Instructions.{Emits}
 use Rattle.abi_driver.proofs.LeafLoads.{lift_makes, lift_sendable, scalar_loads}
 use Rattle.abi_driver.proofs.LiftSteps.{scalar_lifts}
+use Rattle.abi_driver.proofs.MemoryCode.{load_scalar_code}
+use Rattle.abi_driver.proofs.SendSteps.{sends_as, sends_two}
 use Rattle.abi_driver.proofs.memory.load.load_scalar.Goals as goal
 
 pub returns : goal.returns
@@ -10,8 +12,12 @@ returns g c =
     let sound = g.met.B.Bindgen.sound in
     let types = c.args.resolve.now.types in
     let e = subst (λ (os : List g.row.B-Operand.Denot). Emits m types c.args.lift os (c.in_ok-operand.operand ∷ []) c.load_word.new.bindgen c.send_one.new.bindgen) c.in_ok-operands.ensures c.in_ok-operand.ensures in
-    scalar_loads m sound types c.args.ty c.in-Some.load c.args.offset _ _ _ c.args.address.now c.in_ok-word.word c.in_ok-operand.operand (sym c.scalar_load.ensures ∙ c.in-Some.is) c.in_ok-word.ensures
-    (scalar_lifts m sound types c.args.ty c.args.lift _ _ c.in_ok-word.word c.in_ok-operand.operand c.requires e)
+    let is = sym c.scalar_load.ensures ∙ c.in-Some.is in
+    record {
+      loads = scalar_loads m sound types c.args.ty c.in-Some.load c.args.offset _ _ _ c.args.address.now c.in_ok-word.word c.in_ok-operand.operand is c.in_ok-word.ensures
+          (scalar_lifts m sound types c.args.ty c.args.lift _ _ c.in_ok-word.word c.in_ok-operand.operand c.requires e);
+      sends = sends_as m types _ _ _ _ (load_scalar_code types c.args.offset c.args.ty c.in-Some.load c.args.lift is c.requires) (sends_two m types c.in-Some.load c.args.lift _ _ _ _ _ _ _ c.in_ok-word.ensures e);
+    }
 
 pub send_one-requires-clause-ready : goal.send_one-requires-clause-ready
 send_one-requires-clause-ready g c =

@@ -1,7 +1,5 @@
-use Rattle.std.proofs.Common.{◌+◌, ◌*◌, ap₂, ◌∙◌}
-use Rattle.abi_driver.proofs.PartOffsets.{spread}
+use Rattle.std.proofs.Common.{ap₂}
 use Rattle.abi_driver.proofs.memory.place.sum.Goals as goal
 
 pub returns : goal.returns
-returns c = λ width.
-    ap₂ (λ x p. x + p * width) c.in_ok-bytes.ensures c.in_ok-pointers.ensures ∙ spread c.args.a.bytes c.args.b.bytes c.args.a.pointers c.args.b.pointers width
+returns c = ap₂ (λ x p. record { bytes = x; pointers = p }) c.in_ok-bytes.ensures c.in_ok-pointers.ensures

@@ -1,5 +1,5 @@
-use Rattle.std.proofs.Common.{rules, ◌≡◌, ◌<◌, ◌≤◌, ◌+◌, ◌^◌, true, List, length, map, get_or, refl, sym, ap, ◌∙◌, subst, arith}
-use Rattle.std.specs.List.{list_all}
+use Rattle.std.proofs.Common.{rules, ◌≡◌, ℕ, ◌<◌, ◌≤◌, ◌+◌, ◌^◌, true, List, ◌∷◌, length, map, get_or, refl, sym, ap, ◌∙◌, subst, arith}
+use Rattle.std.specs.List.{list_all, slice_index}
 use Rattle.std.proofs.lemmas.List.{drop_more, length-map}
 use Rattle.wit_model.specs.Size.{bytes_at}
 use Rattle.wit_model.specs.TypeOrder.{type_below}
@@ -8,12 +8,19 @@ use Rattle.wit_model.specs.declared.types.TypeDefKind.TheVariants as kind
 use Rattle.wit_model.specs.declared.types.WitType.{WitType}
 use Rattle.wit_model.specs.declared.types.WitType.TheVariants as wit
 use Rattle.wit_layout.proofs.FlattenSteps.{rank}
+use Rattle.wit_layout.specs.Sizes.{field_offsets}
+use Rattle.wit_layout.specs.Tree.{tree_at}
+use Rattle.abi_driver.specs.declared.instruction.Instruction.TheVariants.{TupleLower}
+use Rattle.abi_driver.specs.Code.{Sent, beyond, each, place_in, sends, store_code}
 use Rattle.abi_driver.specs.Instructions.{shapes_of}
 use Rattle.abi_driver.specs.Places.{HasParts, IsOfParts}
-use Rattle.abi_driver.proofs.PartOffsets.{behind_next, no_alias, part_offset}
+use Rattle.abi_driver.proofs.MemoryCode.{store_alias_code, store_record_code, store_tuple_code}
+use Rattle.abi_driver.proofs.PartOffsets.{behind_next, no_alias, part_offset, place_sent}
+use Rattle.abi_driver.proofs.RecordPlaces.{place_told}
 use Rattle.abi_driver.proofs.StoreSteps.{record_stores, rest_last, rest_next, stores_as, stores_parts_as, tuple_stores}
 use Rattle.abi_driver.proofs.Records.{alias_below, alias_rank, alias_shape, count-shapes, drop-same, entry_at, kind_at, part_below_table, part_ranked, record_below, record_shape, tuple_below, tuple_shape}
 use Rattle.abi_driver.proofs.Runs.{adds_both, adds_same, side_later}
+use Rattle.abi_driver.proofs.SendSteps.{sends_as, sends_last, sends_next, sends_then}
 use Rattle.abi_driver.proofs.memory.store.+store.Goals as goal
 
 pub store_id-store_type-requires : goal.store_id-store_type-requires
@@ -74,7 +81,10 @@ store_id-returns-in_ok-store_type-in-Alias g t c =
     let d = c.index-types-at.result in
     let at = entry_at types c.as_slice-types.result.now c.args.id.0 d c.as_slice-types.ensures c.requires.within c.index-types-at.is in
     let is = kind_at c.as_slice-types.result.now c.args.id.0 d (kind.Alias c.in-Alias.ty) c.index-types-at.is c.in-Alias.is in
-    stores_as m g.met.B.Bindgen.sound types c.args.realloc _ _ _ _ c.args.value _ c.args.offset (alias_shape types c.requires.down c.args.id.0 d at c.in-Alias.ty is) c.in_ok-store_type-in-Alias.ensures
+    record {
+      stores = stores_as m g.met.B.Bindgen.sound types c.args.realloc _ _ _ _ c.args.value _ c.args.offset (alias_shape types c.requires.down c.args.id.0 d at c.in-Alias.ty is) c.in_ok-store_type-in-Alias.ensures.stores;
+      sends = sends_as m types _ _ _ _ (store_alias_code types c.requires.down c.args.id d at c.args.offset c.args.realloc c.in-Alias.ty is) c.in_ok-store_type-in-Alias.ensures.sends;
+    }
 
 pub store_id-returns-in_ok-store_parts-in-Record : goal.store_id-returns-in_ok-store_parts-in-Record
 store_id-returns-in_ok-store_parts-in-Record g t c =
@@ -85,9 +95,14 @@ store_id-returns-in_ok-store_parts-in-Record g t c =
     let is = kind_at c.as_slice-types.result.now c.args.id.0 d (kind.Record c.in-Record.members) c.index-types-at.is c.in-Record.is in
     let members = c.in-Record.members in
     let same : c.as_slice-tys.result.now ≡ map (λ (f : Field). f.ty) members = c.as_slice-tys.ensures ∙ c.in_ok-tys-in-Record.ensures ∙ ap (map (λ (f : Field). f.ty)) c.as_slice.ensures in
-    let later = stores_parts_as m g.met.B.Bindgen.sound types c.args.realloc _ _ _ _ c.in_ok-parts-in-Record.parts _ c.args.offset 0 same c.in_ok-store_parts-in-Record.ensures in
+    let later = stores_parts_as m g.met.B.Bindgen.sound types c.args.realloc _ _ _ _ c.in_ok-parts-in-Record.parts _ c.args.offset 0 same c.in_ok-store_parts-in-Record.ensures.stores in
     let all = record_stores m g.met.B.Bindgen.sound types c.args.realloc c.args.id members _ _ _ c.args.value _ c.in_ok-parts-in-Record.parts c.args.offset (record { entry = d; at = at; kind = is }) c.in_ok-parts-in-Record.ensures later in
-    stores_as m g.met.B.Bindgen.sound types c.args.realloc _ _ _ _ c.args.value _ c.args.offset (record_shape types c.requires.down c.args.id.0 d at members is) all
+    let code : ℕ → WitType → List Sent = λ n ty. store_code types c.args.realloc ty (beyond c.args.offset (place_in (tree_at types c.args.id.0) n)) in
+    let parts = sends_as m types _ _ _ _ (ap (each code 0) (sym same)) c.in_ok-store_parts-in-Record.ensures.sends in
+    record {
+      stores = stores_as m g.met.B.Bindgen.sound types c.args.realloc _ _ _ _ c.args.value _ c.args.offset (record_shape types c.requires.down c.args.id.0 d at members is) all;
+      sends = sends_as m types _ _ _ _ (store_record_code types c.requires.down c.args.id d at c.args.offset c.args.realloc members is) (sends_then m types _ _ _ _ _ _ _ c.in_ok-parts-in-Record.ensures parts);
+    }
 
 pub store_id-returns-in_ok-store_parts-in-Tuple : goal.store_id-returns-in_ok-store_parts-in-Tuple
 store_id-returns-in_ok-store_parts-in-Tuple g t c =
@@ -97,15 +112,22 @@ store_id-returns-in_ok-store_parts-in-Tuple g t c =
     let at = entry_at types c.as_slice-types.result.now c.args.id.0 d c.as_slice-types.ensures c.requires.within c.index-types-at.is in
     let is = kind_at c.as_slice-types.result.now c.args.id.0 d (kind.Tuple c.in-Tuple.members) c.index-types-at.is c.in-Tuple.is in
     let tys = c.in-Tuple.members in
-    let later = stores_parts_as m g.met.B.Bindgen.sound types c.args.realloc _ _ _ _ c.in_ok-parts-in-Tuple.parts _ c.args.offset 0 c.as_slice-tys-in-Tuple.ensures c.in_ok-store_parts-in-Tuple.ensures in
+    let later = stores_parts_as m g.met.B.Bindgen.sound types c.args.realloc _ _ _ _ c.in_ok-parts-in-Tuple.parts _ c.args.offset 0 c.as_slice-tys-in-Tuple.ensures c.in_ok-store_parts-in-Tuple.ensures.stores in
     let count = count-shapes types tys ∙ sym (c.in_ok-part_count-in-Tuple.ensures ∙ ap length c.as_slice-tys-in-Tuple.ensures) in
     let all = tuple_stores m g.met.B.Bindgen.sound types c.args.realloc c.in_ok-part_count-in-Tuple.field-0 (shapes_of types tys) _ _ _ c.args.value _ c.in_ok-parts-in-Tuple.parts c.args.offset count c.in_ok-parts-in-Tuple.ensures later in
-    stores_as m g.met.B.Bindgen.sound types c.args.realloc _ _ _ _ c.args.value _ c.args.offset (tuple_shape types c.requires.down c.args.id.0 d at tys is) all
+    let many : length tys ≡ c.in_ok-part_count-in-Tuple.field-0 = sym (c.in_ok-part_count-in-Tuple.ensures ∙ ap length c.as_slice-tys-in-Tuple.ensures) in
+    let code : ℕ → WitType → List Sent = λ n ty. store_code types c.args.realloc ty (beyond c.args.offset (place_in (tree_at types c.args.id.0) n)) in
+    let parts = sends_as m types _ _ _ _ (ap (each code 0) (sym c.as_slice-tys-in-Tuple.ensures)) c.in_ok-store_parts-in-Tuple.ensures.sends in
+    let all_code = store_tuple_code types c.requires.down c.args.id d at c.args.offset c.args.realloc tys is ∙ ap (λ n. sends (TupleLower n) ∷ each code 0 tys) many in
+    record {
+      stores = stores_as m g.met.B.Bindgen.sound types c.args.realloc _ _ _ _ c.args.value _ c.args.offset (tuple_shape types c.requires.down c.args.id.0 d at tys is) all;
+      sends = sends_as m types _ _ _ _ all_code (sends_then m types _ _ _ _ _ _ _ c.in_ok-parts-in-Tuple.ensures parts);
+    }
 
 pub store_parts-loop-i-init : goal.store_parts-loop-i-init
 store_parts-loop-i-init g t c =
     let m = g.B.Bindgen.meaning in
-    record { adds = adds_same m _; rest = λ new h. h }
+    record { adds = adds_same m _; sent = refl; rest = λ new h. h }
 
 pub store_parts-store_type-requires : goal.store_parts-store_type-requires
 store_parts-store_type-requires g t c κs within =
@@ -127,15 +149,19 @@ store_parts-loop-i-preserved g t c =
     let short : i < length tys = omega (arith, c.loop-i-test.true) in
     let enough : i < length c.args.parts.now = omega (arith, short, c.requires.enough) in
     let knows = c.loop-i.invariant.adds.grows.knows types c.requires.knows in
-    let place = c.in_ok-place.ensures types c.requires.parts.0 knows c.requires.parts.1 (no_alias m.width types c.args.id.0 tys c.requires.parts) in
+    let tree = tree_at types c.args.id.0 in
+    let found = c.in_ok-place.ensures types c.requires.parts.0 knows c.requires.parts.1 (no_alias m.width types c.args.id.0 tys c.requires.parts) in
+    let place = place_told m.width c.in_ok-place.place c.args.offset found.0 (λ w. slice_index (field_offsets w tree) i) g.met.B.Bindgen.sound.wide found.1 found.2 in
+    let here = ap (store_code types c.args.realloc (get_or tys i wit.Bool)) (sym (place_sent c.in_ok-place.place c.args.offset found.0 tree i found.1 found.2)) in
     record {
-      adds = adds_both m _ _ _ c.loop-i.invariant.adds c.in_ok-store_type.ensures.adds;
+      adds = adds_both m _ _ _ c.loop-i.invariant.adds c.in_ok-store_type.ensures.stores.adds;
+      sent = sends_next m types (λ n ty. store_code types c.args.realloc ty (beyond c.args.offset (place_in tree n))) tys i wit.Bool _ _ _ short c.loop-i.invariant.sent (sends_as m types _ _ _ _ here c.in_ok-store_type.ensures.sends);
       rest = rest_next m g.met.B.Bindgen.sound types c.args.realloc tys c.args.parts.now _ c.args.offset c.in_ok-place.place i _ _ _ (get_or tys i wit.Bool) c.in_ok-part.part
           (drop_more tys i wit.Bool short)
           (drop-same c.args.parts.now c.as_slice.result.now i c.in_ok-part.part c.index-as_slice-i.result c.as_slice.ensures enough c.index-as_slice-i.is c.in_ok-part.ensures)
           (behind_next m.width types tys i wit.Bool short)
           (place ∙ ap (λ n. bytes_at c.args.offset (2 ^ m.width) + n) (part_offset m.width types c.args.id tys i wit.Bool c.requires.down c.requires.parts short))
-          c.in_ok-store_type.ensures c.loop-i.invariant.rest;
+          c.in_ok-store_type.ensures.stores c.loop-i.invariant.rest;
     }
 
 pub store_parts-returns : goal.store_parts-returns
@@ -143,4 +169,9 @@ store_parts-returns g t c =
     let m = g.B.Bindgen.meaning in
     let ended : length c.args.tys.now ≤ c.loop-i.i = omega (arith, c.loop-i-test.false) in
     let done : length c.args.parts.now ≤ c.loop-i.i = omega (arith, ended, c.requires.enough) in
-    rest_last m g.met.B.Bindgen.sound c.args.resolve.now.types c.args.realloc c.args.tys.now c.args.parts.now _ c.args.offset c.loop-i.i _ _ ended done c.loop-i.invariant.rest
+    let types = c.args.resolve.now.types in
+    let code : ℕ → WitType → List Sent = λ n ty. store_code types c.args.realloc ty (beyond c.args.offset (place_in (tree_at types c.args.id.0) n)) in
+    record {
+      stores = rest_last m g.met.B.Bindgen.sound types c.args.realloc c.args.tys.now c.args.parts.now _ c.args.offset c.loop-i.i _ _ ended done c.loop-i.invariant.rest;
+      sends = sends_last m types code c.args.tys.now c.loop-i.i _ _ ended c.loop-i.invariant.sent;
+    }

@@ -1,13 +1,20 @@
 use Rattle.std.proofs.Common.{sym, ◌∙◌}
 use Rattle.abi_driver.proofs.LeafStores.{one_word, scalar_stores}
 use Rattle.abi_driver.proofs.LowerSteps.{scalar_lowers}
+use Rattle.abi_driver.proofs.MemoryCode.{store_scalar_code}
+use Rattle.abi_driver.proofs.SendSteps.{sends_as, sends_two}
 use Rattle.abi_driver.proofs.memory.store.store_scalar.Goals as goal
 
 pub returns : goal.returns
-returns g c = λ realloc.
+returns g c =
     let m = g.B.Bindgen.meaning in
     let sound = g.met.B.Bindgen.sound in
     let types = c.args.resolve.now.types in
-    let flat = scalar_lowers m sound types realloc c.args.ty c.args.lower _ _ c.args.value c.in_ok-words.words c.requires c.in_ok-words.ensures in
     let one = one_word m types c.args.ty c.args.lower _ _ c.args.value c.in_ok-words.words c.as_slice.result.now c.index-as_slice-0.result c.in_ok-word.word c.requires c.in_ok-words.ensures c.as_slice.ensures c.index-as_slice-0.is c.in_ok-word.ensures in
-    scalar_stores m sound types realloc c.args.ty c.in-Some.store c.args.offset _ _ _ c.args.value c.in_ok-word.word c.args.address.now c.in_ok-words.words (sym c.scalar_store.ensures ∙ c.in-Some.is) one flat c.in_ok-store_word.ensures
+    let is = sym c.scalar_store.ensures ∙ c.in-Some.is in
+    let steps = sends_two m types c.args.lower c.in-Some.store _ _ _ _ _ _ _ c.in_ok-words.ensures c.in_ok-store_word.ensures in
+    record {
+      stores = λ realloc. scalar_stores m sound types realloc c.args.ty c.in-Some.store c.args.offset _ _ _ c.args.value c.in_ok-word.word c.args.address.now c.in_ok-words.words is one
+          (scalar_lowers m sound types realloc c.args.ty c.args.lower _ _ c.args.value c.in_ok-words.words c.requires c.in_ok-words.ensures) c.in_ok-store_word.ensures;
+      sends = λ realloc. sends_as m types _ _ _ _ (store_scalar_code types c.args.offset realloc c.args.ty c.args.lower c.in-Some.store c.requires is) steps;
+    }
