@@ -4,8 +4,10 @@ ghost use Rattle.std.specs.Prelude.{◌<◌, IsTrue, length, IfSome, OnOk};
 ghost use Rattle.std.specs.Option.{option_map};
 ghost use Rattle.wit_model.specs.TypeOrder.{GoesDown, payload_below};
 ghost use Rattle.wrapper_meaning.specs.Shape.{result_shape, shape_of};
+ghost use Rattle.abi_driver.specs.Code.{free_result_code, post_return_code};
 ghost use Rattle.abi_driver.specs.Frees.{FreesResult, PostReturns};
 ghost use Rattle.abi_driver.specs.Laws.{Adds};
+ghost use Rattle.abi_driver.specs.Sends.{Sends};
 
 use crate::bindgen::Bindgen;
 use crate::dealloc::memory::free_type;
@@ -29,7 +31,8 @@ pub fn post_return<B: Bindgen>(
     requires below { IsTrue (payload_below (length resolve.now.types) func.now.result) }
     requires knows { B.meaning.knows bindgen.old resolve.now.types }
     requires argument { IfSome (B.meaning.arguments bindgen.old) (λ k. 0 < k) }
-    ensures { OnOk result (PostReturns B.meaning (result_shape resolve.now.types func.now) bindgen.old bindgen.new) }
+    ensures frees { OnOk result (PostReturns B.meaning (result_shape resolve.now.types func.now) bindgen.old bindgen.new) }
+    ensures sends { OnOk result (Sends B.meaning resolve.now.types (post_return_code resolve.now.types func.now.result) bindgen.old bindgen.new) }
 {
     free_result(alloc, resolve, bindgen, func.result)?;
     send(
@@ -56,6 +59,7 @@ fn free_result<B: Bindgen>(
     requires argument { IfSome (B.meaning.arguments bindgen.old) (λ k. 0 < k) }
     ensures adds { OnOk result (Adds B.meaning bindgen.old bindgen.new) }
     ensures frees { OnOk result (FreesResult B.meaning (option_map (shape_of resolve.now.types) ty) bindgen.old bindgen.new) }
+    ensures sends { OnOk result (Sends B.meaning resolve.now.types (free_result_code resolve.now.types ty) bindgen.old bindgen.new) }
 {
     let Some(ty) = ty else {
         return Ok(());
