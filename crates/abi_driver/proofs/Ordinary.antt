@@ -1,4 +1,4 @@
--- The instructions of scalars and of words in memory make no call, and do not end the code.
+-- The instructions of scalars and of words in memory make no call, do not end the code, and use up no block.
 use Rattle.std.proofs.Common.{◌≡◌, false, List, [], Option, None, Some, refl, sym, subst, if◌then◌else◌}
 use Rattle.wit_model.specs.declared.types.TypeDef.{TypeDef}
 use Rattle.wit_layout.specs.Tree.{Scalar}

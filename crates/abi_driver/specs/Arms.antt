@@ -9,7 +9,7 @@ use Rattle.wrapper_data.specs.declared.word.Word.TheVariants as core
 use Rattle.abi_driver.specs.Account.{Act, Done, Follows, Outcome, Peer, Stuck, failing, gives, then_do}
 use Rattle.abi_driver.specs.Blocks.{owned_datum}
 use Rattle.abi_driver.specs.Laws.{At, Data, Facts, ofs}
-use Rattle.abi_driver.specs.Meaning.{Ended, Meaning, of, with_nothing, word}
+use Rattle.abi_driver.specs.Meaning.{Ended, Meaning, item, of, with_nothing, word}
 use Rattle.abi_driver.specs.Turns.{Arrives, Moved, Went}
 
 -- 1. Which arm
@@ -45,22 +45,37 @@ module _ {Self Operand : Type 0} (m : Meaning Self Operand) where
     pub number : ℕ
     pub results : Data m
 
-  abbrev pub arm : (m.Block → m.State → Outcome m.Item (Ended m.Item m.State)) → ℕ → m.State → Option m.Block → Outcome m.Item (Went m Armed)
-  arm run i s None = Stuck (m.account s)
-  arm run i s (Some body) = then_do (run body s) (λ e. Done (record { result = record { number = i; results = e.results }; state = e.state; account = m.account e.state }))
+  -- what it may give: nothing; nothing, or one item; anything
+  abbrev pub gives_nothing : Data m → Bool
+  gives_nothing [] = true
+  gives_nothing _ = false
+
+  abbrev pub gives_payload : Data m → Bool
+  gives_payload [] = true
+  gives_payload (item a ∷ []) = true
+  gives_payload _ = false
+
+  abbrev pub gives_any : Data m → Bool
+  gives_any ds = true
+
+  -- a block is run for a case, which gives what fits
+  abbrev pub arm : (fits : Data m → Bool) → (m.Block → m.State → Outcome m.Item (Ended m.Item m.State)) → ℕ → m.State → Option m.Block → Outcome m.Item (Went m Armed)
+  arm fits run i s None = Stuck (m.account s)
+  arm fits run i s (Some body) =
+      then_do (run body s) (λ e. if fits e.results then Done (record { result = record { number = i; results = e.results }; state = e.state; account = m.account e.state }) else Stuck (m.account e.state))
 
   -- the arm that serves a word is run, with nothing
-  abbrev pub matching : m.World → Peer m.Item → (last_serves : Bool) → (n : ℕ) → List m.Block → Word → m.State → Outcome m.Item (Went m Armed)
-  matching w p last_serves n blocks x s =
-      then_do (choosing p.form last_serves n x (m.account s)) (λ i. arm (λ body. m.runs w p body with_nothing) i.result s (slice_get (arms n blocks) i.result))
+  abbrev pub matching : (fits : Data m → Bool) → m.World → Peer m.Item → (last_serves : Bool) → (n : ℕ) → List m.Block → Word → m.State → Outcome m.Item (Went m Armed)
+  matching fits w p last_serves n blocks x s =
+      then_do (choosing p.form last_serves n x (m.account s)) (λ i. arm fits (λ body. m.runs w p body with_nothing) i.result s (slice_get (arms n blocks) i.result))
 
   -- an operand is used up, and the arm that serves its word is run
-  abbrev pub Matches : (Form → Bool) → (n : ℕ) → (Armed → Facts m → Type 0) → (os : List Operand) → (old new : Self) → Type 0
-  Matches last_serves n Outs os old new =
+  abbrev pub Matches : (fits : Data m → Bool) → (Form → Bool) → (n : ℕ) → (Armed → Facts m → Type 0) → (os : List Operand) → (old new : Self) → Type 0
+  Matches fits last_serves n Outs os old new =
       (x : Word) (w : m.World) (p : Peer m.Item) (others : Facts m) (s0 s : m.State) → At m w p old new (ofs m os (word x ∷ []) ++ others) s0 s →
       (at : m.State) × Moved m w old (ofs m os (word x ∷ [])) [] s (m.account s) at
-      × Follows m.account (matching w p (last_serves p.form) n (m.blocks old) x at) (m.does w p (m.code new) s0) (Arrives m w old new others Outs (λ l. flat_map (owned_datum m) l.results))
+      × Follows m.account (matching fits w p (last_serves p.form) n (m.blocks old) x at) (m.does w p (m.code new) s0) (Arrives m w old new others Outs (λ l. flat_map (owned_datum m) l.results))
 
   -- the block of a word's case is run, and the last one for every number that is no case
   abbrev pub FreesCase : ℕ → (os : List Operand) → (old new : Self) → Type 0
-  FreesCase n os old new = Matches (λ f. true) n (λ l fs. fs ≡ []) os old new
+  FreesCase n os old new = Matches gives_nothing (λ f. true) n (λ l fs. fs ≡ []) os old new

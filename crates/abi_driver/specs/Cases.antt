@@ -19,7 +19,7 @@ use Rattle.wrapper_meaning.specs.Shape.Shape.{cases}
 use Rattle.wrapper_meaning.specs.Shape.Shapes.{none, more}
 use Rattle.wrapper_meaning.specs.Value.{Case, case_number}
 use Rattle.abi_driver.specs.Account.{Act, Follows, Peer, Stuck, failing, stay}
-use Rattle.abi_driver.specs.Arms.{Matches, arm, arms}
+use Rattle.abi_driver.specs.Arms.{Matches, arm, arms, gives_any, gives_payload}
 use Rattle.abi_driver.specs.Blocks.{owned_datum}
 use Rattle.abi_driver.specs.Laws.{At, Data, Does, Facts, Stays, ofs}
 use Rattle.abi_driver.specs.Meaning.{Bound, Meaning, item, of, with_nothing, with_payload, word}
@@ -78,7 +78,7 @@ module _ {Self Operand : Type 0} (m : Meaning Self Operand) where
       (payload : Option m.Item) × PayloadStands dir ts c payload own
       × ((w : m.World) (p : Peer m.Item) (others : Facts m) (s0 s : m.State) → At m w p old new (ofs m os (item a ∷ []) ++ others) s0 s →
         (at : m.State) × Moved m w old (ofs m os (item a ∷ [])) (m.owned a) s (m.account s) at
-        × Follows m.account (arm m (λ b. m.runs w p b (with_case payload)) (case_number ts c) at (Some body)) (m.does w p (m.code new) s0)
+        × Follows m.account (arm m (gives_any m) (λ b. m.runs w p b (with_case payload)) (case_number ts c) at (Some body)) (m.does w p (m.code new) s0)
           (Arrives m w old new others (λ l fs. fs ≡ ofs m rs l.results) (λ l. flat_map (owned_datum m) l.results)))
 
   -- what an arm gave is the payload of its case
@@ -90,7 +90,7 @@ module _ {Self Operand : Type 0} (m : Meaning Self Operand) where
   -- the block of a word's case is run, and gives the payload
   abbrev pub LiftsCase : (Form → Bool) → Shapes → (os rs : List Operand) → (old new : Self) → Type 0
   LiftsCase last_serves ts os rs old new =
-      Matches m last_serves (count ts) (λ l fs. (a : m.Item) × (fs ≡ ofs m rs (item a ∷ []))
+      Matches m (gives_payload m) last_serves (count ts) (λ l fs. (a : m.Item) × (fs ≡ ofs m rs (item a ∷ []))
         × ((c : Case ts) (payload : Option m.Item) (own : List Block) → case_number ts c ≡ l.number → IsPayload l.results payload → PayloadStands take ts c payload own → m.stands take (cases ts) c a own)) os old new
 
   -- an enum becomes the number of its case
