@@ -13,10 +13,10 @@ abbrev pub IsWord : {V : Type 0} → Datum V → Type 0
 IsWord (word x) = Unit {0}
 IsWord (item a) = ⊥
 
--- a fact of a word, and of no item
+-- what an operand or a name denotes is a word
 abbrev pub IsOfWord : {O S V : Type 0} → Fact O S V → Type 0
 IsOfWord (of o d) = IsWord d
-IsOfWord (arg n d) = IsWord d
+IsOfWord (arg n d) = ⊥
 IsOfWord (bound slot name d) = IsWord d
 
 module _ {Self Operand : Type 0} (m : Meaning Self Operand) where
@@ -69,8 +69,8 @@ module _ {Self Operand : Type 0} (m : Meaning Self Operand) where
     pub asked : m.asked new ≡ m.asked old
     pub returned : m.returned new ≡ m.returned old
 
-  -- the code is suspended, and that of the block is empty. What locals own is out of its reach: in the state in which it is entered the
-  -- facts of words hold still, its names are bound, and its locals own no more than their items
+  -- the code is suspended, and that of the block is empty. What locals own is out of its reach: in the state in which it is entered its
+  -- names are bound, its locals own no more than their items, and facts of words hold that hold outside and were there when it was opened
   pub record Pushes (old new : Self) : Type 0 where
     pub lasts : Lasts old new
     pub slot : m.Slot
@@ -79,7 +79,8 @@ module _ {Self Operand : Type 0} (m : Meaning Self Operand) where
     pub blocks : m.blocks new ≡ m.blocks old
     pub account : (s : m.State) (with : Bound m.Item) → m.account (m.enter slot with s) ≡ m.account s
     pub owns : (s : m.State) (with : Bound m.Item) → SameItems (m.owns (m.enter slot with s)) (brought with)
-    pub enters : (w : m.World) (facts : Facts m) (s : m.State) (with : Bound m.Item) → AllByRecursion IsOfWord facts → m.denotes w old facts s → m.denotes w new (names slot with ++ facts) (m.enter slot with s)
+    pub enters : (w : m.World) (later : Self) (facts : Facts m) (before s : m.State) (with : Bound m.Item) → AllByRecursion IsOfWord facts → m.denotes w old facts before → m.denotes w later facts s
+        → m.denotes w new (names slot with ++ facts) (m.enter slot with s)
 
   -- 3. It is closed
 
