@@ -49,3 +49,5 @@ pub mod CodeByKind
 pub mod FlatCode
 pub mod MemoryCode
 pub mod SendSteps
+pub mod Sendable
+pub mod BlockSteps
