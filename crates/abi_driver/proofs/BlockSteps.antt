@@ -18,10 +18,10 @@ module _ {Self Operand : Type 0} (m : Meaning Self Operand) (sound : Sound m) (a
   same_open = sym closes.resumes ∙ adds.grows.opened ∙ opens.opened
 
   pub same_slot : closes.slot ≡ opens.slot
-  same_slot = ap (λ xs. (first_or (closes.slot, m.code d) xs).0) same_open
+  same_slot = ap (λ xs. (first_or {A = m.Slot × m.Code} (closes.slot, m.code d) xs).0) same_open
 
   pub same_code : m.code d ≡ m.code a
-  same_code = ap (λ xs. (first_or (closes.slot, m.code d) xs).1) same_open
+  same_code = ap (λ xs. (first_or {A = m.Slot × m.Code} (closes.slot, m.code d) xs).1) same_open
 
   pub same_opened : m.opened d ≡ m.opened a
   same_opened = ap (λ xs. behind_first xs) same_open
