@@ -77,9 +77,9 @@ module _ {Self Operand : Type 0} (m : Meaning Self Operand) where
       (dir : Direction) (c : Case ts) (a : m.Item) (own : List Block) (body : m.Block) → m.stands dir (cases ts) c a own → slice_get (arms m (count ts) (m.blocks old)) (case_number ts c) ≡ Some body →
       (payload : Option m.Item) × PayloadStands dir ts c payload own
       × ((w : m.World) (p : Peer m.Item) (others : Facts m) (s0 s : m.State) → At m w p old new (ofs m os (item a ∷ []) ++ others) s0 s →
-        (at : m.State) × Moved m w old (ofs m os (item a ∷ [])) (m.owned a) s (m.account s) at
-        × Follows m.account (arm m (gives_any m) (λ b. m.runs w p b (with_case payload)) (case_number ts c) at (Some body)) (m.does w p (m.code new) s0)
-          (Arrives m w old new others (λ l fs. fs ≡ ofs m rs l.results) (λ l. flat_map (owned_datum m) l.results)))
+      (at : m.State) × Moved m w old (ofs m os (item a ∷ [])) (m.owned a) s (m.account s) at
+      × Follows m.account (arm m (gives_any m) (λ b. m.runs w p b (with_case payload)) (case_number ts c) at (Some body)) (m.does w p (m.code new) s0)
+      (Arrives m w old new others (λ l fs. fs ≡ ofs m rs l.results) (λ l. flat_map (owned_datum m) l.results)))
 
   -- what an arm gave is the payload of its case
   abbrev pub IsPayload : Data m → Option m.Item → Type 0
@@ -91,7 +91,7 @@ module _ {Self Operand : Type 0} (m : Meaning Self Operand) where
   abbrev pub LiftsCase : (Form → Bool) → Shapes → (os rs : List Operand) → (old new : Self) → Type 0
   LiftsCase last_serves ts os rs old new =
       Matches m (gives_payload m) last_serves (count ts) (λ l fs. (a : m.Item) × (fs ≡ ofs m rs (item a ∷ []))
-        × ((c : Case ts) (payload : Option m.Item) (own : List Block) → case_number ts c ≡ l.number → IsPayload l.results payload → PayloadStands take ts c payload own → m.stands take (cases ts) c a own)) os old new
+      × ((c : Case ts) (payload : Option m.Item) (own : List Block) → case_number ts c ≡ l.number → IsPayload l.results payload → PayloadStands take ts c payload own → m.stands take (cases ts) c a own)) os old new
 
   -- an enum becomes the number of its case
   abbrev pub LowersEnum : Shapes → (os rs : List Operand) → (old new : Self) → Type 0

@@ -24,7 +24,7 @@ module _ {Self Operand : Type 0} (m : Meaning Self Operand) where
       (w : m.World) (p : Peer m.Item) (others : Facts m) (s0 s : m.State) → At m w p old new (ofs m os (item a ∷ []) ++ others) s0 s →
       (begin : m.State) × ((x : Got m.Item ℕ) → allotting_for kept n e (m.account s) ≡ Done x → Moved m w old (ofs m os (item a ∷ [])) (m.owned a) s x.account begin)
       × Follows m.account (fills (m.runs w p body) kept e n bounds begin (m.account s)) (m.does w p (m.code new) s0)
-        (Arrives m w old new others (λ address fs. fs ≡ ofs m rs (word (core.Pointer address) ∷ word (core.Length n) ∷ [])) (λ address. []))
+      (Arrives m w old new others (λ address fs. fs ≡ ofs m rs (word (core.Pointer address) ∷ word (core.Length n) ∷ [])) (λ address. []))
 
   -- 2. It is read
 
@@ -32,7 +32,7 @@ module _ {Self Operand : Type 0} (m : Meaning Self Operand) where
   abbrev pub reads_block : {R : Type 0} → Run m → (Data m → R → Act m.Item R) → (R → Account m.Item → m.State → m.State) → Form → (size address n : ℕ) → R → m.State → Account m.Item → Outcome m.Item (Went m R)
   reads_block run add put f size address n first begin acc =
       then_do (rooming n acc) (λ u. then_do (gathers m run add put (places m size address n) first begin)
-        (λ x. then_do (freeing f address (n * size) x.account) (λ y. Done (record x { account = y.account }))))
+      (λ x. then_do (freeing f address (n * size) x.account) (λ y. Done (record x { account = y.account }))))
 
   abbrev pub ReadsBlock : {R : Type 0} → (size : ℕ) → (Data m → R → Act m.Item R) → (owned : R → List ℕ) → (first : R) → (R → m.Item → Type 0) → m.Block → (os rs : List Operand) → (old new : Self) → Type 0
   ReadsBlock size add owned first IsOf body os rs old new =
@@ -40,7 +40,7 @@ module _ {Self Operand : Type 0} (m : Meaning Self Operand) where
       (begin : m.State) × ((u : Got m.Item (Unit {0})) → rooming n (m.account s) ≡ Done u → Moved m w old (ofs m os (word (core.Pointer address) ∷ word (core.Length n) ∷ [])) [] s u.account begin)
       × (by : PutsBy m owned add w p old body begin)
       × Follows m.account (reads_block (m.runs w p body) add by.put p.form size address n first begin (m.account s)) (m.does w p (m.code new) s0)
-        (Arrives m w old new others (λ r fs. (a : m.Item) × (fs ≡ ofs m rs (item a ∷ [])) × IsOf r a) (λ r. []))
+      (Arrives m w old new others (λ r fs. (a : m.Item) × (fs ≡ ofs m rs (item a ∷ [])) × IsOf r a) (λ r. []))
 
   -- 3. It is freed: what its entries own first, and then its bytes
   abbrev pub frees_entries : Run m → Form → (size address n : ℕ) → m.State → Outcome m.Item (Went m (Unit {0}))

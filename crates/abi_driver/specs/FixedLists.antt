@@ -57,9 +57,9 @@ module _ {Self Operand : Type 0} (m : Meaning Self Operand) where
       → (begin : m.State) × Moved m w old (ofs m os (word (core.Pointer address) ∷ [])) [] s (m.account s) begin
       × (by : PutsBy m (λ vals. flat_map m.owned vals) (one_more m) w p old body begin)
       × Follows m.account (gathers m (m.runs w p body) (one_more m) by.put (places m (elem_size m.width (layout t)) address n) [] begin) (m.does w p (m.code new) s0)
-        (Arrives m w old new others
-          (λ vals fs. (a : m.Item) × (fs ≡ ofs m rs (item a ∷ [])) × ((vs : List (Value t)) (own : List Block) → EachStands (m.stands take t) vs vals own → m.stands take (fixed t n) vs a own))
-          (λ vals. []))
+      (Arrives m w old new others
+      (λ vals fs. (a : m.Item) × (fs ≡ ofs m rs (item a ∷ [])) × ((vs : List (Value t)) (own : List Block) → EachStands (m.stands take t) vs vals own → m.stands take (fixed t n) vs a own))
+      (λ vals. []))
 
   -- the block is run at each place from an address on
   abbrev pub FreesFixed : Shape → (n : ℕ) → (os : List Operand) → (old new : Self) → Type 0

@@ -44,8 +44,8 @@ module _ {Self Operand : Type 0} (m : Meaning Self Operand) where
       let size = elem_size m.width (layout t) in
       (reads : Block → Bool) × ((b : Block) (vs : List (Value t)) → b.size ≡ length vs * size → EachHolds (Holds m.width take t) size vs b 0 [] → reads b ≡ true)
       × ((address n : ℕ) → Does m (List Block) old new (ofs m os (word (core.Pointer address) ∷ word (core.Length n) ∷ [])) (λ p. taking_over p.form reads (extent_of m.width (layout t)) address n)
-        (λ own fs. (a : m.Item) × (fs ≡ ofs m rs (item a ∷ [])) × ((vs : List (Value t)) → Says m.width take (list t) vs (core.Pointer address ∷ core.Length n ∷ []) own → m.stands take (list t) vs a own))
-        (λ own. addresses own) (λ own. []))
+      (λ own fs. (a : m.Item) × (fs ≡ ofs m rs (item a ∷ [])) × ((vs : List (Value t)) → Says m.width take (list t) vs (core.Pointer address ∷ core.Length n ∷ []) own → m.stands take (list t) vs a own))
+      (λ own. addresses own) (λ own. []))
 
   -- 2. A list that is filled and read
 
