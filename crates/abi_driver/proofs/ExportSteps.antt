@@ -62,7 +62,7 @@ export_indirect types f s is = is.indirect ∙ sym (ap are_many (signature_is_by
 pub export_pointer : (types : List TypeDef) (f : Function) (s : WasmSignature) → IsFlattenedFunctype types GuestExport f s → s.retptr ≡ is_indirect (result_shape types f)
 export_pointer types f s is = is.pointed ∙ sym (ap needs_pointer (signature_is_by_shapes types f).1)
 
-count_mapped : {A B : Type 0} (f : A → B) (o : Option A) → length (option_to_list (option_map f o)) ≡ length (option_to_list o)
+pub count_mapped : {A B : Type 0} (f : A → B) (o : Option A) → length (option_to_list (option_map f o)) ≡ length (option_to_list o)
 count_mapped f None = refl
 count_mapped f (Some a) = refl
 

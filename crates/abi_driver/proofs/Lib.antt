@@ -45,6 +45,7 @@ pub mod RecordArguments
 pub mod RecordPlaces
 pub mod RecordStores
 pub mod FlatFrees
+pub mod CallCode
 pub mod CodeByKind
 pub mod FlatCode
 pub mod MemoryCode

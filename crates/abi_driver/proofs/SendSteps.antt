@@ -8,7 +8,7 @@ use Rattle.abi_driver.specs.Instructions.{Emits}
 use Rattle.abi_driver.specs.Meaning.{Meaning}
 use Rattle.abi_driver.specs.Sends.{Sends}
 
-each_last : {A : Type 0} (f : ℕ → A → List Sent) (k : ℕ) (xs : List A) (x : A) → each f k (xs ++ x ∷ []) ≡ each f k xs ++ f (k + length xs) x
+pub each_last : {A : Type 0} (f : ℕ → A → List Sent) (k : ℕ) (xs : List A) (x : A) → each f k (xs ++ x ∷ []) ≡ each f k xs ++ f (k + length xs) x
 each_last f k [] x = append-nil (f k x) ∙ ap (λ n. f n x) (omega arith)
 each_last f k (y ∷ xs) x =
     ap (λ steps. f k y ++ steps) (each_last f (suc k) xs x ∙ ap (λ n. each f (suc k) xs ++ f n x) (omega arith)) ∙ sym (append_assoc (f k y) (each f (suc k) xs) (f (k + length (y ∷ xs)) x))

@@ -176,11 +176,15 @@ lower_arguments types tys = each (λ n ty. sends (GetArg n) ∷ lower_code types
 abbrev pub store_arguments : List TypeDef → List WitType → List Sent
 store_arguments types tys = each (λ n ty. sends (GetArg n) ∷ store_code types false ty (place_in (record_of types tys) n)) 0 tys
 
+-- one argument for each, from one on
+abbrev pub get_arguments : {A : Type 0} → ℕ → List A → List Sent
+get_arguments first words = each (λ n word. sends (GetArg n) ∷ []) first words
+
 -- the first word of the types is the argument of this number
 abbrev pub lift_arguments : List TypeDef → ℕ → List WitType → List Sent
 lift_arguments types first [] = []
 lift_arguments types first (ty ∷ tys) =
-    let words = flatten_type (tree_of types ty) in each (λ n word. sends (GetArg n) ∷ []) first words ++ lift_code types ty ++ lift_arguments types (first + length words) tys
+    let words = flatten_type (tree_of types ty) in get_arguments first words ++ lift_code types ty ++ lift_arguments types (first + length words) tys
 
 abbrev pub load_arguments : List TypeDef → List WitType → List Sent
 load_arguments types tys = each (λ n ty. load_code types ty (place_in (record_of types tys) n)) 0 tys
@@ -214,10 +218,12 @@ import_code types func =
 abbrev pub free_block_code : Shape → List Sent
 free_block_code t = sends (GetArg 0) ∷ sends (GuestDeallocate (record_size t) (stored_alignment t)) ∷ []
 
+-- the arguments are loaded from their record, which is then freed
+abbrev pub take_record_code : List TypeDef → List WitType → List Sent
+take_record_code types tys = sends (GetArg 0) ∷ load_arguments types tys ++ sends (Flush (length tys)) ∷ free_block_code (fields (shapes_of types tys))
+
 abbrev pub take_code : List TypeDef → List WitType → List Sent
-take_code types tys =
-    let ts = shapes_of types tys in
-    if are_indirect ts then sends (GetArg 0) ∷ load_arguments types tys ++ sends (Flush (length tys)) ∷ free_block_code (fields ts) else lift_arguments types 0 tys
+take_code types tys = if are_indirect (shapes_of types tys) then take_record_code types tys else lift_arguments types 0 tys
 
 abbrev pub give_code : List TypeDef → Option WitType → List Sent
 give_code types None = []

@@ -8,6 +8,8 @@ mod record;
 ghost use Rattle.std.specs.Prelude.{◌≡◌, true, OnOk};
 ghost use Rattle.wit_model.specs.IndexRange.{function_in_range};
 ghost use Rattle.wit_model.specs.WellFormed.{IsWellFormed};
+ghost use Rattle.abi_driver.specs.Code.{call_code};
+ghost use Rattle.abi_driver.specs.Sends.{Sends};
 ghost use Rattle.abi_driver.specs.WholeCalls.{CallsFunction, HasArguments, IsServed, IsWay};
 
 use crate::bindgen::Bindgen;
@@ -47,7 +49,8 @@ pub fn call<B: Bindgen>(
     requires serves { IsServed B.meaning variant bindgen.old }
     requires knows { B.meaning.knows bindgen.old resolve.now.types }
     requires arguments { HasArguments B.meaning resolve.now.types variant func.now bindgen.old }
-    ensures { OnOk result (CallsFunction B.meaning resolve.now.types variant func.now bindgen.old bindgen.new) }
+    ensures calls { OnOk result (CallsFunction B.meaning resolve.now.types variant func.now bindgen.old bindgen.new) }
+    ensures sends { OnOk result (Sends B.meaning resolve.now.types (call_code resolve.now.types variant func.entry) bindgen.old bindgen.new) }
 {
     match (variant, dir) {
         (AbiVariant::GuestImport, LiftLower::LowerArgsLiftResults) => {

@@ -1,13 +1,16 @@
 //! Records that pass by the return area.
 
-ghost use Rattle.std.specs.Prelude.{◌≡◌, true, length, IfOk, OnOk};
+ghost use Rattle.std.specs.Prelude.{◌≡◌, ◌++◌, true, length, IfOk, OnOk};
 ghost use Rattle.std.specs.List.{list_all};
 ghost use Rattle.wit_model.specs.TypeOrder.{GoesDown, type_below};
 ghost use Rattle.wrapper_meaning.specs.Shape.{shape_of};
 ghost use Rattle.wrapper_meaning.specs.Shape.Shape.{fields};
+ghost use Rattle.abi_driver.specs.Code as code;
+ghost use Rattle.abi_driver.specs.Code.{ask_for};
 ghost use Rattle.abi_driver.specs.Imports.{PassesRecord, Points};
 ghost use Rattle.abi_driver.specs.Instructions.{shapes_of};
 ghost use Rattle.abi_driver.specs.Laws.{IsCount};
+ghost use Rattle.abi_driver.specs.Sends.{Sends};
 ghost use Rattle.abi_driver.specs.Stores.{StoresArguments};
 
 use crate::bindgen::Bindgen;
@@ -25,7 +28,8 @@ pub(super) fn point_at<B: Bindgen>(
     ty: WitType,
 ) -> Result<B::Operand, OutOfMemory>
     requires knows { B.meaning.knows bindgen.old resolve.now.types }
-    ensures { IfOk result (λ o. Points B.meaning (shape_of resolve.now.types ty) o bindgen.old bindgen.new) }
+    ensures points { IfOk result (λ o. Points B.meaning (shape_of resolve.now.types ty) o bindgen.old bindgen.new) }
+    ensures sends { OnOk result (Sends B.meaning resolve.now.types (ask_for (shape_of resolve.now.types ty)) bindgen.old bindgen.new) }
 {
     let sizes = bindgen.sizes();
     if !sizes.has_size(&ty) {
@@ -45,7 +49,8 @@ fn point_at_record<B: Bindgen>(
 ) -> Result<B::Operand, OutOfMemory>
     requires below { list_all (λ ty. type_below (length resolve.now.types) ty) tys.now ≡ true }
     requires knows { B.meaning.knows bindgen.old resolve.now.types }
-    ensures { IfOk result (λ o. Points B.meaning (fields (shapes_of resolve.now.types tys.now)) o bindgen.old bindgen.new) }
+    ensures points { IfOk result (λ o. Points B.meaning (fields (shapes_of resolve.now.types tys.now)) o bindgen.old bindgen.new) }
+    ensures sends { OnOk result (Sends B.meaning resolve.now.types (ask_for (fields (shapes_of resolve.now.types tys.now))) bindgen.old bindgen.new) }
 {
     let sizes = bindgen.sizes();
     if !sizes.fits_in_record(tys) {
@@ -68,7 +73,8 @@ pub(super) fn store_arguments<B: Bindgen>(
     requires serves { B.meaning.imports bindgen.old ≡ true }
     requires knows { B.meaning.knows bindgen.old resolve.now.types }
     requires arguments { IsCount B.meaning (B.meaning.arguments bindgen.old) (length tys.now) }
-    ensures { IfOk result (λ o. PassesRecord B.meaning (shapes_of resolve.now.types tys.now) o bindgen.old bindgen.new) }
+    ensures passes { IfOk result (λ o. PassesRecord B.meaning (shapes_of resolve.now.types tys.now) o bindgen.old bindgen.new) }
+    ensures sends { OnOk result (Sends B.meaning resolve.now.types (ask_for (fields (shapes_of resolve.now.types tys.now)) ++ code.store_arguments resolve.now.types tys.now) bindgen.old bindgen.new) }
 {
     let address = point_at_record(resolve, bindgen, tys)?;
     store_at(alloc, resolve, bindgen, tys, &address)?;
@@ -88,7 +94,8 @@ fn store_at<B: Bindgen>(
     requires serves { B.meaning.imports bindgen.old ≡ true }
     requires knows { B.meaning.knows bindgen.old resolve.now.types }
     requires arguments { IsCount B.meaning (B.meaning.arguments bindgen.old) (length tys.now) }
-    ensures { OnOk result (StoresArguments B.meaning (shapes_of resolve.now.types tys.now) 0 address.now 0 bindgen.old bindgen.new) }
+    ensures stores { OnOk result (StoresArguments B.meaning (shapes_of resolve.now.types tys.now) 0 address.now 0 bindgen.old bindgen.new) }
+    ensures sends { OnOk result (Sends B.meaning resolve.now.types (code.store_arguments resolve.now.types tys.now) bindgen.old bindgen.new) }
 {
     let sizes = bindgen.sizes();
     let places = record_places(alloc, sizes, tys)?;

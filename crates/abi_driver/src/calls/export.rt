@@ -1,6 +1,6 @@
 //! The whole code of an export.
 
-ghost use Rattle.std.specs.Prelude.{◌≡◌, ◌≤◌, ◌+◌, IsTrue, Some, true, false, length, option_to_list, IfOk, IfSome, OnOk};
+ghost use Rattle.std.specs.Prelude.{◌≡◌, ◌≤◌, ◌+◌, ◌++◌, IsTrue, Some, true, false, length, option_to_list, IfOk, IfSome, OnOk};
 ghost use Rattle.std.specs.List.{list_all};
 ghost use Rattle.std.specs.Option.{option_map};
 ghost use Rattle.wit_model.specs.IndexRange.{function_in_range};
@@ -8,6 +8,16 @@ ghost use Rattle.wit_model.specs.TypeOrder.{GoesDown, payload_below, type_below}
 ghost use Rattle.wit_model.specs.WellFormed.{IsWellFormed};
 ghost use Rattle.wrapper_meaning.specs.Represents.{are_indirect, is_indirect, param_words};
 ghost use Rattle.wrapper_meaning.specs.Shape.{param_shapes, result_shape, shape_of};
+ghost use Rattle.abi_driver.specs.Code as code;
+ghost use Rattle.abi_driver.specs.Code.{
+  ask_for,
+  export_code,
+  get_arguments,
+  give_code,
+  lower_code,
+  store_code,
+  take_code,
+};
 ghost use Rattle.abi_driver.specs.Exports.{
   CallsExport,
   GivesAnswer,
@@ -17,10 +27,12 @@ ghost use Rattle.abi_driver.specs.Exports.{
   argument_words,
   export_params,
 };
+ghost use Rattle.abi_driver.specs.Frees.{nowhere};
 ghost use Rattle.abi_driver.specs.Instructions.{shapes_of};
 ghost use Rattle.abi_driver.specs.Laws.{IsCount};
 ghost use Rattle.abi_driver.specs.Lifts.{LiftsArguments};
 ghost use Rattle.abi_driver.specs.Lowers.{LowersAnswer};
+ghost use Rattle.abi_driver.specs.Sends.{Sends};
 
 use crate::bindgen::{Bindgen, Operand};
 use crate::calls::area::point_at;
@@ -48,7 +60,8 @@ pub(super) fn call_export<B: Bindgen>(
     requires serves { B.meaning.exports bindgen.old ≡ true }
     requires knows { B.meaning.knows bindgen.old resolve.now.types }
     requires arguments { IsCount B.meaning (B.meaning.arguments bindgen.old) (length (export_params resolve.now.types func.now)) }
-    ensures { OnOk result (CallsExport B.meaning func.now (param_shapes resolve.now.types func.now) (result_shape resolve.now.types func.now) bindgen.old bindgen.new) }
+    ensures calls { OnOk result (CallsExport B.meaning func.now (param_shapes resolve.now.types func.now) (result_shape resolve.now.types func.now) bindgen.old bindgen.new) }
+    ensures sends { OnOk result (Sends B.meaning resolve.now.types (export_code resolve.now.types func.entry) bindgen.old bindgen.new) }
 {
     let signature = wasm_signature(resolve, AbiVariant::GuestExport, func);
     let indirect = signature.indirect_params;
@@ -94,7 +107,8 @@ fn take_arguments<B: Bindgen>(
     requires knows { B.meaning.knows bindgen.old resolve.now.types }
     requires arguments { IsCount B.meaning (B.meaning.arguments bindgen.old) (length (argument_words (shapes_of resolve.now.types tys.now))) }
     requires indirect { indirect ≡ are_indirect (shapes_of resolve.now.types tys.now) }
-    ensures { IfOk result (λ values. TakesArgumentsOver B.meaning (shapes_of resolve.now.types tys.now) values bindgen.old bindgen.new) }
+    ensures takes { IfOk result (λ values. TakesArgumentsOver B.meaning (shapes_of resolve.now.types tys.now) values bindgen.old bindgen.new) }
+    ensures sends { OnOk result (Sends B.meaning resolve.now.types (take_code resolve.now.types tys.now) bindgen.old bindgen.new) }
 {
     if indirect {
         let loaded = load_arguments(alloc, resolve, bindgen, tys)?;
@@ -115,7 +129,8 @@ fn lift_arguments<B: Bindgen>(
     requires below { list_all (λ ty. type_below (length resolve.now.types) ty) tys.now ≡ true }
     requires direct { are_indirect (shapes_of resolve.now.types tys.now) ≡ false }
     requires arguments { IsCount B.meaning (B.meaning.arguments bindgen.old) (length (param_words (shapes_of resolve.now.types tys.now))) }
-    ensures { IfOk result (λ values. LiftsArguments B.meaning (shapes_of resolve.now.types tys.now) 0 values bindgen.old bindgen.new) }
+    ensures lifts { IfOk result (λ values. LiftsArguments B.meaning (shapes_of resolve.now.types tys.now) 0 values bindgen.old bindgen.new) }
+    ensures sends { OnOk result (Sends B.meaning resolve.now.types (code.lift_arguments resolve.now.types 0 tys.now) bindgen.old bindgen.new) }
 {
     let mut values = List::new(alloc);
     let mut first = 0;
@@ -140,7 +155,8 @@ fn read_words<B: Bindgen>(
 ) -> Result<List<B::Operand>, OutOfMemory>
     requires few { first + count ≤ 16 }
     requires arguments { IfSome (B.meaning.arguments bindgen.old) (λ k. first + count ≤ k) }
-    ensures { IfOk result (λ words. ReadsWords B.meaning first count words bindgen.old bindgen.new) }
+    ensures reads { IfOk result (λ words. ReadsWords B.meaning first count words bindgen.old bindgen.new) }
+    ensures sends { IfOk result (λ words. Sends B.meaning resolve.now.types (get_arguments first words) bindgen.old bindgen.new) }
 {
     let mut words = List::new(alloc);
     for i in 0..count {
@@ -166,7 +182,8 @@ fn give_answer<B: Bindgen>(
     requires knows { B.meaning.knows bindgen.old resolve.now.types }
     requires due { length answer.now ≡ length (option_to_list ty) }
     requires retptr { retptr ≡ is_indirect (option_map (shape_of resolve.now.types) ty) }
-    ensures { IfOk result (λ given. GivesAnswer B.meaning (option_map (shape_of resolve.now.types) ty) answer.now given bindgen.old bindgen.new) }
+    ensures gives { IfOk result (λ given. GivesAnswer B.meaning (option_map (shape_of resolve.now.types) ty) answer.now given bindgen.old bindgen.new) }
+    ensures sends { OnOk result (Sends B.meaning resolve.now.types (give_code resolve.now.types ty) bindgen.old bindgen.new) }
 {
     match ty {
         None => Ok(List::new(alloc)),
@@ -187,7 +204,8 @@ fn lower_answer<B: Bindgen>(
     requires below { IsTrue (type_below (length resolve.now.types) ty) }
     requires serves { B.meaning.exports bindgen.old ≡ true }
     requires due { length answer.now ≡ 1 }
-    ensures { IfOk result (λ given. LowersAnswer B.meaning (Some (shape_of resolve.now.types ty)) answer.now given bindgen.old bindgen.new) }
+    ensures lowers { IfOk result (λ given. LowersAnswer B.meaning (Some (shape_of resolve.now.types ty)) answer.now given bindgen.old bindgen.new) }
+    ensures sends { OnOk result (Sends B.meaning resolve.now.types (lower_code resolve.now.types true ty) bindgen.old bindgen.new) }
 {
     let value = answer[0].copy(alloc)?;
     let words = lower_type(alloc, resolve, bindgen, value, ty, true)?;
@@ -207,7 +225,8 @@ fn store_answer<B: Bindgen>(
     requires serves { B.meaning.exports bindgen.old ≡ true }
     requires knows { B.meaning.knows bindgen.old resolve.now.types }
     requires due { length answer.now ≡ 1 }
-    ensures { IfOk result (λ given. StoresAnswer B.meaning (shape_of resolve.now.types ty) answer.now given bindgen.old bindgen.new) }
+    ensures stores { IfOk result (λ given. StoresAnswer B.meaning (shape_of resolve.now.types ty) answer.now given bindgen.old bindgen.new) }
+    ensures sends { OnOk result (Sends B.meaning resolve.now.types (ask_for (shape_of resolve.now.types ty) ++ store_code resolve.now.types true ty nowhere) bindgen.old bindgen.new) }
 {
     let address = point_at(resolve, bindgen, ty)?;
     let value = answer[0].copy(alloc)?;

@@ -8,6 +8,9 @@ ghost use Rattle.wit_model.specs.TypeOrder.{GoesDown, payload_below, type_below}
 ghost use Rattle.wit_model.specs.WellFormed.{IsWellFormed};
 ghost use Rattle.wrapper_meaning.specs.Represents.{are_indirect, is_indirect};
 ghost use Rattle.wrapper_meaning.specs.Shape.{param_shapes, result_shape, shape_of};
+ghost use Rattle.abi_driver.specs.Code as code;
+ghost use Rattle.abi_driver.specs.Code.{import_code, lift_code, load_code, pass_code, point_code, read_code};
+ghost use Rattle.abi_driver.specs.Frees.{nowhere};
 ghost use Rattle.abi_driver.specs.Imports.{
   CallsImport,
   LoadsAnswer,
@@ -19,6 +22,7 @@ ghost use Rattle.abi_driver.specs.Instructions.{shapes_of};
 ghost use Rattle.abi_driver.specs.Laws.{IsCount};
 ghost use Rattle.abi_driver.specs.Lifts.{LiftsAnswer};
 ghost use Rattle.abi_driver.specs.Lowers.{LowersArguments};
+ghost use Rattle.abi_driver.specs.Sends.{Sends};
 
 use crate::bindgen::{Bindgen, Operand};
 use crate::calls::area::{point_at, store_arguments};
@@ -44,7 +48,8 @@ pub(super) fn call_import<B: Bindgen>(
     requires serves { B.meaning.imports bindgen.old ≡ true }
     requires knows { B.meaning.knows bindgen.old resolve.now.types }
     requires arguments { IsCount B.meaning (B.meaning.arguments bindgen.old) (length func.now.params) }
-    ensures { OnOk result (CallsImport B.meaning func.now (param_shapes resolve.now.types func.now) (result_shape resolve.now.types func.now) bindgen.old bindgen.new) }
+    ensures calls { OnOk result (CallsImport B.meaning func.now (param_shapes resolve.now.types func.now) (result_shape resolve.now.types func.now) bindgen.old bindgen.new) }
+    ensures sends { OnOk result (Sends B.meaning resolve.now.types (import_code resolve.now.types func.entry) bindgen.old bindgen.new) }
 {
     let signature = wasm_signature(resolve, AbiVariant::GuestImport, func);
     let indirect = signature.indirect_params;
@@ -92,7 +97,8 @@ fn pass_arguments<B: Bindgen>(
     requires knows { B.meaning.knows bindgen.old resolve.now.types }
     requires arguments { IsCount B.meaning (B.meaning.arguments bindgen.old) (length tys.now) }
     requires indirect { indirect ≡ are_indirect (shapes_of resolve.now.types tys.now) }
-    ensures { IfOk result (λ os. PassesArguments B.meaning (shapes_of resolve.now.types tys.now) os bindgen.old bindgen.new) }
+    ensures passes { IfOk result (λ os. PassesArguments B.meaning (shapes_of resolve.now.types tys.now) os bindgen.old bindgen.new) }
+    ensures sends { OnOk result (Sends B.meaning resolve.now.types (pass_code resolve.now.types tys.now) bindgen.old bindgen.new) }
 {
     if indirect {
         let address = store_arguments(alloc, resolve, bindgen, tys)?;
@@ -114,7 +120,8 @@ fn lower_arguments<B: Bindgen>(
     requires below { list_all (λ ty. type_below (length resolve.now.types) ty) tys.now ≡ true }
     requires serves { B.meaning.imports bindgen.old ≡ true }
     requires arguments { IsCount B.meaning (B.meaning.arguments bindgen.old) (length tys.now) }
-    ensures { IfOk result (λ os. LowersArguments B.meaning false (shapes_of resolve.now.types tys.now) 0 os bindgen.old bindgen.new) }
+    ensures lowers { IfOk result (λ os. LowersArguments B.meaning false (shapes_of resolve.now.types tys.now) 0 os bindgen.old bindgen.new) }
+    ensures sends { OnOk result (Sends B.meaning resolve.now.types (code.lower_arguments resolve.now.types tys.now) bindgen.old bindgen.new) }
 {
     let mut all = Vec::new(alloc);
     for i in 0..tys.len() {
@@ -137,7 +144,8 @@ fn point_at_result<B: Bindgen>(
 ) -> Result<List<B::Operand>, OutOfMemory>
     requires knows { B.meaning.knows bindgen.old resolve.now.types }
     requires retptr { retptr ≡ is_indirect (option_map (shape_of resolve.now.types) ty) }
-    ensures { IfOk result (λ pointer. PointsAtResult B.meaning (option_map (shape_of resolve.now.types) ty) pointer bindgen.old bindgen.new) }
+    ensures points { IfOk result (λ pointer. PointsAtResult B.meaning (option_map (shape_of resolve.now.types) ty) pointer bindgen.old bindgen.new) }
+    ensures sends { OnOk result (Sends B.meaning resolve.now.types (point_code resolve.now.types ty) bindgen.old bindgen.new) }
 {
     match ty {
         Some(ty) if retptr => {
@@ -164,7 +172,8 @@ fn read_answer<B: Bindgen>(
     requires knows { B.meaning.knows bindgen.old resolve.now.types }
     requires retptr { retptr ≡ is_indirect (option_map (shape_of resolve.now.types) ty) }
     requires pointed { retptr ≡ true → length pointer.now ≡ 1 }
-    ensures { IfOk result (λ given. ReadsAnswer B.meaning (option_map (shape_of resolve.now.types) ty) pointer.now words.now given bindgen.old bindgen.new) }
+    ensures reads { IfOk result (λ given. ReadsAnswer B.meaning (option_map (shape_of resolve.now.types) ty) pointer.now words.now given bindgen.old bindgen.new) }
+    ensures sends { OnOk result (Sends B.meaning resolve.now.types (read_code resolve.now.types ty) bindgen.old bindgen.new) }
 {
     match ty {
         None => Ok(List::new(alloc)),
@@ -185,7 +194,8 @@ fn load_answer<B: Bindgen>(
     requires below { IsTrue (type_below (length resolve.now.types) ty) }
     requires knows { B.meaning.knows bindgen.old resolve.now.types }
     requires pointed { length pointer.now ≡ 1 }
-    ensures { IfOk result (λ given. LoadsAnswer B.meaning (shape_of resolve.now.types ty) pointer.now given bindgen.old bindgen.new) }
+    ensures loads { IfOk result (λ given. LoadsAnswer B.meaning (shape_of resolve.now.types ty) pointer.now given bindgen.old bindgen.new) }
+    ensures sends { OnOk result (Sends B.meaning resolve.now.types (load_code resolve.now.types ty nowhere) bindgen.old bindgen.new) }
 {
     let address = pointer[0].copy(alloc)?;
     let value = lift_from_memory(alloc, resolve, bindgen, address, &ty)?;
@@ -202,7 +212,8 @@ fn lift_answer<B: Bindgen>(
 ) -> Result<List<B::Operand>, OutOfMemory>
     requires down { GoesDown resolve.now.types }
     requires below { IsTrue (type_below (length resolve.now.types) ty) }
-    ensures { IfOk result (λ given. LiftsAnswer B.meaning (Some (shape_of resolve.now.types ty)) words.now given bindgen.old bindgen.new) }
+    ensures lifts { IfOk result (λ given. LiftsAnswer B.meaning (Some (shape_of resolve.now.types ty)) words.now given bindgen.old bindgen.new) }
+    ensures sends { OnOk result (Sends B.meaning resolve.now.types (lift_code resolve.now.types ty) bindgen.old bindgen.new) }
 {
     let value = lift_flat(alloc, resolve, bindgen, words, &ty)?;
     only(alloc, value)

@@ -3,10 +3,14 @@
 ghost use Rattle.std.specs.Prelude.{◌≡◌, ◌<◌, true, length, IfOk, OnOk, IfSome};
 ghost use Rattle.std.specs.List.{list_all};
 ghost use Rattle.wit_model.specs.TypeOrder.{GoesDown, type_below};
+ghost use Rattle.wrapper_meaning.specs.Shape.Shape.{fields};
+ghost use Rattle.abi_driver.specs.Code as code;
+ghost use Rattle.abi_driver.specs.Code.{free_block_code, take_record_code};
 ghost use Rattle.abi_driver.specs.Exports.{FreesArguments, TakesRecordOver};
 ghost use Rattle.abi_driver.specs.Frees.{nowhere};
 ghost use Rattle.abi_driver.specs.Instructions.{shapes_of};
 ghost use Rattle.abi_driver.specs.Loads.{LoadsParts};
+ghost use Rattle.abi_driver.specs.Sends.{Sends};
 
 use crate::bindgen::Bindgen;
 use crate::dealloc::places::record_places;
@@ -29,7 +33,8 @@ pub(super) fn load_arguments<B: Bindgen>(
     requires below { list_all (λ ty. type_below (length resolve.now.types) ty) tys.now ≡ true }
     requires knows { B.meaning.knows bindgen.old resolve.now.types }
     requires arguments { IfSome (B.meaning.arguments bindgen.old) (λ k. 0 < k) }
-    ensures { IfOk result (λ values. TakesRecordOver B.meaning resolve.now.types (shapes_of resolve.now.types tys.now) values bindgen.old bindgen.new) }
+    ensures takes { IfOk result (λ values. TakesRecordOver B.meaning resolve.now.types (shapes_of resolve.now.types tys.now) values bindgen.old bindgen.new) }
+    ensures sends { OnOk result (Sends B.meaning resolve.now.types (take_record_code resolve.now.types tys.now) bindgen.old bindgen.new) }
 {
     let address = argument(alloc, resolve, bindgen, 0)?;
     let parts = load_at(alloc, resolve, bindgen, tys, &address)?;
@@ -52,6 +57,7 @@ fn load_at<B: Bindgen>(
     requires knows { B.meaning.knows bindgen.old resolve.now.types }
     ensures count { IfOk result (λ parts. length parts ≡ length tys.now) }
     ensures loads { IfOk result (λ parts. LoadsParts B.meaning (shapes_of resolve.now.types tys.now) address.now nowhere 0 parts bindgen.old bindgen.new) }
+    ensures sends { OnOk result (Sends B.meaning resolve.now.types (code.load_arguments resolve.now.types tys.now) bindgen.old bindgen.new) }
 {
     let sizes = bindgen.sizes();
     let places = record_places(alloc, sizes, tys)?;
@@ -74,7 +80,8 @@ fn free_arguments<B: Bindgen>(
     requires below { list_all (λ ty. type_below (length resolve.now.types) ty) tys.now ≡ true }
     requires knows { B.meaning.knows bindgen.old resolve.now.types }
     requires arguments { IfSome (B.meaning.arguments bindgen.old) (λ k. 0 < k) }
-    ensures { OnOk result (FreesArguments B.meaning resolve.now.types (shapes_of resolve.now.types tys.now) bindgen.old bindgen.new) }
+    ensures frees { OnOk result (FreesArguments B.meaning resolve.now.types (shapes_of resolve.now.types tys.now) bindgen.old bindgen.new) }
+    ensures sends { OnOk result (Sends B.meaning resolve.now.types (free_block_code (fields (shapes_of resolve.now.types tys.now))) bindgen.old bindgen.new) }
 {
     let sizes = bindgen.sizes();
     if !sizes.fits_in_record(tys) {

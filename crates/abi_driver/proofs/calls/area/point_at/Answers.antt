@@ -1,4 +1,4 @@
-use Rattle.abi_driver.proofs.AreaAsked.{asks_for, is_power}
+use Rattle.abi_driver.proofs.AreaAsked.{asks_for, is_power, sends_asking}
 use Rattle.abi_driver.proofs.calls.area.point_at.Goals as goal
 
 pub return_pointer-requires : goal.return_pointer-requires
@@ -8,6 +8,10 @@ return_pointer-requires g c =
 
 pub returns : goal.returns
 returns g c =
+    let m = g.B.Bindgen.meaning in
     let types = c.args.resolve.now.types in
     let filled = c.sizes-sizes.ensures types c.requires.knows in
-    asks_for g.B.Bindgen.meaning types c.args.ty c.size-size.result c.align-align.result _ _ _ (c.size-size.ensures types filled) (c.align-align.ensures types filled) c.in_ok-operand.ensures
+    record {
+      points = asks_for m types c.args.ty c.size-size.result c.align-align.result _ _ _ (c.size-size.ensures types filled) (c.align-align.ensures types filled) c.in_ok-operand.ensures;
+      sends = sends_asking m types c.args.ty c.size-size.result c.align-align.result _ _ _ (c.size-size.ensures types filled) (c.align-align.ensures types filled) c.in_ok-operand.ensures;
+    }

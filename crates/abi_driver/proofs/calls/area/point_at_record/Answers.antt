@@ -1,4 +1,4 @@
-use Rattle.abi_driver.proofs.AreaAsked.{asks_for_record, record_is_power}
+use Rattle.abi_driver.proofs.AreaAsked.{asks_for_record, record_is_power, sends_asking_record}
 use Rattle.abi_driver.proofs.calls.area.point_at_record.Goals as goal
 
 pub return_pointer-requires : goal.return_pointer-requires
@@ -8,6 +8,11 @@ return_pointer-requires g c =
 
 pub returns : goal.returns
 returns g c =
+    let m = g.B.Bindgen.meaning in
     let types = c.args.resolve.now.types in
+    let tys = c.args.tys.now in
     let filled = c.sizes-sizes.ensures types c.requires.knows in
-    asks_for_record g.B.Bindgen.meaning types c.args.tys.now _ _ _ _ _ (c.record_of-align.ensures.size types filled) (c.record_of-align.ensures.align types filled) c.in_ok-operand.ensures
+    record {
+      points = asks_for_record m types tys _ _ _ _ _ (c.record_of-align.ensures.size types filled) (c.record_of-align.ensures.align types filled) c.in_ok-operand.ensures;
+      sends = sends_asking_record m types tys _ _ _ _ _ (c.record_of-align.ensures.size types filled) (c.record_of-align.ensures.align types filled) c.in_ok-operand.ensures;
+    }

@@ -1,4 +1,4 @@
-use Rattle.std.proofs.Common.{◌<◌, ◌≤◌, [], ◌∷◌, List, length, get_or, slice_index, sym, subst, arith}
+use Rattle.std.proofs.Common.{◌<◌, ◌≤◌, [], ◌∷◌, List, length, get_or, slice_index, false, sym, ap, subst, arith}
 use Rattle.std.specs.Prelude.{IfSome}
 use Rattle.std.proofs.lemmas.List.{drop_more}
 use Rattle.wit_model.specs.declared.size.ArchitectureSize.{ArchitectureSize}
@@ -7,13 +7,15 @@ use Rattle.wit_layout.specs.Sizes.{field_offsets}
 use Rattle.wit_layout.specs.Told.{IsPairOf}
 use Rattle.wit_layout.specs.Tree.{record_of}
 use Rattle.abi_driver.specs.declared.instruction.Instruction.TheVariants as instruction
+use Rattle.abi_driver.specs.Code.{place_in, sends, store_code}
 use Rattle.abi_driver.specs.Frees.{nowhere}
 use Rattle.abi_driver.specs.Instructions.{Emits}
 use Rattle.abi_driver.proofs.ArgumentSteps.{within_count}
-use Rattle.abi_driver.proofs.PartOffsets.{behind_next}
+use Rattle.abi_driver.proofs.PartOffsets.{behind_next, pair_is}
 use Rattle.abi_driver.proofs.RecordPlaces.{record_place}
 use Rattle.abi_driver.proofs.RecordStores.{rest_last, rest_next}
 use Rattle.abi_driver.proofs.Runs.{adds_both}
+use Rattle.abi_driver.proofs.SendSteps.{sends_as, sends_last, sends_next, sends_then}
 use Rattle.abi_driver.proofs.calls.area.store_at.Goals as goal
 
 pub argument-requires : goal.argument-requires
@@ -34,8 +36,11 @@ loop-i-preserved g c =
     let read = subst (λ n. Emits m types (instruction.GetArg n) [] (c.in_ok-value.value ∷ []) c.loop-i.bindgen c.argument.new.bindgen) c.in_ok-number.ensures c.in_ok-value.ensures in
     let filled = c.sizes-sizes.ensures types c.requires.knows in
     let pair = subst (λ (ps : List ArchitectureSize). IsPairOf (get_or ps i nowhere) (λ w. slice_index (field_offsets w (record_of types tys)) i)) (sym c.as_slice.ensures) (c.in_ok-places.ensures.each types i nowhere filled short) in
+    let here = ap (store_code types false (get_or tys i wit.Bool)) (sym (pair_is (get_or c.as_slice.result.now i nowhere) (λ w. slice_index (field_offsets w (record_of types tys)) i) pair)) in
+    let code = sends_then m types (instruction.GetArg i) _ _ _ _ _ _ read (sends_as m types _ _ _ _ here c.in_ok-store_type.ensures.sends) in
     record {
       adds = adds_both m _ _ _ c.loop-i.invariant.adds (adds_both m _ _ _ c.in_ok-value.ensures.adds c.in_ok-store_type.ensures.stores.adds);
+      sent = sends_next m types (λ n ty. sends (instruction.GetArg n) ∷ store_code types false ty (place_in (record_of types tys) n)) tys i wit.Bool _ _ _ short c.loop-i.invariant.sent code;
       rest = rest_next m sound types tys c.args.address.now (get_or c.as_slice.result.now i nowhere) i _ _ _ _ (get_or tys i wit.Bool) c.in_ok-value.value
           (drop_more tys i wit.Bool short) read
           (behind_next m.width types tys i wit.Bool short)
@@ -46,5 +51,10 @@ loop-i-preserved g c =
 pub returns : goal.returns
 returns g c =
     let m = g.B.Bindgen.meaning in
-    let ended : length c.args.tys.now ≤ c.loop-i.i = omega (arith, c.loop-i-test.false) in
-    rest_last m g.met.B.Bindgen.sound c.args.resolve.now.types c.args.tys.now c.args.address.now c.loop-i.i _ _ ended c.loop-i.invariant.rest
+    let types = c.args.resolve.now.types in
+    let tys = c.args.tys.now in
+    let ended : length tys ≤ c.loop-i.i = omega (arith, c.loop-i-test.false) in
+    record {
+      stores = rest_last m g.met.B.Bindgen.sound types tys c.args.address.now c.loop-i.i _ _ ended c.loop-i.invariant.rest;
+      sends = sends_last m types (λ n ty. sends (instruction.GetArg n) ∷ store_code types false ty (place_in (record_of types tys) n)) tys c.loop-i.i _ _ ended c.loop-i.invariant.sent;
+    }

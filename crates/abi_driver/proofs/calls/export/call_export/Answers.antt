@@ -1,4 +1,5 @@
-use Rattle.std.proofs.Common.{◌≡◌, List, length, map, sym, ap, ◌∙◌, subst}
+use Rattle.abi_driver.proofs.Instances.Orders as orders
+use Rattle.std.proofs.Common.{◌≡◌, [], ◌∷◌, ◌++◌, List, length, map, sym, ap, ◌∙◌, subst}
 use Rattle.std.specs.List.{list_all}
 use Rattle.std.proofs.lemmas.List.{length-map}
 use Rattle.std.proofs.lemmas.List.Folds.{list_all-map}
@@ -7,13 +8,19 @@ use Rattle.wit_model.specs.declared.function.Param.{Param}
 use Rattle.wit_model.specs.declared.types.WitType.{WitType}
 use Rattle.wit_model.proofs.WellFormedLemmas.{types_go_down}
 use Rattle.wit_layout.proofs.SignatureSteps.{params_in_table, result_in_table}
-use Rattle.wrapper_meaning.specs.Represents.{are_indirect}
+use Rattle.wrapper_meaning.specs.Represents.{are_indirect, result_words}
 use Rattle.wrapper_meaning.specs.Shape.{result_shape}
+use Rattle.wit_layout.specs.declared.signature.AbiVariant.TheVariants.{GuestExport}
+use Rattle.wit_layout.specs.Signature.{core_results}
+use Rattle.abi_driver.specs.declared.instruction.Instruction.TheVariants.{CallInterface, Return}
+use Rattle.abi_driver.specs.Code.{give_code, sends, take_code}
 use Rattle.abi_driver.specs.Exports.{GivesAnswer, TakesArgumentsOver, argument_words}
 use Rattle.abi_driver.specs.Instructions.{shapes_of}
 use Rattle.abi_driver.specs.Laws.{IsCount}
+use Rattle.abi_driver.proofs.CallCode.{given_words}
 use Rattle.abi_driver.proofs.ExportSteps.{calls_export, export_indirect, export_pointer, export_words}
 use Rattle.abi_driver.proofs.Records.{count-shapes}
+use Rattle.abi_driver.proofs.SendSteps.{sends_as, sends_both, sends_one, sends_then}
 use Rattle.abi_driver.proofs.calls.export.call_export.Goals as goal
 
 pub take_arguments-requires-clause-below : goal.take_arguments-requires-clause-below
@@ -53,8 +60,8 @@ send-requires g c =
     let f = c.args.func.now in
     let same : c.as_slice-2.result.now ≡ map (λ (p : Param). p.ty) f.params = c.as_slice-2.ensures ∙ c.in_ok-tys.ensures ∙ ap (map (λ (p : Param). p.ty)) c.as_slice.ensures in
     record {
-      operands = c.in_ok-values.ensures.many ∙ count-shapes types c.as_slice-2.result.now ∙ ap length same ∙ length-map f.params (λ (p : Param). p.ty);
-      suits = c.in_ok-values.ensures.adds.grows.exports ∙ c.requires.serves;
+      operands = c.in_ok-values.ensures.takes.many ∙ count-shapes types c.as_slice-2.result.now ∙ ap length same ∙ length-map f.params (λ (p : Param). p.ty);
+      suits = c.in_ok-values.ensures.takes.adds.grows.exports ∙ c.requires.serves;
     }
 
 pub returns : goal.returns
@@ -63,7 +70,22 @@ returns g c =
     let types = c.args.resolve.now.types in
     let f = c.args.func.now in
     let values = c.in_ok-values.values in
+    let given = c.in_ok-given.given in
     let same : c.as_slice-2.result.now ≡ map (λ (p : Param). p.ty) f.params = c.as_slice-2.ensures ∙ c.in_ok-tys.ensures ∙ ap (map (λ (p : Param). p.ty)) c.as_slice.ensures in
-    let takes = subst (λ (tys : List WitType). TakesArgumentsOver m (shapes_of types tys) values c.args.bindgen.now c.take_arguments.new.bindgen) same c.in_ok-values.ensures in
-    let lowers = subst (λ (os : List _). GivesAnswer m (result_shape types f) os c.in_ok-given.given c.send.new.bindgen c.give_answer.new.bindgen) c.as_slice-3.ensures c.in_ok-given.ensures in
-    calls_export m g.met.B.Bindgen.sound types c.args.func _ _ _ _ _ values c.in_ok-answer.answer c.in_ok-given.given _ c.in_ok-given_count.given_count takes c.in_ok-answer.ensures lowers c.in_ok-send.ensures
+    let takes = subst (λ (tys : List WitType). TakesArgumentsOver m (shapes_of types tys) values c.args.bindgen.now c.take_arguments.new.bindgen) same c.in_ok-values.ensures.takes in
+    let lowers = subst (λ (os : List _). GivesAnswer m (result_shape types f) os given c.send.new.bindgen c.give_answer.new.bindgen) c.as_slice-3.ensures c.in_ok-given.ensures.gives in
+    let count : c.in_ok-given_count.given_count ≡ length (core_results GuestExport (result_words (result_shape types f))) = c.in_ok-given_count.ensures ∙ c.len.ensures ∙ given_words m types (result_shape types f) _ given _ _ lowers in
+    let end = sends (Return (length (core_results GuestExport (result_words (result_shape types f))))) ∷ [] in
+    let one = c.take_arguments.new.bindgen in
+    let two = c.send.new.bindgen in
+    let three = c.give_answer.new.bindgen in
+    let four = c.send-2.new.bindgen in
+    let taken = sends_as m types (take_code types c.as_slice-2.result.now) (take_code types (map (λ (p : Param). p.ty) f.params)) c.args.bindgen.now one (ap (take_code types) (sym same)) c.in_ok-values.ensures.sends in
+    let last = sends_as m types (sends (Return c.in_ok-given_count.given_count) ∷ []) end three four (ap (λ n. sends (Return n) ∷ []) (sym count)) (sends_one m types (Return c.in_ok-given_count.given_count) given _ three four c.in_ok-send.ensures) in
+    let args = take_code types (map (λ (p : Param). p.ty) f.params) in
+    let called = sends_then m types (CallInterface c.args.func) values c.in_ok-answer.answer (give_code types f.result) one two three c.in_ok-answer.ensures c.in_ok-given.ensures.sends in
+    let gave = sends_both m types args (sends (CallInterface c.args.func) ∷ give_code types f.result) c.args.bindgen.now one three taken called in
+    record {
+      calls = calls_export m g.met.B.Bindgen.sound types c.args.func _ _ _ _ _ values c.in_ok-answer.answer given _ c.in_ok-given_count.given_count takes c.in_ok-answer.ensures lowers c.in_ok-send.ensures;
+      sends = sends_both m types (args ++ (sends (CallInterface c.args.func) ∷ give_code types f.result)) end c.args.bindgen.now three four gave last;
+    }

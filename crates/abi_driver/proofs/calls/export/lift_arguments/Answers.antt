@@ -1,13 +1,19 @@
-use Rattle.std.proofs.Common.{◌<◌, ◌≤◌, length, get_or, arith}
+use Rattle.std.proofs.Common.{◌≡◌, ◌<◌, ◌≤◌, [], drop, length, get_or, refl, sym, ap, ◌∙◌, arith}
 use Rattle.std.proofs.lemmas.Bool.{ltb-false}
-use Rattle.std.proofs.lemmas.List.{drop_more}
+use Rattle.std.proofs.lemmas.List.{drop_all, drop_more}
 use Rattle.wit_model.specs.declared.types.WitType.TheVariants as wit
 use Rattle.wit_model.proofs.WellFormedLemmas.{types_go_down}
+use Rattle.wit_layout.specs.Flat.{flatten_type}
+use Rattle.wit_layout.specs.Tree.{tree_of}
 use Rattle.wrapper_meaning.specs.Represents.{param_words}
+use Rattle.wrapper_meaning.proofs.LayoutIsTree.{layout_is_tree}
+use Rattle.abi_driver.specs.Code.{lift_arguments}
 use Rattle.abi_driver.specs.Instructions.{shapes_of}
 use Rattle.abi_driver.proofs.ArgumentSteps.{within_words}
+use Rattle.abi_driver.proofs.CallCode as Sent
 use Rattle.abi_driver.proofs.LiftedArguments.{rest_first, rest_last, rest_next, told_within, words_left, words_next}
 use Rattle.abi_driver.proofs.Runs.{adds_both, adds_same}
+use Rattle.abi_driver.proofs.SendSteps.{sends_as}
 use Rattle.abi_driver.proofs.calls.export.lift_arguments.Goals as goal
 
 pub loop-i-init : goal.loop-i-init
@@ -16,6 +22,7 @@ loop-i-init g c =
     record {
       adds = adds_same m c.args.bindgen.now;
       words = omega arith;
+      sent = λ new h. h;
       rest = rest_first m g.met.B.Bindgen.sound c.args.resolve.now.types c.args.tys.now c.new-values.result c.args.bindgen.now c.new-values.ensures;
     }
 
@@ -67,14 +74,21 @@ loop-i-preserved g c =
     let short : i < length tys = omega (arith, c.loop-i-test.true) in
     let et = drop_more tys i wit.Bool short in
     let inv = c.loop-i.invariant in
+    let flat : length (flatten_type (tree_of types ty)) ≡ c.flat_types-flat.result.count = ap (λ t. length (flatten_type t)) (sym (layout_is_tree types ty)) ∙ sym c.in_ok-value.ensures.lifts.fits ∙ c.in_ok-words.ensures.reads.fits in
     record {
-      adds = adds_both m _ _ _ inv.adds (adds_both m _ _ _ c.in_ok-words.ensures.adds c.in_ok-value.ensures.adds);
-      words = omega (arith, inv.words, words_next types tys i ty et, c.in_ok-words.ensures.fits, c.in_ok-value.ensures.fits);
-      rest = rest_next m sound types tys i c.loop-i.first c.flat_types-flat.result.count c.loop-i.values c.in_ok-words.words c.push.new.self _ _ _ _ ty c.in_ok-value.value et c.in_ok-words.ensures c.in_ok-value.ensures c.in_ok-push.ensures.ok inv.rest;
+      adds = adds_both m _ _ _ inv.adds (adds_both m _ _ _ c.in_ok-words.ensures.reads.adds c.in_ok-value.ensures.lifts.adds);
+      words = omega (arith, inv.words, words_next types tys i ty et, c.in_ok-words.ensures.reads.fits, c.in_ok-value.ensures.lifts.fits);
+      sent = Sent.rest_next m types tys i c.loop-i.first c.flat_types-flat.result.count c.in_ok-words.words c.args.bindgen.now c.loop-i.bindgen c.read_words.new.bindgen c.lift_flat.new.bindgen ty et flat c.in_ok-words.ensures.reads.fits c.in_ok-words.ensures.sends c.in_ok-value.ensures.sends inv.sent;
+      rest = rest_next m sound types tys i c.loop-i.first c.flat_types-flat.result.count c.loop-i.values c.in_ok-words.words c.push.new.self _ _ _ _ ty c.in_ok-value.value et c.in_ok-words.ensures.reads c.in_ok-value.ensures.lifts c.in_ok-push.ensures.ok inv.rest;
     }
 
 pub returns : goal.returns
 returns g c =
     let m = g.B.Bindgen.meaning in
-    let ended : length c.args.tys.now ≤ c.loop-i.i = omega (arith, c.loop-i-test.false) in
-    rest_last m g.met.B.Bindgen.sound c.args.resolve.now.types c.args.tys.now c.loop-i.i c.loop-i.first c.loop-i.values _ _ ended c.loop-i.invariant.rest
+    let types = c.args.resolve.now.types in
+    let tys = c.args.tys.now in
+    let ended : length tys ≤ c.loop-i.i = omega (arith, c.loop-i-test.false) in
+    record {
+      lifts = rest_last m g.met.B.Bindgen.sound types tys c.loop-i.i c.loop-i.first c.loop-i.values _ _ ended c.loop-i.invariant.rest;
+      sends = c.loop-i.invariant.sent c.loop-i.bindgen (sends_as m types [] (lift_arguments types c.loop-i.first (drop c.loop-i.i tys)) c.loop-i.bindgen c.loop-i.bindgen (ap (lift_arguments types c.loop-i.first) (drop_all c.loop-i.i tys ended)) refl);
+    }

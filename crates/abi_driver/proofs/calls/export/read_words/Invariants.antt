@@ -1,5 +1,12 @@
+use Rattle.abi_driver.specs.Code.{get_arguments}
 use Rattle.abi_driver.specs.Exports.{ReadsWords}
+use Rattle.abi_driver.specs.Sends.{Sends}
 use Rattle.abi_driver.proofs.calls.export.read_words.Given as goal
 
 abbrev pub invariant-loop-i : goal.invariant-loop-i
-invariant-loop-i g l = record { reads : ReadsWords g.B.Bindgen.meaning l.first l.i l.words l.initial.bindgen l.bindgen }
+invariant-loop-i g l =
+    let m = g.B.Bindgen.meaning in
+    record {
+      reads : ReadsWords m l.first l.i l.words l.initial.bindgen l.bindgen;
+      sent : Sends m l.resolve.types (get_arguments l.first l.words) l.initial.bindgen l.bindgen;
+    }

@@ -3,10 +3,13 @@ use Rattle.wit_model.specs.declared.wasm_type.WasmType.TheVariants as wasm
 use Rattle.wit_model.proofs.WellFormedLemmas.{types_go_down}
 use Rattle.wrapper_meaning.specs.Represents.{param_words}
 use Rattle.abi_driver.specs.Exports.{argument_words}
+use Rattle.abi_driver.specs.Code as code
+use Rattle.abi_driver.specs.Code.{take_code, take_record_code}
 use Rattle.abi_driver.specs.Instructions.{shapes_of}
 use Rattle.abi_driver.specs.Laws.{IsCount}
 use Rattle.abi_driver.proofs.ArgumentSteps.{within_count}
 use Rattle.abi_driver.proofs.RecordArguments.{takes_record, takes_words}
+use Rattle.abi_driver.proofs.SendSteps.{sends_as}
 use Rattle.abi_driver.proofs.calls.export.take_arguments.Goals as goal
 
 pub load_arguments-requires-clause-down : goal.load_arguments-requires-clause-down
@@ -30,10 +33,22 @@ lift_arguments-requires-clause-arguments g c =
 
 pub returns-then-indirect : goal.returns-then-indirect
 returns-then-indirect g c =
+    let m = g.B.Bindgen.meaning in
     let types = c.args.resolve.now.types in
-    takes_record g.B.Bindgen.meaning g.met.B.Bindgen.sound types (shapes_of types c.args.tys.now) _ _ _ c.in_ok-loaded.ensures (sym c.requires.indirect ∙ c.if-indirect.true)
+    let tys = c.args.tys.now in
+    let many = sym c.requires.indirect ∙ c.if-indirect.true in
+    record {
+      takes = takes_record m g.met.B.Bindgen.sound types (shapes_of types tys) _ _ _ c.in_ok-loaded.ensures.takes many;
+      sends = sends_as m types (take_record_code types tys) (take_code types tys) c.args.bindgen.now c.load_arguments.new.bindgen (ap (λ q. if q then take_record_code types tys else code.lift_arguments types 0 tys) many) c.in_ok-loaded.ensures.sends;
+    }
 
 pub returns : goal.returns
 returns g c =
+    let m = g.B.Bindgen.meaning in
     let types = c.args.resolve.now.types in
-    takes_words g.B.Bindgen.meaning g.met.B.Bindgen.sound types (shapes_of types c.args.tys.now) _ _ _ (sym c.requires.indirect ∙ c.if-indirect.false) c.in_ok-values.ensures
+    let tys = c.args.tys.now in
+    let few = sym c.requires.indirect ∙ c.if-indirect.false in
+    record {
+      takes = takes_words m g.met.B.Bindgen.sound types (shapes_of types tys) _ _ _ few c.in_ok-values.ensures.lifts;
+      sends = sends_as m types (code.lift_arguments types 0 tys) (take_code types tys) c.args.bindgen.now c.lift_arguments.new.bindgen (ap (λ q. if q then take_record_code types tys else code.lift_arguments types 0 tys) few) c.in_ok-values.ensures.sends;
+    }

@@ -1,5 +1,6 @@
-use Rattle.std.proofs.Common.{◌≡◌, ◌++◌, List, length, map, sym, ap, ap₂, ◌∙◌, subst}
+use Rattle.std.proofs.Common.{◌≡◌, ◌++◌, [], ◌∷◌, List, length, map, sym, ap, ap₂, ◌∙◌, subst}
 use Rattle.std.specs.List.{list_all}
+use Rattle.std.specs.Prelude.{option_to_list}
 use Rattle.std.proofs.lemmas.List.Folds.{list_all-map}
 use Rattle.wit_model.specs.TypeOrder.{type_below}
 use Rattle.wit_model.specs.declared.function.Param.{Param}
@@ -7,12 +8,16 @@ use Rattle.wit_model.specs.declared.types.WitType.{WitType}
 use Rattle.wit_model.proofs.WellFormedLemmas.{types_go_down}
 use Rattle.wit_layout.proofs.SignatureSteps.{params_in_table, result_in_table}
 use Rattle.wrapper_meaning.specs.Represents.{are_indirect}
-use Rattle.wrapper_meaning.specs.Shape.{result_shape}
-use Rattle.abi_driver.specs.declared.instruction.Instruction.TheVariants.{CallWasm}
+use Rattle.wrapper_meaning.specs.Shape.{result_shape, shape_of}
+use Rattle.abi_driver.specs.declared.instruction.Instruction.TheVariants.{CallWasm, Return}
+use Rattle.abi_driver.specs.Code.{pass_code, point_code, read_code, sends}
 use Rattle.abi_driver.specs.Imports.{PassesArguments, ReadsAnswer}
 use Rattle.abi_driver.specs.Instructions.{Emits, shapes_of}
 use Rattle.abi_driver.proofs.AreaSteps.{points_grows}
+use Rattle.abi_driver.proofs.CallCode.{given_count}
+use Rattle.abi_driver.proofs.ExportSteps.{count_mapped}
 use Rattle.abi_driver.proofs.ImportSteps.{calls_import, indirect_told, one_pointer, pointer_told, words_count}
+use Rattle.abi_driver.proofs.SendSteps.{sends_as, sends_both, sends_one, sends_then}
 use Rattle.abi_driver.proofs.calls.import.call_import.Goals as goal
 
 pub pass_arguments-requires-clause-down : goal.pass_arguments-requires-clause-down
@@ -50,7 +55,7 @@ read_answer-requires-clause-pointed g c =
     let types = c.args.resolve.now.types in
     let f = c.args.func.now in
     let signature = c.wasm_signature-signature in
-    λ e. ap length c.as_slice-5.ensures ∙ one_pointer m (result_shape types f) c.in_ok-pointer.pointer _ _ signature.result.retptr c.in_ok-pointer.ensures (pointer_told types f signature.result signature.ensures) e
+    λ e. ap length c.as_slice-5.ensures ∙ one_pointer m (result_shape types f) c.in_ok-pointer.pointer _ _ signature.result.retptr c.in_ok-pointer.ensures.points (pointer_told types f signature.result signature.ensures) e
 
 pub send-requires : goal.send-requires
 send-requires g c =
@@ -60,11 +65,11 @@ send-requires g c =
     let words = c.in_ok-words.words in
     let pointer = c.in_ok-pointer.pointer in
     let same : c.as_slice-2.result.now ≡ map (λ (p : Param). p.ty) f.params = c.as_slice-2.ensures ∙ c.in_ok-tys.ensures ∙ ap (map (λ (p : Param). p.ty)) c.as_slice.ensures in
-    let passes = subst (λ (tys : List WitType). PassesArguments m (shapes_of types tys) words c.args.bindgen.now c.pass_arguments.new.bindgen) same c.in_ok-words.ensures in
+    let passes = subst (λ (tys : List WitType). PassesArguments m (shapes_of types tys) words c.args.bindgen.now c.pass_arguments.new.bindgen) same c.in_ok-words.ensures.passes in
     let all : c.in_ok-all.all ≡ words ++ pointer = c.in_ok-all.ensures ∙ ap₂ (λ xs ys. xs ++ ys) c.as_slice-3.ensures c.as_slice-4.ensures in
     record {
-      operands = ap length all ∙ words_count m types f words pointer _ _ _ _ passes c.in_ok-pointer.ensures;
-      suits = ((points_grows m g.met.B.Bindgen.sound (result_shape types f) pointer _ _ c.in_ok-pointer.ensures).0.imports ∙ passes.grows.imports ∙ c.requires.serves, c.requires.well, c.requires.within);
+      operands = ap length all ∙ words_count m types f words pointer _ _ _ _ passes c.in_ok-pointer.ensures.points;
+      suits = ((points_grows m g.met.B.Bindgen.sound (result_shape types f) pointer _ _ c.in_ok-pointer.ensures.points).0.imports ∙ passes.grows.imports ∙ c.requires.serves, c.requires.well, c.requires.within);
     }
 
 pub returns : goal.returns
@@ -77,8 +82,24 @@ returns g c =
     let back = c.in_ok-answer.answer in
     let given = c.in_ok-given.given in
     let same : c.as_slice-2.result.now ≡ map (λ (p : Param). p.ty) f.params = c.as_slice-2.ensures ∙ c.in_ok-tys.ensures ∙ ap (map (λ (p : Param). p.ty)) c.as_slice.ensures in
-    let passes = subst (λ (tys : List WitType). PassesArguments m (shapes_of types tys) words c.args.bindgen.now c.pass_arguments.new.bindgen) same c.in_ok-words.ensures in
+    let passes = subst (λ (tys : List WitType). PassesArguments m (shapes_of types tys) words c.args.bindgen.now c.pass_arguments.new.bindgen) same c.in_ok-words.ensures.passes in
     let all : c.in_ok-all.all ≡ words ++ pointer = c.in_ok-all.ensures ∙ ap₂ (λ xs ys. xs ++ ys) c.as_slice-3.ensures c.as_slice-4.ensures in
     let called = subst (λ (os : List _). Emits m types (CallWasm c.args.func) os back c.point_at_result.new.bindgen c.send.new.bindgen) all c.in_ok-answer.ensures in
-    let reads = subst (λ (os : List _). ReadsAnswer m (result_shape types f) os back given c.send.new.bindgen c.read_answer.new.bindgen) c.as_slice-5.ensures c.in_ok-given.ensures in
-    calls_import m g.met.B.Bindgen.sound types c.args.func _ _ _ _ _ _ words pointer back given _ c.in_ok-count.count passes c.in_ok-pointer.ensures called reads c.in_ok-send.ensures
+    let reads = subst (λ (os : List _). ReadsAnswer m (result_shape types f) os back given c.send.new.bindgen c.read_answer.new.bindgen) c.as_slice-5.ensures c.in_ok-given.ensures.reads in
+    let count : c.in_ok-count.count ≡ length (option_to_list f.result) = c.in_ok-count.ensures ∙ c.len.ensures ∙ given_count m types (result_shape types f) pointer back given _ _ reads ∙ count_mapped (shape_of types) f.result in
+    let end = sends (Return (length (option_to_list f.result))) ∷ [] in
+    let one = c.pass_arguments.new.bindgen in
+    let two = c.point_at_result.new.bindgen in
+    let three = c.send.new.bindgen in
+    let four = c.read_answer.new.bindgen in
+    let five = c.send-2.new.bindgen in
+    let passed = sends_as m types (pass_code types c.as_slice-2.result.now) (pass_code types (map (λ (p : Param). p.ty) f.params)) c.args.bindgen.now one (ap (pass_code types) (sym same)) c.in_ok-words.ensures.sends in
+    let last = sends_as m types (sends (Return c.in_ok-count.count) ∷ []) end four five (ap (λ n. sends (Return n) ∷ []) (sym count)) (sends_one m types (Return c.in_ok-count.count) given _ four five c.in_ok-send.ensures) in
+    let args = pass_code types (map (λ (p : Param). p.ty) f.params) in
+    let called_so = sends_then m types (CallWasm c.args.func) (words ++ pointer) back (read_code types f.result) two three four called c.in_ok-given.ensures.sends in
+    let asked = sends_both m types args (point_code types f.result) c.args.bindgen.now one two passed c.in_ok-pointer.ensures.sends in
+    let read = sends_both m types (args ++ point_code types f.result) (sends (CallWasm c.args.func) ∷ read_code types f.result) c.args.bindgen.now two four asked called_so in
+    record {
+      calls = calls_import m g.met.B.Bindgen.sound types c.args.func _ _ _ _ _ _ words pointer back given _ c.in_ok-count.count passes c.in_ok-pointer.ensures.points called reads c.in_ok-send.ensures;
+      sends = sends_both m types (args ++ point_code types f.result ++ (sends (CallWasm c.args.func) ∷ read_code types f.result)) end c.args.bindgen.now four five read last;
+    }

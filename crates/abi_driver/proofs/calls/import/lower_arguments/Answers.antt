@@ -1,11 +1,13 @@
-use Rattle.std.proofs.Common.{◌<◌, ◌≤◌, [], ◌∷◌, ◌++◌, length, get_or, sym, subst, ap, ◌∙◌, arith}
+use Rattle.std.proofs.Common.{◌<◌, ◌≤◌, [], ◌∷◌, ◌++◌, length, get_or, false, sym, subst, ap, ◌∙◌, arith}
 use Rattle.std.specs.Prelude.{IfSome}
 use Rattle.std.proofs.lemmas.List.{drop_more}
 use Rattle.wit_model.specs.declared.types.WitType.TheVariants as wit
 use Rattle.abi_driver.specs.declared.instruction.Instruction.TheVariants as instruction
+use Rattle.abi_driver.specs.Code.{lower_code, sends}
 use Rattle.abi_driver.specs.Instructions.{Emits}
 use Rattle.abi_driver.proofs.ArgumentSteps.{rest_last, rest_next, within_count}
 use Rattle.abi_driver.proofs.Runs.{adds_both}
+use Rattle.abi_driver.proofs.SendSteps.{sends_last, sends_next, sends_then}
 use Rattle.abi_driver.proofs.calls.import.lower_arguments.Goals as goal
 
 pub argument-requires : goal.argument-requires
@@ -23,6 +25,7 @@ loop-i-preserved g c =
     let read = subst (λ n. Emits m types (instruction.GetArg n) [] (c.in_ok-value.value ∷ []) c.loop-i.bindgen c.argument.new.bindgen) c.in_ok-number.ensures c.in_ok-value.ensures in
     record {
       adds = adds_both m _ _ _ c.loop-i.invariant.adds (adds_both m _ _ _ c.in_ok-value.ensures.adds c.in_ok-words.ensures.lowers.adds);
+      sent = sends_next m types (λ n ty. sends (instruction.GetArg n) ∷ lower_code types false ty) c.args.tys.now c.loop-i.i wit.Bool _ _ _ short c.loop-i.invariant.sent (sends_then m types (instruction.GetArg c.loop-i.i) _ _ _ _ _ _ read c.in_ok-words.ensures.sends);
       rest = rest_next m g.met.B.Bindgen.sound types c.args.tys.now c.loop-i.i c.loop-i.all.items c.in_ok-words.words c.push_copies.new.all.items _ _ _ _ (get_or c.args.tys.now c.loop-i.i wit.Bool) c.in_ok-value.value
           (drop_more c.args.tys.now c.loop-i.i wit.Bool short) read c.in_ok-words.ensures.lowers (c.in_ok-push_copies.ensures ∙ ap (λ os. c.loop-i.all.items ++ os) c.as_slice.ensures) c.loop-i.invariant.rest;
     }
@@ -30,5 +33,10 @@ loop-i-preserved g c =
 pub returns : goal.returns
 returns g c =
     let m = g.B.Bindgen.meaning in
-    let ended : length c.args.tys.now ≤ c.loop-i.i = omega (arith, c.loop-i-test.false) in
-    rw c.from_vec.ensures (rest_last m g.met.B.Bindgen.sound c.args.resolve.now.types c.args.tys.now c.loop-i.i c.loop-i.all.items _ _ ended c.loop-i.invariant.rest)
+    let types = c.args.resolve.now.types in
+    let tys = c.args.tys.now in
+    let ended : length tys ≤ c.loop-i.i = omega (arith, c.loop-i-test.false) in
+    record {
+      lowers = rw c.from_vec.ensures (rest_last m g.met.B.Bindgen.sound types tys c.loop-i.i c.loop-i.all.items _ _ ended c.loop-i.invariant.rest);
+      sends = sends_last m types (λ n ty. sends (instruction.GetArg n) ∷ lower_code types false ty) tys c.loop-i.i _ _ ended c.loop-i.invariant.sent;
+    }

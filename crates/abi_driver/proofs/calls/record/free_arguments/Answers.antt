@@ -1,10 +1,15 @@
-use Rattle.std.proofs.Common.{◌≡◌, ◌^◌, true, nat_lt, List, sym, subst}
+use Rattle.std.proofs.Common.{◌≡◌, ◌<◌, ◌^◌, true, nat_lt, List, [], ◌∷◌, sym, ap₂, subst}
 use Rattle.std.proofs.lemmas.Bool.{ltb-true}
 use Rattle.wit_layout.specs.Sizes.{elem_size}
 use Rattle.wit_layout.specs.Told.{IsPairOf}
-use Rattle.abi_driver.specs.declared.instruction.Instruction.TheVariants.{GuestDeallocate}
-use Rattle.abi_driver.specs.Instructions.{Emits}
+use Rattle.wit_layout.specs.Tree.{record_of}
+use Rattle.wrapper_meaning.specs.Shape.Shape.{fields}
+use Rattle.abi_driver.specs.declared.instruction.Instruction.TheVariants.{GetArg, GuestDeallocate}
+use Rattle.abi_driver.specs.Code.{free_block_code, sends}
+use Rattle.abi_driver.specs.Instructions.{Emits, shapes_of}
+use Rattle.abi_driver.proofs.AreaAsked.{record_told}
 use Rattle.abi_driver.proofs.RecordPlaces.{record_layout}
+use Rattle.abi_driver.proofs.SendSteps.{sends_as, sends_one, sends_then}
 use Rattle.abi_driver.proofs.calls.record.free_arguments.Goals as goal
 
 pub returns : goal.returns
@@ -16,14 +21,22 @@ returns g c =
     let same = record_layout m.width types tys in
     let size = c.record_of-align.result.0 in
     let align = c.record_of-align.result.1 in
+    let told = record_told (fields (shapes_of types tys)) (record_of types tys) size align same (c.record_of-align.ensures.size types filled) (c.record_of-align.ensures.align types filled) in
+    let code : free_block_code (fields (shapes_of types tys)) ≡ sends (GetArg 0) ∷ sends (GuestDeallocate size align) ∷ [] = ap₂ (λ x y. sends (GetArg 0) ∷ sends (GuestDeallocate x y) ∷ []) (sym told.0) (sym told.1) in
+    let freed = subst (λ (os : List _). Emits m types (GuestDeallocate size align) os c.in_ok-_none._none c.argument.new.bindgen c.send.new.bindgen) c.in_ok-operands.ensures c.in_ok-_none.ensures in
     record {
-      size = size;
-      align = align;
-      sized = subst (λ l. IsPairOf size (λ w. elem_size w l)) same (c.record_of-align.ensures.size types filled);
-      bounded = ltb-true _ _ (subst (λ l. nat_lt (elem_size 3 l) (2 ^ 31) ≡ true) same (sym (c.if-not-fits_in_record.ensures.record types filled)));
-      address = c.in_ok-address.address;
-      none = c.in_ok-_none._none;
-      middle = c.argument.new.bindgen;
-      reads = c.in_ok-address.ensures;
-      frees = subst (λ (os : List _). Emits m types (GuestDeallocate size align) os c.in_ok-_none._none c.argument.new.bindgen c.send.new.bindgen) c.in_ok-operands.ensures c.in_ok-_none.ensures;
+      frees = record {
+        size = size;
+        align = align;
+        sized = subst (λ l. IsPairOf size (λ w. elem_size w l)) same (c.record_of-align.ensures.size types filled);
+        bounded = ltb-true _ _ (subst (λ l. nat_lt (elem_size 3 l) (2 ^ 31) ≡ true) same (sym (c.if-not-fits_in_record.ensures.record types filled)));
+        address = c.in_ok-address.address;
+        none = c.in_ok-_none._none;
+        middle = c.argument.new.bindgen;
+        reads = c.in_ok-address.ensures;
+        frees = freed;
+      };
+      sends = sends_as m types (sends (GetArg 0) ∷ sends (GuestDeallocate size align) ∷ []) (free_block_code (fields (shapes_of types tys))) c.args.bindgen.now c.send.new.bindgen code
+          (sends_then m types (GetArg 0) [] (c.in_ok-address.address ∷ []) (sends (GuestDeallocate size align) ∷ []) c.args.bindgen.now c.argument.new.bindgen c.send.new.bindgen c.in_ok-address.ensures
+          (sends_one m types (GuestDeallocate size align) (c.in_ok-address.address ∷ []) c.in_ok-_none._none c.argument.new.bindgen c.send.new.bindgen freed));
     }
