@@ -58,7 +58,7 @@ ask size align = asks (record { size = size; align = align }) ∷ []
 
 lowered : lower_code types false (id 1) ≡ all (i.RecordLower (record { 0 = 1 }) ∷ i.I32FromU16 ∷ i.RecordLower (record { 0 = 0 }) ∷ i.I32FromU8 ∷ i.StringLower false ∷ i.CoreF64FromF64 ∷ [])
 unfolding lower_code made types record_of of_kind id all
-lowered = refl {a = 0}
+lowered = refl
 
 -- by its other name
 lifted : lift_code types (id 3) ≡ all (i.U16FromI32 ∷ i.U8FromI32 ∷ i.StringLift ∷ i.RecordLift (record { 0 = 0 }) ∷ i.F64FromCoreF64 ∷ i.RecordLift (record { 0 = 1 }) ∷ [])

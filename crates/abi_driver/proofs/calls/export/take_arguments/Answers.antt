@@ -1,4 +1,4 @@
-use Rattle.std.proofs.Common.{◌≡◌, ◌<◌, length, if◌then◌else◌, [], ◌∷◌, refl, sym, ap, ◌∙◌, subst, arith}
+use Rattle.std.proofs.Common.{◌≡◌, length, if◌then◌else◌, [], ◌∷◌, refl, sym, ap, ◌∙◌, subst, arith}
 use Rattle.wit_model.specs.declared.wasm_type.WasmType.TheVariants as wasm
 use Rattle.wit_model.proofs.WellFormedLemmas.{types_go_down}
 use Rattle.wrapper_meaning.specs.Represents.{param_words}

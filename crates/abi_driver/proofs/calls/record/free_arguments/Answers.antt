@@ -1,4 +1,4 @@
-use Rattle.std.proofs.Common.{◌≡◌, ◌<◌, ◌^◌, true, nat_lt, List, [], ◌∷◌, sym, ap₂, subst}
+use Rattle.std.proofs.Common.{◌≡◌, ◌^◌, true, nat_lt, List, [], ◌∷◌, sym, ap₂, subst}
 use Rattle.std.proofs.lemmas.Bool.{ltb-true}
 use Rattle.wit_layout.specs.Sizes.{elem_size}
 use Rattle.wit_layout.specs.Told.{IsPairOf}

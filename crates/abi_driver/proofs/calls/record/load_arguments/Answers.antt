@@ -15,8 +15,8 @@ returns g c =
     let many : c.in_ok-count.count ≡ length tys = c.in_ok-count.ensures ∙ c.len.ensures ∙ c.in_ok-parts.ensures.count in
     let freed = free_block_code (fields (shapes_of types tys)) in
     let later =
-        sends_as m types (sends (Flush c.in_ok-count.count) ∷ freed) (sends (Flush (length tys)) ∷ freed) c.load_at.new.bindgen c.free_arguments.new.bindgen (ap (λ n. sends (Flush n) ∷ freed) (sym many))
-        (sends_then m types (Flush c.in_ok-count.count) c.in_ok-parts.parts c.in_ok-values.values freed c.load_at.new.bindgen c.send.new.bindgen c.free_arguments.new.bindgen c.in_ok-values.ensures c.in_ok-free_arguments.ensures.sends)
+    sends_as m types (sends (Flush c.in_ok-count.count) ∷ freed) (sends (Flush (length tys)) ∷ freed) c.load_at.new.bindgen c.free_arguments.new.bindgen (ap (λ n. sends (Flush n) ∷ freed) (sym many))
+    (sends_then m types (Flush c.in_ok-count.count) c.in_ok-parts.parts c.in_ok-values.values freed c.load_at.new.bindgen c.send.new.bindgen c.free_arguments.new.bindgen c.in_ok-values.ensures c.in_ok-free_arguments.ensures.sends)
     in
     record {
       takes = record {
