@@ -29,9 +29,9 @@ pub(crate) struct Lifted<O> {
 
 /// The parts that were made of words, and where those behind them begin.
 #[derive(Drop)]
-pub(crate) struct LiftedParts<O> {
-    pub(crate) parts: List<O>,
-    pub(crate) next: usize,
+struct LiftedParts<O> {
+    parts: List<O>,
+    next: usize,
 }
 
 /// What denotes the value that some core words represent, one operand for each word. What the words own is taken over.
@@ -133,10 +133,9 @@ fn lift_id<B: Bindgen>(
     }
 }
 
-/// The parts of a value whose type stands at a place of the table, of the words from a place on; or values of any types of the table,
-/// where that is the place behind it.
+/// The parts of a value whose type stands at a place of the table, of the words from a place on.
 #[cycle(lift)]
-pub(crate) fn lift_parts<B: Bindgen>(
+fn lift_parts<B: Bindgen>(
     alloc: Global,
     resolve: &Resolve,
     bindgen: &mut B,
