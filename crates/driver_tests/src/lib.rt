@@ -2,8 +2,6 @@
 #![tactic(auto)]
 
 #[cfg(test)]
-mod area;
-#[cfg(test)]
 mod calls;
 #[cfg(test)]
 mod flat;

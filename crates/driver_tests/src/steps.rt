@@ -105,20 +105,3 @@ pub(crate) fn are(places: &[Place], numbers: &[u32]) -> bool {
     }
     true
 }
-
-/// Whether the step at a place calls a core import with these words.
-pub(crate) fn calls_with(steps: &[Step], at: usize, words: &[u32]) -> bool {
-    if at >= steps.len() {
-        return false;
-    }
-    match &steps[at] {
-        Step::Call {
-            core_module: _,
-            name: _,
-            from,
-            result: _,
-            to: _,
-        } => are(from.as_slice(), words),
-        _ => false,
-    }
-}
