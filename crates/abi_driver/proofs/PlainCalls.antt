@@ -181,7 +181,7 @@ module _ (types : List TypeDef) (old new : PlainBindgen) where
     asked = refl;
     blocks = refl;
     results = len;
-    row = λ ds w f others s0 s at. (s, at.done, (ofs plain_meaning os ds, refl, record { account = refl; owns = λ g. refl; denotes = at.holds }));
+    row = λ ds many w f others s0 s at. (s, at.done, (ofs plain_meaning os ds, refl, record { account = refl; owns = λ g. refl; denotes = at.holds }));
   }))
 
   -- what is given is noted, and no step is added

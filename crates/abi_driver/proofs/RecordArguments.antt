@@ -3,6 +3,7 @@ use Rattle.std.proofs.Common.{◌≡◌, ◌⊎◌, ◌≤◌, ◌<◌, ℕ, zer
 use Rattle.std.specs.List.{list_any}
 use mathlib.Core.Logic.{inl, inr}
 use Rattle.std.proofs.lemmas.Bool.{cond-false, eq-eqb, eqb-true, le-ltb, or_from, or_left, or_parts, or_right, true≢false}
+use Rattle.std.proofs.lemmas.List.{length-map}
 use Rattle.std.proofs.lemmas.List.Folds.{list_any-append}
 use Rattle.wit_model.specs.Size.{bytes_at}
 use Rattle.wit_model.specs.declared.size.ArchitectureSize.{ArchitectureSize}
@@ -32,13 +33,14 @@ use Rattle.abi_driver.specs.Exports.{FreesArguments, TakesArgumentsOver, TakesRe
 use Rattle.abi_driver.specs.Frees.{nowhere}
 use Rattle.abi_driver.specs.Laws.{Adds, After, At, Facts, Sound, args, core_data, item_data, ofs}
 use Rattle.abi_driver.specs.Lifts.{AreFree, LiftsArguments, MayTake, by_taking, took}
-use Rattle.abi_driver.specs.Meaning.{Meaning, arg, of, word}
+use Rattle.abi_driver.specs.Meaning.{Meaning, arg, item, of, word}
 use Rattle.abi_driver.specs.Memory.{except, freed, freeing}
 use Rattle.abi_driver.specs.Parts.{PartsStand, count}
 use Rattle.abi_driver.specs.Places.{HavePlaces}
 use Rattle.abi_driver.specs.Touches.{reached}
 use Rattle.abi_driver.proofs.Done.{does_done}
 use Rattle.abi_driver.proofs.Freeing.{without_formed}
+use Rattle.abi_driver.proofs.LiftSteps.{stand_count}
 use Rattle.abi_driver.proofs.RecordPlaces.{at_width}
 use Rattle.abi_driver.proofs.Replaced.{IsSized, is_sized, split}
 use Rattle.abi_driver.proofs.Runs.{adds_both, total-append}
@@ -229,7 +231,8 @@ module _ {Self Operand : Type 0} (m : Meaning Self Operand) (sound : Sound m) (t
       named : Named
       named =
           let at3 : At m w p h.two h.three (ofs m h.parts (item_data m loaded.vals) ++ (argument ++ others)) s0 loaded.state = record { serves = frees_adds.grows.serves w at.serves; done = loaded.done; holds = loaded.denotes } in
-          let three = h.renames.row (item_data m loaded.vals) w p (argument ++ others) s0 loaded.state at3 in
+          let as_many : length (item_data m loaded.vals) ≡ length h.parts = length-map loaded.vals (λ a. item a) ∙ stand_count m sound types ts (all_settled ts us) loaded.vals inner loaded.stands ∙ sym h.counted in
+          let three = h.renames.row (item_data m loaded.vals) as_many w p (argument ++ others) s0 loaded.state at3 in
           let moved : m.denotes w h.three (argument ++ (made ++ others)) three.0 = sound.swap w h.three made argument others three.0 (subst (λ fs. m.denotes w h.three (fs ++ (argument ++ others)) three.0) three.2.1 three.2.2.denotes) in
           let at4 : At m w p h.three h.frees.middle (argument ++ (made ++ others)) s0 three.0 = record { serves = h.frees.frees.adds.grows.serves w at.serves; done = three.1; holds = moved } in
           let four = h.frees.reads.row (word (core.Pointer blk.address)) w p (made ++ others) s0 three.0 at4 in

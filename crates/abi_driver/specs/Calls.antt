@@ -123,11 +123,11 @@ module _ {Self Operand : Type 0} (m : Meaning Self Operand) where
 
   -- new operands denote what the operands did
   abbrev pub Renames : (os rs : List Operand) → (old new : Self) → Type 0
-  Renames os rs old new = (ds : Data m) → Stays m old new (ofs m os ds) (λ fs. fs ≡ ofs m rs ds)
+  Renames os rs old new = (ds : Data m) → length ds ≡ length os → Stays m old new (ofs m os ds) (λ fs. fs ≡ ofs m rs ds)
 
   -- the operands are what the code gives, and denote what they did
   abbrev pub Ends : (os : List Operand) → (old new : Self) → Type 0
-  Ends os old new = Renames os os old new
+  Ends os old new = (ds : Data m) → Stays m old new (ofs m os ds) (λ fs. fs ≡ ofs m os ds)
 
 abbrev pub is_return : Instruction → Bool
 is_return (Return n) = true

@@ -102,6 +102,7 @@ module _ {Self Operand : Type 0} (m : Meaning Self Operand) where
   pub record TakesRecordOver (types : List TypeDef) (ts : Shapes) (values : List Operand) (old new : Self) : Type 0 where
     pub address : Operand
     pub parts : List Operand
+    pub counted : length parts ≡ count ts
     pub many : length values ≡ count ts
     pub number : ℕ
     pub one : Self

@@ -22,6 +22,7 @@ returns g c =
       takes = record {
         address = c.in_ok-address.address;
         parts = c.in_ok-parts.parts;
+        counted = c.in_ok-parts.ensures.count ∙ sym (count-shapes types tys);
         many = c.in_ok-values.ensures.results ∙ many ∙ sym (count-shapes types tys);
         number = c.in_ok-count.count;
         one = c.argument.new.bindgen;
