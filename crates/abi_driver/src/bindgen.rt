@@ -59,10 +59,10 @@ pub trait Bindgen {
     fn push_block(&mut self) -> Result<(), OutOfMemory>
         ensures { OnOk result (Pushes meaning self.old self.new) };
 
-    /// Closes the innermost open block with these results, and resumes the code before it. The operands are used up.
+    /// Closes the innermost open block with these results, and resumes the code before it. The operands are used up. Where no block is
+    /// open, nothing is promised.
     fn finish_block(&mut self, operands: &mut List<Self::Operand>) -> Result<(), OutOfMemory>
-        requires { IsOpen meaning self.old }
-        ensures { OnOk result (Finishes meaning operands.old self.old self.new) };
+        ensures { IsOpen meaning self.old → OnOk result (Finishes meaning operands.old self.old self.new) };
 
     /// What denotes the address of the return area, which has this size and alignment at least. The area of an import stands when its
     /// code begins, and that of an export is placed when it is first asked for.
