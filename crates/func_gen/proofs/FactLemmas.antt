@@ -1,0 +1,162 @@
+-- When a fact is right, and that it stays so where more names are known.
+use Rattle.std.proofs.Common.{◌≡◌, ℕ, ◌+◌, ◌≤◌, Bool, true, false, cond, ◌&&◌, List, [], ◌∷◌, ◌++◌, Option, None, Some, refl, sym, ap, ap₂, ◌∙◌, subst, arith}
+use Rattle.std.specs.Prelude.{nat_eq, option_and_then, slice_get}
+use Rattle.std.specs.Coded.{Coded, coded_option}
+use Rattle.std.proofs.lemmas.Bool.{and_parts, and_from}
+use Rattle.std.proofs.lemmas.Bool.Decides.{nat_tests}
+use Rattle.std.specs.Str.{bytes_eq}
+use base.Stored.{Gv, gnil, gnum, gcons}
+use Rattle.rust_tree.specs.declared.item.Item.{Item}
+use Rattle.wit_model.specs.Bytes.{Bytes}
+use Rattle.wrapper_data.specs.contracts.value.RustValue as rust
+use Rattle.wrapper_data.specs.declared.value.RustValue.{RustValue}
+use Rattle.wrapper_data.specs.declared.word.Word.{Word}
+use Rattle.wrapper_meaning.specs.Items.{total}
+use Rattle.wrapper_values.specs.contracts.state.Val as vals
+use Rattle.wrapper_values.specs.declared.state.Val.{Val}
+use Rattle.wrapper_values.specs.declared.state.Val.TheVariants as val
+use Rattle.wrapper_values.specs.Effect.{rust_of}
+use Rattle.abi_driver.specs.Meaning.{Datum, Fact, word, item, of, arg}
+use Rattle.func_gen.specs.declared.function_bindgen.ParamSite.{ParamSite}
+use Rattle.func_gen.specs.declared.operand.ExprOperand.{ExprOperand}
+use Rattle.func_gen.specs.Facts.{fact_datum, fact_value, gv_eq, matches, same, wrong}
+use Rattle.func_gen.specs.Read.{Env, Under, less, less_is_under, read}
+
+-- 1. The test of codes
+
+gv_true : (a b : Gv) → gv_eq a b ≡ true → a ≡ b
+gv_true gnil gnil h = refl
+gv_true gnil (gnum n) h = absurd cc
+gv_true gnil (gcons c d) h = absurd cc
+gv_true (gnum n) gnil h = absurd cc
+gv_true (gnum n) (gnum k) h = let e : n ≡ k = grind (arith, nat_tests) in ap gnum e
+gv_true (gnum n) (gcons c d) h = absurd cc
+gv_true (gcons a b) gnil h = absurd cc
+gv_true (gcons a b) (gnum n) h = absurd cc
+gv_true (gcons a b) (gcons c d) h = let two = and_parts (gv_eq a c) (gv_eq b d) h in ap₂ gcons (gv_true a c two.0) (gv_true b d two.1)
+
+gv_self : (a : Gv) → gv_eq a a ≡ true
+gv_self gnil = refl
+gv_self (gnum n) = grind (arith, nat_tests)
+gv_self (gcons a b) = and_from (gv_eq a a) (gv_eq b b) (gv_self a) (gv_self b)
+
+same_true : {A : Type 0} (c : Coded A) (x y : A) → same c x y ≡ true → x ≡ y
+unfolding same
+same_true c x y h = c.inj x y (gv_true (c.code x) (c.code y) h)
+
+same_from : {A : Type 0} (c : Coded A) (x y : A) → x ≡ y → same c x y ≡ true
+unfolding same
+same_from c x y e = ap (λ z. gv_eq (c.code z) (c.code y)) e ∙ gv_self (c.code y)
+
+-- 2. Facts
+
+-- what a fact says of the value that is read
+abbrev pub Says : Datum RustValue → Option Val → Type 0
+Says (word x) o = o ≡ Some (val.Word x)
+Says (item r) o = option_and_then rust_of o ≡ Some r
+
+pub matches_says : (d : Datum RustValue) (o : Option Val) → matches d o ≡ true → Says d o
+matches_says (word x) o h = same_true (coded_option vals.the_row.coded) o (Some (val.Word x)) h
+matches_says (item r) o h = same_true (coded_option rust.the_row.coded) (option_and_then rust_of o) (Some r) h
+
+pub says_matches : (d : Datum RustValue) (o : Option Val) → Says d o → matches d o ≡ true
+says_matches (word x) o h = same_from (coded_option vals.the_row.coded) o (Some (val.Word x)) h
+says_matches (item r) o h = same_from (coded_option rust.the_row.coded) (option_and_then rust_of o) (Some r) h
+
+-- a weight is 0 or 1
+pub wrong_none : (b : Bool) → b ≡ true → cond {A = ℕ} b 0 1 ≡ 0
+wrong_none b e = ap (λ x. cond {A = ℕ} x 0 1) e
+
+none_wrong : (b : Bool) → cond {A = ℕ} b 0 1 ≡ 0 → b ≡ true
+none_wrong true h = refl
+none_wrong false h = absurd (omega arith)
+
+pub one_at_most : (b : Bool) → cond {A = ℕ} b 0 1 ≤ 1
+one_at_most true = omega arith
+one_at_most false = omega arith
+
+pub less_wrong : (b c : Bool) → (b ≡ true → c ≡ true) → cond {A = ℕ} c 0 1 ≤ cond {A = ℕ} b 0 1
+less_wrong true c h = let e = wrong_none c (h refl) in omega arith
+less_wrong false c h = one_at_most c
+
+module _ (items : List Item) (params : List ParamSite) where
+  pub is_said : (env : Env) (f : Fact ExprOperand RustValue) → wrong items params env f ≡ 0 → Says (fact_datum f) (fact_value items params env f)
+  is_said env f h = matches_says (fact_datum f) (fact_value items params env f) (none_wrong (matches (fact_datum f) (fact_value items params env f)) h)
+
+  pub said : (env : Env) (f : Fact ExprOperand RustValue) → Says (fact_datum f) (fact_value items params env f) → wrong items params env f ≡ 0
+  said env f h = wrong_none (matches (fact_datum f) (fact_value items params env f)) (says_matches (fact_datum f) (fact_value items params env f) h)
+
+  -- a fact that follows from another is wrong no more often
+  pub follows : (env : Env) (f g : Fact ExprOperand RustValue) → (Says (fact_datum f) (fact_value items params env f) → Says (fact_datum g) (fact_value items params env g)) → wrong items params env g ≤ wrong items params env f
+  follows env f g from =
+      less_wrong (matches (fact_datum f) (fact_value items params env f)) (matches (fact_datum g) (fact_value items params env g))
+      (λ h. says_matches (fact_datum g) (fact_value items params env g) (from (matches_says (fact_datum f) (fact_value items params env f) h)))
+
+  -- 3. More names
+
+  -- what is read is read where more names are known
+  value_mono : (a b : Env) → Under a b → (f : Fact ExprOperand RustValue) (v : Val) → fact_value items params a f ≡ Some v → fact_value items params b f ≡ Some v
+  value_mono a b u (of e d) v h = (read items e.expr).mono a b u v h
+  value_mono a b u (arg n d) v h = go (slice_get params n) h
+    where
+      go : (o : Option ParamSite) → option_and_then (λ p. (read items p.operand.expr).at a) o ≡ Some v → option_and_then (λ p. (read items p.operand.expr).at b) o ≡ Some v
+      go None k = absurd cc
+      go (Some p) k = (read items p.operand.expr).mono a b u v k
+
+  says_mono : (d : Datum RustValue) (o p : Option Val) → ((v : Val) → o ≡ Some v → p ≡ Some v) → Says d o → Says d p
+  says_mono (word x) o p h k = h (val.Word x) k
+  says_mono (item r) None p h k = absurd cc
+  says_mono (item r) (Some v) p h k = ap (option_and_then rust_of) (h v refl) ∙ k
+
+  wrong_mono : (a b : Env) → Under a b → (f : Fact ExprOperand RustValue) → wrong items params b f ≤ wrong items params a f
+  wrong_mono a b u f =
+      less_wrong (matches (fact_datum f) (fact_value items params a f)) (matches (fact_datum f) (fact_value items params b f))
+      (λ h. says_matches (fact_datum f) (fact_value items params b f) (says_mono (fact_datum f) (fact_value items params a f) (fact_value items params b f) (value_mono a b u f) (matches_says (fact_datum f) (fact_value items params a f) h)))
+
+  pub total_mono : (a b : Env) → Under a b → (fs : List (Fact ExprOperand RustValue)) → total (wrong items params b) fs ≤ total (wrong items params a) fs
+  total_mono a b u [] = omega arith
+  total_mono a b u (f ∷ fs) = omega (arith, wrong_mono a b u f, total_mono a b u fs)
+
+  -- 4. Fewer names
+
+  -- what holds without one name, and without another, holds without both
+  value_meet : (env : Env) (n k : Bytes) (f : Fact ExprOperand RustValue) (v : Val) → fact_value items params (less env n) f ≡ Some v → fact_value items params (less env k) f ≡ Some v → fact_value items params (less (less env n) k) f ≡ Some v
+  value_meet env n k (of e d) v g h = (read items e.expr).meet env n k v g h
+  value_meet env n k (arg i d) v g h = go (slice_get params i) g h
+    where
+      go : (o : Option ParamSite) → option_and_then (λ p. (read items p.operand.expr).at (less env n)) o ≡ Some v → option_and_then (λ p. (read items p.operand.expr).at (less env k)) o ≡ Some v
+          → option_and_then (λ p. (read items p.operand.expr).at (less (less env n) k)) o ≡ Some v
+      go None x y = absurd cc
+      go (Some p) x y = (read items p.operand.expr).meet env n k v x y
+
+  says_meet : (env : Env) (n k : Bytes) (f : Fact ExprOperand RustValue) → Says (fact_datum f) (fact_value items params (less env n) f) → Says (fact_datum f) (fact_value items params (less env k) f) → Says (fact_datum f) (fact_value items params (less (less env n) k) f)
+  says_meet env n k f = by (fact_datum f)
+    where
+      by : (d : Datum RustValue) → Says d (fact_value items params (less env n) f) → Says d (fact_value items params (less env k) f) → Says d (fact_value items params (less (less env n) k) f)
+      by (word x) g h = value_meet env n k f (val.Word x) g h
+      by (item r) g h = go (fact_value items params (less env n) f) refl (fact_value items params (less env k) f) refl g
+        where
+          go : (o : Option Val) → fact_value items params (less env n) f ≡ o → (p : Option Val) → fact_value items params (less env k) f ≡ p → option_and_then rust_of o ≡ Some r → option_and_then rust_of (fact_value items params (less (less env n) k) f) ≡ Some r
+          go None a p b x = absurd cc
+          go (Some v) a None b x = absurd (let z : (let q : Option RustValue = None in q ≡ Some r) = sym (ap (option_and_then rust_of) b) ∙ h in cc)
+          go (Some v) a (Some u) b x =
+              let ev : fact_value items params env f ≡ Some v = value_mono (less env n) env (less_is_under env n) f v a in
+              let eu : fact_value items params env f ≡ Some u = value_mono (less env k) env (less_is_under env k) f u b in
+              let same : u ≡ v = cc in
+              let bv : fact_value items params (less env k) f ≡ Some v = cc in
+              ap (option_and_then rust_of) (value_meet env n k f v a bv) ∙ x
+
+  pub total_meet : (env : Env) (n k : Bytes) (fs : List (Fact ExprOperand RustValue)) → total (wrong items params (less env n)) fs ≡ 0 → total (wrong items params (less (less env n) k)) fs ≤ total (wrong items params (less env k)) fs
+  total_meet env n k [] h = omega arith
+  total_meet env n k (f ∷ fs) h =
+      let here = is_said (less env n) f (omega (arith, h)) in
+      let one = less_wrong (matches (fact_datum f) (fact_value items params (less env k) f)) (matches (fact_datum f) (fact_value items params (less (less env n) k) f))
+          (λ z. says_matches (fact_datum f) (fact_value items params (less (less env n) k) f) (says_meet env n k f here (matches_says (fact_datum f) (fact_value items params (less env k) f) z))) in
+      omega (arith, one, total_meet env n k fs (omega (arith, h)))
+
+pub less_under : (a b : Env) (n : Bytes) → Under a b → Under (less a n) (less b n)
+less_under a b n u k v h = go (bytes_eq k n) h
+  where
+    go : (c : Bool) → cond c None (a k) ≡ Some v → cond c None (b k) ≡ Some v
+    go true e = absurd cc
+    go false e = u k v e

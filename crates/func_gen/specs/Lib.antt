@@ -1,0 +1,5 @@
+pub mod Facts
+pub mod Meaning
+pub mod Operand
+pub mod Read
+pub mod Scope

@@ -1,0 +1,9 @@
+//! Statements of the tree, by instructions.
+#![tactic(auto)]
+
+mod function_bindgen;
+mod operand;
+mod scope;
+
+pub use function_bindgen::{Code, FunctionBindgen, ParamSite};
+pub use operand::ExprOperand;

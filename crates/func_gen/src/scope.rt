@@ -1,0 +1,106 @@
+//! The numbers of a wrapper's locals.
+
+ghost use Rattle.std.specs.Prelude.{◌≡◌, ◌+◌, ◌^◌, ◌<◌, ◌++◌, IfOk, OnOk};
+ghost use Rattle.func_gen.specs.Scope.{Declares, IsLeastFree, is_free, is_used, names_at, numbered};
+
+use std::alloc::Global;
+use wit_model::{List, OutOfMemory, Text};
+
+/// A name that gets a number: what stands before it, and where there are several of one name, which of them it is.
+#[derive(Clone, Copy)]
+pub(crate) struct LocalName<'a> {
+    pub(crate) prefix: &'a str,
+    pub(crate) part: Option<u32>,
+}
+
+/// The names that a wrapper uses so far, and the counter from which the next number is looked for.
+#[derive(Drop)]
+pub(crate) struct Scope {
+    pub(crate) used: List<Text>,
+    pub(crate) next: u32,
+}
+
+/// A name with its number.
+#[tactic(auto, unfolding(crate::specs::Scope::part_mark))]
+pub(crate) fn numbered(alloc: Global, name: LocalName<'_>, t: u32) -> Result<Text, OutOfMemory>
+    ensures { IfOk result (λ text. text ≡ numbered name.entry t) }
+{
+    let mut text = Text::from_str(alloc, name.prefix)?;
+    text.push_number(u64::from(t))?;
+    if let Some(part) = name.part {
+        text.push_str("_")?;
+        text.push_number(u64::from(part))?;
+    }
+    Ok(text)
+}
+
+fn is_used(used: &[Text], name: &Text) -> bool
+    ensures { result ≡ is_used used.now name.now }
+{
+    used.iter().any(|u| u.as_str() == name.as_str())
+}
+
+fn is_free(
+    alloc: Global,
+    used: &[Text],
+    names: &[LocalName<'_>],
+    t: u32,
+) -> Result<bool, OutOfMemory>
+    ensures { IfOk result (λ b. b ≡ is_free used.now names.now t) }
+{
+    for name in names {
+        let text = numbered(alloc, *name, t)?;
+        if is_used(used, &text) {
+            return Ok(false);
+        }
+    }
+    Ok(true)
+}
+
+fn push_names(
+    alloc: Global,
+    used: &mut List<Text>,
+    names: &[LocalName<'_>],
+    t: u32,
+) -> Result<(), OutOfMemory>
+    ensures { OnOk result (used.new ≡ used.old ++ names_at names.now t) }
+{
+    for name in names {
+        used.push(numbered(alloc, *name, t)?)?;
+    }
+    Ok(())
+}
+
+/// The least number, not below the counter, at which none of the names is used. There is no memory also where a `u32`
+/// holds no such number.
+fn free_number(
+    alloc: Global,
+    used: &[Text],
+    next: u32,
+    names: &[LocalName<'_>],
+) -> Result<u32, OutOfMemory>
+    ensures { IfOk result (λ t. IsLeastFree used.now next names.now t × (t + 1 < 2 ^ 32)) }
+{
+    for t in next..u32::MAX {
+        if is_free(alloc, used, names, t)? {
+            return Ok(t);
+        }
+    }
+    Err(OutOfMemory)
+}
+
+impl Scope {
+    /// The number of an operation that declares these names, which are used from then on.
+    pub(crate) fn declare(
+        &mut self,
+        alloc: Global,
+        names: &[LocalName<'_>],
+    ) -> Result<u32, OutOfMemory>
+        ensures { IfOk result (λ t. Declares self.old names.now t self.new) }
+    {
+        let t = free_number(alloc, self.used.as_slice(), self.next, names)?;
+        push_names(alloc, &mut self.used, names, t)?;
+        self.next = t + 1;
+        Ok(t)
+    }
+}
