@@ -1,2 +1,6 @@
 pub mod Evaluated
 pub mod FactLemmas
+pub mod Lasting
+pub mod Quiet
+pub mod RuntimeItems
+pub mod Steps

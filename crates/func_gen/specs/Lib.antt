@@ -1,3 +1,4 @@
+pub mod Added
 pub mod Facts
 pub mod Meaning
 pub mod Operand

@@ -1,0 +1,68 @@
+-- A file may have more runtime items: what served before still does.
+use Rattle.std.proofs.Common.{◌≡◌, Bool, true, false, cond, List, [], ◌∷◌, ◌++◌, Option, None, Some, refl, sym, ap, ◌∙◌, subst, append_assoc, append-nil}
+use Rattle.std.specs.Option.{option_or}
+use Rattle.std.specs.Str.{bytes_eq}
+use Rattle.std.proofs.lemmas.Slice.Eq.{bytes_eq-Decides}
+use Rattle.rust_tree.specs.declared.item.Item.{Item}
+use Rattle.rust_tree.specs.declared.item.Item.TheVariants as item
+use Rattle.rust_tree.specs.declared.runtime_item.RuntimeItem.{RuntimeItem}
+use Rattle.rust_tree.specs.declared.runtime_item.RuntimeItem.TheVariants.{AsI32, AsI64, AsF32, AsF64, AllocCrate, StringType, VecType, BoolLift, CharLift, StringLift, StdAllocModule, CabiDealloc}
+use Rattle.rust_tree.specs.Runtime.{item_name, item_of_name}
+use Rattle.wrapper_run.specs.Places.{area_in}
+use Rattle.wrapper_run.specs.Run.{runtime_item_named}
+use Rattle.wrapper_run.proofs.LocalLemmas.{bytes_eq-same}
+use Rattle.func_gen.specs.Meaning.{Found}
+
+-- an item is told by its name
+named_item : (i : RuntimeItem) → item_of_name (item_name i) ≡ Some i
+unfolding item_name item_of_name
+named_item AsI32 = refl
+named_item AsI64 = refl
+named_item AsF32 = refl
+named_item AsF64 = refl
+named_item AllocCrate = refl
+named_item StringType = refl
+named_item VecType = refl
+named_item BoolLift = refl
+named_item CharLift = refl
+named_item StringLift = refl
+named_item StdAllocModule = refl
+named_item CabiDealloc = refl
+
+abbrev with_item : RuntimeItem → List Item → List Item
+with_item i items = item.Runtime (i ∷ []) ∷ items
+
+still_named : (i j : RuntimeItem) (items : List Item) → runtime_item_named items (item_name j) ≡ Some j → runtime_item_named (with_item i items) (item_name j) ≡ Some j
+still_named i j items h = go (bytes_eq (item_name i) (item_name j)) refl
+  where
+    go : (b : Bool) → bytes_eq (item_name i) (item_name j) ≡ b → option_or (cond b (Some i) None) (runtime_item_named items (item_name j)) ≡ Some j
+    go false e = h
+    go true e = sym (named_item i) ∙ ap item_of_name ((bytes_eq-Decides (item_name i) (item_name j)).0 e) ∙ named_item j
+
+found_with : (i : RuntimeItem) (items : List Item) (parts : List RuntimeItem) → Found items parts → Found (with_item i items) parts
+found_with i items [] h = tt
+found_with i items (j ∷ parts) h = (still_named i j items h.0, found_with i items parts h.1)
+
+found_last : (i : RuntimeItem) (items : List Item) (parts : List RuntimeItem) → Found (with_item i items) parts → Found (with_item i items) (parts ++ i ∷ [])
+found_last i items [] h = (ap (λ b. option_or (cond b (Some i) None) (runtime_item_named items (item_name i))) (bytes_eq-same (item_name i)), tt)
+found_last i items (j ∷ parts) h = (h.0, found_last i items parts h.1)
+
+pub found_left : (items : List Item) (xs ys : List RuntimeItem) → Found items (xs ++ ys) → Found items xs
+found_left items [] ys h = tt
+found_left items (x ∷ xs) ys h = (h.0, found_left items xs ys h.1)
+
+pub found_right : (items : List Item) (xs ys : List RuntimeItem) → Found items (xs ++ ys) → Found items ys
+found_right items [] ys h = h
+found_right items (x ∷ xs) ys h = found_right items xs ys h.1
+
+-- items that have these parts too, and the static area as before
+pub record More (items : List Item) (parts more : List RuntimeItem) : Type 0 where
+  pub all : List Item
+  pub found : Found all (parts ++ more)
+  pub area : area_in all ≡ area_in items
+
+pub has_more : (items : List Item) (parts more : List RuntimeItem) → Found items parts → More items parts more
+has_more items parts [] h = record { all = items; found = subst (Found items) (sym (append-nil parts)) h; area = refl }
+has_more items parts (i ∷ more) h =
+    let later = has_more (with_item i items) (parts ++ i ∷ []) more (found_last i items parts (found_with i items parts h)) in
+    record { all = later.all; found = subst (Found later.all) (append_assoc parts (i ∷ []) more) later.found; area = later.area }

@@ -1,0 +1,18 @@
+-- When statements were added to the code.
+use Rattle.std.specs.Prelude.{◌≡◌, List, ◌++◌}
+use Rattle.rust_tree.specs.declared.runtime_item.RuntimeItem.{RuntimeItem}
+use Rattle.rust_tree.specs.declared.stmt.Stmt.{Stmt}
+use Rattle.func_gen.specs.declared.function_bindgen.FunctionBindgen.{FunctionBindgen}
+
+-- these statements were, which name these items of `_rt`
+pub record Appends (old new : FunctionBindgen) (added : List Stmt) (items : List RuntimeItem) : Type 0 where
+  pub call : new.code.call ≡ old.code.call
+  pub stmts : new.code.stmts ≡ old.code.stmts ++ added
+  pub runtime : new.runtime ≡ old.runtime ++ items
+  pub import : new.import ≡ old.import
+  pub home : new.home ≡ old.home
+  pub area : new.area ≡ old.area
+  pub params : new.params ≡ old.params
+  pub sizes : new.sizes ≡ old.sizes
+  pub asked : new.asked ≡ old.asked
+  pub returned : new.returned ≡ old.returned
