@@ -3,4 +3,5 @@ pub mod FactLemmas
 pub mod Lasting
 pub mod Quiet
 pub mod RuntimeItems
+pub mod Scalars
 pub mod Steps
