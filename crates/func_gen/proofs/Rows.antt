@@ -1,0 +1,168 @@
+-- The rows of instructions that add no statement, and of those that bind one local.
+use Rattle.std.proofs.Common.{◌≡◌, ℕ, ◌+◌, ◌≤◌, Bool, true, false, if◌then◌else◌, List, [], ◌∷◌, ◌++◌, map, Option, None, Some, refl, sym, ap, ◌∙◌, subst, arith}
+use Rattle.std.specs.Prelude.{option_and_then}
+use Rattle.wit_layout.specs.Tree.{Scalar}
+use Rattle.wit_model.specs.Bytes.{Bytes}
+use Rattle.rust_tree.specs.declared.expr.Expr.{Expr}
+use Rattle.rust_tree.specs.declared.expr.Expr.TheVariants as expr
+use Rattle.rust_tree.specs.declared.item.Item.{Item}
+use Rattle.rust_tree.specs.declared.runtime_item.RuntimeItem.{RuntimeItem}
+use Rattle.rust_tree.specs.declared.stmt.Stmt.{Stmt}
+use Rattle.rust_tree.specs.declared.stmt.Stmt.TheVariants as stmt
+use Rattle.wrapper_data.specs.declared.form.Form.TheVariants as form
+use Rattle.wrapper_data.specs.declared.answer.Answer.TheVariants as answer
+use Rattle.wrapper_data.specs.declared.run.Stop.{Stop}
+use Rattle.wrapper_data.specs.declared.run.Stop.TheVariants as stop_of
+use Rattle.wrapper_data.specs.declared.value.RustValue.{RustValue}
+use Rattle.wrapper_meaning.specs.Items.{SameItems, total}
+use Rattle.wrapper_values.specs.declared.state.State.{State}
+use Rattle.wrapper_values.specs.declared.state.Val.{Val}
+use Rattle.wrapper_values.specs.declared.state.Val.TheVariants as val
+use Rattle.wrapper_values.specs.Act as machine
+use Rattle.wrapper_values.specs.Act.{and_then, pure}
+use Rattle.wrapper_values.specs.Effect.{rust_of}
+use Rattle.wrapper_values.specs.Locals.{bind, usable}
+use Rattle.wrapper_values.specs.Owning.{owned}
+use Rattle.wrapper_values.specs.Setting.{Setting}
+use Rattle.wrapper_run.specs.Run.{eval, run_stmts}
+use Rattle.wrapper_run.proofs.LocalLemmas.{reads-new}
+use Rattle.wrapper_run.proofs.StepLemmas.{Quiet, quiet_bind, quiet_pure, quiet_then}
+use Rattle.abi_driver.specs.Account.{Account, Act, Done, Follows, Got, Outcome, Peer, Stopped, Stuck, account_in, stay}
+use Rattle.abi_driver.specs.Laws.{Adds, After, At, Does, Facts, Stays}
+use Rattle.abi_driver.specs.Meaning.{Datum, Fact, arg, item, of, word}
+use Rattle.abi_driver.proofs.Runs.{total-append}
+use Rattle.func_gen.specs.declared.function_bindgen.FunctionBindgen.{FunctionBindgen}
+use Rattle.func_gen.specs.declared.operand.ExprOperand.{ExprOperand}
+use Rattle.func_gen.specs.declared.scope.Scope.{Scope}
+use Rattle.func_gen.specs.Added.{Appends}
+use Rattle.func_gen.specs.Facts.{Hold, fact_datum, fact_value, wrong}
+use Rattle.func_gen.specs.Forms.{operand_of}
+use Rattle.func_gen.specs.Meaning.{File, Found, FuncState, account_of, call_of, func_meaning, owns_of, seen, setting_for}
+use Rattle.func_gen.specs.Read.{Env, Read, env_of, less, read, read_step}
+use Rattle.func_gen.specs.Scope.{is_used}
+use Rattle.func_gen.proofs.Evaluated.{at_read, read-local}
+use Rattle.func_gen.proofs.FactLemmas.{Says, follows}
+use Rattle.func_gen.proofs.Lasting.{Beside, Fresh, SameArea, add_plain, bound_under, denotes_on, lasts, owns_with, part, with_local, within_with}
+use Rattle.func_gen.proofs.RuntimeItems.{found_right}
+use Rattle.func_gen.proofs.Steps.{func_adds, ran, seen_calls}
+
+-- 1. A fact in place of another
+
+pub instead : (items : List Item) (old new : FunctionBindgen) (f g : Fact ExprOperand RustValue) (others : List (Fact ExprOperand RustValue)) (s : State) → new.params ≡ old.params → new.scope ≡ old.scope
+    → ((env : Env) → Says (fact_datum f) (fact_value items old.params env f) → Says (fact_datum g) (fact_value items old.params env g)) → Hold items old (f ∷ others) s → Hold items new (g ∷ others) s
+instead items old new f g others s params scope from d = record {
+  right = let e = ap (λ ps. total (wrong items ps (env_of s)) (g ∷ others)) params in omega (arith, e, d.right, follows items old.params (env_of s) f g (from (env_of s)));
+  apart = λ n owns. let e = ap (λ ps. total (wrong items ps (less (env_of s) n)) (g ∷ others)) params in omega (arith, e, d.apart n owns, follows items old.params (less (env_of s) n) f g (from (less (env_of s) n)));
+  within = λ n free. d.within n (sym (ap (λ (x : Scope). is_used x.used n) scope) ∙ free);
+}
+
+same_area : (old new : FunctionBindgen) (added : List Stmt) (items : List RuntimeItem) → Appends old new added items → SameArea old new
+same_area old new added items a = record { import = a.import; asked = a.asked; name = a.area }
+
+unmoved : (s : State) → Beside s s
+unmoved s = record { heap = refl; taken = refl; place = refl; under = λ n v h. h }
+
+pub quiet_none : (w : Setting) → Quiet (run_stmts w [])
+quiet_none w = quiet_pure tt
+
+-- no statement was added
+module _ (old new : FunctionBindgen) (items : List RuntimeItem) (a : Appends old new [] items) (scope : new.scope ≡ old.scope) where
+  pub none_adds : Adds func_meaning old new
+  none_adds = func_adds old new [] items a quiet_none
+
+  -- such code does nothing, and a fact that follows from another stands in its place
+  pub swapped : (f g : Fact ExprOperand RustValue) (w : File) (p : Peer RustValue) (others : Facts func_meaning) (s0 s : FuncState) → At func_meaning w p old new (f ∷ others) s0 s
+      → ((env : Env) → Says (fact_datum f) (fact_value w.items old.params env f) → Says (fact_datum g) (fact_value w.items old.params env g)) → After func_meaning w new (g ∷ others) [] [] s (record { result = tt {0}; account = account_of s.machine }) s
+  swapped f g w p others s0 s at from = record {
+    account = refl;
+    owns = λ x. refl;
+    denotes = denotes_on w old new (f ∷ others) (g ∷ others) s s.machine (same_area old new [] items a) (unmoved s.machine) at.holds (instead w.items old new f g others s.machine a.params scope from at.holds.hold);
+  }
+
+  pub found_items : (w : File) (p : Peer RustValue) (facts : Facts func_meaning) (s0 s : FuncState) → At func_meaning w p old new facts s0 s → Found w.items items
+  found_items w p facts s0 s at = found_right w.items old.runtime items (subst (Found w.items) a.runtime at.serves.runtime)
+
+  pub swaps : (f g : Fact ExprOperand RustValue) → ((w : File) → Found w.items items → (env : Env) → Says (fact_datum f) (fact_value w.items old.params env f) → Says (fact_datum g) (fact_value w.items old.params env g))
+      → Stays func_meaning old new (f ∷ []) (λ fs. fs ≡ g ∷ [])
+  swaps f g from w p others s0 s at = (s, ran old new [] items a w p (f ∷ others) s0 s at, (g ∷ [], refl, swapped f g w p others s0 s at (from w (found_items w p (f ∷ others) s0 s at))))
+
+  -- the same where the action is a test that is passed, or has no meaning
+  pub tests : (test : Bool) (f g : Fact ExprOperand RustValue) (Outs : Facts func_meaning → Type 0) → (test ≡ true → Outs (g ∷ []))
+      → (test ≡ true → (w : File) → Found w.items items → (env : Env) → Says (fact_datum f) (fact_value w.items old.params env f) → Says (fact_datum g) (fact_value w.items old.params env g))
+      → Does func_meaning (Unit {0}) old new (f ∷ []) (λ p acc. if test then stay acc else Stuck acc) (λ u fs. Outs fs) (λ u. []) (λ u. [])
+  tests true f g Outs outs from w p others s0 s at = (s, ran old new [] items a w p (f ∷ others) s0 s at, (g ∷ [], outs refl, swapped f g w p others s0 s at (from refl w (found_items w p (f ∷ others) s0 s at))))
+  tests false f g Outs outs from w p others s0 s at = ap (λ o. (account_in func_meaning.account o).calls) (ran old new [] items a w p (f ∷ others) s0 s at)
+
+-- 2. One statement, which binds a local
+
+-- what is read depends on the items alone
+abbrev setting_of_items : List Item → Setting
+setting_of_items items = record { items = items; item = 0; answer = answer.Words None [] []; form = form.Debug }
+
+-- what an expression gives agrees with an action that changes nothing
+abbrev pub Agrees : (acc : Account RustValue) → Outcome RustValue (Got RustValue (Unit {0})) → machine.Outcome Val → State → Datum RustValue → Type 0
+Agrees acc (Done x) q s d = (x.account ≡ acc) × ((v : Val) × (q ≡ machine.Done v s) × (owned v ≡ []) × Says d (option_and_then usable (Some v)))
+Agrees acc (Stopped e left) q s d = seen None (and_then q (λ v. pure tt)) ≡ Stopped e left
+Agrees acc (Stuck left) q s d = left.calls ≡ acc.calls
+
+pub quiet_let : (n : Bytes) (e : Expr) → ((w : Setting) → Quiet (eval w e)) → (w : Setting) → Quiet (run_stmts w (stmt.Let n e ∷ []))
+quiet_let n e q w = quiet_then (λ s. and_then (eval w e s) (bind n)) (λ u. pure tt) (quiet_then (eval w e) (bind n) (q w) (λ v. quiet_bind n v)) (λ u. quiet_pure tt)
+
+binds : (w : Setting) (n : Bytes) (e : Expr) (v : Val) (s : State) → eval w e s ≡ machine.Done v s → run_stmts w (stmt.Let n e ∷ []) s ≡ machine.Done tt (with_local s n v)
+unfolding bind
+binds w n e v s h = ap (λ o. and_then (and_then o (bind n)) (λ u. pure tt)) h
+
+stops_early : (at : Option ℕ) (q : machine.Outcome Val) (n : Bytes) (e : Stop) (left : Account RustValue) → seen None (and_then q (λ v. pure tt)) ≡ Stopped e left → seen at (and_then (and_then q (bind n)) (λ u. pure tt)) ≡ Stopped e left
+stops_early at (machine.Done v t) n e left h = absurd cc
+stops_early at (machine.Stopped (stop_of.Stuck k) t) n e left h = absurd cc
+stops_early at (machine.Stopped stop_of.Done t) n e left h = h
+stops_early at (machine.Stopped (stop_of.Refused r) t) n e left h = h
+stops_early at (machine.Stopped (stop_of.Trap k) t) n e left h = h
+stops_early at (machine.Stopped stop_of.BadChoice t) n e left h = h
+
+module _ (old new : FunctionBindgen) (n : Bytes) (e : Expr) (items : List RuntimeItem) (a : Appends old new (stmt.Let n e ∷ []) items) (fresh : Fresh old new n) (quiet : (w : Setting) → Quiet (eval w e)) where
+  pub let_adds : Adds func_meaning old new
+  let_adds = func_adds old new (stmt.Let n e ∷ []) items a (quiet_let n e quiet)
+
+  -- the new local denotes what the expression gave
+  bound : (ins others : Facts func_meaning) (w : File) (s : FuncState) (v : Val) (d : Datum RustValue) → func_meaning.denotes w old (ins ++ others) s → owned v ≡ [] → Says d (option_and_then usable (Some v))
+      → func_meaning.denotes w new (of (operand_of (expr.Local n)) d ∷ others) (record { machine = with_local s.machine n v; area = s.area })
+  bound ins others w s v d h none says =
+      let t = with_local s.machine n v in
+      let free = h.hold.within n fresh.free in
+      let under = bound_under s.machine n v free in
+      let fewer = part w.items old others (ins ++ others) s.machine (λ g. omega (arith, total-append g ins others)) h.hold in
+      let last = lasts w.items old new others s.machine t a.params under (within_with old new n s.machine v fresh h.hold.within) fewer in
+      denotes_on w old new (ins ++ others) (of (operand_of (expr.Local n)) d ∷ others) s t (same_area old new (stmt.Let n e ∷ []) items a) (record { heap = refl; taken = refl; place = refl; under = under }) h
+      (add_plain w.items new others t (operand_of (expr.Local n)) d n v
+        (λ env at. subst (Says d) (sym (ap (λ (r : Read). r.at env) (read-local (setting_of_items w.items) n) ∙ ap (option_and_then usable) at)) says)
+        (reads-new n (Some v) s.machine.locals) none last)
+
+  pub lets : (ins : Facts func_meaning) (act : Peer RustValue → Act RustValue (Unit {0})) (d : Datum RustValue) (Outs : Facts func_meaning → Type 0) → Outs (of (operand_of (expr.Local n)) d ∷ [])
+      → ((w : File) (p : Peer RustValue) (s : State) → Found w.items items → Hold w.items old ins s → Agrees (account_of s) (act p (account_of s)) (eval (setting_for w p) e s) s d)
+      → Does func_meaning (Unit {0}) old new ins act (λ u fs. Outs fs) (λ u. []) (λ u. [])
+  lets ins act d Outs outs agrees w p others s0 s at =
+      let found = found_right w.items old.runtime items (subst (Found w.items) a.runtime at.serves.runtime) in
+      let here = part w.items old ins (ins ++ others) s.machine (λ g. omega (arith, total-append g ins others)) at.holds.hold in
+      go (act p (account_of s.machine)) (agrees w p s.machine found here)
+    where
+      go : (o : Outcome RustValue (Got RustValue (Unit {0}))) → Agrees (account_of s.machine) o (eval (setting_for w p) e s.machine) s.machine d
+          → Follows func_meaning.account o (func_meaning.does w p new.code s0) (λ x t. (fs : Facts func_meaning) × Outs fs × After func_meaning w new (fs ++ others) [] [] s x t)
+      go (Done x) (same, (v, gives, none, says)) =
+          let t = with_local s.machine n v in (
+            record { machine = t; area = s.area },
+            ran old new (stmt.Let n e ∷ []) items a w p (ins ++ others) s0 s at ∙ ap (seen s.area) (binds (setting_for w p) n e v s.machine gives),
+            (
+              of (operand_of (expr.Local n)) d ∷ [],
+              outs,
+              record {
+                account = sym same;
+                owns = λ g. let none_more = ap (total g) none in omega (arith, total-append g (owns_of t) [], total-append g (owns_of s.machine) [], owns_with g s.machine n v, none_more);
+                denotes = bound ins others w s v d at.holds none says;
+              },
+            ),
+          )
+      go (Stopped x left) h = ran old new (stmt.Let n e ∷ []) items a w p (ins ++ others) s0 s at ∙ stops_early s.area (eval (setting_for w p) e s.machine) n x left h
+      go (Stuck left) h =
+          ap (λ o. (account_in func_meaning.account o).calls) (ran old new (stmt.Let n e ∷ []) items a w p (ins ++ others) s0 s at)
+          ∙ seen_calls s.area (run_stmts (setting_for w p) (stmt.Let n e ∷ []) s.machine) ∙ ap (map call_of) ((quiet_let n e quiet (setting_for w p)).quiet s.machine) ∙ sym h
