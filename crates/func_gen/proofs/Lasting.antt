@@ -27,6 +27,7 @@ use Rattle.func_gen.specs.declared.function_bindgen.FunctionBindgen.{FunctionBin
 use Rattle.func_gen.specs.declared.operand.ExprOperand.{ExprOperand}
 use Rattle.func_gen.specs.declared.scope.LocalName.{LocalName}
 use Rattle.func_gen.specs.declared.scope.Scope.{Scope}
+use Rattle.func_gen.specs.Added.{Fresh}
 use Rattle.func_gen.specs.Facts.{AreOwned, Hold, Owns, wrong}
 use Rattle.func_gen.specs.Meaning.{AreaIs, Denote, File, FuncState, owns_of}
 use Rattle.func_gen.specs.Read.{Env, Read, Under, env_of, less, read}
@@ -57,10 +58,6 @@ owns_with f s n v =
     omega (arith, e, total-append f (owns_of s) (flat_map (λ (l : Local). owned_in l.value) (l ∷ [])), total-append f (owned v) [])
 
 -- 2. A name that was free, and is used then
-
-pub record Fresh (old new : FunctionBindgen) (n : Bytes) : Type 0 where
-  pub free : is_used old.scope.used n ≡ false
-  pub used : new.scope.used ≡ old.scope.used ++ n ∷ []
 
 pub declared_one : (old new : FunctionBindgen) (name : LocalName) (t : ℕ) → Declares old.scope (name ∷ []) t new.scope → Fresh old new (numbered name t)
 declared_one old new name t d = record {

@@ -4,5 +4,6 @@ pub mod Lasting
 pub mod Quiet
 pub mod Rows
 pub mod RuntimeItems
+pub mod ScalarRows
 pub mod Scalars
 pub mod Steps

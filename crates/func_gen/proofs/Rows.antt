@@ -1,8 +1,9 @@
 -- The rows of instructions that add no statement, and of those that bind one local.
-use Rattle.std.proofs.Common.{◌≡◌, ℕ, ◌+◌, ◌≤◌, Bool, true, false, if◌then◌else◌, List, [], ◌∷◌, ◌++◌, map, Option, None, Some, refl, sym, ap, ◌∙◌, subst, arith}
+use Rattle.std.proofs.Common.{◌≡◌, ℕ, ◌+◌, ◌≤◌, Bool, true, false, if◌then◌else◌, List, [], ◌∷◌, ◌++◌, map, Option, None, Some, refl, sym, ap, ◌∙◌, subst, arith, append-nil, append_assoc}
 use Rattle.std.specs.Prelude.{option_and_then}
 use Rattle.wit_layout.specs.Tree.{Scalar}
 use Rattle.wit_model.specs.Bytes.{Bytes}
+use Rattle.wit_model.specs.declared.types.TypeDef.{TypeDef}
 use Rattle.rust_tree.specs.declared.expr.Expr.{Expr}
 use Rattle.rust_tree.specs.declared.expr.Expr.TheVariants as expr
 use Rattle.rust_tree.specs.declared.item.Item.{Item}
@@ -28,13 +29,15 @@ use Rattle.wrapper_run.specs.Run.{eval, run_stmts}
 use Rattle.wrapper_run.proofs.LocalLemmas.{reads-new}
 use Rattle.wrapper_run.proofs.StepLemmas.{Quiet, quiet_bind, quiet_pure, quiet_then}
 use Rattle.abi_driver.specs.Account.{Account, Act, Done, Follows, Got, Outcome, Peer, Stopped, Stuck, account_in, stay}
+use Rattle.abi_driver.specs.declared.instruction.Instruction.{Instruction}
+use Rattle.abi_driver.specs.Instructions.{Emits}
 use Rattle.abi_driver.specs.Laws.{Adds, After, At, Does, Facts, Stays}
 use Rattle.abi_driver.specs.Meaning.{Datum, Fact, arg, item, of, word}
 use Rattle.abi_driver.proofs.Runs.{total-append}
 use Rattle.func_gen.specs.declared.function_bindgen.FunctionBindgen.{FunctionBindgen}
 use Rattle.func_gen.specs.declared.operand.ExprOperand.{ExprOperand}
 use Rattle.func_gen.specs.declared.scope.Scope.{Scope}
-use Rattle.func_gen.specs.Added.{Appends}
+use Rattle.func_gen.specs.Added.{Appends, Fresh}
 use Rattle.func_gen.specs.Facts.{Hold, fact_datum, fact_value, wrong}
 use Rattle.func_gen.specs.Forms.{operand_of}
 use Rattle.func_gen.specs.Meaning.{File, Found, FuncState, account_of, call_of, func_meaning, owns_of, seen, setting_for}
@@ -42,7 +45,7 @@ use Rattle.func_gen.specs.Read.{Env, Read, env_of, less, read, read_step}
 use Rattle.func_gen.specs.Scope.{is_used}
 use Rattle.func_gen.proofs.Evaluated.{at_read, read-local}
 use Rattle.func_gen.proofs.FactLemmas.{Says, follows}
-use Rattle.func_gen.proofs.Lasting.{Beside, Fresh, SameArea, add_plain, bound_under, denotes_on, lasts, owns_with, part, with_local, within_with}
+use Rattle.func_gen.proofs.Lasting.{Beside, SameArea, add_plain, bound_under, denotes_on, lasts, owns_with, part, with_local, within_with}
 use Rattle.func_gen.proofs.RuntimeItems.{found_right}
 use Rattle.func_gen.proofs.Steps.{func_adds, ran, seen_calls}
 
@@ -96,7 +99,7 @@ module _ (old new : FunctionBindgen) (items : List RuntimeItem) (a : Appends old
 -- 2. One statement, which binds a local
 
 -- what is read depends on the items alone
-abbrev setting_of_items : List Item → Setting
+abbrev pub setting_of_items : List Item → Setting
 setting_of_items items = record { items = items; item = 0; answer = answer.Words None [] []; form = form.Debug }
 
 -- what an expression gives agrees with an action that changes nothing
@@ -166,3 +169,29 @@ module _ (old new : FunctionBindgen) (n : Bytes) (e : Expr) (items : List Runtim
       go (Stuck left) h =
           ap (λ o. (account_in func_meaning.account o).calls) (ran old new (stmt.Let n e ∷ []) items a w p (ins ++ others) s0 s at)
           ∙ seen_calls s.area (run_stmts (setting_for w p) (stmt.Let n e ∷ []) s.machine) ∙ ap (map call_of) ((quiet_let n e quiet (setting_for w p)).quiet s.machine) ∙ sym h
+
+-- 3. As the operands and the results are
+
+pub emits_as : (types : List TypeDef) (i : Instruction) (os ps rs qs : List ExprOperand) (old new : FunctionBindgen) → os ≡ ps → rs ≡ qs → Emits func_meaning types i ps qs old new → Emits func_meaning types i os rs old new
+emits_as types i os ps rs qs old new e f h = subst (λ xs. Emits func_meaning types i xs rs old new) (sym e) (subst (λ xs. Emits func_meaning types i ps xs old new) (sym f) h)
+
+pub pushed : (old new : List ExprOperand) (e f : Expr) → new ≡ old ++ operand_of e ∷ [] → old ≡ [] → e ≡ f → new ≡ operand_of f ∷ []
+pushed old new e f is none same = is ∙ ap (λ ys. ys ++ operand_of e ∷ []) none ∙ ap (λ x. operand_of x ∷ []) same
+
+pub unchanged : (b : FunctionBindgen) → Appends b b [] []
+unchanged b = record { call = refl; stmts = sym (append-nil b.code.stmts); runtime = sym (append-nil b.runtime); import = refl; home = refl; area = refl; params = refl; sizes = refl; asked = refl; returned = refl }
+
+-- statements and items after others
+pub appends_both : (a b c : FunctionBindgen) (xs ys : List Stmt) (is js : List RuntimeItem) → Appends a b xs is → Appends b c ys js → Appends a c (xs ++ ys) (is ++ js)
+appends_both a b c xs ys is js h k = record {
+  call = k.call ∙ h.call;
+  stmts = k.stmts ∙ ap (λ zs. zs ++ ys) h.stmts ∙ append_assoc a.code.stmts xs ys;
+  runtime = k.runtime ∙ ap (λ zs. zs ++ js) h.runtime ∙ append_assoc a.runtime is js;
+  import = k.import ∙ h.import;
+  home = k.home ∙ h.home;
+  area = k.area ∙ h.area;
+  params = k.params ∙ h.params;
+  sizes = k.sizes ∙ h.sizes;
+  asked = k.asked ∙ h.asked;
+  returned = k.returned ∙ h.returned;
+}

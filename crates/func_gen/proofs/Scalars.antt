@@ -161,7 +161,7 @@ is_core Scalar.f32 = true
 is_core Scalar.f64 = true
 is_core _ = false
 
-abbrev option_some : {A : Type 0} → A → Option A → A
+abbrev pub option_some : {A : Type 0} → A → Option A → A
 option_some a None = a
 option_some a (Some b) = b
 

@@ -1,5 +1,5 @@
 -- The forms that are emitted.
-use Rattle.std.specs.Prelude.{ℕ, false, List, [], ◌∷◌, Option, None, Some, codes}
+use Rattle.std.specs.Prelude.{ℕ, Bool, true, false, List, [], ◌∷◌, Option, None, Some, codes}
 use Rattle.wit_model.specs.Bytes.{Bytes}
 use Rattle.rust_tree.specs.declared.expr.CastType.{CastType}
 use Rattle.rust_tree.specs.declared.expr.CastType.TheVariants as cast
@@ -41,24 +41,20 @@ conversion CoreF32FromF32 = Some AsF32
 conversion CoreF64FromF64 = Some AsF64
 conversion _ = None
 
--- how a word becomes a number: by a cast, or as it is. A bool and a char are lifted
-pub data Reading : Type 0 where
-  as_it_is : Reading
-  by_cast : CastType → Reading
+-- the type that a word is cast to, which becomes a number so
+abbrev pub number_cast : Instruction → Option CastType
+number_cast U8FromI32 = Some cast.U8
+number_cast S8FromI32 = Some cast.I8
+number_cast U16FromI32 = Some cast.U16
+number_cast S16FromI32 = Some cast.I16
+number_cast U32FromI32 = Some cast.U32
+number_cast U64FromI64 = Some cast.U64
+number_cast _ = None
 
-abbrev pub number_reading : Instruction → Option Reading
-number_reading U8FromI32 = Some (by_cast cast.U8)
-number_reading S8FromI32 = Some (by_cast cast.I8)
-number_reading U16FromI32 = Some (by_cast cast.U16)
-number_reading S16FromI32 = Some (by_cast cast.I16)
-number_reading U32FromI32 = Some (by_cast cast.U32)
-number_reading S32FromI32 = Some as_it_is
-number_reading U64FromI64 = Some (by_cast cast.U64)
-number_reading S64FromI64 = Some as_it_is
-number_reading F32FromCoreF32 = Some as_it_is
-number_reading F64FromCoreF64 = Some as_it_is
-number_reading _ = None
-
-abbrev pub read_by : Reading → Expr → Expr
-read_by as_it_is e = e
-read_by (by_cast to) e = expr.Cast e to
+-- a word is a number as it is
+abbrev pub is_kept : Instruction → Bool
+is_kept S32FromI32 = true
+is_kept S64FromI64 = true
+is_kept F32FromCoreF32 = true
+is_kept F64FromCoreF64 = true
+is_kept _ = false

@@ -1,6 +1,9 @@
 //! Statements of the tree, by instructions.
 #![tactic(auto)]
 
+mod added;
+mod emit;
+mod forms;
 mod function_bindgen;
 mod operand;
 mod scope;

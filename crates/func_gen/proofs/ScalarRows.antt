@@ -1,0 +1,239 @@
+-- The rows of scalars.
+use Rattle.std.proofs.Common.{◌≡◌, ℕ, zero, suc, ℤ, pos, negsuc, ◌^◌, Bool, true, false, nat_eq, nat_lt, if◌then◌else◌, List, [], ◌∷◌, ◌++◌, Option, None, Some, refl, sym, ap, ◌∙◌, subst, arith}
+use Rattle.std.specs.Prelude.{option_and_then, Result, Ok, Err, unsigned_abs}
+use Rattle.std.proofs.lemmas.Int.{ints}
+use Rattle.wit_layout.specs.Flat.{core_type}
+use Rattle.wit_layout.specs.Tree.{Scalar}
+use Rattle.wit_model.specs.Bytes.{Bytes}
+use Rattle.wit_model.specs.declared.types.TypeDef.{TypeDef}
+use Rattle.wit_model.specs.declared.types.WitType.TheVariants as wit
+use Rattle.wit_model.specs.declared.wasm_type.WasmType.TheVariants as wasm
+use Rattle.rust_tree.specs.declared.expr.CastType.{CastType}
+use Rattle.rust_tree.specs.declared.expr.CastType.TheVariants as cast
+use Rattle.rust_tree.specs.declared.expr.Expr.{Expr}
+use Rattle.rust_tree.specs.declared.expr.Expr.TheVariants as expr
+use Rattle.rust_tree.specs.declared.item.Item.{Item}
+use Rattle.rust_tree.specs.declared.runtime_item.RuntimeItem.{RuntimeItem}
+use Rattle.rust_tree.specs.declared.runtime_item.RuntimeItem.TheVariants.{AsI32, AsI64, AsF32, AsF64, BoolLift, CharLift}
+use Rattle.rust_tree.specs.declared.stmt.Stmt.TheVariants as stmt
+use Rattle.rust_tree.specs.Runtime.{item_name}
+use Rattle.wrapper_data.specs.declared.form.Form.{Form}
+use Rattle.wrapper_data.specs.declared.form.Form.TheVariants as form
+use Rattle.wrapper_data.specs.declared.run.TrapKind.{TrapKind}
+use Rattle.wrapper_data.specs.declared.run.TrapKind.TheVariants as trap
+use Rattle.wrapper_data.specs.declared.value.RustValue.{RustValue}
+use Rattle.wrapper_data.specs.declared.value.RustValue.TheVariants as value
+use Rattle.wrapper_data.specs.declared.word.Word.{Word}
+use Rattle.wrapper_data.specs.declared.word.Word.TheVariants as core
+use Rattle.wrapper_meaning.specs.AsWords.{IsTaken, passed_word}
+use Rattle.wrapper_meaning.specs.Direction.{take}
+use Rattle.wrapper_meaning.specs.InRange.{IsScalar}
+use Rattle.wrapper_meaning.specs.Numbers.{is_scalar_value, low_bits}
+use Rattle.wrapper_meaning.specs.Numbers as number
+use Rattle.wrapper_meaning.specs.Shape.Shape.{scalar}
+use Rattle.wrapper_meaning.specs.StandsFor.{rust_scalar}
+use Rattle.wrapper_meaning.specs.Value.{ScalarValue}
+use Rattle.wrapper_values.specs.declared.state.State.{State}
+use Rattle.wrapper_values.specs.declared.state.Val.{Val}
+use Rattle.wrapper_values.specs.declared.state.Val.TheVariants as val
+use Rattle.wrapper_values.specs.Act as machine
+use Rattle.wrapper_values.specs.Effect.{bit, bool_of_number, cast_integer, char_of_number, converted, integer_of, is_of_kind, is_unsigned, lift_of, lift_of_number, low, rust_of, rust_of_word}
+use Rattle.wrapper_values.specs.Locals.{usable}
+use Rattle.wrapper_values.specs.Owning.{owned}
+use Rattle.wrapper_values.specs.Setting.{Setting}
+use Rattle.wrapper_run.specs.Run.{apply, call, call_callee, call_runtime, callee, converted_or_lifted, eval, lift_act, of_runtime, runtime_item_named, runtime_module_name}
+use Rattle.wrapper_run.proofs.NumberLemmas.{not-converted, num_of-number, word_of-bool}
+use Rattle.wrapper_run.proofs.QuietSteps.{quiet_bool}
+use Rattle.wrapper_run.proofs.StepLemmas.{Quiet, bool_gives, call_gives, quiet_runtime}
+use Rattle.abi_driver.specs.declared.instruction.Instruction.{Instruction}
+use Rattle.abi_driver.specs.declared.instruction.Instruction.TheVariants.{BoolFromI32, CharFromI32, I32FromBool, I32FromU8, I32FromS8, I32FromU16, I32FromS16, I32FromU32, I32FromS32, I32FromChar, I64FromU64, I64FromS64, CoreF32FromF32, CoreF64FromF64, U8FromI32, S8FromI32, U16FromI32, S16FromI32, U32FromI32, S32FromI32, U64FromI64, S64FromI64, F32FromCoreF32, F64FromCoreF64}
+use Rattle.abi_driver.specs.Account.{Account, Act, Done, Follows, Got, Outcome, Peer, Stuck, checking, failing, has_type, reading, stay}
+use Rattle.abi_driver.specs.Instructions.{Emits, MakesBy, RowBy, lifted_scalar, lowered_scalar}
+use Rattle.abi_driver.specs.Laws.{Adds, After, Facts}
+use Rattle.abi_driver.specs.Leaves.{LiftsScalar, LowersScalar}
+use Rattle.abi_driver.specs.Meaning.{Datum, item, of, word}
+use Rattle.abi_driver.proofs.Ordinary.{code_of, lifts_ordinary, lowers_ordinary, still_returned}
+use Rattle.func_gen.specs.declared.function_bindgen.FunctionBindgen.{FunctionBindgen}
+use Rattle.func_gen.specs.declared.operand.ExprOperand.{ExprOperand}
+use Rattle.func_gen.specs.Added.{Appends, Fresh}
+use Rattle.func_gen.specs.Facts.{Hold}
+use Rattle.func_gen.specs.Forms.{conversion, is_kept, number_cast, operand_of, runtime_call, runtime_name, runtime_path}
+use Rattle.func_gen.specs.Meaning.{File, Found, StandsAsItIs, account_of, answer_of, func_meaning, setting_for}
+use Rattle.func_gen.specs.Operand.{is_operand}
+use Rattle.func_gen.specs.Read.{Env, Read, converts, env_of, on_bare, read}
+use Rattle.func_gen.specs.Read as reader
+use Rattle.func_gen.proofs.Evaluated.{gives, read-call, read-cast}
+use Rattle.func_gen.proofs.FactLemmas.{Says, is_said}
+use Rattle.func_gen.proofs.Quiet.{quiet_cast_of, quiet_operand}
+use Rattle.func_gen.proofs.Rows.{Agrees, let_adds, lets, none_adds, setting_of_items, swaps, tests}
+use Rattle.func_gen.proofs.Scalars.{bool_is, cast_word, conversion_to, converts_scalar, is_number, option_some, scalar_owns, stands_scalar, taken_is, taken_word}
+
+-- 1. What is emitted
+
+pub calls_runtime : (i : RuntimeItem) → callee (runtime_path i) ≡ of_runtime (item_name i)
+unfolding callee runtime_name runtime_module_name
+calls_runtime i = refl
+
+module _ (types : List TypeDef) (old new : FunctionBindgen) (i : Instruction) (s : Scalar) (o r : ExprOperand) where
+  emits_lowered : lowered_scalar i ≡ Some s → Adds func_meaning old new → new.returned ≡ old.returned → LowersScalar func_meaning s (o ∷ []) (r ∷ []) old new → Emits func_meaning types i (o ∷ []) (r ∷ []) old new
+  emits_lowered is adds returned row = record {
+    adds = code_of func_meaning i (lowers_ordinary i s is) old new adds;
+    returned = still_returned func_meaning i (lowers_ordinary i s is) (o ∷ []) old.returned new.returned returned;
+    asked = adds.asked;
+    results = subst (λ x. MakesBy types i x (lifted_scalar i) 1) (sym is) refl;
+    row = subst (λ x. RowBy func_meaning types i x (lifted_scalar i) (o ∷ []) (r ∷ []) old new) (sym is) row;
+  }
+
+  emits_lifted : lowered_scalar i ≡ None → lifted_scalar i ≡ Some s → Adds func_meaning old new → new.returned ≡ old.returned → LiftsScalar func_meaning s (o ∷ []) (r ∷ []) old new → Emits func_meaning types i (o ∷ []) (r ∷ []) old new
+  emits_lifted none is adds returned row = record {
+    adds = code_of func_meaning i (lifts_ordinary i s is) old new adds;
+    returned = still_returned func_meaning i (lifts_ordinary i s is) (o ∷ []) old.returned new.returned returned;
+    asked = adds.asked;
+    results = subst (λ x. MakesBy types i x (lifted_scalar i) 1) (sym none) (subst (λ x. MakesBy types i None x 1) (sym is) refl);
+    row = subst (λ x. RowBy func_meaning types i x (lifted_scalar i) (o ∷ []) (r ∷ []) old new) (sym none) (subst (λ x. RowBy func_meaning types i None x (o ∷ []) (r ∷ []) old new) (sym is) row);
+  }
+
+-- 2. Conversions
+
+pub record Converted (i : Instruction) (function : RuntimeItem) : Type 0 where
+  pub scalar : Scalar
+  pub lowered : lowered_scalar i ≡ Some scalar
+  pub by : conversion_to scalar ≡ Some function
+
+converted_by : (i : Instruction) (function : RuntimeItem) → conversion i ≡ Some function → Converted i function
+converted_by I32FromU8 f e = record { scalar = Scalar.u8; lowered = refl; by = e }
+converted_by I32FromS8 f e = record { scalar = Scalar.s8; lowered = refl; by = e }
+converted_by I32FromU16 f e = record { scalar = Scalar.u16; lowered = refl; by = e }
+converted_by I32FromS16 f e = record { scalar = Scalar.s16; lowered = refl; by = e }
+converted_by I32FromU32 f e = record { scalar = Scalar.u32; lowered = refl; by = e }
+converted_by I32FromS32 f e = record { scalar = Scalar.s32; lowered = refl; by = e }
+converted_by I32FromChar f e = record { scalar = Scalar.char; lowered = refl; by = e }
+converted_by I64FromU64 f e = record { scalar = Scalar.u64; lowered = refl; by = e }
+converted_by I64FromS64 f e = record { scalar = Scalar.s64; lowered = refl; by = e }
+converted_by CoreF32FromF32 f e = record { scalar = Scalar.f32; lowered = refl; by = e }
+converted_by CoreF64FromF64 f e = record { scalar = Scalar.f64; lowered = refl; by = e }
+converted_by _ f e = absurd (let h = e in cc)
+
+-- the call of a conversion on what reads a scalar reads its word
+call_says : (items : List Item) (s : Scalar) (v : ScalarValue s) (f : RuntimeItem) (e : Expr) (env : Env) → conversion_to s ≡ Some f → runtime_item_named items (item_name f) ≡ Some f → IsScalar s v
+    → option_and_then rust_of ((read items e).at env) ≡ Some (rust_scalar s v) → (read items (runtime_call f e)).at env ≡ Some (val.Word (passed_word s v))
+call_says items s v f e env by found good h =
+    let o = (read items e).at env in
+    ap (λ (r : Read). r.at env) (read-call (setting_of_items items) (runtime_path f) (e ∷ [])) ∙ ap (λ c. option_and_then (on_bare (reader.conversion items c)) o) (calls_runtime f)
+    ∙ ap (λ q. option_and_then (on_bare (converts q)) o) (found ∙ sym by) ∙ converts_scalar s v f o by good h
+
+pub convert_row : (types : List TypeDef) (old new : FunctionBindgen) (i : Instruction) (f : RuntimeItem) (e : Expr) → conversion i ≡ Some f → Appends old new [] (f ∷ []) → new.scope ≡ old.scope
+    → Emits func_meaning types i (operand_of e ∷ []) (operand_of (runtime_call f e) ∷ []) old new
+convert_row types old new i f e is a scope =
+    let c = converted_by i f is in
+    emits_lowered types old new i c.scalar (operand_of e) (operand_of (runtime_call f e)) c.lowered (none_adds old new (f ∷ []) a scope) a.returned
+    (λ dir v r own good st. (
+    st.0.1,
+    swaps old new (f ∷ []) a scope (of (operand_of e) (item r)) (of (operand_of (runtime_call f e)) (word (passed_word c.scalar v)))
+        (λ w found env h. call_says w.items c.scalar v f e env c.by found.0 good (h ∙ ap (λ q. Some q) st.0.0)),
+  ))
+
+-- 3. Numbers of words
+
+i32_word : (x : Word) → has_type wasm.I32 x ≡ true → (z : ℤ) × (x ≡ core.I32 z)
+i32_word (core.I32 z) h = (z, refl)
+i32_word (core.I64 z) h = absurd cc
+i32_word (core.F32 z) h = absurd cc
+i32_word (core.F64 z) h = absurd cc
+i32_word (core.Pointer z) h = absurd cc
+i32_word (core.Length z) h = absurd cc
+i32_word (core.Slot z) h = absurd cc
+
+i64_word : (x : Word) → has_type wasm.I64 x ≡ true → (z : ℤ) × (x ≡ core.I64 z)
+i64_word (core.I64 z) h = (z, refl)
+i64_word (core.I32 z) h = absurd cc
+i64_word (core.F32 z) h = absurd cc
+i64_word (core.F64 z) h = absurd cc
+i64_word (core.Pointer z) h = absurd cc
+i64_word (core.Length z) h = absurd cc
+i64_word (core.Slot z) h = absurd cc
+
+f32_word : (x : Word) → has_type wasm.F32 x ≡ true → (z : ℕ) × (x ≡ core.F32 z)
+f32_word (core.F32 z) h = (z, refl)
+f32_word (core.I32 z) h = absurd cc
+f32_word (core.I64 z) h = absurd cc
+f32_word (core.F64 z) h = absurd cc
+f32_word (core.Pointer z) h = absurd cc
+f32_word (core.Length z) h = absurd cc
+f32_word (core.Slot z) h = absurd cc
+
+f64_word : (x : Word) → has_type wasm.F64 x ≡ true → (z : ℕ) × (x ≡ core.F64 z)
+f64_word (core.F64 z) h = (z, refl)
+f64_word (core.I32 z) h = absurd cc
+f64_word (core.I64 z) h = absurd cc
+f64_word (core.F32 z) h = absurd cc
+f64_word (core.Pointer z) h = absurd cc
+f64_word (core.Length z) h = absurd cc
+f64_word (core.Slot z) h = absurd cc
+
+-- a number is read without a test
+number_checking : (s : Scalar) (f : Form) (x : Word) (acc : Account RustValue) → is_number s ≡ true → checking s f x acc ≡ stay acc
+number_checking Scalar.bool f x acc h = absurd cc
+number_checking Scalar.char f x acc h = absurd cc
+number_checking s f x acc h = refl
+
+-- an operand that reads the number of each word of a scalar
+lifts_number : (old new : FunctionBindgen) (s : Scalar) (o r : ExprOperand) → is_number s ≡ true → Appends old new [] [] → new.scope ≡ old.scope
+    → ((x : Word) → has_type (core_type s) x ≡ true → (items : List Item) (env : Env) → Says (word x) ((read items o.expr).at env) → Says (item (taken_word s x)) ((read items r.expr).at env))
+    → LiftsScalar func_meaning s (o ∷ []) (r ∷ []) old new
+lifts_number old new s o r is a scope says x w p others s0 t at =
+    subst (λ q. Follows func_meaning.account (if has_type (core_type s) x then q else Stuck (account_of t.machine)) (func_meaning.does w p new.code s0)
+    (λ y u. (fs : Facts func_meaning) × ((c : RustValue) × (fs ≡ of r (item c) ∷ []) × ((v : ScalarValue s) → IsScalar s v → IsTaken s v x → StandsAsItIs take (scalar s) v c [])) × After func_meaning w new (fs ++ others) [] [] t y u))
+    (sym (number_checking s p.form x (account_of t.machine) is))
+    (tests old new [] a scope (has_type (core_type s) x) (of o (word x)) (of r (item (taken_word s x))) (λ fs. (c : RustValue) × (fs ≡ of r (item c) ∷ []) × ((v : ScalarValue s) → IsScalar s v → IsTaken s v x → StandsAsItIs take (scalar s) v c []))
+      (λ typed. (taken_word s x, refl, λ v good taken. stands_scalar take s v (taken_word s x) (taken_is s v x is good taken))) (λ typed v found env h. says x typed v.items env h) w p others s0 t at)
+
+pub record Cast (i : Instruction) (to : CastType) : Type 0 where
+  pub scalar : Scalar
+  pub none : lowered_scalar i ≡ None
+  pub lifted : lifted_scalar i ≡ Some scalar
+  pub number : is_number scalar ≡ true
+  pub casts : (x : Word) → has_type (core_type scalar) x ≡ true → (z : ℤ) × (integer_of (val.Word x) ≡ Some z) × (taken_word scalar x ≡ cast_integer to z)
+
+casts_as : (i : Instruction) (one to : CastType) → (let c : Option CastType = Some one in c ≡ Some to) → Cast i one → Cast i to
+casts_as i one to e c = subst (Cast i) (ap (option_some one) e) c
+
+cast_by : (i : Instruction) (to : CastType) → number_cast i ≡ Some to → Cast i to
+cast_by U8FromI32 to e = casts_as U8FromI32 cast.U8 to e (record { scalar = Scalar.u8; none = refl; lifted = refl; number = refl; casts = λ x h. let (z, is) = i32_word x h in (z, ap (λ y. integer_of (val.Word y)) is, ap (taken_word Scalar.u8) is) })
+cast_by S8FromI32 to e = casts_as S8FromI32 cast.I8 to e (record { scalar = Scalar.s8; none = refl; lifted = refl; number = refl; casts = λ x h. let (z, is) = i32_word x h in (z, ap (λ y. integer_of (val.Word y)) is, ap (taken_word Scalar.s8) is) })
+cast_by U16FromI32 to e = casts_as U16FromI32 cast.U16 to e (record { scalar = Scalar.u16; none = refl; lifted = refl; number = refl; casts = λ x h. let (z, is) = i32_word x h in (z, ap (λ y. integer_of (val.Word y)) is, ap (taken_word Scalar.u16) is) })
+cast_by S16FromI32 to e = casts_as S16FromI32 cast.I16 to e (record { scalar = Scalar.s16; none = refl; lifted = refl; number = refl; casts = λ x h. let (z, is) = i32_word x h in (z, ap (λ y. integer_of (val.Word y)) is, ap (taken_word Scalar.s16) is) })
+cast_by U32FromI32 to e = casts_as U32FromI32 cast.U32 to e (record { scalar = Scalar.u32; none = refl; lifted = refl; number = refl; casts = λ x h. let (z, is) = i32_word x h in (z, ap (λ y. integer_of (val.Word y)) is, ap (taken_word Scalar.u32) is) })
+cast_by U64FromI64 to e = casts_as U64FromI64 cast.U64 to e (record { scalar = Scalar.u64; none = refl; lifted = refl; number = refl; casts = λ x h. let (z, is) = i64_word x h in (z, ap (λ y. integer_of (val.Word y)) is, ap (taken_word Scalar.u64) is) })
+cast_by _ to e = absurd (let h = e in cc)
+
+cast_says : (items : List Item) (e : Expr) (to : CastType) (x : Word) (z : ℤ) (env : Env) → integer_of (val.Word x) ≡ Some z → (read items e).at env ≡ Some (val.Word x) → (read items (expr.Cast e to)).at env ≡ Some (val.Value (cast_integer to z))
+cast_says items e to x z env i h = ap (λ (r : Read). r.at env) (read-cast (setting_of_items items) e to) ∙ cast_word to z x ((read items e).at env) i h
+
+pub cast_row : (types : List TypeDef) (old new : FunctionBindgen) (i : Instruction) (to : CastType) (e : Expr) → number_cast i ≡ Some to → Appends old new [] [] → new.scope ≡ old.scope
+    → Emits func_meaning types i (operand_of e ∷ []) (operand_of (expr.Cast e to) ∷ []) old new
+cast_row types old new i to e is a scope =
+    let c = cast_by i to is in
+    emits_lifted types old new i c.scalar (operand_of e) (operand_of (expr.Cast e to)) c.none c.lifted (none_adds old new [] a scope) a.returned
+    (lifts_number old new c.scalar (operand_of e) (operand_of (expr.Cast e to)) c.number a scope
+      (λ x typed items env h. let (z, i, same) = c.casts x typed in ap (option_and_then rust_of) (cast_says items e to x z env i h) ∙ ap (λ r. Some r) (sym same)))
+
+pub record Kept (i : Instruction) : Type 0 where
+  pub scalar : Scalar
+  pub none : lowered_scalar i ≡ None
+  pub lifted : lifted_scalar i ≡ Some scalar
+  pub number : is_number scalar ≡ true
+  pub keeps : (x : Word) → has_type (core_type scalar) x ≡ true → rust_of_word x ≡ Some (taken_word scalar x)
+
+kept_by : (i : Instruction) → is_kept i ≡ true → Kept i
+kept_by S32FromI32 e = record { scalar = Scalar.s32; none = refl; lifted = refl; number = refl; keeps = λ x h. let (z, is) = i32_word x h in ap rust_of_word is ∙ ap (λ y. Some (taken_word Scalar.s32 y)) (sym is) }
+kept_by S64FromI64 e = record { scalar = Scalar.s64; none = refl; lifted = refl; number = refl; keeps = λ x h. let (z, is) = i64_word x h in ap rust_of_word is ∙ ap (λ y. Some (taken_word Scalar.s64 y)) (sym is) }
+kept_by F32FromCoreF32 e = record { scalar = Scalar.f32; none = refl; lifted = refl; number = refl; keeps = λ x h. let (z, is) = f32_word x h in ap rust_of_word is ∙ ap (λ y. Some (taken_word Scalar.f32 y)) (sym is) }
+kept_by F64FromCoreF64 e = record { scalar = Scalar.f64; none = refl; lifted = refl; number = refl; keeps = λ x h. let (z, is) = f64_word x h in ap rust_of_word is ∙ ap (λ y. Some (taken_word Scalar.f64 y)) (sym is) }
+kept_by _ e = absurd (let h = e in cc)
+
+pub keep_row : (types : List TypeDef) (old new : FunctionBindgen) (i : Instruction) (o : ExprOperand) → is_kept i ≡ true → Appends old new [] [] → new.scope ≡ old.scope → Emits func_meaning types i (o ∷ []) (o ∷ []) old new
+keep_row types old new i o is a scope =
+    let c = kept_by i is in
+    emits_lifted types old new i c.scalar o o c.none c.lifted (none_adds old new [] a scope) a.returned
+    (lifts_number old new c.scalar o o c.number a scope (λ x typed items env h. ap (option_and_then rust_of) h ∙ c.keeps x typed))

@@ -1,0 +1,11 @@
+use Rattle.func_gen.specs.Forms.{runtime_call}
+use Rattle.func_gen.proofs.Rows.{emits_as, pushed}
+use Rattle.func_gen.proofs.ScalarRows.{convert_row}
+use Rattle.func_gen.proofs.function_bindgen.FunctionBindgen.convert.Goals as goal
+
+pub returns : goal.returns
+returns c =
+    let types = c.args.resolve.now.types in
+    let e = c.in_ok-e.e in
+    emits_as types c.args.inst.now _ _ _ _ _ _ c.in_ok-e.ensures.only (pushed c.args.results.now _ c.in_ok-expr.expr (runtime_call c.args.function e) c.in_ok-push.ensures.ok c.requires.empty c.in_ok-expr.ensures)
+    (convert_row types _ _ c.args.inst.now c.args.function e c.requires.conversion c.in_ok-ask.ensures.asks c.in_ok-ask.ensures.scope)

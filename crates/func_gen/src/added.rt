@@ -1,0 +1,53 @@
+//! Statements are added, and items of `_rt` are named.
+
+ghost use Rattle.std.specs.Prelude.{◌≡◌, [], ◌∷◌, true, length, IfOk, OnOk};
+ghost use Rattle.rust_tree.specs.declared.stmt.Stmt.TheVariants as stmt;
+ghost use Rattle.func_gen.specs.Added.{Appends, Fresh};
+ghost use Rattle.func_gen.specs.Forms.{operand_of};
+ghost use Rattle.func_gen.specs.Operand.{is_operand};
+
+use crate::function_bindgen::FunctionBindgen;
+use crate::operand::{ExprOperand, copy_expr, is_operand};
+use crate::scope::{LocalName, numbered};
+use rust_tree::{Expr, RuntimeItem, Stmt};
+use std::alloc::Global;
+use wit_model::{List, OutOfMemory, Text};
+
+/// The one operand. Of an expression that is no operand there is no memory.
+pub(crate) fn only_operand(
+    alloc: Global,
+    operands: &List<ExprOperand>,
+) -> Result<Expr, OutOfMemory>
+    requires one { length operands.now ≡ 1 }
+    ensures only { IfOk result (λ e. operands.now ≡ operand_of e ∷ []) }
+    ensures operand { IfOk result (λ e. is_operand e ≡ true) }
+{
+    let e = copy_expr(&operands.as_slice()[0].expr, alloc)?;
+    if !is_operand(&e) {
+        return Err(OutOfMemory);
+    }
+    Ok(e)
+}
+
+impl FunctionBindgen {
+    /// An item of `_rt` is named.
+    pub(crate) fn ask(&mut self, item: RuntimeItem) -> Result<(), OutOfMemory>
+        ensures asks { OnOk result (Appends self.old self.new [] (item ∷ [])) }
+        ensures scope { OnOk result (self.new.scope ≡ self.old.scope) }
+    {
+        self.runtime.push(item)
+    }
+
+    /// The name of a new local, with this value.
+    pub(crate) fn add_let(&mut self, prefix: &str, e: Expr) -> Result<Text, OutOfMemory>
+        ensures adds { IfOk result (λ name. Appends self.old self.new (stmt.Let name e ∷ []) []) }
+        ensures fresh { IfOk result (λ name. Fresh self.old self.new name) }
+    {
+        let name = LocalName { prefix, part: None };
+        let t = self.scope.declare(self.alloc, &[name])?;
+        let text = numbered(self.alloc, name, t)?;
+        let copy = text.copy(self.alloc)?;
+        self.code.stmts.push(Stmt::Let(text, e))?;
+        Ok(copy)
+    }
+}

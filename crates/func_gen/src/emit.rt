@@ -1,0 +1,46 @@
+//! The code of each instruction.
+
+mod scalars;
+
+ghost use Rattle.std.specs.Prelude.{◌≡◌, ◌<◌, [], length, OnOk};
+ghost use Rattle.abi_driver.specs.Instructions.{Emits};
+ghost use Rattle.abi_driver.specs.declared.instruction.Instruction.TheVariants as instruction;
+ghost use Rattle.func_gen.specs.Meaning.{func_meaning};
+
+use crate::function_bindgen::FunctionBindgen;
+use crate::operand::{ExprOperand, copy_expr};
+use wit_model::{List, OutOfMemory, Resolve};
+
+pub(crate) use crate::emit::scalars::{conversion, is_kept, number_cast};
+
+impl FunctionBindgen {
+    pub(crate) fn get_arg(
+        &mut self,
+        resolve: &Resolve,
+        n: u32,
+        results: &mut List<ExprOperand>,
+    ) -> Result<(), OutOfMemory>
+        requires within { n < length self.old.params }
+        requires empty { results.old ≡ [] }
+        ensures { OnOk result (Emits func_meaning resolve.now.types (instruction.GetArg n) [] results.new self.old self.new) }
+    {
+        let expr = copy_expr(&self.params.as_slice()[n as usize].operand.expr, self.alloc)?;
+        results.push(ExprOperand { expr })?;
+        Ok(())
+    }
+
+    pub(crate) fn give(
+        &mut self,
+        resolve: &Resolve,
+        count: u32,
+        operands: &mut List<ExprOperand>,
+        results: &mut List<ExprOperand>,
+    ) -> Result<(), OutOfMemory>
+        requires empty { results.old ≡ [] }
+        ensures { OnOk result (Emits func_meaning resolve.now.types (instruction.Return count) operands.old results.new self.old self.new) }
+    {
+        let given = std::mem::replace(operands, List::new(self.alloc));
+        self.returned = Some(given);
+        Ok(())
+    }
+}
