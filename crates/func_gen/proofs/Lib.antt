@@ -1,6 +1,7 @@
 pub mod Evaluated
 pub mod FactLemmas
 pub mod Lasting
+pub mod LiftedRows
 pub mod Quiet
 pub mod Rows
 pub mod RuntimeItems

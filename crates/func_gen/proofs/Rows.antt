@@ -195,3 +195,7 @@ appends_both a b c xs ys is js h k = record {
   asked = k.asked ∙ h.asked;
   returned = k.returned ∙ h.returned;
 }
+
+-- a name that is declared where the scope is as before
+pub fresh_since : (a b c : FunctionBindgen) (n : Bytes) → b.scope ≡ a.scope → Fresh b c n → Fresh a c n
+fresh_since a b c n e f = record { free = ap (λ (s : Scope). is_used s.used n) (sym e) ∙ f.free; used = f.used ∙ ap (λ (s : Scope). s.used ++ n ∷ []) e }

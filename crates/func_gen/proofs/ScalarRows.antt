@@ -75,7 +75,7 @@ unfolding callee runtime_name runtime_module_name
 calls_runtime i = refl
 
 module _ (types : List TypeDef) (old new : FunctionBindgen) (i : Instruction) (s : Scalar) (o r : ExprOperand) where
-  emits_lowered : lowered_scalar i ≡ Some s → Adds func_meaning old new → new.returned ≡ old.returned → LowersScalar func_meaning s (o ∷ []) (r ∷ []) old new → Emits func_meaning types i (o ∷ []) (r ∷ []) old new
+  pub emits_lowered : lowered_scalar i ≡ Some s → Adds func_meaning old new → new.returned ≡ old.returned → LowersScalar func_meaning s (o ∷ []) (r ∷ []) old new → Emits func_meaning types i (o ∷ []) (r ∷ []) old new
   emits_lowered is adds returned row = record {
     adds = code_of func_meaning i (lowers_ordinary i s is) old new adds;
     returned = still_returned func_meaning i (lowers_ordinary i s is) (o ∷ []) old.returned new.returned returned;
@@ -84,7 +84,7 @@ module _ (types : List TypeDef) (old new : FunctionBindgen) (i : Instruction) (s
     row = subst (λ x. RowBy func_meaning types i x (lifted_scalar i) (o ∷ []) (r ∷ []) old new) (sym is) row;
   }
 
-  emits_lifted : lowered_scalar i ≡ None → lifted_scalar i ≡ Some s → Adds func_meaning old new → new.returned ≡ old.returned → LiftsScalar func_meaning s (o ∷ []) (r ∷ []) old new → Emits func_meaning types i (o ∷ []) (r ∷ []) old new
+  pub emits_lifted : lowered_scalar i ≡ None → lifted_scalar i ≡ Some s → Adds func_meaning old new → new.returned ≡ old.returned → LiftsScalar func_meaning s (o ∷ []) (r ∷ []) old new → Emits func_meaning types i (o ∷ []) (r ∷ []) old new
   emits_lifted none is adds returned row = record {
     adds = code_of func_meaning i (lifts_ordinary i s is) old new adds;
     returned = still_returned func_meaning i (lifts_ordinary i s is) (o ∷ []) old.returned new.returned returned;
@@ -207,7 +207,7 @@ cast_by U32FromI32 to e = casts_as U32FromI32 cast.U32 to e (record { scalar = S
 cast_by U64FromI64 to e = casts_as U64FromI64 cast.U64 to e (record { scalar = Scalar.u64; none = refl; lifted = refl; number = refl; casts = λ x h. let (z, is) = i64_word x h in (z, ap (λ y. integer_of (val.Word y)) is, ap (taken_word Scalar.u64) is) })
 cast_by _ to e = absurd (let h = e in cc)
 
-cast_says : (items : List Item) (e : Expr) (to : CastType) (x : Word) (z : ℤ) (env : Env) → integer_of (val.Word x) ≡ Some z → (read items e).at env ≡ Some (val.Word x) → (read items (expr.Cast e to)).at env ≡ Some (val.Value (cast_integer to z))
+pub cast_says : (items : List Item) (e : Expr) (to : CastType) (x : Word) (z : ℤ) (env : Env) → integer_of (val.Word x) ≡ Some z → (read items e).at env ≡ Some (val.Word x) → (read items (expr.Cast e to)).at env ≡ Some (val.Value (cast_integer to z))
 cast_says items e to x z env i h = ap (λ (r : Read). r.at env) (read-cast (setting_of_items items) e to) ∙ cast_word to z x ((read items e).at env) i h
 
 pub cast_row : (types : List TypeDef) (old new : FunctionBindgen) (i : Instruction) (to : CastType) (e : Expr) → number_cast i ≡ Some to → Appends old new [] [] → new.scope ≡ old.scope

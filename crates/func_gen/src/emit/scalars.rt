@@ -119,3 +119,63 @@ impl FunctionBindgen {
         Ok(())
     }
 }
+
+impl FunctionBindgen {
+    pub(crate) fn lower_bool(
+        &mut self,
+        resolve: &Resolve,
+        operands: &List<ExprOperand>,
+        results: &mut List<ExprOperand>,
+    ) -> Result<(), OutOfMemory>
+        requires one { length operands.now ≡ 1 }
+        requires empty { results.old ≡ [] }
+        ensures { OnOk result (Emits func_meaning resolve.now.types instruction.I32FromBool operands.now results.new self.old self.new) }
+    {
+        let e = only_operand(self.alloc, operands)?;
+        let word = Expr::I32FromBool(Boxed::new(self.alloc, e)?);
+        let name = self.add_let("b", word)?;
+        let expr = Expr::Local(name);
+        results.push(ExprOperand { expr })?;
+        Ok(())
+    }
+
+    pub(crate) fn lift_bool(
+        &mut self,
+        resolve: &Resolve,
+        operands: &List<ExprOperand>,
+        results: &mut List<ExprOperand>,
+    ) -> Result<(), OutOfMemory>
+        requires one { length operands.now ≡ 1 }
+        requires empty { results.old ≡ [] }
+        ensures { OnOk result (Emits func_meaning resolve.now.types instruction.BoolFromI32 operands.now results.new self.old self.new) }
+    {
+        let e = only_operand(self.alloc, operands)?;
+        let number = Expr::Cast(Boxed::new(self.alloc, e)?, CastType::U8);
+        let lifted = runtime_call(self.alloc, RuntimeItem::BoolLift, number)?;
+        self.ask(RuntimeItem::BoolLift)?;
+        let name = self.add_let("b", lifted)?;
+        let expr = Expr::Local(name);
+        results.push(ExprOperand { expr })?;
+        Ok(())
+    }
+
+    pub(crate) fn lift_char(
+        &mut self,
+        resolve: &Resolve,
+        operands: &List<ExprOperand>,
+        results: &mut List<ExprOperand>,
+    ) -> Result<(), OutOfMemory>
+        requires one { length operands.now ≡ 1 }
+        requires empty { results.old ≡ [] }
+        ensures { OnOk result (Emits func_meaning resolve.now.types instruction.CharFromI32 operands.now results.new self.old self.new) }
+    {
+        let e = only_operand(self.alloc, operands)?;
+        let number = Expr::Cast(Boxed::new(self.alloc, e)?, CastType::U32);
+        let lifted = runtime_call(self.alloc, RuntimeItem::CharLift, number)?;
+        self.ask(RuntimeItem::CharLift)?;
+        let name = self.add_let("c", lifted)?;
+        let expr = Expr::Local(name);
+        results.push(ExprOperand { expr })?;
+        Ok(())
+    }
+}
