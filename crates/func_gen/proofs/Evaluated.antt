@@ -24,54 +24,16 @@ use Rattle.wrapper_values.specs.Owning.{lent, owned, view}
 use Rattle.wrapper_values.specs.Setting.{Setting, stuck}
 use Rattle.wrapper_run.specs.Run.{Callee, alone, apply, call, call_callee, call_runtime, callee, converted_or_lifted, core_forget, eval, eval_step, of_runtime, runtime_item_named, unknown}
 use Rattle.wrapper_run.proofs.StepLemmas.{eval-call, eval-cast, eval-cast_mut, eval-local, eval-ref}
-use Rattle.func_gen.specs.Read.{Env, Read, as_pointer, bare, bare_or, conversion, converts, env_of, lent_bare, nothing, on_bare, read, read_step}
+use Rattle.func_gen.specs.Read.{Env, Read, as_pointer, conversion, converts, env_of, nothing, read, read_step}
+use Rattle.func_gen.specs.ReadForms.{at_read, bare_value, lent_of, read-call, read-cast, read-cast_mut, read-local, read-ref}
 
 module _ (w : Setting) where
-  -- 1. What each form reads
-
-  pub read-local : (name : Bytes) → read w.items (expr.Local name) ≡ read_step w.items (Expr-F.Local name)
-  read-local name = search (rules, the_lemmas)
-
-  pub read-ref : (name : Bytes) → read w.items (expr.Ref name) ≡ read_step w.items (Expr-F.Ref name)
-  read-ref name = search (rules, the_lemmas)
-
-  pub read-cast_mut : (name : Bytes) → read w.items (expr.CastMut name) ≡ read_step w.items (Expr-F.CastMut name)
-  read-cast_mut name = search (rules, the_lemmas)
-
-  pub read-cast : (e : Expr) (to : CastType) → read w.items (expr.Cast e to) ≡ read_step w.items (Expr-F.Cast (read w.items e) to)
-  read-cast e to = ap (read w.items) (sym (rolls-Cast e to)) ∙ fold-roll-Expr Read (read_step w.items) (Expr-F.Cast e to)
-
-  pub read-call : (path : Path) (es : List Expr) → read w.items (expr.Call path es) ≡ read_step w.items (Expr-F.Call path (map (read w.items) es))
-  read-call path es = ap (read w.items) (sym (rolls-Call path es)) ∙ fold-roll-Expr Read (read_step w.items) (Expr-F.Call path es)
-
-  -- as one reader reads
-  pub at_read : (a b : Read) (env : Env) (v : Val) → a ≡ b → a.at env ≡ Some v → b.at env ≡ Some v
-  at_read a b env v e h = sym (ap (λ (r : Read). r.at env) e) ∙ h
-
-  -- 2. It is evaluated to that, and nothing is changed
-
   abbrev pub Gives : Expr → Type 0
   Gives e = (s : State) (v : Val) → (read w.items e).at (env_of s) ≡ Some v → owned v ≡ [] → eval w e s ≡ Done v s
 
   uses_bare : (name : Bytes) (v : Val) (s : State) → option_and_then usable (value_of (local_named name s.locals)) ≡ Some v → owned v ≡ [] → use_local (stuck w) name s ≡ Done v s
   unfolding use_local
   uses_bare name v s h o = ap (λ x. and_then (or_stop (stuck w) x s) (λ v. used name v (owned v))) h ∙ ap (λ x. used name v x s) o
-
-  -- of a value that owns nothing
-  pub bare_same : (y v : Val) → bare y ≡ Some v → (y ≡ v) × (owned v ≡ [])
-  bare_same y v h = go (owned y) refl h
-    where
-      go : (bs : List ℕ) → owned y ≡ bs → bare_or y bs ≡ Some v → (y ≡ v) × (owned v ≡ [])
-      go [] e k = let same : y ≡ v = cc in (same, ap owned (sym same) ∙ e)
-      go (b ∷ bs) e k = absurd cc
-
-  pub lent_is : (o : Option Val) (v : Val) → option_and_then lent_bare o ≡ Some v → (option_and_then lent o ≡ Some v) × (owned v ≡ [])
-  lent_is None v h = absurd cc
-  lent_is (Some x) v h = go (lent x) refl h
-    where
-      go : (q : Option Val) → lent x ≡ q → option_and_then bare q ≡ Some v → (lent x ≡ Some v) × (owned v ≡ [])
-      go None e k = absurd cc
-      go (Some y) e k = let r = bare_same y v k in (e ∙ ap (λ z. Some z) r.0, r.1)
 
   lends_bare : (name : Bytes) (v : Val) (s : State) → option_and_then lent (value_of (local_named name s.locals)) ≡ Some v → lend_local (stuck w) name s ≡ Done v s
   unfolding lend_local
@@ -86,26 +48,17 @@ module _ (w : Setting) where
       go (Some x) k = ap (λ o. or_stop (stuck w) o s) k
 
   gives-local : (name : Bytes) → Gives (expr.Local name)
-  gives-local name s v h o = ap (λ act. act s) (eval-local w name) ∙ uses_bare name v s (at_read _ _ (env_of s) v (read-local name) h) o
+  gives-local name s v h o = ap (λ act. act s) (eval-local w name) ∙ uses_bare name v s (at_read w.items _ _ (env_of s) v (read-local w.items name) h) o
 
   gives-ref : (name : Bytes) → Gives (expr.Ref name)
-  gives-ref name s v h o = ap (λ act. act s) (eval-ref w name) ∙ lends_bare name v s (lent_is (env_of s name) v (at_read _ _ (env_of s) v (read-ref name) h)).0
+  gives-ref name s v h o = ap (λ act. act s) (eval-ref w name) ∙ lends_bare name v s (lent_of (env_of s name) v (at_read w.items _ _ (env_of s) v (read-ref w.items name) h)).1
 
   gives-cast_mut : (name : Bytes) → Gives (expr.CastMut name)
-  gives-cast_mut name s v h o = ap (λ act. act s) (eval-cast_mut w name) ∙ points name v s (at_read _ _ (env_of s) v (read-cast_mut name) h)
-
-  -- what a step on a value without blocks was done to
-  pub bare_value : (f : Val → Option Val) (o : Option Val) (v : Val) → option_and_then (on_bare f) o ≡ Some v → (x : Val) × (o ≡ Some x) × (owned x ≡ []) × (f x ≡ Some v)
-  bare_value f None v h = absurd cc
-  bare_value f (Some x) v h = go (owned x) refl h
-    where
-      go : (bs : List ℕ) → owned x ≡ bs → option_and_then f (bare_or x bs) ≡ Some v → (y : Val) × (let o : Option Val = Some x in o ≡ Some y) × (owned y ≡ []) × (f y ≡ Some v)
-      go [] e k = (x, refl, e, k)
-      go (b ∷ bs) e k = absurd cc
+  gives-cast_mut name s v h o = ap (λ act. act s) (eval-cast_mut w name) ∙ points name v s (at_read w.items _ _ (env_of s) v (read-cast_mut w.items name) h)
 
   gives-cast : (e : Expr) (to : CastType) → Gives e → Gives (expr.Cast e to)
   gives-cast e to g s v h o =
-      let x = bare_value (cast_to to) ((read w.items e).at (env_of s)) v (at_read _ _ (env_of s) v (read-cast e to) h) in
+      let x = bare_value (cast_to to) ((read w.items e).at (env_of s)) v (at_read w.items _ _ (env_of s) v (read-cast w.items e to) h) in
       ap (λ act. act s) (eval-cast w e to) ∙ ap (λ z. and_then z (λ v. or_stop (stuck w) (cast_to to v))) (g s x.0 x.1 x.2) ∙ ap (λ z. or_stop (stuck w) z s) x.3
 
   covers : (v : Val) (s : State) (o : Option Word) (l : Option (Result RustValue TrapKind)) → option_map val.Word o ≡ Some v → converted_or_lifted w o l s ≡ Done v s
@@ -131,12 +84,12 @@ module _ (w : Setting) where
 
   gives-call : (path : Path) (e : Expr) → Gives e → Gives (expr.Call path (e ∷ []))
   gives-call path e g s v h o =
-      let x = bare_value (conversion w.items (callee path)) ((read w.items e).at (env_of s)) v (at_read _ _ (env_of s) v (read-call path (e ∷ [])) h) in
+      let x = bare_value (conversion w.items (callee path)) ((read w.items e).at (env_of s)) v (at_read w.items _ _ (env_of s) v (read-call w.items path (e ∷ [])) h) in
       ap (λ act. act s) (eval-call w path (e ∷ [])) ∙ ap (λ z. and_then (and_then z (λ y. all [] >>= (λ ys. pure (y ∷ ys)))) (λ vs. call w path vs)) (g s x.0 x.1 x.2) ∙ callee_is (callee path) x.0 v s x.3
 
   nothing_read : (l : Expr-F Expr) → read_step w.items (map-Expr Expr Read (read w.items) l) ≡ nothing → Gives (roll-Expr l)
   nothing_read l none s v h o =
-      let e : nothing.at (env_of s) ≡ Some v = at_read _ _ (env_of s) v (fold-roll-Expr Read (read_step w.items) l ∙ none) h in
+      let e : nothing.at (env_of s) ≡ Some v = at_read w.items _ _ (env_of s) v (fold-roll-Expr Read (read_step w.items) l ∙ none) h in
       absurd (let k : (let n : Option Val = None in n ≡ Some v) = e in cc)
 
   step : {X : Type 0} (fst : X → Expr) → ((x : X) → Gives (fst x)) → (l : Expr-F Expr) (y : Expr-F X) → map-Expr X Expr fst y ≡ l → Gives (roll-Expr l)

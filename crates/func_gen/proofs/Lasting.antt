@@ -32,7 +32,7 @@ use Rattle.func_gen.specs.Facts.{AreOwned, Hold, Owns, wrong}
 use Rattle.func_gen.specs.Meaning.{AreaIs, Denote, File, FuncState, owns_of}
 use Rattle.func_gen.specs.Read.{Env, Read, Under, env_of, less, read}
 use Rattle.func_gen.specs.Scope.{Declares, is_free, is_used, names_at, numbered}
-use Rattle.func_gen.proofs.FactLemmas.{Says, less_under, said, total_mono}
+use Rattle.func_gen.specs.FactLemmas.{Says, less_under, said, total_mono}
 
 -- 1. A local more
 

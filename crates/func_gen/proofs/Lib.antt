@@ -1,5 +1,4 @@
 pub mod Evaluated
-pub mod FactLemmas
 pub mod Lasting
 pub mod LiftedRows
 pub mod Quiet
@@ -7,4 +6,5 @@ pub mod Rows
 pub mod RuntimeItems
 pub mod ScalarRows
 pub mod Scalars
+pub mod Starting
 pub mod Steps

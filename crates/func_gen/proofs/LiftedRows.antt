@@ -58,11 +58,12 @@ use Rattle.func_gen.specs.Meaning.{File, Found, StandsAsItIs, account_of, answer
 use Rattle.func_gen.specs.Operand.{is_operand}
 use Rattle.func_gen.specs.Read.{env_of, read}
 use Rattle.func_gen.proofs.Evaluated.{gives}
-use Rattle.func_gen.proofs.FactLemmas.{Says, is_said}
+use Rattle.func_gen.specs.FactLemmas.{Says, is_said}
 use Rattle.func_gen.proofs.Quiet.{quiet_cast_of, quiet_operand}
 use Rattle.func_gen.proofs.Rows.{Agrees, let_adds, lets}
 use Rattle.func_gen.proofs.ScalarRows.{calls_runtime, cast_says, emits_lifted, emits_lowered}
-use Rattle.func_gen.proofs.Scalars.{bool_is, scalar_owns, stands_scalar}
+use Rattle.func_gen.proofs.Scalars.{bool_is, stands_scalar}
+use Rattle.func_gen.specs.StandLemmas.{scalar_owns}
 
 -- what one fact that holds says
 says_one : (items : List Item) (b : FunctionBindgen) (o : ExprOperand) (d : Datum RustValue) (s : State) → Hold items b (of o d ∷ []) s → Says d ((read items o.expr).at (env_of s))
@@ -91,10 +92,10 @@ bool_row types old new n e ok a fresh =
     let quiet : (w : Setting) → Quiet (eval w (expr.I32FromBool e)) = λ w. quiet_bool w e (quiet_operand w e ok) in
     emits_lowered types old new I32FromBool Scalar.bool (operand_of e) (operand_of (expr.Local n)) refl (let_adds old new n (expr.I32FromBool e) [] a fresh quiet) a.returned
     (λ dir v r own good st. (
-    st.0.1,
-    lets old new n (expr.I32FromBool e) [] a fresh quiet (of (operand_of e) (item r) ∷ []) (λ p. stay) (word (passed_word Scalar.bool v)) (λ fs. fs ≡ of (operand_of (expr.Local n)) (word (passed_word Scalar.bool v)) ∷ []) refl
-        (λ w p s found h. (refl, (val.Word (passed_word Scalar.bool v), bool_evaluated (setting_for w p) e v s (says_one w.items old (operand_of e) (item r) s h ∙ ap (λ q. Some q) st.0.0), refl, refl))),
-  ))
+      st.0.1,
+      lets old new n (expr.I32FromBool e) [] a fresh quiet (of (operand_of e) (item r) ∷ []) (λ p. stay) (word (passed_word Scalar.bool v)) (λ fs. fs ≡ of (operand_of (expr.Local n)) (word (passed_word Scalar.bool v)) ∷ []) refl
+          (λ w p s found h. (refl, (val.Word (passed_word Scalar.bool v), bool_evaluated (setting_for w p) e v s (says_one w.items old (operand_of e) (item r) s h ∙ ap (λ q. Some q) st.0.0), refl, refl))),
+    ))
 
 -- 2. A word is lifted
 

@@ -43,8 +43,8 @@ use Rattle.func_gen.specs.Forms.{operand_of}
 use Rattle.func_gen.specs.Meaning.{File, Found, FuncState, account_of, call_of, func_meaning, owns_of, seen, setting_for}
 use Rattle.func_gen.specs.Read.{Env, Read, env_of, less, read, read_step}
 use Rattle.func_gen.specs.Scope.{is_used}
-use Rattle.func_gen.proofs.Evaluated.{at_read, read-local}
-use Rattle.func_gen.proofs.FactLemmas.{Says, follows}
+use Rattle.func_gen.specs.ReadForms.{read-local}
+use Rattle.func_gen.specs.FactLemmas.{Says, follows}
 use Rattle.func_gen.proofs.Lasting.{Beside, SameArea, add_plain, bound_under, denotes_on, lasts, owns_with, part, with_local, within_with}
 use Rattle.func_gen.proofs.RuntimeItems.{found_right}
 use Rattle.func_gen.proofs.Steps.{func_adds, ran, seen_calls}
@@ -98,10 +98,6 @@ module _ (old new : FunctionBindgen) (items : List RuntimeItem) (a : Appends old
 
 -- 2. One statement, which binds a local
 
--- what is read depends on the items alone
-abbrev pub setting_of_items : List Item → Setting
-setting_of_items items = record { items = items; item = 0; answer = answer.Words None [] []; form = form.Debug }
-
 -- what an expression gives agrees with an action that changes nothing
 abbrev pub Agrees : (acc : Account RustValue) → Outcome RustValue (Got RustValue (Unit {0})) → machine.Outcome Val → State → Datum RustValue → Type 0
 Agrees acc (Done x) q s d = (x.account ≡ acc) × ((v : Val) × (q ≡ machine.Done v s) × (owned v ≡ []) × Says d (option_and_then usable (Some v)))
@@ -138,8 +134,8 @@ module _ (old new : FunctionBindgen) (n : Bytes) (e : Expr) (items : List Runtim
       let last = lasts w.items old new others s.machine t a.params under (within_with old new n s.machine v fresh h.hold.within) fewer in
       denotes_on w old new (ins ++ others) (of (operand_of (expr.Local n)) d ∷ others) s t (same_area old new (stmt.Let n e ∷ []) items a) (record { heap = refl; taken = refl; place = refl; under = under }) h
       (add_plain w.items new others t (operand_of (expr.Local n)) d n v
-        (λ env at. subst (Says d) (sym (ap (λ (r : Read). r.at env) (read-local (setting_of_items w.items) n) ∙ ap (option_and_then usable) at)) says)
-        (reads-new n (Some v) s.machine.locals) none last)
+      (λ env at. subst (Says d) (sym (ap (λ (r : Read). r.at env) (read-local w.items n) ∙ ap (option_and_then usable) at)) says)
+      (reads-new n (Some v) s.machine.locals) none last)
 
   pub lets : (ins : Facts func_meaning) (act : Peer RustValue → Act RustValue (Unit {0})) (d : Datum RustValue) (Outs : Facts func_meaning → Type 0) → Outs (of (operand_of (expr.Local n)) d ∷ [])
       → ((w : File) (p : Peer RustValue) (s : State) → Found w.items items → Hold w.items old ins s → Agrees (account_of s) (act p (account_of s)) (eval (setting_for w p) e s) s d)

@@ -62,11 +62,11 @@ use Rattle.func_gen.specs.Meaning.{File, Found, StandsAsItIs, account_of, answer
 use Rattle.func_gen.specs.Operand.{is_operand}
 use Rattle.func_gen.specs.Read.{Env, Read, converts, env_of, on_bare, read}
 use Rattle.func_gen.specs.Read as reader
-use Rattle.func_gen.proofs.Evaluated.{gives, read-call, read-cast}
-use Rattle.func_gen.proofs.FactLemmas.{Says, is_said}
+use Rattle.func_gen.specs.ReadForms.{read-call, read-cast}
+use Rattle.func_gen.specs.FactLemmas.{Says, is_said}
 use Rattle.func_gen.proofs.Quiet.{quiet_cast_of, quiet_operand}
-use Rattle.func_gen.proofs.Rows.{Agrees, let_adds, lets, none_adds, setting_of_items, swaps, tests}
-use Rattle.func_gen.proofs.Scalars.{bool_is, cast_word, conversion_to, converts_scalar, is_number, option_some, scalar_owns, stands_scalar, taken_is, taken_word}
+use Rattle.func_gen.proofs.Rows.{Agrees, let_adds, lets, none_adds, swaps, tests}
+use Rattle.func_gen.proofs.Scalars.{bool_is, cast_word, conversion_to, converts_scalar, is_number, option_some, stands_scalar, taken_is, taken_word}
 
 -- 1. What is emitted
 
@@ -119,7 +119,7 @@ call_says : (items : List Item) (s : Scalar) (v : ScalarValue s) (f : RuntimeIte
     → option_and_then rust_of ((read items e).at env) ≡ Some (rust_scalar s v) → (read items (runtime_call f e)).at env ≡ Some (val.Word (passed_word s v))
 call_says items s v f e env by found good h =
     let o = (read items e).at env in
-    ap (λ (r : Read). r.at env) (read-call (setting_of_items items) (runtime_path f) (e ∷ [])) ∙ ap (λ c. option_and_then (on_bare (reader.conversion items c)) o) (calls_runtime f)
+    ap (λ (r : Read). r.at env) (read-call items (runtime_path f) (e ∷ [])) ∙ ap (λ c. option_and_then (on_bare (reader.conversion items c)) o) (calls_runtime f)
     ∙ ap (λ q. option_and_then (on_bare (converts q)) o) (found ∙ sym by) ∙ converts_scalar s v f o by good h
 
 pub convert_row : (types : List TypeDef) (old new : FunctionBindgen) (i : Instruction) (f : RuntimeItem) (e : Expr) → conversion i ≡ Some f → Appends old new [] (f ∷ []) → new.scope ≡ old.scope
@@ -128,10 +128,10 @@ convert_row types old new i f e is a scope =
     let c = converted_by i f is in
     emits_lowered types old new i c.scalar (operand_of e) (operand_of (runtime_call f e)) c.lowered (none_adds old new (f ∷ []) a scope) a.returned
     (λ dir v r own good st. (
-    st.0.1,
-    swaps old new (f ∷ []) a scope (of (operand_of e) (item r)) (of (operand_of (runtime_call f e)) (word (passed_word c.scalar v)))
-        (λ w found env h. call_says w.items c.scalar v f e env c.by found.0 good (h ∙ ap (λ q. Some q) st.0.0)),
-  ))
+      st.0.1,
+      swaps old new (f ∷ []) a scope (of (operand_of e) (item r)) (of (operand_of (runtime_call f e)) (word (passed_word c.scalar v)))
+          (λ w found env h. call_says w.items c.scalar v f e env c.by found.0 good (h ∙ ap (λ q. Some q) st.0.0)),
+    ))
 
 -- 3. Numbers of words
 
@@ -186,7 +186,7 @@ lifts_number old new s o r is a scope says x w p others s0 t at =
     (λ y u. (fs : Facts func_meaning) × ((c : RustValue) × (fs ≡ of r (item c) ∷ []) × ((v : ScalarValue s) → IsScalar s v → IsTaken s v x → StandsAsItIs take (scalar s) v c [])) × After func_meaning w new (fs ++ others) [] [] t y u))
     (sym (number_checking s p.form x (account_of t.machine) is))
     (tests old new [] a scope (has_type (core_type s) x) (of o (word x)) (of r (item (taken_word s x))) (λ fs. (c : RustValue) × (fs ≡ of r (item c) ∷ []) × ((v : ScalarValue s) → IsScalar s v → IsTaken s v x → StandsAsItIs take (scalar s) v c []))
-      (λ typed. (taken_word s x, refl, λ v good taken. stands_scalar take s v (taken_word s x) (taken_is s v x is good taken))) (λ typed v found env h. says x typed v.items env h) w p others s0 t at)
+    (λ typed. (taken_word s x, refl, λ v good taken. stands_scalar take s v (taken_word s x) (taken_is s v x is good taken))) (λ typed v found env h. says x typed v.items env h) w p others s0 t at)
 
 pub record Cast (i : Instruction) (to : CastType) : Type 0 where
   pub scalar : Scalar
@@ -208,7 +208,7 @@ cast_by U64FromI64 to e = casts_as U64FromI64 cast.U64 to e (record { scalar = S
 cast_by _ to e = absurd (let h = e in cc)
 
 pub cast_says : (items : List Item) (e : Expr) (to : CastType) (x : Word) (z : ℤ) (env : Env) → integer_of (val.Word x) ≡ Some z → (read items e).at env ≡ Some (val.Word x) → (read items (expr.Cast e to)).at env ≡ Some (val.Value (cast_integer to z))
-cast_says items e to x z env i h = ap (λ (r : Read). r.at env) (read-cast (setting_of_items items) e to) ∙ cast_word to z x ((read items e).at env) i h
+cast_says items e to x z env i h = ap (λ (r : Read). r.at env) (read-cast items e to) ∙ cast_word to z x ((read items e).at env) i h
 
 pub cast_row : (types : List TypeDef) (old new : FunctionBindgen) (i : Instruction) (to : CastType) (e : Expr) → number_cast i ≡ Some to → Appends old new [] [] → new.scope ≡ old.scope
     → Emits func_meaning types i (operand_of e ∷ []) (operand_of (expr.Cast e to) ∷ []) old new
@@ -216,7 +216,7 @@ cast_row types old new i to e is a scope =
     let c = cast_by i to is in
     emits_lifted types old new i c.scalar (operand_of e) (operand_of (expr.Cast e to)) c.none c.lifted (none_adds old new [] a scope) a.returned
     (lifts_number old new c.scalar (operand_of e) (operand_of (expr.Cast e to)) c.number a scope
-      (λ x typed items env h. let (z, i, same) = c.casts x typed in ap (option_and_then rust_of) (cast_says items e to x z env i h) ∙ ap (λ r. Some r) (sym same)))
+    (λ x typed items env h. let (z, i, same) = c.casts x typed in ap (option_and_then rust_of) (cast_says items e to x z env i h) ∙ ap (λ r. Some r) (sym same)))
 
 pub record Kept (i : Instruction) : Type 0 where
   pub scalar : Scalar

@@ -30,17 +30,13 @@ use Rattle.wrapper_values.specs.Effect.{cast_integer, cast_to, char_of, converte
 use Rattle.wrapper_values.specs.Owning.{owned, owned_by}
 use Rattle.wrapper_run.specs.StandsFor.{rust_value}
 use Rattle.wrapper_run.proofs.NumberLemmas.{converted-char, converted-f32, converted-f64, converted-narrow, converted-wide, low_i32-s16, low_i32-s32, low_i32-s8, low_i32-u16, low_i32-u8, low_i64-s64}
-use Rattle.wrapper_run.proofs.OwningLemmas.{owned-scalar}
 use Rattle.abi_driver.specs.Account.{has_type}
-use Rattle.meaning_ties.proofs.Scalars.{same_rust, takes}
-use Rattle.meaning_ties.specs.Simple.{scalar_type, told_scalar}
+use Rattle.meaning_ties.proofs.Scalars.{takes}
 use Rattle.func_gen.specs.Meaning.{IsNormal, StandsAsItIs, passing_level}
+use Rattle.func_gen.specs.StandLemmas.{scalar_owns}
 use Rattle.func_gen.specs.Read.{bare_or, converts, on_bare}
 
 -- 1. The values of scalars
-
-pub scalar_owns : (s : Scalar) (v : ScalarValue s) → owned (val.Value (rust_scalar s v)) ≡ []
-scalar_owns s v = ap (λ r. owned (val.Value r)) (same_rust s v) ∙ owned-scalar (scalar_type s) (told_scalar s v)
 
 normal_num : (dir : Direction) (k : WitType) (z : ℤ) → IsNormal dir (value.Num k z)
 normal_num dir k z = ap (fold-RustValue RustValue (passing_level dir)) (sym (rolls-Num k z)) ∙ fold-roll-RustValue RustValue (passing_level dir) (RustValue-F.Num k z) ∙ level dir

@@ -1,7 +1,12 @@
 pub mod Added
+pub mod FactLemmas
 pub mod Facts
 pub mod Forms
+pub mod FuncSound
 pub mod Meaning
 pub mod Operand
 pub mod Read
+pub mod ReadForms
 pub mod Scope
+pub mod Sites
+pub mod StandLemmas

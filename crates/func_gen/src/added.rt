@@ -14,10 +14,7 @@ use std::alloc::Global;
 use wit_model::{List, OutOfMemory, Text};
 
 /// The one operand. Of an expression that is no operand there is no memory.
-pub(crate) fn only_operand(
-    alloc: Global,
-    operands: &List<ExprOperand>,
-) -> Result<Expr, OutOfMemory>
+pub(crate) fn only_operand(alloc: Global, operands: &List<ExprOperand>) -> Result<Expr, OutOfMemory>
     requires one { length operands.now ≡ 1 }
     ensures only { IfOk result (λ e. operands.now ≡ operand_of e ∷ []) }
     ensures operand { IfOk result (λ e. is_operand e ≡ true) }

@@ -7,11 +7,10 @@ ghost use Rattle.abi_driver.specs.Instructions.{Emits};
 ghost use Rattle.abi_driver.specs.declared.instruction.Instruction.TheVariants as instruction;
 ghost use Rattle.func_gen.specs.Meaning.{func_meaning};
 
+pub(crate) use crate::emit::scalars::{conversion, is_kept, number_cast};
 use crate::function_bindgen::FunctionBindgen;
 use crate::operand::{ExprOperand, copy_expr};
 use wit_model::{List, OutOfMemory, Resolve};
-
-pub(crate) use crate::emit::scalars::{conversion, is_kept, number_cast};
 
 impl FunctionBindgen {
     pub(crate) fn get_arg(

@@ -1,12 +1,19 @@
 //! What makes statements of instructions.
 
+ghost use Rattle.std.specs.Prelude.{◌≡◌, ◌∷◌, true, not, IfOk};
+ghost use Rattle.std.specs.List.{AllByRecursion};
+ghost use Rattle.wit_model.specs.Distinct.{is_distinct};
+ghost use Rattle.abi_driver.specs.Laws.{IsNew};
+ghost use Rattle.func_gen.specs.Meaning.{func_meaning};
+ghost use Rattle.func_gen.specs.Sites.{IsSite, site_names};
+
 use crate::operand::ExprOperand;
 use crate::scope::Scope;
 use abi_driver::Asked;
 use rust_tree::{CallBlock, RuntimeItem, Stmt};
 use std::alloc::Global;
 use wit_layout::SizeAlign;
-use wit_model::{List, Text};
+use wit_model::{List, OutOfMemory, Text};
 
 /// A parameter of a wrapper: what denotes its value, and its name.
 #[derive(Drop)]
@@ -42,4 +49,53 @@ pub struct FunctionBindgen {
     pub(crate) asked: List<Asked>,
     /// What the code gives, once it was told.
     pub(crate) returned: Option<List<ExprOperand>>,
+}
+
+/// The names that are used at first.
+fn first_names(alloc: Global, area: &Text, params: &[ParamSite]) -> Result<List<Text>, OutOfMemory>
+    ensures { IfOk result (λ names. names ≡ area.now ∷ site_names params.now) }
+{
+    let mut names = List::new(alloc);
+    names.push(area.copy(alloc)?)?;
+    for site in params {
+        names.push(site.name.copy(alloc)?)?;
+    }
+    Ok(names)
+}
+
+impl FunctionBindgen {
+    /// One without code, for a wrapper of these parameters, of an import or of an export. Core imports that are called are of the module
+    /// `home`, and methods of the trait of that name. The area is the local that holds an import's return area.
+    pub fn new(
+        alloc: Global,
+        sizes: SizeAlign,
+        import: bool,
+        home: Text,
+        area: Text,
+        params: List<ParamSite>,
+    ) -> Result<FunctionBindgen, OutOfMemory>
+        requires sites { AllByRecursion IsSite params }
+        requires distinct { is_distinct (area ∷ site_names params) ≡ true }
+        ensures begins { IfOk result (λ b. IsNew func_meaning b) }
+        ensures imports { IfOk result (λ b. func_meaning.imports b ≡ import) }
+        ensures exports { IfOk result (λ b. func_meaning.exports b ≡ not import) }
+    {
+        let used = first_names(alloc, &area, params.as_slice())?;
+        Ok(FunctionBindgen {
+            alloc,
+            sizes,
+            import,
+            home,
+            area,
+            params,
+            scope: Scope { used, next: 0 },
+            code: Code {
+                call: None,
+                stmts: List::new(alloc),
+            },
+            runtime: List::new(alloc),
+            asked: List::new(alloc),
+            returned: None,
+        })
+    }
 }

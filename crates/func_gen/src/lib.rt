@@ -5,6 +5,7 @@ mod added;
 mod emit;
 mod forms;
 mod function_bindgen;
+mod lawful;
 mod operand;
 mod scope;
 

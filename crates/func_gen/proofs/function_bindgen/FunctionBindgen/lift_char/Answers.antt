@@ -19,4 +19,4 @@ returns c =
     let adds = appends_both c.args.self.now c.ask.new.self c.add_let.new.self [] (stmt.Let n c.in_ok-lifted.lifted ∷ []) (CharLift ∷ []) [] c.in_ok-ask.ensures.asks c.in_ok-name.ensures.adds in
     emits_as types instruction.CharFromI32 _ _ _ _ _ _ c.in_ok-e.ensures.only (pushed c.args.results.now _ _ (expr.Local n) c.in_ok-push.ensures.ok c.requires.empty refl)
     (char_lift_row types _ _ n e c.in_ok-e.ensures.operand (fresh_since c.args.self.now c.ask.new.self c.add_let.new.self n c.in_ok-ask.ensures.scope c.in_ok-name.ensures.fresh)
-      (subst (λ x. Appends c.args.self.now c.add_let.new.self (stmt.Let n x ∷ []) (CharLift ∷ [])) same adds))
+    (subst (λ x. Appends c.args.self.now c.add_let.new.self (stmt.Let n x ∷ []) (CharLift ∷ [])) same adds))

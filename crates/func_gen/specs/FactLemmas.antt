@@ -151,7 +151,7 @@ module _ (items : List Item) (params : List ParamSite) where
   total_meet env n k (f ∷ fs) h =
       let here = is_said (less env n) f (omega (arith, h)) in
       let one = less_wrong (matches (fact_datum f) (fact_value items params (less env k) f)) (matches (fact_datum f) (fact_value items params (less (less env n) k) f))
-          (λ z. says_matches (fact_datum f) (fact_value items params (less (less env n) k) f) (says_meet env n k f here (matches_says (fact_datum f) (fact_value items params (less env k) f) z))) in
+      (λ z. says_matches (fact_datum f) (fact_value items params (less (less env n) k) f) (says_meet env n k f here (matches_says (fact_datum f) (fact_value items params (less env k) f) z))) in
       omega (arith, one, total_meet env n k fs (omega (arith, h)))
 
 pub less_under : (a b : Env) (n : Bytes) → Under a b → Under (less a n) (less b n)

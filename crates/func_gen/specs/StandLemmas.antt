@@ -19,14 +19,23 @@ use Rattle.wrapper_meaning.specs.Shape.Shapes.{none, more}
 use Rattle.wrapper_meaning.specs.StandsFor.{CaseStands, EachStands, EntryStands, IsFlag, PartsStand, PayloadStands, Standing, Stands, StandsAsBuffer}
 use Rattle.wrapper_meaning.specs.Value.{Case, Parts, Value, case_number}
 use Rattle.wrapper_meaning.proofs.PlainLists.{plain_is_alike}
-use Rattle.wrapper_values.specs.Owning.{both, concat, listed, owned_by, owned_level, taken_by, taken_by_entries}
+use Rattle.wit_layout.specs.Tree.{Scalar}
+use Rattle.wrapper_meaning.specs.StandsFor.{rust_scalar}
+use Rattle.wrapper_meaning.specs.Value.{ScalarValue}
+use Rattle.meaning_ties.proofs.Scalars.{same_rust}
+use Rattle.meaning_ties.specs.Simple.{scalar_type, told_scalar}
+use Rattle.wrapper_run.proofs.OwningLemmas.{owned-scalar}
+use Rattle.wrapper_values.specs.declared.state.Val.TheVariants as val
+use Rattle.wrapper_values.specs.Owning.{owned, both, concat, listed, owned_by, owned_level, taken_by, taken_by_entries}
 use Rattle.abi_driver.specs.Account.{addresses}
-use Rattle.func_gen.proofs.Scalars.{scalar_owns}
 
 addresses_both : (xs ys : List Block) → addresses (xs ++ ys) ≡ addresses xs ++ addresses ys
 addresses_both xs ys = map-append (λ (b : Block). b.address) xs ys
 
 -- 1. What values own
+
+pub scalar_owns : (s : Scalar) (v : ScalarValue s) → owned (val.Value (rust_scalar s v)) ≡ []
+scalar_owns s v = ap (λ r. owned (val.Value r)) (same_rust s v) ∙ owned-scalar (scalar_type s) (told_scalar s v)
 
 owned-buffer : (a n : ℕ) (o : Bool) → owned_by (value.Buffer a n o) ≡ owned_level (RustValue-F.Buffer a n o)
 owned-buffer a n o = ap owned_by (sym (rolls-Buffer a n o)) ∙ fold-roll-RustValue (List ℕ) owned_level (RustValue-F.Buffer a n o)

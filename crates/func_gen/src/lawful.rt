@@ -1,0 +1,71 @@
+//! The laws are kept.
+
+use crate::emit::{conversion, is_kept, number_cast};
+use crate::function_bindgen::FunctionBindgen;
+use crate::operand::ExprOperand;
+use abi_driver::{Bindgen, Instruction};
+use wit_layout::SizeAlign;
+use wit_model::{Alignment, ArchitectureSize, List, OutOfMemory, Resolve, WitType};
+
+impl Bindgen for FunctionBindgen {
+    ghost use Rattle.func_gen.specs.FuncSound.{func_sound};
+    ghost use Rattle.func_gen.specs.Meaning.{func_meaning};
+
+    type Operand = ExprOperand;
+
+    ghost meaning = { func_meaning };
+
+    ghost sound = { func_sound };
+
+    /// The statements of arguments and scalars, and what the code gives. Of any other instruction so far, and of an expression that is no
+    /// operand, the answer is `OutOfMemory`.
+    fn emit(
+        &mut self,
+        resolve: &Resolve,
+        inst: &Instruction,
+        operands: &mut List<ExprOperand>,
+        results: &mut List<ExprOperand>,
+    ) -> Result<(), OutOfMemory> {
+        if let Some(function) = conversion(inst) {
+            return self.convert(resolve, inst, function, operands, results);
+        }
+        if let Some(to) = number_cast(inst) {
+            return self.cast(resolve, inst, to, operands, results);
+        }
+        if is_kept(inst) {
+            return self.keep(resolve, inst, operands, results);
+        }
+        match *inst {
+            Instruction::GetArg(n) => self.get_arg(resolve, n, results),
+            Instruction::Return(n) => self.give(resolve, n, operands, results),
+            Instruction::I32FromBool => self.lower_bool(resolve, operands, results),
+            Instruction::BoolFromI32 => self.lift_bool(resolve, operands, results),
+            Instruction::CharFromI32 => self.lift_char(resolve, operands, results),
+            _ => Err(OutOfMemory),
+        }
+    }
+
+    fn push_block(&mut self) -> Result<(), OutOfMemory> {
+        Err(OutOfMemory)
+    }
+
+    fn finish_block(&mut self, _operands: &mut List<ExprOperand>) -> Result<(), OutOfMemory> {
+        Err(OutOfMemory)
+    }
+
+    fn return_pointer(
+        &mut self,
+        _size: ArchitectureSize,
+        _align: Alignment,
+    ) -> Result<ExprOperand, OutOfMemory> {
+        Err(OutOfMemory)
+    }
+
+    fn sizes(&self) -> &SizeAlign {
+        &self.sizes
+    }
+
+    fn is_list_canonical(&self, _resolve: &Resolve, _ty: &WitType) -> bool {
+        false
+    }
+}
