@@ -1,10 +1,10 @@
 -- What an operand reads is what it evaluates to, where that owns no block.
-use Rattle.std.proofs.Common.{rules, ◌≡◌, ℕ, Bool, true, false, List, [], ◌∷◌, map, Option, None, Some, refl, sym, ap, ◌∙◌, subst}
+use Rattle.std.proofs.Common.{◌≡◌, [], ◌∷◌, map, Option, None, Some, refl, sym, ap, ◌∙◌, subst}
 use Rattle.std.specs.Prelude.{option_and_then, Result}
 use Rattle.std.specs.Option.{option_map}
 use Rattle.wit_model.specs.Bytes.{Bytes}
 use Rattle.rust_tree.specs.declared.expr.CastType.{CastType}
-use Rattle.rust_tree.specs.declared.expr.Expr.{Expr, Expr-F, fold-roll-Expr, ind-Expr, map-Expr, roll-Expr, the_lemmas}
+use Rattle.rust_tree.specs.declared.expr.Expr.{Expr, Expr-F, fold-roll-Expr, ind-Expr, map-Expr, roll-Expr}
 use Rattle.rust_tree.specs.declared.expr.Expr.TheVariants as expr
 use Rattle.rust_tree.specs.declared.expr.Expr.TheVariants.{rolls-Call, rolls-Cast, rolls-CastMut, rolls-Local, rolls-Ref}
 use Rattle.rust_tree.specs.declared.path.Path.{Path}
@@ -17,14 +17,14 @@ use Rattle.wrapper_values.specs.declared.owning.View.TheVariants as view_of
 use Rattle.wrapper_values.specs.declared.state.State.{State}
 use Rattle.wrapper_values.specs.declared.state.Val.{Val}
 use Rattle.wrapper_values.specs.declared.state.Val.TheVariants as val
-use Rattle.wrapper_values.specs.Act.{Act, Done, ◌>>=◌, all, and_then, or_stop, pure}
+use Rattle.wrapper_values.specs.Act.{Done, ◌>>=◌, all, and_then, or_stop, pure}
 use Rattle.wrapper_values.specs.Effect.{cast_to, converted, lift_of}
 use Rattle.wrapper_values.specs.Locals.{ask_local, lend_local, local_named, usable, use_local, used, value_of}
 use Rattle.wrapper_values.specs.Owning.{lent, owned, view}
 use Rattle.wrapper_values.specs.Setting.{Setting, stuck}
-use Rattle.wrapper_run.specs.Run.{Callee, alone, apply, call, call_callee, call_runtime, callee, converted_or_lifted, core_forget, eval, eval_step, of_runtime, runtime_item_named, unknown}
+use Rattle.wrapper_run.specs.Run.{Callee, alone, apply, call, call_callee, call_runtime, callee, converted_or_lifted, core_forget, eval, of_runtime, runtime_item_named, unknown}
 use Rattle.wrapper_run.proofs.StepLemmas.{eval-call, eval-cast, eval-cast_mut, eval-local, eval-ref}
-use Rattle.func_gen.specs.Read.{Env, Read, as_pointer, conversion, converts, env_of, nothing, read, read_step}
+use Rattle.func_gen.specs.Read.{Read, as_pointer, conversion, converts, env_of, nothing, read, read_step}
 use Rattle.func_gen.specs.ReadForms.{at_read, bare_value, lent_of, read-call, read-cast, read-cast_mut, read-local, read-ref}
 
 module _ (w : Setting) where

@@ -1,5 +1,5 @@
 -- Facts last where locals are added, and a new local has its own.
-use Rattle.std.proofs.Common.{◌≡◌, ℕ, ◌+◌, ◌≤◌, Bool, true, false, cond, ◌||◌, not, List, [], ◌∷◌, ◌++◌, Option, None, Some, refl, sym, ap, ◌∙◌, subst, arith}
+use Rattle.std.proofs.Common.{◌≡◌, ℕ, ◌+◌, ◌≤◌, Bool, true, false, cond, List, [], ◌∷◌, ◌++◌, Option, None, Some, refl, sym, ap, ◌∙◌, subst, arith}
 use Rattle.std.specs.List.{flat_map, list_any}
 use Rattle.std.specs.Option.{option_or}
 use Rattle.std.specs.Str.{bytes_eq}
@@ -9,7 +9,6 @@ use Rattle.std.proofs.lemmas.List.Folds.{list_any-append}
 use Rattle.std.proofs.lemmas.Slice.Eq.{bytes_eq-Decides}
 use Rattle.rust_tree.specs.declared.item.Item.{Item}
 use Rattle.wit_model.specs.Bytes.{Bytes}
-use Rattle.wrapper_data.specs.declared.block.Block.{Block}
 use Rattle.wrapper_data.specs.declared.choice.Request.{Request}
 use Rattle.wrapper_data.specs.declared.value.RustValue.{RustValue}
 use Rattle.wrapper_meaning.specs.Items.{AtMost, total}
@@ -19,7 +18,7 @@ use Rattle.wrapper_values.specs.declared.state.Val.{Val}
 use Rattle.wrapper_values.specs.declared.state.Val.TheVariants as val
 use Rattle.wrapper_values.specs.Locals.{local_named, value_of}
 use Rattle.wrapper_values.specs.Owning.{owned, owned_in}
-use Rattle.wrapper_run.proofs.LocalLemmas.{last-append, reads-new, reads-past}
+use Rattle.wrapper_run.proofs.LocalLemmas.{last-append, reads-past}
 use Rattle.abi_driver.specs.declared.bindgen.Asked.{Asked}
 use Rattle.abi_driver.specs.Meaning.{Datum, Fact, of}
 use Rattle.abi_driver.proofs.Runs.{total-append}
@@ -30,8 +29,8 @@ use Rattle.func_gen.specs.declared.scope.Scope.{Scope}
 use Rattle.func_gen.specs.Added.{Fresh}
 use Rattle.func_gen.specs.Facts.{AreOwned, Hold, Owns, wrong}
 use Rattle.func_gen.specs.Meaning.{AreaIs, Denote, File, FuncState, owns_of}
-use Rattle.func_gen.specs.Read.{Env, Read, Under, env_of, less, read}
-use Rattle.func_gen.specs.Scope.{Declares, is_free, is_used, names_at, numbered}
+use Rattle.func_gen.specs.Read.{Env, Under, env_of, less, read}
+use Rattle.func_gen.specs.Scope.{Declares, is_used, names_at, numbered}
 use Rattle.func_gen.specs.FactLemmas.{Says, less_under, said, total_mono}
 
 -- 1. A local more

@@ -1,6 +1,6 @@
 -- The rows of bools and of chars that are lifted: a statement binds what the expression gives.
-use Rattle.std.proofs.Common.{◌≡◌, ℕ, zero, suc, ℤ, pos, negsuc, ◌^◌, Bool, true, false, nat_eq, nat_lt, if◌then◌else◌, List, [], ◌∷◌, ◌++◌, Option, None, Some, refl, sym, ap, ◌∙◌, subst, arith}
-use Rattle.std.specs.Prelude.{option_and_then, Result, Ok, Err, unsigned_abs}
+use Rattle.std.proofs.Common.{◌≡◌, ℕ, zero, suc, ℤ, pos, negsuc, Bool, true, false, nat_eq, nat_lt, if◌then◌else◌, List, [], ◌∷◌, Option, None, Some, refl, sym, ap, ◌∙◌, subst, arith}
+use Rattle.std.specs.Prelude.{option_and_then, Result, Ok, Err}
 use Rattle.std.proofs.lemmas.Bool.Decides.{nat_tests}
 use Rattle.std.proofs.lemmas.Int.{ints}
 use Rattle.wit_layout.specs.Tree.{Scalar}
@@ -35,24 +35,22 @@ use Rattle.wrapper_values.specs.declared.state.State.{State}
 use Rattle.wrapper_values.specs.declared.state.Val.{Val}
 use Rattle.wrapper_values.specs.declared.state.Val.TheVariants as val
 use Rattle.wrapper_values.specs.Act as machine
-use Rattle.wrapper_values.specs.Effect.{bit, word_of_bool, bool_of_number, cast_integer, char_of_number, converted, is_of_kind, lift_of, lift_of_number, low, rust_of}
-use Rattle.wrapper_values.specs.Locals.{usable}
+use Rattle.wrapper_values.specs.Effect.{bit, word_of_bool, bool_of_number, cast_integer, char_of_number, is_of_kind, lift_of, lift_of_number, low, rust_of}
 use Rattle.wrapper_values.specs.Owning.{owned}
 use Rattle.wrapper_values.specs.Setting.{Setting}
-use Rattle.wrapper_run.specs.Run.{apply, call, call_callee, call_runtime, callee, converted_or_lifted, eval, lift_act, runtime_item_named}
+use Rattle.wrapper_run.specs.Run.{apply, call_callee, call_runtime, converted_or_lifted, eval, lift_act, runtime_item_named}
 use Rattle.wrapper_run.proofs.NumberLemmas.{not-converted, num_of-number, word_of-bool}
 use Rattle.wrapper_run.proofs.QuietSteps.{quiet_bool}
 use Rattle.wrapper_run.proofs.StepLemmas.{Quiet, bool_gives, call_gives, quiet_runtime}
 use Rattle.abi_driver.specs.declared.instruction.Instruction.TheVariants.{BoolFromI32, CharFromI32, I32FromBool}
-use Rattle.abi_driver.specs.Account.{Account, Act, Done, Got, Outcome, Peer, Stuck, checking, failing, reading, stay}
+use Rattle.abi_driver.specs.Account.{Peer, failing, reading, stay}
 use Rattle.abi_driver.specs.Instructions.{Emits}
 use Rattle.abi_driver.specs.Laws.{Facts}
-use Rattle.abi_driver.specs.Leaves.{LiftsScalar}
 use Rattle.abi_driver.specs.Meaning.{Datum, item, of, word}
 use Rattle.func_gen.specs.declared.function_bindgen.FunctionBindgen.{FunctionBindgen}
 use Rattle.func_gen.specs.declared.operand.ExprOperand.{ExprOperand}
 use Rattle.func_gen.specs.Added.{Appends, Fresh}
-use Rattle.func_gen.specs.Facts.{Hold, wrong}
+use Rattle.func_gen.specs.Facts.{Hold}
 use Rattle.func_gen.specs.Forms.{operand_of, runtime_call, runtime_path}
 use Rattle.func_gen.specs.Meaning.{File, Found, StandsAsItIs, account_of, answer_of, func_meaning, setting_for}
 use Rattle.func_gen.specs.Operand.{is_operand}

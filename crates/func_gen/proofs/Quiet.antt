@@ -1,5 +1,5 @@
 -- Operands make no call, whatever they are evaluated in.
-use Rattle.std.proofs.Common.{◌≡◌, ℕ, zero, suc, Bool, true, false, cond, ◌&&◌, List, [], ◌∷◌, map, None, Some, refl, sym, ap, ◌∙◌, subst}
+use Rattle.std.proofs.Common.{◌≡◌, ℕ, zero, suc, Bool, true, false, cond, ◌&&◌, List, [], ◌∷◌, map, refl, sym, ap, ◌∙◌, subst}
 use Rattle.std.specs.Prelude.{codes, option_and_then}
 use Rattle.std.specs.Str.{bytes_eq}
 use Rattle.std.proofs.lemmas.Bool.{and_parts}
@@ -18,7 +18,7 @@ use Rattle.wrapper_values.specs.Setting.{Setting, stuck}
 use Rattle.wrapper_run.specs.Run.{callee, eval, of_runtime, path_callee, runtime_module_name, unknown}
 use Rattle.wrapper_run.proofs.QuietSteps.{quiet_cast_mut}
 use Rattle.wrapper_run.proofs.StepLemmas.{Quiet, eval-cast, eval-ref, quiet_local, quiet_or_stop, quiet_runtime, quiet_then}
-use Rattle.func_gen.specs.Operand.{is_conversion, is_conversion_of, is_converted, is_converting, is_operand, operand_step}
+use Rattle.func_gen.specs.Operand.{is_conversion, is_conversion_of, is_converting, is_operand, operand_step}
 
 quiet_lend : (e : Stop) (name : Bytes) → Quiet (lend_local e name)
 unfolding lend_local

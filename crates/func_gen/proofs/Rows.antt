@@ -1,7 +1,6 @@
 -- The rows of instructions that add no statement, and of those that bind one local.
-use Rattle.std.proofs.Common.{◌≡◌, ℕ, ◌+◌, ◌≤◌, Bool, true, false, if◌then◌else◌, List, [], ◌∷◌, ◌++◌, map, Option, None, Some, refl, sym, ap, ◌∙◌, subst, arith, append-nil, append_assoc}
+use Rattle.std.proofs.Common.{◌≡◌, ℕ, Bool, true, false, if◌then◌else◌, List, [], ◌∷◌, ◌++◌, map, Option, None, Some, refl, sym, ap, ◌∙◌, subst, arith, append-nil, append_assoc}
 use Rattle.std.specs.Prelude.{option_and_then}
-use Rattle.wit_layout.specs.Tree.{Scalar}
 use Rattle.wit_model.specs.Bytes.{Bytes}
 use Rattle.wit_model.specs.declared.types.TypeDef.{TypeDef}
 use Rattle.rust_tree.specs.declared.expr.Expr.{Expr}
@@ -10,18 +9,14 @@ use Rattle.rust_tree.specs.declared.item.Item.{Item}
 use Rattle.rust_tree.specs.declared.runtime_item.RuntimeItem.{RuntimeItem}
 use Rattle.rust_tree.specs.declared.stmt.Stmt.{Stmt}
 use Rattle.rust_tree.specs.declared.stmt.Stmt.TheVariants as stmt
-use Rattle.wrapper_data.specs.declared.form.Form.TheVariants as form
-use Rattle.wrapper_data.specs.declared.answer.Answer.TheVariants as answer
 use Rattle.wrapper_data.specs.declared.run.Stop.{Stop}
 use Rattle.wrapper_data.specs.declared.run.Stop.TheVariants as stop_of
 use Rattle.wrapper_data.specs.declared.value.RustValue.{RustValue}
-use Rattle.wrapper_meaning.specs.Items.{SameItems, total}
+use Rattle.wrapper_meaning.specs.Items.{total}
 use Rattle.wrapper_values.specs.declared.state.State.{State}
 use Rattle.wrapper_values.specs.declared.state.Val.{Val}
-use Rattle.wrapper_values.specs.declared.state.Val.TheVariants as val
 use Rattle.wrapper_values.specs.Act as machine
 use Rattle.wrapper_values.specs.Act.{and_then, pure}
-use Rattle.wrapper_values.specs.Effect.{rust_of}
 use Rattle.wrapper_values.specs.Locals.{bind, usable}
 use Rattle.wrapper_values.specs.Owning.{owned}
 use Rattle.wrapper_values.specs.Setting.{Setting}
@@ -32,7 +27,7 @@ use Rattle.abi_driver.specs.Account.{Account, Act, Done, Follows, Got, Outcome, 
 use Rattle.abi_driver.specs.declared.instruction.Instruction.{Instruction}
 use Rattle.abi_driver.specs.Instructions.{Emits}
 use Rattle.abi_driver.specs.Laws.{Adds, After, At, Does, Facts, Stays}
-use Rattle.abi_driver.specs.Meaning.{Datum, Fact, arg, item, of, word}
+use Rattle.abi_driver.specs.Meaning.{Datum, Fact, of}
 use Rattle.abi_driver.proofs.Runs.{total-append}
 use Rattle.func_gen.specs.declared.function_bindgen.FunctionBindgen.{FunctionBindgen}
 use Rattle.func_gen.specs.declared.operand.ExprOperand.{ExprOperand}
@@ -41,7 +36,7 @@ use Rattle.func_gen.specs.Added.{Appends, Fresh}
 use Rattle.func_gen.specs.Facts.{Hold, fact_datum, fact_value, wrong}
 use Rattle.func_gen.specs.Forms.{operand_of}
 use Rattle.func_gen.specs.Meaning.{File, Found, FuncState, account_of, call_of, func_meaning, owns_of, seen, setting_for}
-use Rattle.func_gen.specs.Read.{Env, Read, env_of, less, read, read_step}
+use Rattle.func_gen.specs.Read.{Env, Read, env_of, less}
 use Rattle.func_gen.specs.Scope.{is_used}
 use Rattle.func_gen.specs.ReadForms.{read-local}
 use Rattle.func_gen.specs.FactLemmas.{Says, follows}

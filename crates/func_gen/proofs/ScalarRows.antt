@@ -1,12 +1,9 @@
 -- The rows of scalars.
-use Rattle.std.proofs.Common.{◌≡◌, ℕ, zero, suc, ℤ, pos, negsuc, ◌^◌, Bool, true, false, nat_eq, nat_lt, if◌then◌else◌, List, [], ◌∷◌, ◌++◌, Option, None, Some, refl, sym, ap, ◌∙◌, subst, arith}
-use Rattle.std.specs.Prelude.{option_and_then, Result, Ok, Err, unsigned_abs}
-use Rattle.std.proofs.lemmas.Int.{ints}
+use Rattle.std.proofs.Common.{◌≡◌, ℕ, ℤ, true, if◌then◌else◌, List, [], ◌∷◌, ◌++◌, Option, None, Some, refl, sym, ap, ◌∙◌, subst}
+use Rattle.std.specs.Prelude.{option_and_then}
 use Rattle.wit_layout.specs.Flat.{core_type}
 use Rattle.wit_layout.specs.Tree.{Scalar}
-use Rattle.wit_model.specs.Bytes.{Bytes}
 use Rattle.wit_model.specs.declared.types.TypeDef.{TypeDef}
-use Rattle.wit_model.specs.declared.types.WitType.TheVariants as wit
 use Rattle.wit_model.specs.declared.wasm_type.WasmType.TheVariants as wasm
 use Rattle.rust_tree.specs.declared.expr.CastType.{CastType}
 use Rattle.rust_tree.specs.declared.expr.CastType.TheVariants as cast
@@ -14,59 +11,39 @@ use Rattle.rust_tree.specs.declared.expr.Expr.{Expr}
 use Rattle.rust_tree.specs.declared.expr.Expr.TheVariants as expr
 use Rattle.rust_tree.specs.declared.item.Item.{Item}
 use Rattle.rust_tree.specs.declared.runtime_item.RuntimeItem.{RuntimeItem}
-use Rattle.rust_tree.specs.declared.runtime_item.RuntimeItem.TheVariants.{AsI32, AsI64, AsF32, AsF64, BoolLift, CharLift}
-use Rattle.rust_tree.specs.declared.stmt.Stmt.TheVariants as stmt
 use Rattle.rust_tree.specs.Runtime.{item_name}
 use Rattle.wrapper_data.specs.declared.form.Form.{Form}
-use Rattle.wrapper_data.specs.declared.form.Form.TheVariants as form
-use Rattle.wrapper_data.specs.declared.run.TrapKind.{TrapKind}
-use Rattle.wrapper_data.specs.declared.run.TrapKind.TheVariants as trap
 use Rattle.wrapper_data.specs.declared.value.RustValue.{RustValue}
-use Rattle.wrapper_data.specs.declared.value.RustValue.TheVariants as value
 use Rattle.wrapper_data.specs.declared.word.Word.{Word}
 use Rattle.wrapper_data.specs.declared.word.Word.TheVariants as core
 use Rattle.wrapper_meaning.specs.AsWords.{IsTaken, passed_word}
 use Rattle.wrapper_meaning.specs.Direction.{take}
 use Rattle.wrapper_meaning.specs.InRange.{IsScalar}
-use Rattle.wrapper_meaning.specs.Numbers.{is_scalar_value, low_bits}
-use Rattle.wrapper_meaning.specs.Numbers as number
 use Rattle.wrapper_meaning.specs.Shape.Shape.{scalar}
 use Rattle.wrapper_meaning.specs.StandsFor.{rust_scalar}
 use Rattle.wrapper_meaning.specs.Value.{ScalarValue}
-use Rattle.wrapper_values.specs.declared.state.State.{State}
-use Rattle.wrapper_values.specs.declared.state.Val.{Val}
 use Rattle.wrapper_values.specs.declared.state.Val.TheVariants as val
-use Rattle.wrapper_values.specs.Act as machine
-use Rattle.wrapper_values.specs.Effect.{bit, bool_of_number, cast_integer, char_of_number, converted, integer_of, is_of_kind, is_unsigned, lift_of, lift_of_number, low, rust_of, rust_of_word}
-use Rattle.wrapper_values.specs.Locals.{usable}
-use Rattle.wrapper_values.specs.Owning.{owned}
-use Rattle.wrapper_values.specs.Setting.{Setting}
-use Rattle.wrapper_run.specs.Run.{apply, call, call_callee, call_runtime, callee, converted_or_lifted, eval, lift_act, of_runtime, runtime_item_named, runtime_module_name}
-use Rattle.wrapper_run.proofs.NumberLemmas.{not-converted, num_of-number, word_of-bool}
-use Rattle.wrapper_run.proofs.QuietSteps.{quiet_bool}
-use Rattle.wrapper_run.proofs.StepLemmas.{Quiet, bool_gives, call_gives, quiet_runtime}
+use Rattle.wrapper_values.specs.Effect.{cast_integer, integer_of, rust_of, rust_of_word}
+use Rattle.wrapper_run.specs.Run.{callee, of_runtime, runtime_item_named, runtime_module_name}
 use Rattle.abi_driver.specs.declared.instruction.Instruction.{Instruction}
-use Rattle.abi_driver.specs.declared.instruction.Instruction.TheVariants.{BoolFromI32, CharFromI32, I32FromBool, I32FromU8, I32FromS8, I32FromU16, I32FromS16, I32FromU32, I32FromS32, I32FromChar, I64FromU64, I64FromS64, CoreF32FromF32, CoreF64FromF64, U8FromI32, S8FromI32, U16FromI32, S16FromI32, U32FromI32, S32FromI32, U64FromI64, S64FromI64, F32FromCoreF32, F64FromCoreF64}
-use Rattle.abi_driver.specs.Account.{Account, Act, Done, Follows, Got, Outcome, Peer, Stuck, checking, failing, has_type, reading, stay}
+use Rattle.abi_driver.specs.declared.instruction.Instruction.TheVariants.{I32FromU8, I32FromS8, I32FromU16, I32FromS16, I32FromU32, I32FromS32, I32FromChar, I64FromU64, I64FromS64, CoreF32FromF32, CoreF64FromF64, U8FromI32, S8FromI32, U16FromI32, S16FromI32, U32FromI32, S32FromI32, U64FromI64, S64FromI64, F32FromCoreF32, F64FromCoreF64}
+use Rattle.abi_driver.specs.Account.{Account, Follows, Stuck, checking, has_type, stay}
 use Rattle.abi_driver.specs.Instructions.{Emits, MakesBy, RowBy, lifted_scalar, lowered_scalar}
 use Rattle.abi_driver.specs.Laws.{Adds, After, Facts}
 use Rattle.abi_driver.specs.Leaves.{LiftsScalar, LowersScalar}
-use Rattle.abi_driver.specs.Meaning.{Datum, item, of, word}
+use Rattle.abi_driver.specs.Meaning.{item, of, word}
 use Rattle.abi_driver.proofs.Ordinary.{code_of, lifts_ordinary, lowers_ordinary, still_returned}
 use Rattle.func_gen.specs.declared.function_bindgen.FunctionBindgen.{FunctionBindgen}
 use Rattle.func_gen.specs.declared.operand.ExprOperand.{ExprOperand}
-use Rattle.func_gen.specs.Added.{Appends, Fresh}
-use Rattle.func_gen.specs.Facts.{Hold}
+use Rattle.func_gen.specs.Added.{Appends}
 use Rattle.func_gen.specs.Forms.{conversion, is_kept, number_cast, operand_of, runtime_call, runtime_name, runtime_path}
-use Rattle.func_gen.specs.Meaning.{File, Found, StandsAsItIs, account_of, answer_of, func_meaning, setting_for}
-use Rattle.func_gen.specs.Operand.{is_operand}
+use Rattle.func_gen.specs.Meaning.{StandsAsItIs, account_of, func_meaning}
 use Rattle.func_gen.specs.Read.{Env, Read, converts, env_of, on_bare, read}
 use Rattle.func_gen.specs.Read as reader
 use Rattle.func_gen.specs.ReadForms.{read-call, read-cast}
-use Rattle.func_gen.specs.FactLemmas.{Says, is_said}
-use Rattle.func_gen.proofs.Quiet.{quiet_cast_of, quiet_operand}
-use Rattle.func_gen.proofs.Rows.{Agrees, let_adds, lets, none_adds, swaps, tests}
-use Rattle.func_gen.proofs.Scalars.{bool_is, cast_word, conversion_to, converts_scalar, is_number, option_some, stands_scalar, taken_is, taken_word}
+use Rattle.func_gen.specs.FactLemmas.{Says}
+use Rattle.func_gen.proofs.Rows.{none_adds, swaps, tests}
+use Rattle.func_gen.proofs.Scalars.{cast_word, conversion_to, converts_scalar, is_number, option_some, stands_scalar, taken_is, taken_word}
 
 -- 1. What is emitted
 

@@ -1,9 +1,7 @@
 -- What the forms of scalars give: core words of numbers and chars, and numbers of core words.
-use Rattle.std.proofs.Common.{rules, ◌≡◌, ℕ, ℤ, pos, Bool, true, false, List, [], ◌∷◌, Option, None, Some, refl, sym, ap, ◌∙◌, subst}
-use Rattle.std.specs.Prelude.{option_and_then, unsigned_abs}
-use Rattle.std.specs.Int.{w8, w16, cast_signed}
-use Rattle.std.specs.Option.{option_map, option_or}
-use Rattle.wit_layout.specs.Flat.{core_type}
+use Rattle.std.proofs.Common.{rules, ◌≡◌, ℕ, ℤ, Bool, true, false, [], Option, None, Some, refl, sym, ap, ◌∙◌, subst}
+use Rattle.std.specs.Prelude.{option_and_then}
+use Rattle.std.specs.Option.{option_map}
 use Rattle.wit_layout.specs.Tree.{Scalar}
 use Rattle.wit_model.specs.declared.types.WitType.{WitType}
 use Rattle.wit_model.specs.declared.types.WitType.TheVariants as wit
@@ -11,7 +9,6 @@ use Rattle.rust_tree.specs.declared.expr.CastType.{CastType}
 use Rattle.rust_tree.specs.declared.expr.CastType.TheVariants as cast
 use Rattle.rust_tree.specs.declared.runtime_item.RuntimeItem.{RuntimeItem}
 use Rattle.rust_tree.specs.declared.runtime_item.RuntimeItem.TheVariants.{AsI32, AsI64, AsF32, AsF64}
-use Rattle.wrapper_data.specs.declared.block.Block.{Block}
 use Rattle.wrapper_data.specs.declared.value.RustValue.{RustValue, RustValue-F, fold-RustValue, fold-roll-RustValue, out-RustValue, the_lemmas}
 use Rattle.wrapper_data.specs.declared.value.RustValue.TheVariants as value
 use Rattle.wrapper_data.specs.declared.value.RustValue.TheVariants.{rolls-Bool, rolls-Char, rolls-F32, rolls-F64, rolls-Num}
@@ -26,11 +23,9 @@ use Rattle.wrapper_meaning.specs.Value.{ScalarValue}
 use Rattle.wrapper_meaning.proofs.RustValues.{f32_same, f64_same, num_same}
 use Rattle.wrapper_values.specs.declared.state.Val.{Val}
 use Rattle.wrapper_values.specs.declared.state.Val.TheVariants as val
-use Rattle.wrapper_values.specs.Effect.{cast_integer, cast_to, char_of, converted, f32_of_level, f64_of_level, i32_of_char, i32_of_number, integer_of, low, rust_of, rust_of_word}
-use Rattle.wrapper_values.specs.Owning.{owned, owned_by}
-use Rattle.wrapper_run.specs.StandsFor.{rust_value}
+use Rattle.wrapper_values.specs.Effect.{cast_integer, cast_to, converted, integer_of, rust_of, rust_of_word}
+use Rattle.wrapper_values.specs.Owning.{owned}
 use Rattle.wrapper_run.proofs.NumberLemmas.{converted-char, converted-f32, converted-f64, converted-narrow, converted-wide, low_i32-s16, low_i32-s32, low_i32-s8, low_i32-u16, low_i32-u8, low_i64-s64}
-use Rattle.abi_driver.specs.Account.{has_type}
 use Rattle.meaning_ties.proofs.Scalars.{takes}
 use Rattle.func_gen.specs.Meaning.{IsNormal, StandsAsItIs, passing_level}
 use Rattle.func_gen.specs.StandLemmas.{scalar_owns}

@@ -1,5 +1,5 @@
 -- A new `FunctionBindgen` can be run: from a state for each account, and for any arguments.
-use Rattle.std.proofs.Common.{◌≡◌, ◌⊎◌, ℕ, zero, suc, ◌+◌, ◌≤◌, ◌<◌, Bool, true, false, cond, ◌&&◌, ◌||◌, nat_eq, nat_lt, List, [], ◌∷◌, ◌++◌, length, map, find, Option, None, Some, refl, sym, ap, ap₂, ◌∙◌, subst, arith}
+use Rattle.std.proofs.Common.{◌≡◌, ℕ, zero, suc, ◌+◌, ◌<◌, Bool, true, false, cond, ◌||◌, nat_eq, nat_lt, List, [], ◌∷◌, ◌++◌, length, map, Option, None, Some, refl, sym, ap, ap₂, ◌∙◌, subst, arith}
 use Rattle.std.specs.Prelude.{option_and_then, option_to_list, slice_get, Contains, IfSome}
 use Rattle.std.specs.List.{flat_map, AllByRecursion}
 use mathlib.Core.Logic.{inl, inr}
@@ -7,11 +7,9 @@ use Rattle.std.specs.Str.{bytes_eq}
 use Rattle.std.proofs.lemmas.Bool.{and_from, and_parts, eq-eqb, lt-ltb}
 use Rattle.wit_model.specs.Bytes.{Bytes}
 use Rattle.wit_model.specs.Distinct.{is_distinct}
-use Rattle.rust_tree.specs.declared.expr.Expr.TheVariants as expr
 use Rattle.rust_tree.specs.declared.item.Item.{Item}
 use Rattle.wrapper_data.specs.declared.block.Block.{Block}
 use Rattle.wrapper_data.specs.declared.choice.Request.{Request}
-use Rattle.wrapper_data.specs.declared.heap.Heap.{Heap}
 use Rattle.wrapper_data.specs.declared.run.CallPoint.{CallPoint}
 use Rattle.wrapper_data.specs.declared.value.RustValue.{RustValue}
 use Rattle.wrapper_meaning.specs.Items.{total}
@@ -19,17 +17,15 @@ use Rattle.wrapper_values.specs.declared.state.Local.{Local}
 use Rattle.wrapper_values.specs.declared.state.State.{State}
 use Rattle.wrapper_values.specs.declared.state.Val.{Val}
 use Rattle.wrapper_values.specs.declared.state.Val.TheVariants as val
-use Rattle.wrapper_values.specs.Effect.{rust_of}
-use Rattle.wrapper_values.specs.Locals.{local_named, usable, value_of}
-use Rattle.wrapper_values.specs.Owning.{lent, lent_value, owned, owned_in}
+use Rattle.wrapper_values.specs.Locals.{local_named, usable}
+use Rattle.wrapper_values.specs.Owning.{lent, owned, owned_in}
 use Rattle.wrapper_run.specs.Memory.{begins_at, block_from}
 use Rattle.wrapper_run.specs.Run.{bound}
 use Rattle.wrapper_run.proofs.LocalLemmas.{ReadsAll, SameLength, reads_bound, unbound}
 use Rattle.abi_driver.specs.Account.{Account, Call}
 use Rattle.abi_driver.specs.Area.{HoldsRecord, MayStand, StandsIn}
-use Rattle.abi_driver.specs.Laws.{AreLent, Data, Facts, IsCount, IsNew, args}
-use Rattle.abi_driver.specs.Meaning.{Datum, Fact, arg, item, word}
-use Rattle.func_gen.specs.declared.function_bindgen.Code.{Code}
+use Rattle.abi_driver.specs.Laws.{AreLent, Data, IsNew, args}
+use Rattle.abi_driver.specs.Meaning.{Datum, arg, item, word}
 use Rattle.func_gen.specs.declared.function_bindgen.FunctionBindgen.{FunctionBindgen}
 use Rattle.func_gen.specs.declared.function_bindgen.ParamSite.{ParamSite}
 use Rattle.func_gen.specs.FactLemmas.{Says, said}

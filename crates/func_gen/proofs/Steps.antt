@@ -1,5 +1,5 @@
 -- Statements that are added to the code: how it then runs, and what it leaves as it was.
-use Rattle.std.proofs.Common.{◌≡◌, ℕ, Bool, true, false, not, if◌then◌else◌, List, [], ◌∷◌, ◌++◌, length, map, Option, None, Some, refl, sym, ap, ap₂, ◌∙◌, subst, append_assoc, append-nil}
+use Rattle.std.proofs.Common.{◌≡◌, ℕ, not, if◌then◌else◌, List, [], ◌∷◌, ◌++◌, length, map, Option, Some, refl, sym, ap, ap₂, ◌∙◌, subst}
 use Rattle.std.specs.List.{AllByRecursion}
 use Rattle.wit_layout.specs.Filled.{IsFilledFor}
 use Rattle.wit_model.specs.Bytes.{Bytes}
@@ -15,13 +15,13 @@ use Rattle.wrapper_values.specs.Act.{Act, and_then}
 use Rattle.wrapper_values.specs.Setting.{Setting}
 use Rattle.wrapper_run.specs.Run.{run_stmt, run_stmts}
 use Rattle.wrapper_run.proofs.StepLemmas.{Quiet, calls_at}
-use Rattle.abi_driver.specs.Account.{Done, Outcome, Peer, Stopped, Stops, Stuck, account_in}
+use Rattle.abi_driver.specs.Account.{Done, Peer, Stops, account_in}
 use Rattle.abi_driver.specs.Area.{HoldsRecord}
 use Rattle.abi_driver.specs.Laws.{Adds, At, Facts, Grows}
 use Rattle.func_gen.specs.declared.function_bindgen.Code.{Code}
 use Rattle.func_gen.specs.declared.function_bindgen.FunctionBindgen.{FunctionBindgen}
 use Rattle.func_gen.specs.Added.{Appends}
-use Rattle.func_gen.specs.Meaning.{File, Found, FuncState, Serves, account_of, call_of, func_meaning, run_code, run_head, seen, setting_for, static_request}
+use Rattle.func_gen.specs.Meaning.{File, Found, FuncState, Serves, call_of, func_meaning, run_code, run_head, seen, setting_for, static_request}
 use Rattle.func_gen.proofs.RuntimeItems.{found_left, has_more}
 
 -- 1. Outcomes of the machine, as they are seen

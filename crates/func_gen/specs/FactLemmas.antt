@@ -1,6 +1,6 @@
 -- When a fact is right, and that it stays so where more names are known.
-use Rattle.std.proofs.Common.{◌≡◌, ℕ, ◌+◌, ◌≤◌, Bool, true, false, cond, ◌&&◌, List, [], ◌∷◌, ◌++◌, Option, None, Some, refl, sym, ap, ap₂, ◌∙◌, subst, arith}
-use Rattle.std.specs.Prelude.{nat_eq, option_and_then, slice_get}
+use Rattle.std.proofs.Common.{◌≡◌, ℕ, ◌≤◌, Bool, true, false, cond, List, [], ◌∷◌, Option, None, Some, refl, sym, ap, ap₂, ◌∙◌, arith}
+use Rattle.std.specs.Prelude.{option_and_then, slice_get}
 use Rattle.std.specs.Coded.{Coded, coded_option}
 use Rattle.std.proofs.lemmas.Bool.{and_parts, and_from}
 use Rattle.std.proofs.lemmas.Bool.Decides.{nat_tests}
@@ -10,7 +10,6 @@ use Rattle.rust_tree.specs.declared.item.Item.{Item}
 use Rattle.wit_model.specs.Bytes.{Bytes}
 use Rattle.wrapper_data.specs.contracts.value.RustValue as rust
 use Rattle.wrapper_data.specs.declared.value.RustValue.{RustValue}
-use Rattle.wrapper_data.specs.declared.word.Word.{Word}
 use Rattle.wrapper_meaning.specs.Items.{total}
 use Rattle.wrapper_values.specs.contracts.state.Val as vals
 use Rattle.wrapper_values.specs.declared.state.Val.{Val}

@@ -1,10 +1,8 @@
 -- That the meaning of a `FunctionBindgen` is one: it keeps the laws on facts, operands and items.
 use mathlib.Core.Logic.{inl}
-use Rattle.std.proofs.Common.{◌≡◌, ℕ, ◌+◌, ◌≤◌, List, [], ◌∷◌, ◌++◌, Option, None, Some, refl, sym, ap, ◌∙◌, subst, arith}
+use Rattle.std.proofs.Common.{◌≡◌, ℕ, ◌+◌, ◌≤◌, List, [], ◌∷◌, ◌++◌, Option, None, Some, refl, sym, ap, ◌∙◌, arith}
 use Rattle.std.specs.Prelude.{option_and_then, slice_get}
 use Rattle.wit_model.specs.Bytes.{Bytes}
-use Rattle.rust_tree.specs.declared.expr.Expr.{Expr}
-use Rattle.rust_tree.specs.declared.item.Item.{Item}
 use Rattle.wrapper_data.specs.declared.value.RustValue.{RustValue}
 use Rattle.wrapper_data.specs.declared.word.Word.{Word}
 use Rattle.wrapper_meaning.specs.Direction.{take}
@@ -19,9 +17,9 @@ use Rattle.func_gen.specs.declared.function_bindgen.FunctionBindgen.{FunctionBin
 use Rattle.func_gen.specs.declared.function_bindgen.ParamSite.{ParamSite}
 use Rattle.func_gen.specs.declared.operand.ExprOperand.{ExprOperand}
 use Rattle.func_gen.specs.FactLemmas.{Says, is_said, said}
-use Rattle.func_gen.specs.Facts.{Hold, Owns, fact_value, wrong}
+use Rattle.func_gen.specs.Facts.{Owns, wrong}
 use Rattle.func_gen.specs.Meaning.{Denote, File, FuncState, func_meaning}
-use Rattle.func_gen.specs.Read.{Env, env_of, less, read}
+use Rattle.func_gen.specs.Read.{env_of, less, read}
 use Rattle.func_gen.specs.ReadForms.{stable}
 use Rattle.func_gen.specs.StandLemmas.{given_on, lent_alone, taken_on, taken_owns}
 

@@ -1,7 +1,6 @@
 -- What each form of an operand reads, and that no more than a local by itself reads a value that owns a block.
 use Rattle.std.proofs.Common.{rules, ◌≡◌, ℕ, Bool, true, false, cond, List, [], ◌∷◌, map, Option, None, Some, refl, sym, ap, ◌∙◌, subst}
 use Rattle.std.specs.Prelude.{option_and_then}
-use Rattle.std.specs.Option.{option_map}
 use Rattle.std.specs.Str.{bytes_eq}
 use Rattle.std.proofs.lemmas.Slice.Eq.{bytes_eq-Decides}
 use Rattle.wit_model.specs.Bytes.{Bytes}
@@ -11,12 +10,11 @@ use Rattle.rust_tree.specs.declared.expr.Expr.TheVariants as expr
 use Rattle.rust_tree.specs.declared.expr.Expr.TheVariants.{rolls-Call, rolls-Cast, rolls-CastMut, rolls-Local, rolls-Ref}
 use Rattle.rust_tree.specs.declared.item.Item.{Item}
 use Rattle.rust_tree.specs.declared.path.Path.{Path}
-use Rattle.wrapper_data.specs.declared.word.Word.{Word}
 use Rattle.wrapper_values.specs.declared.state.Val.{Val}
 use Rattle.wrapper_values.specs.declared.state.Val.TheVariants as val
 use Rattle.wrapper_values.specs.Effect.{cast_to}
 use Rattle.wrapper_values.specs.Locals.{usable}
-use Rattle.wrapper_values.specs.Owning.{lent, owned, pointer_of}
+use Rattle.wrapper_values.specs.Owning.{lent, owned}
 use Rattle.wrapper_run.specs.Run.{callee}
 use Rattle.func_gen.specs.Facts.{Owns}
 use Rattle.func_gen.specs.Read.{Env, Read, as_pointer, bare, bare_or, conversion, less, lent_bare, nothing, on_bare, read, read_step}

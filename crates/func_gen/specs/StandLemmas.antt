@@ -1,5 +1,5 @@
 -- What stands for a value: what it owns, that lent things have no blocks, and that what is taken over may be given on.
-use Rattle.std.proofs.Common.{◌≡◌, ℕ, zero, suc, ◌<◌, Bool, true, false, MatchBool, List, [], ◌∷◌, ◌++◌, length, map, Option, None, Some, refl, sym, ap, ap₂, ◌∙◌, subst, append-nil}
+use Rattle.std.proofs.Common.{◌≡◌, ℕ, zero, suc, ◌<◌, Bool, true, false, MatchBool, List, [], ◌∷◌, ◌++◌, length, Option, None, Some, refl, sym, ap, ap₂, ◌∙◌, subst, append-nil}
 use Rattle.std.proofs.lemmas.List.{map-append}
 use mathlib.Core.Logic.{inl, inr}
 use Rattle.wit_layout.specs.Extent.{Extent}
@@ -26,7 +26,7 @@ use Rattle.meaning_ties.proofs.Scalars.{same_rust}
 use Rattle.meaning_ties.specs.Simple.{scalar_type, told_scalar}
 use Rattle.wrapper_run.proofs.OwningLemmas.{owned-scalar}
 use Rattle.wrapper_values.specs.declared.state.Val.TheVariants as val
-use Rattle.wrapper_values.specs.Owning.{owned, both, concat, listed, owned_by, owned_level, taken_by, taken_by_entries}
+use Rattle.wrapper_values.specs.Owning.{owned, owned_by, owned_level, taken_by, taken_by_entries}
 use Rattle.abi_driver.specs.Account.{addresses}
 
 addresses_both : (xs ys : List Block) → addresses (xs ++ ys) ≡ addresses xs ++ addresses ys
