@@ -1,6 +1,8 @@
 pub mod Evaluated
 pub mod Lasting
 pub mod LiftedRows
+pub mod Moves
+pub mod Moving
 pub mod Quiet
 pub mod Rows
 pub mod RuntimeItems

@@ -31,7 +31,7 @@ use Rattle.func_gen.specs.declared.function_bindgen.ParamSite.{ParamSite}
 use Rattle.func_gen.specs.FactLemmas.{Says, said}
 use Rattle.func_gen.specs.Facts.{AreOwned, IsThere, Owns, wrong}
 use Rattle.func_gen.specs.Meaning.{AreaIs, Denote, File, Found, FuncState, IsArea, Serves, account_of, call_of, func_meaning, owns_of}
-use Rattle.func_gen.specs.Read.{Env, Read, env_of, lent_bare, less, on_bare, bare_or, read}
+use Rattle.func_gen.specs.Read.{Env, Read, bare, bare_or, env_of, lent_bare, less, on_bare, read}
 use Rattle.func_gen.specs.ReadForms.{read-local, read-ref, still_there}
 use Rattle.func_gen.specs.Scope.{is_used}
 use Rattle.func_gen.specs.Sites.{IsSite, site_names}
@@ -85,7 +85,8 @@ site_reads : (items : List Item) (p : ParamSite) (env : Env) (v : Val) → IsSit
 site_reads items p env v (inl e) h q =
     ap (λ x. (read items x).at env) e ∙ ap (λ (r : Read). r.at env) (read-local items p.name) ∙ ap (option_and_then usable) h ∙ q.usable
 site_reads items p env v (inr e) h q =
-    ap (λ x. (read items x).at env) e ∙ ap (λ (r : Read). r.at env) (read-ref items p.name) ∙ ap (option_and_then lent_bare) h ∙ on_none lent v q.none ∙ q.lent
+    ap (λ x. (read items x).at env) e ∙ ap (λ (r : Read). r.at env) (read-ref items p.name) ∙ ap (option_and_then lent_bare) h
+    ∙ on_none (λ x. option_and_then bare (lent x)) v q.none ∙ ap (option_and_then bare) q.lent ∙ ap (bare_or v) q.none
 
 datum_says : (d : Datum RustValue) → Says d (Some (val_of d))
 datum_says (word x) = refl

@@ -108,9 +108,9 @@ bare v = bare_or v (owned v)
 abbrev pub on_bare : (Val → Option Val) → Val → Option Val
 on_bare f v = option_and_then f (bare v)
 
--- a value that owns nothing, behind a reference
+-- a value that owns nothing, behind a reference, where it owns nothing either
 abbrev pub lent_bare : Val → Option Val
-lent_bare v = on_bare lent v
+lent_bare v = on_bare (λ x. option_and_then bare (lent x)) v
 
 abbrev pub as_pointer : Val → Option Val
 as_pointer v = option_map val.Word (pointer_of v)

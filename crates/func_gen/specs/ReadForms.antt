@@ -60,9 +60,16 @@ bare_value f (Some x) v h = go (owned x) refl h
     go [] e k = (x, refl, e, k)
     go (b ∷ bs) e k = absurd cc
 
+bare_of : (o : Option Val) (v : Val) → option_and_then bare o ≡ Some v → (o ≡ Some v) × (owned v ≡ [])
+bare_of None v h = absurd cc
+bare_of (Some y) v h = let r = bare_same y v h in (ap (λ z. Some z) r.0, r.1)
+
 -- a value is read behind a reference where it owns nothing
 pub lent_of : (o : Option Val) (v : Val) → option_and_then lent_bare o ≡ Some v → ((x : Val) × (o ≡ Some x) × (owned x ≡ [])) × (option_and_then lent o ≡ Some v)
-lent_of o v h = let (x, is, none, l) = bare_value lent o v h in ((x, is, none), ap (option_and_then lent) is ∙ l)
+lent_of o v h = let (x, is, none, l) = bare_value (λ x. option_and_then bare (lent x)) o v h in ((x, is, none), ap (option_and_then lent) is ∙ (bare_of (lent x) v l).0)
+
+pub ref_bare : (o : Option Val) (v : Val) → option_and_then lent_bare o ≡ Some v → owned v ≡ []
+ref_bare o v h = let (x, is, none, l) = bare_value (λ x. option_and_then bare (lent x)) o v h in (bare_of (lent x) v l).1
 
 -- 3. What owns nothing is read without any local that owns
 
@@ -81,7 +88,7 @@ module _ (items : List Item) where
   abbrev pub Stable : Expr → Type 0
   Stable e = (env : Env) (v : Val) → (read items e).at env ≡ Some v → owned v ≡ [] → (n : Bytes) → Owns (env n) → (read items e).at (less env n) ≡ Some v
 
-  usable_is : (o : Option Val) (v : Val) → option_and_then usable o ≡ Some v → o ≡ Some v
+  pub usable_is : (o : Option Val) (v : Val) → option_and_then usable o ≡ Some v → o ≡ Some v
   usable_is None v h = absurd cc
   usable_is (Some (val.Word x)) v h = h
   usable_is (Some (val.Value r)) v h = h
