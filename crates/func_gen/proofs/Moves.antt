@@ -1,5 +1,5 @@
 -- A local that is moved out: what is read without it, and what the locals own then.
-use Rattle.std.proofs.Common.{◌≡◌, ℕ, ◌+◌, ◌≤◌, Bool, true, false, cond, ◌||◌, List, [], ◌∷◌, ◌++◌, Option, None, Some, refl, sym, ap, ◌∙◌, subst, arith}
+use Rattle.std.proofs.Common.{◌≡◌, ℕ, ◌+◌, Bool, true, false, cond, ◌||◌, List, [], ◌∷◌, Option, None, Some, refl, sym, ap, ◌∙◌, arith}
 use Rattle.std.specs.List.{flat_map, list_any}
 use Rattle.std.specs.Option.{option_or}
 use Rattle.std.specs.Str.{bytes_eq}
@@ -14,7 +14,7 @@ use Rattle.wrapper_values.specs.Locals.{emptied, last, local_named, moved, value
 use Rattle.wrapper_values.specs.Owning.{owned, owned_in}
 use Rattle.abi_driver.proofs.Runs.{total-append}
 use Rattle.func_gen.specs.Meaning.{owns_of}
-use Rattle.func_gen.specs.Read.{Env, Under, env_of, less}
+use Rattle.func_gen.specs.Read.{Under, env_of, less}
 
 -- 1. The last of a list
 

@@ -1,5 +1,5 @@
 -- An operand is used: a value that owns a block is moved out of its local, and all other facts last.
-use Rattle.std.proofs.Common.{◌≡◌, ℕ, ℤ, ◌+◌, ◌≤◌, Bool, true, false, cond, List, [], ◌∷◌, ◌++◌, map, Option, None, Some, refl, sym, ap, ◌∙◌, subst, arith}
+use Rattle.std.proofs.Common.{◌≡◌, ℕ, ℤ, ◌+◌, ◌≤◌, Bool, true, false, cond, List, [], ◌∷◌, map, Option, None, Some, refl, sym, ap, ◌∙◌, subst, arith}
 use Rattle.std.specs.Prelude.{option_and_then}
 use Rattle.std.specs.Option.{option_map}
 use Rattle.std.specs.Str.{bytes_eq}
@@ -29,15 +29,15 @@ use Rattle.wrapper_values.specs.Setting.{Setting, stuck}
 use Rattle.wrapper_run.specs.Run.{Callee, alone, callee, core_forget, eval, of_runtime, runtime_item_named, unknown}
 use Rattle.wrapper_run.proofs.LocalLemmas.{bytes_eq-same}
 use Rattle.wrapper_run.proofs.StepLemmas.{eval-local}
-use Rattle.abi_driver.specs.Meaning.{Datum, Fact, item, of}
+use Rattle.abi_driver.specs.Meaning.{Fact, item, of}
 use Rattle.func_gen.specs.declared.function_bindgen.FunctionBindgen.{FunctionBindgen}
 use Rattle.func_gen.specs.declared.function_bindgen.ParamSite.{ParamSite}
 use Rattle.func_gen.specs.declared.operand.ExprOperand.{ExprOperand}
-use Rattle.func_gen.specs.FactLemmas.{Says, is_said, less_under, matches_says, total_meet, total_mono}
+use Rattle.func_gen.specs.FactLemmas.{is_said, less_under, matches_says, total_meet, total_mono}
 use Rattle.func_gen.specs.Facts.{Hold, Owns, matches, wrong}
 use Rattle.func_gen.specs.Forms.{operand_of}
 use Rattle.func_gen.specs.Meaning.{account_of, owns_of}
-use Rattle.func_gen.specs.Read.{Env, Read, Under, as_pointer, conversion, converts, env_of, less, nothing, on_bare, read, read_step}
+use Rattle.func_gen.specs.Read.{Env, Read, Under, as_pointer, conversion, converts, env_of, less, nothing, read, read_step}
 use Rattle.func_gen.specs.ReadForms.{at_read, bare_value, read-call, read-cast, read-cast_mut, read-local, read-ref, ref_bare, usable_is}
 use Rattle.func_gen.specs.Scope.{is_used}
 use Rattle.func_gen.specs.StandLemmas.{scalar_owns}
