@@ -8,5 +8,6 @@ pub mod Rows
 pub mod RuntimeItems
 pub mod ScalarRows
 pub mod Scalars
+pub mod Several
 pub mod Starting
 pub mod Steps
