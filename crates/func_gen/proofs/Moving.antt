@@ -118,7 +118,7 @@ module _ (items : List Item) where
 
 -- 2. The use of an operand
 
-pub record Used (w : Setting) (b : FunctionBindgen) (e : Expr) (r : RustValue) (others : List (Fact ExprOperand RustValue)) (s : State) : Type 0 where
+pub record Used (w : Setting) (b : FunctionBindgen) (e : Expr) (r : RustValue) (others : List (Fact ExprOperand (Unit {0}) RustValue)) (s : State) : Type 0 where
   pub given : Val
   pub then : State
   pub evaluated : eval w e s ≡ machine.Done given then
@@ -152,7 +152,7 @@ less_same s n k v h = go (bytes_eq k n) refl h
     go false e x = less_stays s n k v (ap (λ c. cond c None (env_of s k)) e ∙ x)
 
 -- other facts last, where a local that owns a block is moved
-moved_lasts : (items : List Item) (b : FunctionBindgen) (n : Bytes) (r : RustValue) (v : Val) (others : List (Fact ExprOperand RustValue)) (s : State) → env_of s n ≡ Some v → Owns (env_of s n) → Hold items b (of (operand_of (expr.Local n)) (item r) ∷ others) s → Hold items b others (without s n)
+moved_lasts : (items : List Item) (b : FunctionBindgen) (n : Bytes) (r : RustValue) (v : Val) (others : List (Fact ExprOperand (Unit {0}) RustValue)) (s : State) → env_of s n ≡ Some v → Owns (env_of s n) → Hold items b (of (operand_of (expr.Local n)) (item r) ∷ others) s → Hold items b others (without s n)
 moved_lasts items b n r v others s at owning h =
     let params = b.params in
     let env = env_of s in
@@ -184,7 +184,7 @@ read_some : (o : Option Val) (r : RustValue) → option_and_then rust_of o ≡ S
 read_some None r h = absurd cc
 read_some (Some v) r h = (v, refl, h)
 
-pub uses : (w : Setting) (b : FunctionBindgen) (e : Expr) (r : RustValue) (others : List (Fact ExprOperand RustValue)) (s : State) → Hold w.items b (of (operand_of e) (item r) ∷ others) s → Used w b e r others s
+pub uses : (w : Setting) (b : FunctionBindgen) (e : Expr) (r : RustValue) (others : List (Fact ExprOperand (Unit {0}) RustValue)) (s : State) → Hold w.items b (of (operand_of e) (item r) ∷ others) s → Used w b e r others s
 uses w b e r others s h =
     let (v, reads, is) = read_some ((read w.items e).at (env_of s)) r (is_said w.items b.params (env_of s) (of (operand_of e) (item r)) (omega (arith, h.right))) in
     go v reads is (owned v) refl

@@ -1,5 +1,5 @@
 -- The rows of scalars.
-use Rattle.std.proofs.Common.{◌≡◌, ℕ, ℤ, true, if◌then◌else◌, List, [], ◌∷◌, ◌++◌, Option, None, Some, refl, sym, ap, ◌∙◌, subst}
+use Rattle.std.proofs.Common.{◌≡◌, ℕ, ℤ, true, if◌then◌else◌, List, [], ◌∷◌, ◌++◌, Option, None, Some, refl, sym, ap, ◌∙◌, subst, drop, length, zero, suc}
 use Rattle.std.specs.Prelude.{option_and_then}
 use Rattle.wit_layout.specs.Flat.{core_type}
 use Rattle.wit_layout.specs.Tree.{Scalar}
@@ -28,7 +28,7 @@ use Rattle.wrapper_run.specs.Run.{callee, of_runtime, runtime_item_named, runtim
 use Rattle.abi_driver.specs.declared.instruction.Instruction.{Instruction}
 use Rattle.abi_driver.specs.declared.instruction.Instruction.TheVariants.{I32FromU8, I32FromS8, I32FromU16, I32FromS16, I32FromU32, I32FromS32, I32FromChar, I64FromU64, I64FromS64, CoreF32FromF32, CoreF64FromF64, U8FromI32, S8FromI32, U16FromI32, S16FromI32, U32FromI32, S32FromI32, U64FromI64, S64FromI64, F32FromCoreF32, F64FromCoreF64}
 use Rattle.abi_driver.specs.Account.{Account, Follows, Stuck, checking, has_type, stay}
-use Rattle.abi_driver.specs.Instructions.{Emits, MakesBy, RowBy, lifted_scalar, lowered_scalar}
+use Rattle.abi_driver.specs.Instructions.{Emits, MakesBy, RowBy, block_results, lifted_scalar, lowered_scalar}
 use Rattle.abi_driver.specs.Laws.{Adds, After, Facts}
 use Rattle.abi_driver.specs.Leaves.{LiftsScalar, LowersScalar}
 use Rattle.abi_driver.specs.Meaning.{item, of, word}
@@ -47,6 +47,13 @@ use Rattle.func_gen.proofs.Scalars.{cast_word, conversion_to, converts_scalar, i
 
 -- 1. What is emitted
 
+abbrev no_blocks : List ⊥
+no_blocks = []
+
+none_dropped : (n : ℕ) → no_blocks ≡ drop n no_blocks
+none_dropped zero = refl
+none_dropped (suc n) = refl
+
 pub calls_runtime : (i : RuntimeItem) → callee (runtime_path i) ≡ of_runtime (item_name i)
 unfolding callee runtime_name runtime_module_name
 calls_runtime i = refl
@@ -54,7 +61,8 @@ calls_runtime i = refl
 module _ (types : List TypeDef) (old new : FunctionBindgen) (i : Instruction) (s : Scalar) (o r : ExprOperand) where
   pub emits_lowered : lowered_scalar i ≡ Some s → Adds func_meaning old new → new.returned ≡ old.returned → LowersScalar func_meaning s (o ∷ []) (r ∷ []) old new → Emits func_meaning types i (o ∷ []) (r ∷ []) old new
   emits_lowered is adds returned row = record {
-    adds = code_of func_meaning i (lowers_ordinary i s is) old new adds;
+    adds = code_of func_meaning i (lowers_ordinary i s is) types old new adds;
+    blocks = none_dropped (length (block_results types i));
     returned = still_returned func_meaning i (lowers_ordinary i s is) (o ∷ []) old.returned new.returned returned;
     asked = adds.asked;
     results = subst (λ x. MakesBy types i x (lifted_scalar i) 1) (sym is) refl;
@@ -63,7 +71,8 @@ module _ (types : List TypeDef) (old new : FunctionBindgen) (i : Instruction) (s
 
   pub emits_lifted : lowered_scalar i ≡ None → lifted_scalar i ≡ Some s → Adds func_meaning old new → new.returned ≡ old.returned → LiftsScalar func_meaning s (o ∷ []) (r ∷ []) old new → Emits func_meaning types i (o ∷ []) (r ∷ []) old new
   emits_lifted none is adds returned row = record {
-    adds = code_of func_meaning i (lifts_ordinary i s is) old new adds;
+    adds = code_of func_meaning i (lifts_ordinary i s is) types old new adds;
+    blocks = none_dropped (length (block_results types i));
     returned = still_returned func_meaning i (lifts_ordinary i s is) (o ∷ []) old.returned new.returned returned;
     asked = adds.asked;
     results = subst (λ x. MakesBy types i x (lifted_scalar i) 1) (sym none) (subst (λ x. MakesBy types i None x 1) (sym is) refl);

@@ -125,8 +125,8 @@ calls_same (c ∷ calls) = ap (λ cs. c ∷ cs) (calls_same calls)
 abbrev start_with : Account RustValue → List Local → State
 start_with acc locals = record { locals = locals; imports = []; heap = acc.heap; choices = acc.choices; requests = acc.requests; calls = map point_of acc.calls; taken = acc.taken; place = None }
 
-account_same : (acc : Account RustValue) (locals : List Local) → account_of (start_with acc locals) ≡ acc
-account_same acc locals = ap (λ cs. record acc { calls = cs }) (calls_same acc.calls)
+account_same : (acc : Account RustValue) (locals : List Local) → acc.guarded ≡ [] → account_of (start_with acc locals) ≡ acc
+account_same acc locals unguarded = ap₂ (λ cs gs. record acc { calls = cs; guarded = gs }) (calls_same acc.calls) (sym unguarded)
 
 -- 4. The area's block
 
@@ -172,15 +172,15 @@ module _ (b : FunctionBindgen) (unasked : b.asked ≡ []) (used : b.scope.used �
       }
 
   -- without an area that stands
-  without_area : (w : File) (ds : Data func_meaning) (acc : Account RustValue) → length b.params ≡ length ds → AreLent func_meaning ds → acc.taken ≡ [] → ((s : State) → s.place ≡ None → AreaIs b.import w.area None b.asked b.area s) → Started w ds acc None
-  without_area w ds acc len lent_ds taken area =
+  without_area : (w : File) (ds : Data func_meaning) (acc : Account RustValue) → length b.params ≡ length ds → AreLent func_meaning ds → acc.taken ≡ [] → acc.guarded ≡ [] → ((s : State) → s.place ≡ None → AreaIs b.import w.area None b.asked b.area s) → Started w ds acc None
+  without_area w ds acc len lent_ds taken unguarded area =
       let names = site_names b.params in
       let p = passed ds lent_ds in
       let machine = start_with acc (bound names (vals ds)) in
       let s : FuncState = record { machine = machine; area = None } in
       let reads = reads_env names (vals ds) machine (reads_bound names (vals ds) distinct_names (same_length b.params ds len)) in (
         s,
-        account_same acc (bound names (vals ds)),
+        account_same acc (bound names (vals ds)) unguarded,
         bound_bare names ds p,
         refl,
         holds w ds s p reads len (λ n free. unbound names (vals ds) n (unused n free)) (subst (AreOwned acc.heap.blocks) (sym taken) tt) (area machine refl),
@@ -194,9 +194,9 @@ module _ (b : FunctionBindgen) (unasked : b.asked ≡ []) (used : b.scope.used �
           go false e = e
 
   -- with one that does
-  with_area : (w : File) (ds : Data func_meaning) (acc : Account RustValue) (area : Request) (address : ℕ) → length b.params ≡ length ds → AreLent func_meaning ds → acc.taken ≡ address ∷ [] → b.import ≡ true → w.area ≡ Some area → 0 < area.size → StandsIn area address acc.heap
+  with_area : (w : File) (ds : Data func_meaning) (acc : Account RustValue) (area : Request) (address : ℕ) → length b.params ≡ length ds → AreLent func_meaning ds → acc.taken ≡ address ∷ [] → acc.guarded ≡ [] → b.import ≡ true → w.area ≡ Some area → 0 < area.size → StandsIn area address acc.heap
       → Started w ds acc (Some address)
-  with_area w ds acc area address len lent_ds taken import is size stands =
+  with_area w ds acc area address len lent_ds taken unguarded import is size stands =
       let names = b.area ∷ site_names b.params in
       let values = val.Area address area.size ∷ vals ds in
       let p = passed ds lent_ds in
@@ -206,24 +206,26 @@ module _ (b : FunctionBindgen) (unasked : b.asked ≡ []) (used : b.scope.used �
       let reads = reads_env (site_names b.params) (vals ds) machine all.1 in
       let there = begins acc.heap.blocks address stands.block stands.there stands.at (subst (λ n. 0 < n) (sym stands.exact) size) in (
         s,
-        account_same acc (bound names values),
+        account_same acc (bound names values) unguarded,
         ap (λ xs. address ∷ xs) (bound_bare (site_names b.params) ds p),
         refl,
         holds w ds s p reads len (λ n free. unbound names values n (sym (ap (λ us. is_used us n) used) ∙ free)) (subst (AreOwned acc.heap.blocks) (sym taken) (refl, there, tt))
             (subst (λ i. AreaIs i w.area (Some address) b.asked b.area machine) (sym import) (subst (λ a. AreaIs true a (Some address) b.asked b.area machine) (sym is) all.0)),
       )
 
-  start : (w : File) (ds : Data func_meaning) (acc : Account RustValue) (at : Option ℕ) → Serves w b → length b.params ≡ length ds → AreLent func_meaning ds → acc.taken ≡ option_to_list at
+  start : (w : File) (ds : Data func_meaning) (acc : Account RustValue) (at : Option ℕ) → Serves w b → length b.params ≡ length ds → AreLent func_meaning ds → acc.taken ≡ option_to_list at → acc.guarded ≡ []
       → (import : Bool) → b.import ≡ import → (area : Option Request) → w.area ≡ area → MayStand import area at acc.heap → Started w ds acc at
-  start w ds acc None sv len l taken true i None a h = without_area w ds acc len l taken (λ s e. subst (λ i. AreaIs i w.area None b.asked b.area s) (sym i) (subst (λ a. AreaIs true a None b.asked b.area s) (sym a) tt))
-  start w ds acc None sv len l taken true i (Some area) a h = absurd h
-  start w ds acc (Some address) sv len l taken true i None a h = absurd h
-  start w ds acc (Some address) sv len l taken true i (Some area) a h = with_area w ds acc area address len l taken i a (subst (λ x. IfSome x IsArea) a sv.sized).0 h
-  start w ds acc None sv len l taken false i area a h = without_area w ds acc len l taken (λ s e. subst (λ i. AreaIs i w.area None b.asked b.area s) (sym i) (λ none. e))
-  start w ds acc (Some address) sv len l taken false i area a h = absurd h
+  start w ds acc None sv len l taken g true i None a h = without_area w ds acc len l taken g (λ s e. subst (λ i. AreaIs i w.area None b.asked b.area s) (sym i) (subst (λ a. AreaIs true a None b.asked b.area s) (sym a) tt))
+  start w ds acc None sv len l taken g true i (Some area) a h = absurd h
+  start w ds acc (Some address) sv len l taken g true i None a h = absurd h
+  start w ds acc (Some address) sv len l taken g true i (Some area) a h = with_area w ds acc area address len l taken g i a (subst (λ x. IfSome x IsArea) a sv.sized).0 h
+  start w ds acc None sv len l taken g false i area a h = without_area w ds acc len l taken g (λ s e. subst (λ i. AreaIs i w.area None b.asked b.area s) (sym i) (λ none. e))
+  start w ds acc (Some address) sv len l taken g false i area a h = absurd h
 
   pub func_new : b.code ≡ record { call = None; stmts = [] } → b.returned ≡ None → b.runtime ≡ [] → IsNew func_meaning b
   func_new empty endless runtime = record {
+    closed = refl;
+    unfinished = refl;
     empty = empty;
     endless = endless;
     unasked = unasked;
@@ -235,5 +237,5 @@ module _ (b : FunctionBindgen) (unasked : b.asked ≡ []) (used : b.scope.used �
       static = λ e. refl;
       bound = λ e. refl;
     };
-    start = λ w ds acc at sv len l stands taken. start w ds acc at sv len l taken b.import refl w.area refl stands;
+    start = λ w ds acc at sv len l stands taken unguarded. start w ds acc at sv len l taken unguarded b.import refl w.area refl stands;
   }

@@ -1,5 +1,5 @@
 -- Statements that are added to the code: how it then runs, and what it leaves as it was.
-use Rattle.std.proofs.Common.{◌≡◌, ℕ, not, if◌then◌else◌, List, [], ◌∷◌, ◌++◌, length, map, Option, Some, refl, sym, ap, ap₂, ◌∙◌, subst}
+use Rattle.std.proofs.Common.{◌≡◌, ℕ, not, if◌then◌else◌, List, [], ◌∷◌, ◌++◌, length, map, Option, Some, refl, sym, ap, ap₂, ◌∙◌, subst, false}
 use Rattle.std.specs.List.{AllByRecursion}
 use Rattle.wit_layout.specs.Filled.{IsFilledFor}
 use Rattle.wit_model.specs.Bytes.{Bytes}
@@ -21,7 +21,9 @@ use Rattle.abi_driver.specs.Laws.{Adds, At, Facts, Grows}
 use Rattle.func_gen.specs.declared.function_bindgen.Code.{Code}
 use Rattle.func_gen.specs.declared.function_bindgen.FunctionBindgen.{FunctionBindgen}
 use Rattle.func_gen.specs.Added.{Appends}
-use Rattle.func_gen.specs.Meaning.{File, Found, FuncState, Serves, call_of, func_meaning, run_code, run_head, seen, setting_for, static_request}
+use Rattle.func_gen.specs.Meaning.{Denote, File, Found, FuncState, Serves, call_of, func_meaning, run_code, run_head, seen, setting_for, static_request}
+use Rattle.func_gen.specs.Scope.{is_used}
+use Rattle.func_gen.proofs.Lasting.{Beside, SameArea, denotes_on, lasts}
 use Rattle.func_gen.proofs.RuntimeItems.{found_left, has_more}
 
 -- 1. Outcomes of the machine, as they are seen
@@ -110,8 +112,16 @@ module _ (old new : FunctionBindgen) (added : List Stmt) (items : List RuntimeIt
         },
       )
 
-  pub func_grows : Grows func_meaning old new
-  func_grows = record {
+  -- what was known of a state is known of it, where no name became free
+  known : ((n : Bytes) → is_used new.scope.used n ≡ false → is_used old.scope.used n ≡ false) → (w : File) (facts : Facts func_meaning) (s : FuncState) → Denote w old facts s → Denote w new facts s
+  known names w facts s h =
+      denotes_on w old new facts facts s s.machine (record { import = a.import; asked = a.asked; name = a.area }) (record { heap = refl; taken = refl; place = refl; under = λ n v e. e }) h
+      (lasts w.items old new facts s.machine s.machine a.params (λ n v e. e) (λ n free. h.hold.within n (names n free)) h.hold)
+
+  pub func_grows : ((n : Bytes) → is_used new.scope.used n ≡ false → is_used old.scope.used n ≡ false) → Grows func_meaning old new
+  func_grows names = record {
+    opened = refl;
+    known = known names;
     serves = serves_old;
     more = serves_more;
     stops = λ w p s h. subst (Stops func_meaning.account (func_meaning.does w p old.code s)) (sym (more_code w p s)) (stops_on s.area (run_code (setting_for w p) w.bound old.code s.machine) (run_stmts (setting_for w p) added));
@@ -122,9 +132,10 @@ module _ (old new : FunctionBindgen) (added : List Stmt) (items : List RuntimeIt
     target = λ f. ap₂ (λ import home. if import then target.Core home f.name.wit else target.Method home f.name.snake) a.import a.home;
   }
 
-  pub func_adds : ((w : Setting) → Quiet (run_stmts w added)) → Adds func_meaning old new
-  func_adds quiet = record {
-    grows = func_grows;
+  pub func_adds : ((n : Bytes) → is_used new.scope.used n ≡ false → is_used old.scope.used n ≡ false) → ((w : Setting) → Quiet (run_stmts w added)) → Adds func_meaning old new
+  func_adds names quiet = record {
+    grows = func_grows names;
+    blocks = refl;
     quiet = λ w p s h.
         let before = run_code (setting_for w p) w.bound old.code s.machine in
         ap (λ o. (account_in func_meaning.account o).calls) (more_code w p s)

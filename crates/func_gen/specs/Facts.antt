@@ -17,7 +17,7 @@ use Rattle.wrapper_values.specs.Locals.{local_named}
 use Rattle.wrapper_values.specs.Owning.{owned}
 use Rattle.wrapper_run.specs.Memory.{block_from}
 use Rattle.abi_driver.specs.Account.{is_taken}
-use Rattle.abi_driver.specs.Meaning.{Datum, Fact, word, item, of, arg}
+use Rattle.abi_driver.specs.Meaning.{Datum, Fact, word, item, of, arg, bound}
 use Rattle.func_gen.specs.declared.function_bindgen.FunctionBindgen.{FunctionBindgen}
 use Rattle.func_gen.specs.declared.function_bindgen.ParamSite.{ParamSite}
 use Rattle.func_gen.specs.declared.operand.ExprOperand.{ExprOperand}
@@ -47,17 +47,19 @@ abbrev pub matches : Datum RustValue → Option Val → Bool
 matches (word x) o = same (coded_option vals.the_row.coded) o (Some (val.Word x))
 matches (item r) o = same (coded_option rust.the_row.coded) (option_and_then rust_of o) (Some r)
 
--- what names let read, of an operand, and of an argument
-abbrev pub fact_value : List Item → List ParamSite → Env → Fact ExprOperand RustValue → Option Val
+-- what names let read, of an operand, and of an argument. There is no block so far
+abbrev pub fact_value : List Item → List ParamSite → Env → Fact ExprOperand (Unit {0}) RustValue → Option Val
 fact_value items params env (of e d) = (read items e.expr).at env
 fact_value items params env (arg n d) = option_and_then (λ p. (read items p.operand.expr).at env) (slice_get params n)
+fact_value items params env (bound slot name d) = None
 
-abbrev pub fact_datum : Fact ExprOperand RustValue → Datum RustValue
+abbrev pub fact_datum : Fact ExprOperand (Unit {0}) RustValue → Datum RustValue
 fact_datum (of e d) = d
 fact_datum (arg n d) = d
+fact_datum (bound slot name d) = d
 
 -- 1 where these names do not let the fact be
-abbrev pub wrong : List Item → List ParamSite → Env → Fact ExprOperand RustValue → ℕ
+abbrev pub wrong : List Item → List ParamSite → Env → Fact ExprOperand (Unit {0}) RustValue → ℕ
 wrong items params env f = if matches (fact_datum f) (fact_value items params env f) then 0 else 1
 
 -- 3. Facts together
@@ -67,7 +69,7 @@ Owns None = ⊥
 Owns (Some v) = owned v ≡ [] → ⊥
 
 -- all hold, by weights; and a local that owns a block is needed by one of them at most
-pub record Hold (items : List Item) (b : FunctionBindgen) (facts : List (Fact ExprOperand RustValue)) (s : State) : Type 0 where
+pub record Hold (items : List Item) (b : FunctionBindgen) (facts : List (Fact ExprOperand (Unit {0}) RustValue)) (s : State) : Type 0 where
   pub right : total (wrong items b.params (env_of s)) facts ≡ 0
   pub apart : (n : Bytes) → Owns (env_of s n) → total (wrong items b.params (less (env_of s) n)) facts ≤ 1
   -- no local has a name that is free

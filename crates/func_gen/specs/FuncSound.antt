@@ -12,7 +12,7 @@ use Rattle.wrapper_meaning.proofs.RustValueDetermined.{rust_value_determines}
 use Rattle.wrapper_values.specs.declared.state.Val.{Val}
 use Rattle.wrapper_values.specs.declared.state.Val.TheVariants as val
 use Rattle.abi_driver.specs.Laws.{Facts, Sound}
-use Rattle.abi_driver.specs.Meaning.{Datum, Fact, arg, item, of, word}
+use Rattle.abi_driver.specs.Meaning.{Datum, Fact, arg, item, of, word, bound, Name}
 use Rattle.func_gen.specs.declared.function_bindgen.FunctionBindgen.{FunctionBindgen}
 use Rattle.func_gen.specs.declared.function_bindgen.ParamSite.{ParamSite}
 use Rattle.func_gen.specs.declared.operand.ExprOperand.{ExprOperand}
@@ -28,7 +28,7 @@ total-append f [] ys = omega arith
 total-append f (x ∷ xs) ys = omega (arith, total-append f xs ys)
 
 -- facts that weigh no more hold too
-module _ (w : File) (b : FunctionBindgen) (facts others : Facts func_meaning) (less_weight : (g : Fact ExprOperand RustValue → ℕ) → total g others ≤ total g facts) where
+module _ (w : File) (b : FunctionBindgen) (facts others : Facts func_meaning) (less_weight : (g : Fact ExprOperand (Unit {0}) RustValue → ℕ) → total g others ≤ total g facts) where
   lighter : (s : FuncState) → Denote w b facts s → Denote w b others s
   lighter s d = record {
     hold = record {
@@ -46,7 +46,7 @@ moved_on w b one two others =
     (λ g. omega (arith, total-append g one (two ++ others), total-append g two others, total-append g two (one ++ others), total-append g one others))
 
 -- a word is read without any local that owns, so the fact may stand twice
-twice : (w : File) (b : FunctionBindgen) (f : Fact ExprOperand RustValue) (facts : Facts func_meaning) (s : FuncState) → ((n : Bytes) → Owns (env_of s.machine n) → wrong w.items b.params (less (env_of s.machine) n) f ≡ 0)
+twice : (w : File) (b : FunctionBindgen) (f : Fact ExprOperand (Unit {0}) RustValue) (facts : Facts func_meaning) (s : FuncState) → ((n : Bytes) → Owns (env_of s.machine n) → wrong w.items b.params (less (env_of s.machine) n) f ≡ 0)
     → Denote w b (f ∷ facts) s → Denote w b (f ∷ f ∷ facts) s
 twice w b f facts s needs d = record {
   hold = record {
@@ -73,6 +73,12 @@ arg_word_again w b k x facts s d =
     go None h n owns = absurd cc
     go (Some p) h n owns = stable w.items p.operand.expr (env_of s.machine) (val.Word x) h refl n owns
 
+-- there is no block, so nothing is bound
+no_bound : {A : Type 0} (w : File) (b : FunctionBindgen) (slot : Unit {0}) (name : Name) (x : Word) (facts : Facts func_meaning) (s : FuncState) → Denote w b (bound slot name (word x) ∷ facts) s → A
+no_bound w b slot name x facts s h =
+    let none : (let o : Option Val = None in o ≡ Some (val.Word x)) = is_said w.items b.params (env_of s.machine) (bound slot name (word x)) (omega (arith, h.hold.right)) in
+    absurd cc
+
 says_of : (w : File) (b : FunctionBindgen) (o : ExprOperand) (d : Datum RustValue) (s : FuncState) → Denote w b (of o d ∷ []) s → Says d ((read w.items o.expr).at (env_of s.machine))
 says_of w b o d s h = is_said w.items b.params (env_of s.machine) (of o d) (omega (arith, h.hold.right))
 
@@ -94,6 +100,7 @@ func_sound = record {
   one_item = λ w b o a c s h g. some_same a c (sym (says_of w b o (item a) s h) ∙ says_of w b o (item c) s g);
   again = word_again;
   arg_again = arg_word_again;
+  bound_again = λ w b slot name x facts s h. no_bound w b slot name x facts s h;
   nothing = λ w f s. refl;
   determined = λ t v u a own hv hu h g. rust_value_determines 2 take t v u a own tt hv hu h.0 g.0;
   given = λ t v a own h. (given_on t v a own h.0, h.1);

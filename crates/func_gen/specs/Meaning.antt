@@ -1,10 +1,11 @@
 -- What a `FunctionBindgen` means: its statements, as the machine runs them.
-use Rattle.std.specs.Prelude.{◌≡◌, ◌<◌, ℕ, Bool, true, false, not, if◌then◌else◌, List, [], ◌∷◌, length, map, Option, None, Some, IfSome, option_map}
+use Rattle.std.specs.Prelude.{◌≡◌, ◌<◌, ℕ, Bool, true, false, not, if◌then◌else◌, List, [], ◌∷◌, length, map, Option, None, Some, IfSome, option_and_then, option_map}
 use Rattle.std.specs.List.{AllByRecursion, flat_map}
 use Rattle.rust_tree.specs.declared.area.StaticArea.{StaticArea}
 use Rattle.rust_tree.specs.declared.export.CallBlock.{CallBlock}
 use Rattle.rust_tree.specs.declared.item.Item.{Item}
 use Rattle.rust_tree.specs.declared.runtime_item.RuntimeItem.{RuntimeItem}
+use Rattle.rust_tree.specs.declared.trait_item.TraitFn.{TraitFn}
 use Rattle.rust_tree.specs.Runtime.{item_name}
 use Rattle.wit_layout.specs.Filled.{IsFilledFor}
 use Rattle.wit_model.specs.Bytes.{Bytes}
@@ -27,13 +28,14 @@ use Rattle.wrapper_values.specs.declared.state.State.{State}
 use Rattle.wrapper_values.specs.declared.state.Val.TheVariants as val
 use Rattle.wrapper_values.specs.Act as machine
 use Rattle.wrapper_values.specs.Act.{◌>>=◌, ◌>>◌}
+use Rattle.wrapper_values.specs.Effect.{rust_of}
 use Rattle.wrapper_values.specs.Owning.{lent_level, owned_by, owned_in}
 use Rattle.wrapper_values.specs.Setting.{Setting}
-use Rattle.wrapper_run.specs.ExportRun.{keep_result, run_call}
+use Rattle.wrapper_run.specs.ExportRun.{keep_result, method_named, returned_of, run_call, values_of}
 use Rattle.wrapper_run.specs.Places.{area_in, request_of}
 use Rattle.wrapper_run.specs.Run.{run_stmts, runtime_item_named}
 use Rattle.abi_driver.specs.declared.bindgen.Asked.{Asked}
-use Rattle.abi_driver.specs.Account.{Account, Call, Done, Outcome, Peer, Reply, Stopped, Stuck, value as value_reply, words}
+use Rattle.abi_driver.specs.Account.{Account, Call, Crossing, Done, Outcome, Peer, Reply, Stopped, Stuck, value as value_reply, words}
 use Rattle.abi_driver.specs.Area.{HoldsRecord}
 use Rattle.abi_driver.specs.Meaning.{Fact, Meaning}
 use Rattle.func_gen.specs.declared.function_bindgen.Code.{Code}
@@ -82,7 +84,7 @@ abbrev pub call_of : CallPoint → Call RustValue
 call_of c = record { target = c.target; words = c.words; values = c.values; heap = c.heap }
 
 abbrev pub account_of : State → Account RustValue
-account_of s = record { heap = s.heap; choices = s.choices; requests = s.requests; calls = map call_of s.calls; taken = s.taken }
+account_of s = record { heap = s.heap; choices = s.choices; requests = s.requests; calls = map call_of s.calls; taken = s.taken; guarded = [] }
 
 abbrev pub owns_of : State → List ℕ
 owns_of s = flat_map (λ l. owned_in l.value) s.locals
@@ -94,7 +96,7 @@ AreaIs true (Some area) (Some address) asked name s = env_of s name ≡ Some (va
 AreaIs true _ _ asked name s = ⊥
 AreaIs false area at asked name s = asked ≡ [] → s.place ≡ None
 
-pub record Denote (w : File) (b : FunctionBindgen) (facts : List (Fact ExprOperand RustValue)) (s : FuncState) : Type 0 where
+pub record Denote (w : File) (b : FunctionBindgen) (facts : List (Fact ExprOperand (Unit {0}) RustValue)) (s : FuncState) : Type 0 where
   pub hold : Hold w.items b facts s.machine
   pub owners : AreOwned s.machine.heap.blocks s.machine.taken
   pub area : AreaIs b.import w.area s.area b.asked b.area s.machine
@@ -158,11 +160,24 @@ StandsAsItIs dir t v r own = Stands 2 dir t v r own × IsNormal dir r
 abbrev pub target_of : FunctionBindgen → Function → Target
 target_of b f = if b.import then target.Core b.home f.name.wit else target.Method b.home f.name.snake
 
+-- the method of a function in the file's trait
+abbrev pub method : File → Function → Option TraitFn
+method w f = method_named w.items w.bound f.name.snake
+
+-- values are passed as those of the method's parameters, and its answer comes in as one of its result
+abbrev pub crossing : File → FunctionBindgen → Function → Crossing RustValue
+crossing w b f = record {
+  passes = λ vals. option_and_then (λ t. values_of w.items t.params (map (λ r. val.Value r) vals)) (method w f);
+  receives = λ r. option_and_then (λ t. option_and_then rust_of (returned_of w.items t.result (Some r))) (method w f);
+}
+
 abbrev pub func_meaning : Meaning FunctionBindgen ExprOperand
 func_meaning = record {
   World = File;
   State = FuncState;
   Code = Code;
+  Block = ⊥;
+  Slot = Unit {0};
   Item = RustValue;
   width = 2;
   serves = Serves;
@@ -174,13 +189,19 @@ func_meaning = record {
   owned = owned_by;
   nothing = record { call = None; stmts = [] };
   does = λ w p code s. seen s.area (run_code (setting_for w p) w.bound code s.machine);
+  runs = λ w p block with s. absurd block;
+  enter = λ slot with s. s;
+  results_of = λ block. absurd block;
   denotes = Denote;
   code = λ b. b.code;
+  opened = λ b. [];
+  blocks = λ b. [];
   imports = λ b. b.import;
   exports = λ b. not b.import;
   knows = λ b types. IsFilledFor b.sizes types;
   arguments = λ b. Some (length b.params);
   target = target_of;
+  crosses = crossing;
   asked = λ b. b.asked;
   returned = λ b. b.returned;
 }
