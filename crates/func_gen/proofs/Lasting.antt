@@ -143,7 +143,7 @@ pub record SameArea (old new : FunctionBindgen) : Type 0 where
   pub asked : new.asked ≡ old.asked
   pub name : new.area ≡ old.area
 
-area_same : (w : File) (old new : FunctionBindgen) (at : Option ℕ) (s : State) → SameArea old new → AreaIs old.import w.area at old.asked old.area s → AreaIs new.import w.area at new.asked new.area s
+pub area_same : (w : File) (old new : FunctionBindgen) (at : Option ℕ) (s : State) → SameArea old new → AreaIs old.import w.area at old.asked old.area s → AreaIs new.import w.area at new.asked new.area s
 area_same w old new at s e h =
     subst (λ i. AreaIs i w.area at new.asked new.area s) (sym e.import)
     (subst (λ a. AreaIs old.import w.area at a new.area s) (sym e.asked) (subst (λ n. AreaIs old.import w.area at old.asked n s) (sym e.name) h))

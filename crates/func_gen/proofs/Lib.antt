@@ -3,6 +3,7 @@ pub mod Lasting
 pub mod LiftedRows
 pub mod Moves
 pub mod Moving
+pub mod PartRows
 pub mod Quiet
 pub mod Rows
 pub mod RuntimeItems

@@ -127,6 +127,8 @@ pub record Used (w : Setting) (b : FunctionBindgen) (e : Expr) (r : RustValue) (
   pub place : then.place ≡ s.place
   pub owns : (f : ℕ → ℕ) → total f (owns_of then) + total f (owned given) ≡ total f (owns_of s)
   pub holds : Hold w.items b others then
+  -- an area stays where it is
+  pub areas : (k : Bytes) (address size : ℕ) → env_of s k ≡ Some (val.Area address size) → env_of then k ≡ Some (val.Area address size)
 
 use_moves : (w : Setting) (n : Bytes) (v : Val) (x : ℕ) (more : List ℕ) (s : State) → option_and_then usable (env_of s n) ≡ Some v → owned v ≡ x ∷ more → eval w (expr.Local n) s ≡ machine.Done v (without s n)
 unfolding use_local
@@ -180,6 +182,14 @@ moved_lasts items b n r v others s at owning h =
         absurd (let z : (let q : Option Val = None in q ≡ Some v) = sym (ap value_of (ap (λ q. local_named q s.locals) same ∙ h.within k free)) ∙ at in cc)
     free_still k free false e = other_named n k s.locals e ∙ h.within k free
 
+-- an area is never moved
+area_stays : (s : State) (n k : Bytes) (v : Val) (a z : ℕ) → option_and_then usable (env_of s n) ≡ Some v → env_of s k ≡ Some (val.Area a z) → env_of (without s n) k ≡ Some (val.Area a z)
+area_stays s n k v a z used is = go (bytes_eq n k) refl
+  where
+    go : (c : Bool) → bytes_eq n k ≡ c → env_of (without s n) k ≡ Some (val.Area a z)
+    go true e = absurd (let no : (let q : Option Val = None in q ≡ Some v) = sym (ap (option_and_then usable) (ap (env_of s) ((bytes_eq-Decides n k).0 e) ∙ is)) ∙ used in cc)
+    go false e = ap value_of (other_named n k s.locals e) ∙ is
+
 read_some : (o : Option Val) (r : RustValue) → option_and_then rust_of o ≡ Some r → (v : Val) × (o ≡ Some v) × (rust_of v ≡ Some r)
 read_some None r h = absurd cc
 read_some (Some v) r h = (v, refl, h)
@@ -199,6 +209,7 @@ uses w b e r others s h =
       place = refl;
       owns = λ f. let z = ap (total f) own in omega (arith, z);
       holds = part w.items b others (of (operand_of e) (item r) ∷ others) s (λ f. omega arith) h;
+      areas = λ k a n is. is;
     }
     go v reads is (x ∷ more) own =
         let o = owner w.items e (env_of s) v reads (λ z. let k : [] ≡ x ∷ more = sym z ∙ own in cc) in
@@ -216,4 +227,5 @@ uses w b e r others s h =
           place = refl;
           owns = λ f. owns_without f s n v at;
           holds = moved_lasts w.items b n r v others s at owning h1;
+          areas = λ k a z is. area_stays s n k v a z used_at is;
         }

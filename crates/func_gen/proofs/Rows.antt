@@ -54,7 +54,7 @@ instead items old new f g others s params scope from d = record {
   within = λ n free. d.within n (sym (ap (λ (x : Scope). is_used x.used n) scope) ∙ free);
 }
 
-same_area : (old new : FunctionBindgen) (added : List Stmt) (items : List RuntimeItem) → Appends old new added items → SameArea old new
+pub same_area : (old new : FunctionBindgen) (added : List Stmt) (items : List RuntimeItem) → Appends old new added items → SameArea old new
 same_area old new added items a = record { import = a.import; asked = a.asked; name = a.area }
 
 unmoved : (s : State) → Beside s s

@@ -11,6 +11,7 @@ use Rattle.wrapper_data.specs.declared.value.RustValue.{RustValue}
 use Rattle.wrapper_meaning.specs.Items.{total}
 use Rattle.wrapper_values.specs.declared.state.State.{State}
 use Rattle.wrapper_values.specs.declared.state.Val.{Val}
+use Rattle.wrapper_values.specs.declared.state.Val.TheVariants as val
 use Rattle.wrapper_values.specs.Act as machine
 use Rattle.wrapper_values.specs.Act.{Act, ◌>>=◌, all, and_then, pure}
 use Rattle.wrapper_values.specs.Effect.{rust_of}
@@ -52,12 +53,13 @@ pub record UsedAll (w : Setting) (b : FunctionBindgen) (os : List ExprOperand) (
   -- what the values own, the locals own no more
   pub owns : (f : ℕ → ℕ) → total f (owns_of then) + total f (flat_map owned given) ≡ total f (owns_of s)
   pub holds : Hold w.items b others then
+  pub areas : (k : Bytes) (address size : ℕ) → env_of s k ≡ Some (val.Area address size) → env_of then k ≡ Some (val.Area address size)
 
 one_more : (a : Act Val) (more : List (Act Val)) (v : Val) (vs : List Val) (s t u : State) → a s ≡ machine.Done v t → all more t ≡ machine.Done vs u → all (a ∷ more) s ≡ machine.Done (v ∷ vs) u
 one_more a more v vs s t u h k = ap (λ o. and_then o (λ x. all more >>= (λ xs. pure (x ∷ xs)))) h ∙ ap (λ o. and_then o (λ xs. pure (v ∷ xs))) k
 
 pub uses_all : (w : Setting) (b : FunctionBindgen) (os : List ExprOperand) (rs : List RustValue) (others : List (Fact ExprOperand (Unit {0}) RustValue)) (s : State) → length os ≡ length rs → Hold w.items b (ofs func_meaning os (item_data func_meaning rs) ++ others) s → UsedAll w b os rs others s
-uses_all w b [] [] others s len h = record { given = []; then = s; evaluated = refl; is = refl; account = refl; place = refl; owns = λ f. omega arith; holds = h }
+uses_all w b [] [] others s len h = record { given = []; then = s; evaluated = refl; is = refl; account = refl; place = refl; owns = λ f. omega arith; holds = h; areas = λ k a n is. is }
 uses_all w b [] (r ∷ rs) others s len h = absurd (omega (arith, len))
 uses_all w b (o ∷ os) [] others s len h = absurd (omega (arith, len))
 uses_all w b (o ∷ os) (r ∷ rs) others s len h =
@@ -72,6 +74,7 @@ uses_all w b (o ∷ os) (r ∷ rs) others s len h =
       place = later.place ∙ one.place;
       owns = λ f. omega (arith, one.owns f, later.owns f, total-append f (owned one.given) (flat_map owned later.given));
       holds = later.holds;
+      areas = λ k a n is. later.areas k a n (one.areas k a n is);
     }
 
 -- 2. A new local, which may own blocks

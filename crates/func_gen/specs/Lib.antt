@@ -5,6 +5,7 @@ pub mod Forms
 pub mod FuncSound
 pub mod Meaning
 pub mod Operand
+pub mod PartForms
 pub mod Read
 pub mod ReadForms
 pub mod Scope

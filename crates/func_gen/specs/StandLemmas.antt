@@ -43,7 +43,7 @@ owned-buffer a n o = ap owned_by (sym (rolls-Buffer a n o)) ∙ fold-roll-RustVa
 owned-seq : (rs : List RustValue) → owned_by (value.Seq rs) ≡ taken_by rs
 owned-seq rs = ap owned_by (sym (rolls-Seq rs)) ∙ fold-roll-RustValue (List ℕ) owned_level (RustValue-F.Seq rs)
 
-owned-struct : (rs : List RustValue) → owned_by (value.Struct rs) ≡ taken_by rs
+pub owned-struct : (rs : List RustValue) → owned_by (value.Struct rs) ≡ taken_by rs
 owned-struct rs = ap owned_by (sym (rolls-Struct rs)) ∙ fold-roll-RustValue (List ℕ) owned_level (RustValue-F.Struct rs)
 
 owned-map : (rs : List (RustValue × RustValue)) → owned_by (value.Map rs) ≡ taken_by_entries rs

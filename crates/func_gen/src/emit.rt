@@ -1,5 +1,6 @@
 //! The code of each instruction.
 
+mod parts;
 mod scalars;
 
 ghost use Rattle.std.specs.Prelude.{◌≡◌, ◌<◌, [], length, OnOk};

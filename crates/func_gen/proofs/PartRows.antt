@@ -1,0 +1,193 @@
+-- The row of tuples that are made of their parts.
+use Rattle.std.proofs.Common.{◌≡◌, ℕ, Bool, true, false, ◌&&◌, List, [], ◌∷◌, ◌++◌, length, map, Option, None, Some, refl, sym, ap, ap₂, ◌∙◌, subst, arith}
+use Rattle.std.specs.List.{flat_map}
+use Rattle.std.specs.Prelude.{option_and_then}
+use Rattle.std.specs.Option.{option_map}
+use Rattle.std.proofs.lemmas.Bool.{and_parts}
+use Rattle.wit_layout.specs.Tree.{Scalar}
+use Rattle.wit_model.specs.Bytes.{Bytes}
+use Rattle.wit_model.specs.declared.types.TypeDef.{TypeDef}
+use Rattle.rust_tree.specs.declared.expr.Expr.{Expr}
+use Rattle.rust_tree.specs.declared.expr.Expr.TheVariants as expr
+use Rattle.rust_tree.specs.declared.stmt.Stmt.TheVariants as stmt
+use Rattle.wrapper_data.specs.declared.block.Block.{Block}
+use Rattle.wrapper_data.specs.declared.choice.Request.{Request}
+use Rattle.wrapper_data.specs.declared.value.RustValue.{RustValue, RustValue-F, fold-RustValue, fold-roll-RustValue}
+use Rattle.wrapper_data.specs.declared.value.RustValue.TheVariants as value
+use Rattle.wrapper_data.specs.declared.value.RustValue.TheVariants.{rolls-Struct}
+use Rattle.wrapper_data.specs.declared.word.Word.{Word}
+use Rattle.wrapper_data.specs.declared.word.Word.TheVariants as core
+use Rattle.wrapper_meaning.specs.Direction.{Direction, give, lend, make, take}
+use Rattle.wrapper_meaning.specs.Items.{total}
+use Rattle.wrapper_meaning.specs.Shape.{Shape, Shapes}
+use Rattle.wrapper_meaning.specs.Shape.Shape.{tuple}
+use Rattle.wrapper_meaning.specs.Shape.Shapes.{none, more}
+use Rattle.wrapper_meaning.specs.StandsFor as rust
+use Rattle.wrapper_meaning.specs.Value.{Parts}
+use Rattle.wrapper_meaning.proofs.Lists.{some_same}
+use Rattle.wrapper_values.specs.declared.state.State.{State}
+use Rattle.wrapper_values.specs.declared.state.Val.{Val}
+use Rattle.wrapper_values.specs.declared.state.Val.TheVariants as val
+use Rattle.wrapper_values.specs.Act as machine
+use Rattle.wrapper_values.specs.Act.{◌>>=◌, all, and_then, or_stop, pure}
+use Rattle.wrapper_values.specs.Effect.{rust_of, rust_of_word}
+use Rattle.wrapper_values.specs.Locals.{bind}
+use Rattle.wrapper_values.specs.Owning.{owned, owned_by, taken_by}
+use Rattle.wrapper_values.specs.Setting.{Setting, stuck}
+use Rattle.wrapper_values.specs.Whole.{rust_values, whole_of}
+use Rattle.wrapper_run.specs.Run.{eval, run_stmts}
+use Rattle.wrapper_run.proofs.PartSteps.{eval-tuple}
+use Rattle.wrapper_run.proofs.StepLemmas.{Quiet, quiet_or_stop, quiet_pure, quiet_then}
+use Rattle.abi_driver.specs.declared.bindgen.Asked.{Asked}
+use Rattle.abi_driver.specs.declared.instruction.Instruction.TheVariants.{TupleLift}
+use Rattle.abi_driver.specs.Account.{Account}
+use Rattle.abi_driver.specs.Instructions.{Emits}
+use Rattle.abi_driver.specs.Laws.{Facts, Stays, item_data, ofs}
+use Rattle.abi_driver.specs.Meaning.{item, of}
+use Rattle.abi_driver.specs.Parts.{PartsStand, count}
+use Rattle.abi_driver.proofs.Runs.{total-append}
+use Rattle.func_gen.specs.declared.function_bindgen.FunctionBindgen.{FunctionBindgen}
+use Rattle.func_gen.specs.declared.operand.ExprOperand.{ExprOperand}
+use Rattle.func_gen.specs.Added.{Appends, Fresh}
+use Rattle.func_gen.specs.Facts.{AreOwned}
+use Rattle.func_gen.specs.Forms.{operand_of}
+use Rattle.func_gen.specs.Meaning.{AreaIs, File, IsNormal, StandsAsItIs, account_of, func_meaning, owns_of, passing_level, seen, setting_for}
+use Rattle.func_gen.specs.Operand.{is_operand}
+use Rattle.func_gen.specs.PartForms.{are_operands, exprs_of}
+use Rattle.func_gen.specs.Read.{env_of}
+use Rattle.func_gen.specs.StandLemmas.{owned-struct, scalar_owns}
+use Rattle.func_gen.proofs.Lasting.{area_same, bound_under, owns_with, with_local}
+use Rattle.func_gen.proofs.Quiet.{quiet_operand}
+use Rattle.func_gen.proofs.Rows.{let_adds, same_area}
+use Rattle.func_gen.proofs.Several.{Are, add_local, uses_all}
+use Rattle.func_gen.proofs.Steps.{ran}
+
+-- 1. What parts own together, and that they pass as they are
+
+word_owns : (x : Word) (r : RustValue) → rust_of_word x ≡ Some r → owned_by r ≡ []
+word_owns (core.I32 z) r h = ap owned_by (sym (some_same _ r h)) ∙ scalar_owns Scalar.s32 z
+word_owns (core.I64 z) r h = ap owned_by (sym (some_same _ r h)) ∙ scalar_owns Scalar.s64 z
+word_owns (core.F32 z) r h = ap owned_by (sym (some_same _ r h)) ∙ scalar_owns Scalar.f32 z
+word_owns (core.F64 z) r h = ap owned_by (sym (some_same _ r h)) ∙ scalar_owns Scalar.f64 z
+word_owns (core.Pointer z) r h = absurd cc
+word_owns (core.Length z) r h = absurd cc
+word_owns (core.Slot z) r h = absurd cc
+
+owned_is : (v : Val) (r : RustValue) → rust_of v ≡ Some r → owned v ≡ owned_by r
+owned_is (val.Value x) r h = ap owned_by (some_same x r h)
+owned_is (val.Word x) r h = sym (word_owns x r h)
+owned_is (val.Area a n) r h = absurd cc
+
+all_owned : (vs : List Val) (rs : List RustValue) → Are vs rs → flat_map owned vs ≡ taken_by rs
+all_owned [] rs h = ap taken_by (sym h)
+all_owned (v ∷ vs) [] h = absurd h
+all_owned (v ∷ vs) (r ∷ rs) h = ap₂ (λ x y. x ++ y) (owned_is v r h.0) (all_owned vs rs h.1)
+
+all_rust : (vs : List Val) (rs : List RustValue) → Are vs rs → rust_values vs ≡ Some rs
+all_rust [] rs h = ap (λ x. Some x) (sym h)
+all_rust (v ∷ vs) [] h = absurd h
+all_rust (v ∷ vs) (r ∷ rs) h = ap (option_and_then (λ r. option_map (λ rs. r ∷ rs) (rust_values vs))) h.0 ∙ ap (option_map (λ rs. r ∷ rs)) (all_rust vs rs h.1)
+
+struct_level : (dir : Direction) (rs : List RustValue) → passing_level dir (RustValue-F.Struct rs) ≡ value.Struct rs
+struct_level (lend blocks) rs = refl
+struct_level (make blocks) rs = refl
+struct_level give rs = refl
+struct_level take rs = refl
+
+normal_struct : (dir : Direction) (rs : List RustValue) → map (fold-RustValue RustValue (passing_level dir)) rs ≡ rs → IsNormal dir (value.Struct rs)
+normal_struct dir rs h =
+    ap (fold-RustValue RustValue (passing_level dir)) (sym (rolls-Struct rs)) ∙ fold-roll-RustValue RustValue (passing_level dir) (RustValue-F.Struct rs)
+    ∙ struct_level dir (map (fold-RustValue RustValue (passing_level dir)) rs) ∙ ap value.Struct h
+
+-- parts that stand as they are, and pass so
+parts_stand : (dir : Direction) (ts : Shapes) (v : Parts ts) (rs : List RustValue) (own : List Block) → PartsStand func_meaning dir ts v rs own → rust.PartsStand 2 dir ts v rs own × (map (fold-RustValue RustValue (passing_level dir)) rs ≡ rs)
+parts_stand dir none v rs own h = (h, ap (map (fold-RustValue RustValue (passing_level dir))) h.0 ∙ sym h.0)
+parts_stand dir (more t ts) v rs own (r, others, first, rest, is, h, hs, all) =
+    let later = parts_stand dir ts v.1 others rest hs in
+    ((r, others, first, rest, is, h.0, later.0, all), ap (map (fold-RustValue RustValue (passing_level dir))) is ∙ ap₂ (λ x xs. x ∷ xs) h.1 later.1 ∙ sym is)
+
+whole_stands : (ts : Shapes) (v : Parts ts) (rs : List RustValue) (own : List Block) → PartsStand func_meaning take ts v rs own → StandsAsItIs take (tuple ts) v (value.Struct rs) own
+whole_stands ts v rs own h = let both = parts_stand take ts v rs own h in ((rs, refl, both.0), normal_struct take rs both.1)
+
+-- 2. A tuple makes no call
+
+quiet_all : (w : Setting) (os : List ExprOperand) → are_operands os ≡ true → Quiet (all (map (eval w) (exprs_of os)))
+quiet_all w [] h = quiet_pure []
+quiet_all w (o ∷ os) h =
+    let two = and_parts (is_operand o.expr) (are_operands os) h in
+    quiet_then (eval w o.expr) (λ x. all (map (eval w) (exprs_of os)) >>= (λ xs. pure (x ∷ xs))) (quiet_operand w o.expr two.0)
+    (λ x. quiet_then (all (map (eval w) (exprs_of os))) (λ xs. pure (x ∷ xs)) (quiet_all w os two.1) (λ xs. quiet_pure (x ∷ xs)))
+
+quiet_tuple : (os : List ExprOperand) → are_operands os ≡ true → (w : Setting) → Quiet (eval w (expr.Tuple (exprs_of os)))
+quiet_tuple os h w =
+    subst Quiet (sym (eval-tuple w (exprs_of os))) (quiet_then (all (map (eval w) (exprs_of os))) (λ vs. or_stop (stuck w) (whole_of vs)) (quiet_all w os h) (λ vs. quiet_or_stop (stuck w) (whole_of vs)))
+
+-- 3. What it gives
+
+acts_same : (w : Setting) (os : List ExprOperand) → map (eval w) (exprs_of os) ≡ map (λ (o : ExprOperand). eval w o.expr) os
+acts_same w [] = refl
+acts_same w (o ∷ os) = ap (λ acts. eval w o.expr ∷ acts) (acts_same w os)
+
+tuple_gives : (w : Setting) (os : List ExprOperand) (vs : List Val) (rs : List RustValue) (s t : State) → all (map (λ (o : ExprOperand). eval w o.expr) os) s ≡ machine.Done vs t → Are vs rs
+    → eval w (expr.Tuple (exprs_of os)) s ≡ machine.Done (val.Value (value.Struct rs)) t
+tuple_gives w os vs rs s t h is =
+    ap (λ act. act s) (eval-tuple w (exprs_of os)) ∙ ap (λ acts. and_then (all acts s) (λ vs. or_stop (stuck w) (whole_of vs))) (acts_same w os)
+    ∙ ap (λ o. and_then o (λ vs. or_stop (stuck w) (whole_of vs))) h ∙ ap (λ o. or_stop (stuck w) (option_map (λ rs. val.Value (value.Struct rs)) o) t) (all_rust vs rs is)
+
+binds_to : (w : Setting) (n : Bytes) (e : Expr) (v : Val) (s t : State) → eval w e s ≡ machine.Done v t → run_stmts w (stmt.Let n e ∷ []) s ≡ machine.Done tt (with_local t n v)
+unfolding bind
+binds_to w n e v s t h = ap (λ o. and_then (and_then o (bind n)) (λ u. pure tt)) h
+
+areas_last : (import : Bool) (area : Option Request) (at : Option ℕ) (asked : List Asked) (name : Bytes) (s t : State) → ((k : Bytes) (a z : ℕ) → env_of s k ≡ Some (val.Area a z) → env_of t k ≡ Some (val.Area a z)) → t.place ≡ s.place
+    → AreaIs import area at asked name s → AreaIs import area at asked name t
+areas_last true None None asked name s t stays p h = tt
+areas_last true None (Some address) asked name s t stays p h = h
+areas_last true (Some area) None asked name s t stays p h = h
+areas_last true (Some area) (Some address) asked name s t stays p h = stays name address area.size h
+areas_last false area at asked name s t stays p h = λ e. p ∙ h e
+
+-- 4. The row
+
+module _ (old new : FunctionBindgen) (n : Bytes) (os : List ExprOperand) (a : Appends old new (stmt.Let n (expr.Tuple (exprs_of os)) ∷ []) []) (fresh : Fresh old new n) where
+  makes_whole : (rs : List RustValue) (Outs : Facts func_meaning → Type 0) → length os ≡ length rs → Outs (of (operand_of (expr.Local n)) (item (value.Struct rs)) ∷ [])
+      → Stays func_meaning old new (ofs func_meaning os (item_data func_meaning rs)) Outs
+  makes_whole rs Outs len outs w p others s0 s at =
+      let ins = ofs func_meaning os (item_data func_meaning rs) in
+      let v : Val = val.Value (value.Struct rs) in
+      let u = uses_all (setting_for w p) old os rs others s.machine len at.holds.hold in
+      let t = with_local u.then n v in
+      let under = bound_under u.then n v (u.holds.within n fresh.free) in (
+        record { machine = t; area = s.area },
+        ran old new (stmt.Let n (expr.Tuple (exprs_of os)) ∷ []) [] a w p (ins ++ others) s0 s at
+            ∙ ap (seen s.area) (binds_to (setting_for w p) n (expr.Tuple (exprs_of os)) v s.machine u.then (tuple_gives (setting_for w p) os u.given rs s.machine u.then u.evaluated u.is)),
+        (
+          of (operand_of (expr.Local n)) (item (value.Struct rs)) ∷ [],
+          outs,
+          record {
+            account = u.account;
+            owns = λ g.
+                let e = ap (total g) (owned-struct rs) in
+                let f = ap (total g) (all_owned u.given rs u.is) in
+                omega (arith, e, f, u.owns g, owns_with g u.then n v, total-append g (owns_of t) [], total-append g (owns_of s.machine) []);
+            denotes = record {
+              hold = add_local w.items old new others u.then n v (item (value.Struct rs)) a.params fresh refl u.holds;
+              owners = subst (λ (acc : Account RustValue). AreOwned acc.heap.blocks acc.taken) (sym u.account) at.holds.owners;
+              area = areas_last new.import w.area s.area new.asked new.area s.machine t (λ k x z is. under k (val.Area x z) (u.areas k x z is)) u.place
+                  (area_same w old new s.area s.machine (same_area old new (stmt.Let n (expr.Tuple (exprs_of os)) ∷ []) [] a) at.holds.area);
+            };
+          },
+        ),
+      )
+
+pub tuple_row : (types : List TypeDef) (old new : FunctionBindgen) (n : Bytes) (k : ℕ) (os : List ExprOperand) → length os ≡ k → are_operands os ≡ true → Appends old new (stmt.Let n (expr.Tuple (exprs_of os)) ∷ []) [] → Fresh old new n
+    → Emits func_meaning types (TupleLift k) os (operand_of (expr.Local n) ∷ []) old new
+tuple_row types old new n k os many ok a fresh = record {
+  adds = let_adds old new n (expr.Tuple (exprs_of os)) [] a fresh (quiet_tuple os ok);
+  blocks = refl;
+  returned = a.returned;
+  asked = a.asked;
+  results = refl;
+  row = λ ts is rs len. makes_whole old new n os a fresh rs
+      (λ fs. (r : RustValue) × (fs ≡ of (operand_of (expr.Local n)) (item r) ∷ []) × ((v : Parts ts) (own : List Block) → PartsStand func_meaning take ts v rs own → StandsAsItIs take (tuple ts) v r own))
+      (many ∙ sym is ∙ sym len) (value.Struct rs, refl, λ v own h. whole_stands ts v rs own h);
+}

@@ -1,0 +1,6 @@
+use Rattle.std.proofs.Common.{◌≡◌, ◌++◌, drop}
+use Rattle.func_gen.specs.PartForms.{are_operands, exprs_of}
+use Rattle.func_gen.proofs.emit.parts.operand_exprs.Given as goal
+
+abbrev pub invariant-loop-operand : goal.invariant-loop-operand
+invariant-loop-operand l = (l.es ++ exprs_of (drop l.operand-index l.operands) ≡ exprs_of l.operands) × (are_operands (drop l.operand-index l.operands) ≡ are_operands l.operands)
