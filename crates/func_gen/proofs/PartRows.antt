@@ -1,5 +1,5 @@
 -- The row of tuples that are made of their parts.
-use Rattle.std.proofs.Common.{◌≡◌, ℕ, Bool, true, false, ◌&&◌, List, [], ◌∷◌, ◌++◌, length, map, Option, None, Some, refl, sym, ap, ap₂, ◌∙◌, subst, arith}
+use Rattle.std.proofs.Common.{◌≡◌, ℕ, Bool, true, false, List, [], ◌∷◌, ◌++◌, length, map, Option, None, Some, refl, sym, ap, ap₂, ◌∙◌, subst, arith}
 use Rattle.std.specs.List.{flat_map}
 use Rattle.std.specs.Prelude.{option_and_then}
 use Rattle.std.specs.Option.{option_map}
@@ -19,7 +19,7 @@ use Rattle.wrapper_data.specs.declared.word.Word.{Word}
 use Rattle.wrapper_data.specs.declared.word.Word.TheVariants as core
 use Rattle.wrapper_meaning.specs.Direction.{Direction, give, lend, make, take}
 use Rattle.wrapper_meaning.specs.Items.{total}
-use Rattle.wrapper_meaning.specs.Shape.{Shape, Shapes}
+use Rattle.wrapper_meaning.specs.Shape.{Shapes}
 use Rattle.wrapper_meaning.specs.Shape.Shape.{tuple}
 use Rattle.wrapper_meaning.specs.Shape.Shapes.{none, more}
 use Rattle.wrapper_meaning.specs.StandsFor as rust
@@ -44,14 +44,14 @@ use Rattle.abi_driver.specs.Account.{Account}
 use Rattle.abi_driver.specs.Instructions.{Emits}
 use Rattle.abi_driver.specs.Laws.{Facts, Stays, item_data, ofs}
 use Rattle.abi_driver.specs.Meaning.{item, of}
-use Rattle.abi_driver.specs.Parts.{PartsStand, count}
+use Rattle.abi_driver.specs.Parts.{PartsStand}
 use Rattle.abi_driver.proofs.Runs.{total-append}
 use Rattle.func_gen.specs.declared.function_bindgen.FunctionBindgen.{FunctionBindgen}
 use Rattle.func_gen.specs.declared.operand.ExprOperand.{ExprOperand}
 use Rattle.func_gen.specs.Added.{Appends, Fresh}
 use Rattle.func_gen.specs.Facts.{AreOwned}
 use Rattle.func_gen.specs.Forms.{operand_of}
-use Rattle.func_gen.specs.Meaning.{AreaIs, File, IsNormal, StandsAsItIs, account_of, func_meaning, owns_of, passing_level, seen, setting_for}
+use Rattle.func_gen.specs.Meaning.{AreaIs, IsNormal, StandsAsItIs, func_meaning, owns_of, passing_level, seen, setting_for}
 use Rattle.func_gen.specs.Operand.{is_operand}
 use Rattle.func_gen.specs.PartForms.{are_operands, exprs_of}
 use Rattle.func_gen.specs.Read.{env_of}

@@ -23,7 +23,7 @@ use Rattle.func_gen.specs.declared.function_bindgen.FunctionBindgen.{FunctionBin
 use Rattle.func_gen.specs.Added.{Appends}
 use Rattle.func_gen.specs.Meaning.{Denote, File, Found, FuncState, Serves, call_of, func_meaning, run_code, run_head, seen, setting_for, static_request}
 use Rattle.func_gen.specs.Scope.{is_used}
-use Rattle.func_gen.proofs.Lasting.{Beside, SameArea, denotes_on, lasts}
+use Rattle.func_gen.proofs.Lasting.{denotes_on, lasts}
 use Rattle.func_gen.proofs.RuntimeItems.{found_left, has_more}
 
 -- 1. Outcomes of the machine, as they are seen
