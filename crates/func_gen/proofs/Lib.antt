@@ -1,6 +1,7 @@
 pub mod Evaluated
 pub mod Lasting
 pub mod LiftedRows
+pub mod MemoryTies
 pub mod Moves
 pub mod Moving
 pub mod PartRows
