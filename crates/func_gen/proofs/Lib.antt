@@ -13,3 +13,5 @@ pub mod Scalars
 pub mod Several
 pub mod Starting
 pub mod Steps
+pub mod StoreRows
+pub mod Writing

@@ -57,7 +57,7 @@ instead items old new f g others s params scope from d = record {
 pub same_area : (old new : FunctionBindgen) (added : List Stmt) (items : List RuntimeItem) → Appends old new added items → SameArea old new
 same_area old new added items a = record { import = a.import; asked = a.asked; name = a.area }
 
-unmoved : (s : State) → Beside s s
+pub unmoved : (s : State) → Beside s s
 unmoved s = record { heap = refl; taken = refl; place = refl; under = λ n v h. h }
 
 pub quiet_none : (w : Setting) → Quiet (run_stmts w [])

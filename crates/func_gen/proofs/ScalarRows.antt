@@ -50,7 +50,7 @@ use Rattle.func_gen.proofs.Scalars.{cast_word, conversion_to, converts_scalar, i
 abbrev no_blocks : List ⊥
 no_blocks = []
 
-none_dropped : (n : ℕ) → no_blocks ≡ drop n no_blocks
+pub none_dropped : (n : ℕ) → no_blocks ≡ drop n no_blocks
 none_dropped zero = refl
 none_dropped (suc n) = refl
 

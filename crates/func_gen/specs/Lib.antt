@@ -4,6 +4,7 @@ pub mod Facts
 pub mod Forms
 pub mod FuncSound
 pub mod Meaning
+pub mod MemoryForms
 pub mod Operand
 pub mod PartForms
 pub mod Read

@@ -1,5 +1,6 @@
 //! The code of each instruction.
 
+mod memory;
 mod parts;
 mod scalars;
 
@@ -8,6 +9,7 @@ ghost use Rattle.abi_driver.specs.Instructions.{Emits};
 ghost use Rattle.abi_driver.specs.declared.instruction.Instruction.TheVariants as instruction;
 ghost use Rattle.func_gen.specs.Meaning.{func_meaning};
 
+pub(crate) use crate::emit::memory::{small_store, whole_store};
 pub(crate) use crate::emit::scalars::{conversion, is_kept, number_cast};
 use crate::function_bindgen::FunctionBindgen;
 use crate::operand::{ExprOperand, copy_expr};

@@ -1,6 +1,6 @@
 //! The laws are kept.
 
-use crate::emit::{conversion, is_kept, number_cast};
+use crate::emit::{conversion, is_kept, number_cast, small_store, whole_store};
 use crate::function_bindgen::FunctionBindgen;
 use crate::operand::ExprOperand;
 use abi_driver::{Bindgen, Instruction};
@@ -34,6 +34,12 @@ impl Bindgen for FunctionBindgen {
         }
         if is_kept(inst) {
             return self.keep(resolve, inst, operands, results);
+        }
+        if let Some(place) = whole_store(inst) {
+            return self.store(resolve, inst, place, operands, results);
+        }
+        if let Some(place) = small_store(inst) {
+            return self.store_low(resolve, inst, place, operands, results);
         }
         match *inst {
             Instruction::GetArg(n) => self.get_arg(resolve, n, results),

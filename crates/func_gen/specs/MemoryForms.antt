@@ -1,0 +1,32 @@
+-- Which instructions become which accesses to memory, and the form by which a text is freed.
+use Rattle.std.specs.Prelude.{[], ◌∷◌, Option, None, Some}
+use Rattle.wit_model.specs.declared.size.Alignment.TheVariants.{Bytes}
+use Rattle.wit_model.specs.declared.size.ArchitectureSize.{ArchitectureSize}
+use Rattle.wit_model.specs.declared.wasm_type.WasmType.{WasmType}
+use Rattle.wit_model.specs.declared.wasm_type.WasmType.TheVariants as wasm
+use Rattle.rust_tree.specs.declared.expr.Expr.{Expr}
+use Rattle.rust_tree.specs.declared.expr.Expr.TheVariants as expr
+use Rattle.rust_tree.specs.declared.expr.SmallType.{SmallType}
+use Rattle.rust_tree.specs.declared.expr.SmallType.TheVariants as small
+use Rattle.rust_tree.specs.declared.runtime_item.RuntimeItem.TheVariants.{CabiDealloc}
+use Rattle.abi_driver.specs.declared.instruction.Instruction.{Instruction}
+use Rattle.abi_driver.specs.declared.instruction.Instruction.TheVariants.{F32Store, F64Store, I32Store8, I32Store16, LengthStore, PointerStore}
+use Rattle.func_gen.specs.Forms.{runtime_path}
+
+-- a whole word is stored, at an offset
+abbrev pub whole_store : Instruction → Option (ArchitectureSize × WasmType)
+whole_store (F32Store o) = Some (o, wasm.F32)
+whole_store (F64Store o) = Some (o, wasm.F64)
+whole_store (PointerStore o) = Some (o, wasm.Pointer)
+whole_store (LengthStore o) = Some (o, wasm.Length)
+whole_store _ = None
+
+-- the low bytes of a word are
+abbrev pub small_store : Instruction → Option (ArchitectureSize × SmallType)
+small_store (I32Store8 o) = Some (o, small.U8)
+small_store (I32Store16 o) = Some (o, small.U16)
+small_store _ = None
+
+-- the call that frees so many bytes at an address
+abbrev pub text_freed : Expr → Expr → Expr
+text_freed address n = expr.Call (runtime_path CabiDealloc) (address ∷ n ∷ expr.Align (Bytes 1) ∷ [])

@@ -1,0 +1,106 @@
+//! Core words are stored in memory, and texts are freed.
+
+ghost use Rattle.std.specs.Prelude.{◌≡◌, [], ◌∷◌, Some, true, length, IfOk, OnOk};
+ghost use Rattle.rust_tree.specs.declared.stmt.Stmt.TheVariants as stmt;
+ghost use Rattle.abi_driver.specs.Instructions.{Emits};
+ghost use Rattle.abi_driver.specs.declared.instruction.Instruction.TheVariants as instruction;
+ghost use Rattle.func_gen.specs.Added.{Appends};
+ghost use Rattle.func_gen.specs.Forms.{operand_of};
+ghost use Rattle.func_gen.specs.Meaning.{func_meaning};
+ghost use Rattle.func_gen.specs.MemoryForms.{small_store, whole_store};
+ghost use Rattle.func_gen.specs.Operand.{is_operand};
+
+use crate::function_bindgen::FunctionBindgen;
+use crate::operand::{ExprOperand, copy_expr, is_operand};
+use abi_driver::Instruction;
+use rust_tree::{Expr, SmallType, Stmt};
+use std::alloc::Global;
+use wit_model::{ArchitectureSize, List, OutOfMemory, Resolve, WasmType};
+
+/// At which offset a whole word of which type is stored.
+pub(crate) fn whole_store(inst: &Instruction) -> Option<(ArchitectureSize, WasmType)>
+    ensures { result ≡ whole_store inst.now }
+{
+    match *inst {
+        Instruction::F32Store(o) => Some((o, WasmType::F32)),
+        Instruction::F64Store(o) => Some((o, WasmType::F64)),
+        Instruction::PointerStore(o) => Some((o, WasmType::Pointer)),
+        Instruction::LengthStore(o) => Some((o, WasmType::Length)),
+        _ => None,
+    }
+}
+
+/// At which offset the low bytes of a word are stored, and as which small number.
+pub(crate) fn small_store(inst: &Instruction) -> Option<(ArchitectureSize, SmallType)>
+    ensures { result ≡ small_store inst.now }
+{
+    match *inst {
+        Instruction::I32Store8(o) => Some((o, SmallType::U8)),
+        Instruction::I32Store16(o) => Some((o, SmallType::U16)),
+        _ => None,
+    }
+}
+
+/// The two operands. Of an expression that is no operand there is no memory.
+pub(crate) fn both_operands(
+    alloc: Global,
+    operands: &List<ExprOperand>,
+) -> Result<(Expr, Expr), OutOfMemory>
+    ensures both { IfOk result (λ es. operands.now ≡ operand_of es.0 ∷ operand_of es.1 ∷ []) }
+    ensures first { IfOk result (λ es. is_operand es.0 ≡ true) }
+    ensures second { IfOk result (λ es. is_operand es.1 ≡ true) }
+{
+    let [a, b] = operands.as_slice() else {
+        return Err(OutOfMemory);
+    };
+    let first = copy_expr(&a.expr, alloc)?;
+    let second = copy_expr(&b.expr, alloc)?;
+    if !is_operand(&first) || !is_operand(&second) {
+        return Err(OutOfMemory);
+    }
+    Ok((first, second))
+}
+
+impl FunctionBindgen {
+    /// A statement that declares no name.
+    pub(crate) fn add_effect(&mut self, effect: Stmt) -> Result<(), OutOfMemory>
+        ensures adds { OnOk result (Appends self.old self.new (effect ∷ []) []) }
+        ensures scope { OnOk result (self.new.scope ≡ self.old.scope) }
+    {
+        self.code.stmts.push(effect)
+    }
+
+    pub(crate) fn store(
+        &mut self,
+        resolve: &Resolve,
+        inst: &Instruction,
+        place: (ArchitectureSize, WasmType),
+        operands: &List<ExprOperand>,
+        results: &mut List<ExprOperand>,
+    ) -> Result<(), OutOfMemory>
+        requires store { whole_store inst.now ≡ Some place }
+        requires empty { results.old ≡ [] }
+        ensures { OnOk result (Emits func_meaning resolve.now.types inst.now operands.now results.new self.old self.new) }
+    {
+        let (value, address) = both_operands(self.alloc, operands)?;
+        self.add_effect(Stmt::Store(address, place.0, place.1, value))?;
+        Ok(())
+    }
+
+    pub(crate) fn store_low(
+        &mut self,
+        resolve: &Resolve,
+        inst: &Instruction,
+        place: (ArchitectureSize, SmallType),
+        operands: &List<ExprOperand>,
+        results: &mut List<ExprOperand>,
+    ) -> Result<(), OutOfMemory>
+        requires store { small_store inst.now ≡ Some place }
+        requires empty { results.old ≡ [] }
+        ensures { OnOk result (Emits func_meaning resolve.now.types inst.now operands.now results.new self.old self.new) }
+    {
+        let (value, address) = both_operands(self.alloc, operands)?;
+        self.add_effect(Stmt::StoreSmall(address, place.0, place.1, value))?;
+        Ok(())
+    }
+}
