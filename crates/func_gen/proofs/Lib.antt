@@ -1,4 +1,5 @@
 pub mod Evaluated
+pub mod FreeRow
 pub mod Lasting
 pub mod LiftedRows
 pub mod MemoryTies

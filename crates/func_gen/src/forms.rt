@@ -8,7 +8,7 @@ use std::alloc::Global;
 use wit_model::{List, OutOfMemory, Text};
 
 #[tactic(auto, unfolding(crate::specs::Forms::runtime_name))]
-fn runtime_path(alloc: Global, item: RuntimeItem) -> Result<Path, OutOfMemory>
+pub(crate) fn runtime_path(alloc: Global, item: RuntimeItem) -> Result<Path, OutOfMemory>
     ensures { IfOk result (λ p. p ≡ runtime_path item) }
 {
     let mut names = List::new(alloc);

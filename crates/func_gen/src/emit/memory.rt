@@ -7,15 +7,16 @@ ghost use Rattle.abi_driver.specs.declared.instruction.Instruction.TheVariants a
 ghost use Rattle.func_gen.specs.Added.{Appends};
 ghost use Rattle.func_gen.specs.Forms.{operand_of};
 ghost use Rattle.func_gen.specs.Meaning.{func_meaning};
-ghost use Rattle.func_gen.specs.MemoryForms.{small_store, whole_store};
+ghost use Rattle.func_gen.specs.MemoryForms.{small_store, text_freed, whole_store};
 ghost use Rattle.func_gen.specs.Operand.{is_operand};
 
+use crate::forms::runtime_path;
 use crate::function_bindgen::FunctionBindgen;
 use crate::operand::{ExprOperand, copy_expr, is_operand};
 use abi_driver::Instruction;
-use rust_tree::{Expr, SmallType, Stmt};
+use rust_tree::{Expr, RuntimeItem, SmallType, Stmt};
 use std::alloc::Global;
-use wit_model::{ArchitectureSize, List, OutOfMemory, Resolve, WasmType};
+use wit_model::{Alignment, ArchitectureSize, List, OutOfMemory, Resolve, WasmType};
 
 /// At which offset a whole word of which type is stored.
 pub(crate) fn whole_store(inst: &Instruction) -> Option<(ArchitectureSize, WasmType)>
@@ -61,6 +62,18 @@ pub(crate) fn both_operands(
     Ok((first, second))
 }
 
+/// The call that frees so many bytes at an address.
+fn text_freed(alloc: Global, address: Expr, n: Expr) -> Result<Expr, OutOfMemory>
+    ensures { IfOk result (λ c. c ≡ text_freed address n) }
+{
+    let path = runtime_path(alloc, RuntimeItem::CabiDealloc)?;
+    let mut arguments = List::new(alloc);
+    arguments.push(address)?;
+    arguments.push(n)?;
+    arguments.push(Expr::Align(Alignment::Bytes(1)))?;
+    Ok(Expr::Call(path, arguments))
+}
+
 impl FunctionBindgen {
     /// A statement that declares no name.
     pub(crate) fn add_effect(&mut self, effect: Stmt) -> Result<(), OutOfMemory>
@@ -101,6 +114,22 @@ impl FunctionBindgen {
     {
         let (value, address) = both_operands(self.alloc, operands)?;
         self.add_effect(Stmt::StoreSmall(address, place.0, place.1, value))?;
+        Ok(())
+    }
+
+    pub(crate) fn free_text(
+        &mut self,
+        resolve: &Resolve,
+        operands: &List<ExprOperand>,
+        results: &mut List<ExprOperand>,
+    ) -> Result<(), OutOfMemory>
+        requires empty { results.old ≡ [] }
+        ensures { OnOk result (Emits func_meaning resolve.now.types instruction.GuestDeallocateString operands.now results.new self.old self.new) }
+    {
+        let (address, n) = both_operands(self.alloc, operands)?;
+        let call = text_freed(self.alloc, address, n)?;
+        self.ask(RuntimeItem::CabiDealloc)?;
+        self.add_effect(Stmt::Expr(call))?;
         Ok(())
     }
 }

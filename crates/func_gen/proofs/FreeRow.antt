@@ -1,0 +1,200 @@
+-- The row of a text that is freed.
+use Rattle.std.proofs.Common.{rules, ◌≡◌, ℕ, zero, suc, ◌-◌, ◌^◌, Bool, true, false, cond, nat_eq, nat_lt, ◌&&◌, ◌||◌, if◌then◌else◌, List, [], ◌∷◌, Option, None, Some, find, refl, sym, ap, ◌∙◌, subst, arith}
+use Rattle.std.proofs.lemmas.Bool.{and_parts, or_parts}
+use Rattle.std.proofs.lemmas.Bool.Decides.{nat_tests}
+use Rattle.wit_model.specs.declared.size.Alignment.TheVariants.{Bytes}
+use Rattle.wit_model.specs.declared.types.TypeDef.{TypeDef}
+use Rattle.rust_tree.specs.declared.expr.Expr.{Expr, the_lemmas}
+use Rattle.rust_tree.specs.declared.expr.Expr.TheVariants as expr
+use Rattle.rust_tree.specs.declared.runtime_item.RuntimeItem.{RuntimeItem}
+use Rattle.rust_tree.specs.declared.runtime_item.RuntimeItem.TheVariants.{CabiDealloc}
+use Rattle.rust_tree.specs.declared.stmt.Stmt.TheVariants as stmt
+use Rattle.rust_tree.specs.Runtime.{item_name}
+use Rattle.wrapper_data.specs.declared.block.Block.{Block}
+use Rattle.wrapper_data.specs.declared.form.Form.{Form}
+use Rattle.wrapper_data.specs.declared.form.Form.TheVariants as form
+use Rattle.wrapper_data.specs.declared.run.TrapKind.{TrapKind}
+use Rattle.wrapper_data.specs.declared.run.TrapKind.TheVariants as trap
+use Rattle.wrapper_data.specs.declared.value.RustValue.{RustValue}
+use Rattle.wrapper_data.specs.declared.value.RustValue.TheVariants as value
+use Rattle.wrapper_data.specs.declared.word.Word.TheVariants as core
+use Rattle.wrapper_values.specs.declared.state.State.{State}
+use Rattle.wrapper_values.specs.declared.state.Val.{Val}
+use Rattle.wrapper_values.specs.declared.state.Val.TheVariants as val
+use Rattle.wrapper_values.specs.Act as machine
+use Rattle.wrapper_values.specs.Act.{Act, ◌>>=◌, all, and_then, pure, stop}
+use Rattle.wrapper_values.specs.Owning.{is_taken}
+use Rattle.wrapper_values.specs.Setting.{Setting, failed}
+use Rattle.wrapper_run.specs.Blocks.{dealloc, dealloc_words, drop_value, free_all, free_bytes, free_untaken, untaken}
+use Rattle.wrapper_run.specs.Memory.{begins_at, block_at, block_from, is_at, without}
+use Rattle.wrapper_run.specs.Run.{apply, call, call_callee, call_runtime, eval, run_stmts, runtime_item_named}
+use Rattle.wrapper_run.proofs.OwningLemmas.{owned-unit}
+use Rattle.wrapper_run.proofs.QuietSteps.{quiet_expr}
+use Rattle.wrapper_run.proofs.StepLemmas.{Quiet, calls_at, call_gives, eval-call, quiet_pure, quiet_then}
+use Rattle.abi_driver.specs.declared.instruction.Instruction.TheVariants.{GuestDeallocateString}
+use Rattle.abi_driver.specs.Account.{failing}
+use Rattle.abi_driver.specs.Instructions.{Emits}
+use Rattle.abi_driver.specs.Memory.{freed, freeing}
+use Rattle.abi_driver.specs.Meaning.{of, word}
+use Rattle.func_gen.specs.declared.function_bindgen.FunctionBindgen.{FunctionBindgen}
+use Rattle.func_gen.specs.Added.{Appends}
+use Rattle.func_gen.specs.Facts.{AreOwned, Hold, IsThere}
+use Rattle.func_gen.specs.Forms.{operand_of, runtime_path}
+use Rattle.func_gen.specs.Meaning.{File, Found, account_of, answer_of, func_meaning, setting_for}
+use Rattle.func_gen.specs.MemoryForms.{text_freed}
+use Rattle.func_gen.specs.Operand.{is_operand}
+use Rattle.func_gen.proofs.MemoryTies.{without_is}
+use Rattle.func_gen.proofs.Quiet.{quiet_operand}
+use Rattle.func_gen.proofs.ScalarRows.{calls_runtime, none_dropped}
+use Rattle.func_gen.proofs.StoreRows.{two_given}
+use Rattle.func_gen.proofs.Writing.{Writes, one_adds, with_heap, writes}
+
+-- 1. The call makes no call of an import
+
+eval-align : (w : Setting) → eval w (expr.Align (Bytes 1)) ≡ pure (val.Word (core.Length 1))
+eval-align w = search (rules, the_lemmas)
+
+quiet_bytes : (w : Setting) (address size : ℕ) → Quiet (free_bytes w address size)
+quiet_bytes w address zero = quiet_pure tt
+quiet_bytes w address (suc n) = record { quiet = λ s. go s (untaken address (suc n) s) }
+  where
+    go : (s : State) (o : Option Block) → calls_at (free_untaken w address (suc n) o s) ≡ s.calls
+    go s None = refl
+    go s (Some b) = refl
+
+quiet_dealloc : (w : Setting) (address size : ℕ) → Quiet (dealloc w address size)
+unfolding dealloc
+quiet_dealloc w address size = go (nat_lt (2 ^ 31 - 1) size)
+  where
+    go : (b : Bool) → Quiet (cond b (stop (failed w trap.Size)) (free_bytes w address size))
+    go true = record { quiet = λ s. refl }
+    go false = quiet_bytes w address size
+
+quiet_words : (w : Setting) (vs : List Val) → Quiet (dealloc_words w vs)
+quiet_words w (val.Word (core.Pointer address) ∷ val.Word (core.Length size) ∷ val.Word (core.Length align) ∷ []) =
+    quiet_then (dealloc w address size) (λ _. pure (val.Value value.Unit)) (quiet_dealloc w address size) (λ _. quiet_pure (val.Value value.Unit))
+quiet_words w _ = record { quiet = λ s. refl }
+
+-- no other function of `_rt` has three arguments
+quiet_three : (w : Setting) (i : Option RuntimeItem) (x y z : Val) → Quiet (apply w i (x ∷ y ∷ z ∷ []))
+quiet_three w (Some CabiDealloc) x y z = quiet_words w (x ∷ y ∷ z ∷ [])
+quiet_three w None x y z = record { quiet = λ s. refl }
+quiet_three w (Some i) x y z = record { quiet = λ s. refl }
+
+in_turn : (a b c : Act Val) (f : List Val → Act Val) (s : State) → and_then (all (a ∷ b ∷ c ∷ []) s) f ≡ and_then (a s) (λ x. b >>= (λ y. c >>= (λ z. f (x ∷ y ∷ z ∷ []))))
+in_turn a b c f s = first (a s)
+  where
+    third : (x y : Val) (o : machine.Outcome Val) → and_then (and_then (and_then (and_then o (λ z. pure [] >>= (λ zs. pure (z ∷ zs)))) (λ ys. pure (y ∷ ys))) (λ xs. pure (x ∷ xs))) f ≡ and_then o (λ z. f (x ∷ y ∷ z ∷ []))
+    third x y (machine.Done z t) = refl
+    third x y (machine.Stopped e t) = refl
+
+    second : (x : Val) (o : machine.Outcome Val)
+        → and_then (and_then (and_then o (λ y. all (c ∷ []) >>= (λ ys. pure (y ∷ ys)))) (λ xs. pure (x ∷ xs))) f ≡ and_then o (λ y. c >>= (λ z. f (x ∷ y ∷ z ∷ [])))
+    second x (machine.Done y t) = third x y (c t)
+    second x (machine.Stopped e t) = refl
+
+    first : (o : machine.Outcome Val) → and_then (and_then o (λ x. all (b ∷ c ∷ []) >>= (λ xs. pure (x ∷ xs)))) f ≡ and_then o (λ x. b >>= (λ y. c >>= (λ z. f (x ∷ y ∷ z ∷ []))))
+    first (machine.Done x t) = second x (b t)
+    first (machine.Stopped e t) = refl
+
+quiet_call : (w : Setting) (e f : Expr) → Quiet (eval w e) → Quiet (eval w f) → Quiet (eval w (text_freed e f))
+unfolding call_runtime
+quiet_call w e f q r =
+    let path = runtime_path CabiDealloc in
+    let d = eval w (expr.Align (Bytes 1)) in
+    let quiet_d : Quiet d = subst Quiet (sym (eval-align w)) (quiet_pure (val.Word (core.Length 1))) in
+    let each = λ (x y z : Val). subst Quiet (sym (ap (λ k. call_callee w k (x ∷ y ∷ z ∷ [])) (calls_runtime CabiDealloc))) (quiet_three w (runtime_item_named w.items (item_name CabiDealloc)) x y z) in
+    let turned = quiet_then (eval w e) (λ x. eval w f >>= (λ y. d >>= (λ z. call w path (x ∷ y ∷ z ∷ [])))) q
+        (λ x. quiet_then (eval w f) (λ y. d >>= (λ z. call w path (x ∷ y ∷ z ∷ []))) r (λ y. quiet_then d (λ z. call w path (x ∷ y ∷ z ∷ [])) quiet_d (λ z. each x y z))) in
+    subst Quiet (sym (eval-call w path (e ∷ f ∷ expr.Align (Bytes 1) ∷ [])))
+    (record { quiet = λ s. ap calls_at (in_turn (eval w e) (eval w f) d (λ vs. call w path vs) s) ∙ turned.quiet s })
+
+-- 2. What it does
+
+words_freed : (w : Setting) (address n : ℕ) (s : State) → runtime_item_named w.items (item_name CabiDealloc) ≡ Some CabiDealloc
+    → call w (runtime_path CabiDealloc) (val.Word (core.Pointer address) ∷ val.Word (core.Length n) ∷ val.Word (core.Length 1) ∷ []) s ≡ and_then (dealloc w address n s) (λ u. pure (val.Value value.Unit))
+unfolding call_runtime
+words_freed w address n s found =
+    let vs = val.Word (core.Pointer address) ∷ val.Word (core.Length n) ∷ val.Word (core.Length 1) ∷ [] in
+    ap (λ c. call_callee w c vs s) (calls_runtime CabiDealloc) ∙ ap (λ o. apply w o vs s) found
+
+dropped : (w : Setting) (o : machine.Outcome (Unit {0})) → and_then (and_then (and_then o (λ u. pure (val.Value value.Unit))) (drop_value w)) (λ u. pure tt) ≡ o
+dropped w (machine.Done u t) = ap (λ os. and_then (free_all w os t) (λ u. pure tt)) owned-unit
+dropped w (machine.Stopped e t) = refl
+
+free_run : (w : Setting) (b : FunctionBindgen) (e f : Expr) (address n : ℕ) (s : State) → runtime_item_named w.items (item_name CabiDealloc) ≡ Some CabiDealloc
+    → Hold w.items b (of (operand_of e) (word (core.Pointer address)) ∷ of (operand_of f) (word (core.Length n)) ∷ []) s → run_stmts w (stmt.Expr (text_freed e f) ∷ []) s ≡ dealloc w address n s
+free_run w b e f address n s found h =
+    let given = two_given w b e f (core.Pointer address) (core.Length n) s h in
+    let vs = val.Word (core.Pointer address) ∷ val.Word (core.Length n) ∷ val.Word (core.Length 1) ∷ [] in
+    ap (λ o. and_then (and_then o (drop_value w)) (λ u. pure tt))
+    (call_gives w (runtime_path CabiDealloc) (e ∷ f ∷ expr.Align (Bytes 1) ∷ []) vs s (given.0, (given.1, (ap (λ act. act s) (eval-align w), tt))) ∙ words_freed w address n s found)
+    ∙ dropped w (dealloc w address n s)
+
+-- 3. What has an owner has it still
+
+no_start : (t address size : ℕ) (b : Block) → nat_eq t address ≡ false → is_at address size b ≡ true → begins_at t b ≡ false
+no_start t address size b other at =
+    let here = (and_parts (nat_eq b.address address) (nat_eq b.size size) at).0 in
+    let apart : nat_eq b.address t ≡ false = grind (arith, nat_tests) in
+    ap (λ c. c && nat_lt 0 b.size) apart
+
+there_still : (t address size : ℕ) (blocks : List Block) → nat_eq t address ≡ false → IsThere (block_from t blocks) → IsThere (block_from t (without address size blocks))
+there_still t address size [] other h = h
+there_still t address size (b ∷ blocks) other h = go (there_still t address size blocks other) (is_at address size b) refl
+  where
+    kept : (c : Bool) → (IsThere (block_from t blocks) → IsThere (block_from t (without address size blocks))) → IsThere (cond c (Some b) (block_from t blocks)) → IsThere (cond c (Some b) (block_from t (without address size blocks)))
+    kept true later k = k
+    kept false later k = later k
+
+    go : (IsThere (block_from t blocks) → IsThere (block_from t (without address size blocks))) → (c : Bool) → is_at address size b ≡ c → IsThere (block_from t (if c then blocks else b ∷ without address size blocks))
+    go later true e = subst (λ c. IsThere (cond c (Some b) (block_from t blocks))) (no_start t address size b other e) h
+    go later false e = kept (begins_at t b) later h
+
+owned_still : (address size : ℕ) (blocks : List Block) (taken : List ℕ) → is_taken address taken ≡ false → AreOwned blocks taken → AreOwned (without address size blocks) taken
+owned_still address size blocks [] free h = tt
+owned_still address size blocks (t ∷ taken) free (once, there, more) =
+    let parts = or_parts (nat_eq t address) (is_taken address taken) free in (once, there_still t address size blocks parts.0 there, owned_still address size blocks taken parts.1 more)
+
+-- 4. It agrees with the law
+
+module _ (w : Setting) (s : State) where
+  fails : (f : Form) (kind : TrapKind) → Writes (account_of s) (failing f kind (account_of s)) (stop (failed (record w { form = f }) kind) s) s
+  fails form.Debug kind = refl
+  fails form.Release kind = refl
+
+  found_freed : (f : Form) (address n : ℕ) (t : Bool) → is_taken address s.taken ≡ t
+      → (o : Option Block) → Writes (account_of s) (freed f address (suc n) (if t then None else o) (account_of s)) (free_untaken (record w { form = f }) address (suc n) (if t then None else o) s) s
+  found_freed f address n true e o = fails f trap.Block
+  found_freed f address n false e None = fails f trap.Block
+  found_freed f address n false e (Some b) =
+      (without address (suc n) s.heap.blocks, refl, ap (λ blocks. account_of (with_heap s blocks)) (without_is address (suc n) s.heap.blocks), owned_still address (suc n) s.heap.blocks s.taken e)
+
+  frees_agree : (f : Form) (address n : ℕ) → Writes (account_of s) (freeing f address n (account_of s)) (dealloc (record w { form = f }) address n s) s
+  unfolding dealloc
+  frees_agree f address zero = (s.heap.blocks, refl, refl, λ h. h)
+  frees_agree f address (suc n) = go (nat_lt (2 ^ 31 - 1) (suc n))
+    where
+      go : (c : Bool) → Writes (account_of s) (if c then failing f trap.Size (account_of s) else freed f address (suc n) (if is_taken address s.taken then None else block_at address (suc n) s.heap.blocks) (account_of s))
+          ((if c then stop (failed (record w { form = f }) trap.Size) else free_bytes (record w { form = f }) address (suc n)) s) s
+      go true = fails f trap.Size
+      go false = found_freed f address n (is_taken address s.taken) refl (block_at address (suc n) s.heap.blocks)
+
+-- 5. The row
+
+pub free_row : (types : List TypeDef) (old new : FunctionBindgen) (e f : Expr) → is_operand e ≡ true → is_operand f ≡ true → new.scope ≡ old.scope → Appends old new (stmt.Expr (text_freed e f) ∷ []) (CabiDealloc ∷ [])
+    → Emits func_meaning types GuestDeallocateString (operand_of e ∷ operand_of f ∷ []) [] old new
+free_row types old new e f ok ok_f scope a =
+    let quiet : (w : Setting) → Quiet (run_stmts w (stmt.Expr (text_freed e f) ∷ [])) = λ w. quiet_expr w (text_freed e f) [] (quiet_call w e f (quiet_operand w e ok) (quiet_operand w f ok_f)) (quiet_pure tt) in
+    let adds = one_adds old new (stmt.Expr (text_freed e f)) (CabiDealloc ∷ []) a scope quiet in
+    record {
+      adds = adds;
+      blocks = refl;
+      returned = a.returned;
+      asked = adds.asked;
+      results = refl;
+      row = λ address n.
+          writes old new (stmt.Expr (text_freed e f)) (CabiDealloc ∷ []) a scope quiet (of (operand_of e) (word (core.Pointer address)) ∷ of (operand_of f) (word (core.Length n)) ∷ []) (λ p. freeing p.form address n)
+          (λ w p s found h.
+              subst (λ z. Writes (account_of s) (freeing p.form address n (account_of s)) z s) (sym (free_run (setting_for w p) old e f address n s found.0 h)) (frees_agree (setting_for w p) s p.form address n));
+    }
