@@ -1,5 +1,5 @@
 -- The row of a text that is freed.
-use Rattle.std.proofs.Common.{rules, ◌≡◌, ℕ, zero, suc, ◌-◌, ◌^◌, Bool, true, false, cond, nat_eq, nat_lt, ◌&&◌, ◌||◌, if◌then◌else◌, List, [], ◌∷◌, Option, None, Some, find, refl, sym, ap, ◌∙◌, subst, arith}
+use Rattle.std.proofs.Common.{rules, ◌≡◌, ℕ, zero, suc, ◌-◌, ◌^◌, Bool, true, false, cond, nat_eq, nat_lt, ◌&&◌, if◌then◌else◌, List, [], ◌∷◌, Option, None, Some, refl, sym, ap, ◌∙◌, subst, arith}
 use Rattle.std.proofs.lemmas.Bool.{and_parts, or_parts}
 use Rattle.std.proofs.lemmas.Bool.Decides.{nat_tests}
 use Rattle.wit_model.specs.declared.size.Alignment.TheVariants.{Bytes}
@@ -15,7 +15,6 @@ use Rattle.wrapper_data.specs.declared.form.Form.{Form}
 use Rattle.wrapper_data.specs.declared.form.Form.TheVariants as form
 use Rattle.wrapper_data.specs.declared.run.TrapKind.{TrapKind}
 use Rattle.wrapper_data.specs.declared.run.TrapKind.TheVariants as trap
-use Rattle.wrapper_data.specs.declared.value.RustValue.{RustValue}
 use Rattle.wrapper_data.specs.declared.value.RustValue.TheVariants as value
 use Rattle.wrapper_data.specs.declared.word.Word.TheVariants as core
 use Rattle.wrapper_values.specs.declared.state.State.{State}
@@ -40,12 +39,12 @@ use Rattle.func_gen.specs.declared.function_bindgen.FunctionBindgen.{FunctionBin
 use Rattle.func_gen.specs.Added.{Appends}
 use Rattle.func_gen.specs.Facts.{AreOwned, Hold, IsThere}
 use Rattle.func_gen.specs.Forms.{operand_of, runtime_path}
-use Rattle.func_gen.specs.Meaning.{File, Found, account_of, answer_of, func_meaning, setting_for}
+use Rattle.func_gen.specs.Meaning.{account_of, func_meaning, setting_for}
 use Rattle.func_gen.specs.MemoryForms.{text_freed}
 use Rattle.func_gen.specs.Operand.{is_operand}
 use Rattle.func_gen.proofs.MemoryTies.{without_is}
 use Rattle.func_gen.proofs.Quiet.{quiet_operand}
-use Rattle.func_gen.proofs.ScalarRows.{calls_runtime, none_dropped}
+use Rattle.func_gen.proofs.ScalarRows.{calls_runtime}
 use Rattle.func_gen.proofs.StoreRows.{two_given}
 use Rattle.func_gen.proofs.Writing.{Writes, one_adds, with_heap, writes}
 
@@ -105,7 +104,7 @@ quiet_call w e f q r =
     let quiet_d : Quiet d = subst Quiet (sym (eval-align w)) (quiet_pure (val.Word (core.Length 1))) in
     let each = λ (x y z : Val). subst Quiet (sym (ap (λ k. call_callee w k (x ∷ y ∷ z ∷ [])) (calls_runtime CabiDealloc))) (quiet_three w (runtime_item_named w.items (item_name CabiDealloc)) x y z) in
     let turned = quiet_then (eval w e) (λ x. eval w f >>= (λ y. d >>= (λ z. call w path (x ∷ y ∷ z ∷ [])))) q
-        (λ x. quiet_then (eval w f) (λ y. d >>= (λ z. call w path (x ∷ y ∷ z ∷ []))) r (λ y. quiet_then d (λ z. call w path (x ∷ y ∷ z ∷ [])) quiet_d (λ z. each x y z))) in
+    (λ x. quiet_then (eval w f) (λ y. d >>= (λ z. call w path (x ∷ y ∷ z ∷ []))) r (λ y. quiet_then d (λ z. call w path (x ∷ y ∷ z ∷ [])) quiet_d (λ z. each x y z))) in
     subst Quiet (sym (eval-call w path (e ∷ f ∷ expr.Align (Bytes 1) ∷ [])))
     (record { quiet = λ s. ap calls_at (in_turn (eval w e) (eval w f) d (λ vs. call w path vs) s) ∙ turned.quiet s })
 
@@ -196,5 +195,5 @@ free_row types old new e f ok ok_f scope a =
       row = λ address n.
           writes old new (stmt.Expr (text_freed e f)) (CabiDealloc ∷ []) a scope quiet (of (operand_of e) (word (core.Pointer address)) ∷ of (operand_of f) (word (core.Length n)) ∷ []) (λ p. freeing p.form address n)
           (λ w p s found h.
-              subst (λ z. Writes (account_of s) (freeing p.form address n (account_of s)) z s) (sym (free_run (setting_for w p) old e f address n s found.0 h)) (frees_agree (setting_for w p) s p.form address n));
+          subst (λ z. Writes (account_of s) (freeing p.form address n (account_of s)) z s) (sym (free_run (setting_for w p) old e f address n s found.0 h)) (frees_agree (setting_for w p) s p.form address n));
     }

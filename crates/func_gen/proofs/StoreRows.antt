@@ -26,12 +26,12 @@ use Rattle.wrapper_run.specs.Blocks.{keep_blocks, store_small, store_word, write
 use Rattle.wrapper_run.specs.Memory.{block_from, bytes_of, bytes_of_small, bytes_of_type, is_inside, low_bytes, stored, stored_small, writes_from}
 use Rattle.wrapper_run.specs.Run.{eval, run_stmt, run_stmts}
 use Rattle.wrapper_run.proofs.QuietSteps.{quiet_store}
-use Rattle.wrapper_run.proofs.StepLemmas.{Quiet, quiet_or_stop, quiet_pure, quiet_then}
+use Rattle.wrapper_run.proofs.StepLemmas.{Quiet, quiet_pure, quiet_then}
 use Rattle.abi_driver.specs.declared.instruction.Instruction.{Instruction}
 use Rattle.abi_driver.specs.declared.instruction.Instruction.TheVariants.{F32Store, F64Store, I32Store8, I32Store16, LengthStore, PointerStore}
 use Rattle.abi_driver.specs.Account.{Account, Peer}
 use Rattle.abi_driver.specs.Instructions.{Emits, MakesBy, MakesTouch, RowBy, RowTouch, block_results, lifted_scalar, lowered_scalar}
-use Rattle.abi_driver.specs.Laws.{Adds, Facts, ofs}
+use Rattle.abi_driver.specs.Laws.{Adds}
 use Rattle.abi_driver.specs.Meaning.{of, word}
 use Rattle.abi_driver.specs.Memory.{Access, storing}
 use Rattle.abi_driver.specs.Touches.{Part, RowOfTouch, StoresWord, Touch, accessed, low_byte, low_half, stores, touch, touch_makes, whole}
@@ -42,10 +42,10 @@ use Rattle.func_gen.specs.Added.{Appends}
 use Rattle.func_gen.specs.FactLemmas.{is_said}
 use Rattle.func_gen.specs.Facts.{Hold, IsThere}
 use Rattle.func_gen.specs.Forms.{operand_of}
-use Rattle.func_gen.specs.Meaning.{File, Found, account_of, func_meaning, setting_for}
+use Rattle.func_gen.specs.Meaning.{File, account_of, func_meaning, setting_for}
 use Rattle.func_gen.specs.MemoryForms.{small_store, whole_store}
 use Rattle.func_gen.specs.Operand.{is_operand}
-use Rattle.func_gen.specs.Read.{env_of, read}
+use Rattle.func_gen.specs.Read.{env_of}
 use Rattle.func_gen.proofs.Evaluated.{gives}
 use Rattle.func_gen.proofs.MemoryTies.{by_blocks, byte_stored, f32_stored, f64_stored, half_stored, length_stored, pointer_stored, stored_low, stored_word}
 use Rattle.func_gen.proofs.Quiet.{quiet_operand}
@@ -125,10 +125,10 @@ module _ (old new : FunctionBindgen) (e at : Expr) (ok : is_operand e ≡ true) 
     store_row access tie x address =
         writes old new (stmt.Store at o ty e) [] a scope stores_quietly (of (operand_of e) (word x) ∷ of (operand_of at) (word (core.Pointer address)) ∷ []) (λ p. storing 2 access (address + bytes_at o 4) x)
         (λ w p s found h.
-            let q = address + bytes_at o 4 in
-            let blocks = stored_word ty q x s.heap.blocks in
-            subst (λ z. Writes (account_of s) z (run_stmts (setting_for w p) (stmt.Store at o ty e ∷ []) s) s) (sym (tie q x (account_of s)))
-            (subst (λ z. Writes (account_of s) (by_blocks blocks (account_of s)) z s) (sym (store_run (setting_for w p) x address s h)) (finishes (setting_for w p) s blocks (keeps_word ty q x s))))
+        let q = address + bytes_at o 4 in
+        let blocks = stored_word ty q x s.heap.blocks in
+        subst (λ z. Writes (account_of s) z (run_stmts (setting_for w p) (stmt.Store at o ty e ∷ []) s) s) (sym (tie q x (account_of s)))
+        (subst (λ z. Writes (account_of s) (by_blocks blocks (account_of s)) z s) (sym (store_run (setting_for w p) x address s h)) (finishes (setting_for w p) s blocks (keeps_word ty q x s))))
 
   module _ (ty : SmallType) (a : Appends old new (stmt.StoreSmall at o ty e ∷ []) []) where
     quiet_kept : (w : Setting) (blocks : Option (List Block)) → Quiet (or_stop (stuck w) blocks >>= keep_blocks)
@@ -165,7 +165,7 @@ module _ (old new : FunctionBindgen) (e at : Expr) (ok : is_operand e ≡ true) 
     low_row access tie x address =
         writes old new (stmt.StoreSmall at o ty e) [] a scope low_quietly (of (operand_of e) (word x) ∷ of (operand_of at) (word (core.Pointer address)) ∷ []) (λ p. storing 2 access (address + bytes_at o 4) x)
         (λ w p s found h.
-            subst (λ z. Writes (account_of s) z (run_stmts (setting_for w p) (stmt.StoreSmall at o ty e ∷ []) s) s) (sym (tie (address + bytes_at o 4) x (account_of s))) (agrees x w p s h))
+        subst (λ z. Writes (account_of s) z (run_stmts (setting_for w p) (stmt.StoreSmall at o ty e ∷ []) s) s) (sym (tie (address + bytes_at o 4) x (account_of s))) (agrees x w p s h))
       where
         agrees : (x : Word) (w : File) (p : Peer RustValue) (s : State) → Hold w.items old (of (operand_of e) (word x) ∷ of (operand_of at) (word (core.Pointer address)) ∷ []) s
             → Writes (account_of s) (by_blocks (stored_low ty (address + bytes_at o 4) x s.heap.blocks) (account_of s)) (run_stmts (setting_for w p) (stmt.StoreSmall at o ty e ∷ []) s) s

@@ -1,6 +1,5 @@
 -- The row of an instruction that adds one statement, which changes the heap and binds nothing.
 use Rattle.std.proofs.Common.{◌≡◌, ℕ, Bool, true, false, cond, if◌then◌else◌, List, [], ◌∷◌, ◌++◌, map, Option, None, Some, find, refl, sym, ap, ◌∙◌, subst, arith}
-use Rattle.std.specs.Prelude.{nat_eq, nat_lt, ◌&&◌}
 use Rattle.wit_model.specs.Bytes.{Bytes}
 use Rattle.rust_tree.specs.declared.runtime_item.RuntimeItem.{RuntimeItem}
 use Rattle.rust_tree.specs.declared.stmt.Stmt.{Stmt}
@@ -10,17 +9,16 @@ use Rattle.wrapper_data.specs.declared.block.Block.{Block}
 use Rattle.wrapper_data.specs.declared.run.Stop.{Stop}
 use Rattle.wrapper_data.specs.declared.run.Stop.TheVariants as stop_of
 use Rattle.wrapper_data.specs.declared.value.RustValue.{RustValue}
-use Rattle.wrapper_meaning.specs.Items.{total}
 use Rattle.wrapper_values.specs.declared.state.State.{State}
 use Rattle.wrapper_values.specs.Act as machine
-use Rattle.wrapper_values.specs.Act.{and_then, or_stop, ◌>>=◌}
+use Rattle.wrapper_values.specs.Act.{or_stop, ◌>>=◌}
 use Rattle.wrapper_values.specs.Setting.{Setting, stuck}
 use Rattle.wrapper_run.specs.Blocks.{keep_blocks}
 use Rattle.wrapper_run.specs.Memory.{begins_at, block_from}
 use Rattle.wrapper_run.specs.Run.{run_stmts}
 use Rattle.wrapper_run.proofs.StepLemmas.{Quiet}
 use Rattle.abi_driver.specs.Account.{Account, Act, Done, Follows, Got, Outcome, Peer, Stopped, Stuck, account_in}
-use Rattle.abi_driver.specs.Laws.{Adds, After, At, Does, Facts}
+use Rattle.abi_driver.specs.Laws.{Adds, After, Does, Facts}
 use Rattle.abi_driver.proofs.Runs.{total-append}
 use Rattle.func_gen.specs.declared.function_bindgen.FunctionBindgen.{FunctionBindgen}
 use Rattle.func_gen.specs.declared.scope.Scope.{Scope}
@@ -117,12 +115,11 @@ module _ (old new : FunctionBindgen) (st : Stmt) (items : List RuntimeItem) (a :
     where
       go : (o : Outcome RustValue (Got RustValue (Unit {0}))) → Writes (account_of s.machine) o (run_stmts (setting_for w p) (st ∷ []) s.machine) s.machine
           → Follows func_meaning.account o (func_meaning.does w p new.code s0) (λ x t. (fs : Facts func_meaning) × (fs ≡ []) × After func_meaning w new (fs ++ others) [] [] s x t)
-      go (Done x) (blocks, runs, same, keeps) =
-          (
-            record { machine = with_heap s.machine blocks; area = s.area },
-            ran old new (st ∷ []) items a w p (ins ++ others) s0 s at ∙ ap (seen s.area) runs,
-            ([], refl, record { account = sym same; owns = λ g. refl; denotes = denoted w ins others s blocks keeps at.holds }),
-          )
+      go (Done x) (blocks, runs, same, keeps) = (
+        record { machine = with_heap s.machine blocks; area = s.area },
+        ran old new (st ∷ []) items a w p (ins ++ others) s0 s at ∙ ap (seen s.area) runs,
+        ([], refl, record { account = sym same; owns = λ g. refl; denotes = denoted w ins others s blocks keeps at.holds }),
+      )
       go (Stopped e left) h = ran old new (st ∷ []) items a w p (ins ++ others) s0 s at ∙ stopped_early s.area (run_stmts (setting_for w p) (st ∷ []) s.machine) e left h
       go (Stuck left) h =
           ap (λ o. (account_in func_meaning.account o).calls) (ran old new (st ∷ []) items a w p (ins ++ others) s0 s at)
