@@ -1,3 +1,5 @@
+pub mod CallRows
+pub mod CallWords
 pub mod Evaluated
 pub mod FreeRow
 pub mod Lasting

@@ -61,7 +61,7 @@ owned-bits n = ap owned_by (sym (rolls-Bits n)) ∙ fold-roll-RustValue (List �
 owned-handle : (n : ℕ) (o : Bool) → owned_by (value.Handle n o) ≡ []
 owned-handle n o = ap owned_by (sym (rolls-Handle n o)) ∙ fold-roll-RustValue (List ℕ) owned_level (RustValue-F.Handle n o)
 
-owned-unit : owned_by value.Unit ≡ []
+pub owned-unit : owned_by value.Unit ≡ []
 owned-unit = ap owned_by (sym rolls-Unit) ∙ fold-roll-RustValue (List ℕ) owned_level RustValue-F.Unit
 
 -- 2. Contents without blocks of their own

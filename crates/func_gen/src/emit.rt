@@ -1,5 +1,6 @@
 //! The code of each instruction.
 
+mod calls;
 mod memory;
 mod parts;
 mod scalars;

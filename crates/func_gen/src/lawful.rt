@@ -17,8 +17,8 @@ impl Bindgen for FunctionBindgen {
 
     ghost sound = { func_sound };
 
-    /// The statements of arguments, scalars and tuples, and what the code gives. Of any other instruction so far, and of an expression that is no
-    /// The statements of arguments and scalars, of stores and of texts that are freed, and what the code gives. Of any other instruction so far, and of an expression that is no
+    /// The statements of arguments and scalars, of tuples that are lifted, of stores, of texts that are freed and of the call of a core
+    /// import, and what the code gives. Of any other instruction so far, and of an expression that is no
     /// operand, the answer is `OutOfMemory`.
     fn emit(
         &mut self,
@@ -50,6 +50,7 @@ impl Bindgen for FunctionBindgen {
             Instruction::CharFromI32 => self.lift_char(resolve, operands, results),
             Instruction::TupleLift(n) => self.lift_tuple(resolve, n, operands, results),
             Instruction::GuestDeallocateString => self.free_text(resolve, operands, results),
+            Instruction::CallWasm(func) => self.call_core(resolve, func, operands, results),
             _ => Err(OutOfMemory),
         }
     }

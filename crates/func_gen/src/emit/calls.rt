@@ -1,0 +1,182 @@
+//! A core import is declared and called.
+
+ghost use Rattle.std.specs.Prelude.{◌≡◌, [], true, length, option_to_list, IfOk, OnOk};
+ghost use Rattle.wit_model.specs.IndexRange.{function_in_range};
+ghost use Rattle.wit_model.specs.WellFormed.{IsWellFormed};
+ghost use Rattle.abi_driver.specs.Calls.{import_params, import_results};
+ghost use Rattle.abi_driver.specs.Instructions.{Emits};
+ghost use Rattle.abi_driver.specs.declared.instruction.Instruction.TheVariants as instruction;
+ghost use Rattle.func_gen.specs.CallForms.{AddsCall, AddsStatement, exprs, import_of, local_path};
+ghost use Rattle.func_gen.specs.Meaning.{func_meaning};
+
+use crate::function_bindgen::FunctionBindgen;
+use crate::operand::{ExprOperand, copy_expr};
+use crate::scope::{LocalName, numbered};
+use rust_tree::{Expr, ImportDecl, Path, Stmt};
+use std::alloc::Global;
+use wit_layout::{AbiVariant, wasm_signature};
+use wit_model::{Function, List, OutOfMemory, Resolve, Text, WasmType};
+
+impl FunctionBindgen {
+    pub(crate) fn call_core(
+        &mut self,
+        resolve: &Resolve,
+        func: &Function,
+        operands: &List<ExprOperand>,
+        results: &mut List<ExprOperand>,
+    ) -> Result<(), OutOfMemory>
+        requires imports { self.old.import ≡ true }
+        requires well { IsWellFormed resolve.now }
+        requires within { function_in_range resolve.now func.now ≡ true }
+        requires words { length operands.now ≡ length (import_params resolve.now.types func.now) }
+        requires empty { results.old ≡ [] }
+        ensures { OnOk result (Emits func_meaning resolve.now.types (instruction.CallWasm func.entry) operands.now results.new self.old self.new) }
+    {
+        let params = core_params(self.alloc, resolve, func)?;
+        let arguments = expressions(self.alloc, operands.as_slice())?;
+        match core_result(resolve, func) {
+            None => {
+                self.add_statement(func, params, arguments)?;
+                Ok(())
+            }
+            Some(ty) => {
+                let name = self.add_call(func, params, ty, arguments)?;
+                let expr = Expr::Local(name);
+                results.push(ExprOperand { expr })?;
+                Ok(())
+            }
+        }
+    }
+
+    /// The declaration of a core import and its call. What it answers is a new local, of this name.
+    fn add_call(
+        &mut self,
+        func: &Function,
+        params: List<WasmType>,
+        ty: WasmType,
+        arguments: List<Expr>,
+    ) -> Result<Text, OutOfMemory>
+        ensures { IfOk result (λ name. AddsCall func.now params ty arguments name self.old self.new) }
+    {
+        let import = LocalName {
+            prefix: "wit_import",
+            part: None,
+        };
+        let returned = LocalName {
+            prefix: "ret",
+            part: None,
+        };
+        let t = self.scope.declare(self.alloc, &[import, returned])?;
+        let name = numbered(self.alloc, import, t)?;
+        let answer = numbered(self.alloc, returned, t)?;
+        let given = answer.copy(self.alloc)?;
+        let path = local_path(self.alloc, &name)?;
+        let declared = self.declared(func, name, params, Some(ty))?;
+        self.code.stmts.push(Stmt::Import(declared))?;
+        self.code
+            .stmts
+            .push(Stmt::Let(answer, Expr::Call(path, arguments)))?;
+        Ok(given)
+    }
+
+    /// The same of one that answers nothing.
+    fn add_statement(
+        &mut self,
+        func: &Function,
+        params: List<WasmType>,
+        arguments: List<Expr>,
+    ) -> Result<(), OutOfMemory>
+        ensures { OnOk result (AddsStatement func.now params arguments self.old self.new) }
+    {
+        let import = LocalName {
+            prefix: "wit_import",
+            part: None,
+        };
+        let t = self.scope.declare(self.alloc, &[import])?;
+        let name = numbered(self.alloc, import, t)?;
+        let path = local_path(self.alloc, &name)?;
+        let declared = self.declared(func, name, params, None)?;
+        self.code.stmts.push(Stmt::Import(declared))?;
+        self.code
+            .stmts
+            .push(Stmt::Expr(Expr::Call(path, arguments)))?;
+        Ok(())
+    }
+
+    fn declared(
+        &self,
+        func: &Function,
+        name: Text,
+        params: List<WasmType>,
+        answer: Option<WasmType>,
+    ) -> Result<ImportDecl, OutOfMemory>
+        ensures { IfOk result (λ d. d ≡ import_of self.now.home func.now params answer name) }
+    {
+        Ok(ImportDecl {
+            module: self.home.copy(self.alloc)?,
+            link_name: func.name.wit.copy(self.alloc)?,
+            name,
+            params,
+            result: answer,
+        })
+    }
+}
+
+/// A path of this name alone.
+fn local_path(alloc: Global, name: &Text) -> Result<Path, OutOfMemory>
+    ensures { IfOk result (λ p. p ≡ local_path name.now) }
+{
+    let mut names = List::new(alloc);
+    names.push(name.copy(alloc)?)?;
+    Ok(Path {
+        lead: false,
+        supers: 0,
+        names,
+    })
+}
+
+/// The expressions that operands are.
+fn expressions(alloc: Global, operands: &[ExprOperand]) -> Result<List<Expr>, OutOfMemory>
+    ensures { IfOk result (λ es. es ≡ exprs operands.now) }
+{
+    let mut es = List::new(alloc);
+    for operand in operands {
+        es.push(copy_expr(&operand.expr, alloc)?)?;
+    }
+    Ok(es)
+}
+
+/// The core words that an import is passed.
+fn core_params(
+    alloc: Global,
+    resolve: &Resolve,
+    func: &Function,
+) -> Result<List<WasmType>, OutOfMemory>
+    requires well { IsWellFormed resolve.now }
+    requires within { function_in_range resolve.now func.now ≡ true }
+    ensures { IfOk result (λ params. params ≡ import_params resolve.now.types func.now) }
+{
+    let told = wasm_signature(resolve, AbiVariant::GuestImport, func).params;
+    let mut params = List::new(alloc);
+    for word in &told.words[..told.count as usize] {
+        params.push(*word)?;
+    }
+    if told.more {
+        params.push(WasmType::Pointer)?;
+        return Ok(params);
+    }
+    Ok(params)
+}
+
+/// The core word that an import answers, if there is one.
+fn core_result(resolve: &Resolve, func: &Function) -> Option<WasmType>
+    requires well { IsWellFormed resolve.now }
+    requires within { function_in_range resolve.now func.now ≡ true }
+    ensures { option_to_list result ≡ import_results resolve.now.types func.now }
+{
+    let signature = wasm_signature(resolve, AbiVariant::GuestImport, func);
+    if signature.results.count == 0 {
+        return None;
+    }
+    Some(signature.results.words[0])
+}
