@@ -1,5 +1,5 @@
 -- What the machine stores, loads and frees is what the laws say, where a pointer has four bytes.
-use Rattle.std.proofs.Common.{◌≡◌, ℕ, zero, suc, ◌+◌, ◌-◌, ◌*◌, ◌/◌, ◌%◌, ◌^◌, ℤ, pos, negsuc, Bool, true, false, ◌&&◌, nat_eq, nat_le, if◌then◌else◌, List, [], ◌∷◌, Option, None, Some, find, is_some, refl, sym, ap, ap₂, ◌∙◌, arith}
+use Rattle.std.proofs.Common.{◌≡◌, ℕ, zero, suc, ◌+◌, ◌*◌, ◌/◌, ◌%◌, ◌^◌, ℤ, pos, negsuc, Bool, true, false, ◌&&◌, nat_eq, nat_le, if◌then◌else◌, List, [], ◌∷◌, Option, None, Some, find, is_some, refl, sym, ap, ap₂, ◌∙◌, arith}
 use Rattle.std.specs.Int.{byte_at, bytes_low_first, to_le_bytes, w32, w64}
 use native.Mathlib.Nat.{div-div-eq-div-mul, pow-suc}
 use Rattle.wit_model.specs.declared.wasm_type.WasmType.{WasmType}
@@ -11,7 +11,7 @@ use Rattle.wrapper_data.specs.declared.block.Block.{Block}
 use Rattle.wrapper_data.specs.declared.word.Word.{Word}
 use Rattle.wrapper_data.specs.declared.word.Word.TheVariants as core
 use Rattle.wrapper_meaning.specs.Numbers.{low_bits}
-use Rattle.wrapper_values.specs.Effect.{is_word_of, low}
+use Rattle.wrapper_values.specs.Effect.{is_word_of}
 use Rattle.wrapper_run.specs.Memory.{low_bytes, stored, stored_small, without, writes_from}
 use Rattle.wrapper_run.specs.Memory as machine
 use Rattle.abi_driver.specs.Account.{Account, Act, Got, Outcome, Stuck, is_at, stay}

@@ -18,8 +18,8 @@ impl Bindgen for FunctionBindgen {
     ghost sound = { func_sound };
 
     /// The statements of arguments and scalars, of tuples that are lifted, of stores, of texts that are freed and of the call of a core
-    /// import, and what the code gives. Of any other instruction so far, and of an expression that is no
-    /// operand, the answer is `OutOfMemory`.
+    /// import, and what the code gives. Of any other instruction so far, and of an expression that is no operand, the answer is
+    /// `OutOfMemory`.
     fn emit(
         &mut self,
         resolve: &Resolve,
