@@ -1,10 +1,9 @@
 -- The row of a text that is freed.
-use Rattle.std.proofs.Common.{rules, ◌≡◌, ℕ, zero, suc, ◌-◌, ◌^◌, Bool, true, false, cond, nat_eq, nat_lt, ◌&&◌, if◌then◌else◌, List, [], ◌∷◌, Option, None, Some, refl, sym, ap, ◌∙◌, subst, arith}
+use Rattle.std.proofs.Common.{◌≡◌, ℕ, zero, suc, ◌-◌, ◌^◌, Bool, true, false, cond, nat_eq, nat_lt, ◌&&◌, if◌then◌else◌, List, [], ◌∷◌, Option, None, Some, refl, sym, ap, ◌∙◌, subst, arith}
 use Rattle.std.proofs.lemmas.Bool.{and_parts, or_parts}
 use Rattle.std.proofs.lemmas.Bool.Decides.{nat_tests}
-use Rattle.wit_model.specs.declared.size.Alignment.TheVariants.{Bytes}
 use Rattle.wit_model.specs.declared.types.TypeDef.{TypeDef}
-use Rattle.rust_tree.specs.declared.expr.Expr.{Expr, the_lemmas}
+use Rattle.rust_tree.specs.declared.expr.Expr.{Expr}
 use Rattle.rust_tree.specs.declared.expr.Expr.TheVariants as expr
 use Rattle.rust_tree.specs.declared.runtime_item.RuntimeItem.{RuntimeItem}
 use Rattle.rust_tree.specs.declared.runtime_item.RuntimeItem.TheVariants.{CabiDealloc}
@@ -30,6 +29,7 @@ use Rattle.wrapper_run.specs.Run.{apply, call, call_callee, call_runtime, eval, 
 use Rattle.wrapper_run.proofs.OwningLemmas.{owned-unit}
 use Rattle.wrapper_run.proofs.QuietSteps.{quiet_expr}
 use Rattle.wrapper_run.proofs.StepLemmas.{Quiet, calls_at, call_gives, eval-call, quiet_pure, quiet_then}
+use Rattle.wrapper_run.proofs.FreeSteps.{eval-size, one_byte}
 use Rattle.abi_driver.specs.declared.instruction.Instruction.TheVariants.{GuestDeallocateString}
 use Rattle.abi_driver.specs.Account.{failing}
 use Rattle.abi_driver.specs.Instructions.{Emits}
@@ -50,8 +50,8 @@ use Rattle.func_gen.proofs.Writing.{Writes, one_adds, with_heap, writes}
 
 -- 1. The call makes no call of an import
 
-eval-align : (w : Setting) → eval w (expr.Align (Bytes 1)) ≡ pure (val.Word (core.Length 1))
-eval-align w = search (rules, the_lemmas)
+eval-byte : (w : Setting) → eval w (expr.Size one_byte) ≡ pure (val.Word (core.Length 1))
+eval-byte w = eval-size w one_byte
 
 quiet_bytes : (w : Setting) (address size : ℕ) → Quiet (free_bytes w address size)
 quiet_bytes w address zero = quiet_pure tt
@@ -100,12 +100,12 @@ quiet_call : (w : Setting) (e f : Expr) → Quiet (eval w e) → Quiet (eval w f
 unfolding call_runtime
 quiet_call w e f q r =
     let path = runtime_path CabiDealloc in
-    let d = eval w (expr.Align (Bytes 1)) in
-    let quiet_d : Quiet d = subst Quiet (sym (eval-align w)) (quiet_pure (val.Word (core.Length 1))) in
+    let d = eval w (expr.Size one_byte) in
+    let quiet_d : Quiet d = subst Quiet (sym (eval-byte w)) (quiet_pure (val.Word (core.Length 1))) in
     let each = λ (x y z : Val). subst Quiet (sym (ap (λ k. call_callee w k (x ∷ y ∷ z ∷ [])) (calls_runtime CabiDealloc))) (quiet_three w (runtime_item_named w.items (item_name CabiDealloc)) x y z) in
     let turned = quiet_then (eval w e) (λ x. eval w f >>= (λ y. d >>= (λ z. call w path (x ∷ y ∷ z ∷ [])))) q
     (λ x. quiet_then (eval w f) (λ y. d >>= (λ z. call w path (x ∷ y ∷ z ∷ []))) r (λ y. quiet_then d (λ z. call w path (x ∷ y ∷ z ∷ [])) quiet_d (λ z. each x y z))) in
-    subst Quiet (sym (eval-call w path (e ∷ f ∷ expr.Align (Bytes 1) ∷ [])))
+    subst Quiet (sym (eval-call w path (e ∷ f ∷ expr.Size one_byte ∷ [])))
     (record { quiet = λ s. ap calls_at (in_turn (eval w e) (eval w f) d (λ vs. call w path vs) s) ∙ turned.quiet s })
 
 -- 2. What it does
@@ -127,7 +127,7 @@ free_run w b e f address n s found h =
     let given = two_given w b e f (core.Pointer address) (core.Length n) s h in
     let vs = val.Word (core.Pointer address) ∷ val.Word (core.Length n) ∷ val.Word (core.Length 1) ∷ [] in
     ap (λ o. and_then (and_then o (drop_value w)) (λ u. pure tt))
-    (call_gives w (runtime_path CabiDealloc) (e ∷ f ∷ expr.Align (Bytes 1) ∷ []) vs s (given.0, (given.1, (ap (λ act. act s) (eval-align w), tt))) ∙ words_freed w address n s found)
+    (call_gives w (runtime_path CabiDealloc) (e ∷ f ∷ expr.Size one_byte ∷ []) vs s (given.0, (given.1, (ap (λ act. act s) (eval-byte w), tt))) ∙ words_freed w address n s found)
     ∙ dropped w (dealloc w address n s)
 
 -- 3. What has an owner has it still

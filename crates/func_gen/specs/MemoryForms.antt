@@ -1,6 +1,5 @@
 -- Which instructions become which accesses to memory, and the form by which a text is freed.
 use Rattle.std.specs.Prelude.{[], ◌∷◌, Option, None, Some}
-use Rattle.wit_model.specs.declared.size.Alignment.TheVariants.{Bytes}
 use Rattle.wit_model.specs.declared.size.ArchitectureSize.{ArchitectureSize}
 use Rattle.wit_model.specs.declared.wasm_type.WasmType.{WasmType}
 use Rattle.wit_model.specs.declared.wasm_type.WasmType.TheVariants as wasm
@@ -29,4 +28,4 @@ small_store _ = None
 
 -- the call that frees so many bytes at an address
 abbrev pub text_freed : Expr → Expr → Expr
-text_freed address n = expr.Call (runtime_path CabiDealloc) (address ∷ n ∷ expr.Align (Bytes 1) ∷ [])
+text_freed address n = expr.Call (runtime_path CabiDealloc) (address ∷ n ∷ expr.Size (record { bytes = 1; pointers = 0 }) ∷ [])

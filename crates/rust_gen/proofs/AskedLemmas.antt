@@ -19,6 +19,7 @@ use Rattle.rust_tree.specs.declared.stmt.Stmt.TheVariants as stmt
 use Rattle.rust_tree.specs.Asked.{asked_by_block, asked_by_export, asked_by_expr, asked_by_item, asked_by_path, asked_by_stmt, asked_in}
 use Rattle.rust_tree.specs.Runtime.{item_of_name}
 use Rattle.rust_tree.proofs.AskedLemmas.{asked-call}
+use Rattle.wrapper_run.proofs.FreeSteps.{one_byte}
 use Rattle.wit_model.specs.Bytes.{Bytes}
 use Rattle.rust_gen.specs.Body.{call_stmt, import_call, import_name, runtime_call, runtime_name, runtime_path, text_taken, word_at}
 use Rattle.type_defs.specs.Paths.{local_path}
@@ -26,7 +27,6 @@ use Rattle.rust_gen.specs.ExportBody.{FreesText, dealloc_call, text_freed}
 use Rattle.rust_gen.specs.Exported.{arg_name}
 use Rattle.rust_tree.specs.declared.export.PostReturnFn.{PostReturnFn}
 use Rattle.rust_tree.specs.declared.stmt.Block.{Block}
-use Rattle.wit_model.specs.declared.size.Alignment.TheVariants as alignment
 use Rattle.wit_model.specs.declared.wasm_type.WasmType.TheVariants as core
 use Rattle.rust_tree.specs.declared.stmt.ImportDecl.{ImportDecl}
 use Rattle.wit_model.specs.declared.wasm_type.WasmType.{WasmType}
@@ -245,7 +245,7 @@ found-freed items body f h =
     let loads : List Stmt = stmt.Let (numbered kind.Loaded f.first) (word_at (arg_name 0) 0 core.Pointer) ∷ stmt.Let (numbered kind.Loaded f.second) (word_at (arg_name 0) 1 core.Length) ∷ [] in
     let frees : Expr = dealloc_call f.first f.second in
     let stmts = found-left items (flat_map asked_by_stmt (text_freed f.first f.second)) [] (subst (λ body. Found items (asked_by_block body)) f.is h) in
-    found-called items CabiDealloc (expr.Local (numbered kind.Loaded f.first) ∷ expr.Local (numbered kind.Loaded f.second) ∷ expr.Align (alignment.Bytes 1) ∷ [])
+    found-called items CabiDealloc (expr.Local (numbered kind.Loaded f.first) ∷ expr.Local (numbered kind.Loaded f.second) ∷ expr.Size one_byte ∷ [])
     (found-left items (asked_by_expr frees) [] (found-parts items asked_by_stmt loads (stmt.Expr frees ∷ []) (text_freed f.first f.second) refl stmts).1)
 
 -- the declaration and the call of a core import

@@ -6,7 +6,6 @@ use Rattle.std.proofs.lemmas.List.Folds.{list_all-append}
 use Rattle.wit_model.specs.Bytes.{Bytes}
 use Rattle.wit_model.specs.declared.function.Function.{Function}
 use Rattle.wit_model.specs.declared.function.Param.{Param}
-use Rattle.wit_model.specs.declared.size.Alignment.TheVariants as alignment
 use Rattle.wit_model.specs.declared.types.WitType.{WitType}
 use Rattle.wit_model.specs.declared.types.WitType.TheVariants as wit
 use Rattle.wit_model.specs.declared.wasm_type.WasmType.{WasmType}
@@ -23,7 +22,8 @@ use Rattle.rust_tree.specs.declared.stmt.Stmt.TheVariants as stmt
 use Rattle.rust_tree.specs.Ident.{is_ident, rust_ident}
 use Rattle.rust_tree.specs.Runtime.{item_name}
 use Rattle.rust_tree.specs.WellNamed.{are_named_core_params, are_path_names, is_absent_or, is_ident_part, is_named_block, is_named_call, is_named_export, is_named_expr, is_named_item, is_named_post_return, is_named_stmt}
-use Rattle.rust_tree.proofs.NamedLemmas.{is_named-align, is_named-as_ptr, is_named-bool, is_named-boxed, is_named-call, is_named-cast_mut, is_named-len, is_named-local, is_named-static}
+use Rattle.rust_tree.proofs.NamedLemmas.{is_named-as_ptr, is_named-bool, is_named-boxed, is_named-call, is_named-cast_mut, is_named-len, is_named-local, is_named-size, is_named-static}
+use Rattle.wrapper_run.proofs.FreeSteps.{one_byte}
 use Rattle.gen_accept.specs.Area.{needs_area}
 use Rattle.rust_gen.specs.declared.scope.LocalKind.TheVariants as kind
 use Rattle.rust_gen.specs.declared.scope.Scope.{Scope}
@@ -135,11 +135,11 @@ export-named f e base name w =
 
 dealloc-named : (a b : ℕ) → Named (dealloc_call a b)
 dealloc-named a b =
-    let arguments : List Expr = expr.Local (numbered kind.Loaded a) ∷ expr.Local (numbered kind.Loaded b) ∷ expr.Align (alignment.Bytes 1) ∷ [] in
+    let arguments : List Expr = expr.Local (numbered kind.Loaded a) ∷ expr.Local (numbered kind.Loaded b) ∷ expr.Size one_byte ∷ [] in
     is_named-call (runtime_path CabiDealloc) arguments
     ∙ and_from (are_path_names (runtime_name ∷ item_name CabiDealloc ∷ [])) (list_all is_named_expr arguments) (runtime_path-named CabiDealloc)
-    (expr_more (expr.Local (numbered kind.Loaded a)) (expr.Local (numbered kind.Loaded b) ∷ expr.Align (alignment.Bytes 1) ∷ []) (local_named kind.Loaded a)
-    (expr_more (expr.Local (numbered kind.Loaded b)) (expr.Align (alignment.Bytes 1) ∷ []) (local_named kind.Loaded b) (expr_more (expr.Align (alignment.Bytes 1)) [] (is_named-align (alignment.Bytes 1)) refl)))
+    (expr_more (expr.Local (numbered kind.Loaded a)) (expr.Local (numbered kind.Loaded b) ∷ expr.Size one_byte ∷ []) (local_named kind.Loaded a)
+    (expr_more (expr.Local (numbered kind.Loaded b)) (expr.Size one_byte ∷ []) (local_named kind.Loaded b) (expr_more (expr.Size one_byte) [] (is_named-size one_byte) refl)))
 
 freed-named : (a b : ℕ) → Stmts (text_freed a b)
 freed-named a b =

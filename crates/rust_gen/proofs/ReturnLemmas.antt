@@ -1,7 +1,6 @@
 -- The run of a post-return function as it is written: it frees the block of the text that it is given.
 use Rattle.std.proofs.Common.{◌≡◌, ℕ, ◌+◌, ◌<◌, ◌^◌, List, [], ◌∷◌, ◌++◌, length, None, Some, refl, sym, ap, subst, ◌∙◌, arith}
 use Rattle.wit_model.specs.declared.function.Function.{Function}
-use Rattle.wit_model.specs.declared.size.Alignment.TheVariants as alignment
 use Rattle.wit_model.specs.declared.wasm_type.WasmType.TheVariants as core
 use Rattle.rust_tree.specs.declared.export.PostReturnFn.{PostReturnFn}
 use Rattle.rust_tree.specs.declared.expr.Expr.TheVariants as expr
@@ -28,7 +27,7 @@ use Rattle.wrapper_run.specs.Represents.{GivesText, HasText}
 use Rattle.wrapper_run.specs.Returned.{Frees, without_all}
 use Rattle.wrapper_run.specs.Run.{begin, give_and_leave, run_at, run_block, run_stmts, run_tail, runtime_item_named}
 use Rattle.wrapper_values.specs.Setting.{Setting, stuck}
-use Rattle.wrapper_run.proofs.FreeSteps.{align_gives, dealloc_gives, frees_text, unit_dropped, unit_words, without_text}
+use Rattle.wrapper_run.proofs.FreeSteps.{byte_gives, dealloc_gives, frees_text, one_byte, unit_dropped, unit_words, without_text}
 use Rattle.wrapper_run.proofs.LocalLemmas.{reads-new}
 use Rattle.wrapper_run.proofs.StepLemmas.{gives_plain, local_gives}
 use Rattle.wrapper_run.proofs.TakeLemmas.{load_gives}
@@ -84,8 +83,8 @@ body_frees body f w area p bytes heap found small first second holds =
     (load_gives w (expr.Local (arg_name 0)) (record { bytes = 0; pointers = 1 }) core.Length area (area + 4) (word.Length (length bytes)) s1 (local_gives w (arg_name 0) pointer s1 given refl) refl second)
     ∙ ap (λ o. and_then (and_then o (λ _. pure {A = Unit {0}} tt)) (λ _. run_tail w None))
     (unit_dropped w (dealloc_call f.first f.second) s2 (without_text p bytes s2)
-    (dealloc_gives w (runtime_path CabiDealloc) (item_name CabiDealloc) (expr.Local a ∷ expr.Local b ∷ expr.Align (alignment.Bytes 1) ∷ []) p (length bytes) 1 s2 (without_text p bytes s2) (calls_runtime CabiDealloc) found
-    (local_gives w a address s2 kept refl, (local_gives w b size s2 (reads-new b (Some size) l1) refl, (align_gives w (alignment.Bytes 1) s2, tt)))
+    (dealloc_gives w (runtime_path CabiDealloc) (item_name CabiDealloc) (expr.Local a ∷ expr.Local b ∷ expr.Size one_byte ∷ []) p (length bytes) 1 s2 (without_text p bytes s2) (calls_runtime CabiDealloc) found
+    (local_gives w a address s2 kept refl, (local_gives w b size s2 (reads-new b (Some size) l1) refl, (byte_gives w s2, tt)))
     (frees_text w p bytes s2 small refl holds)))
 
 -- the given words are the pointer to the text's area

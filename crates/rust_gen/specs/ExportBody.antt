@@ -3,7 +3,6 @@
 use Rattle.std.specs.Prelude.{◌≡◌, ℕ, ◌+◌, Bool, true, false, List, [], ◌∷◌, ◌++◌, length, Option, None, Some, codes, map}
 use Rattle.wit_model.specs.declared.function.Function.{Function}
 use Rattle.wit_model.specs.declared.function.Param.{Param}
-use Rattle.wit_model.specs.declared.size.Alignment.TheVariants as alignment
 use Rattle.wit_model.specs.declared.wasm_type.WasmType.TheVariants as core
 use Rattle.wit_model.specs.declared.types.WitType.{WitType}
 use Rattle.wit_model.specs.declared.types.WitType.TheVariants as wit
@@ -137,7 +136,7 @@ pub record IsExportWritten (f : Function) (e : ExportFn) : Type 0 where
 -- the post-return function
 
 abbrev pub dealloc_call : ℕ → ℕ → Expr
-dealloc_call a b = expr.Call (runtime_path CabiDealloc) (expr.Local (numbered kind.Loaded a) ∷ expr.Local (numbered kind.Loaded b) ∷ expr.Align (alignment.Bytes 1) ∷ [])
+dealloc_call a b = expr.Call (runtime_path CabiDealloc) (expr.Local (numbered kind.Loaded a) ∷ expr.Local (numbered kind.Loaded b) ∷ expr.Size (record { bytes = 1; pointers = 0 }) ∷ [])
 
 -- the address and the length of a text are loaded, and its block is freed
 abbrev pub text_freed : ℕ → ℕ → List Stmt

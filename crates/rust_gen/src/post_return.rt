@@ -12,7 +12,7 @@ use crate::scope::{LocalKind, numbered};
 use gen_accept::needs_area;
 use rust_tree::{Block, Expr, PostReturnFn, RuntimeItem, Stmt};
 use std::alloc::Global;
-use wit_model::{Alignment, Function, List, OutOfMemory, WasmType};
+use wit_model::{ArchitectureSize, Function, List, OutOfMemory, WasmType};
 
 /// The call that frees the bytes whose address and number these locals hold.
 fn dealloc_call(alloc: Global, a: u32, b: u32) -> Result<Expr, OutOfMemory>
@@ -21,7 +21,10 @@ fn dealloc_call(alloc: Global, a: u32, b: u32) -> Result<Expr, OutOfMemory>
     let mut operands = List::new(alloc);
     operands.push(Expr::Local(numbered(alloc, LocalKind::Loaded, a)?))?;
     operands.push(Expr::Local(numbered(alloc, LocalKind::Loaded, b)?))?;
-    operands.push(Expr::Align(Alignment::Bytes(1)))?;
+    operands.push(Expr::Size(ArchitectureSize {
+        bytes: 1,
+        pointers: 0,
+    }))?;
     let path = runtime_path(alloc, RuntimeItem::CabiDealloc)?;
     Ok(Expr::Call(path, operands))
 }

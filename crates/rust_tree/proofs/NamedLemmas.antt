@@ -3,7 +3,7 @@ use Rattle.std.proofs.Common.{◌≡◌, Bool, true, ◌&&◌, List, sym, ap, �
 use Rattle.std.specs.List.{list_all}
 use Rattle.std.proofs.lemmas.List.Folds.{list_all-map}
 use Rattle.wit_model.specs.Bytes.{Bytes}
-use Rattle.wit_model.specs.declared.size.Alignment.{Alignment}
+use Rattle.wit_model.specs.declared.size.ArchitectureSize.{ArchitectureSize}
 use Rattle.wit_model.specs.declared.size.ArchitectureSize.{ArchitectureSize}
 use Rattle.wit_model.specs.declared.wasm_type.WasmType.{WasmType}
 use Rattle.rust_tree.specs.declared.expr.CastType.{CastType}
@@ -39,8 +39,8 @@ is_named-boxed name = search (rules, the_lemmas)
 pub is_named-static : is_named_expr expr.StaticPointer ≡ true
 is_named-static = search (rules, the_lemmas)
 
-pub is_named-align : (align : Alignment) → is_named_expr (expr.Align align) ≡ true
-is_named-align align = search (rules, the_lemmas)
+pub is_named-size : (size : ArchitectureSize) → is_named_expr (expr.Size size) ≡ true
+is_named-size size = search (rules, the_lemmas)
 
 pub is_named-cast : (e : Expr) (to : CastType) → is_named_expr (expr.Cast e to) ≡ is_named_expr e
 is_named-cast e to = ap is_named_expr (sym (rolls-Cast e to)) ∙ fold-roll-Expr Bool named_step (Expr-F.Cast e to)

@@ -6,7 +6,7 @@ use Rattle.wit_model.specs.declared.size.Alignment.TheVariants as align
 use Rattle.wit_model.specs.declared.size.ArchitectureSize.{ArchitectureSize}
 use Rattle.wit_model.specs.declared.wasm_type.WasmType.{WasmType}
 use Rattle.wit_model.specs.declared.wasm_type.WasmType.TheVariants as core
-use Rattle.wit_model.specs.SizeText.{alignment_text, size_text}
+use Rattle.wit_model.specs.SizeText.{size_text}
 use Rattle.rust_tree.specs.declared.area.ReturnArea.{ReturnArea}
 use Rattle.rust_tree.specs.declared.expr.CastType.{CastType}
 use Rattle.rust_tree.specs.declared.expr.CastType.TheVariants as cast
@@ -203,7 +203,7 @@ expr_step (Expr-F.LoadSmall address offset ty) = compound (expr_word Widened ++ 
 expr_step (Expr-F.FromRawParts pointer len) = compound (expr_word FromRawParts ++ receiver_text pointer ++ capacity_text len)
 expr_step (Expr-F.IntoBoxedBytes name) = compound (sign Open ++ name ++ expr_word IntoBoxedBytes)
 expr_step Expr-F.StaticPointer = compound (expr_word StaticPointer)
-expr_step (Expr-F.Align align) = compound (alignment_text align)
+expr_step (Expr-F.Size size) = compound (size_text false size)
 expr_step (Expr-F.Record path fields) = compound (path_text path ++ fields_text (spelled_fields fields))
 expr_step (Expr-F.Tuple parts) = compound (parts_text parts)
 expr_step (Expr-F.Array parts) = compound (array_text parts)

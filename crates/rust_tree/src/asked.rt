@@ -80,7 +80,7 @@ fn ask_by_expr(asked: &mut List<RuntimeItem>, e: &Expr) -> Result<(), OutOfMemor
     match e {
         Expr::Local(_) | Expr::Ref(_) | Expr::AsPtr(_) | Expr::Len(_) => Ok(()),
         Expr::CastMut(_) | Expr::ReturnPointer(_) | Expr::IntoBoxedBytes(_) => Ok(()),
-        Expr::StaticPointer | Expr::Align(_) => Ok(()),
+        Expr::StaticPointer | Expr::Size(_) => Ok(()),
         Expr::Cast(e, _) | Expr::I32FromBool(e) => ask_by_expr(asked, e.get()),
         Expr::Call(path, arguments) => {
             ask_by_path(asked, path)?;

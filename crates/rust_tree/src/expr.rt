@@ -1,5 +1,5 @@
 use crate::path::Path;
-use wit_model::{Alignment, ArchitectureSize, Boxed, List, Text, WasmType};
+use wit_model::{ArchitectureSize, Boxed, List, Text, WasmType};
 
 /// The type behind `as` in a cast.
 #[derive(Clone, Copy, Debug, PartialEq, Eq)]
@@ -52,8 +52,8 @@ pub enum Expr {
     IntoBoxedBytes(Text),
     /// The address of the module's static area: `(&raw mut _RET_AREA.0).cast::<u8>()`.
     StaticPointer,
-    /// An alignment as a number: `8`, or the size of a pointer.
-    Align(Alignment),
+    /// A size in bytes as a number: `8`, or `(4+2*::core::mem::size_of::<*const u8>())`. An alignment is one too.
+    Size(ArchitectureSize),
     /// A record by its path, with a value for each field: `P { f: x, g: y }`.
     Record(Path, List<(Text, Expr)>),
     /// A tuple: `(x,)` or `(x, y)`.

@@ -2,8 +2,7 @@
 use Rattle.std.proofs.Common.{◌≡◌, ℕ, suc, ◌-◌, ◌<◌, ◌^◌, false, cond, List, [], ◌∷◌, length, Option, None, Some, refl, ap, ◌∙◌, arith, rules}
 use Rattle.std.specs.Prelude.{nat_lt, option_and_then}
 use Rattle.std.proofs.lemmas.Bool.Decides.{nat_tests}
-use Rattle.wit_model.specs.declared.size.Alignment.{Alignment}
-use Rattle.wit_model.specs.Size.{alignment_at}
+use Rattle.wit_model.specs.declared.size.ArchitectureSize.{ArchitectureSize}
 use Rattle.rust_tree.specs.declared.expr.Expr.{Expr, the_lemmas}
 use Rattle.rust_tree.specs.declared.expr.Expr.TheVariants as expr
 use Rattle.rust_tree.specs.declared.path.Path.{Path}
@@ -17,7 +16,7 @@ use Rattle.wrapper_data.specs.declared.word.Word.TheVariants as word
 use Rattle.wrapper_values.specs.declared.state.State.{State}
 use Rattle.wrapper_values.specs.declared.state.Val.{Val}
 use Rattle.wrapper_values.specs.declared.state.Val.TheVariants as val
-use Rattle.wrapper_values.specs.Act.{Done, and_then, pure, stop}
+use Rattle.wrapper_values.specs.Act.{Done, and_then, or_stop, pure, stop}
 use Rattle.wrapper_run.specs.Blocks.{dealloc, drop_value, free_all, free_bytes, free_untaken, removed}
 use Rattle.wrapper_values.specs.Effect.{is_unit_level}
 use Rattle.wrapper_run.specs.ExportRun.{core_answer}
@@ -26,18 +25,22 @@ use Rattle.wrapper_run.specs.Memory.{block_at, bytes_from}
 use Rattle.wrapper_values.specs.Owning.{is_taken}
 use Rattle.wrapper_run.specs.Represents.{HasText, block_of}
 use Rattle.wrapper_run.specs.Returned.{without_all}
-use Rattle.wrapper_run.specs.Run.{apply, call_callee, call_runtime, callee, eval, of_runtime, run_stmt, runtime_item_named}
-use Rattle.wrapper_values.specs.Setting.{Setting, failed}
+use Rattle.wrapper_run.specs.Run.{apply, call_callee, call_runtime, callee, eval, of_runtime, run_stmt, runtime_item_named, size_word}
+use Rattle.wrapper_values.specs.Setting.{Setting, failed, stuck}
 use Rattle.wrapper_run.proofs.OwningLemmas.{owned-unit}
 use Rattle.wrapper_run.proofs.StepLemmas.{Give, call_gives}
 
--- an alignment is a number of bytes
+-- a size is a number of bytes
 
-eval-align : (w : Setting) (align : Alignment) → eval w (expr.Align align) ≡ pure (val.Word (word.Length (alignment_at align 4)))
-eval-align w align = search (rules, the_lemmas)
+pub eval-size : (w : Setting) (size : ArchitectureSize) → eval w (expr.Size size) ≡ or_stop (stuck w) (size_word size)
+eval-size w size = search (rules, the_lemmas)
 
-pub align_gives : (w : Setting) (align : Alignment) (s : State) → eval w (expr.Align align) s ≡ Done (val.Word (word.Length (alignment_at align 4))) s
-align_gives w align s = ap (λ act. act s) (eval-align w align)
+-- the alignment of bytes
+abbrev pub one_byte : ArchitectureSize
+one_byte = record { bytes = 1; pointers = 0 }
+
+pub byte_gives : (w : Setting) (s : State) → eval w (expr.Size one_byte) s ≡ Done (val.Word (word.Length 1)) s
+byte_gives w s = ap (λ act. act s) (eval-size w one_byte)
 
 -- a state without the block of a text
 

@@ -6,7 +6,6 @@ use Rattle.std.specs.Option.{option_map}
 use Rattle.std.specs.Str.{bytes_eq}
 use Rattle.std.proofs.lemmas.Bool.{and_from, and_parts}
 use Rattle.wit_model.specs.Bytes.{Bytes}
-use Rattle.wit_model.specs.Size.{alignment_at}
 use Rattle.wit_model.specs.declared.size.ArchitectureSize.{ArchitectureSize}
 use Rattle.wit_model.specs.declared.wasm_type.WasmType.{WasmType}
 use Rattle.rust_tree.specs.declared.area.ReturnArea.{ReturnArea}
@@ -43,7 +42,7 @@ use Rattle.wrapper_values.specs.Locals.{ask_local, bind, declare, lend_local, lo
 use Rattle.wrapper_values.specs.Owning.{buffer_of, owned, owned_in}
 use Rattle.wrapper_run.specs.Places.{declare_area, place_area, request_of, static_pointer}
 use Rattle.wrapper_run.specs.Results.{results, results_in, run_results}
-use Rattle.wrapper_run.specs.Run.{alone, apply, apply_item, apply_one, call_callee, call_import, call_runtime, Callee, callee, converted_or_lifted, core_forget, eval, eval_step, forget_one, lift_act, load_small, load_word, of_runtime, run_block, run_stmt, run_stmts, run_tail, runtime_item_named, take_bytes, unknown}
+use Rattle.wrapper_run.specs.Run.{alone, apply, apply_item, apply_one, call_callee, call_import, call_runtime, Callee, callee, converted_or_lifted, core_forget, eval, eval_step, forget_one, lift_act, load_small, load_word, of_runtime, run_block, run_stmt, run_stmts, run_tail, runtime_item_named, size_word, take_bytes, unknown}
 use Rattle.wrapper_values.specs.Setting.{Setting, failed, stuck}
 use Rattle.wrapper_run.specs.UnusedLocals.{are_known, bound_names, is_block_known, is_callee_known, is_expr_known, is_stmt_known, is_tail_known, known_step}
 use Rattle.wrapper_values.specs.Whole.{bind_parts, field_act, given_names, parts_of, record_of, take_apart, whole, whole_of}
@@ -154,7 +153,7 @@ known_layer known h of k (Expr-F.LoadSmall e offset ty) = k e
 known_layer known h of k (Expr-F.FromRawParts e name) = and_from (is_expr_known known (of e)) (known name) (k e) (h name)
 known_layer known h of k (Expr-F.IntoBoxedBytes name) = h name
 known_layer known h of k Expr-F.StaticPointer = refl
-known_layer known h of k (Expr-F.Align align) = refl
+known_layer known h of k (Expr-F.Size size) = refl
 known_layer known h of k (Expr-F.Record path fields) = known_fields known of k fields
 known_layer known h of k (Expr-F.Tuple parts) = known_all known of k parts
 known_layer known h of k (Expr-F.Array parts) = known_all known of k parts
@@ -334,7 +333,7 @@ module _ (w : Setting) (known : Bytes → Bool) (P : (A : Type 0) → Act A → 
       h.follows Val Val (eval w (of e)) (λ v. λ s. take_bytes w (value_of (local_named name s.locals)) v s) (k e both.0) (λ v. h.takes name v both.1)
   layer X of k (Expr-F.IntoBoxedBytes name) p = h.follows Val Val (use_local (stuck w) name) (boxed w) (h.uses name p) boxes
   layer X of k Expr-F.StaticPointer p = h.static
-  layer X of k (Expr-F.Align align) p = h.gives Val (val.Word (word.Length (alignment_at align 4)))
+  layer X of k (Expr-F.Size size) p = or_stops Val (stuck w) (size_word size)
   layer X of k (Expr-F.Record path fields) p = records path (acts_of X of fields) (follows_fields X of k fields p)
   layer X of k (Expr-F.Tuple parts) p = wholes (map (eval w) (map of parts)) (follows_all X of k parts p)
   layer X of k (Expr-F.Array parts) p = wholes (map (eval w) (map of parts)) (follows_all X of k parts p)

@@ -1,10 +1,10 @@
 -- What a wrapper's run is: structural over the finished tree, with an answer for the other side.
-use Rattle.std.specs.Prelude.{◌+◌, ℕ, zero, suc, Bool, false, List, [], ◌∷◌, ◌++◌, codes, Option, None, Some, Result, Ok, Err, option_and_then, if◌then◌else◌, find, map, slice_get, true, ◌&&◌}
+use Rattle.std.specs.Prelude.{◌+◌, ◌^◌, nat_lt, ℕ, zero, suc, Bool, false, List, [], ◌∷◌, ◌++◌, codes, Option, None, Some, Result, Ok, Err, option_and_then, if◌then◌else◌, find, map, slice_get, true, ◌&&◌}
 use Rattle.std.specs.Option.{option_map, option_or}
 use Rattle.std.specs.Str.{bytes_eq}
 use Rattle.wit_model.specs.declared.size.ArchitectureSize.{ArchitectureSize}
 use Rattle.wit_model.specs.declared.wasm_type.WasmType.{WasmType}
-use Rattle.wit_model.specs.Size.{alignment_at, bytes_at}
+use Rattle.wit_model.specs.Size.{bytes_at}
 use Rattle.rust_tree.specs.declared.expr.Expr.{Expr, Expr-F, fold-Expr}
 use Rattle.rust_tree.specs.declared.expr.SmallType.{SmallType}
 use Rattle.rust_tree.specs.declared.item.FnItem.{FnItem}
@@ -207,6 +207,13 @@ abbrev pub take_bytes : Setting → Option Val → Val → Act Val
 take_bytes w (Some (val.Word (word.Length n))) (val.Word (word.Pointer address)) = take_over w address n
 take_bytes w _ _ = stop (stuck w)
 
+-- a number of bytes as a length; there is none from 2^32 on
+abbrev pub length_word : ℕ → Option Val
+length_word n = if nat_lt n (2 ^ 32) then Some (val.Word (word.Length n)) else None
+
+abbrev pub size_word : ArchitectureSize → Option Val
+size_word size = length_word (bytes_at size 4)
+
 -- one level of an expression, with the acts of the expressions in it
 abbrev pub eval_step : Setting → Expr-F (Act Val) → Act Val
 eval_step w (Expr-F.Local name) = use_local (stuck w) name
@@ -223,7 +230,7 @@ eval_step w (Expr-F.LoadSmall e offset ty) = e >>= load_small w offset ty
 eval_step w (Expr-F.FromRawParts e length) = e >>= (λ v. λ s. take_bytes w (value_of (local_named length s.locals)) v s)
 eval_step w (Expr-F.IntoBoxedBytes name) = use_local (stuck w) name >>= boxed w
 eval_step w Expr-F.StaticPointer = static_pointer w
-eval_step w (Expr-F.Align align) = pure (val.Word (word.Length (alignment_at align 4)))
+eval_step w (Expr-F.Size size) = or_stop (stuck w) (size_word size)
 eval_step w (Expr-F.Record path fields) = record_of w path fields
 eval_step w (Expr-F.Tuple parts) = whole w parts
 eval_step w (Expr-F.Array parts) = whole w parts

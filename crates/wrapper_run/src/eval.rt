@@ -13,7 +13,7 @@ ghost use Rattle.wrapper_values.specs.declared.state.Val.TheVariants as val;
 
 use crate::blocks::{boxed, take_over};
 use crate::call::call;
-use crate::memory::{align_at_four, at_four, loaded};
+use crate::memory::{at_four, loaded};
 use crate::places::static_pointer;
 use crate::small::load_small;
 use rust_tree::{CastType, Expr, Path};
@@ -85,6 +85,16 @@ fn take_bytes(
     }
 }
 
+/// A size in bytes as a length. One that is no length has no meaning.
+fn size_word(world: &World, state: &State, size: &ArchitectureSize) -> Result<Val, Halt>
+    ensures { Runs (or_stop (stuck (setting world.now)) (spec.size_word size.now) state.now) result state.now }
+{
+    match u32::try_from(at_four(size)) {
+        Err(_) => Err(Halt::Stopped(world.stuck())),
+        Ok(n) => Ok(Val::Word(Word::Length(n))),
+    }
+}
+
 /// The bytes of the text in a local, as a box.
 fn box_local(alloc: Global, world: &World, state: &mut State, name: &Text) -> Result<Val, Halt>
     ensures { Runs (and_then (use_local (stuck (setting world.now)) name.now state.old) (blocks.boxed (setting world.now))) result state.new }
@@ -130,7 +140,7 @@ pub(crate) fn eval(alloc: Global, world: &World, state: &mut State, e: &Expr) ->
         }
         Expr::IntoBoxedBytes(name) => box_local(alloc, world, state, name),
         Expr::StaticPointer => static_pointer(alloc, world, state),
-        Expr::Align(align) => Ok(Val::Word(Word::Length(align_at_four(align)))),
+        Expr::Size(size) => size_word(world, state, size),
         Expr::Record(path, fields) => eval_record(alloc, world, state, path, fields.as_slice()),
         Expr::Tuple(parts) | Expr::Array(parts) => {
             eval_whole(alloc, world, state, parts.as_slice())

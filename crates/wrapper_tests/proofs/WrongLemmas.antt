@@ -46,7 +46,7 @@ use Rattle.wrapper_run.specs.Places.{place_area}
 use Rattle.wrapper_values.specs.Owning.{taken_by}
 use Rattle.wrapper_run.specs.Run.{answer_and_leave, begin, call, callee, call_point, ended, eval, give_and_leave, run_item, run_stmt, run_stmts, run_tail, setting_of, take_answer}
 use Rattle.wrapper_values.specs.Setting.{Setting, stuck}
-use Rattle.wrapper_run.proofs.FreeSteps.{align_gives}
+use Rattle.wrapper_run.proofs.FreeSteps.{byte_gives, one_byte}
 use Rattle.wrapper_run.proofs.GiveSteps.{stores}
 use Rattle.wrapper_run.specs.Value.{text}
 use Rattle.wrapper_run.proofs.MethodLemmas.{leaves_inner, method_gives, returned-value, value_gives}
@@ -125,10 +125,10 @@ pointed : run_stmt w pointer s1 ≡ Done tt s2
 unfolding bind
 pointed = ap (λ o. and_then o (bind (codes "ptr0"))) (area_gives w (codes "ret_area") 4096 8 s1 refl)
 
-wrote : run_stmt w (stmt.Store in_area at_start core.Length (expr.Align (alignment.Bytes 1))) s2 ≡ Done tt s3
+wrote : run_stmt w (stmt.Store in_area at_start core.Length (expr.Size one_byte)) s2 ≡ Done tt s3
 unfolding stored written_block
 wrote =
-    stores w in_area at_start core.Length (expr.Align (alignment.Bytes 1)) (val.Word (word.Length 1)) (word.Length 1) 4096 4096 (written ∷ []) s2 (align_gives w (alignment.Bytes 1) s2)
+    stores w in_area at_start core.Length (expr.Size one_byte) (val.Word (word.Length 1)) (word.Length 1) 4096 4096 (written ∷ []) s2 (byte_gives w s2)
     (local_gives w (codes "ptr0") (val.Word (word.Pointer 4096)) s2 refl refl) refl refl refl
 
 read : run_stmt w (stmt.Let (codes "l1") (expr.Load in_area at_start core.Pointer)) s3 ≡ Done tt s4
@@ -162,7 +162,7 @@ called =
 runs_out : run_stmts w wrong_word s0 ≡ Stopped (stuck w) s6
 unfolding declare
 runs_out =
-    next w area (pointer ∷ later) s0 s1 placed ∙ next w pointer later s1 s2 pointed ∙ next w (stmt.Store in_area at_start core.Length (expr.Align (alignment.Bytes 1))) later2 s2 s3 wrote
+    next w area (pointer ∷ later) s0 s1 placed ∙ next w pointer later s1 s2 pointed ∙ next w (stmt.Store in_area at_start core.Length (expr.Size one_byte)) later2 s2 s3 wrote
     ∙ next w (stmt.Let (codes "l1") (expr.Load in_area at_start core.Pointer)) later3 s3 s4 read ∙ next w (stmt.Import decl) later4 s4 s5 refl
     ∙ ap (λ o. and_then o (λ _. run_stmts w [])) called
   where
@@ -177,7 +177,7 @@ runs_out =
 
     later : List Stmt
     later =
-        stmt.Store in_area at_start core.Length (expr.Align (alignment.Bytes 1)) ∷ stmt.Let (codes "l1") (expr.Load in_area at_start core.Pointer) ∷ stmt.Import decl
+        stmt.Store in_area at_start core.Length (expr.Size one_byte) ∷ stmt.Let (codes "l1") (expr.Load in_area at_start core.Pointer) ∷ stmt.Import decl
         ∷ stmt.Expr (expr.Call path (expr.Local (codes "l1") ∷ [])) ∷ []
 
 abbrev import_ran : Run

@@ -46,7 +46,7 @@ in_area = expr.Local (codes "ptr0")
 abbrev pub wrong_word : List Stmt
 wrong_word =
     area ∷ pointer
-    ∷ stmt.Store in_area (record { bytes = 0; pointers = 0 }) core.Length (expr.Align (alignment.Bytes 1))
+    ∷ stmt.Store in_area (record { bytes = 0; pointers = 0 }) core.Length (expr.Size (record { bytes = 1; pointers = 0 }))
     ∷ stmt.Let (codes "l1") (expr.Load in_area (record { bytes = 0; pointers = 0 }) core.Pointer)
     ∷ stmt.Import (record { «module» = codes "$root"; link_name = codes "name"; name = codes "wit_import2"; params = core.Pointer ∷ []; result = None })
     ∷ stmt.Expr (expr.Call (record { lead = false; supers = 0; names = codes "wit_import2" ∷ [] }) (expr.Local (codes "l1") ∷ []))

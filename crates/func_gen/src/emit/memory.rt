@@ -16,7 +16,7 @@ use crate::operand::{ExprOperand, copy_expr, is_operand};
 use abi_driver::Instruction;
 use rust_tree::{Expr, RuntimeItem, SmallType, Stmt};
 use std::alloc::Global;
-use wit_model::{Alignment, ArchitectureSize, List, OutOfMemory, Resolve, WasmType};
+use wit_model::{ArchitectureSize, List, OutOfMemory, Resolve, WasmType};
 
 /// At which offset a whole word of which type is stored.
 pub(crate) fn whole_store(inst: &Instruction) -> Option<(ArchitectureSize, WasmType)>
@@ -70,7 +70,10 @@ fn text_freed(alloc: Global, address: Expr, n: Expr) -> Result<Expr, OutOfMemory
     let mut arguments = List::new(alloc);
     arguments.push(address)?;
     arguments.push(n)?;
-    arguments.push(Expr::Align(Alignment::Bytes(1)))?;
+    arguments.push(Expr::Size(ArchitectureSize {
+        bytes: 1,
+        pointers: 0,
+    }))?;
     Ok(Expr::Call(path, arguments))
 }
 

@@ -7,7 +7,7 @@ ghost use Rattle.rust_tree.specs.declared.print.word.sign.Sign.TheVariants.{As, 
 use crate::expr::{CastType, Expr, SmallType};
 use crate::path::Path;
 use crate::print::path::push_path;
-use crate::print::size::{push_alignment, push_term};
+use crate::print::size::push_term;
 use crate::print::type_name::{core_type_name, push_cast_type, small_type_name};
 use crate::print::word::{ExprWord, Sign};
 use wit_model::{ArchitectureSize, OutOfMemory, Text};
@@ -129,7 +129,7 @@ pub(crate) fn push_expr(out: &mut Text, e: &Expr) -> Result<(), OutOfMemory>
         }
         Expr::IntoBoxedBytes(name) => push_boxed_bytes(out, name),
         Expr::StaticPointer => ExprWord::StaticPointer.put(out),
-        Expr::Align(align) => push_alignment(out, *align),
+        Expr::Size(size) => size.push_term(out, false),
         Expr::Record(path, fields) => push_record(out, path, fields.as_slice()),
         Expr::Tuple(parts) => push_parts(out, parts.as_slice()),
         Expr::Array(parts) => push_array(out, parts.as_slice()),

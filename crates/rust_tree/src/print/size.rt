@@ -1,20 +1,13 @@
-//! Sizes and alignments as expressions.
+//! Sizes as expressions.
 
 ghost use Rattle.std.specs.Prelude.{◌≡◌, ◌++◌, OnOk};
-ghost use Rattle.wit_model.specs.SizeText.{alignment_text};
 ghost use Rattle.rust_tree.specs.CodeText.{term_text};
 
-use wit_model::{Alignment, ArchitectureSize, OutOfMemory, Text};
+use wit_model::{ArchitectureSize, OutOfMemory, Text};
 
 #[tactic(auto, unfolding(crate::specs::CodeText::term_text))]
 pub(crate) fn push_term(out: &mut Text, size: ArchitectureSize) -> Result<(), OutOfMemory>
     ensures { OnOk result (out.new ≡ out.old ++ term_text size) }
 {
     size.push_term(out, true)
-}
-
-pub(crate) fn push_alignment(out: &mut Text, align: Alignment) -> Result<(), OutOfMemory>
-    ensures { OnOk result (out.new ≡ out.old ++ alignment_text align) }
-{
-    align.push(out)
 }

@@ -25,7 +25,7 @@ fn is_named_expr(e: &Expr) -> bool
         Expr::Load(address, _, _) => is_named_expr(address.get()),
         Expr::LoadSmall(address, _, _) => is_named_expr(address.get()),
         Expr::FromRawParts(pointer, len) => is_named_expr(pointer.get()) && is_name(len),
-        Expr::StaticPointer | Expr::Align(_) => true,
+        Expr::StaticPointer | Expr::Size(_) => true,
         Expr::Record(path, fields) => {
             are_path_names(path.names.as_slice()) && are_named_fields(fields.as_slice())
         }
