@@ -1,7 +1,6 @@
 -- The area is asked for a value of a type, or for a record of some types.
-use Rattle.std.proofs.Common.{◌≡◌, ℕ, ◌^◌, true, false, nat_eq, if◌then◌else◌, List, [], ◌∷◌, refl, sym, ap, ap₂, ◌∙◌, subst, arith}
+use Rattle.std.proofs.Common.{◌≡◌, true, false, nat_eq, if◌then◌else◌, List, refl, sym, ap, ap₂, ◌∙◌, subst, arith}
 use Rattle.std.proofs.lemmas.Bool.{eq-eqb, ne_eqb}
-use Rattle.wit_model.specs.Size.{alignment_at}
 use Rattle.wit_model.specs.declared.size.Alignment.{Alignment}
 use Rattle.wit_model.specs.declared.size.Alignment.TheVariants.{Bytes, Pointer}
 use Rattle.wit_model.specs.declared.size.ArchitectureSize.{ArchitectureSize}

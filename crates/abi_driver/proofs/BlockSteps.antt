@@ -1,5 +1,5 @@
 -- A block whose code makes no call makes none; and where it is closed, the code from before it is there again.
-use Rattle.std.proofs.Common.{◌≡◌, List, [], ◌∷◌, refl, sym, ap, ◌∙◌}
+use Rattle.std.proofs.Common.{◌≡◌, List, [], ◌∷◌, sym, ap, ◌∙◌}
 use Rattle.abi_driver.specs.Account.{Account, account_in}
 use Rattle.abi_driver.specs.Blocks.{Finishes, IsQuiet, Pushes}
 use Rattle.abi_driver.specs.Laws.{Adds, Sound}

@@ -1,5 +1,5 @@
 -- What is sent for the arguments and the result of a call, by how they pass.
-use Rattle.std.proofs.Common.{◌≡◌, ℕ, suc, ◌+◌, Bool, true, false, if◌then◌else◌, MatchBool, List, [], ◌∷◌, ◌++◌, length, drop, Option, None, Some, refl, sym, ap, ◌∙◌, subst, arith}
+use Rattle.std.proofs.Common.{◌≡◌, ℕ, suc, ◌+◌, Bool, true, false, if◌then◌else◌, MatchBool, List, [], ◌∷◌, ◌++◌, length, drop, Option, None, Some, refl, sym, ap, ◌∙◌, arith}
 use Rattle.std.specs.Prelude.{option_to_list}
 use Rattle.std.specs.Option.{option_map}
 use Rattle.wit_model.specs.declared.types.TypeDef.{TypeDef}
@@ -12,7 +12,7 @@ use Rattle.wit_layout.specs.Tree.{tree_of}
 use Rattle.wrapper_meaning.specs.Represents.{is_indirect, result_words}
 use Rattle.wrapper_meaning.specs.Shape.{Shape, shape_of}
 use Rattle.abi_driver.specs.declared.instruction.Instruction.TheVariants.{GetArg}
-use Rattle.abi_driver.specs.Code.{Sent, ask_for, each, get_arguments, give_code, lift_arguments, lift_code, load_code, lower_code, point_code, read_code, sends, store_code}
+use Rattle.abi_driver.specs.Code.{ask_for, get_arguments, give_code, lift_arguments, lift_code, load_code, lower_code, point_code, read_code, store_code}
 use Rattle.abi_driver.specs.Exports.{GivesAnswer, StoresAnswer}
 use Rattle.abi_driver.specs.Frees.{nowhere}
 use Rattle.abi_driver.specs.Imports.{LoadsAnswer, ReadsAnswer}
@@ -21,6 +21,7 @@ use Rattle.abi_driver.specs.Lifts.{LiftsAnswer}
 use Rattle.abi_driver.specs.Lowers.{LowersAnswer}
 use Rattle.abi_driver.specs.Meaning.{Meaning}
 use Rattle.abi_driver.specs.Sends.{Sends}
+use Rattle.abi_driver.specs.Sent.{sends}
 use Rattle.abi_driver.proofs.SendSteps.{each_last, sends_as, sends_both, sends_one}
 
 -- 1. Words of arguments

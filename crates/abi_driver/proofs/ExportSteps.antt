@@ -1,16 +1,13 @@
 -- The whole code of an export: its words become values, the method is called, and what is answered becomes words.
-use Rattle.std.proofs.Common.{◌≡◌, Bor, ℕ, ◌+◌, Bool, true, false, nat_eq, nat_lt, min, if◌then◌else◌, MatchBool, List, [], ◌∷◌, ◌++◌, length, Option, None, Some, refl, sym, ap, ap₂, ◌∙◌, subst, arith, append-nil}
+use Rattle.std.proofs.Common.{◌≡◌, Bor, ℕ, ◌+◌, Bool, true, false, nat_eq, if◌then◌else◌, MatchBool, List, [], ◌∷◌, ◌++◌, length, Option, None, Some, refl, sym, ap, ap₂, ◌∙◌, subst, arith, append-nil}
 use Rattle.std.specs.Prelude.{option_to_list}
 use Rattle.std.specs.List.{AllByRecursion, flat_map}
 use Rattle.std.specs.Option.{option_map}
-use Rattle.std.proofs.Math.Nat.{min-eq_right}
-use Rattle.std.proofs.lemmas.Bool.{eq-eqb, ltb-false}
+use Rattle.std.proofs.lemmas.Bool.{eq-eqb}
 use Rattle.wit_model.specs.declared.function.Function.{Function}
 use Rattle.wit_model.specs.declared.types.TypeDef.{TypeDef}
-use Rattle.wit_model.specs.declared.wasm_type.WasmType.TheVariants as wasm
 use Rattle.wit_layout.specs.declared.signature.AbiVariant.TheVariants.{GuestExport}
 use Rattle.wit_layout.specs.declared.signature.WasmSignature.{WasmSignature}
-use Rattle.wit_layout.specs.Flat.{flatten_record}
 use Rattle.wit_layout.specs.Signature.{IsFlattenedFunctype, are_many, core_params, needs_pointer}
 use Rattle.wit_layout.specs.Signature as signature
 use Rattle.wit_layout.specs.Sizes.{alignment, elem_size}
@@ -22,7 +19,7 @@ use Rattle.wrapper_meaning.specs.Areas.{result_record}
 use Rattle.wrapper_meaning.specs.Direction.{give, take}
 use Rattle.wrapper_meaning.specs.InRange.{IsListed}
 use Rattle.wrapper_meaning.specs.Items.{SameItems, total}
-use Rattle.wrapper_meaning.specs.Layout.{layout, layouts}
+use Rattle.wrapper_meaning.specs.Layout.{layout}
 use Rattle.wrapper_meaning.specs.Represents.{GivesResult, ResultInArea, ResultInWord, are_indirect, is_indirect}
 use Rattle.wrapper_meaning.specs.Settled.{IsResult, all_settled}
 use Rattle.wrapper_meaning.specs.Shape.{Shape, Shapes, param_shapes, result_shape}
@@ -33,7 +30,7 @@ use Rattle.abi_driver.specs.declared.bindgen.Asked.{Asked}
 use Rattle.abi_driver.specs.declared.instruction.Instruction.TheVariants.{CallInterface, Return}
 use Rattle.abi_driver.specs.Account.{Account, Call, Crossing, Done, Follows, Got, Outcome, Peer, account_in, addresses, gives, releasing}
 use Rattle.abi_driver.specs.Area.{AreFor, AreaStands, HoldsRecord, newly, pointing}
-use Rattle.abi_driver.specs.Calls.{handing, method_point, result_count}
+use Rattle.abi_driver.specs.Calls.{CrossesAsItIs, handing, method_point, result_count}
 use Rattle.abi_driver.specs.Exports.{CallsExport, EndsWithWords, GivesAnswer, GivesWords, HandsBack, IsHonestMethod, PassesItems, Received, StoresAnswer, TakesArgumentsOver, TookOver, argument_words, export_params, handed_on, placing_result}
 use Rattle.abi_driver.specs.Imports.{ResultStands}
 use Rattle.abi_driver.specs.Instructions.{Emits}
@@ -287,7 +284,7 @@ module _ {Self Operand : Type 0} (m : Meaning Self Operand) (sound : Sound m) wh
     later_quiet : Quiet m d z
     later_quiet = quiet_both m d e z on.quiet ended.adds.grows ended.adds.quiet
 
-    module _ (w : m.World) (p : Peer m.Item) (us : Parts ts) (ws : List Word) (blocks : List Block) (others : Facts m) (s0 s : m.State) (is : Received m w p ts us ws blocks a z others s0 s) where
+    module _ (w : m.World) (p : Peer m.Item) (us : Parts ts) (ws : List Word) (blocks : List Block) (others : Facts m) (s0 s : m.State) (crossed : CrossesAsItIs m w a fn.now ts r) (is : Received m w p ts us ws blocks a z others s0 s) where
       serves_e : m.serves w e
       serves_e = ended.adds.grows.serves w is.at.serves
 
@@ -309,7 +306,7 @@ module _ {Self Operand : Type 0} (m : Meaning Self Operand) (sound : Sound m) wh
       call = method_point (m.target c fn.now) lifted.vals (m.account lifted.state)
 
       abbrev crossing : Crossing m.Item
-      crossing = m.crosses w d fn.now
+      crossing = m.crosses w c fn.now
 
       abbrev answering : Outcome m.Item (Got m.Item (List m.Item))
       answering = handing m.owned crossing (m.target c fn.now) lifted.vals (result_count fn.now) p.reply (m.account lifted.state)
@@ -319,11 +316,14 @@ module _ {Self Operand : Type 0} (m : Meaning Self Operand) (sound : Sound m) wh
 
       answered : Follows m.account answering (m.does w p (m.code d) s0) Answered
       answered =
-          called.row.row lifted.vals w p others s0 lifted.state (stand_count m sound types ts (all_settled ts us) lifted.vals lifted.own lifted.stands ∙ sym takes.many)
+          called.row lifted.vals w p others s0 lifted.state (stand_count m sound types ts (all_settled ts us) lifted.vals lifted.own lifted.stands ∙ sym takes.many)
           (record { serves = serves_d; done = lifted.done; holds = lifted.after.denotes }) lifted_owns
 
+      same_crossing : crossing ≡ m.crosses w a fn.now
+      same_crossing = takes.adds.grows.crosses w fn.now
+
       as_they_are : crossing.passes lifted.vals ≡ Some lifted.vals
-      as_they_are = called.row.passes w us lifted.vals lifted.own serves_d is.listed lifted.stands
+      as_they_are = ap (λ x. x.passes lifted.vals) same_crossing ∙ crossed.passes us lifted.vals lifted.own is.listed lifted.stands
 
       passed : PassesItems m (m.target a fn.now) ts us blocks (m.account s) call
       passed = record {
@@ -343,8 +343,9 @@ module _ {Self Operand : Type 0} (m : Meaning Self Operand) (sound : Sound m) wh
           ∙ ap (λ acc. acc.calls ++ call ∷ []) lifted.after.account
 
       -- what came in of an answer
-      back_in : (v : Result r) (honest : IsHonestMethod m r v p.reply) → Came m r (m.crosses w d fn.now).receives v honest.item honest.own
-      back_in v honest = came_in m r (m.crosses w d fn.now).receives (λ t u a own e listed stands. called.row.receives w t u a own serves_d e listed stands) v honest.item honest.own honest.good honest.stands
+      back_in : (v : Result r) (honest : IsHonestMethod m r v p.reply) → Came m r crossing.receives v honest.item honest.own
+      back_in v honest =
+          came_in m r crossing.receives (λ t u x own e listed stands. let h = crossed.receives t u x own e listed stands in (h.0, ap (λ k. k.receives x) same_crossing ∙ h.1, h.2)) v honest.item honest.own honest.good honest.stands
 
       -- the account when the method has answered
       abbrev answered_account : (v : Result r) → IsHonestMethod m r v p.reply → Account m.Item
@@ -433,12 +434,12 @@ module _ {Self Operand : Type 0} (m : Meaning Self Operand) (sound : Sound m) wh
       records = on.records;
       for = on.for;
       asked = ended.adds.asked ∙ on.asked ∙ ap (λ xs. xs ++ on.records) (called.asked ∙ takes.adds.asked);
-      row = λ w p us ws blocks others s0 s is. record {
-        call = call w p us ws blocks others s0 s is;
-        passes = passed w p us ws blocks others s0 s is;
-        made = made w p us ws blocks others s0 s is;
+      row = λ w p us ws blocks others s0 s crossed is. record {
+        call = call w p us ws blocks others s0 s crossed is;
+        passes = passed w p us ws blocks others s0 s crossed is;
+        made = made w p us ws blocks others s0 s crossed is;
         os = given;
         returned = ended.returned;
-        gives = gives_words w p us ws blocks others s0 s is;
+        gives = gives_words w p us ws blocks others s0 s crossed is;
       };
     }

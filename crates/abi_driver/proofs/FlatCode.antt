@@ -1,5 +1,5 @@
 -- What is sent for core words, by the kind of a type.
-use Rattle.std.proofs.Common.{◌≡◌, ℕ, Bool, true, false, List, [], ◌∷◌, ◌++◌, length, map, Some, refl, sym, ap, ◌∙◌, append-nil}
+use Rattle.std.proofs.Common.{◌≡◌, Bool, List, [], ◌∷◌, ◌++◌, length, map, Some, refl, ap, ◌∙◌, append-nil}
 use Rattle.std.specs.List.{slice_get}
 use Rattle.wit_model.specs.TypeOrder.{GoesDown}
 use Rattle.wit_model.specs.declared.name.TypeId.{TypeId}
@@ -10,8 +10,9 @@ use Rattle.wit_model.specs.declared.types.WitType.{WitType}
 use Rattle.wit_model.specs.declared.types.WitType.TheVariants as wit
 use Rattle.abi_driver.specs.declared.instruction.Instruction.{Instruction}
 use Rattle.abi_driver.specs.declared.instruction.Instruction.TheVariants.{GuestDeallocateString, RecordLift, RecordLower, StringLift, StringLower, TupleLift, TupleLower}
-use Rattle.abi_driver.specs.Code.{Sent, each, free_words_code, free_words_kind, free_words_leaf, lift_code, lift_kind, lift_leaf, lower_code, lower_kind, lower_leaf, sends, sent}
+use Rattle.abi_driver.specs.Code.{each, free_words_code, free_words_kind, free_words_leaf, lift_code, lift_kind, lift_leaf, lower_code, lower_kind, lower_leaf, sent}
 use Rattle.abi_driver.specs.Instructions.{lifting, lowering}
+use Rattle.abi_driver.specs.Sent.{sends}
 use Rattle.abi_driver.proofs.CodeByKind.{made_by_kind}
 use Rattle.abi_driver.proofs.SendSteps.{each_map}
 

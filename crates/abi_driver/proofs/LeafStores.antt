@@ -38,7 +38,7 @@ use Rattle.abi_driver.proofs.LowerSteps.{scalar_type}
 use Rattle.abi_driver.proofs.Replaced.{replaced_formed, replaced_twice}
 use Rattle.abi_driver.proofs.Ordinary.{adds_of, touches_ordinary}
 use Rattle.abi_driver.proofs.Runs.{adds_both, total-append}
-use Rattle.abi_driver.proofs.ScalarsInMemory.{scalar_alignment, scalar_size, store_access, stored_scalar, stored_type}
+use Rattle.abi_driver.proofs.ScalarsInMemory.{scalar_alignment, scalar_size, store_access, stored_ranged, stored_scalar, stored_type}
 use Rattle.abi_driver.proofs.StoreSteps.{word_again}
 use Rattle.abi_driver.proofs.Storing.{stores_in, written_both}
 
@@ -145,7 +145,7 @@ module _ {Self Operand : Type 0} (m : Meaning Self Operand) (sound : Sound m) (t
         let size = scalar_size m.width s in
         let known : y ≡ passed_word s v = said_word realloc heap s v y p.2.2 in
         let stored = stores_in m.width (store_access s) (reached m q offset) (passed_word s v) blk k (record acc { taken = left }) room.formed room.there room.starts (omega (arith, room.fits, size)) (subst (λ n. reached m q offset % n ≡ 0) (scalar_alignment m.width s) room.aligned)
-        (at_least m.width sound.wide) (stored_type s v) in
+        (at_least m.width sound.wide) (stored_type s v) (stored_ranged s v listed) in
         let all = stored.0 in
         let two = does_done m (Unit {0}) b c (ofs m (r ∷ address ∷ []) (word y ∷ word (core.Pointer q) ∷ [])) (λ f. storing m.width (store_access s) (reached m q offset) y) (λ u fs. fs ≡ []) (λ u. []) (λ u. []) (store y q) w f others s0 s1 at2
         (record { result = tt; account = record acc { taken = left; heap = record { blocks = replaced all acc.heap.blocks } } }) (ap (λ z. storing m.width (store_access s) (reached m q offset) z (m.account s1)) known ∙ ap (storing m.width (store_access s) (reached m q offset) (passed_word s v)) after1.account ∙ stored.1) in
@@ -206,7 +206,7 @@ module _ {Self Operand : Type 0} (m : Meaning Self Operand) (sound : Sound m) (t
         let pointer_access = accessed m.width whole false wasm.Pointer in
         let reach : reached m q behind ≡ base + size = ap (λ z. q + z) further ∙ omega arith in
         let put1 = stores_in m.width length_access (reached m q behind) (core.Length len) blk (k + size) (record acc { taken = left }) room.formed room.there (reach ∙ omega (arith, room.starts)) (omega (arith, room.fits))
-        (subst (λ z. z % size ≡ 0) (sym reach) (aligned_part base size m.width m.width room.aligned (omega arith) (itself m.width sound.wide))) wide refl in
+        (subst (λ z. z % size ≡ 0) (sym reach) (aligned_part base size m.width m.width room.aligned (omega arith) (itself m.width sound.wide))) wide refl refl in
         let mid = put1.0 in
         let acc1 : Account m.Item = record acc { taken = left; heap = record { blocks = replaced mid acc.heap.blocks } } in
         let two = does_done m (Unit {0}) b c (ofs m (n ∷ address ∷ []) (word (core.Length len) ∷ word (core.Pointer q) ∷ [])) (λ f. storing m.width length_access (reached m q behind) (core.Length len)) (λ u fs. fs ≡ []) (λ u. []) (λ u. []) (row1 (core.Length len) q) w f (first ++ (pointer ++ others)) s0 s1 at2
@@ -215,7 +215,7 @@ module _ {Self Operand : Type 0} (m : Meaning Self Operand) (sound : Sound m) (t
         let after2 = two.2.2 in
         let formed = replaced_formed acc.heap.blocks blk mid (k + size) size room.formed room.there put1.2 in
         let at3 : At m w f c d (ofs m (r ∷ address ∷ []) (word (core.Pointer place) ∷ word (core.Pointer q) ∷ []) ++ others) s0 s2 = record { serves = at.serves; done = two.1; holds = subst (λ fs. m.denotes w c (fs ++ (first ++ (pointer ++ others))) s2) two.2.1 after2.denotes } in
-        let put2 = stores_in m.width pointer_access base (core.Pointer place) mid k acc1 formed.0 formed.1 (room.starts ∙ ap (λ z. z + k) (sym put1.2.same_address)) (omega (arith, room.fits, put1.2.same_size)) room.aligned wide refl in
+        let put2 = stores_in m.width pointer_access base (core.Pointer place) mid k acc1 formed.0 formed.1 (room.starts ∙ ap (λ z. z + k) (sym put1.2.same_address)) (omega (arith, room.fits, put1.2.same_size)) room.aligned wide refl refl in
         let all = put2.0 in
         let three = does_done m (Unit {0}) c d (ofs m (r ∷ address ∷ []) (word (core.Pointer place) ∷ word (core.Pointer q) ∷ [])) (λ f. storing m.width pointer_access base (core.Pointer place)) (λ u fs. fs ≡ []) (λ u. []) (λ u. []) (row2 (core.Pointer place) q) w f others s0 s2 at3
         (record { result = tt; account = record acc1 { heap = record { blocks = replaced all acc1.heap.blocks } } }) (ap (storing m.width pointer_access base (core.Pointer place)) after2.account ∙ put2.1) in

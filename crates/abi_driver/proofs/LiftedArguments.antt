@@ -1,5 +1,5 @@
 -- Arguments become values, one after another: the words of each are read and lifted.
-use Rattle.std.proofs.Common.{◌≡◌, ℕ, suc, ◌+◌, ◌≤◌, List, [], ◌∷◌, ◌++◌, length, drop, min, Bool, true, false, nat_lt, refl, sym, ap, ◌∙◌, subst, arith, append_assoc, append-nil}
+use Rattle.std.proofs.Common.{◌≡◌, ℕ, suc, ◌+◌, ◌≤◌, List, [], ◌∷◌, ◌++◌, length, drop, min, refl, sym, ap, ◌∙◌, subst, arith, append_assoc, append-nil}
 use Rattle.std.proofs.lemmas.List.{drop_all, length-append}
 use Rattle.std.proofs.Math.Nat.{min-le_right}
 use Rattle.wit_model.specs.declared.types.TypeDef.{TypeDef}
@@ -9,7 +9,6 @@ use Rattle.wit_layout.specs.Flat.{IsFlatOf, flatten_record, flatten_type}
 use Rattle.wit_layout.specs.Tree.{tree_of}
 use Rattle.wrapper_data.specs.declared.block.Block.{Block}
 use Rattle.wrapper_data.specs.declared.word.Word.{Word}
-use Rattle.wrapper_meaning.specs.Items.{total}
 use Rattle.wrapper_meaning.specs.Direction.{take}
 use Rattle.wrapper_meaning.specs.Layout.{layout, layouts}
 use Rattle.wrapper_meaning.specs.Represents.{param_words}

@@ -12,9 +12,10 @@ use Rattle.wit_model.specs.declared.types.WitType.TheVariants as wit
 use Rattle.wit_layout.specs.Tree.{tree_at}
 use Rattle.abi_driver.specs.declared.instruction.Instruction.{Instruction}
 use Rattle.abi_driver.specs.declared.instruction.Instruction.TheVariants.{GuestDeallocateString, LengthLoad, LengthStore, PointerLoad, PointerStore, RecordLift, RecordLower, StringLift, StringLower, TupleLift, TupleLower}
-use Rattle.abi_driver.specs.Code.{Sent, beyond, each, free_code, free_kind, free_leaf, load_code, load_kind, load_leaf, one_pointer, place_in, sends, sent, store_code, store_kind, store_leaf}
+use Rattle.abi_driver.specs.Code.{beyond, each, free_code, free_kind, free_leaf, load_code, load_kind, load_leaf, one_pointer, place_in, sent, store_code, store_kind, store_leaf}
 use Rattle.abi_driver.specs.Instructions.{lifting, lowering}
 use Rattle.abi_driver.specs.ScalarTouches.{scalar_load, scalar_store}
+use Rattle.abi_driver.specs.Sent.{sends}
 use Rattle.abi_driver.proofs.CodeByKind.{made_by_kind}
 use Rattle.abi_driver.proofs.SendSteps.{each_map}
 

@@ -75,6 +75,7 @@ noted_grows a old mid is = subst (Grows plain_meaning old) (sym is) (record {
   arguments = refl;
   knows = λ types h. h;
   target = λ f. refl;
+  crosses = λ w f. refl;
   opened = refl;
   known = λ w facts s h. still_right old (record old { asked = old.asked ++ a ∷ [] }) s s facts (omega arith) (λ n l. refl) (λ n. refl) h;
 })
@@ -162,6 +163,7 @@ module _ (a : Asked) (old mid new : PlainBindgen) (is : mid ≡ record old { ask
     returned = adds.returned ∙ ap (λ (b : PlainBindgen). b.returned) is;
     asked = adds.asked ∙ ap (λ (b : PlainBindgen). b.asked) is;
     blocks = refl;
+    form = tt;
     row = λ w f others s0 s at stands here first.
         let o : Place = record { number = mid.count } in
         let Outs : ℕ → Facts plain_meaning → Type 0 = λ x fs. fs ≡ ofs plain_meaning (places_from mid.count 1) (place_data x) in

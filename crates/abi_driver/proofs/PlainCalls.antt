@@ -6,15 +6,17 @@ use Rattle.std.proofs.lemmas.List.{length-map}
 use Rattle.wit_model.specs.declared.function.Function.{Function}
 use Rattle.wit_model.specs.declared.types.TypeDef.{TypeDef}
 use Rattle.wit_model.specs.declared.wasm_type.WasmType.{WasmType}
+use Rattle.wrapper_data.specs.declared.choice.Request.{Request}
 use Rattle.wrapper_data.specs.declared.run.Target.TheVariants as target
 use Rattle.wrapper_data.specs.declared.word.Word.{Word}
 use Rattle.wrapper_meaning.specs.Items.{SameItems, total}
+use Rattle.wrapper_meaning.specs.Shape.{Shape, Shapes}
 use Rattle.abi_driver.specs.declared.instruction.Instruction.TheVariants as instruction
 use Rattle.abi_driver.specs.declared.plain.Place.{Place}
 use Rattle.abi_driver.specs.declared.plain.PlainBindgen.{PlainBindgen}
 use Rattle.abi_driver.specs.declared.plain.Step.TheVariants as step
 use Rattle.abi_driver.specs.Account.{Account, Act, Done, Follows, Got, Outcome, Peer, Reply, Stopped, Stuck, gives, has_type, have_types, then_do, value, words}
-use Rattle.abi_driver.specs.Calls.{HandsOver, answered_by, are_live, calling, coming, handing, import_params, import_results, left_by, result_count, returned_with}
+use Rattle.abi_driver.specs.Calls.{CrossesAsItIs, HandsOver, answered_by, are_live, calling, coming, handing, import_params, import_results, left_by, result_count, returned_with}
 use Rattle.abi_driver.specs.Instructions.{Emits}
 use Rattle.abi_driver.specs.Laws.{Does, Facts, core_data, item_data, ofs}
 use Rattle.abi_driver.specs.Meaning.{item, word}
@@ -104,6 +106,10 @@ method_target b f e = by b.import e
     by true h = absurd (let g = h in cc)
     by false h = refl
 
+-- values cross each call as they are
+pub plain_crosses : (w : Option Request) (b : PlainBindgen) (f : Function) (ts : Shapes) (r : Option Shape) → CrossesAsItIs plain_meaning w b f ts r
+plain_crosses w b f ts r = record { passes = λ us vals own listed stands. refl; receives = λ t v a own is listed stands. (a, refl, stands) }
+
 -- 3. The steps
 
 module _ (types : List TypeDef) (old new : PlainBindgen) where
@@ -128,6 +134,7 @@ module _ (types : List TypeDef) (old new : PlainBindgen) where
         returned = adds.returned;
         asked = adds.asked;
         blocks = refl;
+        form = tt;
         results = ap length places ∙ places_count old.count k ∙ many ∙ ap length is;
         row = λ ws fit. subst (λ t. Does plain_meaning (List Word) old new (ofs plain_meaning os (core_data plain_meaning ws)) (λ p. calling t ws answer p.reply) (λ back fs. fs ≡ ofs plain_meaning rs (core_data plain_meaning back)) (λ back. []) (λ back. []))
             (sym (core_target old f import))
@@ -165,12 +172,9 @@ module _ (types : List TypeDef) (old new : PlainBindgen) where
     returned = adds.returned;
     asked = adds.asked;
     blocks = refl;
+    form = tt;
     results = ap length places ∙ places_count old.count k ∙ due;
-    row = record {
-      row = subst (λ ps. HandsOver plain_meaning fn.now os ps old new) (sym places) (method_row fn.now os k due export adds);
-      passes = λ w us vals own serves listed stands. refl;
-      receives = λ w t v a own serves is listed stands. (a, refl, stands);
-    };
+    row = subst (λ ps. HandsOver plain_meaning fn.now os ps old new) (sym places) (method_row fn.now os k due export adds);
   }
 
   -- operands stand in their places already, and no step is added
@@ -180,6 +184,7 @@ module _ (types : List TypeDef) (old new : PlainBindgen) where
     returned = refl;
     asked = refl;
     blocks = refl;
+    form = tt;
     results = len;
     row = λ ds many w f others s0 s at. (s, at.done, (ofs plain_meaning os ds, refl, record { account = refl; owns = λ g. refl; denotes = at.holds }));
   }))
@@ -188,7 +193,7 @@ module _ (types : List TypeDef) (old new : PlainBindgen) where
   pub gives_back : (n : ℕ) (os : List Place) → new ≡ record old { returned = Some os } → Emits plain_meaning types (instruction.Return n) os [] old new
   gives_back n os is = subst (λ b. Emits plain_meaning types (instruction.Return n) os [] old b) (sym is) (record {
     adds = record {
-      grows = record { serves = λ w h. h; more = λ w h. (w, h); stops = λ w f s h. stops_same (λ (t : PlainState). t.account) (plain_meaning.does w f old.steps s); imports = refl; exports = refl; arguments = refl; knows = λ types h. h; target = λ f. refl; opened = refl; known = λ w facts s h. still_right old (record old { returned = Some os }) s s facts (omega arith) (λ n l. refl) (λ n. refl) h };
+      grows = record { serves = λ w h. h; more = λ w h. (w, h); stops = λ w f s h. stops_same (λ (t : PlainState). t.account) (plain_meaning.does w f old.steps s); imports = refl; exports = refl; arguments = refl; knows = λ types h. h; target = λ f. refl; crosses = λ w f. refl; opened = refl; known = λ w facts s h. still_right old (record old { returned = Some os }) s s facts (omega arith) (λ n l. refl) (λ n. refl) h };
       quiet = λ w f s h. refl;
       asked = refl;
       blocks = refl;
@@ -196,6 +201,7 @@ module _ (types : List TypeDef) (old new : PlainBindgen) where
     returned = refl;
     asked = refl;
     blocks = refl;
+    form = tt;
     results = refl;
     row = λ ds w f others s0 s at. (
       s,

@@ -49,7 +49,7 @@ use Rattle.abi_driver.specs.Instructions.{Emits, IsRecord, MakesBy, MakesTouch, 
 use Rattle.abi_driver.specs.Laws.{Adds, Stays, core_data, item_data, ofs}
 use Rattle.abi_driver.specs.Leaves.{LiftsScalar, LiftsText, LowersScalar, LowersText}
 use Rattle.abi_driver.specs.Meaning.{Datum, arg, item, of, word}
-use Rattle.abi_driver.specs.Memory.{Access, access, bytes_on, freed, freeing, is_aligned, is_inside, is_reached, little_bytes, loaded, loading, storing}
+use Rattle.abi_driver.specs.Memory.{Access, access, bytes_on, freed, freeing, is_aligned, is_inside, is_ranged, is_reached, little_bytes, loaded, loading, storing}
 use Rattle.abi_driver.specs.Memory as memory
 use Rattle.abi_driver.specs.Parts.{LiftsParts, LowersParts, PartsStand, count}
 use Rattle.abi_driver.specs.Plain.{AddsStep, IsPlainText, IsRight, PlainItem, PlainItems, PlainPartsStand, PlainStands, PlainState, all_at, and_all, gathered, leaf, lifted_type, listed, lowered_type, normal, performs, places_from, plain_meaning, scalar_of, whole, word_touch}
@@ -242,15 +242,15 @@ touched_is _ t e = absurd (let h = e in cc)
 storing_owns : (a : Access) (address : ℕ) (x : Word) (acc : Account PlainItem) → OnDone (storing 2 a address x acc) (λ y. y.account.taken ≡ acc.taken)
 storing_owns a address x acc =
     let after = record acc { heap = record { blocks = with_writes acc.heap.blocks (bytes_on address (little_bytes (2 ^ a.grain) (bits_of x))) } } in
-    if_done (has_type a.word x && is_reached 2 a address && is_some (find (is_inside address (2 ^ a.grain)) acc.heap.blocks)) (stay after) (Stuck acc) (λ y. y.account.taken ≡ acc.taken) (λ e. refl) (λ e. tt)
+    if_done (has_type a.word x && is_ranged x && is_reached 2 a address && is_some (find (is_inside address (2 ^ a.grain)) acc.heap.blocks)) (stay after) (Stuck acc) (λ y. y.account.taken ≡ acc.taken) (λ e. refl) (λ e. tt)
 
-loaded_owns : (f : Form) (x : Option Word) (acc : Account PlainItem) → OnDone (loaded 2 f x acc) (λ y. y.account.taken ≡ acc.taken)
-loaded_owns f None acc = fails f trap.Pointer acc (λ y. y.account.taken ≡ acc.taken)
-loaded_owns f (Some x) acc = refl
+loaded_owns : (f : Form) (a : Access) (x : Option ℕ) (acc : Account PlainItem) → OnDone (loaded 2 f a x acc) (λ y. y.account.taken ≡ acc.taken)
+loaded_owns f a None acc = fails f trap.Pointer acc (λ y. y.account.taken ≡ acc.taken)
+loaded_owns f a (Some x) acc = if_done (nat_lt x (256 ^ 2 ^ a.grain)) (gives (memory.word_read 2 a x) acc) (Stuck acc) (λ y. y.account.taken ≡ acc.taken) (λ e. refl) (λ e. tt)
 
 loading_owns : (f : Form) (a : Access) (address : ℕ) (acc : Account PlainItem) → OnDone (loading 2 f a address acc) (λ y. y.account.taken ≡ acc.taken)
 loading_owns f a address acc =
-    loaded_owns f (if is_aligned a address then option_map (λ bytes. memory.word_read 2 a (little bytes)) (memory.bytes_at address (2 ^ a.grain) acc.heap.blocks) else None) acc
+    loaded_owns f a (if is_aligned a address then option_map little (memory.bytes_at address (2 ^ a.grain) acc.heap.blocks) else None) acc
 
 freed_owns : (f : Form) (address size : ℕ) (b : Option Block) (acc : Account PlainItem) → OnDone (freed f address size b acc) (λ y. y.account.taken ≡ acc.taken)
 freed_owns f address size None acc = fails f trap.Block acc (λ y. y.account.taken ≡ acc.taken)
@@ -293,6 +293,7 @@ module _ (os rs : List Place) (old new : PlainBindgen) where
             returned = still_returned plain_meaning i (touches_ordinary i x here) os old.returned new.returned still;
             asked = same_asked;
             blocks = none_dropped (length (block_results types i));
+            form = tt;
             results = subst (λ p. MakesBy types i p (lifted_scalar i) (length rs)) (sym no.0) (subst (λ p. MakesBy types i None p (length rs)) (sym no.1)
                 (subst (λ p. MakesTouch types i p (length rs)) (sym here) (len ∙ ap makes_of (sym same) ∙ makes_same x)));
             row = subst (λ p. RowBy plain_meaning types i p (lifted_scalar i) os rs old new) (sym no.0) (subst (λ p. RowBy plain_meaning types i None p os rs old new) (sym no.1)
@@ -360,6 +361,7 @@ module _ (types : List TypeDef) (old new : PlainBindgen) where
         returned = still_returned plain_meaning i (lowers_ordinary i _ (lowered_is i ty is)) (o ∷ []) old.returned new.returned adds.returned;
         asked = adds.asked;
         blocks = none_dropped (length (block_results types i));
+        form = tt;
         results = subst (λ x. MakesBy types i x (lifted_scalar i) (length rs)) (sym (lowered_is i ty is)) (ap length places);
         row = subst (λ x. RowBy plain_meaning types i x (lifted_scalar i) (o ∷ []) rs old new) (sym (lowered_is i ty is)) (subst (λ ps. LowersScalar plain_meaning s (o ∷ []) ps old new) (sym places) row);
       }
@@ -379,6 +381,7 @@ module _ (types : List TypeDef) (old new : PlainBindgen) where
         returned = still_returned plain_meaning i (lifts_ordinary i _ both.1) (o ∷ []) old.returned new.returned adds.returned;
         asked = adds.asked;
         blocks = none_dropped (length (block_results types i));
+        form = tt;
         results = subst (λ p. MakesBy types i p (lifted_scalar i) (length rs)) (sym both.0) (subst (λ p. MakesBy types i None p (length rs)) (sym both.1) (ap length places));
         row = subst (λ p. RowBy plain_meaning types i p (lifted_scalar i) (o ∷ []) rs old new) (sym both.0)
             (subst (λ p. RowBy plain_meaning types i None p (o ∷ []) rs old new) (sym both.1) (subst (λ ps. LiftsScalar plain_meaning s (o ∷ []) ps old new) (sym places) row));
@@ -416,6 +419,7 @@ module _ (types : List TypeDef) (old new : PlainBindgen) where
         returned = adds.returned;
         asked = adds.asked;
         blocks = refl;
+        form = tt;
         results = ap length places;
         row = λ address n.
             plain_does st 0 old new adds (Unit {0}) (of o (word (core.Pointer address)) ∷ of p (word (core.Length n)) ∷ []) (word (core.Pointer address) ∷ word (core.Length n) ∷ []) (λ f. freeing f.form address n) (λ u. []) (λ u fs. fs ≡ [])
@@ -433,6 +437,7 @@ module _ (types : List TypeDef) (old new : PlainBindgen) where
         returned = adds.returned;
         asked = adds.asked;
         blocks = refl;
+        form = tt;
         results = ap length places;
         row = λ address.
             plain_does st 0 old new adds (Unit {0}) (of o (word (core.Pointer address)) ∷ []) (word (core.Pointer address) ∷ []) (λ f. freeing f.form address n) (λ u. []) (λ u fs. fs ≡ [])
@@ -451,7 +456,7 @@ module _ (types : List TypeDef) (old new : PlainBindgen) where
             (λ x values n. refl) (λ t h. one_at old t o (item a) h) (λ area f acc. ap (λ (b : PlainItem). performs area st f (item b ∷ []) acc) st0.2) (λ p acc x e. refl) (λ u. refl)
             (λ u. []) (λ u. addresses own) (λ f acc x e. done_is (releasing (addresses own) acc) (λ x. SameItems (x.account.taken ++ addresses own) (acc.taken ++ [])) x (releasing_owns (addresses own) acc) e),
       ) in
-      record { adds = plain_adds st 2 old new adds refl; returned = adds.returned; asked = adds.asked; blocks = refl; results = ap length places; row = subst (λ ps. LowersText plain_meaning realloc (o ∷ []) ps old new) (sym places) row }
+      record { adds = plain_adds st 2 old new adds refl; returned = adds.returned; asked = adds.asked; blocks = refl; form = tt; results = ap length places; row = subst (λ ps. LowersText plain_meaning realloc (o ∷ []) ps old new) (sym places) row }
 
   pub takes_text : (o p : Place) (rs : List Place) → AddsStep (step.Take o.number p.number old.count) 1 old new → rs ≡ places_from old.count 1 → Emits plain_meaning types instruction.StringLift (o ∷ p ∷ []) rs old new
   takes_text o p rs adds places =
@@ -461,7 +466,7 @@ module _ (types : List TypeDef) (old new : PlainBindgen) where
       plain_does st 1 old new adds Taken (of o (word (core.Pointer address)) ∷ of p (word (core.Length n)) ∷ []) (core_data plain_meaning ws) (λ f. taking f.form address n) (λ x. item (leaf ws x.blocks) ∷ []) (λ x fs. (a : PlainItem) × (fs ≡ ofs plain_meaning (places_from old.count 1) (item a ∷ [])) × (Says 2 take text x.bytes ws x.blocks → PlainStands take text x.bytes a x.blocks))
       (λ x values n. refl) (λ t h. two_at old t o p (word (core.Pointer address)) (word (core.Length n)) h) (λ area f acc. refl) (λ p acc y e. refl) (λ x. (leaf ws x.blocks, refl, λ h. says_text x.bytes address n x.blocks h))
       (λ x. addresses x.blocks) (λ x. []) (λ f acc x e. let t = done_is (taking f.form address n acc) (TakesOver acc) x (taking_owns f.form address n acc) e in λ g. ap (λ xs. total g (xs ++ [])) t ∙ ap (total g) (append-nil (acc.taken ++ addresses x.result.blocks))) in
-      record { adds = plain_adds st 1 old new adds refl; returned = adds.returned; asked = adds.asked; blocks = refl; results = ap length places; row = subst (λ ps. LiftsText plain_meaning (o ∷ p ∷ []) ps old new) (sym places) row }
+      record { adds = plain_adds st 1 old new adds refl; returned = adds.returned; asked = adds.asked; blocks = refl; form = tt; results = ap length places; row = subst (λ ps. LiftsText plain_meaning (o ∷ p ∷ []) ps old new) (sym places) row }
 
   pub reads_argument : (n : ℕ) (rs : List Place) → AddsStep (step.Argument n old.count) 1 old new → rs ≡ places_from old.count 1 → Emits plain_meaning types (instruction.GetArg n) [] rs old new
   reads_argument n rs adds places =
@@ -471,6 +476,7 @@ module _ (types : List TypeDef) (old new : PlainBindgen) where
         returned = adds.returned;
         asked = adds.asked;
         blocks = refl;
+        form = tt;
         results = ap length places;
         row = λ d. subst (λ ps. Stays plain_meaning old new (arg n d ∷ []) (λ fs. fs ≡ ofs plain_meaning ps (d ∷ []))) (sym places)
             (plain_does st 1 old new adds (Unit {0}) (arg n d ∷ []) (d ∷ []) (λ f. stay) (λ u. d ∷ []) (λ u fs. fs ≡ ofs plain_meaning (places_from old.count 1) (d ∷ []))
@@ -513,6 +519,7 @@ module _ (types : List TypeDef) (old new : PlainBindgen) where
     returned = adds.returned;
     asked = adds.asked;
     blocks = refl;
+    form = tt;
     results = λ others other. ap length places ∙ places_count old.count (length members) ∙ ap length (one_record types id.0 members others is other);
     row = λ others other.
         subst (λ ms. LowersParts plain_meaning (field_shapes types ms) (fields (field_shapes types ms)) (λ v. v) (o ∷ []) rs old new) (one_record types id.0 members others is other)
@@ -527,6 +534,7 @@ module _ (types : List TypeDef) (old new : PlainBindgen) where
     returned = adds.returned;
     asked = adds.asked;
     blocks = refl;
+    form = tt;
     results = ap length places;
     row = λ others other.
         subst (λ ms. LiftsParts plain_meaning (field_shapes types ms) (fields (field_shapes types ms)) (λ v. v) os rs old new) (one_record types id.0 members others is other)
@@ -540,6 +548,7 @@ module _ (types : List TypeDef) (old new : PlainBindgen) where
     returned = adds.returned;
     asked = adds.asked;
     blocks = refl;
+    form = tt;
     results = ap length places ∙ places_count old.count n;
     row = λ ts fits. subst (λ ps. LowersParts plain_meaning ts (tuple ts) (λ v. v) (o ∷ []) ps old new) (sym places) (splits ts (tuple ts) (λ v. v) n o fits (λ dir v a own h. h) adds);
   }
@@ -550,6 +559,7 @@ module _ (types : List TypeDef) (old new : PlainBindgen) where
     returned = adds.returned;
     asked = adds.asked;
     blocks = refl;
+    form = tt;
     results = ap length places;
     row = λ ts fits. subst (λ ps. LiftsParts plain_meaning ts (tuple ts) (λ v. v) os ps old new) (sym places) (joins ts (tuple ts) (λ v. v) os (len ∙ sym fits) (λ v items own h. (items, refl, h)) adds);
   }

@@ -32,7 +32,7 @@ use Rattle.abi_driver.specs.Account.{Account, Act, Done, Follows, Got, Outcome, 
 use Rattle.abi_driver.specs.Area.{HoldsRecord, placed, placing, with_area}
 use Rattle.abi_driver.specs.Laws.{Adds, After, At, Does, Facts, Grows, ofs}
 use Rattle.abi_driver.specs.Meaning.{Datum, item, word}
-use Rattle.abi_driver.specs.Memory.{Access, access, bytes_on, freed, freeing, is_aligned, is_inside, is_reached, little_bytes, loaded, storing}
+use Rattle.abi_driver.specs.Memory.{Access, access, bytes_on, freed, freeing, is_aligned, is_inside, is_ranged, is_reached, little_bytes, loaded, storing}
 use Rattle.abi_driver.specs.Memory as memory
 use Rattle.abi_driver.specs.Plain.{AddsStep, IsRight, PlainItem, PlainState, free_block, free_text, inputs, kept, leaf, load_word, normal, passing, performed, performs, places_from, pointed, plain_meaning, put, read_as, runs, scalar_of, splitting, store_word, take_text, whole, writes}
 use Rattle.abi_driver.specs.PlainSound.{all_both, all_left, all_right}
@@ -116,11 +116,11 @@ splitting_quiet _ acc = refl
 storing_quiet : {V : Type 0} (a : Access) (address : ℕ) (x : Word) (acc : Account V) → Quietly acc (storing 2 a address x acc)
 storing_quiet a address x acc =
     let after = record acc { heap = record { blocks = with_writes acc.heap.blocks (bytes_on address (little_bytes (2 ^ a.grain) (bits_of x))) } } in
-    if_quiet acc (has_type a.word x && is_reached 2 a address && is_some (find (is_inside address (2 ^ a.grain)) acc.heap.blocks)) (stay after) (Stuck acc) refl refl
+    if_quiet acc (has_type a.word x && is_ranged x && is_reached 2 a address && is_some (find (is_inside address (2 ^ a.grain)) acc.heap.blocks)) (stay after) (Stuck acc) refl refl
 
-loaded_quiet : {V : Type 0} (f : Form) (x : Option Word) (acc : Account V) → Quietly acc (loaded 2 f x acc)
-loaded_quiet f None acc = failing_quiet Word f trap.Pointer acc
-loaded_quiet f (Some x) acc = refl
+loaded_quiet : {V : Type 0} (f : Form) (a : Access) (x : Option ℕ) (acc : Account V) → Quietly acc (loaded 2 f a x acc)
+loaded_quiet f a None acc = failing_quiet Word f trap.Pointer acc
+loaded_quiet f a (Some x) acc = if_quiet acc (nat_lt x (256 ^ 2 ^ a.grain)) (gives (memory.word_read 2 a x) acc) (Stuck acc) refl refl
 
 store_quiet : (a : Access) (o : ArchitectureSize) (ds : List (Datum PlainItem)) (acc : Account PlainItem) → Quietly acc (store_word a o ds acc)
 store_quiet a o (word x ∷ word (core.Pointer q) ∷ []) acc = then_quiet acc (storing 2 a (q + bytes_at o 4) x acc) (λ u. []) (storing_quiet a (q + bytes_at o 4) x acc)
@@ -129,8 +129,8 @@ store_quiet a o _ acc = refl
 load_quiet : (a : Access) (o : ArchitectureSize) (f : Form) (ds : List (Datum PlainItem)) (acc : Account PlainItem) → Quietly acc (load_word a o f ds acc)
 load_quiet a o f (word (core.Pointer q) ∷ []) acc =
     let at = q + bytes_at o 4 in
-    let read : Option Word = if is_aligned a at then option_map (λ bytes. memory.word_read 2 a (little bytes)) (memory.bytes_at at (2 ^ a.grain) acc.heap.blocks) else None in
-    then_quiet acc (loaded 2 f read acc) (λ x. word x ∷ []) (loaded_quiet f read acc)
+    let read : Option ℕ = if is_aligned a at then option_map little (memory.bytes_at at (2 ^ a.grain) acc.heap.blocks) else None in
+    then_quiet acc (loaded 2 f a read acc) (λ x. word x ∷ []) (loaded_quiet f a read acc)
 load_quiet a o f _ acc = refl
 
 freed_quiet : {V : Type 0} (f : Form) (address size : ℕ) (b : Option Block) (acc : Account V) → Quietly acc (freed f address size b acc)
@@ -227,6 +227,7 @@ module _ (st : Step) (k : ℕ) (old new : PlainBindgen) (adds : AddsStep st k ol
     arguments = refl;
     knows = λ types h. subst (λ sizes. IsFilledFor sizes types) (sym adds.sizes) h;
     target = λ f. ap₂ (λ import home. if import then target.Core home f.name.wit else target.Method home f.name.snake) adds.import adds.home;
+    crosses = λ w f. refl;
     opened = refl;
     known = λ w facts s h. still_right old new s s facts (omega (arith, adds.count)) (λ n l. refl) (λ n. refl) h;
   }

@@ -1,6 +1,5 @@
 -- The arguments of an export: words that are lifted, or a record that is loaded and then freed.
-use Rattle.std.proofs.Common.{◌≡◌, ◌⊎◌, ◌≤◌, ◌<◌, ℕ, zero, suc, ◌+◌, ◌-◌, ◌*◌, ◌%◌, ◌^◌, ◌||◌, Bool, true, false, nat_eq, nat_lt, if◌then◌else◌, MatchBool, List, [], ◌∷◌, ◌++◌, length, find, Option, None, Some, Contains, refl, sym, ap, ap₂, ◌∙◌, subst, arith, append-nil}
-use Rattle.std.specs.List.{list_any}
+use Rattle.std.proofs.Common.{◌≡◌, ◌⊎◌, ◌<◌, ℕ, zero, suc, ◌+◌, ◌-◌, ◌%◌, ◌^◌, ◌||◌, Bool, true, false, nat_eq, nat_lt, if◌then◌else◌, MatchBool, List, [], ◌∷◌, ◌++◌, length, find, None, Some, Contains, refl, sym, ap, ◌∙◌, subst, arith, append-nil}
 use mathlib.Core.Logic.{inl, inr}
 use Rattle.std.proofs.lemmas.Bool.{cond-false, eq-eqb, eqb-true, le-ltb, or_from, or_left, or_parts, or_right, true≢false}
 use Rattle.std.proofs.lemmas.List.{length-map}
@@ -21,7 +20,7 @@ use Rattle.wrapper_meaning.specs.Direction.{take}
 use Rattle.wrapper_meaning.specs.InRange.{AreListed}
 use Rattle.wrapper_meaning.specs.Items.{SameItems, total}
 use Rattle.wrapper_meaning.specs.Layout.{layout, layouts}
-use Rattle.wrapper_meaning.specs.Represents.{Begins, TakesArguments, TakesRecord, are_indirect}
+use Rattle.wrapper_meaning.specs.Represents.{Begins, TakesRecord, are_indirect}
 use Rattle.wrapper_meaning.specs.Settled.{all_settled}
 use Rattle.wrapper_meaning.specs.Shape.{Shapes}
 use Rattle.wrapper_meaning.specs.Shape.Shape.{fields}
@@ -29,13 +28,13 @@ use Rattle.wrapper_meaning.specs.Value.{Parts}
 use Rattle.wrapper_meaning.proofs.Lists.{some_same}
 use Rattle.wrapper_meaning.proofs.PartPlaces.{parts_end}
 use Rattle.abi_driver.specs.Account.{Account, Done, Got, Outcome, Peer, addresses, failing, is_at, is_taken, stay}
-use Rattle.abi_driver.specs.Exports.{FreesArguments, TakesArgumentsOver, TakesRecordOver, TookOver}
+use Rattle.abi_driver.specs.Exports.{TakesArgumentsOver, TakesRecordOver, TookOver}
 use Rattle.abi_driver.specs.Frees.{nowhere}
-use Rattle.abi_driver.specs.Laws.{Adds, After, At, Facts, Sound, args, core_data, item_data, ofs}
-use Rattle.abi_driver.specs.Lifts.{AreFree, LiftsArguments, MayTake, by_taking, took}
+use Rattle.abi_driver.specs.Laws.{Adds, At, Facts, Sound, args, core_data, item_data, ofs}
+use Rattle.abi_driver.specs.Lifts.{AreFree, LiftsArguments, MayTake, took}
 use Rattle.abi_driver.specs.Meaning.{Meaning, arg, item, of, word}
 use Rattle.abi_driver.specs.Memory.{except, freed, freeing}
-use Rattle.abi_driver.specs.Parts.{PartsStand, count}
+use Rattle.abi_driver.specs.Parts.{PartsStand}
 use Rattle.abi_driver.specs.Places.{HavePlaces}
 use Rattle.abi_driver.specs.Touches.{reached}
 use Rattle.abi_driver.proofs.Done.{does_done}

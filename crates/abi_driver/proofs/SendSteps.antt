@@ -1,12 +1,13 @@
 -- Steps that are sent follow one another.
-use Rattle.std.proofs.Common.{◌≡◌, ℕ, zero, suc, ◌+◌, ◌<◌, ◌≤◌, List, [], ◌∷◌, ◌++◌, length, map, take, get_or, refl, sym, ap, ◌∙◌, subst, arith, append-nil, append_assoc}
+use Rattle.std.proofs.Common.{◌≡◌, ℕ, suc, ◌+◌, ◌<◌, ◌≤◌, List, [], ◌∷◌, ◌++◌, length, map, take, get_or, refl, sym, ap, ◌∙◌, subst, arith, append-nil, append_assoc}
 use Rattle.std.proofs.lemmas.List.{length-take-le, take_all, take_more}
 use Rattle.wit_model.specs.declared.types.TypeDef.{TypeDef}
 use Rattle.abi_driver.specs.declared.instruction.Instruction.{Instruction}
-use Rattle.abi_driver.specs.Code.{Sent, asks, each, sends}
+use Rattle.abi_driver.specs.Code.{each}
 use Rattle.abi_driver.specs.Instructions.{Emits}
 use Rattle.abi_driver.specs.Meaning.{Meaning}
 use Rattle.abi_driver.specs.Sends.{Sends}
+use Rattle.abi_driver.specs.Sent.{Sent, asks, sends}
 
 pub each_last : {A : Type 0} (f : ℕ → A → List Sent) (k : ℕ) (xs : List A) (x : A) → each f k (xs ++ x ∷ []) ≡ each f k xs ++ f (k + length xs) x
 each_last f k [] x = append-nil (f k x) ∙ ap (λ n. f n x) (omega arith)

@@ -1,6 +1,6 @@
 -- What storing and loading a word do in a block of a well-formed heap.
-use Rattle.std.proofs.Common.{◌≡◌, ◌⊎◌, ℕ, suc, ◌+◌, ◌-◌, ◌*◌, ◌%◌, ◌^◌, ◌<◌, ◌≤◌, true, ◌&&◌, nat_eq, nat_le, List, [], ◌∷◌, length, find, Option, None, Some, option_map, option_and_then, is_some, Contains, refl, sym, ap, ◌∙◌, subst, arith, pow_pos}
-use Rattle.std.proofs.lemmas.Bool.{and_parts, and_from, cond-true, eq-eqb, eqb-true, le-leb, leb-true}
+use Rattle.std.proofs.Common.{◌≡◌, ◌⊎◌, ℕ, suc, ◌+◌, ◌-◌, ◌*◌, ◌%◌, ◌^◌, ◌<◌, ◌≤◌, true, ◌&&◌, nat_eq, nat_le, nat_lt, List, [], ◌∷◌, length, find, Option, Some, option_map, option_and_then, is_some, Contains, refl, sym, ap, ◌∙◌, subst, arith, pow_pos}
+use Rattle.std.proofs.lemmas.Bool.{and_parts, and_from, cond-true, eq-eqb, eqb-true, le-leb, leb-true, lt-ltb}
 use Rattle.std.proofs.lemmas.Nat.{mod_below}
 use Rattle.std.proofs.Math.Nat.{pow-le-pow_right}
 use mathlib.Core.Logic.{inl, inr}
@@ -12,7 +12,7 @@ use Rattle.wrapper_data.specs.declared.word.Word.{Word}
 use Rattle.wrapper_meaning.specs.Cells.{HasNumber, bytes_from, little}
 use Rattle.wrapper_meaning.specs.Words.{bits_of}
 use Rattle.abi_driver.specs.Account.{Account, Done, Got, Outcome, has_type, is_at}
-use Rattle.abi_driver.specs.Memory.{Access, bytes_at, bytes_on, is_aligned, is_inside, is_reached, little_bytes, loaded, loading, storing, word_read}
+use Rattle.abi_driver.specs.Memory.{Access, bytes_at, bytes_on, is_aligned, is_inside, is_ranged, is_reached, little_bytes, loaded, loading, storing, word_read}
 use Rattle.abi_driver.specs.Places.{IsWritten, SameOutside, replaced}
 use Rattle.abi_driver.proofs.Bytes.{length-little_bytes, little-little_bytes, some_numbers}
 use Rattle.abi_driver.proofs.CellWrites.{none_read, put, put_before, put_behind, put_here, put_in_order, read_both, with_cell_is_put}
@@ -145,9 +145,9 @@ StoresIn w a address x b k acc =
     (after : Block) × (storing w a address x acc ≡ Done (record { result = tt; account = stored_in after acc })) × IsWritten k (2 ^ a.grain) b after × HasNumber after k (2 ^ a.grain) (bits_of x % 256 ^ (2 ^ a.grain))
 
 -- by the place in the block
-stores_here : {V : Type 0} (w : ℕ) (a : Access) (x : Word) (b : Block) (k : ℕ) (acc : Account V) → is_heap acc.heap ≡ true → Contains acc.heap.blocks b → k + 2 ^ a.grain ≤ b.size → (b.address + k) % 2 ^ a.grain ≡ 0 → 2 ≤ w → has_type a.word x ≡ true
+stores_here : {V : Type 0} (w : ℕ) (a : Access) (x : Word) (b : Block) (k : ℕ) (acc : Account V) → is_heap acc.heap ≡ true → Contains acc.heap.blocks b → k + 2 ^ a.grain ≤ b.size → (b.address + k) % 2 ^ a.grain ≡ 0 → 2 ≤ w → has_type a.word x ≡ true → is_ranged x ≡ true
     → StoresIn w a (b.address + k) x b k acc
-stores_here {V} w a x b k acc formed there room aligned wide typed =
+stores_here {V} w a x b k acc formed there room aligned wide typed ranged =
     let n = 2 ^ a.grain in
     let blocks = acc.heap.blocks in
     let bytes = little_bytes n (bits_of x) in
@@ -155,23 +155,19 @@ stores_here {V} w a x b k acc formed there room aligned wide typed =
     let all = bytes_written bytes blocks b k formed there (omega (arith, many, room)) in
     let good = block_formed blocks b formed there in
     let there_found : is_some (find (is_inside (b.address + k) n) blocks) ≡ true = ap is_some (find_inside blocks b k n formed there (pow_pos a.grain) room) in
-    let may : (has_type a.word x && is_reached w a (b.address + k) && is_some (find (is_inside (b.address + k) n) blocks)) ≡ true = and_from _ _ (and_from _ _ typed (in_reach w a b k good room aligned wide)) there_found in
+    let may : (has_type a.word x && is_ranged x && is_reached w a (b.address + k) && is_some (find (is_inside (b.address + k) n) blocks)) ≡ true = and_from _ _ (and_from _ _ (and_from _ _ typed ranged) (in_reach w a b k good room aligned wide)) there_found in
     let finish : List Block → Outcome V (Got V (Unit {0})) = λ bs. Done (record { result = tt; account = record acc { heap = record { blocks = bs } } }) in
     let read : bytes_from all.after.cells k n ≡ Some bytes = ap (bytes_from all.after.cells k) (sym many) ∙ all.read in (
       all.after,
-      cond-true (has_type a.word x && is_reached w a (b.address + k) && is_some (find (is_inside (b.address + k) n) blocks)) _ _ may ∙ ap finish all.now,
+      cond-true (has_type a.word x && is_ranged x && is_reached w a (b.address + k) && is_some (find (is_inside (b.address + k) n) blocks)) _ _ may ∙ ap finish all.now,
       subst (λ m. IsWritten k m b all.after) many all.written,
       (mod_below (bits_of x) (256 ^ n) (some_numbers n), ap (λ o. option_map little o) read ∙ ap Some (little-little_bytes n (bits_of x))),
     )
 
-pub stores_in : {V : Type 0} (w : ℕ) (a : Access) (address : ℕ) (x : Word) (b : Block) (k : ℕ) (acc : Account V) → is_heap acc.heap ≡ true → Contains acc.heap.blocks b → address ≡ b.address + k → k + 2 ^ a.grain ≤ b.size → address % 2 ^ a.grain ≡ 0 → 2 ≤ w → has_type a.word x ≡ true
+pub stores_in : {V : Type 0} (w : ℕ) (a : Access) (address : ℕ) (x : Word) (b : Block) (k : ℕ) (acc : Account V) → is_heap acc.heap ≡ true → Contains acc.heap.blocks b → address ≡ b.address + k → k + 2 ^ a.grain ≤ b.size → address % 2 ^ a.grain ≡ 0 → 2 ≤ w → has_type a.word x ≡ true → is_ranged x ≡ true
     → StoresIn w a address x b k acc
-stores_in w a address x b k acc formed there at room aligned wide typed =
-    subst (λ p. StoresIn w a p x b k acc) (sym at) (stores_here w a x b k acc formed there room (ap (λ p. p % 2 ^ a.grain) (sym at) ∙ aligned) wide typed)
-
-map_both : {A B C : Type 0} (f : A → B) (g : B → C) (o : Option A) (y : B) → option_map f o ≡ Some y → option_map (λ x. g (f x)) o ≡ Some (g y)
-map_both f g None y e = absurd (let h = e in cc)
-map_both f g (Some x) y e = ap (option_map g) e
+stores_in w a address x b k acc formed there at room aligned wide typed ranged =
+    subst (λ p. StoresIn w a p x b k acc) (sym at) (stores_here w a x b k acc formed there room (ap (λ p. p % 2 ^ a.grain) (sym at) ∙ aligned) wide typed ranged)
 
 pub loads_from : {V : Type 0} (w : ℕ) (f : Form) (a : Access) (address x : ℕ) (b : Block) (k : ℕ) (acc : Account V) → is_heap acc.heap ≡ true → Contains acc.heap.blocks b → address ≡ b.address + k → k + 2 ^ a.grain ≤ b.size → address % 2 ^ a.grain ≡ 0 → 2 ≤ w → HasNumber b k (2 ^ a.grain) x
     → loading w f a address acc ≡ Done (record { result = word_read w a x; account = acc })
@@ -181,5 +177,6 @@ loads_from {V} w f a address x b k acc formed there at room aligned wide number 
     let may : is_aligned a (b.address + k) ≡ true = eq-eqb ((b.address + k) % n) 0 (ap (λ p. p % n) (sym at) ∙ aligned) in
     let offset : b.address + k - b.address ≡ k = omega arith in
     let read : bytes_at (b.address + k) n blocks ≡ bytes_from b.cells k n = ap (λ o. option_and_then (λ c. bytes_from c.cells (b.address + k - c.address) n) o) (find_inside blocks b k n formed there (pow_pos a.grain) room) ∙ ap (λ j. bytes_from b.cells j n) offset in
-    let finish : Option Word → Outcome V (Got V Word) = λ o. loaded w f o acc in
-    ap (λ p. loading w f a p acc) at ∙ ap finish (cond-true (is_aligned a (b.address + k)) _ _ may ∙ ap (option_map (λ bytes. word_read w a (little bytes))) read ∙ map_both little (word_read w a) (bytes_from b.cells k n) x number.1)
+    let finish : Option ℕ → Outcome V (Got V Word) = λ o. loaded w f a o acc in
+    ap (λ p. loading w f a p acc) at ∙ ap finish (cond-true (is_aligned a (b.address + k)) _ _ may ∙ ap (option_map little) read ∙ number.1)
+    ∙ cond-true (nat_lt x (256 ^ n)) _ _ (lt-ltb x (256 ^ n) number.0)

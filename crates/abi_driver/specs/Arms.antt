@@ -9,7 +9,7 @@ use Rattle.wrapper_data.specs.declared.word.Word.TheVariants as core
 use Rattle.abi_driver.specs.Account.{Act, Done, Follows, Outcome, Peer, Stuck, failing, gives, then_do}
 use Rattle.abi_driver.specs.Blocks.{owned_datum}
 use Rattle.abi_driver.specs.Laws.{At, Data, Facts, ofs}
-use Rattle.abi_driver.specs.Meaning.{Ended, Meaning, item, of, with_nothing, word}
+use Rattle.abi_driver.specs.Meaning.{Ended, Meaning, item, with_nothing, word}
 use Rattle.abi_driver.specs.Turns.{Arrives, Moved, Went}
 
 -- 1. Which arm

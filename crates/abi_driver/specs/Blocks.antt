@@ -65,6 +65,7 @@ module _ {Self Operand : Type 0} (m : Meaning Self Operand) where
     pub arguments : m.arguments new ≡ m.arguments old
     pub knows : (types : List TypeDef) → m.knows old types → m.knows new types
     pub target : (f : Function) → m.target new f ≡ m.target old f
+    pub crosses : (w : m.World) (f : Function) → m.crosses w new f ≡ m.crosses w old f
     pub known : (w : m.World) (facts : Facts m) (s : m.State) → m.denotes w old facts s → m.denotes w new facts s
     pub asked : m.asked new ≡ m.asked old
     pub returned : m.returned new ≡ m.returned old

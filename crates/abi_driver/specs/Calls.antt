@@ -15,7 +15,7 @@ use Rattle.wrapper_meaning.specs.Direction.{give, take}
 use Rattle.wrapper_meaning.specs.InRange.{AreListed, IsListed}
 use Rattle.wrapper_meaning.specs.Items.{SameItems}
 use Rattle.wrapper_meaning.specs.Settled.{all_settled}
-use Rattle.wrapper_meaning.specs.Shape.{Shape, param_shapes, result_shape}
+use Rattle.wrapper_meaning.specs.Shape.{Shape, Shapes}
 use Rattle.wrapper_meaning.specs.Value.{Parts, Value}
 use Rattle.abi_driver.specs.declared.instruction.Instruction.{Instruction}
 use Rattle.abi_driver.specs.declared.instruction.Instruction.TheVariants.{CallInterface, CallWasm, Return}
@@ -109,17 +109,15 @@ module _ {Self Operand : Type 0} (m : Meaning Self Operand) where
   abbrev pub HandsOver : Function → (os rs : List Operand) → (old new : Self) → Type 0
   HandsOver f os rs old new =
       (vals : List m.Item) (w : m.World) (p : Peer m.Item) (others : Facts m) (s0 s : m.State) → length vals ≡ length os → At m w p old new (ofs m os (item_data m vals) ++ others) s0 s → SameItems (m.owns s) (flat_map m.owned vals) →
-      Follows m.account (handing m.owned (m.crosses w new f) (m.target old f) vals (result_count f) p.reply (m.account s)) (m.does w p (m.code new) s0)
+      Follows m.account (handing m.owned (m.crosses w old f) (m.target old f) vals (result_count f) p.reply (m.account s)) (m.does w p (m.code new) s0)
       (λ x t. (m.account t ≡ x.account) × SameItems (m.owns t) (flat_map m.owned x.result) × m.denotes w new (ofs m rs (item_data m x.result)) t)
 
-  pub record CallsMethod (types : List TypeDef) (f : Function) (os rs : List Operand) (old new : Self) : Type 0 where
-    pub row : HandsOver f os rs old new
+  -- where the code stands in this whole, values of these shapes cross the call of the method as they are. The code can't know that: the whole has the method
+  pub record CrossesAsItIs (w : m.World) (b : Self) (f : Function) (ts : Shapes) (r : Option Shape) : Type 0 where
     -- what stands for what is handed on of values of its parameters, is passed as it is
-    pub passes : (w : m.World) (us : Parts (param_shapes types f)) (vals : List m.Item) (own : List Block) → m.serves w new → AreListed (param_shapes types f) us
-        → PartsStand m take (param_shapes types f) (all_settled (param_shapes types f) us) vals own → (m.crosses w new f).passes vals ≡ Some vals
+    pub passes : (us : Parts ts) (vals : List m.Item) (own : List Block) → AreListed ts us → PartsStand m take ts (all_settled ts us) vals own → (m.crosses w b f).passes vals ≡ Some vals
     -- what stands for a value of its result comes in, and stands for it with the same blocks
-    pub receives : (w : m.World) (t : Shape) (v : Value t) (a : m.Item) (own : List Block) → m.serves w new → result_shape types f ≡ Some t → IsListed t v → m.stands give t v a own
-        → (b : m.Item) × ((m.crosses w new f).receives a ≡ Some b) × m.stands give t v b own
+    pub receives : (t : Shape) (v : Value t) (a : m.Item) (own : List Block) → r ≡ Some t → IsListed t v → m.stands give t v a own → (c : m.Item) × ((m.crosses w b f).receives a ≡ Some c) × m.stands give t v c own
 
   -- new operands denote what the operands did
   abbrev pub Renames : (os rs : List Operand) → (old new : Self) → Type 0

@@ -22,7 +22,7 @@ use Rattle.abi_driver.specs.Account.{Act, Follows, Peer, Stuck, failing, stay}
 use Rattle.abi_driver.specs.Arms.{Matches, arm, arms, gives_any, gives_payload}
 use Rattle.abi_driver.specs.Blocks.{owned_datum}
 use Rattle.abi_driver.specs.Laws.{At, Data, Does, Facts, Stays, ofs}
-use Rattle.abi_driver.specs.Meaning.{Bound, Meaning, item, of, with_nothing, with_payload, word}
+use Rattle.abi_driver.specs.Meaning.{Bound, Meaning, item, with_nothing, with_payload, word}
 use Rattle.abi_driver.specs.Parts.{count}
 use Rattle.abi_driver.specs.Turns.{Arrives, Moved}
 

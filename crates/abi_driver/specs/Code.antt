@@ -1,6 +1,6 @@
 -- Which instructions are sent for a type and for a function, and in which order. Of types that the driver answers an error on there are none.
 use Rattle.std.specs.Borrow.{Bor}
-use Rattle.std.specs.Prelude.{ℕ, suc, ◌+◌, Bool, true, false, if◌then◌else◌, List, [], ◌∷◌, ◌++◌, length, map, Option, None, Some, option_map, option_to_list, slice_index, slice_index_or}
+use Rattle.std.specs.Prelude.{ℕ, suc, ◌+◌, Bool, true, false, if◌then◌else◌, List, [], ◌∷◌, ◌++◌, length, map, Option, None, Some, option_to_list, slice_index, slice_index_or}
 use Rattle.wit_model.specs.Size.{paired}
 use Rattle.wit_model.specs.declared.function.Function.{Function}
 use Rattle.wit_model.specs.declared.size.ArchitectureSize.{ArchitectureSize}
@@ -20,17 +20,12 @@ use Rattle.wrapper_meaning.specs.Layout.{layout}
 use Rattle.wrapper_meaning.specs.Represents.{are_indirect, is_indirect, result_words}
 use Rattle.wrapper_meaning.specs.Shape.{Shape, result_shape, shape_of}
 use Rattle.wrapper_meaning.specs.Shape.Shape.{fields}
-use Rattle.abi_driver.specs.declared.bindgen.Asked.{Asked}
 use Rattle.abi_driver.specs.declared.instruction.Instruction.{Instruction}
 use Rattle.abi_driver.specs.declared.instruction.Instruction.TheVariants.{CallInterface, CallWasm, Flush, GetArg, GuestDeallocate, GuestDeallocateString, LengthLoad, LengthStore, PointerLoad, PointerStore, RecordLift, RecordLower, Return, StringLift, StringLower, TupleLift, TupleLower}
 use Rattle.abi_driver.specs.Frees.{nowhere}
 use Rattle.abi_driver.specs.Instructions.{lifting, lowering, shapes_of}
 use Rattle.abi_driver.specs.ScalarTouches.{scalar_load, scalar_store}
-
--- an instruction is sent, or the area is asked for
-pub data Sent : Type 0 where
-  sends : Instruction → Sent
-  asks : Asked → Sent
+use Rattle.abi_driver.specs.Sent.{Sent, asks, sends}
 
 -- the instruction for a scalar; none elsewhere
 abbrev pub sent : Option Instruction → List Sent

@@ -5,7 +5,7 @@ use Rattle.wrapper_data.specs.declared.form.Form.{Form}
 use Rattle.wrapper_data.specs.declared.word.Word.TheVariants as core
 use Rattle.abi_driver.specs.Account.{Account, Act, Done, Follows, Got, Outcome, Peer, then_do}
 use Rattle.abi_driver.specs.Laws.{At, Data, Facts, ofs}
-use Rattle.abi_driver.specs.Meaning.{Bound, Meaning, item, of, word}
+use Rattle.abi_driver.specs.Meaning.{Bound, Meaning, item, word}
 use Rattle.abi_driver.specs.Memory.{freeing}
 use Rattle.abi_driver.specs.Requested.{allotting_for, rooming}
 use Rattle.abi_driver.specs.Turns.{Arrives, Moved, PutsBy, Run, Went, gathers, places, turns}

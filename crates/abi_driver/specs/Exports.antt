@@ -31,7 +31,7 @@ use Rattle.abi_driver.specs.declared.bindgen.Asked.{Asked}
 use Rattle.abi_driver.specs.declared.instruction.Instruction.TheVariants.{Flush, GetArg, GuestDeallocate}
 use Rattle.abi_driver.specs.Account.{Account, Act, Call, Done, Follows, Got, Peer, Reply, account_in, addresses, gives, then_do, value}
 use Rattle.abi_driver.specs.Area.{AreFor, AreaStands, pointing}
-use Rattle.abi_driver.specs.Calls.{recorded}
+use Rattle.abi_driver.specs.Calls.{CrossesAsItIs, recorded}
 use Rattle.abi_driver.specs.Frees.{nowhere}
 use Rattle.abi_driver.specs.Imports.{Points, ResultStands}
 use Rattle.abi_driver.specs.Instructions.{Emits}
@@ -204,5 +204,6 @@ module _ {Self Operand : Type 0} (m : Meaning Self Operand) where
     pub records : List Asked
     pub for : AreFor (result_record r) records
     pub asked : m.asked new ≡ m.asked old ++ records
-    pub row : (w : m.World) (p : Peer m.Item) (us : Parts ts) (ws : List Word) (blocks : List Block) (others : Facts m) (s0 s : m.State) → Received w p ts us ws blocks old new others s0 s
+    -- where values of the function cross its call as they are
+    pub row : (w : m.World) (p : Peer m.Item) (us : Parts ts) (ws : List Word) (blocks : List Block) (others : Facts m) (s0 s : m.State) → CrossesAsItIs m w old f ts r → Received w p ts us ws blocks old new others s0 s
         → HandsOn w p (m.target old f) ts us r blocks new s0 s

@@ -10,11 +10,11 @@ use Rattle.wrapper_meaning.specs.Shape.{Shape}
 use Rattle.wrapper_meaning.specs.Shape.Shape.{fixed}
 use Rattle.wrapper_meaning.specs.StandsFor.{EachStands}
 use Rattle.wrapper_meaning.specs.Value.{Value}
-use Rattle.abi_driver.specs.Account.{Account, Done, Follows, Outcome, Peer, then_do}
+use Rattle.abi_driver.specs.Account.{Done, Follows, Outcome, Peer, then_do}
 use Rattle.abi_driver.specs.Laws.{At, Facts, Stays, item_data, ofs}
 use Rattle.abi_driver.specs.Leaves.{IsSide, way}
 use Rattle.abi_driver.specs.Lists.{one_more}
-use Rattle.abi_driver.specs.Meaning.{Bound, Meaning, item, of, word}
+use Rattle.abi_driver.specs.Meaning.{Bound, Meaning, item, word}
 use Rattle.abi_driver.specs.Turns.{Arrives, Moved, PutsBy, Run, Went, elements, gathers, places, turns}
 
 module _ {Self Operand : Type 0} (m : Meaning Self Operand) where

@@ -1,5 +1,5 @@
 -- What the instructions of handles do.
-use Rattle.std.specs.Prelude.{◌≡◌, ◌<◌, ℕ, ◌-◌, ◌^◌, ◌||◌, Bool, true, false, nat_eq, if◌then◌else◌, List, [], ◌∷◌}
+use Rattle.std.specs.Prelude.{◌≡◌, ℕ, ◌-◌, ◌^◌, ◌||◌, Bool, true, false, nat_eq, if◌then◌else◌, List, [], ◌∷◌}
 use Rattle.wrapper_data.specs.declared.block.Block.{Block}
 use Rattle.wrapper_data.specs.declared.form.Form.{Form}
 use Rattle.wrapper_data.specs.declared.run.TrapKind.TheVariants as trap
@@ -11,7 +11,6 @@ use Rattle.wrapper_meaning.specs.InRange.{IsListed}
 use Rattle.wrapper_meaning.specs.Numbers.{low_bits}
 use Rattle.wrapper_meaning.specs.Shape.{Shape}
 use Rattle.wrapper_meaning.specs.Shape.Shape.{handle}
-use Rattle.wrapper_meaning.specs.Value.{Value}
 use Rattle.abi_driver.specs.Account.{Act, Stuck, failing, stay}
 use Rattle.abi_driver.specs.Laws.{Does, Stays, ofs}
 use Rattle.abi_driver.specs.Meaning.{Meaning, item, word}

@@ -23,7 +23,7 @@ use Rattle.abi_driver.specs.declared.instruction.Instruction.{Instruction}
 use Rattle.abi_driver.specs.declared.instruction.Instruction.TheVariants.{CallInterface, CallWasm, Flush, Return, GetArg, I32FromBool, I32FromU8, I32FromS8, I32FromU16, I32FromS16, I32FromU32, I32FromS32, I32FromChar, I64FromU64, I64FromS64, CoreF32FromF32, CoreF64FromF64, BoolFromI32, U8FromI32, S8FromI32, U16FromI32, S16FromI32, U32FromI32, S32FromI32, CharFromI32, U64FromI64, S64FromI64, F32FromCoreF32, F64FromCoreF64, StringLower, StringLift, RecordLower, RecordLift, TupleLower, TupleLift, GuestDeallocate, GuestDeallocateString, I32Const, ConstZero, Bitcasts, FlagsLower, FlagsLift, HandleLower, HandleLift, VariantPayloadName, IterElem, IterMapKey, IterMapValue, IterBasePointer, VariantLower, OptionLower, ResultLower, EnumLower, VariantLift, OptionLift, ResultLift, EnumLift, ListCanonLower, ListCanonLift, ListLower, ListLift, MapLower, MapLift, FixedLengthListLower, FixedLengthListLift, FixedLengthListLowerToMemory, FixedLengthListLiftFromMemory, GuestDeallocateVariant, GuestDeallocateList, GuestDeallocateMap, GuestDeallocateFixed}
 use Rattle.abi_driver.specs.Arms.{FreesCase, serves_none, serves_others}
 use Rattle.abi_driver.specs.Blocks.{AreFinished, IsOpen, ReadsName}
-use Rattle.abi_driver.specs.Calls.{CallsCore, CallsMethod, Ends, Renames, import_params, import_results, is_call, result_count, returned_by}
+use Rattle.abi_driver.specs.Calls.{CallsCore, Ends, HandsOver, Renames, import_params, import_results, is_call, result_count, returned_by}
 use Rattle.abi_driver.specs.Cases.{LiftsCase, LiftsEnum, LowersCase, LowersEnum, case_shapes, payload_counts, payloads_at}
 use Rattle.abi_driver.specs.Constants.{CastsWords, MakesNumber, MakesZeros}
 use Rattle.abi_driver.specs.Entries.{FreesEntries}
@@ -39,6 +39,7 @@ use Rattle.abi_driver.specs.Lists.{LiftsCanonical, LiftsList, LowersList}
 use Rattle.abi_driver.specs.Maps.{LiftsMap, LowersMap}
 use Rattle.abi_driver.specs.Meaning.{Datum, Meaning, arg, the_base, the_element, the_key, the_payload, the_value}
 use Rattle.abi_driver.specs.Parts.{LiftsParts, LowersParts, count}
+use Rattle.abi_driver.specs.Sent.{sends}
 use Rattle.abi_driver.specs.Touches.{RowOfTouch, Touch, touch, touch_makes, touch_reads}
 
 -- 1. Scalars
@@ -319,7 +320,7 @@ module _ {Self Operand : Type 0} (m : Meaning Self Operand) where
   abbrev pub RowOther : List TypeDef → Instruction → (os rs : List Operand) → (old new : Self) → Type 0
   RowOther types (GetArg n) os rs old new = (d : Datum m.Item) → Stays m old new (arg n d ∷ []) (λ fs. fs ≡ ofs m rs (d ∷ []))
   RowOther types (CallWasm f) os rs old new = CallsCore m types f.now os rs old new
-  RowOther types (CallInterface f) os rs old new = CallsMethod m types f.now os rs old new
+  RowOther types (CallInterface f) os rs old new = HandsOver m f.now os rs old new
   RowOther types (Flush n) os rs old new = Renames m os rs old new
   RowOther types (Return n) os rs old new = Ends m os old new
   RowOther types (StringLower realloc) os rs old new = LowersText m realloc os rs old new
@@ -390,4 +391,5 @@ module _ {Self Operand : Type 0} (m : Meaning Self Operand) where
     pub returned : m.returned new ≡ returned_by i os (m.returned old)
     pub asked : m.asked new ≡ m.asked old
     pub results : Makes types i (length rs)
+    pub form : m.forms (sends i) os rs old new
     pub row : Row types i os rs old new

@@ -15,6 +15,7 @@ use Rattle.abi_driver.specs.declared.bindgen.Asked.{Asked}
 use Rattle.abi_driver.specs.Account.{Account, Act, Done, Follows, Got, Peer, Stops, account_in, addresses, stay}
 use Rattle.abi_driver.specs.Area.{HoldsRecord, MayStand, newly, pointing}
 use Rattle.abi_driver.specs.Meaning.{Datum, Fact, Meaning, Name, arg, bound, item, of, word}
+use Rattle.abi_driver.specs.Sent.{asks}
 
 module _ {Self Operand : Type 0} (m : Meaning Self Operand) where
   abbrev pub Facts : Type 0
@@ -104,6 +105,7 @@ module _ {Self Operand : Type 0} (m : Meaning Self Operand) where
     pub arguments : m.arguments new ≡ m.arguments old
     pub knows : (types : List TypeDef) → m.knows old types → m.knows new types
     pub target : (f : Function) → m.target new f ≡ m.target old f
+    pub crosses : (w : m.World) (f : Function) → m.crosses w new f ≡ m.crosses w old f
     pub opened : m.opened new ≡ m.opened old
     -- what was known of a state is known of it still
     pub known : (w : m.World) (facts : Facts) (s : m.State) → m.denotes w old facts s → m.denotes w new facts s
@@ -153,6 +155,7 @@ module _ {Self Operand : Type 0} (m : Meaning Self Operand) where
     pub returned : m.returned new ≡ m.returned old
     pub asked : m.asked new ≡ m.asked old ++ a ∷ []
     pub blocks : m.blocks new ≡ m.blocks old
+    pub form : m.forms (asks a) [] (o ∷ []) old new
     pub row : (w : m.World) (f : Peer m.Item) (others : Facts) (s0 s : m.State) (at : Option ℕ) → At w f old new others s0 s → m.area_at s0 ≡ at → (at ≡ None → m.asked old ≡ [])
         → Follows m.account (pointing (m.area w) at (m.account s)) (m.does w f (m.code new) s0)
         (λ x t. After w new (of o (word (core.Pointer x.result)) ∷ others) (newly at x.result) [] s x t)

@@ -31,6 +31,7 @@ pub mod PlainSound
 pub mod Requested
 pub mod ScalarTouches
 pub mod Sends
+pub mod Sent
 pub mod Stores
 pub mod Touches
 pub mod Turns

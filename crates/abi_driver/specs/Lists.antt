@@ -19,7 +19,7 @@ use Rattle.abi_driver.specs.Account.{Act, Stuck, addresses, failing, gives, is_a
 use Rattle.abi_driver.specs.Entries.{FillsBlock, ReadsBlock}
 use Rattle.abi_driver.specs.Laws.{Data, Does, ofs}
 use Rattle.abi_driver.specs.Leaves.{way}
-use Rattle.abi_driver.specs.Meaning.{Meaning, item, of, word}
+use Rattle.abi_driver.specs.Meaning.{Meaning, item, word}
 use Rattle.abi_driver.specs.Turns.{elements}
 
 -- 1. A list that lies in memory as it is

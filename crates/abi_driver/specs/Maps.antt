@@ -1,5 +1,5 @@
 -- What the instructions of maps do.
-use Rattle.std.specs.Prelude.{◌≡◌, Bool, true, false, not, nat_eq, if◌then◌else◌, List, [], ◌∷◌, ◌++◌, length, ℕ}
+use Rattle.std.specs.Prelude.{◌≡◌, Bool, not, nat_eq, if◌then◌else◌, List, [], ◌∷◌, ◌++◌, length, ℕ}
 use Rattle.std.specs.List.{flat_map}
 use Rattle.wrapper_data.specs.declared.block.Block.{Block}
 use Rattle.wrapper_meaning.specs.Buffer.{Both}

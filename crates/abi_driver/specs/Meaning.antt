@@ -11,6 +11,7 @@ use Rattle.wrapper_meaning.specs.Shape.{Shape}
 use Rattle.wrapper_meaning.specs.Value.{Value}
 use Rattle.abi_driver.specs.declared.bindgen.Asked.{Asked}
 use Rattle.abi_driver.specs.Account.{Account, Crossing, Outcome, Peer}
+use Rattle.abi_driver.specs.Sent.{Sent}
 
 -- a core word, or a value of the code's own side
 pub data Datum (V : Type 0) : Type 0 where
@@ -98,3 +99,5 @@ pub record Meaning (Self Operand : Type 0) : Type 1 where
   pub asked : Self → List Asked
   -- what the code gives, once it was told
   pub returned : Self → Option (List Operand)
+  -- which code a step became, with these operands and results: what is promised of its form, beside what it does
+  pub forms : Sent → (operands results : List Operand) → (old new : Self) → Type 0

@@ -9,6 +9,7 @@ use Rattle.wrapper_data.specs.declared.run.TrapKind.TheVariants as trap
 use Rattle.wrapper_data.specs.declared.word.Word.{Word}
 use Rattle.wrapper_data.specs.declared.word.Word.TheVariants as core
 use Rattle.wrapper_meaning.specs.Cells.{bytes_from, little}
+use Rattle.wrapper_meaning.specs.Numbers.{is_signed}
 use Rattle.wrapper_meaning.specs.Words.{bits_of, word_of_bits}
 use Rattle.abi_driver.specs.Account.{Act, Stuck, failing, gives, has_type, is_at, is_taken, stay}
 
@@ -52,6 +53,12 @@ with_sign zero x = core.I32 (cast_signed w8 x)
 with_sign (suc zero) x = core.I32 (cast_signed w16 x)
 with_sign _ x = core.I32 (cast_signed w32 x)
 
+-- a whole number that has as many bits as its word
+abbrev pub is_ranged : Word → Bool
+is_ranged (core.I32 z) = is_signed 31 z
+is_ranged (core.I64 z) = is_signed 63 z
+is_ranged x = true
+
 abbrev pub is_aligned : Access → ℕ → Bool
 is_aligned a address = nat_eq (address % 2 ^ a.grain) 0
 
@@ -67,21 +74,21 @@ module _ (w : ℕ) where
 
   -- 3. Actions
 
-  -- a word is stored in a block. Elsewhere the code has no meaning
+  -- a word in its range is stored in a block. Elsewhere, and of another word, the code has no meaning
   abbrev pub storing : {V : Type 0} → Access → ℕ → Word → Act V (Unit {0})
   storing a address x acc =
-      if has_type a.word x && is_reached a address && is_some (find (is_inside address (2 ^ a.grain)) acc.heap.blocks) then
+      if has_type a.word x && is_ranged x && is_reached a address && is_some (find (is_inside address (2 ^ a.grain)) acc.heap.blocks) then
       stay (record acc { heap = record { blocks = with_writes acc.heap.blocks (bytes_on address (little_bytes (2 ^ a.grain) (bits_of x))) } })
       else Stuck acc
 
-  abbrev pub loaded : {V : Type 0} → Form → Option Word → Act V Word
-  loaded f None acc = failing f trap.Pointer acc
-  loaded f (Some x) acc = gives x acc
+  -- of cells that are no bytes the code has no meaning
+  abbrev pub loaded : {V : Type 0} → Form → Access → Option ℕ → Act V Word
+  loaded f a None acc = failing f trap.Pointer acc
+  loaded f a (Some x) acc = if nat_lt x (256 ^ 2 ^ a.grain) then gives (word_read a x) acc else Stuck acc
 
-  -- a word is loaded, which stands there
+  -- a word is loaded, whose number stands there
   abbrev pub loading : {V : Type 0} → Form → Access → ℕ → Act V Word
-  loading f a address acc =
-      loaded f (if is_aligned a address then option_map (λ bytes. word_read a (little bytes)) (bytes_at address (2 ^ a.grain) acc.heap.blocks) else None) acc
+  loading f a address acc = loaded f a (if is_aligned a address then option_map little (bytes_at address (2 ^ a.grain) acc.heap.blocks) else None) acc
 
 -- the blocks without the first that passes
 abbrev pub except : (Block → Bool) → List Block → List Block

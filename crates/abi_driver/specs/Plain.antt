@@ -368,6 +368,7 @@ plain_meaning = record {
   crosses = λ w b f. plainly;
   asked = λ b. b.asked;
   returned = λ b. b.returned;
+  forms = λ step os rs old new. Unit {0};
 }
 
 -- 5. A step is added

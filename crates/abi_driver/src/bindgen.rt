@@ -33,8 +33,9 @@ pub struct Asked {
 /// What makes code of instructions, after the trait `Bindgen` of wit-bindgen-core.
 ///
 /// What its code means is the ghost member `meaning`. The laws say what the code of each instruction does, so that a caller
-/// that knows no more than this trait knows what the code that it asked for does. A constructor ensures `IsNew`: without it
-/// the laws could be met by code that never runs. After an `Err` it is given up.
+/// that knows no more than this trait knows what the code that it asked for does. Besides, the code of each step has the form that
+/// `meaning.forms` promises, which is the implementation's own choice. A constructor ensures `IsNew`: without it the laws could be
+/// met by code that never runs. After an `Err` it is given up.
 pub trait Bindgen {
     /// What denotes a word or a value in the code.
     type Operand: Operand;

@@ -291,6 +291,7 @@ statement_emits types fn os old new imports len adds none = record {
   blocks = refl;
   returned = adds.stmts.returned;
   asked = adds.stmts.asked;
+  form = tt;
   results = sym (ap length none);
   row = statement_row types fn.now os old new imports len adds none;
 }
@@ -302,6 +303,7 @@ call_emits types fn os old new ty ret imports len adds one = record {
   blocks = refl;
   returned = adds.stmts.returned;
   asked = adds.stmts.asked;
+  form = tt;
   results = sym (ap length one);
   row = word_row types fn.now os old new imports len ty ret adds one;
 }

@@ -191,6 +191,7 @@ free_row types old new e f ok ok_f scope a =
       blocks = refl;
       returned = a.returned;
       asked = adds.asked;
+      form = tt;
       results = refl;
       row = λ address n.
           writes old new (stmt.Expr (text_freed e f)) (CabiDealloc ∷ []) a scope quiet (of (operand_of e) (word (core.Pointer address)) ∷ of (operand_of f) (word (core.Length n)) ∷ []) (λ p. freeing p.form address n)

@@ -1,6 +1,7 @@
 -- What the machine stores, loads and frees is what the laws say, where a pointer has four bytes.
 use Rattle.std.proofs.Common.{◌≡◌, ℕ, zero, suc, ◌+◌, ◌*◌, ◌/◌, ◌%◌, ◌^◌, ℤ, pos, negsuc, Bool, true, false, ◌&&◌, nat_eq, nat_le, if◌then◌else◌, List, [], ◌∷◌, Option, None, Some, find, is_some, refl, sym, ap, ap₂, ◌∙◌, arith}
-use Rattle.std.specs.Int.{byte_at, bytes_low_first, to_le_bytes, w32, w64}
+use Rattle.std.specs.Int.{byte_at, bytes_low_first, cast_unsigned, to_le_bytes, w32, w64}
+use Rattle.std.proofs.lemmas.Int.{ints}
 use native.Mathlib.Nat.{div-div-eq-div-mul, pow-suc}
 use Rattle.wit_model.specs.declared.wasm_type.WasmType.{WasmType}
 use Rattle.wit_model.specs.declared.wasm_type.WasmType.TheVariants as wasm
@@ -10,12 +11,12 @@ use Rattle.wrapper_data.specs.Answered.{with_writes}
 use Rattle.wrapper_data.specs.declared.block.Block.{Block}
 use Rattle.wrapper_data.specs.declared.word.Word.{Word}
 use Rattle.wrapper_data.specs.declared.word.Word.TheVariants as core
-use Rattle.wrapper_meaning.specs.Numbers.{low_bits}
+use Rattle.wrapper_meaning.specs.Numbers.{is_signed, low_bits}
 use Rattle.wrapper_values.specs.Effect.{is_word_of}
 use Rattle.wrapper_run.specs.Memory.{low_bytes, stored, stored_small, without, writes_from}
 use Rattle.wrapper_run.specs.Memory as machine
 use Rattle.abi_driver.specs.Account.{Account, Act, Got, Outcome, Stuck, is_at, stay}
-use Rattle.abi_driver.specs.Memory.{access, bytes_on, except, is_inside, little_bytes, storing}
+use Rattle.abi_driver.specs.Memory.{access, bytes_on, except, is_inside, is_ranged, little_bytes, storing}
 
 -- 1. Bytes
 
@@ -45,6 +46,20 @@ abbrev pub by_blocks : {V : Type 0} → Option (List Block) → Act V (Unit {0})
 by_blocks None acc = Stuck acc
 by_blocks (Some blocks) acc = stay (record acc { heap = record { blocks = blocks } })
 
+-- and a word out of its range has none
+abbrev pub ranged_blocks : {V : Type 0} → Bool → Option (List Block) → Act V (Unit {0})
+ranged_blocks true o acc = by_blocks o acc
+ranged_blocks false o acc = Stuck acc
+
+never : {V : Type 0} (b : Bool) (acc : Account V) → Stuck acc ≡ ranged_blocks b None acc
+never true acc = refl
+never false acc = refl
+
+by_range : {V : Type 0} (acc : Account V) (b reached inside : Bool) (end : Outcome V (Got V (Unit {0}))) (o : Option (List Block)) → (b ≡ true → (if reached && inside then end else Stuck acc) ≡ by_blocks o acc)
+    → (if (b && reached) && inside then end else Stuck acc) ≡ ranged_blocks b o acc
+by_range acc true reached inside end o h = h refl
+by_range acc false reached inside end o h = refl
+
 -- the laws test whether a word lies where addresses end beside whether it is aligned, and the machine beside whether it lies in a block
 tested : {V : Type 0} (acc : Account V) (blocks : List Block) (a b c : Bool)
     → (if (a && b) && c then stay (record acc { heap = record { blocks = blocks } }) else Stuck acc) ≡ by_blocks (if a && (b && c) then Some blocks else None) acc
@@ -67,25 +82,48 @@ module _ {V : Type 0} (acc : Account V) (k address : ℕ) where
 abbrev pub stored_word : WasmType → ℕ → Word → List Block → Option (List Block)
 stored_word ty address x blocks = if is_word_of ty x then stored ty address x blocks else None
 
-pub f32_stored : {V : Type 0} (address : ℕ) (x : Word) (acc : Account V) → storing 2 (access wasm.F32 2) address x acc ≡ by_blocks (stored_word wasm.F32 address x acc.heap.blocks) acc
+-- a whole number in its range
+module _ {V : Type 0} (acc : Account V) (k address : ℕ) where
+  ranged_by : (ranged : Bool) (bytes others : List ℕ) → (ranged ≡ true → bytes ≡ others)
+      → (if (ranged && (nat_eq (address % k) 0 && nat_le (address + k) (2 ^ 32))) && is_some (find (is_inside address k) acc.heap.blocks) then stay (record acc { heap = record { blocks = with_writes acc.heap.blocks (bytes_on address bytes) } }) else Stuck acc)
+      ≡ ranged_blocks ranged (if nat_eq (address % k) 0 && (nat_le (address + k) (2 ^ 32) && is_some (find (machine.holds address k) acc.heap.blocks)) then Some (with_writes acc.heap.blocks (writes_from address others)) else None) acc
+  ranged_by ranged bytes others e = by_range acc ranged _ _ _ _ (λ h. stored_by acc k address bytes others (e h))
+
+word_bits : (z : ℤ) → is_signed 31 z ≡ true → low_bits 32 z ≡ cast_unsigned w32 z
+word_bits z h = grind (arith, ints)
+
+wide_bits : (z : ℤ) → is_signed 63 z ≡ true → low_bits 64 z ≡ cast_unsigned w64 z
+wide_bits z h = grind (arith, ints)
+
+pub i32_stored : {V : Type 0} (address : ℕ) (x : Word) (acc : Account V) → storing 2 (access wasm.I32 2) address x acc ≡ ranged_blocks (is_ranged x) (stored_word wasm.I32 address x acc.heap.blocks) acc
+unfolding stored
+i32_stored address (core.I32 z) acc = ranged_by acc 4 address (is_signed 31 z) (little_bytes 4 (low_bits 32 z)) (to_le_bytes w32 (cast_unsigned w32 z)) (λ h. low_first 4 (low_bits 32 z) ∙ ap (bytes_low_first 0 4) (word_bits z h))
+i32_stored address x acc = never (is_ranged x) acc
+
+pub i64_stored : {V : Type 0} (address : ℕ) (x : Word) (acc : Account V) → storing 2 (access wasm.I64 3) address x acc ≡ ranged_blocks (is_ranged x) (stored_word wasm.I64 address x acc.heap.blocks) acc
+unfolding stored
+i64_stored address (core.I64 z) acc = ranged_by acc 8 address (is_signed 63 z) (little_bytes 8 (low_bits 64 z)) (to_le_bytes w64 (cast_unsigned w64 z)) (λ h. low_first 8 (low_bits 64 z) ∙ ap (bytes_low_first 0 8) (wide_bits z h))
+i64_stored address x acc = never (is_ranged x) acc
+
+pub f32_stored : {V : Type 0} (address : ℕ) (x : Word) (acc : Account V) → storing 2 (access wasm.F32 2) address x acc ≡ ranged_blocks (is_ranged x) (stored_word wasm.F32 address x acc.heap.blocks) acc
 unfolding stored
 f32_stored address (core.F32 x) acc = stored_by acc 4 address (little_bytes 4 x) (to_le_bytes w32 x) (low_first 4 x)
-f32_stored address _ acc = refl
+f32_stored address x acc = never (is_ranged x) acc
 
-pub f64_stored : {V : Type 0} (address : ℕ) (x : Word) (acc : Account V) → storing 2 (access wasm.F64 3) address x acc ≡ by_blocks (stored_word wasm.F64 address x acc.heap.blocks) acc
+pub f64_stored : {V : Type 0} (address : ℕ) (x : Word) (acc : Account V) → storing 2 (access wasm.F64 3) address x acc ≡ ranged_blocks (is_ranged x) (stored_word wasm.F64 address x acc.heap.blocks) acc
 unfolding stored
 f64_stored address (core.F64 x) acc = stored_by acc 8 address (little_bytes 8 x) (to_le_bytes w64 x) (low_first 8 x)
-f64_stored address _ acc = refl
+f64_stored address x acc = never (is_ranged x) acc
 
-pub pointer_stored : {V : Type 0} (address : ℕ) (x : Word) (acc : Account V) → storing 2 (access wasm.Pointer 2) address x acc ≡ by_blocks (stored_word wasm.Pointer address x acc.heap.blocks) acc
+pub pointer_stored : {V : Type 0} (address : ℕ) (x : Word) (acc : Account V) → storing 2 (access wasm.Pointer 2) address x acc ≡ ranged_blocks (is_ranged x) (stored_word wasm.Pointer address x acc.heap.blocks) acc
 unfolding stored
 pointer_stored address (core.Pointer x) acc = stored_by acc 4 address (little_bytes 4 x) (to_le_bytes w32 x) (low_first 4 x)
-pointer_stored address _ acc = refl
+pointer_stored address x acc = never (is_ranged x) acc
 
-pub length_stored : {V : Type 0} (address : ℕ) (x : Word) (acc : Account V) → storing 2 (access wasm.Length 2) address x acc ≡ by_blocks (stored_word wasm.Length address x acc.heap.blocks) acc
+pub length_stored : {V : Type 0} (address : ℕ) (x : Word) (acc : Account V) → storing 2 (access wasm.Length 2) address x acc ≡ ranged_blocks (is_ranged x) (stored_word wasm.Length address x acc.heap.blocks) acc
 unfolding stored
 length_stored address (core.Length x) acc = stored_by acc 4 address (little_bytes 4 x) (to_le_bytes w32 x) (low_first 4 x)
-length_stored address _ acc = refl
+length_stored address x acc = never (is_ranged x) acc
 
 -- 3. Small stores: the low bytes of a word
 
@@ -101,15 +139,15 @@ low_half : (z : ℤ) → little_bytes 2 (low_bits 32 z) ≡ low_bytes small.U16 
 low_half (pos n) = ap₂ (λ (b c : ℕ). b ∷ c ∷ []) (omega arith) (omega arith)
 low_half (negsuc n) = ap₂ (λ (b c : ℕ). b ∷ c ∷ []) (omega arith) (omega arith)
 
-pub byte_stored : {V : Type 0} (address : ℕ) (x : Word) (acc : Account V) → storing 2 (access wasm.I32 0) address x acc ≡ by_blocks (stored_low small.U8 address x acc.heap.blocks) acc
+pub byte_stored : {V : Type 0} (address : ℕ) (x : Word) (acc : Account V) → storing 2 (access wasm.I32 0) address x acc ≡ ranged_blocks (is_ranged x) (stored_low small.U8 address x acc.heap.blocks) acc
 unfolding stored_small
-byte_stored address (core.I32 z) acc = stored_by acc 1 address (little_bytes 1 (low_bits 32 z)) (low_bytes small.U8 z) (low_byte z)
-byte_stored address _ acc = refl
+byte_stored address (core.I32 z) acc = ranged_by acc 1 address (is_signed 31 z) (little_bytes 1 (low_bits 32 z)) (low_bytes small.U8 z) (λ h. low_byte z)
+byte_stored address x acc = never (is_ranged x) acc
 
-pub half_stored : {V : Type 0} (address : ℕ) (x : Word) (acc : Account V) → storing 2 (access wasm.I32 1) address x acc ≡ by_blocks (stored_low small.U16 address x acc.heap.blocks) acc
+pub half_stored : {V : Type 0} (address : ℕ) (x : Word) (acc : Account V) → storing 2 (access wasm.I32 1) address x acc ≡ ranged_blocks (is_ranged x) (stored_low small.U16 address x acc.heap.blocks) acc
 unfolding stored_small
-half_stored address (core.I32 z) acc = stored_by acc 2 address (little_bytes 2 (low_bits 32 z)) (low_bytes small.U16 z) (low_half z)
-half_stored address _ acc = refl
+half_stored address (core.I32 z) acc = ranged_by acc 2 address (is_signed 31 z) (little_bytes 2 (low_bits 32 z)) (low_bytes small.U16 z) (λ h. low_half z)
+half_stored address x acc = never (is_ranged x) acc
 
 -- 4. What is freed
 

@@ -186,6 +186,7 @@ tuple_row types old new n k os many ok a fresh = record {
   blocks = refl;
   returned = a.returned;
   asked = a.asked;
+  form = tt;
   results = refl;
   row = λ ts is rs len. makes_whole old new n os a fresh rs
       (λ fs. (r : RustValue) × (fs ≡ of (operand_of (expr.Local n)) (item r) ∷ []) × ((v : Parts ts) (own : List Block) → PartsStand func_meaning take ts v rs own → StandsAsItIs take (tuple ts) v r own))

@@ -65,6 +65,7 @@ module _ (types : List TypeDef) (old new : FunctionBindgen) (i : Instruction) (s
     blocks = none_dropped (length (block_results types i));
     returned = still_returned func_meaning i (lowers_ordinary i s is) (o ∷ []) old.returned new.returned returned;
     asked = adds.asked;
+    form = tt;
     results = subst (λ x. MakesBy types i x (lifted_scalar i) 1) (sym is) refl;
     row = subst (λ x. RowBy func_meaning types i x (lifted_scalar i) (o ∷ []) (r ∷ []) old new) (sym is) row;
   }
@@ -75,6 +76,7 @@ module _ (types : List TypeDef) (old new : FunctionBindgen) (i : Instruction) (s
     blocks = none_dropped (length (block_results types i));
     returned = still_returned func_meaning i (lifts_ordinary i s is) (o ∷ []) old.returned new.returned returned;
     asked = adds.asked;
+    form = tt;
     results = subst (λ x. MakesBy types i x (lifted_scalar i) 1) (sym none) (subst (λ x. MakesBy types i None x 1) (sym is) refl);
     row = subst (λ x. RowBy func_meaning types i x (lifted_scalar i) (o ∷ []) (r ∷ []) old new) (sym none) (subst (λ x. RowBy func_meaning types i None x (o ∷ []) (r ∷ []) old new) (sym is) row);
   }

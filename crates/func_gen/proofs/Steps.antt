@@ -130,6 +130,7 @@ module _ (old new : FunctionBindgen) (added : List Stmt) (items : List RuntimeIt
     arguments = ap (λ ps. Some (length ps)) a.params;
     knows = λ types h. subst (λ sizes. IsFilledFor sizes types) (sym a.sizes) h;
     target = λ f. ap₂ (λ import home. if import then target.Core home f.name.wit else target.Method home f.name.snake) a.import a.home;
+    crosses = λ w f. refl;
   }
 
   pub func_adds : ((n : Bytes) → is_used new.scope.used n ≡ false → is_used old.scope.used n ≡ false) → ((w : Setting) → Quiet (run_stmts w added)) → Adds func_meaning old new

@@ -33,7 +33,7 @@ use Rattle.abi_driver.specs.Account.{Account, Peer}
 use Rattle.abi_driver.specs.Instructions.{Emits, MakesBy, MakesTouch, RowBy, RowTouch, block_results, lifted_scalar, lowered_scalar}
 use Rattle.abi_driver.specs.Laws.{Adds}
 use Rattle.abi_driver.specs.Meaning.{of, word}
-use Rattle.abi_driver.specs.Memory.{Access, storing}
+use Rattle.abi_driver.specs.Memory.{Access, is_ranged, storing}
 use Rattle.abi_driver.specs.Touches.{Part, RowOfTouch, StoresWord, Touch, accessed, low_byte, low_half, stores, touch, touch_makes, whole}
 use Rattle.abi_driver.proofs.Ordinary.{code_of, still_returned, touches_ordinary}
 use Rattle.func_gen.specs.declared.function_bindgen.FunctionBindgen.{FunctionBindgen}
@@ -47,7 +47,7 @@ use Rattle.func_gen.specs.MemoryForms.{small_store, whole_store}
 use Rattle.func_gen.specs.Operand.{is_operand}
 use Rattle.func_gen.specs.Read.{env_of}
 use Rattle.func_gen.proofs.Evaluated.{gives}
-use Rattle.func_gen.proofs.MemoryTies.{by_blocks, byte_stored, f32_stored, f64_stored, half_stored, length_stored, pointer_stored, stored_low, stored_word}
+use Rattle.func_gen.proofs.MemoryTies.{by_blocks, byte_stored, f32_stored, f64_stored, half_stored, length_stored, pointer_stored, ranged_blocks, stored_low, stored_word}
 use Rattle.func_gen.proofs.Quiet.{quiet_operand}
 use Rattle.func_gen.proofs.ScalarRows.{none_dropped}
 use Rattle.func_gen.proofs.Writing.{Keeps, Writes, finish, finishes, one_adds, there_written, writes}
@@ -61,6 +61,7 @@ emits_touch types old new i t os rs no_lower no_lift is count adds returned row 
   blocks = none_dropped (length (block_results types i));
   returned = still_returned func_meaning i (touches_ordinary i t is) os old.returned new.returned returned;
   asked = adds.asked;
+  form = tt;
   results = subst (λ x. MakesBy types i x (lifted_scalar i) (length rs)) (sym no_lower) (subst (λ x. MakesBy types i None x (length rs)) (sym no_lift) (subst (λ x. MakesTouch types i x (length rs)) (sym is) count));
   row = subst (λ x. RowBy func_meaning types i x (lifted_scalar i) os rs old new) (sym no_lower) (subst (λ x. RowBy func_meaning types i None x os rs old new) (sym no_lift) (subst (λ x. RowTouch func_meaning types i x os rs old new) (sym is) row));
 }
@@ -96,6 +97,11 @@ keeps_low ty q z s blocks h a there = go (nat_eq (q % bytes_of_small ty) 0 && is
     go true writes e = subst (λ z. IsThere (block_from a z)) (some_same (with_writes s.heap.blocks writes) blocks e) (there_written a writes s.heap.blocks there)
     go false writes e = absurd cc
 
+-- nothing is claimed of a word out of its range
+if_ranged : (s : State) (o : Option (List Block)) (q : machine.Outcome (Unit {0})) (b : Bool) → Writes (account_of s) (by_blocks o (account_of s)) q s → Writes (account_of s) (ranged_blocks b o (account_of s)) q s
+if_ranged s o q true h = h
+if_ranged s o q false h = refl
+
 -- two words that are denoted are what the operands give
 pub two_given : (w : Setting) (b : FunctionBindgen) (e f : Expr) (x y : Word) (s : State) → Hold w.items b (of (operand_of e) (word x) ∷ of (operand_of f) (word y) ∷ []) s → (eval w e s ≡ machine.Done (val.Word x) s) × (eval w f s ≡ machine.Done (val.Word y) s)
 two_given w b e f x y s h =
@@ -121,14 +127,15 @@ module _ (old new : FunctionBindgen) (e at : Expr) (ok : is_operand e ≡ true) 
         ∙ ap (λ q. and_then (and_then q (store_word w o ty (val.Word x))) (λ u. pure tt)) given.1
         ∙ wrote w ty (address + bytes_at o 4) x s (is_word_of ty x)
 
-    pub store_row : (access : Access) → ((address : ℕ) (x : Word) (acc : Account RustValue) → storing 2 access address x acc ≡ by_blocks (stored_word ty address x acc.heap.blocks) acc) → StoresWord func_meaning access o (operand_of e ∷ operand_of at ∷ []) [] old new
+    pub store_row : (access : Access) → ((address : ℕ) (x : Word) (acc : Account RustValue) → storing 2 access address x acc ≡ ranged_blocks (is_ranged x) (stored_word ty address x acc.heap.blocks) acc) → StoresWord func_meaning access o (operand_of e ∷ operand_of at ∷ []) [] old new
     store_row access tie x address =
         writes old new (stmt.Store at o ty e) [] a scope stores_quietly (of (operand_of e) (word x) ∷ of (operand_of at) (word (core.Pointer address)) ∷ []) (λ p. storing 2 access (address + bytes_at o 4) x)
         (λ w p s found h.
         let q = address + bytes_at o 4 in
         let blocks = stored_word ty q x s.heap.blocks in
         subst (λ z. Writes (account_of s) z (run_stmts (setting_for w p) (stmt.Store at o ty e ∷ []) s) s) (sym (tie q x (account_of s)))
-        (subst (λ z. Writes (account_of s) (by_blocks blocks (account_of s)) z s) (sym (store_run (setting_for w p) x address s h)) (finishes (setting_for w p) s blocks (keeps_word ty q x s))))
+        (if_ranged s blocks (run_stmts (setting_for w p) (stmt.Store at o ty e ∷ []) s) (is_ranged x)
+        (subst (λ z. Writes (account_of s) (by_blocks blocks (account_of s)) z s) (sym (store_run (setting_for w p) x address s h)) (finishes (setting_for w p) s blocks (keeps_word ty q x s)))))
 
   module _ (ty : SmallType) (a : Appends old new (stmt.StoreSmall at o ty e ∷ []) []) where
     quiet_kept : (w : Setting) (blocks : Option (List Block)) → Quiet (or_stop (stuck w) blocks >>= keep_blocks)
@@ -161,11 +168,12 @@ module _ (old new : FunctionBindgen) (e at : Expr) (ok : is_operand e ≡ true) 
         ∙ ap (λ q. and_then (and_then q (store_small w o ty (val.Word (core.I32 z)))) (λ u. pure tt)) given.1
         ∙ wrote_low w (address + bytes_at o 4) s (stored_small ty (address + bytes_at o 4) z s.heap.blocks)
 
-    pub low_row : (access : Access) → ((address : ℕ) (x : Word) (acc : Account RustValue) → storing 2 access address x acc ≡ by_blocks (stored_low ty address x acc.heap.blocks) acc) → StoresWord func_meaning access o (operand_of e ∷ operand_of at ∷ []) [] old new
+    pub low_row : (access : Access) → ((address : ℕ) (x : Word) (acc : Account RustValue) → storing 2 access address x acc ≡ ranged_blocks (is_ranged x) (stored_low ty address x acc.heap.blocks) acc) → StoresWord func_meaning access o (operand_of e ∷ operand_of at ∷ []) [] old new
     low_row access tie x address =
         writes old new (stmt.StoreSmall at o ty e) [] a scope low_quietly (of (operand_of e) (word x) ∷ of (operand_of at) (word (core.Pointer address)) ∷ []) (λ p. storing 2 access (address + bytes_at o 4) x)
         (λ w p s found h.
-        subst (λ z. Writes (account_of s) z (run_stmts (setting_for w p) (stmt.StoreSmall at o ty e ∷ []) s) s) (sym (tie (address + bytes_at o 4) x (account_of s))) (agrees x w p s h))
+        subst (λ z. Writes (account_of s) z (run_stmts (setting_for w p) (stmt.StoreSmall at o ty e ∷ []) s) s) (sym (tie (address + bytes_at o 4) x (account_of s)))
+        (if_ranged s (stored_low ty (address + bytes_at o 4) x s.heap.blocks) (run_stmts (setting_for w p) (stmt.StoreSmall at o ty e ∷ []) s) (is_ranged x) (agrees x w p s h)))
       where
         agrees : (x : Word) (w : File) (p : Peer RustValue) (s : State) → Hold w.items old (of (operand_of e) (word x) ∷ of (operand_of at) (word (core.Pointer address)) ∷ []) s
             → Writes (account_of s) (by_blocks (stored_low ty (address + bytes_at o 4) x s.heap.blocks) (account_of s)) (run_stmts (setting_for w p) (stmt.StoreSmall at o ty e ∷ []) s) s
@@ -180,7 +188,7 @@ record IsStore (i : Instruction) (o : ArchitectureSize) (ty : WasmType) : Type 0
   lowered : lowered_scalar i ≡ None
   lifted : lifted_scalar i ≡ None
   touched : touch i ≡ Some (stores whole ty o)
-  tie : (address : ℕ) (x : Word) (acc : Account RustValue) → storing 2 (accessed 2 whole false ty) address x acc ≡ by_blocks (stored_word ty address x acc.heap.blocks) acc
+  tie : (address : ℕ) (x : Word) (acc : Account RustValue) → storing 2 (accessed 2 whole false ty) address x acc ≡ ranged_blocks (is_ranged x) (stored_word ty address x acc.heap.blocks) acc
 
 is_store : (i : Instruction) (o : ArchitectureSize) (ty : WasmType) → whole_store i ≡ Some (o, ty) → IsStore i o ty
 is_store (F32Store p) o ty e = subst (λ (q : ArchitectureSize × WasmType). IsStore (F32Store p) q.0 q.1) (some_same (p, wasm.F32) (o, ty) e) (record { lowered = refl; lifted = refl; touched = refl; tie = f32_stored })
@@ -194,7 +202,7 @@ record IsLowStore (i : Instruction) (o : ArchitectureSize) (ty : SmallType) : Ty
   lowered : lowered_scalar i ≡ None
   lifted : lifted_scalar i ≡ None
   touched : touch i ≡ Some (stores part wasm.I32 o)
-  tie : (address : ℕ) (x : Word) (acc : Account RustValue) → storing 2 (accessed 2 part false wasm.I32) address x acc ≡ by_blocks (stored_low ty address x acc.heap.blocks) acc
+  tie : (address : ℕ) (x : Word) (acc : Account RustValue) → storing 2 (accessed 2 part false wasm.I32) address x acc ≡ ranged_blocks (is_ranged x) (stored_low ty address x acc.heap.blocks) acc
 
 is_low_store : (i : Instruction) (o : ArchitectureSize) (ty : SmallType) → small_store i ≡ Some (o, ty) → IsLowStore i o ty
 is_low_store (I32Store8 p) o ty e = subst (λ (q : ArchitectureSize × SmallType). IsLowStore (I32Store8 p) q.0 q.1) (some_same (p, small.U8) (o, ty) e) (record { part = low_byte; lowered = refl; lifted = refl; touched = refl; tie = byte_stored })

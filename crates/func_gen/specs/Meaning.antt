@@ -204,4 +204,5 @@ func_meaning = record {
   crosses = crossing;
   asked = λ b. b.asked;
   returned = λ b. b.returned;
+  forms = λ step os rs old new. Unit {0};
 }

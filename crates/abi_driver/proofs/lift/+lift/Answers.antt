@@ -8,8 +8,9 @@ use Rattle.wit_model.specs.declared.types.WitType.{WitType}
 use Rattle.wit_model.specs.declared.types.WitType.TheVariants as wit
 use Rattle.wit_layout.proofs.FlattenSteps.{rank}
 use Rattle.abi_driver.specs.declared.instruction.Instruction.TheVariants.{RecordLift, TupleLift}
-use Rattle.abi_driver.specs.Code.{each, lift_code, sends}
+use Rattle.abi_driver.specs.Code.{each, lift_code}
 use Rattle.abi_driver.specs.Instructions.{IsRecord, shapes_of}
+use Rattle.abi_driver.specs.Sent.{sends}
 use Rattle.abi_driver.proofs.FlatCode.{lift_alias_code, lift_record_code, lift_tuple_code}
 use Rattle.abi_driver.proofs.LiftSteps.{lifts_all_as, lifts_as, record_lifts, rest_last, rest_next, tuple_lifts}
 use Rattle.abi_driver.proofs.Records.{alias_below, alias_rank, alias_shape, count-shapes, entry_at, kind_at, one_record, part_below_within, part_ranked, record_below, record_shape, tuple_below, tuple_shape}

@@ -9,8 +9,9 @@ use Rattle.wit_model.specs.declared.types.WitType.TheVariants as wit
 use Rattle.wit_layout.proofs.FlattenSteps.{rank}
 use Rattle.wrapper_meaning.specs.Shape.{shape_of}
 use Rattle.abi_driver.specs.declared.instruction.Instruction.TheVariants.{StringLower, TupleLower}
-use Rattle.abi_driver.specs.Code.{each, lower_code, sends}
+use Rattle.abi_driver.specs.Code.{each, lower_code}
 use Rattle.abi_driver.specs.Instructions.{shapes_of}
+use Rattle.abi_driver.specs.Sent.{sends}
 use Rattle.abi_driver.proofs.FlatCode.{lower_alias_code, lower_record_code, lower_scalar_code, lower_text_code, lower_tuple_code}
 use Rattle.abi_driver.proofs.LowerSteps.{lowers_all_as, lowers_as, record_lowers, rest_last, rest_next, scalar_lowers, text_lowers, tuple_lowers}
 use Rattle.abi_driver.proofs.Records.{alias_below, alias_rank, alias_shape, count-shapes, drop-same, entry_at, kind_at, part_below_table, part_ranked, record_below, record_shape, tuple_below, tuple_shape}

@@ -7,9 +7,10 @@ use Rattle.wit_layout.specs.Sizes.{field_offsets}
 use Rattle.wit_layout.specs.Told.{IsPairOf}
 use Rattle.wit_layout.specs.Tree.{record_of}
 use Rattle.abi_driver.specs.declared.instruction.Instruction.TheVariants as instruction
-use Rattle.abi_driver.specs.Code.{place_in, sends, store_code}
+use Rattle.abi_driver.specs.Code.{place_in, store_code}
 use Rattle.abi_driver.specs.Frees.{nowhere}
 use Rattle.abi_driver.specs.Instructions.{Emits}
+use Rattle.abi_driver.specs.Sent.{sends}
 use Rattle.abi_driver.proofs.ArgumentSteps.{within_count}
 use Rattle.abi_driver.proofs.PartOffsets.{behind_next, pair_is}
 use Rattle.abi_driver.proofs.RecordPlaces.{record_place}

@@ -10,9 +10,10 @@ use Rattle.wit_layout.proofs.SignatureSteps.{params_in_table, result_in_table}
 use Rattle.wrapper_meaning.specs.Represents.{are_indirect}
 use Rattle.wrapper_meaning.specs.Shape.{result_shape, shape_of}
 use Rattle.abi_driver.specs.declared.instruction.Instruction.TheVariants.{CallWasm, Return}
-use Rattle.abi_driver.specs.Code.{pass_code, point_code, read_code, sends}
+use Rattle.abi_driver.specs.Code.{pass_code, point_code, read_code}
 use Rattle.abi_driver.specs.Imports.{PassesArguments, ReadsAnswer}
 use Rattle.abi_driver.specs.Instructions.{Emits, shapes_of}
+use Rattle.abi_driver.specs.Sent.{sends}
 use Rattle.abi_driver.proofs.AreaSteps.{points_grows}
 use Rattle.abi_driver.proofs.CallCode.{given_count}
 use Rattle.abi_driver.proofs.ExportSteps.{count_mapped}

@@ -5,8 +5,9 @@ use Rattle.wit_layout.specs.Told.{IsPairOf}
 use Rattle.wit_layout.specs.Tree.{record_of}
 use Rattle.wrapper_meaning.specs.Shape.Shape.{fields}
 use Rattle.abi_driver.specs.declared.instruction.Instruction.TheVariants.{GetArg, GuestDeallocate}
-use Rattle.abi_driver.specs.Code.{free_block_code, sends}
+use Rattle.abi_driver.specs.Code.{free_block_code}
 use Rattle.abi_driver.specs.Instructions.{Emits, shapes_of}
+use Rattle.abi_driver.specs.Sent.{sends}
 use Rattle.abi_driver.proofs.AreaAsked.{record_told}
 use Rattle.abi_driver.proofs.RecordPlaces.{record_layout}
 use Rattle.abi_driver.proofs.SendSteps.{sends_as, sends_one, sends_then}

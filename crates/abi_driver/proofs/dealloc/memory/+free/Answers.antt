@@ -10,9 +10,10 @@ use Rattle.wit_model.specs.declared.types.WitType.TheVariants as wit
 use Rattle.wit_layout.proofs.FlattenSteps.{rank}
 use Rattle.wit_layout.specs.Sizes.{field_offsets}
 use Rattle.wit_layout.specs.Tree.{tree_at}
-use Rattle.abi_driver.specs.Code.{Sent, beyond, each, free_code, place_in}
+use Rattle.abi_driver.specs.Code.{beyond, each, free_code, place_in}
 use Rattle.abi_driver.specs.Instructions.{field_shapes, shapes_of}
 use Rattle.abi_driver.specs.Places.{HasParts, IsOfParts}
+use Rattle.abi_driver.specs.Sent.{Sent}
 use Rattle.abi_driver.proofs.FreeSteps.{fields_free, frees_as, frees_parts_as, rest_last, rest_next, tuple_free}
 use Rattle.abi_driver.proofs.LeafFrees.{scalar_frees}
 use Rattle.abi_driver.proofs.MemoryCode.{free_alias_code, free_record_code, free_scalar_code, free_tuple_code}

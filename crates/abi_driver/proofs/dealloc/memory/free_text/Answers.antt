@@ -1,7 +1,7 @@
 use Rattle.std.proofs.Common.{List, [], ◌∷◌, ◌++◌, sym, ap, ◌∙◌, subst}
 use Rattle.abi_driver.specs.Instructions.{Emits}
+use Rattle.abi_driver.specs.Sent.{sends}
 use Rattle.abi_driver.specs.declared.instruction.Instruction.TheVariants.{GuestDeallocateString, LengthLoad, PointerLoad}
-use Rattle.abi_driver.specs.Code.{sends}
 use Rattle.abi_driver.proofs.FlatFrees.{text_freed}
 use Rattle.abi_driver.proofs.LeafFrees.{text_frees}
 use Rattle.abi_driver.proofs.MemoryCode.{free_text_code}

@@ -11,10 +11,11 @@ use Rattle.wit_layout.proofs.FlattenSteps.{rank}
 use Rattle.wit_layout.specs.Sizes.{field_offsets}
 use Rattle.wit_layout.specs.Tree.{tree_at}
 use Rattle.abi_driver.specs.declared.instruction.Instruction.TheVariants.{RecordLift, TupleLift}
-use Rattle.abi_driver.specs.Code.{Sent, beyond, each, load_code, place_in, sends}
+use Rattle.abi_driver.specs.Code.{beyond, each, load_code, place_in}
 use Rattle.abi_driver.specs.Instructions.{IsRecord, shapes_of}
 use Rattle.abi_driver.specs.Loads.{LoadsParts}
 use Rattle.abi_driver.specs.Places.{HasParts, IsOfParts}
+use Rattle.abi_driver.specs.Sent.{Sent, sends}
 use Rattle.abi_driver.proofs.LoadSteps.{loads_as, loads_parts_as, record_loads, rest_last, rest_next, tuple_loads}
 use Rattle.abi_driver.proofs.MemoryCode.{load_alias_code, load_record_code, load_tuple_code}
 use Rattle.abi_driver.proofs.PartOffsets.{behind_next, no_alias, part_offset, place_sent}

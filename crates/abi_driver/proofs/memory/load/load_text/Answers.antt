@@ -1,7 +1,7 @@
 use Rattle.std.proofs.Common.{List, [], ◌∷◌, ◌++◌, sym, ap, ◌∙◌, subst}
 use Rattle.abi_driver.specs.Instructions.{Emits}
+use Rattle.abi_driver.specs.Sent.{sends}
 use Rattle.abi_driver.specs.declared.instruction.Instruction.TheVariants.{LengthLoad, PointerLoad, StringLift}
-use Rattle.abi_driver.specs.Code.{sends}
 use Rattle.abi_driver.proofs.LeafLoads.{text_loads}
 use Rattle.abi_driver.proofs.LiftSteps.{text_lifts}
 use Rattle.abi_driver.proofs.MemoryCode.{load_text_code}

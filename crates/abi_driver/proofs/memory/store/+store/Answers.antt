@@ -11,9 +11,10 @@ use Rattle.wit_layout.proofs.FlattenSteps.{rank}
 use Rattle.wit_layout.specs.Sizes.{field_offsets}
 use Rattle.wit_layout.specs.Tree.{tree_at}
 use Rattle.abi_driver.specs.declared.instruction.Instruction.TheVariants.{TupleLower}
-use Rattle.abi_driver.specs.Code.{Sent, beyond, each, place_in, sends, store_code}
+use Rattle.abi_driver.specs.Code.{beyond, each, place_in, store_code}
 use Rattle.abi_driver.specs.Instructions.{shapes_of}
 use Rattle.abi_driver.specs.Places.{HasParts, IsOfParts}
+use Rattle.abi_driver.specs.Sent.{Sent, sends}
 use Rattle.abi_driver.proofs.MemoryCode.{store_alias_code, store_record_code, store_tuple_code}
 use Rattle.abi_driver.proofs.PartOffsets.{behind_next, no_alias, part_offset, place_sent}
 use Rattle.abi_driver.proofs.RecordPlaces.{place_told}

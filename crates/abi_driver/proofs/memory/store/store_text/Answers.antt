@@ -1,6 +1,6 @@
 use Rattle.std.proofs.Common.{[], ◌∷◌, sym, ap, ◌∙◌}
 use Rattle.abi_driver.specs.declared.instruction.Instruction.TheVariants.{LengthStore, PointerStore, StringLower}
-use Rattle.abi_driver.specs.Code.{sends}
+use Rattle.abi_driver.specs.Sent.{sends}
 use Rattle.abi_driver.proofs.LeafStores.{text_stores, two_words}
 use Rattle.abi_driver.proofs.LowerSteps.{text_lowers}
 use Rattle.abi_driver.proofs.MemoryCode.{store_text_code}
