@@ -294,7 +294,7 @@ module _ {Self Operand : Type 0} (m : Meaning Self Operand) (sound : Sound m) wh
     pub inside : WritesIn q (result_size m.width r) honest.writes
     pub holds : RecordBegins r u block honest.represents.blocks
 
-  answer_in_area : (r : Option Shape) (u : Result r) (reply : Reply m.Item) (c : Call m.Item) (honest : IsHonest m.width r u reply c) (front : List Word) (q : ℕ) → is_indirect r ≡ true → c.words ≡ front ++ core.Pointer q ∷ [] → InArea r u reply c honest q
+  pub answer_in_area : (r : Option Shape) (u : Result r) (reply : Reply m.Item) (c : Call m.Item) (honest : IsHonest m.width r u reply c) (front : List Word) (q : ℕ) → is_indirect r ≡ true → c.words ≡ front ++ core.Pointer q ∷ [] → InArea r u reply c honest q
   answer_in_area None u reply c honest front q many e = absurd (let h = many in cc)
   answer_in_area (Some t) u reply c honest front q many e =
       let rep = honest.represents in
@@ -320,7 +320,7 @@ module _ {Self Operand : Type 0} (m : Meaning Self Operand) (sound : Sound m) wh
   answer_loaded (Some t) pointer back rs b c many h =
       record_loaded t pointer rs b c (subst (λ q. MatchBool q (LoadsAnswer m t pointer rs b c) (LiftsAnswer m (Some t) back rs b c)) many h)
 
-  writes_in_area : (address size : ℕ) (c : Block) (writes : List (ℕ × ℕ)) → c.address ≡ address → size ≤ c.size → WritesIn address size writes → AllByRecursion (IsInside c) writes
+  pub writes_in_area : (address size : ℕ) (c : Block) (writes : List (ℕ × ℕ)) → c.address ≡ address → size ≤ c.size → WritesIn address size writes → AllByRecursion (IsInside c) writes
   writes_in_area address size c [] at fit h = tt
   writes_in_area address size c (write ∷ writes) at fit h = ((omega (arith, at, h.0.0), omega (arith, at, fit, h.0.1)), writes_in_area address size c writes at fit h.1)
 

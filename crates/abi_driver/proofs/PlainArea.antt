@@ -39,12 +39,12 @@ factor_right x y q h =
     let is : q ≡ (c * x) * y = omega (arith, mod-add-div' q (x * y), h) in
     ap (λ n. n % y) is ∙ mul-mod_left (c * x) y
 
-abbrev before : Option Request → Request
+abbrev pub before : Option Request → Request
 before None = record { size = 0; align = 1 }
 before (Some area) = area
 
 -- an area with room for all that the one before had room for, and for this record
-abbrev wider : Option Request → Asked → Request
+abbrev pub wider : Option Request → Asked → Request
 wider area a = record { size = (before area).size + bytes_at a.size 4; align = (before area).align * alignment_at a.align 4 }
 
 one_wider : (area : Option Request) (a b : Asked) → HoldsRecord 2 area b → HasRoomFor 2 (wider area a) b
@@ -54,11 +54,11 @@ one_wider (Some area) a b h = record {
   aligned = λ q e. h.aligned q (factor_left area.align (alignment_at a.align 4) q e);
 }
 
-all_wider : (area : Option Request) (a : Asked) (asked : List Asked) → AllByRecursion (HoldsRecord 2 area) asked → AllByRecursion (HoldsRecord 2 (Some (wider area a))) asked
+pub all_wider : (area : Option Request) (a : Asked) (asked : List Asked) → AllByRecursion (HoldsRecord 2 area) asked → AllByRecursion (HoldsRecord 2 (Some (wider area a))) asked
 all_wider area a [] h = tt
 all_wider area a (b ∷ asked) h = (one_wider area a b h.0, all_wider area a asked h.1)
 
-itself_wider : (area : Option Request) (a : Asked) → HasRoomFor 2 (wider area a) a
+pub itself_wider : (area : Option Request) (a : Asked) → HasRoomFor 2 (wider area a) a
 itself_wider area a = record {
   size = omega arith;
   aligned = λ q e. factor_right (before area).align (alignment_at a.align 4) q e;

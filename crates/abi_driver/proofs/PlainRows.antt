@@ -103,6 +103,8 @@ releasing_owns (a ∷ places) acc =
 checking_stays : (s : Scalar) (f : Form) (x : Word) (acc : Account PlainItem) → OnDone (checking s f x acc) (λ y. y.account ≡ acc)
 checking_stays Scalar.bool f (core.I32 z) acc = if_done (nat_lt (low_bits 8 z) 2) (stay acc) (failing f trap.Bool acc) (λ y. y.account ≡ acc) (λ e. refl) (λ e. fails f trap.Bool acc (λ y. y.account ≡ acc))
 checking_stays Scalar.char f (core.I32 z) acc = if_done (is_scalar_value (low_bits 32 z)) (stay acc) (failing f trap.Char acc) (λ y. y.account ≡ acc) (λ e. refl) (λ e. fails f trap.Char acc (λ y. y.account ≡ acc))
+checking_stays Scalar.s32 f (core.I32 z) acc = if_done (is_signed 31 z) (stay acc) (Stuck acc) (λ y. y.account ≡ acc) (λ e. refl) (λ e. tt)
+checking_stays Scalar.s64 f (core.I64 z) acc = if_done (is_signed 63 z) (stay acc) (Stuck acc) (λ y. y.account ≡ acc) (λ e. refl) (λ e. tt)
 checking_stays _ f x acc = refl
 
 reading_stays : (s : Scalar) (f : Form) (x : Word) (acc : Account PlainItem) → OnDone (reading s f x acc) (λ y. y.account ≡ acc)

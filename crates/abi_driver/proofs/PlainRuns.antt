@@ -23,7 +23,7 @@ use Rattle.wrapper_data.specs.declared.word.Word.TheVariants as core
 use Rattle.wrapper_meaning.specs.Ends.{fits}
 use Rattle.wrapper_meaning.specs.Cells.{bytes_from, little}
 use Rattle.wrapper_meaning.specs.Items.{SameItems, total}
-use Rattle.wrapper_meaning.specs.Numbers.{is_scalar_value, low_bits}
+use Rattle.wrapper_meaning.specs.Numbers.{is_scalar_value, is_signed, low_bits}
 use Rattle.wrapper_meaning.specs.Words.{bits_of}
 use Rattle.abi_driver.specs.declared.plain.PlainBindgen.{PlainBindgen}
 use Rattle.abi_driver.specs.declared.plain.Step.{Step}
@@ -65,6 +65,8 @@ releasing_quiet (a ∷ places) acc =
 checking_quiet : {V : Type 0} (s : Scalar) (f : Form) (x : Word) (acc : Account V) → Quietly acc (checking s f x acc)
 checking_quiet Scalar.bool f (core.I32 z) acc = if_quiet acc (nat_lt (low_bits 8 z) 2) (stay acc) (failing f trap.Bool acc) refl (failing_quiet _ f trap.Bool acc)
 checking_quiet Scalar.char f (core.I32 z) acc = if_quiet acc (is_scalar_value (low_bits 32 z)) (stay acc) (failing f trap.Char acc) refl (failing_quiet _ f trap.Char acc)
+checking_quiet Scalar.s32 f (core.I32 z) acc = if_quiet acc (is_signed 31 z) (stay acc) (Stuck acc) refl refl
+checking_quiet Scalar.s64 f (core.I64 z) acc = if_quiet acc (is_signed 63 z) (stay acc) (Stuck acc) refl refl
 checking_quiet _ f x acc = refl
 
 reading_quiet : {V : Type 0} (s : Scalar) (f : Form) (x : Word) (acc : Account V) → Quietly acc (reading s f x acc)

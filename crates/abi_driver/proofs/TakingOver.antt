@@ -17,10 +17,10 @@ use Rattle.wrapper_meaning.specs.Direction.{take}
 use Rattle.wrapper_meaning.specs.InMemory.{TextHolds}
 use Rattle.wrapper_meaning.specs.InRange.{IsScalar}
 use Rattle.wrapper_meaning.specs.Items.{AllIn}
-use Rattle.wrapper_meaning.specs.Numbers.{bit, is_scalar_value, low_bits}
+use Rattle.wrapper_meaning.specs.Numbers.{bit, is_scalar_value, is_signed, low_bits}
 use Rattle.wrapper_meaning.specs.Value.{ScalarValue}
 use Rattle.wrapper_meaning.proofs.Lists.{none_at}
-use Rattle.abi_driver.specs.Account.{Account, Done, Got, Outcome, Taken, addresses, failing, found, gives, is_at, is_taken, reading, stay, taking, tested}
+use Rattle.abi_driver.specs.Account.{Account, Done, Got, Outcome, Stuck, Taken, addresses, failing, found, gives, is_at, is_taken, reading, stay, taking, tested}
 use Rattle.abi_driver.specs.Lifts.{AreFree, MayTake, took}
 
 -- 1. Scalars
@@ -40,8 +40,8 @@ reads Scalar.bool f v x acc hv (z, e, h) = ap (λ y. reading Scalar.bool f y acc
 reads Scalar.char f v x acc hv (z, e, h) = ap (λ y. reading Scalar.char f y acc) e ∙ if_true (is_scalar_value (low_bits 32 z)) (stay acc) (failing f trap.Char acc) (ap is_scalar_value (sym h) ∙ hv)
 reads Scalar.f32 f v x acc hv e = ap (λ y. reading Scalar.f32 f y acc) e
 reads Scalar.f64 f v x acc hv e = ap (λ y. reading Scalar.f64 f y acc) e
-reads Scalar.s32 f v x acc hv e = ap (λ y. reading Scalar.s32 f y acc) e
-reads Scalar.s64 f v x acc hv e = ap (λ y. reading Scalar.s64 f y acc) e
+reads Scalar.s32 f v x acc hv e = ap (λ y. reading Scalar.s32 f y acc) e ∙ if_true (is_signed 31 v) (stay acc) (Stuck acc) hv
+reads Scalar.s64 f v x acc hv e = ap (λ y. reading Scalar.s64 f y acc) e ∙ if_true (is_signed 63 v) (stay acc) (Stuck acc) hv
 reads Scalar.u64 f v x acc hv (z, e, h) = ap (λ y. reading Scalar.u64 f y acc) e
 reads Scalar.u8 f v x acc hv (z, e, h) = ap (λ y. reading Scalar.u8 f y acc) e
 reads Scalar.u16 f v x acc hv (z, e, h) = ap (λ y. reading Scalar.u16 f y acc) e

@@ -20,7 +20,7 @@ use Rattle.wrapper_data.specs.declared.run.TrapKind.TheVariants as trap
 use Rattle.wrapper_data.specs.declared.word.Word.{Word}
 use Rattle.wrapper_data.specs.declared.word.Word.TheVariants as core
 use Rattle.wrapper_meaning.specs.Cells.{bytes_from}
-use Rattle.wrapper_meaning.specs.Numbers.{is_scalar_value, low_bits}
+use Rattle.wrapper_meaning.specs.Numbers.{is_scalar_value, is_signed, low_bits}
 
 -- 1. The account, where values of the code's own side are of the type V
 
@@ -121,10 +121,13 @@ have_types [] [] = true
 have_types (ty ∷ types) (x ∷ xs) = has_type ty x && have_types types xs
 have_types _ _ = false
 
--- of a bool the low eight bits are 0 or 1, and a char is a Unicode scalar value
+-- of a bool the low eight bits are 0 or 1, and a char is a Unicode scalar value. A word that is a number as it is lies in the number's
+-- range; of another the code has no meaning
 abbrev pub checking : {V : Type 0} → Scalar → Form → Word → Act V (Unit {0})
 checking Scalar.bool f (core.I32 z) acc = if nat_lt (low_bits 8 z) 2 then stay acc else failing f trap.Bool acc
 checking Scalar.char f (core.I32 z) acc = if is_scalar_value (low_bits 32 z) then stay acc else failing f trap.Char acc
+checking Scalar.s32 f (core.I32 z) acc = if is_signed 31 z then stay acc else Stuck acc
+checking Scalar.s64 f (core.I64 z) acc = if is_signed 63 z then stay acc else Stuck acc
 checking _ f x acc = stay acc
 
 -- a word is read as a scalar
