@@ -28,7 +28,7 @@ use Rattle.wrapper_run.specs.Run.{eval, run_stmt, run_stmts}
 use Rattle.wrapper_run.proofs.QuietSteps.{quiet_store}
 use Rattle.wrapper_run.proofs.StepLemmas.{Quiet, quiet_pure, quiet_then}
 use Rattle.abi_driver.specs.declared.instruction.Instruction.{Instruction}
-use Rattle.abi_driver.specs.declared.instruction.Instruction.TheVariants.{F32Store, F64Store, I32Store8, I32Store16, LengthStore, PointerStore}
+use Rattle.abi_driver.specs.declared.instruction.Instruction.TheVariants.{F32Store, F64Store, I32Store, I32Store8, I32Store16, I64Store, LengthStore, PointerStore}
 use Rattle.abi_driver.specs.Account.{Account, Peer}
 use Rattle.abi_driver.specs.Instructions.{Emits, MakesBy, MakesTouch, RowBy, RowTouch, block_results, lifted_scalar, lowered_scalar}
 use Rattle.abi_driver.specs.Laws.{Adds}
@@ -47,7 +47,7 @@ use Rattle.func_gen.specs.MemoryForms.{small_store, whole_store}
 use Rattle.func_gen.specs.Operand.{is_operand}
 use Rattle.func_gen.specs.Read.{env_of}
 use Rattle.func_gen.proofs.Evaluated.{gives}
-use Rattle.func_gen.proofs.MemoryTies.{by_blocks, byte_stored, f32_stored, f64_stored, half_stored, length_stored, pointer_stored, ranged_blocks, stored_low, stored_word}
+use Rattle.func_gen.proofs.MemoryTies.{by_blocks, byte_stored, f32_stored, f64_stored, half_stored, i32_stored, i64_stored, length_stored, pointer_stored, ranged_blocks, stored_low, stored_word}
 use Rattle.func_gen.proofs.Quiet.{quiet_operand}
 use Rattle.func_gen.proofs.ScalarRows.{none_dropped}
 use Rattle.func_gen.proofs.Writing.{Keeps, Writes, finish, finishes, one_adds, there_written, writes}
@@ -191,6 +191,8 @@ record IsStore (i : Instruction) (o : ArchitectureSize) (ty : WasmType) : Type 0
   tie : (address : ℕ) (x : Word) (acc : Account RustValue) → storing 2 (accessed 2 whole false ty) address x acc ≡ ranged_blocks (is_ranged x) (stored_word ty address x acc.heap.blocks) acc
 
 is_store : (i : Instruction) (o : ArchitectureSize) (ty : WasmType) → whole_store i ≡ Some (o, ty) → IsStore i o ty
+is_store (I32Store p) o ty e = subst (λ (q : ArchitectureSize × WasmType). IsStore (I32Store p) q.0 q.1) (some_same (p, wasm.I32) (o, ty) e) (record { lowered = refl; lifted = refl; touched = refl; tie = i32_stored })
+is_store (I64Store p) o ty e = subst (λ (q : ArchitectureSize × WasmType). IsStore (I64Store p) q.0 q.1) (some_same (p, wasm.I64) (o, ty) e) (record { lowered = refl; lifted = refl; touched = refl; tie = i64_stored })
 is_store (F32Store p) o ty e = subst (λ (q : ArchitectureSize × WasmType). IsStore (F32Store p) q.0 q.1) (some_same (p, wasm.F32) (o, ty) e) (record { lowered = refl; lifted = refl; touched = refl; tie = f32_stored })
 is_store (F64Store p) o ty e = subst (λ (q : ArchitectureSize × WasmType). IsStore (F64Store p) q.0 q.1) (some_same (p, wasm.F64) (o, ty) e) (record { lowered = refl; lifted = refl; touched = refl; tie = f64_stored })
 is_store (PointerStore p) o ty e = subst (λ (q : ArchitectureSize × WasmType). IsStore (PointerStore p) q.0 q.1) (some_same (p, wasm.Pointer) (o, ty) e) (record { lowered = refl; lifted = refl; touched = refl; tie = pointer_stored })

@@ -9,11 +9,13 @@ use Rattle.rust_tree.specs.declared.expr.SmallType.{SmallType}
 use Rattle.rust_tree.specs.declared.expr.SmallType.TheVariants as small
 use Rattle.rust_tree.specs.declared.runtime_item.RuntimeItem.TheVariants.{CabiDealloc}
 use Rattle.abi_driver.specs.declared.instruction.Instruction.{Instruction}
-use Rattle.abi_driver.specs.declared.instruction.Instruction.TheVariants.{F32Store, F64Store, I32Store8, I32Store16, LengthStore, PointerStore}
+use Rattle.abi_driver.specs.declared.instruction.Instruction.TheVariants.{F32Store, F64Store, I32Store, I32Store8, I32Store16, I64Store, LengthStore, PointerStore}
 use Rattle.func_gen.specs.Forms.{runtime_path}
 
 -- a whole word is stored, at an offset
 abbrev pub whole_store : Instruction → Option (ArchitectureSize × WasmType)
+whole_store (I32Store o) = Some (o, wasm.I32)
+whole_store (I64Store o) = Some (o, wasm.I64)
 whole_store (F32Store o) = Some (o, wasm.F32)
 whole_store (F64Store o) = Some (o, wasm.F64)
 whole_store (PointerStore o) = Some (o, wasm.Pointer)

@@ -23,6 +23,8 @@ pub(crate) fn whole_store(inst: &Instruction) -> Option<(ArchitectureSize, WasmT
     ensures { result ≡ whole_store inst.now }
 {
     match *inst {
+        Instruction::I32Store(o) => Some((o, WasmType::I32)),
+        Instruction::I64Store(o) => Some((o, WasmType::I64)),
         Instruction::F32Store(o) => Some((o, WasmType::F32)),
         Instruction::F64Store(o) => Some((o, WasmType::F64)),
         Instruction::PointerStore(o) => Some((o, WasmType::Pointer)),
