@@ -4,6 +4,8 @@ pub mod Evaluated
 pub mod FreeRow
 pub mod Lasting
 pub mod LiftedRows
+pub mod LoadRows
+pub mod LoadTies
 pub mod MemoryTies
 pub mod Moves
 pub mod Moving

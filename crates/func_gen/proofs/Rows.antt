@@ -93,11 +93,14 @@ module _ (old new : FunctionBindgen) (items : List RuntimeItem) (a : Appends old
 
 -- 2. One statement, which binds a local
 
--- what an expression gives agrees with an action that changes nothing
+-- what an expression gives agrees with an action that changes nothing, and is what its result says
+abbrev pub AgreesBy : (A : Type 0) (acc : Account RustValue) → Outcome RustValue (Got RustValue A) → machine.Outcome Val → State → (A → Datum RustValue) → Type 0
+AgreesBy A acc (Done x) q s d = (x.account ≡ acc) × ((v : Val) × (q ≡ machine.Done v s) × (owned v ≡ []) × Says (d x.result) (option_and_then usable (Some v)))
+AgreesBy A acc (Stopped e left) q s d = seen None (and_then q (λ v. pure tt)) ≡ Stopped e left
+AgreesBy A acc (Stuck left) q s d = left.calls ≡ acc.calls
+
 abbrev pub Agrees : (acc : Account RustValue) → Outcome RustValue (Got RustValue (Unit {0})) → machine.Outcome Val → State → Datum RustValue → Type 0
-Agrees acc (Done x) q s d = (x.account ≡ acc) × ((v : Val) × (q ≡ machine.Done v s) × (owned v ≡ []) × Says d (option_and_then usable (Some v)))
-Agrees acc (Stopped e left) q s d = seen None (and_then q (λ v. pure tt)) ≡ Stopped e left
-Agrees acc (Stuck left) q s d = left.calls ≡ acc.calls
+Agrees acc o q s d = AgreesBy (Unit {0}) acc o q s (λ u. d)
 
 pub quiet_let : (n : Bytes) (e : Expr) → ((w : Setting) → Quiet (eval w e)) → (w : Setting) → Quiet (run_stmts w (stmt.Let n e ∷ []))
 quiet_let n e q w = quiet_then (λ s. and_then (eval w e s) (bind n)) (λ u. pure tt) (quiet_then (eval w e) (bind n) (q w) (λ v. quiet_bind n v)) (λ u. quiet_pure tt)
@@ -132,27 +135,27 @@ module _ (old new : FunctionBindgen) (n : Bytes) (e : Expr) (items : List Runtim
       (λ env at. subst (Says d) (sym (ap (λ (r : Read). r.at env) (read-local w.items n) ∙ ap (option_and_then usable) at)) says)
       (reads-new n (Some v) s.machine.locals) none last)
 
-  pub lets : (ins : Facts func_meaning) (act : Peer RustValue → Act RustValue (Unit {0})) (d : Datum RustValue) (Outs : Facts func_meaning → Type 0) → Outs (of (operand_of (expr.Local n)) d ∷ [])
-      → ((w : File) (p : Peer RustValue) (s : State) → Found w.items items → Hold w.items old ins s → Agrees (account_of s) (act p (account_of s)) (eval (setting_for w p) e s) s d)
-      → Does func_meaning (Unit {0}) old new ins act (λ u fs. Outs fs) (λ u. []) (λ u. [])
-  lets ins act d Outs outs agrees w p others s0 s at =
+  pub lets_by : (A : Type 0) (ins : Facts func_meaning) (act : Peer RustValue → Act RustValue A) (d : A → Datum RustValue) (Outs : A → Facts func_meaning → Type 0) → ((x : A) → Outs x (of (operand_of (expr.Local n)) (d x) ∷ []))
+      → ((w : File) (p : Peer RustValue) (s : State) → Found w.items items → Hold w.items old ins s → AgreesBy A (account_of s) (act p (account_of s)) (eval (setting_for w p) e s) s d)
+      → Does func_meaning A old new ins act Outs (λ x. []) (λ x. [])
+  lets_by A ins act d Outs outs agrees w p others s0 s at =
       let found = found_right w.items old.runtime items (subst (Found w.items) a.runtime at.serves.runtime) in
       let here = part w.items old ins (ins ++ others) s.machine (λ g. omega (arith, total-append g ins others)) at.holds.hold in
       go (act p (account_of s.machine)) (agrees w p s.machine found here)
     where
-      go : (o : Outcome RustValue (Got RustValue (Unit {0}))) → Agrees (account_of s.machine) o (eval (setting_for w p) e s.machine) s.machine d
-          → Follows func_meaning.account o (func_meaning.does w p new.code s0) (λ x t. (fs : Facts func_meaning) × Outs fs × After func_meaning w new (fs ++ others) [] [] s x t)
+      go : (o : Outcome RustValue (Got RustValue A)) → AgreesBy A (account_of s.machine) o (eval (setting_for w p) e s.machine) s.machine d
+          → Follows func_meaning.account o (func_meaning.does w p new.code s0) (λ x t. (fs : Facts func_meaning) × Outs x.result fs × After func_meaning w new (fs ++ others) [] [] s x t)
       go (Done x) (same, (v, gives, none, says)) =
           let t = with_local s.machine n v in (
             record { machine = t; area = s.area },
             ran old new (stmt.Let n e ∷ []) items a w p (ins ++ others) s0 s at ∙ ap (seen s.area) (binds (setting_for w p) n e v s.machine gives),
             (
-              of (operand_of (expr.Local n)) d ∷ [],
-              outs,
+              of (operand_of (expr.Local n)) (d x.result) ∷ [],
+              outs x.result,
               record {
                 account = sym same;
                 owns = λ g. let none_more = ap (total g) none in omega (arith, total-append g (owns_of t) [], total-append g (owns_of s.machine) [], owns_with g s.machine n v, none_more);
-                denotes = bound ins others w s v d at.holds none says;
+                denotes = bound ins others w s v (d x.result) at.holds none says;
               },
             ),
           )
@@ -160,6 +163,11 @@ module _ (old new : FunctionBindgen) (n : Bytes) (e : Expr) (items : List Runtim
       go (Stuck left) h =
           ap (λ o. (account_in func_meaning.account o).calls) (ran old new (stmt.Let n e ∷ []) items a w p (ins ++ others) s0 s at)
           ∙ seen_calls s.area (run_stmts (setting_for w p) (stmt.Let n e ∷ []) s.machine) ∙ ap (map call_of) ((quiet_let n e quiet (setting_for w p)).quiet s.machine) ∙ sym h
+
+  pub lets : (ins : Facts func_meaning) (act : Peer RustValue → Act RustValue (Unit {0})) (d : Datum RustValue) (Outs : Facts func_meaning → Type 0) → Outs (of (operand_of (expr.Local n)) d ∷ [])
+      → ((w : File) (p : Peer RustValue) (s : State) → Found w.items items → Hold w.items old ins s → Agrees (account_of s) (act p (account_of s)) (eval (setting_for w p) e s) s d)
+      → Does func_meaning (Unit {0}) old new ins act (λ u fs. Outs fs) (λ u. []) (λ u. [])
+  lets ins act d Outs outs agrees = lets_by (Unit {0}) ins act (λ u. d) (λ u fs. Outs fs) (λ u. outs) agrees
 
 -- 3. As the operands and the results are
 

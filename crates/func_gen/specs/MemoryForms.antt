@@ -9,7 +9,7 @@ use Rattle.rust_tree.specs.declared.expr.SmallType.{SmallType}
 use Rattle.rust_tree.specs.declared.expr.SmallType.TheVariants as small
 use Rattle.rust_tree.specs.declared.runtime_item.RuntimeItem.TheVariants.{CabiDealloc}
 use Rattle.abi_driver.specs.declared.instruction.Instruction.{Instruction}
-use Rattle.abi_driver.specs.declared.instruction.Instruction.TheVariants.{F32Store, F64Store, I32Store, I32Store8, I32Store16, I64Store, LengthStore, PointerStore}
+use Rattle.abi_driver.specs.declared.instruction.Instruction.TheVariants.{F32Load, F32Store, F64Load, F64Store, I32Load, I32Load16S, I32Load16U, I32Load8S, I32Load8U, I32Store, I32Store8, I32Store16, I64Load, I64Store, LengthLoad, LengthStore, PointerLoad, PointerStore}
 use Rattle.func_gen.specs.Forms.{runtime_path}
 
 -- a whole word is stored, at an offset
@@ -27,6 +27,24 @@ abbrev pub small_store : Instruction → Option (ArchitectureSize × SmallType)
 small_store (I32Store8 o) = Some (o, small.U8)
 small_store (I32Store16 o) = Some (o, small.U16)
 small_store _ = None
+
+-- a whole word is loaded, at an offset
+abbrev pub whole_load : Instruction → Option (ArchitectureSize × WasmType)
+whole_load (I32Load o) = Some (o, wasm.I32)
+whole_load (I64Load o) = Some (o, wasm.I64)
+whole_load (F32Load o) = Some (o, wasm.F32)
+whole_load (F64Load o) = Some (o, wasm.F64)
+whole_load (PointerLoad o) = Some (o, wasm.Pointer)
+whole_load (LengthLoad o) = Some (o, wasm.Length)
+whole_load _ = None
+
+-- a small number is, as a word
+abbrev pub small_load : Instruction → Option (ArchitectureSize × SmallType)
+small_load (I32Load8U o) = Some (o, small.U8)
+small_load (I32Load8S o) = Some (o, small.I8)
+small_load (I32Load16U o) = Some (o, small.U16)
+small_load (I32Load16S o) = Some (o, small.I16)
+small_load _ = None
 
 -- the call that frees so many bytes at an address
 abbrev pub text_freed : Expr → Expr → Expr

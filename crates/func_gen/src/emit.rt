@@ -1,6 +1,7 @@
 //! The code of each instruction.
 
 mod calls;
+mod loads;
 mod memory;
 mod parts;
 mod scalars;
@@ -10,6 +11,7 @@ ghost use Rattle.abi_driver.specs.Instructions.{Emits};
 ghost use Rattle.abi_driver.specs.declared.instruction.Instruction.TheVariants as instruction;
 ghost use Rattle.func_gen.specs.Meaning.{func_meaning};
 
+pub(crate) use crate::emit::loads::{small_load, whole_load};
 pub(crate) use crate::emit::memory::{small_store, whole_store};
 pub(crate) use crate::emit::scalars::{conversion, is_kept, number_cast};
 use crate::function_bindgen::FunctionBindgen;

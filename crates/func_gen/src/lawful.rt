@@ -1,6 +1,8 @@
 //! The laws are kept.
 
-use crate::emit::{conversion, is_kept, number_cast, small_store, whole_store};
+use crate::emit::{
+    conversion, is_kept, number_cast, small_load, small_store, whole_load, whole_store,
+};
 use crate::function_bindgen::FunctionBindgen;
 use crate::operand::ExprOperand;
 use abi_driver::{Bindgen, Instruction};
@@ -17,7 +19,7 @@ impl Bindgen for FunctionBindgen {
 
     ghost sound = { func_sound };
 
-    /// The statements of arguments and scalars, of tuples that are lifted, of stores, of texts that are freed and of the call of a core
+    /// The statements of arguments and scalars, of tuples that are lifted, of stores and loads, of texts that are freed and of the call of a core
     /// import, and what the code gives. Of any other instruction so far, and of an expression that is no operand, the answer is
     /// `OutOfMemory`.
     fn emit(
@@ -41,6 +43,12 @@ impl Bindgen for FunctionBindgen {
         }
         if let Some(place) = small_store(inst) {
             return self.store_low(resolve, inst, place, operands, results);
+        }
+        if let Some(place) = whole_load(inst) {
+            return self.load(resolve, inst, place, operands, results);
+        }
+        if let Some(place) = small_load(inst) {
+            return self.load_low(resolve, inst, place, operands, results);
         }
         match *inst {
             Instruction::GetArg(n) => self.get_arg(resolve, n, results),
