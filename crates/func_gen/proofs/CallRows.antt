@@ -213,7 +213,7 @@ module _ (old new : FunctionBindgen) (file : File) (p : Peer RustValue) (d : Imp
 
 -- 4. The rows
 
-split_used : (old new : FunctionBindgen) (names : List Bytes) → FreshAll old new names → (k : Bytes) → is_used new.scope.used k ≡ false → (is_used old.scope.used k ≡ false) × (is_used names k ≡ false)
+pub split_used : (old new : FunctionBindgen) (names : List Bytes) → FreshAll old new names → (k : Bytes) → is_used new.scope.used k ≡ false → (is_used old.scope.used k ≡ false) × (is_used names k ≡ false)
 split_used old new names f k free = or_parts (is_used old.scope.used k) (is_used names k) (sym (list_any-append (λ u. bytes_eq u k) old.scope.used names) ∙ sym (ap (λ us. is_used us k) f.used) ∙ free)
 
 abbrev core_of : List TypeDef → FunctionBindgen → Function → Option WasmType → Bytes → ImportDecl

@@ -10,6 +10,7 @@ pub mod MemoryTies
 pub mod Moves
 pub mod Moving
 pub mod PartRows
+pub mod PartsTaken
 pub mod Quiet
 pub mod Rows
 pub mod RuntimeItems
@@ -19,4 +20,5 @@ pub mod Several
 pub mod Starting
 pub mod Steps
 pub mod StoreRows
+pub mod TupleRows
 pub mod Writing

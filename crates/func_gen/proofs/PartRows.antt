@@ -1,5 +1,5 @@
 -- The row of tuples that are made of their parts.
-use Rattle.std.proofs.Common.{◌≡◌, ℕ, Bool, true, false, List, [], ◌∷◌, ◌++◌, length, map, Option, None, Some, refl, sym, ap, ap₂, ◌∙◌, subst, arith}
+use Rattle.std.proofs.Common.{◌≡◌, ℕ, suc, Bool, true, false, List, [], ◌∷◌, ◌++◌, length, map, Option, None, Some, refl, sym, ap, ap₂, ◌∙◌, subst, arith}
 use Rattle.std.specs.List.{flat_map}
 use Rattle.std.specs.Prelude.{option_and_then}
 use Rattle.std.specs.Option.{option_map}
@@ -20,7 +20,6 @@ use Rattle.wrapper_data.specs.declared.word.Word.TheVariants as core
 use Rattle.wrapper_meaning.specs.Direction.{Direction, give, lend, make, take}
 use Rattle.wrapper_meaning.specs.Items.{total}
 use Rattle.wrapper_meaning.specs.Shape.{Shapes}
-use Rattle.wrapper_meaning.specs.Shape.Shape.{tuple}
 use Rattle.wrapper_meaning.specs.Shape.Shapes.{none, more}
 use Rattle.wrapper_meaning.specs.StandsFor as rust
 use Rattle.wrapper_meaning.specs.Value.{Parts}
@@ -40,18 +39,18 @@ use Rattle.wrapper_run.proofs.PartSteps.{eval-tuple}
 use Rattle.wrapper_run.proofs.StepLemmas.{Quiet, quiet_or_stop, quiet_pure, quiet_then}
 use Rattle.abi_driver.specs.declared.bindgen.Asked.{Asked}
 use Rattle.abi_driver.specs.declared.instruction.Instruction.TheVariants.{TupleLift}
-use Rattle.abi_driver.specs.Account.{Account}
+use Rattle.abi_driver.specs.Account.{Account, Peer}
 use Rattle.abi_driver.specs.Instructions.{Emits}
 use Rattle.abi_driver.specs.Laws.{Facts, Stays, item_data, ofs}
 use Rattle.abi_driver.specs.Meaning.{item, of}
-use Rattle.abi_driver.specs.Parts.{PartsStand}
+use Rattle.abi_driver.specs.Parts.{PartsStand, count}
 use Rattle.abi_driver.proofs.Runs.{total-append}
 use Rattle.func_gen.specs.declared.function_bindgen.FunctionBindgen.{FunctionBindgen}
 use Rattle.func_gen.specs.declared.operand.ExprOperand.{ExprOperand}
 use Rattle.func_gen.specs.Added.{Appends, Fresh}
 use Rattle.func_gen.specs.Facts.{AreOwned}
 use Rattle.func_gen.specs.Forms.{operand_of}
-use Rattle.func_gen.specs.Meaning.{AreaIs, IsNormal, StandsAsItIs, func_meaning, owns_of, passing_level, seen, setting_for}
+use Rattle.func_gen.specs.Meaning.{AreaIs, File, IsNormal, Serves, func_meaning, owns_of, passing_level, seen, setting_for}
 use Rattle.func_gen.specs.Operand.{is_operand}
 use Rattle.func_gen.specs.PartForms.{are_operands, exprs_of}
 use Rattle.func_gen.specs.Read.{env_of}
@@ -83,12 +82,17 @@ all_owned [] rs h = ap taken_by (sym h)
 all_owned (v ∷ vs) [] h = absurd h
 all_owned (v ∷ vs) (r ∷ rs) h = ap₂ (λ x y. x ++ y) (owned_is v r h.0) (all_owned vs rs h.1)
 
-all_rust : (vs : List Val) (rs : List RustValue) → Are vs rs → rust_values vs ≡ Some rs
+pub all_rust : (vs : List Val) (rs : List RustValue) → Are vs rs → rust_values vs ≡ Some rs
 all_rust [] rs h = ap (λ x. Some x) (sym h)
 all_rust (v ∷ vs) [] h = absurd h
 all_rust (v ∷ vs) (r ∷ rs) h = ap (option_and_then (λ r. option_map (λ rs. r ∷ rs) (rust_values vs))) h.0 ∙ ap (option_map (λ rs. r ∷ rs)) (all_rust vs rs h.1)
 
-struct_level : (dir : Direction) (rs : List RustValue) → passing_level dir (RustValue-F.Struct rs) ≡ value.Struct rs
+are_many : (vs : List Val) (rs : List RustValue) → Are vs rs → length vs ≡ length rs
+are_many [] rs h = sym (ap length h)
+are_many (v ∷ vs) [] h = absurd h
+are_many (v ∷ vs) (r ∷ rs) h = ap suc (are_many vs rs h.1)
+
+pub struct_level : (dir : Direction) (rs : List RustValue) → passing_level dir (RustValue-F.Struct rs) ≡ value.Struct rs
 struct_level (lend blocks) rs = refl
 struct_level (make blocks) rs = refl
 struct_level give rs = refl
@@ -106,7 +110,11 @@ parts_stand dir (more t ts) v rs own (r, others, first, rest, is, h, hs, all) =
     let later = parts_stand dir ts v.1 others rest hs in
     ((r, others, first, rest, is, h.0, later.0, all), ap (map (fold-RustValue RustValue (passing_level dir))) is ∙ ap₂ (λ x xs. x ∷ xs) h.1 later.1 ∙ sym is)
 
-whole_stands : (ts : Shapes) (v : Parts ts) (rs : List RustValue) (own : List Block) → PartsStand func_meaning take ts v rs own → StandsAsItIs take (tuple ts) v (value.Struct rs) own
+-- a value stands as it is that consists of such parts
+abbrev pub Consists : (ts : Shapes) → Parts ts → RustValue → List Block → Type 0
+Consists ts v r own = ((rs : List RustValue) × (r ≡ value.Struct rs) × rust.PartsStand 2 take ts v rs own) × IsNormal take r
+
+whole_stands : (ts : Shapes) (v : Parts ts) (rs : List RustValue) (own : List Block) → PartsStand func_meaning take ts v rs own → Consists ts v (value.Struct rs) own
 whole_stands ts v rs own h = let both = parts_stand take ts v rs own h in ((rs, refl, both.0), normal_struct take rs both.1)
 
 -- 2. A tuple makes no call
@@ -138,7 +146,7 @@ binds_to : (w : Setting) (n : Bytes) (e : Expr) (v : Val) (s t : State) → eval
 unfolding bind
 binds_to w n e v s t h = ap (λ o. and_then (and_then o (bind n)) (λ u. pure tt)) h
 
-areas_last : (import : Bool) (area : Option Request) (at : Option ℕ) (asked : List Asked) (name : Bytes) (s t : State) → ((k : Bytes) (a z : ℕ) → env_of s k ≡ Some (val.Area a z) → env_of t k ≡ Some (val.Area a z)) → t.place ≡ s.place
+pub areas_last : (import : Bool) (area : Option Request) (at : Option ℕ) (asked : List Asked) (name : Bytes) (s t : State) → ((k : Bytes) (a z : ℕ) → env_of s k ≡ Some (val.Area a z) → env_of t k ≡ Some (val.Area a z)) → t.place ≡ s.place
     → AreaIs import area at asked name s → AreaIs import area at asked name t
 areas_last true None None asked name s t stays p h = tt
 areas_last true None (Some address) asked name s t stays p h = h
@@ -148,7 +156,10 @@ areas_last false area at asked name s t stays p h = λ e. p ∙ h e
 
 -- 4. The row
 
-module _ (old new : FunctionBindgen) (n : Bytes) (os : List ExprOperand) (a : Appends old new (stmt.Let n (expr.Tuple (exprs_of os)) ∷ []) []) (fresh : Fresh old new n) where
+-- where an expression gives the whole of what the operands give
+module _ (old new : FunctionBindgen) (n : Bytes) (os : List ExprOperand) (e : Expr) (a : Appends old new (stmt.Let n e ∷ []) []) (fresh : Fresh old new n)
+    (gives : (w : File) (p : Peer RustValue) (vs : List Val) (rs : List RustValue) (s t : State) → Serves w new → length vs ≡ length os → all (map (λ (o : ExprOperand). eval (setting_for w p) o.expr) os) s ≡ machine.Done vs t → Are vs rs
+    → eval (setting_for w p) e s ≡ machine.Done (val.Value (value.Struct rs)) t) where
   makes_whole : (rs : List RustValue) (Outs : Facts func_meaning → Type 0) → length os ≡ length rs → Outs (of (operand_of (expr.Local n)) (item (value.Struct rs)) ∷ [])
       → Stays func_meaning old new (ofs func_meaning os (item_data func_meaning rs)) Outs
   makes_whole rs Outs len outs w p others s0 s at =
@@ -158,8 +169,8 @@ module _ (old new : FunctionBindgen) (n : Bytes) (os : List ExprOperand) (a : Ap
       let t = with_local u.then n v in
       let under = bound_under u.then n v (u.holds.within n fresh.free) in (
         record { machine = t; area = s.area },
-        ran old new (stmt.Let n (expr.Tuple (exprs_of os)) ∷ []) [] a w p (ins ++ others) s0 s at
-            ∙ ap (seen s.area) (binds_to (setting_for w p) n (expr.Tuple (exprs_of os)) v s.machine u.then (tuple_gives (setting_for w p) os u.given rs s.machine u.then u.evaluated u.is)),
+        ran old new (stmt.Let n e ∷ []) [] a w p (ins ++ others) s0 s at
+            ∙ ap (seen s.area) (binds_to (setting_for w p) n e v s.machine u.then (gives w p u.given rs s.machine u.then at.serves (are_many u.given rs u.is ∙ sym len) u.evaluated u.is)),
         (
           of (operand_of (expr.Local n)) (item (value.Struct rs)) ∷ [],
           outs,
@@ -173,11 +184,18 @@ module _ (old new : FunctionBindgen) (n : Bytes) (os : List ExprOperand) (a : Ap
               hold = add_local w.items old new others u.then n v (item (value.Struct rs)) a.params fresh refl u.holds;
               owners = subst (λ (acc : Account RustValue). AreOwned acc.heap.blocks acc.taken) (sym u.account) at.holds.owners;
               area = areas_last new.import w.area s.area new.asked new.area s.machine t (λ k x z is. under k (val.Area x z) (u.areas k x z is)) u.place
-                  (area_same w old new s.area s.machine (same_area old new (stmt.Let n (expr.Tuple (exprs_of os)) ∷ []) [] a) at.holds.area);
+                  (area_same w old new s.area s.machine (same_area old new (stmt.Let n e ∷ []) [] a) at.holds.area);
             };
           },
         ),
       )
+
+  pub lifts_whole : (ts : Shapes) → length os ≡ count ts → (rs : List RustValue) → length rs ≡ count ts
+      → Stays func_meaning old new (ofs func_meaning os (item_data func_meaning rs))
+      (λ fs. (r : RustValue) × (fs ≡ of (operand_of (expr.Local n)) (item r) ∷ []) × ((v : Parts ts) (own : List Block) → PartsStand func_meaning take ts v rs own → Consists ts v r own))
+  lifts_whole ts many rs len = makes_whole rs
+      (λ fs. (r : RustValue) × (fs ≡ of (operand_of (expr.Local n)) (item r) ∷ []) × ((v : Parts ts) (own : List Block) → PartsStand func_meaning take ts v rs own → Consists ts v r own))
+      (many ∙ sym len) (value.Struct rs, refl, λ v own h. whole_stands ts v rs own h)
 
 pub tuple_row : (types : List TypeDef) (old new : FunctionBindgen) (n : Bytes) (k : ℕ) (os : List ExprOperand) → length os ≡ k → are_operands os ≡ true → Appends old new (stmt.Let n (expr.Tuple (exprs_of os)) ∷ []) [] → Fresh old new n
     → Emits func_meaning types (TupleLift k) os (operand_of (expr.Local n) ∷ []) old new
@@ -188,7 +206,5 @@ tuple_row types old new n k os many ok a fresh = record {
   asked = a.asked;
   form = tt;
   results = refl;
-  row = λ ts is rs len. makes_whole old new n os a fresh rs
-      (λ fs. (r : RustValue) × (fs ≡ of (operand_of (expr.Local n)) (item r) ∷ []) × ((v : Parts ts) (own : List Block) → PartsStand func_meaning take ts v rs own → StandsAsItIs take (tuple ts) v r own))
-      (many ∙ sym is ∙ sym len) (value.Struct rs, refl, λ v own h. whole_stands ts v rs own h);
+  row = λ ts is. lifts_whole old new n os (expr.Tuple (exprs_of os)) a fresh (λ w p vs rs s t h len done are. tuple_gives (setting_for w p) os vs rs s t done are) ts (many ∙ sym is);
 }

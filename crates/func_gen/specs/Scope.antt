@@ -37,3 +37,9 @@ pub record IsLeastFree (used : List Bytes) (next : ℕ) (names : List LocalName)
 pub record Declares (before : Scope) (names : List LocalName) (t : ℕ) (after : Scope) : Type 0 where
   pub number : IsLeastFree before.used before.next names t
   pub leaves : after ≡ record { used = before.used ++ names_at names t; next = t + 1 }
+
+-- and these are the names with it
+pub record DeclaresAs (before : Scope) (names : List LocalName) (texts : List Bytes) (after : Scope) : Type 0 where
+  pub number : ℕ
+  pub declares : Declares before names number after
+  pub are : texts ≡ names_at names number

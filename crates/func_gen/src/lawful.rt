@@ -19,7 +19,7 @@ impl Bindgen for FunctionBindgen {
 
     ghost sound = { func_sound };
 
-    /// The statements of arguments and scalars, of tuples that are lifted, of stores and loads, of texts that are freed and of the call of a core
+    /// The statements of arguments and scalars, of tuples, of stores and loads, of texts that are freed and of the call of a core
     /// import, and what the code gives. Of any other instruction so far, and of an expression that is no operand, the answer is
     /// `OutOfMemory`.
     fn emit(
@@ -56,6 +56,7 @@ impl Bindgen for FunctionBindgen {
             Instruction::I32FromBool => self.lower_bool(resolve, operands, results),
             Instruction::BoolFromI32 => self.lift_bool(resolve, operands, results),
             Instruction::CharFromI32 => self.lift_char(resolve, operands, results),
+            Instruction::TupleLower(n) => self.lower_tuple(resolve, n, operands, results),
             Instruction::TupleLift(n) => self.lift_tuple(resolve, n, operands, results),
             Instruction::GuestDeallocateString => self.free_text(resolve, operands, results),
             Instruction::CallWasm(func) => self.call_core(resolve, func, operands, results),

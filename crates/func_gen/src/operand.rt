@@ -56,7 +56,7 @@ fn copy_path(path: &Path, alloc: Global) -> Result<Path, OutOfMemory>
     })
 }
 
-fn copy_names(names: &[Text], alloc: Global) -> Result<List<Text>, OutOfMemory>
+pub(crate) fn copy_names(names: &[Text], alloc: Global) -> Result<List<Text>, OutOfMemory>
     ensures { IfOk result (λ copies. copies ≡ names.now) }
 {
     let mut copies = List::new(alloc);

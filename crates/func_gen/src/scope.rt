@@ -1,7 +1,7 @@
 //! The numbers of a wrapper's locals.
 
 ghost use Rattle.std.specs.Prelude.{◌≡◌, ◌+◌, ◌^◌, ◌<◌, ◌++◌, IfOk, OnOk};
-ghost use Rattle.func_gen.specs.Scope.{Declares, IsLeastFree, is_free, is_used, names_at, numbered};
+ghost use Rattle.func_gen.specs.Scope.{Declares, DeclaresAs, IsLeastFree, is_free, is_used, names_at, numbered};
 
 use std::alloc::Global;
 use wit_model::{List, OutOfMemory, Text};
@@ -102,5 +102,19 @@ impl Scope {
         push_names(alloc, &mut self.used, names, t)?;
         self.next = t + 1;
         Ok(t)
+    }
+
+    /// The names of an operation that declares some, which get one number.
+    pub(crate) fn declare_all(
+        &mut self,
+        alloc: Global,
+        names: &[LocalName<'_>],
+    ) -> Result<List<Text>, OutOfMemory>
+        ensures { IfOk result (λ texts. DeclaresAs self.old names.now texts self.new) }
+    {
+        let t = self.declare(alloc, names)?;
+        let mut texts = List::new(alloc);
+        push_names(alloc, &mut texts, names, t)?;
+        Ok(texts)
     }
 }

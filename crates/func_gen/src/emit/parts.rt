@@ -1,16 +1,36 @@
-//! Tuples are made of their parts.
+//! Tuples are taken apart, and made of their parts.
 
-ghost use Rattle.std.specs.Prelude.{◌≡◌, [], true, length, IfOk, OnOk};
+ghost use Rattle.std.specs.Prelude.{◌≡◌, ◌∷◌, ◌++◌, ℕ, [], true, length, IfOk, OnOk};
+ghost use Rattle.rust_tree.specs.declared.pattern.Pattern.TheVariants as pattern;
+ghost use Rattle.rust_tree.specs.declared.stmt.Stmt.TheVariants as stmt;
 ghost use Rattle.abi_driver.specs.Instructions.{Emits};
 ghost use Rattle.abi_driver.specs.declared.instruction.Instruction.TheVariants as instruction;
+ghost use Rattle.func_gen.specs.Added.{Appends};
+ghost use Rattle.func_gen.specs.CallForms.{FreshAll};
 ghost use Rattle.func_gen.specs.Meaning.{func_meaning};
-ghost use Rattle.func_gen.specs.PartForms.{are_operands, exprs_of};
+ghost use Rattle.func_gen.specs.PartForms.{are_operands, exprs_of, locals_of, names_from};
+ghost use Rattle.func_gen.specs.Scope.{names_at};
 
+use crate::added::only_operand;
 use crate::function_bindgen::FunctionBindgen;
-use crate::operand::{ExprOperand, copy_expr, is_operand};
-use rust_tree::Expr;
+use crate::operand::{ExprOperand, copy_expr, copy_names, is_operand};
+use crate::scope::LocalName;
+use rust_tree::{Expr, Pattern, Stmt};
 use std::alloc::Global;
-use wit_model::{List, OutOfMemory, Resolve};
+use wit_model::{List, OutOfMemory, Resolve, Text};
+
+/// The names of a tuple's parts, which get one number.
+#[tactic(auto, unfolding(crate::specs::PartForms::part_prefix))]
+fn part_names(alloc: Global, count: u32) -> Result<List<LocalName<'static>>, OutOfMemory>
+    ensures { IfOk result (λ names. (t : ℕ) → names_at names t ≡ names_from t 0 count) }
+{
+    let mut names = List::new(alloc);
+    for part in 0..count {
+        let part = Some(part);
+        names.push(LocalName { prefix: "t", part })?;
+    }
+    Ok(names)
+}
 
 /// The expressions of operands. Of an expression that is no operand there is no memory.
 fn operand_exprs(alloc: Global, operands: &[ExprOperand]) -> Result<List<Expr>, OutOfMemory>
@@ -27,7 +47,54 @@ fn operand_exprs(alloc: Global, operands: &[ExprOperand]) -> Result<List<Expr>, 
     Ok(es)
 }
 
+/// An operand for each local.
+pub(crate) fn push_locals(
+    alloc: Global,
+    names: &[Text],
+    results: &mut List<ExprOperand>,
+) -> Result<(), OutOfMemory>
+    ensures { OnOk result (results.new ≡ results.old ++ locals_of names.now) }
+{
+    for name in names {
+        let expr = Expr::Local(name.copy(alloc)?);
+        results.push(ExprOperand { expr })?;
+    }
+    Ok(())
+}
+
 impl FunctionBindgen {
+    /// The names of new locals, one for each part of a tuple.
+    fn add_parts(&mut self, count: u32, e: Expr) -> Result<List<Text>, OutOfMemory>
+        ensures adds { IfOk result (λ names. Appends self.old self.new (stmt.LetParts (pattern.Tuple names) e ∷ []) []) }
+        ensures fresh { IfOk result (λ names. FreshAll self.old self.new names) }
+        ensures named { IfOk result (λ names. (t : ℕ) × (names ≡ names_from t 0 count)) }
+    {
+        let parts = part_names(self.alloc, count)?;
+        let names = self.scope.declare_all(self.alloc, parts.as_slice())?;
+        let copies = copy_names(names.as_slice(), self.alloc)?;
+        self.code
+            .stmts
+            .push(Stmt::LetParts(Pattern::Tuple(names), e))?;
+        Ok(copies)
+    }
+
+    pub(crate) fn lower_tuple(
+        &mut self,
+        resolve: &Resolve,
+        count: u32,
+        operands: &List<ExprOperand>,
+        results: &mut List<ExprOperand>,
+    ) -> Result<(), OutOfMemory>
+        requires one { length operands.now ≡ 1 }
+        requires empty { results.old ≡ [] }
+        ensures { OnOk result (Emits func_meaning resolve.now.types (instruction.TupleLower count) operands.now results.new self.old self.new) }
+    {
+        let e = only_operand(self.alloc, operands)?;
+        let names = self.add_parts(count, e)?;
+        push_locals(self.alloc, names.as_slice(), results)?;
+        Ok(())
+    }
+
     pub(crate) fn lift_tuple(
         &mut self,
         resolve: &Resolve,
