@@ -1,6 +1,7 @@
 pub mod CallRows
 pub mod CallWords
 pub mod Evaluated
+pub mod FlushRow
 pub mod FreeRow
 pub mod Lasting
 pub mod LiftedRows
@@ -9,6 +10,7 @@ pub mod LoadTies
 pub mod MemoryTies
 pub mod Moves
 pub mod Moving
+pub mod PartNames
 pub mod PartRows
 pub mod PartsTaken
 pub mod Quiet

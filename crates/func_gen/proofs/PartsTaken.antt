@@ -73,20 +73,20 @@ use Rattle.func_gen.proofs.Several.{add_local}
 -- 1. New locals, one after the other
 
 -- with these names used too
-abbrev using : FunctionBindgen → List Bytes → FunctionBindgen
+abbrev pub using : FunctionBindgen → List Bytes → FunctionBindgen
 using b [] = b
 using b (n ∷ ns) = using (record b { scope = record b.scope { used = b.scope.used ++ n ∷ [] } }) ns
 
-using_params : (b : FunctionBindgen) (names : List Bytes) → (using b names).params ≡ b.params
+pub using_params : (b : FunctionBindgen) (names : List Bytes) → (using b names).params ≡ b.params
 using_params b [] = refl
 using_params b (n ∷ ns) = using_params (record b { scope = record b.scope { used = b.scope.used ++ n ∷ [] } }) ns
 
-using_used : (b : FunctionBindgen) (names : List Bytes) → (using b names).scope.used ≡ b.scope.used ++ names
+pub using_used : (b : FunctionBindgen) (names : List Bytes) → (using b names).scope.used ≡ b.scope.used ++ names
 using_used b [] = sym (append-nil b.scope.used)
 using_used b (n ∷ ns) = using_used (record b { scope = record b.scope { used = b.scope.used ++ n ∷ [] } }) ns ∙ append_assoc b.scope.used (n ∷ []) ns
 
 -- each name is free where those before it are used
-abbrev AllFree : List Bytes → List Bytes → Type 0
+abbrev pub AllFree : List Bytes → List Bytes → Type 0
 AllFree used [] = Unit {0}
 AllFree used (n ∷ ns) = (is_used used n ≡ false) × AllFree (used ++ n ∷ []) ns
 
@@ -203,7 +203,7 @@ either false c e = e
 none_used : (used : List Bytes) (n k : Bytes) → is_used used k ≡ false → bytes_eq n k ≡ false → is_used (used ++ n ∷ []) k ≡ false
 none_used used n k f e = list_any-append (λ u. bytes_eq u k) used (n ∷ []) ∙ ap (λ b. b || is_used (n ∷ []) k) f ∙ ap (λ b. b || false) e
 
-all_free : (used names : List Bytes) → ((n : Bytes) → is_used names n ≡ true → is_used used n ≡ false) → is_distinct names ≡ true → AllFree used names
+pub all_free : (used names : List Bytes) → ((n : Bytes) → is_used names n ≡ true → is_used used n ≡ false) → is_distinct names ≡ true → AllFree used names
 all_free used [] f d = tt
 all_free used (n ∷ ns) f d =
     let two = and_parts (not (is_used ns n)) (is_distinct ns) d in

@@ -2,6 +2,7 @@ pub mod Added
 pub mod CallForms
 pub mod FactLemmas
 pub mod Facts
+pub mod FlushForms
 pub mod Forms
 pub mod FuncSound
 pub mod Meaning

@@ -1,6 +1,7 @@
 //! The code of each instruction.
 
 mod calls;
+mod flush;
 mod loads;
 mod memory;
 mod parts;

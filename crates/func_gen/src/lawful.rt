@@ -19,9 +19,9 @@ impl Bindgen for FunctionBindgen {
 
     ghost sound = { func_sound };
 
-    /// The statements of arguments and scalars, of tuples, of stores and loads, of texts that are freed and of the call of a core
-    /// import, and what the code gives. Of any other instruction so far, and of an expression that is no operand, the answer is
-    /// `OutOfMemory`.
+    /// The statements of arguments and scalars, of tuples, of stores and loads, of texts that are freed, of operands that get locals
+    /// of their own and of the call of a core import, and what the code gives. Of any other instruction so far, and of an expression
+    /// that is no operand, the answer is `OutOfMemory`.
     fn emit(
         &mut self,
         resolve: &Resolve,
@@ -52,6 +52,7 @@ impl Bindgen for FunctionBindgen {
         }
         match *inst {
             Instruction::GetArg(n) => self.get_arg(resolve, n, results),
+            Instruction::Flush(n) => self.flush(resolve, n, operands, results),
             Instruction::Return(n) => self.give(resolve, n, operands, results),
             Instruction::I32FromBool => self.lower_bool(resolve, operands, results),
             Instruction::BoolFromI32 => self.lift_bool(resolve, operands, results),

@@ -8,7 +8,7 @@ ghost use Rattle.abi_driver.specs.declared.instruction.Instruction.TheVariants a
 ghost use Rattle.func_gen.specs.Added.{Appends};
 ghost use Rattle.func_gen.specs.CallForms.{FreshAll};
 ghost use Rattle.func_gen.specs.Meaning.{func_meaning};
-ghost use Rattle.func_gen.specs.PartForms.{are_operands, exprs_of, locals_of, names_from};
+ghost use Rattle.func_gen.specs.PartForms.{are_operands, exprs_of, locals_of, names_from, part_prefix};
 ghost use Rattle.func_gen.specs.Scope.{names_at};
 
 use crate::added::only_operand;
@@ -19,21 +19,27 @@ use rust_tree::{Expr, Pattern, Stmt};
 use std::alloc::Global;
 use wit_model::{List, OutOfMemory, Resolve, Text};
 
-/// The names of a tuple's parts, which get one number.
-#[tactic(auto, unfolding(crate::specs::PartForms::part_prefix))]
-fn part_names(alloc: Global, count: u32) -> Result<List<LocalName<'static>>, OutOfMemory>
-    ensures { IfOk result (λ names. (t : ℕ) → names_at names t ≡ names_from t 0 count) }
+/// The names of several locals, which get one number.
+pub(crate) fn part_names(
+    alloc: Global,
+    prefix: &str,
+    count: u32,
+) -> Result<List<LocalName<'_>>, OutOfMemory>
+    ensures { IfOk result (λ names. (t : ℕ) → names_at names t ≡ names_from prefix.now t 0 count) }
 {
     let mut names = List::new(alloc);
     for part in 0..count {
         let part = Some(part);
-        names.push(LocalName { prefix: "t", part })?;
+        names.push(LocalName { prefix, part })?;
     }
     Ok(names)
 }
 
 /// The expressions of operands. Of an expression that is no operand there is no memory.
-fn operand_exprs(alloc: Global, operands: &[ExprOperand]) -> Result<List<Expr>, OutOfMemory>
+pub(crate) fn operand_exprs(
+    alloc: Global,
+    operands: &[ExprOperand],
+) -> Result<List<Expr>, OutOfMemory>
     ensures same { IfOk result (λ es. es ≡ exprs_of operands.now) }
     ensures operands { IfOk result (λ es. are_operands operands.now ≡ true) }
 {
@@ -64,12 +70,13 @@ pub(crate) fn push_locals(
 
 impl FunctionBindgen {
     /// The names of new locals, one for each part of a tuple.
+    #[tactic(auto, unfolding(crate::specs::PartForms::part_prefix))]
     fn add_parts(&mut self, count: u32, e: Expr) -> Result<List<Text>, OutOfMemory>
         ensures adds { IfOk result (λ names. Appends self.old self.new (stmt.LetParts (pattern.Tuple names) e ∷ []) []) }
         ensures fresh { IfOk result (λ names. FreshAll self.old self.new names) }
-        ensures named { IfOk result (λ names. (t : ℕ) × (names ≡ names_from t 0 count)) }
+        ensures named { IfOk result (λ names. (t : ℕ) × (names ≡ names_from part_prefix t 0 count)) }
     {
-        let parts = part_names(self.alloc, count)?;
+        let parts = part_names(self.alloc, "t", count)?;
         let names = self.scope.declare_all(self.alloc, parts.as_slice())?;
         let copies = copy_names(names.as_slice(), self.alloc)?;
         self.code

@@ -1,0 +1,68 @@
+//! Operands get locals of their own.
+
+ghost use Rattle.std.specs.Prelude.{◌≡◌, ◌++◌, ℕ, [], length, IfOk, OnOk};
+ghost use Rattle.abi_driver.specs.Instructions.{Emits};
+ghost use Rattle.abi_driver.specs.declared.instruction.Instruction.TheVariants as instruction;
+ghost use Rattle.func_gen.specs.Added.{Appends};
+ghost use Rattle.func_gen.specs.CallForms.{FreshAll};
+ghost use Rattle.func_gen.specs.FlushForms.{flush_prefix, lets_of};
+ghost use Rattle.func_gen.specs.Meaning.{func_meaning};
+ghost use Rattle.func_gen.specs.PartForms.{names_from};
+
+use crate::emit::parts::{operand_exprs, part_names, push_locals};
+use crate::function_bindgen::FunctionBindgen;
+use crate::operand::{ExprOperand, copy_expr, copy_names};
+use rust_tree::{Expr, Stmt};
+use std::alloc::Global;
+use wit_model::{List, OutOfMemory, Resolve, Text};
+
+/// A local for each expression, in order.
+fn push_lets(
+    alloc: Global,
+    names: &[Text],
+    es: &[Expr],
+    stmts: &mut List<Stmt>,
+) -> Result<(), OutOfMemory>
+    requires many { length names.now ≡ length es.now }
+    ensures { OnOk result (stmts.new ≡ stmts.old ++ lets_of names.now es.now) }
+{
+    for i in 0..es.len() {
+        let e = copy_expr(&es[i], alloc)?;
+        let name = names[i].copy(alloc)?;
+        stmts.push(Stmt::Let(name, e))?;
+    }
+    Ok(())
+}
+
+impl FunctionBindgen {
+    /// The names of new locals, one for each expression, which get one number.
+    #[tactic(auto, unfolding(crate::specs::FlushForms::flush_prefix))]
+    fn add_lets(&mut self, count: u32, es: &[Expr]) -> Result<List<Text>, OutOfMemory>
+        requires many { length es.now ≡ count }
+        ensures adds { IfOk result (λ names. Appends self.old self.new (lets_of names es.now) []) }
+        ensures fresh { IfOk result (λ names. FreshAll self.old self.new names) }
+        ensures named { IfOk result (λ names. (t : ℕ) × (names ≡ names_from flush_prefix t 0 count)) }
+    {
+        let parts = part_names(self.alloc, "flush", count)?;
+        let names = self.scope.declare_all(self.alloc, parts.as_slice())?;
+        push_lets(self.alloc, names.as_slice(), es, &mut self.code.stmts)?;
+        Ok(names)
+    }
+
+    pub(crate) fn flush(
+        &mut self,
+        resolve: &Resolve,
+        count: u32,
+        operands: &List<ExprOperand>,
+        results: &mut List<ExprOperand>,
+    ) -> Result<(), OutOfMemory>
+        requires many { length operands.now ≡ count }
+        requires empty { results.old ≡ [] }
+        ensures { OnOk result (Emits func_meaning resolve.now.types (instruction.Flush count) operands.now results.new self.old self.new) }
+    {
+        let es = operand_exprs(self.alloc, operands.as_slice())?;
+        let names = self.add_lets(count, es.as_slice())?;
+        push_locals(self.alloc, names.as_slice(), results)?;
+        Ok(())
+    }
+}
