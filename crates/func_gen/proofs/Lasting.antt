@@ -1,5 +1,6 @@
 -- Facts last where locals are added, and a new local has its own.
 use Rattle.std.proofs.Common.{◌≡◌, ℕ, ◌+◌, ◌≤◌, Bool, true, false, cond, List, [], ◌∷◌, ◌++◌, Option, None, Some, refl, sym, ap, ◌∙◌, subst, arith}
+use Rattle.std.specs.Prelude.{option_to_list}
 use Rattle.std.specs.List.{flat_map, list_any}
 use Rattle.std.specs.Option.{option_or}
 use Rattle.std.specs.Str.{bytes_eq}
@@ -54,7 +55,9 @@ pub owns_with : (f : ℕ → ℕ) (s : State) (n : Bytes) (v : Val) → total f 
 owns_with f s n v =
     let l : Local = record { name = n; value = Some v } in
     let e = ap (total f) (flat_map-append (λ (l : Local). owned_in l.value) s.locals (l ∷ [])) in
-    omega (arith, e, total-append f (owns_of s) (flat_map (λ (l : Local). owned_in l.value) (l ∷ [])), total-append f (owned v) [])
+    let placed = option_to_list s.place in
+    let before = flat_map (λ (l : Local). owned_in l.value) s.locals in
+    omega (arith, e, total-append f placed before, total-append f placed (flat_map (λ (l : Local). owned_in l.value) (s.locals ++ l ∷ [])), total-append f before (flat_map (λ (l : Local). owned_in l.value) (l ∷ [])), total-append f (owned v) [])
 
 -- 2. A name that was free, and is used then
 
@@ -135,7 +138,8 @@ area_lasts true None None asked name s t u p h = tt
 area_lasts true None (Some address) asked name s t u p h = h
 area_lasts true (Some area) None asked name s t u p h = h
 area_lasts true (Some area) (Some address) asked name s t u p h = u name (val.Area address area.size) h
-area_lasts false area at asked name s t u p h = λ e. p ∙ h e
+area_lasts false area None asked name s t u p h = λ e. p ∙ h e
+area_lasts false area (Some address) asked name s t u p h = h
 
 -- what tells how a bindgen uses the area
 pub record SameArea (old new : FunctionBindgen) : Type 0 where

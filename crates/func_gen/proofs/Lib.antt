@@ -1,3 +1,5 @@
+pub mod AreaRoom
+pub mod AreaRows
 pub mod CallRows
 pub mod CallWords
 pub mod Evaluated
@@ -13,6 +15,7 @@ pub mod Moving
 pub mod PartNames
 pub mod PartRows
 pub mod PartsTaken
+pub mod Placed
 pub mod Quiet
 pub mod Rows
 pub mod RuntimeItems

@@ -1,5 +1,6 @@
 -- A local that is moved out: what is read without it, and what the locals own then.
 use Rattle.std.proofs.Common.{◌≡◌, ℕ, ◌+◌, Bool, true, false, cond, ◌||◌, List, [], ◌∷◌, Option, None, Some, refl, sym, ap, ◌∙◌, arith}
+use Rattle.std.specs.Prelude.{option_to_list}
 use Rattle.std.specs.List.{flat_map, list_any}
 use Rattle.std.specs.Option.{option_or}
 use Rattle.std.specs.Str.{bytes_eq}
@@ -91,4 +92,6 @@ less_stays s n k v h = go (bytes_eq k n) refl (bytes_eq n k) refl h
     go false e false g x = ap value_of (other_named n k s.locals g) ∙ x
 
 pub owns_without : (f : ℕ → ℕ) (s : State) (n : Bytes) (v : Val) → env_of s n ≡ Some v → total f (owns_of (without s n)) + total f (owned v) ≡ total f (owns_of s)
-owns_without f s n v h = moved_owns f n v s.locals h
+owns_without f s n v h =
+    let placed = option_to_list s.place in
+    omega (arith, moved_owns f n v s.locals h, total-append f placed (owns_in (moved n s.locals)), total-append f placed (owns_in s.locals))

@@ -152,7 +152,8 @@ areas_last true None None asked name s t stays p h = tt
 areas_last true None (Some address) asked name s t stays p h = h
 areas_last true (Some area) None asked name s t stays p h = h
 areas_last true (Some area) (Some address) asked name s t stays p h = stays name address area.size h
-areas_last false area at asked name s t stays p h = λ e. p ∙ h e
+areas_last false area None asked name s t stays p h = λ e. p ∙ h e
+areas_last false area (Some address) asked name s t stays p h = h
 
 -- 4. The row
 

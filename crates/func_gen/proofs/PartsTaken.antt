@@ -1,5 +1,6 @@
 -- A value is taken apart: each part is bound by a name of its own.
 use Rattle.std.proofs.Common.{rules, ◌≡◌, ℕ, ℤ, suc, ◌+◌, Bool, true, false, cond, not, ◌||◌, List, [], ◌∷◌, ◌++◌, length, map, Option, None, Some, refl, sym, ap, ◌∙◌, subst, arith, append-nil, append_assoc}
+use Rattle.std.specs.Prelude.{option_to_list}
 use Rattle.std.specs.List.{flat_map}
 use Rattle.std.specs.Str.{bytes_eq}
 use Rattle.std.proofs.lemmas.Bool.{and_parts, not-true, or_parts}
@@ -119,7 +120,10 @@ owns_parts : (g : ℕ → ℕ) (s : State) (names : List Bytes) (rs : List RustV
 owns_parts g s names rs h =
     let e = ap (total g) (flat_map-append (λ (l : Local). owned_in l.value) s.locals (part_locals names rs)) in
     let f = ap (total g) (parts_own names rs h) in
-    omega (arith, e, f, total-append g (owns_of s) (flat_map (λ (l : Local). owned_in l.value) (part_locals names rs)))
+    let placed = option_to_list s.place in
+    let before = flat_map (λ (l : Local). owned_in l.value) s.locals in
+    let added = flat_map (λ (l : Local). owned_in l.value) (part_locals names rs) in
+    omega (arith, e, f, total-append g before added, total-append g placed before, total-append g placed (flat_map (λ (l : Local). owned_in l.value) (s.locals ++ part_locals names rs)))
 
 -- 2. Parts of a value that passes as it is
 

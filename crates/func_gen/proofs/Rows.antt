@@ -105,7 +105,7 @@ Agrees acc o q s d = AgreesBy (Unit {0}) acc o q s (λ u. d)
 pub quiet_let : (n : Bytes) (e : Expr) → ((w : Setting) → Quiet (eval w e)) → (w : Setting) → Quiet (run_stmts w (stmt.Let n e ∷ []))
 quiet_let n e q w = quiet_then (λ s. and_then (eval w e s) (bind n)) (λ u. pure tt) (quiet_then (eval w e) (bind n) (q w) (λ v. quiet_bind n v)) (λ u. quiet_pure tt)
 
-binds : (w : Setting) (n : Bytes) (e : Expr) (v : Val) (s : State) → eval w e s ≡ machine.Done v s → run_stmts w (stmt.Let n e ∷ []) s ≡ machine.Done tt (with_local s n v)
+pub binds : (w : Setting) (n : Bytes) (e : Expr) (v : Val) (s : State) → eval w e s ≡ machine.Done v s → run_stmts w (stmt.Let n e ∷ []) s ≡ machine.Done tt (with_local s n v)
 unfolding bind
 binds w n e v s h = ap (λ o. and_then (and_then o (bind n)) (λ u. pure tt)) h
 
@@ -122,7 +122,7 @@ module _ (old new : FunctionBindgen) (n : Bytes) (e : Expr) (items : List Runtim
   let_adds = func_adds old new (stmt.Let n e ∷ []) items a (still_free old new n fresh) (quiet_let n e quiet)
 
   -- the new local denotes what the expression gave
-  bound : (ins others : Facts func_meaning) (w : File) (s : FuncState) (v : Val) (d : Datum RustValue) → func_meaning.denotes w old (ins ++ others) s → owned v ≡ [] → Says d (option_and_then usable (Some v))
+  pub bound : (ins others : Facts func_meaning) (w : File) (s : FuncState) (v : Val) (d : Datum RustValue) → func_meaning.denotes w old (ins ++ others) s → owned v ≡ [] → Says d (option_and_then usable (Some v))
       → func_meaning.denotes w new (of (operand_of (expr.Local n)) d ∷ others) (record { machine = with_local s.machine n v; area = s.area })
   bound ins others w s v d h none says =
       let t = with_local s.machine n v in

@@ -1,4 +1,5 @@
 pub mod Added
+pub mod Area
 pub mod CallForms
 pub mod FactLemmas
 pub mod Facts

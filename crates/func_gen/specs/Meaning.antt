@@ -1,5 +1,5 @@
 -- What a `FunctionBindgen` means: its statements, as the machine runs them.
-use Rattle.std.specs.Prelude.{◌≡◌, ◌<◌, ℕ, Bool, true, false, not, if◌then◌else◌, List, [], ◌∷◌, length, map, Option, None, Some, IfSome, option_and_then, option_map}
+use Rattle.std.specs.Prelude.{◌≡◌, ◌<◌, ℕ, Bool, true, false, not, if◌then◌else◌, List, [], ◌∷◌, ◌++◌, length, map, Option, None, Some, IfSome, option_and_then, option_map, option_to_list}
 use Rattle.std.specs.List.{AllByRecursion, flat_map}
 use Rattle.rust_tree.specs.declared.area.StaticArea.{StaticArea}
 use Rattle.rust_tree.specs.declared.export.CallBlock.{CallBlock}
@@ -86,15 +86,18 @@ call_of c = record { target = c.target; words = c.words; values = c.values; heap
 abbrev pub account_of : State → Account RustValue
 account_of s = record { heap = s.heap; choices = s.choices; requests = s.requests; calls = map call_of s.calls; taken = s.taken; guarded = [] }
 
+-- what the locals own, and the static area, once it stands
 abbrev pub owns_of : State → List ℕ
-owns_of s = flat_map (λ l. owned_in l.value) s.locals
+owns_of s = option_to_list s.place ++ flat_map (λ l. owned_in l.value) s.locals
 
--- of an import the area stands, where there is one, in the local of its name. Of an export it is not placed while it was not asked for
+-- of an import the area stands, where there is one, in the local of its name. That of an export does not stand when the code begins, and
+-- is not placed while it was not asked for
 abbrev pub AreaIs : (import : Bool) → Option Request → Option ℕ → List Asked → Bytes → State → Type 0
 AreaIs true None None asked name s = Unit {0}
 AreaIs true (Some area) (Some address) asked name s = env_of s name ≡ Some (val.Area address area.size)
 AreaIs true _ _ asked name s = ⊥
-AreaIs false area at asked name s = asked ≡ [] → s.place ≡ None
+AreaIs false area None asked name s = asked ≡ [] → s.place ≡ None
+AreaIs false area (Some address) asked name s = ⊥
 
 pub record Denote (w : File) (b : FunctionBindgen) (facts : List (Fact ExprOperand (Unit {0}) RustValue)) (s : FuncState) : Type 0 where
   pub hold : Hold w.items b facts s.machine

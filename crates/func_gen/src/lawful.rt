@@ -5,7 +5,7 @@ use crate::emit::{
 };
 use crate::function_bindgen::FunctionBindgen;
 use crate::operand::ExprOperand;
-use abi_driver::{Bindgen, Instruction};
+use abi_driver::{Asked, Bindgen, Instruction};
 use wit_layout::SizeAlign;
 use wit_model::{Alignment, ArchitectureSize, List, OutOfMemory, Resolve, WitType};
 
@@ -75,10 +75,10 @@ impl Bindgen for FunctionBindgen {
 
     fn return_pointer(
         &mut self,
-        _size: ArchitectureSize,
-        _align: Alignment,
+        size: ArchitectureSize,
+        align: Alignment,
     ) -> Result<ExprOperand, OutOfMemory> {
-        Err(OutOfMemory)
+        self.point(Asked { size, align })
     }
 
     fn sizes(&self) -> &SizeAlign {

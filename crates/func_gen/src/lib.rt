@@ -2,6 +2,7 @@
 #![tactic(auto)]
 
 mod added;
+mod area;
 mod emit;
 mod forms;
 mod function_bindgen;

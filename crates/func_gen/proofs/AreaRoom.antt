@@ -1,0 +1,77 @@
+-- What serves a bindgen can be made to have room for one more record, in a file whose first item is the area.
+use Rattle.std.proofs.Common.{◌≡◌, suc, ◌+◌, ◌*◌, ◌<◌, List, [], ◌∷◌, ◌++◌, Option, None, Some, sym, ap, subst, arith}
+use Rattle.std.specs.Prelude.{IfSome}
+use Rattle.std.specs.List.{AllByRecursion}
+use Rattle.std.proofs.Math.Nat.{mul-pos}
+use Rattle.std.proofs.lemmas.Nat.{pow_pos}
+use Rattle.wit_model.specs.Size.{alignment_at}
+use Rattle.wit_model.specs.declared.size.Alignment.{Alignment}
+use Rattle.wit_model.specs.declared.size.Alignment.TheVariants.{Bytes, Pointer}
+use Rattle.rust_tree.specs.declared.area.StaticArea.{StaticArea}
+use Rattle.rust_tree.specs.declared.item.Item.{Item}
+use Rattle.rust_tree.specs.declared.item.Item.TheVariants as item
+use Rattle.rust_tree.specs.declared.runtime_item.RuntimeItem.{RuntimeItem}
+use Rattle.wrapper_data.specs.declared.choice.Request.{Request}
+use Rattle.wrapper_run.specs.Places.{area_in}
+use Rattle.abi_driver.specs.declared.bindgen.Asked.{Asked}
+use Rattle.abi_driver.specs.Area.{HasRoomFor, HoldsRecord, IsAlignment}
+use Rattle.abi_driver.specs.PlainSound.{all_both}
+use Rattle.abi_driver.proofs.PlainArea.{all_wider, before, itself_wider, wider}
+use Rattle.func_gen.specs.declared.function_bindgen.FunctionBindgen.{FunctionBindgen}
+use Rattle.func_gen.specs.Area.{asking}
+use Rattle.func_gen.specs.Meaning.{File, Found, IsArea, Serves, static_request}
+
+-- 1. The area
+
+-- it has bytes too
+abbrev roomy : Option Request → Asked → Request
+roomy area a = record { size = suc (wider area a).size; align = (wider area a).align }
+
+in_roomy : (area : Option Request) (a b : Asked) → HasRoomFor 2 (wider area a) b → HasRoomFor 2 (roomy area a) b
+in_roomy area a b h = record { size = let l = h.size in omega (arith, l); aligned = h.aligned }
+
+all_in_roomy : (area : Option Request) (a : Asked) (asked : List Asked) → AllByRecursion (HoldsRecord 2 (Some (wider area a))) asked → AllByRecursion (HoldsRecord 2 (Some (roomy area a))) asked
+all_in_roomy area a [] h = tt
+all_in_roomy area a (b ∷ asked) h = (in_roomy area a b h.0, all_in_roomy area a asked h.1)
+
+all_roomy : (area : Option Request) (a : Asked) (asked : List Asked) → AllByRecursion (HoldsRecord 2 area) asked → AllByRecursion (HoldsRecord 2 (Some (roomy area a))) (asked ++ a ∷ [])
+all_roomy area a asked h = all_both (HoldsRecord 2 (Some (roomy area a))) asked (a ∷ []) (all_in_roomy area a asked (all_wider area a asked h)) (in_roomy area a a (itself_wider area a), tt)
+
+is_aligned : (align : Alignment) → IsAlignment align → 0 < alignment_at align 4
+is_aligned (Bytes n) h = subst (λ k. 0 < k) (sym h.1) (pow_pos h.0)
+is_aligned Pointer h = omega arith
+
+was_aligned : (area : Option Request) → IfSome area IsArea → 0 < (before area).align
+was_aligned None h = omega arith
+was_aligned (Some area) h = h.1
+
+is_area : (area : Option Request) (a : Asked) → IfSome area IsArea → IsAlignment a.align → IsArea (roomy area a)
+is_area area a h aligned = (omega arith, mul-pos (was_aligned area h) (is_aligned a.align aligned))
+
+-- 2. The file
+
+abbrev static_area : Request → StaticArea
+static_area r = record { size = record { bytes = r.size; pointers = 0 }; align = Bytes r.align }
+
+abbrev with_static : Request → List Item → List Item
+with_static r items = item.Area (static_area r) ∷ items
+
+found_still : (r : Request) (items : List Item) (parts : List RuntimeItem) → Found items parts → Found (with_static r items) parts
+found_still r items [] h = tt
+found_still r items (i ∷ parts) h = (h.0, found_still r items parts h.1)
+
+static_is : (r : Request) (items : List Item) → static_request (area_in (with_static r items)) ≡ Some r
+static_is r items = ap (λ n. Some (record r { size = n })) (let e : r.size + 0 * 4 ≡ r.size = omega arith in e)
+
+pub more_room : (a : Asked) (b : FunctionBindgen) → IsAlignment a.align → (w : File) → Serves w b → (x : File) × Serves x (asking a b)
+more_room a b aligned w h =
+    let r = roomy w.area a in (
+      record { items = with_static r w.items; item = w.item; bound = w.bound; area = Some r },
+      record {
+        runtime = found_still r w.items b.runtime h.runtime;
+        room = all_roomy w.area a b.asked h.room;
+        sized = is_area w.area a h.sized aligned;
+        static = λ e. sym (static_is r w.items);
+        bound = h.bound;
+      },
+    )
