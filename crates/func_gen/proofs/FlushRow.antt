@@ -16,7 +16,6 @@ use Rattle.wrapper_values.specs.declared.state.Val.{Val}
 use Rattle.wrapper_values.specs.declared.state.Val.TheVariants as val
 use Rattle.wrapper_values.specs.Act as machine
 use Rattle.wrapper_values.specs.Act.{and_then}
-use Rattle.wrapper_values.specs.Effect.{rust_of}
 use Rattle.wrapper_values.specs.Locals.{bind, usable}
 use Rattle.wrapper_values.specs.Owning.{owned}
 use Rattle.wrapper_values.specs.Setting.{Setting}
@@ -34,7 +33,7 @@ use Rattle.func_gen.specs.declared.operand.ExprOperand.{ExprOperand}
 use Rattle.func_gen.specs.Added.{Appends}
 use Rattle.func_gen.specs.CallForms.{FreshAll}
 use Rattle.func_gen.specs.FactLemmas.{Says, is_said}
-use Rattle.func_gen.specs.Facts.{AreOwned, Hold}
+use Rattle.func_gen.specs.Facts.{AreOwned, Hold, item_of}
 use Rattle.func_gen.specs.FlushForms.{flush_prefix, lets_of}
 use Rattle.func_gen.specs.Forms.{operand_of}
 use Rattle.func_gen.specs.Meaning.{account_of, func_meaning, owns_of, seen, setting_for}
@@ -67,7 +66,7 @@ record Given (w : Setting) (b : FunctionBindgen) (e : Expr) (d : Datum RustValue
   holds : Hold w.items b others then
   areas : (k : Bytes) (address size : ℕ) → env_of s k ≡ Some (val.Area address size) → env_of then k ≡ Some (val.Area address size)
 
-usable_value : (v : Val) (r : RustValue) → rust_of v ≡ Some r → Says (item r) (option_and_then usable (Some v))
+usable_value : (v : Val) (r : RustValue) → item_of v ≡ Some r → Says (item r) (option_and_then usable (Some v))
 usable_value (val.Word x) r h = h
 usable_value (val.Value q) r h = h
 usable_value (val.Area a n) r h = absurd cc
@@ -86,7 +85,7 @@ is_given w b e (word x) others s h = record {
 }
 is_given w b e (item r) others s h =
     let u = uses w b e r others s h in
-    record { given = u.given; then = u.then; evaluated = u.evaluated; is = usable_value u.given r u.is; account = u.account; place = u.place; owns = u.owns; holds = u.holds; areas = u.areas }
+    record { given = u.given; then = u.then; evaluated = u.evaluated; is = usable_value u.given r u.item; account = u.account; place = u.place; owns = u.owns; holds = u.holds; areas = u.areas }
 
 -- 2. One after the other
 

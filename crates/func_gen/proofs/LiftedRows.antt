@@ -50,13 +50,13 @@ use Rattle.abi_driver.specs.Meaning.{Datum, item, of, word}
 use Rattle.func_gen.specs.declared.function_bindgen.FunctionBindgen.{FunctionBindgen}
 use Rattle.func_gen.specs.declared.operand.ExprOperand.{ExprOperand}
 use Rattle.func_gen.specs.Added.{Appends, Fresh}
-use Rattle.func_gen.specs.Facts.{Hold}
+use Rattle.func_gen.specs.Facts.{Hold, item_of}
 use Rattle.func_gen.specs.Forms.{operand_of, runtime_call, runtime_path}
 use Rattle.func_gen.specs.Meaning.{File, Found, StandsAsItIs, account_of, answer_of, func_meaning, setting_for}
 use Rattle.func_gen.specs.Operand.{is_operand}
 use Rattle.func_gen.specs.Read.{env_of, read}
 use Rattle.func_gen.proofs.Evaluated.{gives}
-use Rattle.func_gen.specs.FactLemmas.{Says, is_said}
+use Rattle.func_gen.specs.FactLemmas.{Says, is_said, item_rust}
 use Rattle.func_gen.proofs.Quiet.{quiet_cast_of, quiet_operand}
 use Rattle.func_gen.proofs.Rows.{Agrees, let_adds, lets}
 use Rattle.func_gen.proofs.ScalarRows.{calls_runtime, cast_says, emits_lifted, emits_lowered}
@@ -73,11 +73,11 @@ same_bit : (b : Bool) → bit b ≡ pos (number.bit b)
 same_bit true = refl
 same_bit false = refl
 
-read_some : (o : Option Val) (r : RustValue) → option_and_then rust_of o ≡ Some r → (v : Val) × (o ≡ Some v) × (rust_of v ≡ Some r)
+read_some : (o : Option Val) (r : RustValue) → option_and_then item_of o ≡ Some r → (v : Val) × (o ≡ Some v) × (rust_of v ≡ Some r)
 read_some None r h = absurd cc
-read_some (Some v) r h = (v, refl, h)
+read_some (Some v) r h = (v, refl, item_rust v r h)
 
-bool_evaluated : (w : Setting) (e : Expr) (b : Bool) (s : State) → option_and_then rust_of ((read w.items e).at (env_of s)) ≡ Some (value.Bool b) → eval w (expr.I32FromBool e) s ≡ machine.Done (val.Word (passed_word Scalar.bool b)) s
+bool_evaluated : (w : Setting) (e : Expr) (b : Bool) (s : State) → option_and_then item_of ((read w.items e).at (env_of s)) ≡ Some (value.Bool b) → eval w (expr.I32FromBool e) s ≡ machine.Done (val.Word (passed_word Scalar.bool b)) s
 bool_evaluated w e b s h =
     let (v, reads, is) = read_some ((read w.items e).at (env_of s)) (value.Bool b) h in
     let same = bool_is b v is in

@@ -33,8 +33,8 @@ use Rattle.abi_driver.specs.Meaning.{Fact, item, of}
 use Rattle.func_gen.specs.declared.function_bindgen.FunctionBindgen.{FunctionBindgen}
 use Rattle.func_gen.specs.declared.function_bindgen.ParamSite.{ParamSite}
 use Rattle.func_gen.specs.declared.operand.ExprOperand.{ExprOperand}
-use Rattle.func_gen.specs.FactLemmas.{is_said, less_under, matches_says, total_meet, total_mono}
-use Rattle.func_gen.specs.Facts.{Hold, Owns, matches, wrong}
+use Rattle.func_gen.specs.FactLemmas.{is_said, item_rust, less_under, matches_says, total_meet, total_mono}
+use Rattle.func_gen.specs.Facts.{Hold, Owns, item_of, matches, wrong}
 use Rattle.func_gen.specs.Forms.{operand_of}
 use Rattle.func_gen.specs.Meaning.{account_of, owns_of}
 use Rattle.func_gen.specs.Read.{Env, Read, Under, as_pointer, conversion, converts, env_of, less, nothing, read, read_step}
@@ -123,6 +123,7 @@ pub record Used (w : Setting) (b : FunctionBindgen) (e : Expr) (r : RustValue) (
   pub then : State
   pub evaluated : eval w e s ≡ machine.Done given then
   pub is : rust_of given ≡ Some r
+  pub item : item_of given ≡ Some r
   pub account : account_of then ≡ account_of s
   pub place : then.place ≡ s.place
   pub owns : (f : ℕ → ℕ) → total f (owns_of then) + total f (owned given) ≡ total f (owns_of s)
@@ -144,7 +145,7 @@ not_read items params env n r = go (matches (item r) ((read items (expr.Local n)
 
     go : (c : Bool) → matches (item r) ((read items (expr.Local n)).at (less env n)) ≡ c → cond {A = ℕ} c 0 1 ≡ 1
     go false e = refl
-    go true e = absurd (let z : (let q : Option RustValue = None in q ≡ Some r) = sym (ap (option_and_then rust_of) none) ∙ matches_says (item r) ((read items (expr.Local n)).at (less env n)) e in cc)
+    go true e = absurd (let z : (let q : Option RustValue = None in q ≡ Some r) = sym (ap (option_and_then item_of) none) ∙ matches_says (item r) ((read items (expr.Local n)).at (less env n)) e in cc)
 
 less_same : (s : State) (n : Bytes) → Under (less (env_of s) n) (less (env_of (without s n)) n)
 less_same s n k v h = go (bytes_eq k n) refl h
@@ -190,7 +191,7 @@ area_stays s n k v a z used is = go (bytes_eq n k) refl
     go true e = absurd (let no : (let q : Option Val = None in q ≡ Some v) = sym (ap (option_and_then usable) (ap (env_of s) ((bytes_eq-Decides n k).0 e) ∙ is)) ∙ used in cc)
     go false e = ap value_of (other_named n k s.locals e) ∙ is
 
-read_some : (o : Option Val) (r : RustValue) → option_and_then rust_of o ≡ Some r → (v : Val) × (o ≡ Some v) × (rust_of v ≡ Some r)
+read_some : (o : Option Val) (r : RustValue) → option_and_then item_of o ≡ Some r → (v : Val) × (o ≡ Some v) × (item_of v ≡ Some r)
 read_some None r h = absurd cc
 read_some (Some v) r h = (v, refl, h)
 
@@ -199,12 +200,13 @@ uses w b e r others s h =
     let (v, reads, is) = read_some ((read w.items e).at (env_of s)) r (is_said w.items b.params (env_of s) (of (operand_of e) (item r)) (omega (arith, h.right))) in
     go v reads is (owned v) refl
   where
-    go : (v : Val) → (read w.items e).at (env_of s) ≡ Some v → rust_of v ≡ Some r → (bs : List ℕ) → owned v ≡ bs → Used w b e r others s
+    go : (v : Val) → (read w.items e).at (env_of s) ≡ Some v → item_of v ≡ Some r → (bs : List ℕ) → owned v ≡ bs → Used w b e r others s
     go v reads is [] own = record {
       given = v;
       then = s;
       evaluated = gives w e s v reads own;
-      is = is;
+      is = item_rust v r is;
+      item = is;
       account = refl;
       place = refl;
       owns = λ f. let z = ap (total f) own in omega (arith, z);
@@ -222,7 +224,8 @@ uses w b e r others s h =
           given = v;
           then = without s n;
           evaluated = ap (λ z. eval w z s) o.1 ∙ use_moves w n v x more s used_at own;
-          is = is;
+          is = item_rust v r is;
+          item = is;
           account = refl;
           place = refl;
           owns = λ f. owns_without f s n v at;

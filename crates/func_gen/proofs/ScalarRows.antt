@@ -1,9 +1,10 @@
 -- The rows of scalars.
-use Rattle.std.proofs.Common.{◌≡◌, ℕ, ℤ, true, if◌then◌else◌, List, [], ◌∷◌, ◌++◌, Option, None, Some, refl, sym, ap, ◌∙◌, subst, drop, length, zero, suc}
+use Rattle.std.proofs.Common.{◌≡◌, ℕ, ℤ, Bool, true, if◌then◌else◌, List, [], ◌∷◌, ◌++◌, Option, None, Some, refl, sym, ap, ◌∙◌, subst, drop, length, zero, suc}
 use Rattle.std.specs.Prelude.{option_and_then}
 use Rattle.wit_layout.specs.Flat.{core_type}
 use Rattle.wit_layout.specs.Tree.{Scalar}
 use Rattle.wit_model.specs.declared.types.TypeDef.{TypeDef}
+use Rattle.wit_model.specs.declared.types.WitType.TheVariants as wit
 use Rattle.wit_model.specs.declared.wasm_type.WasmType.TheVariants as wasm
 use Rattle.rust_tree.specs.declared.expr.CastType.{CastType}
 use Rattle.rust_tree.specs.declared.expr.CastType.TheVariants as cast
@@ -14,20 +15,22 @@ use Rattle.rust_tree.specs.declared.runtime_item.RuntimeItem.{RuntimeItem}
 use Rattle.rust_tree.specs.Runtime.{item_name}
 use Rattle.wrapper_data.specs.declared.form.Form.{Form}
 use Rattle.wrapper_data.specs.declared.value.RustValue.{RustValue}
+use Rattle.wrapper_data.specs.declared.value.RustValue.TheVariants as value
 use Rattle.wrapper_data.specs.declared.word.Word.{Word}
 use Rattle.wrapper_data.specs.declared.word.Word.TheVariants as core
 use Rattle.wrapper_meaning.specs.AsWords.{IsTaken, passed_word}
 use Rattle.wrapper_meaning.specs.Direction.{take}
+use Rattle.wrapper_meaning.specs.Numbers.{is_signed}
 use Rattle.wrapper_meaning.specs.InRange.{IsScalar}
 use Rattle.wrapper_meaning.specs.Shape.Shape.{scalar}
 use Rattle.wrapper_meaning.specs.StandsFor.{rust_scalar}
 use Rattle.wrapper_meaning.specs.Value.{ScalarValue}
 use Rattle.wrapper_values.specs.declared.state.Val.TheVariants as val
-use Rattle.wrapper_values.specs.Effect.{cast_integer, integer_of, rust_of, rust_of_word}
+use Rattle.wrapper_values.specs.Effect.{cast_integer, integer_of}
 use Rattle.wrapper_run.specs.Run.{callee, of_runtime, runtime_item_named, runtime_module_name}
 use Rattle.abi_driver.specs.declared.instruction.Instruction.{Instruction}
 use Rattle.abi_driver.specs.declared.instruction.Instruction.TheVariants.{I32FromU8, I32FromS8, I32FromU16, I32FromS16, I32FromU32, I32FromS32, I32FromChar, I64FromU64, I64FromS64, CoreF32FromF32, CoreF64FromF64, U8FromI32, S8FromI32, U16FromI32, S16FromI32, U32FromI32, S32FromI32, U64FromI64, S64FromI64, F32FromCoreF32, F64FromCoreF64}
-use Rattle.abi_driver.specs.Account.{Account, Follows, Stuck, checking, has_type, stay}
+use Rattle.abi_driver.specs.Account.{Account, Follows, Stuck, has_type, reading, stay}
 use Rattle.abi_driver.specs.Instructions.{Emits, MakesBy, RowBy, block_results, lifted_scalar, lowered_scalar}
 use Rattle.abi_driver.specs.Laws.{Adds, After, Facts}
 use Rattle.abi_driver.specs.Leaves.{LiftsScalar, LowersScalar}
@@ -41,7 +44,8 @@ use Rattle.func_gen.specs.Meaning.{StandsAsItIs, account_of, func_meaning}
 use Rattle.func_gen.specs.Read.{Env, Read, converts, env_of, on_bare, read}
 use Rattle.func_gen.specs.Read as reader
 use Rattle.func_gen.specs.ReadForms.{read-call, read-cast}
-use Rattle.func_gen.specs.FactLemmas.{Says}
+use Rattle.func_gen.specs.FactLemmas.{Says, item_rust_at}
+use Rattle.func_gen.specs.Facts.{item_of, item_of_word}
 use Rattle.func_gen.proofs.Rows.{none_adds, swaps, tests}
 use Rattle.func_gen.proofs.Scalars.{cast_word, conversion_to, converts_scalar, is_number, option_some, stands_scalar, taken_is, taken_word}
 
@@ -104,11 +108,11 @@ converted_by _ f e = absurd (let h = e in cc)
 
 -- the call of a conversion on what reads a scalar reads its word
 call_says : (items : List Item) (s : Scalar) (v : ScalarValue s) (f : RuntimeItem) (e : Expr) (env : Env) → conversion_to s ≡ Some f → runtime_item_named items (item_name f) ≡ Some f → IsScalar s v
-    → option_and_then rust_of ((read items e).at env) ≡ Some (rust_scalar s v) → (read items (runtime_call f e)).at env ≡ Some (val.Word (passed_word s v))
+    → option_and_then item_of ((read items e).at env) ≡ Some (rust_scalar s v) → (read items (runtime_call f e)).at env ≡ Some (val.Word (passed_word s v))
 call_says items s v f e env by found good h =
     let o = (read items e).at env in
     ap (λ (r : Read). r.at env) (read-call items (runtime_path f) (e ∷ [])) ∙ ap (λ c. option_and_then (on_bare (reader.conversion items c)) o) (calls_runtime f)
-    ∙ ap (λ q. option_and_then (on_bare (converts q)) o) (found ∙ sym by) ∙ converts_scalar s v f o by good h
+    ∙ ap (λ q. option_and_then (on_bare (converts q)) o) (found ∙ sym by) ∙ converts_scalar s v f o by good (item_rust_at o (rust_scalar s v) h)
 
 pub convert_row : (types : List TypeDef) (old new : FunctionBindgen) (i : Instruction) (f : RuntimeItem) (e : Expr) → conversion i ≡ Some f → Appends old new [] (f ∷ []) → new.scope ≡ old.scope
     → Emits func_meaning types i (operand_of e ∷ []) (operand_of (runtime_call f e) ∷ []) old new
@@ -159,21 +163,31 @@ f64_word (core.Pointer z) h = absurd cc
 f64_word (core.Length z) h = absurd cc
 f64_word (core.Slot z) h = absurd cc
 
--- a number is read without a test
-number_checking : (s : Scalar) (f : Form) (x : Word) (acc : Account RustValue) → is_number s ≡ true → checking s f x acc ≡ stay acc
-number_checking Scalar.bool f x acc h = absurd cc
-number_checking Scalar.char f x acc h = absurd cc
-number_checking s f x acc h = refl
+-- which words are read as a scalar that is no bool and no char
+abbrev is_read : Scalar → Word → Bool
+is_read Scalar.s32 (core.I32 z) = is_signed 31 z
+is_read Scalar.s64 (core.I64 z) = is_signed 63 z
+is_read s x = has_type (core_type s) x
+
+number_read : (s : Scalar) (f : Form) (x : Word) (acc : Account RustValue) → is_number s ≡ true → reading s f x acc ≡ (if is_read s x then stay acc else Stuck acc)
+number_read Scalar.bool f x acc h = absurd cc
+number_read Scalar.char f x acc h = absurd cc
+number_read Scalar.handle f x acc h = absurd cc
+number_read Scalar.s32 f (core.I32 z) acc h = refl
+number_read Scalar.s32 f _ acc h = refl
+number_read Scalar.s64 f (core.I64 z) acc h = refl
+number_read Scalar.s64 f _ acc h = refl
+number_read s f x acc h = refl
 
 -- an operand that reads the number of each word of a scalar
 lifts_number : (old new : FunctionBindgen) (s : Scalar) (o r : ExprOperand) → is_number s ≡ true → Appends old new [] [] → new.scope ≡ old.scope
-    → ((x : Word) → has_type (core_type s) x ≡ true → (items : List Item) (env : Env) → Says (word x) ((read items o.expr).at env) → Says (item (taken_word s x)) ((read items r.expr).at env))
+    → ((x : Word) → is_read s x ≡ true → (items : List Item) (env : Env) → Says (word x) ((read items o.expr).at env) → Says (item (taken_word s x)) ((read items r.expr).at env))
     → LiftsScalar func_meaning s (o ∷ []) (r ∷ []) old new
 lifts_number old new s o r is a scope says x w p others s0 t at =
-    subst (λ q. Follows func_meaning.account (if has_type (core_type s) x then q else Stuck (account_of t.machine)) (func_meaning.does w p new.code s0)
+    subst (λ q. Follows func_meaning.account q (func_meaning.does w p new.code s0)
     (λ y u. (fs : Facts func_meaning) × ((c : RustValue) × (fs ≡ of r (item c) ∷ []) × ((v : ScalarValue s) → IsScalar s v → IsTaken s v x → StandsAsItIs take (scalar s) v c [])) × After func_meaning w new (fs ++ others) [] [] t y u))
-    (sym (number_checking s p.form x (account_of t.machine) is))
-    (tests old new [] a scope (has_type (core_type s) x) (of o (word x)) (of r (item (taken_word s x))) (λ fs. (c : RustValue) × (fs ≡ of r (item c) ∷ []) × ((v : ScalarValue s) → IsScalar s v → IsTaken s v x → StandsAsItIs take (scalar s) v c []))
+    (sym (number_read s p.form x (account_of t.machine) is))
+    (tests old new [] a scope (is_read s x) (of o (word x)) (of r (item (taken_word s x))) (λ fs. (c : RustValue) × (fs ≡ of r (item c) ∷ []) × ((v : ScalarValue s) → IsScalar s v → IsTaken s v x → StandsAsItIs take (scalar s) v c []))
     (λ typed. (taken_word s x, refl, λ v good taken. stands_scalar take s v (taken_word s x) (taken_is s v x is good taken))) (λ typed v found env h. says x typed v.items env h) w p others s0 t at)
 
 pub record Cast (i : Instruction) (to : CastType) : Type 0 where
@@ -181,7 +195,7 @@ pub record Cast (i : Instruction) (to : CastType) : Type 0 where
   pub none : lowered_scalar i ≡ None
   pub lifted : lifted_scalar i ≡ Some scalar
   pub number : is_number scalar ≡ true
-  pub casts : (x : Word) → has_type (core_type scalar) x ≡ true → (z : ℤ) × (integer_of (val.Word x) ≡ Some z) × (taken_word scalar x ≡ cast_integer to z)
+  pub casts : (x : Word) → is_read scalar x ≡ true → (z : ℤ) × (integer_of (val.Word x) ≡ Some z) × (taken_word scalar x ≡ cast_integer to z)
 
 casts_as : (i : Instruction) (one to : CastType) → (let c : Option CastType = Some one in c ≡ Some to) → Cast i one → Cast i to
 casts_as i one to e c = subst (Cast i) (ap (option_some one) e) c
@@ -204,24 +218,42 @@ cast_row types old new i to e is a scope =
     let c = cast_by i to is in
     emits_lifted types old new i c.scalar (operand_of e) (operand_of (expr.Cast e to)) c.none c.lifted (none_adds old new [] a scope) a.returned
     (lifts_number old new c.scalar (operand_of e) (operand_of (expr.Cast e to)) c.number a scope
-    (λ x typed items env h. let (z, i, same) = c.casts x typed in ap (option_and_then rust_of) (cast_says items e to x z env i h) ∙ ap (λ r. Some r) (sym same)))
+    (λ x typed items env h. let (z, i, same) = c.casts x typed in ap (option_and_then item_of) (cast_says items e to x z env i h) ∙ ap (λ r. Some r) (sym same)))
 
 pub record Kept (i : Instruction) : Type 0 where
   pub scalar : Scalar
   pub none : lowered_scalar i ≡ None
   pub lifted : lifted_scalar i ≡ Some scalar
   pub number : is_number scalar ≡ true
-  pub keeps : (x : Word) → has_type (core_type scalar) x ≡ true → rust_of_word x ≡ Some (taken_word scalar x)
+  pub keeps : (x : Word) → is_read scalar x ≡ true → item_of_word x ≡ Some (taken_word scalar x)
+
+kept_i32 : (x : Word) → is_read Scalar.s32 x ≡ true → item_of_word x ≡ Some (taken_word Scalar.s32 x)
+kept_i32 (core.I32 z) h = ap (λ b. if b then Some (value.Num wit.S32 z) else None) h
+kept_i32 (core.I64 z) h = absurd cc
+kept_i32 (core.F32 z) h = absurd cc
+kept_i32 (core.F64 z) h = absurd cc
+kept_i32 (core.Pointer z) h = absurd cc
+kept_i32 (core.Length z) h = absurd cc
+kept_i32 (core.Slot z) h = absurd cc
+
+kept_i64 : (x : Word) → is_read Scalar.s64 x ≡ true → item_of_word x ≡ Some (taken_word Scalar.s64 x)
+kept_i64 (core.I64 z) h = ap (λ b. if b then Some (value.Num wit.S64 z) else None) h
+kept_i64 (core.I32 z) h = absurd cc
+kept_i64 (core.F32 z) h = absurd cc
+kept_i64 (core.F64 z) h = absurd cc
+kept_i64 (core.Pointer z) h = absurd cc
+kept_i64 (core.Length z) h = absurd cc
+kept_i64 (core.Slot z) h = absurd cc
 
 kept_by : (i : Instruction) → is_kept i ≡ true → Kept i
-kept_by S32FromI32 e = record { scalar = Scalar.s32; none = refl; lifted = refl; number = refl; keeps = λ x h. let (z, is) = i32_word x h in ap rust_of_word is ∙ ap (λ y. Some (taken_word Scalar.s32 y)) (sym is) }
-kept_by S64FromI64 e = record { scalar = Scalar.s64; none = refl; lifted = refl; number = refl; keeps = λ x h. let (z, is) = i64_word x h in ap rust_of_word is ∙ ap (λ y. Some (taken_word Scalar.s64 y)) (sym is) }
-kept_by F32FromCoreF32 e = record { scalar = Scalar.f32; none = refl; lifted = refl; number = refl; keeps = λ x h. let (z, is) = f32_word x h in ap rust_of_word is ∙ ap (λ y. Some (taken_word Scalar.f32 y)) (sym is) }
-kept_by F64FromCoreF64 e = record { scalar = Scalar.f64; none = refl; lifted = refl; number = refl; keeps = λ x h. let (z, is) = f64_word x h in ap rust_of_word is ∙ ap (λ y. Some (taken_word Scalar.f64 y)) (sym is) }
+kept_by S32FromI32 e = record { scalar = Scalar.s32; none = refl; lifted = refl; number = refl; keeps = kept_i32 }
+kept_by S64FromI64 e = record { scalar = Scalar.s64; none = refl; lifted = refl; number = refl; keeps = kept_i64 }
+kept_by F32FromCoreF32 e = record { scalar = Scalar.f32; none = refl; lifted = refl; number = refl; keeps = λ x h. let (z, is) = f32_word x h in ap item_of_word is ∙ ap (λ y. Some (taken_word Scalar.f32 y)) (sym is) }
+kept_by F64FromCoreF64 e = record { scalar = Scalar.f64; none = refl; lifted = refl; number = refl; keeps = λ x h. let (z, is) = f64_word x h in ap item_of_word is ∙ ap (λ y. Some (taken_word Scalar.f64 y)) (sym is) }
 kept_by _ e = absurd (let h = e in cc)
 
 pub keep_row : (types : List TypeDef) (old new : FunctionBindgen) (i : Instruction) (o : ExprOperand) → is_kept i ≡ true → Appends old new [] [] → new.scope ≡ old.scope → Emits func_meaning types i (o ∷ []) (o ∷ []) old new
 keep_row types old new i o is a scope =
     let c = kept_by i is in
     emits_lifted types old new i c.scalar o o c.none c.lifted (none_adds old new [] a scope) a.returned
-    (lifts_number old new c.scalar o o c.number a scope (λ x typed items env h. ap (option_and_then rust_of) h ∙ c.keeps x typed))
+    (lifts_number old new c.scalar o o c.number a scope (λ x typed items env h. ap (option_and_then item_of) h ∙ c.keeps x typed))

@@ -27,7 +27,7 @@ use Rattle.func_gen.specs.declared.function_bindgen.FunctionBindgen.{FunctionBin
 use Rattle.func_gen.specs.declared.operand.ExprOperand.{ExprOperand}
 use Rattle.func_gen.specs.Added.{Fresh}
 use Rattle.func_gen.specs.FactLemmas.{Says, one_at_most, said, total_mono}
-use Rattle.func_gen.specs.Facts.{Hold, matches, wrong}
+use Rattle.func_gen.specs.Facts.{Hold, item_of, matches, wrong}
 use Rattle.func_gen.specs.Forms.{operand_of}
 use Rattle.func_gen.specs.Meaning.{account_of, func_meaning, owns_of}
 use Rattle.func_gen.specs.Read.{Env, Read, Under, env_of, less, read}
@@ -43,11 +43,18 @@ Are [] rs = rs ≡ []
 Are (v ∷ vs) [] = ⊥
 Are (v ∷ vs) (r ∷ rs) = (rust_of v ≡ Some r) × Are vs rs
 
+-- and whole numbers are in their ranges
+abbrev pub AreItems : List Val → List RustValue → Type 0
+AreItems [] rs = rs ≡ []
+AreItems (v ∷ vs) [] = ⊥
+AreItems (v ∷ vs) (r ∷ rs) = (item_of v ≡ Some r) × AreItems vs rs
+
 pub record UsedAll (w : Setting) (b : FunctionBindgen) (os : List ExprOperand) (rs : List RustValue) (others : List (Fact ExprOperand (Unit {0}) RustValue)) (s : State) : Type 0 where
   pub given : List Val
   pub then : State
   pub evaluated : all (map (λ (o : ExprOperand). eval w o.expr) os) s ≡ machine.Done given then
   pub is : Are given rs
+  pub items : AreItems given rs
   pub account : account_of then ≡ account_of s
   pub place : then.place ≡ s.place
   -- what the values own, the locals own no more
@@ -59,7 +66,7 @@ one_more : (a : Act Val) (more : List (Act Val)) (v : Val) (vs : List Val) (s t 
 one_more a more v vs s t u h k = ap (λ o. and_then o (λ x. all more >>= (λ xs. pure (x ∷ xs)))) h ∙ ap (λ o. and_then o (λ xs. pure (v ∷ xs))) k
 
 pub uses_all : (w : Setting) (b : FunctionBindgen) (os : List ExprOperand) (rs : List RustValue) (others : List (Fact ExprOperand (Unit {0}) RustValue)) (s : State) → length os ≡ length rs → Hold w.items b (ofs func_meaning os (item_data func_meaning rs) ++ others) s → UsedAll w b os rs others s
-uses_all w b [] [] others s len h = record { given = []; then = s; evaluated = refl; is = refl; account = refl; place = refl; owns = λ f. omega arith; holds = h; areas = λ k a n is. is }
+uses_all w b [] [] others s len h = record { given = []; then = s; evaluated = refl; is = refl; items = refl; account = refl; place = refl; owns = λ f. omega arith; holds = h; areas = λ k a n is. is }
 uses_all w b [] (r ∷ rs) others s len h = absurd (omega (arith, len))
 uses_all w b (o ∷ os) [] others s len h = absurd (omega (arith, len))
 uses_all w b (o ∷ os) (r ∷ rs) others s len h =
@@ -70,6 +77,7 @@ uses_all w b (o ∷ os) (r ∷ rs) others s len h =
       then = later.then;
       evaluated = one_more (eval w o.expr) (map (λ (o : ExprOperand). eval w o.expr) os) one.given later.given s one.then later.then one.evaluated later.evaluated;
       is = (one.is, later.is);
+      items = (one.item, later.items);
       account = later.account ∙ one.account;
       place = later.place ∙ one.place;
       owns = λ f. omega (arith, one.owns f, later.owns f, total-append f (owned one.given) (flat_map owned later.given));

@@ -8,9 +8,13 @@ use Rattle.std.specs.Str.{bytes_eq}
 use base.Stored.{Gv, gnil, gnum, gcons}
 use Rattle.rust_tree.specs.declared.item.Item.{Item}
 use Rattle.wit_model.specs.Bytes.{Bytes}
+use Rattle.wit_model.specs.declared.types.WitType.TheVariants as wit
 use Rattle.wrapper_data.specs.contracts.value.RustValue as rust
 use Rattle.wrapper_data.specs.declared.value.RustValue.{RustValue}
+use Rattle.wrapper_data.specs.declared.value.RustValue.TheVariants as value
+use Rattle.wrapper_data.specs.declared.word.Word.TheVariants as core
 use Rattle.wrapper_meaning.specs.Items.{total}
+use Rattle.wrapper_meaning.specs.Numbers.{is_signed}
 use Rattle.wrapper_values.specs.contracts.state.Val as vals
 use Rattle.wrapper_values.specs.declared.state.Val.{Val}
 use Rattle.wrapper_values.specs.declared.state.Val.TheVariants as val
@@ -18,7 +22,7 @@ use Rattle.wrapper_values.specs.Effect.{rust_of}
 use Rattle.abi_driver.specs.Meaning.{Datum, Fact, word, item, of, arg, bound}
 use Rattle.func_gen.specs.declared.function_bindgen.ParamSite.{ParamSite}
 use Rattle.func_gen.specs.declared.operand.ExprOperand.{ExprOperand}
-use Rattle.func_gen.specs.Facts.{fact_datum, fact_value, gv_eq, matches, same, wrong}
+use Rattle.func_gen.specs.Facts.{fact_datum, fact_value, gv_eq, item_of, matches, same, wrong}
 use Rattle.func_gen.specs.Read.{Env, Under, less, less_is_under, read}
 
 -- 1. The test of codes
@@ -52,15 +56,35 @@ same_from c x y e = ap (λ z. gv_eq (c.code z) (c.code y)) e ∙ gv_self (c.code
 -- what a fact says of the value that is read
 abbrev pub Says : Datum RustValue → Option Val → Type 0
 Says (word x) o = o ≡ Some (val.Word x)
-Says (item r) o = option_and_then rust_of o ≡ Some r
+Says (item r) o = option_and_then item_of o ≡ Some r
 
 pub matches_says : (d : Datum RustValue) (o : Option Val) → matches d o ≡ true → Says d o
 matches_says (word x) o h = same_true (coded_option vals.the_row.coded) o (Some (val.Word x)) h
-matches_says (item r) o h = same_true (coded_option rust.the_row.coded) (option_and_then rust_of o) (Some r) h
+matches_says (item r) o h = same_true (coded_option rust.the_row.coded) (option_and_then item_of o) (Some r) h
 
 pub says_matches : (d : Datum RustValue) (o : Option Val) → Says d o → matches d o ≡ true
 says_matches (word x) o h = same_from (coded_option vals.the_row.coded) o (Some (val.Word x)) h
-says_matches (item r) o h = same_from (coded_option rust.the_row.coded) (option_and_then rust_of o) (Some r) h
+says_matches (item r) o h = same_from (coded_option rust.the_row.coded) (option_and_then item_of o) (Some r) h
+
+-- a word that is a whole number is one of the Rust side
+ranged_is : (b : Bool) (r s : RustValue) → cond b (Some r) None ≡ Some s → (let o : Option RustValue = Some r in o) ≡ Some s
+ranged_is true r s h = h
+ranged_is false r s h = absurd cc
+
+pub item_rust : (v : Val) (r : RustValue) → item_of v ≡ Some r → rust_of v ≡ Some r
+item_rust (val.Word (core.I32 z)) r h = ranged_is (is_signed 31 z) (value.Num wit.S32 z) r h
+item_rust (val.Word (core.I64 z)) r h = ranged_is (is_signed 63 z) (value.Num wit.S64 z) r h
+item_rust (val.Word (core.F32 bits)) r h = h
+item_rust (val.Word (core.F64 bits)) r h = h
+item_rust (val.Word (core.Pointer n)) r h = absurd cc
+item_rust (val.Word (core.Length n)) r h = absurd cc
+item_rust (val.Word (core.Slot o)) r h = absurd cc
+item_rust (val.Value q) r h = h
+item_rust (val.Area a z) r h = absurd cc
+
+pub item_rust_at : (o : Option Val) (r : RustValue) → option_and_then item_of o ≡ Some r → option_and_then rust_of o ≡ Some r
+item_rust_at None r h = absurd cc
+item_rust_at (Some v) r h = item_rust v r h
 
 -- a weight is 0 or 1
 pub wrong_none : (b : Bool) → b ≡ true → cond {A = ℕ} b 0 1 ≡ 0
@@ -106,7 +130,7 @@ module _ (items : List Item) (params : List ParamSite) where
   says_mono : (d : Datum RustValue) (o p : Option Val) → ((v : Val) → o ≡ Some v → p ≡ Some v) → Says d o → Says d p
   says_mono (word x) o p h k = h (val.Word x) k
   says_mono (item r) None p h k = absurd cc
-  says_mono (item r) (Some v) p h k = ap (option_and_then rust_of) (h v refl) ∙ k
+  says_mono (item r) (Some v) p h k = ap (option_and_then item_of) (h v refl) ∙ k
 
   wrong_mono : (a b : Env) → Under a b → (f : Fact ExprOperand (Unit {0}) RustValue) → wrong items params b f ≤ wrong items params a f
   wrong_mono a b u f =
@@ -137,15 +161,15 @@ module _ (items : List Item) (params : List ParamSite) where
       by (word x) g h = value_meet env n k f (val.Word x) g h
       by (item r) g h = go (fact_value items params (less env n) f) refl (fact_value items params (less env k) f) refl g
         where
-          go : (o : Option Val) → fact_value items params (less env n) f ≡ o → (p : Option Val) → fact_value items params (less env k) f ≡ p → option_and_then rust_of o ≡ Some r → option_and_then rust_of (fact_value items params (less (less env n) k) f) ≡ Some r
+          go : (o : Option Val) → fact_value items params (less env n) f ≡ o → (p : Option Val) → fact_value items params (less env k) f ≡ p → option_and_then item_of o ≡ Some r → option_and_then item_of (fact_value items params (less (less env n) k) f) ≡ Some r
           go None a p b x = absurd cc
-          go (Some v) a None b x = absurd (let z : (let q : Option RustValue = None in q ≡ Some r) = sym (ap (option_and_then rust_of) b) ∙ h in cc)
+          go (Some v) a None b x = absurd (let z : (let q : Option RustValue = None in q ≡ Some r) = sym (ap (option_and_then item_of) b) ∙ h in cc)
           go (Some v) a (Some u) b x =
               let ev : fact_value items params env f ≡ Some v = value_mono (less env n) env (less_is_under env n) f v a in
               let eu : fact_value items params env f ≡ Some u = value_mono (less env k) env (less_is_under env k) f u b in
               let same : u ≡ v = cc in
               let bv : fact_value items params (less env k) f ≡ Some v = cc in
-              ap (option_and_then rust_of) (value_meet env n k f v a bv) ∙ x
+              ap (option_and_then item_of) (value_meet env n k f v a bv) ∙ x
 
   pub total_meet : (env : Env) (n k : Bytes) (fs : List (Fact ExprOperand (Unit {0}) RustValue)) → total (wrong items params (less env n)) fs ≡ 0 → total (wrong items params (less (less env n) k)) fs ≤ total (wrong items params (less env k)) fs
   total_meet env n k [] h = omega arith

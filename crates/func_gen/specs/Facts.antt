@@ -4,15 +4,19 @@ use Rattle.std.specs.Coded.{coded_option}
 use base.Stored.{Coded, Gv, gnil, gnum, gcons}
 use Rattle.rust_tree.specs.declared.item.Item.{Item}
 use Rattle.wit_model.specs.Bytes.{Bytes}
+use Rattle.wit_model.specs.declared.types.WitType.TheVariants as wit
 use Rattle.wrapper_data.specs.contracts.value.RustValue as rust
 use Rattle.wrapper_data.specs.declared.block.Block.{Block}
 use Rattle.wrapper_data.specs.declared.value.RustValue.{RustValue}
+use Rattle.wrapper_data.specs.declared.value.RustValue.TheVariants as value
+use Rattle.wrapper_data.specs.declared.word.Word.{Word}
+use Rattle.wrapper_data.specs.declared.word.Word.TheVariants as core
 use Rattle.wrapper_meaning.specs.Items.{total}
+use Rattle.wrapper_meaning.specs.Numbers.{is_signed}
 use Rattle.wrapper_values.specs.contracts.state.Val as vals
 use Rattle.wrapper_values.specs.declared.state.State.{State}
 use Rattle.wrapper_values.specs.declared.state.Val.{Val}
 use Rattle.wrapper_values.specs.declared.state.Val.TheVariants as val
-use Rattle.wrapper_values.specs.Effect.{rust_of}
 use Rattle.wrapper_values.specs.Locals.{local_named}
 use Rattle.wrapper_values.specs.Owning.{owned}
 use Rattle.wrapper_run.specs.Memory.{block_from}
@@ -42,10 +46,23 @@ same c x y = gv_eq (c.code x) (c.code y)
 
 -- 2. A fact by itself
 
+-- what something is for the Rust side. A whole number that is a word is in its range: no method is passed another as its value
+abbrev pub item_of_word : Word → Option RustValue
+item_of_word (core.I32 z) = if is_signed 31 z then Some (value.Num wit.S32 z) else None
+item_of_word (core.I64 z) = if is_signed 63 z then Some (value.Num wit.S64 z) else None
+item_of_word (core.F32 bits) = Some (value.F32 bits)
+item_of_word (core.F64 bits) = Some (value.F64 bits)
+item_of_word _ = None
+
+abbrev pub item_of : Val → Option RustValue
+item_of (val.Word x) = item_of_word x
+item_of (val.Value r) = Some r
+item_of (val.Area _ _) = None
+
 -- a word denotes itself; a value is denoted by what is one for the Rust side
 abbrev pub matches : Datum RustValue → Option Val → Bool
 matches (word x) o = same (coded_option vals.the_row.coded) o (Some (val.Word x))
-matches (item r) o = same (coded_option rust.the_row.coded) (option_and_then rust_of o) (Some r)
+matches (item r) o = same (coded_option rust.the_row.coded) (option_and_then item_of o) (Some r)
 
 -- what names let read, of an operand, and of an argument. There is no block so far
 abbrev pub fact_value : List Item → List ParamSite → Env → Fact ExprOperand (Unit {0}) RustValue → Option Val
