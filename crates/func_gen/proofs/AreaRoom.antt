@@ -1,5 +1,5 @@
 -- What serves a bindgen can be made to have room for one more record, in a file whose first item is the area.
-use Rattle.std.proofs.Common.{◌≡◌, suc, ◌+◌, ◌*◌, ◌<◌, List, [], ◌∷◌, ◌++◌, Option, None, Some, sym, ap, subst, arith}
+use Rattle.std.proofs.Common.{◌≡◌, suc, ◌+◌, ◌*◌, ◌<◌, List, [], ◌∷◌, ◌++◌, Option, None, Some, refl, sym, ap, subst, arith}
 use Rattle.std.specs.Prelude.{IfSome}
 use Rattle.std.specs.List.{AllByRecursion}
 use Rattle.std.proofs.Math.Nat.{mul-pos}
@@ -20,6 +20,7 @@ use Rattle.abi_driver.proofs.PlainArea.{all_wider, before, itself_wider, wider}
 use Rattle.func_gen.specs.declared.function_bindgen.FunctionBindgen.{FunctionBindgen}
 use Rattle.func_gen.specs.Area.{asking}
 use Rattle.func_gen.specs.Meaning.{File, Found, IsArea, Serves, static_request}
+use Rattle.func_gen.proofs.FieldOrder.{still_defined}
 
 -- 1. The area
 
@@ -69,6 +70,7 @@ more_room a b aligned w h =
       record { items = with_static r w.items; item = w.item; bound = w.bound; area = Some r },
       record {
         runtime = found_still r w.items b.runtime h.runtime;
+        records = still_defined w.items (with_static r w.items) (λ name. refl) b.records h.records;
         room = all_roomy w.area a b.asked h.room;
         sized = is_area w.area a h.sized aligned;
         static = λ e. sym (static_is r w.items);

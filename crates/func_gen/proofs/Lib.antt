@@ -3,6 +3,7 @@ pub mod AreaRows
 pub mod CallRows
 pub mod CallWords
 pub mod Evaluated
+pub mod FieldOrder
 pub mod FlushRow
 pub mod FreeRow
 pub mod Lasting
@@ -17,6 +18,7 @@ pub mod PartRows
 pub mod PartsTaken
 pub mod Placed
 pub mod Quiet
+pub mod RecordRows
 pub mod Rows
 pub mod RuntimeItems
 pub mod ScalarRows

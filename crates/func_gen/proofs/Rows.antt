@@ -178,7 +178,7 @@ pub pushed : (old new : List ExprOperand) (e f : Expr) → new ≡ old ++ operan
 pushed old new e f is none same = is ∙ ap (λ ys. ys ++ operand_of e ∷ []) none ∙ ap (λ x. operand_of x ∷ []) same
 
 pub unchanged : (b : FunctionBindgen) → Appends b b [] []
-unchanged b = record { call = refl; stmts = sym (append-nil b.code.stmts); runtime = sym (append-nil b.runtime); import = refl; home = refl; area = refl; params = refl; sizes = refl; asked = refl; returned = refl }
+unchanged b = record { call = refl; stmts = sym (append-nil b.code.stmts); runtime = sym (append-nil b.runtime); import = refl; home = refl; area = refl; params = refl; records = refl; sizes = refl; asked = refl; returned = refl }
 
 -- statements and items after others
 pub appends_both : (a b c : FunctionBindgen) (xs ys : List Stmt) (is js : List RuntimeItem) → Appends a b xs is → Appends b c ys js → Appends a c (xs ++ ys) (is ++ js)
@@ -190,6 +190,7 @@ appends_both a b c xs ys is js h k = record {
   home = k.home ∙ h.home;
   area = k.area ∙ h.area;
   params = k.params ∙ h.params;
+  records = k.records ∙ h.records;
   sizes = k.sizes ∙ h.sizes;
   asked = k.asked ∙ h.asked;
   returned = k.returned ∙ h.returned;

@@ -3,11 +3,13 @@ use Rattle.std.proofs.Common.{◌≡◌, Bool, true, false, cond, List, [], ◌�
 use Rattle.std.specs.Option.{option_or}
 use Rattle.std.specs.Str.{bytes_eq}
 use Rattle.std.proofs.lemmas.Slice.Eq.{bytes_eq-Decides}
+use Rattle.wit_model.specs.Bytes.{Bytes}
 use Rattle.rust_tree.specs.declared.item.Item.{Item}
 use Rattle.rust_tree.specs.declared.item.Item.TheVariants as item
 use Rattle.rust_tree.specs.declared.runtime_item.RuntimeItem.{RuntimeItem}
 use Rattle.rust_tree.specs.declared.runtime_item.RuntimeItem.TheVariants.{AsI32, AsI64, AsF32, AsF64, AllocCrate, StringType, VecType, BoolLift, CharLift, StringLift, StdAllocModule, CabiDealloc}
 use Rattle.rust_tree.specs.Runtime.{item_name, item_of_name}
+use Rattle.wrapper_values.specs.Fields.{type_named}
 use Rattle.wrapper_run.specs.Places.{area_in}
 use Rattle.wrapper_run.specs.Run.{runtime_item_named}
 use Rattle.wrapper_run.proofs.LocalLemmas.{bytes_eq-same}
@@ -55,14 +57,15 @@ pub found_right : (items : List Item) (xs ys : List RuntimeItem) → Found items
 found_right items [] ys h = h
 found_right items (x ∷ xs) ys h = found_right items xs ys h.1
 
--- items that have these parts too, and the static area as before
+-- items that have these parts too, and the static area and the types as before
 pub record More (items : List Item) (parts more : List RuntimeItem) : Type 0 where
   pub all : List Item
   pub found : Found all (parts ++ more)
   pub area : area_in all ≡ area_in items
+  pub types : (name : Bytes) → type_named all name ≡ type_named items name
 
 pub has_more : (items : List Item) (parts more : List RuntimeItem) → Found items parts → More items parts more
-has_more items parts [] h = record { all = items; found = subst (Found items) (sym (append-nil parts)) h; area = refl }
+has_more items parts [] h = record { all = items; found = subst (Found items) (sym (append-nil parts)) h; area = refl; types = λ name. refl }
 has_more items parts (i ∷ more) h =
     let later = has_more (with_item i items) (parts ++ i ∷ []) more (found_last i items parts (found_with i items parts h)) in
-    record { all = later.all; found = subst (Found later.all) (append_assoc parts (i ∷ []) more) later.found; area = later.area }
+    record { all = later.all; found = subst (Found later.all) (append_assoc parts (i ∷ []) more) later.found; area = later.area; types = later.types }

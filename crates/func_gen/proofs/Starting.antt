@@ -8,6 +8,7 @@ use Rattle.std.proofs.lemmas.Bool.{and_from, and_parts, eq-eqb, lt-ltb}
 use Rattle.wit_model.specs.Bytes.{Bytes}
 use Rattle.wit_model.specs.Distinct.{is_distinct}
 use Rattle.rust_tree.specs.declared.item.Item.{Item}
+use Rattle.rust_tree.specs.declared.type_item.TypeItem.{TypeItem}
 use Rattle.wrapper_data.specs.declared.block.Block.{Block}
 use Rattle.wrapper_data.specs.declared.choice.Request.{Request}
 use Rattle.wrapper_data.specs.declared.run.CallPoint.{CallPoint}
@@ -20,6 +21,7 @@ use Rattle.wrapper_values.specs.declared.state.Val.TheVariants as val
 use Rattle.wrapper_values.specs.Locals.{local_named, usable}
 use Rattle.wrapper_values.specs.Owning.{lent, owned, owned_in}
 use Rattle.wrapper_run.specs.Memory.{begins_at, block_from}
+use Rattle.wrapper_run.specs.Places.{area_in}
 use Rattle.wrapper_run.specs.Run.{bound}
 use Rattle.wrapper_run.proofs.LocalLemmas.{ReadsAll, SameLength, reads_bound, unbound}
 use Rattle.abi_driver.specs.Account.{Account, Call}
@@ -30,9 +32,10 @@ use Rattle.func_gen.specs.declared.function_bindgen.FunctionBindgen.{FunctionBin
 use Rattle.func_gen.specs.declared.function_bindgen.ParamSite.{ParamSite}
 use Rattle.func_gen.specs.FactLemmas.{Says, said}
 use Rattle.func_gen.specs.Facts.{AreOwned, IsThere, Owns, wrong}
-use Rattle.func_gen.specs.Meaning.{AreaIs, Denote, File, Found, FuncState, IsArea, Serves, account_of, call_of, func_meaning, owns_of}
+use Rattle.func_gen.specs.Meaning.{AreaIs, Denote, File, Found, FuncState, IsArea, Serves, account_of, call_of, func_meaning, owns_of, static_request}
 use Rattle.func_gen.specs.Read.{Env, Read, bare, bare_or, env_of, lent_bare, less, on_bare, read}
 use Rattle.func_gen.specs.ReadForms.{read-local, read-ref, still_there}
+use Rattle.func_gen.specs.Records.{CanBeDefined, items_of}
 use Rattle.func_gen.specs.Scope.{is_used}
 use Rattle.func_gen.specs.Sites.{IsSite, site_names}
 use Rattle.func_gen.specs.StandLemmas.{lent_alone}
@@ -101,6 +104,11 @@ args_hold items all env k (site ∷ sites) (d ∷ ds) at are p reads len =
     let value = ap (option_and_then (λ (q : ParamSite). (read items q.operand.expr).at env)) first ∙ site_reads items site env (val_of d) are.0 reads.0 p.0 in
     let here = said items all env (arg k d) (subst (Says d) (sym value) (datum_says d)) in
     omega (arith, here, args_hold items all env (suc k) sites ds (λ i. let e : suc k + i ≡ k + suc i = omega arith in ap (slice_get all) e ∙ at (suc i)) are.1 p.1 reads.1 (omega (arith, len)))
+
+-- definitions of types have no static area among them
+no_area : (defs : List TypeItem) → area_in (items_of defs) ≡ None
+no_area [] = refl
+no_area (d ∷ defs) = no_area defs
 
 -- 3. The locals
 
@@ -222,19 +230,21 @@ module _ (b : FunctionBindgen) (unasked : b.asked ≡ []) (used : b.scope.used �
   start w ds acc None sv len l taken g false i area a h = without_area w ds acc len l taken g (λ s e. subst (λ i. AreaIs i w.area None b.asked b.area s) (sym i) (λ none. e))
   start w ds acc (Some address) sv len l taken g false i area a h = absurd h
 
-  pub func_new : b.code ≡ record { call = None; stmts = [] } → b.returned ≡ None → b.runtime ≡ [] → IsNew func_meaning b
-  func_new empty endless runtime = record {
+  -- a file of no more than definitions of types serves it
+  pub func_new : b.code ≡ record { call = None; stmts = [] } → b.returned ≡ None → b.runtime ≡ [] → CanBeDefined b.records → IsNew func_meaning b
+  func_new empty endless runtime (defs, defined) = record {
     closed = refl;
     unfinished = refl;
     empty = empty;
     endless = endless;
     unasked = unasked;
-    world = record { items = []; item = 0; bound = b.home; area = None };
+    world = record { items = items_of defs; item = 0; bound = b.home; area = None };
     serves = record {
-      runtime = subst (Found []) (sym runtime) tt;
+      runtime = subst (Found (items_of defs)) (sym runtime) tt;
+      records = defined;
       room = subst (AllByRecursion (HoldsRecord 2 None)) (sym unasked) tt;
       sized = tt;
-      static = λ e. refl;
+      static = λ e. sym (ap static_request (no_area defs));
       bound = λ e. refl;
     };
     start = λ w ds acc at sv len l stands taken unguarded. start w ds acc at sv len l taken unguarded b.import refl w.area refl stands;

@@ -12,6 +12,8 @@ pub mod Operand
 pub mod PartForms
 pub mod Read
 pub mod ReadForms
+pub mod RecordForms
+pub mod Records
 pub mod Scope
 pub mod Sites
 pub mod StandLemmas

@@ -5,6 +5,7 @@ mod flush;
 mod loads;
 mod memory;
 mod parts;
+mod records;
 mod scalars;
 
 ghost use Rattle.std.specs.Prelude.{◌≡◌, ◌<◌, [], length, OnOk};

@@ -5,9 +5,11 @@ ghost use Rattle.std.specs.List.{AllByRecursion};
 ghost use Rattle.wit_model.specs.Distinct.{is_distinct};
 ghost use Rattle.abi_driver.specs.Laws.{IsNew};
 ghost use Rattle.func_gen.specs.Meaning.{func_meaning};
+ghost use Rattle.func_gen.specs.Records.{CanBeDefined};
 ghost use Rattle.func_gen.specs.Sites.{IsSite, site_names};
 
 use crate::operand::ExprOperand;
+use crate::record_site::RecordSite;
 use crate::scope::Scope;
 use abi_driver::Asked;
 use rust_tree::{CallBlock, RuntimeItem, Stmt};
@@ -41,6 +43,8 @@ pub struct FunctionBindgen {
     /// The local that holds an import's return area.
     pub(crate) area: Text,
     pub(crate) params: List<ParamSite>,
+    /// By the number of a type, how it is written if it is a record.
+    pub(crate) records: List<Option<RecordSite>>,
     pub(crate) scope: Scope,
     pub(crate) code: Code,
     /// The items of `_rt` that the code names.
@@ -65,7 +69,8 @@ fn first_names(alloc: Global, area: &Text, params: &[ParamSite]) -> Result<List<
 
 impl FunctionBindgen {
     /// One without code, for a wrapper of these parameters, of an import or of an export. Core imports that are called are of the module
-    /// `home`, and methods of the trait of that name. The area is the local that holds an import's return area.
+    /// `home`, and methods of the trait of that name. The area is the local that holds an import's return area. The records are by the numbers
+    /// of their types.
     pub fn new(
         alloc: Global,
         sizes: SizeAlign,
@@ -73,8 +78,10 @@ impl FunctionBindgen {
         home: Text,
         area: Text,
         params: List<ParamSite>,
+        records: List<Option<RecordSite>>,
     ) -> Result<FunctionBindgen, OutOfMemory>
         requires sites { AllByRecursion IsSite params }
+        requires defined { CanBeDefined records }
         requires distinct { is_distinct (area ∷ site_names params) ≡ true }
         ensures begins { IfOk result (λ b. IsNew func_meaning b) }
         ensures imports { IfOk result (λ b. func_meaning.imports b ≡ import) }
@@ -88,6 +95,7 @@ impl FunctionBindgen {
             home,
             area,
             params,
+            records,
             scope: Scope { used, next: 0 },
             code: Code {
                 call: None,

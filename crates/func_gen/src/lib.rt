@@ -8,7 +8,9 @@ mod forms;
 mod function_bindgen;
 mod lawful;
 mod operand;
+mod record_site;
 mod scope;
 
 pub use function_bindgen::{Code, FunctionBindgen, ParamSite};
 pub use operand::ExprOperand;
+pub use record_site::RecordSite;

@@ -46,7 +46,7 @@ pub(crate) fn copy_expr(e: &Expr, alloc: Global) -> Result<Expr, OutOfMemory>
     }
 }
 
-fn copy_path(path: &Path, alloc: Global) -> Result<Path, OutOfMemory>
+pub(crate) fn copy_path(path: &Path, alloc: Global) -> Result<Path, OutOfMemory>
     ensures { IfOk result (λ c. c ≡ path.now) }
 {
     Ok(Path {

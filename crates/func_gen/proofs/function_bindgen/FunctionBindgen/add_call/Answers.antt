@@ -19,6 +19,7 @@ returns c =
         home = refl;
         area = refl;
         params = refl;
+        records = refl;
         sizes = refl;
         asked = refl;
         returned = refl;

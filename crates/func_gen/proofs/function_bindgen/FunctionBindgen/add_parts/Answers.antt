@@ -17,6 +17,7 @@ returns-clause-adds c =
       home = refl;
       area = refl;
       params = refl;
+      records = refl;
       sizes = refl;
       asked = refl;
       returned = refl;

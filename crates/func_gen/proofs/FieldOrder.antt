@@ -1,0 +1,134 @@
+-- Fields that are written in the order of their struct are arranged as they stand.
+use Rattle.std.proofs.Common.{◌≡◌, ℕ, zero, suc, Bool, true, false, cond, not, ◌&&◌, ◌||◌, List, [], ◌∷◌, ◌++◌, length, map, Option, None, Some, refl, sym, ap, ap₂, ◌∙◌, subst, arith}
+use Rattle.std.specs.Prelude.{decimal, find, option_and_then, zip}
+use Rattle.std.specs.List.{list_any}
+use Rattle.std.specs.Option.{option_map}
+use Rattle.std.specs.Str.{bytes_eq}
+use Rattle.std.proofs.lemmas.Bool.{and_parts, eq-eqb, not-true, or_parts}
+use Rattle.std.proofs.lemmas.List.{append_cancel_right}
+use Rattle.std.proofs.lemmas.Slice.Eq.{bytes_eq-Decides}
+use Rattle.wit_model.specs.Bytes.{Bytes}
+use Rattle.wit_model.specs.Distinct.{is_distinct}
+use Rattle.rust_tree.specs.declared.item.Item.{Item}
+use Rattle.rust_tree.specs.declared.path.Path.{Path}
+use Rattle.rust_tree.specs.declared.type_item.StructField.{StructField}
+use Rattle.wrapper_meaning.proofs.Lists.{some_same}
+use Rattle.wrapper_run.proofs.LocalLemmas.{bytes_eq-same}
+use Rattle.wrapper_values.specs.Fields.{arranged, arranged_by, each_named, field_named, fields_in, in_order, root_name, type_named}
+use Rattle.func_gen.specs.declared.record_site.RecordSite.{RecordSite}
+use Rattle.func_gen.specs.RecordForms.{locals_for, site_at}
+use Rattle.func_gen.specs.Records.{AreDefined, Defines, HasFields, field_names}
+
+-- 1. The order
+
+other_field : (n k : Bytes) → bytes_eq k n ≡ false → bytes_eq n k ≡ false
+other_field n k e = go (bytes_eq n k) refl
+  where
+    go : (c : Bool) → bytes_eq n k ≡ c → c ≡ false
+    go false f = refl
+    go true f = absurd (let no : true ≡ false = sym (ap (λ m. bytes_eq m n) (sym ((bytes_eq-Decides n k).0 f)) ∙ bytes_eq-same n) ∙ e in cc)
+
+-- a field of another name is passed over
+passed_over : {A : Type 0} (of : List StructField) (n : Bytes) (x : A) (more : List (Bytes × A)) → list_any (λ u. bytes_eq u n) (field_names of) ≡ false → each_named of ((n, x) ∷ more) ≡ each_named of more
+passed_over [] n x more h = refl
+passed_over {A} (f ∷ of) n x more h =
+    let two = or_parts (bytes_eq f.name n) (list_any (λ u. bytes_eq u n) (field_names of)) h in
+    let here : field_named f.name ((n, x) ∷ more) ≡ field_named f.name more = ap (λ c. option_map (λ (g : Bytes × A). g.1) (cond c (Some (n, x)) (find (λ (g : Bytes × A). bytes_eq g.0 f.name) more))) (other_field n f.name two.0) in
+    ap₂ (λ (o : Option A) (rest : Option (List A)). option_and_then (λ a. option_map (λ xs. a ∷ xs) rest) o) here (passed_over of n x more two.1)
+
+each_in_order : {A : Type 0} (of : List StructField) (xs : List A) → is_distinct (field_names of) ≡ true → length of ≡ length xs → each_named of (zip (field_names of) xs) ≡ Some xs
+each_in_order [] [] d len = refl
+each_in_order [] (x ∷ xs) d len = absurd (omega (arith, len))
+each_in_order (f ∷ of) [] d len = absurd (omega (arith, len))
+each_in_order {A} (f ∷ of) (x ∷ xs) d len =
+    let two = and_parts (not (list_any (λ u. bytes_eq u f.name) (field_names of))) (is_distinct (field_names of)) d in
+    let more = zip (field_names of) xs in
+    let here : field_named f.name ((f.name, x) ∷ more) ≡ Some x = ap (λ c. option_map (λ (g : Bytes × A). g.1) (cond c (Some (f.name, x)) (find (λ (g : Bytes × A). bytes_eq g.0 f.name) more))) (bytes_eq-same f.name) in
+    let later = passed_over of f.name x more (not-true (list_any (λ u. bytes_eq u f.name) (field_names of)) two.0) ∙ each_in_order of xs two.1 (omega (arith, len)) in
+    ap₂ (λ (o : Option A) (rest : Option (List A)). option_and_then (λ a. option_map (λ xs. a ∷ xs) rest) o) here later
+
+length-zip : {A B : Type 0} (ns : List A) (xs : List B) → length ns ≡ length xs → length (zip ns xs) ≡ length ns
+length-zip [] xs len = refl
+length-zip (n ∷ ns) [] len = absurd (omega (arith, len))
+length-zip (n ∷ ns) (x ∷ xs) len = ap suc (length-zip ns xs (omega (arith, len)))
+
+seconds : {A B : Type 0} (ns : List A) (xs : List B) → length ns ≡ length xs → map (λ (f : A × B). f.1) (zip ns xs) ≡ xs
+seconds [] [] len = refl
+seconds [] (x ∷ xs) len = absurd (omega (arith, len))
+seconds (n ∷ ns) [] len = absurd (omega (arith, len))
+seconds (n ∷ ns) (x ∷ xs) len = ap (λ ys. x ∷ ys) (seconds ns xs (omega (arith, len)))
+
+length-names : (of : List StructField) → length (field_names of) ≡ length of
+length-names [] = refl
+length-names (f ∷ of) = ap suc (length-names of)
+
+all_in_order : {A : Type 0} (of : List StructField) (xs : List A) → is_distinct (field_names of) ≡ true → length (field_names of) ≡ length xs → in_order of (zip (field_names of) xs) ≡ Some xs
+all_in_order of xs d len =
+    let same : length of ≡ length (zip (field_names of) xs) = sym (length-zip (field_names of) xs len ∙ length-names of) in
+    ap (λ c. cond c (each_named of (zip (field_names of) xs)) None) (eq-eqb (length of) (length (zip (field_names of) xs)) same) ∙ each_in_order of xs d (sym (length-names of) ∙ len)
+
+-- what stands for fields in the order of their struct is arranged so
+pub arranged_fields : {A : Type 0} (items : List Item) (path : Path) (fields : List Bytes) (xs : List A) → HasFields items fields (root_name path) → is_distinct fields ≡ true → length fields ≡ length xs → arranged items path (zip fields xs) ≡ Some xs
+arranged_fields {A} items path fields xs has d len = go (root_name path) has
+  where
+    ordered : (o : Option (List StructField)) → option_map field_names o ≡ Some fields → option_and_then (λ of. in_order of (zip fields xs)) o ≡ Some xs
+    ordered None h = absurd cc
+    ordered (Some of) h =
+        let same : field_names of ≡ fields = some_same (field_names of) fields h in
+        ap (λ ns. in_order of (zip ns xs)) (sym same) ∙ all_in_order of xs (ap is_distinct same ∙ d) (ap length same ∙ len)
+
+    go : (o : Option Bytes) → HasFields items fields o → arranged_by items o (zip fields xs) ≡ Some xs
+    go None h = ap Some (seconds fields xs len)
+    go (Some name) h = ordered (fields_in (type_named items name)) h
+
+-- 2. The record of a site
+
+pub defined_at : (items : List Item) (records : List (Option RecordSite)) (id : ℕ) (site : RecordSite) → AreDefined items records → site_at records id ≡ Some site → Defines items site
+defined_at items [] id site all at = absurd cc
+defined_at items (None ∷ records) zero site all at = absurd cc
+defined_at items (Some s ∷ records) zero site all at = subst (Defines items) (some_same s site at) all.0
+defined_at items (None ∷ records) (suc id) site all at = defined_at items records id site all.1 at
+defined_at items (Some s ∷ records) (suc id) site all at = defined_at items records id site all.1 at
+
+-- where the same names are defined alike
+pub still_defined : (items all : List Item) → ((name : Bytes) → type_named all name ≡ type_named items name) → (records : List (Option RecordSite)) → AreDefined items records → AreDefined all records
+still_defined items all same = each
+  where
+    still : (fields : List Bytes) (o : Option Bytes) → HasFields items fields o → HasFields all fields o
+    still fields None h = tt
+    still fields (Some name) h = ap (λ t. option_map field_names (fields_in t)) (same name) ∙ h
+
+    each : (records : List (Option RecordSite)) → AreDefined items records → AreDefined all records
+    each [] h = tt
+    each (None ∷ records) h = (tt, each records h.1)
+    each (Some s ∷ records) h = (record { lifted = still s.fields (root_name s.lifted) h.0.lifted; lowered = still s.fields (root_name s.lowered) h.0.lowered; distinct = h.0.distinct }, each records h.1)
+
+-- 3. Names of locals
+
+appended_same : (n k end : Bytes) → bytes_eq (n ++ end) (k ++ end) ≡ bytes_eq n k
+appended_same n k end = go (bytes_eq n k) refl
+  where
+    differ : bytes_eq n k ≡ false → (b : Bool) → bytes_eq (n ++ end) (k ++ end) ≡ b → b ≡ false
+    differ e false f = refl
+    differ e true f =
+        let same : n ≡ k = append_cancel_right n k end ((bytes_eq-Decides (n ++ end) (k ++ end)).0 f) in
+        absurd (let no : true ≡ false = sym (ap (bytes_eq n) (sym same) ∙ bytes_eq-same n) ∙ e in cc)
+
+    go : (c : Bool) → bytes_eq n k ≡ c → bytes_eq (n ++ end) (k ++ end) ≡ c
+    go true e = ap (λ m. bytes_eq (n ++ end) (m ++ end)) (sym ((bytes_eq-Decides n k).0 e)) ∙ bytes_eq-same (n ++ end)
+    go false e = differ e (bytes_eq (n ++ end) (k ++ end)) refl
+
+any_appended : (ns : List Bytes) (n end : Bytes) → list_any (λ u. bytes_eq u (n ++ end)) (map (λ f. f ++ end) ns) ≡ list_any (λ u. bytes_eq u n) ns
+any_appended [] n end = refl
+any_appended (k ∷ ns) n end = ap₂ (λ b c. b || c) (appended_same k n end) (any_appended ns n end)
+
+pub locals_distinct : (fields : List Bytes) (t : ℕ) → is_distinct fields ≡ true → is_distinct (locals_for fields t) ≡ true
+locals_distinct fields t d = all fields ∙ d
+  where
+    all : (ns : List Bytes) → is_distinct (locals_for ns t) ≡ is_distinct ns
+    all [] = refl
+    all (n ∷ ns) = ap₂ (λ b c. not b && c) (any_appended ns n (decimal t)) (all ns)
+
+pub locals_many : (fields : List Bytes) (t : ℕ) → length (locals_for fields t) ≡ length fields
+locals_many [] t = refl
+locals_many (n ∷ ns) t = ap suc (locals_many ns t)

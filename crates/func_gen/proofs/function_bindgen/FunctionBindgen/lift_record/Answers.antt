@@ -1,0 +1,13 @@
+use Rattle.std.proofs.Common.{refl}
+use Rattle.rust_tree.specs.declared.expr.Expr.TheVariants as expr
+use Rattle.abi_driver.specs.declared.instruction.Instruction.TheVariants as instruction
+use Rattle.func_gen.proofs.RecordRows.{record_made}
+use Rattle.func_gen.proofs.Rows.{emits_as, pushed}
+use Rattle.func_gen.proofs.function_bindgen.FunctionBindgen.lift_record.Goals as goal
+
+pub returns : goal.returns
+returns c =
+    let types = c.args.resolve.now.types in
+    let n = c.in_ok-name.name in
+    emits_as types (instruction.RecordLift c.args.id) _ _ _ _ _ _ refl (pushed c.args.results.now _ _ (expr.Local n) c.in_ok-push.ensures.ok c.requires.empty refl)
+    (record_made types c.args.self.now _ n c.args.id c.args.operands.now c.in_ok-record.record c.in_ok-record.ensures c.in_ok-name.ensures.adds c.in_ok-name.ensures.fresh)

@@ -1,0 +1,197 @@
+//! Records are taken apart, and made of their fields.
+
+ghost use Rattle.std.specs.Prelude.{◌≡◌, ℕ, [], true, length, zip, IfOk, OnOk};
+ghost use Rattle.rust_tree.specs.declared.pattern.Pattern.TheVariants as pattern;
+ghost use Rattle.abi_driver.specs.Instructions.{Emits};
+ghost use Rattle.abi_driver.specs.declared.instruction.Instruction.TheVariants as instruction;
+ghost use Rattle.func_gen.specs.Meaning.{func_meaning};
+ghost use Rattle.func_gen.specs.PartForms.{are_operands, exprs_of};
+ghost use Rattle.func_gen.specs.RecordForms.{DeclaresFields, HasFieldCount, IsSiteOf, MakesRecord, SplitsRecord, locals_for};
+ghost use Rattle.func_gen.specs.Scope.{names_at};
+
+use crate::added::only_operand;
+use crate::emit::parts::push_locals;
+use crate::function_bindgen::FunctionBindgen;
+use crate::operand::{ExprOperand, copy_expr, copy_path, is_operand};
+use crate::record_site::RecordSite;
+use crate::scope::{LocalName, Scope};
+use rust_tree::{Expr, Pattern, Stmt};
+use std::alloc::Global;
+use wit_model::{List, OutOfMemory, Resolve, Text, TypeDefKind, TypeId};
+
+/// How many fields the record at a place of the table has.
+fn field_count(resolve: &Resolve, id: TypeId) -> Result<usize, OutOfMemory>
+    ensures { IfOk result (λ n. HasFieldCount resolve.now.types id.0 n) }
+{
+    let types = resolve.types.as_slice();
+    let at = id.0 as usize;
+    if at >= types.len() {
+        return Err(OutOfMemory);
+    }
+    match &types[at].kind {
+        TypeDefKind::Record(members) => Ok(members.len()),
+        _ => Err(OutOfMemory),
+    }
+}
+
+/// Each field with the expression of an operand. Of an expression that is no operand there is no memory.
+fn field_exprs(
+    alloc: Global,
+    fields: &[Text],
+    operands: &[ExprOperand],
+) -> Result<List<(Text, Expr)>, OutOfMemory>
+    requires { length operands.now ≡ length fields.now }
+    ensures same { IfOk result (λ es. es ≡ zip fields.now (exprs_of operands.now)) }
+    ensures operands { IfOk result (λ es. are_operands operands.now ≡ true) }
+{
+    let mut es = List::new(alloc);
+    for (at, operand) in operands.iter().enumerate() {
+        if !is_operand(&operand.expr) {
+            return Err(OutOfMemory);
+        }
+        let field = fields[at].copy(alloc)?;
+        es.push((field, copy_expr(&operand.expr, alloc)?))?;
+    }
+    Ok(es)
+}
+
+/// The names of locals for fields, which get one number.
+fn field_names<'a>(alloc: Global, fields: &'a [Text]) -> Result<List<LocalName<'a>>, OutOfMemory>
+    ensures { IfOk result (λ names. (t : ℕ) → names_at names t ≡ locals_for fields.now t) }
+{
+    let mut names = List::new(alloc);
+    for field in fields {
+        let prefix = field.as_str();
+        names.push(LocalName { prefix, part: None })?;
+    }
+    Ok(names)
+}
+
+/// Each field with the name of a local.
+fn field_locals(
+    alloc: Global,
+    fields: &[Text],
+    names: &[Text],
+) -> Result<List<(Text, Text)>, OutOfMemory>
+    requires { length names.now ≡ length fields.now }
+    ensures { IfOk result (λ pairs. pairs ≡ zip fields.now names.now) }
+{
+    let mut pairs = List::new(alloc);
+    for (at, name) in names.iter().enumerate() {
+        let field = fields[at].copy(alloc)?;
+        pairs.push((field, name.copy(alloc)?))?;
+    }
+    Ok(pairs)
+}
+
+/// What takes a record apart, each field into a local.
+fn record_pattern(alloc: Global, site: &RecordSite, names: &[Text]) -> Result<Pattern, OutOfMemory>
+    requires { length names.now ≡ length site.now.fields }
+    ensures { IfOk result (λ p. p ≡ pattern.Record site.now.lowered (zip site.now.fields names.now)) }
+{
+    let path = copy_path(&site.lowered, alloc)?;
+    let pairs = field_locals(alloc, site.fields.as_slice(), names)?;
+    Ok(Pattern::Record(path, pairs))
+}
+
+/// How a record of the table is written. Of one without a site, or with other fields in number, there is no memory.
+fn record_site<'a>(
+    records: &'a [Option<RecordSite>],
+    resolve: &Resolve,
+    id: TypeId,
+) -> Result<&'a RecordSite, OutOfMemory>
+    ensures { IfOk result (λ s. IsSiteOf resolve.now.types records.now id.0 s.now) }
+{
+    let at = id.0 as usize;
+    if at >= records.len() {
+        return Err(OutOfMemory);
+    }
+    let count = field_count(resolve, id)?;
+    match &records[at] {
+        Some(site) if site.fields.len() == count => Ok(site),
+        _ => Err(OutOfMemory),
+    }
+}
+
+impl Scope {
+    /// The names of locals for fields, which get one number.
+    fn declare_fields(&mut self, alloc: Global, fields: &[Text]) -> Result<List<Text>, OutOfMemory>
+        ensures { IfOk result (λ names. DeclaresFields self.old fields.now names self.new) }
+    {
+        let locals = field_names(alloc, fields)?;
+        let names = self.declare_all(alloc, locals.as_slice())?;
+        Ok(names)
+    }
+}
+
+impl FunctionBindgen {
+    /// The expression that makes a record of operands.
+    fn record_expr(
+        &self,
+        resolve: &Resolve,
+        id: TypeId,
+        operands: &List<ExprOperand>,
+    ) -> Result<Expr, OutOfMemory>
+        ensures { IfOk result (λ e. MakesRecord resolve.now.types self.now.records id.0 operands.now e) }
+    {
+        let site = record_site(self.records.as_slice(), resolve, id)?;
+        if operands.len() != site.fields.len() {
+            return Err(OutOfMemory);
+        }
+        let path = copy_path(&site.lifted, self.alloc)?;
+        let fields = field_exprs(self.alloc, site.fields.as_slice(), operands.as_slice())?;
+        Ok(Expr::Record(path, fields))
+    }
+
+    pub(crate) fn lift_record(
+        &mut self,
+        resolve: &Resolve,
+        id: TypeId,
+        operands: &List<ExprOperand>,
+        results: &mut List<ExprOperand>,
+    ) -> Result<(), OutOfMemory>
+        requires empty { results.old ≡ [] }
+        ensures { OnOk result (Emits func_meaning resolve.now.types (instruction.RecordLift id) operands.now results.new self.old self.new) }
+    {
+        let record = self.record_expr(resolve, id, operands)?;
+        let name = self.add_let("record", record)?;
+        let expr = Expr::Local(name);
+        results.push(ExprOperand { expr })?;
+        Ok(())
+    }
+
+    /// The names of new locals, one for each field of a record.
+    fn add_fields(
+        &mut self,
+        resolve: &Resolve,
+        id: TypeId,
+        e: Expr,
+    ) -> Result<List<Text>, OutOfMemory>
+        ensures { IfOk result (λ names. SplitsRecord resolve.now.types id.0 e names self.old self.new) }
+    {
+        let site = record_site(self.records.as_slice(), resolve, id)?;
+        let names = self
+            .scope
+            .declare_fields(self.alloc, site.fields.as_slice())?;
+        let pattern = record_pattern(self.alloc, site, names.as_slice())?;
+        self.code.stmts.push(Stmt::LetParts(pattern, e))?;
+        Ok(names)
+    }
+
+    pub(crate) fn lower_record(
+        &mut self,
+        resolve: &Resolve,
+        id: TypeId,
+        operands: &List<ExprOperand>,
+        results: &mut List<ExprOperand>,
+    ) -> Result<(), OutOfMemory>
+        requires one { length operands.now ≡ 1 }
+        requires empty { results.old ≡ [] }
+        ensures { OnOk result (Emits func_meaning resolve.now.types (instruction.RecordLower id) operands.now results.new self.old self.new) }
+    {
+        let e = only_operand(self.alloc, operands)?;
+        let names = self.add_fields(resolve, id, e)?;
+        push_locals(self.alloc, names.as_slice(), results)?;
+        Ok(())
+    }
+}
