@@ -18,6 +18,7 @@ pub mod PartRows
 pub mod PartsTaken
 pub mod Placed
 pub mod Quiet
+pub mod RecordInstances
 pub mod RecordRows
 pub mod Rows
 pub mod RuntimeItems
