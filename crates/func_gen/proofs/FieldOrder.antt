@@ -16,7 +16,8 @@ use Rattle.wrapper_meaning.proofs.Lists.{some_same}
 use Rattle.wrapper_run.proofs.LocalLemmas.{bytes_eq-same}
 use Rattle.wrapper_values.specs.Fields.{arranged, arranged_by, each_named, field_named, fields_in, in_order, root_name, type_named}
 use Rattle.func_gen.specs.declared.record_site.RecordSite.{RecordSite}
-use Rattle.func_gen.specs.RecordForms.{locals_for, site_at}
+use Rattle.func_gen.specs.declared.scope.Scope.{Scope}
+use Rattle.func_gen.specs.RecordForms.{DeclaresFields, locals_for, site_at}
 use Rattle.func_gen.specs.Records.{AreDefined, Defines, HasFields, field_names}
 
 -- 1. The order
@@ -128,6 +129,9 @@ locals_distinct fields t d = all fields ∙ d
     all : (ns : List Bytes) → is_distinct (locals_for ns t) ≡ is_distinct ns
     all [] = refl
     all (n ∷ ns) = ap₂ (λ b c. not b && c) (any_appended ns n (decimal t)) (all ns)
+
+pub fields_named : {before after : Scope} {fields names : List Bytes} (d : DeclaresFields before fields names after) → names ≡ locals_for fields d.declares.number
+fields_named d = d.declares.are ∙ d.named d.declares.number
 
 pub locals_many : (fields : List Bytes) (t : ℕ) → length (locals_for fields t) ≡ length fields
 locals_many [] t = refl

@@ -40,7 +40,7 @@ use Rattle.func_gen.specs.Operand.{is_operand}
 use Rattle.func_gen.specs.PartForms.{are_operands, exprs_of, locals_of}
 use Rattle.func_gen.specs.RecordForms.{HasFieldCount, IsSiteOf, MakesRecord, SplitsRecord}
 use Rattle.func_gen.specs.Records.{AreDefined, Defines}
-use Rattle.func_gen.proofs.FieldOrder.{arranged_fields, defined_at, locals_distinct, locals_many as fields_many}
+use Rattle.func_gen.proofs.FieldOrder.{arranged_fields, defined_at, fields_named, locals_distinct, locals_many as fields_many}
 use Rattle.func_gen.proofs.PartRows.{all_rust, lifts_whole}
 use Rattle.func_gen.proofs.PartsTaken.{apart_adds, apart_lowers, locals_many}
 use Rattle.func_gen.proofs.Quiet.{quiet_operand}
@@ -134,10 +134,12 @@ pub record_split : (types : List TypeDef) (old new : FunctionBindgen) (id : Type
 record_split types old new id e names ok split =
     let site = split.site in
     let pat = pattern.Record site.lowered (zip site.fields names) in
-    let many : length names ≡ length site.fields = ap length split.named ∙ fields_many site.fields split.number in
+    let t = split.declares.declares.number in
+    let named = fields_named split.declares in
+    let many : length names ≡ length site.fields = ap length named ∙ fields_many site.fields t in
     let fits : (w : File) → Serves w new → (given_names w.items pat ≡ Some names) × (is_distinct names ≡ true) = λ w h.
     let d = defined w old new types id.0 site split.stmts.records split.is_site h in
-    (arranged_fields w.items site.lowered site.fields names d.lowered d.distinct (sym many), ap is_distinct split.named ∙ locals_distinct site.fields split.number d.distinct) in
+    (arranged_fields w.items site.lowered site.fields names d.lowered d.distinct (sym many), ap is_distinct named ∙ locals_distinct site.fields t d.distinct) in
     record {
       adds = apart_adds old new pat names e split.stmts split.fresh fits ok;
       blocks = refl;

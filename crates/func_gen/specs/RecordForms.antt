@@ -16,7 +16,7 @@ use Rattle.func_gen.specs.declared.scope.Scope.{Scope}
 use Rattle.func_gen.specs.Added.{Appends}
 use Rattle.func_gen.specs.CallForms.{FreshAll}
 use Rattle.func_gen.specs.PartForms.{are_operands, exprs_of}
-use Rattle.func_gen.specs.Scope.{DeclaresAs}
+use Rattle.func_gen.specs.Scope.{DeclaresAs, names_at}
 
 -- how the record at a place of the table is written
 abbrev pub site_at : List (Option RecordSite) → ℕ → Option RecordSite
@@ -43,17 +43,16 @@ pub record MakesRecord (types : List TypeDef) (records : List (Option RecordSite
 abbrev pub locals_for : List Bytes → ℕ → List Bytes
 locals_for fields t = map (λ f. f ++ decimal t) fields
 
--- names for some fields were declared
+-- the names of locals for some fields were declared
 pub record DeclaresFields (before : Scope) (fields names : List Bytes) (after : Scope) : Type 0 where
   pub locals : List LocalName
+  pub named : (t : ℕ) → names_at locals t ≡ locals_for fields t
   pub declares : DeclaresAs before locals names after
-  pub named : names ≡ locals_for fields declares.number
 
--- a record was taken apart: each field, in order, is bound by a new name, and all these names have one number
+-- a record was taken apart: each field, in order, is bound by the name of a new local
 pub record SplitsRecord (types : List TypeDef) (id : ℕ) (e : Expr) (names : List Bytes) (old new : FunctionBindgen) : Type 0 where
   pub site : RecordSite
   pub is_site : IsSiteOf types old.records id site
-  pub number : ℕ
-  pub named : names ≡ locals_for site.fields number
+  pub declares : DeclaresFields old.scope site.fields names new.scope
   pub stmts : Appends old new (stmt.LetParts (pattern.Record site.lowered (zip site.fields names)) e ∷ []) []
   pub fresh : FreshAll old new names

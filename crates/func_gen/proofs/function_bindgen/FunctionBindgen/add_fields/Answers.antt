@@ -2,15 +2,15 @@ use Rattle.std.proofs.Common.{[], ◌∷◌, ◌++◌, length, refl, sym, ap, �
 use Rattle.std.specs.Prelude.{zip}
 use Rattle.rust_tree.specs.declared.pattern.Pattern.TheVariants as pattern
 use Rattle.rust_tree.specs.declared.stmt.Stmt.TheVariants as stmt
-use Rattle.func_gen.specs.RecordForms.{IsSiteOf, locals_for}
+use Rattle.func_gen.specs.RecordForms.{DeclaresFields, IsSiteOf}
 use Rattle.func_gen.proofs.CallRows.{declared_as}
-use Rattle.func_gen.proofs.FieldOrder.{locals_many}
+use Rattle.func_gen.proofs.FieldOrder.{fields_named, locals_many}
 use Rattle.func_gen.proofs.function_bindgen.FunctionBindgen.add_fields.Goals as goal
 
 pub record_pattern-requires : goal.record_pattern-requires
 record_pattern-requires c =
     let d = c.in_ok-names.ensures in
-    ap length (c.as_slice-3.ensures ∙ d.named) ∙ locals_many c.as_slice-2.result.now d.declares.number ∙ ap length c.as_slice-2.ensures
+    ap length (c.as_slice-3.ensures ∙ fields_named d) ∙ locals_many c.as_slice-2.result.now d.declares.number ∙ ap length c.as_slice-2.ensures
 
 pub returns : goal.returns
 returns c =
@@ -22,8 +22,7 @@ returns c =
     record {
       site = site;
       is_site = subst (λ records. IsSiteOf c.args.resolve.now.types records c.args.id.0 site) c.as_slice.ensures c.in_ok-site.ensures;
-      number = d.declares.number;
-      named = d.named ∙ ap (λ fs. locals_for fs d.declares.number) c.as_slice-2.ensures;
+      declares = subst (λ fs. DeclaresFields old.scope fs names c.declare_fields.new.self) c.as_slice-2.ensures d;
       stmts = record {
         call = refl;
         stmts = c.in_ok-push.ensures.ok ∙ ap (λ p. old.code.stmts ++ stmt.LetParts p c.args.e ∷ []) same;

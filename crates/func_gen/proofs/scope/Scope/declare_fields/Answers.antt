@@ -1,8 +1,8 @@
-use Rattle.std.proofs.Common.{◌∙◌, subst}
+use Rattle.std.proofs.Common.{subst}
 use Rattle.func_gen.specs.Scope.{DeclaresAs}
 use Rattle.func_gen.proofs.scope.Scope.declare_fields.Goals as goal
 
 pub returns : goal.returns
 returns c =
     let d = subst (λ ls. DeclaresAs c.args.self.now ls c.in_ok-names.names c.declare_all.new.self) c.as_slice.ensures c.in_ok-names.ensures in
-    record { locals = c.in_ok-locals.locals; declares = d; named = d.are ∙ c.in_ok-locals.ensures d.number }
+    record { locals = c.in_ok-locals.locals; named = c.in_ok-locals.ensures; declares = d }
