@@ -1,10 +1,13 @@
 pub mod AreaRoom
 pub mod AreaRows
+pub mod Buffers
 pub mod CallRows
 pub mod CallWords
+pub mod Declared
 pub mod Evaluated
 pub mod FieldOrder
 pub mod FlushRow
+pub mod Forgetting
 pub mod FreeRow
 pub mod Lasting
 pub mod LiftedRows
@@ -28,5 +31,6 @@ pub mod Several
 pub mod Starting
 pub mod Steps
 pub mod StoreRows
+pub mod TextRows
 pub mod TupleRows
 pub mod Writing

@@ -17,3 +17,4 @@ pub mod Records
 pub mod Scope
 pub mod Sites
 pub mod StandLemmas
+pub mod TextForms

@@ -7,6 +7,7 @@ mod memory;
 mod parts;
 mod records;
 mod scalars;
+mod texts;
 
 ghost use Rattle.std.specs.Prelude.{◌≡◌, ◌<◌, [], length, OnOk};
 ghost use Rattle.abi_driver.specs.Instructions.{Emits};

@@ -60,6 +60,8 @@ impl Bindgen for FunctionBindgen {
             Instruction::RecordLower(id) => self.lower_record(resolve, id, operands, results),
             Instruction::RecordLift(id) => self.lift_record(resolve, id, operands, results),
             Instruction::TupleLower(n) => self.lower_tuple(resolve, n, operands, results),
+            Instruction::StringLower(false) => self.lend_text(resolve, operands, results),
+            Instruction::StringLower(true) => self.give_text(resolve, operands, results),
             Instruction::TupleLift(n) => self.lift_tuple(resolve, n, operands, results),
             Instruction::GuestDeallocateString => self.free_text(resolve, operands, results),
             Instruction::CallWasm(func) => self.call_core(resolve, func, operands, results),

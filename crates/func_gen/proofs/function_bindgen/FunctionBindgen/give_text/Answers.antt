@@ -1,0 +1,23 @@
+use Rattle.std.proofs.Common.{[], ◌∷◌, ◌++◌, ap, subst, ◌∙◌}
+use Rattle.rust_tree.specs.declared.expr.Expr.TheVariants as expr
+use Rattle.rust_tree.specs.declared.stmt.Stmt.TheVariants as stmt
+use Rattle.abi_driver.specs.declared.instruction.Instruction.TheVariants as instruction
+use Rattle.std.proofs.Common.{true}
+use Rattle.func_gen.specs.Added.{Appends}
+use Rattle.func_gen.specs.TextForms.{buffer_names, buffer_stmts, forgotten}
+use Rattle.func_gen.proofs.Declared.{still_fresh}
+use Rattle.func_gen.proofs.Rows.{appends_both, emits_as}
+use Rattle.func_gen.proofs.TextRows.{give_row}
+use Rattle.func_gen.proofs.function_bindgen.FunctionBindgen.give_text.Goals as goal
+
+pub returns : goal.returns
+returns c =
+    let types = c.args.resolve.now.types in
+    let name = c.in_ok-name.name in
+    let t = c.in_ok-t.t in
+    let stmts = buffer_stmts t (expr.IntoBoxedBytes name) in
+    let added = appends_both c.args.self.now c.add_buffer.new.self c.add_effect.new.self stmts (stmt.Expr c.in_ok-call.call ∷ []) [] [] c.in_ok-t.ensures.adds c.in_ok-add_effect.ensures.adds in
+    emits_as types (instruction.StringLower true) _ _ _ _ _ _ c.in_ok-name.ensures c.in_ok-push_words.ensures
+    (give_row types c.args.self.now c.add_effect.new.self name t
+    (subst (λ x. Appends c.args.self.now c.add_effect.new.self (stmts ++ stmt.Expr x ∷ []) []) (c.in_ok-call.ensures ∙ ap forgotten c.in_ok-vec.ensures) added)
+    (still_fresh c.args.self.now c.add_buffer.new.self c.add_effect.new.self (buffer_names t) c.in_ok-add_effect.ensures.scope c.in_ok-t.ensures.fresh))

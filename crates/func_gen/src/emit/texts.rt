@@ -1,0 +1,171 @@
+//! Texts become an address and a length.
+
+ghost use Rattle.std.specs.Prelude.{◌≡◌, [], ◌∷◌, true, false, length, IfOk, OnOk};
+ghost use Rattle.rust_tree.specs.declared.expr.Expr.TheVariants as expr;
+ghost use Rattle.rust_tree.specs.declared.stmt.Stmt.TheVariants as stmt;
+ghost use Rattle.abi_driver.specs.Instructions.{Emits};
+ghost use Rattle.abi_driver.specs.declared.instruction.Instruction.TheVariants as instruction;
+ghost use Rattle.func_gen.specs.Added.{Appends};
+ghost use Rattle.func_gen.specs.CallForms.{FreshAll};
+ghost use Rattle.func_gen.specs.Forms.{operand_of};
+ghost use Rattle.func_gen.specs.Meaning.{func_meaning};
+ghost use Rattle.func_gen.specs.TextForms.{buffer_names, buffer_stmts, buffer_words, forget_path, forgotten, len_name, ptr_name, vec_name, with_number};
+
+use crate::added::only_operand;
+use crate::function_bindgen::FunctionBindgen;
+use crate::operand::ExprOperand;
+use crate::scope::{LocalName, numbered};
+use rust_tree::{Expr, Path, Stmt};
+use std::alloc::Global;
+use wit_model::{List, OutOfMemory, Resolve, Text};
+
+/// The name of a local: what stands before its number, and the number.
+fn local_name(alloc: Global, prefix: &str, t: u32) -> Result<Text, OutOfMemory>
+    ensures { IfOk result (λ text. text ≡ with_number prefix.now t) }
+{
+    numbered(alloc, LocalName { prefix, part: None }, t)
+}
+
+#[tactic(auto, unfolding(crate::specs::TextForms::forget_names))]
+fn forget_path(alloc: Global) -> Result<Path, OutOfMemory>
+    ensures { IfOk result (λ p. p ≡ forget_path) }
+{
+    let mut names = List::new(alloc);
+    names.push(Text::from_str(alloc, "core")?)?;
+    names.push(Text::from_str(alloc, "mem")?)?;
+    names.push(Text::from_str(alloc, "forget")?)?;
+    Ok(Path {
+        lead: true,
+        supers: 0,
+        names,
+    })
+}
+
+/// The call by which the value of a local is forgotten.
+fn forgotten(alloc: Global, name: Text) -> Result<Expr, OutOfMemory>
+    ensures { IfOk result (λ c. c ≡ forgotten name) }
+{
+    let path = forget_path(alloc)?;
+    let mut arguments = List::new(alloc);
+    arguments.push(Expr::Local(name))?;
+    Ok(Expr::Call(path, arguments))
+}
+
+/// The one operand, where it is a local by itself. Of any other there is no memory.
+fn only_local(alloc: Global, operands: &List<ExprOperand>) -> Result<Text, OutOfMemory>
+    requires one { length operands.now ≡ 1 }
+    ensures { IfOk result (λ name. operands.now ≡ operand_of (expr.Local name) ∷ []) }
+{
+    match &operands.as_slice()[0].expr {
+        Expr::Local(name) => name.copy(alloc),
+        _ => Err(OutOfMemory),
+    }
+}
+
+/// The address and the length of a buffer.
+fn push_words(alloc: Global, t: u32, results: &mut List<ExprOperand>) -> Result<(), OutOfMemory>
+    requires empty { results.old ≡ [] }
+    ensures { OnOk result (results.new ≡ buffer_words t) }
+{
+    let address = Expr::CastMut(local_name(alloc, "ptr", t)?);
+    let length = Expr::Local(local_name(alloc, "len", t)?);
+    results.push(ExprOperand { expr: address })?;
+    results.push(ExprOperand { expr: length })
+}
+
+impl FunctionBindgen {
+    /// The number of three locals.
+    fn declare_three(&mut self, one: &str, two: &str, three: &str) -> Result<u32, OutOfMemory>
+        ensures adds { IfOk result (λ t. Appends self.old self.new [] []) }
+        ensures fresh { IfOk result (λ t. FreshAll self.old self.new (with_number one.now t ∷ with_number two.now t ∷ with_number three.now t ∷ [])) }
+    {
+        let one = LocalName {
+            prefix: one,
+            part: None,
+        };
+        let two = LocalName {
+            prefix: two,
+            part: None,
+        };
+        let three = LocalName {
+            prefix: three,
+            part: None,
+        };
+        self.scope.declare(self.alloc, &[one, two, three])
+    }
+
+    /// A local whose name was declared.
+    fn push_let(&mut self, prefix: &str, t: u32, e: Expr) -> Result<(), OutOfMemory>
+        ensures adds { OnOk result (Appends self.old self.new (stmt.Let (with_number prefix.now t) e ∷ []) []) }
+        ensures scope { OnOk result (self.new.scope ≡ self.old.scope) }
+    {
+        let name = local_name(self.alloc, prefix, t)?;
+        self.code.stmts.push(Stmt::Let(name, e))
+    }
+
+    fn push_ptr(&mut self, t: u32) -> Result<(), OutOfMemory>
+        ensures adds { OnOk result (Appends self.old self.new (stmt.Let (ptr_name t) (expr.AsPtr (vec_name t)) ∷ []) []) }
+        ensures scope { OnOk result (self.new.scope ≡ self.old.scope) }
+    {
+        let vec = local_name(self.alloc, "vec", t)?;
+        self.push_let("ptr", t, Expr::AsPtr(vec))
+    }
+
+    fn push_len(&mut self, t: u32) -> Result<(), OutOfMemory>
+        ensures adds { OnOk result (Appends self.old self.new (stmt.Let (len_name t) (expr.Len (vec_name t)) ∷ []) []) }
+        ensures scope { OnOk result (self.new.scope ≡ self.old.scope) }
+    {
+        let vec = local_name(self.alloc, "vec", t)?;
+        self.push_let("len", t, Expr::Len(vec))
+    }
+
+    /// The number of the locals of a buffer, whose value an expression gives: itself, its address and its length.
+    fn add_buffer(&mut self, e: Expr) -> Result<u32, OutOfMemory>
+        ensures adds { IfOk result (λ t. Appends self.old self.new (buffer_stmts t e) []) }
+        ensures fresh { IfOk result (λ t. FreshAll self.old self.new (buffer_names t)) }
+    {
+        let t = self.declare_three("vec", "ptr", "len")?;
+        self.push_let("vec", t, e)?;
+        self.push_ptr(t)?;
+        self.push_len(t)?;
+        Ok(t)
+    }
+}
+
+impl FunctionBindgen {
+    pub(crate) fn lend_text(
+        &mut self,
+        resolve: &Resolve,
+        operands: &List<ExprOperand>,
+        results: &mut List<ExprOperand>,
+    ) -> Result<(), OutOfMemory>
+        requires one { length operands.now ≡ 1 }
+        requires empty { results.old ≡ [] }
+        ensures { OnOk result (Emits func_meaning resolve.now.types (instruction.StringLower false) operands.now results.new self.old self.new) }
+    {
+        let e = only_operand(self.alloc, operands)?;
+        let t = self.add_buffer(e)?;
+        push_words(self.alloc, t, results)?;
+        Ok(())
+    }
+
+    /// Of an operand that is no local there is no memory.
+    pub(crate) fn give_text(
+        &mut self,
+        resolve: &Resolve,
+        operands: &List<ExprOperand>,
+        results: &mut List<ExprOperand>,
+    ) -> Result<(), OutOfMemory>
+        requires one { length operands.now ≡ 1 }
+        requires empty { results.old ≡ [] }
+        ensures { OnOk result (Emits func_meaning resolve.now.types (instruction.StringLower true) operands.now results.new self.old self.new) }
+    {
+        let name = only_local(self.alloc, operands)?;
+        let t = self.add_buffer(Expr::IntoBoxedBytes(name))?;
+        let vec = local_name(self.alloc, "vec", t)?;
+        let call = forgotten(self.alloc, vec)?;
+        self.add_effect(Stmt::Expr(call))?;
+        push_words(self.alloc, t, results)?;
+        Ok(())
+    }
+}
