@@ -31,6 +31,7 @@ pub mod Several
 pub mod Starting
 pub mod Steps
 pub mod StoreRows
+pub mod TakenRow
 pub mod TextRows
 pub mod TupleRows
 pub mod Writing

@@ -1,23 +1,26 @@
-//! Texts become an address and a length.
+//! Texts become an address and a length, and texts are taken over by these.
 
 ghost use Rattle.std.specs.Prelude.{◌≡◌, [], ◌∷◌, true, false, length, IfOk, OnOk};
 ghost use Rattle.rust_tree.specs.declared.expr.Expr.TheVariants as expr;
+ghost use Rattle.rust_tree.specs.declared.runtime_item.RuntimeItem.TheVariants.{StringLift};
 ghost use Rattle.rust_tree.specs.declared.stmt.Stmt.TheVariants as stmt;
 ghost use Rattle.abi_driver.specs.Instructions.{Emits};
 ghost use Rattle.abi_driver.specs.declared.instruction.Instruction.TheVariants as instruction;
 ghost use Rattle.func_gen.specs.Added.{Appends};
 ghost use Rattle.func_gen.specs.CallForms.{FreshAll};
-ghost use Rattle.func_gen.specs.Forms.{operand_of};
+ghost use Rattle.func_gen.specs.Forms.{operand_of, runtime_call};
 ghost use Rattle.func_gen.specs.Meaning.{func_meaning};
-ghost use Rattle.func_gen.specs.TextForms.{buffer_names, buffer_stmts, buffer_words, forget_path, forgotten, len_name, ptr_name, vec_name, with_number};
+ghost use Rattle.func_gen.specs.TextForms.{buffer_names, buffer_stmts, buffer_words, bytes_name, forget_path, forgotten, len_name, ptr_name, taken_names, taken_stmts, text_name, vec_name, with_number};
 
 use crate::added::only_operand;
+use crate::emit::memory::both_operands;
+use crate::forms::runtime_call;
 use crate::function_bindgen::FunctionBindgen;
 use crate::operand::ExprOperand;
 use crate::scope::{LocalName, numbered};
-use rust_tree::{Expr, Path, Stmt};
+use rust_tree::{Expr, Path, RuntimeItem, Stmt};
 use std::alloc::Global;
-use wit_model::{List, OutOfMemory, Resolve, Text};
+use wit_model::{Boxed, List, OutOfMemory, Resolve, Text};
 
 /// The name of a local: what stands before its number, and the number.
 fn local_name(alloc: Global, prefix: &str, t: u32) -> Result<Text, OutOfMemory>
@@ -130,6 +133,36 @@ impl FunctionBindgen {
         self.push_len(t)?;
         Ok(t)
     }
+
+    fn push_bytes(&mut self, t: u32, address: Expr) -> Result<(), OutOfMemory>
+        ensures adds { OnOk result (Appends self.old self.new (stmt.Let (bytes_name t) (expr.FromRawParts address (len_name t)) ∷ []) []) }
+        ensures scope { OnOk result (self.new.scope ≡ self.old.scope) }
+    {
+        let address = Boxed::new(self.alloc, address)?;
+        let len = local_name(self.alloc, "len", t)?;
+        self.push_let("bytes", t, Expr::FromRawParts(address, len))
+    }
+
+    fn push_text(&mut self, t: u32) -> Result<(), OutOfMemory>
+        ensures adds { OnOk result (Appends self.old self.new (stmt.Let (text_name t) (runtime_call StringLift (expr.Local (bytes_name t))) ∷ []) []) }
+        ensures scope { OnOk result (self.new.scope ≡ self.old.scope) }
+    {
+        let bytes = Expr::Local(local_name(self.alloc, "bytes", t)?);
+        let lifted = runtime_call(self.alloc, RuntimeItem::StringLift, bytes)?;
+        self.push_let("text", t, lifted)
+    }
+
+    /// The number of the locals of a text that is taken over: its length, its bytes, and itself.
+    fn add_taken(&mut self, address: Expr, n: Expr) -> Result<u32, OutOfMemory>
+        ensures adds { IfOk result (λ t. Appends self.old self.new (taken_stmts t address n) []) }
+        ensures fresh { IfOk result (λ t. FreshAll self.old self.new (taken_names t)) }
+    {
+        let t = self.declare_three("len", "bytes", "text")?;
+        self.push_let("len", t, n)?;
+        self.push_bytes(t, address)?;
+        self.push_text(t)?;
+        Ok(t)
+    }
 }
 
 impl FunctionBindgen {
@@ -166,6 +199,25 @@ impl FunctionBindgen {
         let call = forgotten(self.alloc, vec)?;
         self.add_effect(Stmt::Expr(call))?;
         push_words(self.alloc, t, results)?;
+        Ok(())
+    }
+
+    pub(crate) fn lift_text(
+        &mut self,
+        resolve: &Resolve,
+        operands: &List<ExprOperand>,
+        results: &mut List<ExprOperand>,
+    ) -> Result<(), OutOfMemory>
+        requires empty { results.old ≡ [] }
+        ensures { OnOk result (Emits func_meaning resolve.now.types instruction.StringLift operands.now results.new self.old self.new) }
+    {
+        let (address, n) = both_operands(self.alloc, operands)?;
+        self.ask(RuntimeItem::VecType)?;
+        self.ask(RuntimeItem::StringLift)?;
+        let t = self.add_taken(address, n)?;
+        let name = local_name(self.alloc, "text", t)?;
+        let expr = Expr::Local(name);
+        results.push(ExprOperand { expr })?;
         Ok(())
     }
 }
