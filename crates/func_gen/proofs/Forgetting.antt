@@ -1,10 +1,8 @@
 -- What is forgotten has no owner any more: the machine lets go of blocks as the laws say.
-use Rattle.std.proofs.Common.{◌≡◌, ℕ, Bool, true, false, cond, ◌||◌, not, nat_eq, if◌then◌else◌, List, [], ◌∷◌, Option, None, Some, filter, refl, sym, ap, ◌∙◌, subst, arith}
-use Rattle.std.proofs.lemmas.Bool.{or_parts}
-use Rattle.std.proofs.lemmas.Bool.Decides.{nat_tests}
+use Rattle.std.proofs.Common.{◌≡◌, ℕ, Bool, true, false, cond, ◌||◌, not, nat_eq, if◌then◌else◌, List, [], ◌∷◌, Option, None, Some, filter, refl, sym, ap, ◌∙◌, subst}
+use Rattle.std.proofs.lemmas.Bool.{eqb-true, or_parts}
 use Rattle.wrapper_data.specs.declared.block.Block.{Block}
 use Rattle.wrapper_data.specs.declared.value.RustValue.{RustValue}
-use Rattle.wrapper_data.specs.declared.value.RustValue.TheVariants as value
 use Rattle.wit_model.specs.Bytes.{Bytes}
 use Rattle.rust_tree.specs.declared.expr.Expr.{Expr}
 use Rattle.rust_tree.specs.declared.expr.Expr.TheVariants as expr
@@ -12,21 +10,20 @@ use Rattle.rust_tree.specs.declared.path.Path.{Path}
 use Rattle.rust_tree.specs.declared.stmt.Stmt.TheVariants as stmt
 use Rattle.wrapper_values.specs.declared.state.State.{State}
 use Rattle.wrapper_values.specs.declared.state.Val.{Val}
-use Rattle.wrapper_values.specs.declared.state.Val.TheVariants as val
 use Rattle.wrapper_values.specs.Act as machine
 use Rattle.wrapper_values.specs.Act.{◌>>=◌, and_then, pure}
 use Rattle.wrapper_values.specs.Owning.{is_taken, owned}
 use Rattle.wrapper_values.specs.Setting.{Setting}
-use Rattle.wrapper_run.specs.Blocks.{drop_value, free_all, release, release_all, release_found}
+use Rattle.wrapper_run.specs.Blocks.{drop_value, release, release_all, release_found}
 use Rattle.wrapper_run.specs.Memory.{block_from}
 use Rattle.wrapper_run.specs.Run.{call, call_callee, callee, core_forget, eval, is_core_forget, run_stmts}
-use Rattle.wrapper_run.proofs.OwningLemmas.{owned-unit}
 use Rattle.wrapper_run.proofs.QuietSteps.{quiet_expr, quiet_forget}
 use Rattle.wrapper_run.proofs.StepLemmas.{Quiet, eval-call, quiet_local, quiet_pure}
 use Rattle.abi_driver.specs.Account.{Account, Done, Got, Outcome, Stopped, Stuck, releasing, without}
 use Rattle.func_gen.specs.Facts.{AreOwned, IsThere}
 use Rattle.func_gen.specs.Meaning.{account_of}
 use Rattle.func_gen.specs.TextForms.{forget_names, forget_path, forgotten}
+use Rattle.func_gen.proofs.FreeRow.{dropped}
 
 -- 1. One owner is no more
 
@@ -37,16 +34,13 @@ filter_none a (t ∷ taken) e =
     let parts = or_parts (nat_eq t a) (is_taken a taken) e in
     ap (λ b. cond (not b) (t ∷ filter (λ t. not (nat_eq t a)) taken) (filter (λ t. not (nat_eq t a)) taken)) parts.0 ∙ ap (λ ts. t ∷ ts) (filter_none a taken parts.1)
 
-same_test : (t a : ℕ) → nat_eq t a ≡ true → t ≡ a
-same_test t a e = grind (arith, nat_tests)
-
 -- an address has one owner at most
 without_is : (blocks : List Block) (a : ℕ) (taken : List ℕ) → AreOwned blocks taken → filter (λ t. not (nat_eq t a)) taken ≡ without a taken
 without_is blocks a [] h = refl
 without_is blocks a (t ∷ taken) (once, there, more) = go (nat_eq t a) refl (without_is blocks a taken more)
   where
     go : (c : Bool) → nat_eq t a ≡ c → filter (λ t. not (nat_eq t a)) taken ≡ without a taken → cond (not c) (t ∷ filter (λ t. not (nat_eq t a)) taken) (filter (λ t. not (nat_eq t a)) taken) ≡ cond c taken (t ∷ without a taken)
-    go true e later = filter_none a taken (ap (λ x. is_taken x taken) (sym (same_test t a e)) ∙ once)
+    go true e later = filter_none a taken (ap (λ x. is_taken x taken) (sym (eqb-true t a e)) ∙ once)
     go false e later = ap (λ ts. t ∷ ts) later
 
 still_once : (t a : ℕ) (taken : List ℕ) → is_taken t taken ≡ false → is_taken t (without a taken) ≡ false
@@ -66,12 +60,12 @@ owned_left blocks a (t ∷ taken) (once, there, more) = go (nat_eq t a) (owned_l
     go false later = (still_once t a taken once, there, later)
 
 -- what has an owner is there
-pub owner_there : (blocks : List Block) (a : ℕ) (taken : List ℕ) → AreOwned blocks taken → is_taken a taken ≡ true → IsThere (block_from a blocks)
+owner_there : (blocks : List Block) (a : ℕ) (taken : List ℕ) → AreOwned blocks taken → is_taken a taken ≡ true → IsThere (block_from a blocks)
 owner_there blocks a [] h e = absurd cc
 owner_there blocks a (t ∷ taken) (once, there, more) e = go (nat_eq t a) refl (owner_there blocks a taken more) e
   where
     go : (c : Bool) → nat_eq t a ≡ c → (is_taken a taken ≡ true → IsThere (block_from a blocks)) → (c || is_taken a taken) ≡ true → IsThere (block_from a blocks)
-    go true same later k = subst (λ x. IsThere (block_from x blocks)) (same_test t a same) there
+    go true same later k = subst (λ x. IsThere (block_from x blocks)) (eqb-true t a same) there
     go false same later k = later k
 
 -- 2. Some are no more
@@ -120,10 +114,6 @@ calls_forget = refl
 -- the call of a function on one value
 pub one_called : (w : Setting) (path : Path) (e : Expr) (v : Val) (s t : State) → eval w e s ≡ machine.Done v t → eval w (expr.Call path (e ∷ [])) s ≡ call w path (v ∷ []) t
 one_called w path e v s t h = ap (λ act. act s) (eval-call w path (e ∷ [])) ∙ ap (λ o. and_then (and_then o (λ x. pure [] >>= (λ xs. pure (x ∷ xs)))) (λ vs. call w path vs)) h
-
-dropped : (w : Setting) (o : machine.Outcome (Unit {0})) → and_then (and_then (and_then o (λ u. pure (val.Value value.Unit))) (drop_value w)) (λ u. pure tt) ≡ o
-dropped w (machine.Done u t) = ap (λ os. and_then (free_all w os t) (λ u. pure tt)) owned-unit
-dropped w (machine.Stopped e t) = refl
 
 pub forget_runs : (w : Setting) (name : Bytes) (v : Val) (s t : State) → eval w (expr.Local name) s ≡ machine.Done v t → run_stmts w (stmt.Expr (forgotten name) ∷ []) s ≡ release_all w (owned v) t
 forget_runs w name v s t h =

@@ -117,7 +117,8 @@ words_freed w address n s found =
     let vs = val.Word (core.Pointer address) ∷ val.Word (core.Length n) ∷ val.Word (core.Length 1) ∷ [] in
     ap (λ c. call_callee w c vs s) (calls_runtime CabiDealloc) ∙ ap (λ o. apply w o vs s) found
 
-dropped : (w : Setting) (o : machine.Outcome (Unit {0})) → and_then (and_then (and_then o (λ u. pure (val.Value value.Unit))) (drop_value w)) (λ u. pure tt) ≡ o
+-- a call that gives nothing is a statement by itself
+pub dropped : (w : Setting) (o : machine.Outcome (Unit {0})) → and_then (and_then (and_then o (λ u. pure (val.Value value.Unit))) (drop_value w)) (λ u. pure tt) ≡ o
 dropped w (machine.Done u t) = ap (λ os. and_then (free_all w os t) (λ u. pure tt)) owned-unit
 dropped w (machine.Stopped e t) = refl
 

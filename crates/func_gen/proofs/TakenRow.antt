@@ -2,7 +2,7 @@
 use Rattle.std.proofs.Common.{◌≡◌, ℕ, zero, suc, ◌-◌, ◌^◌, ◌<◌, Bool, true, false, cond, ◌||◌, nat_eq, nat_lt, if◌then◌else◌, find, List, [], ◌∷◌, ◌++◌, length, Option, None, Some, refl, sym, ap, ap₂, ◌∙◌, subst, arith}
 use Rattle.std.specs.Prelude.{option_and_then}
 use Rattle.std.specs.Str.{bytes_eq, is_utf8}
-use Rattle.std.proofs.lemmas.Bool.{and_parts, or_parts}
+use Rattle.std.proofs.lemmas.Bool.{and_parts, eqb-true, or_parts}
 use Rattle.std.proofs.lemmas.Bool.Decides.{nat_tests}
 use Rattle.std.proofs.lemmas.List.Folds.{list_any-append}
 use Rattle.std.proofs.lemmas.Str.{IsUtf8-nil, is_utf8-from_IsUtf8}
@@ -123,7 +123,7 @@ find_passes test (c ∷ blocks) b e = go (test c) refl (find_passes test blocks 
     go false h later k = later k
 
 starts : (p n : ℕ) (b : Block) → is_at p n b ≡ true → b.address ≡ p
-starts p n b h = let e : nat_eq b.address p ≡ true = (and_parts (nat_eq b.address p) (nat_eq b.size n) h).0 in grind (arith, nat_tests)
+starts p n b h = eqb-true b.address p (and_parts (nat_eq b.address p) (nat_eq b.size n) h).0
 
 -- 3. What the statements do
 
