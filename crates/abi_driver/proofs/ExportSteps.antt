@@ -30,7 +30,7 @@ use Rattle.abi_driver.specs.declared.bindgen.Asked.{Asked}
 use Rattle.abi_driver.specs.declared.instruction.Instruction.TheVariants.{CallInterface, Return}
 use Rattle.abi_driver.specs.Account.{Account, Call, Crossing, Done, Follows, Got, Outcome, Peer, account_in, addresses, gives, releasing}
 use Rattle.abi_driver.specs.Area.{AreFor, AreaStands, HoldsRecord, newly, pointing}
-use Rattle.abi_driver.specs.Calls.{CrossesAsItIs, handing, method_point, result_count}
+use Rattle.abi_driver.specs.Calls.{PassesAsItIs, coming, handing, method_point, result_count}
 use Rattle.abi_driver.specs.Exports.{CallsExport, EndsWithWords, GivesAnswer, GivesWords, HandsBack, IsHonestMethod, PassesItems, Received, StoresAnswer, TakesArgumentsOver, TookOver, argument_words, export_params, handed_on, placing_result}
 use Rattle.abi_driver.specs.Imports.{ResultStands}
 use Rattle.abi_driver.specs.Instructions.{Emits}
@@ -43,7 +43,7 @@ use Rattle.abi_driver.proofs.AreaSteps.{last_room}
 use Rattle.abi_driver.proofs.Done.{does_done, lets_go, releases_all}
 use Rattle.abi_driver.proofs.ImportSteps.{follows_calls, no_result_record}
 use Rattle.abi_driver.proofs.LiftSteps.{follows_done, stand_count}
-use Rattle.abi_driver.proofs.MethodCalls.{Came, after_answer, came_in, handing_calls, handing_done, live_owners}
+use Rattle.abi_driver.proofs.MethodCalls.{Came, after_answer, came_many, handing_calls, handing_done, live_owners}
 use Rattle.abi_driver.proofs.RecordPlaces.{align_at_width, at_width}
 use Rattle.abi_driver.proofs.Runs.{adds_both, adds_same, addresses_both, follows_then, grows_both, ofs_none, quiet_both, total-append}
 
@@ -284,7 +284,7 @@ module _ {Self Operand : Type 0} (m : Meaning Self Operand) (sound : Sound m) wh
     later_quiet : Quiet m d z
     later_quiet = quiet_both m d e z on.quiet ended.adds.grows ended.adds.quiet
 
-    module _ (w : m.World) (p : Peer m.Item) (us : Parts ts) (ws : List Word) (blocks : List Block) (others : Facts m) (s0 s : m.State) (crossed : CrossesAsItIs m w a fn.now ts r) (is : Received m w p ts us ws blocks a z others s0 s) where
+    module _ (w : m.World) (p : Peer m.Item) (us : Parts ts) (ws : List Word) (blocks : List Block) (others : Facts m) (s0 s : m.State) (crossed : PassesAsItIs m w a fn.now ts) (is : Received m w p ts us ws blocks a z others s0 s) where
       serves_e : m.serves w e
       serves_e = ended.adds.grows.serves w is.at.serves
 
@@ -323,7 +323,7 @@ module _ {Self Operand : Type 0} (m : Meaning Self Operand) (sound : Sound m) wh
       same_crossing = takes.adds.grows.crosses w fn.now
 
       as_they_are : crossing.passes lifted.vals ≡ Some lifted.vals
-      as_they_are = ap (λ x. x.passes lifted.vals) same_crossing ∙ crossed.passes us lifted.vals lifted.own is.listed lifted.stands
+      as_they_are = ap (λ x. x.passes lifted.vals) same_crossing ∙ crossed us lifted.vals lifted.own is.listed lifted.stands
 
       passed : PassesItems m (m.target a fn.now) ts us blocks (m.account s) call
       passed = record {
@@ -343,26 +343,25 @@ module _ {Self Operand : Type 0} (m : Meaning Self Operand) (sound : Sound m) wh
           ∙ ap (λ acc. acc.calls ++ call ∷ []) lifted.after.account
 
       -- what came in of an answer
-      back_in : (v : Result r) (honest : IsHonestMethod m r v p.reply) → Came m r crossing.receives v honest.item honest.own
-      back_in v honest =
-          came_in m r crossing.receives (λ t u x own e listed stands. let h = crossed.receives t u x own e listed stands in (h.0, ap (λ k. k.receives x) same_crossing ∙ h.1, h.2)) v honest.item honest.own honest.good honest.stands
+      back_in : (v : Result r) (honest : IsHonestMethod m w a fn.now r v p.reply) → Came m r crossing.receives v honest.item honest.own
+      back_in v honest = record { vals = honest.vals; came = ap (λ k. coming k.receives honest.item) same_crossing ∙ honest.comes; stands = honest.stands }
 
       -- the account when the method has answered
-      abbrev answered_account : (v : Result r) → IsHonestMethod m r v p.reply → Account m.Item
+      abbrev answered_account : (v : Result r) → IsHonestMethod m w a fn.now r v p.reply → Account m.Item
       answered_account v honest = handed_on call honest.heap (flat_map m.owned (back_in v honest).vals) (m.account s)
 
-      record Answering (v : Result r) (honest : IsHonestMethod m r v p.reply) : Type 0 where
+      record Answering (v : Result r) (honest : IsHonestMethod m w a fn.now r v p.reply) : Type 0 where
         pub state : m.State
         pub done : m.does w p (m.code d) s0 ≡ Done state
         pub account : m.account state ≡ answered_account v honest
         pub owns : SameItems (m.owns state) (flat_map m.owned (back_in v honest).vals)
         pub denotes : m.denotes w d (ofs m back (item_data m (back_in v honest).vals)) state
 
-      answered_so : (v : Result r) (honest : IsHonestMethod m r v p.reply) → Answering v honest
+      answered_so : (v : Result r) (honest : IsHonestMethod m w a fn.now r v p.reply) → Answering v honest
       answered_so v honest =
           let vals = option_to_list honest.item in
           let in_vals = (back_in v honest).vals in
-          let due : nat_eq (length vals) (result_count fn.now) ≡ true = eq-eqb (length vals) (result_count fn.now) (answer_count r v vals honest.own honest.stands ∙ count_mapped _ fn.now.result) in
+          let due : nat_eq (length vals) (result_count fn.now) ≡ true = eq-eqb (length vals) (result_count fn.now) (came_many m (m.crosses w a fn.now).receives honest.item honest.vals honest.comes ∙ answer_count r v honest.vals honest.own honest.stands ∙ count_mapped _ fn.now.result) in
           let live = live_owners (flat_map m.owned in_vals) honest.heap honest.own honest.others honest.formed honest.live (owned_answer r v in_vals honest.own (back_in v honest).stands) in
           let got : Got m.Item (List m.Item) = record { result = in_vals; account = after_answer m.owned call honest.heap in_vals (m.account lifted.state) } in
           let two = follows_done m.account answering (m.does w p (m.code d) s0) Answered got
@@ -370,7 +369,7 @@ module _ {Self Operand : Type 0} (m : Meaning Self Operand) (sound : Sound m) wh
           record { state = two.0; done = two.1; account = two.2.0 ∙ ap (handed_on call honest.heap (flat_map m.owned in_vals)) lifted.after.account; owns = two.2.1; denotes = two.2.2 }
 
       -- a result that passes as a word
-      gives_word : is_indirect r ≡ false → (v : Result r) → (honest : IsHonestMethod m r v p.reply) → EndsWithWords m w p r v honest.own honest.heap given z s0 (answered_account v honest)
+      gives_word : is_indirect r ≡ false → (v : Result r) → (honest : IsHonestMethod m w a fn.now r v p.reply) → EndsWithWords m w p r v honest.own honest.heap given z s0 (answered_account v honest)
       gives_word one v honest =
           let vals = (back_in v honest).vals in
           let stands = (back_in v honest).stands in
@@ -408,7 +407,7 @@ module _ {Self Operand : Type 0} (m : Meaning Self Operand) (sound : Sound m) wh
           )
 
       -- and one that passes by the area
-      gives_record : is_indirect r ≡ true → (v : Result r) → (honest : IsHonestMethod m r v p.reply) → EndsWithWords m w p r v honest.own honest.heap given z s0 (answered_account v honest)
+      gives_record : is_indirect r ≡ true → (v : Result r) → (honest : IsHonestMethod m w a fn.now r v p.reply) → EndsWithWords m w p r v honest.own honest.heap given z s0 (answered_account v honest)
       gives_record many v honest =
           let vals = (back_in v honest).vals in
           let stands = (back_in v honest).stands in
@@ -417,7 +416,7 @@ module _ {Self Operand : Type 0} (m : Meaning Self Operand) (sound : Sound m) wh
           let ends = ends_by_area types r back given d e z n empty ended many lowers v vals honest.own honest.good stands w p s0 two.state is.at.serves two.done (ap (λ acc. is_heap acc.heap) two.account ∙ honest.formed) (ap (λ acc. acc.taken) two.account) two.owns is.unplaced unasked two.denotes in
           subst (λ acc. EndsWithWords m w p r v honest.own acc.heap given z s0 acc) two.account ends
 
-      gives_words : (v : Result r) → (honest : IsHonestMethod m r v p.reply) → HandsBack m w p r v honest.own honest.heap call given z s0 s
+      gives_words : (v : Result r) → (honest : IsHonestMethod m w a fn.now r v p.reply) → HandsBack m w p r v honest.own honest.heap call given z s0 s
       gives_words v honest = record { owners = flat_map m.owned (back_in v honest).vals; same = owned_answer r v (back_in v honest).vals honest.own (back_in v honest).stands; ends = by (is_indirect r) refl }
         where
           by : (c : Bool) → is_indirect r ≡ c → EndsWithWords m w p r v honest.own honest.heap given z s0 (answered_account v honest)

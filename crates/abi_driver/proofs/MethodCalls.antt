@@ -9,11 +9,10 @@ use Rattle.wrapper_data.specs.declared.block.Block.{Block}
 use Rattle.wrapper_data.specs.declared.heap.Heap.{Heap}
 use Rattle.wrapper_data.specs.declared.run.Target.{Target}
 use Rattle.wrapper_meaning.specs.Direction.{give}
-use Rattle.wrapper_meaning.specs.InRange.{IsListed}
 use Rattle.wrapper_meaning.specs.Items.{SameItems, total}
-use Rattle.wrapper_meaning.specs.Settled.{IsResult}
 use Rattle.wrapper_meaning.specs.Shape.{Shape}
-use Rattle.wrapper_meaning.specs.Value.{Result, Value}
+use Rattle.wrapper_meaning.specs.Value.{Result}
+use Rattle.wrapper_meaning.proofs.Lists.{some_same}
 use Rattle.wrapper_meaning.proofs.HeapBlocks.{at_address, at_most_one, size_of_block}
 use Rattle.abi_driver.specs.Account.{Account, Call, Crossing, Done, Got, Outcome, Reply, Stuck, account_in, addresses, gives, value, words}
 use Rattle.abi_driver.specs.Calls.{are_live, begins_at, coming, handed_over, handing, left_by, method_point, recorded, returned_with}
@@ -89,20 +88,11 @@ module _ {Self Operand : Type 0} (m : Meaning Self Operand) where
     pub came : coming receives a ≡ Some vals
     pub stands : ResultStands m give r v vals own
 
-  pub came_in : (r : Option Shape) (receives : m.Item → Option m.Item)
-      → ((t : Shape) (v : Value t) (a : m.Item) (own : List Block) → r ≡ Some t → IsListed t v → m.stands give t v a own → (b : m.Item) × (receives a ≡ Some b) × m.stands give t v b own)
-      → (v : Result r) (a : Option m.Item) (own : List Block) → IsResult r v → ResultStands m give r v (option_to_list a) own → Came r receives v a own
-  came_in None receives into v None own good h = record { vals = []; came = refl; stands = h }
-  came_in None receives into v (Some a) own good h = absurd (let e = h.0 in cc)
-  came_in (Some t) receives into v None own good h = absurd (let e = h.1 in cc)
-  came_in (Some t) receives into v (Some a) own good h =
-      let same : a ≡ h.0 = first_same a h.0 h.1 in
-      let b = into t v a own refl good.0 (subst (λ x. m.stands give t v x own) (sym same) h.2) in
-      record { vals = b.0 ∷ []; came = ap (option_map (λ x. x ∷ [])) b.1; stands = (b.0, refl, b.2) }
+  -- as many as were answered
+  pub came_many : (receives : m.Item → Option m.Item) (a : Option m.Item) (vals : List m.Item) → coming receives a ≡ Some vals → length (option_to_list a) ≡ length vals
+  came_many receives None vals e = ap length (some_same [] vals e)
+  came_many receives (Some a) vals e = by (receives a) e
     where
-      first_or : m.Item → List m.Item → m.Item
-      first_or d [] = d
-      first_or d (x ∷ xs) = x
-
-      first_same : (x y : m.Item) → x ∷ [] ≡ y ∷ [] → x ≡ y
-      first_same x y e = ap (first_or x) e
+      by : (o : Option m.Item) → option_map (λ b. b ∷ []) o ≡ Some vals → 1 ≡ length vals
+      by None h = absurd cc
+      by (Some b) h = ap length (some_same (b ∷ []) vals h)

@@ -16,7 +16,7 @@ use Rattle.abi_driver.specs.declared.plain.Place.{Place}
 use Rattle.abi_driver.specs.declared.plain.PlainBindgen.{PlainBindgen}
 use Rattle.abi_driver.specs.declared.plain.Step.TheVariants as step
 use Rattle.abi_driver.specs.Account.{Account, Act, Done, Follows, Got, Outcome, Peer, Reply, Stopped, Stuck, gives, has_type, have_types, then_do, value, words}
-use Rattle.abi_driver.specs.Calls.{CrossesAsItIs, HandsOver, answered_by, are_live, calling, coming, handing, import_params, import_results, left_by, result_count, returned_with}
+use Rattle.abi_driver.specs.Calls.{HandsOver, PassesAsItIs, answered_by, are_live, calling, coming, handing, import_params, import_results, left_by, result_count, returned_with}
 use Rattle.abi_driver.specs.Instructions.{Emits}
 use Rattle.abi_driver.specs.Laws.{Does, Facts, core_data, item_data, ofs}
 use Rattle.abi_driver.specs.Meaning.{item, word}
@@ -106,9 +106,9 @@ method_target b f e = by b.import e
     by true h = absurd (let g = h in cc)
     by false h = refl
 
--- values cross each call as they are
-pub plain_crosses : (w : Option Request) (b : PlainBindgen) (f : Function) (ts : Shapes) (r : Option Shape) → CrossesAsItIs plain_meaning w b f ts r
-plain_crosses w b f ts r = record { passes = λ us vals own listed stands. refl; receives = λ t v a own is listed stands. (a, refl, stands) }
+-- values are passed as they are
+pub plain_passes : (w : Option Request) (b : PlainBindgen) (f : Function) (ts : Shapes) → PassesAsItIs plain_meaning w b f ts
+plain_passes w b f ts us vals own listed stands = refl
 
 -- 3. The steps
 

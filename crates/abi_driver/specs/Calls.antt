@@ -112,12 +112,11 @@ module _ {Self Operand : Type 0} (m : Meaning Self Operand) where
       Follows m.account (handing m.owned (m.crosses w old f) (m.target old f) vals (result_count f) p.reply (m.account s)) (m.does w p (m.code new) s0)
       (λ x t. (m.account t ≡ x.account) × SameItems (m.owns t) (flat_map m.owned x.result) × m.denotes w new (ofs m rs (item_data m x.result)) t)
 
-  -- where the code stands in this whole, values of these shapes cross the call of the method as they are. The code can't know that: the whole has the method
-  pub record CrossesAsItIs (w : m.World) (b : Self) (f : Function) (ts : Shapes) (r : Option Shape) : Type 0 where
-    -- what stands for what is handed on of values of its parameters, is passed as it is
-    pub passes : (us : Parts ts) (vals : List m.Item) (own : List Block) → AreListed ts us → PartsStand m take ts (all_settled ts us) vals own → (m.crosses w b f).passes vals ≡ Some vals
-    -- what stands for a value of its result comes in, and stands for it with the same blocks
-    pub receives : (t : Shape) (v : Value t) (a : m.Item) (own : List Block) → r ≡ Some t → IsListed t v → m.stands give t v a own → (c : m.Item) × ((m.crosses w b f).receives a ≡ Some c) × m.stands give t v c own
+  -- where the code stands in this whole, what stands for what is handed on of values of these shapes is passed to the method as it is. The code
+  -- can't know that: the whole has the method
+  abbrev pub PassesAsItIs : m.World → Self → Function → Shapes → Type 0
+  PassesAsItIs w b f ts =
+      (us : Parts ts) (vals : List m.Item) (own : List Block) → AreListed ts us → PartsStand m take ts (all_settled ts us) vals own → (m.crosses w b f).passes vals ≡ Some vals
 
   -- new operands denote what the operands did
   abbrev pub Renames : (os rs : List Operand) → (old new : Self) → Type 0

@@ -31,7 +31,7 @@ use Rattle.abi_driver.specs.declared.bindgen.Asked.{Asked}
 use Rattle.abi_driver.specs.declared.instruction.Instruction.TheVariants.{Flush, GetArg, GuestDeallocate}
 use Rattle.abi_driver.specs.Account.{Account, Act, Call, Done, Follows, Got, Peer, Reply, account_in, addresses, gives, then_do, value}
 use Rattle.abi_driver.specs.Area.{AreFor, AreaStands, pointing}
-use Rattle.abi_driver.specs.Calls.{CrossesAsItIs, recorded}
+use Rattle.abi_driver.specs.Calls.{PassesAsItIs, coming, recorded}
 use Rattle.abi_driver.specs.Frees.{nowhere}
 use Rattle.abi_driver.specs.Imports.{Points, ResultStands}
 use Rattle.abi_driver.specs.Instructions.{Emits}
@@ -123,8 +123,8 @@ module _ {Self Operand : Type 0} (m : Meaning Self Operand) where
     pub formed : is_heap c.heap ≡ true
     pub kept : SameItems (c.heap.blocks ++ blocks) (acc.heap.blocks ++ own)
 
-  -- the answer is an item that stands for the result, whose blocks are live in the heap that the method leaves
-  pub record IsHonestMethod (r : Option Shape) (v : Result r) (reply : Reply m.Item) : Type 0 where
+  -- the answer is an item, and what comes in of it stands for the result, whose blocks are live in the heap that the method leaves
+  pub record IsHonestMethod (w : m.World) (b : Self) (f : Function) (r : Option Shape) (v : Result r) (reply : Reply m.Item) : Type 0 where
     pub good : IsResult r v
     pub item : Option m.Item
     pub heap : Heap
@@ -132,7 +132,9 @@ module _ {Self Operand : Type 0} (m : Meaning Self Operand) where
     pub formed : is_heap heap ≡ true
     pub own : List Block
     pub others : List Block
-    pub stands : ResultStands m give r v (option_to_list item) own
+    pub vals : List m.Item
+    pub comes : coming (m.crosses w b f).receives item ≡ Some vals
+    pub stands : ResultStands m give r v vals own
     pub live : SameItems heap.blocks (own ++ others)
 
   -- a state to which the earlier code came, without owners, where the first arguments are words that represent values, with these blocks
@@ -187,13 +189,13 @@ module _ {Self Operand : Type 0} (m : Meaning Self Operand) where
     pub ends : EndsWithWords w p r v own left os new s0 (handed_on c left owners (m.account s))
 
   -- one call is made, whatever is answered; and where the answer is honest, the code ends and gives words of it
-  pub record HandsOn (w : m.World) (p : Peer m.Item) (target : Target) (ts : Shapes) (us : Parts ts) (r : Option Shape) (blocks : List Block) (new : Self) (s0 s : m.State) : Type 0 where
+  pub record HandsOn (w : m.World) (p : Peer m.Item) (b : Self) (f : Function) (ts : Shapes) (us : Parts ts) (r : Option Shape) (blocks : List Block) (new : Self) (s0 s : m.State) : Type 0 where
     pub call : Call m.Item
-    pub passes : PassesItems target ts us blocks (m.account s) call
+    pub passes : PassesItems (m.target b f) ts us blocks (m.account s) call
     pub made : (account_in m.account (m.does w p (m.code new) s0)).calls ≡ (m.account s).calls ++ call ∷ []
     pub os : List Operand
     pub returned : m.returned new ≡ Some os
-    pub gives : (v : Result r) → (honest : IsHonestMethod r v p.reply) → HandsBack w p r v honest.own honest.heap call os new s0 s
+    pub gives : (v : Result r) → (honest : IsHonestMethod w b f r v p.reply) → HandsBack w p r v honest.own honest.heap call os new s0 s
 
   -- the code of an export was added
   pub record CallsExport (f : Function) (ts : Shapes) (r : Option Shape) (old new : Self) : Type 0 where
@@ -204,6 +206,6 @@ module _ {Self Operand : Type 0} (m : Meaning Self Operand) where
     pub records : List Asked
     pub for : AreFor (result_record r) records
     pub asked : m.asked new ≡ m.asked old ++ records
-    -- where values of the function cross its call as they are
-    pub row : (w : m.World) (p : Peer m.Item) (us : Parts ts) (ws : List Word) (blocks : List Block) (others : Facts m) (s0 s : m.State) → CrossesAsItIs m w old f ts r → Received w p ts us ws blocks old new others s0 s
-        → HandsOn w p (m.target old f) ts us r blocks new s0 s
+    -- where values of its parameters are passed as they are
+    pub row : (w : m.World) (p : Peer m.Item) (us : Parts ts) (ws : List Word) (blocks : List Block) (others : Facts m) (s0 s : m.State) → PassesAsItIs m w old f ts → Received w p ts us ws blocks old new others s0 s
+        → HandsOn w p old f ts us r blocks new s0 s

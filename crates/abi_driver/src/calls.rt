@@ -33,7 +33,7 @@ pub enum LiftLower {
 /// Arguments of more than sixteen core words pass by the address of a record of them: of an import it is stored in the return area, and
 /// of an export it is a block, which is freed when it was read. A result of more than one word passes by the address of the area.
 ///
-/// Of an export's code it is told what it does in a whole in which values of the function cross the call of its method as they are: only
+/// Of an export's code it is told what it does in a whole in which values of its parameters are passed to the method as they are: only
 /// the whole has the method.
 ///
 /// So far each parameter and the result is a scalar or a text, or a record or a tuple of such, also through aliases. Of any other function,
