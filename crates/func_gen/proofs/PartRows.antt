@@ -72,7 +72,7 @@ word_owns (core.Pointer z) r h = absurd cc
 word_owns (core.Length z) r h = absurd cc
 word_owns (core.Slot z) r h = absurd cc
 
-owned_is : (v : Val) (r : RustValue) → rust_of v ≡ Some r → owned v ≡ owned_by r
+pub owned_is : (v : Val) (r : RustValue) → rust_of v ≡ Some r → owned v ≡ owned_by r
 owned_is (val.Value x) r h = ap owned_by (some_same x r h)
 owned_is (val.Word x) r h = sym (word_owns x r h)
 owned_is (val.Area a n) r h = absurd cc
@@ -98,7 +98,7 @@ struct_level (make blocks) rs = refl
 struct_level give rs = refl
 struct_level take rs = refl
 
-normal_struct : (dir : Direction) (rs : List RustValue) → map (fold-RustValue RustValue (passing_level dir)) rs ≡ rs → IsNormal dir (value.Struct rs)
+pub normal_struct : (dir : Direction) (rs : List RustValue) → map (fold-RustValue RustValue (passing_level dir)) rs ≡ rs → IsNormal dir (value.Struct rs)
 normal_struct dir rs h =
     ap (fold-RustValue RustValue (passing_level dir)) (sym (rolls-Struct rs)) ∙ fold-roll-RustValue RustValue (passing_level dir) (RustValue-F.Struct rs)
     ∙ struct_level dir (map (fold-RustValue RustValue (passing_level dir)) rs) ∙ ap value.Struct h

@@ -42,11 +42,11 @@ use Rattle.func_gen.specs.StandLemmas.{lent_alone}
 
 -- 1. Values of arguments
 
-abbrev val_of : Datum RustValue → Val
+abbrev pub val_of : Datum RustValue → Val
 val_of (word x) = val.Word x
 val_of (item r) = val.Value r
 
-abbrev vals : Data func_meaning → List Val
+abbrev pub vals : Data func_meaning → List Val
 vals ds = map val_of ds
 
 -- a value that owns nothing, and is behind a reference what it is
@@ -55,23 +55,23 @@ pub record IsPassed (v : Val) : Type 0 where
   pub lent : lent v ≡ Some v
   pub usable : usable v ≡ Some v
 
-abbrev ArePassed : Data func_meaning → Type 0
+abbrev pub ArePassed : Data func_meaning → Type 0
 ArePassed [] = Unit {0}
 ArePassed (d ∷ ds) = IsPassed (val_of d) × ArePassed ds
 
-passed : (ds : Data func_meaning) → AreLent func_meaning ds → ArePassed ds
+pub passed : (ds : Data func_meaning) → AreLent func_meaning ds → ArePassed ds
 passed [] h = tt
 passed (word x ∷ ds) h = (record { none = refl; lent = refl; usable = refl }, passed ds h)
 passed (item r ∷ ds) (given, t, v, stands, h) = (record { none = (lent_alone given t v r [] stands.0).0; lent = ap (λ q. Some (val.Value q)) stands.1; usable = refl }, passed ds h)
 
 -- 2. What sites read
 
-abbrev ReadsEnv : List Bytes → List Val → Env → Type 0
+abbrev pub ReadsEnv : List Bytes → List Val → Env → Type 0
 ReadsEnv [] vs env = Unit {0}
 ReadsEnv (n ∷ names) [] env = ⊥
 ReadsEnv (n ∷ names) (v ∷ vs) env = (env n ≡ Some v) × ReadsEnv names vs env
 
-reads_env : (names : List Bytes) (vs : List Val) (s : State) → ReadsAll names vs s.locals → ReadsEnv names vs (env_of s)
+pub reads_env : (names : List Bytes) (vs : List Val) (s : State) → ReadsAll names vs s.locals → ReadsEnv names vs (env_of s)
 reads_env [] vs s h = tt
 reads_env (n ∷ names) [] s h = absurd h
 reads_env (n ∷ names) (v ∷ vs) s h = (h.0, reads_env names vs s h.1)
@@ -112,13 +112,13 @@ no_area (d ∷ defs) = no_area defs
 
 -- 3. The locals
 
-same_length : (sites : List ParamSite) (ds : Data func_meaning) → length sites ≡ length ds → SameLength (site_names sites) (vals ds)
+pub same_length : (sites : List ParamSite) (ds : Data func_meaning) → length sites ≡ length ds → SameLength (site_names sites) (vals ds)
 same_length [] [] e = tt
 same_length [] (d ∷ ds) e = absurd (omega (arith, e))
 same_length (p ∷ sites) [] e = absurd (omega (arith, e))
 same_length (p ∷ sites) (d ∷ ds) e = same_length sites ds (omega (arith, e))
 
-bound_bare : (names : List Bytes) (ds : Data func_meaning) → ArePassed ds → flat_map (λ (l : Local). owned_in l.value) (bound names (vals ds)) ≡ []
+pub bound_bare : (names : List Bytes) (ds : Data func_meaning) → ArePassed ds → flat_map (λ (l : Local). owned_in l.value) (bound names (vals ds)) ≡ []
 bound_bare [] ds p = refl
 bound_bare (n ∷ names) [] p = refl
 bound_bare (n ∷ names) (d ∷ ds) p = ap₂ (λ xs ys. xs ++ ys) p.0.none (bound_bare names ds p.1)
@@ -138,7 +138,7 @@ account_same acc locals unguarded = ap₂ (λ cs gs. record acc { calls = cs; gu
 
 -- 4. The area's block
 
-begins : (blocks : List Block) (a : ℕ) (b : Block) → Contains blocks b → b.address ≡ a → 0 < b.size → IsThere (block_from a blocks)
+pub begins : (blocks : List Block) (a : ℕ) (b : Block) → Contains blocks b → b.address ≡ a → 0 < b.size → IsThere (block_from a blocks)
 begins [] a b (k, below, at) e l = absurd (omega (below, arith))
 begins (x ∷ blocks) a b (zero, below, at) e l = subst (λ t. IsThere (cond t (Some x) (block_from a blocks))) (sym hit) tt
   where
@@ -165,7 +165,7 @@ module _ (b : FunctionBindgen) (unasked : b.asked ≡ []) (used : b.scope.used �
   abbrev Started : File → Data func_meaning → Account RustValue → Option ℕ → Type 0
   Started w ds acc at = (s : FuncState) × (account_of s.machine ≡ acc) × (owns_of s.machine ≡ option_to_list at) × (s.area ≡ at) × Denote w b (args func_meaning 0 ds) s
 
-  holds : (w : File) (ds : Data func_meaning) (s : FuncState) → ArePassed ds → ReadsEnv (site_names b.params) (vals ds) (env_of s.machine) → length b.params ≡ length ds → ((n : Bytes) → is_used b.scope.used n ≡ false → local_named n s.machine.locals ≡ None)
+  pub holds : (w : File) (ds : Data func_meaning) (s : FuncState) → ArePassed ds → ReadsEnv (site_names b.params) (vals ds) (env_of s.machine) → length b.params ≡ length ds → ((n : Bytes) → is_used b.scope.used n ≡ false → local_named n s.machine.locals ≡ None)
       → AreOwned s.machine.heap.blocks s.machine.taken → AreaIs b.import w.area s.area b.asked b.area s.machine → Denote w b (args func_meaning 0 ds) s
   holds w ds s p reads len within owners area =
       let at : (i : ℕ) → slice_get b.params (0 + i) ≡ slice_get b.params i = λ i. let e : 0 + i ≡ i = omega arith in ap (slice_get b.params) e in

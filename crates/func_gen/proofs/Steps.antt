@@ -63,7 +63,7 @@ calls_on (machine.Stopped e t) next q = refl
 
 -- 2. Runs of more statements
 
-run_append : (w : Setting) (xs ys : List Stmt) (s : State) → run_stmts w (xs ++ ys) s ≡ and_then (run_stmts w xs s) (λ u. run_stmts w ys)
+pub run_append : (w : Setting) (xs ys : List Stmt) (s : State) → run_stmts w (xs ++ ys) s ≡ and_then (run_stmts w xs s) (λ u. run_stmts w ys)
 run_append w [] ys s = refl
 run_append w (x ∷ xs) ys s = go (run_stmt w x s) (λ t. run_append w xs ys t)
   where
