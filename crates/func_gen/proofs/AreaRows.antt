@@ -57,7 +57,7 @@ use Rattle.func_gen.proofs.Steps.{ran, seen_done}
 -- 1. It is noted that the area was asked for
 
 asked_more : (import : Bool) (area : Option Request) (at : Option ℕ) (asked : List Asked) (a : Asked) (name : Bytes) (s : State) → AreaIs import area at asked name s → AreaIs import area at (asked ++ a ∷ []) name s
-asked_more true None None asked a name s h = tt
+asked_more true None None asked a name s h = h
 asked_more true None (Some address) asked a name s h = h
 asked_more true (Some area) None asked a name s h = h
 asked_more true (Some area) (Some address) asked a name s h = h
@@ -187,7 +187,7 @@ module _ (a : Asked) (old mid : FunctionBindgen) (n : Bytes) (added : Appends ol
         let pointer = ap (λ (c : Bool). if c then expr.ReturnPointer old.area else expr.StaticPointer) import in
         let t : FuncState = record { machine = with_local s.machine n v; area = s.area } in (
           t,
-          steps (expr.ReturnPointer old.area) pointer ∙ ap (seen s.area) (binds (setting_for w p) n (expr.ReturnPointer old.area) v s.machine (area_gives (setting_for w p) old.area address area.size s.machine h)),
+          steps (expr.ReturnPointer old.area) pointer ∙ ap (seen s.area) (binds (setting_for w p) n (expr.ReturnPointer old.area) v s.machine (area_gives (setting_for w p) old.area address area.size s.machine h.0)),
           record {
             account = refl;
             owns = λ g. omega (arith, total-append g (owns_of t.machine) [], total-append g (owns_of s.machine) [], owns_with g s.machine n v);

@@ -134,10 +134,10 @@ module _ (items : List Item) where
 -- 4. The area
 
 pub area_lasts : (import : Bool) (area : Option Request) (at : Option ℕ) (asked : List Asked) (name : Bytes) (s t : State) → Under (env_of s) (env_of t) → t.place ≡ s.place → AreaIs import area at asked name s → AreaIs import area at asked name t
-area_lasts true None None asked name s t u p h = tt
+area_lasts true None None asked name s t u p h = p ∙ h
 area_lasts true None (Some address) asked name s t u p h = h
 area_lasts true (Some area) None asked name s t u p h = h
-area_lasts true (Some area) (Some address) asked name s t u p h = u name (val.Area address area.size) h
+area_lasts true (Some area) (Some address) asked name s t u p h = (u name (val.Area address area.size) h.0, p ∙ h.1)
 area_lasts false area None asked name s t u p h = λ e. p ∙ h e
 area_lasts false area (Some address) asked name s t u p h = h
 

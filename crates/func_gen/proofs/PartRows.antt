@@ -148,10 +148,10 @@ binds_to w n e v s t h = ap (λ o. and_then (and_then o (bind n)) (λ u. pure tt
 
 pub areas_last : (import : Bool) (area : Option Request) (at : Option ℕ) (asked : List Asked) (name : Bytes) (s t : State) → ((k : Bytes) (a z : ℕ) → env_of s k ≡ Some (val.Area a z) → env_of t k ≡ Some (val.Area a z)) → t.place ≡ s.place
     → AreaIs import area at asked name s → AreaIs import area at asked name t
-areas_last true None None asked name s t stays p h = tt
+areas_last true None None asked name s t stays p h = p ∙ h
 areas_last true None (Some address) asked name s t stays p h = h
 areas_last true (Some area) None asked name s t stays p h = h
-areas_last true (Some area) (Some address) asked name s t stays p h = stays name address area.size h
+areas_last true (Some area) (Some address) asked name s t stays p h = (stays name address area.size h.0, p ∙ h.1)
 areas_last false area None asked name s t stays p h = λ e. p ∙ h e
 areas_last false area (Some address) asked name s t stays p h = h
 

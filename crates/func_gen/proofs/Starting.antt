@@ -218,12 +218,12 @@ module _ (b : FunctionBindgen) (unasked : b.asked ≡ []) (used : b.scope.used �
         ap (λ xs. address ∷ xs) (bound_bare (site_names b.params) ds p),
         refl,
         holds w ds s p reads len (λ n free. unbound names values n (sym (ap (λ us. is_used us n) used) ∙ free)) (subst (AreOwned acc.heap.blocks) (sym taken) (refl, there, tt))
-            (subst (λ i. AreaIs i w.area (Some address) b.asked b.area machine) (sym import) (subst (λ a. AreaIs true a (Some address) b.asked b.area machine) (sym is) all.0)),
+            (subst (λ i. AreaIs i w.area (Some address) b.asked b.area machine) (sym import) (subst (λ a. AreaIs true a (Some address) b.asked b.area machine) (sym is) (all.0, refl))),
       )
 
   start : (w : File) (ds : Data func_meaning) (acc : Account RustValue) (at : Option ℕ) → Serves w b → length b.params ≡ length ds → AreLent func_meaning ds → acc.taken ≡ option_to_list at → acc.guarded ≡ []
       → (import : Bool) → b.import ≡ import → (area : Option Request) → w.area ≡ area → MayStand import area at acc.heap → Started w ds acc at
-  start w ds acc None sv len l taken g true i None a h = without_area w ds acc len l taken g (λ s e. subst (λ i. AreaIs i w.area None b.asked b.area s) (sym i) (subst (λ a. AreaIs true a None b.asked b.area s) (sym a) tt))
+  start w ds acc None sv len l taken g true i None a h = without_area w ds acc len l taken g (λ s e. subst (λ i. AreaIs i w.area None b.asked b.area s) (sym i) (subst (λ a. AreaIs true a None b.asked b.area s) (sym a) e))
   start w ds acc None sv len l taken g true i (Some area) a h = absurd h
   start w ds acc (Some address) sv len l taken g true i None a h = absurd h
   start w ds acc (Some address) sv len l taken g true i (Some area) a h = with_area w ds acc area address len l taken g i a (subst (λ x. IfSome x IsArea) a sv.sized).0 h

@@ -92,11 +92,11 @@ account_of s = record { heap = s.heap; choices = s.choices; requests = s.request
 abbrev pub owns_of : State → List ℕ
 owns_of s = option_to_list s.place ++ flat_map (λ l. owned_in l.value) s.locals
 
--- of an import the area stands, where there is one, in the local of its name. That of an export does not stand when the code begins, and
--- is not placed while it was not asked for
+-- of an import the area stands, where there is one, in the local of its name, and no static one is ever placed. That of an export does not
+-- stand when the code begins, and is not placed while it was not asked for
 abbrev pub AreaIs : (import : Bool) → Option Request → Option ℕ → List Asked → Bytes → State → Type 0
-AreaIs true None None asked name s = Unit {0}
-AreaIs true (Some area) (Some address) asked name s = env_of s name ≡ Some (val.Area address area.size)
+AreaIs true None None asked name s = s.place ≡ None
+AreaIs true (Some area) (Some address) asked name s = (env_of s name ≡ Some (val.Area address area.size)) × (s.place ≡ None)
 AreaIs true _ _ asked name s = ⊥
 AreaIs false area None asked name s = asked ≡ [] → s.place ≡ None
 AreaIs false area (Some address) asked name s = ⊥
