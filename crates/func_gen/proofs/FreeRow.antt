@@ -1,7 +1,10 @@
--- The row of a text that is freed.
+-- The rows of texts and of blocks that are freed.
 use Rattle.std.proofs.Common.{◌≡◌, ℕ, zero, suc, ◌-◌, ◌^◌, Bool, true, false, cond, nat_eq, nat_lt, ◌&&◌, if◌then◌else◌, List, [], ◌∷◌, Option, None, Some, refl, sym, ap, ◌∙◌, subst, arith}
 use Rattle.std.proofs.lemmas.Bool.{and_parts, or_parts}
 use Rattle.std.proofs.lemmas.Bool.Decides.{nat_tests}
+use Rattle.wit_model.specs.Size.{bytes_at}
+use Rattle.wit_model.specs.declared.size.Alignment.{Alignment}
+use Rattle.wit_model.specs.declared.size.ArchitectureSize.{ArchitectureSize}
 use Rattle.wit_model.specs.declared.types.TypeDef.{TypeDef}
 use Rattle.rust_tree.specs.declared.expr.Expr.{Expr}
 use Rattle.rust_tree.specs.declared.expr.Expr.TheVariants as expr
@@ -20,9 +23,9 @@ use Rattle.wrapper_values.specs.declared.state.State.{State}
 use Rattle.wrapper_values.specs.declared.state.Val.{Val}
 use Rattle.wrapper_values.specs.declared.state.Val.TheVariants as val
 use Rattle.wrapper_values.specs.Act as machine
-use Rattle.wrapper_values.specs.Act.{Act, ◌>>=◌, all, and_then, pure, stop}
+use Rattle.wrapper_values.specs.Act.{Act, ◌>>=◌, all, and_then, or_stop, pure, stop}
 use Rattle.wrapper_values.specs.Owning.{is_taken}
-use Rattle.wrapper_values.specs.Setting.{Setting, failed}
+use Rattle.wrapper_values.specs.Setting.{Setting, failed, stuck}
 use Rattle.wrapper_run.specs.Blocks.{dealloc, dealloc_words, drop_value, free_all, free_bytes, free_untaken, untaken}
 use Rattle.wrapper_run.specs.Memory.{begins_at, block_at, block_from, is_at, without}
 use Rattle.wrapper_run.specs.Run.{apply, call, call_callee, call_runtime, eval, run_stmts, runtime_item_named}
@@ -30,18 +33,19 @@ use Rattle.wrapper_run.proofs.OwningLemmas.{owned-unit}
 use Rattle.wrapper_run.proofs.QuietSteps.{quiet_expr}
 use Rattle.wrapper_run.proofs.StepLemmas.{Quiet, calls_at, call_gives, eval-call, quiet_pure, quiet_then}
 use Rattle.wrapper_run.proofs.FreeSteps.{eval-size, one_byte}
-use Rattle.abi_driver.specs.declared.instruction.Instruction.TheVariants.{GuestDeallocateString}
+use Rattle.abi_driver.specs.declared.instruction.Instruction.TheVariants.{GuestDeallocate, GuestDeallocateString}
 use Rattle.abi_driver.specs.Account.{failing}
 use Rattle.abi_driver.specs.Instructions.{Emits}
 use Rattle.abi_driver.specs.Memory.{freed, freeing}
 use Rattle.abi_driver.specs.Meaning.{of, word}
 use Rattle.func_gen.specs.declared.function_bindgen.FunctionBindgen.{FunctionBindgen}
 use Rattle.func_gen.specs.Added.{Appends}
-use Rattle.func_gen.specs.Facts.{AreOwned, Hold, IsThere}
+use Rattle.func_gen.specs.Facts.{AreOwned, IsThere}
 use Rattle.func_gen.specs.Forms.{operand_of, runtime_path}
 use Rattle.func_gen.specs.Meaning.{account_of, func_meaning, setting_for}
-use Rattle.func_gen.specs.MemoryForms.{text_freed}
+use Rattle.func_gen.specs.MemoryForms.{align_size, block_freed, bytes_freed, is_length, text_freed}
 use Rattle.func_gen.specs.Operand.{is_operand}
+use Rattle.func_gen.proofs.LoadRows.{address_given}
 use Rattle.func_gen.proofs.MemoryTies.{without_is}
 use Rattle.func_gen.proofs.Quiet.{quiet_operand}
 use Rattle.func_gen.proofs.ScalarRows.{calls_runtime}
@@ -50,8 +54,12 @@ use Rattle.func_gen.proofs.Writing.{Writes, one_adds, with_heap, writes}
 
 -- 1. The call makes no call of an import
 
-eval-byte : (w : Setting) → eval w (expr.Size one_byte) ≡ pure (val.Word (core.Length 1))
-eval-byte w = eval-size w one_byte
+-- a size that is a length
+size_is : (w : Setting) (size : ArchitectureSize) → is_length size ≡ true → eval w (expr.Size size) ≡ pure (val.Word (core.Length (bytes_at size 4)))
+size_is w size h = eval-size w size ∙ ap (λ b. or_stop (stuck w) (cond b (Some (val.Word (core.Length (bytes_at size 4)))) None)) h
+
+quiet_size : (w : Setting) (size : ArchitectureSize) → is_length size ≡ true → Quiet (eval w (expr.Size size))
+quiet_size w size h = subst Quiet (sym (size_is w size h)) (quiet_pure (val.Word (core.Length (bytes_at size 4))))
 
 quiet_bytes : (w : Setting) (address size : ℕ) → Quiet (free_bytes w address size)
 quiet_bytes w address zero = quiet_pure tt
@@ -96,25 +104,24 @@ in_turn a b c f s = first (a s)
     first (machine.Done x t) = second x (b t)
     first (machine.Stopped e t) = refl
 
-quiet_call : (w : Setting) (e f : Expr) → Quiet (eval w e) → Quiet (eval w f) → Quiet (eval w (text_freed e f))
+quiet_call : (w : Setting) (e f : Expr) (align : ArchitectureSize) → is_length align ≡ true → Quiet (eval w e) → Quiet (eval w f) → Quiet (eval w (bytes_freed e f align))
 unfolding call_runtime
-quiet_call w e f q r =
+quiet_call w e f align aligned q r =
     let path = runtime_path CabiDealloc in
-    let d = eval w (expr.Size one_byte) in
-    let quiet_d : Quiet d = subst Quiet (sym (eval-byte w)) (quiet_pure (val.Word (core.Length 1))) in
+    let d = eval w (expr.Size align) in
     let each = λ (x y z : Val). subst Quiet (sym (ap (λ k. call_callee w k (x ∷ y ∷ z ∷ [])) (calls_runtime CabiDealloc))) (quiet_three w (runtime_item_named w.items (item_name CabiDealloc)) x y z) in
     let turned = quiet_then (eval w e) (λ x. eval w f >>= (λ y. d >>= (λ z. call w path (x ∷ y ∷ z ∷ [])))) q
-    (λ x. quiet_then (eval w f) (λ y. d >>= (λ z. call w path (x ∷ y ∷ z ∷ []))) r (λ y. quiet_then d (λ z. call w path (x ∷ y ∷ z ∷ [])) quiet_d (λ z. each x y z))) in
-    subst Quiet (sym (eval-call w path (e ∷ f ∷ expr.Size one_byte ∷ [])))
+    (λ x. quiet_then (eval w f) (λ y. d >>= (λ z. call w path (x ∷ y ∷ z ∷ []))) r (λ y. quiet_then d (λ z. call w path (x ∷ y ∷ z ∷ [])) (quiet_size w align aligned) (λ z. each x y z))) in
+    subst Quiet (sym (eval-call w path (e ∷ f ∷ expr.Size align ∷ [])))
     (record { quiet = λ s. ap calls_at (in_turn (eval w e) (eval w f) d (λ vs. call w path vs) s) ∙ turned.quiet s })
 
 -- 2. What it does
 
-words_freed : (w : Setting) (address n : ℕ) (s : State) → runtime_item_named w.items (item_name CabiDealloc) ≡ Some CabiDealloc
-    → call w (runtime_path CabiDealloc) (val.Word (core.Pointer address) ∷ val.Word (core.Length n) ∷ val.Word (core.Length 1) ∷ []) s ≡ and_then (dealloc w address n s) (λ u. pure (val.Value value.Unit))
+words_freed : (w : Setting) (address n a : ℕ) (s : State) → runtime_item_named w.items (item_name CabiDealloc) ≡ Some CabiDealloc
+    → call w (runtime_path CabiDealloc) (val.Word (core.Pointer address) ∷ val.Word (core.Length n) ∷ val.Word (core.Length a) ∷ []) s ≡ and_then (dealloc w address n s) (λ u. pure (val.Value value.Unit))
 unfolding call_runtime
-words_freed w address n s found =
-    let vs = val.Word (core.Pointer address) ∷ val.Word (core.Length n) ∷ val.Word (core.Length 1) ∷ [] in
+words_freed w address n a s found =
+    let vs = val.Word (core.Pointer address) ∷ val.Word (core.Length n) ∷ val.Word (core.Length a) ∷ [] in
     ap (λ c. call_callee w c vs s) (calls_runtime CabiDealloc) ∙ ap (λ o. apply w o vs s) found
 
 -- a call that gives nothing is a statement by itself
@@ -122,13 +129,13 @@ pub dropped : (w : Setting) (o : machine.Outcome (Unit {0})) → and_then (and_t
 dropped w (machine.Done u t) = ap (λ os. and_then (free_all w os t) (λ u. pure tt)) owned-unit
 dropped w (machine.Stopped e t) = refl
 
-free_run : (w : Setting) (b : FunctionBindgen) (e f : Expr) (address n : ℕ) (s : State) → runtime_item_named w.items (item_name CabiDealloc) ≡ Some CabiDealloc
-    → Hold w.items b (of (operand_of e) (word (core.Pointer address)) ∷ of (operand_of f) (word (core.Length n)) ∷ []) s → run_stmts w (stmt.Expr (text_freed e f) ∷ []) s ≡ dealloc w address n s
-free_run w b e f address n s found h =
-    let given = two_given w b e f (core.Pointer address) (core.Length n) s h in
-    let vs = val.Word (core.Pointer address) ∷ val.Word (core.Length n) ∷ val.Word (core.Length 1) ∷ [] in
+free_run : (w : Setting) (e f : Expr) (align : ArchitectureSize) (address n : ℕ) (s : State) → is_length align ≡ true → runtime_item_named w.items (item_name CabiDealloc) ≡ Some CabiDealloc
+    → eval w e s ≡ machine.Done (val.Word (core.Pointer address)) s → eval w f s ≡ machine.Done (val.Word (core.Length n)) s → run_stmts w (stmt.Expr (bytes_freed e f align) ∷ []) s ≡ dealloc w address n s
+free_run w e f align address n s aligned found at many =
+    let a = bytes_at align 4 in
+    let vs = val.Word (core.Pointer address) ∷ val.Word (core.Length n) ∷ val.Word (core.Length a) ∷ [] in
     ap (λ o. and_then (and_then o (drop_value w)) (λ u. pure tt))
-    (call_gives w (runtime_path CabiDealloc) (e ∷ f ∷ expr.Size one_byte ∷ []) vs s (given.0, (given.1, (ap (λ act. act s) (eval-byte w), tt))) ∙ words_freed w address n s found)
+    (call_gives w (runtime_path CabiDealloc) (e ∷ f ∷ expr.Size align ∷ []) vs s (at, (many, (ap (λ act. act s) (size_is w align aligned), tt))) ∙ words_freed w address n a s found)
     ∙ dropped w (dealloc w address n s)
 
 -- 3. What has an owner has it still
@@ -180,22 +187,46 @@ module _ (w : Setting) (s : State) where
       go true = fails f trap.Size
       go false = found_freed f address n (is_taken address s.taken) refl (block_at address (suc n) s.heap.blocks)
 
--- 5. The row
+-- 5. The rows
 
-pub free_row : (types : List TypeDef) (old new : FunctionBindgen) (e f : Expr) → is_operand e ≡ true → is_operand f ≡ true → new.scope ≡ old.scope → Appends old new (stmt.Expr (text_freed e f) ∷ []) (CabiDealloc ∷ [])
-    → Emits func_meaning types GuestDeallocateString (operand_of e ∷ operand_of f ∷ []) [] old new
-free_row types old new e f ok ok_f scope a =
-    let quiet : (w : Setting) → Quiet (run_stmts w (stmt.Expr (text_freed e f) ∷ [])) = λ w. quiet_expr w (text_freed e f) [] (quiet_call w e f (quiet_operand w e ok) (quiet_operand w f ok_f)) (quiet_pure tt) in
-    let adds = one_adds old new (stmt.Expr (text_freed e f)) (CabiDealloc ∷ []) a scope quiet in
-    record {
-      adds = adds;
-      blocks = refl;
-      returned = a.returned;
-      asked = adds.asked;
-      form = tt;
-      results = refl;
-      row = λ address n.
-          writes old new (stmt.Expr (text_freed e f)) (CabiDealloc ∷ []) a scope quiet (of (operand_of e) (word (core.Pointer address)) ∷ of (operand_of f) (word (core.Length n)) ∷ []) (λ p. freeing p.form address n)
-          (λ w p s found h.
-          subst (λ z. Writes (account_of s) (freeing p.form address n (account_of s)) z s) (sym (free_run (setting_for w p) old e f address n s found.0 h)) (frees_agree (setting_for w p) s p.form address n));
-    }
+module _ (types : List TypeDef) (old new : FunctionBindgen) (e : Expr) (ok : is_operand e ≡ true) (scope : new.scope ≡ old.scope) where
+  quiet_free : (f : Expr) (align : ArchitectureSize) → is_length align ≡ true → ((w : Setting) → Quiet (eval w f)) → (w : Setting) → Quiet (run_stmts w (stmt.Expr (bytes_freed e f align) ∷ []))
+  quiet_free f align aligned quiet w = quiet_expr w (bytes_freed e f align) [] (quiet_call w e f align aligned (quiet_operand w e ok) (quiet w)) (quiet_pure tt)
+
+  pub free_row : (f : Expr) → is_operand f ≡ true → Appends old new (stmt.Expr (text_freed e f) ∷ []) (CabiDealloc ∷ []) → Emits func_meaning types GuestDeallocateString (operand_of e ∷ operand_of f ∷ []) [] old new
+  free_row f ok_f a =
+      let quiet = quiet_free f one_byte refl (λ w. quiet_operand w f ok_f) in
+      let adds = one_adds old new (stmt.Expr (text_freed e f)) (CabiDealloc ∷ []) a scope quiet in
+      record {
+        adds = adds;
+        blocks = refl;
+        returned = a.returned;
+        asked = adds.asked;
+        form = tt;
+        results = refl;
+        row = λ address n.
+            writes old new (stmt.Expr (text_freed e f)) (CabiDealloc ∷ []) a scope quiet (of (operand_of e) (word (core.Pointer address)) ∷ of (operand_of f) (word (core.Length n)) ∷ []) (λ p. freeing p.form address n)
+            (λ w p s found h.
+            let given = two_given (setting_for w p) old e f (core.Pointer address) (core.Length n) s h in
+            subst (λ z. Writes (account_of s) (freeing p.form address n (account_of s)) z s) (sym (free_run (setting_for w p) e f one_byte address n s refl found.0 given.0 given.1)) (frees_agree (setting_for w p) s p.form address n));
+      }
+
+  pub block_row : (size : ArchitectureSize) (align : Alignment) → is_length size ≡ true → is_length (align_size align) ≡ true → Appends old new (stmt.Expr (block_freed e size align) ∷ []) (CabiDealloc ∷ [])
+      → Emits func_meaning types (GuestDeallocate size align) (operand_of e ∷ []) [] old new
+  block_row size align sized aligned a =
+      let n = bytes_at size 4 in
+      let quiet = quiet_free (expr.Size size) (align_size align) aligned (λ w. quiet_size w size sized) in
+      let adds = one_adds old new (stmt.Expr (block_freed e size align)) (CabiDealloc ∷ []) a scope quiet in
+      record {
+        adds = adds;
+        blocks = refl;
+        returned = a.returned;
+        asked = adds.asked;
+        form = tt;
+        results = refl;
+        row = λ address.
+            writes old new (stmt.Expr (block_freed e size align)) (CabiDealloc ∷ []) a scope quiet (of (operand_of e) (word (core.Pointer address)) ∷ []) (λ p. freeing p.form address n)
+            (λ w p s found h.
+            subst (λ z. Writes (account_of s) (freeing p.form address n (account_of s)) z s)
+            (sym (free_run (setting_for w p) e (expr.Size size) (align_size align) address n s aligned found.0 (address_given (setting_for w p) old e address s h) (ap (λ act. act s) (size_is (setting_for w p) size sized)))) (frees_agree (setting_for w p) s p.form address n));
+      }

@@ -76,7 +76,7 @@ reads_there w k address told s =
     or_stop (failed w trap.Pointer) (option_map val.Word (if nat_eq (address % k) 0 then option_map told (memory.bytes_at address k s.heap.blocks) else None)) s
 
 -- an operand that denotes an address gives it
-address_given : (w : Setting) (b : FunctionBindgen) (e : Expr) (address : ℕ) (s : State) → Hold w.items b (of (operand_of e) (word (core.Pointer address)) ∷ []) s → eval w e s ≡ machine.Done (val.Word (core.Pointer address)) s
+pub address_given : (w : Setting) (b : FunctionBindgen) (e : Expr) (address : ℕ) (s : State) → Hold w.items b (of (operand_of e) (word (core.Pointer address)) ∷ []) s → eval w e s ≡ machine.Done (val.Word (core.Pointer address)) s
 address_given w b e address s h = gives w e s (val.Word (core.Pointer address)) (is_said w.items b.params (env_of s) (of (operand_of e) (word (core.Pointer address))) (omega (arith, h.right))) refl
 
 load_run : (w : Setting) (b : FunctionBindgen) (e : Expr) (o : ArchitectureSize) (ty : WasmType) (address : ℕ) (s : State) → Hold w.items b (of (operand_of e) (word (core.Pointer address)) ∷ []) s

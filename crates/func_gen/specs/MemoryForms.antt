@@ -1,5 +1,8 @@
--- Which instructions become which accesses to memory, and the form by which a text is freed.
-use Rattle.std.specs.Prelude.{[], ◌∷◌, Option, None, Some}
+-- Which instructions become which accesses to memory, and the forms by which texts and blocks are freed.
+use Rattle.std.specs.Prelude.{◌^◌, Bool, nat_lt, [], ◌∷◌, Option, None, Some}
+use Rattle.wit_model.specs.Size.{bytes_at}
+use Rattle.wit_model.specs.declared.size.Alignment.{Alignment}
+use Rattle.wit_model.specs.declared.size.Alignment.TheVariants.{Bytes, Pointer}
 use Rattle.wit_model.specs.declared.size.ArchitectureSize.{ArchitectureSize}
 use Rattle.wit_model.specs.declared.wasm_type.WasmType.{WasmType}
 use Rattle.wit_model.specs.declared.wasm_type.WasmType.TheVariants as wasm
@@ -46,6 +49,22 @@ small_load (I32Load16U o) = Some (o, small.U16)
 small_load (I32Load16S o) = Some (o, small.I16)
 small_load _ = None
 
--- the call that frees so many bytes at an address
+-- the call that frees so many bytes at an address, which have this alignment
+abbrev pub bytes_freed : Expr → Expr → ArchitectureSize → Expr
+bytes_freed address n align = expr.Call (runtime_path CabiDealloc) (address ∷ n ∷ expr.Size align ∷ [])
+
+-- a text has the alignment of bytes
 abbrev pub text_freed : Expr → Expr → Expr
-text_freed address n = expr.Call (runtime_path CabiDealloc) (address ∷ n ∷ expr.Size (record { bytes = 1; pointers = 0 }) ∷ [])
+text_freed address n = bytes_freed address n (record { bytes = 1; pointers = 0 })
+
+abbrev pub align_size : Alignment → ArchitectureSize
+align_size Pointer = record { bytes = 0; pointers = 1 }
+align_size (Bytes n) = record { bytes = n; pointers = 0 }
+
+-- a block of a size
+abbrev pub block_freed : Expr → ArchitectureSize → Alignment → Expr
+block_freed address size align = bytes_freed address (expr.Size size) (align_size align)
+
+-- where a pointer has four bytes, the size is a length
+abbrev pub is_length : ArchitectureSize → Bool
+is_length size = nat_lt (bytes_at size 4) (2 ^ 32)

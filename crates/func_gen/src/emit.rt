@@ -2,6 +2,7 @@
 
 mod calls;
 mod flush;
+mod frees;
 mod loads;
 mod memory;
 mod parts;

@@ -19,9 +19,9 @@ impl Bindgen for FunctionBindgen {
 
     ghost sound = { func_sound };
 
-    /// The statements of arguments and scalars, of tuples and records, of stores and loads, of texts that are lent, given away, taken over or
-    /// freed, of operands that get locals of their own and of the call of a core import, and what the code gives. Of any other instruction
-    /// so far, and of an expression that is no operand, the answer is `OutOfMemory`.
+    /// The statements of arguments and scalars, of texts, tuples and records, of stores, loads and frees, of operands that get locals of
+    /// their own and of the call of a core import, and what the code gives. Of any other instruction so far, and of an expression that is
+    /// no operand, the answer is `OutOfMemory`.
     fn emit(
         &mut self,
         resolve: &Resolve,
@@ -57,13 +57,16 @@ impl Bindgen for FunctionBindgen {
             Instruction::I32FromBool => self.lower_bool(resolve, operands, results),
             Instruction::BoolFromI32 => self.lift_bool(resolve, operands, results),
             Instruction::CharFromI32 => self.lift_char(resolve, operands, results),
-            Instruction::RecordLower(id) => self.lower_record(resolve, id, operands, results),
-            Instruction::RecordLift(id) => self.lift_record(resolve, id, operands, results),
-            Instruction::TupleLower(n) => self.lower_tuple(resolve, n, operands, results),
             Instruction::StringLower(false) => self.lend_text(resolve, operands, results),
             Instruction::StringLower(true) => self.give_text(resolve, operands, results),
             Instruction::StringLift => self.lift_text(resolve, operands, results),
+            Instruction::RecordLower(id) => self.lower_record(resolve, id, operands, results),
+            Instruction::RecordLift(id) => self.lift_record(resolve, id, operands, results),
+            Instruction::TupleLower(n) => self.lower_tuple(resolve, n, operands, results),
             Instruction::TupleLift(n) => self.lift_tuple(resolve, n, operands, results),
+            Instruction::GuestDeallocate(size, align) => {
+                self.free_block(resolve, size, align, operands, results)
+            }
             Instruction::GuestDeallocateString => self.free_text(resolve, operands, results),
             Instruction::CallWasm(func) => self.call_core(resolve, func, operands, results),
             _ => Err(OutOfMemory),

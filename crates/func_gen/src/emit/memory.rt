@@ -1,20 +1,18 @@
-//! Core words are stored in memory, and texts are freed.
+//! Core words are stored in memory.
 
 ghost use Rattle.std.specs.Prelude.{◌≡◌, [], ◌∷◌, Some, true, length, IfOk, OnOk};
 ghost use Rattle.rust_tree.specs.declared.stmt.Stmt.TheVariants as stmt;
 ghost use Rattle.abi_driver.specs.Instructions.{Emits};
-ghost use Rattle.abi_driver.specs.declared.instruction.Instruction.TheVariants as instruction;
 ghost use Rattle.func_gen.specs.Added.{Appends};
 ghost use Rattle.func_gen.specs.Forms.{operand_of};
 ghost use Rattle.func_gen.specs.Meaning.{func_meaning};
-ghost use Rattle.func_gen.specs.MemoryForms.{small_store, text_freed, whole_store};
+ghost use Rattle.func_gen.specs.MemoryForms.{small_store, whole_store};
 ghost use Rattle.func_gen.specs.Operand.{is_operand};
 
-use crate::forms::runtime_path;
 use crate::function_bindgen::FunctionBindgen;
 use crate::operand::{ExprOperand, copy_expr, is_operand};
 use abi_driver::Instruction;
-use rust_tree::{Expr, RuntimeItem, SmallType, Stmt};
+use rust_tree::{Expr, SmallType, Stmt};
 use std::alloc::Global;
 use wit_model::{ArchitectureSize, List, OutOfMemory, Resolve, WasmType};
 
@@ -64,21 +62,6 @@ pub(crate) fn both_operands(
     Ok((first, second))
 }
 
-/// The call that frees so many bytes at an address.
-fn text_freed(alloc: Global, address: Expr, n: Expr) -> Result<Expr, OutOfMemory>
-    ensures { IfOk result (λ c. c ≡ text_freed address n) }
-{
-    let path = runtime_path(alloc, RuntimeItem::CabiDealloc)?;
-    let mut arguments = List::new(alloc);
-    arguments.push(address)?;
-    arguments.push(n)?;
-    arguments.push(Expr::Size(ArchitectureSize {
-        bytes: 1,
-        pointers: 0,
-    }))?;
-    Ok(Expr::Call(path, arguments))
-}
-
 impl FunctionBindgen {
     /// A statement that declares no name.
     pub(crate) fn add_effect(&mut self, effect: Stmt) -> Result<(), OutOfMemory>
@@ -119,22 +102,6 @@ impl FunctionBindgen {
     {
         let (value, address) = both_operands(self.alloc, operands)?;
         self.add_effect(Stmt::StoreSmall(address, place.0, place.1, value))?;
-        Ok(())
-    }
-
-    pub(crate) fn free_text(
-        &mut self,
-        resolve: &Resolve,
-        operands: &List<ExprOperand>,
-        results: &mut List<ExprOperand>,
-    ) -> Result<(), OutOfMemory>
-        requires empty { results.old ≡ [] }
-        ensures { OnOk result (Emits func_meaning resolve.now.types instruction.GuestDeallocateString operands.now results.new self.old self.new) }
-    {
-        let (address, n) = both_operands(self.alloc, operands)?;
-        let call = text_freed(self.alloc, address, n)?;
-        self.ask(RuntimeItem::CabiDealloc)?;
-        self.add_effect(Stmt::Expr(call))?;
         Ok(())
     }
 }

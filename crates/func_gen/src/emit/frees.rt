@@ -1,0 +1,113 @@
+//! Texts, and blocks of a size, are freed.
+
+ghost use Rattle.std.specs.Prelude.{◌≡◌, [], ◌∷◌, true, length, IfOk, OnOk};
+ghost use Rattle.rust_tree.specs.declared.stmt.Stmt.TheVariants as stmt;
+ghost use Rattle.rust_tree.specs.declared.runtime_item.RuntimeItem.TheVariants.{CabiDealloc};
+ghost use Rattle.abi_driver.specs.Instructions.{Emits};
+ghost use Rattle.abi_driver.specs.declared.instruction.Instruction.TheVariants as instruction;
+ghost use Rattle.func_gen.specs.Added.{Appends};
+ghost use Rattle.func_gen.specs.Meaning.{func_meaning};
+ghost use Rattle.func_gen.specs.MemoryForms.{align_size, block_freed, bytes_freed, is_length, text_freed};
+
+use crate::added::only_operand;
+use crate::emit::memory::both_operands;
+use crate::forms::runtime_path;
+use crate::function_bindgen::FunctionBindgen;
+use crate::operand::ExprOperand;
+use rust_tree::{Expr, RuntimeItem, Stmt};
+use std::alloc::Global;
+use wit_model::{Alignment, ArchitectureSize, List, OutOfMemory, Resolve};
+
+/// Whether a size is a length, where a pointer has four bytes.
+fn is_length(size: &ArchitectureSize) -> bool
+    ensures { result ≡ is_length size.now }
+{
+    u128::from(size.bytes) + u128::from(size.pointers) * 4 < 0x1_0000_0000
+}
+
+/// An alignment as a size.
+fn align_size(align: Alignment) -> ArchitectureSize
+    ensures same { result ≡ align_size align }
+    ensures length { is_length result ≡ true }
+{
+    match align {
+        Alignment::Pointer => ArchitectureSize {
+            bytes: 0,
+            pointers: 1,
+        },
+        Alignment::Bytes(n) => ArchitectureSize {
+            bytes: u64::from(n),
+            pointers: 0,
+        },
+    }
+}
+
+/// The call that frees so many bytes at an address, which have this alignment.
+fn bytes_freed(
+    alloc: Global,
+    address: Expr,
+    n: Expr,
+    align: ArchitectureSize,
+) -> Result<Expr, OutOfMemory>
+    ensures { IfOk result (λ c. c ≡ bytes_freed address n align) }
+{
+    let path = runtime_path(alloc, RuntimeItem::CabiDealloc)?;
+    let mut arguments = List::new(alloc);
+    arguments.push(address)?;
+    arguments.push(n)?;
+    arguments.push(Expr::Size(align))?;
+    Ok(Expr::Call(path, arguments))
+}
+
+impl FunctionBindgen {
+    /// Bytes are freed, which have this alignment.
+    fn add_free(
+        &mut self,
+        address: Expr,
+        n: Expr,
+        align: ArchitectureSize,
+    ) -> Result<(), OutOfMemory>
+        ensures adds { OnOk result (Appends self.old self.new (stmt.Expr (bytes_freed address n align) ∷ []) (CabiDealloc ∷ [])) }
+        ensures scope { OnOk result (self.new.scope ≡ self.old.scope) }
+    {
+        let call = bytes_freed(self.alloc, address, n, align)?;
+        self.ask(RuntimeItem::CabiDealloc)?;
+        self.add_effect(Stmt::Expr(call))?;
+        Ok(())
+    }
+
+    pub(crate) fn free_text(
+        &mut self,
+        resolve: &Resolve,
+        operands: &List<ExprOperand>,
+        results: &mut List<ExprOperand>,
+    ) -> Result<(), OutOfMemory>
+        requires empty { results.old ≡ [] }
+        ensures { OnOk result (Emits func_meaning resolve.now.types instruction.GuestDeallocateString operands.now results.new self.old self.new) }
+    {
+        let (address, n) = both_operands(self.alloc, operands)?;
+        self.add_free(address, n, align_size(Alignment::Bytes(1)))?;
+        Ok(())
+    }
+
+    /// A block of a size that is no length is none in memory.
+    pub(crate) fn free_block(
+        &mut self,
+        resolve: &Resolve,
+        size: ArchitectureSize,
+        align: Alignment,
+        operands: &List<ExprOperand>,
+        results: &mut List<ExprOperand>,
+    ) -> Result<(), OutOfMemory>
+        requires one { length operands.now ≡ 1 }
+        requires empty { results.old ≡ [] }
+        ensures { OnOk result (Emits func_meaning resolve.now.types (instruction.GuestDeallocate size align) operands.now results.new self.old self.new) }
+    {
+        if !is_length(&size) {
+            return Err(OutOfMemory);
+        }
+        let address = only_operand(self.alloc, operands)?;
+        self.add_free(address, Expr::Size(size), align_size(align))?;
+        Ok(())
+    }
+}
