@@ -11,15 +11,16 @@ mod scalars;
 mod texts;
 
 ghost use Rattle.std.specs.Prelude.{◌≡◌, ◌<◌, [], length, OnOk};
-ghost use Rattle.abi_driver.specs.Instructions.{Emits};
+ghost use Rattle.abi_driver.specs.Instructions.{Emits, IsSendable};
 ghost use Rattle.abi_driver.specs.declared.instruction.Instruction.TheVariants as instruction;
 ghost use Rattle.func_gen.specs.Meaning.{func_meaning};
 
-pub(crate) use crate::emit::loads::{small_load, whole_load};
-pub(crate) use crate::emit::memory::{small_store, whole_store};
+use crate::emit::loads::{small_load, whole_load};
+use crate::emit::memory::{small_store, whole_store};
 pub(crate) use crate::emit::scalars::{conversion, is_kept, number_cast};
 use crate::function_bindgen::FunctionBindgen;
 use crate::operand::{ExprOperand, copy_expr};
+use abi_driver::Instruction;
 use wit_model::{List, OutOfMemory, Resolve};
 
 impl FunctionBindgen {
@@ -36,6 +37,33 @@ impl FunctionBindgen {
         let expr = copy_expr(&self.params.as_slice()[n as usize].operand.expr, self.alloc)?;
         results.push(ExprOperand { expr })?;
         Ok(())
+    }
+
+    /// A core word is stored or loaded. To any other instruction the answer is `OutOfMemory`.
+    pub(crate) fn touch(
+        &mut self,
+        resolve: &Resolve,
+        inst: &Instruction,
+        operands: &List<ExprOperand>,
+        results: &mut List<ExprOperand>,
+    ) -> Result<(), OutOfMemory>
+        requires sendable { IsSendable func_meaning resolve.now inst.now operands.now self.old }
+        requires empty { results.old ≡ [] }
+        ensures { OnOk result (Emits func_meaning resolve.now.types inst.now operands.now results.new self.old self.new) }
+    {
+        if let Some(place) = whole_store(inst) {
+            return self.store(resolve, inst, place, operands, results);
+        }
+        if let Some(place) = small_store(inst) {
+            return self.store_low(resolve, inst, place, operands, results);
+        }
+        if let Some(place) = whole_load(inst) {
+            return self.load(resolve, inst, place, operands, results);
+        }
+        if let Some(place) = small_load(inst) {
+            return self.load_low(resolve, inst, place, operands, results);
+        }
+        Err(OutOfMemory)
     }
 
     pub(crate) fn give(

@@ -1,8 +1,6 @@
 //! The laws are kept.
 
-use crate::emit::{
-    conversion, is_kept, number_cast, small_load, small_store, whole_load, whole_store,
-};
+use crate::emit::{conversion, is_kept, number_cast};
 use crate::function_bindgen::FunctionBindgen;
 use crate::operand::ExprOperand;
 use abi_driver::{Asked, Bindgen, Instruction};
@@ -38,18 +36,6 @@ impl Bindgen for FunctionBindgen {
         if is_kept(inst) {
             return self.keep(resolve, inst, operands, results);
         }
-        if let Some(place) = whole_store(inst) {
-            return self.store(resolve, inst, place, operands, results);
-        }
-        if let Some(place) = small_store(inst) {
-            return self.store_low(resolve, inst, place, operands, results);
-        }
-        if let Some(place) = whole_load(inst) {
-            return self.load(resolve, inst, place, operands, results);
-        }
-        if let Some(place) = small_load(inst) {
-            return self.load_low(resolve, inst, place, operands, results);
-        }
         match *inst {
             Instruction::GetArg(n) => self.get_arg(resolve, n, results),
             Instruction::Flush(n) => self.flush(resolve, n, operands, results),
@@ -69,7 +55,7 @@ impl Bindgen for FunctionBindgen {
             }
             Instruction::GuestDeallocateString => self.free_text(resolve, operands, results),
             Instruction::CallWasm(func) => self.call_core(resolve, func, operands, results),
-            _ => Err(OutOfMemory),
+            _ => self.touch(resolve, inst, operands, results),
         }
     }
 
