@@ -74,7 +74,7 @@ known a b w facts s d = record {
 
 noted_grows : (a : Asked) (b : FunctionBindgen) → IsAlignment a.align → Grows func_meaning b (asking a b)
 noted_grows a b aligned = record {
-  serves = λ w h. record { runtime = h.runtime; records = h.records; room = all_left (HoldsRecord 2 w.area) b.asked (a ∷ []) h.room; sized = h.sized; static = h.static; bound = h.bound };
+  serves = λ w h. record { runtime = h.runtime; records = h.records; room = all_left (HoldsRecord 2 w.area) b.asked (a ∷ []) h.room; sized = h.sized; static = h.static; bound = h.bound; called = h.called };
   more = more_room a b aligned;
   stops = λ w p s h. stops_same func_meaning.account (func_meaning.does w p b.code s);
   imports = refl;

@@ -9,11 +9,14 @@ pub mod FieldOrder
 pub mod FlushRow
 pub mod Forgetting
 pub mod FreeRow
+pub mod KeptOwners
 pub mod Lasting
 pub mod LiftedRows
 pub mod LoadRows
 pub mod LoadTies
 pub mod MemoryTies
+pub mod MethodRows
+pub mod MethodValues
 pub mod Moves
 pub mod Moving
 pub mod PartNames

@@ -77,7 +77,7 @@ owned_is (val.Value x) r h = ap owned_by (some_same x r h)
 owned_is (val.Word x) r h = sym (word_owns x r h)
 owned_is (val.Area a n) r h = absurd cc
 
-all_owned : (vs : List Val) (rs : List RustValue) → Are vs rs → flat_map owned vs ≡ taken_by rs
+pub all_owned : (vs : List Val) (rs : List RustValue) → Are vs rs → flat_map owned vs ≡ taken_by rs
 all_owned [] rs h = ap taken_by (sym h)
 all_owned (v ∷ vs) [] h = absurd h
 all_owned (v ∷ vs) (r ∷ rs) h = ap₂ (λ x y. x ++ y) (owned_is v r h.0) (all_owned vs rs h.1)
@@ -132,7 +132,7 @@ quiet_tuple os h w =
 
 -- 3. What it gives
 
-acts_same : (w : Setting) (os : List ExprOperand) → map (eval w) (exprs_of os) ≡ map (λ (o : ExprOperand). eval w o.expr) os
+pub acts_same : (w : Setting) (os : List ExprOperand) → map (eval w) (exprs_of os) ≡ map (λ (o : ExprOperand). eval w o.expr) os
 acts_same w [] = refl
 acts_same w (o ∷ os) = ap (λ acts. eval w o.expr ∷ acts) (acts_same w os)
 

@@ -1,19 +1,24 @@
 -- A file may have more runtime items: what served before still does.
-use Rattle.std.proofs.Common.{◌≡◌, Bool, true, false, cond, List, [], ◌∷◌, ◌++◌, None, Some, refl, sym, ap, ◌∙◌, subst, append_assoc, append-nil}
+use Rattle.std.proofs.Common.{◌≡◌, Bool, true, false, cond, List, [], ◌∷◌, ◌++◌, Option, None, Some, refl, sym, ap, ◌∙◌, subst, append_assoc, append-nil}
+use Rattle.std.specs.Prelude.{IfSome}
 use Rattle.std.specs.Option.{option_or}
 use Rattle.std.specs.Str.{bytes_eq}
 use Rattle.std.proofs.lemmas.Slice.Eq.{bytes_eq-Decides}
 use Rattle.wit_model.specs.Bytes.{Bytes}
+use Rattle.rust_tree.specs.declared.export.CallBlock.{CallBlock}
 use Rattle.rust_tree.specs.declared.item.Item.{Item}
 use Rattle.rust_tree.specs.declared.item.Item.TheVariants as item
 use Rattle.rust_tree.specs.declared.runtime_item.RuntimeItem.{RuntimeItem}
 use Rattle.rust_tree.specs.declared.runtime_item.RuntimeItem.TheVariants.{AsI32, AsI64, AsF32, AsF64, AllocCrate, StringType, VecType, BoolLift, CharLift, StringLift, StdAllocModule, CabiDealloc}
+use Rattle.rust_tree.specs.declared.trait_item.TraitFn.{TraitFn}
+use Rattle.rust_tree.specs.declared.type_expr.TypeExpr.TheVariants as type
 use Rattle.rust_tree.specs.Runtime.{item_name, item_of_name}
 use Rattle.wrapper_values.specs.Fields.{type_named}
+use Rattle.wrapper_run.specs.ExportRun.{method_named}
 use Rattle.wrapper_run.specs.Places.{area_in}
 use Rattle.wrapper_run.specs.Run.{runtime_item_named}
 use Rattle.wrapper_run.proofs.LocalLemmas.{bytes_eq-same}
-use Rattle.func_gen.specs.Meaning.{Found}
+use Rattle.func_gen.specs.Meaning.{Found, GivesAsCalled}
 
 -- an item is told by its name
 named_item : (i : RuntimeItem) → item_of_name (item_name i) ≡ Some i
@@ -57,15 +62,21 @@ pub found_right : (items : List Item) (xs ys : List RuntimeItem) → Found items
 found_right items [] ys h = h
 found_right items (x ∷ xs) ys h = found_right items xs ys h.1
 
--- items that have these parts too, and the static area and the types as before
+-- a method is called for no value as before, where the file has the same methods
+pub gives_as_called : (items all : List Item) (named : Bytes) (call : Option CallBlock) → ((name : Bytes) → method_named all named name ≡ method_named items named name) → GivesAsCalled items named call → GivesAsCalled all named call
+gives_as_called items all named None same h = tt
+gives_as_called items all named (Some c) same h = λ none. subst (λ t. IfSome t (λ (f : TraitFn). f.result ≡ type.Unit)) (sym (same c.method)) (h none)
+
+-- items that have these parts too, and the static area, the types and the methods as before
 pub record More (items : List Item) (parts more : List RuntimeItem) : Type 0 where
   pub all : List Item
   pub found : Found all (parts ++ more)
   pub area : area_in all ≡ area_in items
   pub types : (name : Bytes) → type_named all name ≡ type_named items name
+  pub methods : (named name : Bytes) → method_named all named name ≡ method_named items named name
 
 pub has_more : (items : List Item) (parts more : List RuntimeItem) → Found items parts → More items parts more
-has_more items parts [] h = record { all = items; found = subst (Found items) (sym (append-nil parts)) h; area = refl; types = λ name. refl }
+has_more items parts [] h = record { all = items; found = subst (Found items) (sym (append-nil parts)) h; area = refl; types = λ name. refl; methods = λ named name. refl }
 has_more items parts (i ∷ more) h =
     let later = has_more (with_item i items) (parts ++ i ∷ []) more (found_last i items parts (found_with i items parts h)) in
-    record { all = later.all; found = subst (Found later.all) (append_assoc parts (i ∷ []) more) later.found; area = later.area; types = later.types }
+    record { all = later.all; found = subst (Found later.all) (append_assoc parts (i ∷ []) more) later.found; area = later.area; types = later.types; methods = later.methods }

@@ -28,11 +28,12 @@ use Rattle.abi_driver.specs.Account.{Account, Call}
 use Rattle.abi_driver.specs.Area.{HoldsRecord, MayStand, StandsIn}
 use Rattle.abi_driver.specs.Laws.{AreLent, Data, IsNew, args}
 use Rattle.abi_driver.specs.Meaning.{Datum, arg, item, word}
+use Rattle.func_gen.specs.declared.function_bindgen.Code.{Code}
 use Rattle.func_gen.specs.declared.function_bindgen.FunctionBindgen.{FunctionBindgen}
 use Rattle.func_gen.specs.declared.function_bindgen.ParamSite.{ParamSite}
 use Rattle.func_gen.specs.FactLemmas.{Says, said}
 use Rattle.func_gen.specs.Facts.{AreOwned, IsThere, Owns, wrong}
-use Rattle.func_gen.specs.Meaning.{AreaIs, Denote, File, Found, FuncState, IsArea, Serves, account_of, call_of, func_meaning, owns_of, static_request}
+use Rattle.func_gen.specs.Meaning.{AreaIs, Denote, File, Found, FuncState, GivesAsCalled, IsArea, Serves, account_of, call_of, func_meaning, owns_of, static_request}
 use Rattle.func_gen.specs.Read.{Env, Read, bare, bare_or, env_of, lent_bare, less, on_bare, read}
 use Rattle.func_gen.specs.ReadForms.{read-local, read-ref, still_there}
 use Rattle.func_gen.specs.Records.{CanBeDefined, items_of}
@@ -246,6 +247,7 @@ module _ (b : FunctionBindgen) (unasked : b.asked ≡ []) (used : b.scope.used �
       sized = tt;
       static = λ e. sym (ap static_request (no_area defs));
       bound = λ e. refl;
+      called = subst (λ (c : Code). GivesAsCalled (items_of defs) b.home c.call) (sym empty) tt;
     };
     start = λ w ds acc at sv len l stands taken unguarded. start w ds acc at sv len l taken unguarded b.import refl w.area refl stands;
   }

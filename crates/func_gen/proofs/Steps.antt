@@ -21,12 +21,12 @@ use Rattle.abi_driver.specs.Laws.{Adds, At, Facts, Grows}
 use Rattle.func_gen.specs.declared.function_bindgen.Code.{Code}
 use Rattle.func_gen.specs.declared.function_bindgen.FunctionBindgen.{FunctionBindgen}
 use Rattle.func_gen.specs.Added.{Appends}
-use Rattle.func_gen.specs.Meaning.{Denote, File, Found, FuncState, Serves, call_of, func_meaning, run_code, run_head, seen, setting_for, static_request}
+use Rattle.func_gen.specs.Meaning.{Denote, File, Found, FuncState, GivesAsCalled, Serves, call_of, func_meaning, run_code, run_head, seen, setting_for, static_request}
 use Rattle.func_gen.specs.Records.{AreDefined}
 use Rattle.func_gen.specs.Scope.{is_used}
 use Rattle.func_gen.proofs.FieldOrder.{still_defined}
 use Rattle.func_gen.proofs.Lasting.{denotes_on, lasts}
-use Rattle.func_gen.proofs.RuntimeItems.{found_left, has_more}
+use Rattle.func_gen.proofs.RuntimeItems.{found_left, gives_as_called, has_more}
 
 -- 1. Outcomes of the machine, as they are seen
 
@@ -100,6 +100,7 @@ module _ (old new : FunctionBindgen) (added : List Stmt) (items : List RuntimeIt
     sized = h.sized;
     static = λ e. h.static (a.import ∙ e);
     bound = λ e. h.bound (a.import ∙ e) ∙ a.home;
+    called = subst (GivesAsCalled w.items w.bound) a.call h.called;
   }
 
   serves_more : (w : File) → Serves w old → (x : File) × Serves x new
@@ -113,6 +114,7 @@ module _ (old new : FunctionBindgen) (added : List Stmt) (items : List RuntimeIt
           sized = h.sized;
           static = λ e. h.static (sym a.import ∙ e) ∙ ap static_request (sym m.area);
           bound = λ e. h.bound (sym a.import ∙ e) ∙ sym a.home;
+          called = subst (GivesAsCalled m.all w.bound) (sym a.call) (gives_as_called w.items m.all w.bound old.code.call (m.methods w.bound) h.called);
         },
       )
 

@@ -8,6 +8,7 @@ pub mod Forms
 pub mod FuncSound
 pub mod Meaning
 pub mod MemoryForms
+pub mod MethodForms
 pub mod Operand
 pub mod PartForms
 pub mod Read

@@ -6,6 +6,7 @@ use Rattle.rust_tree.specs.declared.export.CallBlock.{CallBlock}
 use Rattle.rust_tree.specs.declared.item.Item.{Item}
 use Rattle.rust_tree.specs.declared.runtime_item.RuntimeItem.{RuntimeItem}
 use Rattle.rust_tree.specs.declared.trait_item.TraitFn.{TraitFn}
+use Rattle.rust_tree.specs.declared.type_expr.TypeExpr.TheVariants as type
 use Rattle.rust_tree.specs.Runtime.{item_name}
 use Rattle.wit_layout.specs.Filled.{IsFilledFor}
 use Rattle.wit_model.specs.Bytes.{Bytes}
@@ -66,6 +67,11 @@ static_request a = option_map (λ a. request_of a.size a.align) a
 abbrev pub IsArea : Request → Type 0
 IsArea area = (0 < area.size) × (0 < area.align)
 
+-- the method of a call for no value gives none, where the file has it
+abbrev pub GivesAsCalled : List Item → Bytes → Option CallBlock → Type 0
+GivesAsCalled items bound None = Unit {0}
+GivesAsCalled items bound (Some c) = c.result ≡ None → IfSome (method_named items bound c.method) (λ (t : TraitFn). t.result ≡ type.Unit)
+
 pub record Serves (w : File) (b : FunctionBindgen) : Type 0 where
   pub runtime : Found w.items b.runtime
   pub records : AreDefined w.items b.records
@@ -74,6 +80,7 @@ pub record Serves (w : File) (b : FunctionBindgen) : Type 0 where
   -- the area of exports is the file's static one, and their methods are of one trait
   pub static : b.import ≡ false → w.area ≡ static_request (area_in w.items)
   pub bound : b.import ≡ false → w.bound ≡ b.home
+  pub called : GivesAsCalled w.items w.bound b.code.call
 
 -- 2. States
 

@@ -5,6 +5,7 @@ mod flush;
 mod frees;
 mod loads;
 mod memory;
+mod methods;
 mod parts;
 mod records;
 mod scalars;

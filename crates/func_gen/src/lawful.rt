@@ -18,8 +18,8 @@ impl Bindgen for FunctionBindgen {
     ghost sound = { func_sound };
 
     /// The statements of arguments and scalars, of texts, tuples and records, of stores, loads and frees, of operands that get locals of
-    /// their own and of the call of a core import, and what the code gives. Of any other instruction so far, and of an expression that is
-    /// no operand, the answer is `OutOfMemory`.
+    /// their own and of the call of a core import, the block that calls a method of no resource, and what the code gives. Of any other
+    /// instruction so far, and of an expression that is no operand, the answer is `OutOfMemory`.
     fn emit(
         &mut self,
         resolve: &Resolve,
@@ -55,6 +55,7 @@ impl Bindgen for FunctionBindgen {
             }
             Instruction::GuestDeallocateString => self.free_text(resolve, operands, results),
             Instruction::CallWasm(func) => self.call_core(resolve, func, operands, results),
+            Instruction::CallInterface(func) => self.call_method(resolve, func, operands, results),
             _ => self.touch(resolve, inst, operands, results),
         }
     }

@@ -136,7 +136,10 @@ fn local_path(alloc: Global, name: &Text) -> Result<Path, OutOfMemory>
 }
 
 /// The expressions that operands are.
-fn expressions(alloc: Global, operands: &[ExprOperand]) -> Result<List<Expr>, OutOfMemory>
+pub(crate) fn expressions(
+    alloc: Global,
+    operands: &[ExprOperand],
+) -> Result<List<Expr>, OutOfMemory>
     ensures { IfOk result (λ es. es ≡ exprs operands.now) }
 {
     let mut es = List::new(alloc);

@@ -1,0 +1,36 @@
+-- Which code calls a method: a block of all code before it, with the call as its value.
+use Rattle.std.specs.Prelude.{◌≡◌, Bool, true, false, List, [], ◌∷◌, Option, None, Some}
+use Rattle.wit_model.specs.Bytes.{Bytes}
+use Rattle.wit_model.specs.declared.function.Function.{Function}
+use Rattle.rust_tree.specs.declared.export.CallBlock.{CallBlock}
+use Rattle.rust_tree.specs.declared.expr.Expr.{Expr}
+use Rattle.rust_tree.specs.declared.stmt.Stmt.{Stmt}
+use Rattle.abi_driver.specs.declared.bindgen.Asked.{Asked}
+use Rattle.func_gen.specs.declared.function_bindgen.FunctionBindgen.{FunctionBindgen}
+use Rattle.func_gen.specs.Added.{Fresh}
+
+abbrev pub is_uncalled : Option CallBlock → List Asked → Bool
+is_uncalled None [] = true
+is_uncalled None (_ ∷ _) = false
+is_uncalled (Some _) asked = false
+
+abbrev pub call_block : Function → List Stmt → List Expr → Option Bytes → CallBlock
+call_block f stmts arguments value = record { result = value; stmts = stmts; method = f.name.snake; arguments = arguments }
+
+-- the code is such a block, whose value a local of this name holds
+pub record CallsIn (f : Function) (arguments : List Expr) (value : Option Bytes) (old new : FunctionBindgen) : Type 0 where
+  pub code : new.code ≡ record { call = Some (call_block f old.code.stmts arguments value); stmts = [] }
+  pub runtime : new.runtime ≡ old.runtime
+  pub import : new.import ≡ old.import
+  pub home : new.home ≡ old.home
+  pub area : new.area ≡ old.area
+  pub params : new.params ≡ old.params
+  pub sizes : new.sizes ≡ old.sizes
+  pub records : new.records ≡ old.records
+  pub asked : new.asked ≡ old.asked
+  pub returned : new.returned ≡ old.returned
+
+-- and that name is new
+pub record CallsFor (f : Function) (arguments : List Expr) (name : Bytes) (old new : FunctionBindgen) : Type 0 where
+  pub calls : CallsIn f arguments (Some name) old new
+  pub fresh : Fresh old new name

@@ -1,0 +1,100 @@
+//! The method of an export is called.
+
+ghost use Rattle.std.specs.Prelude.{◌≡◌, [], false, Some, None, true, IfOk, OnOk};
+ghost use Rattle.abi_driver.specs.Instructions.{Emits};
+ghost use Rattle.abi_driver.specs.declared.instruction.Instruction.TheVariants as instruction;
+ghost use Rattle.func_gen.specs.Meaning.{func_meaning};
+ghost use Rattle.func_gen.specs.MethodForms.{CallsFor, CallsIn, is_uncalled};
+
+use crate::emit::calls::expressions;
+use crate::function_bindgen::FunctionBindgen;
+use crate::operand::ExprOperand;
+use crate::scope::{LocalName, numbered};
+use rust_tree::{CallBlock, Expr};
+use wit_model::{Function, FunctionKind, List, OutOfMemory, Resolve, Text};
+
+impl FunctionBindgen {
+    /// All code so far goes into the block of the call. There is one, and it comes before the area is asked for.
+    pub(crate) fn call_method(
+        &mut self,
+        resolve: &Resolve,
+        func: &Function,
+        operands: &List<ExprOperand>,
+        results: &mut List<ExprOperand>,
+    ) -> Result<(), OutOfMemory>
+        requires exports { self.old.import ≡ false }
+        requires empty { results.old ≡ [] }
+        ensures { OnOk result (Emits func_meaning resolve.now.types (instruction.CallInterface func.entry) operands.now results.new self.old self.new) }
+    {
+        if !is_freestanding(func) || !self.is_uncalled() {
+            return Err(OutOfMemory);
+        }
+        let arguments = expressions(self.alloc, operands.as_slice())?;
+        if func.result.is_none() {
+            self.begin_call(func, arguments, None)?;
+            return Ok(());
+        }
+        let name = self.call_for_value(func, arguments)?;
+        let expr = Expr::Local(name);
+        results.push(ExprOperand { expr })?;
+        Ok(())
+    }
+
+    /// Whether no method was called so far, and the area was not asked for.
+    fn is_uncalled(&self) -> bool
+        ensures { result ≡ is_uncalled self.now.code.call self.now.asked }
+    {
+        match (&self.code.call, self.asked.as_slice()) {
+            (None, []) => true,
+            _ => false,
+        }
+    }
+
+    /// The method's value is a new local, of this name.
+    fn call_for_value(
+        &mut self,
+        func: &Function,
+        arguments: List<Expr>,
+    ) -> Result<Text, OutOfMemory>
+        ensures { IfOk result (λ name. CallsFor func.now arguments name self.old self.new) }
+    {
+        let value = LocalName {
+            prefix: "result",
+            part: None,
+        };
+        let t = self.scope.declare(self.alloc, &[value])?;
+        let name = numbered(self.alloc, value, t)?;
+        let given = name.copy(self.alloc)?;
+        self.begin_call(func, arguments, Some(name))?;
+        Ok(given)
+    }
+
+    /// The block of the call, whose value this local holds, if there is one.
+    fn begin_call(
+        &mut self,
+        func: &Function,
+        arguments: List<Expr>,
+        value: Option<Text>,
+    ) -> Result<(), OutOfMemory>
+        ensures calls { OnOk result (CallsIn func.now arguments value self.old self.new) }
+        ensures scope { OnOk result (self.new.scope ≡ self.old.scope) }
+    {
+        let method = func.name.snake.copy(self.alloc)?;
+        let stmts = std::mem::replace(&mut self.code.stmts, List::new(self.alloc));
+        self.code.call = Some(CallBlock {
+            result: value,
+            stmts,
+            method,
+            arguments,
+        });
+        Ok(())
+    }
+}
+
+/// Whether a function is of no resource, and answers at once.
+fn is_freestanding(func: &Function) -> bool {
+    match func.kind {
+        FunctionKind::Freestanding => true,
+        _ => false,
+    }
+}
