@@ -1,6 +1,7 @@
 pub mod AreaRoom
 pub mod AreaRows
 pub mod Buffers
+pub mod BodyArea
 pub mod CallRows
 pub mod CallWords
 pub mod Declared

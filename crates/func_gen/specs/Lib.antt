@@ -1,5 +1,6 @@
 pub mod Added
 pub mod Area
+pub mod Body
 pub mod CallForms
 pub mod FactLemmas
 pub mod Facts

@@ -3,6 +3,7 @@
 
 mod added;
 mod area;
+mod body;
 mod emit;
 mod forms;
 mod function_bindgen;
@@ -11,6 +12,7 @@ mod operand;
 mod record_site;
 mod scope;
 
+pub use body::Body;
 pub use function_bindgen::{Code, FunctionBindgen, ParamSite};
 pub use operand::ExprOperand;
 pub use record_site::RecordSite;

@@ -1,0 +1,107 @@
+//! The body of a wrapper, once its code was made.
+
+ghost use Rattle.std.specs.Prelude.{◌≡◌, ◌^◌, ◌<◌, true, IfOk};
+ghost use Rattle.wit_model.specs.Size.{bytes_at, rounded_up};
+ghost use Rattle.func_gen.specs.Body.{Gives, IsBodyOf, greater, needed};
+
+use crate::function_bindgen::{Code, FunctionBindgen};
+use crate::operand::{ExprOperand, copy_expr};
+use abi_driver::Asked;
+use rust_tree::{CallBlock, Expr, RuntimeItem, Stmt};
+use std::alloc::Global;
+use wit_model::{Alignment, ArchitectureSize, List, OutOfMemory};
+
+/// What the body of a wrapper is.
+#[derive(Drop)]
+pub struct Body {
+    /// Of an export, the block that calls the method.
+    pub call: Option<CallBlock>,
+    /// The statements: all of an import, and of an export those behind that block.
+    pub stmts: List<Stmt>,
+    /// What is given: the value of an import, or the core word of an export, if there is one.
+    pub tail: Option<Expr>,
+    /// The return area that is needed, if any is: its size and its alignment.
+    pub area: Option<Asked>,
+    /// The items of `_rt` that the code names.
+    pub runtime: List<RuntimeItem>,
+}
+
+impl FunctionBindgen {
+    /// The body that was made. There is no memory also where the code gives several operands, and where the area is of no size that
+    /// a memory has.
+    pub fn finish(self) -> Result<Body, OutOfMemory>
+        ensures { IfOk result (λ body. IsBodyOf self body) }
+    {
+        let FunctionBindgen {
+            alloc,
+            code,
+            runtime,
+            asked,
+            returned,
+            ..
+        } = self;
+        let Code { call, stmts } = code;
+        let tail = tail_of(alloc, &returned)?;
+        let area = needed_area(asked.as_slice())?;
+        Ok(Body {
+            call,
+            stmts,
+            tail,
+            area,
+            runtime,
+        })
+    }
+}
+
+fn tail_of(alloc: Global, returned: &Option<List<ExprOperand>>) -> Result<Option<Expr>, OutOfMemory>
+    ensures { IfOk result (λ tail. Gives returned.now tail) }
+{
+    let Some(given) = returned else {
+        return Ok(None);
+    };
+    match given.as_slice() {
+        [] => Ok(None),
+        [operand] => Ok(Some(copy_expr(&operand.expr, alloc)?)),
+        _ => Err(OutOfMemory),
+    }
+}
+
+/// The area for all these records.
+fn needed_area(asked: &[Asked]) -> Result<Option<Asked>, OutOfMemory>
+    ensures { IfOk result (λ area. area ≡ needed asked.now) }
+{
+    if asked.is_empty() {
+        return Ok(None);
+    }
+    let mut area = Asked {
+        size: ArchitectureSize {
+            bytes: 0,
+            pointers: 0,
+        },
+        align: Alignment::Bytes(1),
+    };
+    for record in asked {
+        area = greater(&area, record)?;
+    }
+    Ok(Some(area))
+}
+
+/// The greater size and the greater alignment.
+fn greater(a: &Asked, b: &Asked) -> Result<Asked, OutOfMemory>
+    ensures { IfOk result (λ c. c ≡ greater a.now b.now) }
+{
+    if !is_small(&a.size) || !is_small(&b.size) {
+        return Err(OutOfMemory);
+    }
+    Ok(Asked {
+        size: a.size.max(&b.size),
+        align: a.align.max(&b.align),
+    })
+}
+
+/// Whether a size is one that a memory may have.
+fn is_small(size: &ArchitectureSize) -> bool
+    ensures { result ≡ true → rounded_up 8 (bytes_at size.now 8) < 2 ^ 64 }
+{
+    size.bytes <= 0xFFFF_FFFF && size.pointers <= 0xFFFF_FFFF
+}
