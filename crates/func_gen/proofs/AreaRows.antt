@@ -276,7 +276,10 @@ module _ (a : Asked) (old mid : FunctionBindgen) (n : Bytes) (added : Appends ol
         returned = added.returned;
         asked = ap (λ asked. asked ++ a ∷ []) added.asked;
         blocks = refl;
-        form = tt;
+        form = record {
+          still = record { import = added.import; home = added.home; area = added.area; params = added.params; records = added.records; sizes = added.sizes };
+          given = tt;
+        };
         row = λ w p others s0 s at stands here first.
             let outside = (seen_done s0.area (run_code (setting_for w p) w.bound old.code s0.machine) s stands.done).1 ∙ here in
             points w p others s0 s stands old.import refl at outside first (subst (λ x. AreaIs old.import w.area x old.asked old.area s.machine) outside stands.holds.area);

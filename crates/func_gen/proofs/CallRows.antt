@@ -61,6 +61,7 @@ use Rattle.func_gen.proofs.Evaluated.{gives}
 use Rattle.func_gen.proofs.Lasting.{Beside, SameArea, add_plain, area_lasts, bound_under, denotes_on, lasts, owns_with, part, with_local}
 use Rattle.func_gen.proofs.Rows.{same_area}
 use Rattle.func_gen.proofs.Steps.{func_grows, ran}
+use Rattle.func_gen.proofs.Forming.{still_of}
 
 -- 1. What has an owner is there still, once the peer has answered
 
@@ -291,7 +292,7 @@ statement_emits types fn os old new imports len adds none = record {
   blocks = refl;
   returned = adds.stmts.returned;
   asked = adds.stmts.asked;
-  form = tt;
+  form = record { still = still_of old new _ _ adds.stmts; given = tt };
   results = sym (ap length none);
   row = statement_row types fn.now os old new imports len adds none;
 }
@@ -303,7 +304,7 @@ call_emits types fn os old new ty ret imports len adds one = record {
   blocks = refl;
   returned = adds.stmts.returned;
   asked = adds.stmts.asked;
-  form = tt;
+  form = record { still = still_of old new _ _ adds.stmts; given = tt };
   results = sym (ap length one);
   row = word_row types fn.now os old new imports len ty ret adds one;
 }

@@ -52,6 +52,7 @@ use Rattle.func_gen.proofs.Quiet.{quiet_operand}
 use Rattle.func_gen.proofs.Rows.{same_area}
 use Rattle.func_gen.proofs.Several.{add_local}
 use Rattle.func_gen.proofs.Steps.{func_adds, ran}
+use Rattle.func_gen.proofs.Forming.{still_of}
 
 -- 1. One operand is used, whatever it denotes
 
@@ -177,7 +178,7 @@ flush_row types old new t k names os len small is ok a fresh =
       blocks = refl;
       returned = a.returned;
       asked = a.asked;
-      form = tt;
+      form = record { still = still_of old new _ _ a; given = tt };
       results = locals_many names ∙ many;
       row = flush_renames old new names os a fresh distinct (many ∙ sym len);
     }

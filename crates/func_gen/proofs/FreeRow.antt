@@ -51,6 +51,7 @@ use Rattle.func_gen.proofs.Quiet.{quiet_operand}
 use Rattle.func_gen.proofs.ScalarRows.{calls_runtime}
 use Rattle.func_gen.proofs.StoreRows.{two_given}
 use Rattle.func_gen.proofs.Writing.{Writes, one_adds, with_heap, writes}
+use Rattle.func_gen.proofs.Forming.{still_of}
 
 -- 1. The call makes no call of an import
 
@@ -202,7 +203,7 @@ module _ (types : List TypeDef) (old new : FunctionBindgen) (e : Expr) (ok : is_
         blocks = refl;
         returned = a.returned;
         asked = adds.asked;
-        form = tt;
+        form = record { still = still_of old new _ _ a; given = tt };
         results = refl;
         row = λ address n.
             writes old new (stmt.Expr (text_freed e f)) (CabiDealloc ∷ []) a scope quiet (of (operand_of e) (word (core.Pointer address)) ∷ of (operand_of f) (word (core.Length n)) ∷ []) (λ p. freeing p.form address n)
@@ -222,7 +223,7 @@ module _ (types : List TypeDef) (old new : FunctionBindgen) (e : Expr) (ok : is_
         blocks = refl;
         returned = a.returned;
         asked = adds.asked;
-        form = tt;
+        form = record { still = still_of old new _ _ a; given = tt };
         results = refl;
         row = λ address.
             writes old new (stmt.Expr (block_freed e size align)) (CabiDealloc ∷ []) a scope quiet (of (operand_of e) (word (core.Pointer address)) ∷ []) (λ p. freeing p.form address n)

@@ -9,6 +9,7 @@ pub mod Evaluated
 pub mod FieldOrder
 pub mod FlushRow
 pub mod Forgetting
+pub mod Forming
 pub mod FreeRow
 pub mod KeptOwners
 pub mod Lasting
@@ -34,6 +35,7 @@ pub mod Scalars
 pub mod Several
 pub mod Starting
 pub mod Steps
+pub mod StillSent
 pub mod StoreRows
 pub mod TakenRow
 pub mod TextRows

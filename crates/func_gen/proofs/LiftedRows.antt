@@ -62,6 +62,7 @@ use Rattle.func_gen.proofs.Rows.{Agrees, let_adds, lets}
 use Rattle.func_gen.proofs.ScalarRows.{calls_runtime, cast_says, emits_lifted, emits_lowered}
 use Rattle.func_gen.proofs.Scalars.{bool_is, stands_scalar}
 use Rattle.func_gen.specs.StandLemmas.{scalar_owns}
+use Rattle.func_gen.proofs.Forming.{still_of}
 
 -- what one fact that holds says
 says_one : (items : List Item) (b : FunctionBindgen) (o : ExprOperand) (d : Datum RustValue) (s : State) → Hold items b (of o d ∷ []) s → Says d ((read items o.expr).at (env_of s))
@@ -88,7 +89,7 @@ pub bool_row : (types : List TypeDef) (old new : FunctionBindgen) (n : Bytes) (e
     → Emits func_meaning types I32FromBool (operand_of e ∷ []) (operand_of (expr.Local n) ∷ []) old new
 bool_row types old new n e ok a fresh =
     let quiet : (w : Setting) → Quiet (eval w (expr.I32FromBool e)) = λ w. quiet_bool w e (quiet_operand w e ok) in
-    emits_lowered types old new I32FromBool Scalar.bool (operand_of e) (operand_of (expr.Local n)) refl (let_adds old new n (expr.I32FromBool e) [] a fresh quiet) a.returned
+    emits_lowered types old new I32FromBool Scalar.bool (operand_of e) (operand_of (expr.Local n)) refl (let_adds old new n (expr.I32FromBool e) [] a fresh quiet) a.returned (still_of old new _ _ a)
     (λ dir v r own good st. (
       st.0.1,
       lets old new n (expr.I32FromBool e) [] a fresh quiet (of (operand_of e) (item r) ∷ []) (λ p. stay) (word (passed_word Scalar.bool v)) (λ fs. fs ≡ of (operand_of (expr.Local n)) (word (passed_word Scalar.bool v)) ∷ []) refl
@@ -191,7 +192,7 @@ module _ (types : List TypeDef) (old new : FunctionBindgen) (n : Bytes) (e : Exp
 
   pub bool_lift_row : Appends old new (stmt.Let n (runtime_call BoolLift (expr.Cast e cast.U8)) ∷ []) (BoolLift ∷ []) → Emits func_meaning types BoolFromI32 (operand_of e ∷ []) (operand_of (expr.Local n) ∷ []) old new
   bool_lift_row a =
-      emits_lifted types old new BoolFromI32 Scalar.bool (operand_of e) (operand_of (expr.Local n)) refl refl (let_adds old new n (runtime_call BoolLift (expr.Cast e cast.U8)) (BoolLift ∷ []) a fresh (lifts_quietly BoolLift cast.U8)) a.returned
+      emits_lifted types old new BoolFromI32 Scalar.bool (operand_of e) (operand_of (expr.Local n)) refl refl (let_adds old new n (runtime_call BoolLift (expr.Cast e cast.U8)) (BoolLift ∷ []) a fresh (lifts_quietly BoolLift cast.U8)) a.returned (still_of old new _ _ a)
       (λ x. lets old new n (runtime_call BoolLift (expr.Cast e cast.U8)) (BoolLift ∷ []) a fresh (lifts_quietly BoolLift cast.U8) (of (operand_of e) (word x) ∷ []) (λ p. reading Scalar.bool p.form x) (item (bool_taken x)) (Outs Scalar.bool x)
       (bool_taken x, refl, λ v good taken. stands_scalar take Scalar.bool v (bool_taken x) (bool_stands x v taken)) (agrees x))
     where
@@ -209,7 +210,7 @@ module _ (types : List TypeDef) (old new : FunctionBindgen) (n : Bytes) (e : Exp
 
   pub char_lift_row : Appends old new (stmt.Let n (runtime_call CharLift (expr.Cast e cast.U32)) ∷ []) (CharLift ∷ []) → Emits func_meaning types CharFromI32 (operand_of e ∷ []) (operand_of (expr.Local n) ∷ []) old new
   char_lift_row a =
-      emits_lifted types old new CharFromI32 Scalar.char (operand_of e) (operand_of (expr.Local n)) refl refl (let_adds old new n (runtime_call CharLift (expr.Cast e cast.U32)) (CharLift ∷ []) a fresh (lifts_quietly CharLift cast.U32)) a.returned
+      emits_lifted types old new CharFromI32 Scalar.char (operand_of e) (operand_of (expr.Local n)) refl refl (let_adds old new n (runtime_call CharLift (expr.Cast e cast.U32)) (CharLift ∷ []) a fresh (lifts_quietly CharLift cast.U32)) a.returned (still_of old new _ _ a)
       (λ x. lets old new n (runtime_call CharLift (expr.Cast e cast.U32)) (CharLift ∷ []) a fresh (lifts_quietly CharLift cast.U32) (of (operand_of e) (word x) ∷ []) (λ p. reading Scalar.char p.form x) (item (char_taken x)) (Outs Scalar.char x)
       (char_taken x, refl, λ v good taken. stands_scalar take Scalar.char v (char_taken x) (char_stands x v taken)) (agrees x))
     where

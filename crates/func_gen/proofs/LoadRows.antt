@@ -53,6 +53,7 @@ use Rattle.func_gen.proofs.LoadTies.{HasLength, Reads, byte_read, f32_read, f64_
 use Rattle.func_gen.proofs.Quiet.{quiet_operand}
 use Rattle.func_gen.proofs.Rows.{AgreesBy, let_adds, lets_by}
 use Rattle.func_gen.proofs.StoreRows.{emits_touch}
+use Rattle.func_gen.proofs.Forming.{still_of}
 
 -- 1. What the machine does
 
@@ -210,7 +211,7 @@ module _ (types : List TypeDef) (old new : FunctionBindgen) (i : Instruction) (n
       let a = accessed 2 t.part t.signed t.ty in
       let value = expr.Load e q.0 q.1 in
       let quiet = quiet_whole old new n e ok q.0 fresh q.1 in
-      emits_touch types old new i (loads t.part t.signed t.ty q.0) (operand_of e ∷ []) (operand_of (expr.Local n) ∷ []) t.lowered t.lifted t.touched refl (load_adds old new n e ok q.0 fresh a value quiet adds) adds.returned
+      emits_touch types old new i (loads t.part t.signed t.ty q.0) (operand_of e ∷ []) (operand_of (expr.Local n) ∷ []) t.lowered t.lifted t.touched refl (load_adds old new n e ok q.0 fresh a value quiet adds) adds.returned (still_of old new _ _ adds)
       (load_row old new n e ok q.0 fresh a value quiet adds (whole_follows old new n e ok q.0 fresh q.1 a t.size t.tie))
 
   pub small_load_row : (q : ArchitectureSize × SmallType) → small_load i ≡ Some q → Appends old new (stmt.Let n (expr.LoadSmall e q.0 q.1) ∷ []) [] → Emits func_meaning types i (operand_of e ∷ []) (operand_of (expr.Local n) ∷ []) old new
@@ -219,5 +220,5 @@ module _ (types : List TypeDef) (old new : FunctionBindgen) (i : Instruction) (n
       let a = accessed 2 t.part t.signed t.ty in
       let value = expr.LoadSmall e q.0 q.1 in
       let quiet = quiet_small old new n e ok q.0 fresh q.1 in
-      emits_touch types old new i (loads t.part t.signed t.ty q.0) (operand_of e ∷ []) (operand_of (expr.Local n) ∷ []) t.lowered t.lifted t.touched refl (load_adds old new n e ok q.0 fresh a value quiet adds) adds.returned
+      emits_touch types old new i (loads t.part t.signed t.ty q.0) (operand_of e ∷ []) (operand_of (expr.Local n) ∷ []) t.lowered t.lifted t.touched refl (load_adds old new n e ok q.0 fresh a value quiet adds) adds.returned (still_of old new _ _ adds)
       (load_row old new n e ok q.0 fresh a value quiet adds (small_follows old new n e ok q.0 fresh q.1 a t.size t.tie))

@@ -517,7 +517,7 @@ method_row types f os held old new a none export due local =
       returned = a.returned;
       asked = a.asked;
       results = as_many held ∙ sym due;
-      form = tt;
+      form = record { still = record { import = a.import; home = a.home; area = a.area; params = a.params; records = a.records; sizes = a.sizes }; given = tt };
       row = hands f.now os held old new a first unasked export due local keeps_owners;
     }
 

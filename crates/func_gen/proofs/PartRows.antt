@@ -60,6 +60,7 @@ use Rattle.func_gen.proofs.Quiet.{quiet_operand}
 use Rattle.func_gen.proofs.Rows.{let_adds, same_area}
 use Rattle.func_gen.proofs.Several.{Are, add_local, uses_all}
 use Rattle.func_gen.proofs.Steps.{ran}
+use Rattle.func_gen.proofs.Forming.{still_of}
 
 -- 1. What parts own together, and that they pass as they are
 
@@ -205,7 +206,7 @@ tuple_row types old new n k os many ok a fresh = record {
   blocks = refl;
   returned = a.returned;
   asked = a.asked;
-  form = tt;
+  form = record { still = still_of old new _ _ a; given = tt };
   results = refl;
   row = λ ts is. lifts_whole old new n os (expr.Tuple (exprs_of os)) a fresh (λ w p vs rs s t h len done are. tuple_gives (setting_for w p) os vs rs s t done are) ts (many ∙ sym is);
 }

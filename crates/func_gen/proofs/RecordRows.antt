@@ -46,6 +46,7 @@ use Rattle.func_gen.proofs.PartsTaken.{apart_adds, apart_lowers, locals_many}
 use Rattle.func_gen.proofs.Quiet.{quiet_operand}
 use Rattle.func_gen.proofs.Rows.{let_adds}
 use Rattle.func_gen.proofs.Several.{Are}
+use Rattle.func_gen.proofs.Forming.{still_of}
 
 -- 1. How many fields there are
 
@@ -122,7 +123,7 @@ record_made types old new n id os e made appends fresh =
       blocks = refl;
       returned = appends.returned;
       asked = appends.asked;
-      form = tt;
+      form = record { still = still_of old new _ _ appends; given = tt };
       results = refl;
       row = λ members is. lifts_whole old new n os whole a fresh
           (λ w p vs rs s t h len done are. record_gives (setting_for w p) site os vs rs s t (defined w old new types id.0 site appends.records made.is_site h) made.many len done are)
@@ -145,7 +146,7 @@ record_split types old new id e names ok split =
       blocks = refl;
       returned = split.stmts.returned;
       asked = split.stmts.asked;
-      form = tt;
+      form = record { still = still_of old new _ _ split.stmts; given = tt };
       results = λ members is. locals_many names ∙ many ∙ as_many types id.0 (length site.fields) members split.is_site.count is;
       row = λ members is dir v r own (stands, normal). apart_lowers old new pat names e split.stmts split.fresh fits
           (field_shapes types members) (many ∙ as_many types id.0 (length site.fields) members split.is_site.count is ∙ sym (shapes_many types members)) dir v r own stands normal;

@@ -46,8 +46,10 @@ use Rattle.func_gen.specs.Read as reader
 use Rattle.func_gen.specs.ReadForms.{read-call, read-cast}
 use Rattle.func_gen.specs.FactLemmas.{Says, item_rust_at}
 use Rattle.func_gen.specs.Facts.{item_of, item_of_word}
+use Rattle.func_gen.specs.Still.{StillOf}
 use Rattle.func_gen.proofs.Rows.{none_adds, swaps, tests}
 use Rattle.func_gen.proofs.Scalars.{cast_word, conversion_to, converts_scalar, is_number, option_some, stands_scalar, taken_is, taken_word}
+use Rattle.func_gen.proofs.Forming.{ordinary_form, still_of}
 
 -- 1. What is emitted
 
@@ -63,24 +65,24 @@ unfolding callee runtime_name runtime_module_name
 calls_runtime i = refl
 
 module _ (types : List TypeDef) (old new : FunctionBindgen) (i : Instruction) (s : Scalar) (o r : ExprOperand) where
-  pub emits_lowered : lowered_scalar i ≡ Some s → Adds func_meaning old new → new.returned ≡ old.returned → LowersScalar func_meaning s (o ∷ []) (r ∷ []) old new → Emits func_meaning types i (o ∷ []) (r ∷ []) old new
-  emits_lowered is adds returned row = record {
+  pub emits_lowered : lowered_scalar i ≡ Some s → Adds func_meaning old new → new.returned ≡ old.returned → StillOf old new → LowersScalar func_meaning s (o ∷ []) (r ∷ []) old new → Emits func_meaning types i (o ∷ []) (r ∷ []) old new
+  emits_lowered is adds returned still row = record {
     adds = code_of func_meaning i (lowers_ordinary i s is) types old new adds;
     blocks = none_dropped (length (block_results types i));
     returned = still_returned func_meaning i (lowers_ordinary i s is) (o ∷ []) old.returned new.returned returned;
     asked = adds.asked;
-    form = tt;
+    form = ordinary_form i (lowers_ordinary i s is).goes_on (o ∷ []) old new still;
     results = subst (λ x. MakesBy types i x (lifted_scalar i) 1) (sym is) refl;
     row = subst (λ x. RowBy func_meaning types i x (lifted_scalar i) (o ∷ []) (r ∷ []) old new) (sym is) row;
   }
 
-  pub emits_lifted : lowered_scalar i ≡ None → lifted_scalar i ≡ Some s → Adds func_meaning old new → new.returned ≡ old.returned → LiftsScalar func_meaning s (o ∷ []) (r ∷ []) old new → Emits func_meaning types i (o ∷ []) (r ∷ []) old new
-  emits_lifted none is adds returned row = record {
+  pub emits_lifted : lowered_scalar i ≡ None → lifted_scalar i ≡ Some s → Adds func_meaning old new → new.returned ≡ old.returned → StillOf old new → LiftsScalar func_meaning s (o ∷ []) (r ∷ []) old new → Emits func_meaning types i (o ∷ []) (r ∷ []) old new
+  emits_lifted none is adds returned still row = record {
     adds = code_of func_meaning i (lifts_ordinary i s is) types old new adds;
     blocks = none_dropped (length (block_results types i));
     returned = still_returned func_meaning i (lifts_ordinary i s is) (o ∷ []) old.returned new.returned returned;
     asked = adds.asked;
-    form = tt;
+    form = ordinary_form i (lifts_ordinary i s is).goes_on (o ∷ []) old new still;
     results = subst (λ x. MakesBy types i x (lifted_scalar i) 1) (sym none) (subst (λ x. MakesBy types i None x 1) (sym is) refl);
     row = subst (λ x. RowBy func_meaning types i x (lifted_scalar i) (o ∷ []) (r ∷ []) old new) (sym none) (subst (λ x. RowBy func_meaning types i None x (o ∷ []) (r ∷ []) old new) (sym is) row);
   }
@@ -118,7 +120,7 @@ pub convert_row : (types : List TypeDef) (old new : FunctionBindgen) (i : Instru
     → Emits func_meaning types i (operand_of e ∷ []) (operand_of (runtime_call f e) ∷ []) old new
 convert_row types old new i f e is a scope =
     let c = converted_by i f is in
-    emits_lowered types old new i c.scalar (operand_of e) (operand_of (runtime_call f e)) c.lowered (none_adds old new (f ∷ []) a scope) a.returned
+    emits_lowered types old new i c.scalar (operand_of e) (operand_of (runtime_call f e)) c.lowered (none_adds old new (f ∷ []) a scope) a.returned (still_of old new _ _ a)
     (λ dir v r own good st. (
       st.0.1,
       swaps old new (f ∷ []) a scope (of (operand_of e) (item r)) (of (operand_of (runtime_call f e)) (word (passed_word c.scalar v)))
@@ -216,7 +218,7 @@ pub cast_row : (types : List TypeDef) (old new : FunctionBindgen) (i : Instructi
     → Emits func_meaning types i (operand_of e ∷ []) (operand_of (expr.Cast e to) ∷ []) old new
 cast_row types old new i to e is a scope =
     let c = cast_by i to is in
-    emits_lifted types old new i c.scalar (operand_of e) (operand_of (expr.Cast e to)) c.none c.lifted (none_adds old new [] a scope) a.returned
+    emits_lifted types old new i c.scalar (operand_of e) (operand_of (expr.Cast e to)) c.none c.lifted (none_adds old new [] a scope) a.returned (still_of old new _ _ a)
     (lifts_number old new c.scalar (operand_of e) (operand_of (expr.Cast e to)) c.number a scope
     (λ x typed items env h. let (z, i, same) = c.casts x typed in ap (option_and_then item_of) (cast_says items e to x z env i h) ∙ ap (λ r. Some r) (sym same)))
 
@@ -255,5 +257,5 @@ kept_by _ e = absurd (let h = e in cc)
 pub keep_row : (types : List TypeDef) (old new : FunctionBindgen) (i : Instruction) (o : ExprOperand) → is_kept i ≡ true → Appends old new [] [] → new.scope ≡ old.scope → Emits func_meaning types i (o ∷ []) (o ∷ []) old new
 keep_row types old new i o is a scope =
     let c = kept_by i is in
-    emits_lifted types old new i c.scalar o o c.none c.lifted (none_adds old new [] a scope) a.returned
+    emits_lifted types old new i c.scalar o o c.none c.lifted (none_adds old new [] a scope) a.returned (still_of old new _ _ a)
     (lifts_number old new c.scalar o o c.number a scope (λ x typed items env h. ap (option_and_then item_of) h ∙ c.keeps x typed))

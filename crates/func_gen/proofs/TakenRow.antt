@@ -76,6 +76,7 @@ use Rattle.func_gen.proofs.RuntimeItems.{found_right}
 use Rattle.func_gen.proofs.ScalarRows.{calls_runtime}
 use Rattle.func_gen.proofs.Several.{add_local}
 use Rattle.func_gen.proofs.Steps.{func_adds, ran}
+use Rattle.func_gen.proofs.Forming.{still_of}
 
 -- 1. One more owner
 
@@ -347,7 +348,7 @@ module _ (types : List TypeDef) (old new : FunctionBindgen) (a e : Expr) (t : â„
     blocks = refl;
     returned = adds.returned;
     asked = adds.asked;
-    form = tt;
+    form = record { still = still_of old new _ _ adds; given = tt };
     results = refl;
     row = Î» p k w q others s0 s at.
         let free = three old new (len_name t) (bytes_name t) (text_name t) fresh (len_bytes t) (len_text t) (bytes_text t) in

@@ -49,6 +49,7 @@ use Rattle.func_gen.proofs.PartRows.{areas_last}
 use Rattle.func_gen.proofs.Quiet.{quiet_operand}
 use Rattle.func_gen.proofs.Rows.{same_area}
 use Rattle.func_gen.proofs.Steps.{func_adds, ran, seen_calls}
+use Rattle.func_gen.proofs.Forming.{still_of}
 
 -- 1. A text is lent
 
@@ -94,7 +95,7 @@ module _ (types : List TypeDef) (old new : FunctionBindgen) (e : Expr) (t : ℕ)
     blocks = refl;
     returned = a.returned;
     asked = a.asked;
-    form = tt;
+    form = record { still = still_of old new _ _ a; given = tt };
     results = refl;
     row = λ heap bytes r own st.
         let b = st.0 in
@@ -203,7 +204,7 @@ module _ (types : List TypeDef) (old new : FunctionBindgen) (name : Bytes) (t : 
     blocks = refl;
     returned = a.returned;
     asked = a.asked;
-    form = tt;
+    form = record { still = still_of old new _ _ a; given = tt };
     results = refl;
     row = λ heap bytes r own st.
         let b = st.0 in

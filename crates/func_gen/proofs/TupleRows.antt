@@ -18,6 +18,7 @@ use Rattle.func_gen.specs.Operand.{is_operand}
 use Rattle.func_gen.specs.PartForms.{locals_of, names_from, part_prefix}
 use Rattle.func_gen.proofs.PartNames.{names_many, parts_distinct}
 use Rattle.func_gen.proofs.PartsTaken.{apart_adds, apart_lowers, locals_many}
+use Rattle.func_gen.proofs.Forming.{still_of}
 
 pub apart_row : (types : List TypeDef) (old new : FunctionBindgen) (t k : ℕ) (names : List Bytes) (e : Expr) → is_operand e ≡ true → k < 2 ^ 32 → names ≡ names_from part_prefix t 0 k → Appends old new (stmt.LetParts (pattern.Tuple names) e ∷ []) [] → FreshAll old new names
     → Emits func_meaning types (TupleLower k) (operand_of e ∷ []) (locals_of names) old new
@@ -29,7 +30,7 @@ apart_row types old new t k names e ok small is a fresh =
       blocks = refl;
       returned = a.returned;
       asked = a.asked;
-      form = tt;
+      form = record { still = still_of old new _ _ a; given = tt };
       results = locals_many names ∙ many;
       row = λ ts same dir v r own (stands, normal). apart_lowers old new (pattern.Tuple names) names e a fresh fits ts (many ∙ sym same) dir v r own stands normal;
     }

@@ -19,4 +19,5 @@ pub mod Records
 pub mod Scope
 pub mod Sites
 pub mod StandLemmas
+pub mod Still
 pub mod TextForms

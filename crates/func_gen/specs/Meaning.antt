@@ -45,6 +45,7 @@ use Rattle.func_gen.specs.declared.operand.ExprOperand.{ExprOperand}
 use Rattle.func_gen.specs.Facts.{AreOwned, Hold}
 use Rattle.func_gen.specs.Read.{env_of}
 use Rattle.func_gen.specs.Records.{AreDefined}
+use Rattle.func_gen.specs.Still.{Formed}
 
 -- 1. What is known of the whole
 
@@ -216,5 +217,5 @@ func_meaning = record {
   crosses = crossing;
   asked = λ b. b.asked;
   returned = λ b. b.returned;
-  forms = λ step os rs old new. Unit {0};
+  forms = λ step os rs old new. Formed step os old new;
 }

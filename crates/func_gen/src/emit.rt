@@ -74,6 +74,7 @@ impl FunctionBindgen {
         operands: &mut List<ExprOperand>,
         results: &mut List<ExprOperand>,
     ) -> Result<(), OutOfMemory>
+        requires many { length operands.old ≡ count }
         requires empty { results.old ≡ [] }
         ensures { OnOk result (Emits func_meaning resolve.now.types (instruction.Return count) operands.old results.new self.old self.new) }
     {
