@@ -105,7 +105,7 @@ normal_struct dir rs h =
     ∙ struct_level dir (map (fold-RustValue RustValue (passing_level dir)) rs) ∙ ap value.Struct h
 
 -- parts that stand as they are, and pass so
-parts_stand : (dir : Direction) (ts : Shapes) (v : Parts ts) (rs : List RustValue) (own : List Block) → PartsStand func_meaning dir ts v rs own → rust.PartsStand 2 dir ts v rs own × (map (fold-RustValue RustValue (passing_level dir)) rs ≡ rs)
+pub parts_stand : (dir : Direction) (ts : Shapes) (v : Parts ts) (rs : List RustValue) (own : List Block) → PartsStand func_meaning dir ts v rs own → rust.PartsStand 2 dir ts v rs own × (map (fold-RustValue RustValue (passing_level dir)) rs ≡ rs)
 parts_stand dir none v rs own h = (h, ap (map (fold-RustValue RustValue (passing_level dir))) h.0 ∙ sym h.0)
 parts_stand dir (more t ts) v rs own (r, others, first, rest, is, h, hs, all) =
     let later = parts_stand dir ts v.1 others rest hs in

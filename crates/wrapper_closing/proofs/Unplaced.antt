@@ -1,0 +1,192 @@
+-- Statements that declare no area make requests only where they place the static area.
+use Rattle.std.proofs.Common.{◌≡◌, true, List, [], ◌∷◌, length, map, Option, None, Some, sym, subst}
+use Rattle.std.specs.Prelude.{Result, Ok, Err, option_and_then}
+use Rattle.std.specs.Option.{option_map}
+use Rattle.std.proofs.lemmas.Bool.{and_parts}
+use Rattle.wit_model.specs.Bytes.{Bytes}
+use Rattle.rust_tree.specs.declared.export.CallBlock.{CallBlock}
+use Rattle.rust_tree.specs.declared.expr.Expr.{Expr, Expr-F, fold-roll-Expr, ind-Expr, map-Expr, roll-Expr}
+use Rattle.rust_tree.specs.declared.path.Path.{Path}
+use Rattle.rust_tree.specs.declared.pattern.Pattern.{Pattern}
+use Rattle.rust_tree.specs.declared.runtime_item.RuntimeItem.{RuntimeItem}
+use Rattle.rust_tree.specs.declared.runtime_item.RuntimeItem.TheVariants.{CabiDealloc, StringLift}
+use Rattle.rust_tree.specs.declared.stmt.Stmt.{Stmt}
+use Rattle.rust_tree.specs.declared.stmt.Stmt.TheVariants as stmt
+use Rattle.wrapper_data.specs.declared.run.TrapKind.{TrapKind}
+use Rattle.wrapper_data.specs.declared.value.RustValue.{RustValue}
+use Rattle.wrapper_data.specs.declared.value.RustValue.TheVariants as value
+use Rattle.wrapper_data.specs.declared.word.Word.{Word}
+use Rattle.wrapper_data.specs.declared.word.Word.TheVariants as word
+use Rattle.wrapper_values.specs.declared.owning.View.TheVariants as view_of
+use Rattle.wrapper_values.specs.declared.state.Val.{Val}
+use Rattle.wrapper_values.specs.declared.state.Val.TheVariants as val
+use Rattle.wrapper_values.specs.Act.{Act, ◌>>=◌, ◌>>◌, all, or_stop, pure}
+use Rattle.wrapper_values.specs.Effect.{cast_to, converted, lift_of, word_of_bool}
+use Rattle.wrapper_values.specs.Fields.{arranged}
+use Rattle.wrapper_values.specs.Locals.{bind, local_named, use_local, value_of}
+use Rattle.wrapper_values.specs.Owning.{owned}
+use Rattle.wrapper_values.specs.Setting.{Setting, failed, stuck}
+use Rattle.wrapper_values.specs.Whole.{bind_parts, field_act, given_names, parts_of, record_of, take_apart, whole, whole_of}
+use Rattle.wrapper_run.specs.Blocks.{boxed, dealloc, dealloc_words, drop_value, leave_to, release_all, store_small, store_word}
+use Rattle.wrapper_run.specs.ExportRun.{call_inside, call_method, call_with, keep_result, run_call}
+use Rattle.wrapper_run.specs.Run.{alone, apply, apply_item, apply_one, call_callee, call_runtime, Callee, callee, converted_or_lifted, core_forget, eval, eval_step, forget_one, lift_act, load_small, load_word, of_runtime, run_stmt, run_stmts, runtime_item_named, size_word, take_bytes, unknown}
+use Rattle.wrapper_closing.specs.NoArea.{declares_no_area, is_no_area}
+use Rattle.wrapper_closing.proofs.Unasking.{Unasking, unasking_ask, unasking_bind, unasking_box, unasking_dealloc, unasking_declare, unasking_drop, unasking_import, unasking_leave, unasking_lend, unasking_lift, unasking_load, unasking_load_small, unasking_method, unasking_or_stop, unasking_pure, unasking_releases, unasking_static, unasking_stop, unasking_store, unasking_store_small, unasking_take, unasking_then, unasking_use}
+
+module _ (w : Setting) where
+  -- calls
+
+  deallocates : (vs : List Val) → Unasking (dealloc_words w vs)
+  deallocates (val.Word (word.Pointer address) ∷ val.Word (word.Length size) ∷ val.Word (word.Length align) ∷ []) =
+      unasking_then (dealloc w address size) (λ _. pure (val.Value value.Unit)) (unasking_dealloc w address size) (λ _. unasking_pure (val.Value value.Unit))
+  deallocates _ = unasking_stop (stuck w)
+
+  lifts : (o : Option (Result RustValue TrapKind)) → Unasking (lift_act w o)
+  lifts None = unasking_stop (stuck w)
+  lifts (Some (Ok v)) = unasking_pure (val.Value v)
+  lifts (Some (Err kind)) = unasking_stop (failed w kind)
+
+  converts : (o : Option Word) (l : Option (Result RustValue TrapKind)) → Unasking (converted_or_lifted w o l)
+  converts None l = lifts l
+  converts (Some x) l = unasking_pure (val.Word x)
+
+  applies_item : (i : RuntimeItem) (v : Val) → Unasking (apply_item w i v)
+  applies_item StringLift v = unasking_lift w v
+  applies_item i v = converts (converted i v) (lift_of w.form i v)
+
+  applies_one : (i : Option RuntimeItem) (vs : List Val) → Unasking (apply_one w i vs)
+  applies_one (Some i) (v ∷ []) = applies_item i v
+  applies_one _ _ = unasking_stop (stuck w)
+
+  applies : (i : Option RuntimeItem) (vs : List Val) → Unasking (apply w i vs)
+  applies (Some CabiDealloc) vs = deallocates vs
+  applies i vs = applies_one i vs
+
+  calls_runtime : (name : Bytes) (vs : List Val) → Unasking (call_runtime w name vs)
+  unfolding call_runtime
+  calls_runtime name vs = applies (runtime_item_named w.items name) vs
+
+  forgets : (vs : List Val) → Unasking (forget_one w vs)
+  forgets (v ∷ []) = unasking_then (release_all w (owned v)) (λ _. pure (val.Value value.Unit)) (unasking_releases w (owned v)) (λ _. unasking_pure (val.Value value.Unit))
+  forgets _ = unasking_stop (stuck w)
+
+  calls_callee : (k : Callee) (vs : List Val) → Unasking (call_callee w k vs)
+  calls_callee (alone name) vs = unasking_import w name vs
+  calls_callee (of_runtime name) vs = calls_runtime name vs
+  calls_callee core_forget vs = forgets vs
+  calls_callee unknown vs = unasking_stop (stuck w)
+
+  -- values with parts
+
+  or_follows : {A B : Type 0} (o : Option A) (f : A → Act B) → ((a : A) → Unasking (f a)) → Unasking (or_stop (stuck w) o >>= f)
+  or_follows o f k = unasking_then (or_stop (stuck w) o) f (unasking_or_stop (stuck w) o) k
+
+  binds_parts : (names : List Bytes) (rs : List RustValue) → Unasking (bind_parts w names rs)
+  binds_parts [] [] = unasking_pure tt
+  binds_parts [] (r ∷ rs) = unasking_stop (stuck w)
+  binds_parts (name ∷ names) [] = unasking_stop (stuck w)
+  binds_parts (name ∷ names) (r ∷ rs) = unasking_then (bind name (val.Value r)) (λ _. bind_parts w names rs) (unasking_bind name (val.Value r)) (λ _. binds_parts names rs)
+
+  takes_apart : (p : Pattern) (v : Val) → Unasking (take_apart w p v)
+  takes_apart p v =
+      or_follows (parts_of v) (λ rs. or_stop (stuck w) (given_names w.items p) >>= (λ names. bind_parts w names rs)) (λ rs. or_follows (given_names w.items p) (λ names. bind_parts w names rs) (λ names. binds_parts names rs))
+
+  wholes : (acts : List (Act Val)) → Unasking (all acts) → Unasking (whole w acts)
+  wholes acts k = unasking_then (all acts) (λ vs. or_stop (stuck w) (whole_of vs)) k (λ vs. unasking_or_stop (stuck w) (whole_of vs))
+
+  records : (path : Path) (fields : List (Bytes × Act Val)) → Unasking (all (map field_act fields)) → Unasking (record_of w path fields)
+  records path fields k =
+      unasking_then (all (map field_act fields)) (λ vs. or_stop (stuck w) (option_and_then whole_of (arranged w.items path vs))) k (λ vs. unasking_or_stop (stuck w) (option_and_then whole_of (arranged w.items path vs)))
+
+  -- every expression
+
+  -- one act before others
+  follows_more : {A : Type 0} (act : Act A) (acts : List (Act A)) → Unasking act → Unasking (all acts) → Unasking (all (act ∷ acts))
+  follows_more act acts h k = unasking_then act (λ x. all acts >>= (λ xs. pure (x ∷ xs))) h (λ x. unasking_then (all acts) (λ xs. pure (x ∷ xs)) k (λ xs. unasking_pure (x ∷ xs)))
+
+  -- the expressions in a layer
+  abbrev All : (X : Type 0) → (X → Expr) → Type 0
+  All X of = (x : X) → Unasking (eval w (of x))
+
+  follows_all : (X : Type 0) (of : X → Expr) → All X of → (xs : List X) → Unasking (all (map (eval w) (map of xs)))
+  follows_all X of k [] = unasking_pure []
+  follows_all X of k (x ∷ xs) = follows_more (eval w (of x)) (map (eval w) (map of xs)) (k x) (follows_all X of k xs)
+
+  abbrev acts_of : (X : Type 0) → (X → Expr) → List (Bytes × X) → List (Bytes × Act Val)
+  acts_of X of fields = map (λ (f : Bytes × Expr). (f.0, eval w f.1)) (map (λ (f : Bytes × X). (f.0, of f.1)) fields)
+
+  follows_fields : (X : Type 0) (of : X → Expr) → All X of → (fields : List (Bytes × X)) → Unasking (all (map field_act (acts_of X of fields)))
+  follows_fields X of k [] = unasking_pure []
+  follows_fields X of k (f ∷ fields) =
+      follows_more (field_act (f.0, eval w (of f.1))) (map field_act (acts_of X of fields)) (unasking_then (eval w (of f.1)) (λ v. pure (f.0, v)) (k f.1) (λ v. unasking_pure (f.0, v))) (follows_fields X of k fields)
+
+  layer : (X : Type 0) (of : X → Expr) → All X of → (l : Expr-F X) → Unasking (eval_step w (map-Expr Expr (Act Val) (eval w) (map-Expr X Expr of l)))
+  layer X of k (Expr-F.Local name) = unasking_use (stuck w) name
+  layer X of k (Expr-F.Ref name) = unasking_lend (stuck w) name
+  layer X of k (Expr-F.Cast e to) = unasking_then (eval w (of e)) (λ v. or_stop (stuck w) (cast_to to v)) (k e) (λ v. unasking_or_stop (stuck w) (cast_to to v))
+  layer X of k (Expr-F.Call path arguments) =
+      unasking_then (all (map (eval w) (map of arguments))) (λ vs. call_callee w (callee path) vs) (follows_all X of k arguments) (λ vs. calls_callee (callee path) vs)
+  layer X of k (Expr-F.I32FromBool e) =
+      unasking_then (eval w (of e)) (λ v. or_stop (stuck w) (option_map val.Word (word_of_bool v))) (k e) (λ v. unasking_or_stop (stuck w) (option_map val.Word (word_of_bool v)))
+  layer X of k (Expr-F.AsPtr name) = unasking_ask (stuck w) view_of.TextAddress name
+  layer X of k (Expr-F.Len name) = unasking_ask (stuck w) view_of.TextLength name
+  layer X of k (Expr-F.CastMut name) = unasking_ask (stuck w) view_of.Pointer name
+  layer X of k (Expr-F.ReturnPointer name) = unasking_ask (stuck w) view_of.AreaAddress name
+  layer X of k (Expr-F.Load e offset ty) = unasking_then (eval w (of e)) (load_word w offset ty) (k e) (unasking_load w offset ty)
+  layer X of k (Expr-F.LoadSmall e offset ty) = unasking_then (eval w (of e)) (load_small w offset ty) (k e) (unasking_load_small w offset ty)
+  layer X of k (Expr-F.FromRawParts e name) = unasking_then (eval w (of e)) (λ v. λ s. take_bytes w (value_of (local_named name s.locals)) v s) (k e) (unasking_take w name)
+  layer X of k (Expr-F.IntoBoxedBytes name) = unasking_then (use_local (stuck w) name) (boxed w) (unasking_use (stuck w) name) (unasking_box w)
+  layer X of k Expr-F.StaticPointer = unasking_static w
+  layer X of k (Expr-F.Size size) = unasking_or_stop (stuck w) (size_word size)
+  layer X of k (Expr-F.Record path fields) = records path (acts_of X of fields) (follows_fields X of k fields)
+  layer X of k (Expr-F.Tuple parts) = wholes (map (eval w) (map of parts)) (follows_all X of k parts)
+  layer X of k (Expr-F.Array parts) = wholes (map (eval w) (map of parts)) (follows_all X of k parts)
+
+  pub unasking_eval : (e : Expr) → Unasking (eval w e)
+  unasking_eval =
+      ind-Expr (λ e. Unasking (eval w e))
+      (λ l y is. subst (λ z. Unasking (eval w (roll-Expr z))) is
+      (subst (λ act. Unasking act) (sym (fold-roll-Expr (Act Val) (eval_step w) (map-Expr _ Expr (λ e. e.0) y))) (layer _ (λ e. e.0) (λ e. e.1) y)))
+
+  -- every statement but that of an area
+
+  unasking_stmt : (s : Stmt) → is_no_area s ≡ true → Unasking (run_stmt w s)
+  unasking_stmt (stmt.Import d) k = unasking_declare d
+  unasking_stmt (stmt.Let name e) k = unasking_then (eval w e) (bind name) (unasking_eval e) (unasking_bind name)
+  unasking_stmt (stmt.Expr e) k = unasking_then (eval w e) (drop_value w) (unasking_eval e) (unasking_drop w)
+  unasking_stmt (stmt.Area a) k = absurd (cc)
+  unasking_stmt (stmt.LetParts p e) k = unasking_then (eval w e) (take_apart w p) (unasking_eval e) (takes_apart p)
+  unasking_stmt (stmt.Store address offset ty e) k =
+      unasking_then (eval w e) (λ v. eval w address >>= store_word w offset ty v) (unasking_eval e) (λ v. unasking_then (eval w address) (store_word w offset ty v) (unasking_eval address) (unasking_store w offset ty v))
+  unasking_stmt (stmt.StoreSmall address offset ty e) k =
+      unasking_then (eval w e) (λ v. eval w address >>= store_small w offset ty v) (unasking_eval e) (λ v. unasking_then (eval w address) (store_small w offset ty v) (unasking_eval address) (unasking_store_small w offset ty v))
+
+  pub unasking_stmts : (stmts : List Stmt) → declares_no_area stmts ≡ true → Unasking (run_stmts w stmts)
+  unasking_stmts [] k = unasking_pure tt
+  unasking_stmts (s ∷ stmts) k =
+      let both = and_parts (is_no_area s) (declares_no_area stmts) k in
+      unasking_then (run_stmt w s) (λ _. run_stmts w stmts) (unasking_stmt s both.0) (λ _. unasking_stmts stmts both.1)
+
+  -- the call of an implementation
+
+  inside : (bound : Bytes) (c : CallBlock) → declares_no_area c.stmts ≡ true → Unasking (call_inside w bound c)
+  inside bound c k =
+      unasking_then (run_stmts w c.stmts) (λ _. call_with w bound c) (unasking_stmts c.stmts k)
+      (λ _. unasking_then (all (map (eval w) c.arguments)) (call_method w bound c.method) (arguments c.arguments) (unasking_method w bound c.method))
+    where
+      arguments : (es : List Expr) → Unasking (all (map (eval w) es))
+      arguments [] = unasking_pure []
+      arguments (e ∷ es) = follows_more (eval w e) (map (eval w) es) (unasking_eval e) (arguments es)
+
+  kept : (result : Option Bytes) (v : Val) → Unasking (keep_result w result v)
+  kept None v = unasking_drop w v
+  kept (Some name) v = unasking_bind name v
+
+  pub unasking_call : (bound : Bytes) (c : CallBlock) → declares_no_area c.stmts ≡ true → Unasking (run_call w bound c >>= keep_result w c.result)
+  unasking_call bound c k =
+      unasking_then (run_call w bound c) (keep_result w c.result)
+      (record {
+        unasking = λ s. (unasking_then (call_inside w bound c) (λ v. leave_to w (length s.locals) >> pure v) (inside bound c k)
+            (λ v. unasking_then (leave_to w (length s.locals)) (λ _. pure v) (unasking_leave w (length s.locals)) (λ _. unasking_pure v))).unasking s;
+      })
+      (kept c.result)

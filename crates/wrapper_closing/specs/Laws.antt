@@ -1,0 +1,43 @@
+-- Laws: a wrapper that closes the driver's code is faithful to its function.
+use Rattle.std.specs.Prelude.{◌≡◌, ℕ, false, List, [], Option, None}
+use Rattle.wit_model.specs.Bytes.{Bytes}
+use Rattle.wit_model.specs.declared.function.Function.{Function}
+use Rattle.wit_model.specs.declared.types.TypeDef.{TypeDef}
+use Rattle.rust_tree.specs.Tree.{Tree}
+use Rattle.func_gen.specs.declared.function_bindgen.FunctionBindgen.{FunctionBindgen}
+use Rattle.wrapper_meaning.specs.Shape.{Shape, result_shape}
+use Rattle.wrapper_meaning.specs.Kinds.{result_has_list}
+use Rattle.wrapper_run.specs.Entries.{ExportNames, entries_named}
+use Rattle.wrapper_run.specs.PostReturn.{post_return_at}
+use Rattle.wrapper_faithful.specs.Export.{IsExportFaithful}
+use Rattle.wrapper_faithful.specs.Import.{IsFaithful}
+use Rattle.wrapper_faithful.specs.Passed.{passed}
+use Rattle.wrapper_faithful.specs.Resources.{Resources}
+use Rattle.wrapper_faithful.specs.Returned.{IsEntered, IsReturned, IsUnreturned, RunOfPostReturn}
+use Rattle.wrapper_meaning.specs.Gives.{FreesWords}
+use Rattle.wrapper_closing.specs.ClosedExport.{ClosesExport}
+use Rattle.wrapper_closing.specs.ClosedImport.{ClosesImport, import_target}
+use Rattle.wrapper_closing.specs.ClosedPostReturn.{ClosesPostReturn}
+
+abbrev pub ClosedImportIsFaithful : Type 0
+ClosedImportIsFaithful = (types : List TypeDef) (resources : Resources) (tree : Tree) (nth : ℕ) (f : Function) (old new : FunctionBindgen)
+    → ClosesImport types f tree nth old new → IsFaithful resources (import_target old f) false tree nth (passed types f)
+
+abbrev pub ClosedExportIsFaithful : Type 0
+ClosedExportIsFaithful = (types : List TypeDef) (resources : Resources) (names : ExportNames) (results : List (Option Shape)) (tree : Tree) (nth : ℕ) (f : Function) (old new : FunctionBindgen)
+    → ClosesExport types f names results tree nth old new → IsExportFaithful resources names results tree nth (passed types f)
+
+-- a post-return function that does frees what the words own, whatever they represent
+abbrev pub ClosedPostReturnFrees : Type 0
+ClosedPostReturnFrees = (types : List TypeDef) (tree : Tree) (nth : ℕ) (f : Function) (old new : FunctionBindgen)
+    → ClosesPostReturn types f tree nth old new → (x : RunOfPostReturn (passed types f) tree nth) → FreesWords x.blocks x.heap x.run
+
+-- and where it is entered under a name, it is that of the wrapper
+abbrev pub ClosedPostReturnIsReturned : Type 0
+ClosedPostReturnIsReturned = (types : List TypeDef) (name : Bytes) (tree : Tree) (nth : ℕ) (f : Function) (old new : FunctionBindgen)
+    → (c : ClosesPostReturn types f tree nth old new) → IsEntered name tree (passed types f) c.function → IsReturned name tree nth (passed types f)
+
+-- a function whose result may hold no text has none, where the file has none
+abbrev pub UnlistedIsUnreturned : Type 0
+UnlistedIsUnreturned = (types : List TypeDef) (name : Bytes) (tree : Tree) (nth : ℕ) (f : Function) → result_has_list (result_shape types f) ≡ false → post_return_at tree nth ≡ None → entries_named name tree.items ≡ []
+    → IsUnreturned name tree nth (passed types f)

@@ -1,0 +1,27 @@
+//! Wrappers that close the driver's code are faithful.
+
+ghost use Rattle.wrapper_closing.specs.Laws.{
+  ClosedExportIsFaithful,
+  ClosedImportIsFaithful,
+  ClosedPostReturnFrees,
+  ClosedPostReturnIsReturned,
+  UnlistedIsUnreturned,
+};
+
+/// The wrapper of an import that closes the driver's code is faithful to its function.
+pub fn import_law()
+    ensures { ClosedImportIsFaithful }
+{}
+
+/// The wrapper of an export that closes the driver's code is faithful to its function, where its post-return function is.
+pub fn export_law()
+    ensures { ClosedExportIsFaithful }
+{}
+
+/// The post-return function of an export that closes the driver's code frees what the words own, and is that of the wrapper where it is
+/// entered. A function whose result may hold no text needs none.
+pub fn post_return_law()
+    ensures frees { ClosedPostReturnFrees }
+    ensures returned { ClosedPostReturnIsReturned }
+    ensures unreturned { UnlistedIsUnreturned }
+{}
