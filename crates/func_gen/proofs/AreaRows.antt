@@ -179,6 +179,7 @@ module _ (a : Asked) (old mid : FunctionBindgen) (n : Bytes) (added : Appends ol
     denotes : (address : ℕ) → Denote w mid (of (operand_of (expr.Local n)) (word (core.Pointer address)) ∷ others) (record { machine = with_local s.machine n (val.Word (core.Pointer address)); area = s.area })
     denotes address = bound old mid n (area_pointer old) [] added fresh (quiet_pointer old) [] others w s (val.Word (core.Pointer address)) (word (core.Pointer address)) stands.holds refl refl
 
+    -- where the area stands in a local
     of_import : old.import ≡ true → (area : Option Request) → w.area ≡ area → (at : Option ℕ) → s.area ≡ at → AreaIs true area at old.asked old.area s.machine → PointsAfter w p others s0 s area at
     of_import import None e at f h = absurd (subst (λ x. HoldsRecord 2 x a) e holds_record)
     of_import import (Some area) e None f h = absurd h
@@ -207,6 +208,7 @@ module _ (a : Asked) (old mid : FunctionBindgen) (n : Bytes) (added : Appends ol
       not_asked_no_more [] e = absurd cc
       not_asked_no_more (b ∷ asked) e = absurd cc
 
+      -- the area has an owner then, and the local denotes its address
       is_placed : (address : ℕ) (later : List Choice) → is_fitting address (request_of sa.size sa.align) s.machine.heap.blocks ≡ true → Placed address (placed_at address later)
       is_placed address later fits = (
         λ g.
@@ -236,6 +238,7 @@ module _ (a : Asked) (old mid : FunctionBindgen) (n : Bytes) (added : Appends ol
           some : 0 < b.size
           some = (subst (λ x. IfSome x IsArea) is stands.serves.sized).0
 
+      -- what the machine places is what the action does
       of_export : PointsAfter w p others s0 s (Some (request_of sa.size sa.align)) None
       of_export =
           let pointer = ap (λ (c : Bool). if c then expr.ReturnPointer old.area else expr.StaticPointer) export in
@@ -265,6 +268,7 @@ module _ (a : Asked) (old mid : FunctionBindgen) (n : Bytes) (added : Appends ol
     points false e None f first h = by_static (area_in w.items) refl f (h (first refl)) e
     points false e (Some address) f first h = absurd h
 
+  -- the statement, and then the note
   pub points_to : PointsTo func_meaning a (operand_of (expr.Local n)) old (asking a mid)
   points_to =
       let adds = let_adds old mid n (area_pointer old) [] added fresh (quiet_pointer old) in

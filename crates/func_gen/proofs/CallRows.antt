@@ -69,7 +69,7 @@ there_step : (b : Bool) (x y : Block) (o p : Option Block) → (IsThere o → Is
 there_step true x y o p f h = tt
 there_step false x y o p f h = f h
 
-there_behind : (a : ℕ) (blocks : List Block) (x : Block) → IsThere (block_from a blocks) → IsThere (block_from a (blocks ++ x ∷ []))
+pub there_behind : (a : ℕ) (blocks : List Block) (x : Block) → IsThere (block_from a blocks) → IsThere (block_from a (blocks ++ x ∷ []))
 there_behind a [] x h = absurd h
 there_behind a (b ∷ blocks) x h = there_step (begins_at a b) b b (block_from a blocks) (block_from a (blocks ++ x ∷ [])) (there_behind a blocks x) h
 

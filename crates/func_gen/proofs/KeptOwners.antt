@@ -266,6 +266,7 @@ module _ (items : List Item) where
         kept_level (RustValue-F.Case n (Some (fst x))) (λ ty c h. of_option n (Some (typed items (fst x))) (level_owns (RustValue-F.Case n (Some (fst x)))) (some_kept n x) (out-TypeExpr ty) c h)
         (λ c h. no_case n (Some (typed items (fst x))) c h)
 
+    -- each kind of value
     step : (l : RustValue-F RustValue) (y : RustValue-F X) → map-RustValue X RustValue fst y ≡ l → Kept (roll-RustValue l)
     step l (RustValue-F.Struct xs) is = subst (λ z. Kept (roll-RustValue z)) is (struct_kept xs)
     step l (RustValue-F.Case n None) is = subst (λ z. Kept (roll-RustValue z)) is (case_none n)

@@ -83,16 +83,16 @@ use Rattle.func_gen.proofs.Steps.{seen_calls, seen_done}
 
 -- 1. The code, and what it leaves as it was
 
+abbrev unit_method : Bytes → TraitFn
+unit_method name = record { docs = []; name = name; params = []; result = type.Unit }
+
 -- a file that has the method, for no value
 abbrev with_method : Bytes → Bytes → List Item → List Item
-with_method named name items = item_of_file.Trait (record { name = named; functions = record { docs = []; name = name; params = []; result = type.Unit } ∷ [] }) ∷ items
+with_method named name items = item_of_file.Trait (record { name = named; functions = unit_method name ∷ [] }) ∷ items
 
 found_still : (named name : Bytes) (items : List Item) (parts : List RuntimeItem) → Found items parts → Found (with_method named name items) parts
 found_still named name items [] h = tt
 found_still named name items (i ∷ parts) h = (h.0, found_still named name items parts h.1)
-
-abbrev unit_method : Bytes → TraitFn
-unit_method name = record { docs = []; name = name; params = []; result = type.Unit }
 
 named_with : (named name : Bytes) (items : List Item) → method_named (with_method named name items) named name ≡ Some (unit_method name)
 named_with named name items =
@@ -127,6 +127,7 @@ module _ (f : Function) (os : List ExprOperand) (held : Option Bytes) (old new :
         denotes_on w old new facts facts s s.machine (record { import = a.import; asked = a.asked; name = a.area }) (unmoved s.machine) h
         (lasts w.items old new facts s.machine s.machine a.params (λ n v e. e) (λ n free. h.hold.within n (names n free)) h.hold)
 
+    -- where the old code stops, the block does: its statements come first
     pub method_grows : Grows func_meaning old new
     method_grows = record {
       serves = λ w h. record {

@@ -1,5 +1,5 @@
 -- Words are passed to a method as the values that they are.
-use Rattle.std.proofs.Common.{◌≡◌, ℕ, ℤ, Bool, true, false, cond, if◌then◌else◌, List, [], ◌∷◌, map, Option, None, Some, refl, sym, ap, ap₂, ◌∙◌, subst, rules}
+use Rattle.std.proofs.Common.{◌≡◌, ℕ, ℤ, Bool, true, false, cond, if◌then◌else◌, List, [], ◌∷◌, map, Option, None, Some, refl, sym, ap, ap₂, ◌∙◌, subst}
 use Rattle.std.specs.Prelude.{option_and_then}
 use Rattle.std.specs.Option.{option_map, option_or}
 use Rattle.wit_model.specs.declared.types.WitType.{WitType}
@@ -9,7 +9,7 @@ use Rattle.rust_tree.specs.declared.item.Item.{Item}
 use Rattle.rust_tree.specs.declared.type_expr.Primitive.{Primitive}
 use Rattle.rust_tree.specs.declared.type_expr.Primitive.TheVariants as prim
 use Rattle.rust_tree.specs.declared.type_expr.TypeExpr.{TypeExpr, TypeExpr-F, out-TypeExpr}
-use Rattle.wrapper_data.specs.declared.value.RustValue.{RustValue, RustValue-F, fold-RustValue, fold-roll-RustValue, out-RustValue, the_lemmas}
+use Rattle.wrapper_data.specs.declared.value.RustValue.{RustValue, RustValue-F, fold-RustValue, fold-roll-RustValue, out-RustValue}
 use Rattle.wrapper_data.specs.declared.value.RustValue.TheVariants as value
 use Rattle.wrapper_data.specs.declared.value.RustValue.TheVariants.{rolls-F32, rolls-F64, rolls-Num}
 use Rattle.wrapper_data.specs.declared.word.Word.{Word}
@@ -21,12 +21,10 @@ use Rattle.wrapper_values.specs.Effect.{answer_as, answer_of, f32_of_level, f64_
 use Rattle.wrapper_values.specs.Typed.{Typed, plain_as, typed, typed_level, unaliased}
 use Rattle.wrapper_run.specs.ExportRun.{passed_as, values_of}
 use Rattle.func_gen.specs.Facts.{item_of, item_of_word}
+use Rattle.func_gen.proofs.Scalars.{out-f32, out-f64, out-num}
 use Rattle.func_gen.proofs.Several.{AreItems}
 
 -- 1. Of a plain type
-
-out_num : (k : WitType) (z : ℤ) → out-RustValue (value.Num k z) ≡ RustValue-F.Num k z
-out_num k z = search (rules, the_lemmas)
 
 -- a number as a value, by its level
 abbrev pub as_level : Primitive → RustValue-F RustValue → Option RustValue
@@ -139,26 +137,27 @@ ranged : (b : Bool) (r s : RustValue) (P : RustValue → Type 0) → cond b (Som
 ranged true r s P e h = let same : r ≡ s = cc in subst P same (h refl)
 ranged false r s P e h = absurd cc
 
+-- each word that a number is
 is_number : (x : Word) (r : RustValue) → item_of_word x ≡ Some r → IsNumber x r
 is_number (core.I32 z) r h =
     ranged (is_signed 31 z) (value.Num wit.S32 z) r (IsNumber (core.I32 z)) h
     (λ e. record {
-      level = level_of (core.I32 z) (value.Num wit.S32 z) (RustValue-F.Num wit.S32 z) (out_num wit.S32 z) (whole_32 z e);
-      no_unit = ap is_unit_level (out_num wit.S32 z);
-      no_text = ap text_of_level (out_num wit.S32 z);
+      level = level_of (core.I32 z) (value.Num wit.S32 z) (RustValue-F.Num wit.S32 z) (out-num wit.S32 z) (whole_32 z e);
+      no_unit = ap is_unit_level (out-num wit.S32 z);
+      no_text = ap text_of_level (out-num wit.S32 z);
       plain = num_typed wit.S32 z;
     })
 is_number (core.I64 z) r h =
     ranged (is_signed 63 z) (value.Num wit.S64 z) r (IsNumber (core.I64 z)) h
     (λ e. record {
-      level = level_of (core.I64 z) (value.Num wit.S64 z) (RustValue-F.Num wit.S64 z) (out_num wit.S64 z) (whole_64 z e);
-      no_unit = ap is_unit_level (out_num wit.S64 z);
-      no_text = ap text_of_level (out_num wit.S64 z);
+      level = level_of (core.I64 z) (value.Num wit.S64 z) (RustValue-F.Num wit.S64 z) (out-num wit.S64 z) (whole_64 z e);
+      no_unit = ap is_unit_level (out-num wit.S64 z);
+      no_text = ap text_of_level (out-num wit.S64 z);
       plain = num_typed wit.S64 z;
     })
 is_number (core.F32 n) r h =
     let same : value.F32 n ≡ r = cc in
-    let out : out-RustValue (value.F32 n) ≡ RustValue-F.F32 n = search (rules, the_lemmas) in
+    let out = out-f32 n in
     subst (IsNumber (core.F32 n)) same (record {
       level = level_of (core.F32 n) (value.F32 n) (RustValue-F.F32 n) out (float_32 n);
       no_unit = ap is_unit_level out;
@@ -167,7 +166,7 @@ is_number (core.F32 n) r h =
     })
 is_number (core.F64 n) r h =
     let same : value.F64 n ≡ r = cc in
-    let out : out-RustValue (value.F64 n) ≡ RustValue-F.F64 n = search (rules, the_lemmas) in
+    let out = out-f64 n in
     subst (IsNumber (core.F64 n)) same (record {
       level = level_of (core.F64 n) (value.F64 n) (RustValue-F.F64 n) out (float_64 n);
       no_unit = ap is_unit_level out;

@@ -6,6 +6,7 @@ use Rattle.wrapper_data.specs.Heap.{overlaps, overlaps_any}
 use Rattle.wrapper_data.specs.declared.block.Block.{Block}
 use Rattle.wrapper_run.specs.Memory.{begins_at, block_from}
 use Rattle.func_gen.specs.Facts.{AreOwned, IsThere}
+use Rattle.func_gen.proofs.CallRows.{there_behind}
 
 module _ (b : Block) (some : 0 < b.size) where
   -- where a block begins with bytes, another can't begin that overlaps none
@@ -27,14 +28,6 @@ module _ (b : Block) (some : 0 < b.size) where
           absurd (let no : true ≡ false = sym both ∙ parts.0 in cc)
       go more false e true f = sym f ∙ more parts.1 (subst (λ t. IsThere (cond t (Some x) (block_from a blocks))) e there)
 
-  there_still : (a : ℕ) (blocks : List Block) → IsThere (block_from a blocks) → IsThere (block_from a (blocks ++ b ∷ []))
-  there_still a [] there = absurd there
-  there_still a (x ∷ blocks) there = go (begins_at a x) there (there_still a blocks)
-    where
-      go : (c : Bool) → IsThere (cond c (Some x) (block_from a blocks)) → (IsThere (block_from a blocks) → IsThere (block_from a (blocks ++ b ∷ []))) → IsThere (cond c (Some x) (block_from a (blocks ++ b ∷ [])))
-      go true h more = tt
-      go false h more = more h
-
   there_itself : (blocks : List Block) → IsThere (block_from b.address (blocks ++ b ∷ []))
   there_itself [] = subst (λ t. IsThere (cond t (Some b) None)) (sym (and_from (nat_eq b.address b.address) (nat_lt 0 b.size) (eq-eqb b.address b.address refl) (lt-ltb 0 b.size some))) tt
   there_itself (x ∷ blocks) = go (begins_at b.address x) (there_itself blocks)
@@ -47,6 +40,6 @@ module _ (b : Block) (some : 0 < b.size) where
   owned_placed blocks [] none h = (refl, there_itself blocks, tt)
   owned_placed blocks (a ∷ taken) none (once, there, more) = (
     list_any-append (λ t. nat_eq t a) taken (b.address ∷ []) ∙ ap₂ (λ c d. c || (d || false)) once (begins_apart a blocks none there),
-    there_still a blocks there,
+    there_behind a blocks b there,
     owned_placed blocks taken none more,
   )

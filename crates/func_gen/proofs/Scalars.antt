@@ -114,13 +114,13 @@ shown_level _ = None
 abbrev shown : RustValue → Option Scalar
 shown r = shown_level (out-RustValue r)
 
-out-num : (k : WitType) (z : ℤ) → out-RustValue (value.Num k z) ≡ RustValue-F.Num k z
+pub out-num : (k : WitType) (z : ℤ) → out-RustValue (value.Num k z) ≡ RustValue-F.Num k z
 out-num k z = search (rules, the_lemmas)
 
-out-f32 : (x : ℕ) → out-RustValue (value.F32 x) ≡ RustValue-F.F32 x
+pub out-f32 : (x : ℕ) → out-RustValue (value.F32 x) ≡ RustValue-F.F32 x
 out-f32 x = search (rules, the_lemmas)
 
-out-f64 : (x : ℕ) → out-RustValue (value.F64 x) ≡ RustValue-F.F64 x
+pub out-f64 : (x : ℕ) → out-RustValue (value.F64 x) ≡ RustValue-F.F64 x
 out-f64 x = search (rules, the_lemmas)
 
 out-bool : (b : Bool) → out-RustValue (value.Bool b) ≡ RustValue-F.Bool b
