@@ -1,6 +1,6 @@
 -- The law of the return area: it stands in a local, or is placed when its pointer is first taken.
 use Rattle.std.proofs.Common.{◌≡◌, ℕ, ◌<◌, Bool, true, false, if◌then◌else◌, not, ◌&&◌, ◌||◌, nat_eq, ◌%◌, List, [], ◌∷◌, ◌++◌, Option, None, Some, refl, sym, ap, ◌∙◌, subst, arith, rules}
-use Rattle.std.specs.Prelude.{IfSome, option_and_then, option_map, option_to_list}
+use Rattle.std.specs.Prelude.{IfSome, option_and_then, option_map, option_to_list, codes}
 use Rattle.std.specs.List.{flat_map}
 use Rattle.std.proofs.lemmas.Bool.{and_parts, not-true}
 use Rattle.wit_model.specs.Bytes.{Bytes}
@@ -48,7 +48,10 @@ use Rattle.func_gen.specs.Added.{Appends, Fresh}
 use Rattle.func_gen.specs.Area.{area_pointer, asking}
 use Rattle.func_gen.specs.Forms.{operand_of}
 use Rattle.func_gen.specs.Meaning.{AreaIs, Denote, File, FuncState, IsArea, account_of, func_meaning, owns_of, run_code, seen, setting_for, static_request}
+use Rattle.func_gen.specs.Emission.{one_local}
+use Rattle.func_gen.specs.Scope.{TakesOne}
 use Rattle.func_gen.proofs.AreaRoom.{more_room}
+use Rattle.func_gen.proofs.Forming.{written}
 use Rattle.func_gen.proofs.Lasting.{owns_with, with_local}
 use Rattle.func_gen.proofs.Placed.{owned_placed}
 use Rattle.func_gen.proofs.Rows.{binds, bound, let_adds}
@@ -269,8 +272,9 @@ module _ (a : Asked) (old mid : FunctionBindgen) (n : Bytes) (added : Appends ol
     points false e (Some address) f first h = absurd h
 
   -- the statement, and then the note
-  pub points_to : PointsTo func_meaning a (operand_of (expr.Local n)) old (asking a mid)
-  points_to =
+  pub points_to : TakesOne old.scope (codes "ptr") n mid.scope → PointsTo func_meaning a (operand_of (expr.Local n)) old (asking a mid)
+  points_to one =
+      let writes = written old mid (operand_of (expr.Local n) ∷ []) (one_local (codes "ptr") (area_pointer old) []) one.number one.takes (subst (λ x. Appends old mid (stmt.Let x (area_pointer old) ∷ []) []) one.is added) (ap (λ x. operand_of (expr.Local x) ∷ []) one.is) in
       let adds = let_adds old mid n (area_pointer old) [] added fresh (quiet_pointer old) in
       let noted = noted_grows a mid aligned in
       let silent : QuietCode func_meaning mid (asking a mid) = λ w f s h. refl in
@@ -281,6 +285,7 @@ module _ (a : Asked) (old mid : FunctionBindgen) (n : Bytes) (added : Appends ol
         asked = ap (λ asked. asked ++ a ∷ []) added.asked;
         blocks = refl;
         form = record {
+          code = record { code = one_local (codes "ptr") (area_pointer old) []; is = refl; writes = record { number = writes.number; takes = writes.takes; call = writes.call; stmts = writes.stmts; runtime = writes.runtime; results = writes.results } };
           still = record { import = added.import; home = added.home; area = added.area; params = added.params; records = added.records; sizes = added.sizes };
           given = tt;
         };

@@ -1,5 +1,5 @@
 -- The row of the call of a core import.
-use Rattle.std.proofs.Common.{◌≡◌, ℕ, Bool, true, false, not, cond, ◌&&◌, ◌||◌, Bor, List, [], ◌∷◌, ◌++◌, length, map, Option, None, Some, refl, sym, ap, ap₂, ◌∙◌, subst, arith, append_assoc}
+use Rattle.std.proofs.Common.{◌≡◌, ℕ, Bool, true, false, not, cond, ◌&&◌, ◌||◌, Bor, List, [], ◌∷◌, ◌++◌, length, map, Option, None, Some, refl, sym, ap, ap₂, ◌∙◌, subst, arith, append-nil, append_assoc}
 use Rattle.std.specs.Prelude.{option_and_then}
 use Rattle.std.specs.List.{list_any}
 use Rattle.std.specs.Option.{option_map, option_or}
@@ -45,7 +45,7 @@ use Rattle.abi_driver.specs.Meaning.{Fact, of, word}
 use Rattle.abi_driver.proofs.Runs.{total-append}
 use Rattle.func_gen.specs.declared.function_bindgen.FunctionBindgen.{FunctionBindgen}
 use Rattle.func_gen.specs.declared.operand.ExprOperand.{ExprOperand}
-use Rattle.func_gen.specs.CallForms.{AddsCall, AddsStatement, FreshAll, exprs, import_of, local_path}
+use Rattle.func_gen.specs.CallForms.{AddsCall, AddsStatement, FreshAll, exprs, import_of, local_path, import_name}
 use Rattle.func_gen.specs.FactLemmas.{is_said}
 use Rattle.func_gen.specs.Facts.{AreOwned, Hold, IsThere}
 use Rattle.func_gen.specs.Forms.{operand_of}
@@ -54,14 +54,16 @@ use Rattle.func_gen.specs.Read.{Read, env_of}
 use Rattle.func_gen.specs.ReadForms.{read-local}
 use Rattle.func_gen.specs.declared.scope.LocalName.{LocalName}
 use Rattle.func_gen.specs.declared.scope.Scope.{Scope}
-use Rattle.func_gen.specs.Scope.{Declares, is_used, names_at}
+use Rattle.func_gen.specs.Scope.{Declares, declared_in, is_used, names_at}
 use Rattle.func_gen.specs.StandLemmas.{owned-unit}
+use Rattle.func_gen.specs.CodeOf.{calls_core}
+use Rattle.func_gen.specs.Added.{Appends}
 use Rattle.func_gen.proofs.CallWords.{same_test, types_length, words_are}
 use Rattle.func_gen.proofs.Evaluated.{gives}
 use Rattle.func_gen.proofs.Lasting.{Beside, SameArea, add_plain, area_lasts, bound_under, denotes_on, lasts, owns_with, part, with_local}
 use Rattle.func_gen.proofs.Rows.{same_area}
 use Rattle.func_gen.proofs.Steps.{func_grows, ran}
-use Rattle.func_gen.proofs.Forming.{still_of}
+use Rattle.func_gen.proofs.Forming.{still_of, written}
 
 -- 1. What has an owner is there still, once the peer has answered
 
@@ -292,7 +294,16 @@ statement_emits types fn os old new imports len adds none = record {
   blocks = refl;
   returned = adds.stmts.returned;
   asked = adds.stmts.asked;
-  form = record { still = still_of old new _ _ adds.stmts; given = tt };
+  form = record {
+    still = still_of old new _ [] adds.stmts;
+    given = tt;
+    code = (
+      import_params types fn.now,
+      None,
+      written old new [] (calls_core old fn.now (import_params types fn.now) None (exprs os)) adds.number adds.takes
+          (subst (λ n. Appends old new (stmt.Import (import_of old.home fn.now (import_params types fn.now) None n) ∷ stmt.Expr (expr.Call (local_path n) (exprs os)) ∷ []) []) adds.is adds.stmts) refl,
+    );
+  };
   results = sym (ap length none);
   row = statement_row types fn.now os old new imports len adds none;
 }
@@ -304,7 +315,18 @@ call_emits types fn os old new ty ret imports len adds one = record {
   blocks = refl;
   returned = adds.stmts.returned;
   asked = adds.stmts.asked;
-  form = record { still = still_of old new _ _ adds.stmts; given = tt };
+  form = record {
+    still = still_of old new _ [] adds.stmts;
+    given = tt;
+    code = (
+      import_params types fn.now,
+      Some ty,
+      written old new (operand_of (expr.Local ret) ∷ []) (calls_core old fn.now (import_params types fn.now) (Some ty) (exprs os)) adds.number adds.takes
+          (subst (λ m. Appends old new (stmt.Import (import_of old.home fn.now (import_params types fn.now) (Some ty) (import_name adds.number)) ∷ stmt.Let m (expr.Call (local_path (import_name adds.number)) (exprs os)) ∷ []) []) adds.answers
+          (subst (λ n. Appends old new (stmt.Import (import_of old.home fn.now (import_params types fn.now) (Some ty) n) ∷ stmt.Let ret (expr.Call (local_path n) (exprs os)) ∷ []) []) adds.is adds.stmts))
+          (ap (λ m. operand_of (expr.Local m) ∷ []) adds.answers),
+    );
+  };
   results = sym (ap length one);
   row = word_row types fn.now os old new imports len ty ret adds one;
 }
@@ -327,8 +349,12 @@ each_free used (m ∷ names) n free is =
 declared_all : (old new : FunctionBindgen) (names : List LocalName) (t : ℕ) → Declares old.scope names t new.scope → FreshAll old new (names_at names t)
 declared_all old new names t d = record {
   free = λ n is. each_free old.scope.used (names_at names t) n (not-true (list_any (λ m. is_used old.scope.used m) (names_at names t)) d.number.free) is;
-  used = ap (λ (s : Scope). s.used) d.leaves;
+  used = ap (λ (s : Scope). s.used) d.leaves ∙ go names;
 }
+  where
+    go : (names : List LocalName) → (declared_in old.scope names t).used ≡ old.scope.used ++ names_at names t
+    go [] = sym (append-nil old.scope.used)
+    go (n ∷ names) = refl
 
 pub declared_as : (old new : FunctionBindgen) (names : List LocalName) (t : ℕ) (all : List Bytes) → Declares old.scope names t new.scope → all ≡ names_at names t → FreshAll old new all
 declared_as old new names t all d e = subst (FreshAll old new) (sym e) (declared_all old new names t d)

@@ -28,6 +28,7 @@ use Rattle.abi_driver.specs.Instructions.{Emits}
 use Rattle.abi_driver.specs.Laws.{Adds, Data, Facts, ofs}
 use Rattle.abi_driver.specs.Meaning.{Datum, Fact, item, of, word}
 use Rattle.abi_driver.proofs.Runs.{total-append}
+use Rattle.abi_driver.specs.Sent.{sends}
 use Rattle.func_gen.specs.declared.function_bindgen.FunctionBindgen.{FunctionBindgen}
 use Rattle.func_gen.specs.declared.operand.ExprOperand.{ExprOperand}
 use Rattle.func_gen.specs.Added.{Appends}
@@ -40,9 +41,11 @@ use Rattle.func_gen.specs.Meaning.{account_of, func_meaning, owns_of, seen, sett
 use Rattle.func_gen.specs.Operand.{is_operand}
 use Rattle.func_gen.specs.PartForms.{are_operands, exprs_of, locals_of, names_from}
 use Rattle.func_gen.specs.Read.{env_of}
-use Rattle.func_gen.specs.Scope.{is_used}
+use Rattle.func_gen.specs.Scope.{is_used, Takes}
+use Rattle.func_gen.specs.CodeOf.{flushes}
 use Rattle.func_gen.proofs.CallRows.{split_used}
 use Rattle.func_gen.proofs.Evaluated.{gives}
+use Rattle.func_gen.proofs.Forming.{form_by, locals_are}
 use Rattle.func_gen.proofs.Lasting.{area_same, bound_under, lasts, owns_with, part, with_local}
 use Rattle.func_gen.proofs.Moving.{uses}
 use Rattle.func_gen.proofs.PartNames.{names_many, parts_distinct}
@@ -52,7 +55,6 @@ use Rattle.func_gen.proofs.Quiet.{quiet_operand}
 use Rattle.func_gen.proofs.Rows.{same_area}
 use Rattle.func_gen.proofs.Several.{add_local}
 use Rattle.func_gen.proofs.Steps.{func_adds, ran}
-use Rattle.func_gen.proofs.Forming.{still_of}
 
 -- 1. One operand is used, whatever it denotes
 
@@ -168,9 +170,9 @@ module _ (old new : FunctionBindgen) (names : List Bytes) (os : List ExprOperand
         ),
       )
 
-pub flush_row : (types : List TypeDef) (old new : FunctionBindgen) (t k : ℕ) (names : List Bytes) (os : List ExprOperand) → length os ≡ k → k < 2 ^ 32 → names ≡ names_from flush_prefix t 0 k → are_operands os ≡ true → Appends old new (lets_of names (exprs_of os)) [] → FreshAll old new names
+pub flush_row : (types : List TypeDef) (old new : FunctionBindgen) (t k : ℕ) (names : List Bytes) (os : List ExprOperand) → length os ≡ k → k < 2 ^ 32 → names ≡ names_from flush_prefix t 0 k → are_operands os ≡ true → Appends old new (lets_of names (exprs_of os)) [] → FreshAll old new names → Takes old.scope (λ x. names_from flush_prefix x 0 k) t new.scope
     → Emits func_meaning types (Flush k) os (locals_of names) old new
-flush_row types old new t k names os len small is ok a fresh =
+flush_row types old new t k names os len small is ok a fresh takes =
     let distinct : is_distinct names ≡ true = ap is_distinct is ∙ parts_distinct flush_prefix t 0 k (omega arith) in
     let many : length names ≡ k = ap length is ∙ names_many flush_prefix t 0 k in
     record {
@@ -178,7 +180,7 @@ flush_row types old new t k names os len small is ok a fresh =
       blocks = refl;
       returned = a.returned;
       asked = a.asked;
-      form = record { still = still_of old new _ _ a; given = tt };
+      form = form_by (sends (Flush k)) (record { gives = refl; calls = refl }) os old new (locals_of names) (flushes k (exprs_of os)) t refl takes (subst (λ ns. Appends old new (lets_of ns (exprs_of os)) []) is a) (ap locals_of is ∙ locals_are (names_from flush_prefix t 0 k));
       results = locals_many names ∙ many;
       row = flush_renames old new names os a fresh distinct (many ∙ sym len);
     }

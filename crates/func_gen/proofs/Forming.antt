@@ -1,24 +1,99 @@
--- The form of a step that adds statements.
-use Rattle.std.proofs.Common.{◌≡◌, false, List, length, None, refl, sym, subst}
+-- The form of a step: what it emitted, by what was added.
+use Rattle.std.proofs.Common.{◌≡◌, ℕ, false, List, [], ◌∷◌, length, map, None, Some, refl, sym, ap, subst, arith}
 use Rattle.std.specs.Prelude.{IfSome}
+use Rattle.wit_model.specs.Bytes.{Bytes}
+use Rattle.rust_tree.specs.declared.expr.Expr.{Expr}
+use Rattle.rust_tree.specs.declared.expr.Expr.TheVariants as expr
 use Rattle.rust_tree.specs.declared.runtime_item.RuntimeItem.{RuntimeItem}
 use Rattle.rust_tree.specs.declared.stmt.Stmt.{Stmt}
-use Rattle.abi_driver.specs.Calls.{is_return}
+use Rattle.rust_tree.specs.declared.stmt.Stmt.TheVariants as stmt
+use Rattle.abi_driver.specs.Calls.{is_call, is_return}
 use Rattle.abi_driver.specs.declared.instruction.Instruction.{Instruction}
-use Rattle.abi_driver.specs.declared.instruction.Instruction.TheVariants.{Return}
-use Rattle.abi_driver.specs.Sent.{sends}
+use Rattle.abi_driver.specs.declared.instruction.Instruction.TheVariants.{CallInterface, CallWasm, Return}
+use Rattle.abi_driver.specs.Sent.{Sent, sends}
+use Rattle.abi_driver.proofs.Ordinary.{IsOrdinary}
 use Rattle.func_gen.specs.declared.function_bindgen.FunctionBindgen.{FunctionBindgen}
 use Rattle.func_gen.specs.declared.operand.ExprOperand.{ExprOperand}
+use Rattle.func_gen.specs.declared.scope.Scope.{Scope}
 use Rattle.func_gen.specs.Added.{Appends}
-use Rattle.func_gen.specs.Still.{Formed, StillOf, given_count}
+use Rattle.func_gen.specs.CodeOf.{emitted}
+use Rattle.func_gen.specs.Emission.{Emission, Writes, effect, one_local}
+use Rattle.func_gen.specs.Forms.{operand_of}
+use Rattle.func_gen.specs.PartForms.{exprs_of, locals_of}
+use Rattle.func_gen.specs.Scope.{Takes, TakesOne}
+use Rattle.func_gen.specs.Still.{Becomes, Formed, StillOf, called, given_count, no_call}
 
-pub still_of : (old new : FunctionBindgen) (added : List Stmt) (items : List RuntimeItem) → Appends old new added items → StillOf old new
-still_of old new added items a = record { import = a.import; home = a.home; area = a.area; params = a.params; records = a.records; sizes = a.sizes }
+-- 1. Steps that give nothing and call nothing
+
+pub record IsPlain (step : Sent) : Type 0 where
+  pub gives : given_count step ≡ None
+  pub calls : called step ≡ no_call
 
 gives_none : (i : Instruction) → is_return i ≡ false → given_count (sends i) ≡ None
 gives_none (Return n) e = absurd cc
 gives_none _ e = refl
 
--- an instruction that gives nothing
-pub ordinary_form : (i : Instruction) → is_return i ≡ false → (os : List ExprOperand) (old new : FunctionBindgen) → StillOf old new → Formed (sends i) os old new
-ordinary_form i e os old new still = record { still = still; given = subst (λ o. IfSome o (λ n. length os ≡ n)) (sym (gives_none i e)) tt }
+calls_none : (i : Instruction) → is_call i ≡ false → called (sends i) ≡ no_call
+calls_none (CallWasm f) e = absurd cc
+calls_none (CallInterface f) e = absurd cc
+calls_none _ e = refl
+
+pub ordinary_plain : (i : Instruction) → IsOrdinary i → IsPlain (sends i)
+ordinary_plain i o = record { gives = gives_none i o.goes_on; calls = calls_none i o.quiet }
+
+-- 2. No name, or one, is declared
+
+pub takes_none : (before after : Scope) → after ≡ before → Takes before (λ k. []) before.next after
+takes_none before after e = record {
+  locals = [];
+  named = λ k. refl;
+  declares = record {
+    number = record { reached = omega arith; free = refl; least = λ k at below. absurd (omega (arith, at, below)) };
+    leaves = e;
+  };
+}
+
+pub takes_since : (a b c : Scope) (names : ℕ → List Bytes) (t : ℕ) → b ≡ a → Takes b names t c → Takes a names t c
+takes_since a b c names t e h = subst (λ s. Takes s names t c) e h
+
+pub one_since : (a b c : Scope) (prefix name : Bytes) → b ≡ a → TakesOne b prefix name c → TakesOne a prefix name c
+one_since a b c prefix name e h = subst (λ s. TakesOne s prefix name c) e h
+
+-- 3. What was emitted
+
+pub locals_are : (names : List Bytes) → locals_of names ≡ map operand_of (map (λ n. expr.Local n) names)
+locals_are [] = refl
+locals_are (n ∷ names) = ap (λ os. operand_of (expr.Local n) ∷ os) (locals_are names)
+
+pub still_of : (old new : FunctionBindgen) (added : List Stmt) (items : List RuntimeItem) → Appends old new added items → StillOf old new
+still_of old new added items a = record { import = a.import; home = a.home; area = a.area; params = a.params; records = a.records; sizes = a.sizes }
+
+pub written : (old new : FunctionBindgen) (rs : List ExprOperand) (code : ℕ → Emission) (t : ℕ) → Takes old.scope (λ k. (code k).names) t new.scope → Appends old new (code t).stmts (code t).items
+    → rs ≡ map operand_of (code t).results → Writes code rs old new
+written old new rs code t takes a same = record { number = t; takes = takes; call = a.call; stmts = a.stmts; runtime = a.runtime; results = same }
+
+module _ (step : Sent) (plain : IsPlain step) (os : List ExprOperand) (old new : FunctionBindgen) where
+  pub form_of : (rs : List ExprOperand) (code : ℕ → Emission) → emitted old step (exprs_of os) ≡ Some code → StillOf old new → Writes code rs old new → Formed step os rs old new
+  form_of rs code is still writes = record {
+    still = still;
+    given = subst (λ o. IfSome o (λ n. length os ≡ n)) (sym plain.gives) tt;
+    code = subst (λ o. Becomes o step os rs old new) (sym plain.calls) (record { code = code; is = is; writes = writes });
+  }
+
+  -- names are declared
+  pub form_by : (rs : List ExprOperand) (code : ℕ → Emission) (t : ℕ) → emitted old step (exprs_of os) ≡ Some code → Takes old.scope (λ k. (code k).names) t new.scope → Appends old new (code t).stmts (code t).items
+      → rs ≡ map operand_of (code t).results → Formed step os rs old new
+  form_by rs code t is takes a same = form_of rs code is (still_of old new (code t).stmts (code t).items a) (written old new rs code t takes a same)
+
+  -- no name is
+  pub form_alone : (e : Expr) (items : List RuntimeItem) → emitted old step (exprs_of os) ≡ Some (λ t. record { names = []; stmts = []; results = e ∷ []; items = items }) → new.scope ≡ old.scope → Appends old new [] items → Formed step os (operand_of e ∷ []) old new
+  form_alone e items is scope a = form_by (operand_of e ∷ []) (λ t. record { names = []; stmts = []; results = e ∷ []; items = items }) old.scope.next is (takes_none old.scope new.scope scope) a refl
+
+  pub form_effect : (s : Stmt) (items : List RuntimeItem) → emitted old step (exprs_of os) ≡ Some (λ t. effect s items) → new.scope ≡ old.scope → Appends old new (s ∷ []) items → Formed step os [] old new
+  form_effect s items is scope a = form_by [] (λ t. effect s items) old.scope.next is (takes_none old.scope new.scope scope) a refl
+
+  -- a local is
+  pub form_let : (prefix n : Bytes) (e : Expr) (items : List RuntimeItem) → emitted old step (exprs_of os) ≡ Some (one_local prefix e items) → TakesOne old.scope prefix n new.scope → Appends old new (stmt.Let n e ∷ []) items
+      → Formed step os (operand_of (expr.Local n) ∷ []) old new
+  form_let prefix n e items is one a =
+      form_by (operand_of (expr.Local n) ∷ []) (one_local prefix e items) one.number is one.takes (subst (λ x. Appends old new (stmt.Let x e ∷ []) items) one.is a) (ap (λ x. operand_of (expr.Local x) ∷ []) one.is)

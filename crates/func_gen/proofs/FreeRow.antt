@@ -38,6 +38,7 @@ use Rattle.abi_driver.specs.Account.{failing}
 use Rattle.abi_driver.specs.Instructions.{Emits}
 use Rattle.abi_driver.specs.Memory.{freed, freeing}
 use Rattle.abi_driver.specs.Meaning.{of, word}
+use Rattle.abi_driver.specs.Sent.{sends}
 use Rattle.func_gen.specs.declared.function_bindgen.FunctionBindgen.{FunctionBindgen}
 use Rattle.func_gen.specs.Added.{Appends}
 use Rattle.func_gen.specs.Facts.{AreOwned, IsThere}
@@ -45,13 +46,13 @@ use Rattle.func_gen.specs.Forms.{operand_of, runtime_path}
 use Rattle.func_gen.specs.Meaning.{account_of, func_meaning, setting_for}
 use Rattle.func_gen.specs.MemoryForms.{align_size, block_freed, bytes_freed, is_length, text_freed}
 use Rattle.func_gen.specs.Operand.{is_operand}
+use Rattle.func_gen.proofs.Forming.{form_effect}
 use Rattle.func_gen.proofs.LoadRows.{address_given}
 use Rattle.func_gen.proofs.MemoryTies.{without_is}
 use Rattle.func_gen.proofs.Quiet.{quiet_operand}
 use Rattle.func_gen.proofs.ScalarRows.{calls_runtime}
 use Rattle.func_gen.proofs.StoreRows.{two_given}
 use Rattle.func_gen.proofs.Writing.{Writes, one_adds, with_heap, writes}
-use Rattle.func_gen.proofs.Forming.{still_of}
 
 -- 1. The call makes no call of an import
 
@@ -203,7 +204,7 @@ module _ (types : List TypeDef) (old new : FunctionBindgen) (e : Expr) (ok : is_
         blocks = refl;
         returned = a.returned;
         asked = adds.asked;
-        form = record { still = still_of old new _ _ a; given = tt };
+        form = form_effect (sends GuestDeallocateString) (record { gives = refl; calls = refl }) (operand_of e ∷ operand_of f ∷ []) old new (stmt.Expr (text_freed e f)) (CabiDealloc ∷ []) refl scope a;
         results = refl;
         row = λ address n.
             writes old new (stmt.Expr (text_freed e f)) (CabiDealloc ∷ []) a scope quiet (of (operand_of e) (word (core.Pointer address)) ∷ of (operand_of f) (word (core.Length n)) ∷ []) (λ p. freeing p.form address n)
@@ -223,7 +224,7 @@ module _ (types : List TypeDef) (old new : FunctionBindgen) (e : Expr) (ok : is_
         blocks = refl;
         returned = a.returned;
         asked = adds.asked;
-        form = record { still = still_of old new _ _ a; given = tt };
+        form = form_effect (sends (GuestDeallocate size align)) (record { gives = refl; calls = refl }) (operand_of e ∷ []) old new (stmt.Expr (block_freed e size align)) (CabiDealloc ∷ []) refl scope a;
         results = refl;
         row = λ address.
             writes old new (stmt.Expr (block_freed e size align)) (CabiDealloc ∷ []) a scope quiet (of (operand_of e) (word (core.Pointer address)) ∷ []) (λ p. freeing p.form address n)

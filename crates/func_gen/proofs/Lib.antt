@@ -5,6 +5,8 @@ pub mod BodyArea
 pub mod CallRows
 pub mod CallWords
 pub mod Declared
+pub mod Emissions
+pub mod EndRows
 pub mod Evaluated
 pub mod FieldOrder
 pub mod FlushRow

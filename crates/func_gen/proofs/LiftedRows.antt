@@ -1,6 +1,6 @@
 -- The rows of bools and of chars that are lifted: a statement binds what the expression gives.
 use Rattle.std.proofs.Common.{◌≡◌, ℕ, zero, suc, ℤ, pos, negsuc, Bool, true, false, nat_eq, nat_lt, if◌then◌else◌, List, [], ◌∷◌, Option, None, Some, refl, sym, ap, ◌∙◌, subst, arith}
-use Rattle.std.specs.Prelude.{option_and_then, Result, Ok, Err}
+use Rattle.std.specs.Prelude.{option_and_then, Result, Ok, Err, codes}
 use Rattle.std.proofs.lemmas.Bool.Decides.{nat_tests}
 use Rattle.std.proofs.lemmas.Int.{ints}
 use Rattle.wit_layout.specs.Tree.{Scalar}
@@ -55,14 +55,16 @@ use Rattle.func_gen.specs.Forms.{operand_of, runtime_call, runtime_path}
 use Rattle.func_gen.specs.Meaning.{File, Found, StandsAsItIs, account_of, answer_of, func_meaning, setting_for}
 use Rattle.func_gen.specs.Operand.{is_operand}
 use Rattle.func_gen.specs.Read.{env_of, read}
+use Rattle.func_gen.specs.Scope.{TakesOne}
+use Rattle.abi_driver.specs.Sent.{sends}
 use Rattle.func_gen.proofs.Evaluated.{gives}
 use Rattle.func_gen.specs.FactLemmas.{Says, is_said, item_rust}
+use Rattle.func_gen.proofs.Forming.{IsPlain, form_let}
 use Rattle.func_gen.proofs.Quiet.{quiet_cast_of, quiet_operand}
 use Rattle.func_gen.proofs.Rows.{Agrees, let_adds, lets}
 use Rattle.func_gen.proofs.ScalarRows.{calls_runtime, cast_says, emits_lifted, emits_lowered}
 use Rattle.func_gen.proofs.Scalars.{bool_is, stands_scalar}
 use Rattle.func_gen.specs.StandLemmas.{scalar_owns}
-use Rattle.func_gen.proofs.Forming.{still_of}
 
 -- what one fact that holds says
 says_one : (items : List Item) (b : FunctionBindgen) (o : ExprOperand) (d : Datum RustValue) (s : State) → Hold items b (of o d ∷ []) s → Says d ((read items o.expr).at (env_of s))
@@ -85,11 +87,13 @@ bool_evaluated w e b s h =
     let given = gives w e s v reads (ap owned same ∙ scalar_owns Scalar.bool b) in
     bool_gives w e v (core.I32 (bit b)) s given (ap word_of_bool same ∙ word_of-bool b) ∙ ap (λ z. machine.Done (val.Word (core.I32 z)) s) (same_bit b)
 
-pub bool_row : (types : List TypeDef) (old new : FunctionBindgen) (n : Bytes) (e : Expr) → is_operand e ≡ true → Appends old new (stmt.Let n (expr.I32FromBool e) ∷ []) [] → Fresh old new n
+pub bool_row : (types : List TypeDef) (old new : FunctionBindgen) (n : Bytes) (e : Expr) → is_operand e ≡ true → Appends old new (stmt.Let n (expr.I32FromBool e) ∷ []) [] → Fresh old new n → TakesOne old.scope (codes "b") n new.scope
     → Emits func_meaning types I32FromBool (operand_of e ∷ []) (operand_of (expr.Local n) ∷ []) old new
-bool_row types old new n e ok a fresh =
+bool_row types old new n e ok a fresh one =
+    let plain : IsPlain (sends I32FromBool) = record { gives = refl; calls = refl } in
     let quiet : (w : Setting) → Quiet (eval w (expr.I32FromBool e)) = λ w. quiet_bool w e (quiet_operand w e ok) in
-    emits_lowered types old new I32FromBool Scalar.bool (operand_of e) (operand_of (expr.Local n)) refl (let_adds old new n (expr.I32FromBool e) [] a fresh quiet) a.returned (still_of old new _ _ a)
+    emits_lowered types old new I32FromBool Scalar.bool (operand_of e) (operand_of (expr.Local n)) refl (let_adds old new n (expr.I32FromBool e) [] a fresh quiet) a.returned
+    (form_let (sends I32FromBool) plain (operand_of e ∷ []) old new (codes "b") n (expr.I32FromBool e) [] refl one a)
     (λ dir v r own good st. (
       st.0.1,
       lets old new n (expr.I32FromBool e) [] a fresh quiet (of (operand_of e) (item r) ∷ []) (λ p. stay) (word (passed_word Scalar.bool v)) (λ fs. fs ≡ of (operand_of (expr.Local n)) (word (passed_word Scalar.bool v)) ∷ []) refl
@@ -190,9 +194,11 @@ module _ (types : List TypeDef) (old new : FunctionBindgen) (n : Bytes) (e : Exp
   abbrev Outs : (s : Scalar) → Word → Facts func_meaning → Type 0
   Outs s x fs = (r : RustValue) × (fs ≡ of (operand_of (expr.Local n)) (item r) ∷ []) × ((v : ScalarValue s) → IsScalar s v → IsTaken s v x → StandsAsItIs take (scalar s) v r [])
 
-  pub bool_lift_row : Appends old new (stmt.Let n (runtime_call BoolLift (expr.Cast e cast.U8)) ∷ []) (BoolLift ∷ []) → Emits func_meaning types BoolFromI32 (operand_of e ∷ []) (operand_of (expr.Local n) ∷ []) old new
-  bool_lift_row a =
-      emits_lifted types old new BoolFromI32 Scalar.bool (operand_of e) (operand_of (expr.Local n)) refl refl (let_adds old new n (runtime_call BoolLift (expr.Cast e cast.U8)) (BoolLift ∷ []) a fresh (lifts_quietly BoolLift cast.U8)) a.returned (still_of old new _ _ a)
+  pub bool_lift_row : Appends old new (stmt.Let n (runtime_call BoolLift (expr.Cast e cast.U8)) ∷ []) (BoolLift ∷ []) → TakesOne old.scope (codes "b") n new.scope → Emits func_meaning types BoolFromI32 (operand_of e ∷ []) (operand_of (expr.Local n) ∷ []) old new
+  bool_lift_row a one =
+      let plain : IsPlain (sends BoolFromI32) = record { gives = refl; calls = refl } in
+      emits_lifted types old new BoolFromI32 Scalar.bool (operand_of e) (operand_of (expr.Local n)) refl refl (let_adds old new n (runtime_call BoolLift (expr.Cast e cast.U8)) (BoolLift ∷ []) a fresh (lifts_quietly BoolLift cast.U8)) a.returned
+      (form_let (sends BoolFromI32) plain (operand_of e ∷ []) old new (codes "b") n (runtime_call BoolLift (expr.Cast e cast.U8)) (BoolLift ∷ []) refl one a)
       (λ x. lets old new n (runtime_call BoolLift (expr.Cast e cast.U8)) (BoolLift ∷ []) a fresh (lifts_quietly BoolLift cast.U8) (of (operand_of e) (word x) ∷ []) (λ p. reading Scalar.bool p.form x) (item (bool_taken x)) (Outs Scalar.bool x)
       (bool_taken x, refl, λ v good taken. stands_scalar take Scalar.bool v (bool_taken x) (bool_stands x v taken)) (agrees x))
     where
@@ -208,9 +214,11 @@ module _ (types : List TypeDef) (old new : FunctionBindgen) (n : Bytes) (e : Exp
       agrees (core.Length z) w p s found h = refl
       agrees (core.Slot z) w p s found h = refl
 
-  pub char_lift_row : Appends old new (stmt.Let n (runtime_call CharLift (expr.Cast e cast.U32)) ∷ []) (CharLift ∷ []) → Emits func_meaning types CharFromI32 (operand_of e ∷ []) (operand_of (expr.Local n) ∷ []) old new
-  char_lift_row a =
-      emits_lifted types old new CharFromI32 Scalar.char (operand_of e) (operand_of (expr.Local n)) refl refl (let_adds old new n (runtime_call CharLift (expr.Cast e cast.U32)) (CharLift ∷ []) a fresh (lifts_quietly CharLift cast.U32)) a.returned (still_of old new _ _ a)
+  pub char_lift_row : Appends old new (stmt.Let n (runtime_call CharLift (expr.Cast e cast.U32)) ∷ []) (CharLift ∷ []) → TakesOne old.scope (codes "c") n new.scope → Emits func_meaning types CharFromI32 (operand_of e ∷ []) (operand_of (expr.Local n) ∷ []) old new
+  char_lift_row a one =
+      let plain : IsPlain (sends CharFromI32) = record { gives = refl; calls = refl } in
+      emits_lifted types old new CharFromI32 Scalar.char (operand_of e) (operand_of (expr.Local n)) refl refl (let_adds old new n (runtime_call CharLift (expr.Cast e cast.U32)) (CharLift ∷ []) a fresh (lifts_quietly CharLift cast.U32)) a.returned
+      (form_let (sends CharFromI32) plain (operand_of e ∷ []) old new (codes "c") n (runtime_call CharLift (expr.Cast e cast.U32)) (CharLift ∷ []) refl one a)
       (λ x. lets old new n (runtime_call CharLift (expr.Cast e cast.U32)) (CharLift ∷ []) a fresh (lifts_quietly CharLift cast.U32) (of (operand_of e) (word x) ∷ []) (λ p. reading Scalar.char p.form x) (item (char_taken x)) (Outs Scalar.char x)
       (char_taken x, refl, λ v good taken. stands_scalar take Scalar.char v (char_taken x) (char_stands x v taken)) (agrees x))
     where

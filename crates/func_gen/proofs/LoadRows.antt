@@ -1,5 +1,6 @@
 -- The rows of loads.
 use Rattle.std.proofs.Common.{rules, ◌≡◌, ℕ, ◌+◌, ◌%◌, ◌^◌, Bool, true, false, nat_eq, nat_lt, if◌then◌else◌, List, [], ◌∷◌, length, Option, None, Some, option_map, refl, sym, ap, ◌∙◌, subst, arith}
+use Rattle.std.specs.Prelude.{codes}
 use Rattle.std.proofs.lemmas.Bool.{ltb-true}
 use Rattle.wit_model.specs.Bytes.{Bytes}
 use Rattle.wit_model.specs.Size.{bytes_at}
@@ -39,6 +40,7 @@ use Rattle.abi_driver.specs.Meaning.{of, word}
 use Rattle.abi_driver.specs.Memory as law
 use Rattle.abi_driver.specs.Memory.{Access, loading}
 use Rattle.abi_driver.specs.Touches.{LoadsWord, Part, accessed, loads, low_byte, low_half, touch, whole}
+use Rattle.abi_driver.proofs.Ordinary.{touches_ordinary}
 use Rattle.func_gen.specs.declared.function_bindgen.FunctionBindgen.{FunctionBindgen}
 use Rattle.func_gen.specs.Added.{Appends, Fresh}
 use Rattle.func_gen.specs.FactLemmas.{is_said}
@@ -48,12 +50,15 @@ use Rattle.func_gen.specs.Meaning.{account_of, func_meaning, setting_for}
 use Rattle.func_gen.specs.MemoryForms.{small_load, whole_load}
 use Rattle.func_gen.specs.Operand.{is_operand}
 use Rattle.func_gen.specs.Read.{env_of}
+use Rattle.abi_driver.specs.Sent.{sends}
+use Rattle.func_gen.specs.Scope.{TakesOne}
+use Rattle.func_gen.proofs.Emissions.{small_load_emitted, whole_load_emitted}
 use Rattle.func_gen.proofs.Evaluated.{gives}
+use Rattle.func_gen.proofs.Forming.{form_let, ordinary_plain}
 use Rattle.func_gen.proofs.LoadTies.{HasLength, Reads, byte_read, f32_read, f64_read, half_read, i32_read, i64_read, length_read, many_at, pointer_read, same_found, signed_byte_read, signed_half_read, small_from}
 use Rattle.func_gen.proofs.Quiet.{quiet_operand}
 use Rattle.func_gen.proofs.Rows.{AgreesBy, let_adds, lets_by}
 use Rattle.func_gen.proofs.StoreRows.{emits_touch}
-use Rattle.func_gen.proofs.Forming.{still_of}
 
 -- 1. What the machine does
 
@@ -204,14 +209,15 @@ is_small_load (I32Load16S p) q e =
     subst (IsSmallLoad (I32Load16S p)) (some_same (p, small.I16) q e) (record { part = low_half; signed = true; ty = wasm.I32; lowered = refl; lifted = refl; touched = refl; size = refl; tie = signed_half_read })
 is_small_load _ q e = absurd (let h = e in cc)
 
-module _ (types : List TypeDef) (old new : FunctionBindgen) (i : Instruction) (n : Bytes) (e : Expr) (ok : is_operand e ≡ true) (fresh : Fresh old new n) where
+module _ (types : List TypeDef) (old new : FunctionBindgen) (i : Instruction) (n : Bytes) (e : Expr) (ok : is_operand e ≡ true) (fresh : Fresh old new n) (one : TakesOne old.scope (codes "l") n new.scope) where
   pub whole_load_row : (q : ArchitectureSize × WasmType) → whole_load i ≡ Some q → Appends old new (stmt.Let n (expr.Load e q.0 q.1) ∷ []) [] → Emits func_meaning types i (operand_of e ∷ []) (operand_of (expr.Local n) ∷ []) old new
   whole_load_row q is adds =
       let t = is_load i q is in
       let a = accessed 2 t.part t.signed t.ty in
       let value = expr.Load e q.0 q.1 in
       let quiet = quiet_whole old new n e ok q.0 fresh q.1 in
-      emits_touch types old new i (loads t.part t.signed t.ty q.0) (operand_of e ∷ []) (operand_of (expr.Local n) ∷ []) t.lowered t.lifted t.touched refl (load_adds old new n e ok q.0 fresh a value quiet adds) adds.returned (still_of old new _ _ adds)
+      emits_touch types old new i (loads t.part t.signed t.ty q.0) (operand_of e ∷ []) (operand_of (expr.Local n) ∷ []) t.lowered t.lifted t.touched refl (load_adds old new n e ok q.0 fresh a value quiet adds) adds.returned
+      (form_let (sends i) (ordinary_plain i (touches_ordinary i (loads t.part t.signed t.ty q.0) t.touched)) (operand_of e ∷ []) old new (codes "l") n value [] (whole_load_emitted old i q e is) one adds)
       (load_row old new n e ok q.0 fresh a value quiet adds (whole_follows old new n e ok q.0 fresh q.1 a t.size t.tie))
 
   pub small_load_row : (q : ArchitectureSize × SmallType) → small_load i ≡ Some q → Appends old new (stmt.Let n (expr.LoadSmall e q.0 q.1) ∷ []) [] → Emits func_meaning types i (operand_of e ∷ []) (operand_of (expr.Local n) ∷ []) old new
@@ -220,5 +226,6 @@ module _ (types : List TypeDef) (old new : FunctionBindgen) (i : Instruction) (n
       let a = accessed 2 t.part t.signed t.ty in
       let value = expr.LoadSmall e q.0 q.1 in
       let quiet = quiet_small old new n e ok q.0 fresh q.1 in
-      emits_touch types old new i (loads t.part t.signed t.ty q.0) (operand_of e ∷ []) (operand_of (expr.Local n) ∷ []) t.lowered t.lifted t.touched refl (load_adds old new n e ok q.0 fresh a value quiet adds) adds.returned (still_of old new _ _ adds)
+      emits_touch types old new i (loads t.part t.signed t.ty q.0) (operand_of e ∷ []) (operand_of (expr.Local n) ∷ []) t.lowered t.lifted t.touched refl (load_adds old new n e ok q.0 fresh a value quiet adds) adds.returned
+      (form_let (sends i) (ordinary_plain i (touches_ordinary i (loads t.part t.signed t.ty q.0) t.touched)) (operand_of e ∷ []) old new (codes "l") n value [] (small_load_emitted old i q e is) one adds)
       (load_row old new n e ok q.0 fresh a value quiet adds (small_follows old new n e ok q.0 fresh q.1 a t.size t.tie))

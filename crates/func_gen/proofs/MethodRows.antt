@@ -1,6 +1,6 @@
 -- The row of the call of a method.
 use Rattle.std.proofs.Common.{◌≡◌, ℕ, zero, suc, Bool, true, false, not, cond, if◌then◌else◌, ◌&&◌, Bor, List, [], ◌∷◌, ◌++◌, length, map, take, drop, find, Option, None, Some, refl, sym, ap, ap₂, ◌∙◌, subst, arith}
-use Rattle.std.specs.Prelude.{IfSome, is_some, option_and_then, option_to_list}
+use Rattle.std.specs.Prelude.{IfSome, is_some, option_and_then, option_to_list, codes}
 use Rattle.std.specs.List.{flat_map, AllByRecursion}
 use Rattle.std.specs.Option.{option_map, option_or}
 use Rattle.std.specs.Str.{bytes_eq}
@@ -10,6 +10,7 @@ use Rattle.wit_layout.specs.Filled.{IsFilledFor}
 use Rattle.wit_model.specs.Bytes.{Bytes}
 use Rattle.wit_model.specs.declared.function.Function.{Function}
 use Rattle.wit_model.specs.declared.types.TypeDef.{TypeDef}
+use Rattle.wit_model.specs.declared.types.WitType.{WitType}
 use Rattle.rust_tree.specs.declared.export.CallBlock.{CallBlock}
 use Rattle.rust_tree.specs.declared.expr.Expr.{Expr}
 use Rattle.rust_tree.specs.declared.expr.Expr.TheVariants as expr
@@ -70,8 +71,10 @@ use Rattle.func_gen.specs.MethodForms.{CallsIn, call_block, is_uncalled}
 use Rattle.func_gen.specs.Read.{Env, Read, env_of, less, read}
 use Rattle.func_gen.specs.ReadForms.{read-local}
 use Rattle.func_gen.specs.Records.{AreDefined}
-use Rattle.func_gen.specs.Scope.{is_used}
+use Rattle.func_gen.specs.Scope.{is_used, TakesOne}
 use Rattle.func_gen.specs.StandLemmas.{owned-unit}
+use Rattle.func_gen.specs.Still.{CallsMethod}
+use Rattle.func_gen.proofs.Forming.{takes_none}
 use Rattle.func_gen.proofs.Lasting.{area_same, denotes_on, lasts, owns_with, still_free, with_local, within_with}
 use Rattle.func_gen.proofs.FieldOrder.{still_defined}
 use Rattle.func_gen.proofs.KeptOwners.{KeepsOwners, keeps_owners}
@@ -508,9 +511,27 @@ as_many : (held : Option Bytes) → length (results held) ≡ length (option_to_
 as_many None = refl
 as_many (Some n) = refl
 
+abbrev pub NamedBy : Option Bytes → (old new : FunctionBindgen) → Type 0
+NamedBy None old new = new.scope ≡ old.scope
+NamedBy (Some n) old new = TakesOne old.scope (codes "result") n new.scope
+
+becomes : (f : Function) (os : List ExprOperand) (due : Option WitType) (held : Option Bytes) (old new : FunctionBindgen) → CallsIn f (exprs os) held old new → old.code.call ≡ None → length (option_to_list due) ≡ length (option_to_list held) → NamedBy held old new
+    → CallsMethod due f os (results held) old new
+becomes f os None None old new a first same named = record { number = old.scope.next; takes = takes_none old.scope new.scope named; first = first; code = a.code; runtime = a.runtime; results = refl }
+becomes f os None (Some n) old new a first same named = absurd cc
+becomes f os (Some ty) None old new a first same named = absurd cc
+becomes f os (Some ty) (Some n) old new a first same named = record {
+  number = named.number;
+  takes = named.takes;
+  first = first;
+  code = (subst (λ x. CallsIn f (exprs os) (Some x) old new) named.is a).code;
+  runtime = a.runtime;
+  results = ap (λ x. operand_of (expr.Local x) ∷ []) named.is;
+}
+
 pub method_row : (types : List TypeDef) (f : Bor Function) (os : List ExprOperand) (held : Option Bytes) (old new : FunctionBindgen) → CallsIn f.now (exprs os) held old new → is_uncalled old.code.call old.asked ≡ true → old.import ≡ false
-    → result_count f.now ≡ length (option_to_list held) → NewLocal held old new → Emits func_meaning types (instruction.CallInterface f) os (results held) old new
-method_row types f os held old new a none export due local =
+    → result_count f.now ≡ length (option_to_list held) → NewLocal held old new → NamedBy held old new → Emits func_meaning types (instruction.CallInterface f) os (results held) old new
+method_row types f os held old new a none export due local named =
     let (first, unasked) = uncalled old.code.call old.asked none in
     record {
       adds = method_grows f.now os held old new a first (names_still held old new local);
@@ -518,7 +539,11 @@ method_row types f os held old new a none export due local =
       returned = a.returned;
       asked = a.asked;
       results = as_many held ∙ sym due;
-      form = record { still = record { import = a.import; home = a.home; area = a.area; params = a.params; records = a.records; sizes = a.sizes }; given = tt };
+      form = record {
+        still = record { import = a.import; home = a.home; area = a.area; params = a.params; records = a.records; sizes = a.sizes };
+        given = tt;
+        code = becomes f.now os f.now.result held old new a first due named;
+      };
       row = hands f.now os held old new a first unasked export due local keeps_owners;
     }
 

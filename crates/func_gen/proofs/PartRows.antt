@@ -1,7 +1,7 @@
 -- The row of tuples that are made of their parts.
 use Rattle.std.proofs.Common.{◌≡◌, ℕ, suc, Bool, true, false, List, [], ◌∷◌, ◌++◌, length, map, Option, None, Some, refl, sym, ap, ap₂, ◌∙◌, subst, arith}
 use Rattle.std.specs.List.{flat_map}
-use Rattle.std.specs.Prelude.{option_and_then}
+use Rattle.std.specs.Prelude.{option_and_then, codes}
 use Rattle.std.specs.Option.{option_map}
 use Rattle.std.proofs.lemmas.Bool.{and_parts}
 use Rattle.wit_layout.specs.Tree.{Scalar}
@@ -45,6 +45,7 @@ use Rattle.abi_driver.specs.Laws.{Facts, Stays, item_data, ofs}
 use Rattle.abi_driver.specs.Meaning.{item, of}
 use Rattle.abi_driver.specs.Parts.{PartsStand, count}
 use Rattle.abi_driver.proofs.Runs.{total-append}
+use Rattle.abi_driver.specs.Sent.{sends}
 use Rattle.func_gen.specs.declared.function_bindgen.FunctionBindgen.{FunctionBindgen}
 use Rattle.func_gen.specs.declared.operand.ExprOperand.{ExprOperand}
 use Rattle.func_gen.specs.Added.{Appends, Fresh}
@@ -55,12 +56,13 @@ use Rattle.func_gen.specs.Operand.{is_operand}
 use Rattle.func_gen.specs.PartForms.{are_operands, exprs_of}
 use Rattle.func_gen.specs.Read.{env_of}
 use Rattle.func_gen.specs.StandLemmas.{owned-struct, scalar_owns}
+use Rattle.func_gen.specs.Scope.{TakesOne}
+use Rattle.func_gen.proofs.Forming.{form_let}
 use Rattle.func_gen.proofs.Lasting.{area_same, bound_under, owns_with, with_local}
 use Rattle.func_gen.proofs.Quiet.{quiet_operand}
 use Rattle.func_gen.proofs.Rows.{let_adds, same_area}
 use Rattle.func_gen.proofs.Several.{Are, add_local, uses_all}
 use Rattle.func_gen.proofs.Steps.{ran}
-use Rattle.func_gen.proofs.Forming.{still_of}
 
 -- 1. What parts own together, and that they pass as they are
 
@@ -199,14 +201,14 @@ module _ (old new : FunctionBindgen) (n : Bytes) (os : List ExprOperand) (e : Ex
       (λ fs. (r : RustValue) × (fs ≡ of (operand_of (expr.Local n)) (item r) ∷ []) × ((v : Parts ts) (own : List Block) → PartsStand func_meaning take ts v rs own → Consists ts v r own))
       (many ∙ sym len) (value.Struct rs, refl, λ v own h. whole_stands ts v rs own h)
 
-pub tuple_row : (types : List TypeDef) (old new : FunctionBindgen) (n : Bytes) (k : ℕ) (os : List ExprOperand) → length os ≡ k → are_operands os ≡ true → Appends old new (stmt.Let n (expr.Tuple (exprs_of os)) ∷ []) [] → Fresh old new n
+pub tuple_row : (types : List TypeDef) (old new : FunctionBindgen) (n : Bytes) (k : ℕ) (os : List ExprOperand) → length os ≡ k → are_operands os ≡ true → Appends old new (stmt.Let n (expr.Tuple (exprs_of os)) ∷ []) [] → Fresh old new n → TakesOne old.scope (codes "tuple") n new.scope
     → Emits func_meaning types (TupleLift k) os (operand_of (expr.Local n) ∷ []) old new
-tuple_row types old new n k os many ok a fresh = record {
+tuple_row types old new n k os many ok a fresh one = record {
   adds = let_adds old new n (expr.Tuple (exprs_of os)) [] a fresh (quiet_tuple os ok);
   blocks = refl;
   returned = a.returned;
   asked = a.asked;
-  form = record { still = still_of old new _ _ a; given = tt };
+  form = form_let (sends (TupleLift k)) (record { gives = refl; calls = refl }) os old new (codes "tuple") n (expr.Tuple (exprs_of os)) [] refl one a;
   results = refl;
   row = λ ts is. lifts_whole old new n os (expr.Tuple (exprs_of os)) a fresh (λ w p vs rs s t h len done are. tuple_gives (setting_for w p) os vs rs s t done are) ts (many ∙ sym is);
 }

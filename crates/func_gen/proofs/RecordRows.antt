@@ -1,6 +1,6 @@
 -- The rows of records: they are made of their fields, and taken apart.
 use Rattle.std.proofs.Common.{◌≡◌, ℕ, true, List, [], ◌∷◌, length, map, Some, refl, sym, ap, ◌∙◌, subst, arith}
-use Rattle.std.specs.Prelude.{option_and_then, zip}
+use Rattle.std.specs.Prelude.{option_and_then, zip, codes}
 use Rattle.std.specs.Option.{option_map}
 use Rattle.std.proofs.lemmas.Bool.{and_parts}
 use Rattle.std.proofs.lemmas.List.{length-map}
@@ -30,6 +30,7 @@ use Rattle.abi_driver.specs.declared.instruction.Instruction.TheVariants.{Record
 use Rattle.abi_driver.specs.Instructions.{Emits, IsRecord, field_shapes}
 use Rattle.abi_driver.specs.Parts.{count}
 use Rattle.abi_driver.proofs.Records.{count-shapes, one_record}
+use Rattle.abi_driver.specs.Sent.{sends}
 use Rattle.func_gen.specs.declared.function_bindgen.FunctionBindgen.{FunctionBindgen}
 use Rattle.func_gen.specs.declared.operand.ExprOperand.{ExprOperand}
 use Rattle.func_gen.specs.declared.record_site.RecordSite.{RecordSite}
@@ -38,15 +39,17 @@ use Rattle.func_gen.specs.Forms.{operand_of}
 use Rattle.func_gen.specs.Meaning.{File, Serves, func_meaning, setting_for}
 use Rattle.func_gen.specs.Operand.{is_operand}
 use Rattle.func_gen.specs.PartForms.{are_operands, exprs_of, locals_of}
-use Rattle.func_gen.specs.RecordForms.{HasFieldCount, IsSiteOf, MakesRecord, SplitsRecord}
+use Rattle.func_gen.specs.RecordForms.{HasFieldCount, IsSiteOf, MakesRecord, SplitsRecord, locals_for}
 use Rattle.func_gen.specs.Records.{AreDefined, Defines}
+use Rattle.func_gen.specs.Scope.{TakesOne}
+use Rattle.func_gen.specs.CodeOf.{makes_record, splits_record}
 use Rattle.func_gen.proofs.FieldOrder.{arranged_fields, defined_at, fields_named, locals_distinct, locals_many as fields_many}
+use Rattle.func_gen.proofs.Forming.{form_by, form_let, locals_are}
 use Rattle.func_gen.proofs.PartRows.{all_rust, lifts_whole}
 use Rattle.func_gen.proofs.PartsTaken.{apart_adds, apart_lowers, locals_many}
 use Rattle.func_gen.proofs.Quiet.{quiet_operand}
 use Rattle.func_gen.proofs.Rows.{let_adds}
 use Rattle.func_gen.proofs.Several.{Are}
-use Rattle.func_gen.proofs.Forming.{still_of}
 
 -- 1. How many fields there are
 
@@ -112,9 +115,9 @@ module _ (w : Setting) where
 defined : (w : File) (old new : FunctionBindgen) (types : List TypeDef) (id : ℕ) (site : RecordSite) → new.records ≡ old.records → IsSiteOf types old.records id site → Serves w new → Defines w.items site
 defined w old new types id site same is h = defined_at w.items old.records id site (subst (AreDefined w.items) same h.records) is.at
 
-pub record_made : (types : List TypeDef) (old new : FunctionBindgen) (n : Bytes) (id : TypeId) (os : List ExprOperand) (e : Expr) → MakesRecord types old.records id.0 os e → Appends old new (stmt.Let n e ∷ []) [] → Fresh old new n
+pub record_made : (types : List TypeDef) (old new : FunctionBindgen) (n : Bytes) (id : TypeId) (os : List ExprOperand) (e : Expr) → MakesRecord types old.records id.0 os e → Appends old new (stmt.Let n e ∷ []) [] → Fresh old new n → TakesOne old.scope (codes "record") n new.scope
     → Emits func_meaning types (RecordLift id) os (operand_of (expr.Local n) ∷ []) old new
-record_made types old new n id os e made appends fresh =
+record_made types old new n id os e made appends fresh one =
     let site = made.site in
     let whole = expr.Record site.lifted (zip site.fields (exprs_of os)) in
     let a = subst (λ x. Appends old new (stmt.Let n x ∷ []) []) made.is appends in
@@ -123,7 +126,7 @@ record_made types old new n id os e made appends fresh =
       blocks = refl;
       returned = appends.returned;
       asked = appends.asked;
-      form = record { still = still_of old new _ _ appends; given = tt };
+      form = form_let (sends (RecordLift id)) (record { gives = refl; calls = refl }) os old new (codes "record") n whole [] (ap (option_map (makes_record (exprs_of os))) made.is_site.at) one a;
       results = refl;
       row = λ members is. lifts_whole old new n os whole a fresh
           (λ w p vs rs s t h len done are. record_gives (setting_for w p) site os vs rs s t (defined w old new types id.0 site appends.records made.is_site h) made.many len done are)
@@ -146,7 +149,9 @@ record_split types old new id e names ok split =
       blocks = refl;
       returned = split.stmts.returned;
       asked = split.stmts.asked;
-      form = record { still = still_of old new _ _ split.stmts; given = tt };
+      form = form_by (sends (RecordLower id)) (record { gives = refl; calls = refl }) (operand_of e ∷ []) old new (locals_of names) (splits_record e site) t (ap (option_map (splits_record e)) split.is_site.at)
+          (record { locals = split.declares.locals; named = split.declares.named; declares = split.declares.declares.declares })
+          (subst (λ ns. Appends old new (stmt.LetParts (pattern.Record site.lowered (zip site.fields ns)) e ∷ []) []) named split.stmts) (ap locals_of named ∙ locals_are (locals_for site.fields t));
       results = λ members is. locals_many names ∙ many ∙ as_many types id.0 (length site.fields) members split.is_site.count is;
       row = λ members is dir v r own (stands, normal). apart_lowers old new pat names e split.stmts split.fresh fits
           (field_shapes types members) (many ∙ as_many types id.0 (length site.fields) members split.is_site.count is ∙ sym (shapes_many types members)) dir v r own stands normal;

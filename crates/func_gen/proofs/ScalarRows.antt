@@ -41,15 +41,17 @@ use Rattle.func_gen.specs.declared.operand.ExprOperand.{ExprOperand}
 use Rattle.func_gen.specs.Added.{Appends}
 use Rattle.func_gen.specs.Forms.{conversion, is_kept, number_cast, operand_of, runtime_call, runtime_name, runtime_path}
 use Rattle.func_gen.specs.Meaning.{StandsAsItIs, account_of, func_meaning}
-use Rattle.func_gen.specs.Read.{Env, Read, converts, env_of, on_bare, read}
+use Rattle.func_gen.specs.Read.{Env, Read, converts, on_bare, read}
 use Rattle.func_gen.specs.Read as reader
 use Rattle.func_gen.specs.ReadForms.{read-call, read-cast}
 use Rattle.func_gen.specs.FactLemmas.{Says, item_rust_at}
 use Rattle.func_gen.specs.Facts.{item_of, item_of_word}
-use Rattle.func_gen.specs.Still.{StillOf}
+use Rattle.func_gen.specs.Still.{Formed}
+use Rattle.abi_driver.specs.Sent.{sends}
+use Rattle.func_gen.proofs.Emissions.{cast_emitted, conversion_emitted, kept_emitted}
+use Rattle.func_gen.proofs.Forming.{form_alone, ordinary_plain}
 use Rattle.func_gen.proofs.Rows.{none_adds, swaps, tests}
 use Rattle.func_gen.proofs.Scalars.{cast_word, conversion_to, converts_scalar, is_number, option_some, stands_scalar, taken_is, taken_word}
-use Rattle.func_gen.proofs.Forming.{ordinary_form, still_of}
 
 -- 1. What is emitted
 
@@ -65,24 +67,24 @@ unfolding callee runtime_name runtime_module_name
 calls_runtime i = refl
 
 module _ (types : List TypeDef) (old new : FunctionBindgen) (i : Instruction) (s : Scalar) (o r : ExprOperand) where
-  pub emits_lowered : lowered_scalar i ≡ Some s → Adds func_meaning old new → new.returned ≡ old.returned → StillOf old new → LowersScalar func_meaning s (o ∷ []) (r ∷ []) old new → Emits func_meaning types i (o ∷ []) (r ∷ []) old new
-  emits_lowered is adds returned still row = record {
+  pub emits_lowered : lowered_scalar i ≡ Some s → Adds func_meaning old new → new.returned ≡ old.returned → Formed (sends i) (o ∷ []) (r ∷ []) old new → LowersScalar func_meaning s (o ∷ []) (r ∷ []) old new → Emits func_meaning types i (o ∷ []) (r ∷ []) old new
+  emits_lowered is adds returned form row = record {
     adds = code_of func_meaning i (lowers_ordinary i s is) types old new adds;
     blocks = none_dropped (length (block_results types i));
     returned = still_returned func_meaning i (lowers_ordinary i s is) (o ∷ []) old.returned new.returned returned;
     asked = adds.asked;
-    form = ordinary_form i (lowers_ordinary i s is).goes_on (o ∷ []) old new still;
+    form = form;
     results = subst (λ x. MakesBy types i x (lifted_scalar i) 1) (sym is) refl;
     row = subst (λ x. RowBy func_meaning types i x (lifted_scalar i) (o ∷ []) (r ∷ []) old new) (sym is) row;
   }
 
-  pub emits_lifted : lowered_scalar i ≡ None → lifted_scalar i ≡ Some s → Adds func_meaning old new → new.returned ≡ old.returned → StillOf old new → LiftsScalar func_meaning s (o ∷ []) (r ∷ []) old new → Emits func_meaning types i (o ∷ []) (r ∷ []) old new
-  emits_lifted none is adds returned still row = record {
+  pub emits_lifted : lowered_scalar i ≡ None → lifted_scalar i ≡ Some s → Adds func_meaning old new → new.returned ≡ old.returned → Formed (sends i) (o ∷ []) (r ∷ []) old new → LiftsScalar func_meaning s (o ∷ []) (r ∷ []) old new → Emits func_meaning types i (o ∷ []) (r ∷ []) old new
+  emits_lifted none is adds returned form row = record {
     adds = code_of func_meaning i (lifts_ordinary i s is) types old new adds;
     blocks = none_dropped (length (block_results types i));
     returned = still_returned func_meaning i (lifts_ordinary i s is) (o ∷ []) old.returned new.returned returned;
     asked = adds.asked;
-    form = ordinary_form i (lifts_ordinary i s is).goes_on (o ∷ []) old new still;
+    form = form;
     results = subst (λ x. MakesBy types i x (lifted_scalar i) 1) (sym none) (subst (λ x. MakesBy types i None x 1) (sym is) refl);
     row = subst (λ x. RowBy func_meaning types i x (lifted_scalar i) (o ∷ []) (r ∷ []) old new) (sym none) (subst (λ x. RowBy func_meaning types i None x (o ∷ []) (r ∷ []) old new) (sym is) row);
   }
@@ -120,7 +122,7 @@ pub convert_row : (types : List TypeDef) (old new : FunctionBindgen) (i : Instru
     → Emits func_meaning types i (operand_of e ∷ []) (operand_of (runtime_call f e) ∷ []) old new
 convert_row types old new i f e is a scope =
     let c = converted_by i f is in
-    emits_lowered types old new i c.scalar (operand_of e) (operand_of (runtime_call f e)) c.lowered (none_adds old new (f ∷ []) a scope) a.returned (still_of old new _ _ a)
+    emits_lowered types old new i c.scalar (operand_of e) (operand_of (runtime_call f e)) c.lowered (none_adds old new (f ∷ []) a scope) a.returned (form_alone (sends i) (ordinary_plain i (lowers_ordinary i c.scalar c.lowered)) (operand_of e ∷ []) old new (runtime_call f e) (f ∷ []) (conversion_emitted old i f e is) scope a)
     (λ dir v r own good st. (
       st.0.1,
       swaps old new (f ∷ []) a scope (of (operand_of e) (item r)) (of (operand_of (runtime_call f e)) (word (passed_word c.scalar v)))
@@ -218,7 +220,7 @@ pub cast_row : (types : List TypeDef) (old new : FunctionBindgen) (i : Instructi
     → Emits func_meaning types i (operand_of e ∷ []) (operand_of (expr.Cast e to) ∷ []) old new
 cast_row types old new i to e is a scope =
     let c = cast_by i to is in
-    emits_lifted types old new i c.scalar (operand_of e) (operand_of (expr.Cast e to)) c.none c.lifted (none_adds old new [] a scope) a.returned (still_of old new _ _ a)
+    emits_lifted types old new i c.scalar (operand_of e) (operand_of (expr.Cast e to)) c.none c.lifted (none_adds old new [] a scope) a.returned (form_alone (sends i) (ordinary_plain i (lifts_ordinary i c.scalar c.lifted)) (operand_of e ∷ []) old new (expr.Cast e to) [] (cast_emitted old i to e is) scope a)
     (lifts_number old new c.scalar (operand_of e) (operand_of (expr.Cast e to)) c.number a scope
     (λ x typed items env h. let (z, i, same) = c.casts x typed in ap (option_and_then item_of) (cast_says items e to x z env i h) ∙ ap (λ r. Some r) (sym same)))
 
@@ -257,5 +259,5 @@ kept_by _ e = absurd (let h = e in cc)
 pub keep_row : (types : List TypeDef) (old new : FunctionBindgen) (i : Instruction) (o : ExprOperand) → is_kept i ≡ true → Appends old new [] [] → new.scope ≡ old.scope → Emits func_meaning types i (o ∷ []) (o ∷ []) old new
 keep_row types old new i o is a scope =
     let c = kept_by i is in
-    emits_lifted types old new i c.scalar o o c.none c.lifted (none_adds old new [] a scope) a.returned (still_of old new _ _ a)
+    emits_lifted types old new i c.scalar o o c.none c.lifted (none_adds old new [] a scope) a.returned (form_alone (sends i) (ordinary_plain i (lifts_ordinary i c.scalar c.lifted)) (o ∷ []) old new o.expr [] (kept_emitted old i o.expr is) scope a)
     (lifts_number old new c.scalar o o c.number a scope (λ x typed items env h. ap (option_and_then item_of) h ∙ c.keeps x typed))

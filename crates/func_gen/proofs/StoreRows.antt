@@ -46,24 +46,26 @@ use Rattle.func_gen.specs.Meaning.{File, account_of, func_meaning, setting_for}
 use Rattle.func_gen.specs.MemoryForms.{small_store, whole_store}
 use Rattle.func_gen.specs.Operand.{is_operand}
 use Rattle.func_gen.specs.Read.{env_of}
-use Rattle.func_gen.specs.Still.{StillOf}
+use Rattle.func_gen.specs.Still.{Formed}
+use Rattle.abi_driver.specs.Sent.{sends}
+use Rattle.func_gen.proofs.Emissions.{small_store_emitted, whole_store_emitted}
 use Rattle.func_gen.proofs.Evaluated.{gives}
+use Rattle.func_gen.proofs.Forming.{form_effect, ordinary_plain}
 use Rattle.func_gen.proofs.MemoryTies.{by_blocks, byte_stored, f32_stored, f64_stored, half_stored, i32_stored, i64_stored, length_stored, pointer_stored, ranged_blocks, stored_low, stored_word}
 use Rattle.func_gen.proofs.Quiet.{quiet_operand}
 use Rattle.func_gen.proofs.ScalarRows.{none_dropped}
 use Rattle.func_gen.proofs.Writing.{Keeps, Writes, finish, finishes, one_adds, there_written, writes}
-use Rattle.func_gen.proofs.Forming.{ordinary_form, still_of}
 
 -- 1. What is emitted
 
 pub emits_touch : (types : List TypeDef) (old new : FunctionBindgen) (i : Instruction) (t : Touch) (os rs : List ExprOperand) → lowered_scalar i ≡ None → lifted_scalar i ≡ None → touch i ≡ Some t → length rs ≡ touch_makes t
-    → Adds func_meaning old new → new.returned ≡ old.returned → StillOf old new → RowOfTouch func_meaning t os rs old new → Emits func_meaning types i os rs old new
-emits_touch types old new i t os rs no_lower no_lift is count adds returned still row = record {
+    → Adds func_meaning old new → new.returned ≡ old.returned → Formed (sends i) os rs old new → RowOfTouch func_meaning t os rs old new → Emits func_meaning types i os rs old new
+emits_touch types old new i t os rs no_lower no_lift is count adds returned form row = record {
   adds = code_of func_meaning i (touches_ordinary i t is) types old new adds;
   blocks = none_dropped (length (block_results types i));
   returned = still_returned func_meaning i (touches_ordinary i t is) os old.returned new.returned returned;
   asked = adds.asked;
-  form = ordinary_form i (touches_ordinary i t is).goes_on os old new still;
+  form = form;
   results = subst (λ x. MakesBy types i x (lifted_scalar i) (length rs)) (sym no_lower) (subst (λ x. MakesBy types i None x (length rs)) (sym no_lift) (subst (λ x. MakesTouch types i x (length rs)) (sym is) count));
   row = subst (λ x. RowBy func_meaning types i x (lifted_scalar i) os rs old new) (sym no_lower) (subst (λ x. RowBy func_meaning types i None x os rs old new) (sym no_lift) (subst (λ x. RowTouch func_meaning types i x os rs old new) (sym is) row));
 }
@@ -217,9 +219,11 @@ module _ (types : List TypeDef) (old new : FunctionBindgen) (i : Instruction) (o
   pub whole_store_row : (ty : WasmType) → whole_store i ≡ Some (o, ty) → Appends old new (stmt.Store at o ty e ∷ []) [] → Emits func_meaning types i (operand_of e ∷ operand_of at ∷ []) [] old new
   whole_store_row ty is a =
       let t = is_store i o ty is in
-      emits_touch types old new i (stores whole ty o) (operand_of e ∷ operand_of at ∷ []) [] t.lowered t.lifted t.touched refl (store_adds old new e at ok ok_at o scope ty a) a.returned (still_of old new _ _ a) (store_row old new e at ok ok_at o scope ty a (accessed 2 whole false ty) t.tie)
+      emits_touch types old new i (stores whole ty o) (operand_of e ∷ operand_of at ∷ []) [] t.lowered t.lifted t.touched refl (store_adds old new e at ok ok_at o scope ty a) a.returned
+      (form_effect (sends i) (ordinary_plain i (touches_ordinary i (stores whole ty o) t.touched)) (operand_of e ∷ operand_of at ∷ []) old new (stmt.Store at o ty e) [] (whole_store_emitted old i (o, ty) e at is) scope a) (store_row old new e at ok ok_at o scope ty a (accessed 2 whole false ty) t.tie)
 
   pub small_store_row : (ty : SmallType) → small_store i ≡ Some (o, ty) → Appends old new (stmt.StoreSmall at o ty e ∷ []) [] → Emits func_meaning types i (operand_of e ∷ operand_of at ∷ []) [] old new
   small_store_row ty is a =
       let t = is_low_store i o ty is in
-      emits_touch types old new i (stores t.part wasm.I32 o) (operand_of e ∷ operand_of at ∷ []) [] t.lowered t.lifted t.touched refl (low_adds old new e at ok ok_at o scope ty a) a.returned (still_of old new _ _ a) (low_row old new e at ok ok_at o scope ty a (accessed 2 t.part false wasm.I32) t.tie)
+      emits_touch types old new i (stores t.part wasm.I32 o) (operand_of e ∷ operand_of at ∷ []) [] t.lowered t.lifted t.touched refl (low_adds old new e at ok ok_at o scope ty a) a.returned
+      (form_effect (sends i) (ordinary_plain i (touches_ordinary i (stores t.part wasm.I32 o) t.touched)) (operand_of e ∷ operand_of at ∷ []) old new (stmt.StoreSmall at o ty e) [] (small_store_emitted old i (o, ty) e at is) scope a) (low_row old new e at ok ok_at o scope ty a (accessed 2 t.part false wasm.I32) t.tie)

@@ -33,7 +33,7 @@ use Rattle.wrapper_values.specs.declared.state.State.{State}
 use Rattle.wrapper_values.specs.declared.state.Val.{Val}
 use Rattle.wrapper_values.specs.declared.state.Val.TheVariants as val
 use Rattle.wrapper_values.specs.Act as machine
-use Rattle.wrapper_values.specs.Act.{Act, and_then, pure, stop}
+use Rattle.wrapper_values.specs.Act.{and_then, pure, stop}
 use Rattle.wrapper_values.specs.Locals.{bind}
 use Rattle.wrapper_values.specs.Owning.{is_taken, owned}
 use Rattle.wrapper_values.specs.Setting.{Setting, failed, fails}
@@ -53,6 +53,7 @@ use Rattle.abi_driver.specs.Instructions.{Emits}
 use Rattle.abi_driver.specs.Laws.{Adds, After, Facts}
 use Rattle.abi_driver.specs.Meaning.{Fact, item, of, word}
 use Rattle.abi_driver.proofs.Runs.{total-append}
+use Rattle.abi_driver.specs.Sent.{sends}
 use Rattle.func_gen.specs.declared.function_bindgen.FunctionBindgen.{FunctionBindgen}
 use Rattle.func_gen.specs.declared.operand.ExprOperand.{ExprOperand}
 use Rattle.func_gen.specs.Added.{Appends}
@@ -64,10 +65,13 @@ use Rattle.func_gen.specs.Meaning.{Denote, File, Found, FuncState, StandsAsItIs,
 use Rattle.func_gen.specs.Operand.{is_operand}
 use Rattle.func_gen.specs.Read.{env_of}
 use Rattle.func_gen.specs.TextForms.{bytes_name, len_name, taken_names, taken_stmts, taking_items, text_name}
+use Rattle.func_gen.specs.Scope.{Takes}
+use Rattle.func_gen.specs.CodeOf.{takes_text}
 use Rattle.func_gen.proofs.Buffers.{buffer_val, normal_buffer, uses_buffer}
 use Rattle.func_gen.proofs.Declared.{Three, fresh_name, hold_as, keeps, three, three_used, unused_before, with_name, with_three, with_two}
 use Rattle.func_gen.proofs.Evaluated.{gives}
 use Rattle.func_gen.proofs.Forgetting.{one_called, with_taken}
+use Rattle.func_gen.proofs.Forming.{form_by}
 use Rattle.func_gen.proofs.Lasting.{area_same, bound_under, owns_with, part, with_local}
 use Rattle.func_gen.proofs.PartRows.{areas_last}
 use Rattle.func_gen.proofs.Quiet.{quiet_operand}
@@ -76,7 +80,6 @@ use Rattle.func_gen.proofs.RuntimeItems.{found_right}
 use Rattle.func_gen.proofs.ScalarRows.{calls_runtime}
 use Rattle.func_gen.proofs.Several.{add_local}
 use Rattle.func_gen.proofs.Steps.{func_adds, ran}
-use Rattle.func_gen.proofs.Forming.{still_of}
 
 -- 1. One more owner
 
@@ -342,13 +345,13 @@ module _ (types : List TypeDef) (old new : FunctionBindgen) (a e : Expr) (t : �
   taken_adds = func_adds old new (taken_stmts t a e) taking_items adds (unused_before old new (taken_names t) fresh) (λ w. quiet_taken w t a e ok_a ok_e)
 
   -- the operands are read one after the other, the length before its local is there
-  pub lift_row : Emits func_meaning types instruction.StringLift (operand_of a ∷ operand_of e ∷ []) (operand_of (expr.Local (text_name t)) ∷ []) old new
-  lift_row = record {
+  pub lift_row : Takes old.scope (λ k. taken_names k) t new.scope → Emits func_meaning types instruction.StringLift (operand_of a ∷ operand_of e ∷ []) (operand_of (expr.Local (text_name t)) ∷ []) old new
+  lift_row takes = record {
     adds = taken_adds;
     blocks = refl;
     returned = adds.returned;
     asked = adds.asked;
-    form = record { still = still_of old new _ _ adds; given = tt };
+    form = form_by (sends instruction.StringLift) (record { gives = refl; calls = refl }) (operand_of a ∷ operand_of e ∷ []) old new (operand_of (expr.Local (text_name t)) ∷ []) (takes_text a e) t refl takes adds refl;
     results = refl;
     row = λ p k w q others s0 s at.
         let free = three old new (len_name t) (bytes_name t) (text_name t) fresh (len_bytes t) (len_text t) (bytes_text t) in

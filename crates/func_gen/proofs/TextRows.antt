@@ -1,5 +1,6 @@
 -- The rows of texts that are lent or given away: three locals, and two words.
 use Rattle.std.proofs.Common.{◌≡◌, ℕ, ◌+◌, true, false, List, [], ◌∷◌, ◌++◌, length, map, Some, refl, sym, ap, ◌∙◌, subst, arith}
+use Rattle.std.specs.Prelude.{option_map}
 use Rattle.wit_model.specs.declared.types.TypeDef.{TypeDef}
 use Rattle.wit_model.specs.Bytes.{Bytes}
 use Rattle.rust_tree.specs.declared.expr.Expr.{Expr}
@@ -30,6 +31,7 @@ use Rattle.abi_driver.specs.Instructions.{Emits}
 use Rattle.abi_driver.specs.Laws.{Adds, After, Does, Facts}
 use Rattle.abi_driver.specs.Meaning.{Fact, item, of}
 use Rattle.abi_driver.proofs.Runs.{total-append}
+use Rattle.abi_driver.specs.Sent.{sends}
 use Rattle.func_gen.specs.declared.function_bindgen.FunctionBindgen.{FunctionBindgen}
 use Rattle.func_gen.specs.declared.operand.ExprOperand.{ExprOperand}
 use Rattle.func_gen.specs.Added.{Appends}
@@ -41,15 +43,18 @@ use Rattle.func_gen.specs.Operand.{is_operand}
 use Rattle.func_gen.specs.Read.{env_of}
 use Rattle.func_gen.specs.StandLemmas.{lent_alone, taken_on, taken_owns}
 use Rattle.func_gen.specs.TextForms.{buffer_names, buffer_stmts, buffer_words, forgotten, given_stmts, len_name, ptr_name, vec_name}
+use Rattle.func_gen.specs.Scope.{Takes}
+use Rattle.func_gen.specs.CodeOf.{hands_text, lends_text}
 use Rattle.func_gen.proofs.Buffers.{buffer_facts, buffer_holds, buffer_runs, buffer_under, buffer_val, normal_buffer, owns_buffer, ptr_len, quiet_buffer, uses_buffer, vec_len, vec_ptr, with_buffer}
 use Rattle.func_gen.proofs.Declared.{Three, hold_as, three, three_used, unused_before, with_three}
+use Rattle.func_gen.proofs.Emissions.{local_is}
 use Rattle.func_gen.proofs.Forgetting.{Releases, forget_runs, quiet_forgotten, releases, with_taken}
+use Rattle.func_gen.proofs.Forming.{form_by}
 use Rattle.func_gen.proofs.Lasting.{area_same, part}
 use Rattle.func_gen.proofs.PartRows.{areas_last}
 use Rattle.func_gen.proofs.Quiet.{quiet_operand}
 use Rattle.func_gen.proofs.Rows.{same_area}
 use Rattle.func_gen.proofs.Steps.{func_adds, ran, seen_calls}
-use Rattle.func_gen.proofs.Forming.{still_of}
 
 -- 1. A text is lent
 
@@ -89,13 +94,13 @@ module _ (types : List TypeDef) (old new : FunctionBindgen) (e : Expr) (t : ℕ)
         ),
       )
 
-  pub lend_row : Emits func_meaning types (StringLower false) (operand_of e ∷ []) (buffer_words t) old new
-  lend_row = record {
+  pub lend_row : Takes old.scope (λ k. buffer_names k) t new.scope → Emits func_meaning types (StringLower false) (operand_of e ∷ []) (buffer_words t) old new
+  lend_row takes = record {
     adds = lent_adds;
     blocks = refl;
     returned = a.returned;
     asked = a.asked;
-    form = record { still = still_of old new _ _ a; given = tt };
+    form = form_by (sends (StringLower false)) (record { gives = refl; calls = refl }) (operand_of e ∷ []) old new (buffer_words t) (lends_text e) t refl takes a refl;
     results = refl;
     row = λ heap bytes r own st.
         let b = st.0 in
@@ -198,13 +203,13 @@ module _ (types : List TypeDef) (old new : FunctionBindgen) (name : Bytes) (t : 
           ap (λ o. (account_in func_meaning.account o).calls) (ran old new (given_stmts t name) [] a w q ins s0 s at) ∙ seen_calls s.area (run_stmts (setting_for w q) (given_stmts t name) s.machine)
           ∙ ap (map call_of) ((quiet_given (setting_for w q)).quiet s.machine) ∙ sym h
 
-  pub give_row : Emits func_meaning types (StringLower true) (operand_of (expr.Local name) ∷ []) (buffer_words t) old new
-  give_row = record {
+  pub give_row : Takes old.scope (λ k. buffer_names k) t new.scope → Emits func_meaning types (StringLower true) (operand_of (expr.Local name) ∷ []) (buffer_words t) old new
+  give_row takes = record {
     adds = given_adds;
     blocks = refl;
     returned = a.returned;
     asked = a.asked;
-    form = record { still = still_of old new _ _ a; given = tt };
+    form = form_by (sends (StringLower true)) (record { gives = refl; calls = refl }) (operand_of (expr.Local name) ∷ []) old new (buffer_words t) (hands_text name) t (ap (option_map hands_text) (local_is name)) takes a refl;
     results = refl;
     row = λ heap bytes r own st.
         let b = st.0 in

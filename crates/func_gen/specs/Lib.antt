@@ -2,6 +2,8 @@ pub mod Added
 pub mod Area
 pub mod Body
 pub mod CallForms
+pub mod CodeOf
+pub mod Emission
 pub mod FactLemmas
 pub mod Facts
 pub mod FlushForms

@@ -1,5 +1,5 @@
 -- Which code calls a method: a block of all code before it, with the call as its value.
-use Rattle.std.specs.Prelude.{◌≡◌, Bool, true, false, List, [], ◌∷◌, Option, None, Some}
+use Rattle.std.specs.Prelude.{◌≡◌, ℕ, Bool, true, false, List, [], ◌∷◌, codes, Option, None, Some, option_map}
 use Rattle.wit_model.specs.Bytes.{Bytes}
 use Rattle.wit_model.specs.declared.function.Function.{Function}
 use Rattle.rust_tree.specs.declared.export.CallBlock.{CallBlock}
@@ -8,6 +8,7 @@ use Rattle.rust_tree.specs.declared.stmt.Stmt.{Stmt}
 use Rattle.abi_driver.specs.declared.bindgen.Asked.{Asked}
 use Rattle.func_gen.specs.declared.function_bindgen.FunctionBindgen.{FunctionBindgen}
 use Rattle.func_gen.specs.Added.{Fresh}
+use Rattle.func_gen.specs.Scope.{TakesOne, with_number}
 
 abbrev pub is_uncalled : Option CallBlock → List Asked → Bool
 is_uncalled None [] = true
@@ -16,6 +17,10 @@ is_uncalled (Some _) asked = false
 
 abbrev pub call_block : Function → List Stmt → List Expr → Option Bytes → CallBlock
 call_block f stmts arguments value = record { result = value; stmts = stmts; method = f.name.snake; arguments = arguments }
+
+-- the local of the value, where one is due
+abbrev pub value_local : {A : Type 0} → Option A → ℕ → Option Bytes
+value_local due t = option_map (λ r. with_number (codes "result") t) due
 
 -- the code is such a block, whose value a local of this name holds
 pub record CallsIn (f : Function) (arguments : List Expr) (value : Option Bytes) (old new : FunctionBindgen) : Type 0 where
@@ -34,3 +39,4 @@ pub record CallsIn (f : Function) (arguments : List Expr) (value : Option Bytes)
 pub record CallsFor (f : Function) (arguments : List Expr) (name : Bytes) (old new : FunctionBindgen) : Type 0 where
   pub calls : CallsIn f arguments (Some name) old new
   pub fresh : Fresh old new name
+  pub takes : TakesOne old.scope (codes "result") name new.scope

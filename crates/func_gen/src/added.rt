@@ -5,6 +5,7 @@ ghost use Rattle.rust_tree.specs.declared.stmt.Stmt.TheVariants as stmt;
 ghost use Rattle.func_gen.specs.Added.{Appends, Fresh};
 ghost use Rattle.func_gen.specs.Forms.{operand_of};
 ghost use Rattle.func_gen.specs.Operand.{is_operand};
+ghost use Rattle.func_gen.specs.Scope.{TakesOne};
 
 use crate::function_bindgen::FunctionBindgen;
 use crate::operand::{ExprOperand, copy_expr, is_operand};
@@ -39,6 +40,7 @@ impl FunctionBindgen {
     pub(crate) fn add_let(&mut self, prefix: &str, e: Expr) -> Result<Text, OutOfMemory>
         ensures adds { IfOk result (λ name. Appends self.old self.new (stmt.Let name e ∷ []) []) }
         ensures fresh { IfOk result (λ name. Fresh self.old self.new name) }
+        ensures takes { IfOk result (λ name. TakesOne self.old.scope prefix.now name self.new.scope) }
     {
         let name = LocalName { prefix, part: None };
         let t = self.scope.declare(self.alloc, &[name])?;

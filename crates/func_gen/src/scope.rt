@@ -90,7 +90,7 @@ fn free_number(
 }
 
 impl Scope {
-    /// The number of an operation that declares these names, which are used from then on.
+    /// The number of an operation that declares these names, which are used from then on. One that declares none takes no number.
     pub(crate) fn declare(
         &mut self,
         alloc: Global,
@@ -98,6 +98,9 @@ impl Scope {
     ) -> Result<u32, OutOfMemory>
         ensures { IfOk result (λ t. Declares self.old names.now t self.new) }
     {
+        if names.is_empty() {
+            return Ok(self.next);
+        }
         let t = free_number(alloc, self.used.as_slice(), self.next, names)?;
         push_names(alloc, &mut self.used, names, t)?;
         self.next = t + 1;

@@ -1,6 +1,6 @@
 //! Operands get locals of their own.
 
-ghost use Rattle.std.specs.Prelude.{◌≡◌, ◌++◌, ℕ, [], length, IfOk, OnOk};
+ghost use Rattle.std.specs.Prelude.{◌≡◌, ◌++◌, [], length, IfOk, OnOk};
 ghost use Rattle.abi_driver.specs.Instructions.{Emits};
 ghost use Rattle.abi_driver.specs.declared.instruction.Instruction.TheVariants as instruction;
 ghost use Rattle.func_gen.specs.Added.{Appends};
@@ -8,10 +8,11 @@ ghost use Rattle.func_gen.specs.CallForms.{FreshAll};
 ghost use Rattle.func_gen.specs.FlushForms.{flush_prefix, lets_of};
 ghost use Rattle.func_gen.specs.Meaning.{func_meaning};
 ghost use Rattle.func_gen.specs.PartForms.{names_from};
+ghost use Rattle.func_gen.specs.Scope.{TakesAll};
 
 use crate::emit::parts::{operand_exprs, part_names, push_locals};
 use crate::function_bindgen::FunctionBindgen;
-use crate::operand::{ExprOperand, copy_expr, copy_names};
+use crate::operand::{ExprOperand, copy_expr};
 use rust_tree::{Expr, Stmt};
 use std::alloc::Global;
 use wit_model::{List, OutOfMemory, Resolve, Text};
@@ -41,7 +42,7 @@ impl FunctionBindgen {
         requires many { length es.now ≡ count }
         ensures adds { IfOk result (λ names. Appends self.old self.new (lets_of names es.now) []) }
         ensures fresh { IfOk result (λ names. FreshAll self.old self.new names) }
-        ensures named { IfOk result (λ names. (t : ℕ) × (names ≡ names_from flush_prefix t 0 count)) }
+        ensures takes { IfOk result (λ names. TakesAll self.old.scope (λ k. names_from flush_prefix k 0 count) names self.new.scope) }
     {
         let parts = part_names(self.alloc, "flush", count)?;
         let names = self.scope.declare_all(self.alloc, parts.as_slice())?;

@@ -9,7 +9,7 @@ ghost use Rattle.func_gen.specs.Added.{Appends};
 ghost use Rattle.func_gen.specs.CallForms.{FreshAll};
 ghost use Rattle.func_gen.specs.Meaning.{func_meaning};
 ghost use Rattle.func_gen.specs.PartForms.{are_operands, exprs_of, locals_of, names_from, part_prefix};
-ghost use Rattle.func_gen.specs.Scope.{names_at};
+ghost use Rattle.func_gen.specs.Scope.{TakesAll, names_at};
 
 use crate::added::only_operand;
 use crate::function_bindgen::FunctionBindgen;
@@ -74,7 +74,7 @@ impl FunctionBindgen {
     fn add_parts(&mut self, count: u32, e: Expr) -> Result<List<Text>, OutOfMemory>
         ensures adds { IfOk result (λ names. Appends self.old self.new (stmt.LetParts (pattern.Tuple names) e ∷ []) []) }
         ensures fresh { IfOk result (λ names. FreshAll self.old self.new names) }
-        ensures named { IfOk result (λ names. (t : ℕ) × (names ≡ names_from part_prefix t 0 count)) }
+        ensures takes { IfOk result (λ names. TakesAll self.old.scope (λ k. names_from part_prefix k 0 count) names self.new.scope) }
     {
         let parts = part_names(self.alloc, "t", count)?;
         let names = self.scope.declare_all(self.alloc, parts.as_slice())?;

@@ -10,7 +10,8 @@ ghost use Rattle.func_gen.specs.Added.{Appends};
 ghost use Rattle.func_gen.specs.CallForms.{FreshAll};
 ghost use Rattle.func_gen.specs.Forms.{operand_of, runtime_call};
 ghost use Rattle.func_gen.specs.Meaning.{func_meaning};
-ghost use Rattle.func_gen.specs.TextForms.{buffer_names, buffer_stmts, buffer_words, bytes_name, forget_path, forgotten, len_name, ptr_name, taken_names, taken_stmts, text_name, vec_name, with_number};
+ghost use Rattle.func_gen.specs.Scope.{Takes, with_number};
+ghost use Rattle.func_gen.specs.TextForms.{buffer_names, buffer_stmts, buffer_words, bytes_name, forget_path, forgotten, len_name, ptr_name, taken_names, taken_stmts, text_name, vec_name};
 
 use crate::added::only_operand;
 use crate::emit::memory::both_operands;
@@ -80,6 +81,7 @@ impl FunctionBindgen {
     /// The number of three locals.
     fn declare_three(&mut self, one: &str, two: &str, three: &str) -> Result<u32, OutOfMemory>
         ensures adds { IfOk result (λ t. Appends self.old self.new [] []) }
+        ensures takes { IfOk result (λ t. Takes self.old.scope (λ k. with_number one.now k ∷ with_number two.now k ∷ with_number three.now k ∷ []) t self.new.scope) }
         ensures fresh { IfOk result (λ t. FreshAll self.old self.new (with_number one.now t ∷ with_number two.now t ∷ with_number three.now t ∷ [])) }
     {
         let one = LocalName {
@@ -126,6 +128,7 @@ impl FunctionBindgen {
     fn add_buffer(&mut self, e: Expr) -> Result<u32, OutOfMemory>
         ensures adds { IfOk result (λ t. Appends self.old self.new (buffer_stmts t e) []) }
         ensures fresh { IfOk result (λ t. FreshAll self.old self.new (buffer_names t)) }
+        ensures takes { IfOk result (λ t. Takes self.old.scope (λ k. buffer_names k) t self.new.scope) }
     {
         let t = self.declare_three("vec", "ptr", "len")?;
         self.push_let("vec", t, e)?;
@@ -156,6 +159,7 @@ impl FunctionBindgen {
     fn add_taken(&mut self, address: Expr, n: Expr) -> Result<u32, OutOfMemory>
         ensures adds { IfOk result (λ t. Appends self.old self.new (taken_stmts t address n) []) }
         ensures fresh { IfOk result (λ t. FreshAll self.old self.new (taken_names t)) }
+        ensures takes { IfOk result (λ t. Takes self.old.scope (λ k. taken_names k) t self.new.scope) }
     {
         let t = self.declare_three("len", "bytes", "text")?;
         self.push_let("len", t, n)?;

@@ -24,5 +24,9 @@ returns c =
         asked = refl;
         returned = refl;
       };
+      number = c.in_ok-t.t;
+      is = c.in_ok-name.ensures;
+      answers = c.in_ok-given.ensures ∙ c.in_ok-answer.ensures;
+      takes = record { locals = _; named = λ k. refl; declares = c.in_ok-t.ensures };
       names = declared_as c.args.self.now _ _ c.in_ok-t.t (name ∷ given ∷ []) c.in_ok-t.ensures (ap₂ (λ n m. n ∷ m ∷ []) c.in_ok-name.ensures (c.in_ok-given.ensures ∙ c.in_ok-answer.ensures));
     }

@@ -1,8 +1,8 @@
-use Rattle.std.proofs.Common.{[], ◌∷◌, ◌++◌, refl, sym, ap, ◌∙◌, append-nil}
+use Rattle.std.proofs.Common.{[], ◌∷◌, ◌++◌, refl, sym, ap, ◌∙◌, append-nil, ◌≡◌, ℕ, subst}
 use Rattle.rust_tree.specs.declared.pattern.Pattern.TheVariants as pattern
 use Rattle.rust_tree.specs.declared.stmt.Stmt.TheVariants as stmt
-use Rattle.func_gen.specs.PartForms.{part_prefix}
-use Rattle.func_gen.specs.Scope.{names_at}
+use Rattle.func_gen.specs.PartForms.{part_prefix, names_from}
+use Rattle.func_gen.specs.Scope.{names_at, Declares}
 use Rattle.func_gen.proofs.CallRows.{declared_as}
 use Rattle.func_gen.proofs.function_bindgen.FunctionBindgen.add_parts.Goals as goal
 
@@ -28,8 +28,13 @@ returns-clause-fresh c =
     let d = c.in_ok-names.ensures in
     declared_as c.args.self.now _ _ d.number c.in_ok-copies.copies d.declares (c.in_ok-copies.ensures ∙ c.as_slice-2.ensures ∙ d.are)
 
-pub returns-clause-named : goal.returns-clause-named
+pub returns-clause-takes : goal.returns-clause-takes
 unfolding part_prefix
-returns-clause-named c =
+returns-clause-takes c =
     let d = c.in_ok-names.ensures in
-    (d.number, c.in_ok-copies.ensures ∙ c.as_slice-2.ensures ∙ d.are ∙ ap (λ ns. names_at ns d.number) c.as_slice.ensures ∙ c.in_ok-parts.ensures d.number)
+    let named : (k : ℕ) → names_at c.in_ok-parts.parts k ≡ names_from part_prefix k 0 c.args.count = c.in_ok-parts.ensures in
+    record {
+      number = d.number;
+      are = c.in_ok-copies.ensures ∙ c.as_slice-2.ensures ∙ d.are ∙ ap (λ ns. names_at ns d.number) c.as_slice.ensures ∙ named d.number;
+      takes = record { locals = c.in_ok-parts.parts; named = named; declares = subst (λ ns. Declares c.args.self.now.scope ns d.number c.declare_all.new.self) c.as_slice.ensures d.declares };
+    }

@@ -22,5 +22,8 @@ returns c =
         asked = refl;
         returned = refl;
       };
+      number = c.in_ok-t.t;
+      is = c.in_ok-name.ensures;
+      takes = record { locals = _; named = λ k. refl; declares = c.in_ok-t.ensures };
       names = declared_as c.args.self.now _ _ c.in_ok-t.t (name ∷ []) c.in_ok-t.ensures (ap (λ n. n ∷ []) c.in_ok-name.ensures);
     }

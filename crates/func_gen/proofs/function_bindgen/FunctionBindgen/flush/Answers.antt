@@ -11,9 +11,9 @@ pub returns : goal.returns
 returns c =
     let types = c.args.resolve.now.types in
     let names = c.in_ok-names.names in
-    let named = c.in_ok-names.ensures.named in
+    let named = c.in_ok-names.ensures.takes in
     let same = c.as_slice.ensures in
     let adds = subst (λ es. Appends c.args.self.now c.add_lets.new.self (lets_of names es) []) (c.as_slice-2.ensures ∙ c.in_ok-es.ensures.same ∙ ap exprs_of same) c.in_ok-names.ensures.adds in
     emits_as types (instruction.Flush c.args.count) _ _ _ _ _ _ refl
     (c.in_ok-push_locals.ensures ∙ ap (λ rs. rs ++ locals_of c.as_slice-3.result.now) c.requires.empty ∙ ap locals_of c.as_slice-3.ensures)
-    (flush_row types _ _ named.0 c.args.count names c.args.operands.now c.requires.many (omega arith) named.1 (sym (ap are_operands same) ∙ c.in_ok-es.ensures.operands) adds c.in_ok-names.ensures.fresh)
+    (flush_row types _ _ named.number c.args.count names c.args.operands.now c.requires.many (omega arith) named.are (sym (ap are_operands same) ∙ c.in_ok-es.ensures.operands) adds c.in_ok-names.ensures.fresh named.takes)

@@ -1,10 +1,11 @@
-use Rattle.std.proofs.Common.{[], ◌∷◌, ◌++◌, ap, subst, ◌∙◌}
+use Rattle.std.proofs.Common.{[], ◌∷◌, ◌++◌, ap, subst, ◌∙◌, sym}
 use Rattle.rust_tree.specs.declared.expr.Expr.TheVariants as expr
 use Rattle.rust_tree.specs.declared.stmt.Stmt.TheVariants as stmt
 use Rattle.abi_driver.specs.declared.instruction.Instruction.TheVariants as instruction
 use Rattle.std.proofs.Common.{true}
 use Rattle.func_gen.specs.Added.{Appends}
 use Rattle.func_gen.specs.TextForms.{buffer_names, buffer_stmts, forgotten}
+use Rattle.func_gen.specs.Scope.{Takes}
 use Rattle.func_gen.proofs.Declared.{still_fresh}
 use Rattle.func_gen.proofs.Rows.{appends_both, emits_as}
 use Rattle.func_gen.proofs.TextRows.{give_row}
@@ -20,4 +21,5 @@ returns c =
     emits_as types (instruction.StringLower true) _ _ _ _ _ _ c.in_ok-name.ensures c.in_ok-push_words.ensures
     (give_row types c.args.self.now c.add_effect.new.self name t
     (subst (λ x. Appends c.args.self.now c.add_effect.new.self (stmts ++ stmt.Expr x ∷ []) []) (c.in_ok-call.ensures ∙ ap forgotten c.in_ok-vec.ensures) added)
-    (still_fresh c.args.self.now c.add_buffer.new.self c.add_effect.new.self (buffer_names t) c.in_ok-add_effect.ensures.scope c.in_ok-t.ensures.fresh))
+    (still_fresh c.args.self.now c.add_buffer.new.self c.add_effect.new.self (buffer_names t) c.in_ok-add_effect.ensures.scope c.in_ok-t.ensures.fresh)
+    (subst (Takes c.args.self.now.scope (λ k. buffer_names k) t) (sym c.in_ok-add_effect.ensures.scope) c.in_ok-t.ensures.takes))

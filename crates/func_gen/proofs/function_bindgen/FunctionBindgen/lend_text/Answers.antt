@@ -10,4 +10,4 @@ returns c =
     let e = c.in_ok-e.e in
     let t = c.in_ok-t.t in
     emits_as types (instruction.StringLower false) _ _ _ _ _ _ c.in_ok-e.ensures.only c.in_ok-push_words.ensures
-    (lend_row types c.args.self.now _ e t c.in_ok-e.ensures.operand c.in_ok-t.ensures.adds c.in_ok-t.ensures.fresh)
+    (lend_row types c.args.self.now _ e t c.in_ok-e.ensures.operand c.in_ok-t.ensures.adds c.in_ok-t.ensures.fresh c.in_ok-t.ensures.takes)

@@ -6,6 +6,7 @@ use Rattle.rust_tree.specs.declared.stmt.Stmt.TheVariants as stmt
 use Rattle.abi_driver.specs.declared.instruction.Instruction.TheVariants as instruction
 use Rattle.func_gen.specs.Added.{Appends}
 use Rattle.func_gen.specs.Forms.{runtime_call}
+use Rattle.func_gen.proofs.Forming.{one_since}
 use Rattle.func_gen.proofs.LiftedRows.{char_lift_row}
 use Rattle.func_gen.proofs.Rows.{appends_both, emits_as, fresh_since, pushed}
 use Rattle.func_gen.proofs.function_bindgen.FunctionBindgen.lift_char.Goals as goal
@@ -19,4 +20,5 @@ returns c =
     let adds = appends_both c.args.self.now c.ask.new.self c.add_let.new.self [] (stmt.Let n c.in_ok-lifted.lifted ∷ []) (CharLift ∷ []) [] c.in_ok-ask.ensures.asks c.in_ok-name.ensures.adds in
     emits_as types instruction.CharFromI32 _ _ _ _ _ _ c.in_ok-e.ensures.only (pushed c.args.results.now _ _ (expr.Local n) c.in_ok-push.ensures.ok c.requires.empty refl)
     (char_lift_row types _ _ n e c.in_ok-e.ensures.operand (fresh_since c.args.self.now c.ask.new.self c.add_let.new.self n c.in_ok-ask.ensures.scope c.in_ok-name.ensures.fresh)
-    (subst (λ x. Appends c.args.self.now c.add_let.new.self (stmt.Let n x ∷ []) (CharLift ∷ [])) same adds))
+    (subst (λ x. Appends c.args.self.now c.add_let.new.self (stmt.Let n x ∷ []) (CharLift ∷ [])) same adds)
+    (one_since c.args.self.now.scope c.ask.new.self.scope c.add_let.new.self.scope _ n c.in_ok-ask.ensures.scope c.in_ok-name.ensures.takes))

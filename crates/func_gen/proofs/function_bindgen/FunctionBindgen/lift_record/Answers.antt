@@ -10,4 +10,4 @@ returns c =
     let types = c.args.resolve.now.types in
     let n = c.in_ok-name.name in
     emits_as types (instruction.RecordLift c.args.id) _ _ _ _ _ _ refl (pushed c.args.results.now _ _ (expr.Local n) c.in_ok-push.ensures.ok c.requires.empty refl)
-    (record_made types c.args.self.now _ n c.args.id c.args.operands.now c.in_ok-record.record c.in_ok-record.ensures c.in_ok-name.ensures.adds c.in_ok-name.ensures.fresh)
+    (record_made types c.args.self.now _ n c.args.id c.args.operands.now c.in_ok-record.record c.in_ok-record.ensures c.in_ok-name.ensures.adds c.in_ok-name.ensures.fresh c.in_ok-name.ensures.takes)

@@ -15,4 +15,4 @@ returns c =
     let same = c.as_slice.ensures in
     let adds = subst (λ es. Appends c.args.self.now c.add_let.new.self (stmt.Let n (expr.Tuple es) ∷ []) []) (c.in_ok-parts.ensures.same ∙ ap exprs_of same) c.in_ok-name.ensures.adds in
     emits_as types (instruction.TupleLift c.args.count) _ _ _ _ _ _ refl (pushed c.args.results.now _ _ (expr.Local n) c.in_ok-push.ensures.ok c.requires.empty refl)
-    (tuple_row types _ _ n c.args.count c.args.operands.now c.requires.many (sym (ap are_operands same) ∙ c.in_ok-parts.ensures.operands) adds c.in_ok-name.ensures.fresh)
+    (tuple_row types _ _ n c.args.count c.args.operands.now c.requires.many (sym (ap are_operands same) ∙ c.in_ok-parts.ensures.operands) adds c.in_ok-name.ensures.fresh c.in_ok-name.ensures.takes)

@@ -13,4 +13,4 @@ returns c =
     let n = c.in_ok-name.name in
     let adds = subst (λ x. Appends c.args.self.now c.add_let.new.self (stmt.Let n (expr.Load x c.args.place.0 c.args.place.1) ∷ []) []) c.in_ok-new.ensures c.in_ok-name.ensures.adds in
     emits_as types c.args.inst.now _ _ _ _ _ _ c.in_ok-address.ensures.only (pushed c.args.results.now _ _ (expr.Local n) c.in_ok-push.ensures.ok c.requires.empty refl)
-    (whole_load_row types _ _ c.args.inst.now n e c.in_ok-address.ensures.operand c.in_ok-name.ensures.fresh c.args.place c.requires.load adds)
+    (whole_load_row types _ _ c.args.inst.now n e c.in_ok-address.ensures.operand c.in_ok-name.ensures.fresh c.in_ok-name.ensures.takes c.args.place c.requires.load adds)

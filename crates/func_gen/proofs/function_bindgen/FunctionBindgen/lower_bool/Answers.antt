@@ -14,4 +14,4 @@ returns c =
     let n = c.in_ok-name.name in
     let adds = subst (λ x. Appends c.args.self.now c.add_let.new.self (stmt.Let n (expr.I32FromBool x) ∷ []) []) c.in_ok-new.ensures c.in_ok-name.ensures.adds in
     emits_as types instruction.I32FromBool _ _ _ _ _ _ c.in_ok-e.ensures.only (pushed c.args.results.now _ _ (expr.Local n) c.in_ok-push.ensures.ok c.requires.empty refl)
-    (bool_row types _ _ n e c.in_ok-e.ensures.operand adds c.in_ok-name.ensures.fresh)
+    (bool_row types _ _ n e c.in_ok-e.ensures.operand adds c.in_ok-name.ensures.fresh c.in_ok-name.ensures.takes)

@@ -10,7 +10,7 @@ returns c =
     let types = c.args.resolve.now.types in
     let e = c.in_ok-e.e in
     let names = c.in_ok-names.names in
-    let named = c.in_ok-names.ensures.named in
+    let named = c.in_ok-names.ensures.takes in
     emits_as types (instruction.TupleLower c.args.count) _ _ _ _ _ _ c.in_ok-e.ensures.only
     (c.in_ok-push_locals.ensures ∙ ap (λ rs. rs ++ locals_of c.as_slice.result.now) c.requires.empty ∙ ap locals_of c.as_slice.ensures)
-    (apart_row types _ _ named.0 c.args.count names e c.in_ok-e.ensures.operand (omega arith) named.1 c.in_ok-names.ensures.adds c.in_ok-names.ensures.fresh)
+    (apart_row types _ _ named.number c.args.count names e c.in_ok-e.ensures.operand (omega arith) named.are c.in_ok-names.ensures.adds c.in_ok-names.ensures.fresh named.takes)

@@ -15,4 +15,4 @@ returns c =
     let n = c.in_ok-name.name in
     let added = subst (λ e. Appends old mid (stmt.Let n e ∷ []) []) c.in_ok-pointer.ensures c.in_ok-name.ensures.adds in
     subst (λ asked. PointsTo func_meaning c.args.room (operand_of (expr.Local n)) old (record mid { asked = asked })) (sym c.in_ok-push.ensures.ok)
-    (points_to c.args.room old mid n added c.in_ok-name.ensures.fresh c.requires.aligned)
+    (points_to c.args.room old mid n added c.in_ok-name.ensures.fresh c.requires.aligned c.in_ok-name.ensures.takes)
