@@ -1,5 +1,5 @@
 -- What the body of a wrapper is, once its code was made.
-use Rattle.std.specs.Prelude.{◌≡◌, List, [], ◌∷◌, map, Option, None, Some}
+use Rattle.std.specs.Prelude.{◌≡◌, true, List, [], ◌∷◌, map, Option, None, Some, IfSome}
 use Rattle.std.specs.List.{fold}
 use Rattle.wit_model.specs.Size.{greater_alignment, greater_size}
 use Rattle.wit_model.specs.declared.size.Alignment.{Alignment}
@@ -10,6 +10,7 @@ use Rattle.abi_driver.specs.declared.bindgen.Asked.{Asked}
 use Rattle.func_gen.specs.declared.body.Body.{Body}
 use Rattle.func_gen.specs.declared.function_bindgen.FunctionBindgen.{FunctionBindgen}
 use Rattle.func_gen.specs.declared.operand.ExprOperand.{ExprOperand}
+use Rattle.func_gen.specs.Operand.{is_operand}
 
 -- the greater size and the greater alignment of two records
 abbrev pub greater : Asked → Asked → Asked
@@ -38,5 +39,6 @@ pub record IsBodyOf (b : FunctionBindgen) (body : Body) : Type 0 where
   pub call : body.call ≡ b.code.call
   pub stmts : body.stmts ≡ b.code.stmts
   pub tail : Gives b.returned body.tail
+  pub operand : IfSome body.tail (λ e. is_operand e ≡ true)
   pub area : body.area ≡ needed b.asked
   pub runtime : body.runtime ≡ b.runtime

@@ -9,6 +9,7 @@ pub mod Facts
 pub mod FlushForms
 pub mod Forms
 pub mod FuncSound
+pub mod Made
 pub mod Meaning
 pub mod MemoryForms
 pub mod MethodForms

@@ -1,11 +1,12 @@
 //! The body of a wrapper, once its code was made.
 
-ghost use Rattle.std.specs.Prelude.{◌≡◌, ◌^◌, ◌<◌, true, IfOk};
+ghost use Rattle.std.specs.Prelude.{◌≡◌, ◌^◌, ◌<◌, true, IfOk, IfSome};
 ghost use Rattle.wit_model.specs.Size.{bytes_at, rounded_up};
 ghost use Rattle.func_gen.specs.Body.{Gives, IsBodyOf, greater, needed};
+ghost use Rattle.func_gen.specs.Operand.{is_operand};
 
 use crate::function_bindgen::{Code, FunctionBindgen};
-use crate::operand::{ExprOperand, copy_expr};
+use crate::operand::{ExprOperand, copy_expr, is_operand};
 use abi_driver::Asked;
 use rust_tree::{CallBlock, Expr, RuntimeItem, Stmt};
 use std::alloc::Global;
@@ -27,8 +28,8 @@ pub struct Body {
 }
 
 impl FunctionBindgen {
-    /// The body that was made. There is no memory also where the code gives several operands, and where the area is of no size that
-    /// a memory has.
+    /// The body that was made. There is no memory also where the code gives several operands or an expression that is none, and where the
+    /// area is of no size that a memory has.
     pub fn finish(self) -> Result<Body, OutOfMemory>
         ensures { IfOk result (λ body. IsBodyOf self body) }
     {
@@ -54,14 +55,15 @@ impl FunctionBindgen {
 }
 
 fn tail_of(alloc: Global, returned: &Option<List<ExprOperand>>) -> Result<Option<Expr>, OutOfMemory>
-    ensures { IfOk result (λ tail. Gives returned.now tail) }
+    ensures gives { IfOk result (λ tail. Gives returned.now tail) }
+    ensures operand { IfOk result (λ tail. IfSome tail (λ e. is_operand e ≡ true)) }
 {
     let Some(given) = returned else {
         return Ok(None);
     };
     match given.as_slice() {
         [] => Ok(None),
-        [operand] => Ok(Some(copy_expr(&operand.expr, alloc)?)),
+        [operand] if is_operand(&operand.expr) => Ok(Some(copy_expr(&operand.expr, alloc)?)),
         _ => Err(OutOfMemory),
     }
 }

@@ -4,6 +4,7 @@ ghost use Rattle.std.specs.Prelude.{◌≡◌, ◌∷◌, true, not, IfOk};
 ghost use Rattle.std.specs.List.{AllByRecursion};
 ghost use Rattle.wit_model.specs.Distinct.{is_distinct};
 ghost use Rattle.abi_driver.specs.Laws.{IsNew};
+ghost use Rattle.func_gen.specs.Made.{IsMadeOf};
 ghost use Rattle.func_gen.specs.Meaning.{func_meaning};
 ghost use Rattle.func_gen.specs.Records.{CanBeDefined};
 ghost use Rattle.func_gen.specs.Sites.{IsSite, site_names};
@@ -83,6 +84,7 @@ impl FunctionBindgen {
         requires sites { AllByRecursion IsSite params }
         requires defined { CanBeDefined records }
         requires distinct { is_distinct (area ∷ site_names params) ≡ true }
+        ensures made { IfOk result (IsMadeOf sizes import home area params records) }
         ensures begins { IfOk result (λ b. IsNew func_meaning b) }
         ensures imports { IfOk result (λ b. func_meaning.imports b ≡ import) }
         ensures exports { IfOk result (λ b. func_meaning.exports b ≡ not import) }
