@@ -23,3 +23,5 @@ pub mod ExportCalls
 pub mod ExportPlaced
 pub mod ExportEnds
 pub mod FaithfulExport
+pub mod Givings
+pub mod ImportBodyCloses

@@ -9,6 +9,7 @@ use Rattle.wrapper_data.specs.declared.choice.Request.{Request}
 use Rattle.wrapper_run.specs.Places.{request_of}
 use Rattle.abi_driver.specs.declared.bindgen.Asked.{Asked}
 use Rattle.func_gen.specs.Body.{asked_alignment, asked_size}
+use Rattle.func_gen.specs.declared.body.Body.{Body}
 use Rattle.func_gen.specs.declared.function_bindgen.FunctionBindgen.{FunctionBindgen}
 use Rattle.func_gen.specs.declared.operand.ExprOperand.{ExprOperand}
 
@@ -29,3 +30,11 @@ tail_of (o ∷ os) = Some o.expr
 
 abbrev pub import_block : Bytes → FunctionBindgen → List ExprOperand → Block
 import_block area b given = record { stmts = area_stmts area b.asked ++ b.code.stmts; tail = tail_of given }
+
+-- the same of a body: its area, if it needs one, its statements, and what it gives
+abbrev pub local_area : Bytes → Option Asked → List Stmt
+local_area name None = []
+local_area name (Some a) = stmt.Area (record { name = name; size = a.size; align = a.align }) ∷ []
+
+abbrev pub block_of : Bytes → Body → Block
+block_of area body = record { stmts = local_area area body.area ++ body.stmts; tail = body.tail }

@@ -1,9 +1,11 @@
 -- Laws: a wrapper that closes the driver's code is faithful to its function.
+use Rattle.std.specs.Borrow.{Bor}
 use Rattle.std.specs.Prelude.{◌≡◌, ℕ, false, List, [], Option, None}
 use Rattle.wit_model.specs.Bytes.{Bytes}
 use Rattle.wit_model.specs.declared.function.Function.{Function}
 use Rattle.wit_model.specs.declared.types.TypeDef.{TypeDef}
 use Rattle.rust_tree.specs.Tree.{Tree}
+use Rattle.func_gen.specs.declared.body.Body.{Body}
 use Rattle.func_gen.specs.declared.function_bindgen.FunctionBindgen.{FunctionBindgen}
 use Rattle.wrapper_meaning.specs.Shape.{Shape, result_shape}
 use Rattle.wrapper_meaning.specs.Kinds.{result_has_list}
@@ -18,6 +20,8 @@ use Rattle.wrapper_meaning.specs.Gives.{FreesWords}
 use Rattle.wrapper_closing.specs.ClosedExport.{ClosesExport}
 use Rattle.wrapper_closing.specs.ClosedImport.{ClosesImport, import_target}
 use Rattle.wrapper_closing.specs.ClosedPostReturn.{ClosesPostReturn}
+use Rattle.wrapper_closing.specs.ImportBody.{ClosesImportBody, import_called}
+use Rattle.wrapper_closing.specs.declared.parts.BodyParts.{BodyParts}
 
 abbrev pub ClosedImportIsFaithful : Type 0
 ClosedImportIsFaithful = (types : List TypeDef) (resources : Resources) (tree : Tree) (nth : ℕ) (f : Function) (old new : FunctionBindgen)
@@ -41,3 +45,8 @@ ClosedPostReturnIsReturned = (types : List TypeDef) (name : Bytes) (tree : Tree)
 abbrev pub UnlistedIsUnreturned : Type 0
 UnlistedIsUnreturned = (types : List TypeDef) (name : Bytes) (tree : Tree) (nth : ℕ) (f : Function) → result_has_list (result_shape types f) ≡ false → post_return_at tree nth ≡ None → entries_named name tree.items ≡ []
     → IsUnreturned name tree nth (passed types f)
+
+-- and a wrapper that closes a body which was made for its function
+abbrev pub ImportBodyIsFaithful : Type 0
+ImportBodyIsFaithful = (types : List TypeDef) (resources : Resources) (tree : Tree) (nth : ℕ) (func : Bor Function) (parts : BodyParts) (body : Body)
+    → ClosesImportBody types func parts body tree nth → IsFaithful resources (import_called parts func.now) false tree nth (passed types func.now)

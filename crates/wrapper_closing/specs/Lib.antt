@@ -1,8 +1,11 @@
 pub mod Begun
+pub mod Bodies
 pub mod ClosedExport
 pub mod ClosedImport
 pub mod ClosedPostReturn
 pub mod Direct
 pub mod ImportBlock
+pub mod ImportBody
 pub mod Laws
 pub mod NoArea
+pub mod Parts

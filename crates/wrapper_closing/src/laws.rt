@@ -5,6 +5,7 @@ ghost use Rattle.wrapper_closing.specs.Laws.{
   ClosedImportIsFaithful,
   ClosedPostReturnFrees,
   ClosedPostReturnIsReturned,
+  ImportBodyIsFaithful,
   UnlistedIsUnreturned,
 };
 
@@ -24,4 +25,9 @@ pub fn post_return_law()
     ensures frees { ClosedPostReturnFrees }
     ensures returned { ClosedPostReturnIsReturned }
     ensures unreturned { UnlistedIsUnreturned }
+{}
+
+/// The wrapper of an import that closes the body which was made for its function is faithful to it.
+pub fn import_body_law()
+    ensures { ImportBodyIsFaithful }
 {}

@@ -1,0 +1,22 @@
+-- Parts of which the body of a wrapper can be made.
+use Rattle.std.specs.Prelude.{◌≡◌, Bool, true, List, ◌∷◌}
+use Rattle.std.specs.List.{AllByRecursion}
+use Rattle.wit_layout.specs.Filled.{IsFilledFor}
+use Rattle.wit_model.specs.Distinct.{is_distinct}
+use Rattle.wit_model.specs.declared.types.TypeDef.{TypeDef}
+use Rattle.func_gen.specs.Made.{IsMadeOf}
+use Rattle.func_gen.specs.Records.{CanBeDefined}
+use Rattle.func_gen.specs.Sites.{IsSite, site_names}
+use Rattle.func_gen.specs.declared.function_bindgen.FunctionBindgen.{FunctionBindgen}
+use Rattle.wrapper_closing.specs.declared.parts.BodyParts.{BodyParts}
+
+-- the layouts are those of the types, each parameter is denoted by its name, no two names are the same, and structs can define the records
+pub record AreParts (types : List TypeDef) (parts : BodyParts) : Type 0 where
+  pub filled : IsFilledFor parts.sizes types
+  pub sites : AllByRecursion IsSite parts.params
+  pub distinct : is_distinct (parts.area ∷ site_names parts.params) ≡ true
+  pub defined : CanBeDefined parts.records
+
+-- a bindgen was made of them
+abbrev pub IsMadeFrom : Bool → BodyParts → FunctionBindgen → Type 0
+IsMadeFrom import parts b = IsMadeOf parts.sizes import parts.home parts.area parts.params parts.records b

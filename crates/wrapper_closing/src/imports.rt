@@ -1,0 +1,44 @@
+//! The body of an import's wrapper.
+
+ghost use Rattle.std.specs.Prelude.{◌≡◌, length, true, IfOk};
+ghost use Rattle.wit_model.specs.IndexRange.{function_in_range};
+ghost use Rattle.wit_model.specs.WellFormed.{IsWellFormed};
+ghost use Rattle.wrapper_closing.specs.Bodies.{MakesImport};
+ghost use Rattle.wrapper_closing.specs.Parts.{AreParts};
+
+use crate::parts::{BodyParts, begin};
+use abi_driver::{LiftLower, call};
+use func_gen::Body;
+use std::alloc::Global;
+use wit_layout::AbiVariant;
+use wit_model::{Function, OutOfMemory, Resolve};
+
+/// The body of the wrapper of an imported function: the driver's code for it. Of a function for which there is no such code, the answer is
+/// `OutOfMemory`, as where memory is wanting.
+pub fn import_body(
+    alloc: Global,
+    resolve: &Resolve,
+    func: &Function,
+    parts: BodyParts,
+) -> Result<Body, OutOfMemory>
+    requires well { IsWellFormed resolve.now }
+    requires within { function_in_range resolve.now func.now ≡ true }
+    requires parts { AreParts resolve.now.types parts }
+    requires many { length parts.params ≡ length func.now.params }
+    ensures { IfOk result (MakesImport resolve.now.types func.entry parts) }
+{
+    let mut bindgen = begin(alloc, true, parts)?;
+    call(
+        alloc,
+        resolve,
+        AbiVariant::GuestImport,
+        LiftLower::LowerArgsLiftResults,
+        func,
+        &mut bindgen,
+    )?;
+    let body = bindgen.finish()?;
+    if body.call.is_some() {
+        return Err(OutOfMemory);
+    }
+    Ok(body)
+}

@@ -1,0 +1,49 @@
+//! Of what the body of a wrapper is made.
+
+ghost use Rattle.std.specs.Prelude.{◌≡◌, ◌∷◌, true, IfOk};
+ghost use Rattle.std.specs.List.{AllByRecursion};
+ghost use Rattle.wit_model.specs.Distinct.{is_distinct};
+ghost use Rattle.func_gen.specs.Records.{CanBeDefined};
+ghost use Rattle.func_gen.specs.Sites.{IsSite, site_names};
+ghost use Rattle.wrapper_closing.specs.Parts.{IsMadeFrom};
+
+use func_gen::{FunctionBindgen, ParamSite, RecordSite};
+use std::alloc::Global;
+use wit_layout::SizeAlign;
+use wit_model::{List, OutOfMemory, Text};
+
+/// Of what the body of a wrapper is made, beside its function.
+#[derive(Drop)]
+pub struct BodyParts {
+    /// The layouts of the types of the table.
+    pub sizes: SizeAlign,
+    /// Where calls go: the module of the core imports, or the trait whose methods are called.
+    pub home: Text,
+    /// The local that holds an import's return area.
+    pub area: Text,
+    /// The wrapper's parameters.
+    pub params: List<ParamSite>,
+    /// By the number of a type, how it is written if it is a record.
+    pub records: List<Option<RecordSite>>,
+}
+
+/// A bindgen without code, of an import or of an export.
+pub(crate) fn begin(
+    alloc: Global,
+    import: bool,
+    parts: BodyParts,
+) -> Result<FunctionBindgen, OutOfMemory>
+    requires sites { AllByRecursion IsSite parts.params }
+    requires defined { CanBeDefined parts.records }
+    requires distinct { is_distinct (parts.area ∷ site_names parts.params) ≡ true }
+    ensures { IfOk result (IsMadeFrom import parts) }
+{
+    let BodyParts {
+        sizes,
+        home,
+        area,
+        params,
+        records,
+    } = parts;
+    FunctionBindgen::new(alloc, sizes, import, home, area, params, records)
+}
