@@ -3,6 +3,8 @@ use Rattle.std.proofs.Common.{◌≡◌, Bool, true, List, [], ◌∷◌, Option
 use Rattle.std.specs.Prelude.{◌&&◌, IfSome}
 use Rattle.std.specs.List.{AllByRecursion}
 use Rattle.rust_tree.specs.declared.expr.Expr.{Expr}
+use Rattle.rust_tree.specs.declared.stmt.Block.{Block}
+use Rattle.rust_tree.specs.declared.stmt.Stmt.{Stmt}
 use Rattle.wit_model.specs.Distinct.{is_distinct}
 use Rattle.wit_model.specs.declared.types.TypeDef.{TypeDef}
 use Rattle.func_gen.specs.Body.{Gives}
@@ -36,3 +38,6 @@ pub tail_given : (os : List ExprOperand) (tail : Option Expr) → Gives (Some os
 tail_given [] tail h = h
 tail_given (o ∷ []) tail h = h
 tail_given (o ∷ _ ∷ _) tail h = absurd h
+
+abbrev pub block_with : List Stmt → Option Expr → Block
+block_with stmts tail = record { stmts = stmts; tail = tail }

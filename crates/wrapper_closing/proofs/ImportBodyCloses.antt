@@ -1,10 +1,8 @@
 -- An item that closes the body which was made for an import closes the driver's code, and so it is faithful.
-use Rattle.std.proofs.Common.{◌≡◌, ℕ, true, false, List, [], ◌∷◌, ◌++◌, length, map, Option, Some, refl, sym, ap, ap₂, ◌∙◌, subst}
+use Rattle.std.proofs.Common.{◌≡◌, ℕ, true, false, List, [], ◌∷◌, ◌++◌, length, map, Some, refl, sym, ap, ap₂, ◌∙◌, subst}
 use Rattle.std.specs.Borrow.{Bor}
 use Rattle.std.specs.Prelude.{option_to_list}
 use Rattle.rust_tree.specs.Tree.{Tree}
-use Rattle.rust_tree.specs.declared.expr.Expr.{Expr}
-use Rattle.rust_tree.specs.declared.stmt.Block.{Block}
 use Rattle.rust_tree.specs.declared.stmt.Stmt.{Stmt}
 use Rattle.wit_model.specs.Bytes.{Bytes}
 use Rattle.wit_model.specs.declared.function.Function.{Function}
@@ -31,11 +29,8 @@ use Rattle.wrapper_closing.specs.ImportBlock.{area_stmts, block_of, import_block
 use Rattle.wrapper_closing.specs.ImportBody.{ClosesImportBody}
 use Rattle.wrapper_closing.specs.Laws.{ImportBodyIsFaithful}
 use Rattle.wrapper_closing.specs.declared.parts.BodyParts.{BodyParts}
-use Rattle.wrapper_closing.proofs.Givings.{begun_of, operands_given, tail_given}
+use Rattle.wrapper_closing.proofs.Givings.{begun_of, block_with, operands_given, tail_given}
 use Rattle.wrapper_closing.proofs.FaithfulImport.{closed_import_is_faithful}
-
-abbrev block_with : List Stmt → Option Expr → Block
-block_with stmts tail = record { stmts = stmts; tail = tail }
 
 local_needed : (name : Bytes) (asked : List Asked) → local_area name (needed asked) ≡ area_stmts name asked
 local_needed name [] = refl

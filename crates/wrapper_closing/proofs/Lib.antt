@@ -25,3 +25,5 @@ pub mod ExportEnds
 pub mod FaithfulExport
 pub mod Givings
 pub mod ImportBodyCloses
+pub mod ExportBodyCloses
+pub mod PostReturnBodyCloses

@@ -20,7 +20,9 @@ use Rattle.wrapper_meaning.specs.Gives.{FreesWords}
 use Rattle.wrapper_closing.specs.ClosedExport.{ClosesExport}
 use Rattle.wrapper_closing.specs.ClosedImport.{ClosesImport, import_target}
 use Rattle.wrapper_closing.specs.ClosedPostReturn.{ClosesPostReturn}
+use Rattle.wrapper_closing.specs.ExportBody.{ClosesExportBody}
 use Rattle.wrapper_closing.specs.ImportBody.{ClosesImportBody, import_called}
+use Rattle.wrapper_closing.specs.PostReturnBody.{ClosesPostReturnBody}
 use Rattle.wrapper_closing.specs.declared.parts.BodyParts.{BodyParts}
 
 abbrev pub ClosedImportIsFaithful : Type 0
@@ -50,3 +52,16 @@ UnlistedIsUnreturned = (types : List TypeDef) (name : Bytes) (tree : Tree) (nth 
 abbrev pub ImportBodyIsFaithful : Type 0
 ImportBodyIsFaithful = (types : List TypeDef) (resources : Resources) (tree : Tree) (nth : ℕ) (func : Bor Function) (parts : BodyParts) (body : Body)
     → ClosesImportBody types func parts body tree nth → IsFaithful resources (import_called parts func.now) false tree nth (passed types func.now)
+
+abbrev pub ExportBodyIsFaithful : Type 0
+ExportBodyIsFaithful = (types : List TypeDef) (resources : Resources) (names : ExportNames) (results : List (Option Shape)) (tree : Tree) (nth : ℕ) (func : Bor Function) (parts : BodyParts) (body : Body)
+    → ClosesExportBody types func parts body names results tree nth → IsExportFaithful resources names results tree nth (passed types func.now)
+
+-- a post-return function that closes such a body frees what the words own, and where it is entered, it is that of the wrapper
+abbrev pub PostReturnBodyFrees : Type 0
+PostReturnBodyFrees = (types : List TypeDef) (tree : Tree) (nth : ℕ) (f : Function) (parts : BodyParts) (body : Body)
+    → ClosesPostReturnBody types f parts body tree nth → (x : RunOfPostReturn (passed types f) tree nth) → FreesWords x.blocks x.heap x.run
+
+abbrev pub PostReturnBodyIsReturned : Type 0
+PostReturnBodyIsReturned = (types : List TypeDef) (name : Bytes) (tree : Tree) (nth : ℕ) (f : Function) (parts : BodyParts) (body : Body)
+    → (c : ClosesPostReturnBody types f parts body tree nth) → IsEntered name tree (passed types f) c.function → IsReturned name tree nth (passed types f)

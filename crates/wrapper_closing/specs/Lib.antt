@@ -4,8 +4,10 @@ pub mod ClosedExport
 pub mod ClosedImport
 pub mod ClosedPostReturn
 pub mod Direct
+pub mod ExportBody
 pub mod ImportBlock
 pub mod ImportBody
 pub mod Laws
 pub mod NoArea
 pub mod Parts
+pub mod PostReturnBody

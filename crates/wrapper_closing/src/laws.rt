@@ -5,7 +5,10 @@ ghost use Rattle.wrapper_closing.specs.Laws.{
   ClosedImportIsFaithful,
   ClosedPostReturnFrees,
   ClosedPostReturnIsReturned,
+  ExportBodyIsFaithful,
   ImportBodyIsFaithful,
+  PostReturnBodyFrees,
+  PostReturnBodyIsReturned,
   UnlistedIsUnreturned,
 };
 
@@ -30,4 +33,16 @@ pub fn post_return_law()
 /// The wrapper of an import that closes the body which was made for its function is faithful to it.
 pub fn import_body_law()
     ensures { ImportBodyIsFaithful }
+{}
+
+/// The wrapper of an export that closes the body which was made for its function is faithful to it, where its post-return function is.
+pub fn export_body_law()
+    ensures { ExportBodyIsFaithful }
+{}
+
+/// The post-return function that closes the body which was made for it frees what the words own, and is that of the wrapper where it is
+/// entered.
+pub fn post_return_body_law()
+    ensures frees { PostReturnBodyFrees }
+    ensures returned { PostReturnBodyIsReturned }
 {}

@@ -2,12 +2,18 @@
 //! function. The definitions are in `specs/`, and the laws are functions.
 #![tactic(auto)]
 
+mod exports;
 mod imports;
 mod laws;
 mod no_area;
 mod parts;
+mod post_returns;
 
+pub use exports::export_body;
 pub use imports::import_body;
-pub use laws::{export_law, import_body_law, import_law, post_return_law};
+pub use laws::{
+    export_body_law, export_law, import_body_law, import_law, post_return_body_law, post_return_law,
+};
 pub use no_area::declares_no_area;
 pub use parts::BodyParts;
+pub use post_returns::post_return_body;

@@ -1,0 +1,56 @@
+//! The body of an export's wrapper.
+
+ghost use Rattle.std.specs.Prelude.{◌≡◌, length, true, IfOk};
+ghost use Rattle.abi_driver.specs.Exports.{export_params};
+ghost use Rattle.wit_model.specs.IndexRange.{function_in_range};
+ghost use Rattle.wit_model.specs.WellFormed.{IsWellFormed};
+ghost use Rattle.wrapper_closing.specs.Bodies.{MakesExport, calls_method};
+ghost use Rattle.wrapper_closing.specs.Parts.{AreParts};
+
+use crate::no_area::declares_no_area;
+use crate::parts::{BodyParts, begin};
+use abi_driver::{LiftLower, call};
+use func_gen::Body;
+use std::alloc::Global;
+use wit_layout::AbiVariant;
+use wit_model::{Function, OutOfMemory, Resolve};
+
+/// The body of the wrapper of an exported function: the block that calls its method, and the driver's code behind it. Of a function for which
+/// there is no such code, the answer is `OutOfMemory`, as where memory is wanting.
+pub fn export_body(
+    alloc: Global,
+    resolve: &Resolve,
+    func: &Function,
+    parts: BodyParts,
+) -> Result<Body, OutOfMemory>
+    requires well { IsWellFormed resolve.now }
+    requires within { function_in_range resolve.now func.now ≡ true }
+    requires parts { AreParts resolve.now.types parts }
+    requires many { length parts.params ≡ length (export_params resolve.now.types func.now) }
+    ensures { IfOk result (MakesExport resolve.now.types func.entry parts) }
+{
+    let mut bindgen = begin(alloc, false, parts)?;
+    call(
+        alloc,
+        resolve,
+        AbiVariant::GuestExport,
+        LiftLower::LiftArgsLowerResults,
+        func,
+        &mut bindgen,
+    )?;
+    let body = bindgen.finish()?;
+    if !calls_method(&body) || !declares_no_area(body.stmts.as_slice()) {
+        return Err(OutOfMemory);
+    }
+    Ok(body)
+}
+
+/// Whether a body has a block that calls a method, and that declares no area.
+fn calls_method(body: &Body) -> bool
+    ensures { result ≡ calls_method body.now }
+{
+    match &body.call {
+        Some(block) => declares_no_area(block.stmts.as_slice()),
+        None => false,
+    }
+}

@@ -1,0 +1,36 @@
+//! The body of an export's post-return function.
+
+ghost use Rattle.std.specs.Prelude.{◌≡◌, ◌<◌, length, true, IfOk};
+ghost use Rattle.wit_model.specs.IndexRange.{function_in_range};
+ghost use Rattle.wit_model.specs.WellFormed.{IsWellFormed};
+ghost use Rattle.wrapper_closing.specs.Bodies.{MakesPostReturn};
+ghost use Rattle.wrapper_closing.specs.Parts.{AreParts};
+
+use crate::parts::{BodyParts, begin};
+use abi_driver::post_return;
+use func_gen::Body;
+use std::alloc::Global;
+use wit_model::{Function, OutOfMemory, Resolve};
+
+/// The body of the post-return function of an exported function: the driver's code by which the blocks of its result are freed. Of a
+/// function for which there is no such code, the answer is `OutOfMemory`, as where memory is wanting.
+pub fn post_return_body(
+    alloc: Global,
+    resolve: &Resolve,
+    func: &Function,
+    parts: BodyParts,
+) -> Result<Body, OutOfMemory>
+    requires well { IsWellFormed resolve.now }
+    requires within { function_in_range resolve.now func.now ≡ true }
+    requires parts { AreParts resolve.now.types parts }
+    requires some { 0 < length parts.params }
+    ensures { IfOk result (MakesPostReturn resolve.now.types func.now parts) }
+{
+    let mut bindgen = begin(alloc, false, parts)?;
+    post_return(alloc, resolve, func, &mut bindgen)?;
+    let body = bindgen.finish()?;
+    if body.call.is_some() {
+        return Err(OutOfMemory);
+    }
+    Ok(body)
+}
