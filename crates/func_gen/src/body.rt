@@ -68,8 +68,9 @@ fn tail_of(alloc: Global, returned: &Option<List<ExprOperand>>) -> Result<Option
     }
 }
 
-/// The area for all these records.
-fn needed_area(asked: &[Asked]) -> Result<Option<Asked>, OutOfMemory>
+/// The area for all these records: of a body those for which its code asked, and of a file those of its bodies. There is no memory also where
+/// it is of no size that a memory has.
+pub fn needed_area(asked: &[Asked]) -> Result<Option<Asked>, OutOfMemory>
     ensures { IfOk result (λ area. area ≡ needed asked.now) }
 {
     if asked.is_empty() {

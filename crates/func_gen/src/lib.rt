@@ -12,7 +12,7 @@ mod operand;
 mod record_site;
 mod scope;
 
-pub use body::Body;
+pub use body::{Body, needed_area};
 pub use function_bindgen::{Code, FunctionBindgen, ParamSite};
 pub use operand::ExprOperand;
 pub use record_site::RecordSite;

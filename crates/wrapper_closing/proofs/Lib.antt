@@ -26,4 +26,5 @@ pub mod FaithfulExport
 pub mod Givings
 pub mod ImportBodyCloses
 pub mod ExportBodyCloses
+pub mod BodyAreas
 pub mod PostReturnBodyCloses

@@ -1,12 +1,13 @@
 -- Laws: a wrapper that closes the driver's code is faithful to its function.
 use Rattle.std.specs.Borrow.{Bor}
-use Rattle.std.specs.Prelude.{◌≡◌, ℕ, false, List, [], Option, None}
+use Rattle.std.specs.Prelude.{◌≡◌, ℕ, false, List, [], Option, None, option_to_list}
 use Rattle.wit_model.specs.Bytes.{Bytes}
 use Rattle.wit_model.specs.declared.function.Function.{Function}
 use Rattle.wit_model.specs.declared.types.TypeDef.{TypeDef}
 use Rattle.rust_tree.specs.Tree.{Tree}
 use Rattle.func_gen.specs.declared.body.Body.{Body}
 use Rattle.func_gen.specs.declared.function_bindgen.FunctionBindgen.{FunctionBindgen}
+use Rattle.wrapper_meaning.specs.Areas.{result_record}
 use Rattle.wrapper_meaning.specs.Shape.{Shape, result_shape}
 use Rattle.wrapper_meaning.specs.Kinds.{result_has_list}
 use Rattle.wrapper_run.specs.Entries.{ExportNames, entries_named}
@@ -17,6 +18,8 @@ use Rattle.wrapper_faithful.specs.Passed.{passed}
 use Rattle.wrapper_faithful.specs.Resources.{Resources}
 use Rattle.wrapper_faithful.specs.Returned.{IsEntered, IsReturned, IsUnreturned, RunOfPostReturn}
 use Rattle.wrapper_meaning.specs.Gives.{FreesWords}
+use Rattle.abi_driver.specs.Area.{AreFor}
+use Rattle.wrapper_closing.specs.Bodies.{MakesExport}
 use Rattle.wrapper_closing.specs.ClosedExport.{ClosesExport}
 use Rattle.wrapper_closing.specs.ClosedImport.{ClosesImport, import_target}
 use Rattle.wrapper_closing.specs.ClosedPostReturn.{ClosesPostReturn}
@@ -56,6 +59,10 @@ ImportBodyIsFaithful = (types : List TypeDef) (resources : Resources) (tree : Tr
 abbrev pub ExportBodyIsFaithful : Type 0
 ExportBodyIsFaithful = (types : List TypeDef) (resources : Resources) (names : ExportNames) (results : List (Option Shape)) (tree : Tree) (nth : ℕ) (func : Bor Function) (parts : BodyParts) (body : Body)
     → ClosesExportBody types func parts body names results tree nth → IsExportFaithful resources names results tree nth (passed types func.now)
+
+-- the area that the body needs is for the record by which its result passes, so that of a file is for those of all bodies
+abbrev pub ExportBodyAreaIsFor : Type 0
+ExportBodyAreaIsFor = (types : List TypeDef) (func : Bor Function) (parts : BodyParts) (body : Body) → MakesExport types func parts body → AreFor (result_record (result_shape types func.now)) (option_to_list body.area)
 
 -- a post-return function that closes such a body frees what the words own, and where it is entered, it is that of the wrapper
 abbrev pub PostReturnBodyFrees : Type 0

@@ -5,6 +5,7 @@ ghost use Rattle.wrapper_closing.specs.Laws.{
   ClosedImportIsFaithful,
   ClosedPostReturnFrees,
   ClosedPostReturnIsReturned,
+  ExportBodyAreaIsFor,
   ExportBodyIsFaithful,
   ImportBodyIsFaithful,
   PostReturnBodyFrees,
@@ -35,9 +36,11 @@ pub fn import_body_law()
     ensures { ImportBodyIsFaithful }
 {}
 
-/// The wrapper of an export that closes the body which was made for its function is faithful to it, where its post-return function is.
+/// The wrapper of an export that closes the body which was made for its function is faithful to it, where its post-return function is. The
+/// area that the body needs is that of the function's result.
 pub fn export_body_law()
-    ensures { ExportBodyIsFaithful }
+    ensures faithful { ExportBodyIsFaithful }
+    ensures area { ExportBodyAreaIsFor }
 {}
 
 /// The post-return function that closes the body which was made for it frees what the words own, and is that of the wrapper where it is
