@@ -26,6 +26,7 @@ use Rattle.wrapper_meaning.specs.Areas.{IsArea as IsAreaOf, StandsAt, area_for}
 use Rattle.wrapper_meaning.specs.Calls.{pointers}
 use Rattle.wrapper_meaning.specs.Direction.{take}
 use Rattle.wrapper_meaning.specs.Honest.{AnswersValue, HonestPeer, result_size}
+use Rattle.wrapper_meaning.specs.InRange.{IsListedResult}
 use Rattle.wrapper_meaning.specs.Represents.{is_indirect}
 use Rattle.wrapper_meaning.specs.Items.{SameItems, total}
 use Rattle.wrapper_meaning.specs.Settled.{settled_result}
@@ -65,6 +66,7 @@ use Rattle.wrapper_closing.proofs.ClosedArea.{records_of, room_for_result, some_
 use Rattle.wrapper_closing.proofs.ImportCalls.{carried, does_is, finish, rest, written_stands}
 use Rattle.wrapper_closing.proofs.ImportLeaves.{LeftOver, gives_and_leaves, left_over}
 use Rattle.wrapper_closing.proofs.ImportStart.{Ready, asked_for, due_area, file}
+use Rattle.wrapper_closing.proofs.SettledDirect.{settled_listed}
 
 -- 1. Honesty, as the driver tells it
 
@@ -248,9 +250,9 @@ record Tail (w : Setting) (items : List Item) (ty : TypeExpr) (given : List Expr
   owns : SameItems (owns_of state) (addresses after)
   stands : ResultStands 2 r u answer own
 
-tail_runs : (w : Setting) (new : FunctionBindgen) (ty : TypeExpr) (given : List ExprOperand) (r : Option Shape) (u : Result r) (vals : List RustValue) (own after : List Block) (s : State) → AnswersAs w.items ty r → length given ≡ length (option_to_list r)
+tail_runs : (w : Setting) (new : FunctionBindgen) (ty : TypeExpr) (given : List ExprOperand) (r : Option Shape) (u : Result r) (vals : List RustValue) (own after : List Block) (s : State) → AnswersAs w.items ty r → IsListedResult r u → length given ≡ length (option_to_list r)
     → DriverResult func_meaning take r u vals own → Hold w.items new (ofs func_meaning given (item_data func_meaning vals) ++ []) s → SameItems (owns_of s) (addresses after ++ addresses own) → Tail w w.items ty given r u own after s
-tail_runs w new ty [] None u vals own after s answers count stands holds owns =
+tail_runs w new ty [] None u vals own after s answers listed count stands holds owns =
     record {
       value = val.Value value.Unit;
       state = s;
@@ -262,13 +264,13 @@ tail_runs w new ty [] None u vals own after s answers count stands holds owns =
       owns = λ g. owns g ∙ ap (λ bs. total g (addresses after ++ addresses bs)) stands.1 ∙ ap (total g) (append-nil (addresses after));
       stands = (refl, stands.1);
     }
-tail_runs w new ty (o ∷ os) None u vals own after s answers count stands holds owns = absurd (omega (arith, count))
-tail_runs w new ty [] (Some t) u vals own after s answers count stands holds owns = absurd (omega (arith, count))
-tail_runs w new ty (o ∷ p ∷ os) (Some t) u vals own after s answers count stands holds owns = absurd (omega (arith, count))
-tail_runs w new ty (o ∷ []) (Some t) u vals own after s answers count (a, is, stands) holds owns =
+tail_runs w new ty (o ∷ os) None u vals own after s answers listed count stands holds owns = absurd (omega (arith, count))
+tail_runs w new ty [] (Some t) u vals own after s answers listed count stands holds owns = absurd (omega (arith, count))
+tail_runs w new ty (o ∷ p ∷ os) (Some t) u vals own after s answers listed count stands holds owns = absurd (omega (arith, count))
+tail_runs w new ty (o ∷ []) (Some t) u vals own after s answers listed count (a, is, stands) holds owns =
     let held : Hold w.items new (of o (item a) ∷ []) s = subst (λ vs. Hold w.items new (ofs func_meaning (o ∷ []) (item_data func_meaning vs) ++ []) s) is holds in
     let used = uses w new o.expr a [] s held in
-    let (q, answered_as, also) = answers u used.given a own used.is stands.0 in
+    let (q, answered_as, also) = answers u used.given a own listed used.is stands.0 in
     record {
       value = used.given;
       state = used.then;
@@ -294,6 +296,6 @@ module _ (types : List TypeDef) (f : Function) (tree : Tree) (nth : ℕ) (old ne
   pub finished : (u : Result (result_shape types f)) → IsHonestHere types f tree nth old new c p vs rs heap choices ready u → Finished types f tree nth old new c p vs rs heap choices ready u (rest types f tree nth old new c p ready.state.machine)
   finished u honest =
       let b = behind types f tree nth old new c p vs rs heap choices ready u honest in
-      let t = tail_runs (setting_for (file types f tree nth old new c) p) new c.item.result c.given (result_shape types f) (settled_result (result_shape types f) u) b.vals b.own b.after b.state.machine c.answers (c.count ∙ sym (one_count types f.result)) b.stands b.holds b.owns in
+      let t = tail_runs (setting_for (file types f tree nth old new c) p) new c.item.result c.given (result_shape types f) (settled_result (result_shape types f) u) b.vals b.own b.after b.state.machine c.answers (settled_listed (result_shape types f) u c.result honest.good) (c.count ∙ sym (one_count types f.result)) b.stands b.holds b.owns in
       subst (Finished types f tree nth old new c p vs rs heap choices ready u) (ap (finish (setting_for (file types f tree nth old new c) p) c.item (tail_of c.given)) (sym b.done))
       (finishes types f tree nth old new c p vs rs heap choices ready u b t.value t.state t.answer t.runs t.is t.same (t.place ∙ b.place) t.owns t.stands)

@@ -13,6 +13,7 @@ use Rattle.wrapper_data.specs.declared.run.Target.TheVariants as target
 use Rattle.wrapper_data.specs.declared.value.RustValue.{RustValue}
 use Rattle.wrapper_data.specs.declared.value.RustValue.TheVariants as value
 use Rattle.wrapper_meaning.specs.Direction.{take}
+use Rattle.wrapper_meaning.specs.InRange.{IsListed}
 use Rattle.wrapper_meaning.specs.Shape.{Shape, param_shapes, result_shape}
 use Rattle.wrapper_meaning.specs.StandsFor.{Stands}
 use Rattle.wrapper_meaning.specs.Value.{Value}
@@ -33,11 +34,11 @@ use Rattle.wrapper_closing.specs.Begun.{IsBegun}
 use Rattle.wrapper_closing.specs.Direct.{are_direct, is_direct_result}
 use Rattle.wrapper_closing.specs.ImportBlock.{import_block}
 
--- what stands for a result is one of the printed type, and stands for it then
+-- what stands for a result of the type is one of the printed type, and stands for it then
 abbrev pub AnswersAs : List Item → TypeExpr → Option Shape → Type 0
 AnswersAs items ty None = answer_in items ty (val.Value value.Unit) ≡ Some None
 AnswersAs items ty (Some t) =
-    (u : Value t) (v : Val) (r : RustValue) (own : List Block) → rust_of v ≡ Some r → Stands 2 take t u r own → (q : RustValue) × (answer_in items ty v ≡ Some (Some q)) × Stands 2 take t u q own
+    (u : Value t) (v : Val) (r : RustValue) (own : List Block) → IsListed t u → rust_of v ≡ Some r → Stands 2 take t u r own → (q : RustValue) × (answer_in items ty v ≡ Some (Some q)) × Stands 2 take t u q own
 
 -- The wrapper of this number is an item whose block closes code that the driver made of the function
 pub record ClosesImport (types : List TypeDef) (f : Function) (tree : Tree) (nth : ℕ) (old new : FunctionBindgen) : Type 0 where

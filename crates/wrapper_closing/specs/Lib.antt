@@ -11,3 +11,5 @@ pub mod Laws
 pub mod NoArea
 pub mod Parts
 pub mod PostReturnBody
+pub mod PrintedAs
+pub mod PrintedLaws

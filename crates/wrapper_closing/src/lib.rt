@@ -8,6 +8,7 @@ mod laws;
 mod no_area;
 mod parts;
 mod post_returns;
+mod printed_law;
 
 pub use exports::export_body;
 pub use imports::import_body;
@@ -17,3 +18,4 @@ pub use laws::{
 pub use no_area::declares_no_area;
 pub use parts::BodyParts;
 pub use post_returns::post_return_body;
+pub use printed_law::printed_types_law;

@@ -1,0 +1,121 @@
+-- A value of a direct shape that owns what it has still does with the flags of an owner, and passes then as it is.
+use Rattle.std.proofs.Common.{◌≡◌, ℕ, zero, suc, Bool, true, List, [], ◌∷◌, length, map, refl, sym, ap, ap₂, ◌∙◌, subst}
+use Rattle.std.proofs.lemmas.Bool.{and_parts}
+use Rattle.wrapper_data.specs.declared.block.Block.{Block}
+use Rattle.wit_layout.specs.Tree.{Scalar}
+use Rattle.wrapper_data.specs.declared.value.RustValue.{RustValue, RustValue-F, fold-RustValue, fold-roll-RustValue}
+use Rattle.wrapper_data.specs.declared.value.RustValue.TheVariants as value
+use Rattle.wrapper_data.specs.declared.value.RustValue.TheVariants.{rolls-Buffer, rolls-Struct}
+use Rattle.wrapper_meaning.specs.Buffer.{IsBuffer}
+use Rattle.wrapper_meaning.specs.Direction.{give, take}
+use Rattle.wrapper_meaning.specs.InMemory.{TextHolds, text_extent}
+use Rattle.wrapper_meaning.specs.Shape.{Shape, Shapes}
+use Rattle.wrapper_meaning.specs.Shape.Shape.{cases, fields, fixed, flags, handle, list, other, pairs, resource, scalar, text, tuple}
+use Rattle.wrapper_meaning.specs.Shape.Shapes.{more, none}
+use Rattle.wrapper_meaning.specs.StandsFor.{IsFlag, PartsStand, Stands, rust_scalar}
+use Rattle.wrapper_meaning.specs.Value.{Parts, ScalarValue, Value}
+use Rattle.func_gen.specs.Meaning.{IsNormal, passing_level}
+use Rattle.func_gen.proofs.PartRows.{normal_struct}
+use Rattle.func_gen.proofs.Scalars.{scalar_normal}
+use Rattle.wrapper_closing.specs.Direct.{are_direct, is_direct}
+
+-- 1. The value with the flags of an owner
+
+abbrev pub owning : RustValue → RustValue
+owning r = fold-RustValue RustValue (passing_level take) r
+
+pub owning_struct : (rs : List RustValue) → owning (value.Struct rs) ≡ value.Struct (map owning rs)
+owning_struct rs = ap owning (sym (rolls-Struct rs)) ∙ fold-roll-RustValue RustValue (passing_level take) (RustValue-F.Struct rs)
+
+pub owning_buffer : (address n : ℕ) (o : Bool) → owning (value.Buffer address n o) ≡ value.Buffer address n true
+owning_buffer address n o = ap owning (sym (rolls-Buffer address n o)) ∙ fold-roll-RustValue RustValue (passing_level take) (RustValue-F.Buffer address n o)
+
+-- 2. It stands for what the value does
+
+-- what is taken can be given
+given_text : (v : List ℕ) (n address : ℕ) (own : List Block) → IsBuffer take true address n text_extent (TextHolds v) own → IsBuffer give true address n text_extent (TextHolds v) own
+given_text v zero address own h = record { aligned = h.aligned; bounded = h.bounded; placed = (tt, h.placed.1) }
+given_text v (suc n) address own h = record {
+  aligned = h.aligned;
+  bounded = h.bounded;
+  placed = record {
+    block = h.placed.block;
+    offset = h.placed.offset;
+    own = h.placed.own;
+    inner = h.placed.inner;
+    held = record { starts = h.placed.held.starts; exact = h.placed.held.exact; whole = h.placed.held.whole; itself = h.placed.held.itself };
+    holds = h.placed.holds;
+    all = h.placed.all;
+  };
+}
+
+flag_taken : (n : ℕ) → IsFlag take n true
+flag_taken zero = tt
+flag_taken (suc n) = refl
+
+flag_given : (n : ℕ) → IsFlag give n true
+flag_given zero = tt
+flag_given (suc n) = refl
+
+pub record Owning (t : Shape) (v : Value t) (r : RustValue) (own : List Block) : Type 0 where
+  pub taken : Stands 2 take t v (owning r) own
+  pub given : Stands 2 give t v (owning r) own
+  pub normal : IsNormal give (owning r)
+
+pub record PartsOwning (ts : Shapes) (v : Parts ts) (rs : List RustValue) (own : List Block) : Type 0 where
+  pub taken : PartsStand 2 take ts v (map owning rs) own
+  pub given : PartsStand 2 give ts v (map owning rs) own
+  pub normal : map owning (map owning rs) ≡ map owning rs
+
+scalar_owns : (s : Scalar) (v : ScalarValue s) (r : RustValue) (own : List Block) → Stands 2 take (scalar s) v r own → Owning (scalar s) v r own
+scalar_owns s v r own h =
+    let same : owning r ≡ rust_scalar s v = ap owning h.0 ∙ scalar_normal take s v in
+    record { taken = (same, h.1); given = (same, h.1); normal = subst (IsNormal give) (sym same) (scalar_normal give s v) }
+
+text_owns : (v : List ℕ) (r : RustValue) (own : List Block) → Stands 2 take text v r own → Owning text v r own
+text_owns v r own h =
+    let same : owning r ≡ value.Buffer h.address (length v) true = ap owning h.is ∙ owning_buffer h.address (length v) h.owned in
+    record {
+      taken = record { address = h.address; nonzero = h.nonzero; range = h.range; owned = true; flag = flag_taken (length v); is = same; buffer = h.buffer };
+      given = record { address = h.address; nonzero = h.nonzero; range = h.range; owned = true; flag = flag_given (length v); is = same; buffer = given_text v (length v) h.address own h.buffer };
+      normal = subst (IsNormal give) (sym same) (owning_buffer h.address (length v) true);
+    }
+
+struct_normal : (r : RustValue) (rs : List RustValue) → owning r ≡ value.Struct (map owning rs) → map owning (map owning rs) ≡ map owning rs → IsNormal give (owning r)
+struct_normal r rs same h = subst (IsNormal give) (sym same) (normal_struct give (map owning rs) h)
+
+mutual
+  pub owns : (t : Shape) (v : Value t) (r : RustValue) (own : List Block) → is_direct t ≡ true → Stands 2 take t v r own → Owning t v r own
+  owns (scalar s) v r own d h = scalar_owns s v r own h
+  owns text v r own d h = text_owns v r own h
+  owns (fields ts) v r own d (rs, is, h) =
+      let parts = parts_own ts v rs own d h in
+      let same = ap owning is ∙ owning_struct rs in
+      record { taken = (map owning rs, same, parts.taken); given = (map owning rs, same, parts.given); normal = struct_normal r rs same parts.normal }
+  owns (tuple ts) v r own d (rs, is, h) =
+      let parts = parts_own ts v rs own d h in
+      let same = ap owning is ∙ owning_struct rs in
+      record { taken = (map owning rs, same, parts.taken); given = (map owning rs, same, parts.given); normal = struct_normal r rs same parts.normal }
+  owns (list t) v r own d h = absurd cc
+  owns (pairs x y) v r own d h = absurd cc
+  owns (fixed t n) v r own d h = absurd cc
+  owns (cases ts) v r own d h = absurd cc
+  owns (flags n) v r own d h = absurd cc
+  owns (handle o n) v r own d h = absurd cc
+  owns (resource n) v r own d h = absurd cc
+  owns other v r own d h = absurd cc
+
+  pub parts_own : (ts : Shapes) (v : Parts ts) (rs : List RustValue) (own : List Block) → are_direct ts ≡ true → PartsStand 2 take ts v rs own → PartsOwning ts v rs own
+  parts_own none v rs own d h =
+      let same : map owning rs ≡ [] = ap (map owning) h.0 in
+      record { taken = (same, h.1); given = (same, h.1); normal = ap (map owning) same ∙ sym same }
+  parts_own (more t ts) v rs own d (r, others, first, rest, is, h, hs, all) =
+      let both = and_parts (is_direct t) (are_direct ts) d in
+      let one = owns t v.0 r first both.0 h in
+      let later = parts_own ts v.1 others rest both.1 hs in
+      let same : map owning rs ≡ owning r ∷ map owning others = ap (map owning) is in
+      record {
+        taken = (owning r, map owning others, first, rest, same, one.taken, later.taken, all);
+        given = (owning r, map owning others, first, rest, same, one.given, later.given, all);
+        normal = ap (map owning) same ∙ ap₂ (λ x xs. x ∷ xs) one.normal later.normal ∙ sym same;
+      }
