@@ -24,6 +24,7 @@ pub mod Placing
 pub mod PostReturnBodyCloses
 pub mod PostReturnRuns
 pub mod PrintedAnswers
+pub mod PrintedInstances
 pub mod PrintedValues
 pub mod ReturnedFrees
 pub mod SettledDirect

@@ -1,10 +1,9 @@
 -- Where a file prints types as the shapes of a function: what an import gives is of its result type, what an export passes to its method is
 -- of the types of the parameters, and what the method answers comes in as one of its result type.
-use Rattle.std.proofs.Common.{◌≡◌, ℕ, ℤ, Bool, true, cond, List, [], ◌∷◌, map, Option, None, Some, refl, sym, ap, ap₂, ◌∙◌, subst, rules}
+use Rattle.std.proofs.Common.{◌≡◌, ℕ, Bool, true, cond, List, [], ◌∷◌, map, Option, None, Some, refl, sym, ap, ap₂, ◌∙◌, subst, rules}
 use Rattle.std.specs.Prelude.{◌&&◌, option_and_then}
 use Rattle.std.specs.Option.{option_map, option_or}
 use Rattle.wit_layout.specs.Tree.{Scalar}
-use Rattle.wit_model.specs.declared.types.WitType.{WitType}
 use Rattle.wit_model.specs.declared.types.WitType.TheVariants as wit
 use Rattle.rust_tree.specs.declared.item.FnParam.{FnParam}
 use Rattle.rust_tree.specs.declared.item.Item.{Item}
@@ -32,6 +31,7 @@ use Rattle.abi_driver.specs.Parts.{PartsStand}
 use Rattle.func_gen.specs.Facts.{item_of}
 use Rattle.func_gen.specs.Meaning.{func_meaning}
 use Rattle.func_gen.proofs.MethodValues.{passed_alike}
+use Rattle.func_gen.proofs.Scalars.{out-f32, out-f64, out-num}
 use Rattle.wrapper_closing.specs.Direct.{are_direct, is_direct}
 use Rattle.wrapper_closing.specs.PrintedAs.{ArePrintedAs, ArePrintedParams, IsPrintedAs}
 use Rattle.wrapper_closing.specs.PrintedLaws.{PrintedParamsPass, PrintedResultsAnswer, PrintedResultsComeIn, PrintedValuesAreTaken}
@@ -46,13 +46,10 @@ abbrev is_ranged : RustValue-F RustValue → Bool
 is_ranged (RustValue-F.Num kind z) = is_of_kind kind z
 is_ranged _ = true
 
-out-num : (k : WitType) (z : ℤ) → out-RustValue (value.Num k z) ≡ RustValue-F.Num k z
-out-num k z = search (rules, the_lemmas)
-
 scalar_ranged : (s : Scalar) (v : ScalarValue s) → IsScalar s v → is_ranged (out-RustValue (rust_scalar s v)) ≡ true
 scalar_ranged Scalar.bool v h = ap is_ranged (let e : out-RustValue (value.Bool v) ≡ RustValue-F.Bool v = search (rules, the_lemmas) in e)
-scalar_ranged Scalar.f32 v h = ap is_ranged (let e : out-RustValue (value.F32 v) ≡ RustValue-F.F32 v = search (rules, the_lemmas) in e)
-scalar_ranged Scalar.f64 v h = ap is_ranged (let e : out-RustValue (value.F64 v) ≡ RustValue-F.F64 v = search (rules, the_lemmas) in e)
+scalar_ranged Scalar.f32 v h = ap is_ranged (out-f32 v)
+scalar_ranged Scalar.f64 v h = ap is_ranged (out-f64 v)
 scalar_ranged Scalar.char v h = ap is_ranged (let e : out-RustValue (value.Char v) ≡ RustValue-F.Char v = search (rules, the_lemmas) in e)
 scalar_ranged Scalar.u8 v h = ap is_ranged (out-num wit.U8 v) ∙ h
 scalar_ranged Scalar.u16 v h = ap is_ranged (out-num wit.U16 v) ∙ h
