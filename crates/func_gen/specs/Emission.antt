@@ -30,11 +30,11 @@ converted f e = record { names = []; stmts = []; results = runtime_call f e ∷ 
 abbrev pub one_local : Bytes → Expr → List RuntimeItem → ℕ → Emission
 one_local prefix e items t = record { names = with_number prefix t ∷ []; stmts = stmt.Let (with_number prefix t) e ∷ []; results = expr.Local (with_number prefix t) ∷ []; items = items }
 
--- locals of these names, which a statement one_local
+-- locals of these names, which statements bind
 abbrev pub all_locals : List Bytes → List Stmt → Emission
 all_locals names stmts = record { names = names; stmts = stmts; results = map (λ n. expr.Local n) names; items = [] }
 
--- a statement that all_locals no name
+-- a statement that binds no name
 abbrev pub effect : Stmt → List RuntimeItem → Emission
 effect s items = record { names = []; stmts = s ∷ []; results = []; items = items }
 
