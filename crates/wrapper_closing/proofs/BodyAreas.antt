@@ -1,6 +1,7 @@
--- The area that the body of an export needs is for the record by which its result passes, and areas of several bodies are for all of these.
+-- The area that the body of an export needs is for the record by which its result passes, and that of several bodies is shared by them.
 use Rattle.std.proofs.Common.{◌≡◌, ◌≤◌, ℕ, Bool, true, false, if◌then◌else◌, nat_le, List, [], ◌∷◌, ◌++◌, Option, None, Some, refl, sym, ap, ◌∙◌, subst, arith}
 use Rattle.std.specs.Prelude.{max, option_to_list}
+use Rattle.std.specs.List.{flat_map}
 use Rattle.std.proofs.lemmas.Bool.{and_from, and_parts}
 use Rattle.std.proofs.lemmas.Bool.Decides.{nat_tests}
 use Rattle.std.proofs.lemmas.Nat.{pow_pos}
@@ -18,7 +19,10 @@ use Rattle.wrapper_meaning.specs.Shape.{Shape, result_shape}
 use Rattle.abi_driver.specs.declared.bindgen.Asked.{Asked}
 use Rattle.abi_driver.specs.Area.{AreFor}
 use Rattle.func_gen.specs.Body.{needed}
-use Rattle.wrapper_closing.specs.Laws.{ExportBodyAreaIsFor}
+use Rattle.func_gen.specs.Meaning.{static_request}
+use Rattle.wrapper_closing.specs.FileArea.{NeedAreas, static_area}
+use Rattle.wrapper_closing.specs.ImportBlock.{wanted}
+use Rattle.wrapper_closing.specs.Laws.{ExportBodyAreaIsFor, NeededAreaIsShared}
 
 abbrev nothing : ArchitectureSize
 nothing = record { bytes = 0; pointers = 0 }
@@ -72,8 +76,29 @@ export_body_area_is_for types func parts body k =
     let area : body.area ≡ needed k.calls.records = k.body_of.area ∙ ap needed asked in
     subst (λ x. AreFor (result_record r) (option_to_list x)) (sym area) (needed_for r k.calls.records k.calls.for)
 
-pub for_both : (ts us : List Shape) (asked more : List Asked) → AreFor ts asked → AreFor us more → AreFor (ts ++ us) (asked ++ more)
+for_both : (ts us : List Shape) (asked more : List Asked) → AreFor ts asked → AreFor us more → AreFor (ts ++ us) (asked ++ more)
 for_both [] us [] more h g = g
 for_both [] us (a ∷ asked) more h g = absurd h
 for_both (t ∷ ts) us [] more h g = absurd h
 for_both (t ∷ ts) us (a ∷ asked) more (size, align, h) g = (size, align, for_both ts us asked more h g)
+
+all_for : (results : List (Option Shape)) (areas : List (Option Asked)) → NeedAreas results areas → AreFor (flat_map result_record results) (flat_map option_to_list areas)
+all_for [] [] h = tt
+all_for [] (a ∷ areas) h = absurd h
+all_for (r ∷ results) [] h = absurd h
+all_for (r ∷ results) (a ∷ areas) (one, h) = for_both (result_record r) (flat_map result_record results) (option_to_list a) (flat_map option_to_list areas) one (all_for results areas h)
+
+static_needed : (asked : List Asked) → static_request (static_area (needed asked)) ≡ wanted asked
+static_needed [] = refl
+static_needed (a ∷ asked) = refl
+
+pub needed_area_is_shared : NeededAreaIsShared
+needed_area_is_shared results areas r tree h =
+    let asked = flat_map option_to_list areas in
+    record {
+      shares = h.shares;
+      asked = asked;
+      for = all_for results areas h.need;
+      area = ap static_request h.has ∙ static_needed asked;
+      direct = h.direct;
+    }

@@ -19,11 +19,13 @@ use Rattle.wrapper_faithful.specs.Resources.{Resources}
 use Rattle.wrapper_faithful.specs.Returned.{IsEntered, IsReturned, IsUnreturned, RunOfPostReturn}
 use Rattle.wrapper_meaning.specs.Gives.{FreesWords}
 use Rattle.abi_driver.specs.Area.{AreFor}
+use Rattle.abi_driver.specs.declared.bindgen.Asked.{Asked}
 use Rattle.wrapper_closing.specs.Bodies.{MakesExport}
-use Rattle.wrapper_closing.specs.ClosedExport.{ClosesExport}
+use Rattle.wrapper_closing.specs.ClosedExport.{ClosesExport, SharesArea}
 use Rattle.wrapper_closing.specs.ClosedImport.{ClosesImport, import_target}
 use Rattle.wrapper_closing.specs.ClosedPostReturn.{ClosesPostReturn}
 use Rattle.wrapper_closing.specs.ExportBody.{ClosesExportBody}
+use Rattle.wrapper_closing.specs.FileArea.{HasAreaFor}
 use Rattle.wrapper_closing.specs.ImportBody.{ClosesImportBody, import_called}
 use Rattle.wrapper_closing.specs.PostReturnBody.{ClosesPostReturnBody}
 use Rattle.wrapper_closing.specs.declared.parts.BodyParts.{BodyParts}
@@ -60,9 +62,12 @@ abbrev pub ExportBodyIsFaithful : Type 0
 ExportBodyIsFaithful = (types : List TypeDef) (resources : Resources) (names : ExportNames) (results : List (Option Shape)) (tree : Tree) (nth : ℕ) (func : Bor Function) (parts : BodyParts) (body : Body)
     → ClosesExportBody types func parts body names results tree nth → IsExportFaithful resources names results tree nth (passed types func.now)
 
--- the area that the body needs is for the record by which its result passes, so that of a file is for those of all bodies
+-- the area that the body needs is for the record by which its result passes, and functions share the area for the bodies of all of them
 abbrev pub ExportBodyAreaIsFor : Type 0
 ExportBodyAreaIsFor = (types : List TypeDef) (func : Bor Function) (parts : BodyParts) (body : Body) → MakesExport types func parts body → AreFor (result_record (result_shape types func.now)) (option_to_list body.area)
+
+abbrev pub NeededAreaIsShared : Type 0
+NeededAreaIsShared = (results : List (Option Shape)) (areas : List (Option Asked)) (r : Option Shape) (tree : Tree) → HasAreaFor results areas r tree → SharesArea results r tree
 
 -- a post-return function that closes such a body frees what the words own, and where it is entered, it is that of the wrapper
 abbrev pub PostReturnBodyFrees : Type 0

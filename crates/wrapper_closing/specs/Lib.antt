@@ -5,6 +5,7 @@ pub mod ClosedImport
 pub mod ClosedPostReturn
 pub mod Direct
 pub mod ExportBody
+pub mod FileArea
 pub mod ImportBlock
 pub mod ImportBody
 pub mod Laws

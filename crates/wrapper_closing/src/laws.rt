@@ -8,6 +8,7 @@ ghost use Rattle.wrapper_closing.specs.Laws.{
   ExportBodyAreaIsFor,
   ExportBodyIsFaithful,
   ImportBodyIsFaithful,
+  NeededAreaIsShared,
   PostReturnBodyFrees,
   PostReturnBodyIsReturned,
   UnlistedIsUnreturned,
@@ -37,10 +38,11 @@ pub fn import_body_law()
 {}
 
 /// The wrapper of an export that closes the body which was made for its function is faithful to it, where its post-return function is. The
-/// area that the body needs is that of the function's result.
+/// area that the body needs is that of the function's result, and the area for several bodies is shared by their functions.
 pub fn export_body_law()
     ensures faithful { ExportBodyIsFaithful }
     ensures area { ExportBodyAreaIsFor }
+    ensures shared { NeededAreaIsShared }
 {}
 
 /// The post-return function that closes the body which was made for it frees what the words own, and is that of the wrapper where it is
