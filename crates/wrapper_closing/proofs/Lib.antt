@@ -1,5 +1,6 @@
 pub mod AnswerHeap
 pub mod AreaRoom
+pub mod Args
 pub mod Arguments
 pub mod BodyAreas
 pub mod ClosedArea
@@ -19,6 +20,7 @@ pub mod ImportEnds
 pub mod ImportLeaves
 pub mod ImportStart
 pub mod Leaving
+pub mod LocalSites
 pub mod OwningValues
 pub mod Placing
 pub mod PostReturnBodyCloses

@@ -10,6 +10,8 @@ pub mod ImportBlock
 pub mod ImportBody
 pub mod Laws
 pub mod NoArea
+pub mod ParamLaws
+pub mod Params
 pub mod Parts
 pub mod PostReturnBody
 pub mod PrintedAs

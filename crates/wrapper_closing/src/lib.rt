@@ -6,9 +6,12 @@ mod exports;
 mod imports;
 mod laws;
 mod no_area;
+mod param_laws;
+mod params;
 mod parts;
 mod post_returns;
 mod printed_law;
+mod sites;
 
 pub use exports::export_body;
 pub use imports::import_body;
@@ -16,6 +19,9 @@ pub use laws::{
     export_body_law, export_law, import_body_law, import_law, post_return_body_law, post_return_law,
 };
 pub use no_area::declares_no_area;
+pub use param_laws::param_law;
+pub use params::{core_params, core_result, post_return_params};
 pub use parts::BodyParts;
 pub use post_returns::post_return_body;
 pub use printed_law::printed_types_law;
+pub use sites::{are_distinct_names, core_sites, param_sites, ret_area};
