@@ -48,6 +48,7 @@ use Rattle.func_gen.specs.declared.operand.ExprOperand.{ExprOperand}
 use Rattle.func_gen.specs.CallForms.{AddsCall, AddsStatement, FreshAll, exprs, import_of, local_path, import_name}
 use Rattle.func_gen.specs.FactLemmas.{is_said}
 use Rattle.func_gen.specs.Facts.{AreOwned, Hold, IsThere}
+use Rattle.func_gen.specs.Formed.{CallsSome}
 use Rattle.func_gen.specs.Forms.{operand_of}
 use Rattle.func_gen.specs.Meaning.{Denote, File, FuncState, account_of, answer_of, call_of, func_meaning, owns_of, seen, setting_for, target_of}
 use Rattle.func_gen.specs.Read.{Read, env_of}
@@ -287,6 +288,27 @@ module _ (types : List TypeDef) (f : Function) (os : List ExprOperand) (old new 
       (subst (λ ts. Follows func_meaning.account (answered_by ts p.reply (account1 old new file p d s ws others)) (finished old new file p d s ws others (Some ty) (bind ret) p.reply) (Ended old new file p d s ws others (operand_of (expr.Local ret) ∷ []))) (sym one)
       (word_answers old new file p d s ws others ty ret p.reply den)))
 
+statement_becomes : (f : Function) (params : List WasmType) (os : List ExprOperand) (old new : FunctionBindgen) → length os ≡ length params → AddsStatement f params (exprs os) old new → CallsSome f os [] old new
+statement_becomes f params os old new many adds = record {
+  params = params;
+  answer = None;
+  many = many;
+  writes = written old new [] (calls_core old f params None (exprs os)) adds.number adds.takes
+      (subst (λ n. Appends old new (stmt.Import (import_of old.home f params None n) ∷ stmt.Expr (expr.Call (local_path n) (exprs os)) ∷ []) []) adds.is adds.stmts) refl;
+}
+
+call_becomes : (f : Function) (params : List WasmType) (ty : WasmType) (os : List ExprOperand) (ret : Bytes) (old new : FunctionBindgen) → length os ≡ length params → AddsCall f params ty (exprs os) ret old new → CallsSome f os (operand_of (expr.Local ret) ∷ []) old new
+call_becomes f params ty os ret old new many adds =
+    let stmts = λ (n m : Bytes). stmt.Import (import_of old.home f params (Some ty) n) ∷ stmt.Let m (expr.Call (local_path n) (exprs os)) ∷ [] in
+    let named = subst (λ n. Appends old new (stmts n ret) []) adds.is adds.stmts in
+    record {
+      params = params;
+      answer = Some ty;
+      many = many;
+      writes = written old new (operand_of (expr.Local ret) ∷ []) (calls_core old f params (Some ty) (exprs os)) adds.number adds.takes
+          (subst (λ m. Appends old new (stmts (import_name adds.number) m) []) adds.answers named) (ap (λ m. operand_of (expr.Local m) ∷ []) adds.answers);
+    }
+
 pub statement_emits : (types : List TypeDef) (fn : Bor Function) (os : List ExprOperand) (old new : FunctionBindgen) → old.import ≡ true → length os ≡ length (import_params types fn.now) → AddsStatement fn.now (import_params types fn.now) (exprs os) old new
     → import_results types fn.now ≡ [] → Emits func_meaning types (instruction.CallWasm fn) os [] old new
 statement_emits types fn os old new imports len adds none = record {
@@ -297,12 +319,7 @@ statement_emits types fn os old new imports len adds none = record {
   form = record {
     still = still_of old new _ [] adds.stmts;
     given = tt;
-    code = (
-      import_params types fn.now,
-      None,
-      written old new [] (calls_core old fn.now (import_params types fn.now) None (exprs os)) adds.number adds.takes
-          (subst (λ n. Appends old new (stmt.Import (import_of old.home fn.now (import_params types fn.now) None n) ∷ stmt.Expr (expr.Call (local_path n) (exprs os)) ∷ []) []) adds.is adds.stmts) refl,
-    );
+    code = statement_becomes fn.now (import_params types fn.now) os old new len adds;
   };
   results = sym (ap length none);
   row = statement_row types fn.now os old new imports len adds none;
@@ -318,14 +335,7 @@ call_emits types fn os old new ty ret imports len adds one = record {
   form = record {
     still = still_of old new _ [] adds.stmts;
     given = tt;
-    code = (
-      import_params types fn.now,
-      Some ty,
-      written old new (operand_of (expr.Local ret) ∷ []) (calls_core old fn.now (import_params types fn.now) (Some ty) (exprs os)) adds.number adds.takes
-          (subst (λ m. Appends old new (stmt.Import (import_of old.home fn.now (import_params types fn.now) (Some ty) (import_name adds.number)) ∷ stmt.Let m (expr.Call (local_path (import_name adds.number)) (exprs os)) ∷ []) []) adds.answers
-          (subst (λ n. Appends old new (stmt.Import (import_of old.home fn.now (import_params types fn.now) (Some ty) n) ∷ stmt.Let ret (expr.Call (local_path n) (exprs os)) ∷ []) []) adds.is adds.stmts))
-          (ap (λ m. operand_of (expr.Local m) ∷ []) adds.answers),
-    );
+    code = call_becomes fn.now (import_params types fn.now) ty os ret old new len adds;
   };
   results = sym (ap length one);
   row = word_row types fn.now os old new imports len ty ret adds one;

@@ -21,7 +21,8 @@ use Rattle.func_gen.specs.Emission.{Emission, Writes, effect, one_local}
 use Rattle.func_gen.specs.Forms.{operand_of}
 use Rattle.func_gen.specs.PartForms.{exprs_of, locals_of}
 use Rattle.func_gen.specs.Scope.{Takes, TakesOne}
-use Rattle.func_gen.specs.Still.{Becomes, Formed, StillOf, called, given_count, no_call}
+use Rattle.func_gen.specs.Formed.{Becomes, Formed, called, given_count, no_call}
+use Rattle.func_gen.specs.Still.{StillOf}
 
 -- 1. Steps that give nothing and call nothing
 

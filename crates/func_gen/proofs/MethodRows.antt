@@ -73,7 +73,7 @@ use Rattle.func_gen.specs.ReadForms.{read-local}
 use Rattle.func_gen.specs.Records.{AreDefined}
 use Rattle.func_gen.specs.Scope.{is_used, TakesOne}
 use Rattle.func_gen.specs.StandLemmas.{owned-unit}
-use Rattle.func_gen.specs.Still.{CallsMethod}
+use Rattle.func_gen.specs.Formed.{CallsMethod}
 use Rattle.func_gen.proofs.Forming.{takes_none}
 use Rattle.func_gen.proofs.Lasting.{area_same, denotes_on, lasts, owns_with, still_free, with_local, within_with}
 use Rattle.func_gen.proofs.FieldOrder.{still_defined}

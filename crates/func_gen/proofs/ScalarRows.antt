@@ -46,7 +46,7 @@ use Rattle.func_gen.specs.Read as reader
 use Rattle.func_gen.specs.ReadForms.{read-call, read-cast}
 use Rattle.func_gen.specs.FactLemmas.{Says, item_rust_at}
 use Rattle.func_gen.specs.Facts.{item_of, item_of_word}
-use Rattle.func_gen.specs.Still.{Formed}
+use Rattle.func_gen.specs.Formed.{Formed}
 use Rattle.abi_driver.specs.Sent.{sends}
 use Rattle.func_gen.proofs.Emissions.{cast_emitted, conversion_emitted, kept_emitted}
 use Rattle.func_gen.proofs.Forming.{form_alone, ordinary_plain}

@@ -46,7 +46,7 @@ use Rattle.func_gen.specs.Meaning.{File, account_of, func_meaning, setting_for}
 use Rattle.func_gen.specs.MemoryForms.{small_store, whole_store}
 use Rattle.func_gen.specs.Operand.{is_operand}
 use Rattle.func_gen.specs.Read.{env_of}
-use Rattle.func_gen.specs.Still.{Formed}
+use Rattle.func_gen.specs.Formed.{Formed}
 use Rattle.abi_driver.specs.Sent.{sends}
 use Rattle.func_gen.proofs.Emissions.{small_store_emitted, whole_store_emitted}
 use Rattle.func_gen.proofs.Evaluated.{gives}

@@ -7,6 +7,7 @@ pub mod Emission
 pub mod FactLemmas
 pub mod Facts
 pub mod FlushForms
+pub mod Formed
 pub mod Forms
 pub mod FuncSound
 pub mod Made

@@ -45,7 +45,7 @@ use Rattle.func_gen.specs.declared.operand.ExprOperand.{ExprOperand}
 use Rattle.func_gen.specs.Facts.{AreOwned, Hold}
 use Rattle.func_gen.specs.Read.{env_of}
 use Rattle.func_gen.specs.Records.{AreDefined}
-use Rattle.func_gen.specs.Still.{Formed}
+use Rattle.func_gen.specs.Formed.{Formed}
 
 -- 1. What is known of the whole
 
