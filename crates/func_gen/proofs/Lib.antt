@@ -4,6 +4,7 @@ pub mod Buffers
 pub mod BodyArea
 pub mod CallRows
 pub mod CallWords
+pub mod CodeTexts
 pub mod Declared
 pub mod Emissions
 pub mod EndRows
