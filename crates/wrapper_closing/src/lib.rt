@@ -2,6 +2,7 @@
 //! function. The definitions are in `specs/`, and the laws are functions.
 #![tactic(auto)]
 
+mod block;
 mod exports;
 mod imports;
 mod laws;
@@ -13,6 +14,7 @@ mod post_returns;
 mod printed_law;
 mod sites;
 
+pub use block::import_block;
 pub use exports::export_body;
 pub use imports::import_body;
 pub use laws::{
