@@ -12,6 +12,7 @@ use Rattle.wit_model.specs.Bytes.{Bytes}
 use Rattle.wit_model.specs.declared.function.Function.{Function}
 use Rattle.wit_model.specs.declared.types.TypeDef.{TypeDef}
 use Rattle.wit_model.specs.declared.wasm_type.WasmType.{WasmType}
+use Rattle.rust_tree.specs.Ident.{rust_ident}
 use Rattle.rust_tree.specs.declared.expr.Expr.{Expr}
 use Rattle.rust_tree.specs.declared.expr.Expr.TheVariants as expr
 use Rattle.rust_tree.specs.declared.stmt.ImportDecl.{ImportDecl}
@@ -224,7 +225,7 @@ abbrev core_of : List TypeDef → FunctionBindgen → Function → Option WasmTy
 core_of types old f answer import = import_of old.home f (import_params types f) answer import
 
 core_target : (b : FunctionBindgen) (f : Function) → b.import ≡ true → target_of b f ≡ target.Core b.home f.name.wit
-core_target b f e = ap (λ i. cond i (target.Core b.home f.name.wit) (target.Method b.home f.name.snake)) e
+core_target b f e = ap (λ i. cond i (target.Core b.home f.name.wit) (target.Method b.home (rust_ident f.name))) e
 
 used_last : (one two : Bytes) → is_used (one ∷ two ∷ []) two ≡ true
 used_last one two = go (bytes_eq one two)

@@ -11,6 +11,7 @@ use Rattle.wit_model.specs.Bytes.{Bytes}
 use Rattle.wit_model.specs.declared.function.Function.{Function}
 use Rattle.wit_model.specs.declared.types.TypeDef.{TypeDef}
 use Rattle.wit_model.specs.declared.types.WitType.{WitType}
+use Rattle.rust_tree.specs.Ident.{rust_ident}
 use Rattle.rust_tree.specs.declared.export.CallBlock.{CallBlock}
 use Rattle.rust_tree.specs.declared.expr.Expr.{Expr}
 use Rattle.rust_tree.specs.declared.expr.Expr.TheVariants as expr
@@ -143,16 +144,16 @@ module _ (f : Function) (os : List ExprOperand) (held : Option Bytes) (old new :
         called = subst (GivesAsCalled w.items w.bound) (sym first) tt;
       };
       more = λ w h.
-          let items = with_method w.bound f.name.snake w.items in (
+          let items = with_method w.bound (rust_ident f.name) w.items in (
             record { items = items; item = w.item; bound = w.bound; area = w.area },
             record {
-              runtime = subst (Found items) (sym a.runtime) (found_still w.bound f.name.snake w.items old.runtime h.runtime);
+              runtime = subst (Found items) (sym a.runtime) (found_still w.bound (rust_ident f.name) w.items old.runtime h.runtime);
               records = subst (AreDefined items) (sym a.records) (still_defined w.items items (λ name. refl) old.records h.records);
               room = subst (AllByRecursion (HoldsRecord 2 w.area)) (sym a.asked) h.room;
               sized = h.sized;
               static = λ e. h.static (sym a.import ∙ e);
               bound = λ e. h.bound (sym a.import ∙ e) ∙ sym a.home;
-              called = subst (λ (c : Code). GivesAsCalled items w.bound c.call) (sym a.code) (λ none. subst (λ t. IfSome t (λ (m : TraitFn). m.result ≡ type.Unit)) (sym (named_with w.bound f.name.snake w.items)) refl);
+              called = subst (λ (c : Code). GivesAsCalled items w.bound c.call) (sym a.code) (λ none. subst (λ t. IfSome t (λ (m : TraitFn). m.result ≡ type.Unit)) (sym (named_with w.bound (rust_ident f.name) w.items)) refl);
             },
           );
       stops = λ w p s h.
@@ -163,7 +164,7 @@ module _ (f : Function) (os : List ExprOperand) (held : Option Bytes) (old new :
       exports = ap not a.import;
       arguments = ap (λ ps. Some (length ps)) a.params;
       knows = λ types h. subst (λ sizes. IsFilledFor sizes types) (sym a.sizes) h;
-      target = λ g. ap₂ (λ import home. if import then target.Core home g.name.wit else target.Method home g.name.snake) a.import a.home;
+      target = λ g. ap₂ (λ import home. if import then target.Core home g.name.wit else target.Method home (rust_ident g.name)) a.import a.home;
       crosses = λ w g. refl;
       opened = refl;
       known = known;
@@ -302,7 +303,7 @@ module _ (f : Function) (os : List ExprOperand) (held : Option Bytes) (old new :
     u = uses_all set old os vals others s.machine (sym many) at.holds.hold
 
     abbrev name : Bytes
-    name = f.name.snake
+    name = rust_ident f.name
 
     -- the run comes to the call, with these values
     comes : func_meaning.does w p new.code s0 ≡ seen s0.area (ending held set kept (call_method set w.bound name u.given u.then))
@@ -365,7 +366,7 @@ module _ (f : Function) (os : List ExprOperand) (held : Option Bytes) (old new :
       target_is : target.Method w.bound name ≡ target_of old f
       target_is =
           ap (λ home. target.Method home name) (at.serves.bound (a.import ∙ export) ∙ a.home)
-          ∙ sym (ap (λ (i : Bool). if i then target.Core old.home f.name.wit else target.Method old.home f.name.snake) export)
+          ∙ sym (ap (λ (i : Bool). if i then target.Core old.home f.name.wit else target.Method old.home (rust_ident f.name)) export)
 
       account1 : account_of s1 ≡ acc1
       account1 =
@@ -500,7 +501,7 @@ module _ (f : Function) (os : List ExprOperand) (held : Option Bytes) (old new :
     by_method (Some m) there = by_values m there (values_of w.items m.params (map (λ r. val.Value r) vals)) refl
 
   hands : HandsOver func_meaning f os (results held) old new
-  hands vals w p others s0 s many at all_theirs = by_method vals w p others s0 s many at all_theirs (method_named w.items w.bound f.name.snake) refl
+  hands vals w p others s0 s many at all_theirs = by_method vals w p others s0 s many at all_theirs (method_named w.items w.bound (rust_ident f.name)) refl
 
 uncalled : (call : Option CallBlock) (asked : List Asked) → is_uncalled call asked ≡ true → (call ≡ None) × (asked ≡ [])
 uncalled None [] h = (refl, refl)

@@ -3,6 +3,7 @@ use Rattle.std.proofs.Common.{◌≡◌, ℕ, not, if◌then◌else◌, List, []
 use Rattle.std.specs.List.{AllByRecursion}
 use Rattle.wit_layout.specs.Filled.{IsFilledFor}
 use Rattle.wit_model.specs.Bytes.{Bytes}
+use Rattle.rust_tree.specs.Ident.{rust_ident}
 use Rattle.rust_tree.specs.declared.export.CallBlock.{CallBlock}
 use Rattle.rust_tree.specs.declared.runtime_item.RuntimeItem.{RuntimeItem}
 use Rattle.rust_tree.specs.declared.stmt.Stmt.{Stmt}
@@ -135,7 +136,7 @@ module _ (old new : FunctionBindgen) (added : List Stmt) (items : List RuntimeIt
     exports = ap not a.import;
     arguments = ap (λ ps. Some (length ps)) a.params;
     knows = λ types h. subst (λ sizes. IsFilledFor sizes types) (sym a.sizes) h;
-    target = λ f. ap₂ (λ import home. if import then target.Core home f.name.wit else target.Method home f.name.snake) a.import a.home;
+    target = λ f. ap₂ (λ import home. if import then target.Core home f.name.wit else target.Method home (rust_ident f.name)) a.import a.home;
     crosses = λ w f. refl;
   }
 

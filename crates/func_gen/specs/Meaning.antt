@@ -1,6 +1,7 @@
 -- What a `FunctionBindgen` means: its statements, as the machine runs them.
 use Rattle.std.specs.Prelude.{◌≡◌, ◌<◌, ℕ, Bool, true, false, not, if◌then◌else◌, List, [], ◌∷◌, ◌++◌, length, map, Option, None, Some, IfSome, option_and_then, option_map, option_to_list}
 use Rattle.std.specs.List.{AllByRecursion, flat_map}
+use Rattle.rust_tree.specs.Ident.{rust_ident}
 use Rattle.rust_tree.specs.declared.area.StaticArea.{StaticArea}
 use Rattle.rust_tree.specs.declared.export.CallBlock.{CallBlock}
 use Rattle.rust_tree.specs.declared.item.Item.{Item}
@@ -171,11 +172,11 @@ StandsAsItIs dir t v r own = Stands 2 dir t v r own × IsNormal dir r
 
 -- a call goes to the core import of the function's name, or to the method
 abbrev pub target_of : FunctionBindgen → Function → Target
-target_of b f = if b.import then target.Core b.home f.name.wit else target.Method b.home f.name.snake
+target_of b f = if b.import then target.Core b.home f.name.wit else target.Method b.home (rust_ident f.name)
 
 -- the method of a function in the file's trait
 abbrev pub method : File → Function → Option TraitFn
-method w f = method_named w.items w.bound f.name.snake
+method w f = method_named w.items w.bound (rust_ident f.name)
 
 -- values are passed as those of the method's parameters, and its answer comes in as one of its result
 abbrev pub crossing : File → FunctionBindgen → Function → Crossing RustValue

@@ -2,6 +2,7 @@
 use Rattle.std.specs.Prelude.{◌≡◌, ℕ, Bool, true, false, List, [], ◌∷◌, codes, Option, None, Some, option_map}
 use Rattle.wit_model.specs.Bytes.{Bytes}
 use Rattle.wit_model.specs.declared.function.Function.{Function}
+use Rattle.rust_tree.specs.Ident.{rust_ident}
 use Rattle.rust_tree.specs.declared.export.CallBlock.{CallBlock}
 use Rattle.rust_tree.specs.declared.expr.Expr.{Expr}
 use Rattle.rust_tree.specs.declared.stmt.Stmt.{Stmt}
@@ -16,7 +17,7 @@ is_uncalled None (_ ∷ _) = false
 is_uncalled (Some _) asked = false
 
 abbrev pub call_block : Function → List Stmt → List Expr → Option Bytes → CallBlock
-call_block f stmts arguments value = record { result = value; stmts = stmts; method = f.name.snake; arguments = arguments }
+call_block f stmts arguments value = record { result = value; stmts = stmts; method = rust_ident f.name; arguments = arguments }
 
 -- the local of the value, where one is due
 abbrev pub value_local : {A : Type 0} → Option A → ℕ → Option Bytes

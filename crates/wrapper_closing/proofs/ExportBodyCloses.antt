@@ -1,6 +1,7 @@
 -- An item that closes the body which was made for an export closes the driver's code, and so it is faithful.
 use Rattle.std.proofs.Common.{◌≡◌, ℕ, false, List, ◌∷◌, ◌++◌, length, map, Option, Some, sym, ap, ap₂, ◌∙◌, subst}
 use Rattle.std.specs.Borrow.{Bor}
+use Rattle.rust_tree.specs.Ident.{rust_ident}
 use Rattle.rust_tree.specs.Tree.{Tree}
 use Rattle.wit_model.specs.declared.function.Function.{Function}
 use Rattle.wit_model.specs.declared.types.TypeDef.{TypeDef}
@@ -75,7 +76,7 @@ closes_export types func parts body names results tree nth c =
       passes = subst (λ h. PassesAsItIs func_meaning (export_file tree c.number h) k.old f (param_shapes types f)) home c.passes;
       answers = subst (λ h. AnswersComeIn (export_file tree c.number h) k.old f (result_shape types f)) home c.answers;
       direct = c.direct;
-      method = c.method ∙ ap (λ h. target.Method h f.name.snake) home;
+      method = c.method ∙ ap (λ h. target.Method h (rust_ident f.name)) home;
       exported = c.exported;
       post_return = c.post_return;
     }

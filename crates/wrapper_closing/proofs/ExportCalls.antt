@@ -1,6 +1,7 @@
 -- An export that closes the driver's code calls once, and what its call carries.
 use Rattle.std.proofs.Common.{◌≡◌, inr, ℕ, true, if◌then◌else◌, List, [], ◌∷◌, ◌++◌, map, Option, None, refl, sym, ap, ap₂, ◌∙◌, subst}
 use Rattle.std.proofs.lemmas.Bool.{and_parts}
+use Rattle.rust_tree.specs.Ident.{rust_ident}
 use Rattle.rust_tree.specs.declared.expr.Expr.{Expr}
 use Rattle.rust_tree.specs.declared.stmt.Block.{Block as Code}
 use Rattle.rust_tree.specs.declared.stmt.Stmt.{Stmt}
@@ -112,7 +113,7 @@ module _ (types : List TypeDef) (f : Function) (names : ExportNames) (results : 
         record { point = point; once = finish_calls w c.item.result c.given c.operands (run_code w old.home new.code (at_words old ws heap choices)) ∙ once; is = is }
 
     aims : func_meaning.target old f ≡ names.method
-    aims = ap (λ i. if i then target.Core old.home f.name.wit else target.Method old.home f.name.snake) c.export ∙ sym c.method
+    aims = ap (λ i. if i then target.Core old.home f.name.wit else target.Method old.home (rust_ident f.name)) c.export ∙ sym c.method
 
     -- 3. What it carries
 

@@ -1,6 +1,7 @@
 -- An import that closes the driver's code calls once, and what its call carries.
 use Rattle.std.proofs.Common.{◌≡◌, inr, ℕ, zero, suc, true, ◌%◌, List, [], ◌∷◌, ◌++◌, map, Option, Some, Contains, if◌then◌else◌, slice_get, refl, sym, ap, ◌∙◌, subst, arith, append-nil}
 use Rattle.std.proofs.lemmas.Bool.{and_parts}
+use Rattle.rust_tree.specs.Ident.{rust_ident}
 use Rattle.rust_tree.specs.declared.expr.Expr.{Expr}
 use Rattle.rust_tree.specs.declared.item.FnItem.{FnItem}
 use Rattle.rust_tree.specs.declared.stmt.Block.{Block as Code}
@@ -148,7 +149,7 @@ module _ (types : List TypeDef) (f : Function) (tree : Tree) (nth : ℕ) (old ne
     CallOf = CallsImport 2 (import_target old f) (param_shapes types f) vs (result_shape types f) heap choices.list
 
     aims : func_meaning.target old f ≡ import_target old f
-    aims = ap (λ i. if i then target.Core old.home f.name.wit else target.Method old.home f.name.snake) c.import
+    aims = ap (λ i. if i then target.Core old.home f.name.wit else target.Method old.home (rust_ident f.name)) c.import
 
     call_carries : (ready : Ready types f tree nth old new c p vs rs heap choices) → CallOf (call_made ready).point
     call_carries ready =

@@ -5,6 +5,7 @@ use Rattle.wit_model.specs.Bytes.{Bytes}
 use Rattle.wit_model.specs.declared.function.Function.{Function}
 use Rattle.wit_model.specs.declared.types.WitType.TheVariants as wit
 use Rattle.wit_layout.specs.Tree.{Scalar}
+use Rattle.rust_tree.specs.Ident.{rust_ident}
 use Rattle.rust_tree.specs.declared.item.Item.{Item}
 use Rattle.rust_tree.specs.declared.item.Item.TheVariants as item
 use Rattle.rust_tree.specs.declared.trait_item.TraitFn.{TraitFn}
@@ -121,11 +122,11 @@ too_large = search (rules, the_lemmas, type_lemmas)
 abbrev file : File
 file = record { items = items; item = 4; bound = codes "Guest"; area = None }
 
-swap_is_there : (f : Function) → f.name.snake ≡ codes "swap" → method file f ≡ Some swap
+swap_is_there : (f : Function) → rust_ident f.name ≡ codes "swap" → method file f ≡ Some swap
 swap_is_there f e = ap (method_named items (codes "Guest")) e
 
-pub swap_passes : (b : FunctionBindgen) (f : Function) → f.name.snake ≡ codes "swap" → PassesAsItIs func_meaning file b f (more pair none)
+pub swap_passes : (b : FunctionBindgen) (f : Function) → rust_ident f.name ≡ codes "swap" → PassesAsItIs func_meaning file b f (more pair none)
 swap_passes b f e = printed_params_pass file b f (more pair none) swap (swap_is_there f e) (other_is_printed, tt)
 
-pub swap_comes_in : (b : FunctionBindgen) (f : Function) → f.name.snake ≡ codes "swap" → AnswersComeIn file b f (Some (tuple (more pair none)))
+pub swap_comes_in : (b : FunctionBindgen) (f : Function) → rust_ident f.name ≡ codes "swap" → AnswersComeIn file b f (Some (tuple (more pair none)))
 swap_comes_in b f e = printed_results_come_in file b f (Some (tuple (more pair none))) swap (swap_is_there f e) (named (codes "Pair") ∷ [], search (rules, type_lemmas), (pair_is_printed, tt))

@@ -4,6 +4,7 @@ use Rattle.std.specs.List.{AllByRecursion, flat_map}
 use Rattle.wit_model.specs.Bytes.{Bytes}
 use Rattle.wit_model.specs.declared.function.Function.{Function}
 use Rattle.wit_model.specs.declared.types.TypeDef.{TypeDef}
+use Rattle.rust_tree.specs.Ident.{rust_ident}
 use Rattle.rust_tree.specs.Tree.{Tree}
 use Rattle.rust_tree.specs.declared.export.ExportFn.{ExportFn}
 use Rattle.wit_layout.specs.declared.signature.AbiVariant.TheVariants.{GuestExport}
@@ -92,6 +93,6 @@ pub record ClosesExport (types : List TypeDef) (f : Function) (names : ExportNam
   pub passes : PassesAsItIs func_meaning (export_file tree number old.home) old f (param_shapes types f)
   pub answers : AnswersComeIn (export_file tree number old.home) old f (result_shape types f)
   pub direct : are_direct (param_shapes types f) ≡ true
-  pub method : names.method ≡ target.Method old.home f.name.snake
+  pub method : names.method ≡ target.Method old.home (rust_ident f.name)
   pub exported : IsExported tree names.entry item
   pub post_return : Returns names.post_return tree nth (passed types f)

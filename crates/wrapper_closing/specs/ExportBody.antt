@@ -3,6 +3,7 @@ use Rattle.std.specs.Borrow.{Bor}
 use Rattle.std.specs.Prelude.{◌≡◌, ℕ, true, List, map, Option, Some}
 use Rattle.wit_model.specs.declared.function.Function.{Function}
 use Rattle.wit_model.specs.declared.types.TypeDef.{TypeDef}
+use Rattle.rust_tree.specs.Ident.{rust_ident}
 use Rattle.rust_tree.specs.Tree.{Tree}
 use Rattle.rust_tree.specs.declared.export.ExportFn.{ExportFn}
 use Rattle.wrapper_data.specs.declared.run.Target.TheVariants as target
@@ -45,6 +46,6 @@ pub record ClosesExportBody (types : List TypeDef) (func : Bor Function) (parts 
   pub passes : PassesAsItIs func_meaning (export_file tree number parts.home) makes.old func.now (param_shapes types func.now)
   pub answers : AnswersComeIn (export_file tree number parts.home) makes.old func.now (result_shape types func.now)
   pub direct : are_direct (param_shapes types func.now) ≡ true
-  pub method : names.method ≡ target.Method parts.home func.now.name.snake
+  pub method : names.method ≡ target.Method parts.home (rust_ident func.now.name)
   pub exported : IsExported tree names.entry item
   pub post_return : Returns names.post_return tree nth (passed types func.now)

@@ -10,7 +10,7 @@ use crate::emit::calls::expressions;
 use crate::function_bindgen::FunctionBindgen;
 use crate::operand::ExprOperand;
 use crate::scope::{LocalName, numbered};
-use rust_tree::{CallBlock, Expr};
+use rust_tree::{CallBlock, Expr, to_rust_ident};
 use wit_model::{Function, FunctionKind, List, OutOfMemory, Resolve, Text};
 
 impl FunctionBindgen {
@@ -79,7 +79,7 @@ impl FunctionBindgen {
         ensures calls { OnOk result (CallsIn func.now arguments value self.old self.new) }
         ensures scope { OnOk result (self.new.scope ≡ self.old.scope) }
     {
-        let method = func.name.snake.copy(self.alloc)?;
+        let method = to_rust_ident(self.alloc, &func.name)?;
         let stmts = std::mem::replace(&mut self.code.stmts, List::new(self.alloc));
         self.code.call = Some(CallBlock {
             result: value,
