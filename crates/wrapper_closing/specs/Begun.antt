@@ -5,7 +5,7 @@ use Rattle.wit_model.specs.Distinct.{is_distinct}
 use Rattle.func_gen.specs.Sites.{IsSite, site_names}
 use Rattle.func_gen.specs.declared.function_bindgen.FunctionBindgen.{FunctionBindgen}
 
--- one without code, for parameters of distinct names, which none but the area has too
+-- one without code, for parameters whose names are distinct from one another and from the area's
 pub record IsBegun (b : FunctionBindgen) : Type 0 where
   pub distinct : is_distinct (b.area ∷ site_names b.params) ≡ true
   pub sites : AllByRecursion IsSite b.params

@@ -10,7 +10,8 @@ use Rattle.func_gen.specs.Sites.{IsSite, site_names}
 use Rattle.func_gen.specs.declared.function_bindgen.FunctionBindgen.{FunctionBindgen}
 use Rattle.wrapper_closing.specs.declared.parts.BodyParts.{BodyParts}
 
--- the layouts are those of the types, each parameter is denoted by its name, no two names are the same, and structs can define the records
+-- the layouts are those of the types, each parameter is denoted by its name or by a reference to it, no two names are the same, also with
+-- the area's, and structs can define the records
 pub record AreParts (types : List TypeDef) (parts : BodyParts) : Type 0 where
   pub filled : IsFilledFor parts.sizes types
   pub sites : AllByRecursion IsSite parts.params

@@ -22,7 +22,8 @@ fn local_site(alloc: Global, name: &Text) -> Result<ParamSite, OutOfMemory>
     })
 }
 
-/// The parameters of these names, each denoted by its name.
+/// The parameters of these names, each denoted by its name. An import writes a scalar as a reference, `&a`, as wit-bindgen does: that site is the
+/// caller's to make.
 pub fn param_sites(alloc: Global, names: &[Text]) -> Result<List<ParamSite>, OutOfMemory>
     ensures are { IfOk result (λ sites. sites ≡ local_sites names.now) }
     ensures sites { IfOk result (λ sites. AllByRecursion IsSite sites) }
