@@ -4,6 +4,7 @@
 mod added;
 mod area;
 mod body;
+mod core_words;
 mod emit;
 mod forms;
 mod function_bindgen;
@@ -13,6 +14,7 @@ mod record_site;
 mod scope;
 
 pub use body::{Body, needed_area};
+pub use core_words::{import_params, import_result};
 pub use function_bindgen::{Code, FunctionBindgen, ParamSite};
 pub use operand::ExprOperand;
 pub use record_site::RecordSite;

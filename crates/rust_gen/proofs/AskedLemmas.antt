@@ -1,10 +1,10 @@
 -- An item of `_rt` that a file's items name is found in the file.
-use Rattle.std.proofs.Common.{◌≡◌, ℕ, zero, suc, Bool, true, false, cond, ◌||◌, List, [], ◌∷◌, ◌++◌, Option, None, Some, ◌⊎◌, inl, inr, refl, sym, ap, subst, ◌∙◌}
+use Rattle.std.proofs.Common.{◌≡◌, ℕ, zero, suc, Bool, true, false, cond, ◌||◌, List, [], ◌∷◌, ◌++◌, Option, None, Some, ◌⊎◌, inl, inr, refl, sym, ap, subst, ◌∙◌, append-nil}
 use Rattle.std.specs.Prelude.{find, fold, slice_get}
-use Rattle.std.specs.List.{flat_map, list_any}
+use Rattle.std.specs.List.{flat_map, list_all, list_any}
 use Rattle.std.specs.Option.{option_or}
 use Rattle.std.specs.Str.{bytes_eq}
-use Rattle.std.proofs.lemmas.Bool.{or_cases, or_left, or_right}
+use Rattle.std.proofs.lemmas.Bool.{and_parts, or_cases, or_left, or_right}
 use Rattle.std.proofs.lemmas.List.Folds.{list_any-append}
 use Rattle.std.proofs.lemmas.Grind.{flat_map-append}
 use Rattle.rust_tree.specs.declared.item.Item.{Item}
@@ -12,27 +12,12 @@ use Rattle.rust_tree.specs.declared.runtime_item.RuntimeItem.{RuntimeItem}
 use Rattle.rust_tree.specs.declared.runtime_item.RuntimeItem.TheVariants.{AsI32, AsI64, AsF32, AsF64, AllocCrate, StringType, VecType, BoolLift, CharLift, StringLift, StdAllocModule, CabiDealloc}
 use Rattle.rust_tree.specs.Runtime.{item_name, needed_items}
 use Rattle.wrapper_run.specs.Run.{runtime_item_named}
-use Rattle.rust_tree.specs.declared.expr.Expr.{Expr}
-use Rattle.rust_tree.specs.declared.expr.Expr.TheVariants as expr
-use Rattle.rust_tree.specs.declared.stmt.Stmt.{Stmt}
-use Rattle.rust_tree.specs.declared.stmt.Stmt.TheVariants as stmt
-use Rattle.rust_tree.specs.Asked.{asked_by_block, asked_by_export, asked_by_expr, asked_by_item, asked_by_path, asked_by_stmt, asked_in}
-use Rattle.rust_tree.specs.Runtime.{item_of_name}
-use Rattle.rust_tree.proofs.AskedLemmas.{asked-call}
-use Rattle.wrapper_run.proofs.FreeSteps.{one_byte}
-use Rattle.wit_model.specs.Bytes.{Bytes}
-use Rattle.rust_gen.specs.Body.{call_stmt, import_call, import_name, runtime_call, runtime_name, runtime_path, text_taken, word_at}
-use Rattle.type_defs.specs.Paths.{local_path}
-use Rattle.rust_gen.specs.ExportBody.{FreesText, dealloc_call, text_freed}
-use Rattle.rust_gen.specs.Exported.{arg_name}
+use Rattle.rust_tree.specs.WellNamed.{are_well_named}
+use Rattle.rust_tree.specs.Asked.{asked_by_block, asked_by_export, asked_by_item, asked_in}
 use Rattle.rust_tree.specs.declared.export.PostReturnFn.{PostReturnFn}
-use Rattle.rust_tree.specs.declared.stmt.Block.{Block}
-use Rattle.wit_model.specs.declared.wasm_type.WasmType.TheVariants as core
-use Rattle.rust_tree.specs.declared.stmt.ImportDecl.{ImportDecl}
-use Rattle.wit_model.specs.declared.wasm_type.WasmType.{WasmType}
+use Rattle.func_gen.specs.Meaning as bodies
+use Rattle.rust_gen.specs.Body.{is_among, is_sound}
 use Rattle.rust_gen.specs.Bound.{Parts, export_items}
-use Rattle.rust_gen.specs.Scope.{numbered}
-use Rattle.rust_gen.specs.declared.scope.LocalKind.TheVariants as kind
 use Rattle.rust_gen.specs.Runtime.{is_same_item, runtime_items, runtime_module, with_asked, with_needed}
 
 abbrev pub IsAmong : RuntimeItem → List RuntimeItem → Type 0
@@ -156,9 +141,6 @@ found-left items xs ys h x k = h x (list_any-append (λ i. is_same_item i x) xs 
 pub found-right : (items : List Item) (xs ys : List RuntimeItem) → Found items (xs ++ ys) → Found items ys
 found-right items xs ys h x k = h x (list_any-append (λ i. is_same_item i x) xs ys ∙ or_right (list_any (λ i. is_same_item i x) xs) _ k)
 
-pub found-first : (items : List Item) (x : RuntimeItem) (xs : List RuntimeItem) → Found items (x ∷ xs) → runtime_item_named items (item_name x) ≡ Some x
-found-first items x xs h = h x (or_left (is_same_item x x) _ (same-refl x))
-
 needed-stays : (x : RuntimeItem) (items : List RuntimeItem) → IsAmong x items → IsAmong x (with_needed items)
 needed-stays x items h = asked-all x (flat_map needed_items items) items (inl h)
 
@@ -191,74 +173,23 @@ found-export items (x ∷ es) (suc nth) parts e h =
 
 -- its wrapper, and its post-return function
 pub found-wrapper : (items : List Item) (parts : Parts) → Found items (asked_in (export_items parts)) → Found items (asked_by_export parts.0)
-found-wrapper items (e, None) h = found-left items (asked_by_export e) [] h
-found-wrapper items (e, Some p) h = found-left items (asked_by_export e) (asked_by_block p.body ++ []) h
+found-wrapper items (e, None, a) h = found-left items (asked_by_export e) [] h
+found-wrapper items (e, Some p, a) h = found-left items (asked_by_export e) (asked_by_block p.body ++ []) h
 
 pub found-return : (items : List Item) (parts : Parts) (p : PostReturnFn) → parts.1 ≡ Some p → Found items (asked_in (export_items parts)) → Found items (asked_by_block p.body)
-found-return items (e, None) p is h = absurd (cc)
-found-return items (e, Some q) p is h =
+found-return items (e, None, a) p is h = absurd (cc)
+found-return items (e, Some q, a) p is h =
     let same : q ≡ p = cc in
     subst (λ q. Found items (asked_by_block q.body)) same (found-left items (asked_by_block q.body) [] (found-right items (asked_by_export e) (asked_by_block q.body ++ []) h))
 
--- the call of an item of `_rt`
-
--- its path names it
-asked-path : (i : RuntimeItem) → asked_by_path (runtime_path i) ≡ i ∷ []
-unfolding asked_by_path runtime_name item_of_name item_name
-asked-path AsI32 = refl
-asked-path AsI64 = refl
-asked-path AsF32 = refl
-asked-path AsF64 = refl
-asked-path AllocCrate = refl
-asked-path StringType = refl
-asked-path VecType = refl
-asked-path BoolLift = refl
-asked-path CharLift = refl
-asked-path StringLift = refl
-asked-path StdAllocModule = refl
-asked-path CabiDealloc = refl
-
-pub found-called : (items : List Item) (i : RuntimeItem) (es : List Expr) → Found items (asked_by_expr (expr.Call (runtime_path i) es)) → runtime_item_named items (item_name i) ≡ Some i
-found-called items i es h =
-    found-first items i (flat_map asked_by_expr es) (subst (Found items) (asked-call (runtime_path i) es ∙ ap (λ is. is ++ flat_map asked_by_expr es) (asked-path i)) h)
-
--- one statement with such a call, or one expression
-pub found-bound : (items : List Item) (i : RuntimeItem) (name : Bytes) (e : Expr) (stmts : List Stmt) → stmts ≡ stmt.Let name (runtime_call i e) ∷ [] → Found items (flat_map asked_by_stmt stmts) → runtime_item_named items (item_name i) ≡ Some i
-found-bound items i name e stmts is h =
-    found-called items i (e ∷ []) (found-left items (asked_by_expr (runtime_call i e)) [] (subst (λ stmts. Found items (flat_map asked_by_stmt stmts)) is h))
-
-pub found-word : (items : List Item) (i : RuntimeItem) (e : Expr) (words : List Expr) → words ≡ runtime_call i e ∷ [] → Found items (flat_map asked_by_expr words) → runtime_item_named items (item_name i) ≡ Some i
-found-word items i e words is h =
-    found-called items i (e ∷ []) (found-left items (asked_by_expr (runtime_call i e)) [] (subst (λ words. Found items (flat_map asked_by_expr words)) is h))
-
--- the statements that take a text over call the item that tests it
-pub found-taken : (items : List Item) (address size : Bytes) (c : ℕ) (stmts : List Stmt) → stmts ≡ text_taken address size c → Found items (flat_map asked_by_stmt stmts) → runtime_item_named items (item_name StringLift) ≡ Some StringLift
-found-taken items address size c stmts is h =
-    let taken = numbered kind.Length c in
-    let behind : List Stmt = stmt.Let (numbered kind.Text c) (runtime_call StringLift (expr.Local (numbered kind.Bytes c))) ∷ [] in
-    found-bound items StringLift (numbered kind.Text c) (expr.Local (numbered kind.Bytes c)) behind refl
-    (found-parts items asked_by_stmt (stmt.Let taken (expr.Local size) ∷ stmt.Let (numbered kind.Bytes c) (expr.FromRawParts (expr.Local address) taken) ∷ []) behind stmts is h).1
-
--- the statements that free a text call the item that frees a block
-pub found-freed : (items : List Item) (body : Block) (f : FreesText body) → Found items (asked_by_block body) → runtime_item_named items (item_name CabiDealloc) ≡ Some CabiDealloc
-found-freed items body f h =
-    let loads : List Stmt = stmt.Let (numbered kind.Loaded f.first) (word_at (arg_name 0) 0 core.Pointer) ∷ stmt.Let (numbered kind.Loaded f.second) (word_at (arg_name 0) 1 core.Length) ∷ [] in
-    let frees : Expr = dealloc_call f.first f.second in
-    let stmts = found-left items (flat_map asked_by_stmt (text_freed f.first f.second)) [] (subst (λ body. Found items (asked_by_block body)) f.is h) in
-    found-called items CabiDealloc (expr.Local (numbered kind.Loaded f.first) ∷ expr.Local (numbered kind.Loaded f.second) ∷ expr.Size one_byte ∷ [])
-    (found-left items (asked_by_expr frees) [] (found-parts items asked_by_stmt loads (stmt.Expr frees ∷ []) (text_freed f.first f.second) refl stmts).1)
-
--- the declaration and the call of a core import
-abbrev pub calling_stmts : ImportDecl → Option WasmType → ℕ → List Expr → List Stmt
-calling_stmts d r t words = stmt.Import d ∷ call_stmt r t words ∷ []
-
--- the call asks for what its words ask for
-pub found-words : (items : List Item) (d : ImportDecl) (r : Option WasmType) (t : ℕ) (words : List Expr) → Found items (flat_map asked_by_stmt (calling_stmts d r t words)) → Found items (flat_map asked_by_expr words)
-found-words items d r t words h = go (found-left items (asked_by_expr (import_call t words)) [] (one r h))
+-- what a body asks for, where its item names it
+pub found-asked : (items : List Item) (i : Item) (runtime : List RuntimeItem) → is_sound i runtime ≡ true → Found items (asked_by_item i) → bodies.Found items runtime
+found-asked items i runtime h f =
+    let named = (and_parts (are_well_named [] (i ∷ [])) (list_all (is_among (asked_in (i ∷ []))) runtime) h).1 in
+    each runtime named (subst (Found items) (sym (append-nil (asked_by_item i))) f)
   where
-    one : (r : Option WasmType) → Found items (flat_map asked_by_stmt (calling_stmts d r t words)) → Found items (asked_by_expr (import_call t words) ++ [])
-    one None h = h
-    one (Some ty) h = h
-
-    go : Found items (asked_by_expr (import_call t words)) → Found items (flat_map asked_by_expr words)
-    go h = found-right items (asked_by_path (local_path (import_name t))) (flat_map asked_by_expr words) (subst (Found items) (asked-call (local_path (import_name t)) words) h)
+    each : (runtime : List RuntimeItem) → list_all (is_among (asked_in (i ∷ []))) runtime ≡ true → Found items (asked_in (i ∷ [])) → bodies.Found items runtime
+    each [] named f = tt
+    each (r ∷ runtime) named f =
+        let parts = and_parts (is_among (asked_in (i ∷ [])) r) (list_all (is_among (asked_in (i ∷ []))) runtime) named in
+        (f r parts.0, each runtime parts.1 f)

@@ -8,6 +8,7 @@ use Rattle.std.proofs.lemmas.List.Elements.{filter-append}
 use Rattle.std.proofs.lemmas.Slice.Eq.{bytes_eq-Decides}
 use Rattle.wit_model.specs.Distinct.{is_distinct}
 use Rattle.wit_model.specs.declared.function.Function.{Function}
+use Rattle.wit_model.specs.declared.types.TypeDef.{TypeDef}
 use Rattle.wit_model.specs.declared.world.WorldItem.TheVariants as entry
 use Rattle.rust_tree.specs.declared.macros.ExportEntry.{ExportEntry}
 use Rattle.gen_accept.specs.Area.{needs_area}
@@ -69,52 +70,53 @@ same-named f g = same-truth (post_return_name g) (post_return_name f) g.name.wit
 
 -- entries of a name are those of the functions that have it
 
-picked : (p : ExportEntry → Bool) (q : Function → Bool) (pick : Function → List ExportEntry) (fs : List Function)
-    → ((g : Function) → is_wit_form g.name.wit ≡ true → filter p (entries_of g) ≡ cond (q g) (pick g) []) → list_all (λ f. is_wit_form f.name.wit) fs ≡ true
-    → filter p (flat_map entries_of fs) ≡ flat_map pick (filter q fs)
-picked p q pick [] h forms = refl
-picked p q pick (g ∷ fs) h forms =
-    let parts = and_parts (is_wit_form g.name.wit) (list_all (λ f. is_wit_form f.name.wit) fs) forms in
-    filter-append p (entries_of g) (flat_map entries_of fs) ∙ ap (λ es. es ++ filter p (flat_map entries_of fs)) (h g parts.0) ∙ ap (λ es. cond (q g) (pick g) [] ++ es) (picked p q pick fs h parts.1) ∙ go (q g)
-  where
-    go : (b : Bool) → cond b (pick g) [] ++ flat_map pick (filter q fs) ≡ flat_map pick (cond b (g ∷ filter q fs) (filter q fs))
-    go true = refl
-    go false = refl
+module _ (types : List TypeDef) where
+  picked : (p : ExportEntry → Bool) (q : Function → Bool) (pick : Function → List ExportEntry) (fs : List Function)
+      → ((g : Function) → is_wit_form g.name.wit ≡ true → filter p (entries_of types g) ≡ cond (q g) (pick g) []) → list_all (λ f. is_wit_form f.name.wit) fs ≡ true
+      → filter p (flat_map (entries_of types) fs) ≡ flat_map pick (filter q fs)
+  picked p q pick [] h forms = refl
+  picked p q pick (g ∷ fs) h forms =
+      let parts = and_parts (is_wit_form g.name.wit) (list_all (λ f. is_wit_form f.name.wit) fs) forms in
+      filter-append p (entries_of types g) (flat_map (entries_of types) fs) ∙ ap (λ es. es ++ filter p (flat_map (entries_of types) fs)) (h g parts.0) ∙ ap (λ es. cond (q g) (pick g) [] ++ es) (picked p q pick fs h parts.1) ∙ go (q g)
+    where
+      go : (b : Bool) → cond b (pick g) [] ++ flat_map pick (filter q fs) ≡ flat_map pick (cond b (g ∷ filter q fs) (filter q fs))
+      go true = refl
+      go false = refl
 
--- under its WIT name a function is exported by its wrapper alone
-pub alone-wrapper : (fs : List Function) (nth : ℕ) (f : Function) → is_distinct (map (λ f. f.name.wit) fs) ≡ true → list_all (λ f. is_wit_form f.name.wit) fs ≡ true → slice_get fs nth ≡ Some f → is_wit_form f.name.wit ≡ true
-    → filter (λ x. bytes_eq x.export_name f.name.wit) (flat_map entries_of fs) ≡ export_entry f ∷ []
-alone-wrapper fs nth f d forms e form =
-    picked (λ x. bytes_eq x.export_name f.name.wit) (λ g. bytes_eq g.name.wit f.name.wit) (λ g. export_entry g ∷ []) fs each forms
-    ∙ ap (flat_map (λ g. export_entry g ∷ [])) (alone-named (λ g. g.name.wit) fs nth f d e)
-  where
-    behind : (g : Function) (b : Bool) → filter (λ x. bytes_eq x.export_name f.name.wit) (cond b (return_entry g ∷ []) []) ≡ []
-    behind g true = ap (λ b. cond b (return_entry g ∷ []) []) (never (post_return_name g) f.name.wit (no_wit_name g f.name.wit form))
-    behind g false = refl
+  -- under its WIT name a function is exported by its wrapper alone
+  pub alone-wrapper : (fs : List Function) (nth : ℕ) (f : Function) → is_distinct (map (λ f. f.name.wit) fs) ≡ true → list_all (λ f. is_wit_form f.name.wit) fs ≡ true → slice_get fs nth ≡ Some f → is_wit_form f.name.wit ≡ true
+      → filter (λ x. bytes_eq x.export_name f.name.wit) (flat_map (entries_of types) fs) ≡ export_entry types f ∷ []
+  alone-wrapper fs nth f d forms e form =
+      picked (λ x. bytes_eq x.export_name f.name.wit) (λ g. bytes_eq g.name.wit f.name.wit) (λ g. export_entry types g ∷ []) fs each forms
+      ∙ ap (flat_map (λ g. export_entry types g ∷ [])) (alone-named (λ g. g.name.wit) fs nth f d e)
+    where
+      behind : (g : Function) (b : Bool) → filter (λ x. bytes_eq x.export_name f.name.wit) (cond b (return_entry types g ∷ []) []) ≡ []
+      behind g true = ap (λ b. cond b (return_entry types g ∷ []) []) (never (post_return_name g) f.name.wit (no_wit_name g f.name.wit form))
+      behind g false = refl
 
-    each : (g : Function) → is_wit_form g.name.wit ≡ true → filter (λ x. bytes_eq x.export_name f.name.wit) (entries_of g) ≡ cond (bytes_eq g.name.wit f.name.wit) (export_entry g ∷ []) []
-    each g h = ap (λ es. cond (bytes_eq g.name.wit f.name.wit) (export_entry g ∷ es) es) (behind g (needs_area g.result))
+      each : (g : Function) → is_wit_form g.name.wit ≡ true → filter (λ x. bytes_eq x.export_name f.name.wit) (entries_of types g) ≡ cond (bytes_eq g.name.wit f.name.wit) (export_entry types g ∷ []) []
+      each g h = ap (λ es. cond (bytes_eq g.name.wit f.name.wit) (export_entry types g ∷ es) es) (behind g (needs_area g.result))
 
--- under its post-return name by its post-return function, if it has one
-pub alone-return : (fs : List Function) (nth : ℕ) (f : Function) → is_distinct (map (λ f. f.name.wit) fs) ≡ true → list_all (λ f. is_wit_form f.name.wit) fs ≡ true → slice_get fs nth ≡ Some f
-    → filter (λ x. bytes_eq x.export_name (post_return_name f)) (flat_map entries_of fs) ≡ where_area f (return_entry f)
-alone-return fs nth f d forms e =
-    picked (λ x. bytes_eq x.export_name (post_return_name f)) (λ g. bytes_eq g.name.wit f.name.wit) (λ g. where_area g (return_entry g)) fs each forms
-    ∙ ap (flat_map (λ g. where_area g (return_entry g))) (alone-named (λ g. g.name.wit) fs nth f d e)
-    ∙ append-nil (where_area f (return_entry f))
-  where
-    behind : (g : Function) (b c : Bool) → bytes_eq (post_return_name g) (post_return_name f) ≡ c → filter (λ x. bytes_eq x.export_name (post_return_name f)) (cond b (return_entry g ∷ []) []) ≡ cond c (cond b (return_entry g ∷ []) []) []
-    behind g true c h = ap (λ b. cond b (return_entry g ∷ []) []) h ∙ go c
-      where
-        go : (c : Bool) → cond c (return_entry g ∷ []) [] ≡ cond c (return_entry g ∷ []) []
-        go c = refl
-    behind g false true h = refl
-    behind g false false h = refl
+  -- under its post-return name by its post-return function, if it has one
+  pub alone-return : (fs : List Function) (nth : ℕ) (f : Function) → is_distinct (map (λ f. f.name.wit) fs) ≡ true → list_all (λ f. is_wit_form f.name.wit) fs ≡ true → slice_get fs nth ≡ Some f
+      → filter (λ x. bytes_eq x.export_name (post_return_name f)) (flat_map (entries_of types) fs) ≡ where_area f (return_entry types f)
+  alone-return fs nth f d forms e =
+      picked (λ x. bytes_eq x.export_name (post_return_name f)) (λ g. bytes_eq g.name.wit f.name.wit) (λ g. where_area g (return_entry types g)) fs each forms
+      ∙ ap (flat_map (λ g. where_area g (return_entry types g))) (alone-named (λ g. g.name.wit) fs nth f d e)
+      ∙ append-nil (where_area f (return_entry types f))
+    where
+      behind : (g : Function) (b c : Bool) → bytes_eq (post_return_name g) (post_return_name f) ≡ c → filter (λ x. bytes_eq x.export_name (post_return_name f)) (cond b (return_entry types g ∷ []) []) ≡ cond c (cond b (return_entry types g ∷ []) []) []
+      behind g true c h = ap (λ b. cond b (return_entry types g ∷ []) []) h ∙ go c
+        where
+          go : (c : Bool) → cond c (return_entry types g ∷ []) [] ≡ cond c (return_entry types g ∷ []) []
+          go c = refl
+      behind g false true h = refl
+      behind g false false h = refl
 
-    each : (g : Function) → is_wit_form g.name.wit ≡ true → filter (λ x. bytes_eq x.export_name (post_return_name f)) (entries_of g) ≡ cond (bytes_eq g.name.wit f.name.wit) (where_area g (return_entry g)) []
-    each g h =
-        ap (λ b. cond b (export_entry g ∷ rest g) (rest g)) (never g.name.wit (post_return_name f) (λ e. no_wit_name f g.name.wit h (sym e)))
-        ∙ behind g (needs_area g.result) (bytes_eq g.name.wit f.name.wit) (same-named f g)
-      where
-        rest : Function → List ExportEntry
-        rest g = filter (λ x. bytes_eq x.export_name (post_return_name f)) (where_area g (return_entry g))
+      each : (g : Function) → is_wit_form g.name.wit ≡ true → filter (λ x. bytes_eq x.export_name (post_return_name f)) (entries_of types g) ≡ cond (bytes_eq g.name.wit f.name.wit) (where_area g (return_entry types g)) []
+      each g h =
+          ap (λ b. cond b (export_entry types g ∷ rest g) (rest g)) (never g.name.wit (post_return_name f) (λ e. no_wit_name f g.name.wit h (sym e)))
+          ∙ behind g (needs_area g.result) (bytes_eq g.name.wit f.name.wit) (same-named f g)
+        where
+          rest : Function → List ExportEntry
+          rest g = filter (λ x. bytes_eq x.export_name (post_return_name f)) (where_area g (return_entry types g))

@@ -1,83 +1,94 @@
 -- The wrappers of a tree that is made as it is written are faithful.
-use Rattle.std.proofs.Common.{◌≡◌, ℕ, zero, suc, ◌+◌, Bool, true, List, [], ◌∷◌, ◌++◌, length, Some, map, refl, sym, ap, subst, ◌∙◌, arith, ◌⊎◌, append-nil, false, None, Option, cond}
-use Rattle.std.specs.Prelude.{IsSome, option_and_then, slice_get, decimal, filter, nat_le, not}
+use Rattle.std.proofs.Common.{◌≡◌, ℕ, zero, suc, ◌+◌, Bool, true, false, MatchBool, List, [], ◌∷◌, ◌++◌, length, ◌&&◌, Option, None, Some, cond, map, refl, sym, ap, ap₂, subst, ◌∙◌, arith, append-nil, Contains}
+use Rattle.std.specs.Prelude.{IfSome, codes, filter, is_some, option_and_then, option_to_list, slice_get}
 use Rattle.std.specs.Option.{option_map}
-use Rattle.std.specs.List.{AllZip, flat_map, list_all, list_any}
+use Rattle.std.specs.List.{AllByRecursion, AllZip, flat_map, list_all}
+use Rattle.std.specs.Str.{bytes_eq}
+use Rattle.std.proofs.lemmas.Bool.{and_parts}
 use Rattle.std.proofs.lemmas.Slice.Zip.{AllZip-long}
-use Rattle.wit_model.specs.declared.function.Function.{Function}
-use Rattle.wit_model.specs.declared.resolve.Resolve.{Resolve}
-use Rattle.wit_model.specs.declared.name.WorldId.{WorldId}
-use Rattle.rust_tree.specs.declared.type_item.TypeItem.{TypeItem}
-use Rattle.wit_model.specs.declared.world.World.{World}
+use Rattle.wit_model.proofs.AllLemmas.{all_at}
 use Rattle.wit_model.specs.Distinct.{is_distinct}
+use Rattle.wit_model.specs.declared.function.Function.{Function}
+use Rattle.wit_model.specs.declared.name.WorldId.{WorldId}
+use Rattle.wit_model.specs.declared.resolve.Resolve.{Resolve}
+use Rattle.wit_model.specs.declared.types.TypeDef.{TypeDef}
+use Rattle.wit_model.specs.declared.types.WitType.{WitType}
+use Rattle.wit_model.specs.declared.world.World.{World}
+use Rattle.rust_tree.specs.declared.area.StaticArea.{StaticArea}
+use Rattle.rust_tree.specs.declared.export.ExportFn.{ExportFn}
+use Rattle.rust_tree.specs.declared.export.PostReturnFn.{PostReturnFn}
 use Rattle.rust_tree.specs.declared.item.FnItem.{FnItem}
 use Rattle.rust_tree.specs.declared.item.Item.{Item}
 use Rattle.rust_tree.specs.declared.item.Item.TheVariants as item
 use Rattle.rust_tree.specs.declared.place.FuncPlace.{FuncPlace}
 use Rattle.rust_tree.specs.declared.place.WrapperInfo.{WrapperInfo}
-use Rattle.rust_tree.specs.Tree.{Tree, wrappers_from, wrappers_of, wrapper_info}
-use Rattle.wrapper_run.specs.Faithful.{CallsOnce, IsFaithful, MissesArea}
-use Rattle.wrapper_values.specs.Setting.{Setting}
-use Rattle.wrapper_run.specs.Run.{import_nth, import_run, run_item, import_at, runtime_item_named, setting_of}
-use Rattle.rust_gen.specs.Body.{IsWritten}
-use Rattle.rust_gen.specs.Bound.{Binds, Parts, export_items, own_items}
-use Rattle.gen_accept.specs.Cause.{is_well_named, is_built}
+use Rattle.rust_tree.specs.declared.runtime_item.RuntimeItem.{RuntimeItem}
+use Rattle.rust_tree.specs.declared.trait_item.TraitFn.{TraitFn}
+use Rattle.rust_tree.specs.declared.type_expr.TypeExpr.TheVariants as type
+use Rattle.rust_tree.specs.declared.type_item.TypeItem.{TypeItem}
+use Rattle.rust_tree.specs.Asked.{asked_by_item, asked_in}
+use Rattle.rust_tree.specs.Ident.{rust_ident}
+use Rattle.rust_tree.specs.Runtime.{item_name}
+use Rattle.rust_tree.specs.Tree.{Tree, wrapper_info, wrappers_from, wrappers_of}
+use Rattle.type_defs.specs.WitForm.{is_wit_form}
+use Rattle.gen_accept.specs.Area.{needs_area}
+use Rattle.gen_accept.specs.Built.{is_built_function}
+use Rattle.gen_accept.specs.Cause.{is_built, is_well_named}
 use Rattle.gen_accept.specs.DeclaredNames.{are_distinct_functions, cabi_suffix, declares_well, export_prefix, guest_name, has_distinct_names}
-use Rattle.gen_accept.proofs.DeclaredLemmas.{distinct_exports, distinct_methods, distinct_params}
+use Rattle.gen_accept.specs.Emitted.{emitted_sides, exported_functions, imported_functions, on_side, places_from}
+use Rattle.gen_accept.specs.NameText.{are_written_tables, is_written_entry, is_written_world}
+use Rattle.gen_accept.specs.declared.opts.Opts.{Opts}
+use Rattle.gen_accept.proofs.DeclaredLemmas.{distinct_exports, distinct_methods}
+use Rattle.wrapper_data.specs.declared.run.Target.TheVariants as target
+use Rattle.wrapper_meaning.specs.Shape.{Shape, param_shapes, result_shape}
+use Rattle.wrapper_run.specs.Entries.{IsExported, entries_in, entries_named, exports_in}
+use Rattle.wrapper_run.specs.ExportRun.{export_at, export_nth, method_named}
+use Rattle.wrapper_run.specs.Places.{area_in}
+use Rattle.wrapper_run.specs.PostReturn.{post_return_at, post_return_named}
+use Rattle.wrapper_run.specs.Returned.{post_returns_in}
+use Rattle.wrapper_run.specs.Run.{import_at, import_nth, numbered, runtime_item_named}
+use Rattle.wrapper_faithful.specs.Export.{HasCoreSignature, IsExportFaithful}
+use Rattle.wrapper_faithful.specs.Import.{IsFaithful}
+use Rattle.wrapper_faithful.specs.Passed.{passed}
+use Rattle.wrapper_faithful.specs.Resources.{Resources}
+use Rattle.wrapper_faithful.specs.Returned.{IsReturned, IsUnreturned, Returns}
+use Rattle.func_gen.specs.Meaning as bodies
+use Rattle.func_gen.specs.Meaning.{GivesAsCalled, method}
+use Rattle.func_gen.specs.Records.{AreDefined}
+use Rattle.func_gen.specs.Sites.{site_names}
+use Rattle.wrapper_closing.specs.ClosedExport.{SharesArea, export_file}
+use Rattle.wrapper_closing.specs.ClosedImport.{AnswersAs}
+use Rattle.wrapper_closing.specs.Direct.{is_direct_result}
+use Rattle.wrapper_closing.specs.ExportBody.{ClosesExportBody}
+use Rattle.wrapper_closing.specs.FileArea.{HasAreaFor, NeedAreas}
+use Rattle.wrapper_closing.specs.ImportBody.{ClosesImportBody, import_called}
+use Rattle.wrapper_closing.specs.Params.{arg_names, arg_types, export_args, local_sites, param_types, result_types, return_args}
+use Rattle.wrapper_closing.specs.PostReturnBody.{ClosesPostReturnBody}
+use Rattle.wrapper_closing.specs.PrintedAs.{ArePrintedParams, IsPrintedResult}
+use Rattle.wrapper_closing.proofs.Args.{result_alone, types_of_args}
+use Rattle.wrapper_closing.proofs.BodyAreas.{needed_area_is_shared}
+use Rattle.wrapper_closing.proofs.ExportBodyCloses.{export_body_is_faithful}
+use Rattle.wrapper_closing.proofs.ImportBodyCloses.{import_body_is_faithful}
+use Rattle.wrapper_closing.proofs.LocalSites.{named_so}
+use Rattle.wrapper_closing.proofs.PostReturnBodyCloses.{post_return_body_is_returned}
+use Rattle.wrapper_closing.proofs.PrintedAnswers.{printed_params_pass, printed_results_answer, printed_results_come_in}
+use Rattle.wrapper_closing.proofs.ReturnedFrees.{unlisted_is_unreturned}
+use Rattle.wrapper_closing.proofs.SharedArea.{shared_sized}
+use Rattle.rust_gen.specs.Body.{ArePartsWritten, IsExportWritten, IsReturnWritten, IsWritten, ReturnWritten, import_site}
+use Rattle.rust_gen.specs.Bound.{Binds, Parts, area_items, areas_of, export_items, file_area, own_items}
+use Rattle.rust_gen.specs.Exported.{entries_of, export_entry, file_macro, guest_trait, last_macro, post_return_name, return_entry, trait_and_macro, trait_fn, trait_param, where_any, where_area, world_macro}
 use Rattle.rust_gen.specs.Faithful.{AreFaithful, export_names, import_target}
 use Rattle.rust_gen.specs.Runtime.{runtime_items, runtime_module}
-use Rattle.rust_tree.specs.Asked.{asked_by_block, asked_by_item, asked_by_signature, asked_in}
-use Rattle.wit_model.proofs.AllLemmas.{all_at}
-use Rattle.rust_gen.proofs.SkipLemmas.{skip-area, skip-entries, skip-export, skip-exports, skip-import, skip-method, skip-post_return, skip-post_returns, skip-runtime_item, skip-wrappers}
-use Rattle.rust_gen.proofs.AskedLemmas.{Found, found-at, found-export, found-freed, found-parts, found-return, found-right, found-wrapper, found_all}
-use Rattle.std.proofs.lemmas.Bool.{and_parts}
-use Rattle.rust_gen.proofs.RunLemmas.{Fits}
-use Rattle.rust_gen.proofs.TextLemmas.{owes_written}
-use Rattle.rust_gen.proofs.TreeLemmas.{length-places_from, own-first}
-use Rattle.std.proofs.Common.{◌<◌, ◌≤◌, ◌&&◌, ◌||◌, ◌^◌}
-use Rattle.wrapper_run.specs.Run.{numbered}
-use Rattle.gen_accept.specs.Built.{is_built_result, is_built_type, are_built_options, are_built_tables, is_built_function, is_built_item, is_built_world, is_no_type, is_under_itself}
-use Rattle.std.proofs.lemmas.Fmt.{decimal_injective}
-use Rattle.gen_accept.specs.Area.{needs_area}
-use Rattle.wrapper_run.specs.Entries.{IsExported, entries_in, entries_named, exports_in}
-use Rattle.wrapper_run.specs.ExportFaithful.{IsExportFaithful, MeetsCall}
-use Rattle.wrapper_run.specs.Places.{area_in}
-use Rattle.wrapper_run.specs.PostReturn.{post_return_at, post_return_named, post_return_run, post_return_setting, run_post_return_item}
-use Rattle.wrapper_run.specs.Represents.{GivesResult}
-use Rattle.wrapper_run.specs.Returned.{Frees, Returns, post_returns_in}
-use Rattle.wrapper_run.specs.Value.{IsResult, WitValue, scalar, text}
-use Rattle.wrapper_data.specs.declared.form.Form.{Form}
-use Rattle.wrapper_data.specs.declared.heap.Heap.{Heap}
-use Rattle.wrapper_data.specs.declared.run.Run.{Run}
-use Rattle.wrapper_data.specs.declared.word.Word.{Word}
-use Rattle.wit_model.specs.declared.types.WitType.{WitType}
-use Rattle.wit_model.specs.declared.types.WitType.TheVariants as wit
-use Rattle.gen_accept.specs.Emitted.{emitted_sides, exported_functions, functions_in, imported_functions, on_side, places_from}
-use Rattle.type_defs.specs.ListedTypes.{Entries}
-use Rattle.rust_tree.specs.declared.export.ExportFn.{ExportFn}
-use Rattle.rust_gen.proofs.ExportRunLemmas.{FitsExport, meets_call}
-use Rattle.rust_tree.specs.declared.export.PostReturnFn.{PostReturnFn}
-use Rattle.rust_tree.specs.declared.runtime_item.RuntimeItem.{RuntimeItem}
-use Rattle.rust_tree.specs.declared.runtime_item.RuntimeItem.TheVariants.{CabiDealloc}
-use Rattle.rust_gen.specs.ExportBody.{ArePartsWritten, IsExportWritten, IsReturnWritten, ReturnWritten}
+use Rattle.rust_gen.specs.Signature.{printed_result}
+use Rattle.rust_gen.specs.Wrapper.{printed_param, root_module}
+use Rattle.rust_gen.proofs.AskedLemmas.{Found, found-asked, found-at, found-export, found-parts, found-return, found-wrapper, found_all}
+use Rattle.rust_gen.proofs.BuiltLemmas.{built_export, built_import, has_list_is, params_are_printed, params_direct, result_direct, result_is_printed}
 use Rattle.rust_gen.proofs.EntryLemmas.{alone-return, alone-wrapper, wit-forms}
-use Rattle.rust_gen.proofs.LiftLemmas.{no_text}
-use Rattle.rust_gen.proofs.PartsLemmas.{exports-of_parts, no_exports-behind, no_returns-behind, post_return-alone, post_return_named-at}
-use Rattle.rust_gen.proofs.ReturnLemmas.{frees_words}
-use Rattle.gen_accept.specs.declared.opts.Opts.{Opts}
-use Rattle.wit_model.specs.declared.wasm_type.WasmType.{WasmType}
 use Rattle.rust_gen.proofs.ItemLemmas.{alone-named, area-found, distinct-image, entries-are, find-named, method-found, runtime-found}
-use Rattle.gen_accept.specs.NameText.{are_written_tables, is_written_entry, is_written_world}
-use Rattle.type_defs.specs.WitForm.{is_wit_form}
-use Rattle.rust_gen.specs.Exported.{area_of, arg_name, arg_prefix, core_args, entries_of, export_entry, file_macro, guest_trait, last_macro, post_return_name, return_entry, static_area, trait_and_macro, trait_fn, where_any, where_area, world_macro}
-use Rattle.std.specs.Str.{bytes_eq}
-use Rattle.std.proofs.lemmas.Slice.Eq.{bytes_eq-Decides}
-use Rattle.wrapper_run.specs.ExportRun.{export_at, export_nth, export_run, method_named, run_export_item}
-use Rattle.rust_tree.specs.Runtime.{item_name}
-use Rattle.std.proofs.lemmas.Bool.Decides.{nat_tests}
-use Rattle.gen_accept.specs.CoreWords.{param_words}
-use Rattle.rust_tree.specs.Ident.{rust_ident}
-use Rattle.wit_model.specs.declared.world.WorldItem.TheVariants as entry
+use Rattle.rust_gen.proofs.PartsLemmas.{exports-of_parts, no_exports-behind, no_returns-behind, post_return-alone, post_return_named-at}
+use Rattle.rust_gen.proofs.SkipLemmas.{skip-area, skip-entries, skip-export, skip-exports, skip-import, skip-method, skip-post_return, skip-post_returns, skip-runtime_item, skip-wrappers}
+use Rattle.rust_gen.proofs.TreeLemmas.{length-places_from, own-first}
+use Rattle.rust_gen.proofs.WrapperLemmas.{area-for}
 
 -- what holds of all holds of each
 zip-at : {A B : Type 0} (R : A → B → Type 0) (xs : List A) (ys : List B) (nth : ℕ) (x : A) → AllZip R xs ys → slice_get xs nth ≡ Some x → (y : B) × (slice_get ys nth ≡ Some y) × R x y
@@ -94,6 +105,11 @@ get-map g [] nth x e = absurd (cc)
 get-map g (y ∷ xs) zero x e = let is : y ≡ x = cc in ap (λ y. Some (g y)) is
 get-map g (y ∷ xs) (suc nth) x e = get-map g xs nth x e
 
+contains-at : {A : Type 0} (xs : List A) (nth : ℕ) (x : A) → slice_get xs nth ≡ Some x → Contains xs x
+contains-at [] nth x e = absurd (cc)
+contains-at (y ∷ xs) zero x e = let is : y ≡ x = cc in (0, omega arith, is)
+contains-at (y ∷ xs) (suc nth) x e = let c = contains-at xs nth x e in (suc c.0, omega (arith, c.1), c.2)
+
 map-map : {A B C : Type 0} (h : B → C) (g : A → B) (xs : List A) → map h (map g xs) ≡ map (λ x. h (g x)) xs
 map-map h g [] = refl
 map-map h g (x ∷ xs) = ap (λ ys. h (g x) ∷ ys) (map-map h g xs)
@@ -102,38 +118,11 @@ nonempty : {A : Type 0} (xs : List A) (nth : ℕ) (x : A) → slice_get xs nth �
 nonempty [] nth x e = absurd (cc)
 nonempty (y ∷ ys) nth x e = (y, ys, refl)
 
-bases-are : (fs : List Function) (es : List Parts) → AllZip ArePartsWritten fs es → map (λ e. e.0.base) es ≡ map (λ f. f.name.snake) fs
-bases-are [] [] z = refl
-bases-are [] (e ∷ es) z = absurd z
-bases-are (f ∷ fs) [] z = absurd z
-bases-are (f ∷ fs) (e ∷ es) z = ap (λ b. b ∷ map (λ e. e.0.base) es) z.0.0.base ∙ ap (λ bs. f.name.snake ∷ bs) (bases-are fs es z.1)
-
--- the names of core parameters
-
-other-arg : (m n : ℕ) → m < 2 ^ 64 → n < m → bytes_eq (arg_name m) (arg_name n) ≡ false
-unfolding arg_prefix
-other-arg m n small below = go (bytes_eq (arg_name m) (arg_name n)) refl
-  where
-    go : (b : Bool) → bytes_eq (arg_name m) (arg_name n) ≡ b → bytes_eq (arg_name m) (arg_name n) ≡ false
-    go true e =
-        let same : arg_name m ≡ arg_name n = (bytes_eq-Decides (arg_name m) (arg_name n)).0 e in
-        let numbers : decimal m ≡ decimal n = cc in
-        let is : m ≡ n = decimal_injective m n small (omega arith) numbers in
-        absurd (omega arith)
-    go false e = e
-
-no-arg : (n m : ℕ) (types : List WasmType) → n < m → m + length types < 2 ^ 64 → list_any (λ u. bytes_eq u (arg_name n)) (map (λ p. p.name) (core_args m types)) ≡ false
-no-arg n m [] below small = refl
-no-arg n m (ty ∷ types) below small =
-    ap (λ b. b || list_any (λ u. bytes_eq u (arg_name n)) (map (λ p. p.name) (core_args (m + 1) types))) (other-arg m n (omega arith) below) ∙ no-arg n (m + 1) types (omega arith) (omega arith)
-
-distinct-from : (n : ℕ) (types : List WasmType) → n + length types < 2 ^ 64 → is_distinct (map (λ p. p.name) (core_args n types)) ≡ true
-distinct-from n [] small = refl
-distinct-from n (ty ∷ types) small =
-    ap (λ b. not b && is_distinct (map (λ p. p.name) (core_args (n + 1) types))) (no-arg n (n + 1) types (omega arith) (omega arith)) ∙ distinct-from (n + 1) types (omega arith)
-
-args-distinct : (types : List WasmType) → length types ≤ 16 → is_distinct (map (λ p. p.name) (core_args 0 types)) ≡ true
-args-distinct types few = distinct-from 0 types (omega arith)
+bases-are : (types : List TypeDef) (fs : List Function) (es : List Parts) → AllZip (ArePartsWritten types) fs es → map (λ e. e.0.base) es ≡ map (λ f. f.name.snake) fs
+bases-are types [] [] z = refl
+bases-are types [] (e ∷ es) z = absurd z
+bases-are types (f ∷ fs) [] z = absurd z
+bases-are types (f ∷ fs) (e ∷ es) z = ap (λ b. b ∷ map (λ e. e.0.base) es) z.0.0.made.outside.base ∙ ap (λ bs. f.name.snake ∷ bs) (bases-are types fs es z.1)
 
 -- the functions of a world that is accepted
 
@@ -149,29 +138,6 @@ module _ (opts : Opts) (r : Resolve) (world : World) (h : declares_well opts r w
   distinct-bases =
       distinct-image wrapper_ident (map (λ f. f.name.snake) (exported_functions world))
       (ap is_distinct (map-map wrapper_ident (λ f. f.name.snake) (exported_functions world)) ∙ distinct_exports opts r world h)
-
--- an exported function that is built has at most sixteen words
-few-words : (opts : Opts) (resolve : Resolve) (id nth : ℕ) (world : World) (f : Function) → is_built opts resolve ≡ true → slice_get resolve.worlds id ≡ Some world → slice_get (exported_functions world) nth ≡ Some f
-    → length (param_words f.params) ≤ 16
-unfolding is_built are_built_tables is_built_world
-few-words opts resolve id nth world f h named e =
-    let tables = (and_parts (are_built_tables resolve) (are_built_options opts) h).0 in
-    let worlds = (and_parts _ (list_all is_built_world resolve.worlds) tables).1 in
-    let items = (and_parts _ (list_all (λ entry. is_under_itself entry.0 entry.1) world.imports) (and_parts _ (list_all (λ entry. is_no_type entry.1) world.exports) (all_at is_built_world resolve.worlds id world worlds named)).0).0 in
-    let exports = (and_parts _ (list_all (λ entry. is_built_item entry.1) world.exports) items).1 in
-    words (built-at world.exports nth exports e)
-  where
-    built-at : (entries : Entries) (nth : ℕ) → list_all (λ entry. is_built_item entry.1) entries ≡ true → slice_get (functions_in entries) nth ≡ Some f → is_built_function f ≡ true
-    built-at [] nth h e = absurd (cc)
-    built-at ((k, entry.Interface i) ∷ entries) nth h e = absurd (cc)
-    built-at ((k, entry.Named i) ∷ entries) nth h e = built-at entries nth (and_parts true _ h).1 e
-    built-at ((k, entry.Function g) ∷ entries) zero h e = let is : g ≡ f = cc in ap is_built_function (sym is) ∙ (and_parts (is_built_function g) _ h).0
-    built-at ((k, entry.Function g) ∷ entries) (suc nth) h e = built-at entries nth (and_parts (is_built_function g) _ h).1 e
-
-    words : is_built_function f ≡ true → length (param_words f.params) ≤ 16
-    words h =
-        let few = (and_parts _ (nat_le (length (param_words f.params)) 16) (and_parts _ (list_all (λ p. is_built_type p.ty) f.params) (and_parts _ (is_built_result f.result) h).0).0).1 in
-        grind (arith, nat_tests)
 
 -- the wrappers of a tree
 
@@ -191,10 +157,10 @@ past_return (suc nth) p items = refl
 
 export_nth-at : (es : List Parts) (behind : List Item) (nth : ℕ) (x : Parts) → slice_get es nth ≡ Some x → export_nth nth (flat_map export_items es ++ behind) ≡ Some x.0
 export_nth-at [] behind nth x e = absurd (cc)
-export_nth-at ((f, None) ∷ es) behind zero x e = ap (option_map (λ x. x.0)) e
-export_nth-at ((f, Some p) ∷ es) behind zero x e = ap (option_map (λ x. x.0)) e
-export_nth-at ((f, None) ∷ es) behind (suc nth) x e = export_nth-at es behind nth x e
-export_nth-at ((f, Some p) ∷ es) behind (suc nth) x e = past_return nth p (flat_map export_items es ++ behind) ∙ export_nth-at es behind nth x e
+export_nth-at ((f, None, a) ∷ es) behind zero x e = ap (option_map (λ x. x.0)) e
+export_nth-at ((f, Some p, a) ∷ es) behind zero x e = ap (option_map (λ x. x.0)) e
+export_nth-at ((f, None, a) ∷ es) behind (suc nth) x e = export_nth-at es behind nth x e
+export_nth-at ((f, Some p, a) ∷ es) behind (suc nth) x e = past_return nth p (flat_map export_items es ++ behind) ∙ export_nth-at es behind nth x e
 
 imports-at : (next : ℕ) (ws : List FnItem) (behind : List Item) (ps qs : List FuncPlace) (nth : ℕ) (w : FnItem) → length ps ≡ length ws → slice_get ws nth ≡ Some w
     → (info : WrapperInfo) × (slice_get (wrappers_from next (map item.Import ws ++ behind) (ps ++ qs)) nth ≡ Some info)
@@ -207,10 +173,10 @@ exports-at : (next : ℕ) (es : List Parts) (behind : List Item) (qs : List Func
     → (info : WrapperInfo) × (slice_get (wrappers_from next (flat_map export_items es ++ behind) qs) nth ≡ Some info)
 exports-at next [] behind qs nth x l e = absurd (cc)
 exports-at next (f ∷ es) behind [] nth x l e = absurd (omega arith)
-exports-at next ((f, None) ∷ es) behind (q ∷ qs) zero x l e = (wrapper_info next q false, refl)
-exports-at next ((f, Some p) ∷ es) behind (q ∷ qs) zero x l e = (wrapper_info next q false, refl)
-exports-at next ((f, None) ∷ es) behind (q ∷ qs) (suc nth) x l e = exports-at (next + 1) es behind qs nth x (omega arith) e
-exports-at next ((f, Some p) ∷ es) behind (q ∷ qs) (suc nth) x l e = exports-at (next + 1 + 1) es behind qs nth x (omega arith) e
+exports-at next ((f, None, a) ∷ es) behind (q ∷ qs) zero x l e = (wrapper_info next q false, refl)
+exports-at next ((f, Some p, a) ∷ es) behind (q ∷ qs) zero x l e = (wrapper_info next q false, refl)
+exports-at next ((f, None, a) ∷ es) behind (q ∷ qs) (suc nth) x l e = exports-at (next + 1) es behind qs nth x (omega arith) e
+exports-at next ((f, Some p, a) ∷ es) behind (q ∷ qs) (suc nth) x l e = exports-at (next + 1 + 1) es behind qs nth x (omega arith) e
 
 wrappers-skip : (next : ℕ) (ws : List FnItem) (behind : List Item) (ps qs : List FuncPlace) (nth : ℕ) → length ps ≡ length ws
     → (m : ℕ) × (slice_get (wrappers_from next (map item.Import ws ++ behind) (ps ++ qs)) (length ws + nth) ≡ slice_get (wrappers_from m behind qs) nth)
@@ -239,8 +205,8 @@ sides-exports : (next : ℕ) (es : List Parts) (behind : List Item) (qs : List F
 sides-exports next [] behind [] l = (next, refl)
 sides-exports next [] behind (q ∷ qs) l = absurd (omega arith)
 sides-exports next (f ∷ es) behind [] l = absurd (omega arith)
-sides-exports next ((f, None) ∷ es) behind (q ∷ qs) l = let r = sides-exports (next + 1) es behind qs (omega arith) in (r.0, ap (λ ss. (q, false) ∷ ss) r.1)
-sides-exports next ((f, Some p) ∷ es) behind (q ∷ qs) l = let r = sides-exports (next + 1 + 1) es behind qs (omega arith) in (r.0, ap (λ ss. (q, false) ∷ ss) r.1)
+sides-exports next ((f, None, a) ∷ es) behind (q ∷ qs) l = let r = sides-exports (next + 1) es behind qs (omega arith) in (r.0, ap (λ ss. (q, false) ∷ ss) r.1)
+sides-exports next ((f, Some p, a) ∷ es) behind (q ∷ qs) l = let r = sides-exports (next + 1 + 1) es behind qs (omega arith) in (r.0, ap (λ ss. (q, false) ∷ ss) r.1)
 
 -- without places there are no wrappers
 no_places : (m : ℕ) (items : List Item) → wrappers_from m items [] ≡ []
@@ -255,23 +221,8 @@ no_places m (item.PostReturn p ∷ items) = no_places (m + 1) items
 no_places m (item.Area a ∷ items) = no_places (m + 1) items
 no_places m (item.Type t ∷ items) = no_places (m + 1) items
 
--- what a result is, by whether it passes by an area
-
-is_text : (r : Option WitType) → needs_area r ≡ true → r ≡ Some wit.String
-is_text None h = absurd (cc)
-is_text (Some wit.String) h = refl
-is_text (Some _) h = absurd (cc)
-
-owns_nothing : (heap : Heap) (r : Option WitType) (v : Option WitValue) (words : List Word) (blocks : List (ℕ × ℕ)) → needs_area r ≡ false → IsResult r v → GivesResult heap r v words blocks → blocks ≡ []
-owns_nothing heap None None words blocks n good gives = gives.1
-owns_nothing heap None (Some v) words blocks n good gives = absurd good
-owns_nothing heap (Some ty) None words blocks n good gives = absurd good
-owns_nothing heap (Some ty) (Some (scalar v)) words blocks n good gives = gives.3
-owns_nothing heap (Some ty) (Some (text bytes)) words blocks n good gives =
-    let wrong : needs_area (Some wit.String) ≡ false = subst (λ t. needs_area (Some t) ≡ false) good.0 n in absurd (cc)
-
 module _ (opts : Opts) (resolve : Resolve) (id : ℕ) (world : World) (found : slice_get resolve.worlds id ≡ Some world) (built : is_built opts resolve ≡ true) (well : is_well_named opts resolve world ≡ true)
-    (key : WorldId) (tree : Tree) (b : Binds IsWritten ArePartsWritten opts resolve key world tree) where
+    (key : WorldId) (tree : Tree) (b : Binds (IsWritten resolve.types) (ArePartsWritten resolve.types) opts resolve key world tree) where
   named : declares_well opts resolve world ≡ true
   unfolding is_well_named
   named = (and_parts _ (declares_well opts resolve world) well).1
@@ -279,6 +230,9 @@ module _ (opts : Opts) (resolve : Resolve) (id : ℕ) (world : World) (found : s
   distinct : has_distinct_names world ≡ true
   unfolding is_well_named
   distinct = all_at has_distinct_names resolve.worlds id world (and_parts _ (list_all has_distinct_names resolve.worlds) (and_parts (are_written_tables resolve && list_all has_distinct_names resolve.worlds) (declares_well opts resolve world) well).0).1 found
+
+  abbrev types : List TypeDef
+  types = resolve.types
 
   abbrev ws : List FnItem
   ws = b.items.wrappers
@@ -303,40 +257,43 @@ module _ (opts : Opts) (resolve : Resolve) (id : ℕ) (world : World) (found : s
   qs = places_from 0 world.exports
 
   as_many : length ps ≡ length ws
-  as_many = length-places_from 0 world.imports ∙ sym (AllZip-long IsWritten (imported_functions world) ws b.items.wraps)
+  as_many = length-places_from 0 world.imports ∙ sym (AllZip-long (IsWritten types) (imported_functions world) ws b.items.wraps)
 
   as_many_exports : length qs ≡ length es
-  as_many_exports = length-places_from 0 world.exports ∙ sym (AllZip-long ArePartsWritten fs es b.items.exported)
+  as_many_exports = length-places_from 0 world.exports ∙ sym (AllZip-long (ArePartsWritten types) fs es b.items.exported)
 
   abbrev ts : List TypeItem
   ts = b.items.types
 
   -- what may ask for items of `_rt`
   abbrev own : List Item
-  own = own_items ts ws es world
+  own = own_items types ts ws es world
 
   abbrev asked : List RuntimeItem
   asked = runtime_items own
 
+  abbrev area : Option StaticArea
+  area = file_area (areas_of es)
+
   abbrev behind : List Item
-  behind = trait_and_macro world ++ (area_of (exported_functions world) ++ (runtime_module asked ++ last_macro world))
+  behind = trait_and_macro types world ++ (area_items area ++ (runtime_module asked ++ last_macro world))
 
   -- what stands behind the definitions of types
   abbrev others : List Item
   others = map item.Import ws ++ (flat_map export_items es ++ behind)
 
   are : tree.items ≡ map item.Type ts ++ others
-  are = b.items.are ∙ own-first ts ws es world (runtime_module asked ++ last_macro world)
+  are = b.items.are ∙ own-first types ts ws es world (runtime_module asked ++ last_macro world)
 
   -- what these ask for is found
   asks : Found tree.items (asked_in own)
   asks x h =
       ap (λ is. runtime_item_named is (item_name x)) are ∙ skip-runtime_item ts others (item_name x)
-      ∙ runtime-found ws es fs fs (guest_trait fs) (world_macro world) asked (last_macro world) (item_name x) x (found_all own x h)
+      ∙ runtime-found ws es fs area (guest_trait fs) (world_macro types world) asked (last_macro world) (item_name x) x (found_all own x h)
 
   asks-wrappers : Found tree.items (asked_in (map item.Import ws)) × Found tree.items (asked_in (flat_map export_items es))
   asks-wrappers =
-      let last : List Item = trait_and_macro world ++ area_of fs in
+      let last : List Item = trait_and_macro types world ++ area_items area in
       let exports : List Item = flat_map export_items es ++ last in
       let wrappers = found-parts tree.items asked_by_item (map item.Import ws) exports (map item.Import ws ++ exports) refl
       (found-parts tree.items asked_by_item (map item.Type ts) (map item.Import ws ++ exports) own refl asks).1 in
@@ -357,8 +314,8 @@ module _ (opts : Opts) (resolve : Resolve) (id : ℕ) (world : World) (found : s
       (no_places e.0 behind) ∙ append-nil (on_side false qs))
 
   module _ (nth : ℕ) (f : Function) (e : slice_get (imported_functions world) nth ≡ Some f) where
-    wrapper : (w : FnItem) × (slice_get ws nth ≡ Some w) × IsWritten f w
-    wrapper = zip-at IsWritten (imported_functions world) ws nth f b.items.wraps e
+    wrapper : (w : FnItem) × (slice_get ws nth ≡ Some w) × IsWritten types f w
+    wrapper = zip-at (IsWritten types) (imported_functions world) ws nth f b.items.wraps e
 
     info : (info : WrapperInfo) × (slice_get (wrappers_of tree) nth ≡ Some info)
     info =
@@ -370,41 +327,80 @@ module _ (opts : Opts) (resolve : Resolve) (id : ℕ) (world : World) (found : s
         ap (option_and_then (numbered tree nth)) (ap (import_nth nth) are ∙ skip-import ts others nth ∙ import_nth-at ws (flat_map export_items es ++ behind) nth wrapper.0 wrapper.1)
         ∙ ap (option_map (λ w. (w.item.0, wrapper.0))) info.1
 
-    asked-import : Found tree.items (asked_by_block wrapper.0.body)
-    asked-import =
-        let w : FnItem = wrapper.0 in
-        found-right tree.items (asked_by_signature w.params w.result) (asked_by_block w.body)
-        (found-at tree.items asked_by_item (map item.Import ws) nth (item.Import w) (get-map item.Import ws nth w wrapper.1) asks-wrappers.0)
+    asks-import : Found tree.items (asked_by_item (item.Import wrapper.0))
+    asks-import = found-at tree.items asked_by_item (map item.Import ws) nth (item.Import wrapper.0) (get-map item.Import ws nth wrapper.0 wrapper.1) asks-wrappers.0
 
-  faithful-at : (nth : ℕ) (f : Function) → slice_get (imported_functions world) nth ≡ Some f → IsFaithful (import_target f) tree nth f
-  faithful-at nth f e = record {
-    there = subst IsSome (sym (there nth f e)) refl;
-    carries = λ form vs args heap choices a run is given.
-        let w : Setting = setting_of tree (info nth f e).0.item.0 a form in
-        let i = (wrapper nth f e).0 in
-        let fits : Fits f i w = record { distinct = distinct_params opts resolve world named nth f e; found = asked-import nth f e } in
-        let run_of : import_run tree nth args heap choices a form ≡ Some (run_item w i args heap choices) =
-        ap (option_map (λ p. run_item (setting_of tree p.0 a form) p.1 args heap choices)) (there nth f e) in
-        let same : run_item w i args heap choices ≡ run = cc in
-        subst (λ run. CallsOnce (import_target f) f vs heap choices a run ⊎ MissesArea f heap choices run) same
-        (owes_written f i (wrapper nth f e).2 w fits vs args heap choices given.good given.stand);
-  }
+    -- its item closes the body that was made for it
+    closes-import : ClosesImportBody types wrapper.2.made.func wrapper.2.made.code.parts wrapper.2.made.code.body tree nth
+    closes-import =
+        let w = wrapper.2.made in
+        let code = w.code in
+        let is_built : is_built_function w.func.now ≡ true = ap is_built_function w.of ∙ built_import opts resolve id world built found nth f e in
+        record {
+          parted = code.made_of.are;
+          makes = code.makes;
+          number = info.0.item.0;
+          item = wrapper.0;
+          there = there;
+          names =
+              ap (map (λ p. p.name)) w.outside.params ∙ map-map (λ p. p.name) printed_param f.params ∙ sym (map-map (λ p. p.name) import_site f.params)
+              ∙ ap (λ g. map (λ p. p.name) (map import_site g.params)) (sym w.of) ∙ ap (map (λ p. p.name)) (sym code.made_of.params);
+          block = code.is;
+          runtime = subst (bodies.Found tree.items) code.asks (found-asked tree.items (item.Import wrapper.0) wrapper.2.runtime wrapper.2.sound asks-import);
+          records = subst (AreDefined tree.items) (sym code.made_of.records) tt;
+          answers =
+              subst (λ ty. AnswersAs tree.items ty (result_shape types w.func.now)) (ap (λ g. printed_result g.result) w.of ∙ sym w.outside.answer)
+              (printed_results_answer tree.items (result_shape types w.func.now) (printed_result w.func.now.result) (result_is_printed types w.func.now is_built tree.items));
+          params = params_direct types w.func.now is_built;
+          result = result_direct types w.func.now is_built;
+        }
+
+    called-import : import_called wrapper.2.made.code.parts wrapper.2.made.func.now ≡ import_target f
+    unfolding root_module
+    called-import = ap₂ (λ home (g : Function). target.Core home g.name.wit) wrapper.2.made.code.made_of.home wrapper.2.made.of
+
+  faithful-at : (resources : Resources) (nth : ℕ) (f : Function) → slice_get (imported_functions world) nth ≡ Some f → IsFaithful resources (import_target f) false tree nth (passed types f)
+  faithful-at resources nth f e =
+      let w = (wrapper nth f e).2.made in
+      subst (λ t. IsFaithful resources t false tree nth (passed types f)) (called-import nth f e)
+      (subst (λ g. IsFaithful resources (import_called w.code.parts w.func.now) false tree nth (passed types g)) w.of (import_body_is_faithful types resources tree nth w.func w.code.parts w.code.body (closes-import nth f e)))
+
+  -- the results of exported functions, and the static area
+
+  abbrev results : List (Option Shape)
+  results = map (result_shape types) fs
+
+  all-direct : AllByRecursion (λ r. is_direct_result r ≡ true) results
+  all-direct = each fs (λ nth f e. result_direct types f (built_export opts resolve id world built found nth f e))
+    where
+      each : (fs : List Function) → ((nth : ℕ) (f : Function) → slice_get fs nth ≡ Some f → is_direct_result (result_shape types f) ≡ true) → AllByRecursion (λ r. is_direct_result r ≡ true) (map (result_shape types) fs)
+      each [] h = tt
+      each (f ∷ fs) h = (h 0 f refl, each fs (λ nth g e. h (suc nth) g e))
+
+  needs-all : (fs : List Function) (es : List Parts) → AllZip (ArePartsWritten types) fs es → NeedAreas (map (result_shape types) fs) (areas_of es)
+  needs-all [] [] z = tt
+  needs-all [] (x ∷ es) z = absurd z
+  needs-all (f ∷ fs) [] z = absurd z
+  needs-all (f ∷ fs) (x ∷ es) z = (area-for types f x.0 x.2 z.0.0, needs-all fs es z.1)
+
+  area_is : area_in tree.items ≡ area
+  area_is = ap area_in are ∙ skip-area ts others ∙ area-found ws es fs fs area (guest_trait fs) (world_macro types world) asked (file_macro world)
 
   module _ (nth : ℕ) (f : Function) (e : slice_get fs nth ≡ Some f) where
     abbrev place : ℕ
     place = length (imported_functions world) + nth
 
-    parts : (x : Parts) × (slice_get es nth ≡ Some x) × ArePartsWritten f x
-    parts = zip-at ArePartsWritten fs es nth f b.items.exported e
+    parts : (x : Parts) × (slice_get es nth ≡ Some x) × ArePartsWritten types f x
+    parts = zip-at (ArePartsWritten types) fs es nth f b.items.exported e
 
     abbrev export : ExportFn
     export = parts.0.0
 
-    abbrev written : IsExportWritten f export
+    abbrev written : IsExportWritten types f export parts.0.2
     written = parts.2.0
 
     place_is : place ≡ length ws + nth
-    place_is = ap (λ n. n + nth) (sym (AllZip-long IsWritten (imported_functions world) ws b.items.wraps))
+    place_is = ap (λ n. n + nth) (sym (AllZip-long (IsWritten types) (imported_functions world) ws b.items.wraps))
 
     export-info : (info : WrapperInfo) × (slice_get (wrappers_of tree) place ≡ Some info)
     export-info =
@@ -424,7 +420,7 @@ module _ (opts : Opts) (resolve : Resolve) (id : ℕ) (world : World) (found : s
 
     abbrev under : List Function → List Item
     under gs =
-        map item.Import ws ++ (flat_map export_items es ++ (where_any gs (item.Trait (guest_trait fs) ∷ item.ModuleMacro (world_macro world) ∷ []) ++ (area_of fs ++ (runtime_module asked ++ last_macro world))))
+        map item.Import ws ++ (flat_map export_items es ++ (where_any gs (item.Trait (guest_trait fs) ∷ item.ModuleMacro (world_macro types world) ∷ []) ++ (area_items area ++ (runtime_module asked ++ last_macro world))))
 
     abbrev first : Function
     first = some_export.0
@@ -438,111 +434,181 @@ module _ (opts : Opts) (resolve : Resolve) (id : ℕ) (world : World) (found : s
     method-there : method_named tree.items guest_name (rust_ident f.name) ≡ Some (trait_fn f)
     method-there =
         ap (λ is. method_named is guest_name (rust_ident f.name)) items_are ∙ skip-method ts (under (first ∷ later)) guest_name (rust_ident f.name)
-        ∙ method-found ws es first later (guest_trait fs) (world_macro world) (area_of fs ++ (runtime_module asked ++ last_macro world)) (rust_ident f.name) (trait_fn f)
+        ∙ method-found ws es first later (guest_trait fs) (world_macro types world) (area_items area ++ (runtime_module asked ++ last_macro world)) (rust_ident f.name) (trait_fn f)
         (find-named (λ t. t.name) (map trait_fn fs) nth (trait_fn f) (ap is_distinct (map-map (λ t. t.name) trait_fn fs) ∙ distinct-methods opts resolve world named) (get-map trait_fn fs nth f e))
 
     asked-parts : Found tree.items (asked_in (export_items parts.0))
     asked-parts = found-export tree.items es nth parts.0 parts.1 asks-wrappers.1
 
-    entries : entries_in tree.items ≡ flat_map entries_of fs
-    entries = ap entries_in items_are ∙ skip-entries ts (under (first ∷ later)) ∙ entries-are ws es first later fs fs (guest_trait fs) (world_macro world) asked (file_macro world)
+    entries : entries_in tree.items ≡ flat_map (entries_of types) fs
+    entries = ap entries_in items_are ∙ skip-entries ts (under (first ∷ later)) ∙ entries-are ws es first later fs area (guest_trait fs) (world_macro types world) asked (file_macro world)
 
     distinct-names : is_distinct (map (λ f. f.name.wit) fs) ≡ true
     distinct-names = (and_parts (are_distinct_functions (imported_functions world)) (are_distinct_functions fs) distinct).1
 
     exported-there : IsExported tree f.name.wit export
     exported-there = record {
-      entry = export_entry f;
-      alone = ap (filter (λ x. bytes_eq x.export_name f.name.wit)) entries ∙ alone-wrapper fs nth f distinct-names forms e (all_at (λ f. is_wit_form f.name.wit) fs nth f forms e);
+      entry = export_entry types f;
+      alone = ap (filter (λ x. bytes_eq x.export_name f.name.wit)) entries ∙ alone-wrapper types fs nth f distinct-names forms e (all_at (λ f. is_wit_form f.name.wit) fs nth f forms e);
       wraps = refl;
-      params = sym written.params;
-      answer = sym written.answer;
+      params = sym written.made.outside.params;
+      answer = sym written.made.outside.answer;
       named =
-          ap (λ base. filter (λ x. bytes_eq x.base base) (exports_in tree.items)) (sym written.base)
-          ∙ ap (filter (λ x. bytes_eq x.base export.base)) (ap exports_in are ∙ skip-exports ts others ∙ exports-of_parts ws es behind (no_exports-behind asked world))
-          ∙ alone-named (λ x. x.base) (map (λ x. x.0) es) nth export (ap is_distinct (map-map (λ x. x.base) (λ x. x.0) es ∙ bases-are fs es b.items.exported) ∙ distinct-bases opts resolve world named) (get-map (λ x. x.0) es nth parts.0 parts.1);
+          ap (λ base. filter (λ x. bytes_eq x.base base) (exports_in tree.items)) (sym written.made.outside.base)
+          ∙ ap (filter (λ x. bytes_eq x.base export.base)) (ap exports_in are ∙ skip-exports ts others ∙ exports-of_parts ws es behind (no_exports-behind types area asked world))
+          ∙ alone-named (λ x. x.base) (map (λ x. x.0) es) nth export (ap is_distinct (map-map (λ x. x.base) (λ x. x.0) es ∙ bases-are types fs es b.items.exported) ∙ distinct-bases opts resolve world named) (get-map (λ x. x.0) es nth parts.0 parts.1);
     }
 
-    area-there : needs_area f.result ≡ true → area_in tree.items ≡ Some static_area
-    area-there h = ap area_in are ∙ skip-area ts others ∙ area-found ws es fs fs (guest_trait fs) (world_macro world) (runtime_module asked ++ last_macro world) nth f e h
-
     no_returns : post_returns_in behind ≡ []
-    no_returns = no_returns-behind asked world
+    no_returns = no_returns-behind types area asked world
 
     post-return-there : post_return_named export.base tree.items ≡ parts.0.1
     post-return-there =
-        ap (λ base. post_return_named base tree.items) written.base ∙ ap (post_return_named f.name.snake) are ∙ skip-post_return ts others f.name.snake
-        ∙ post_return_named-at ws es fs behind nth f parts.0 b.items.exported (distinct-bases opts resolve world named) e parts.1 no_returns
+        ap (λ base. post_return_named base tree.items) written.made.outside.base ∙ ap (post_return_named f.name.snake) are ∙ skip-post_return ts others f.name.snake
+        ∙ post_return_named-at types ws es fs behind nth f parts.0 b.items.exported (distinct-bases opts resolve world named) e parts.1 no_returns
 
     return-at : post_return_at tree place ≡ option_map (λ p. (export-info.0.item.0, p)) parts.0.1
     return-at =
         ap (option_and_then (λ w. option_map (λ p. (w.0, p)) (post_return_named w.1.base tree.items))) export-there
         ∙ ap (option_map (λ p. (export-info.0.item.0, p))) post-return-there
 
-    return-entries : entries_named (post_return_name f) tree.items ≡ where_area f (return_entry f)
-    return-entries = ap (filter (λ x. bytes_eq x.export_name (post_return_name f))) entries ∙ alone-return fs nth f distinct-names forms e
+    return-entries : entries_named (post_return_name f) tree.items ≡ where_area f (return_entry types f)
+    return-entries = ap (filter (λ x. bytes_eq x.export_name (post_return_name f))) entries ∙ alone-return types fs nth f distinct-names forms e
 
-    frees : (p : PostReturnFn) → IsReturnWritten f p → parts.0.1 ≡ Some p → needs_area f.result ≡ true → (form : Form) (v : Option WitValue) (words : List Word) (heap : Heap) (blocks : List (ℕ × ℕ)) (run : Run)
-        → post_return_run tree place words heap form ≡ Some run → IsResult f.result v → GivesResult heap f.result v words blocks → Frees blocks heap run
-    frees p is_written is needs form v words heap blocks run is_run good gives =
-        let w : Setting = post_return_setting tree export-info.0.item.0 form in
-        let at : post_return_at tree place ≡ Some (export-info.0.item.0, p) = return-at ∙ ap (option_map (λ p. (export-info.0.item.0, p))) is in
-        let run_of : post_return_run tree place words heap form ≡ Some (run_post_return_item w p words heap) = ap (option_map (λ p. run_post_return_item (post_return_setting tree p.0 form) p.1 words heap)) at in
-        let same : run_post_return_item w p words heap ≡ run = cc in
-        let r = is_text f.result needs in
-        subst (Frees blocks heap) same (go w v (subst (λ r. IsResult r v) r good) (subst (λ r. GivesResult heap r v words blocks) r gives) (found-freed tree.items p.body is_written.body (found-return tree.items parts.0 p is asked-parts)))
-      where
-        go : (w : Setting) (v : Option WitValue) → IsResult (Some wit.String) v → GivesResult heap (Some wit.String) v words blocks → runtime_item_named w.items (item_name CabiDealloc) ≡ Some CabiDealloc → Frees blocks heap (run_post_return_item w p words heap)
-        go w None good gives found = absurd good
-        go w (Some (scalar v)) good gives found = absurd (no_text wit.String v good refl)
-        go w (Some (text bytes)) good gives found = frees_words f p is_written w found bytes words heap blocks good.2 gives
+    is_built_here : is_built_function f ≡ true
+    is_built_here = built_export opts resolve id world built found nth f e
 
-    returned-there : Returns (needs_area f.result) (post_return_name f) tree place f
-    returned-there = go (needs_area f.result) refl parts.2.1
+    function_is : written.made.func.now ≡ f
+    function_is = written.made.of
+
+    asks-export : Found tree.items (asked_by_item (item.Export export))
+    asks-export = found-wrapper tree.items parts.0 asked-parts
+
+    -- the static area is for the results of all exported functions
+
+    has_area : HasAreaFor results (areas_of es) (result_shape types f) tree
+    has_area = record {
+      need = needs-all fs es b.items.exported;
+      has = area_is;
+      shares = contains-at results nth (result_shape types f) (get-map (result_shape types) fs nth f e);
+      direct = all-direct;
+    }
+
+    shared : SharesArea results (result_shape types f) tree
+    shared = needed_area_is_shared results (areas_of es) (result_shape types f) tree has_area
+
+    -- the post-return function
+
+    abbrev returned-body : (p : PostReturnFn) → parts.0.1 ≡ Some p → (w : IsReturnWritten types f p) → needs_area f.result ≡ true → ClosesPostReturnBody types f w.made.code.parts w.made.code.body tree place
+    returned-body p is w needs = record {
+      parted = w.made.code.made_of.are;
+      makes = w.made.code.makes;
+      number = export-info.0.item.0;
+      function = p;
+      there = return-at ∙ ap (option_map (λ p. (export-info.0.item.0, p))) is;
+      names =
+          ap arg_names w.made.outside.params ∙ sym (named_so (arg_names (return_args (passed types f)))) ∙ ap site_names (sym w.made.code.made_of.params);
+      pinned = ap arg_types w.made.outside.params ∙ types_of_args 0 (result_types (passed types f));
+      block = w.made.code.is;
+      runtime = subst (bodies.Found tree.items) w.made.code.asks (found-asked tree.items (item.PostReturn p) w.runtime w.sound (found-return tree.items parts.0 p is asked-parts));
+      records = subst (AreDefined tree.items) (sym w.made.code.made_of.records) tt;
+      sized = shared_sized results (result_shape types f) tree shared;
+      result = result_direct types f is_built_here;
+      lists = has_list_is types f is_built_here ∙ needs;
+    }
+
+    returned-there : Returns (post_return_name f) tree place (passed types f)
+    returned-there = subst (λ b. MatchBool b Returned Unreturned) (sym (has_list_is types f is_built_here)) (go (needs_area f.result) refl parts.2.1)
       where
-        go : (b : Bool) → needs_area f.result ≡ b → ReturnWritten b f parts.0.1 → Returns b (post_return_name f) tree place f
-        go true needs (p, is, is_written) = record {
+        Returned : Type 0
+        Returned = IsReturned (post_return_name f) tree place (passed types f)
+
+        Unreturned : Type 0
+        Unreturned = IsUnreturned (post_return_name f) tree place (passed types f)
+
+        go : (b : Bool) → needs_area f.result ≡ b → ReturnWritten types b f parts.0.1 → MatchBool b Returned Unreturned
+        go true needs (p, is, w) =
+            post_return_body_is_returned types (post_return_name f) tree place f w.made.code.parts w.made.code.body (returned-body p is w needs) (record {
+              entry = return_entry types f;
+              alone = return-entries ∙ ap (λ b. cond b (return_entry types f ∷ []) []) needs;
+              returns = refl;
+              params = sym w.made.outside.params;
+              pinned = ap arg_types w.made.outside.params ∙ types_of_args 0 (result_types (passed types f));
+              answer = refl;
+              named = ap (filter (λ x. bytes_eq x.base f.name.snake)) (ap post_returns_in are ∙ skip-post_returns ts others) ∙ post_return-alone types ws es fs behind nth f parts.0 p b.items.exported (distinct-bases opts resolve world named) e parts.1 no_returns is;
+            })
+        go false needs none =
+            unlisted_is_unreturned types (post_return_name f) tree place f (has_list_is types f is_built_here ∙ needs)
+            (return-at ∙ ap (option_map (λ p. (export-info.0.item.0, p))) none)
+            (return-entries ∙ ap (λ b. cond b (return_entry types f ∷ []) []) needs)
+
+    -- the wrapper
+
+    method-is : method (export_file tree export-info.0.item.0 written.made.code.parts.home) written.made.func.now ≡ Some (trait_fn f)
+    method-is = ap₂ (λ home (g : Function). method_named tree.items home (rust_ident g.name)) written.made.code.made_of.home function_is ∙ method-there
+
+    -- it keeps no value only where the method gives none
+    gives-as_called : GivesAsCalled tree.items written.made.code.parts.home (Some export.call)
+    gives-as_called none =
+        subst (λ (o : Option TraitFn). IfSome o (λ t. t.result ≡ type.Unit))
+        (sym (ap₂ (method_named tree.items) written.made.code.made_of.home written.made.calls.calls ∙ method-there))
+        (no-value f.result (sym written.made.calls.keeps ∙ ap is_some none))
+      where
+        no-value : (r : Option WitType) → is_some r ≡ false → printed_result r ≡ type.Unit
+        no-value None h = refl
+        no-value (Some ty) h = absurd (cc)
+
+    method-target : target.Method (codes "Guest") (rust_ident f.name) ≡ target.Method written.made.code.parts.home (rust_ident written.made.func.now.name)
+    unfolding guest_name
+    method-target = sym (ap₂ (λ home (g : Function). target.Method home (rust_ident g.name)) written.made.code.made_of.home function_is)
+
+    closes-export : ClosesExportBody types written.made.func written.made.code.parts written.made.code.body (export_names f) results tree place
+    closes-export =
+        let w = written.made in
+        let code = w.code in
+        let is_built : is_built_function w.func.now ≡ true = ap is_built_function w.of ∙ is_built_here in
+        let file = export_file tree export-info.0.item.0 code.parts.home in
+        record {
+          parted = code.made_of.are;
+          makes = code.makes;
           number = export-info.0.item.0;
-          function = p;
-          there = return-at ∙ ap (option_map (λ p. (export-info.0.item.0, p))) is;
-          entry = return_entry f;
-          alone = return-entries ∙ ap (λ b. cond b (return_entry f ∷ []) []) needs;
-          returns = refl;
-          params = sym is_written.params;
-          pinned = ap (map (λ p. p.ty)) is_written.params;
-          answer = refl;
-          named = ap (filter (λ x. bytes_eq x.base f.name.snake)) (ap post_returns_in are ∙ skip-post_returns ts others) ∙ post_return-alone ws es fs behind nth f parts.0 p b.items.exported (distinct-bases opts resolve world named) e parts.1 no_returns is;
-          frees = frees p is_written is needs;
+          item = export;
+          there = export-there;
+          head = code.is.call;
+          bound = w.outside.bound ∙ sym code.made_of.home;
+          params =
+              ap arg_names w.outside.params ∙ sym (named_so (arg_names (export_args (passed types f)))) ∙ ap (λ g. site_names (local_sites (arg_names (export_args (passed types g))))) (sym w.of)
+              ∙ ap site_names (sym code.made_of.params);
+          signature = subst (λ g. HasCoreSignature (passed types g) export) (sym w.of) signature-is;
+          block = code.is.rest;
+          runtime = subst (bodies.Found tree.items) code.is.asks (found-asked tree.items (item.Export export) written.runtime written.sound asks-export);
+          records = subst (AreDefined tree.items) (sym code.made_of.records) tt;
+          called = gives-as_called;
+          area = subst (λ g. SharesArea results (result_shape types g) tree) (sym w.of) shared;
+          passes =
+              printed_params_pass file code.makes.old w.func.now (param_shapes types w.func.now) (trait_fn f) method-is
+              (subst (λ (g : Function). ArePrintedParams tree.items (param_shapes types w.func.now) (map trait_param g.params)) w.of (params_are_printed types w.func.now is_built tree.items));
+          answers =
+              printed_results_come_in file code.makes.old w.func.now (result_shape types w.func.now) (trait_fn f) method-is
+              (subst (λ (g : Function). IsPrintedResult tree.items (result_shape types w.func.now) (printed_result g.result)) w.of (result_is_printed types w.func.now is_built tree.items));
+          direct = params_direct types w.func.now is_built;
+          method = method-target;
+          exported = exported-there;
+          post_return = subst (λ g. Returns (post_return_name f) tree place (passed types g)) (sym w.of) returned-there;
         }
-        go false needs none = record {
-          missing = return-at ∙ ap (option_map (λ p. (export-info.0.item.0, p))) none;
-          unnamed = return-entries ∙ ap (λ b. cond b (return_entry f ∷ []) []) needs;
-          owns = λ heap v words blocks good gives. owns_nothing heap f.result v words blocks needs good gives;
+      where
+        signature-is : HasCoreSignature (passed types f) export
+        signature-is = record {
+          params = ap arg_types written.made.outside.params ∙ types_of_args 0 (param_types (passed types f));
+          answer = ap option_to_list written.made.outside.answer ∙ result_alone (passed types f);
         }
 
-  export-at : (nth : ℕ) (f : Function) → slice_get fs nth ≡ Some f → IsExportFaithful (export_names f) tree (length (imported_functions world) + nth) f
-  export-at nth f e = record {
-    number = (export-info nth f e).0.item.0;
-    wrapper = (parts nth f e).0.0;
-    there = export-there nth f e;
-    exported = exported-there nth f e;
-    carries = λ form vs words own heap choices a run is passed.
-        let n = length (imported_functions world) + nth in
-        let w : Setting = setting_of tree (export-info nth f e).0.item.0 a form in
-        let i = (parts nth f e).0.0 in
-        let fits : FitsExport f i w = record {
-          distinct = args-distinct (param_words f.params) (few-words opts resolve id nth world f built found e);
-          method = method-there nth f e;
-          found = found-wrapper tree.items (parts nth f e).0 (asked-parts nth f e);
-          area = area-there nth f e;
-        } in
-        let run_of : export_run tree n words heap choices a form ≡ Some (run_export_item w i words heap choices) =
-        ap (option_map (λ p. run_export_item (setting_of tree p.0 a form) p.1 words heap choices)) (export-there nth f e) in
-        let same : run_export_item w i words heap choices ≡ run = cc in
-        subst (MeetsCall (export_names f).method f vs own heap choices a) same
-        (meets_call f i (parts nth f e).2.0 w fits vs words own heap choices passed.good passed.takes passed.apart);
-    returned = returned-there nth f e;
-  }
+  export-at : (resources : Resources) (nth : ℕ) (f : Function) → slice_get fs nth ≡ Some f → IsExportFaithful resources (export_names f) results tree (length (imported_functions world) + nth) (passed types f)
+  export-at resources nth f e =
+      let w = (written nth f e).made in
+      let n = length (imported_functions world) + nth in
+      subst (λ g. IsExportFaithful resources (export_names f) results tree n (passed types g)) w.of
+      (export_body_is_faithful types resources (export_names f) results tree n w.func w.code.parts w.code.body (closes-export nth f e))
 
-  pub are_faithful : AreFaithful world tree
+  pub are_faithful : AreFaithful types world tree
   are_faithful = record { places = placed; imports = faithful-at; exports = export-at }

@@ -1,6 +1,7 @@
 -- Fixed names.
 use Rattle.std.proofs.Common.{◌≡◌, ℕ, ◌<◌, true, false, List, inl, inr}
-use Rattle.rust_gen.specs.Scope.{IsFixedName, fixed, is_used}
+use Rattle.func_gen.specs.Scope.{is_used}
+use Rattle.rust_gen.specs.FixedName.{IsFixedName, fixed}
 use Rattle.wit_model.specs.Bytes.{Bytes}
 
 pub unhidden : (params : List Bytes) (base name : Bytes) → is_used params name ≡ false → name ≡ base → IsFixedName params base name

@@ -1,5 +1,5 @@
 -- Which printed texts are identifiers: names with numbers, and the fixed names; and which may be quoted.
-use Rattle.std.proofs.Common.{◌≡◌, ℕ, zero, suc, ◌/◌, ◌%◌, Bool, true, false, not, ◌&&◌, List, [], ◌∷◌, ◌++◌, refl, sym, ap, ◌∙◌, arith, eqb, inl, inr}
+use Rattle.std.proofs.Common.{◌≡◌, ℕ, zero, suc, ◌+◌, ◌/◌, ◌%◌, Bool, true, false, not, ◌&&◌, List, [], ◌∷◌, ◌++◌, refl, sym, ap, ◌∙◌, arith, eqb}
 use Rattle.std.specs.Prelude.{codes, decimal}
 use Rattle.std.specs.Char.{is_ascii_digit}
 use Rattle.std.specs.Fmt.{digit_glyph, digits, digits_onto}
@@ -10,19 +10,12 @@ use Rattle.std.proofs.lemmas.List.Folds.{list_all-append}
 use Rattle.std.proofs.lemmas.Slice.Eq.{bytes_eq-Decides}
 use Rattle.wit_model.specs.Bytes.{Bytes}
 use Rattle.wit_model.specs.declared.function.Function.{Function}
-use Rattle.rust_tree.specs.declared.runtime_item.RuntimeItem.{RuntimeItem}
-use Rattle.rust_tree.specs.declared.runtime_item.RuntimeItem.TheVariants as part
 use Rattle.rust_tree.specs.Ident.{escaped_words, has_ident_form, is_escaped, is_ident, may_begin, may_follow}
-use Rattle.rust_tree.specs.Runtime.{item_name}
-use Rattle.rust_tree.specs.WellNamed.{are_path_names, is_ident_part, is_quotable}
-use Rattle.rust_gen.specs.declared.scope.LocalKind.{LocalKind}
-use Rattle.rust_gen.specs.declared.scope.LocalKind.TheVariants as kind
-use Rattle.rust_gen.specs.Body.{root_module, runtime_name}
-use Rattle.rust_gen.specs.ExportBody.{forget_names}
+use Rattle.rust_tree.specs.WellNamed.{are_named_core_params, is_ident_part, is_quotable}
 use Rattle.gen_accept.specs.DeclaredNames.{guest_name}
-use Rattle.rust_gen.specs.Exported.{arg_name, arg_prefix, post_return_name}
-use Rattle.type_defs.proofs.NamedTextLemmas.{path_from}
-use Rattle.rust_gen.specs.Scope.{IsFixedName, numbered, prefix_of, ret_area}
+use Rattle.wit_model.specs.declared.wasm_type.WasmType.{WasmType}
+use Rattle.wrapper_closing.specs.Params.{arg_name, arg_prefix, core_args}
+use Rattle.rust_gen.specs.Exported.{post_return_name}
 
 -- numbers
 
@@ -102,23 +95,6 @@ numbered_ident base n form =
     and_from (has_ident_form t && not (is_escaped t) && not (bytes_eq t (codes "_"))) (not (bytes_eq t (codes "Self")))
     (and_from (has_ident_form t && not (is_escaped t)) (not (bytes_eq t (codes "_"))) (and_from (has_ident_form t) (not (is_escaped t)) fits word) under) own
 
-prefix-form : (k : LocalKind) → has_ident_form (prefix_of k) ≡ true
-unfolding prefix_of
-prefix-form kind.Import = refl
-prefix-form kind.Returned = refl
-prefix-form kind.Bool = refl
-prefix-form kind.Vec = refl
-prefix-form kind.Pointer = refl
-prefix-form kind.Length = refl
-prefix-form kind.Loaded = refl
-prefix-form kind.Bytes = refl
-prefix-form kind.Text = refl
-prefix-form kind.Char = refl
-prefix-form kind.Result = refl
-
-pub local_ident : (k : LocalKind) (n : ℕ) → is_ident (numbered k n) ≡ true
-local_ident k n = numbered_ident (prefix_of k) n (prefix-form k)
-
 arg-form : has_ident_form arg_prefix ≡ true
 unfolding arg_prefix
 arg-form = refl
@@ -126,51 +102,13 @@ arg-form = refl
 pub arg_ident : (n : ℕ) → is_ident (arg_name n) ≡ true
 arg_ident n = numbered_ident arg_prefix n arg-form
 
--- fixed names
-
-area-form : has_ident_form ret_area ≡ true
-unfolding ret_area
-area-form = refl
-
-area-plain : is_ident ret_area ≡ true
-unfolding ret_area escaped_words
-area-plain = refl
-
-pub area_ident : (params : List Bytes) (name : Bytes) → IsFixedName params ret_area name → is_ident name ≡ true
-area_ident params name h =
-    elim h [ inl e ↦ ap is_ident e.1 ∙ area-plain | inr r ↦ ap is_ident r.is ∙ numbered_ident ret_area r.number area-form ]
+pub args-named : (n : ℕ) (types : List WasmType) → are_named_core_params (core_args n types) ≡ true
+args-named n [] = refl
+args-named n (ty ∷ types) = and_from (is_ident (arg_name n)) (are_named_core_params (core_args (n + 1) types)) (arg_ident n) (args-named (n + 1) types)
 
 pub guest_ident : is_ident guest_name ≡ true
 unfolding guest_name escaped_words
 guest_ident = refl
-
-runtime-ident : is_ident runtime_name ≡ true
-unfolding runtime_name escaped_words
-runtime-ident = refl
-
-item-ident : (i : RuntimeItem) → is_ident (item_name i) ≡ true
-unfolding item_name escaped_words
-item-ident part.AsI32 = refl
-item-ident part.AsI64 = refl
-item-ident part.AsF32 = refl
-item-ident part.AsF64 = refl
-item-ident part.AllocCrate = refl
-item-ident part.StringType = refl
-item-ident part.VecType = refl
-item-ident part.BoolLift = refl
-item-ident part.CharLift = refl
-item-ident part.StringLift = refl
-item-ident part.StdAllocModule = refl
-item-ident part.CabiDealloc = refl
-
--- paths
-
-pub runtime_path-named : (i : RuntimeItem) → are_path_names (runtime_name ∷ item_name i ∷ []) ≡ true
-runtime_path-named i = path_from runtime_name (item_name i ∷ []) runtime-ident (and_from (is_ident (item_name i)) true (item-ident i) refl)
-
-pub forget_path-named : are_path_names forget_names ≡ true
-unfolding forget_names escaped_words
-forget_path-named = refl
 
 -- parts of identifiers
 
@@ -189,10 +127,6 @@ part_of front name behind h =
     (and_parts (list_all may_follow front) (list_all may_follow name) (sym (list_all-append may_follow front name) ∙ parts.0)).1
 
 -- quoted texts
-
-pub root-quotable : is_quotable root_module ≡ true
-unfolding root_module
-root-quotable = refl
 
 pub return-quotable : (f : Function) → is_quotable f.name.wit ≡ true → is_quotable (post_return_name f) ≡ true
 unfolding post_return_name

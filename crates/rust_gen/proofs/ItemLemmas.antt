@@ -4,11 +4,11 @@ use Rattle.std.specs.Prelude.{filter, find, slice_get}
 use Rattle.std.specs.List.{flat_map, list_any}
 use Rattle.std.specs.Option.{option_or}
 use Rattle.std.specs.Str.{bytes_eq}
-use Rattle.std.proofs.lemmas.Bool.{and_parts, not-true, or_left, or_parts, or_right}
-use Rattle.std.proofs.lemmas.List.Folds.{list_any-append}
+use Rattle.std.proofs.lemmas.Bool.{and_parts, not-true, or_parts}
 use Rattle.std.proofs.lemmas.Slice.Eq.{bytes_eq-Decides}
 use Rattle.wit_model.specs.declared.function.Function.{Function}
 use Rattle.wit_model.specs.Distinct.{is_distinct}
+use Rattle.rust_tree.specs.declared.area.StaticArea.{StaticArea}
 use Rattle.rust_tree.specs.declared.macros.ModuleMacro.{ModuleMacro}
 use Rattle.rust_tree.specs.declared.macros.RootMacro.{RootMacro}
 use Rattle.rust_tree.specs.declared.trait_item.TraitFn.{TraitFn}
@@ -16,15 +16,14 @@ use Rattle.rust_tree.specs.declared.trait_item.TraitItem.{TraitItem}
 use Rattle.rust_tree.specs.declared.item.FnItem.{FnItem}
 use Rattle.rust_tree.specs.declared.item.Item.{Item}
 use Rattle.rust_tree.specs.declared.runtime_item.RuntimeItem.{RuntimeItem}
-use Rattle.gen_accept.specs.Area.{needs_area}
 use Rattle.wrapper_run.specs.Entries.{entries_in}
 use Rattle.wrapper_values.specs.Owning.{listed}
 use Rattle.wrapper_run.specs.Places.{area_in}
 use Rattle.wrapper_run.specs.ExportRun.{method_in, method_named, method_of}
 use Rattle.wrapper_run.specs.Run.{found_in, runtime_item_named, bound}
 use Rattle.wrapper_run.proofs.LocalLemmas.{bytes_eq-same}
-use Rattle.rust_gen.specs.Bound.{Parts, export_items}
-use Rattle.rust_gen.specs.Exported.{area_of, static_area, where_any}
+use Rattle.rust_gen.specs.Bound.{Parts, area_items, export_items}
+use Rattle.rust_gen.specs.Exported.{where_any}
 use Rattle.rust_gen.specs.Runtime.{runtime_module}
 use Rattle.rust_tree.specs.declared.item.Item.TheVariants as item
 use Rattle.wit_model.specs.Bytes.{Bytes}
@@ -45,28 +44,25 @@ no_runtime-imports (w ∷ ws) name = no_runtime-imports ws name
 
 no_runtime-exports : (es : List Parts) (name : Bytes) → runtime_item_named (flat_map export_items es) name ≡ None
 no_runtime-exports [] name = refl
-no_runtime-exports ((e, None) ∷ es) name = no_runtime-exports es name
-no_runtime-exports ((e, Some p) ∷ es) name = no_runtime-exports es name
+no_runtime-exports ((e, None, a) ∷ es) name = no_runtime-exports es name
+no_runtime-exports ((e, Some p, a) ∷ es) name = no_runtime-exports es name
 
-no_runtime-area : (fs : List Function) (name : Bytes) → runtime_item_named (area_of fs) name ≡ None
-no_runtime-area fs name = go (list_any (λ f. needs_area f.result) fs)
-  where
-    go : (b : Bool) → runtime_item_named (cond b (item.Area static_area ∷ []) []) name ≡ None
-    go true = refl
-    go false = refl
+no_runtime-area : (o : Option StaticArea) (name : Bytes) → runtime_item_named (area_items o) name ≡ None
+no_runtime-area None name = refl
+no_runtime-area (Some a) name = refl
 
 no_runtime-trait : (fs : List Function) (t : TraitItem) (m : ModuleMacro) (name : Bytes) → runtime_item_named (where_any fs (item.Trait t ∷ item.ModuleMacro m ∷ [])) name ≡ None
 no_runtime-trait [] t m name = refl
 no_runtime-trait (f ∷ fs) t m name = refl
 
 -- an item of the module is found in the file
-pub runtime-found : (ws : List FnItem) (es : List Parts) (fs gs : List Function) (t : TraitItem) (m : ModuleMacro) (asked : List RuntimeItem) (last : List Item) (name : Bytes) (x : RuntimeItem)
+pub runtime-found : (ws : List FnItem) (es : List Parts) (fs : List Function) (o : Option StaticArea) (t : TraitItem) (m : ModuleMacro) (asked : List RuntimeItem) (last : List Item) (name : Bytes) (x : RuntimeItem)
     → runtime_item_named (runtime_module asked) name ≡ Some x
-    → runtime_item_named (map item.Import ws ++ (flat_map export_items es ++ (where_any fs (item.Trait t ∷ item.ModuleMacro m ∷ []) ++ (area_of gs ++ (runtime_module asked ++ last))))) name ≡ Some x
-runtime-found ws es fs gs t m asked last name x h =
-    past (map item.Import ws) (flat_map export_items es ++ (traits ++ (area_of gs ++ behind))) (no_runtime-imports ws name)
-    ∙ past (flat_map export_items es) (traits ++ (area_of gs ++ behind)) (no_runtime-exports es name)
-    ∙ past traits (area_of gs ++ behind) (no_runtime-trait fs t m name) ∙ past (area_of gs) behind (no_runtime-area gs name)
+    → runtime_item_named (map item.Import ws ++ (flat_map export_items es ++ (where_any fs (item.Trait t ∷ item.ModuleMacro m ∷ []) ++ (area_items o ++ (runtime_module asked ++ last))))) name ≡ Some x
+runtime-found ws es fs o t m asked last name x h =
+    past (map item.Import ws) (flat_map export_items es ++ (traits ++ (area_items o ++ behind))) (no_runtime-imports ws name)
+    ∙ past (flat_map export_items es) (traits ++ (area_items o ++ behind)) (no_runtime-exports es name)
+    ∙ past traits (area_items o ++ behind) (no_runtime-trait fs t m name) ∙ past (area_items o) behind (no_runtime-area o name)
     ∙ runtime-append (runtime_module asked) last name ∙ ap (λ o. option_or o (runtime_item_named last name)) h
   where
     traits : List Item
@@ -91,8 +87,8 @@ no_method-imports (w ∷ ws) bound name = no_method-imports ws bound name
 
 no_method-exports : (es : List Parts) (bound name : Bytes) → method_named (flat_map export_items es) bound name ≡ None
 no_method-exports [] bound name = refl
-no_method-exports ((e, None) ∷ es) bound name = no_method-exports es bound name
-no_method-exports ((e, Some p) ∷ es) bound name = no_method-exports es bound name
+no_method-exports ((e, None, a) ∷ es) bound name = no_method-exports es bound name
+no_method-exports ((e, Some p, a) ∷ es) bound name = no_method-exports es bound name
 
 -- a function of the trait is found in the file
 pub method-found : (ws : List FnItem) (es : List Parts) (f : Function) (fs : List Function) (t : TraitItem) (m : ModuleMacro) (behind : List Item) (name : Bytes) (x : TraitFn) → method_in t.functions name ≡ Some x
@@ -159,13 +155,6 @@ find-named key xs nth x d e = found_of (λ y. bytes_eq (key y) (key x)) xs (Some
 
 -- lists of texts
 
-any-append-right : (xs ys : List Bytes) (name : Bytes) → list_any (λ u. bytes_eq u name) (xs ++ ys) ≡ false → list_any (λ u. bytes_eq u name) ys ≡ false
-any-append-right xs ys name h = (or_parts (list_any (λ u. bytes_eq u name) xs) (list_any (λ u. bytes_eq u name) ys) (sym (list_any-append (λ u. bytes_eq u name) xs ys) ∙ h)).1
-
-pub distinct-right : (xs ys : List Bytes) → is_distinct (xs ++ ys) ≡ true → is_distinct ys ≡ true
-distinct-right [] ys d = d
-distinct-right (x ∷ xs) ys d = distinct-right xs ys (and_parts (not (list_any (λ u. bytes_eq u x) (xs ++ ys))) (is_distinct (xs ++ ys)) d).1
-
 -- texts whose images are distinct are distinct
 
 any-image : (g : Bytes → Bytes) (xs : List Bytes) (x : Bytes) → list_any (λ u. bytes_eq u (g x)) (map g xs) ≡ false → list_any (λ u. bytes_eq u x) xs ≡ false
@@ -195,15 +184,12 @@ entries-imports (w ∷ ws) ys = entries-imports ws ys
 
 entries-exports : (es : List Parts) (ys : List Item) → entries_in (flat_map export_items es ++ ys) ≡ entries_in ys
 entries-exports [] ys = refl
-entries-exports ((e, None) ∷ es) ys = entries-exports es ys
-entries-exports ((e, Some p) ∷ es) ys = entries-exports es ys
+entries-exports ((e, None, a) ∷ es) ys = entries-exports es ys
+entries-exports ((e, Some p, a) ∷ es) ys = entries-exports es ys
 
-entries-area : (hs : List Function) (ys : List Item) → entries_in (area_of hs ++ ys) ≡ entries_in ys
-entries-area hs ys = go (list_any (λ f. needs_area f.result) hs)
-  where
-    go : (b : Bool) → entries_in (cond b (item.Area static_area ∷ []) [] ++ ys) ≡ entries_in ys
-    go true = refl
-    go false = refl
+entries-area : (o : Option StaticArea) (ys : List Item) → entries_in (area_items o ++ ys) ≡ entries_in ys
+entries-area None ys = refl
+entries-area (Some a) ys = refl
 
 entries-behind : (gs : List Function) (asked : List RuntimeItem) (r : RootMacro) → entries_in (runtime_module asked ++ where_any gs (item.RootMacro r ∷ [])) ≡ []
 entries-behind [] [] r = refl
@@ -211,10 +197,10 @@ entries-behind [] (a ∷ asked) r = refl
 entries-behind (g ∷ gs) [] r = refl
 entries-behind (g ∷ gs) (a ∷ asked) r = refl
 
-pub entries-are : (ws : List FnItem) (es : List Parts) (f : Function) (fs gs hs : List Function) (t : TraitItem) (m : ModuleMacro) (asked : List RuntimeItem) (r : RootMacro)
-    → entries_in (map item.Import ws ++ (flat_map export_items es ++ (where_any (f ∷ fs) (item.Trait t ∷ item.ModuleMacro m ∷ []) ++ (area_of hs ++ (runtime_module asked ++ where_any gs (item.RootMacro r ∷ [])))))) ≡ m.entries
-entries-are ws es f fs gs hs t m asked r =
-    entries-imports ws _ ∙ entries-exports es _ ∙ ap (λ xs. m.entries ++ xs) (entries-area hs _ ∙ entries-behind gs asked r) ∙ append-nil m.entries
+pub entries-are : (ws : List FnItem) (es : List Parts) (f : Function) (fs gs : List Function) (o : Option StaticArea) (t : TraitItem) (m : ModuleMacro) (asked : List RuntimeItem) (r : RootMacro)
+    → entries_in (map item.Import ws ++ (flat_map export_items es ++ (where_any (f ∷ fs) (item.Trait t ∷ item.ModuleMacro m ∷ []) ++ (area_items o ++ (runtime_module asked ++ where_any gs (item.RootMacro r ∷ [])))))) ≡ m.entries
+entries-are ws es f fs gs o t m asked r =
+    entries-imports ws _ ∙ entries-exports es _ ∙ ap (λ xs. m.entries ++ xs) (entries-area o _ ∙ entries-behind gs asked r) ∙ append-nil m.entries
 
 -- the static area
 
@@ -224,19 +210,24 @@ area-imports (w ∷ ws) ys = area-imports ws ys
 
 area-exports : (es : List Parts) (ys : List Item) → area_in (flat_map export_items es ++ ys) ≡ area_in ys
 area-exports [] ys = refl
-area-exports ((e, None) ∷ es) ys = area-exports es ys
-area-exports ((e, Some p) ∷ es) ys = area-exports es ys
+area-exports ((e, None, a) ∷ es) ys = area-exports es ys
+area-exports ((e, Some p, a) ∷ es) ys = area-exports es ys
 
 area-trait : (fs : List Function) (t : TraitItem) (m : ModuleMacro) (ys : List Item) → area_in (where_any fs (item.Trait t ∷ item.ModuleMacro m ∷ []) ++ ys) ≡ area_in ys
 area-trait [] t m ys = refl
 area-trait (f ∷ fs) t m ys = refl
 
-needs-any : (hs : List Function) (nth : ℕ) (h : Function) → slice_get hs nth ≡ Some h → needs_area h.result ≡ true → list_any (λ f. needs_area f.result) hs ≡ true
-needs-any [] nth h e n = absurd (cc)
-needs-any (g ∷ hs) zero h e n = let is : g ≡ h = cc in or_left (needs_area g.result) _ (ap (λ g. needs_area g.result) is ∙ n)
-needs-any (g ∷ hs) (suc nth) h e n = or_right (needs_area g.result) _ (needs-any hs nth h e n)
+area-behind : (asked : List RuntimeItem) (gs : List Function) (r : RootMacro) → area_in (runtime_module asked ++ where_any gs (item.RootMacro r ∷ [])) ≡ None
+area-behind [] [] r = refl
+area-behind [] (g ∷ gs) r = refl
+area-behind (a ∷ asked) [] r = refl
+area-behind (a ∷ asked) (g ∷ gs) r = refl
 
-pub area-found : (ws : List FnItem) (es : List Parts) (fs hs : List Function) (t : TraitItem) (m : ModuleMacro) (behind : List Item) (nth : ℕ) (h : Function) → slice_get hs nth ≡ Some h → needs_area h.result ≡ true
-    → area_in (map item.Import ws ++ (flat_map export_items es ++ (where_any fs (item.Trait t ∷ item.ModuleMacro m ∷ []) ++ (area_of hs ++ behind)))) ≡ Some static_area
-area-found ws es fs hs t m behind nth h e n =
-    area-imports ws _ ∙ area-exports es _ ∙ area-trait fs t m _ ∙ ap (λ b. area_in (cond b (item.Area static_area ∷ []) [] ++ behind)) (needs-any hs nth h e n)
+area-is : (o : Option StaticArea) (ys : List Item) → area_in ys ≡ None → area_in (area_items o ++ ys) ≡ o
+area-is None ys none = none
+area-is (Some a) ys none = refl
+
+pub area-found : (ws : List FnItem) (es : List Parts) (fs gs : List Function) (o : Option StaticArea) (t : TraitItem) (m : ModuleMacro) (asked : List RuntimeItem) (r : RootMacro)
+    → area_in (map item.Import ws ++ (flat_map export_items es ++ (where_any fs (item.Trait t ∷ item.ModuleMacro m ∷ []) ++ (area_items o ++ (runtime_module asked ++ where_any gs (item.RootMacro r ∷ [])))))) ≡ o
+area-found ws es fs gs o t m asked r =
+    area-imports ws _ ∙ area-exports es _ ∙ area-trait fs t m _ ∙ area-is o (runtime_module asked ++ where_any gs (item.RootMacro r ∷ [])) (area-behind asked gs r)

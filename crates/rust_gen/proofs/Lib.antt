@@ -1,28 +1,17 @@
 mod AskedLemmas
+mod BuiltLemmas
 mod EntryLemmas
-mod ExportRunLemmas
 mod FaithfulLemmas
 mod FixedLemmas
-mod GiveLemmas
 mod IdentLemmas
 mod ItemLemmas
-mod LiftLemmas
-mod LiftingLemmas
-mod LowerLemmas
-mod LoweringLemmas
-mod NamedExportLemmas
-mod NamedImportLemmas
+mod KnownLemmas
 mod NamedLemmas
 mod PartsLemmas
-mod PathLemmas
-mod ReturnLemmas
-mod RunLemmas
-mod ScopeLemmas
+mod PartsOfBodies
+mod ResultLemmas
 mod ServedLemmas
 mod SignatureLemmas
 mod SkipLemmas
-mod TakenLemmas
-mod TextLemmas
 pub mod TreeLemmas
-mod WordLemmas
 pub mod WrapperLemmas

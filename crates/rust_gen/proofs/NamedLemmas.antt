@@ -1,7 +1,7 @@
 -- The tree of a world whose names are declared well has only names that are identifiers.
 use Rattle.std.proofs.Common.{◌≡◌, true, false, ◌&&◌, List, [], ◌∷◌, ◌++◌, map, refl, sym, ap, ◌∙◌}
-use Rattle.std.specs.Prelude.{codes, ℕ, zero, suc, Bool, Some, slice_get, if◌then◌else◌}
-use Rattle.std.specs.List.{flat_map, list_all, list_any}
+use Rattle.std.specs.Prelude.{codes, Bool, Option, None, Some, if◌then◌else◌}
+use Rattle.std.specs.List.{AllZip, flat_map, list_all}
 use Rattle.std.proofs.lemmas.Bool.{and_from, and_parts, cond_both}
 use Rattle.std.proofs.lemmas.List.Folds.{list_all-append, list_all-map}
 use Rattle.wit_model.specs.Bytes.{Bytes}
@@ -9,7 +9,12 @@ use Rattle.wit_model.specs.declared.function.Function.{Function}
 use Rattle.wit_model.specs.declared.name.WorldId.{WorldId}
 use Rattle.wit_model.specs.declared.resolve.Resolve.{Resolve}
 use Rattle.wit_model.specs.declared.world.World.{World}
+use Rattle.wit_model.specs.declared.types.TypeDef.{TypeDef}
+use Rattle.rust_tree.specs.declared.area.StaticArea.{StaticArea}
+use Rattle.rust_tree.specs.declared.export.PostReturnFn.{PostReturnFn}
+use Rattle.rust_tree.specs.declared.item.FnItem.{FnItem}
 use Rattle.rust_tree.specs.declared.item.Item.{Item}
+use Rattle.rust_tree.specs.Asked.{asked_in}
 use Rattle.rust_tree.specs.declared.item.Item.TheVariants as item
 use Rattle.rust_tree.specs.declared.runtime_item.RuntimeItem.{RuntimeItem}
 use Rattle.rust_tree.specs.Ident.{is_ident, may_follow, rust_ident}
@@ -17,29 +22,27 @@ use Rattle.rust_tree.specs.WellNamed.{are_named_core_params, are_well_named, is_
 use Rattle.gen_accept.specs.Area.{needs_area}
 use Rattle.gen_accept.specs.declared.opts.Opts.{Opts}
 use Rattle.gen_accept.specs.TypeOpts.{type_opts}
-use Rattle.rust_gen.specs.Body.{IsWritten}
-use Rattle.rust_gen.specs.Bound.{AreItems, export_items, own_items}
+use Rattle.rust_gen.specs.Body.{ArePartsWritten, IsWritten, ReturnWritten, is_among, is_sound}
+use Rattle.rust_gen.specs.Bound.{AreItems, Parts, area_items, area_of, areas_of, export_items, file_area, own_items}
+use Rattle.rust_gen.specs.Known.{IsKnown}
 use Rattle.rust_gen.proofs.TreeLemmas.{own-first}
-use Rattle.gen_accept.specs.Cause.{is_accepted, is_well_named}
-use Rattle.gen_accept.specs.DeclaredNames.{cabi_suffix, declares_well, export_ident, export_prefix, guest_name, has_distinct_names, is_empty, macro_idents, param_idents, where_exported}
-use Rattle.type_defs.specs.DefinedNames.{AreDefinable}
+use Rattle.gen_accept.specs.DeclaredNames.{cabi_suffix, declares_well, export_ident, export_prefix, guest_name, is_empty, macro_idents, param_idents, where_exported}
 use Rattle.type_defs.specs.Docs.{doc_lines}
 use Rattle.gen_accept.specs.Emitted.{exported_functions, imported_functions}
-use Rattle.rust_gen.specs.ExportBody.{ArePartsWritten}
-use Rattle.rust_gen.specs.Exported.{area_of, entries_of, export_entry, export_params, file_macro, guest_trait, last_macro, macro_name, post_return_name, return_entry, return_params, static_area, trait_and_macro, trait_fn, trait_param, where_any, where_area, world_macro, world_prefix}
-use Rattle.gen_accept.specs.NameText.{are_written_tables, is_written_entry, is_written_world}
+use Rattle.wrapper_faithful.specs.Passed.{passed}
+use Rattle.wrapper_closing.specs.Params.{export_args, param_types, result_types, return_args}
+use Rattle.rust_gen.specs.Exported.{entries_of, export_entry, file_macro, guest_trait, last_macro, macro_name, post_return_name, return_entry, trait_and_macro, trait_fn, trait_param, where_any, where_area, world_macro, world_prefix}
+use Rattle.gen_accept.specs.NameText.{is_written_entry}
 use Rattle.type_defs.specs.WitForm.{is_wit_form}
 use Rattle.rust_gen.specs.OptionLines.{option_lines, unused_types_line}
 use Rattle.rust_gen.specs.Signature.{printed_result}
 use Rattle.rust_gen.specs.Runtime.{runtime_items, runtime_module}
 use Rattle.type_defs.proofs.DefinedNameLemmas.{definitions-named}
-use Rattle.gen_accept.proofs.DeclaredLemmas.{export_idents, import_idents, import_params, macro_names, method_idents}
+use Rattle.gen_accept.proofs.DeclaredLemmas.{export_idents, macro_names, method_idents}
 use Rattle.gen_accept.proofs.DeclaredLemmas as names
 use Rattle.rust_gen.proofs.EntryLemmas.{wit-forms}
-use Rattle.rust_gen.proofs.IdentLemmas.{guest_ident, part_of, return-quotable}
+use Rattle.rust_gen.proofs.IdentLemmas.{args-named, guest_ident, part_of, return-quotable}
 use Rattle.type_defs.proofs.NamedTextLemmas.{docs-named, wit-quotable}
-use Rattle.rust_gen.proofs.NamedExportLemmas.{export_params-named, exports-named, return_params-named}
-use Rattle.rust_gen.proofs.NamedImportLemmas.{imports-named}
 use Rattle.rust_gen.proofs.SignatureLemmas.{result-named, trait_params-named}
 
 -- what is known of functions
@@ -89,26 +92,26 @@ trait-named fs n p = and_from (is_ident guest_name) (list_all is_named_method (m
 
 -- the macros
 
-entries-named : (f : Function) → is_quotable f.name.wit ≡ true → is_ident_part f.name.snake ≡ true → list_all is_named_entry (entries_of f) ≡ true
-entries-named f quoted base =
-    and_from (is_named_entry (export_entry f)) (list_all is_named_entry (where_area f (return_entry f))) wrapper
-    (cond_both (needs_area f.result) (return_entry f ∷ []) [] (λ es. list_all is_named_entry es ≡ true) (λ _. and_from (is_named_entry (return_entry f)) true returns refl) (λ _. refl))
+entries-named : (types : List TypeDef) (f : Function) → is_quotable f.name.wit ≡ true → is_ident_part f.name.snake ≡ true → list_all is_named_entry (entries_of types f) ≡ true
+entries-named types f quoted base =
+    and_from (is_named_entry (export_entry types f)) (list_all is_named_entry (where_area f (return_entry types f))) wrapper
+    (cond_both (needs_area f.result) (return_entry types f ∷ []) [] (λ es. list_all is_named_entry es ≡ true) (λ _. and_from (is_named_entry (return_entry types f)) true returns refl) (λ _. refl))
   where
-    wrapper : is_named_entry (export_entry f) ≡ true
-    wrapper = and_from (is_quotable f.name.wit && is_ident_part f.name.snake) (are_named_core_params (export_params f)) (and_from (is_quotable f.name.wit) (is_ident_part f.name.snake) quoted base) (export_params-named f)
+    wrapper : is_named_entry (export_entry types f) ≡ true
+    wrapper = and_from (is_quotable f.name.wit && is_ident_part f.name.snake) (are_named_core_params (export_args (passed types f))) (and_from (is_quotable f.name.wit) (is_ident_part f.name.snake) quoted base) (args-named 0 (param_types (passed types f)))
 
-    returns : is_named_entry (return_entry f) ≡ true
+    returns : is_named_entry (return_entry types f) ≡ true
     returns =
-        and_from (is_quotable (post_return_name f) && is_ident_part f.name.snake) (are_named_core_params return_params)
-        (and_from (is_quotable (post_return_name f)) (is_ident_part f.name.snake) (return-quotable f quoted) base) return_params-named
+        and_from (is_quotable (post_return_name f) && is_ident_part f.name.snake) (are_named_core_params (return_args (passed types f)))
+        (and_from (is_quotable (post_return_name f)) (is_ident_part f.name.snake) (return-quotable f quoted) base) (args-named 0 (result_types (passed types f)))
 
-all-entries-named : (fs : List Function) → Quotables fs → Bases fs → list_all is_named_entry (flat_map entries_of fs) ≡ true
-all-entries-named [] q b = refl
-all-entries-named (f ∷ fs) q b =
+all-entries-named : (types : List TypeDef) (fs : List Function) → Quotables fs → Bases fs → list_all is_named_entry (flat_map (entries_of types) fs) ≡ true
+all-entries-named types [] q b = refl
+all-entries-named types (f ∷ fs) q b =
     let quoted = and_parts (is_quotable f.name.wit) (list_all (λ f. is_quotable f.name.wit) fs) q in
     let based = and_parts (is_ident_part f.name.snake) (list_all (λ f. is_ident_part f.name.snake) fs) b in
-    list_all-append is_named_entry (entries_of f) (flat_map entries_of fs)
-    ∙ and_from (list_all is_named_entry (entries_of f)) (list_all is_named_entry (flat_map entries_of fs)) (entries-named f quoted.0 based.0) (all-entries-named fs quoted.1 based.1)
+    list_all-append is_named_entry (entries_of types f) (flat_map (entries_of types) fs)
+    ∙ and_from (list_all is_named_entry (entries_of types f)) (list_all is_named_entry (flat_map (entries_of types) fs)) (entries-named types f quoted.0 based.0) (all-entries-named types fs quoted.1 based.1)
 
 prefix-part : is_ident_part world_prefix ≡ true
 unfolding world_prefix
@@ -127,8 +130,9 @@ any-named : (fs : List Function) (items : List Item) → (is_empty fs ≡ false 
 any-named [] items h = refl
 any-named (f ∷ fs) items h = h refl
 
-area-named : (fs : List Function) → list_all is_named_item (area_of fs) ≡ true
-area-named fs = cond_both (list_any (λ f. needs_area f.result) fs) (item.Area static_area ∷ []) [] (λ is. list_all is_named_item is ≡ true) (λ _. refl) (λ _. refl)
+area-named : (o : Option StaticArea) → list_all is_named_item (area_items o) ≡ true
+area-named None = refl
+area-named (Some a) = refl
 
 runtime-named : (asked : List RuntimeItem) → list_all is_named_item (runtime_module asked) ≡ true
 runtime-named [] = refl
@@ -137,24 +141,54 @@ runtime-named (i ∷ asked) = refl
 items-append : (xs ys : List Item) → list_all is_named_item xs ≡ true → list_all is_named_item ys ≡ true → list_all is_named_item (xs ++ ys) ≡ true
 items-append xs ys h g = list_all-append is_named_item xs ys ∙ and_from (list_all is_named_item xs) (list_all is_named_item ys) h g
 
+-- the wrappers, whose names were tested
+
+sound-named : (i : Item) (runtime : List RuntimeItem) → is_sound i runtime ≡ true → is_named_item i ≡ true
+sound-named i runtime h =
+    let named = (and_parts (are_well_named [] (i ∷ [])) (list_all (is_among (asked_in (i ∷ []))) runtime) h).0 in
+    (and_parts (is_named_item i) true named).0
+
+imports-named : (types : List TypeDef) (fs : List Function) (ws : List FnItem) → AllZip (IsWritten types) fs ws → list_all is_named_item (map item.Import ws) ≡ true
+imports-named types [] [] z = refl
+imports-named types [] (w ∷ ws) z = absurd z
+imports-named types (f ∷ fs) [] z = absurd z
+imports-named types (f ∷ fs) (w ∷ ws) z =
+    and_from (is_named_item (item.Import w)) (list_all is_named_item (map item.Import ws)) (sound-named (item.Import w) z.0.runtime z.0.sound) (imports-named types fs ws z.1)
+
+parts-named : (types : List TypeDef) (f : Function) (x : Parts) → ArePartsWritten types f x → list_all is_named_item (export_items x) ≡ true
+parts-named types f (e, o, a) w = go (needs_area f.result) o w.1
+  where
+    own : is_named_item (item.Export e) ≡ true
+    own = sound-named (item.Export e) w.0.runtime w.0.sound
+
+    go : (b : Bool) (o : Option PostReturnFn) → ReturnWritten types b f o → list_all is_named_item (export_items (e, o, a)) ≡ true
+    go true o (q, is, written) =
+        let alone : is_named_item (item.PostReturn q) ≡ true = sound-named (item.PostReturn q) written.runtime written.sound in
+        ap (λ o. list_all is_named_item (export_items (e, o, a))) is ∙ and_from (is_named_item (item.Export e)) (is_named_item (item.PostReturn q) && true) own (and_from (is_named_item (item.PostReturn q)) true alone refl)
+    go false o is = ap (λ o. list_all is_named_item (export_items (e, o, a))) is ∙ and_from (is_named_item (item.Export e)) true own refl
+
+exports-named : (types : List TypeDef) (fs : List Function) (es : List Parts) → AllZip (ArePartsWritten types) fs es → list_all is_named_item (flat_map export_items es) ≡ true
+exports-named types [] [] z = refl
+exports-named types [] (x ∷ es) z = absurd z
+exports-named types (f ∷ fs) [] z = absurd z
+exports-named types (f ∷ fs) (x ∷ es) z =
+    list_all-append is_named_item (export_items x) (flat_map export_items es)
+    ∙ and_from (list_all is_named_item (export_items x)) (list_all is_named_item (flat_map export_items es)) (parts-named types f x z.0) (exports-named types fs es z.1)
+
 -- the whole
 
 -- what a world's declared names are known to be
-record Known (world : World) : Type 0 where
-  imports : Idents (imported_functions world)
+record AreNamed (world : World) : Type 0 where
   exports : Idents (exported_functions world)
   exported : Bases (exported_functions world)
-  import_params : Params (imported_functions world)
   export_params : Params (exported_functions world)
   macros : is_empty (exported_functions world) ≡ false → is_ident_part world.name.snake ≡ true
 
-known : (opts : Opts) (r : Resolve) (world : World) → declares_well opts r world ≡ true → Known world
+known : (opts : Opts) (r : Resolve) (world : World) → declares_well opts r world ≡ true → AreNamed world
 unfolding macro_idents
 known opts r world h = record {
-  imports = import_idents opts r world h;
   exports = method_idents opts r world h;
   exported = bases (exported_functions world) (export_idents opts r world h);
-  import_params = import_params opts r world h;
   export_params = names.export_params opts r world h;
   macros = snake (exported_functions world) (macro_names opts r world h);
 }
@@ -163,28 +197,27 @@ known opts r world h = record {
     snake [] h full = cc
     snake (f ∷ exports) h full = part_of (codes "__export_world_") world.name.snake (codes "_cabi") (and_parts (is_ident (codes "__export_world_" ++ world.name.snake ++ codes "_cabi")) _ h).0
 
-items-named : (opts : Opts) (r : Resolve) (id : WorldId) (world : World) (items : List Item) → AreDefinable (type_opts opts) r id world → is_written_world world ≡ true → declares_well opts r world ≡ true
-    → AreItems IsWritten ArePartsWritten opts r id world items → list_all is_named_item items ≡ true
-items-named opts r id world items types written declared a =
-    let k = known opts r world declared in
+items-named : (opts : Opts) (r : Resolve) (id : WorldId) (world : World) (items : List Item) → IsKnown opts r id world → AreItems (IsWritten r.types) (ArePartsWritten r.types) opts r id world items → list_all is_named_item items ≡ true
+items-named opts r id world items w a =
+    let k = known opts r world w.declared in
     let es : List Function = exported_functions world in
-    let fs : List Function = imported_functions world in
-    let w = and_parts (is_wit_form world.name.wit && list_all is_written_entry world.imports) (list_all is_written_entry world.exports) written in
-    let imports : Quotables fs = quotables fs (wit-forms world.imports (and_parts (is_wit_form world.name.wit) (list_all is_written_entry world.imports) w.0).1) in
-    let exports : Quotables es = quotables es (wit-forms world.exports w.1) in
-    let traits : list_all is_named_item (trait_and_macro world) ≡ true = any-named es (item.Trait (guest_trait es) ∷ item.ModuleMacro (world_macro world) ∷ []) (λ full.
-    and_from (is_named_trait (guest_trait es)) (is_named_module_macro (world_macro world) && true) (trait-named es k.exports k.export_params)
-    (and_from (is_named_module_macro (world_macro world)) true (and_from (is_ident_part (macro_name world)) (list_all is_named_entry (flat_map entries_of es)) (macro_name-part world (k.macros full)) (all-entries-named es exports k.exported)) refl)) in
+    let parts = and_parts (is_wit_form world.name.wit && list_all is_written_entry world.imports) (list_all is_written_entry world.exports) w.written in
+    let exports : Quotables es = quotables es (wit-forms world.exports parts.1) in
+    let traits : list_all is_named_item (trait_and_macro r.types world) ≡ true = any-named es (item.Trait (guest_trait es) ∷ item.ModuleMacro (world_macro r.types world) ∷ []) (λ full.
+    and_from (is_named_trait (guest_trait es)) (is_named_module_macro (world_macro r.types world) && true) (trait-named es k.exports k.export_params)
+    (and_from (is_named_module_macro (world_macro r.types world)) true
+    (and_from (is_ident_part (macro_name world)) (list_all is_named_entry (flat_map (entries_of r.types) es)) (macro_name-part world (k.macros full)) (all-entries-named r.types es exports k.exported)) refl)) in
     let last : list_all is_named_item (last_macro world) ≡ true = any-named es (item.RootMacro (file_macro world) ∷ []) (λ full. and_from (is_named_root_macro (file_macro world)) true (file_macro-named world (k.macros full)) refl) in
-    let asked = runtime_items (own_items a.types a.wrappers a.exports world) in
+    let asked = runtime_items (own_items r.types a.types a.wrappers a.exports world) in
     let runtime : List Item = runtime_module asked in
-    let definitions : list_all is_named_item (map item.Type a.types) ≡ true = list_all-map is_named_item item.Type a.types ∙ definitions-named (type_opts opts) r id world a.types types a.defined in
-    ap (list_all is_named_item) (a.are ∙ own-first a.types a.wrappers a.exports world (runtime ++ last_macro world))
-    ∙ items-append (map item.Type a.types) (map item.Import a.wrappers ++ (flat_map export_items a.exports ++ (trait_and_macro world ++ (area_of es ++ (runtime ++ last_macro world))))) definitions
-    (items-append (map item.Import a.wrappers) (flat_map export_items a.exports ++ (trait_and_macro world ++ (area_of es ++ (runtime ++ last_macro world)))) (imports-named fs a.wrappers imports k.imports k.import_params a.wraps)
-    (items-append (flat_map export_items a.exports) (trait_and_macro world ++ (area_of es ++ (runtime ++ last_macro world))) (exports-named es a.exports k.exported k.exports a.exported)
-    (items-append (trait_and_macro world) (area_of es ++ (runtime ++ last_macro world)) traits
-    (items-append (area_of es) (runtime ++ last_macro world) (area-named es) (items-append runtime (last_macro world) (runtime-named asked) last)))))
+    let area : List Item = area_of a.exports in
+    let definitions : list_all is_named_item (map item.Type a.types) ≡ true = list_all-map is_named_item item.Type a.types ∙ definitions-named (type_opts opts) r id world a.types w.types a.defined in
+    ap (list_all is_named_item) (a.are ∙ own-first r.types a.types a.wrappers a.exports world (runtime ++ last_macro world))
+    ∙ items-append (map item.Type a.types) (map item.Import a.wrappers ++ (flat_map export_items a.exports ++ (trait_and_macro r.types world ++ (area ++ (runtime ++ last_macro world))))) definitions
+    (items-append (map item.Import a.wrappers) (flat_map export_items a.exports ++ (trait_and_macro r.types world ++ (area ++ (runtime ++ last_macro world)))) (imports-named r.types (imported_functions world) a.wrappers a.wraps)
+    (items-append (flat_map export_items a.exports) (trait_and_macro r.types world ++ (area ++ (runtime ++ last_macro world))) (exports-named r.types es a.exports a.exported)
+    (items-append (trait_and_macro r.types world) (area ++ (runtime ++ last_macro world)) traits
+    (items-append area (runtime ++ last_macro world) (area-named (file_area (areas_of a.exports))) (items-append runtime (last_macro world) (runtime-named asked) last)))))
 
 line-named : list_all is_option_line (unused_types_line ∷ []) ≡ true
 unfolding unused_types_line
@@ -197,27 +230,8 @@ options-named opts = go opts.generate_unused_types
     go true = line-named
     go false = refl
 
-pub tree-named : (opts : Opts) (r : Resolve) (id : WorldId) (world : World) (options : List Bytes) (items : List Item) → AreDefinable (type_opts opts) r id world → is_written_world world ≡ true → declares_well opts r world ≡ true
-    → options ≡ option_lines opts → AreItems IsWritten ArePartsWritten opts r id world items → are_well_named options items ≡ true
-tree-named opts r id world options items types written declared lines a =
+pub tree-named : (opts : Opts) (r : Resolve) (id : WorldId) (world : World) (options : List Bytes) (items : List Item) → IsKnown opts r id world
+    → options ≡ option_lines opts → AreItems (IsWritten r.types) (ArePartsWritten r.types) opts r id world items → are_well_named options items ≡ true
+tree-named opts r id world options items w lines a =
     ap (λ o. are_well_named o items) lines
-    ∙ and_from (list_all is_option_line (option_lines opts)) (list_all is_named_item items) (options-named opts) (items-named opts r id world items types written declared a)
-
--- of a world of the tables whose names are accepted
-
-written-at : (worlds : List World) (nth : ℕ) (world : World) → list_all is_written_world worlds ≡ true → slice_get worlds nth ≡ Some world → is_written_world world ≡ true
-written-at [] nth world h e = absurd (cc)
-written-at (w ∷ worlds) zero world h e = let is : w ≡ world = cc in ap is_written_world (sym is) ∙ (and_parts (is_written_world w) (list_all is_written_world worlds) h).0
-written-at (w ∷ worlds) (suc nth) world h e = written-at worlds nth world (and_parts (is_written_world w) (list_all is_written_world worlds) h).1 e
-
--- what is accepted is well named
-pub well-named : (opts : Opts) (r : Resolve) (world : World) → is_accepted opts r world ≡ true → is_well_named opts r world ≡ true
-unfolding is_accepted
-well-named opts r world h = (and_parts _ (is_well_named opts r world) h).1
-
-pub accepted-names : (opts : Opts) (r : Resolve) (nth : ℕ) (world : World) → slice_get r.worlds nth ≡ Some world → is_accepted opts r world ≡ true → (is_written_world world ≡ true) × (declares_well opts r world ≡ true)
-unfolding is_well_named are_written_tables
-accepted-names opts r nth world e h =
-    let a = and_parts (are_written_tables r && list_all has_distinct_names r.worlds) (declares_well opts r world) (well-named opts r world h) in
-    let tables = (and_parts (are_written_tables r) (list_all has_distinct_names r.worlds) a.0).0 in
-    (written-at r.worlds nth world (and_parts _ (list_all is_written_world r.worlds) tables).1 e, a.1)
+    ∙ and_from (list_all is_option_line (option_lines opts)) (list_all is_named_item items) (options-named opts) (items-named opts r id world items w a)

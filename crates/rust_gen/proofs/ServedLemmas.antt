@@ -1,5 +1,5 @@
 -- The module `_rt` has each item that is due, once, and no other.
-use Rattle.std.proofs.Common.{◌≡◌, ℕ, zero, suc, ◌<◌, ◌≤◌, Bool, true, false, cond, not, ◌||◌, List, [], ◌∷◌, ◌++◌, map, ◌⊎◌, inl, inr, None, Some, append_assoc, append-nil, refl, sym, ap, subst, ◌∙◌, arith}
+use Rattle.std.proofs.Common.{◌≡◌, ℕ, zero, suc, ◌<◌, ◌≤◌, Bool, true, false, cond, not, ◌||◌, List, [], ◌∷◌, ◌++◌, map, ◌⊎◌, inl, inr, Option, None, Some, append_assoc, append-nil, refl, sym, ap, subst, ◌∙◌, arith}
 use Rattle.std.specs.Prelude.{fold}
 use Rattle.std.specs.List.{Contains, flat_map, list_any}
 use Rattle.std.specs.Str.{bytes_eq}
@@ -14,6 +14,7 @@ use Rattle.wit_model.specs.declared.function.Function.{Function}
 use Rattle.wit_model.specs.declared.name.WorldId.{WorldId}
 use Rattle.wit_model.specs.declared.resolve.Resolve.{Resolve}
 use Rattle.wit_model.specs.declared.world.World.{World}
+use Rattle.rust_tree.specs.declared.area.StaticArea.{StaticArea}
 use Rattle.rust_tree.specs.declared.item.FnItem.{FnItem}
 use Rattle.rust_tree.specs.declared.item.Item.{Item}
 use Rattle.rust_tree.specs.declared.item.Item.TheVariants as item
@@ -24,13 +25,11 @@ use Rattle.rust_tree.specs.Asked.{asked_by_item, asked_in}
 use Rattle.rust_tree.specs.Runtime.{item_name, needed_items}
 use Rattle.rust_tree.specs.declared.macros.RootMacro.{RootMacro}
 use Rattle.rust_tree.specs.Tree.{Tree}
-use Rattle.gen_accept.specs.Area.{needs_area}
 use Rattle.gen_accept.specs.declared.opts.Opts.{Opts}
-use Rattle.rust_gen.specs.Body.{IsWritten}
-use Rattle.rust_gen.specs.Bound.{Binds, Parts, export_items, own_items}
+use Rattle.rust_gen.specs.Body.{ArePartsWritten, IsWritten}
+use Rattle.rust_gen.specs.Bound.{Binds, Parts, area_items, area_of, areas_of, export_items, file_area, own_items}
 use Rattle.gen_accept.specs.Emitted.{exported_functions}
-use Rattle.rust_gen.specs.ExportBody.{ArePartsWritten}
-use Rattle.rust_gen.specs.Exported.{area_of, last_macro, static_area, trait_and_macro, where_any, guest_trait, world_macro, file_macro}
+use Rattle.rust_gen.specs.Exported.{last_macro, trait_and_macro, where_any, guest_trait, world_macro, file_macro}
 use Rattle.rust_gen.specs.Runtime.{is_same_item, runtime_items, runtime_module, with_asked, with_needed}
 use Rattle.rust_gen.specs.Served.{IsDue, Serves, asked_for, needed_by, runtime_in}
 use Rattle.rust_gen.proofs.TreeLemmas.{own-first}
@@ -271,16 +270,16 @@ none-imports (w ∷ ws) = none-imports ws
 
 none-exports : (es : List Parts) → runtime_in (flat_map export_items es) ≡ []
 none-exports [] = refl
-none-exports ((e, None) ∷ es) = none-exports es
-none-exports ((e, Some p) ∷ es) = none-exports es
+none-exports ((e, None, a) ∷ es) = none-exports es
+none-exports ((e, Some p, a) ∷ es) = none-exports es
 
 none-any : (fs : List Function) (items : List Item) → runtime_in items ≡ [] → runtime_in (where_any fs items) ≡ []
 none-any [] items h = refl
 none-any (f ∷ fs) items h = h
 
-none-area : (b : Bool) → runtime_in (cond b (item.Area static_area ∷ []) []) ≡ []
-none-area true = refl
-none-area false = refl
+none-area : (o : Option StaticArea) → runtime_in (area_items o) ≡ []
+none-area None = refl
+none-area (Some a) = refl
 
 of-module : (parts : List RuntimeItem) → runtime_in (runtime_module parts) ≡ parts
 of-module [] = refl
@@ -299,7 +298,7 @@ asked-last : (fs : List Function) (m : RootMacro) → asked_in (where_any fs (it
 asked-last [] m = refl
 asked-last (f ∷ fs) m = refl
 
-module _ (opts : Opts) (r : Resolve) (id : WorldId) (world : World) (tree : Tree) (b : Binds IsWritten ArePartsWritten opts r id world tree) where
+module _ (opts : Opts) (r : Resolve) (id : WorldId) (world : World) (tree : Tree) (b : Binds (IsWritten r.types) (ArePartsWritten r.types) opts r id world tree) where
   abbrev ts : List TypeItem
   ts = b.items.types
 
@@ -307,7 +306,7 @@ module _ (opts : Opts) (r : Resolve) (id : WorldId) (world : World) (tree : Tree
   fs = exported_functions world
 
   abbrev own : List Item
-  own = own_items ts b.items.wrappers b.items.exports world
+  own = own_items r.types ts b.items.wrappers b.items.exports world
 
   abbrev asked_part : List RuntimeItem
   asked_part = runtime_items own
@@ -317,12 +316,12 @@ module _ (opts : Opts) (r : Resolve) (id : WorldId) (world : World) (tree : Tree
 
   runtime-is : runtime_in tree.items ≡ asked_part
   runtime-is =
-      ap runtime_in (b.items.are ∙ own-first ts b.items.wrappers b.items.exports world last)
-      ∙ skip-runtime ts (map item.Import b.items.wrappers ++ (flat_map export_items b.items.exports ++ (trait_and_macro world ++ (area_of fs ++ last))))
-      ∙ past (map item.Import b.items.wrappers) (flat_map export_items b.items.exports ++ (trait_and_macro world ++ (area_of fs ++ last))) (none-imports b.items.wrappers)
-      ∙ past (flat_map export_items b.items.exports) (trait_and_macro world ++ (area_of fs ++ last)) (none-exports b.items.exports)
-      ∙ past (trait_and_macro world) (area_of fs ++ last) (none-any fs (item.Trait (guest_trait fs) ∷ item.ModuleMacro (world_macro world) ∷ []) refl)
-      ∙ past (area_of fs) last (none-area (list_any (λ f. needs_area f.result) fs))
+      ap runtime_in (b.items.are ∙ own-first r.types ts b.items.wrappers b.items.exports world last)
+      ∙ skip-runtime ts (map item.Import b.items.wrappers ++ (flat_map export_items b.items.exports ++ (trait_and_macro r.types world ++ (area_of b.items.exports ++ last))))
+      ∙ past (map item.Import b.items.wrappers) (flat_map export_items b.items.exports ++ (trait_and_macro r.types world ++ (area_of b.items.exports ++ last))) (none-imports b.items.wrappers)
+      ∙ past (flat_map export_items b.items.exports) (trait_and_macro r.types world ++ (area_of b.items.exports ++ last)) (none-exports b.items.exports)
+      ∙ past (trait_and_macro r.types world) (area_of b.items.exports ++ last) (none-any fs (item.Trait (guest_trait fs) ∷ item.ModuleMacro (world_macro r.types world) ∷ []) refl)
+      ∙ past (area_of b.items.exports) last (none-area (file_area (areas_of b.items.exports)))
       ∙ runtime-append (runtime_module asked_part) (last_macro world)
       ∙ ap (λ is. runtime_in (runtime_module asked_part) ++ is) (none-any fs (item.RootMacro (file_macro world) ∷ []) refl)
       ∙ append-nil (runtime_in (runtime_module asked_part)) ∙ of-module asked_part

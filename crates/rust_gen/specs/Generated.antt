@@ -10,9 +10,8 @@ use Rattle.rust_tree.specs.Text.{text}
 use Rattle.rust_tree.specs.Tree.{Tree}
 use Rattle.rust_tree.specs.WellNamed.{are_well_named}
 use Rattle.gen_accept.specs.declared.opts.Opts.{Opts}
-use Rattle.rust_gen.specs.Body.{IsWritten}
+use Rattle.rust_gen.specs.Body.{ArePartsWritten, IsWritten}
 use Rattle.rust_gen.specs.Bound.{Binds}
-use Rattle.rust_gen.specs.ExportBody.{ArePartsWritten}
 use Rattle.rust_gen.specs.Faithful.{AreFaithful}
 use Rattle.rust_gen.specs.Served.{Serves, runtime_in}
 use Rattle.rust_gen.specs.Wrapper.{Wraps, WrapsParts}
@@ -30,18 +29,18 @@ pub record Gains (old new : List Entry) (name bytes : Bytes) : Type 0 where
   pub gained : entry_of new name ≡ Some (unwrap_or (entry_of old name) [] ++ bytes)
   pub others : (other : Bytes) → other ≢ name → entry_of new other ≡ entry_of old other
 
--- each wrapper is written as the format says: its locals and their numbers, its statements, and no declaration that nobody calls
+-- the body of each wrapper is the driver's code for its function
 abbrev pub AreWritten : Opts → Resolve → WorldId → World → Tree → Type 0
-AreWritten opts r id world tree = Binds IsWritten ArePartsWritten opts r id world tree
+AreWritten opts r id world tree = Binds (IsWritten r.types) (ArePartsWritten r.types) opts r id world tree
 
--- the tree is that of a world: it holds the definitions of the world's own types, and a wrapper for each function, which from outside has the signature and the core import or the
--- method of its function, is written as the format says, and carries each call of it; `_rt` holds what its items ask for; and each name
--- is an identifier
+-- the tree is that of a world: it holds the definitions of the world's own types, and a wrapper for each function. From outside that has the
+-- signature and the core import or the method of its function, its body is the driver's code, and it carries each call of it. `_rt` holds
+-- what the items ask for; and each name is an identifier
 pub record IsTreeOf (opts : Opts) (r : Resolve) (id : WorldId) (world : World) (tree : Tree) : Type 0 where
-  pub bound : Binds Wraps WrapsParts opts r id world tree
+  pub bound : Binds (Wraps r.types) (WrapsParts r.types) opts r id world tree
   pub written : AreWritten opts r id world tree
   pub runtime : Serves (asked_in tree.items) (runtime_in tree.items)
-  pub faithful : AreFaithful world tree
+  pub faithful : AreFaithful r.types world tree
   pub well_named : are_well_named tree.options tree.items ≡ true
 
 -- the tree is that of the world of this id, and its text is in the file of the world's name

@@ -1,14 +1,12 @@
 pub mod Bound
 pub mod Body
-pub mod ExportBody
-pub mod ExportLifting
 pub mod Exported
 pub mod Faithful
+pub mod FixedName
 pub mod Generated
-pub mod Lowering
+pub mod Known
 pub mod OptionLines
 pub mod Runtime
-pub mod Scope
 pub mod Served
 pub mod Signature
 pub mod Wrapper

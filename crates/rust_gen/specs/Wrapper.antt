@@ -1,8 +1,12 @@
 -- How wrappers look from outside: that of an imported function has its signature and declares one core import; that of an
 -- exported function has its core signature and calls one method.
-use Rattle.std.specs.Prelude.{◌≡◌, Bool, true, false, List, [], ◌∷◌, Option, None, Some, codes, map}
+use Rattle.std.specs.Prelude.{◌≡◌, Bool, true, false, List, [], ◌∷◌, Option, None, Some, codes, is_some, map, option_to_list, slice_get}
+use Rattle.std.specs.List.{flat_map}
+use Rattle.wit_model.specs.Bytes.{Bytes}
 use Rattle.wit_model.specs.declared.function.Function.{Function}
 use Rattle.wit_model.specs.declared.function.Param.{Param}
+use Rattle.wit_model.specs.declared.types.TypeDef.{TypeDef}
+use Rattle.wit_model.specs.declared.wasm_type.WasmType.{WasmType}
 use Rattle.rust_tree.specs.declared.export.ExportFn.{ExportFn}
 use Rattle.rust_tree.specs.declared.export.PostReturnFn.{PostReturnFn}
 use Rattle.rust_tree.specs.declared.item.FnItem.{FnItem}
@@ -13,53 +17,72 @@ use Rattle.rust_tree.specs.declared.stmt.Stmt.TheVariants as stmt
 use Rattle.rust_tree.specs.Ident.{rust_ident}
 use Rattle.gen_accept.specs.Area.{needs_area}
 use Rattle.type_defs.specs.Docs.{doc_lines}
-use Rattle.rust_gen.specs.Exported.{export_params, export_result, return_params}
-use Rattle.rust_gen.specs.Signature.{param_type, printed_result, core_params, core_result}
+use Rattle.wrapper_faithful.specs.Passed.{passed}
+use Rattle.wrapper_meaning.specs.Areas.{result_record}
+use Rattle.wrapper_meaning.specs.Shape.{result_shape}
+use Rattle.abi_driver.specs.Area.{AreFor}
+use Rattle.abi_driver.specs.declared.bindgen.Asked.{Asked}
+use Rattle.abi_driver.specs.Calls.{import_params, import_results}
+use Rattle.wrapper_closing.specs.Params.{export_args, result_types, return_args}
+use Rattle.rust_gen.specs.Signature.{param_type, printed_result}
 
 abbrev pub printed_param : Param → FnParam
 printed_param p = record { name = rust_ident p.name; ty = param_type p.ty }
 
--- the core imports that statements declare
+-- the module of the core imports of a world's own functions
+unfoldable pub root_module : Bytes
+root_module = codes "$root"
+
+-- the core import that a statement declares, if it declares one
+abbrev pub declared_by : Stmt → List ImportDecl
+declared_by (stmt.Import decl) = decl ∷ []
+declared_by _ = []
+
 abbrev pub declared : List Stmt → List ImportDecl
-declared [] = []
-declared (stmt.Import decl ∷ stmts) = decl ∷ declared stmts
-declared (stmt.Let _ _ ∷ stmts) = declared stmts
-declared (stmt.Expr _ ∷ stmts) = declared stmts
-declared (stmt.Area _ ∷ stmts) = declared stmts
-declared (stmt.Store _ _ _ _ ∷ stmts) = declared stmts
-declared (stmt.StoreSmall _ _ _ _ ∷ stmts) = declared stmts
-declared (stmt.LetParts _ _ ∷ stmts) = declared stmts
+declared stmts = flat_map declared_by stmts
 
 -- a declaration of the core import of a function of the world
-pub record Declares (f : Function) (decl : ImportDecl) : Type 0 where
-  pub of_root : decl.module ≡ codes "$root"
+pub record Declares (types : List TypeDef) (f : Function) (decl : ImportDecl) : Type 0 where
+  pub of_root : decl.module ≡ root_module
   pub of_name : decl.link_name ≡ f.name.wit
-  pub params : decl.params ≡ core_params f
-  pub answer : decl.result ≡ core_result f.result
+  pub params : decl.params ≡ import_params types f
+  pub answer : option_to_list decl.result ≡ import_results types f
 
-pub record Wraps (f : Function) (item : FnItem) : Type 0 where
+-- exactly one core import is declared, which is that of the function
+abbrev pub DeclaresOne : List TypeDef → Function → List Stmt → Type 0
+DeclaresOne types f stmts = (decl : ImportDecl) × (declared stmts ≡ decl ∷ []) × Declares types f decl
+
+pub record Wraps (types : List TypeDef) (f : Function) (item : FnItem) : Type 0 where
   pub docs : item.docs ≡ doc_lines f.docs
   pub name : item.name ≡ rust_ident f.name
   pub params : item.params ≡ map printed_param f.params
   pub answer : item.result ≡ printed_result f.result
-  pub declares : (decl : ImportDecl) × (declared item.body.stmts ≡ decl ∷ []) × Declares f decl
+  pub declares : DeclaresOne types f item.body.stmts
 
-pub record WrapsExport (f : Function) (e : ExportFn) : Type 0 where
+-- the core result of an export, if it has one
+abbrev pub export_result : List TypeDef → Function → Option WasmType
+export_result types f = slice_get (result_types (passed types f)) 0
+
+-- its call block keeps a value where the function has one
+pub record WrapsExport (types : List TypeDef) (f : Function) (e : ExportFn) : Type 0 where
   pub base : e.base ≡ f.name.snake
   pub bound : e.bound ≡ codes "Guest"
-  pub params : e.params ≡ export_params f
-  pub answer : e.result ≡ export_result f.result
+  pub params : e.params ≡ export_args (passed types f)
+  pub answer : e.result ≡ export_result types f
   pub calls : e.call.method ≡ rust_ident f.name
+  pub keeps : is_some e.call.result ≡ is_some f.result
 
-pub record WrapsReturn (f : Function) (p : PostReturnFn) : Type 0 where
+pub record WrapsReturn (types : List TypeDef) (f : Function) (p : PostReturnFn) : Type 0 where
   pub base : p.base ≡ f.name.snake
   pub bound : p.bound ≡ codes "Guest"
-  pub params : p.params ≡ return_params
+  pub params : p.params ≡ return_args (passed types f)
 
 -- a post-return function stands where the result passes by an area
-abbrev pub HasReturn : Bool → Function → Option PostReturnFn → Type 0
-HasReturn true f p = (q : PostReturnFn) × (p ≡ Some q) × WrapsReturn f q
-HasReturn false f p = p ≡ None
+abbrev pub HasReturn : List TypeDef → Bool → Function → Option PostReturnFn → Type 0
+HasReturn types true f p = (q : PostReturnFn) × (p ≡ Some q) × WrapsReturn types f q
+HasReturn types false f p = p ≡ None
 
-abbrev pub WrapsParts : Function → ExportFn × Option PostReturnFn → Type 0
-WrapsParts f parts = WrapsExport f parts.0 × HasReturn (needs_area f.result) f parts.1
+-- and the area that is needed is that of the result
+abbrev pub WrapsParts : List TypeDef → Function → ExportFn × Option PostReturnFn × Option Asked → Type 0
+WrapsParts types f parts =
+    WrapsExport types f parts.0 × HasReturn types (needs_area f.result) f parts.1 × AreFor (result_record (result_shape types f)) (option_to_list parts.2)

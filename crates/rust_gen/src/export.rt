@@ -1,183 +1,161 @@
 //! The wrapper of an exported function.
 
-ghost use Rattle.std.specs.Prelude.{◌≡◌, ◌++◌, ◌+◌, ◌^◌, ◌<◌, ◌∷◌, [], List, IfOk, OnOk, map};
-ghost use Rattle.rust_tree.specs.declared.expr.Expr.{Expr};
-ghost use Rattle.rust_tree.specs.declared.stmt.Stmt.{Stmt};
+ghost use Rattle.std.specs.Prelude.{◌≡◌, ◌∷◌, true, IfOk};
+ghost use Rattle.wit_model.specs.Distinct.{is_distinct};
+ghost use Rattle.wit_model.specs.IndexRange.{function_in_range};
+ghost use Rattle.wit_model.specs.WellFormed.{IsWellFormed};
 ghost use Rattle.rust_tree.specs.Ident.{rust_ident};
-ghost use Rattle.rust_gen.specs.ExportBody.{DeclaresValue, IsExportBody, IsExportWritten, LiftsParam, export_scope, scope_of, value_local, value_name};
-ghost use Rattle.gen_accept.specs.DeclaredNames.{guest_name};
-ghost use Rattle.rust_gen.specs.Exported.{arg_name, core_args, export_params, export_result};
-ghost use Rattle.rust_gen.specs.ExportLifting.{LiftsOne, LiftsParams};
-ghost use Rattle.rust_gen.specs.Scope.{Declares, numbered, ret_area};
-ghost use Rattle.rust_gen.specs.declared.scope.LocalKind.TheVariants as kind;
+ghost use Rattle.wrapper_closing.specs.Params.{arg_names, ret_area};
+ghost use Rattle.rust_gen.specs.Body.{AreExportParts, CallsMethodOf, IsCodeOf, IsExportCode, IsExportMade, IsExportOutside};
 
-use crate::exported::{arg_name, export_params, export_result, guest_name};
-use crate::give::lower_result;
-use crate::lift::{lift_scalar, lift_taken};
-use crate::scope::{LocalKind, Scope, numbered, scope_over};
-use gen_accept::word_count;
-use rust_tree::{Block, CallBlock, CoreParam, ExportFn, Expr, Stmt, to_rust_ident};
+use crate::exported::{export_result, guest_name};
+use crate::sizes::sizes;
+use abi_driver::Asked;
+use func_gen::Body;
+use rust_tree::{Block, CallBlock, CoreParam, ExportFn, RuntimeItem, to_rust_ident};
 use std::alloc::Global;
-use wit_model::{Function, List, OutOfMemory, Param, Text, WitType};
+use wit_model::{Function, List, OutOfMemory, Resolve};
+use wrapper_closing::{BodyParts, core_params, core_sites, export_body, ret_area};
 
-/// What the words of parameters are lifted to: statements, and the arguments of the call.
+/// The code of an export's wrapper.
 #[derive(Drop)]
-pub(crate) struct Lifted {
-    pub(crate) stmts: List<Stmt>,
-    pub(crate) arguments: List<Expr>,
+pub(crate) struct ExportCode {
+    /// The block that calls the method.
+    pub(crate) call: CallBlock,
+    /// What stands behind it.
+    pub(crate) rest: Block,
+    /// The area that it needs, if it needs one.
+    pub(crate) area: Option<Asked>,
+    /// The items of `_rt` that it asks for.
+    pub(crate) runtime: List<RuntimeItem>,
 }
 
-fn param_names(alloc: Global, params: &[CoreParam]) -> Result<List<Text>, OutOfMemory>
-    ensures { IfOk result (λ names. names ≡ map (λ p. p.name) params.now) }
-{
-    let mut names = List::new(alloc);
-    for p in params {
-        names.push(p.name.copy(alloc)?)?;
-    }
-    Ok(names)
-}
-
-/// The scope of a function with these core parameters at first, of which none has the area's name.
-#[tactic(auto, unfolding(crate::specs::Scope::ret_area))]
-pub(crate) fn scope_of(alloc: Global, params: &[CoreParam]) -> Result<Scope, OutOfMemory>
-    ensures { IfOk result (λ scope. scope ≡ scope_of params.now) }
-{
-    let names = param_names(alloc, params)?;
-    let area = Text::from_str(alloc, "ret_area")?;
-    scope_over(alloc, names, &area)
-}
-
-fn export_scope(alloc: Global, f: &Function) -> Result<Scope, OutOfMemory>
-    ensures { IfOk result (λ scope. scope ≡ export_scope f.now) }
-{
-    let params = export_params(alloc, f)?;
-    scope_of(alloc, params.as_slice())
-}
-
-/// Lifts a parameter, whose words are numbered from `n`: statements behind others, and the value. There is no memory also
-/// where a number would pass a `u32`.
-fn lift_param(
+/// Of what the body of an exported function's wrapper with these core parameters is made, and that of its post-return function.
+pub(crate) fn export_parts(
     alloc: Global,
-    scope: &mut Scope,
-    n: u32,
-    ty: WitType,
-    stmts: &mut List<Stmt>,
-) -> Result<Expr, OutOfMemory>
-    ensures { IfOk result
-        (λ e. (more : List Stmt) × LiftsParam ty n scope.old more e scope.new × (stmts.new ≡ stmts.old ++ more)) }
+    resolve: &Resolve,
+    params: &[CoreParam],
+) -> Result<BodyParts, OutOfMemory>
+    requires well { IsWellFormed resolve.now }
+    requires distinct { is_distinct (ret_area ∷ arg_names params.now) ≡ true }
+    ensures { IfOk result (AreExportParts resolve.now.types params.now) }
 {
-    let name = arg_name(alloc, n)?;
-    match ty {
-        WitType::String => {
-            let second = n.checked_add(1).ok_or(OutOfMemory)?;
-            let size = arg_name(alloc, second)?;
-            lift_taken(alloc, scope, name, size, stmts)
-        }
-        _ => lift_scalar(alloc, scope, ty, name, stmts),
-    }
-}
-
-/// Lifts a parameter to an argument behind those before it.
-fn lift_one(
-    alloc: Global,
-    scope: &mut Scope,
-    n: u32,
-    p: &Param,
-    body: &mut Lifted,
-) -> Result<(), OutOfMemory>
-    ensures { OnOk result (LiftsOne n scope.old body.old p.now scope.new body.new) }
-{
-    let e = lift_param(alloc, scope, n, p.ty, &mut body.stmts)?;
-    body.arguments.push(e)?;
-    Ok(())
-}
-
-/// Lifts the parameters, in order, whose words are numbered from `n`. There is no memory also where a number would pass a
-/// `u32`.
-#[tactic(auto, using(crate::proofs::LiftingLemmas::lifts_none, crate::proofs::LiftingLemmas::lifts_next))]
-fn lift_all(
-    alloc: Global,
-    scope: &mut Scope,
-    n: u32,
-    params: &[Param],
-    body: &mut Lifted,
-) -> Result<(), OutOfMemory>
-    ensures { OnOk result (LiftsParams n scope.old body.old params.now scope.new body.new) }
-{
-    match params.split_first() {
-        None => Ok(()),
-        Some((p, params)) => {
-            lift_one(alloc, scope, n, p, body)?;
-            let next = n.checked_add(word_count(p.ty)).ok_or(OutOfMemory)?;
-            lift_all(alloc, scope, next, params, body)?;
-            Ok(())
-        }
-    }
-}
-
-pub(crate) fn value_name(alloc: Global, t: u32) -> Result<Text, OutOfMemory>
-    ensures { IfOk result (λ name. name ≡ value_name t) }
-{
-    numbered(alloc, LocalKind::Result, t)
-}
-
-/// The number of the local that holds the method's value, where there is one; it means nothing where there is none.
-fn value_number(
-    alloc: Global,
-    scope: &mut Scope,
-    answer: &Option<WitType>,
-) -> Result<u32, OutOfMemory>
-    ensures { IfOk result (λ t. DeclaresValue answer.now scope.old t scope.new) }
-{
-    match answer {
-        None => Ok(0),
-        Some(_) => scope.declare(alloc, &[LocalKind::Result]),
-    }
-}
-
-fn value_local(alloc: Global, answer: &Option<WitType>, t: u32) -> Result<Option<Text>, OutOfMemory>
-    ensures { IfOk result (λ name. name ≡ value_local answer.now t) }
-{
-    match answer {
-        None => Ok(None),
-        Some(_) => Ok(Some(value_name(alloc, t)?)),
-    }
-}
-
-/// The block that calls the method, and what follows it.
-fn export_body(alloc: Global, f: &Function) -> Result<(CallBlock, Block), OutOfMemory>
-    ensures { IfOk result (λ body. IsExportBody f.now body.0 body.1) }
-{
-    let mut scope = export_scope(alloc, f)?;
-    let mut body = Lifted {
-        stmts: List::new(alloc),
-        arguments: List::new(alloc),
+    let parts = BodyParts {
+        sizes: sizes(alloc, resolve)?,
+        home: guest_name(alloc)?,
+        area: ret_area(alloc)?,
+        params: core_sites(alloc, params)?,
+        records: List::new(alloc),
     };
-    lift_all(alloc, &mut scope, 0, f.params.as_slice(), &mut body)?;
-    let Lifted { stmts, arguments } = body;
-    let t = value_number(alloc, &mut scope, &f.result)?;
-    let call = CallBlock {
-        result: value_local(alloc, &f.result, t)?,
+    Ok(parts)
+}
+
+/// The code that a body is. There is no memory also where it calls no method.
+fn code_of(body: Body) -> Result<ExportCode, OutOfMemory>
+    ensures { IfOk result (IsCodeOf body) }
+{
+    let Body {
+        call,
         stmts,
-        method: to_rust_ident(alloc, &f.name)?,
-        arguments,
-    };
-    let rest = lower_result(alloc, &mut scope, &f.result, t)?;
-    Ok((call, rest))
+        tail,
+        area,
+        runtime,
+    } = body;
+    match call {
+        None => Err(OutOfMemory),
+        Some(call) => Ok(ExportCode {
+            call,
+            rest: Block { stmts, tail },
+            area,
+            runtime,
+        }),
+    }
 }
 
-/// The wrapper of an exported function over scalars and texts.
-pub(crate) fn export_wrapper(alloc: Global, f: &Function) -> Result<ExportFn, OutOfMemory>
-    ensures { IfOk result (IsExportWritten f.now) }
+fn export_code(alloc: Global, resolve: &Resolve, f: &Function) -> Result<ExportCode, OutOfMemory>
+    requires well { IsWellFormed resolve.now }
+    requires within { function_in_range resolve.now f.now ≡ true }
+    ensures { IfOk result (IsExportCode resolve.now.types f.entry) }
 {
-    let (call, rest) = export_body(alloc, f)?;
-    let wrapper = ExportFn {
+    let params = core_params(alloc, resolve, f)?;
+    let parts = export_parts(alloc, resolve, params.as_slice())?;
+    let body = export_body(alloc, resolve, f, parts)?;
+    let code = code_of(body)?;
+    Ok(code)
+}
+
+/// Whether a block calls the method of a function, and keeps its value where it has one.
+fn calls(alloc: Global, f: &Function, call: &CallBlock) -> Result<bool, OutOfMemory>
+    ensures { IfOk result (λ b. b ≡ true → CallsMethodOf f.now call.now) }
+{
+    let method = to_rust_ident(alloc, &f.name)?;
+    Ok(call.method.as_str() == method.as_str() && call.result.is_some() == f.result.is_some())
+}
+
+fn export_fn(
+    alloc: Global,
+    resolve: &Resolve,
+    f: &Function,
+    call: CallBlock,
+    rest: Block,
+) -> Result<ExportFn, OutOfMemory>
+    requires well { IsWellFormed resolve.now }
+    requires within { function_in_range resolve.now f.now ≡ true }
+    ensures { IfOk result (IsExportOutside resolve.now.types f.now call rest) }
+{
+    Ok(ExportFn {
         base: f.name.snake.copy(alloc)?,
         bound: guest_name(alloc)?,
-        params: export_params(alloc, f)?,
-        result: export_result(&f.result),
+        params: core_params(alloc, resolve, f)?,
+        result: export_result(resolve, f),
         call,
         rest,
-    };
-    Ok(wrapper)
+    })
+}
+
+/// The same, where the block calls the method of the function. There is no memory also where it doesn't.
+fn calling_code(alloc: Global, resolve: &Resolve, f: &Function) -> Result<ExportCode, OutOfMemory>
+    requires well { IsWellFormed resolve.now }
+    requires within { function_in_range resolve.now f.now ≡ true }
+    ensures code { IfOk result (IsExportCode resolve.now.types f.entry) }
+    ensures calls { IfOk result (λ code. CallsMethodOf f.now code.call) }
+{
+    let code = export_code(alloc, resolve, f)?;
+    if calls(alloc, f, &code.call)? {
+        Ok(code)
+    } else {
+        Err(OutOfMemory)
+    }
+}
+
+/// The wrapper of an exported function over scalars and texts; the area that it needs, if it needs one; and the items of `_rt` that it asks for.
+#[derive(Drop)]
+pub(crate) struct ExportMade {
+    pub(crate) wrapper: ExportFn,
+    pub(crate) area: Option<Asked>,
+    pub(crate) runtime: List<RuntimeItem>,
+}
+
+/// The wrapper of an exported function over scalars and texts, and what it asks for.
+pub(crate) fn export_wrapper(
+    alloc: Global,
+    resolve: &Resolve,
+    f: &Function,
+) -> Result<ExportMade, OutOfMemory>
+    requires well { IsWellFormed resolve.now }
+    requires within { function_in_range resolve.now f.now ≡ true }
+    ensures { IfOk result (IsExportMade resolve.now.types f.now) }
+{
+    let ExportCode {
+        call,
+        rest,
+        area,
+        runtime,
+    } = calling_code(alloc, resolve, f)?;
+    let wrapper = export_fn(alloc, resolve, f, call, rest)?;
+    Ok(ExportMade {
+        wrapper,
+        area,
+        runtime,
+    })
 }

@@ -1,22 +1,30 @@
 //! The items by which a world exports its functions: the trait of their implementation, and the macros.
 
-ghost use Rattle.std.specs.Prelude.{◌≡◌, ◌++◌, ◌+◌, IfOk, OnOk, map};
+ghost use Rattle.std.specs.Prelude.{◌≡◌, ◌++◌, true, IfOk, OnOk, map};
 ghost use Rattle.std.specs.List.{flat_map};
-ghost use Rattle.gen_accept.specs.Emitted.{exported_functions};
+ghost use Rattle.wit_model.specs.IndexRange.{function_in_range};
+ghost use Rattle.wit_model.specs.WellFormed.{IsWellFormed};
 ghost use Rattle.gen_accept.specs.DeclaredNames.{guest_name};
-ghost use Rattle.rust_gen.specs.Exported.{area_of, arg_name, core_args, entries_of, export_entry, export_params, export_result, file_macro, guest_trait, last_macro, macro_name, post_return_name, return_entry, return_params, trait_and_macro, trait_fn, trait_param, world_macro};
+ghost use Rattle.gen_accept.specs.Emitted.{exported_functions};
+ghost use Rattle.func_gen.specs.Body.{needed};
+ghost use Rattle.wrapper_closing.specs.FileArea.{static_area};
+ghost use Rattle.rust_gen.specs.Bound.{area_items};
+ghost use Rattle.rust_gen.specs.Exported.{entries_of, export_entry, file_macro, guest_trait, last_macro, macro_name, post_return_name, return_entry, trait_and_macro, trait_fn, trait_param, world_macro};
+ghost use Rattle.rust_gen.specs.Known.{AreInRange};
+ghost use Rattle.rust_gen.specs.Wrapper.{export_result};
 
-use crate::area::static_area;
-use crate::core_signature::{core_type, param_words};
 use crate::signature::printed_result;
-use gen_accept::{any_needs_area, needs_area};
+use abi_driver::Asked;
+use func_gen::needed_area;
+use gen_accept::needs_area;
 use rust_tree::{
-    CoreParam, EntryKind, ExportEntry, FnParam, Item, ModuleMacro, RootMacro, TraitFn, TraitItem,
+    EntryKind, ExportEntry, FnParam, Item, ModuleMacro, RootMacro, StaticArea, TraitFn, TraitItem,
     to_rust_ident,
 };
 use std::alloc::Global;
 use type_defs::{doc_lines, one, printed_type};
-use wit_model::{Function, List, OutOfMemory, Param, Text, WasmType, WitType, World};
+use wit_model::{Function, List, OutOfMemory, Param, Resolve, Text, WasmType, World};
+use wrapper_closing::{core_params, core_result, post_return_params};
 
 /// The name of the trait.
 #[tactic(auto, unfolding(gen_accept::specs::DeclaredNames::guest_name))]
@@ -69,76 +77,28 @@ fn guest_trait(alloc: Global, functions: &[&Function]) -> Result<TraitItem, OutO
     })
 }
 
-/// The name of a core parameter, by its number.
-#[tactic(auto, unfolding(crate::specs::Exported::arg_prefix))]
-pub(crate) fn arg_name(alloc: Global, n: u32) -> Result<Text, OutOfMemory>
-    ensures { IfOk result (λ name. name ≡ arg_name n) }
-{
-    let mut name = Text::from_str(alloc, "arg")?;
-    name.push_number(u64::from(n))?;
-    Ok(name)
-}
-
-/// Puts core parameters that are numbered from `n` behind others. There is no memory also where a number would pass a `u32`.
-fn push_args(
-    alloc: Global,
-    args: &mut List<CoreParam>,
-    n: u32,
-    types: &[WasmType],
-) -> Result<(), OutOfMemory>
-    ensures { OnOk result (args.new ≡ args.old ++ core_args n types.now) }
-{
-    match types.split_first() {
-        None => Ok(()),
-        Some((ty, types)) => {
-            let name = arg_name(alloc, n)?;
-            args.push(CoreParam { name, ty: *ty })?;
-            let next = n.checked_add(1).ok_or(OutOfMemory)?;
-            push_args(alloc, args, next, types)
-        }
-    }
-}
-
-/// The core parameters of an exported function.
-pub(crate) fn export_params(alloc: Global, f: &Function) -> Result<List<CoreParam>, OutOfMemory>
-    ensures { IfOk result (λ params. params ≡ export_params f.now) }
-{
-    let types = param_words(alloc, f.params.as_slice())?;
-    let mut args = List::new(alloc);
-    push_args(alloc, &mut args, 0, types.as_slice())?;
-    Ok(args)
-}
-
 /// The core result of an exported function, if it has one.
-pub(crate) fn export_result(answer: &Option<WitType>) -> Option<WasmType>
-    ensures { result ≡ export_result answer.now }
+#[tactic(auto, using(crate::proofs::ResultLemmas::first_result))]
+pub(crate) fn export_result(resolve: &Resolve, f: &Function) -> Option<WasmType>
+    requires well { IsWellFormed resolve.now }
+    requires within { function_in_range resolve.now f.now ≡ true }
+    ensures { result ≡ export_result resolve.now.types f.now }
 {
-    match answer {
-        None => None,
-        Some(WitType::String) => Some(WasmType::Pointer),
-        Some(ty) => Some(core_type(*ty)),
-    }
+    core_result(resolve, f)
 }
 
-fn export_entry(alloc: Global, f: &Function) -> Result<ExportEntry, OutOfMemory>
-    ensures { IfOk result (λ entry. entry ≡ export_entry f.now) }
+fn export_entry(alloc: Global, resolve: &Resolve, f: &Function) -> Result<ExportEntry, OutOfMemory>
+    requires well { IsWellFormed resolve.now }
+    requires within { function_in_range resolve.now f.now ≡ true }
+    ensures { IfOk result (λ entry. entry ≡ export_entry resolve.now.types f.now) }
 {
     Ok(ExportEntry {
         kind: EntryKind::Wrapper,
         export_name: f.name.wit.copy(alloc)?,
         base: f.name.snake.copy(alloc)?,
-        params: export_params(alloc, f)?,
-        result: export_result(&f.result),
+        params: core_params(alloc, resolve, f)?,
+        result: export_result(resolve, f),
     })
-}
-
-/// The core parameters of a post-return function: the pointer that the wrapper returned.
-pub(crate) fn return_params(alloc: Global) -> Result<List<CoreParam>, OutOfMemory>
-    ensures { IfOk result (λ params. params ≡ return_params) }
-{
-    let mut args = List::new(alloc);
-    push_args(alloc, &mut args, 0, &[WasmType::Pointer])?;
-    Ok(args)
 }
 
 /// The export name of a post-return function.
@@ -151,14 +111,16 @@ fn post_return_name(alloc: Global, f: &Function) -> Result<Text, OutOfMemory>
     Ok(name)
 }
 
-fn return_entry(alloc: Global, f: &Function) -> Result<ExportEntry, OutOfMemory>
-    ensures { IfOk result (λ entry. entry ≡ return_entry f.now) }
+fn return_entry(alloc: Global, resolve: &Resolve, f: &Function) -> Result<ExportEntry, OutOfMemory>
+    requires well { IsWellFormed resolve.now }
+    requires within { function_in_range resolve.now f.now ≡ true }
+    ensures { IfOk result (λ entry. entry ≡ return_entry resolve.now.types f.now) }
 {
     Ok(ExportEntry {
         kind: EntryKind::PostReturn,
         export_name: post_return_name(alloc, f)?,
         base: f.name.snake.copy(alloc)?,
-        params: return_params(alloc)?,
+        params: post_return_params(alloc, resolve, f)?,
         result: None,
     })
 }
@@ -166,25 +128,34 @@ fn return_entry(alloc: Global, f: &Function) -> Result<ExportEntry, OutOfMemory>
 /// Puts the entries of a function behind others: that of its wrapper, and that of its post-return function if it has one.
 fn push_entries(
     alloc: Global,
+    resolve: &Resolve,
     entries: &mut List<ExportEntry>,
     f: &Function,
 ) -> Result<(), OutOfMemory>
-    ensures { OnOk result (entries.new ≡ entries.old ++ entries_of f.now) }
+    requires well { IsWellFormed resolve.now }
+    requires within { function_in_range resolve.now f.now ≡ true }
+    ensures { OnOk result (entries.new ≡ entries.old ++ entries_of resolve.now.types f.now) }
 {
-    entries.push(export_entry(alloc, f)?)?;
+    entries.push(export_entry(alloc, resolve, f)?)?;
     if needs_area(&f.result) {
-        entries.push(return_entry(alloc, f)?)?;
+        entries.push(return_entry(alloc, resolve, f)?)?;
     }
     Ok(())
 }
 
-fn export_entries(alloc: Global, functions: &[&Function]) -> Result<List<ExportEntry>, OutOfMemory>
+fn export_entries(
+    alloc: Global,
+    resolve: &Resolve,
+    functions: &[&Function],
+) -> Result<List<ExportEntry>, OutOfMemory>
+    requires well { IsWellFormed resolve.now }
+    requires within { AreInRange resolve.now (map (λ f. f.now) functions.now) }
     ensures { IfOk result
-        (λ entries. entries ≡ flat_map entries_of (map (λ f. f.now) functions.now)) }
+        (λ entries. entries ≡ flat_map (entries_of resolve.now.types) (map (λ f. f.now) functions.now)) }
 {
     let mut entries = List::new(alloc);
     for function in functions {
-        push_entries(alloc, &mut entries, function)?;
+        push_entries(alloc, resolve, &mut entries, function)?;
     }
     Ok(entries)
 }
@@ -200,15 +171,18 @@ fn macro_name(alloc: Global, world: &World) -> Result<Text, OutOfMemory>
 
 fn world_macro(
     alloc: Global,
+    resolve: &Resolve,
     world: &World,
     functions: &[&Function],
 ) -> Result<ModuleMacro, OutOfMemory>
-    requires { map (λ f. f.now) functions.now ≡ exported_functions world.now }
-    ensures { IfOk result (λ m. m ≡ world_macro world.now) }
+    requires well { IsWellFormed resolve.now }
+    requires within { AreInRange resolve.now (map (λ f. f.now) functions.now) }
+    requires exported { map (λ f. f.now) functions.now ≡ exported_functions world.now }
+    ensures { IfOk result (λ m. m ≡ world_macro resolve.now.types world.now) }
 {
     Ok(ModuleMacro {
         name: macro_name(alloc, world)?,
-        entries: export_entries(alloc, functions)?,
+        entries: export_entries(alloc, resolve, functions)?,
     })
 }
 
@@ -225,28 +199,40 @@ fn file_macro(alloc: Global, world: &World) -> Result<RootMacro, OutOfMemory>
 /// Puts the trait and the world's macro behind other items, where a function is exported.
 pub(crate) fn push_trait_and_macro(
     alloc: Global,
+    resolve: &Resolve,
     items: &mut List<Item>,
     world: &World,
     functions: &[&Function],
 ) -> Result<(), OutOfMemory>
-    requires { map (λ f. f.now) functions.now ≡ exported_functions world.now }
-    ensures { OnOk result (items.new ≡ items.old ++ trait_and_macro world.now) }
+    requires well { IsWellFormed resolve.now }
+    requires within { AreInRange resolve.now (map (λ f. f.now) functions.now) }
+    requires exported { map (λ f. f.now) functions.now ≡ exported_functions world.now }
+    ensures { OnOk result (items.new ≡ items.old ++ trait_and_macro resolve.now.types world.now) }
 {
     if functions.is_empty() {
         return Ok(());
     }
     items.push(Item::Trait(guest_trait(alloc, functions)?))?;
-    items.push(Item::ModuleMacro(world_macro(alloc, world, functions)?))
+    items.push(Item::ModuleMacro(world_macro(alloc, resolve, world, functions)?))
 }
 
-/// Puts the static area of the exported functions' results behind other items, where a result passes by it.
-pub(crate) fn push_area(items: &mut List<Item>, functions: &[&Function]) -> Result<(), OutOfMemory>
-    ensures { OnOk result (items.new ≡ items.old ++ area_of (map (λ f. f.now) functions.now)) }
+fn static_area(area: Option<Asked>) -> Option<StaticArea>
+    ensures { result ≡ static_area area }
 {
-    if any_needs_area(functions) {
-        items.push(Item::Area(static_area()))
-    } else {
-        Ok(())
+    match area {
+        None => None,
+        Some(Asked { size, align }) => Some(StaticArea { size, align }),
+    }
+}
+
+/// Puts the static area for these areas of exported functions behind other items, if there are any. There is no memory also where it is of no
+/// size that a memory has.
+pub(crate) fn push_area(items: &mut List<Item>, areas: &[Asked]) -> Result<(), OutOfMemory>
+    ensures { OnOk result (items.new ≡ items.old ++ area_items (static_area (needed areas.now))) }
+{
+    match static_area(needed_area(areas)?) {
+        None => Ok(()),
+        Some(area) => items.push(Item::Area(area)),
     }
 }
 

@@ -1,15 +1,11 @@
 ghost use Rattle.std.specs.Prelude.{◌≡◌, true, IfOk, OnErr};
 ghost use Rattle.rust_tree.specs.Text.{text};
 ghost use Rattle.rust_tree.specs.WellNamed.{are_well_named};
-ghost use Rattle.rust_gen.specs.Body.{IsWritten};
+ghost use Rattle.rust_gen.specs.Body.{ArePartsWritten, IsWritten};
 ghost use Rattle.rust_gen.specs.Bound.{Binds};
 ghost use Rattle.gen_accept.specs.Cause.{IsAnswer, cause};
-ghost use Rattle.gen_accept.specs.DeclaredNames.{declares_well};
-ghost use Rattle.type_defs.specs.DefinedNames.{AreDefinable};
-ghost use Rattle.rust_gen.specs.ExportBody.{ArePartsWritten};
 ghost use Rattle.rust_gen.specs.Generated.{Gains, Generates, file_name};
-ghost use Rattle.gen_accept.specs.NameText.{is_written_world};
-ghost use Rattle.gen_accept.specs.TypeOpts.{type_opts};
+ghost use Rattle.rust_gen.specs.Known.{IsKnown};
 
 use crate::tree::bindings_of;
 use gen_accept::{GenError, Opts, accepted_world};
@@ -72,10 +68,8 @@ fn write_file(
     world: &World,
     files: &mut Files,
 ) -> Result<Bindings, OutOfMemory>
-    requires types { AreDefinable (type_opts opts.now) resolve.now id world.now }
-    requires written { is_written_world world.now ≡ true }
-    requires declared { declares_well opts.now resolve.now world.now ≡ true }
-    ensures bound { IfOk result (Binds IsWritten ArePartsWritten opts.now resolve.now id world.now) }
+    requires { IsKnown opts.now resolve.now id world.now }
+    ensures bound { IfOk result (Binds (IsWritten resolve.now.types) (ArePartsWritten resolve.now.types) opts.now resolve.now id world.now) }
     ensures named { IfOk result (λ tree. are_well_named tree.options tree.items ≡ true) }
     ensures gains { IfOk result (λ tree. Gains files.old files.new (file_name world.now) (text tree)) }
     ensures err { OnErr result (files.new ≡ files.old) }

@@ -1,21 +1,19 @@
 //! The generator: from a checked world and options to the tree of its bindings file and the file's text.
 #![tactic(auto)]
 
-mod area;
-mod core_signature;
+mod declared;
 mod export;
 mod exported;
-mod forms;
+mod fixed_name;
 mod generate;
-mod give;
-mod lift;
-mod lower;
+mod import;
 mod post_return;
 mod runtime;
-mod scope;
 mod signature;
+mod sites;
+mod sizes;
+mod sound;
 mod tree;
-mod wrapper;
 
 pub use gen_accept::{
     ChainingMode, Clash, Entry, ExportKey, GenError, Lack, MissingWith, Opts, TooLarge, WithOption,

@@ -1,69 +1,71 @@
 //! The post-return function of an exported function.
 
-ghost use Rattle.std.specs.Prelude.{◌≡◌, IfOk};
-ghost use Rattle.rust_gen.specs.ExportBody.{FreesText, IsReturnWritten, ReturnWritten, dealloc_call};
-ghost use Rattle.gen_accept.specs.Area.{needs_area};
+ghost use Rattle.std.specs.Prelude.{◌≡◌, true, IfOk};
+ghost use Rattle.wit_model.specs.IndexRange.{function_in_range};
+ghost use Rattle.wit_model.specs.WellFormed.{IsWellFormed};
+ghost use Rattle.rust_gen.specs.Body.{IsReturnCode, IsReturnMade, IsReturnOutside};
 
-use crate::export::scope_of;
-use crate::exported::{arg_name, guest_name, return_params};
-use crate::forms::runtime_path;
-use crate::lift::push_load;
-use crate::scope::{LocalKind, numbered};
-use gen_accept::needs_area;
-use rust_tree::{Block, Expr, PostReturnFn, RuntimeItem, Stmt};
+use crate::export::export_parts;
+use crate::exported::guest_name;
+use func_gen::Body;
+use rust_tree::{Block, PostReturnFn, RuntimeItem};
 use std::alloc::Global;
-use wit_model::{ArchitectureSize, Function, List, OutOfMemory, WasmType};
+use wit_model::{Function, List, OutOfMemory, Resolve};
+use wrapper_closing::{post_return_body, post_return_params};
 
-/// The call that frees the bytes whose address and number these locals hold.
-fn dealloc_call(alloc: Global, a: u32, b: u32) -> Result<Expr, OutOfMemory>
-    ensures { IfOk result (λ e. e ≡ dealloc_call a b) }
+/// The block of a post-return function, and the items of `_rt` that it asks for. There is no memory also where the function is given nothing.
+fn return_code(
+    alloc: Global,
+    resolve: &Resolve,
+    f: &Function,
+) -> Result<(Block, List<RuntimeItem>), OutOfMemory>
+    requires well { IsWellFormed resolve.now }
+    requires within { function_in_range resolve.now f.now ≡ true }
+    ensures { IfOk result (λ made. IsReturnCode resolve.now.types f.now made.0 made.1) }
 {
-    let mut operands = List::new(alloc);
-    operands.push(Expr::Local(numbered(alloc, LocalKind::Loaded, a)?))?;
-    operands.push(Expr::Local(numbered(alloc, LocalKind::Loaded, b)?))?;
-    operands.push(Expr::Size(ArchitectureSize {
-        bytes: 1,
-        pointers: 0,
-    }))?;
-    let path = runtime_path(alloc, RuntimeItem::CabiDealloc)?;
-    Ok(Expr::Call(path, operands))
+    let params = post_return_params(alloc, resolve, f)?;
+    if params.is_empty() {
+        return Err(OutOfMemory);
+    }
+    let parts = export_parts(alloc, resolve, params.as_slice())?;
+    let Body {
+        stmts,
+        tail,
+        runtime,
+        ..
+    } = post_return_body(alloc, resolve, f, parts)?;
+    Ok((Block { stmts, tail }, runtime))
 }
 
-/// The address and the length of a text are loaded, and its block is freed.
-fn return_body(alloc: Global) -> Result<Block, OutOfMemory>
-    ensures { IfOk result FreesText }
+fn return_fn(
+    alloc: Global,
+    resolve: &Resolve,
+    f: &Function,
+    body: Block,
+) -> Result<PostReturnFn, OutOfMemory>
+    requires well { IsWellFormed resolve.now }
+    requires within { function_in_range resolve.now f.now ≡ true }
+    ensures { IfOk result (IsReturnOutside resolve.now.types f.now body) }
 {
-    let params = return_params(alloc)?;
-    let mut scope = scope_of(alloc, params.as_slice())?;
-    let base = arg_name(alloc, 0)?;
-    let mut stmts = List::new(alloc);
-    let a = scope.declare(alloc, &[LocalKind::Loaded])?;
-    push_load(alloc, &mut stmts, a, &base, 0, WasmType::Pointer)?;
-    let b = scope.declare(alloc, &[LocalKind::Loaded])?;
-    push_load(alloc, &mut stmts, b, &base, 1, WasmType::Length)?;
-    stmts.push(Stmt::Expr(dealloc_call(alloc, a, b)?))?;
-    Ok(Block { stmts, tail: None })
-}
-
-fn post_return_fn(alloc: Global, f: &Function) -> Result<PostReturnFn, OutOfMemory>
-    ensures { IfOk result (IsReturnWritten f.now) }
-{
-    let post_return = PostReturnFn {
+    Ok(PostReturnFn {
         base: f.name.snake.copy(alloc)?,
         bound: guest_name(alloc)?,
-        params: return_params(alloc)?,
-        body: return_body(alloc)?,
-    };
-    Ok(post_return)
+        params: post_return_params(alloc, resolve, f)?,
+        body,
+    })
 }
 
-/// The post-return function of an exported function, if its result passes by an area.
-pub(crate) fn post_return(alloc: Global, f: &Function) -> Result<Option<PostReturnFn>, OutOfMemory>
-    ensures { IfOk result (ReturnWritten (needs_area f.now.result) f.now) }
+/// The post-return function of an exported function, and the items of `_rt` that it asks for.
+pub(crate) fn post_return(
+    alloc: Global,
+    resolve: &Resolve,
+    f: &Function,
+) -> Result<(PostReturnFn, List<RuntimeItem>), OutOfMemory>
+    requires well { IsWellFormed resolve.now }
+    requires within { function_in_range resolve.now f.now ≡ true }
+    ensures { IfOk result (λ made. IsReturnMade resolve.now.types f.now made.0 made.1) }
 {
-    if needs_area(&f.result) {
-        Ok(Some(post_return_fn(alloc, f)?))
-    } else {
-        Ok(None)
-    }
+    let (body, runtime) = return_code(alloc, resolve, f)?;
+    let function = return_fn(alloc, resolve, f, body)?;
+    Ok((function, runtime))
 }

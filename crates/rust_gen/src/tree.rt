@@ -1,28 +1,33 @@
 //! The tree of a world's file.
 
-ghost use Rattle.std.specs.Prelude.{◌≡◌, ◌++◌, true, List, IfOk, OnOk, map};
+ghost use Rattle.std.specs.Prelude.{◌≡◌, ◌++◌, ◌∷◌, [], true, List, Option, IfOk, OnOk, map, option_to_list};
 ghost use Rattle.std.specs.List.{AllZip, flat_map};
+ghost use Rattle.wit_model.specs.Distinct.{is_distinct};
+ghost use Rattle.wit_model.specs.IndexRange.{function_in_range};
+ghost use Rattle.wit_model.specs.WellFormed.{IsWellFormed};
+ghost use Rattle.rust_tree.specs.declared.export.ExportFn.{ExportFn};
+ghost use Rattle.rust_tree.specs.declared.export.PostReturnFn.{PostReturnFn};
 ghost use Rattle.rust_tree.specs.declared.item.FnItem.{FnItem};
 ghost use Rattle.rust_tree.specs.declared.item.Item.TheVariants as item;
 ghost use Rattle.rust_tree.specs.WellNamed.{are_well_named};
-ghost use Rattle.rust_gen.specs.Body.{IsWritten};
-ghost use Rattle.rust_gen.specs.Bound.{AreItems, Binds, Parts, export_items};
-ghost use Rattle.gen_accept.specs.DeclaredNames.{declares_well};
-ghost use Rattle.type_defs.specs.DefinedNames.{AreDefinable};
+ghost use Rattle.gen_accept.specs.Area.{needs_area};
+ghost use Rattle.gen_accept.specs.DeclaredNames.{param_idents};
 ghost use Rattle.gen_accept.specs.Emitted.{emitted_places};
-ghost use Rattle.rust_gen.specs.ExportBody.{ArePartsWritten};
-ghost use Rattle.gen_accept.specs.NameText.{is_written_world};
+ghost use Rattle.rust_gen.specs.Body.{ArePartsWritten, IsExportWritten, IsReturnWritten, IsWritten, ReturnWritten};
+ghost use Rattle.rust_gen.specs.Bound.{AreItems, Binds, Parts, areas_of, export_items, return_items};
+ghost use Rattle.rust_gen.specs.Known.{AreInRange, HaveDistinctParams, IsKnown};
 ghost use Rattle.rust_gen.specs.OptionLines.{option_lines, unused_types_line};
 ghost use Rattle.rust_gen.specs.Runtime.{runtime_module};
-ghost use Rattle.gen_accept.specs.TypeOpts.{type_opts};
 
-use crate::export::export_wrapper;
+use crate::export::{ExportMade, export_wrapper};
 use crate::exported::{push_area, push_last_macro, push_trait_and_macro};
+use crate::import::import_wrapper;
 use crate::post_return::post_return;
 use crate::runtime::runtime_items;
-use crate::wrapper::import_wrapper;
-use gen_accept::{Opts, functions_in, places_in};
-use rust_tree::{Bindings, ExportFn, FuncPlace, Item, PostReturnFn, RuntimeItem, TypeItem};
+use crate::sound::test_at;
+use abi_driver::Asked;
+use gen_accept::{Opts, functions_in, needs_area, places_in};
+use rust_tree::{Bindings, FuncPlace, Item, RuntimeItem, TypeItem};
 use std::alloc::Global;
 use type_defs::{definitions_of, one};
 use wit_model::{Function, List, OutOfMemory, Resolve, Text, World, WorldId};
@@ -37,58 +42,152 @@ fn type_items(alloc: Global, types: List<TypeItem>) -> Result<List<Item>, OutOfM
     Ok(items)
 }
 
+/// Puts the wrapper of an imported function behind other items.
+fn push_import(
+    alloc: Global,
+    resolve: &Resolve,
+    items: &mut List<Item>,
+    f: &Function,
+) -> Result<(), OutOfMemory>
+    requires well { IsWellFormed resolve.now }
+    requires within { function_in_range resolve.now f.now ≡ true }
+    requires distinct { is_distinct (param_idents f.now) ≡ true }
+    ensures { OnOk result
+        ((w : FnItem) × (items.new ≡ items.old ++ item.Import w ∷ []) × IsWritten resolve.now.types f.now w) }
+{
+    let (wrapper, runtime) = import_wrapper(alloc, resolve, f)?;
+    let at = items.len();
+    items.push(Item::Import(wrapper))?;
+    test_at(alloc, items.as_slice(), at, runtime.as_slice())?;
+    Ok(())
+}
+
 fn push_imports(
     alloc: Global,
+    resolve: &Resolve,
     items: &mut List<Item>,
     functions: &[&Function],
 ) -> Result<(), OutOfMemory>
+    requires well { IsWellFormed resolve.now }
+    requires within { AreInRange resolve.now (map (λ f. f.now) functions.now) }
+    requires distinct { HaveDistinctParams (map (λ f. f.now) functions.now) }
     ensures { OnOk result
-        ((ws : List FnItem) × (items.new ≡ items.old ++ map item.Import ws) × AllZip IsWritten (map (λ f. f.now) functions.now) ws) }
+        ((ws : List FnItem) × (items.new ≡ items.old ++ map item.Import ws) × AllZip (IsWritten resolve.now.types) (map (λ f. f.now) functions.now) ws) }
 {
     for function in functions {
-        let wrapper = import_wrapper(alloc, function)?;
-        items.push(Item::Import(wrapper))?;
+        push_import(alloc, resolve, items, function)?;
     }
     Ok(())
 }
 
-fn push_parts(
+/// Puts the wrapper of an exported function behind other items, and answers the area that it needs, if it needs one.
+fn push_wrapper(
+    alloc: Global,
+    resolve: &Resolve,
     items: &mut List<Item>,
-    wrapper: ExportFn,
-    post_return: Option<PostReturnFn>,
-) -> Result<(), OutOfMemory>
-    ensures { OnOk result (items.new ≡ items.old ++ export_items (wrapper, post_return)) }
+    f: &Function,
+) -> Result<Option<Asked>, OutOfMemory>
+    requires well { IsWellFormed resolve.now }
+    requires within { function_in_range resolve.now f.now ≡ true }
+    ensures { IfOk result
+        (λ area. (e : ExportFn) × (items.new ≡ items.old ++ item.Export e ∷ []) × IsExportWritten resolve.now.types f.now e area) }
 {
+    let ExportMade {
+        wrapper,
+        area,
+        runtime,
+    } = export_wrapper(alloc, resolve, f)?;
+    let at = items.len();
     items.push(Item::Export(wrapper))?;
-    match post_return {
-        None => Ok(()),
-        Some(post_return) => items.push(Item::PostReturn(post_return)),
-    }
+    test_at(alloc, items.as_slice(), at, runtime.as_slice())?;
+    Ok(area)
 }
 
-/// Puts the wrapper of an exported function behind other items, and its post-return function if it has one.
-fn push_export(alloc: Global, items: &mut List<Item>, f: &Function) -> Result<(), OutOfMemory>
+/// Puts the post-return function of an exported function behind other items.
+fn push_returning(
+    alloc: Global,
+    resolve: &Resolve,
+    items: &mut List<Item>,
+    f: &Function,
+) -> Result<(), OutOfMemory>
+    requires well { IsWellFormed resolve.now }
+    requires within { function_in_range resolve.now f.now ≡ true }
     ensures { OnOk result
-        ((parts : Parts) × (items.new ≡ items.old ++ export_items parts) × ArePartsWritten f.now parts) }
+        ((p : PostReturnFn) × (items.new ≡ items.old ++ item.PostReturn p ∷ []) × IsReturnWritten resolve.now.types f.now p) }
 {
-    let wrapper = export_wrapper(alloc, f)?;
-    let post_return = post_return(alloc, f)?;
-    push_parts(items, wrapper, post_return)?;
+    let (function, runtime) = post_return(alloc, resolve, f)?;
+    let at = items.len();
+    items.push(Item::PostReturn(function))?;
+    test_at(alloc, items.as_slice(), at, runtime.as_slice())?;
     Ok(())
 }
 
+/// The same where its result passes by an area.
+fn push_post_return(
+    alloc: Global,
+    resolve: &Resolve,
+    items: &mut List<Item>,
+    f: &Function,
+) -> Result<(), OutOfMemory>
+    requires well { IsWellFormed resolve.now }
+    requires within { function_in_range resolve.now f.now ≡ true }
+    ensures { OnOk result
+        ((p : Option PostReturnFn) × (items.new ≡ items.old ++ return_items p) × ReturnWritten resolve.now.types (needs_area f.now.result) f.now p) }
+{
+    if needs_area(&f.result) {
+        push_returning(alloc, resolve, items, f)?;
+        Ok(())
+    } else {
+        Ok(())
+    }
+}
+
+fn push_needed(areas: &mut List<Asked>, area: Option<Asked>) -> Result<(), OutOfMemory>
+    ensures { OnOk result (areas.new ≡ areas.old ++ option_to_list area) }
+{
+    match area {
+        None => Ok(()),
+        Some(area) => areas.push(area),
+    }
+}
+
+/// Puts the wrapper of an exported function behind other items, and its post-return function if it has one; and the area that it needs
+/// behind other areas.
+fn push_export(
+    alloc: Global,
+    resolve: &Resolve,
+    items: &mut List<Item>,
+    areas: &mut List<Asked>,
+    f: &Function,
+) -> Result<(), OutOfMemory>
+    requires well { IsWellFormed resolve.now }
+    requires within { function_in_range resolve.now f.now ≡ true }
+    ensures { OnOk result
+        ((parts : Parts) × (items.new ≡ items.old ++ export_items parts) × (areas.new ≡ areas.old ++ option_to_list parts.2) × ArePartsWritten resolve.now.types f.now parts) }
+{
+    let area = push_wrapper(alloc, resolve, items, f)?;
+    push_post_return(alloc, resolve, items, f)?;
+    push_needed(areas, area)?;
+    Ok(())
+}
+
+/// Puts the wrappers of exported functions behind other items, and answers the areas that they need.
 fn push_exports(
     alloc: Global,
+    resolve: &Resolve,
     items: &mut List<Item>,
     functions: &[&Function],
-) -> Result<(), OutOfMemory>
-    ensures { OnOk result
-        ((es : List Parts) × (items.new ≡ items.old ++ flat_map export_items es) × AllZip ArePartsWritten (map (λ f. f.now) functions.now) es) }
+) -> Result<List<Asked>, OutOfMemory>
+    requires well { IsWellFormed resolve.now }
+    requires within { AreInRange resolve.now (map (λ f. f.now) functions.now) }
+    ensures { IfOk result
+        (λ areas. (es : List Parts) × (items.new ≡ items.old ++ flat_map export_items es) × (areas ≡ flat_map option_to_list (areas_of es)) × AllZip (ArePartsWritten resolve.now.types) (map (λ f. f.now) functions.now) es) }
 {
+    let mut areas = List::new(alloc);
     for function in functions {
-        push_export(alloc, items, function)?;
+        push_export(alloc, resolve, items, &mut areas, function)?;
     }
-    Ok(())
+    Ok(areas)
 }
 
 fn push_runtime(items: &mut List<Item>, asked: List<RuntimeItem>) -> Result<(), OutOfMemory>
@@ -108,17 +207,17 @@ fn world_items(
     id: WorldId,
     world: &World,
 ) -> Result<List<Item>, OutOfMemory>
-    requires { AreDefinable (type_opts opts.now) resolve.now id world.now }
-    ensures { IfOk result (AreItems IsWritten ArePartsWritten opts.now resolve.now id world.now) }
+    requires { IsKnown opts.now resolve.now id world.now }
+    ensures { IfOk result (AreItems (IsWritten resolve.now.types) (ArePartsWritten resolve.now.types) opts.now resolve.now id world.now) }
 {
     let imports = functions_in(alloc, world.imports.as_slice())?;
     let exports = functions_in(alloc, world.exports.as_slice())?;
     let types = definitions_of(alloc, opts.type_opts(), resolve, id, world)?;
     let mut items = type_items(alloc, types)?;
-    push_imports(alloc, &mut items, imports.as_slice())?;
-    push_exports(alloc, &mut items, exports.as_slice())?;
-    push_trait_and_macro(alloc, &mut items, world, exports.as_slice())?;
-    push_area(&mut items, exports.as_slice())?;
+    push_imports(alloc, resolve, &mut items, imports.as_slice())?;
+    let areas = push_exports(alloc, resolve, &mut items, exports.as_slice())?;
+    push_trait_and_macro(alloc, resolve, &mut items, world, exports.as_slice())?;
+    push_area(&mut items, areas.as_slice())?;
     let asked = runtime_items(alloc, items.as_slice())?;
     push_runtime(&mut items, asked)?;
     push_last_macro(alloc, &mut items, world, exports.as_slice())?;
@@ -160,10 +259,8 @@ pub(crate) fn bindings_of(
     id: WorldId,
     world: &World,
 ) -> Result<Bindings, OutOfMemory>
-    requires types { AreDefinable (type_opts opts.now) resolve.now id world.now }
-    requires written { is_written_world world.now ≡ true }
-    requires declared { declares_well opts.now resolve.now world.now ≡ true }
-    ensures bound { IfOk result (Binds IsWritten ArePartsWritten opts.now resolve.now id world.now) }
+    requires { IsKnown opts.now resolve.now id world.now }
+    ensures bound { IfOk result (Binds (IsWritten resolve.now.types) (ArePartsWritten resolve.now.types) opts.now resolve.now id world.now) }
     ensures named { IfOk result (λ tree. are_well_named tree.options tree.items ≡ true) }
 {
     let items = world_items(alloc, opts, resolve, id, world)?;

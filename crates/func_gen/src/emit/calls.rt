@@ -1,20 +1,20 @@
 //! A core import is declared and called.
 
-ghost use Rattle.std.specs.Prelude.{◌≡◌, [], true, length, option_to_list, IfOk, OnOk};
+ghost use Rattle.std.specs.Prelude.{◌≡◌, [], true, length, IfOk, OnOk};
 ghost use Rattle.wit_model.specs.IndexRange.{function_in_range};
 ghost use Rattle.wit_model.specs.WellFormed.{IsWellFormed};
-ghost use Rattle.abi_driver.specs.Calls.{import_params, import_results};
+ghost use Rattle.abi_driver.specs.Calls.{import_params};
 ghost use Rattle.abi_driver.specs.Instructions.{Emits};
 ghost use Rattle.abi_driver.specs.declared.instruction.Instruction.TheVariants as instruction;
 ghost use Rattle.func_gen.specs.CallForms.{AddsCall, AddsStatement, exprs, import_of, local_path};
 ghost use Rattle.func_gen.specs.Meaning.{func_meaning};
 
+use crate::core_words::{import_params, import_result};
 use crate::function_bindgen::FunctionBindgen;
 use crate::operand::{ExprOperand, copy_expr};
 use crate::scope::{LocalName, numbered};
 use rust_tree::{Expr, ImportDecl, Path, Stmt};
 use std::alloc::Global;
-use wit_layout::{AbiVariant, wasm_signature};
 use wit_model::{Function, List, OutOfMemory, Resolve, Text, WasmType};
 
 impl FunctionBindgen {
@@ -32,9 +32,9 @@ impl FunctionBindgen {
         requires empty { results.old ≡ [] }
         ensures { OnOk result (Emits func_meaning resolve.now.types (instruction.CallWasm func.entry) operands.now results.new self.old self.new) }
     {
-        let params = core_params(self.alloc, resolve, func)?;
+        let params = import_params(self.alloc, resolve, func)?;
         let arguments = expressions(self.alloc, operands.as_slice())?;
-        match core_result(resolve, func) {
+        match import_result(resolve, func) {
             None => {
                 self.add_statement(func, params, arguments)?;
                 Ok(())
@@ -147,39 +147,4 @@ pub(crate) fn expressions(
         es.push(copy_expr(&operand.expr, alloc)?)?;
     }
     Ok(es)
-}
-
-/// The core words that an import is passed.
-fn core_params(
-    alloc: Global,
-    resolve: &Resolve,
-    func: &Function,
-) -> Result<List<WasmType>, OutOfMemory>
-    requires well { IsWellFormed resolve.now }
-    requires within { function_in_range resolve.now func.now ≡ true }
-    ensures { IfOk result (λ params. params ≡ import_params resolve.now.types func.now) }
-{
-    let told = wasm_signature(resolve, AbiVariant::GuestImport, func).params;
-    let mut params = List::new(alloc);
-    for word in &told.words[..told.count as usize] {
-        params.push(*word)?;
-    }
-    if told.more {
-        params.push(WasmType::Pointer)?;
-        return Ok(params);
-    }
-    Ok(params)
-}
-
-/// The core word that an import answers, if there is one.
-fn core_result(resolve: &Resolve, func: &Function) -> Option<WasmType>
-    requires well { IsWellFormed resolve.now }
-    requires within { function_in_range resolve.now func.now ≡ true }
-    ensures { option_to_list result ≡ import_results resolve.now.types func.now }
-{
-    let signature = wasm_signature(resolve, AbiVariant::GuestImport, func);
-    if signature.results.count == 0 {
-        return None;
-    }
-    Some(signature.results.words[0])
 }

@@ -1,8 +1,7 @@
 use Rattle.std.proofs.Common.{◌∙◌, ap, subst, sym}
 use Rattle.rust_tree.specs.WellNamed.{are_well_named}
-use Rattle.rust_gen.specs.Body.{IsWritten}
+use Rattle.rust_gen.specs.Body.{ArePartsWritten, IsWritten}
 use Rattle.rust_gen.specs.Bound.{AreItems}
-use Rattle.rust_gen.specs.ExportBody.{ArePartsWritten}
 use Rattle.rust_gen.proofs.NamedLemmas.{tree-named}
 use Rattle.rust_gen.proofs.TreeLemmas.{places_fit}
 use Rattle.rust_gen.proofs.tree.bindings_of.Goals as goal
@@ -10,17 +9,19 @@ use Rattle.rust_gen.proofs.tree.bindings_of.Goals as goal
 pub new-requires : goal.new-requires
 new-requires c = record {
   placed = places_fit c.args.opts.now c.args.resolve.now c.args.id c.args.world.now _ _ c.in_ok-items.ensures c.in_ok-places.ensures;
-  named = tree-named c.args.opts.now c.args.resolve.now c.args.id c.args.world.now _ _ c.requires.types c.requires.written c.requires.declared c.in_ok-options.ensures c.in_ok-items.ensures;
+  named = tree-named c.args.opts.now c.args.resolve.now c.args.id c.args.world.now _ _ c.requires c.in_ok-options.ensures c.in_ok-items.ensures;
 }
 
 pub returns-clause-bound : goal.returns-clause-bound
-returns-clause-bound c = record {
-  items = subst (AreItems IsWritten ArePartsWritten c.args.opts.now c.args.resolve.now c.args.id c.args.world.now) (sym (ap (λ t. t.items) c.in_ok-tree.ensures)) c.in_ok-items.ensures;
-  places = ap (λ t. t.places) c.in_ok-tree.ensures ∙ c.in_ok-places.ensures;
-  options = ap (λ t. t.options) c.in_ok-tree.ensures ∙ c.in_ok-options.ensures;
-}
+returns-clause-bound c =
+    let types = c.args.resolve.now.types in
+    record {
+      items = subst (AreItems (IsWritten types) (ArePartsWritten types) c.args.opts.now c.args.resolve.now c.args.id c.args.world.now) (sym (ap (λ t. t.items) c.in_ok-tree.ensures)) c.in_ok-items.ensures;
+      places = ap (λ t. t.places) c.in_ok-tree.ensures ∙ c.in_ok-places.ensures;
+      options = ap (λ t. t.options) c.in_ok-tree.ensures ∙ c.in_ok-options.ensures;
+    }
 
 pub returns-clause-named : goal.returns-clause-named
 returns-clause-named c =
     ap (λ t. are_well_named t.options t.items) c.in_ok-tree.ensures
-    ∙ tree-named c.args.opts.now c.args.resolve.now c.args.id c.args.world.now _ _ c.requires.types c.requires.written c.requires.declared c.in_ok-options.ensures c.in_ok-items.ensures
+    ∙ tree-named c.args.opts.now c.args.resolve.now c.args.id c.args.world.now _ _ c.requires c.in_ok-options.ensures c.in_ok-items.ensures

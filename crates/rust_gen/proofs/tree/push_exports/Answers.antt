@@ -1,7 +1,12 @@
-use Rattle.std.proofs.Common.{[], ◌∷◌, ◌++◌, arith}
-use Rattle.rust_gen.specs.ExportBody.{ArePartsWritten}
-use Rattle.rust_gen.proofs.TreeLemmas.{items-more, wraps-more}
+use Rattle.std.proofs.Common.{◌≡◌, true, [], ◌∷◌, ◌++◌, arith}
+use Rattle.wit_model.specs.IndexRange.{function_in_range}
+use Rattle.rust_gen.specs.Body.{ArePartsWritten}
+use Rattle.rust_gen.proofs.TreeLemmas.{areas-more, at-loop, items-more, wraps-more}
 use Rattle.rust_gen.proofs.tree.push_exports.Goals as goal
+
+pub push_export-requires-clause-within : goal.push_export-requires-clause-within
+push_export-requires-clause-within c =
+    at-loop (λ f. function_in_range c.args.resolve.now f ≡ true) c.args.functions.now c.requires.within c.loop-function.function-index c.function-item.result (omega arith) c.function-item.is
 
 pub loop-function-preserved : goal.loop-function-preserved
 loop-function-preserved c =
@@ -9,5 +14,6 @@ loop-function-preserved c =
     let more = c.in_ok-push_export.ensures in (
       before ++ more.0 ∷ [],
       items-more c.args.items.now before more.0 c.loop-function.items c.push_export.new.items c.loop-function.invariant.1 more.1,
-      wraps-more ArePartsWritten c.args.functions.now c.loop-function.function-index c.function-item.result before more.0 (omega arith) c.function-item.is c.loop-function.invariant.2 more.2,
+      areas-more before more.0 c.loop-function.areas c.push_export.new.areas c.loop-function.invariant.2 more.2,
+      wraps-more (ArePartsWritten c.args.resolve.now.types) c.args.functions.now c.loop-function.function-index c.function-item.result before more.0 (omega arith) c.function-item.is c.loop-function.invariant.3 more.3,
     )

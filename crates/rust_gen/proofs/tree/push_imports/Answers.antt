@@ -1,15 +1,26 @@
-use Rattle.std.proofs.Common.{[], ◌∷◌, ◌++◌, ◌∙◌, ap, sym, append_assoc, arith}
+use Rattle.std.proofs.Common.{◌≡◌, true, [], ◌∷◌, ◌++◌, ◌∙◌, ap, sym, append_assoc, arith}
 use Rattle.std.proofs.lemmas.List.{map-append}
+use Rattle.wit_model.specs.Distinct.{is_distinct}
+use Rattle.wit_model.specs.IndexRange.{function_in_range}
 use Rattle.rust_tree.specs.declared.item.Item.TheVariants as item
+use Rattle.gen_accept.specs.DeclaredNames.{param_idents}
 use Rattle.rust_gen.specs.Body.{IsWritten}
-use Rattle.rust_gen.proofs.TreeLemmas.{wraps-more}
+use Rattle.rust_gen.proofs.TreeLemmas.{at-loop, wraps-more}
 use Rattle.rust_gen.proofs.tree.push_imports.Goals as goal
+
+pub push_import-requires-clause-within : goal.push_import-requires-clause-within
+push_import-requires-clause-within c =
+    at-loop (λ f. function_in_range c.args.resolve.now f ≡ true) c.args.functions.now c.requires.within c.loop-function.function-index c.function-item.result (omega arith) c.function-item.is
+
+pub push_import-requires-clause-distinct : goal.push_import-requires-clause-distinct
+push_import-requires-clause-distinct c =
+    at-loop (λ f. is_distinct (param_idents f) ≡ true) c.args.functions.now c.requires.distinct c.loop-function.function-index c.function-item.result (omega arith) c.function-item.is
 
 pub loop-function-preserved : goal.loop-function-preserved
 loop-function-preserved c =
     let before = c.loop-function.invariant.0 in
-    let w = c.in_ok-wrapper.wrapper in (
-      before ++ w ∷ [],
-      c.in_ok-push.ensures.ok ∙ ap (λ is. is ++ item.Import w ∷ []) c.loop-function.invariant.1 ∙ append_assoc c.args.items.now _ _ ∙ ap (λ is. c.args.items.now ++ is) (sym (map-append item.Import before (w ∷ []))),
-      wraps-more IsWritten c.args.functions.now c.loop-function.function-index c.function-item.result before w (omega arith) c.function-item.is c.loop-function.invariant.2 c.in_ok-wrapper.ensures,
+    let more = c.in_ok-push_import.ensures in (
+      before ++ more.0 ∷ [],
+      more.1 ∙ ap (λ is. is ++ item.Import more.0 ∷ []) c.loop-function.invariant.1 ∙ append_assoc c.args.items.now _ _ ∙ ap (λ is. c.args.items.now ++ is) (sym (map-append item.Import before (more.0 ∷ []))),
+      wraps-more (IsWritten c.args.resolve.now.types) c.args.functions.now c.loop-function.function-index c.function-item.result before more.0 (omega arith) c.function-item.is c.loop-function.invariant.2 more.2,
     )

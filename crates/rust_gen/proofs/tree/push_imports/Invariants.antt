@@ -7,4 +7,4 @@ use Rattle.rust_gen.proofs.tree.push_imports.Given as goal
 
 abbrev pub invariant-loop-function : goal.invariant-loop-function
 invariant-loop-function l =
-    (ws : List FnItem) × (l.items ≡ l.initial.items ++ map item.Import ws) × AllZip IsWritten (map (λ f. f.now) (take l.function-index l.functions)) ws
+    (ws : List FnItem) × (l.items ≡ l.initial.items ++ map item.Import ws) × AllZip (IsWritten l.resolve.types) (map (λ f. f.now) (take l.function-index l.functions)) ws

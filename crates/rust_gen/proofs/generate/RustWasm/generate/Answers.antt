@@ -1,21 +1,14 @@
 use Rattle.std.proofs.Common.{subst}
 use Rattle.rust_gen.specs.Generated.{Generates}
-use Rattle.gen_accept.proofs.AcceptedLemmas.{definable}
 use Rattle.rust_gen.proofs.FaithfulLemmas.{are_faithful}
-use Rattle.rust_gen.proofs.NamedLemmas.{accepted-names, well-named}
+use Rattle.rust_gen.proofs.KnownLemmas.{accepted-is-known, well-named}
 use Rattle.rust_gen.proofs.ServedLemmas.{serves}
 use Rattle.rust_gen.proofs.WrapperLemmas.{binds_wraps}
 use Rattle.rust_gen.proofs.generate.RustWasm.generate.Goals as goal
 
 pub write_file-requires : goal.write_file-requires
 write_file-requires c =
-    let found = c.in_ok-accepted.ensures.world in
-    let names = accepted-names c.self.inside.opts c.args.resolve.now c.args.world.0 c.in_ok-accepted.accepted.now found c.in_ok-accepted.ensures.accepted in
-    record {
-      types = definable c.self.inside.opts c.args.resolve.now c.args.world c.in_ok-accepted.accepted.now c.in_ok-accepted.ensures.checked c.in_ok-accepted.ensures.built c.in_ok-accepted.ensures.accepted found;
-      written = names.0;
-      declared = names.1;
-    }
+    accepted-is-known c.self.inside.opts c.args.resolve.now c.args.world c.in_ok-accepted.accepted.now c.in_ok-accepted.ensures.checked c.in_ok-accepted.ensures.built c.in_ok-accepted.ensures.accepted c.in_ok-accepted.ensures.world
 
 pub returns-clause-ok : goal.returns-clause-ok
 returns-clause-ok c =

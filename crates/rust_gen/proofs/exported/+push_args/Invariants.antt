@@ -1,5 +1,0 @@
-use Rattle.std.proofs.Common.{length}
-use Rattle.rust_gen.proofs.exported.+push_args.Given as goal
-
-abbrev pub decreases-push_args : goal.decreases-push_args
-decreases-push_args l = length l.types.now
