@@ -1,5 +1,5 @@
 -- Which tables and options hold only what the generator builds so far.
-use Rattle.std.specs.Prelude.{Bool, true, false, not, ◌&&◌, ◌==◌, nat_le, List, [], ◌∷◌, length, Option, None, Some, is_none}
+use Rattle.std.specs.Prelude.{Bool, true, false, not, ◌&&◌, ◌==◌, List, [], ◌∷◌, Option, None, Some, is_none}
 use Rattle.std.specs.List.{list_all}
 use Rattle.wit_model.specs.declared.types.WitType.{WitType}
 use Rattle.wit_model.specs.declared.types.WitType.TheVariants as wit
@@ -14,7 +14,6 @@ use Rattle.wit_model.specs.declared.world.WorldItem.{WorldItem}
 use Rattle.wit_model.specs.declared.world.WorldItem.TheVariants as item
 use Rattle.wit_model.specs.declared.world.World.{World}
 use Rattle.wit_model.specs.declared.resolve.Resolve.{Resolve}
-use Rattle.gen_accept.specs.CoreWords.{param_words}
 use Rattle.gen_accept.specs.declared.opts.Opts.{Opts}
 use Rattle.type_defs.specs.Modes.{is_owning}
 
@@ -44,10 +43,8 @@ abbrev pub is_freestanding : FunctionKind → Bool
 is_freestanding kind.Freestanding = true
 is_freestanding _ = false
 
--- sixteen core values are passed one by one
 abbrev pub is_built_function : Function → Bool
-is_built_function f =
-    is_freestanding f.kind && nat_le (length (param_words f.params)) 16 && list_all (λ p. is_built_type p.ty) f.params && is_built_result f.result
+is_built_function f = is_freestanding f.kind && list_all (λ p. is_built_type p.ty) f.params && is_built_result f.result
 
 abbrev pub is_built_item : WorldItem → Bool
 is_built_item (item.Function f) = is_built_function f

@@ -8,7 +8,7 @@ use Rattle.wit_model.specs.declared.world.World.{World}
 use Rattle.wit_model.specs.Bytes.{Bytes}
 use Rattle.wit_model.specs.Distinct.{is_distinct}
 use Rattle.rust_tree.specs.Ident.{rust_ident}
-use Rattle.gen_accept.specs.Area.{needs_area}
+use Rattle.gen_accept.specs.Area.{import_needs_area, needs_area}
 use Rattle.gen_accept.specs.declared.declared.Declared.{Declared}
 use Rattle.gen_accept.specs.declared.declared.NameScope.{NameScope}
 use Rattle.gen_accept.specs.declared.declared.Sort.{Sort}
@@ -55,7 +55,7 @@ area_type_ident = codes "_RetArea"
 
 -- the type of an area, where the root or a body in it has one
 abbrev pub area_type_idents : List Function → List Function → List Bytes
-area_type_idents imports exports = if list_any (λ f. needs_area f.result) imports || list_any (λ f. needs_area f.result) exports then area_type_ident ∷ [] else []
+area_type_idents imports exports = if list_any import_needs_area imports || list_any (λ f. needs_area f.result) exports then area_type_ident ∷ [] else []
 
 -- the functions of the root, and its static
 

@@ -5,7 +5,6 @@ ghost use Rattle.std.specs.List.{list_all};
 ghost use Rattle.gen_accept.specs.Built.{is_built_kind, is_built_part, is_built_type, is_built_result, is_freestanding, is_built_function, is_built_item, is_empty, is_no_type, is_under_itself, is_built_world, are_built_tables, are_flags_off, are_lists_empty, are_values_absent, are_built_options};
 ghost use Rattle.type_defs.specs.Modes.{is_owning};
 
-use crate::core_words::are_at_most;
 use crate::opts::Opts;
 use type_defs::Ownership;
 use wit_model::{
@@ -59,7 +58,6 @@ fn is_built_function(f: &Function) -> bool
     ensures { result ≡ is_built_function f.now }
 {
     is_freestanding(f.kind)
-        && are_at_most(f.params.as_slice(), 16)
         && are_built_types(f.params.as_slice())
         && is_built_result(&f.result)
 }

@@ -6,7 +6,7 @@ ghost use Rattle.gen_accept.specs.CoreWords.{core_words, param_words};
 use wit_model::{Param, WitType};
 
 /// How many core values a parameter is.
-pub fn word_count(ty: WitType) -> u32
+fn word_count(ty: WitType) -> u32
     ensures { result ≡ length (core_words ty) }
 {
     match ty {

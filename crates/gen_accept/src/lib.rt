@@ -17,8 +17,7 @@ mod too_large;
 mod try_copy;
 
 pub use accept::accepted_world;
-pub use area::{any_needs_area, needs_area};
-pub use core_words::word_count;
+pub use area::needs_area;
 pub use emitted::{functions_in, places_in};
 pub use error::{Clash, Entry, GenError, Lack, MissingWith, TooLarge};
 pub use export_key::ExportKey;

@@ -8,7 +8,7 @@ ghost use Rattle.gen_accept.specs.DeclaredNames.{all_declared, among_types, are_
 ghost use Rattle.gen_accept.specs.Emitted as emitted;
 ghost use Rattle.type_defs.specs.PrintedTypes.{field_names, type_name};
 
-use crate::area::{any_needs_area, needs_area};
+use crate::area::{any_import_needs_area, any_needs_area, needs_area};
 use crate::declared::{Declared, NameScope, Sort};
 use crate::emitted::functions_in;
 use crate::opts::Opts;
@@ -229,7 +229,7 @@ fn declare_area_type(
     ensures { OnOk result
         (names.new ≡ names.old ++ all_declared Type_ (area_type_idents (map (λ f. f.now) imports.now) (map (λ f. f.now) exports.now))) }
 {
-    if any_needs_area(imports) || any_needs_area(exports) {
+    if any_import_needs_area(imports) || any_needs_area(exports) {
         declare_all(alloc, names, Sort::Type_, &["_RetArea"])
     } else {
         Ok(())

@@ -52,7 +52,7 @@ pub enum Expr {
     IntoBoxedBytes(Text),
     /// The address of the module's static area: `(&raw mut _RET_AREA.0).cast::<u8>()`.
     StaticPointer,
-    /// A size in bytes as a number: `8`, or `(4+2*::core::mem::size_of::<*const u8>())`. An alignment is one too.
+    /// A size in bytes as a number: `8`, or `4+2*::core::mem::size_of::<*const u8>()`. An alignment is one too.
     Size(ArchitectureSize),
     /// A record by its path, with a value for each field: `P { f: x, g: y }`.
     Record(Path, List<(Text, Expr)>),

@@ -129,7 +129,7 @@ pub(crate) fn push_expr(out: &mut Text, e: &Expr) -> Result<(), OutOfMemory>
         }
         Expr::IntoBoxedBytes(name) => push_boxed_bytes(out, name),
         Expr::StaticPointer => ExprWord::StaticPointer.put(out),
-        Expr::Size(size) => size.push_term(out, false),
+        Expr::Size(size) => push_term(out, *size),
         Expr::Record(path, fields) => push_record(out, path, fields.as_slice()),
         Expr::Tuple(parts) => push_parts(out, parts.as_slice()),
         Expr::Array(parts) => push_array(out, parts.as_slice()),
