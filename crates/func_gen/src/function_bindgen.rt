@@ -21,14 +21,18 @@ use wit_model::{List, OutOfMemory, Text};
 /// A parameter of a wrapper: what denotes its value, and its name.
 #[derive(Drop)]
 pub struct ParamSite {
+    /// What denotes its value: the name by itself, or a reference to it.
     pub operand: ExprOperand,
+    /// Its name, an identifier.
     pub name: Text,
 }
 
 /// Code: of an export the block that calls the method, once it is called, and the statements behind it.
 #[derive(Drop)]
 pub struct Code {
+    /// The block that calls the method, of an export's code behind the call.
     pub call: Option<CallBlock>,
+    /// The statements that stand behind it.
     pub stmts: List<Stmt>,
 }
 

@@ -7,7 +7,7 @@ ghost use Rattle.abi_driver.specs.Instructions.{Emits};
 ghost use Rattle.abi_driver.specs.declared.instruction.Instruction.TheVariants as instruction;
 ghost use Rattle.func_gen.specs.Added.{Appends};
 ghost use Rattle.func_gen.specs.Meaning.{func_meaning};
-ghost use Rattle.func_gen.specs.MemoryForms.{align_size, block_freed, bytes_freed, is_length, text_freed};
+ghost use Rattle.func_gen.specs.MemoryForms.{align_size, bytes_freed, is_length};
 
 use crate::added::only_operand;
 use crate::emit::memory::both_operands;

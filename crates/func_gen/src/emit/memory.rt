@@ -1,6 +1,6 @@
 //! Core words are stored in memory.
 
-ghost use Rattle.std.specs.Prelude.{◌≡◌, [], ◌∷◌, Some, true, length, IfOk, OnOk};
+ghost use Rattle.std.specs.Prelude.{◌≡◌, [], ◌∷◌, Some, true, IfOk, OnOk};
 ghost use Rattle.rust_tree.specs.declared.stmt.Stmt.TheVariants as stmt;
 ghost use Rattle.abi_driver.specs.Instructions.{Emits};
 ghost use Rattle.func_gen.specs.Added.{Appends};
