@@ -19,16 +19,14 @@ use Rattle.wrapper_values.specs.declared.state.State.{State}
 use Rattle.wrapper_values.specs.declared.state.Val.{Val}
 use Rattle.wrapper_values.specs.declared.state.Val.TheVariants as val
 use Rattle.wrapper_values.specs.Act as machine
-use Rattle.wrapper_values.specs.Act.{and_then}
 use Rattle.wrapper_values.specs.Effect.{rust_of}
 use Rattle.wrapper_values.specs.Locals.{usable}
 use Rattle.wrapper_values.specs.Owning.{buffer_of, owned}
 use Rattle.wrapper_values.specs.Setting.{Setting}
 use Rattle.wrapper_run.specs.Run.{eval, run_stmts}
-use Rattle.wrapper_run.specs.Value.{f32, f64, number}
 use Rattle.wrapper_run.proofs.GiveSteps.{let_runs}
 use Rattle.wrapper_run.proofs.LocalLemmas.{reads-new, reads-past}
-use Rattle.wrapper_run.proofs.OwningLemmas.{buffer-text, no_buffer}
+use Rattle.wrapper_run.proofs.OwningLemmas.{buffer-text, no_buffer-f32, no_buffer-f64, no_buffer-number}
 use Rattle.wrapper_run.proofs.QuietSteps.{quiet_as_ptr, quiet_len, quiet_let}
 use Rattle.wrapper_run.proofs.StepLemmas.{Quiet, as_ptr_gives, len_gives}
 use Rattle.abi_driver.specs.Meaning.{Fact, item, of, word}
@@ -50,10 +48,10 @@ use Rattle.func_gen.proofs.Several.{add_local}
 pub buffer_is : (v : Val) (p n : ℕ) (o : Bool) → rust_of v ≡ Some (value.Buffer p n o) → v ≡ val.Value (value.Buffer p n o)
 buffer_is (val.Value r) p n o h = let e : r ≡ value.Buffer p n o = cc in ap val.Value e
 buffer_is (val.Area a k) p n o h = absurd cc
-buffer_is (val.Word (core.I32 x)) p n o h = absurd (let e : value.Num wit.S32 x ≡ value.Buffer p n o = cc in let k : None ≡ Some (p, n, o) = sym (no_buffer wit.S32 (number x)) ∙ ap (λ r. buffer_of (val.Value r)) e ∙ buffer-text p n o in cc)
-buffer_is (val.Word (core.I64 x)) p n o h = absurd (let e : value.Num wit.S64 x ≡ value.Buffer p n o = cc in let k : None ≡ Some (p, n, o) = sym (no_buffer wit.S64 (number x)) ∙ ap (λ r. buffer_of (val.Value r)) e ∙ buffer-text p n o in cc)
-buffer_is (val.Word (core.F32 x)) p n o h = absurd (let e : value.F32 x ≡ value.Buffer p n o = cc in let k : None ≡ Some (p, n, o) = sym (no_buffer wit.F32 (f32 x)) ∙ ap (λ r. buffer_of (val.Value r)) e ∙ buffer-text p n o in cc)
-buffer_is (val.Word (core.F64 x)) p n o h = absurd (let e : value.F64 x ≡ value.Buffer p n o = cc in let k : None ≡ Some (p, n, o) = sym (no_buffer wit.F64 (f64 x)) ∙ ap (λ r. buffer_of (val.Value r)) e ∙ buffer-text p n o in cc)
+buffer_is (val.Word (core.I32 x)) p n o h = absurd (let e : value.Num wit.S32 x ≡ value.Buffer p n o = cc in let k : None ≡ Some (p, n, o) = sym (no_buffer-number wit.S32 x) ∙ ap (λ r. buffer_of (val.Value r)) e ∙ buffer-text p n o in cc)
+buffer_is (val.Word (core.I64 x)) p n o h = absurd (let e : value.Num wit.S64 x ≡ value.Buffer p n o = cc in let k : None ≡ Some (p, n, o) = sym (no_buffer-number wit.S64 x) ∙ ap (λ r. buffer_of (val.Value r)) e ∙ buffer-text p n o in cc)
+buffer_is (val.Word (core.F32 x)) p n o h = absurd (let e : value.F32 x ≡ value.Buffer p n o = cc in let k : None ≡ Some (p, n, o) = sym (no_buffer-f32 x) ∙ ap (λ r. buffer_of (val.Value r)) e ∙ buffer-text p n o in cc)
+buffer_is (val.Word (core.F64 x)) p n o h = absurd (let e : value.F64 x ≡ value.Buffer p n o = cc in let k : None ≡ Some (p, n, o) = sym (no_buffer-f64 x) ∙ ap (λ r. buffer_of (val.Value r)) e ∙ buffer-text p n o in cc)
 buffer_is (val.Word (core.Pointer x)) p n o h = absurd cc
 buffer_is (val.Word (core.Length x)) p n o h = absurd cc
 buffer_is (val.Word (core.Slot x)) p n o h = absurd cc

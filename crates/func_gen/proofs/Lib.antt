@@ -19,6 +19,7 @@ pub mod Lasting
 pub mod LiftedRows
 pub mod LoadRows
 pub mod LoadTies
+pub mod LowBits
 pub mod MemoryTies
 pub mod MethodRows
 pub mod MethodValues

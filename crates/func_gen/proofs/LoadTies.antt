@@ -12,10 +12,14 @@ use Rattle.wrapper_data.specs.declared.word.Word.TheVariants as core
 use Rattle.wrapper_meaning.specs.Cells.{bytes_from, little}
 use Rattle.wrapper_run.specs.Memory.{number_from, word_from}
 use Rattle.wrapper_run.specs.Memory as machine
-use Rattle.meaning_ties.proofs.Blocks.{same_bytes}
 use Rattle.abi_driver.specs.Memory.{Access, access, bytes_at, signed_access, word_read}
 
 -- 1. The same bytes, and so many
+
+pub same_bytes : (cells : List (ℕ × ℕ)) (offset n : ℕ) → bytes_from cells offset n ≡ machine.bytes_from cells offset n
+same_bytes cells offset zero = refl
+same_bytes [] offset (suc n) = refl
+same_bytes (cell ∷ cells) offset (suc n) = grind (arith, same_bytes cells offset (suc n), same_bytes cells (offset + 1) n)
 
 pub same_found : (address size : ℕ) (blocks : List Block) → bytes_at address size blocks ≡ machine.bytes_at address size blocks
 same_found address size blocks = go (find (machine.holds address size) blocks)

@@ -26,10 +26,10 @@ use Rattle.wrapper_values.specs.declared.state.Val.TheVariants as val
 use Rattle.wrapper_values.specs.Effect.{cast_integer, cast_to, converted, integer_of, rust_of, rust_of_word}
 use Rattle.wrapper_values.specs.Owning.{owned}
 use Rattle.wrapper_run.proofs.NumberLemmas.{converted-char, converted-f32, converted-f64, converted-narrow, converted-wide, low_i32-s16, low_i32-s32, low_i32-s8, low_i32-u16, low_i32-u8, low_i64-s64}
-use Rattle.meaning_ties.proofs.Scalars.{takes}
 use Rattle.func_gen.specs.Meaning.{IsNormal, StandsAsItIs, passing_level}
 use Rattle.func_gen.specs.StandLemmas.{scalar_owns}
 use Rattle.func_gen.specs.Read.{bare_or, converts, on_bare}
+use Rattle.func_gen.proofs.LowBits.{read_s16, read_s8, read_u16, read_u32, read_u64, read_u8}
 
 -- 1. The values of scalars
 
@@ -279,12 +279,12 @@ is_number Scalar.handle = false
 is_number _ = true
 
 pub taken_is : (s : Scalar) (v : ScalarValue s) (x : Word) → is_number s ≡ true → IsScalar s v → IsTaken s v x → taken_word s x ≡ rust_scalar s v
-taken_is Scalar.u8 v x n h t = let (z, e, is) = takes Scalar.u8 v x h t in ap (taken_word Scalar.u8) e ∙ ap (value.Num wit.U8) (sym is)
-taken_is Scalar.s8 v x n h t = let (z, e, is) = takes Scalar.s8 v x h t in ap (taken_word Scalar.s8) e ∙ ap (value.Num wit.S8) (sym is)
-taken_is Scalar.u16 v x n h t = let (z, e, is) = takes Scalar.u16 v x h t in ap (taken_word Scalar.u16) e ∙ ap (value.Num wit.U16) (sym is)
-taken_is Scalar.s16 v x n h t = let (z, e, is) = takes Scalar.s16 v x h t in ap (taken_word Scalar.s16) e ∙ ap (value.Num wit.S16) (sym is)
-taken_is Scalar.u32 v x n h t = let (z, e, is) = takes Scalar.u32 v x h t in ap (taken_word Scalar.u32) e ∙ ap (value.Num wit.U32) (sym is)
-taken_is Scalar.u64 v x n h t = let (z, e, is) = takes Scalar.u64 v x h t in ap (taken_word Scalar.u64) e ∙ ap (value.Num wit.U64) (sym is)
+taken_is Scalar.u8 v x n h (z, e, is) = ap (taken_word Scalar.u8) e ∙ ap (value.Num wit.U8) (read_u8 v z h is)
+taken_is Scalar.s8 v x n h (z, e, is) = ap (taken_word Scalar.s8) e ∙ ap (value.Num wit.S8) (read_s8 v z h is)
+taken_is Scalar.u16 v x n h (z, e, is) = ap (taken_word Scalar.u16) e ∙ ap (value.Num wit.U16) (read_u16 v z h is)
+taken_is Scalar.s16 v x n h (z, e, is) = ap (taken_word Scalar.s16) e ∙ ap (value.Num wit.S16) (read_s16 v z h is)
+taken_is Scalar.u32 v x n h (z, e, is) = ap (taken_word Scalar.u32) e ∙ ap (value.Num wit.U32) (read_u32 v z h is)
+taken_is Scalar.u64 v x n h (z, e, is) = ap (taken_word Scalar.u64) e ∙ ap (value.Num wit.U64) (read_u64 v z h is)
 taken_is Scalar.s32 v x n h t = ap (taken_word Scalar.s32) t
 taken_is Scalar.s64 v x n h t = ap (taken_word Scalar.s64) t
 taken_is Scalar.f32 v x n h t = ap (taken_word Scalar.f32) t

@@ -28,7 +28,6 @@ use Rattle.wrapper_meaning.specs.Direction.{take}
 use Rattle.wrapper_meaning.specs.Items.{total}
 use Rattle.wrapper_meaning.specs.Shape.Shape.{text}
 use Rattle.wrapper_meaning.specs.StandsFor.{IsFlag}
-use Rattle.meaning_ties.proofs.Blocks.{same_bytes}
 use Rattle.wrapper_values.specs.declared.state.State.{State}
 use Rattle.wrapper_values.specs.declared.state.Val.{Val}
 use Rattle.wrapper_values.specs.declared.state.Val.TheVariants as val
@@ -72,6 +71,7 @@ use Rattle.func_gen.proofs.Declared.{Three, fresh_name, hold_as, keeps, three, t
 use Rattle.func_gen.proofs.Evaluated.{gives}
 use Rattle.func_gen.proofs.Forgetting.{one_called, with_taken}
 use Rattle.func_gen.proofs.Forming.{form_by}
+use Rattle.func_gen.proofs.LoadTies.{same_bytes}
 use Rattle.func_gen.proofs.Lasting.{area_same, bound_under, owns_with, part, with_local}
 use Rattle.func_gen.proofs.PartRows.{areas_last}
 use Rattle.func_gen.proofs.Quiet.{quiet_operand}

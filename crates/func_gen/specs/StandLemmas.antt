@@ -2,6 +2,7 @@
 use Rattle.std.proofs.Common.{◌≡◌, ℕ, zero, suc, ◌<◌, Bool, true, false, MatchBool, List, [], ◌∷◌, ◌++◌, length, Option, None, Some, refl, sym, ap, ap₂, ◌∙◌, subst, append-nil}
 use Rattle.std.proofs.lemmas.List.{map-append}
 use mathlib.Core.Logic.{inl, inr}
+use Rattle.wit_model.specs.declared.types.WitType.TheVariants as wit
 use Rattle.wit_layout.specs.Extent.{Extent}
 use Rattle.wit_layout.specs.Sizes.{elem_size, extent_of}
 use Rattle.wrapper_data.specs.declared.block.Block.{Block}
@@ -22,9 +23,7 @@ use Rattle.wrapper_meaning.proofs.PlainLists.{plain_is_alike}
 use Rattle.wit_layout.specs.Tree.{Scalar}
 use Rattle.wrapper_meaning.specs.StandsFor.{rust_scalar}
 use Rattle.wrapper_meaning.specs.Value.{ScalarValue}
-use Rattle.meaning_ties.proofs.Scalars.{same_rust}
-use Rattle.meaning_ties.specs.Simple.{scalar_type, told_scalar}
-use Rattle.wrapper_run.proofs.OwningLemmas.{owned-scalar}
+use Rattle.wrapper_run.proofs.OwningLemmas.{owned-bool, owned-char, owned-f32, owned-f64, owned-number}
 use Rattle.wrapper_values.specs.declared.state.Val.TheVariants as val
 use Rattle.wrapper_values.specs.Owning.{owned, owned_by, owned_level, taken_by, taken_by_entries}
 use Rattle.abi_driver.specs.Account.{addresses}
@@ -35,7 +34,19 @@ addresses_both xs ys = map-append (λ (b : Block). b.address) xs ys
 -- 1. What values own
 
 pub scalar_owns : (s : Scalar) (v : ScalarValue s) → owned (val.Value (rust_scalar s v)) ≡ []
-scalar_owns s v = ap (λ r. owned (val.Value r)) (same_rust s v) ∙ owned-scalar (scalar_type s) (told_scalar s v)
+scalar_owns Scalar.bool v = owned-bool v
+scalar_owns Scalar.u8 v = owned-number wit.U8 v
+scalar_owns Scalar.u16 v = owned-number wit.U16 v
+scalar_owns Scalar.u32 v = owned-number wit.U32 v
+scalar_owns Scalar.u64 v = owned-number wit.U64 v
+scalar_owns Scalar.s8 v = owned-number wit.S8 v
+scalar_owns Scalar.s16 v = owned-number wit.S16 v
+scalar_owns Scalar.s32 v = owned-number wit.S32 v
+scalar_owns Scalar.s64 v = owned-number wit.S64 v
+scalar_owns Scalar.f32 v = owned-f32 v
+scalar_owns Scalar.f64 v = owned-f64 v
+scalar_owns Scalar.char v = owned-char v
+scalar_owns Scalar.handle v = elim v [ ]
 
 owned-buffer : (a n : ℕ) (o : Bool) → owned_by (value.Buffer a n o) ≡ owned_level (RustValue-F.Buffer a n o)
 owned-buffer a n o = ap owned_by (sym (rolls-Buffer a n o)) ∙ fold-roll-RustValue (List ℕ) owned_level (RustValue-F.Buffer a n o)

@@ -41,11 +41,10 @@ use Rattle.gen_accept.specs.declared.opts.Opts.{Opts}
 use Rattle.gen_accept.proofs.DeclaredLemmas.{distinct_exports, distinct_methods}
 use Rattle.wrapper_data.specs.declared.run.Target.TheVariants as target
 use Rattle.wrapper_meaning.specs.Shape.{Shape, param_shapes, result_shape}
-use Rattle.wrapper_run.specs.Entries.{IsExported, entries_in, entries_named, exports_in}
+use Rattle.wrapper_run.specs.Entries.{IsExported, entries_in, entries_named, exports_in, post_returns_in}
 use Rattle.wrapper_run.specs.ExportRun.{export_at, export_nth, method_named}
 use Rattle.wrapper_run.specs.Places.{area_in}
 use Rattle.wrapper_run.specs.PostReturn.{post_return_at, post_return_named}
-use Rattle.wrapper_run.specs.Returned.{post_returns_in}
 use Rattle.wrapper_run.specs.Run.{import_at, import_nth, numbered, runtime_item_named}
 use Rattle.wrapper_faithful.specs.Export.{HasCoreSignature, IsExportFaithful}
 use Rattle.wrapper_faithful.specs.Import.{IsFaithful}

@@ -19,11 +19,10 @@ use Rattle.rust_tree.specs.declared.item.Item.{Item}
 use Rattle.rust_tree.specs.declared.item.Item.TheVariants as item
 use Rattle.rust_tree.specs.declared.runtime_item.RuntimeItem.{RuntimeItem}
 use Rattle.gen_accept.specs.Area.{needs_area}
-use Rattle.wrapper_run.specs.Entries.{exports_in}
+use Rattle.wrapper_run.specs.Entries.{exports_in, post_returns_in}
 use Rattle.wit_model.specs.Bytes.{Bytes}
 use Rattle.wrapper_values.specs.Owning.{listed}
 use Rattle.wrapper_run.specs.PostReturn.{post_return_named}
-use Rattle.wrapper_run.specs.Returned.{post_returns_in}
 use Rattle.wrapper_run.proofs.LocalLemmas.{bytes_eq-same}
 use Rattle.rust_gen.specs.Body.{ArePartsWritten, ReturnWritten}
 use Rattle.rust_gen.specs.Bound.{Parts, area_items, export_items}

@@ -6,11 +6,10 @@ use Rattle.rust_tree.specs.declared.item.Item.TheVariants as item
 use Rattle.rust_tree.specs.declared.place.FuncPlace.{FuncPlace}
 use Rattle.rust_tree.specs.declared.type_item.TypeItem.{TypeItem}
 use Rattle.rust_tree.specs.Tree.{wrapper_count, wrappers_from}
-use Rattle.wrapper_run.specs.Entries.{entries_in, exports_in}
+use Rattle.wrapper_run.specs.Entries.{entries_in, exports_in, post_returns_in}
 use Rattle.wrapper_run.specs.ExportRun.{export_nth, method_named}
 use Rattle.wrapper_run.specs.Places.{area_in}
 use Rattle.wrapper_run.specs.PostReturn.{post_return_named}
-use Rattle.wrapper_run.specs.Returned.{post_returns_in}
 use Rattle.wrapper_run.specs.Run.{import_nth, runtime_item_named}
 use Rattle.rust_gen.specs.Served.{runtime_in}
 

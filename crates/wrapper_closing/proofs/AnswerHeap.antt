@@ -1,5 +1,5 @@
 -- The heap after an honest peer's answer: the blocks that were given, those that the peer brought, and the area, in which alone it wrote.
-use Rattle.std.proofs.Common.{◌≡◌, ◌≤◌, ℕ, true, nat_eq, nat_lt, List, [], ◌∷◌, ◌++◌, Some, Contains, refl, sym, ap, ◌∙◌, arith}
+use Rattle.std.proofs.Common.{◌≡◌, ◌≤◌, ℕ, Bool, true, false, cond, nat_eq, nat_lt, List, [], ◌∷◌, ◌++◌, Some, Contains, refl, sym, ap, ◌∙◌, arith}
 use Rattle.std.specs.List.{AllByRecursion}
 use Rattle.std.proofs.lemmas.Bool.{and_from, and_parts, eq-eqb, eqb-true, lt-ltb}
 use Rattle.wrapper_data.specs.Answered.{answered, with_blocks}
@@ -9,9 +9,9 @@ use Rattle.wrapper_data.specs.Heap.{is_block, is_heap, overlaps}
 use Rattle.wrapper_data.proofs.FormedHeaps.{formed, formed_answered, is_formed}
 use Rattle.wrapper_meaning.specs.Honest.{WritesIn, are_new}
 use Rattle.wrapper_meaning.specs.Items.{SameItems, total}
+use Rattle.wrapper_meaning.proofs.Lists.{some_same}
 use Rattle.wrapper_meaning.proofs.NewBlocks.{new_blocks_behind}
-use Rattle.wrapper_run.specs.Memory.{begins_at, block_from, is_at, without}
-use Rattle.wrapper_faithful.proofs.HeapPlaces.{gone}
+use Rattle.wrapper_run.specs.Memory.{begins_at, block_at, block_from, is_at, without}
 use Rattle.abi_driver.specs.Account.{addresses}
 use Rattle.abi_driver.proofs.AreaHeaps.{IsInside, contains_last, replaced_items, writes_inside}
 use Rattle.abi_driver.proofs.Replaced.{find_there, is_sized, meet}
@@ -37,6 +37,16 @@ begins_there blocks b whole there good =
     (and_from (nat_eq b.address b.address) (nat_lt 0 b.size) (eq-eqb b.address b.address refl) (lt-ltb 0 b.size (is_sized b good).some))
 
 -- what is left then
+
+gone : (blocks : List Block) (b : Block) (p n : ℕ) → block_at p n blocks ≡ Some b → SameItems (without p n blocks ++ b ∷ []) blocks
+gone [] b p n e = absurd (cc)
+gone (c ∷ blocks) b p n e = by_test (is_at p n c) refl e (gone blocks b p n)
+  where
+    by_test : (q : Bool) → is_at p n c ≡ q → cond q (Some c) (block_at p n blocks) ≡ Some b → (block_at p n blocks ≡ Some b → SameItems (without p n blocks ++ b ∷ []) blocks)
+        → SameItems (cond q blocks (c ∷ without p n blocks) ++ b ∷ []) (c ∷ blocks)
+    by_test true t e later = λ weight. omega (total-append weight blocks (b ∷ []), ap weight (some_same c b e), arith)
+    by_test false t e later = λ weight. omega (later e weight, arith)
+
 pub left_without : (blocks : List Block) (b : Block) → is_heap (record { blocks = blocks }) ≡ true → Contains blocks b → is_block b ≡ true → SameItems (without b.address b.size blocks ++ b ∷ []) blocks
 left_without blocks b whole there good =
     gone blocks b b.address b.size

@@ -1,13 +1,6 @@
 pub mod AlongRuns
-pub mod AreaWords
 pub mod FormedWithout
-pub mod HeapPlaces
-pub mod HonestPeers
 pub mod Instances
 pub mod KeptHeaps
 pub mod NoHandles
 pub mod Round
-pub mod SimpleSides
-pub mod TiedExport
-pub mod TiedImport
-pub mod TiedReturned

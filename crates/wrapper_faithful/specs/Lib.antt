@@ -5,4 +5,3 @@ pub mod Laws
 pub mod Passed
 pub mod Resources
 pub mod Returned
-pub mod Ties

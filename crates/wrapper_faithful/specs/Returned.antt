@@ -20,9 +20,8 @@ use Rattle.wrapper_meaning.specs.Kinds.{result_has_list}
 use Rattle.wrapper_meaning.specs.Represents.{GivesResult, result_words}
 use Rattle.wrapper_meaning.specs.Settled.{IsResult}
 use Rattle.wrapper_meaning.specs.Value.{Result}
-use Rattle.wrapper_run.specs.Entries.{entries_named}
+use Rattle.wrapper_run.specs.Entries.{entries_named, post_returns_in}
 use Rattle.wrapper_run.specs.PostReturn.{post_return_at, post_return_run}
-use Rattle.wrapper_run.specs.Returned.{post_returns_in}
 use Rattle.wrapper_faithful.specs.Passed.{Passed, width}
 
 -- what a wrapper returned: words that represent a value, as they were returned. Their blocks are live in a well-formed heap, and so is the

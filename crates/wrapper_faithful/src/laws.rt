@@ -1,5 +1,4 @@
 ghost use Rattle.wrapper_faithful.specs.KeptHeaps.{ExportKeepsHeap, ImportKeepsHeap, PostReturnKeepsHeap};
-ghost use Rattle.wrapper_faithful.specs.Ties.{ExportIsTied, ImportIsTied};
 ghost use Rattle.wrapper_faithful.specs.Laws.{AllCallsCount, NothingIsDropped, RoundLeaves, RunLeaves};
 
 /// A run from a well-formed heap shows well-formed heaps alone, whatever the tree is and whatever is answered.
@@ -23,14 +22,4 @@ pub fn unreturned_law()
 pub fn handle_law()
     ensures calls { AllCallsCount }
     ensures drops { NothingIsDropped }
-{}
-
-/// An import of scalars and texts that is faithful as `wrapper_run` tells it is faithful as it is told here.
-pub fn import_tie_law()
-    ensures { ImportIsTied }
-{}
-
-/// An export of scalars and texts that is faithful as `wrapper_run` tells it is faithful as it is told here.
-pub fn export_tie_law()
-    ensures { ExportIsTied }
 {}

@@ -4,4 +4,4 @@
 
 mod laws;
 
-pub use laws::{export_tie_law, handle_law, heap_law, import_tie_law, round_law, unreturned_law};
+pub use laws::{handle_law, heap_law, round_law, unreturned_law};

@@ -1,7 +1,6 @@
--- The definitions hold of worked rows: a text of two bytes comes back by an area, and is lent; a record owns what stands in it, is
--- taken apart by its struct, and what it owned is freed once; a block gives two words; an area is no value; small numbers are read and
--- written.
-use Rattle.std.proofs.Common.{◌≡◌, ℕ, Bool, true, false, List, [], ◌∷◌, map, None, Some, refl, sym, ap, ◌∙◌, arith, rules}
+-- The definitions hold of worked rows: a record owns what stands in it, is taken apart by its struct, and what it owned is freed once;
+-- a block gives two words; an area is no value; small numbers are read and written.
+use Rattle.std.proofs.Common.{◌≡◌, ℕ, Bool, true, false, List, [], ◌∷◌, map, None, Some, refl, sym, ap, ◌∙◌, rules}
 use Rattle.std.specs.Prelude.{codes, negsuc, option_and_then, pos}
 use Rattle.std.specs.Option.{option_map}
 use Rattle.wit_model.specs.Bytes.{Bytes}
@@ -26,10 +25,8 @@ use Rattle.wrapper_data.specs.declared.block.Block.{Block}
 use Rattle.wrapper_data.specs.declared.value.RustValue.{RustValue, RustValue-F, fold-roll-RustValue, the_lemmas}
 use Rattle.wrapper_data.specs.declared.value.RustValue.TheVariants as value
 use Rattle.wrapper_data.specs.declared.value.RustValue.TheVariants.{rolls-Case}
-use Rattle.wrapper_data.specs.declared.answer.Answer.TheVariants as answer
-use Rattle.wrapper_data.specs.declared.run.Target.TheVariants as target
 use Rattle.wrapper_data.specs.declared.word.Word.TheVariants as word
-use Rattle.wrapper_data.specs.Answered.{with_block, written_block}
+use Rattle.wrapper_data.specs.Answered.{written_block}
 use Rattle.wrapper_values.specs.declared.state.Local.{Local}
 use Rattle.wrapper_values.specs.declared.state.State.{State}
 use Rattle.wrapper_values.specs.declared.state.Val.{Val}
@@ -38,44 +35,18 @@ use Rattle.wrapper_values.specs.Act.{Act, Done, Stopped, ◌>>=◌, ◌>>◌, al
 use Rattle.wrapper_run.specs.Blocks.{drop_value, forget, free, free_all, leave_to, release, release_all}
 use Rattle.wrapper_values.specs.Effect.{answer_of}
 use Rattle.wrapper_values.specs.Fields.{arranged}
-use Rattle.wrapper_run.specs.Honest.{AnswersText}
 use Rattle.wrapper_values.specs.Locals.{lend_local, use_local}
-use Rattle.wrapper_run.specs.Memory.{loaded, loaded_small, stored_small}
+use Rattle.wrapper_run.specs.Memory.{loaded_small, stored_small}
 use Rattle.wrapper_values.specs.Owning.{lent, owned}
-use Rattle.wrapper_run.specs.Represents.{LiesAt}
 use Rattle.wrapper_run.specs.Results.{results, run_inner}
 use Rattle.wrapper_run.specs.Run.{begin, call, eval, run_stmt}
 use Rattle.wrapper_values.specs.Setting.{Setting, stuck}
 use Rattle.wrapper_values.specs.Typed.{Typed, answer_in, typed, typed_case, typed_level, unaliased}
-use Rattle.wrapper_run.specs.Value.{number}
 use Rattle.wrapper_values.specs.Whole.{whole_of}
-use Rattle.wrapper_run.proofs.OwningLemmas.{owned-block, owned-scalar}
+use Rattle.wrapper_run.proofs.OwningLemmas.{owned-block, owned-number}
 use Rattle.wrapper_run.proofs.PartSteps.{eval-record, takes_apart}
 use Rattle.wrapper_run.proofs.StepLemmas.{eval-call, eval-local, eval-ref, local_gives}
 use Rattle.wrapper_run.proofs.TakeLemmas.{leaves_one, text_gives, text_local, used_local}
-
--- `hi` at 4096, by an area at 512
-answers_hi : AnswersText (104 ∷ 105 ∷ []) (answer.Words None ((512, 0) ∷ (513, 16) ∷ (514, 0) ∷ (515, 0) ∷ (516, 2) ∷ (517, 0) ∷ (518, 0) ∷ (519, 0) ∷ []) (record { address = 4096; size = 2; cells = (0, 104) ∷ (1, 105) ∷ [] } ∷ []))
-    (record { target = target.Core (codes "$root") (codes "name"); words = word.Pointer 512 ∷ []; values = []; heap = record { blocks = record { address = 512; size = 8; cells = [] } ∷ [] } })
-unfolding with_block written_block loaded
-answers_hi = record {
-  area = 512;
-  named = refl;
-  writes = (512, 0) ∷ (513, 16) ∷ (514, 0) ∷ (515, 0) ∷ (516, 2) ∷ (517, 0) ∷ (518, 0) ∷ (519, 0) ∷ [];
-  blocks = record { address = 4096; size = 2; cells = (0, 104) ∷ (1, 105) ∷ [] } ∷ [];
-  answers = refl;
-  inside = (omega arith, omega arith, (omega arith, omega arith, (omega arith, omega arith, (omega arith, omega arith, (omega arith, omega arith, (omega arith, omega arith, (omega arith, omega arith, (omega arith, omega arith, tt))))))));
-  place = 4096;
-  nonzero = omega arith;
-  holds = (record { address = 4096; size = 2; cells = (0, 104) ∷ (1, 105) ∷ [] }, refl, refl, refl, refl);
-  fresh = refl;
-  address = refl;
-  size = refl;
-}
-
--- a byte of a block is lent
-lies_hi : LiesAt (record { blocks = record { address = 4096; size = 2; cells = (0, 104) ∷ (1, 105) ∷ [] } ∷ [] }) 4097 (105 ∷ [])
-lies_hi = refl
 
 -- a record with a text in it, and one in a list in it
 abbrev nested : Bool → RustValue
@@ -182,7 +153,7 @@ parts_end : (w : Setting) → leave_to w 0 (record with_parts { locals = apart_l
 parts_end w =
     let d : Local = record { name = codes "d"; value = Some (val.Value (value.Num wit.S32 (pos 7))) } in
     leaves_one w (used_local a_name 4096 2 ∷ seven ∷ []) (text_local (codes "c") 4096 2) (d ∷ []) 4096 (block 4096 2) (record with_parts { locals = apart_locals }) refl (refl, (refl, tt))
-    (owned-block 4096 1) (owned-scalar wit.S32 (number (pos 7)), tt) refl
+    (owned-block 4096 1) (owned-number wit.S32 (pos 7), tt) refl
 
 -- a block gives the parts of a tuple that stands last in it, if they are two or more; a core word stays one
 

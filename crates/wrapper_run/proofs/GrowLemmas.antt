@@ -84,10 +84,6 @@ grows_then {A = A} {B = B} act f h k = record { grows = λ s. go s (act s) (h.gr
     go s (Done a t) l = longer-then s t (state_of (f a t)) l ((k a).grows t)
     go s (Stopped x t) l = l
 
--- an act that looks at the state first
-grows_at : {A : Type 0} (act : State → Act A) → ((s : State) → Grows (act s)) → Grows (λ s. act s s)
-grows_at act h = record { grows = λ s. (h s).grows s }
-
 -- locals
 
 grows_used : (name : Bytes) (v : Val) (addresses : List ℕ) → Grows (used name v addresses)

@@ -11,7 +11,6 @@ pub mod MethodLemmas
 pub mod NumberLemmas
 pub mod OwningLemmas
 pub mod PartSteps
-pub mod PlaceLemmas
 pub mod QuietSteps
 pub mod ScopeLemmas
 pub mod StepLemmas

@@ -1,5 +1,5 @@
 -- Steps by which the implementation of an export is called, and the block of the call ends.
-use Rattle.std.proofs.Common.{◌≡◌, List, [], ◌∷◌, ◌++◌, Option, None, Some, drop, length, map, take, refl, ap, ◌∙◌}
+use Rattle.std.proofs.Common.{◌≡◌, List, [], ◌∷◌, ◌++◌, Option, None, Some, drop, length, take, refl, ap, ◌∙◌}
 use Rattle.std.specs.Prelude.{option_and_then}
 use Rattle.std.specs.Option.{option_map}
 use Rattle.rust_tree.specs.declared.item.Item.{Item}
@@ -19,11 +19,10 @@ use Rattle.wrapper_values.specs.declared.state.Val.{Val}
 use Rattle.wrapper_values.specs.declared.state.Val.TheVariants as val
 use Rattle.wrapper_values.specs.Act.{Act, Outcome, Done, Stopped, ◌>>◌, and_then, or_stop}
 use Rattle.wrapper_run.specs.Blocks.{drop_locals, keep_locals, leave_to}
-use Rattle.wrapper_values.specs.Effect.{answer_of}
-use Rattle.wrapper_run.specs.ExportRun.{call_method, ended_export, method_answer, method_call, method_named, method_point, passed_as, returned_of, take_value, values_of}
+use Rattle.wrapper_run.specs.ExportRun.{call_method, ended_export, method_answer, method_call, method_named, method_point, returned_of, take_value, values_of}
 use Rattle.wit_model.specs.Bytes.{Bytes}
 use Rattle.wrapper_values.specs.Owning.{listed, taken_by}
-use Rattle.wrapper_run.specs.Run.{bound, record_call}
+use Rattle.wrapper_run.specs.Run.{record_call}
 use Rattle.wrapper_values.specs.Setting.{Setting, stuck}
 use Rattle.wrapper_run.proofs.NumberLemmas.{answered-unit}
 use Rattle.wrapper_run.proofs.TypedLemmas.{answered_in}
@@ -50,12 +49,6 @@ leaves_inner w outer more s e p =
     ∙ ap (λ o. and_then o (λ _. keep_locals (take (length outer) (outer ++ more)))) (drops_plain w more (record s { locals = [] }) p)
     ∙ ap (λ ls. Done tt (record s { locals = ls })) (take-append outer more)
 
--- words own nothing
-pub plain_words : (names : List Bytes) (words : List Word) → ArePlain (bound names (map val.Word words))
-plain_words [] words = tt
-plain_words (name ∷ names) [] = tt
-plain_words (name ∷ names) (x ∷ words) = (refl, plain_words names words)
-
 -- the call
 
 abbrev answered_by : Setting → CallPoint × TypeExpr → Act Val
@@ -81,16 +74,6 @@ value_gives w ty r v heap s a e = ap (λ a. method_answer w ty a s) a ∙ ap (λ
 
 pub returned-unit : (items : List Item) → returned_of items type.Unit None ≡ Some (val.Value value.Unit)
 returned-unit items = ap (option_map (λ r. val.Value value.Unit)) (answered_in items type.Unit (val.Value value.Unit) None answered-unit)
-
-pub passed : (items : List Item) (ty : TypeExpr) (v : Val) (r : RustValue) → answer_of ty v ≡ Some (Some r) → passed_as items ty v ≡ Some r
-passed items ty v r e = ap (option_and_then (λ r. r)) (answered_in items ty v (Some r) e)
-
--- the machine may take a value for another
-pub returned-as : (items : List Item) (ty : TypeExpr) (r held : RustValue) → answer_of ty (val.Value r) ≡ Some (Some held) → returned_of items ty (Some r) ≡ Some (val.Value held)
-returned-as items ty r held e = ap (option_map val.Value) (passed items ty (val.Value r) held e)
-
-pub returned-value : (items : List Item) (ty : TypeExpr) (r : RustValue) → answer_of ty (val.Value r) ≡ Some (Some r) → returned_of items ty (Some r) ≡ Some (val.Value r)
-returned-value items ty r e = ap (option_map val.Value) (passed items ty (val.Value r) r e)
 
 -- to take an answer is no call, and the ended run shows the calls of an outcome
 

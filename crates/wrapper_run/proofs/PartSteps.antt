@@ -1,10 +1,9 @@
 -- Single steps of records, tuples and arrays: parts become a value, and a value is taken apart.
-use Rattle.std.proofs.Common.{◌≡◌, List, [], ◌∷◌, ◌++◌, Some, map, refl, sym, ap, ◌∙◌, append-nil, append_assoc, rules}
-use Rattle.std.specs.Option.{option_map}
+use Rattle.std.proofs.Common.{◌≡◌, List, [], ◌∷◌, ◌++◌, Some, map, sym, ap, ◌∙◌, append-nil, append_assoc, rules}
 use Rattle.wit_model.specs.Bytes.{Bytes}
 use Rattle.rust_tree.specs.declared.expr.Expr.{Expr, Expr-F, fold-roll-Expr}
 use Rattle.rust_tree.specs.declared.expr.Expr.TheVariants as expr
-use Rattle.rust_tree.specs.declared.expr.Expr.TheVariants.{rolls-Array, rolls-Record, rolls-Tuple}
+use Rattle.rust_tree.specs.declared.expr.Expr.TheVariants.{rolls-Record, rolls-Tuple}
 use Rattle.rust_tree.specs.declared.path.Path.{Path}
 use Rattle.rust_tree.specs.declared.pattern.Pattern.{Pattern}
 use Rattle.rust_tree.specs.declared.stmt.Stmt.TheVariants as stmt
@@ -18,7 +17,7 @@ use Rattle.wrapper_values.specs.Act.{Act, Done, ◌>>=◌, and_then, or_stop}
 use Rattle.wrapper_values.specs.Locals.{bind}
 use Rattle.wrapper_run.specs.Run.{eval, eval_step, run_stmt}
 use Rattle.wrapper_values.specs.Setting.{Setting, stuck}
-use Rattle.wrapper_values.specs.Whole.{bind_parts, given_names, parts_of, parts_of_level, record_of, rust_values, take_apart, whole}
+use Rattle.wrapper_values.specs.Whole.{bind_parts, given_names, parts_of, parts_of_level, record_of, take_apart, whole}
 
 -- one level of an expression
 
@@ -27,15 +26,6 @@ eval-record w path fields = ap (eval w) (sym (rolls-Record path fields)) ∙ fol
 
 pub eval-tuple : (w : Setting) (parts : List Expr) → eval w (expr.Tuple parts) ≡ whole w (map (eval w) parts)
 eval-tuple w parts = ap (eval w) (sym (rolls-Tuple parts)) ∙ fold-roll-Expr (Act Val) (eval_step w) (Expr-F.Tuple parts)
-
-pub eval-array : (w : Setting) (parts : List Expr) → eval w (expr.Array parts) ≡ whole w (map (eval w) parts)
-eval-array w parts = ap (eval w) (sym (rolls-Array parts)) ∙ fold-roll-Expr (Act Val) (eval_step w) (Expr-F.Array parts)
-
--- values of the Rust side are parts as they are
-
-pub rust_values-values : (rs : List RustValue) → rust_values (map val.Value rs) ≡ Some rs
-rust_values-values [] = refl
-rust_values-values (r ∷ rs) = ap (option_map (λ more. r ∷ more)) (rust_values-values rs)
 
 -- a value with parts has these parts
 pub parts-whole : (rs : List RustValue) → parts_of (val.Value (value.Struct rs)) ≡ Some rs

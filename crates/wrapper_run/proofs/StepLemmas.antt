@@ -1,6 +1,6 @@
 -- Single steps of the machine, and what leaves the calls as they are.
 use Rattle.std.proofs.Common.{◌≡◌, List, [], ◌∷◌, ◌++◌, Option, None, Some, map, refl, sym, ap, subst, true, cond, ◌∙◌, rules}
-use Rattle.std.specs.Prelude.{ℕ, zero, suc, ◌-◌, ◌^◌, ℤ, Result, Ok, Err, nat_lt, option_and_then}
+use Rattle.std.specs.Prelude.{ℕ, zero, suc, ◌-◌, ◌^◌, Result, Ok, Err, nat_lt, option_and_then}
 use Rattle.std.specs.List.{AllZip}
 use Rattle.std.specs.Option.{option_map}
 use Rattle.wit_model.specs.declared.wasm_type.WasmType.{WasmType}
@@ -17,7 +17,6 @@ use Rattle.wrapper_data.specs.declared.run.TrapKind.TheVariants as trap
 use Rattle.wrapper_values.specs.declared.state.Local.{Local}
 use Rattle.wrapper_values.specs.Act.{stop}
 use Rattle.wrapper_values.specs.Owning.{buffer_of}
-use Rattle.wrapper_run.proofs.NumberLemmas.{no_dealloc, no_text}
 use Rattle.wrapper_run.proofs.OwningLemmas.{ArePlain, buffer-text, drops_plain}
 use Rattle.wrapper_values.specs.declared.owning.View.{View}
 use Rattle.wrapper_values.specs.declared.owning.View.TheVariants as view_of
@@ -43,10 +42,10 @@ use Rattle.wrapper_values.specs.declared.state.State.{State}
 use Rattle.wrapper_values.specs.declared.state.Val.{Val}
 use Rattle.wrapper_values.specs.declared.state.Val.TheVariants as val
 use Rattle.wrapper_values.specs.Act.{Act, Outcome, Done, Stopped, ◌>>=◌, ◌>>◌, all, and_then, or_stop, pure}
-use Rattle.wrapper_values.specs.Effect.{cast_integer, cast_to, converted, integer_of_word, is_word_of, lift_of, word_of_bool}
+use Rattle.wrapper_values.specs.Effect.{cast_to, converted, lift_of, word_of_bool}
 use Rattle.wrapper_values.specs.Locals.{bind, lend_local, local_named, usable, use_local, used, value_of}
 use Rattle.wit_model.specs.Bytes.{Bytes}
-use Rattle.wrapper_values.specs.Owning.{lent, owned, owned_in}
+use Rattle.wrapper_values.specs.Owning.{owned, owned_in}
 use Rattle.wrapper_values.specs.Setting.{Setting, failed, stuck}
 use Rattle.wrapper_values.specs.Typed.{answer_in}
 use Rattle.wrapper_run.proofs.TypedLemmas.{answered_in}
@@ -66,10 +65,6 @@ unfolding use_local
 uses e name v s h o =
     ap (λ x. and_then (or_stop e (option_and_then usable x) s) (λ v. used name v (owned v))) h
     ∙ ap (λ x. and_then (or_stop e x s) (λ v. used name v (owned v))) (plain-usable v o) ∙ ap (λ x. used name v x s) o
-
-pub lends : (e : Stop) (name : Bytes) (v u : Val) (s : State) → value_of (local_named name s.locals) ≡ Some v → lent v ≡ Some u → lend_local e name s ≡ Done u s
-unfolding lend_local
-lends e name v u s h l = ap (λ o. or_stop e (option_and_then lent o) s) h ∙ ap (λ o. or_stop e o s) l
 
 -- expressions that give these values, one by one, and change nothing
 abbrev pub Give : Setting → State → List Expr → List Val → Type 0
@@ -114,9 +109,6 @@ call_gives w path es vs s h = ap (λ act. act s) (eval-call w path es) ∙ ap (�
 pub local_gives : (w : Setting) (name : Bytes) (v : Val) (s : State) → value_of (local_named name s.locals) ≡ Some v → owned v ≡ [] → eval w (expr.Local name) s ≡ Done v s
 local_gives w name v s h o = ap (λ act. act s) (eval-local w name) ∙ uses (stuck w) name v s h o
 
-pub ref_gives : (w : Setting) (name : Bytes) (v : Val) (s : State) → value_of (local_named name s.locals) ≡ Some v → lent v ≡ Some v → eval w (expr.Ref name) s ≡ Done v s
-ref_gives w name v s h l = ap (λ act. act s) (eval-ref w name) ∙ lends (stuck w) name v v s h l
-
 -- what a method tells of a local
 
 pub ask_gives : (e : Stop) (of : View) (name : Bytes) (v : Val) (x : Word) (s : State) → value_of (local_named name s.locals) ≡ Some v → view of v ≡ Some x → ask_local e of name s ≡ Done (val.Word x) s
@@ -142,46 +134,11 @@ len_gives w name p n o s h =
     ap (λ act. act s) (eval-len w name)
     ∙ ask_gives (stuck w) view_of.TextLength name (val.Value (value.Buffer p n o)) (word.Length n) s h (ap (option_map (λ b. word.Length b.1)) (buffer-text p n o))
 
-pub cast_mut_gives : (w : Setting) (name : Bytes) (p : ℕ) (s : State) → value_of (local_named name s.locals) ≡ Some (val.Word (word.Pointer p)) → eval w (expr.CastMut name) s ≡ Done (val.Word (word.Pointer p)) s
-cast_mut_gives w name p s h = ap (λ act. act s) (eval-cast_mut w name) ∙ ask_gives (stuck w) view_of.Pointer name (val.Word (word.Pointer p)) (word.Pointer p) s h refl
-
-pub cast_gives : (w : Setting) (name : Bytes) (to : CastType) (x : Word) (z : ℤ) (s : State)
-    → value_of (local_named name s.locals) ≡ Some (val.Word x) → integer_of_word x ≡ Some z → eval w (expr.Cast (expr.Local name) to) s ≡ Done (val.Value (cast_integer to z)) s
-unfolding cast_to
-cast_gives w name to x z s h k =
-    ap (λ act. act s) (eval-cast w (expr.Local name) to)
-    ∙ ap (λ o. and_then o (λ v. or_stop (stuck w) (cast_to to v))) (local_gives w name (val.Word x) s h refl)
-    ∙ ap (λ o. or_stop (stuck w) (option_map (λ z. val.Value (cast_integer to z)) o) s) k
-
 pub bool_gives : (w : Setting) (e : Expr) (v : Val) (x : Word) (s : State) → eval w e s ≡ Done v s → word_of_bool v ≡ Some x → eval w (expr.I32FromBool e) s ≡ Done (val.Word x) s
 bool_gives w e v x s h k =
     ap (λ act. act s) (eval-bool w e)
     ∙ ap (λ o. and_then o (λ v. or_stop (stuck w) (option_map val.Word (word_of_bool v)))) h
     ∙ ap (λ o. or_stop (stuck w) (option_map val.Word o) s) k
-
-converts : (w : Setting) (i : RuntimeItem) (v : Val) (x : Word) (s : State) → converted i v ≡ Some x → apply w (Some i) (v ∷ []) s ≡ Done (val.Word x) s
-unfolding converted
-converts w StringLift v x s e = absurd (cc)
-converts w CabiDealloc v x s e = absurd (cc)
-converts w i v x s e = ap (λ o. converted_or_lifted w o (lift_of w.form i v) s) e
-
-lifts : (w : Setting) (i : RuntimeItem) (v : Val) (r : RustValue) (s : State) → converted i v ≡ None → lift_of w.form i v ≡ Some (Ok r) → apply w (Some i) (v ∷ []) s ≡ Done (val.Value r) s
-lifts w StringLift v r s e f = let none : lift_of w.form StringLift v ≡ None = no_text w.form v in absurd (cc)
-lifts w CabiDealloc v r s e f = let none : lift_of w.form CabiDealloc v ≡ None = no_dealloc w.form v in absurd (cc)
-lifts w i v r s e f = ap (λ o. converted_or_lifted w o (lift_of w.form i v) s) e ∙ ap (λ o. lift_act w o s) f
-
--- a call of a function of `_rt` on one value: a conversion, or a lift
-pub runtime_gives : (w : Setting) (path : Path) (function : Bytes) (i : RuntimeItem) (v : Val) (x : Word) (s : State)
-    → callee path ≡ of_runtime function → runtime_item_named w.items function ≡ Some i → converted i v ≡ Some x → call w path (v ∷ []) s ≡ Done (val.Word x) s
-unfolding call_runtime
-runtime_gives w path function i v x s c r k =
-    ap (λ k. call_callee w k (v ∷ []) s) c ∙ ap (λ o. apply w o (v ∷ []) s) r ∙ converts w i v x s k
-
-pub lift_gives : (w : Setting) (path : Path) (function : Bytes) (i : RuntimeItem) (v : Val) (r : RustValue) (s : State)
-    → callee path ≡ of_runtime function → runtime_item_named w.items function ≡ Some i → converted i v ≡ None → lift_of w.form i v ≡ Some (Ok r) → call w path (v ∷ []) s ≡ Done (val.Value r) s
-unfolding call_runtime
-lift_gives w path function i v r s c n k l =
-    ap (λ k. call_callee w k (v ∷ []) s) c ∙ ap (λ o. apply w o (v ∷ []) s) n ∙ lifts w i v r s k l
 
 -- a call of a core import is recorded and then answered
 pub import_gives : (w : Setting) (path : Path) (name : Bytes) (vs : List Val) (s : State) (p : CallPoint) (ty : Option WasmType)
@@ -235,11 +192,6 @@ quiet_answer w ty = go w.answer
 
 pub quiet_local : (w : Setting) (name : Bytes) → Quiet (eval w (expr.Local name))
 quiet_local w name = subst Quiet (sym (eval-local w name)) (quiet_use (stuck w) name)
-
-pub quiet_cast : (w : Setting) (name : Bytes) (to : CastType) → Quiet (eval w (expr.Cast (expr.Local name) to))
-quiet_cast w name to =
-    subst Quiet (sym (eval-cast w (expr.Local name) to))
-    (quiet_then (eval w (expr.Local name)) (λ v. or_stop (stuck w) (cast_to to v)) (quiet_local w name) (λ v. quiet_or_stop (stuck w) (cast_to to v)))
 
 pub quiet_one : {A : Type 0} (act : Act A) → Quiet act → Quiet (all (act ∷ []))
 quiet_one act h = quiet_then act (λ x. pure [] >>= (λ xs. pure (x ∷ xs))) h (λ x. quiet_then (pure []) (λ xs. pure (x ∷ xs)) (quiet_pure []) (λ xs. quiet_pure (x ∷ xs)))
@@ -309,12 +261,6 @@ quiet_runtime w path function e c h =
     subst Quiet (sym (eval-call w path (e ∷ [])))
     (quiet_then (all (eval w e ∷ [])) (λ vs. call w path vs) (quiet_one (eval w e) h)
     (λ vs. subst Quiet (sym (ap (λ k. call_callee w k vs) c)) (quiet_applied w (runtime_item_named w.items function) vs)))
-
--- a word of the result's type is the call's value, and an answer of no blocks and no bytes leaves the heap
-pub answer_gives : (w : Setting) (ty : WasmType) (x : Word) (s : State) → w.answer ≡ answer.Words (Some x) [] [] → is_word_of ty x ≡ true → take_answer w (Some ty) s ≡ Done (val.Word x) s
-unfolding take_answer
-answer_gives w ty x s h k =
-    ap (λ a. answer_act w (Some ty) a s) h ∙ ap (λ b. or_stop (stuck w) (cond b (Some (val.Word x)) None) s) k
 
 pub no_answer_gives : (w : Setting) (s : State) → w.answer ≡ answer.Words None [] [] → take_answer w None s ≡ Done (val.Value value.Unit) s
 unfolding take_answer

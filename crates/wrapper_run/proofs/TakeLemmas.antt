@@ -1,17 +1,10 @@
--- Steps by which a text is loaded, taken over, tested and moved.
-use Rattle.std.proofs.Common.{◌≡◌, Bool, ℕ, zero, suc, ◌+◌, ◌<◌, ◌^◌, ◌-◌, true, false, cond, ◌||◌, List, [], ◌∷◌, ◌++◌, Option, None, Some, refl, sym, subst, ap, ◌∙◌, arith}
+-- Steps by which a text is taken over and moved, and the address of an area is told.
+use Rattle.std.proofs.Common.{◌≡◌, Bool, ℕ, zero, suc, ◌^◌, ◌-◌, true, false, cond, List, [], ◌∷◌, ◌++◌, Option, None, Some, refl, sym, subst, ap, ◌∙◌}
 use Rattle.std.specs.Prelude.{nat_eq, nat_lt, option_and_then}
 use Rattle.std.specs.Option.{option_map}
-use Rattle.std.specs.Str.{is_utf8}
-use Rattle.std.proofs.lemmas.Bool.Decides.{nat_tests}
-use Rattle.wit_model.specs.declared.size.ArchitectureSize.{ArchitectureSize}
-use Rattle.wit_model.specs.declared.wasm_type.WasmType.{WasmType}
-use Rattle.wit_model.specs.Size.{bytes_at}
 use Rattle.rust_tree.specs.declared.expr.Expr.{Expr, Expr-F, fold-roll-Expr}
 use Rattle.rust_tree.specs.declared.expr.Expr.TheVariants as expr
-use Rattle.rust_tree.specs.declared.expr.Expr.TheVariants.{rolls-FromRawParts, rolls-Load}
-use Rattle.rust_tree.specs.declared.path.Path.{Path}
-use Rattle.rust_tree.specs.declared.runtime_item.RuntimeItem.TheVariants.{StringLift}
+use Rattle.rust_tree.specs.declared.expr.Expr.TheVariants.{rolls-FromRawParts}
 use Rattle.wrapper_data.specs.declared.block.Block.{Block}
 use Rattle.wrapper_data.specs.declared.value.RustValue.TheVariants as value
 use Rattle.wrapper_data.specs.declared.run.TrapKind.TheVariants as trap
@@ -21,25 +14,23 @@ use Rattle.wrapper_values.specs.declared.state.Local.{Local}
 use Rattle.wrapper_values.specs.declared.state.State.{State}
 use Rattle.wrapper_values.specs.declared.state.Val.{Val}
 use Rattle.wrapper_values.specs.declared.state.Val.TheVariants as val
-use Rattle.wrapper_values.specs.Act.{Act, Done, ◌>>=◌, and_then, or_stop, pure, stop}
-use Rattle.wrapper_run.specs.Blocks.{untaken, lift_buffer, lift_text, own, own_block, owned_bytes, owner_of, take_over, tested}
+use Rattle.wrapper_values.specs.Act.{Act, Done, ◌>>=◌, and_then, or_stop, stop}
+use Rattle.wrapper_run.specs.Blocks.{untaken, own, own_block, owner_of, take_over}
 use Rattle.wrapper_values.specs.Locals.{local_named, moved, usable, use_local, used, value_of}
 use Rattle.wit_model.specs.Bytes.{Bytes}
-use Rattle.wrapper_run.specs.Memory.{block_at, bytes_from, loaded}
-use Rattle.wrapper_values.specs.Owning.{is_taken, owned}
-use Rattle.wrapper_run.specs.Run.{apply, call, call_callee, call_runtime, callee, eval, eval_step, load_word, of_runtime, runtime_item_named, take_bytes}
+use Rattle.wrapper_run.specs.Memory.{bytes_from}
+use Rattle.wrapper_values.specs.Owning.{owned}
+use Rattle.wrapper_run.specs.Run.{eval, eval_step, take_bytes}
 use Rattle.wrapper_values.specs.Setting.{Setting, failed, stuck}
 use Rattle.wrapper_run.proofs.LocalLemmas.{bytes_eq-same, reads-new, reads_front}
 use Rattle.wrapper_values.proofs.MovedLemmas.{moved_front, moved_last}
 use Rattle.std.specs.List.{list_any}
 use Rattle.std.specs.Str.{bytes_eq}
-use Rattle.wrapper_run.proofs.OwningLemmas.{buffer-text, owned-block, owned-empty}
-use Rattle.wrapper_run.proofs.StepLemmas.{Quiet, eval-call, eval-local, quiet_or_stop, quiet_then}
+use Rattle.wrapper_run.proofs.OwningLemmas.{owned-block, owned-empty}
+use Rattle.wrapper_run.proofs.StepLemmas.{Quiet, eval-local, quiet_then}
 use Rattle.std.proofs.Common.{rules}
 use Rattle.rust_tree.specs.declared.type_expr.TypeExpr.{TypeExpr-F, out-TypeExpr, the_lemmas as type_lemmas}
 use Rattle.rust_tree.specs.declared.type_expr.TypeExpr.TheVariants as type
-use Rattle.wrapper_data.specs.Answered.{answered}
-use Rattle.wrapper_data.specs.declared.answer.Answer.TheVariants as answer
 use Rattle.wrapper_data.specs.declared.value.RustValue.{RustValue-F, out-RustValue, the_lemmas as value_lemmas}
 use Rattle.rust_tree.specs.declared.expr.Expr.{the_lemmas}
 use Rattle.wrapper_values.specs.declared.owning.View.TheVariants as view_of
@@ -47,20 +38,8 @@ use Rattle.wrapper_run.specs.Blocks.{drop_locals, free, free_found, keep_locals,
 use Rattle.wrapper_values.specs.Effect.{answer_as, answer_of, text_of_level}
 use Rattle.wrapper_values.specs.Locals.{ask_local}
 use Rattle.wrapper_values.specs.Owning.{owned_in}
-use Rattle.wrapper_run.specs.Run.{answer_act, take_answer}
 use Rattle.wrapper_run.proofs.OwningLemmas.{ArePlain, drops_one}
 use Rattle.wrapper_run.proofs.StepLemmas.{ask_gives}
-
--- loads
-
-eval-load : (w : Setting) (e : Expr) (offset : ArchitectureSize) (ty : WasmType) → eval w (expr.Load e offset ty) ≡ (eval w e >>= load_word w offset ty)
-eval-load w e offset ty = ap (eval w) (sym (rolls-Load e offset ty)) ∙ fold-roll-Expr (Act Val) (eval_step w) (Expr-F.Load e offset ty)
-
-pub load_gives : (w : Setting) (e : Expr) (offset : ArchitectureSize) (ty : WasmType) (address place : ℕ) (x : Word) (s : State)
-    → eval w e s ≡ Done (val.Word (word.Pointer address)) s → address + bytes_at offset 4 ≡ place → loaded ty place s.heap.blocks ≡ Some x → eval w (expr.Load e offset ty) s ≡ Done (val.Word x) s
-load_gives w e offset ty address place x s h k l =
-    ap (λ act. act s) (eval-load w e offset ty) ∙ ap (λ o. and_then o (load_word w offset ty)) h
-    ∙ ap (λ place. or_stop (failed w trap.Pointer) (option_map val.Word (loaded ty place s.heap.blocks)) s) k ∙ ap (λ o. or_stop (failed w trap.Pointer) (option_map val.Word o) s) l
 
 -- take-over
 
@@ -71,37 +50,6 @@ pub raw_gives : (w : Setting) (e : Expr) (name : Bytes) (p n : ℕ) (s : State)
     → eval w e s ≡ Done (val.Word (word.Pointer p)) s → value_of (local_named name s.locals) ≡ Some (val.Word (word.Length n)) → eval w (expr.FromRawParts e name) s ≡ take_over w p n s
 raw_gives w e name p n s h k =
     ap (λ act. act s) (eval-raw w e name) ∙ ap (λ o. and_then o (λ v. λ s. take_bytes w (value_of (local_named name s.locals)) v s)) h ∙ ap (λ o. take_bytes w o (val.Word (word.Pointer p)) s) k
-
-in_bounds : (w : Setting) (p n : ℕ) (s : State) → 0 < p → n < 2 ^ 31 → take_over w p n s ≡ own w p n s
-unfolding take_over
-in_bounds w p n s pos small =
-    let a : nat_lt (2 ^ 31 - 1) n ≡ false = grind (arith, nat_tests) in
-    let b : nat_eq p 0 ≡ false = grind (arith, nat_tests) in
-    ap (λ t. cond t (stop (failed w trap.Size)) (cond (nat_eq p 0) (stop (failed w trap.Pointer)) (own w p n)) s) a ∙ ap (λ t. cond t (stop (failed w trap.Pointer)) (own w p n) s) b
-
--- an empty text has no block
-pub takes_empty : (w : Setting) (p : ℕ) (s : State) → 0 < p → take_over w p 0 s ≡ Done (val.Value (value.Buffer p 0 true)) s
-takes_empty w p s pos = in_bounds w p 0 s pos (omega arith)
-
-pub takes_block : (w : Setting) (p n : ℕ) (b : Block) (bytes : List ℕ) (s : State) → 0 < p → suc n < 2 ^ 31 → is_taken p s.taken ≡ false → block_at p (suc n) s.heap.blocks ≡ Some b → bytes_from b.cells 0 (suc n) ≡ Some bytes
-    → take_over w p (suc n) s ≡ Done (val.Value (value.Buffer p (suc n) true)) (record s { taken = s.taken ++ p ∷ [] })
-takes_block w p n b bytes s pos small free found read =
-    in_bounds w p (suc n) s pos small
-    ∙ ap (λ t. own_block w p (suc n) (cond t None (block_at p (suc n) s.heap.blocks)) s) free ∙ ap (λ o. own_block w p (suc n) o s) found ∙ ap (λ o. owner_of w p (suc n) o s) read
-
--- the use of a text that is the newest local
-
--- it is moved out of its local
-pub moves_last : (w : Setting) (name : Bytes) (p n : ℕ) (locals : List Local) (s : State) → s.locals ≡ locals ++ record { name = name; value = Some (val.Value (value.Buffer p (suc n) true)) } ∷ []
-    → eval w (expr.Local name) s ≡ Done (val.Value (value.Buffer p (suc n) true)) (record s { locals = locals ++ record { name = name; value = None } ∷ [] })
-unfolding use_local
-moves_last w name p n locals s e =
-    let v : Val = val.Value (value.Buffer p (suc n) true) in
-    let l : Local = record { name = name; value = Some v } in
-    ap (λ act. act s) (eval-local w name)
-    ∙ ap (λ o. and_then (or_stop (stuck w) (option_and_then usable o) s) (λ v. used name v (owned v))) (ap (λ ls. value_of (local_named name ls)) e ∙ reads-new name (Some v) locals)
-    ∙ ap (λ o. used name v o s) (owned-block p n)
-    ∙ ap (λ ls. Done v (record s { locals = ls })) (ap (moved name) e ∙ moved_last name locals l (bytes_eq-same name))
 
 -- the use of a text: one that owns a block is moved out of its local
 
@@ -121,10 +69,6 @@ used_up p (suc n) = None
 abbrev pub used_local : Bytes → ℕ → ℕ → Local
 used_local name p n = record { name = name; value = used_up p n }
 
-pub used-plain : (p n : ℕ) → owned_in (used_up p n) ≡ []
-used-plain p zero = owned-empty p true
-used-plain p (suc n) = refl
-
 pub uses_text : (w : Setting) (name : Bytes) (p n : ℕ) (s : State) → value_of (local_named name s.locals) ≡ Some (val.Value (value.Buffer p n true))
     → use_local (stuck w) name s ≡ Done (val.Value (value.Buffer p n true)) (record s { locals = after_use n name s.locals })
 unfolding use_local
@@ -142,9 +86,6 @@ pub use_front : (name : Bytes) (n : ℕ) (front behind : List Local) → list_an
 use_front name zero front behind e = refl
 use_front name (suc n) front behind e = moved_front name front behind e
 
-pub use_other : (name : Bytes) (n : ℕ) (locals : List Local) (l : Local) → bytes_eq l.name name ≡ false → after_use n name (locals ++ l ∷ []) ≡ after_use n name locals ++ l ∷ []
-use_other name n locals l e = use_front name n locals (l ∷ []) (ap (λ b. b || false) e)
-
 -- the value of its local, wherever it stands
 pub text_gives : (w : Setting) (name : Bytes) (p n : ℕ) (front behind : List Local) (s : State) → s.locals ≡ (front ++ text_local name p n ∷ []) ++ behind → list_any (λ l. bytes_eq l.name name) behind ≡ false
     → eval w (expr.Local name) s ≡ Done (val.Value (value.Buffer p n true)) (record s { locals = (front ++ used_local name p n ∷ []) ++ behind })
@@ -154,26 +95,7 @@ text_gives w name p n front behind s e apart =
     ∙ uses_text w name p n s (ap (λ ls. value_of (local_named name ls)) e ∙ ap value_of (reads_front name (front ++ text_local name p n ∷ []) behind apart) ∙ reads-new name (Some v) front)
     ∙ ap (λ ls. Done v (record s { locals = ls })) (ap (after_use n name) e ∙ use_front name n (front ++ text_local name p n ∷ []) behind apart ∙ ap (λ ls. ls ++ behind) (use_last name p n front))
 
--- the bytes are a text
-
-bytes_are : (w : Setting) (p n : ℕ) (bytes : List ℕ) (s : State) → owned_bytes p n s ≡ Some bytes → is_utf8 bytes ≡ true → lift_text w (val.Value (value.Buffer p n true)) s ≡ Done (val.Value (value.Buffer p n true)) s
-unfolding lift_text
-bytes_are w p n bytes s h u =
-    let v : Val = val.Value (value.Buffer p n true) in
-    ap (λ o. lift_buffer w v o s) (buffer-text p n true) ∙ ap (λ o. tested w v o s) h ∙ ap (λ b. cond b (pure v) (stop (failed w trap.Utf8)) s) u
-
--- the call of `string_lift` on a local, which is used before
-pub lifts_text : (w : Setting) (path : Path) (function name : Bytes) (p n : ℕ) (bytes : List ℕ) (s t : State) → callee path ≡ of_runtime function → runtime_item_named w.items function ≡ Some StringLift
-    → eval w (expr.Local name) s ≡ Done (val.Value (value.Buffer p n true)) t → owned_bytes p n t ≡ Some bytes → is_utf8 bytes ≡ true
-    → eval w (expr.Call path (expr.Local name ∷ [])) s ≡ Done (val.Value (value.Buffer p n true)) t
-unfolding call_runtime
-lifts_text w path function name p n bytes s t c f h o u =
-    let v : Val = val.Value (value.Buffer p n true) in
-    ap (λ act. act s) (eval-call w path (expr.Local name ∷ []))
-    ∙ ap (λ o. and_then (and_then o (λ x. pure [] >>= (λ xs. pure (x ∷ xs)))) (λ vs. call w path vs)) h
-    ∙ ap (λ k. call_callee w k (v ∷ []) t) c ∙ ap (λ i. apply w i (v ∷ []) t) f ∙ bytes_are w p n bytes t o u
-
--- none of this is a call
+-- a take-over is no call
 
 quiet_owner : (w : Setting) (p n : ℕ) (o : Option (List ℕ)) → Quiet (owner_of w p n o)
 quiet_owner w p n None = record { quiet = λ s. refl }
@@ -227,24 +149,6 @@ quiet_raw w e name h =
     subst Quiet (sym (eval-raw w e name))
     (quiet_then (eval w e) (λ v. λ s. take_bytes w (value_of (local_named name s.locals)) v s) h (λ v. record { quiet = λ s. (quiet_take w (value_of (local_named name s.locals)) v).quiet s }))
 
-quiet_word : (w : Setting) (offset : ArchitectureSize) (ty : WasmType) (x : Word) → Quiet (load_word w offset ty (val.Word x))
-quiet_word w offset ty (word.Pointer p) =
-    record { quiet = λ s. (quiet_or_stop (failed w trap.Pointer) (option_map val.Word (loaded ty (p + bytes_at offset 4) s.heap.blocks))).quiet s }
-quiet_word w offset ty (word.I32 z) = record { quiet = λ s. refl }
-quiet_word w offset ty (word.I64 z) = record { quiet = λ s. refl }
-quiet_word w offset ty (word.F32 bits) = record { quiet = λ s. refl }
-quiet_word w offset ty (word.F64 bits) = record { quiet = λ s. refl }
-quiet_word w offset ty (word.Length m) = record { quiet = λ s. refl }
-quiet_word w offset ty (word.Slot o) = record { quiet = λ s. refl }
-
-quiet_load_word : (w : Setting) (offset : ArchitectureSize) (ty : WasmType) (v : Val) → Quiet (load_word w offset ty v)
-quiet_load_word w offset ty (val.Word x) = quiet_word w offset ty x
-quiet_load_word w offset ty (val.Value r) = record { quiet = λ s. refl }
-quiet_load_word w offset ty (val.Area a m) = record { quiet = λ s. refl }
-
-pub quiet_load : (w : Setting) (e : Expr) (offset : ArchitectureSize) (ty : WasmType) → Quiet (eval w e) → Quiet (eval w (expr.Load e offset ty))
-quiet_load w e offset ty h = subst Quiet (sym (eval-load w e offset ty)) (quiet_then (eval w e) (load_word w offset ty) h (λ v. quiet_load_word w offset ty v))
-
 -- the address of an area
 
 eval-return_pointer : (w : Setting) (name : Bytes) → eval w (expr.ReturnPointer name) ≡ ask_local (stuck w) view_of.AreaAddress name
@@ -252,13 +156,6 @@ eval-return_pointer w name = search (rules, the_lemmas)
 
 pub area_gives : (w : Setting) (name : Bytes) (a n : ℕ) (s : State) → value_of (local_named name s.locals) ≡ Some (val.Area a n) → eval w (expr.ReturnPointer name) s ≡ Done (val.Word (word.Pointer a)) s
 area_gives w name a n s h = ap (λ act. act s) (eval-return_pointer w name) ∙ ask_gives (stuck w) view_of.AreaAddress name (val.Area a n) (word.Pointer a) s h refl
-
--- the answer of a call without a core result
-
-pub words_give : (w : Setting) (writes : List (ℕ × ℕ)) (blocks : List Block) (s : State) → w.answer ≡ answer.Words None writes blocks
-    → take_answer w None s ≡ Done (val.Value value.Unit) (record s { heap = answered blocks writes s.heap })
-unfolding take_answer
-words_give w writes blocks s h = ap (λ a. answer_act w None a s) h
 
 -- a text is what a function of that type answers
 

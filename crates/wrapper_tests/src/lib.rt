@@ -1,4 +1,4 @@
-//! Two wrong wrappers that the definition of a faithful one refuses, and the runs of wrappers that no row of data reaches.
+//! Runs of wrappers that no row of data reaches.
 #![tactic(auto)]
 
 #[cfg(test)]
@@ -7,6 +7,3 @@ mod copies;
 mod stuck;
 #[cfg(test)]
 mod typed;
-mod wrong;
-
-pub use wrong::{refuses_a_forgotten_area, refuses_another_word};

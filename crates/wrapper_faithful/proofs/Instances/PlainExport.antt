@@ -45,8 +45,7 @@ use Rattle.wrapper_run.proofs.StepLemmas.{Quiet, gives_plain, quiet_drop, quiet_
 use Rattle.wrapper_faithful.specs.Export.{IsExportFaithful, RunOfExport, bill_of}
 use Rattle.wrapper_faithful.specs.Passed.{Passed}
 use Rattle.wrapper_faithful.specs.Resources.{Resources, calls_of}
-use Rattle.wrapper_faithful.proofs.NoHandles.{nothing_is_dropped}
-use Rattle.wrapper_faithful.proofs.SimpleSides.{all_calls}
+use Rattle.wrapper_faithful.proofs.NoHandles.{all_calls_count, nothing_is_dropped}
 
 -- 1. The wrapper, its method and its entry
 
@@ -155,7 +154,7 @@ carries x = record {
 }
 
 pub made : (resources : Resources) (x : RunOfExport nothing tree 0) → calls_of resources nothing x.run ≡ point x.heap ∷ []
-made resources x = all_calls resources [] None x.run ∙ ap (λ (r : Run). r.calls) (same_run x) ∙ run_calls x.answer x.form x.heap x.choices
+made resources x = all_calls_count resources nothing x.run refl ∙ ap (λ (r : Run). r.calls) (same_run x) ∙ run_calls x.answer x.form x.heap x.choices
 
 run_left : (x : RunOfExport nothing tree 0) (h : HonestImplementation 2 None tt x.answer) → x.run ≡ done_run h.heap x.heap
 run_left x h = same_run x ∙ run_done x.answer x.form h.heap x.heap x.choices (h.answers ∙ ap (λ r. answer.Value r h.heap) h.stands.0)
@@ -186,6 +185,6 @@ is_faithful resources = record {
           account = λ weight. ap (λ (o : List Block). total weight (h.heap.blocks ++ o)) h.stands.1 ∙ ap (total weight) (sym (append-nil (h.heap.blocks ++ [])));
         };
       });
-  drops = λ x v call h done once. (nothing_is_dropped resources nothing x.values tt call x.run.calls refl (sym (all_calls resources [] None x.run) ∙ once)).1;
+  drops = λ x v call h done once. (nothing_is_dropped resources nothing x.values tt call x.run.calls refl (sym (all_calls_count resources nothing x.run refl) ∙ once)).1;
   returned = record { missing = refl; unnamed = refl; owns = λ v words blocks area good gives. gives.1 };
 }

@@ -1,6 +1,6 @@
 -- A wrapper that is faithful: that of an import without parameters and result, which declares it and calls it.
-use Rattle.std.proofs.Common.{◌≡◌, true, false, List, [], ◌∷◌, ◌++◌, Option, None, Some, refl, sym, ap, subst, ◌∙◌, append-nil}
-use Rattle.std.specs.Prelude.{codes}
+use Rattle.std.proofs.Common.{◌≡◌, true, false, List, [], ◌∷◌, ◌++◌, length, Option, None, Some, refl, sym, ap, subst, ◌∙◌, append-nil, arith}
+use Rattle.std.specs.Prelude.{codes, option_to_list}
 use mathlib.Core.Logic.{inr}
 use Rattle.std.specs.List.{AllByRecursion}
 use Rattle.rust_tree.specs.declared.expr.Expr.TheVariants as expr
@@ -24,13 +24,14 @@ use Rattle.wrapper_data.specs.declared.run.Target.{Target}
 use Rattle.wrapper_data.specs.declared.run.Target.TheVariants as target
 use Rattle.wrapper_data.specs.declared.value.RustValue.{RustValue}
 use Rattle.wrapper_data.specs.declared.value.RustValue.TheVariants as value
+use Rattle.wrapper_data.specs.declared.word.Word.{Word}
 use Rattle.wrapper_data.specs.Heap.{is_heap}
 use Rattle.wrapper_meaning.specs.Calls.{CallsImport}
 use Rattle.wrapper_meaning.specs.Due.{import_bill}
 use Rattle.wrapper_meaning.specs.Ends.{Ends}
 use Rattle.wrapper_meaning.specs.Gives.{GivesImport}
 use Rattle.wrapper_meaning.specs.Honest.{HonestPeer}
-use Rattle.wrapper_meaning.specs.Items.{total}
+use Rattle.wrapper_meaning.specs.Items.{SameItems, total}
 use Rattle.wrapper_meaning.specs.Shape.Shapes.{none}
 use Rattle.wrapper_values.specs.declared.state.State.{State}
 use Rattle.wrapper_values.specs.declared.state.Val.TheVariants as val
@@ -45,8 +46,7 @@ use Rattle.wrapper_run.proofs.StepLemmas.{Quiet, answers_plain, call_gives, ende
 use Rattle.wrapper_faithful.specs.Import.{AnswersHonestly, IsFaithful, RunOfImport}
 use Rattle.wrapper_faithful.specs.Passed.{Passed}
 use Rattle.wrapper_faithful.specs.Resources.{Resources, calls_of}
-use Rattle.wrapper_faithful.proofs.HonestPeers.{peer_told}
-use Rattle.wrapper_faithful.proofs.SimpleSides.{all_calls}
+use Rattle.wrapper_faithful.proofs.NoHandles.{all_calls_count}
 
 -- 1. The wrapper
 
@@ -148,13 +148,28 @@ carries heap x is = record {
 }
 
 pub made : (resources : Resources) (x : RunOfImport nothing tree 0) → calls_of resources nothing x.run ≡ point x.given.heap ∷ []
-made resources x = all_calls resources [] None x.run ∙ ap (λ (r : Run). r.calls) (same_run x) ∙ run_calls x.answer x.form x.given.heap x.choices
+made resources x = all_calls_count resources nothing x.run refl ∙ ap (λ (r : Run). r.calls) (same_run x) ∙ run_calls x.answer x.form x.given.heap x.choices
 
 -- the one honest answer
+
+no_blocks : (blocks : List Block) → SameItems blocks [] → blocks ≡ []
+no_blocks [] same = refl
+no_blocks (b ∷ blocks) same = absurd (omega (same (λ b. 1), arith))
+
+no_word : (o : Option Word) → [] ≡ option_to_list o → o ≡ None
+no_word None e = refl
+no_word (Some x) e = absurd (omega (ap length e, arith))
+
+says_nothing : (a : Answer) (c : CallPoint) → HonestPeer 2 None tt a c → a ≡ answer.Words None [] []
+says_nothing a c peer =
+    let new : peer.new ≡ [] = no_blocks peer.new (λ weight. peer.represents.brings weight ∙ ap (total weight) peer.represents.takes.1) in
+    let word : peer.result ≡ None = no_word peer.result (sym peer.represents.takes.0 ∙ peer.represents.placed.0) in
+    peer.answers ∙ ap (λ r. answer.Words r peer.writes peer.new) word ∙ ap (λ w. answer.Words None w peer.new) peer.represents.placed.1 ∙ ap (answer.Words None []) new
+
 honest_answer : (resources : Resources) (x : RunOfImport nothing tree 0) → AnswersHonestly nothing tt x.answer (calls_of resources nothing x.run) → x.run ≡ done_run x.given.heap
 honest_answer resources x honest =
     let peer : HonestPeer 2 None tt x.answer (point x.given.heap) = (subst (AllByRecursion (HonestPeer 2 None tt x.answer)) (made resources x) honest.honest).0 in
-    same_run x ∙ run_done x.answer x.form x.given.heap x.choices (peer_told None tt x.answer (point x.given.heap) x.given.formed peer)
+    same_run x ∙ run_done x.answer x.form x.given.heap x.choices (says_nothing x.answer (point x.given.heap) peer)
 
 is_faithful : (resources : Resources) → IsFaithful resources aim false tree 0 nothing
 is_faithful resources = record {
@@ -169,5 +184,5 @@ is_faithful resources = record {
         area = tt;
         gives = record { blocks = []; answers = (refl, refl); words = refl; formed = x.given.formed; account = λ weight. ap (λ (o : List Block). total weight (x.given.heap.blocks ++ o)) x.given.stand.1 };
       });
-  drops = λ x u call honest done once. record { drops = []; order = sym (all_calls resources [] None x.run) ∙ once; dropped = []; lost = λ weight. refl; each = λ weight. refl };
+  drops = λ x u call honest done once. record { drops = []; order = sym (all_calls_count resources nothing x.run refl) ∙ once; dropped = []; lost = λ weight. refl; each = λ weight. refl };
 }

@@ -38,9 +38,9 @@ use Rattle.wrapper_faithful.specs.Export.{IsExportFaithful}
 use Rattle.wrapper_faithful.specs.Import.{IsFaithful, RunOfImport}
 use Rattle.wrapper_faithful.specs.Passed.{Passed, width}
 use Rattle.wrapper_faithful.specs.Resources.{Resources, calls_of}
+use Rattle.wrapper_faithful.proofs.NoHandles.{all_calls_count}
 use Rattle.wrapper_faithful.proofs.Instances.PlainExport as plain_export
 use Rattle.wrapper_faithful.proofs.Instances.PlainImport as plain_import
-use Rattle.wrapper_faithful.proofs.SimpleSides.{all_calls}
 
 -- 1. Exports
 
@@ -123,7 +123,7 @@ never_stuck : (resources : Resources) (target : Target) (d : ImportDecl) (s : St
     → IsFaithful resources target false (import_tree d) 0 plain_import.nothing → ⊥
 never_stuck resources target d s is honest faithful =
     subst (λ r. Ends (import_bill width none tt None tt) [] (calls_of resources plain_import.nothing r) (GivesImport width false None tt [] empty []) r) is
-    (faithful.ends (ran d) tt (record { good = tt; honest = subst (AllByRecursion (HonestPeer width None tt (answer.Words None [] []))) (sym (all_calls resources [] None (run_of d) ∙ ap (λ (r : Run). r.calls) is)) honest }))
+    (faithful.ends (ran d) tt (record { good = tt; honest = subst (AllByRecursion (HonestPeer width None tt (answer.Words None [] []))) (sym (all_calls_count resources plain_import.nothing (run_of d) refl ∙ ap (λ (r : Run). r.calls) is)) honest }))
 
 -- declared with a word that is not passed (`ends`)
 

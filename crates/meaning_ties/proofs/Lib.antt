@@ -1,5 +1,0 @@
-pub mod Scalars
-pub mod Blocks
-pub mod LentTexts
-pub mod TakenTexts
-pub mod OwnedTexts

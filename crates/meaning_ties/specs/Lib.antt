@@ -1,2 +1,0 @@
-pub mod Simple
-pub mod Ties
