@@ -10,6 +10,7 @@ use crate::operand::{ExprOperand, copy_expr, is_operand};
 use abi_driver::Asked;
 use rust_tree::{CallBlock, Expr, RuntimeItem, Stmt};
 use std::alloc::Global;
+use wit_layout::SizeAlign;
 use wit_model::{Alignment, ArchitectureSize, List, OutOfMemory};
 
 /// What the body of a wrapper is.
@@ -28,13 +29,15 @@ pub struct Body {
 }
 
 impl FunctionBindgen {
-    /// The body that was made. There is no memory also where the code gives several operands or an expression that is none, and where the
-    /// area is of no size that a memory has.
-    pub fn finish(self) -> Result<Body, OutOfMemory>
-        ensures { IfOk result (λ body. IsBodyOf self body) }
+    /// The body that was made, and the layouts by which it was. There is no memory also where the code gives several operands or an expression
+    /// that is none, and where the area is of no size that a memory has.
+    pub fn finish(self) -> Result<(Body, SizeAlign), OutOfMemory>
+        ensures body { IfOk result (λ made. IsBodyOf self made.0) }
+        ensures sizes { IfOk result (λ made. made.1 ≡ self.sizes) }
     {
         let FunctionBindgen {
             alloc,
+            sizes,
             code,
             runtime,
             asked,
@@ -44,13 +47,14 @@ impl FunctionBindgen {
         let Code { call, stmts } = code;
         let tail = tail_of(alloc, &returned)?;
         let area = needed_area(asked.as_slice())?;
-        Ok(Body {
+        let body = Body {
             call,
             stmts,
             tail,
             area,
             runtime,
-        })
+        };
+        Ok((body, sizes))
     }
 }
 

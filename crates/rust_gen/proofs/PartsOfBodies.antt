@@ -1,5 +1,5 @@
 -- Bodies can be made of what stands for the parameters of an import, and of an export.
-use Rattle.std.proofs.Common.{◌≡◌, true, false, not, ◌&&◌, List, [], ◌∷◌, map, inl, inr, refl, sym, ap, ap₂, subst, ◌∙◌}
+use Rattle.std.proofs.Common.{◌≡◌, true, false, not, ◌&&◌, List, [], ◌∷◌, Option, Some, map, inl, inr, refl, sym, ap, ap₂, subst, ◌∙◌}
 use Rattle.std.specs.List.{AllByRecursion}
 use Rattle.wit_model.specs.Bytes.{Bytes}
 use Rattle.wit_model.specs.Distinct.{is_distinct}
@@ -11,6 +11,7 @@ use Rattle.wit_model.specs.declared.types.WitType.TheVariants as wit
 use Rattle.rust_tree.specs.declared.export.CoreParam.{CoreParam}
 use Rattle.rust_tree.specs.Ident.{rust_ident}
 use Rattle.wit_layout.specs.Filled.{IsFilledFor}
+use Rattle.wit_layout.specs.declared.size_align.SizeAlign.{SizeAlign}
 use Rattle.gen_accept.specs.DeclaredNames.{param_idents}
 use Rattle.func_gen.specs.Records.{CanBeDefined}
 use Rattle.func_gen.specs.Scope.{is_used}
@@ -21,6 +22,7 @@ use Rattle.wrapper_closing.specs.declared.parts.BodyParts.{BodyParts}
 use Rattle.wrapper_closing.proofs.LocalSites.{are_sites, named_so}
 use Rattle.rust_gen.specs.Body.{import_site, site_expr}
 use Rattle.rust_gen.specs.FixedName.{IsFixedName}
+use Rattle.rust_gen.specs.Known.{AreLaidOut}
 
 -- a fixed name is that of no parameter
 free-name : (params : List Bytes) (base name : Bytes) → IsFixedName params base name → is_used params name ≡ false
@@ -60,3 +62,11 @@ export-are types args parts filled area params records distinct = record {
   distinct = ap₂ (λ a ns. is_distinct (a ∷ ns)) area (ap site_names params ∙ named_so (arg_names args)) ∙ distinct;
   defined = subst CanBeDefined (sym records) none-defined;
 }
+
+-- the layouts that were taken are those of the types
+pub taken-layouts : (types : List TypeDef) (o : Option SizeAlign) (sizes : SizeAlign) → AreLaidOut types o → o ≡ Some sizes → IsFilledFor sizes types
+taken-layouts types o sizes laid is = subst (AreLaidOut types) is laid
+
+-- and they are so when they are handed back
+pub given-layouts : (types : List TypeDef) (parts : BodyParts) (sizes : SizeAlign) → AreParts types parts → sizes ≡ parts.sizes → AreLaidOut types (Some sizes)
+given-layouts types parts sizes are is = subst (λ s. IsFilledFor s types) (sym is) are.filled

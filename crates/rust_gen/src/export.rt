@@ -1,19 +1,21 @@
 //! The wrapper of an exported function.
 
-ghost use Rattle.std.specs.Prelude.{◌≡◌, ◌∷◌, true, IfOk};
+ghost use Rattle.std.specs.Prelude.{◌≡◌, ◌∷◌, true, IfOk, OnOk};
 ghost use Rattle.wit_model.specs.Distinct.{is_distinct};
 ghost use Rattle.wit_model.specs.IndexRange.{function_in_range};
 ghost use Rattle.wit_model.specs.WellFormed.{IsWellFormed};
 ghost use Rattle.rust_tree.specs.Ident.{rust_ident};
 ghost use Rattle.wrapper_closing.specs.Params.{arg_names, ret_area};
 ghost use Rattle.rust_gen.specs.Body.{AreExportParts, CallsMethodOf, IsCodeOf, IsExportCode, IsExportMade, IsExportOutside};
+ghost use Rattle.rust_gen.specs.Known.{AreLaidOut};
 
 use crate::exported::{export_result, guest_name};
-use crate::sizes::sizes;
+use crate::sizes::take_layouts;
 use abi_driver::Asked;
 use func_gen::Body;
 use rust_tree::{Block, CallBlock, CoreParam, ExportFn, RuntimeItem, to_rust_ident};
 use std::alloc::Global;
+use wit_layout::SizeAlign;
 use wit_model::{Function, List, OutOfMemory, Resolve};
 use wrapper_closing::{BodyParts, core_params, core_sites, export_body, ret_area};
 
@@ -34,14 +36,16 @@ pub(crate) struct ExportCode {
 pub(crate) fn export_parts(
     alloc: Global,
     resolve: &Resolve,
+    layouts: &mut Option<SizeAlign>,
     params: &[CoreParam],
 ) -> Result<BodyParts, OutOfMemory>
     requires well { IsWellFormed resolve.now }
     requires distinct { is_distinct (ret_area ∷ arg_names params.now) ≡ true }
+    requires laid { AreLaidOut resolve.now.types layouts.old }
     ensures { IfOk result (AreExportParts resolve.now.types params.now) }
 {
     let parts = BodyParts {
-        sizes: sizes(alloc, resolve)?,
+        sizes: take_layouts(layouts)?,
         home: guest_name(alloc)?,
         area: ret_area(alloc)?,
         params: core_sites(alloc, params)?,
@@ -72,14 +76,22 @@ fn code_of(body: Body) -> Result<ExportCode, OutOfMemory>
     }
 }
 
-fn export_code(alloc: Global, resolve: &Resolve, f: &Function) -> Result<ExportCode, OutOfMemory>
+fn export_code(
+    alloc: Global,
+    resolve: &Resolve,
+    layouts: &mut Option<SizeAlign>,
+    f: &Function,
+) -> Result<ExportCode, OutOfMemory>
     requires well { IsWellFormed resolve.now }
     requires within { function_in_range resolve.now f.now ≡ true }
-    ensures { IfOk result (IsExportCode resolve.now.types f.entry) }
+    requires laid { AreLaidOut resolve.now.types layouts.old }
+    ensures made { IfOk result (IsExportCode resolve.now.types f.entry) }
+    ensures kept { OnOk result (AreLaidOut resolve.now.types layouts.new) }
 {
     let params = core_params(alloc, resolve, f)?;
-    let parts = export_parts(alloc, resolve, params.as_slice())?;
-    let body = export_body(alloc, resolve, f, parts)?;
+    let parts = export_parts(alloc, resolve, layouts, params.as_slice())?;
+    let (body, sizes) = export_body(alloc, resolve, f, parts)?;
+    *layouts = Some(sizes);
     let code = code_of(body)?;
     Ok(code)
 }
@@ -114,13 +126,20 @@ fn export_fn(
 }
 
 /// The same, where the block calls the method of the function. There is no memory also where it doesn't.
-fn calling_code(alloc: Global, resolve: &Resolve, f: &Function) -> Result<ExportCode, OutOfMemory>
+fn calling_code(
+    alloc: Global,
+    resolve: &Resolve,
+    layouts: &mut Option<SizeAlign>,
+    f: &Function,
+) -> Result<ExportCode, OutOfMemory>
     requires well { IsWellFormed resolve.now }
     requires within { function_in_range resolve.now f.now ≡ true }
+    requires laid { AreLaidOut resolve.now.types layouts.old }
     ensures code { IfOk result (IsExportCode resolve.now.types f.entry) }
     ensures calls { IfOk result (λ code. CallsMethodOf f.now code.call) }
+    ensures kept { OnOk result (AreLaidOut resolve.now.types layouts.new) }
 {
-    let code = export_code(alloc, resolve, f)?;
+    let code = export_code(alloc, resolve, layouts, f)?;
     if calls(alloc, f, &code.call)? {
         Ok(code)
     } else {
@@ -140,18 +159,21 @@ pub(crate) struct ExportMade {
 pub(crate) fn export_wrapper(
     alloc: Global,
     resolve: &Resolve,
+    layouts: &mut Option<SizeAlign>,
     f: &Function,
 ) -> Result<ExportMade, OutOfMemory>
     requires well { IsWellFormed resolve.now }
     requires within { function_in_range resolve.now f.now ≡ true }
-    ensures { IfOk result (IsExportMade resolve.now.types f.now) }
+    requires laid { AreLaidOut resolve.now.types layouts.old }
+    ensures made { IfOk result (IsExportMade resolve.now.types f.now) }
+    ensures kept { OnOk result (AreLaidOut resolve.now.types layouts.new) }
 {
     let ExportCode {
         call,
         rest,
         area,
         runtime,
-    } = calling_code(alloc, resolve, f)?;
+    } = calling_code(alloc, resolve, layouts, f)?;
     let wrapper = export_fn(alloc, resolve, f, call, rest)?;
     Ok(ExportMade {
         wrapper,

@@ -1,15 +1,17 @@
 //! The post-return function of an exported function.
 
-ghost use Rattle.std.specs.Prelude.{◌≡◌, true, IfOk};
+ghost use Rattle.std.specs.Prelude.{◌≡◌, true, IfOk, OnOk};
 ghost use Rattle.wit_model.specs.IndexRange.{function_in_range};
 ghost use Rattle.wit_model.specs.WellFormed.{IsWellFormed};
 ghost use Rattle.rust_gen.specs.Body.{IsReturnCode, IsReturnMade, IsReturnOutside};
+ghost use Rattle.rust_gen.specs.Known.{AreLaidOut};
 
 use crate::export::export_parts;
 use crate::exported::guest_name;
 use func_gen::Body;
 use rust_tree::{Block, PostReturnFn, RuntimeItem};
 use std::alloc::Global;
+use wit_layout::SizeAlign;
 use wit_model::{Function, List, OutOfMemory, Resolve};
 use wrapper_closing::{post_return_body, post_return_params};
 
@@ -17,23 +19,28 @@ use wrapper_closing::{post_return_body, post_return_params};
 fn return_code(
     alloc: Global,
     resolve: &Resolve,
+    layouts: &mut Option<SizeAlign>,
     f: &Function,
 ) -> Result<(Block, List<RuntimeItem>), OutOfMemory>
     requires well { IsWellFormed resolve.now }
     requires within { function_in_range resolve.now f.now ≡ true }
-    ensures { IfOk result (λ made. IsReturnCode resolve.now.types f.now made.0 made.1) }
+    requires laid { AreLaidOut resolve.now.types layouts.old }
+    ensures made { IfOk result (λ made. IsReturnCode resolve.now.types f.now made.0 made.1) }
+    ensures kept { OnOk result (AreLaidOut resolve.now.types layouts.new) }
 {
     let params = post_return_params(alloc, resolve, f)?;
     if params.is_empty() {
         return Err(OutOfMemory);
     }
-    let parts = export_parts(alloc, resolve, params.as_slice())?;
+    let parts = export_parts(alloc, resolve, layouts, params.as_slice())?;
+    let (body, sizes) = post_return_body(alloc, resolve, f, parts)?;
+    *layouts = Some(sizes);
     let Body {
         stmts,
         tail,
         runtime,
         ..
-    } = post_return_body(alloc, resolve, f, parts)?;
+    } = body;
     Ok((Block { stmts, tail }, runtime))
 }
 
@@ -59,13 +66,16 @@ fn return_fn(
 pub(crate) fn post_return(
     alloc: Global,
     resolve: &Resolve,
+    layouts: &mut Option<SizeAlign>,
     f: &Function,
 ) -> Result<(PostReturnFn, List<RuntimeItem>), OutOfMemory>
     requires well { IsWellFormed resolve.now }
     requires within { function_in_range resolve.now f.now ≡ true }
-    ensures { IfOk result (λ made. IsReturnMade resolve.now.types f.now made.0 made.1) }
+    requires laid { AreLaidOut resolve.now.types layouts.old }
+    ensures made { IfOk result (λ made. IsReturnMade resolve.now.types f.now made.0 made.1) }
+    ensures kept { OnOk result (AreLaidOut resolve.now.types layouts.new) }
 {
-    let (body, runtime) = return_code(alloc, resolve, f)?;
+    let (body, runtime) = return_code(alloc, resolve, layouts, f)?;
     let function = return_fn(alloc, resolve, f, body)?;
     Ok((function, runtime))
 }

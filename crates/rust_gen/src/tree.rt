@@ -15,7 +15,7 @@ ghost use Rattle.gen_accept.specs.DeclaredNames.{param_idents};
 ghost use Rattle.gen_accept.specs.Emitted.{emitted_places};
 ghost use Rattle.rust_gen.specs.Body.{ArePartsWritten, IsExportWritten, IsReturnWritten, IsWritten, ReturnWritten};
 ghost use Rattle.rust_gen.specs.Bound.{AreItems, Binds, Parts, areas_of, export_items, return_items};
-ghost use Rattle.rust_gen.specs.Known.{AreInRange, HaveDistinctParams, IsKnown};
+ghost use Rattle.rust_gen.specs.Known.{AreInRange, AreLaidOut, HaveDistinctParams, IsKnown};
 ghost use Rattle.rust_gen.specs.OptionLines.{option_lines, unused_types_line};
 ghost use Rattle.rust_gen.specs.Runtime.{runtime_module};
 
@@ -24,12 +24,14 @@ use crate::exported::{push_area, push_last_macro, push_trait_and_macro};
 use crate::import::import_wrapper;
 use crate::post_return::post_return;
 use crate::runtime::runtime_items;
+use crate::sizes::layouts;
 use crate::sound::test_at;
 use abi_driver::Asked;
 use gen_accept::{Opts, functions_in, needs_area, places_in};
 use rust_tree::{Bindings, FuncPlace, Item, RuntimeItem, TypeItem};
 use std::alloc::Global;
 use type_defs::{definitions_of, one};
+use wit_layout::SizeAlign;
 use wit_model::{Function, List, OutOfMemory, Resolve, Text, World, WorldId};
 
 fn type_items(alloc: Global, types: List<TypeItem>) -> Result<List<Item>, OutOfMemory>
@@ -46,16 +48,19 @@ fn type_items(alloc: Global, types: List<TypeItem>) -> Result<List<Item>, OutOfM
 fn push_import(
     alloc: Global,
     resolve: &Resolve,
+    layouts: &mut Option<SizeAlign>,
     items: &mut List<Item>,
     f: &Function,
 ) -> Result<(), OutOfMemory>
     requires well { IsWellFormed resolve.now }
     requires within { function_in_range resolve.now f.now ≡ true }
     requires distinct { is_distinct (param_idents f.now) ≡ true }
-    ensures { OnOk result
+    requires laid { AreLaidOut resolve.now.types layouts.old }
+    ensures made { OnOk result
         ((w : FnItem) × (items.new ≡ items.old ++ item.Import w ∷ []) × IsWritten resolve.now.types f.now w) }
+    ensures kept { OnOk result (AreLaidOut resolve.now.types layouts.new) }
 {
-    let (wrapper, runtime) = import_wrapper(alloc, resolve, f)?;
+    let (wrapper, runtime) = import_wrapper(alloc, resolve, layouts, f)?;
     let at = items.len();
     items.push(Item::Import(wrapper))?;
     test_at(alloc, items.as_slice(), at, runtime.as_slice())?;
@@ -65,17 +70,20 @@ fn push_import(
 fn push_imports(
     alloc: Global,
     resolve: &Resolve,
+    layouts: &mut Option<SizeAlign>,
     items: &mut List<Item>,
     functions: &[&Function],
 ) -> Result<(), OutOfMemory>
     requires well { IsWellFormed resolve.now }
     requires within { AreInRange resolve.now (map (λ f. f.now) functions.now) }
     requires distinct { HaveDistinctParams (map (λ f. f.now) functions.now) }
-    ensures { OnOk result
+    requires laid { AreLaidOut resolve.now.types layouts.old }
+    ensures made { OnOk result
         ((ws : List FnItem) × (items.new ≡ items.old ++ map item.Import ws) × AllZip (IsWritten resolve.now.types) (map (λ f. f.now) functions.now) ws) }
+    ensures kept { OnOk result (AreLaidOut resolve.now.types layouts.new) }
 {
     for function in functions {
-        push_import(alloc, resolve, items, function)?;
+        push_import(alloc, resolve, layouts, items, function)?;
     }
     Ok(())
 }
@@ -84,19 +92,22 @@ fn push_imports(
 fn push_wrapper(
     alloc: Global,
     resolve: &Resolve,
+    layouts: &mut Option<SizeAlign>,
     items: &mut List<Item>,
     f: &Function,
 ) -> Result<Option<Asked>, OutOfMemory>
     requires well { IsWellFormed resolve.now }
     requires within { function_in_range resolve.now f.now ≡ true }
-    ensures { IfOk result
+    requires laid { AreLaidOut resolve.now.types layouts.old }
+    ensures made { IfOk result
         (λ area. (e : ExportFn) × (items.new ≡ items.old ++ item.Export e ∷ []) × IsExportWritten resolve.now.types f.now e area) }
+    ensures kept { OnOk result (AreLaidOut resolve.now.types layouts.new) }
 {
     let ExportMade {
         wrapper,
         area,
         runtime,
-    } = export_wrapper(alloc, resolve, f)?;
+    } = export_wrapper(alloc, resolve, layouts, f)?;
     let at = items.len();
     items.push(Item::Export(wrapper))?;
     test_at(alloc, items.as_slice(), at, runtime.as_slice())?;
@@ -107,15 +118,18 @@ fn push_wrapper(
 fn push_returning(
     alloc: Global,
     resolve: &Resolve,
+    layouts: &mut Option<SizeAlign>,
     items: &mut List<Item>,
     f: &Function,
 ) -> Result<(), OutOfMemory>
     requires well { IsWellFormed resolve.now }
     requires within { function_in_range resolve.now f.now ≡ true }
-    ensures { OnOk result
+    requires laid { AreLaidOut resolve.now.types layouts.old }
+    ensures made { OnOk result
         ((p : PostReturnFn) × (items.new ≡ items.old ++ item.PostReturn p ∷ []) × IsReturnWritten resolve.now.types f.now p) }
+    ensures kept { OnOk result (AreLaidOut resolve.now.types layouts.new) }
 {
-    let (function, runtime) = post_return(alloc, resolve, f)?;
+    let (function, runtime) = post_return(alloc, resolve, layouts, f)?;
     let at = items.len();
     items.push(Item::PostReturn(function))?;
     test_at(alloc, items.as_slice(), at, runtime.as_slice())?;
@@ -126,16 +140,19 @@ fn push_returning(
 fn push_post_return(
     alloc: Global,
     resolve: &Resolve,
+    layouts: &mut Option<SizeAlign>,
     items: &mut List<Item>,
     f: &Function,
 ) -> Result<(), OutOfMemory>
     requires well { IsWellFormed resolve.now }
     requires within { function_in_range resolve.now f.now ≡ true }
-    ensures { OnOk result
+    requires laid { AreLaidOut resolve.now.types layouts.old }
+    ensures made { OnOk result
         ((p : Option PostReturnFn) × (items.new ≡ items.old ++ return_items p) × ReturnWritten resolve.now.types (needs_area f.now.result) f.now p) }
+    ensures kept { OnOk result (AreLaidOut resolve.now.types layouts.new) }
 {
     if needs_area(&f.result) {
-        push_returning(alloc, resolve, items, f)?;
+        push_returning(alloc, resolve, layouts, items, f)?;
         Ok(())
     } else {
         Ok(())
@@ -156,17 +173,20 @@ fn push_needed(areas: &mut List<Asked>, area: Option<Asked>) -> Result<(), OutOf
 fn push_export(
     alloc: Global,
     resolve: &Resolve,
+    layouts: &mut Option<SizeAlign>,
     items: &mut List<Item>,
     areas: &mut List<Asked>,
     f: &Function,
 ) -> Result<(), OutOfMemory>
     requires well { IsWellFormed resolve.now }
     requires within { function_in_range resolve.now f.now ≡ true }
-    ensures { OnOk result
+    requires laid { AreLaidOut resolve.now.types layouts.old }
+    ensures made { OnOk result
         ((parts : Parts) × (items.new ≡ items.old ++ export_items parts) × (areas.new ≡ areas.old ++ option_to_list parts.2) × ArePartsWritten resolve.now.types f.now parts) }
+    ensures kept { OnOk result (AreLaidOut resolve.now.types layouts.new) }
 {
-    let area = push_wrapper(alloc, resolve, items, f)?;
-    push_post_return(alloc, resolve, items, f)?;
+    let area = push_wrapper(alloc, resolve, layouts, items, f)?;
+    push_post_return(alloc, resolve, layouts, items, f)?;
     push_needed(areas, area)?;
     Ok(())
 }
@@ -175,17 +195,20 @@ fn push_export(
 fn push_exports(
     alloc: Global,
     resolve: &Resolve,
+    layouts: &mut Option<SizeAlign>,
     items: &mut List<Item>,
     functions: &[&Function],
 ) -> Result<List<Asked>, OutOfMemory>
     requires well { IsWellFormed resolve.now }
     requires within { AreInRange resolve.now (map (λ f. f.now) functions.now) }
-    ensures { IfOk result
+    requires laid { AreLaidOut resolve.now.types layouts.old }
+    ensures made { IfOk result
         (λ areas. (es : List Parts) × (items.new ≡ items.old ++ flat_map export_items es) × (areas ≡ flat_map option_to_list (areas_of es)) × AllZip (ArePartsWritten resolve.now.types) (map (λ f. f.now) functions.now) es) }
+    ensures kept { OnOk result (AreLaidOut resolve.now.types layouts.new) }
 {
     let mut areas = List::new(alloc);
     for function in functions {
-        push_export(alloc, resolve, items, &mut areas, function)?;
+        push_export(alloc, resolve, layouts, items, &mut areas, function)?;
     }
     Ok(areas)
 }
@@ -214,8 +237,9 @@ fn world_items(
     let exports = functions_in(alloc, world.exports.as_slice())?;
     let types = definitions_of(alloc, opts.type_opts(), resolve, id, world)?;
     let mut items = type_items(alloc, types)?;
-    push_imports(alloc, resolve, &mut items, imports.as_slice())?;
-    let areas = push_exports(alloc, resolve, &mut items, exports.as_slice())?;
+    let mut layouts = layouts(alloc, resolve)?;
+    push_imports(alloc, resolve, &mut layouts, &mut items, imports.as_slice())?;
+    let areas = push_exports(alloc, resolve, &mut layouts, &mut items, exports.as_slice())?;
     push_trait_and_macro(alloc, resolve, &mut items, world, exports.as_slice())?;
     push_area(&mut items, areas.as_slice())?;
     let asked = runtime_items(alloc, items.as_slice())?;

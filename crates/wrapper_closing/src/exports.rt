@@ -12,22 +12,23 @@ use crate::parts::{BodyParts, begin};
 use abi_driver::{LiftLower, call};
 use func_gen::Body;
 use std::alloc::Global;
-use wit_layout::AbiVariant;
+use wit_layout::{AbiVariant, SizeAlign};
 use wit_model::{Function, OutOfMemory, Resolve};
 
-/// The body of the wrapper of an exported function: the block that calls its method, and the driver's code behind it. Of a function for which
-/// there is no such code, the answer is `OutOfMemory`, as where memory is wanting.
+/// The body of the wrapper of an exported function: the block that calls its method, and the driver's code behind it; and the layouts of its
+/// parts. Of a function for which there is no such code, the answer is `OutOfMemory`, as where memory is wanting.
 pub fn export_body(
     alloc: Global,
     resolve: &Resolve,
     func: &Function,
     parts: BodyParts,
-) -> Result<Body, OutOfMemory>
+) -> Result<(Body, SizeAlign), OutOfMemory>
     requires well { IsWellFormed resolve.now }
     requires within { function_in_range resolve.now func.now ≡ true }
     requires parts { AreParts resolve.now.types parts }
     requires many { length parts.params ≡ length (export_params resolve.now.types func.now) }
-    ensures { IfOk result (MakesExport resolve.now.types func.entry parts) }
+    ensures makes { IfOk result (λ made. MakesExport resolve.now.types func.entry parts made.0) }
+    ensures sizes { IfOk result (λ made. made.1 ≡ parts.sizes) }
 {
     let mut bindgen = begin(alloc, false, parts)?;
     call(
@@ -38,11 +39,11 @@ pub fn export_body(
         func,
         &mut bindgen,
     )?;
-    let body = bindgen.finish()?;
+    let (body, sizes) = bindgen.finish()?;
     if !calls_method(&body) || !declares_no_area(body.stmts.as_slice()) {
         return Err(OutOfMemory);
     }
-    Ok(body)
+    Ok((body, sizes))
 }
 
 /// Whether a body has a block that calls a method, and that declares no area.

@@ -10,22 +10,23 @@ use crate::parts::{BodyParts, begin};
 use abi_driver::{LiftLower, call};
 use func_gen::Body;
 use std::alloc::Global;
-use wit_layout::AbiVariant;
+use wit_layout::{AbiVariant, SizeAlign};
 use wit_model::{Function, OutOfMemory, Resolve};
 
-/// The body of the wrapper of an imported function: the driver's code for it. Of a function for which there is no such code, the answer is
-/// `OutOfMemory`, as where memory is wanting.
+/// The body of the wrapper of an imported function, which is the driver's code for it; and the layouts of its parts. Of a function for which
+/// there is no such code, the answer is `OutOfMemory`, as where memory is wanting.
 pub fn import_body(
     alloc: Global,
     resolve: &Resolve,
     func: &Function,
     parts: BodyParts,
-) -> Result<Body, OutOfMemory>
+) -> Result<(Body, SizeAlign), OutOfMemory>
     requires well { IsWellFormed resolve.now }
     requires within { function_in_range resolve.now func.now ≡ true }
     requires parts { AreParts resolve.now.types parts }
     requires many { length parts.params ≡ length func.now.params }
-    ensures { IfOk result (MakesImport resolve.now.types func.entry parts) }
+    ensures makes { IfOk result (λ made. MakesImport resolve.now.types func.entry parts made.0) }
+    ensures sizes { IfOk result (λ made. made.1 ≡ parts.sizes) }
 {
     let mut bindgen = begin(alloc, true, parts)?;
     call(
@@ -36,9 +37,9 @@ pub fn import_body(
         func,
         &mut bindgen,
     )?;
-    let body = bindgen.finish()?;
+    let (body, sizes) = bindgen.finish()?;
     if body.call.is_some() {
         return Err(OutOfMemory);
     }
-    Ok(body)
+    Ok((body, sizes))
 }

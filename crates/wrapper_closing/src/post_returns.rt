@@ -10,27 +10,29 @@ use crate::parts::{BodyParts, begin};
 use abi_driver::post_return;
 use func_gen::Body;
 use std::alloc::Global;
+use wit_layout::SizeAlign;
 use wit_model::{Function, OutOfMemory, Resolve};
 
-/// The body of the post-return function of an exported function: the driver's code by which the blocks of its result are freed. Of a
-/// function for which there is no such code, the answer is `OutOfMemory`, as where memory is wanting.
+/// The body of the post-return function of an exported function, which is the driver's code by which the blocks of its result are freed; and the
+/// layouts of its parts. Of a function for which there is no such code, the answer is `OutOfMemory`, as where memory is wanting.
 pub fn post_return_body(
     alloc: Global,
     resolve: &Resolve,
     func: &Function,
     parts: BodyParts,
-) -> Result<Body, OutOfMemory>
+) -> Result<(Body, SizeAlign), OutOfMemory>
     requires well { IsWellFormed resolve.now }
     requires within { function_in_range resolve.now func.now ≡ true }
     requires parts { AreParts resolve.now.types parts }
     requires some { 0 < length parts.params }
-    ensures { IfOk result (MakesPostReturn resolve.now.types func.now parts) }
+    ensures makes { IfOk result (λ made. MakesPostReturn resolve.now.types func.now parts made.0) }
+    ensures sizes { IfOk result (λ made. made.1 ≡ parts.sizes) }
 {
     let mut bindgen = begin(alloc, false, parts)?;
     post_return(alloc, resolve, func, &mut bindgen)?;
-    let body = bindgen.finish()?;
+    let (body, sizes) = bindgen.finish()?;
     if body.call.is_some() {
         return Err(OutOfMemory);
     }
-    Ok(body)
+    Ok((body, sizes))
 }

@@ -2,6 +2,7 @@ use Rattle.std.proofs.Common.{ap, length, ◌∙◌}
 use Rattle.std.proofs.lemmas.List.{length-map}
 use Rattle.wrapper_closing.specs.ImportBlock.{block_of}
 use Rattle.rust_gen.specs.Body.{import_site}
+use Rattle.rust_gen.proofs.PartsOfBodies.{given-layouts}
 use Rattle.rust_gen.proofs.import.import_code.Goals as goal
 
 pub import_body-requires : goal.import_body-requires
@@ -12,12 +13,15 @@ import_body-requires c = record {
   many = ap length c.in_ok-parts.ensures.params ∙ length-map c.args.f.now.params import_site;
 }
 
-pub returns : goal.returns
-returns c = record {
+pub returns-clause-made : goal.returns-clause-made
+returns-clause-made c = record {
   parts = c.in_ok-parts.parts;
   made_of = c.in_ok-parts.ensures;
   body = c.in_ok-body.body;
-  makes = c.in_ok-body.ensures;
+  makes = c.in_ok-body.ensures.makes;
   is = c.in_ok-made.ensures.block ∙ ap (λ area. block_of area c.in_ok-body.body) c.in_ok-area.ensures;
   asks = c.in_ok-made.ensures.runtime;
 }
+
+pub returns-clause-kept : goal.returns-clause-kept
+returns-clause-kept c = given-layouts c.args.resolve.now.types c.in_ok-parts.parts c.in_ok-body.sizes c.in_ok-parts.ensures.are c.in_ok-body.ensures.sizes

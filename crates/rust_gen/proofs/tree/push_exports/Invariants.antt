@@ -3,9 +3,10 @@ use Rattle.std.specs.Prelude.{option_to_list}
 use Rattle.std.specs.List.{AllZip, flat_map}
 use Rattle.rust_gen.specs.Body.{ArePartsWritten}
 use Rattle.rust_gen.specs.Bound.{Parts, areas_of, export_items}
+use Rattle.rust_gen.specs.Known.{AreLaidOut}
 use Rattle.rust_gen.proofs.tree.push_exports.Given as goal
 
 abbrev pub invariant-loop-function : goal.invariant-loop-function
 invariant-loop-function l =
-    (es : List Parts) × (l.items ≡ l.initial.items ++ flat_map export_items es) × (l.areas ≡ flat_map option_to_list (areas_of es))
+    AreLaidOut l.resolve.types l.layouts × (es : List Parts) × (l.items ≡ l.initial.items ++ flat_map export_items es) × (l.areas ≡ flat_map option_to_list (areas_of es))
     × AllZip (ArePartsWritten l.resolve.types) (map (λ f. f.now) (take l.function-index l.functions)) es

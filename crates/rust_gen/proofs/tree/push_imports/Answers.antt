@@ -16,11 +16,15 @@ pub push_import-requires-clause-distinct : goal.push_import-requires-clause-dist
 push_import-requires-clause-distinct c =
     at-loop (λ f. is_distinct (param_idents f) ≡ true) c.args.functions.now c.requires.distinct c.loop-function.function-index c.function-item.result (omega arith) c.function-item.is
 
+pub push_import-requires-clause-laid : goal.push_import-requires-clause-laid
+push_import-requires-clause-laid c = c.loop-function.invariant.0
+
 pub loop-function-preserved : goal.loop-function-preserved
 loop-function-preserved c =
-    let before = c.loop-function.invariant.0 in
-    let more = c.in_ok-push_import.ensures in (
+    let before = c.loop-function.invariant.1 in
+    let more = c.in_ok-push_import.ensures.made in (
+      c.in_ok-push_import.ensures.kept,
       before ++ more.0 ∷ [],
-      more.1 ∙ ap (λ is. is ++ item.Import more.0 ∷ []) c.loop-function.invariant.1 ∙ append_assoc c.args.items.now _ _ ∙ ap (λ is. c.args.items.now ++ is) (sym (map-append item.Import before (more.0 ∷ []))),
-      wraps-more (IsWritten c.args.resolve.now.types) c.args.functions.now c.loop-function.function-index c.function-item.result before more.0 (omega arith) c.function-item.is c.loop-function.invariant.2 more.2,
+      more.1 ∙ ap (λ is. is ++ item.Import more.0 ∷ []) c.loop-function.invariant.2 ∙ append_assoc c.args.items.now _ _ ∙ ap (λ is. c.args.items.now ++ is) (sym (map-append item.Import before (more.0 ∷ []))),
+      wraps-more (IsWritten c.args.resolve.now.types) c.args.functions.now c.loop-function.function-index c.function-item.result before more.0 (omega arith) c.function-item.is c.loop-function.invariant.3 more.2,
     )
