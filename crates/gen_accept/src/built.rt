@@ -57,9 +57,7 @@ fn are_built_types(params: &[Param]) -> bool
 fn is_built_function(f: &Function) -> bool
     ensures { result ≡ is_built_function f.now }
 {
-    is_freestanding(f.kind)
-        && are_built_types(f.params.as_slice())
-        && is_built_result(&f.result)
+    is_freestanding(f.kind) && are_built_types(f.params.as_slice()) && is_built_result(&f.result)
 }
 
 fn is_built_item(item: &WorldItem) -> bool
