@@ -8,6 +8,10 @@ pub mod WrongEntries
 pub mod WrongSignatures
 pub mod WrongPostReturns
 pub mod SharedAreas
+pub mod PassingAPointer
+pub mod AnotherPointer
+pub mod StoringAPair
+pub mod ForgottenArea
 pub mod IllFormedHeaps
 pub mod OwnedArgument
 pub mod WidePointers
