@@ -4,7 +4,7 @@ use Rattle.std.specs.Prelude.{option_to_list}
 use Rattle.std.specs.List.{flat_map, list_any}
 use Rattle.std.specs.Option.{option_or}
 use Rattle.std.specs.Str.{bytes_eq}
-use Rattle.std.proofs.lemmas.Bool.{not-true, or_parts}
+use Rattle.std.proofs.lemmas.Bool.{or_parts}
 use Rattle.std.proofs.lemmas.Grind.{flat_map-append}
 use Rattle.std.proofs.lemmas.List.Folds.{list_any-append}
 use Rattle.std.proofs.lemmas.Slice.Eq.{bytes_eq-Decides}
@@ -25,13 +25,11 @@ use Rattle.abi_driver.specs.Meaning.{Datum, Fact, of}
 use Rattle.abi_driver.proofs.Runs.{total-append}
 use Rattle.func_gen.specs.declared.function_bindgen.FunctionBindgen.{FunctionBindgen}
 use Rattle.func_gen.specs.declared.operand.ExprOperand.{ExprOperand}
-use Rattle.func_gen.specs.declared.scope.LocalName.{LocalName}
-use Rattle.func_gen.specs.declared.scope.Scope.{Scope}
 use Rattle.func_gen.specs.Added.{Fresh}
 use Rattle.func_gen.specs.Facts.{AreOwned, Hold, Owns, wrong}
 use Rattle.func_gen.specs.Meaning.{AreaIs, Denote, File, FuncState, owns_of}
 use Rattle.func_gen.specs.Read.{Env, Under, env_of, less, read}
-use Rattle.func_gen.specs.Scope.{Declares, is_used, names_at, numbered}
+use Rattle.func_gen.specs.Scope.{is_used}
 use Rattle.func_gen.specs.FactLemmas.{Says, less_under, said, total_mono}
 
 -- 1. A local more
@@ -60,12 +58,6 @@ owns_with f s n v =
     omega (arith, e, total-append f placed before, total-append f placed (flat_map (λ (l : Local). owned_in l.value) (s.locals ++ l ∷ [])), total-append f before (flat_map (λ (l : Local). owned_in l.value) (l ∷ [])), total-append f (owned v) [])
 
 -- 2. A name that was free, and is used then
-
-pub declared_one : (old new : FunctionBindgen) (name : LocalName) (t : ℕ) → Declares old.scope (name ∷ []) t new.scope → Fresh old new (numbered name t)
-declared_one old new name t d = record {
-  free = (or_parts (is_used old.scope.used (numbered name t)) false (not-true (list_any (λ n. is_used old.scope.used n) (names_at (name ∷ []) t)) d.number.free)).0;
-  used = ap (λ (s : Scope). s.used) d.leaves;
-}
 
 -- a name that is free then was free
 pub still_free : (old new : FunctionBindgen) (n : Bytes) → Fresh old new n → (k : Bytes) → is_used new.scope.used k ≡ false → is_used old.scope.used k ≡ false

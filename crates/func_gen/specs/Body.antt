@@ -10,6 +10,7 @@ use Rattle.abi_driver.specs.declared.bindgen.Asked.{Asked}
 use Rattle.func_gen.specs.declared.body.Body.{Body}
 use Rattle.func_gen.specs.declared.function_bindgen.FunctionBindgen.{FunctionBindgen}
 use Rattle.func_gen.specs.declared.operand.ExprOperand.{ExprOperand}
+use Rattle.func_gen.specs.declared.type_tables.TypeTables.{TypeTables}
 use Rattle.func_gen.specs.Operand.{is_operand}
 
 -- the greater size and the greater alignment of two records
@@ -42,3 +43,7 @@ pub record IsBodyOf (b : FunctionBindgen) (body : Body) : Type 0 where
   pub operand : IfSome body.tail (λ e. is_operand e ≡ true)
   pub area : body.area ≡ needed b.asked
   pub runtime : body.runtime ≡ b.runtime
+
+-- the tables by which code is made
+abbrev pub tables_of : FunctionBindgen → TypeTables
+tables_of b = record { sizes = b.sizes; records = b.records }

@@ -2,15 +2,15 @@
 
 ghost use Rattle.std.specs.Prelude.{◌≡◌, ◌^◌, ◌<◌, true, IfOk, IfSome};
 ghost use Rattle.wit_model.specs.Size.{bytes_at, rounded_up};
-ghost use Rattle.func_gen.specs.Body.{Gives, IsBodyOf, greater, needed};
+ghost use Rattle.func_gen.specs.Body.{Gives, IsBodyOf, greater, needed, tables_of};
 ghost use Rattle.func_gen.specs.Operand.{is_operand};
 
 use crate::function_bindgen::{Code, FunctionBindgen};
 use crate::operand::{ExprOperand, copy_expr, is_operand};
+use crate::type_tables::TypeTables;
 use abi_driver::Asked;
 use rust_tree::{CallBlock, Expr, RuntimeItem, Stmt};
 use std::alloc::Global;
-use wit_layout::SizeAlign;
 use wit_model::{Alignment, ArchitectureSize, List, OutOfMemory};
 
 /// What the body of a wrapper is.
@@ -29,15 +29,16 @@ pub struct Body {
 }
 
 impl FunctionBindgen {
-    /// The body that was made, and the layouts by which it was. There is no memory also where the code gives several operands or an expression
+    /// The body that was made, and the tables by which it was. There is no memory also where the code gives several operands or an expression
     /// that is none, and where the area is of no size that a memory has.
-    pub fn finish(self) -> Result<(Body, SizeAlign), OutOfMemory>
+    pub fn finish(self) -> Result<(Body, TypeTables), OutOfMemory>
         ensures body { IfOk result (λ made. IsBodyOf self made.0) }
-        ensures sizes { IfOk result (λ made. made.1 ≡ self.sizes) }
+        ensures tables { IfOk result (λ made. made.1 ≡ tables_of self) }
     {
         let FunctionBindgen {
             alloc,
             sizes,
+            records,
             code,
             runtime,
             asked,
@@ -54,7 +55,7 @@ impl FunctionBindgen {
             area,
             runtime,
         };
-        Ok((body, sizes))
+        Ok((body, TypeTables { sizes, records }))
     }
 }
 

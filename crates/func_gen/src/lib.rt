@@ -12,9 +12,11 @@ mod lawful;
 mod operand;
 mod record_site;
 mod scope;
+mod type_tables;
 
 pub use body::{Body, needed_area};
 pub use core_words::{import_params, import_result};
 pub use function_bindgen::{Code, FunctionBindgen, ParamSite};
 pub use operand::ExprOperand;
 pub use record_site::RecordSite;
+pub use type_tables::TypeTables;

@@ -20,7 +20,8 @@ use Rattle.gen_accept.specs.declared.declared.Space.TheVariants.{Types, Values, 
 use Rattle.gen_accept.specs.declared.error.Clash.{Clash}
 use Rattle.gen_accept.specs.Clash.{clash_behind, clash_in, first_clash, is_name, is_same, is_same_space, space}
 use Rattle.gen_accept.specs.DeclaredNames.{all_declared, among_types, area_idents, area_type_idents, declared, declared_names, declares_well, export_ident, field_scope, macro_idents, module_scope, param_idents, param_scope, return_names, runtime_ident, trait_idents, trait_scope, where_exported}
-use Rattle.type_defs.specs.PrintedTypes.{field_names, printed_types, type_name}
+use Rattle.type_defs.specs.PrintedTypes.{field_names, type_name}
+use Rattle.type_defs.specs.Used.{defined_types}
 use Rattle.gen_accept.specs.declared.opts.Opts.{Opts}
 use Rattle.gen_accept.specs.TypeOpts.{type_opts}
 use Rattle.wit_model.specs.declared.resolve.Resolve.{Resolve}
@@ -180,11 +181,25 @@ params-distinct (g ∷ fs) zero f h e =
     subst (λ f. is_distinct (param_idents f) ≡ true) is (ap is_distinct (sym (values (λ p. rust_ident p.name) g.params)) ∙ distinct_in (param_scope g) Values [] (param_scope g).names parts.0)
 params-distinct (g ∷ fs) (suc nth) f h e = params-distinct fs nth f (neither (clash_in (param_scope g)) (first_clash (map param_scope fs)) h).1 e
 
-fields-all : (printed : List TypeDef) → first_clash (map field_scope printed) ≡ None → list_all (λ t. list_all is_ident (field_names t.kind)) printed ≡ true
+fields-all : (types : List TypeDef) → first_clash (map field_scope types) ≡ None → list_all (λ t. list_all is_ident (field_names t.kind)) types ≡ true
 fields-all [] h = refl
-fields-all (t ∷ printed) h =
-    let parts = neither (clash_in (field_scope t)) (first_clash (map field_scope printed)) h in
-    and_from _ _ (sym (texts-all (field_names t.kind)) ∙ all-idents (field_scope t) [] (field_scope t).names parts.0) (fields-all printed parts.1)
+fields-all (t ∷ types) h =
+    let parts = neither (clash_in (field_scope t)) (first_clash (map field_scope types)) h in
+    and_from _ _ (sym (texts-all (field_names t.kind)) ∙ all-idents (field_scope t) [] (field_scope t).names parts.0) (fields-all types parts.1)
+
+texts-values : (names : List Bytes) → names_in Values (all_declared Value names) ≡ names
+texts-values [] = refl
+texts-values (n ∷ names) = ap (λ ns. n ∷ ns) (texts-values names)
+
+types-in : (names : List Bytes) → names_in Types (all_declared WorldType names) ≡ names
+types-in [] = refl
+types-in (n ∷ names) = ap (λ ns. n ∷ ns) (types-in names)
+
+fields-distinct : (types : List TypeDef) → first_clash (map field_scope types) ≡ None → list_all (λ t. is_distinct (field_names t.kind)) types ≡ true
+fields-distinct [] h = refl
+fields-distinct (t ∷ types) h =
+    let parts = neither (clash_in (field_scope t)) (first_clash (map field_scope types)) h in
+    and_from _ _ (ap is_distinct (sym (texts-values (field_names t.kind))) ∙ distinct_in (field_scope t) Values [] (field_scope t).names parts.0) (fields-distinct types parts.1)
 
 is-none : {A : Type 0} (o : Option A) → is_none o ≡ true → o ≡ None
 is-none None h = refl
@@ -197,18 +212,18 @@ module _ (opts : Opts) (r : Resolve) (world : World) (h : declares_well opts r w
   abbrev exports : List Function
   exports = exported_functions world
 
-  abbrev printed : List TypeDef
-  printed = printed_types (type_opts opts) r world
+  abbrev defined : List TypeDef
+  defined = defined_types (type_opts opts) r world
 
   abbrev root : NameScope
-  root = module_scope world printed imports exports
+  root = module_scope r.types world defined imports exports
 
-  scopes-clear : (clash_in root ≡ None) × (first_clash (map field_scope printed) ≡ None) × (clash_in (trait_scope exports) ≡ None) × (first_clash (map param_scope imports) ≡ None)
+  scopes-clear : (clash_in root ≡ None) × (first_clash (map field_scope defined) ≡ None) × (clash_in (trait_scope exports) ≡ None) × (first_clash (map param_scope imports) ≡ None)
       × (first_clash (map param_scope exports) ≡ None)
   unfolding declares_well
   scopes-clear =
-      let all = neither (clash_in root) (first_clash (map field_scope printed ++ (trait_scope exports ∷ map param_scope imports ++ map param_scope exports))) (is-none (first_clash (declared_names opts r world)) h) in
-      let inner = no-clash (map field_scope printed) (trait_scope exports ∷ map param_scope imports ++ map param_scope exports) all.1 in
+      let all = neither (clash_in root) (first_clash (map field_scope defined ++ (trait_scope exports ∷ map param_scope imports ++ map param_scope exports))) (is-none (first_clash (declared_names opts r world)) h) in
+      let inner = no-clash (map field_scope defined) (trait_scope exports ∷ map param_scope imports ++ map param_scope exports) all.1 in
       let functions = neither (clash_in (trait_scope exports)) (first_clash (map param_scope imports ++ map param_scope exports)) inner.1 in
       let params = no-clash (map param_scope imports) (map param_scope exports) functions.1 in
       (all.0, inner.0, functions.0, params.0, params.1)
@@ -217,27 +232,27 @@ module _ (opts : Opts) (r : Resolve) (world : World) (h : declares_well opts r w
   macros = all_declared Macro (where_exported exports (macro_idents world))
 
   abbrev behind_exports : List Declared
-  behind_exports = flat_map return_names exports ++ (all_declared Value (area_idents exports) ++ macros)
+  behind_exports = flat_map (return_names r.types) exports ++ (all_declared Value (area_idents r.types exports) ++ macros)
 
   abbrev behind_imports : List Declared
   behind_imports = flat_map (λ f. among_types (export_ident f)) exports ++ behind_exports
 
   abbrev behind_types : List Declared
   behind_types =
-      all_declared Type_ (trait_idents exports) ++ (all_declared Type_ (area_type_idents imports exports) ++ (map (λ f. declared Value (rust_ident f.name)) imports ++ behind_imports))
+      all_declared Type_ (trait_idents exports) ++ (all_declared Type_ (area_type_idents r.types imports exports) ++ (map (λ f. declared Value (rust_ident f.name)) imports ++ behind_imports))
 
   -- the types of the world, behind the module of runtime items
-  root-types : (between : List Declared) × NoneClashes root between (all_declared WorldType (map type_name printed)) × ((later : List Declared) × NoneClashes root later behind_types)
+  root-types : (between : List Declared) × NoneClashes root between (all_declared WorldType (map type_name defined)) × ((later : List Declared) × NoneClashes root later behind_types)
   root-types =
       let a = in-parts root [] (all_declared Type_ (runtime_ident ∷ [])) _ scopes-clear.0 in
-      let b = in-parts root a.1.0 (all_declared WorldType (map type_name printed)) behind_types a.1.1 in
+      let b = in-parts root a.1.0 (all_declared WorldType (map type_name defined)) behind_types a.1.1 in
       (a.1.0, b.0, b.1)
 
   -- the functions of the root, behind its types
   root-values : (between : List Declared) × NoneClashes root between (map (λ f. declared Value (rust_ident f.name)) imports ++ behind_imports)
   root-values =
       let b = in-parts root root-types.2.0 (all_declared Type_ (trait_idents exports)) _ root-types.2.1 in
-      (in-parts root b.1.0 (all_declared Type_ (area_type_idents imports exports)) _ b.1.1).1
+      (in-parts root b.1.0 (all_declared Type_ (area_type_idents r.types imports exports)) _ b.1.1).1
 
   values-of-imports : NoneClashes root root-values.0 (map (λ f. declared Value (rust_ident f.name)) imports) × ((between : List Declared) × NoneClashes root between behind_imports)
   values-of-imports = in-parts root root-values.0 (map (λ f. declared Value (rust_ident f.name)) imports) behind_imports root-values.1
@@ -245,11 +260,17 @@ module _ (opts : Opts) (r : Resolve) (world : World) (h : declares_well opts r w
   values-of-exports : NoneClashes root values-of-imports.1.0 (flat_map (λ f. among_types (export_ident f)) exports) × ((between : List Declared) × NoneClashes root between behind_exports)
   values-of-exports = in-parts root values-of-imports.1.0 (flat_map (λ f. among_types (export_ident f)) exports) behind_exports values-of-imports.1.1
 
-  pub type_idents : list_all is_type_name (map type_name printed) ≡ true
-  type_idents = sym (types-all (map type_name printed)) ∙ all-idents root root-types.0 _ root-types.1
+  pub type_idents : list_all is_type_name (map type_name defined) ≡ true
+  type_idents = sym (types-all (map type_name defined)) ∙ all-idents root root-types.0 _ root-types.1
 
-  pub field_idents : list_all (λ t. list_all is_ident (field_names t.kind)) printed ≡ true
-  field_idents = fields-all printed scopes-clear.1
+  pub field_idents : list_all (λ t. list_all is_ident (field_names t.kind)) defined ≡ true
+  field_idents = fields-all defined scopes-clear.1
+
+  pub distinct_types : is_distinct (map type_name defined) ≡ true
+  distinct_types = ap is_distinct (sym (types-in (map type_name defined))) ∙ distinct_in root Types root-types.0 _ root-types.1
+
+  pub distinct_fields : list_all (λ t. is_distinct (field_names t.kind)) defined ≡ true
+  distinct_fields = fields-distinct defined scopes-clear.1
 
   pub import_idents : list_all (λ f. is_ident (rust_ident f.name)) imports ≡ true
   import_idents = sym (declared-all (λ f. rust_ident f.name) imports) ∙ all-idents root root-values.0 _ values-of-imports.0
@@ -262,8 +283,8 @@ module _ (opts : Opts) (r : Resolve) (world : World) (h : declares_well opts r w
 
   pub macro_names : list_all is_ident (where_exported exports (macro_idents world)) ≡ true
   macro_names =
-      let a = in-parts root values-of-exports.1.0 (flat_map return_names exports) _ values-of-exports.1.1 in
-      let b = in-parts root a.1.0 (all_declared Value (area_idents exports)) macros a.1.1 in
+      let a = in-parts root values-of-exports.1.0 (flat_map (return_names r.types) exports) _ values-of-exports.1.1 in
+      let b = in-parts root a.1.0 (all_declared Value (area_idents r.types exports)) macros a.1.1 in
       sym (macros-all (where_exported exports (macro_idents world))) ∙ all-idents root b.1.0 _ b.1.1
 
   pub import_params : list_all (λ f. list_all is_ident (param_idents f)) imports ≡ true

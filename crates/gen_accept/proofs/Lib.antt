@@ -1,7 +1,10 @@
 pub mod AcceptedLemmas
+pub mod CauseLemmas
 mod ClashLemmas
 pub mod DeclaredLemmas
 mod EmittedLemmas
+pub mod FunctionLemmas
 mod ListedNameLemmas
-mod UnusedLemmas
-mod WithinLemmas
+pub mod RootLemmas
+pub mod SmallLemmas
+pub mod WithinLemmas

@@ -1,37 +1,44 @@
--- The names that the definitions of a world's own types print may stand in a tree.
-use Rattle.std.proofs.Common.{◌≡◌, ℕ, zero, suc, Bool, true, false, ◌&&◌, ◌||◌, nat_eq, List, [], ◌∷◌, Option, Some, None, is_none, refl, sym, ap, subst, ◌∙◌, arith}
+-- An accepted world lists what its functions and its types reach, and the names that the definitions of its types print may stand in
+-- a tree.
+use Rattle.std.proofs.Common.{◌≡◌, ℕ, zero, suc, Bool, true, false, cond, filter, is_some, ◌&&◌, ◌||◌, nat_eq, List, [], ◌∷◌, Option, Some, None, is_none, refl, sym, ap, subst, ◌∙◌, arith}
 use Rattle.std.specs.List.{Contains, flat_map, list_all, slice_get}
 use Rattle.std.proofs.lemmas.Bool.{and_from, and_parts, eq-eqb, eqb-true, or_left, or_right}
 use Rattle.std.proofs.lemmas.List.Folds.{list_all-append, list_all-map}
+use Rattle.std.proofs.lemmas.Option.{slice_get-get_or}
+use Rattle.wit_model.specs.declared.name.Name.{Name}
 use Rattle.wit_model.specs.declared.name.TypeId.{TypeId}
+use Rattle.wit_model.specs.declared.name.WorldId.{WorldId}
 use Rattle.wit_model.specs.declared.resolve.Resolve.{Resolve}
 use Rattle.wit_model.specs.declared.types.TypeDef.{TypeDef}
 use Rattle.wit_model.specs.declared.types.TypeDefKind.{TypeDefKind}
 use Rattle.wit_model.specs.declared.types.TypeDefKind.TheVariants as kind
+use Rattle.wit_model.specs.declared.types.WitType.{WitType}
 use Rattle.wit_model.specs.declared.types.WitType.TheVariants.{Id}
+use Rattle.wit_model.specs.Reaches.{Reaches}
+use Rattle.type_facts.specs.Facts.{IsNamed}
+use Rattle.type_defs.specs.FunctionTypes.{functions_pass}
+use Rattle.type_defs.specs.Used.{Covers, defined_ids, defined_types, function_types, uses}
 use Rattle.wit_model.specs.declared.world.World.{World}
 use Rattle.rust_tree.specs.Ident.{is_ident, is_type_name, rust_ident}
-use Rattle.type_defs.specs.declared.type_opts.TypeOpts.{TypeOpts}
 use Rattle.gen_accept.specs.declared.opts.Opts.{Opts}
 use Rattle.gen_accept.specs.TypeOpts.{type_opts}
 use Rattle.type_defs.specs.ListedTypes.{listed_types}
-use Rattle.gen_accept.specs.Cause.{is_accepted, is_well_named}
-use Rattle.gen_accept.specs.DeclaredNames.{declares_well, has_distinct_names}
-use Rattle.type_defs.specs.Levels.{are_shallow, is_any_deeper, is_deeper, is_shallow, parts_of}
-use Rattle.type_defs.specs.Listing.{are_listed_well, is_covered, lists, may_list}
+use Rattle.gen_accept.specs.Cause.{is_accepted}
+use Rattle.gen_accept.specs.DeclaredNames.{declares_well}
+use Rattle.type_defs.specs.Levels.{are_shallow}
+use Rattle.type_defs.specs.Listing.{are_listed, is_covered, keeps_listing, lists, may_list}
 use Rattle.gen_accept.specs.NameText.{are_written_members, are_written_tables, is_written_package, is_written_type, is_written_type_name, is_written_world}
 use Rattle.type_defs.specs.WitForm.{is_wit_form}
-use Rattle.type_defs.specs.PrintedTypes.{entry_at, entry_or_none, field_names, name_or_none, printed_types, type_name}
-use Rattle.gen_accept.specs.TooLarge.{are_small}
-use Rattle.type_defs.specs.TypeNames.{are_type_names}
-use Rattle.wit_model.specs.Parts.{parts}
+use Rattle.type_defs.specs.PrintedTypes.{entry_at, entry_or_none, field_names, name_or_none, type_name}
 use Rattle.wit_model.proofs.AllLemmas.{all_at}
-use Rattle.std.specs.Prelude.{if◌then◌else◌}
 use Rattle.gen_accept.proofs.DeclaredLemmas.{field_idents, type_idents}
-use Rattle.type_defs.proofs.ListingLemmas.{listed-reached, not-true, world-listing}
+use Rattle.type_defs.proofs.ListingLemmas.{listed-reached, world-listing}
+use Rattle.type_defs.proofs.UsedLemmas.{reached_from, reached_uses, shallow_low, uses_reached}
+use Rattle.type_defs.proofs.UsedTypeLemmas.{listed-named}
+use Rattle.gen_accept.proofs.CauseLemmas.{accepted-declares, accepted-listed, accepted-shallow, accepted-written}
 use Rattle.type_defs.specs.DefinedNames.{IsNamedDefinition, are_named_parts}
 
-all-contained : {A : Type 0} (test : A → Bool) (xs : List A) (x : A) → list_all test xs ≡ true → Contains xs x → test x ≡ true
+pub all-contained : {A : Type 0} (test : A → Bool) (xs : List A) (x : A) → list_all test xs ≡ true → Contains xs x → test x ≡ true
 all-contained test [] x h (k, below, e) = absurd (omega arith)
 all-contained test (y ∷ xs) x h (zero, below, e) = subst (λ z. test z ≡ true) e (and_parts (test y) (list_all test xs) h).0
 all-contained test (y ∷ xs) x h (suc k, below, e) = all-contained test xs x (and_parts (test y) (list_all test xs) h).1 (k, omega arith, e)
@@ -68,44 +75,93 @@ contained-lists [] id (k, below, e) = absurd (omega arith)
 contained-lists (i ∷ listed) id (zero, below, e) = or_left (nat_eq i.0 id.0) (lists listed id.0) (eq-eqb i.0 id.0 (ap (λ j. j.0) e))
 contained-lists (i ∷ listed) id (suc k, below, e) = or_right (nat_eq i.0 id.0) (lists listed id.0) (contained-lists listed id (k, omega arith, e))
 
-shallow-low : (types : List TypeDef) (id : TypeId) (t : TypeDef) → are_shallow types ≡ true → slice_get types id.0 ≡ Some t → is_deeper types 100 (Id id) ≡ false
-unfolding are_shallow is_shallow
-shallow-low types id t shallow at =
-    let entry : is_shallow types t ≡ true = all_at (is_shallow types) types id.0 t shallow at in
-    ap (λ o. is_any_deeper types 99 (parts_of o)) at ∙ not-true (is_any_deeper types 99 (parts t.kind)) entry
-
-asked-all : (opts : TypeOpts) (r : Resolve) (world : World) (test : TypeDef → Bool) → opts.generate_unused_types ≡ true → list_all test (printed_types opts r world) ≡ true
-    → list_all test (flat_map (entry_at r.types) (listed_types world)) ≡ true
-unfolding printed_types
-asked-all opts r world test asked h = sym (ap (λ g. list_all test (if g then flat_map (entry_at r.types) (listed_types world) else [])) asked) ∙ h
-
--- each type that an accepted world lists, where unused types are asked for
-pub named-definition : (opts : Opts) (r : Resolve) (k : ℕ) (world : World) → is_accepted opts r world ≡ true → slice_get r.worlds k ≡ Some world → opts.generate_unused_types ≡ true
-    → (type : TypeId) → Contains (listed_types world) type → IsNamedDefinition r.types type
-unfolding is_accepted is_well_named are_small are_written_tables
-named-definition opts r k world h found asked type listed =
-    let a = and_parts (are_small r.types && are_type_names r.types && are_listed_well r) (is_well_named opts r world) h in
-    let b = and_parts (are_small r.types && are_type_names r.types) (are_listed_well r) a.0 in
-    let small = (and_parts (are_small r.types) (are_type_names r.types) b.0).0 in
-    let shallow : are_shallow r.types ≡ true = (and_parts (are_shallow r.types) _ small).0 in
-    let w = and_parts (are_written_tables r && list_all has_distinct_names r.worlds) (declares_well opts r world) a.1 in
-    let tables = (and_parts (are_written_tables r) (list_all has_distinct_names r.worlds) w.0).0 in
-    let written = (and_parts (list_all is_written_package r.packages) (list_all is_written_type r.types) (and_parts _ (list_all is_written_world r.worlds) tables).0).1 in
-    let keep = all-contained (λ id. may_list k (slice_get r.types id.0) && is_covered r.types (listed_types world) 100 (Id id)) (listed_types world) type (world-listing r k world b.1 found) listed in
-    let may = and_parts (may_list k (slice_get r.types type.0)) (is_covered r.types (listed_types world) 100 (Id type)) keep in
-    let names = asked-all (type_opts opts) r world (λ t. is_type_name (type_name t)) asked (sym (list_all-map is_type_name type_name (printed_types (type_opts opts) r world)) ∙ type_idents opts r world w.1) in
-    let fields = asked-all (type_opts opts) r world (λ t. list_all is_ident (field_names t.kind)) asked (field_idents opts r world w.1) in
-    go (slice_get r.types type.0) refl may.0 may.1 shallow names fields written
+-- what passes a test of its number is listed still where the rest is left out
+lists-filtered : (test : ℕ → Bool) (listed : List TypeId) (n : ℕ) → lists listed n ≡ true → test n ≡ true → lists (filter (λ id. test id.0) listed) n ≡ true
+lists-filtered test [] n l t = cc
+lists-filtered test (id ∷ listed) n l t = go (nat_eq id.0 n) refl (test id.0) refl l (λ l. lists-filtered test listed n l t)
   where
-    go : (o : Option TypeDef) → slice_get r.types type.0 ≡ o → may_list k (slice_get r.types type.0) ≡ true → is_covered r.types (listed_types world) 100 (Id type) ≡ true → are_shallow r.types ≡ true
-        → list_all (λ t. is_type_name (type_name t)) (flat_map (entry_at r.types) (listed_types world)) ≡ true
-        → list_all (λ t. list_all is_ident (field_names t.kind)) (flat_map (entry_at r.types) (listed_types world)) ≡ true → list_all is_written_type r.types ≡ true → IsNamedDefinition r.types type
-    go None at may covered shallow names fields written = let wrong : may_list k None ≡ true = sym (ap (may_list k) at) ∙ may in absurd (cc)
-    go (Some t) at may covered shallow names fields written = record {
-      reached = λ part entry name reaches there named.
-          let l = listed-reached r.types (listed_types world) 100 part entry (shallow-low r.types type t shallow at) covered reaches there (ap is_none named) in
-          ap (λ o. is_type_name (name_or_none o)) (sym named) ∙ entry-passes (λ t. is_type_name (type_name t)) r.types (listed_types world) part.0 entry names l there;
-      parts = λ entry there.
-          named-parts entry.kind (entry-passes (λ t. list_all is_ident (field_names t.kind)) r.types (listed_types world) type.0 entry fields (contained-lists (listed_types world) type listed) there)
-          (and_parts (is_written_type_name entry.name) (are_written_members entry.kind) (all_at is_written_type r.types type.0 entry written there)).1;
-    }
+    kept : List TypeId
+    kept = filter (λ id. test id.0) listed
+
+    go : (b : Bool) → nat_eq id.0 n ≡ b → (c : Bool) → test id.0 ≡ c → (nat_eq id.0 n || lists listed n) ≡ true → (lists listed n ≡ true → lists kept n ≡ true) → lists (filter (λ id. test id.0) (id ∷ listed)) n ≡ true
+    go false e true p l rest =
+        ap (λ c. lists (cond c (id ∷ kept) kept) n) p ∙ or_right (nat_eq id.0 n) (lists kept n) (rest (sym (ap (λ b. b || lists listed n) e) ∙ l))
+    go false e false p l rest = ap (λ c. lists (cond c (id ∷ kept) kept) n) p ∙ rest (sym (ap (λ b. b || lists listed n) e) ∙ l)
+    go true e true p l rest = ap (λ c. lists (cond c (id ∷ kept) kept) n) p ∙ or_left (nat_eq id.0 n) (lists kept n) e
+    go true e false p l rest = let wrong : false ≡ true = sym p ∙ ap test (eqb-true id.0 n e) ∙ t in cc
+
+contained : {A : Type 0} (xs : List A) (x : A) → Contains xs x → (n : ℕ) × (slice_get xs n ≡ Some x)
+contained xs x (k, below, e) = (k, slice_get-get_or xs k x below ∙ ap (λ y. Some y) e)
+
+module _ (opts : Opts) (r : Resolve) (id : WorldId) (world : World) (accepted : is_accepted opts r world ≡ true) (found : slice_get r.worlds id.0 ≡ Some world) where
+  abbrev listed : List TypeId
+  listed = listed_types world
+
+  abbrev wanted : ℕ → Bool
+  wanted n = uses r world n || opts.generate_unused_types
+
+  abbrev defined : List TypeId
+  defined = defined_ids (type_opts opts) r world
+
+  shallow : are_shallow r.types ≡ true
+  shallow = accepted-shallow opts r world accepted
+
+  declares : declares_well opts r world ≡ true
+  declares = accepted-declares opts r world accepted
+
+  types-written : list_all is_written_type r.types ≡ true
+  unfolding are_written_tables
+  types-written =
+      (and_parts (list_all is_written_package r.packages) (list_all is_written_type r.types) (and_parts _ (list_all is_written_world r.worlds) (accepted-written opts r world accepted)).0).1
+
+  listing : (are_listed r.types id.0 listed ≡ true) × (functions_pass (is_covered r.types listed 100) world ≡ true)
+  unfolding keeps_listing
+  listing = and_parts (are_listed r.types id.0 listed) (functions_pass (is_covered r.types listed 100) world) (world-listing r id.0 world (accepted-listed opts r world accepted) found)
+
+  pub functions-covered : functions_pass (is_covered r.types listed 100) world ≡ true
+  functions-covered = listing.1
+
+  -- what a type reaches that is covered is listed
+  pub covers : (ty : WitType) → is_covered r.types listed 100 ty ≡ true → Covers r world ty
+  covers ty covered part entry reaches at named = listed-reached r.types listed 100 part entry (shallow_low r.types ty shallow) covered reaches at (some-named entry.name named)
+    where
+      some-named : (o : Option Name) → is_some o ≡ true → is_none o ≡ false
+      some-named None h = cc
+      some-named (Some name) h = refl
+
+  listed-covered : (type : TypeId) → Contains listed type → is_covered r.types listed 100 (Id type) ≡ true
+  listed-covered type among =
+      let keep = all-contained (λ i. may_list id.0 (slice_get r.types i.0) && is_covered r.types listed 100 (Id i)) listed type listing.0 among in
+      (and_parts (may_list id.0 (slice_get r.types type.0)) (is_covered r.types listed 100 (Id type)) keep).1
+
+  pub listed-is-named : (type : TypeId) → Contains listed type → IsNamed r.types type
+  listed-is-named type among = let at = contained listed type among in listed-named r id.0 world (accepted-listed opts r world accepted) found at.0 type at.1
+
+  -- what a type that is defined reaches is asked for or used too
+  wanted-reached : (type part : TypeId) → wanted type.0 ≡ true → Reaches r.types (Id type) (Id part) → wanted part.0 ≡ true
+  wanted-reached type part want reaches = go (uses r world type.0) refl want
+    where
+      go : (b : Bool) → uses r world type.0 ≡ b → (uses r world type.0 || opts.generate_unused_types) ≡ true → wanted part.0 ≡ true
+      go true e w =
+          or_left (uses r world part.0) opts.generate_unused_types
+          (reached_uses r world part shallow (reached_from r.types (function_types r world) (Id type) (Id part) (uses_reached r world type shallow e) reaches))
+      go false e w = or_right (uses r world part.0) opts.generate_unused_types (sym (ap (λ b. b || opts.generate_unused_types) e) ∙ w)
+
+  -- what all defined types pass each of them passes
+  defined-passes : (test : TypeDef → Bool) → list_all test (defined_types (type_opts opts) r world) ≡ true → (part : TypeId) (entry : TypeDef) → lists listed part.0 ≡ true → wanted part.0 ≡ true
+      → slice_get r.types part.0 ≡ Some entry → test entry ≡ true
+  defined-passes test h part entry l want at = entry-passes test r.types defined part.0 entry h (lists-filtered wanted listed part.0 l want) at
+
+  -- each type that an accepted world lists and its file defines
+  pub named-definition : (type : TypeId) → Contains listed type → wanted type.0 ≡ true → IsNamedDefinition r.types type
+  named-definition type among want =
+      let names = sym (list_all-map is_type_name type_name (defined_types (type_opts opts) r world)) ∙ type_idents opts r world declares in
+      let fields = field_idents opts r world declares in
+      record {
+        reached = λ part entry name reaches there named.
+            let l = listed-reached r.types listed 100 part entry (shallow_low r.types (Id type) shallow) (listed-covered type among) reaches there (ap is_none named) in
+            ap (λ o. is_type_name (name_or_none o)) (sym named) ∙ defined-passes (λ t. is_type_name (type_name t)) names part entry l (wanted-reached type part want reaches) there;
+        parts = λ entry there.
+            named-parts entry.kind (defined-passes (λ t. list_all is_ident (field_names t.kind)) fields type entry (contained-lists listed type among) want there)
+            (and_parts (is_written_type_name entry.name) (are_written_members entry.kind) (all_at is_written_type r.types type.0 entry types-written there)).1;
+      }

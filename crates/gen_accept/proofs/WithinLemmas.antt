@@ -15,7 +15,7 @@ none-out : (r : Resolve) → first_fault r ≡ None → first_out_of_range r ≡
 unfolding first_fault
 none-out r h = unmapped _ (first_out_of_range r) (neither _ _ h).0
 
-world-in : (r : Resolve) (k : ℕ) (world : World) → first_fault r ≡ None → slice_get r.worlds k ≡ Some world → world_in_range r world ≡ true
+pub world-in : (r : Resolve) (k : ℕ) (world : World) → first_fault r ≡ None → slice_get r.worlds k ≡ Some world → world_in_range r world ≡ true
 unfolding first_out_of_range
 world-in r k world h e = passes_at _ (world_in_range r) r.worlds k world (neither _ _ (neither _ _ (none-out r h)).1).1 e
 

@@ -17,22 +17,10 @@ use Rattle.wit_model.specs.declared.resolve.Resolve.{Resolve}
 use Rattle.gen_accept.specs.declared.opts.Opts.{Opts}
 use Rattle.type_defs.specs.Modes.{is_owning}
 
--- scalars and texts
+-- a scalar, a text or an entry of the table; what entries name is looked at by themselves
 abbrev pub is_built_type : WitType → Bool
-is_built_type wit.Bool = true
-is_built_type wit.String = true
-is_built_type wit.Char = true
-is_built_type wit.F32 = true
-is_built_type wit.F64 = true
-is_built_type wit.U8 = true
-is_built_type wit.U16 = true
-is_built_type wit.U32 = true
-is_built_type wit.U64 = true
-is_built_type wit.S8 = true
-is_built_type wit.S16 = true
-is_built_type wit.S32 = true
-is_built_type wit.S64 = true
-is_built_type _ = false
+is_built_type wit.ErrorContext = false
+is_built_type _ = true
 
 -- no result, or one of a built type
 abbrev pub is_built_result : Option WitType → Bool
@@ -71,16 +59,11 @@ is_built_world world =
     list_all (λ entry. is_built_item entry.1) world.imports && list_all (λ entry. is_built_item entry.1) world.exports
     && list_all (λ entry. is_under_itself entry.0 entry.1) world.imports && list_all (λ entry. is_no_type entry.1) world.exports
 
--- a type that the table may have, as long as no function reaches it: an alias, a record or a tuple. The types that it names
--- are looked at by themselves
-abbrev pub is_built_part : WitType → Bool
-is_built_part wit.ErrorContext = false
-is_built_part _ = true
-
+-- a type that the table may have: an alias, a record or a tuple
 abbrev pub is_built_kind : TypeDefKind → Bool
-is_built_kind (sort.Alias ty) = is_built_part ty
-is_built_kind (sort.Tuple members) = list_all is_built_part members
-is_built_kind (sort.Record fields) = list_all (λ f. is_built_part f.ty) fields
+is_built_kind (sort.Alias ty) = is_built_type ty
+is_built_kind (sort.Tuple members) = list_all is_built_type members
+is_built_kind (sort.Record fields) = list_all (λ f. is_built_type f.ty) fields
 is_built_kind _ = false
 
 unfoldable pub are_built_tables : Resolve → Bool

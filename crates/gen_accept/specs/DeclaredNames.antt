@@ -8,7 +8,7 @@ use Rattle.wit_model.specs.declared.world.World.{World}
 use Rattle.wit_model.specs.Bytes.{Bytes}
 use Rattle.wit_model.specs.Distinct.{is_distinct}
 use Rattle.rust_tree.specs.Ident.{rust_ident}
-use Rattle.gen_accept.specs.Area.{import_needs_area, needs_area}
+use Rattle.gen_accept.specs.Area.{import_needs_area, needs_area, needs_return}
 use Rattle.gen_accept.specs.declared.declared.Declared.{Declared}
 use Rattle.gen_accept.specs.declared.declared.NameScope.{NameScope}
 use Rattle.gen_accept.specs.declared.declared.Sort.{Sort}
@@ -17,7 +17,8 @@ use Rattle.gen_accept.specs.declared.opts.Opts.{Opts}
 use Rattle.gen_accept.specs.Clash.{first_clash}
 use Rattle.gen_accept.specs.Emitted.{exported_functions, imported_functions}
 use Rattle.gen_accept.specs.TypeOpts.{type_opts}
-use Rattle.type_defs.specs.PrintedTypes.{field_names, printed_types, type_name}
+use Rattle.type_defs.specs.PrintedTypes.{field_names, type_name}
+use Rattle.type_defs.specs.Used.{defined_types}
 
 abbrev pub declared : Sort → Bytes → Declared
 declared sort name = record { sort = sort; name = name }
@@ -54,8 +55,8 @@ unfoldable pub area_type_ident : Bytes
 area_type_ident = codes "_RetArea"
 
 -- the type of an area, where the root or a body in it has one
-abbrev pub area_type_idents : List Function → List Function → List Bytes
-area_type_idents imports exports = if list_any import_needs_area imports || list_any (λ f. needs_area f.result) exports then area_type_ident ∷ [] else []
+abbrev pub area_type_idents : List TypeDef → List Function → List Function → List Bytes
+area_type_idents types imports exports = if list_any (import_needs_area types) imports || list_any (needs_area types) exports then area_type_ident ∷ [] else []
 
 -- the functions of the root, and its static
 
@@ -75,16 +76,16 @@ return_prefix = codes "__post_return_"
 abbrev pub among_types : Bytes → List Declared
 among_types name = declared Value name ∷ declared Type_ name ∷ []
 
--- a post-return function, where the result passes by an area
-abbrev pub return_names : Function → List Declared
-return_names f = if needs_area f.result then among_types (return_prefix ++ f.name.snake) else []
+-- a post-return function, where the result may have a text or a list
+abbrev pub return_names : List TypeDef → Function → List Declared
+return_names types f = if needs_return types f then among_types (return_prefix ++ f.name.snake) else []
 
 unfoldable pub area_ident : Bytes
 area_ident = codes "_RET_AREA"
 
 -- the static area
-abbrev pub area_idents : List Function → List Bytes
-area_idents exports = if list_any (λ f. needs_area f.result) exports then area_ident ∷ [] else []
+abbrev pub area_idents : List TypeDef → List Function → List Bytes
+area_idents types exports = if list_any (needs_area types) exports then area_ident ∷ [] else []
 
 -- the macros
 unfoldable pub macro_idents : World → List Bytes
@@ -92,14 +93,14 @@ macro_idents world =
     (codes "__export_world_" ++ world.name.snake ++ codes "_cabi") ∷ (codes "__export_" ++ world.name.snake ++ codes "_impl") ∷ codes "export" ∷ []
 
 -- the names of the root itself: its types, those of the world among them, its functions and its static, and its macros
-abbrev pub module_scope : World → List TypeDef → List Function → List Function → NameScope
-module_scope world printed imports exports = record {
+abbrev pub module_scope : List TypeDef → World → (defined : List TypeDef) → (imports exports : List Function) → NameScope
+module_scope types world defined imports exports = record {
   name = [];
   names =
-      all_declared Type_ (runtime_ident ∷ []) ++ (all_declared WorldType (map type_name printed) ++ (all_declared Type_ (trait_idents exports)
-      ++ (all_declared Type_ (area_type_idents imports exports) ++ (map (λ f. declared Value (rust_ident f.name)) imports
-      ++ (flat_map (λ f. among_types (export_ident f)) exports ++ (flat_map return_names exports
-      ++ (all_declared Value (area_idents exports) ++ all_declared Macro (where_exported exports (macro_idents world)))))))));
+      all_declared Type_ (runtime_ident ∷ []) ++ (all_declared WorldType (map type_name defined) ++ (all_declared Type_ (trait_idents exports)
+      ++ (all_declared Type_ (area_type_idents types imports exports) ++ (map (λ f. declared Value (rust_ident f.name)) imports
+      ++ (flat_map (λ f. among_types (export_ident f)) exports ++ (flat_map (return_names types) exports
+      ++ (all_declared Value (area_idents types exports) ++ all_declared Macro (where_exported exports (macro_idents world)))))))));
 }
 
 -- the fields of a record
@@ -118,14 +119,14 @@ abbrev pub param_scope : Function → NameScope
 param_scope f = record { name = rust_ident f.name; names = map (λ p. declared Value (rust_ident p.name)) f.params }
 
 -- the names that the file of a world declares, scope by scope, in the order of the text
-abbrev pub scopes_of : World → List TypeDef → List NameScope
-scopes_of world printed =
-    module_scope world printed (imported_functions world) (exported_functions world)
-    ∷ map field_scope printed ++ (trait_scope (exported_functions world)
+abbrev pub scopes_of : List TypeDef → World → (defined : List TypeDef) → List NameScope
+scopes_of types world defined =
+    module_scope types world defined (imported_functions world) (exported_functions world)
+    ∷ map field_scope defined ++ (trait_scope (exported_functions world)
     ∷ map param_scope (imported_functions world) ++ map param_scope (exported_functions world))
 
 abbrev pub declared_names : Opts → Resolve → World → List NameScope
-declared_names opts r world = scopes_of world (printed_types (type_opts opts) r world)
+declared_names opts r world = scopes_of r.types world (defined_types (type_opts opts) r world)
 
 -- they are identifiers, and none clashes with an earlier one
 unfoldable pub declares_well : Opts → Resolve → World → Bool

@@ -2,11 +2,11 @@ pub mod Area
 pub mod Built
 pub mod Cause
 pub mod Clash
-pub mod CoreWords
 pub mod DeclaredNames
 pub mod Default
 pub mod Emitted
 pub mod ExportKey
+pub mod InRange
 pub mod LackText
 pub mod NameText
 pub mod TooLarge

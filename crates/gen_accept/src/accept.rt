@@ -2,6 +2,8 @@
 
 ghost use Rattle.std.specs.Prelude.{◌≡◌, true, None, Some, IfOk, slice_get};
 ghost use Rattle.wit_model.specs.WellFormed.{IsWellFormed, first_fault};
+ghost use Rattle.type_defs.specs.Levels.{are_shallow};
+ghost use Rattle.type_defs.specs.Listing.{are_listed_well};
 ghost use Rattle.gen_accept.specs.DeclaredNames.{declares_well};
 ghost use Rattle.gen_accept.specs.Cause.{IsAnswer, IsUnbuilt, cause, invalid, is_accepted, is_built, is_index_range, is_well_named, built_cause, world_cause};
 
@@ -55,8 +57,13 @@ fn is_well_named(
     alloc: Global,
     opts: &Opts,
     resolve: &Resolve,
+    id: WorldId,
     world: &World,
 ) -> Result<bool, OutOfMemory>
+    requires well { IsWellFormed resolve.now }
+    requires found { slice_get resolve.now.worlds id.0 ≡ Some world.now }
+    requires shallow { are_shallow resolve.now.types ≡ true }
+    requires listed { are_listed_well resolve.now ≡ true }
     ensures { IfOk result (λ b. b ≡ is_well_named opts.now resolve.now world.now) }
 {
     if !are_written_tables(resolve) {
@@ -65,7 +72,7 @@ fn is_well_named(
     if !have_distinct_names(alloc, resolve.worlds.as_slice())? {
         return Ok(false);
     }
-    declares_well(alloc, opts, resolve, world)
+    declares_well(alloc, opts, resolve, id, world)
 }
 
 #[tactic(auto, unfolding(crate::specs::DeclaredNames::declares_well))]
@@ -73,11 +80,16 @@ fn declares_well(
     alloc: Global,
     opts: &Opts,
     resolve: &Resolve,
+    id: WorldId,
     world: &World,
 ) -> Result<bool, OutOfMemory>
+    requires well { IsWellFormed resolve.now }
+    requires found { slice_get resolve.now.worlds id.0 ≡ Some world.now }
+    requires shallow { are_shallow resolve.now.types ≡ true }
+    requires listed { are_listed_well resolve.now ≡ true }
     ensures { IfOk result (λ b. b ≡ declares_well opts.now resolve.now world.now) }
 {
-    let names = declared_names(alloc, opts, resolve, world)?;
+    let names = declared_names(alloc, opts, resolve, id, world)?;
     let clash = first_clash(alloc, names.as_slice())?;
     Ok(clash.is_none())
 }
@@ -87,12 +99,14 @@ fn is_accepted(
     alloc: Global,
     opts: &Opts,
     resolve: &Resolve,
+    id: WorldId,
     world: &World,
 ) -> Result<bool, OutOfMemory>
-    requires { IsWellFormed resolve.now }
+    requires well { IsWellFormed resolve.now }
+    requires found { slice_get resolve.now.worlds id.0 ≡ Some world.now }
     ensures { IfOk result (λ b. b ≡ is_accepted opts.now resolve.now world.now) }
 {
-    if !are_small(alloc, resolve)? {
+    if !are_small(alloc, resolve, world)? {
         return Ok(false);
     }
     if !are_type_names(resolve.types.as_slice()) {
@@ -101,7 +115,7 @@ fn is_accepted(
     if !are_listed_well(alloc, resolve)? {
         return Ok(false);
     }
-    is_well_named(alloc, opts, resolve, world)
+    is_well_named(alloc, opts, resolve, id, world)
 }
 
 fn unbuilt(alloc: Global, world: &World) -> GenError
@@ -120,11 +134,13 @@ fn without_fault(
     alloc: Global,
     opts: &Opts,
     resolve: &Resolve,
+    id: WorldId,
     world: &World,
     fault: Option<Fault>,
 ) -> Result<(), GenError>
     requires fault { fault ≡ first_fault resolve.now }
     requires well { fault ≡ None → IsWellFormed resolve.now }
+    requires found { slice_get resolve.now.worlds id.0 ≡ Some world.now }
     ensures answer { IsAnswer result (built_cause opts.now resolve.now world.now) }
     ensures accepted { IfOk result (λ _. is_accepted opts.now resolve.now world.now ≡ true) }
     ensures checked { IfOk result (λ _. IsWellFormed resolve.now) }
@@ -132,7 +148,7 @@ fn without_fault(
     if let Some(fault) = fault {
         return Err(invalid(fault));
     }
-    match is_accepted(alloc, opts, resolve, world) {
+    match is_accepted(alloc, opts, resolve, id, world) {
         Ok(true) => Ok(()),
         Ok(false) => Err(unbuilt(alloc, world)),
         Err(OutOfMemory) => Err(GenError::OutOfMemory),
@@ -160,7 +176,7 @@ fn accepted<'a>(
     if !is_built(opts, resolve) {
         return Err(unbuilt(alloc, world));
     }
-    match without_fault(alloc, opts, resolve, world, fault) {
+    match without_fault(alloc, opts, resolve, id, world, fault) {
         Ok(()) => Ok(world),
         Err(e) => Err(e),
     }

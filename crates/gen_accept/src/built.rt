@@ -2,7 +2,7 @@
 
 ghost use Rattle.std.specs.Prelude.{◌≡◌};
 ghost use Rattle.std.specs.List.{list_all};
-ghost use Rattle.gen_accept.specs.Built.{is_built_kind, is_built_part, is_built_type, is_built_result, is_freestanding, is_built_function, is_built_item, is_empty, is_no_type, is_under_itself, is_built_world, are_built_tables, are_flags_off, are_lists_empty, are_values_absent, are_built_options};
+ghost use Rattle.gen_accept.specs.Built.{is_built_kind, is_built_type, is_built_result, is_freestanding, is_built_function, is_built_item, is_empty, is_no_type, is_under_itself, is_built_world, are_built_tables, are_flags_off, are_lists_empty, are_values_absent, are_built_options};
 ghost use Rattle.type_defs.specs.Modes.{is_owning};
 
 use crate::opts::Opts;
@@ -15,22 +15,7 @@ use wit_model::{
 fn is_built_type(ty: WitType) -> bool
     ensures { result ≡ is_built_type ty }
 {
-    matches!(
-        ty,
-        WitType::Bool
-            | WitType::String
-            | WitType::Char
-            | WitType::F32
-            | WitType::F64
-            | WitType::U8
-            | WitType::U16
-            | WitType::U32
-            | WitType::U64
-            | WitType::S8
-            | WitType::S16
-            | WitType::S32
-            | WitType::S64
-    )
+    !matches!(ty, WitType::ErrorContext)
 }
 
 fn is_built_result(answer: &Option<WitType>) -> bool
@@ -129,29 +114,23 @@ fn are_built_worlds(worlds: &[World]) -> bool
     worlds.iter().all(|world| is_built_world(world))
 }
 
-fn is_built_part(ty: WitType) -> bool
-    ensures { result ≡ is_built_part ty }
-{
-    !matches!(ty, WitType::ErrorContext)
-}
-
 fn are_built_parts(members: &[WitType]) -> bool
-    ensures { result ≡ list_all is_built_part members.now }
+    ensures { result ≡ list_all is_built_type members.now }
 {
-    members.iter().all(|ty| is_built_part(*ty))
+    members.iter().all(|ty| is_built_type(*ty))
 }
 
 fn are_built_fields(fields: &[Field]) -> bool
-    ensures { result ≡ list_all (λ f. is_built_part f.ty) fields.now }
+    ensures { result ≡ list_all (λ f. is_built_type f.ty) fields.now }
 {
-    fields.iter().all(|field| is_built_part(field.ty))
+    fields.iter().all(|field| is_built_type(field.ty))
 }
 
 fn is_built_kind(kind: &TypeDefKind) -> bool
     ensures { result ≡ is_built_kind kind.now }
 {
     match kind {
-        TypeDefKind::Alias(ty) => is_built_part(*ty),
+        TypeDefKind::Alias(ty) => is_built_type(*ty),
         TypeDefKind::Tuple(members) => are_built_parts(members.as_slice()),
         TypeDefKind::Record(fields) => are_built_fields(fields.as_slice()),
         _ => false,
@@ -164,7 +143,8 @@ fn are_built_kinds(types: &[TypeDef]) -> bool
     types.iter().all(|entry| is_built_kind(&entry.kind))
 }
 
-/// Whether the tables hold only worlds of functions over scalars and texts, and aliases, records and tuples, of which a world imports some.
+/// Whether the tables hold only worlds of functions over scalars, texts, aliases, records and tuples, and such types, which a
+/// world may import.
 #[tactic(auto, unfolding(crate::specs::Built::are_built_tables))]
 pub(crate) fn are_built_tables(resolve: &Resolve) -> bool
     ensures { result ≡ are_built_tables resolve.now }

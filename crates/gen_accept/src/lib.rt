@@ -5,7 +5,6 @@ mod accept;
 mod area;
 mod built;
 mod clash;
-mod core_words;
 mod declared;
 mod emitted;
 mod error;
@@ -17,7 +16,7 @@ mod too_large;
 mod try_copy;
 
 pub use accept::accepted_world;
-pub use area::needs_area;
+pub use area::{import_needs_area, needs_area, needs_return};
 pub use emitted::{functions_in, places_in};
 pub use error::{Clash, Entry, GenError, Lack, MissingWith, TooLarge};
 pub use export_key::ExportKey;

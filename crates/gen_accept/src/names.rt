@@ -1,22 +1,28 @@
 //! Which names the file of a world declares, in the order of the format, and whether functions of one side have distinct names.
 
-ghost use Rattle.std.specs.Prelude.{◌≡◌, ◌∷◌, [], ◌++◌, IfOk, OnOk, map};
+ghost use Rattle.std.specs.Prelude.{◌≡◌, ◌∷◌, [], ◌++◌, true, IfOk, IsTrue, OnOk, Some, map, slice_get};
 ghost use Rattle.std.specs.List.{flat_map, list_all};
+ghost use Rattle.wit_model.specs.IndexRange.{function_in_range};
+ghost use Rattle.wit_model.specs.WellFormed.{IsWellFormed};
 ghost use Rattle.rust_tree.specs.Ident.{rust_ident};
+ghost use Rattle.type_defs.specs.Levels.{are_shallow};
+ghost use Rattle.type_defs.specs.Listing.{are_listed_well};
+ghost use Rattle.gen_accept.specs.InRange.{AreInRange};
 ghost use Rattle.gen_accept.specs.declared.declared.Sort.TheVariants.{Macro, Type_, Value, WorldType};
 ghost use Rattle.gen_accept.specs.DeclaredNames.{all_declared, among_types, are_distinct_functions, area_idents, area_type_idents, declared, declared_names, field_scope, export_ident, has_distinct_names, macro_idents, module_scope, param_scope, return_names, return_prefix, runtime_ident, scopes_of, trait_idents, trait_scope, where_exported};
 ghost use Rattle.gen_accept.specs.Emitted as emitted;
 ghost use Rattle.type_defs.specs.PrintedTypes.{field_names, type_name};
 
-use crate::area::{any_import_needs_area, any_needs_area, needs_area};
+use crate::area::{any_needs_area, needs_return};
 use crate::declared::{Declared, NameScope, Sort};
 use crate::emitted::functions_in;
 use crate::opts::Opts;
 use rust_tree::to_rust_ident;
 use std::alloc::Global;
-use type_defs::{printed_types, type_name};
+use type_defs::{defined_types, type_name};
+use wit_layout::AbiVariant;
 use wit_model::{
-    Field, Function, List, OutOfMemory, Param, Resolve, Text, TypeDef, TypeDefKind, World,
+    Field, Function, List, OutOfMemory, Param, Resolve, Text, TypeDef, TypeDefKind, World, WorldId,
     WorldItem, WorldKey, are_distinct,
 };
 
@@ -171,11 +177,14 @@ fn declare_exports(
 fn declare_return(
     alloc: Global,
     names: &mut List<Declared>,
+    resolve: &Resolve,
     f: &Function,
 ) -> Result<(), OutOfMemory>
-    ensures { OnOk result (names.new ≡ names.old ++ return_names f.now) }
+    requires well { IsWellFormed resolve.now }
+    requires within { IsTrue (function_in_range resolve.now f.now) }
+    ensures { OnOk result (names.new ≡ names.old ++ return_names resolve.now.types f.now) }
 {
-    if needs_area(&f.result) {
+    if needs_return(resolve, f) {
         declare_among_types(alloc, names, return_ident(alloc, f)?)
     } else {
         Ok(())
@@ -185,13 +194,16 @@ fn declare_return(
 fn declare_returns(
     alloc: Global,
     names: &mut List<Declared>,
+    resolve: &Resolve,
     functions: &[&Function],
 ) -> Result<(), OutOfMemory>
+    requires well { IsWellFormed resolve.now }
+    requires within { AreInRange resolve.now (map (λ f. f.now) functions.now) }
     ensures { OnOk result
-        (names.new ≡ names.old ++ flat_map return_names (map (λ f. f.now) functions.now)) }
+        (names.new ≡ names.old ++ flat_map (return_names resolve.now.types) (map (λ f. f.now) functions.now)) }
 {
     for function in functions {
-        declare_return(alloc, names, function)?;
+        declare_return(alloc, names, resolve, function)?;
     }
     Ok(())
 }
@@ -223,13 +235,19 @@ fn declare_trait(
 fn declare_area_type(
     alloc: Global,
     names: &mut List<Declared>,
+    resolve: &Resolve,
     imports: &[&Function],
     exports: &[&Function],
 ) -> Result<(), OutOfMemory>
+    requires well { IsWellFormed resolve.now }
+    requires imports { AreInRange resolve.now (map (λ f. f.now) imports.now) }
+    requires exports { AreInRange resolve.now (map (λ f. f.now) exports.now) }
     ensures { OnOk result
-        (names.new ≡ names.old ++ all_declared Type_ (area_type_idents (map (λ f. f.now) imports.now) (map (λ f. f.now) exports.now))) }
+        (names.new ≡ names.old ++ all_declared Type_ (area_type_idents resolve.now.types (map (λ f. f.now) imports.now) (map (λ f. f.now) exports.now))) }
 {
-    if any_import_needs_area(imports) || any_needs_area(exports) {
+    if any_needs_area(AbiVariant::GuestImport, resolve, imports)
+        || any_needs_area(AbiVariant::GuestExport, resolve, exports)
+    {
         declare_all(alloc, names, Sort::Type_, &["_RetArea"])
     } else {
         Ok(())
@@ -240,12 +258,15 @@ fn declare_area_type(
 fn declare_area(
     alloc: Global,
     names: &mut List<Declared>,
+    resolve: &Resolve,
     exports: &[&Function],
 ) -> Result<(), OutOfMemory>
+    requires well { IsWellFormed resolve.now }
+    requires within { AreInRange resolve.now (map (λ f. f.now) exports.now) }
     ensures { OnOk result
-        (names.new ≡ names.old ++ all_declared Value (area_idents (map (λ f. f.now) exports.now))) }
+        (names.new ≡ names.old ++ all_declared Value (area_idents resolve.now.types (map (λ f. f.now) exports.now))) }
 {
-    if any_needs_area(exports) {
+    if any_needs_area(AbiVariant::GuestExport, resolve, exports) {
         declare_all(alloc, names, Sort::Value, &["_RET_AREA"])
     } else {
         Ok(())
@@ -300,12 +321,12 @@ fn declare_macros(
 fn declare_types(
     alloc: Global,
     names: &mut List<Declared>,
-    printed: &[&TypeDef],
+    defined: &[&TypeDef],
 ) -> Result<(), OutOfMemory>
     ensures { OnOk result
-        (names.new ≡ names.old ++ all_declared WorldType (map type_name (map (λ t. t.now) printed.now))) }
+        (names.new ≡ names.old ++ all_declared WorldType (map type_name (map (λ t. t.now) defined.now))) }
 {
-    for entry in printed {
+    for entry in defined {
         names.push(Declared {
             sort: Sort::WorldType,
             name: type_name(alloc, entry)?,
@@ -317,23 +338,27 @@ fn declare_types(
 /// The names of the module itself: its types, its functions and its static, its macros.
 fn module_scope(
     alloc: Global,
+    resolve: &Resolve,
     world: &World,
-    printed: &[&TypeDef],
+    defined: &[&TypeDef],
     imports: &[&Function],
     exports: &[&Function],
 ) -> Result<NameScope, OutOfMemory>
+    requires well { IsWellFormed resolve.now }
+    requires imports { AreInRange resolve.now (map (λ f. f.now) imports.now) }
+    requires exports { AreInRange resolve.now (map (λ f. f.now) exports.now) }
     ensures { IfOk result
-        (λ scope. scope ≡ module_scope world.now (map (λ t. t.now) printed.now) (map (λ f. f.now) imports.now) (map (λ f. f.now) exports.now)) }
+        (λ scope. scope ≡ module_scope resolve.now.types world.now (map (λ t. t.now) defined.now) (map (λ f. f.now) imports.now) (map (λ f. f.now) exports.now)) }
 {
     let mut names = List::new(alloc);
     declare_runtime(alloc, &mut names)?;
-    declare_types(alloc, &mut names, printed)?;
+    declare_types(alloc, &mut names, defined)?;
     declare_trait(alloc, &mut names, exports)?;
-    declare_area_type(alloc, &mut names, imports, exports)?;
+    declare_area_type(alloc, &mut names, resolve, imports, exports)?;
     declare_functions(alloc, &mut names, imports)?;
     declare_exports(alloc, &mut names, exports)?;
-    declare_returns(alloc, &mut names, exports)?;
-    declare_area(alloc, &mut names, exports)?;
+    declare_returns(alloc, &mut names, resolve, exports)?;
+    declare_area(alloc, &mut names, resolve, exports)?;
     declare_macros(alloc, &mut names, world, exports)?;
     Ok(NameScope {
         name: Text::new(alloc),
@@ -385,12 +410,12 @@ fn field_scope(alloc: Global, entry: &TypeDef) -> Result<NameScope, OutOfMemory>
 fn push_field_scopes(
     alloc: Global,
     scopes: &mut List<NameScope>,
-    printed: &[&TypeDef],
+    defined: &[&TypeDef],
 ) -> Result<(), OutOfMemory>
     ensures { OnOk result
-        (scopes.new ≡ scopes.old ++ map field_scope (map (λ t. t.now) printed.now)) }
+        (scopes.new ≡ scopes.old ++ map field_scope (map (λ t. t.now) defined.now)) }
 {
-    for entry in printed {
+    for entry in defined {
         scopes.push(field_scope(alloc, entry)?)?;
     }
     Ok(())
@@ -440,23 +465,28 @@ fn push_param_scopes(
 
 fn scopes_of(
     alloc: Global,
+    resolve: &Resolve,
     world: &World,
-    printed: &[&TypeDef],
+    defined: &[&TypeDef],
 ) -> Result<List<NameScope>, OutOfMemory>
+    requires well { IsWellFormed resolve.now }
+    requires imports { AreInRange resolve.now (emitted.imported_functions world.now) }
+    requires exports { AreInRange resolve.now (emitted.exported_functions world.now) }
     ensures { IfOk result
-        (λ scopes. scopes ≡ scopes_of world.now (map (λ t. t.now) printed.now)) }
+        (λ scopes. scopes ≡ scopes_of resolve.now.types world.now (map (λ t. t.now) defined.now)) }
 {
     let imports = functions_in(alloc, world.imports.as_slice())?;
     let exports = functions_in(alloc, world.exports.as_slice())?;
     let mut scopes = List::new(alloc);
     scopes.push(module_scope(
         alloc,
+        resolve,
         world,
-        printed,
+        defined,
         imports.as_slice(),
         exports.as_slice(),
     )?)?;
-    push_field_scopes(alloc, &mut scopes, printed)?;
+    push_field_scopes(alloc, &mut scopes, defined)?;
     scopes.push(trait_scope(alloc, exports.as_slice())?)?;
     push_param_scopes(alloc, &mut scopes, imports.as_slice())?;
     push_param_scopes(alloc, &mut scopes, exports.as_slice())?;
@@ -469,10 +499,15 @@ pub(crate) fn declared_names(
     alloc: Global,
     opts: &Opts,
     resolve: &Resolve,
+    id: WorldId,
     world: &World,
 ) -> Result<List<NameScope>, OutOfMemory>
+    requires well { IsWellFormed resolve.now }
+    requires found { slice_get resolve.now.worlds id.0 ≡ Some world.now }
+    requires shallow { are_shallow resolve.now.types ≡ true }
+    requires listed { are_listed_well resolve.now ≡ true }
     ensures { IfOk result (λ scopes. scopes ≡ declared_names opts.now resolve.now world.now) }
 {
-    let printed = printed_types(alloc, opts.type_opts(), resolve, world)?;
-    scopes_of(alloc, world, printed.as_slice())
+    let defined = defined_types(alloc, opts.type_opts(), resolve, id, world)?;
+    scopes_of(alloc, resolve, world, defined.as_slice())
 }

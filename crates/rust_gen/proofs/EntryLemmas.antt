@@ -11,10 +11,10 @@ use Rattle.wit_model.specs.declared.function.Function.{Function}
 use Rattle.wit_model.specs.declared.types.TypeDef.{TypeDef}
 use Rattle.wit_model.specs.declared.world.WorldItem.TheVariants as entry
 use Rattle.rust_tree.specs.declared.macros.ExportEntry.{ExportEntry}
-use Rattle.gen_accept.specs.Area.{needs_area}
+use Rattle.gen_accept.specs.Area.{needs_return}
 use Rattle.gen_accept.specs.Emitted.{functions_in}
 use Rattle.type_defs.specs.ListedTypes.{Entries}
-use Rattle.rust_gen.specs.Exported.{entries_of, export_entry, post_return_name, return_entry, where_area}
+use Rattle.rust_gen.specs.Exported.{entries_of, export_entry, post_return_name, return_entry, where_returned}
 use Rattle.gen_accept.specs.NameText.{is_written_entry, is_written_function, is_written_key}
 use Rattle.type_defs.specs.WitForm.{is_name_char, is_nonempty, is_wit_form}
 use Rattle.rust_gen.proofs.ItemLemmas.{alone-named}
@@ -95,15 +95,15 @@ module _ (types : List TypeDef) where
       behind g false = refl
 
       each : (g : Function) → is_wit_form g.name.wit ≡ true → filter (λ x. bytes_eq x.export_name f.name.wit) (entries_of types g) ≡ cond (bytes_eq g.name.wit f.name.wit) (export_entry types g ∷ []) []
-      each g h = ap (λ es. cond (bytes_eq g.name.wit f.name.wit) (export_entry types g ∷ es) es) (behind g (needs_area g.result))
+      each g h = ap (λ es. cond (bytes_eq g.name.wit f.name.wit) (export_entry types g ∷ es) es) (behind g (needs_return types g))
 
   -- under its post-return name by its post-return function, if it has one
   pub alone-return : (fs : List Function) (nth : ℕ) (f : Function) → is_distinct (map (λ f. f.name.wit) fs) ≡ true → list_all (λ f. is_wit_form f.name.wit) fs ≡ true → slice_get fs nth ≡ Some f
-      → filter (λ x. bytes_eq x.export_name (post_return_name f)) (flat_map (entries_of types) fs) ≡ where_area f (return_entry types f)
+      → filter (λ x. bytes_eq x.export_name (post_return_name f)) (flat_map (entries_of types) fs) ≡ where_returned types f (return_entry types f)
   alone-return fs nth f d forms e =
-      picked (λ x. bytes_eq x.export_name (post_return_name f)) (λ g. bytes_eq g.name.wit f.name.wit) (λ g. where_area g (return_entry types g)) fs each forms
-      ∙ ap (flat_map (λ g. where_area g (return_entry types g))) (alone-named (λ g. g.name.wit) fs nth f d e)
-      ∙ append-nil (where_area f (return_entry types f))
+      picked (λ x. bytes_eq x.export_name (post_return_name f)) (λ g. bytes_eq g.name.wit f.name.wit) (λ g. where_returned types g (return_entry types g)) fs each forms
+      ∙ ap (flat_map (λ g. where_returned types g (return_entry types g))) (alone-named (λ g. g.name.wit) fs nth f d e)
+      ∙ append-nil (where_returned types f (return_entry types f))
     where
       behind : (g : Function) (b c : Bool) → bytes_eq (post_return_name g) (post_return_name f) ≡ c → filter (λ x. bytes_eq x.export_name (post_return_name f)) (cond b (return_entry types g ∷ []) []) ≡ cond c (cond b (return_entry types g ∷ []) []) []
       behind g true c h = ap (λ b. cond b (return_entry types g ∷ []) []) h ∙ go c
@@ -113,10 +113,10 @@ module _ (types : List TypeDef) where
       behind g false true h = refl
       behind g false false h = refl
 
-      each : (g : Function) → is_wit_form g.name.wit ≡ true → filter (λ x. bytes_eq x.export_name (post_return_name f)) (entries_of types g) ≡ cond (bytes_eq g.name.wit f.name.wit) (where_area g (return_entry types g)) []
+      each : (g : Function) → is_wit_form g.name.wit ≡ true → filter (λ x. bytes_eq x.export_name (post_return_name f)) (entries_of types g) ≡ cond (bytes_eq g.name.wit f.name.wit) (where_returned types g (return_entry types g)) []
       each g h =
           ap (λ b. cond b (export_entry types g ∷ rest g) (rest g)) (never g.name.wit (post_return_name f) (λ e. no_wit_name f g.name.wit h (sym e)))
-          ∙ behind g (needs_area g.result) (bytes_eq g.name.wit f.name.wit) (same-named f g)
+          ∙ behind g (needs_return types g) (bytes_eq g.name.wit f.name.wit) (same-named f g)
         where
           rest : Function → List ExportEntry
-          rest g = filter (λ x. bytes_eq x.export_name (post_return_name f)) (where_area g (return_entry types g))
+          rest g = filter (λ x. bytes_eq x.export_name (post_return_name f)) (where_returned types g (return_entry types g))

@@ -30,10 +30,10 @@ use Rattle.rust_tree.specs.Asked.{asked_by_item, asked_in}
 use Rattle.rust_tree.specs.Ident.{rust_ident}
 use Rattle.rust_tree.specs.Runtime.{item_name}
 use Rattle.rust_tree.specs.Tree.{Tree, wrapper_info, wrappers_from, wrappers_of}
+use Rattle.type_defs.specs.PartType.{part_type}
 use Rattle.type_defs.specs.WitForm.{is_wit_form}
-use Rattle.gen_accept.specs.Area.{needs_area}
-use Rattle.gen_accept.specs.Built.{is_built_function}
-use Rattle.gen_accept.specs.Cause.{is_built, is_well_named}
+use Rattle.gen_accept.specs.Area.{needs_return}
+use Rattle.gen_accept.specs.Cause.{is_well_named}
 use Rattle.gen_accept.specs.DeclaredNames.{are_distinct_functions, cabi_suffix, declares_well, export_prefix, guest_name, has_distinct_names}
 use Rattle.gen_accept.specs.Emitted.{emitted_sides, exported_functions, imported_functions, on_side, places_from}
 use Rattle.gen_accept.specs.NameText.{are_written_tables, is_written_entry, is_written_world}
@@ -57,7 +57,7 @@ use Rattle.func_gen.specs.Records.{AreDefined}
 use Rattle.func_gen.specs.Sites.{site_names}
 use Rattle.wrapper_closing.specs.ClosedExport.{SharesArea, export_file}
 use Rattle.wrapper_closing.specs.ClosedImport.{AnswersAs}
-use Rattle.wrapper_closing.specs.Direct.{is_direct_result}
+use Rattle.wrapper_closing.specs.Direct.{are_direct, is_direct_result}
 use Rattle.wrapper_closing.specs.ExportBody.{ClosesExportBody}
 use Rattle.wrapper_closing.specs.FileArea.{HasAreaFor, NeedAreas}
 use Rattle.wrapper_closing.specs.ImportBody.{ClosesImportBody, import_called}
@@ -73,15 +73,22 @@ use Rattle.wrapper_closing.proofs.PostReturnBodyCloses.{post_return_body_is_retu
 use Rattle.wrapper_closing.proofs.PrintedAnswers.{printed_params_pass, printed_results_answer, printed_results_come_in}
 use Rattle.wrapper_closing.proofs.ReturnedFrees.{unlisted_is_unreturned}
 use Rattle.wrapper_closing.proofs.SharedArea.{shared_sized}
+use Rattle.type_sites.specs.PrintedLaws.{AreSites}
+use Rattle.type_sites.specs.Sites.{record_sites}
+use Rattle.type_defs.specs.Used.{UsesTypes}
+use Rattle.type_sites.proofs.RecordsDefined.{records-are-defined}
+use Rattle.type_sites.proofs.WorldTypes.{params-are-direct, params-are-printed, results-are-direct, results-are-printed}
+use Rattle.func_gen.specs.declared.record_site.RecordSite.{RecordSite}
+use Rattle.gen_accept.specs.TypeOpts.{type_opts}
 use Rattle.rust_gen.specs.Body.{ArePartsWritten, IsExportWritten, IsReturnWritten, IsWritten, ReturnWritten, import_site}
 use Rattle.rust_gen.specs.Bound.{Binds, Parts, area_items, areas_of, export_items, file_area, own_items}
-use Rattle.rust_gen.specs.Exported.{entries_of, export_entry, file_macro, guest_trait, last_macro, post_return_name, return_entry, trait_and_macro, trait_fn, trait_param, where_any, where_area, world_macro}
+use Rattle.rust_gen.specs.Exported.{entries_of, export_entry, file_macro, guest_trait, last_macro, post_return_name, return_entry, trait_and_macro, trait_fn, trait_param, where_any, where_returned, world_macro}
+use Rattle.rust_gen.specs.Known.{IsKnown}
 use Rattle.rust_gen.specs.Faithful.{AreFaithful, export_names, import_target}
 use Rattle.rust_gen.specs.Runtime.{runtime_items, runtime_module}
 use Rattle.rust_gen.specs.Signature.{printed_result}
 use Rattle.rust_gen.specs.Wrapper.{printed_param, root_module}
 use Rattle.rust_gen.proofs.AskedLemmas.{Found, found-asked, found-at, found-export, found-parts, found-return, found-wrapper, found_all}
-use Rattle.rust_gen.proofs.BuiltLemmas.{built_export, built_import, has_list_is, params_are_printed, params_direct, result_direct, result_is_printed}
 use Rattle.rust_gen.proofs.EntryLemmas.{alone-return, alone-wrapper, wit-forms}
 use Rattle.rust_gen.proofs.ItemLemmas.{alone-named, area-found, distinct-image, entries-are, find-named, method-found, runtime-found}
 use Rattle.rust_gen.proofs.PartsLemmas.{exports-of_parts, no_exports-behind, no_returns-behind, post_return-alone, post_return_named-at}
@@ -117,11 +124,11 @@ nonempty : {A : Type 0} (xs : List A) (nth : ℕ) (x : A) → slice_get xs nth �
 nonempty [] nth x e = absurd (cc)
 nonempty (y ∷ ys) nth x e = (y, ys, refl)
 
-bases-are : (types : List TypeDef) (fs : List Function) (es : List Parts) → AllZip (ArePartsWritten types) fs es → map (λ e. e.0.base) es ≡ map (λ f. f.name.snake) fs
-bases-are types [] [] z = refl
-bases-are types [] (e ∷ es) z = absurd z
-bases-are types (f ∷ fs) [] z = absurd z
-bases-are types (f ∷ fs) (e ∷ es) z = ap (λ b. b ∷ map (λ e. e.0.base) es) z.0.0.made.outside.base ∙ ap (λ bs. f.name.snake ∷ bs) (bases-are types fs es z.1)
+bases-are : (types : List TypeDef) (records : List (Option RecordSite)) (fs : List Function) (es : List Parts) → AllZip (ArePartsWritten types records) fs es → map (λ e. e.0.base) es ≡ map (λ f. f.name.snake) fs
+bases-are types records [] [] z = refl
+bases-are types records [] (e ∷ es) z = absurd z
+bases-are types records (f ∷ fs) [] z = absurd z
+bases-are types records (f ∷ fs) (e ∷ es) z = ap (λ b. b ∷ map (λ e. e.0.base) es) z.0.0.made.outside.base ∙ ap (λ bs. f.name.snake ∷ bs) (bases-are types records fs es z.1)
 
 -- the functions of a world that is accepted
 
@@ -220,18 +227,23 @@ no_places m (item.PostReturn p ∷ items) = no_places (m + 1) items
 no_places m (item.Area a ∷ items) = no_places (m + 1) items
 no_places m (item.Type t ∷ items) = no_places (m + 1) items
 
-module _ (opts : Opts) (resolve : Resolve) (id : ℕ) (world : World) (found : slice_get resolve.worlds id ≡ Some world) (built : is_built opts resolve ≡ true) (well : is_well_named opts resolve world ≡ true)
-    (key : WorldId) (tree : Tree) (b : Binds (IsWritten resolve.types) (ArePartsWritten resolve.types) opts resolve key world tree) where
+module _ (opts : Opts) (resolve : Resolve) (id : WorldId) (world : World) (known : IsKnown opts resolve id world) (well : is_well_named opts resolve world ≡ true) (tree : Tree)
+    (b : Binds (IsWritten resolve.types (record_sites resolve world)) (ArePartsWritten resolve.types (record_sites resolve world)) opts resolve id world tree) where
+  found : slice_get resolve.worlds id.0 ≡ Some world
+  found = known.types.found
+
   named : declares_well opts resolve world ≡ true
-  unfolding is_well_named
-  named = (and_parts _ (declares_well opts resolve world) well).1
+  named = known.declared
 
   distinct : has_distinct_names world ≡ true
   unfolding is_well_named
-  distinct = all_at has_distinct_names resolve.worlds id world (and_parts _ (list_all has_distinct_names resolve.worlds) (and_parts (are_written_tables resolve && list_all has_distinct_names resolve.worlds) (declares_well opts resolve world) well).0).1 found
+  distinct = all_at has_distinct_names resolve.worlds id.0 world (and_parts _ (list_all has_distinct_names resolve.worlds) (and_parts (are_written_tables resolve && list_all has_distinct_names resolve.worlds) (declares_well opts resolve world) well).0).1 found
 
   abbrev types : List TypeDef
   types = resolve.types
+
+  abbrev records : List (Option RecordSite)
+  records = record_sites resolve world
 
   abbrev ws : List FnItem
   ws = b.items.wrappers
@@ -241,7 +253,7 @@ module _ (opts : Opts) (resolve : Resolve) (id : ℕ) (world : World) (found : s
   forms =
       let written = (and_parts (are_written_tables resolve) (list_all has_distinct_names resolve.worlds) (and_parts (are_written_tables resolve && list_all has_distinct_names resolve.worlds) (declares_well opts resolve world) well).0).0 in
       let worlds = (and_parts _ (list_all is_written_world resolve.worlds) written).1 in
-      wit-forms world.exports (and_parts _ (list_all is_written_entry world.exports) (all_at is_written_world resolve.worlds id world worlds found)).1
+      wit-forms world.exports (and_parts _ (list_all is_written_entry world.exports) (all_at is_written_world resolve.worlds id.0 world worlds found)).1
 
   abbrev es : List Parts
   es = b.items.exports
@@ -256,10 +268,10 @@ module _ (opts : Opts) (resolve : Resolve) (id : ℕ) (world : World) (found : s
   qs = places_from 0 world.exports
 
   as_many : length ps ≡ length ws
-  as_many = length-places_from 0 world.imports ∙ sym (AllZip-long (IsWritten types) (imported_functions world) ws b.items.wraps)
+  as_many = length-places_from 0 world.imports ∙ sym (AllZip-long (IsWritten types records) (imported_functions world) ws b.items.wraps)
 
   as_many_exports : length qs ≡ length es
-  as_many_exports = length-places_from 0 world.exports ∙ sym (AllZip-long (ArePartsWritten types) fs es b.items.exported)
+  as_many_exports = length-places_from 0 world.exports ∙ sym (AllZip-long (ArePartsWritten types records) fs es b.items.exported)
 
   abbrev ts : List TypeItem
   ts = b.items.types
@@ -284,11 +296,35 @@ module _ (opts : Opts) (resolve : Resolve) (id : ℕ) (world : World) (found : s
   are : tree.items ≡ map item.Type ts ++ others
   are = b.items.are ∙ own-first types ts ws es world (runtime_module asked ++ last_macro world)
 
-  -- what these ask for is found
+  -- 1. Its types
+
+  sites : AreSites (type_opts opts) resolve id world ts
+  sites = record { definable = known.types; names = known.names; are = b.items.defined }
+
+  result-printed : (f : Function) → UsesTypes resolve world f → IsPrintedResult tree.items (result_shape types f) (printed_result types f.result)
+  result-printed f uses = subst (λ is. IsPrintedResult is (result_shape types f) (printed_result types f.result)) (sym are) (results-are-printed (type_opts opts) resolve id world ts others sites f uses)
+
+  params-printed : (f : Function) → UsesTypes resolve world f → ArePrintedParams tree.items (param_shapes types f) (map (trait_param types) f.params)
+  params-printed f uses =
+      subst (λ is. ArePrintedParams is (param_shapes types f) (map (trait_param types) f.params)) (sym are)
+      (params-are-printed (type_opts opts) resolve id world ts others sites f uses (map (trait_param types) f.params)
+      (map-map (λ p. p.ty) (trait_param types) f.params ∙ sym (map-map (part_type types) (λ p. p.ty) f.params)))
+
+  params-direct : (f : Function) → UsesTypes resolve world f → are_direct (param_shapes types f) ≡ true
+  params-direct f uses = params-are-direct (type_opts opts) resolve id world known.types f uses
+
+  result-direct : (f : Function) → UsesTypes resolve world f → is_direct_result (result_shape types f) ≡ true
+  result-direct f uses = results-are-direct (type_opts opts) resolve id world known.types f uses
+
+  records-defined : (given : List (Option RecordSite)) → given ≡ records → AreDefined tree.items given
+  records-defined given is = subst (AreDefined tree.items) (sym is) (subst (λ items. AreDefined items records) (sym are) (records-are-defined (type_opts opts) resolve id world ts others known.types b.items.defined))
+
+  -- 2. What its items ask for is found
+
   asks : Found tree.items (asked_in own)
   asks x h =
       ap (λ is. runtime_item_named is (item_name x)) are ∙ skip-runtime_item ts others (item_name x)
-      ∙ runtime-found ws es fs area (guest_trait fs) (world_macro types world) asked (last_macro world) (item_name x) x (found_all own x h)
+      ∙ runtime-found ws es fs area (guest_trait types fs) (world_macro types world) asked (last_macro world) (item_name x) x (found_all own x h)
 
   asks-wrappers : Found tree.items (asked_in (map item.Import ws)) × Found tree.items (asked_in (flat_map export_items es))
   asks-wrappers =
@@ -313,8 +349,8 @@ module _ (opts : Opts) (resolve : Resolve) (id : ℕ) (world : World) (found : s
       (no_places e.0 behind) ∙ append-nil (on_side false qs))
 
   module _ (nth : ℕ) (f : Function) (e : slice_get (imported_functions world) nth ≡ Some f) where
-    wrapper : (w : FnItem) × (slice_get ws nth ≡ Some w) × IsWritten types f w
-    wrapper = zip-at (IsWritten types) (imported_functions world) ws nth f b.items.wraps e
+    wrapper : (w : FnItem) × (slice_get ws nth ≡ Some w) × IsWritten types records f w
+    wrapper = zip-at (IsWritten types records) (imported_functions world) ws nth f b.items.wraps e
 
     info : (info : WrapperInfo) × (slice_get (wrappers_of tree) nth ≡ Some info)
     info =
@@ -334,7 +370,7 @@ module _ (opts : Opts) (resolve : Resolve) (id : ℕ) (world : World) (found : s
     closes-import =
         let w = wrapper.2.made in
         let code = w.code in
-        let is_built : is_built_function w.func.now ≡ true = ap is_built_function w.of ∙ built_import opts resolve id world built found nth f e in
+        let uses = subst (UsesTypes resolve world) (sym w.of) (known.imports_use nth f e) in
         record {
           parted = code.made_of.are;
           makes = code.makes;
@@ -342,16 +378,16 @@ module _ (opts : Opts) (resolve : Resolve) (id : ℕ) (world : World) (found : s
           item = wrapper.0;
           there = there;
           names =
-              ap (map (λ p. p.name)) w.outside.params ∙ map-map (λ p. p.name) printed_param f.params ∙ sym (map-map (λ p. p.name) import_site f.params)
+              ap (map (λ p. p.name)) w.outside.params ∙ map-map (λ p. p.name) (printed_param types) f.params ∙ sym (map-map (λ p. p.name) import_site f.params)
               ∙ ap (λ g. map (λ p. p.name) (map import_site g.params)) (sym w.of) ∙ ap (map (λ p. p.name)) (sym code.made_of.params);
           block = code.is;
           runtime = subst (bodies.Found tree.items) code.asks (found-asked tree.items (item.Import wrapper.0) wrapper.2.runtime wrapper.2.sound asks-import);
-          records = subst (AreDefined tree.items) (sym code.made_of.records) tt;
+          records = records-defined code.parts.records code.made_of.written;
           answers =
-              subst (λ ty. AnswersAs tree.items ty (result_shape types w.func.now)) (ap (λ g. printed_result g.result) w.of ∙ sym w.outside.answer)
-              (printed_results_answer tree.items (result_shape types w.func.now) (printed_result w.func.now.result) (result_is_printed types w.func.now is_built tree.items));
-          params = params_direct types w.func.now is_built;
-          result = result_direct types w.func.now is_built;
+              subst (λ ty. AnswersAs tree.items ty (result_shape types w.func.now)) (ap (λ g. printed_result types g.result) w.of ∙ sym w.outside.answer)
+              (printed_results_answer tree.items (result_shape types w.func.now) (printed_result types w.func.now.result) (result-printed w.func.now uses));
+          params = params-direct w.func.now uses;
+          result = result-direct w.func.now uses;
         }
 
     called-import : import_called wrapper.2.made.code.parts wrapper.2.made.func.now ≡ import_target f
@@ -370,36 +406,36 @@ module _ (opts : Opts) (resolve : Resolve) (id : ℕ) (world : World) (found : s
   results = map (result_shape types) fs
 
   all-direct : AllByRecursion (λ r. is_direct_result r ≡ true) results
-  all-direct = each fs (λ nth f e. result_direct types f (built_export opts resolve id world built found nth f e))
+  all-direct = each fs (λ nth f e. result-direct f (known.exports_use nth f e))
     where
       each : (fs : List Function) → ((nth : ℕ) (f : Function) → slice_get fs nth ≡ Some f → is_direct_result (result_shape types f) ≡ true) → AllByRecursion (λ r. is_direct_result r ≡ true) (map (result_shape types) fs)
       each [] h = tt
       each (f ∷ fs) h = (h 0 f refl, each fs (λ nth g e. h (suc nth) g e))
 
-  needs-all : (fs : List Function) (es : List Parts) → AllZip (ArePartsWritten types) fs es → NeedAreas (map (result_shape types) fs) (areas_of es)
+  needs-all : (fs : List Function) (es : List Parts) → AllZip (ArePartsWritten types records) fs es → NeedAreas (map (result_shape types) fs) (areas_of es)
   needs-all [] [] z = tt
   needs-all [] (x ∷ es) z = absurd z
   needs-all (f ∷ fs) [] z = absurd z
-  needs-all (f ∷ fs) (x ∷ es) z = (area-for types f x.0 x.2 z.0.0, needs-all fs es z.1)
+  needs-all (f ∷ fs) (x ∷ es) z = (area-for types records f x.0 x.2 z.0.0, needs-all fs es z.1)
 
   area_is : area_in tree.items ≡ area
-  area_is = ap area_in are ∙ skip-area ts others ∙ area-found ws es fs fs area (guest_trait fs) (world_macro types world) asked (file_macro world)
+  area_is = ap area_in are ∙ skip-area ts others ∙ area-found ws es fs fs area (guest_trait types fs) (world_macro types world) asked (file_macro world)
 
   module _ (nth : ℕ) (f : Function) (e : slice_get fs nth ≡ Some f) where
     abbrev place : ℕ
     place = length (imported_functions world) + nth
 
-    parts : (x : Parts) × (slice_get es nth ≡ Some x) × ArePartsWritten types f x
-    parts = zip-at (ArePartsWritten types) fs es nth f b.items.exported e
+    parts : (x : Parts) × (slice_get es nth ≡ Some x) × ArePartsWritten types records f x
+    parts = zip-at (ArePartsWritten types records) fs es nth f b.items.exported e
 
     abbrev export : ExportFn
     export = parts.0.0
 
-    abbrev written : IsExportWritten types f export parts.0.2
+    abbrev written : IsExportWritten types records f export parts.0.2
     written = parts.2.0
 
     place_is : place ≡ length ws + nth
-    place_is = ap (λ n. n + nth) (sym (AllZip-long (IsWritten types) (imported_functions world) ws b.items.wraps))
+    place_is = ap (λ n. n + nth) (sym (AllZip-long (IsWritten types records) (imported_functions world) ws b.items.wraps))
 
     export-info : (info : WrapperInfo) × (slice_get (wrappers_of tree) place ≡ Some info)
     export-info =
@@ -419,7 +455,7 @@ module _ (opts : Opts) (resolve : Resolve) (id : ℕ) (world : World) (found : s
 
     abbrev under : List Function → List Item
     under gs =
-        map item.Import ws ++ (flat_map export_items es ++ (where_any gs (item.Trait (guest_trait fs) ∷ item.ModuleMacro (world_macro types world) ∷ []) ++ (area_items area ++ (runtime_module asked ++ last_macro world))))
+        map item.Import ws ++ (flat_map export_items es ++ (where_any gs (item.Trait (guest_trait types fs) ∷ item.ModuleMacro (world_macro types world) ∷ []) ++ (area_items area ++ (runtime_module asked ++ last_macro world))))
 
     abbrev first : Function
     first = some_export.0
@@ -430,17 +466,17 @@ module _ (opts : Opts) (resolve : Resolve) (id : ℕ) (world : World) (found : s
     items_are : tree.items ≡ map item.Type ts ++ under (first ∷ later)
     items_are = are ∙ ap (λ gs. map item.Type ts ++ under gs) some_export.2
 
-    method-there : method_named tree.items guest_name (rust_ident f.name) ≡ Some (trait_fn f)
+    method-there : method_named tree.items guest_name (rust_ident f.name) ≡ Some (trait_fn types f)
     method-there =
         ap (λ is. method_named is guest_name (rust_ident f.name)) items_are ∙ skip-method ts (under (first ∷ later)) guest_name (rust_ident f.name)
-        ∙ method-found ws es first later (guest_trait fs) (world_macro types world) (area_items area ++ (runtime_module asked ++ last_macro world)) (rust_ident f.name) (trait_fn f)
-        (find-named (λ t. t.name) (map trait_fn fs) nth (trait_fn f) (ap is_distinct (map-map (λ t. t.name) trait_fn fs) ∙ distinct-methods opts resolve world named) (get-map trait_fn fs nth f e))
+        ∙ method-found ws es first later (guest_trait types fs) (world_macro types world) (area_items area ++ (runtime_module asked ++ last_macro world)) (rust_ident f.name) (trait_fn types f)
+        (find-named (λ t. t.name) (map (trait_fn types) fs) nth (trait_fn types f) (ap is_distinct (map-map (λ t. t.name) (trait_fn types) fs) ∙ distinct-methods opts resolve world named) (get-map (trait_fn types) fs nth f e))
 
     asked-parts : Found tree.items (asked_in (export_items parts.0))
     asked-parts = found-export tree.items es nth parts.0 parts.1 asks-wrappers.1
 
     entries : entries_in tree.items ≡ flat_map (entries_of types) fs
-    entries = ap entries_in items_are ∙ skip-entries ts (under (first ∷ later)) ∙ entries-are ws es first later fs area (guest_trait fs) (world_macro types world) asked (file_macro world)
+    entries = ap entries_in items_are ∙ skip-entries ts (under (first ∷ later)) ∙ entries-are ws es first later fs area (guest_trait types fs) (world_macro types world) asked (file_macro world)
 
     distinct-names : is_distinct (map (λ f. f.name.wit) fs) ≡ true
     distinct-names = (and_parts (are_distinct_functions (imported_functions world)) (are_distinct_functions fs) distinct).1
@@ -454,28 +490,28 @@ module _ (opts : Opts) (resolve : Resolve) (id : ℕ) (world : World) (found : s
       answer = sym written.made.outside.answer;
       named =
           ap (λ base. filter (λ x. bytes_eq x.base base) (exports_in tree.items)) (sym written.made.outside.base)
-          ∙ ap (filter (λ x. bytes_eq x.base export.base)) (ap exports_in are ∙ skip-exports ts others ∙ exports-of_parts ws es behind (no_exports-behind types area asked world))
-          ∙ alone-named (λ x. x.base) (map (λ x. x.0) es) nth export (ap is_distinct (map-map (λ x. x.base) (λ x. x.0) es ∙ bases-are types fs es b.items.exported) ∙ distinct-bases opts resolve world named) (get-map (λ x. x.0) es nth parts.0 parts.1);
+          ∙ ap (filter (λ x. bytes_eq x.base export.base)) (ap exports_in are ∙ skip-exports ts others ∙ exports-of_parts ws es behind (no_exports-behind types records area asked world))
+          ∙ alone-named (λ x. x.base) (map (λ x. x.0) es) nth export (ap is_distinct (map-map (λ x. x.base) (λ x. x.0) es ∙ bases-are types records fs es b.items.exported) ∙ distinct-bases opts resolve world named) (get-map (λ x. x.0) es nth parts.0 parts.1);
     }
 
     no_returns : post_returns_in behind ≡ []
-    no_returns = no_returns-behind types area asked world
+    no_returns = no_returns-behind types records area asked world
 
     post-return-there : post_return_named export.base tree.items ≡ parts.0.1
     post-return-there =
         ap (λ base. post_return_named base tree.items) written.made.outside.base ∙ ap (post_return_named f.name.snake) are ∙ skip-post_return ts others f.name.snake
-        ∙ post_return_named-at types ws es fs behind nth f parts.0 b.items.exported (distinct-bases opts resolve world named) e parts.1 no_returns
+        ∙ post_return_named-at types records ws es fs behind nth f parts.0 b.items.exported (distinct-bases opts resolve world named) e parts.1 no_returns
 
     return-at : post_return_at tree place ≡ option_map (λ p. (export-info.0.item.0, p)) parts.0.1
     return-at =
         ap (option_and_then (λ w. option_map (λ p. (w.0, p)) (post_return_named w.1.base tree.items))) export-there
         ∙ ap (option_map (λ p. (export-info.0.item.0, p))) post-return-there
 
-    return-entries : entries_named (post_return_name f) tree.items ≡ where_area f (return_entry types f)
+    return-entries : entries_named (post_return_name f) tree.items ≡ where_returned types f (return_entry types f)
     return-entries = ap (filter (λ x. bytes_eq x.export_name (post_return_name f))) entries ∙ alone-return types fs nth f distinct-names forms e
 
-    is_built_here : is_built_function f ≡ true
-    is_built_here = built_export opts resolve id world built found nth f e
+    uses-here : UsesTypes resolve world f
+    uses-here = known.exports_use nth f e
 
     function_is : written.made.func.now ≡ f
     function_is = written.made.of
@@ -498,7 +534,7 @@ module _ (opts : Opts) (resolve : Resolve) (id : ℕ) (world : World) (found : s
 
     -- the post-return function
 
-    abbrev returned-body : (p : PostReturnFn) → parts.0.1 ≡ Some p → (w : IsReturnWritten types f p) → needs_area f.result ≡ true → ClosesPostReturnBody types f w.made.code.parts w.made.code.body tree place
+    abbrev returned-body : (p : PostReturnFn) → parts.0.1 ≡ Some p → (w : IsReturnWritten types records f p) → needs_return types f ≡ true → ClosesPostReturnBody types f w.made.code.parts w.made.code.body tree place
     returned-body p is w needs = record {
       parted = w.made.code.made_of.are;
       makes = w.made.code.makes;
@@ -510,14 +546,14 @@ module _ (opts : Opts) (resolve : Resolve) (id : ℕ) (world : World) (found : s
       pinned = ap arg_types w.made.outside.params ∙ types_of_args 0 (result_types (passed types f));
       block = w.made.code.is;
       runtime = subst (bodies.Found tree.items) w.made.code.asks (found-asked tree.items (item.PostReturn p) w.runtime w.sound (found-return tree.items parts.0 p is asked-parts));
-      records = subst (AreDefined tree.items) (sym w.made.code.made_of.records) tt;
+      records = records-defined w.made.code.parts.records w.made.code.made_of.written;
       sized = shared_sized results (result_shape types f) tree shared;
-      result = result_direct types f is_built_here;
-      lists = has_list_is types f is_built_here ∙ needs;
+      result = result-direct f uses-here;
+      lists = needs;
     }
 
     returned-there : Returns (post_return_name f) tree place (passed types f)
-    returned-there = subst (λ b. MatchBool b Returned Unreturned) (sym (has_list_is types f is_built_here)) (go (needs_area f.result) refl parts.2.1)
+    returned-there = go (needs_return types f) refl parts.2.1
       where
         Returned : Type 0
         Returned = IsReturned (post_return_name f) tree place (passed types f)
@@ -525,7 +561,7 @@ module _ (opts : Opts) (resolve : Resolve) (id : ℕ) (world : World) (found : s
         Unreturned : Type 0
         Unreturned = IsUnreturned (post_return_name f) tree place (passed types f)
 
-        go : (b : Bool) → needs_area f.result ≡ b → ReturnWritten types b f parts.0.1 → MatchBool b Returned Unreturned
+        go : (b : Bool) → needs_return types f ≡ b → ReturnWritten types records b f parts.0.1 → MatchBool b Returned Unreturned
         go true needs (p, is, w) =
             post_return_body_is_returned types (post_return_name f) tree place f w.made.code.parts w.made.code.body (returned-body p is w needs) (record {
               entry = return_entry types f;
@@ -534,16 +570,16 @@ module _ (opts : Opts) (resolve : Resolve) (id : ℕ) (world : World) (found : s
               params = sym w.made.outside.params;
               pinned = ap arg_types w.made.outside.params ∙ types_of_args 0 (result_types (passed types f));
               answer = refl;
-              named = ap (filter (λ x. bytes_eq x.base f.name.snake)) (ap post_returns_in are ∙ skip-post_returns ts others) ∙ post_return-alone types ws es fs behind nth f parts.0 p b.items.exported (distinct-bases opts resolve world named) e parts.1 no_returns is;
+              named = ap (filter (λ x. bytes_eq x.base f.name.snake)) (ap post_returns_in are ∙ skip-post_returns ts others) ∙ post_return-alone types records ws es fs behind nth f parts.0 p b.items.exported (distinct-bases opts resolve world named) e parts.1 no_returns is;
             })
         go false needs none =
-            unlisted_is_unreturned types (post_return_name f) tree place f (has_list_is types f is_built_here ∙ needs)
+            unlisted_is_unreturned types (post_return_name f) tree place f needs
             (return-at ∙ ap (option_map (λ p. (export-info.0.item.0, p))) none)
             (return-entries ∙ ap (λ b. cond b (return_entry types f ∷ []) []) needs)
 
     -- the wrapper
 
-    method-is : method (export_file tree export-info.0.item.0 written.made.code.parts.home) written.made.func.now ≡ Some (trait_fn f)
+    method-is : method (export_file tree export-info.0.item.0 written.made.code.parts.home) written.made.func.now ≡ Some (trait_fn types f)
     method-is = ap₂ (λ home (g : Function). method_named tree.items home (rust_ident g.name)) written.made.code.made_of.home function_is ∙ method-there
 
     -- it keeps no value only where the method gives none
@@ -553,7 +589,7 @@ module _ (opts : Opts) (resolve : Resolve) (id : ℕ) (world : World) (found : s
         (sym (ap₂ (method_named tree.items) written.made.code.made_of.home written.made.calls.calls ∙ method-there))
         (no-value f.result (sym written.made.calls.keeps ∙ ap is_some none))
       where
-        no-value : (r : Option WitType) → is_some r ≡ false → printed_result r ≡ type.Unit
+        no-value : (r : Option WitType) → is_some r ≡ false → printed_result types r ≡ type.Unit
         no-value None h = refl
         no-value (Some ty) h = absurd (cc)
 
@@ -565,7 +601,7 @@ module _ (opts : Opts) (resolve : Resolve) (id : ℕ) (world : World) (found : s
     closes-export =
         let w = written.made in
         let code = w.code in
-        let is_built : is_built_function w.func.now ≡ true = ap is_built_function w.of ∙ is_built_here in
+        let uses = subst (UsesTypes resolve world) (sym w.of) uses-here in
         let file = export_file tree export-info.0.item.0 code.parts.home in
         record {
           parted = code.made_of.are;
@@ -581,16 +617,16 @@ module _ (opts : Opts) (resolve : Resolve) (id : ℕ) (world : World) (found : s
           signature = subst (λ g. HasCoreSignature (passed types g) export) (sym w.of) signature-is;
           block = code.is.rest;
           runtime = subst (bodies.Found tree.items) code.is.asks (found-asked tree.items (item.Export export) written.runtime written.sound asks-export);
-          records = subst (AreDefined tree.items) (sym code.made_of.records) tt;
+          records = records-defined code.parts.records code.made_of.written;
           called = gives-as_called;
           area = subst (λ g. SharesArea results (result_shape types g) tree) (sym w.of) shared;
           passes =
-              printed_params_pass file code.makes.old w.func.now (param_shapes types w.func.now) (trait_fn f) method-is
-              (subst (λ (g : Function). ArePrintedParams tree.items (param_shapes types w.func.now) (map trait_param g.params)) w.of (params_are_printed types w.func.now is_built tree.items));
+              printed_params_pass file code.makes.old w.func.now (param_shapes types w.func.now) (trait_fn types f) method-is
+              (subst (λ (g : Function). ArePrintedParams tree.items (param_shapes types w.func.now) (map (trait_param types) g.params)) w.of (params-printed w.func.now uses));
           answers =
-              printed_results_come_in file code.makes.old w.func.now (result_shape types w.func.now) (trait_fn f) method-is
-              (subst (λ (g : Function). IsPrintedResult tree.items (result_shape types w.func.now) (printed_result g.result)) w.of (result_is_printed types w.func.now is_built tree.items));
-          direct = params_direct types w.func.now is_built;
+              printed_results_come_in file code.makes.old w.func.now (result_shape types w.func.now) (trait_fn types f) method-is
+              (subst (λ (g : Function). IsPrintedResult tree.items (result_shape types w.func.now) (printed_result types g.result)) w.of (result-printed w.func.now uses));
+          direct = params-direct w.func.now uses;
           method = method-target;
           exported = exported-there;
           post_return = subst (λ g. Returns (post_return_name f) tree place (passed types g)) (sym w.of) returned-there;

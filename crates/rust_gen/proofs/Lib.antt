@@ -1,5 +1,4 @@
 mod AskedLemmas
-mod BuiltLemmas
 mod EntryLemmas
 mod FaithfulLemmas
 mod FixedLemmas

@@ -1,10 +1,12 @@
 -- The tree of a world whose names are declared well has only names that are identifiers.
-use Rattle.std.proofs.Common.{◌≡◌, true, false, ◌&&◌, List, [], ◌∷◌, ◌++◌, map, refl, sym, ap, ◌∙◌}
-use Rattle.std.specs.Prelude.{codes, Bool, Option, None, Some, if◌then◌else◌}
+use Rattle.std.proofs.Common.{◌≡◌, ℕ, suc, true, false, ◌&&◌, List, [], ◌∷◌, ◌++◌, map, refl, sym, ap, ◌∙◌}
+use Rattle.std.specs.Prelude.{codes, Bool, Option, None, Some, if◌then◌else◌, slice_get}
 use Rattle.std.specs.List.{AllZip, flat_map, list_all}
 use Rattle.std.proofs.lemmas.Bool.{and_from, and_parts, cond_both}
+use Rattle.std.proofs.lemmas.List.Elements.{Contains-append_left, Contains-append_right}
 use Rattle.std.proofs.lemmas.List.Folds.{list_all-append, list_all-map}
 use Rattle.wit_model.specs.Bytes.{Bytes}
+use Rattle.wit_model.specs.WellFormed.{IsWellFormed}
 use Rattle.wit_model.specs.declared.function.Function.{Function}
 use Rattle.wit_model.specs.declared.name.WorldId.{WorldId}
 use Rattle.wit_model.specs.declared.resolve.Resolve.{Resolve}
@@ -19,9 +21,11 @@ use Rattle.rust_tree.specs.declared.item.Item.TheVariants as item
 use Rattle.rust_tree.specs.declared.runtime_item.RuntimeItem.{RuntimeItem}
 use Rattle.rust_tree.specs.Ident.{is_ident, may_follow, rust_ident}
 use Rattle.rust_tree.specs.WellNamed.{are_named_core_params, are_well_named, is_ident_part, is_line, is_named_entry, is_named_item, is_named_method, is_named_module_macro, is_named_param, is_named_root_macro, is_named_trait, is_named_type, is_option_line, is_quotable}
-use Rattle.gen_accept.specs.Area.{needs_area}
+use Rattle.gen_accept.specs.Area.{needs_return}
 use Rattle.gen_accept.specs.declared.opts.Opts.{Opts}
 use Rattle.gen_accept.specs.TypeOpts.{type_opts}
+use Rattle.func_gen.specs.declared.record_site.RecordSite.{RecordSite}
+use Rattle.type_sites.specs.Sites.{record_sites}
 use Rattle.rust_gen.specs.Body.{ArePartsWritten, IsWritten, ReturnWritten, is_among, is_sound}
 use Rattle.rust_gen.specs.Bound.{AreItems, Parts, area_items, area_of, areas_of, export_items, file_area, own_items}
 use Rattle.rust_gen.specs.Known.{IsKnown}
@@ -31,19 +35,21 @@ use Rattle.type_defs.specs.Docs.{doc_lines}
 use Rattle.gen_accept.specs.Emitted.{exported_functions, imported_functions}
 use Rattle.wrapper_faithful.specs.Passed.{passed}
 use Rattle.wrapper_closing.specs.Params.{export_args, param_types, result_types, return_args}
-use Rattle.rust_gen.specs.Exported.{entries_of, export_entry, file_macro, guest_trait, last_macro, macro_name, post_return_name, return_entry, trait_and_macro, trait_fn, trait_param, where_any, where_area, world_macro, world_prefix}
+use Rattle.rust_gen.specs.Exported.{entries_of, export_entry, file_macro, guest_trait, last_macro, macro_name, post_return_name, return_entry, trait_and_macro, trait_fn, trait_param, where_any, where_returned, world_macro, world_prefix}
 use Rattle.gen_accept.specs.NameText.{is_written_entry}
 use Rattle.type_defs.specs.WitForm.{is_wit_form}
 use Rattle.rust_gen.specs.OptionLines.{option_lines, unused_types_line}
 use Rattle.rust_gen.specs.Signature.{printed_result}
 use Rattle.rust_gen.specs.Runtime.{runtime_items, runtime_module}
+use Rattle.type_facts.specs.Roots as roots
 use Rattle.type_defs.proofs.DefinedNameLemmas.{definitions-named}
+use Rattle.type_defs.proofs.UsedNameLemmas.{functions-named}
 use Rattle.gen_accept.proofs.DeclaredLemmas.{export_idents, macro_names, method_idents}
 use Rattle.gen_accept.proofs.DeclaredLemmas as names
 use Rattle.rust_gen.proofs.EntryLemmas.{wit-forms}
 use Rattle.rust_gen.proofs.IdentLemmas.{args-named, guest_ident, part_of, return-quotable}
 use Rattle.type_defs.proofs.NamedTextLemmas.{docs-named, wit-quotable}
-use Rattle.rust_gen.proofs.SignatureLemmas.{result-named, trait_params-named}
+use Rattle.rust_gen.proofs.SignatureLemmas.{AreNamedTypes, result-named, trait_params-named}
 
 -- what is known of functions
 
@@ -73,29 +79,37 @@ quotables (f ∷ fs) h =
 
 -- the trait
 
-method-named : (f : Function) → is_ident (rust_ident f.name) ≡ true → list_all is_ident (param_idents f) ≡ true → is_named_method (trait_fn f) ≡ true
-method-named f name ps =
-    let printed : list_all is_named_param (map trait_param f.params) ≡ true = trait_params-named f.params (sym (list_all-map is_ident (λ p. rust_ident p.name) f.params) ∙ ps) in
-    and_from (list_all is_line (doc_lines f.docs) && is_ident (rust_ident f.name) && list_all is_named_param (map trait_param f.params)) (is_named_type (printed_result f.result))
-    (and_from (list_all is_line (doc_lines f.docs) && is_ident (rust_ident f.name)) (list_all is_named_param (map trait_param f.params))
-    (and_from (list_all is_line (doc_lines f.docs)) (is_ident (rust_ident f.name)) (docs-named f.docs) name) printed) (result-named f.result)
+module _ (r : Resolve) (checked : IsWellFormed r) where
+  -- each function's types
+  abbrev Typed : List Function → Type 0
+  Typed fs = (nth : ℕ) (f : Function) → slice_get fs nth ≡ Some f → AreNamedTypes r.types (roots.param_types f ++ roots.result_types f)
 
-methods-named : (fs : List Function) → Idents fs → Params fs → list_all is_named_method (map trait_fn fs) ≡ true
-methods-named [] n p = refl
-methods-named (f ∷ fs) n p =
-    let names = and_parts (is_ident (rust_ident f.name)) (list_all (λ f. is_ident (rust_ident f.name)) fs) n in
-    let ps = and_parts (list_all is_ident (param_idents f)) (list_all (λ f. list_all is_ident (param_idents f)) fs) p in
-    and_from (is_named_method (trait_fn f)) (list_all is_named_method (map trait_fn fs)) (method-named f names.0 ps.0) (methods-named fs names.1 ps.1)
+  method-named : (f : Function) → is_ident (rust_ident f.name) ≡ true → list_all is_ident (param_idents f) ≡ true → AreNamedTypes r.types (roots.param_types f ++ roots.result_types f) → is_named_method (trait_fn r.types f) ≡ true
+  method-named f name ps named =
+      let params : AreNamedTypes r.types (roots.param_types f) = λ ty c. named ty (Contains-append_left (roots.param_types f) (roots.result_types f) ty c) in
+      let answer : AreNamedTypes r.types (roots.result_types f) = λ ty c. named ty (Contains-append_right (roots.param_types f) (roots.result_types f) ty c) in
+      let printed : list_all is_named_param (map (trait_param r.types) f.params) ≡ true = trait_params-named r checked f.params (sym (list_all-map is_ident (λ p. rust_ident p.name) f.params) ∙ ps) params in
+      and_from (list_all is_line (doc_lines f.docs) && is_ident (rust_ident f.name) && list_all is_named_param (map (trait_param r.types) f.params)) (is_named_type (printed_result r.types f.result))
+      (and_from (list_all is_line (doc_lines f.docs) && is_ident (rust_ident f.name)) (list_all is_named_param (map (trait_param r.types) f.params))
+      (and_from (list_all is_line (doc_lines f.docs)) (is_ident (rust_ident f.name)) (docs-named f.docs) name) printed) (result-named r checked f.result answer)
 
-trait-named : (fs : List Function) → Idents fs → Params fs → is_named_trait (guest_trait fs) ≡ true
-trait-named fs n p = and_from (is_ident guest_name) (list_all is_named_method (map trait_fn fs)) guest_ident (methods-named fs n p)
+  methods-named : (fs : List Function) → Idents fs → Params fs → Typed fs → list_all is_named_method (map (trait_fn r.types) fs) ≡ true
+  methods-named [] n p t = refl
+  methods-named (f ∷ fs) n p t =
+      let names = and_parts (is_ident (rust_ident f.name)) (list_all (λ f. is_ident (rust_ident f.name)) fs) n in
+      let ps = and_parts (list_all is_ident (param_idents f)) (list_all (λ f. list_all is_ident (param_idents f)) fs) p in
+      and_from (is_named_method (trait_fn r.types f)) (list_all is_named_method (map (trait_fn r.types) fs)) (method-named f names.0 ps.0 (t 0 f refl))
+      (methods-named fs names.1 ps.1 (λ nth g e. t (suc nth) g e))
+
+  trait-named : (fs : List Function) → Idents fs → Params fs → Typed fs → is_named_trait (guest_trait r.types fs) ≡ true
+  trait-named fs n p t = and_from (is_ident guest_name) (list_all is_named_method (map (trait_fn r.types) fs)) guest_ident (methods-named fs n p t)
 
 -- the macros
 
 entries-named : (types : List TypeDef) (f : Function) → is_quotable f.name.wit ≡ true → is_ident_part f.name.snake ≡ true → list_all is_named_entry (entries_of types f) ≡ true
 entries-named types f quoted base =
-    and_from (is_named_entry (export_entry types f)) (list_all is_named_entry (where_area f (return_entry types f))) wrapper
-    (cond_both (needs_area f.result) (return_entry types f ∷ []) [] (λ es. list_all is_named_entry es ≡ true) (λ _. and_from (is_named_entry (return_entry types f)) true returns refl) (λ _. refl))
+    and_from (is_named_entry (export_entry types f)) (list_all is_named_entry (where_returned types f (return_entry types f))) wrapper
+    (cond_both (needs_return types f) (return_entry types f ∷ []) [] (λ es. list_all is_named_entry es ≡ true) (λ _. and_from (is_named_entry (return_entry types f)) true returns refl) (λ _. refl))
   where
     wrapper : is_named_entry (export_entry types f) ≡ true
     wrapper = and_from (is_quotable f.name.wit && is_ident_part f.name.snake) (are_named_core_params (export_args (passed types f))) (and_from (is_quotable f.name.wit) (is_ident_part f.name.snake) quoted base) (args-named 0 (param_types (passed types f)))
@@ -148,32 +162,32 @@ sound-named i runtime h =
     let named = (and_parts (are_well_named [] (i ∷ [])) (list_all (is_among (asked_in (i ∷ []))) runtime) h).0 in
     (and_parts (is_named_item i) true named).0
 
-imports-named : (types : List TypeDef) (fs : List Function) (ws : List FnItem) → AllZip (IsWritten types) fs ws → list_all is_named_item (map item.Import ws) ≡ true
-imports-named types [] [] z = refl
-imports-named types [] (w ∷ ws) z = absurd z
-imports-named types (f ∷ fs) [] z = absurd z
-imports-named types (f ∷ fs) (w ∷ ws) z =
-    and_from (is_named_item (item.Import w)) (list_all is_named_item (map item.Import ws)) (sound-named (item.Import w) z.0.runtime z.0.sound) (imports-named types fs ws z.1)
+imports-named : (types : List TypeDef) (records : List (Option RecordSite)) (fs : List Function) (ws : List FnItem) → AllZip (IsWritten types records) fs ws → list_all is_named_item (map item.Import ws) ≡ true
+imports-named types records [] [] z = refl
+imports-named types records [] (w ∷ ws) z = absurd z
+imports-named types records (f ∷ fs) [] z = absurd z
+imports-named types records (f ∷ fs) (w ∷ ws) z =
+    and_from (is_named_item (item.Import w)) (list_all is_named_item (map item.Import ws)) (sound-named (item.Import w) z.0.runtime z.0.sound) (imports-named types records fs ws z.1)
 
-parts-named : (types : List TypeDef) (f : Function) (x : Parts) → ArePartsWritten types f x → list_all is_named_item (export_items x) ≡ true
-parts-named types f (e, o, a) w = go (needs_area f.result) o w.1
+parts-named : (types : List TypeDef) (records : List (Option RecordSite)) (f : Function) (x : Parts) → ArePartsWritten types records f x → list_all is_named_item (export_items x) ≡ true
+parts-named types records f (e, o, a) w = go (needs_return types f) o w.1
   where
     own : is_named_item (item.Export e) ≡ true
     own = sound-named (item.Export e) w.0.runtime w.0.sound
 
-    go : (b : Bool) (o : Option PostReturnFn) → ReturnWritten types b f o → list_all is_named_item (export_items (e, o, a)) ≡ true
+    go : (b : Bool) (o : Option PostReturnFn) → ReturnWritten types records b f o → list_all is_named_item (export_items (e, o, a)) ≡ true
     go true o (q, is, written) =
         let alone : is_named_item (item.PostReturn q) ≡ true = sound-named (item.PostReturn q) written.runtime written.sound in
         ap (λ o. list_all is_named_item (export_items (e, o, a))) is ∙ and_from (is_named_item (item.Export e)) (is_named_item (item.PostReturn q) && true) own (and_from (is_named_item (item.PostReturn q)) true alone refl)
     go false o is = ap (λ o. list_all is_named_item (export_items (e, o, a))) is ∙ and_from (is_named_item (item.Export e)) true own refl
 
-exports-named : (types : List TypeDef) (fs : List Function) (es : List Parts) → AllZip (ArePartsWritten types) fs es → list_all is_named_item (flat_map export_items es) ≡ true
-exports-named types [] [] z = refl
-exports-named types [] (x ∷ es) z = absurd z
-exports-named types (f ∷ fs) [] z = absurd z
-exports-named types (f ∷ fs) (x ∷ es) z =
+exports-named : (types : List TypeDef) (records : List (Option RecordSite)) (fs : List Function) (es : List Parts) → AllZip (ArePartsWritten types records) fs es → list_all is_named_item (flat_map export_items es) ≡ true
+exports-named types records [] [] z = refl
+exports-named types records [] (x ∷ es) z = absurd z
+exports-named types records (f ∷ fs) [] z = absurd z
+exports-named types records (f ∷ fs) (x ∷ es) z =
     list_all-append is_named_item (export_items x) (flat_map export_items es)
-    ∙ and_from (list_all is_named_item (export_items x)) (list_all is_named_item (flat_map export_items es)) (parts-named types f x z.0) (exports-named types fs es z.1)
+    ∙ and_from (list_all is_named_item (export_items x)) (list_all is_named_item (flat_map export_items es)) (parts-named types records f x z.0) (exports-named types records fs es z.1)
 
 -- the whole
 
@@ -197,14 +211,15 @@ known opts r world h = record {
     snake [] h full = cc
     snake (f ∷ exports) h full = part_of (codes "__export_world_") world.name.snake (codes "_cabi") (and_parts (is_ident (codes "__export_world_" ++ world.name.snake ++ codes "_cabi")) _ h).0
 
-items-named : (opts : Opts) (r : Resolve) (id : WorldId) (world : World) (items : List Item) → IsKnown opts r id world → AreItems (IsWritten r.types) (ArePartsWritten r.types) opts r id world items → list_all is_named_item items ≡ true
+items-named : (opts : Opts) (r : Resolve) (id : WorldId) (world : World) (items : List Item) → IsKnown opts r id world → AreItems (IsWritten r.types (record_sites r world)) (ArePartsWritten r.types (record_sites r world)) opts r id world items → list_all is_named_item items ≡ true
 items-named opts r id world items w a =
     let k = known opts r world w.declared in
     let es : List Function = exported_functions world in
     let parts = and_parts (is_wit_form world.name.wit && list_all is_written_entry world.imports) (list_all is_written_entry world.exports) w.written in
     let exports : Quotables es = quotables es (wit-forms world.exports parts.1) in
-    let traits : list_all is_named_item (trait_and_macro r.types world) ≡ true = any-named es (item.Trait (guest_trait es) ∷ item.ModuleMacro (world_macro r.types world) ∷ []) (λ full.
-    and_from (is_named_trait (guest_trait es)) (is_named_module_macro (world_macro r.types world) && true) (trait-named es k.exports k.export_params)
+    let typed : Typed r w.well es = λ nth f e ty c. functions-named (type_opts opts) r id world a.types w.types a.defined ty (w.exports_use nth f e ty c).used in
+    let traits : list_all is_named_item (trait_and_macro r.types world) ≡ true = any-named es (item.Trait (guest_trait r.types es) ∷ item.ModuleMacro (world_macro r.types world) ∷ []) (λ full.
+    and_from (is_named_trait (guest_trait r.types es)) (is_named_module_macro (world_macro r.types world) && true) (trait-named r w.well es k.exports k.export_params typed)
     (and_from (is_named_module_macro (world_macro r.types world)) true
     (and_from (is_ident_part (macro_name world)) (list_all is_named_entry (flat_map (entries_of r.types) es)) (macro_name-part world (k.macros full)) (all-entries-named r.types es exports k.exported)) refl)) in
     let last : list_all is_named_item (last_macro world) ≡ true = any-named es (item.RootMacro (file_macro world) ∷ []) (λ full. and_from (is_named_root_macro (file_macro world)) true (file_macro-named world (k.macros full)) refl) in
@@ -214,8 +229,8 @@ items-named opts r id world items w a =
     let definitions : list_all is_named_item (map item.Type a.types) ≡ true = list_all-map is_named_item item.Type a.types ∙ definitions-named (type_opts opts) r id world a.types w.types a.defined in
     ap (list_all is_named_item) (a.are ∙ own-first r.types a.types a.wrappers a.exports world (runtime ++ last_macro world))
     ∙ items-append (map item.Type a.types) (map item.Import a.wrappers ++ (flat_map export_items a.exports ++ (trait_and_macro r.types world ++ (area ++ (runtime ++ last_macro world))))) definitions
-    (items-append (map item.Import a.wrappers) (flat_map export_items a.exports ++ (trait_and_macro r.types world ++ (area ++ (runtime ++ last_macro world)))) (imports-named r.types (imported_functions world) a.wrappers a.wraps)
-    (items-append (flat_map export_items a.exports) (trait_and_macro r.types world ++ (area ++ (runtime ++ last_macro world))) (exports-named r.types es a.exports a.exported)
+    (items-append (map item.Import a.wrappers) (flat_map export_items a.exports ++ (trait_and_macro r.types world ++ (area ++ (runtime ++ last_macro world)))) (imports-named r.types (record_sites r world) (imported_functions world) a.wrappers a.wraps)
+    (items-append (flat_map export_items a.exports) (trait_and_macro r.types world ++ (area ++ (runtime ++ last_macro world))) (exports-named r.types (record_sites r world) es a.exports a.exported)
     (items-append (trait_and_macro r.types world) (area ++ (runtime ++ last_macro world)) traits
     (items-append area (runtime ++ last_macro world) (area-named (file_area (areas_of a.exports))) (items-append runtime (last_macro world) (runtime-named asked) last)))))
 
@@ -231,7 +246,7 @@ options-named opts = go opts.generate_unused_types
     go false = refl
 
 pub tree-named : (opts : Opts) (r : Resolve) (id : WorldId) (world : World) (options : List Bytes) (items : List Item) → IsKnown opts r id world
-    → options ≡ option_lines opts → AreItems (IsWritten r.types) (ArePartsWritten r.types) opts r id world items → are_well_named options items ≡ true
+    → options ≡ option_lines opts → AreItems (IsWritten r.types (record_sites r world)) (ArePartsWritten r.types (record_sites r world)) opts r id world items → are_well_named options items ≡ true
 tree-named opts r id world options items w lines a =
     ap (λ o. are_well_named o items) lines
     ∙ and_from (list_all is_option_line (option_lines opts)) (list_all is_named_item items) (options-named opts) (items-named opts r id world items w a)

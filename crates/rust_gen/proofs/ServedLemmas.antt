@@ -26,6 +26,7 @@ use Rattle.rust_tree.specs.Runtime.{item_name, needed_items}
 use Rattle.rust_tree.specs.declared.macros.RootMacro.{RootMacro}
 use Rattle.rust_tree.specs.Tree.{Tree}
 use Rattle.gen_accept.specs.declared.opts.Opts.{Opts}
+use Rattle.type_sites.specs.Sites.{record_sites}
 use Rattle.rust_gen.specs.Body.{ArePartsWritten, IsWritten}
 use Rattle.rust_gen.specs.Bound.{Binds, Parts, area_items, area_of, areas_of, export_items, file_area, own_items}
 use Rattle.gen_accept.specs.Emitted.{exported_functions}
@@ -298,7 +299,7 @@ asked-last : (fs : List Function) (m : RootMacro) → asked_in (where_any fs (it
 asked-last [] m = refl
 asked-last (f ∷ fs) m = refl
 
-module _ (opts : Opts) (r : Resolve) (id : WorldId) (world : World) (tree : Tree) (b : Binds (IsWritten r.types) (ArePartsWritten r.types) opts r id world tree) where
+module _ (opts : Opts) (r : Resolve) (id : WorldId) (world : World) (tree : Tree) (b : Binds (IsWritten r.types (record_sites r world)) (ArePartsWritten r.types (record_sites r world)) opts r id world tree) where
   abbrev ts : List TypeItem
   ts = b.items.types
 
@@ -320,7 +321,7 @@ module _ (opts : Opts) (r : Resolve) (id : WorldId) (world : World) (tree : Tree
       ∙ skip-runtime ts (map item.Import b.items.wrappers ++ (flat_map export_items b.items.exports ++ (trait_and_macro r.types world ++ (area_of b.items.exports ++ last))))
       ∙ past (map item.Import b.items.wrappers) (flat_map export_items b.items.exports ++ (trait_and_macro r.types world ++ (area_of b.items.exports ++ last))) (none-imports b.items.wrappers)
       ∙ past (flat_map export_items b.items.exports) (trait_and_macro r.types world ++ (area_of b.items.exports ++ last)) (none-exports b.items.exports)
-      ∙ past (trait_and_macro r.types world) (area_of b.items.exports ++ last) (none-any fs (item.Trait (guest_trait fs) ∷ item.ModuleMacro (world_macro r.types world) ∷ []) refl)
+      ∙ past (trait_and_macro r.types world) (area_of b.items.exports ++ last) (none-any fs (item.Trait (guest_trait r.types fs) ∷ item.ModuleMacro (world_macro r.types world) ∷ []) refl)
       ∙ past (area_of b.items.exports) last (none-area (file_area (areas_of b.items.exports)))
       ∙ runtime-append (runtime_module asked_part) (last_macro world)
       ∙ ap (λ is. runtime_in (runtime_module asked_part) ++ is) (none-any fs (item.RootMacro (file_macro world) ∷ []) refl)

@@ -16,11 +16,11 @@ use Rattle.rust_tree.specs.declared.macros.RootMacro.{RootMacro}
 use Rattle.rust_tree.specs.declared.trait_item.TraitFn.{TraitFn}
 use Rattle.rust_tree.specs.declared.trait_item.TraitItem.{TraitItem}
 use Rattle.rust_tree.specs.Ident.{rust_ident}
-use Rattle.gen_accept.specs.Area.{needs_area}
+use Rattle.gen_accept.specs.Area.{needs_return}
 use Rattle.gen_accept.specs.DeclaredNames.{guest_name}
 use Rattle.gen_accept.specs.Emitted.{exported_functions}
 use Rattle.type_defs.specs.Docs.{doc_lines}
-use Rattle.type_defs.specs.Printed.{printed_type}
+use Rattle.type_defs.specs.PartType.{part_type}
 use Rattle.wrapper_faithful.specs.Passed.{passed}
 use Rattle.wrapper_closing.specs.Params.{export_args, return_args}
 use Rattle.rust_gen.specs.Signature.{printed_result}
@@ -28,14 +28,15 @@ use Rattle.rust_gen.specs.Wrapper.{export_result}
 
 -- the trait
 
-abbrev pub trait_param : Param → FnParam
-trait_param p = record { name = rust_ident p.name; ty = printed_type p.ty }
+-- a parameter is handed over
+abbrev pub trait_param : List TypeDef → Param → FnParam
+trait_param types p = record { name = rust_ident p.name; ty = part_type types p.ty }
 
-abbrev pub trait_fn : Function → TraitFn
-trait_fn f = record { docs = doc_lines f.docs; name = rust_ident f.name; params = map trait_param f.params; result = printed_result f.result }
+abbrev pub trait_fn : List TypeDef → Function → TraitFn
+trait_fn types f = record { docs = doc_lines f.docs; name = rust_ident f.name; params = map (trait_param types) f.params; result = printed_result types f.result }
 
-abbrev pub guest_trait : List Function → TraitItem
-guest_trait functions = record { name = guest_name; functions = map trait_fn functions }
+abbrev pub guest_trait : List TypeDef → List Function → TraitItem
+guest_trait types functions = record { name = guest_name; functions = map (trait_fn types) functions }
 
 -- the macros
 
@@ -51,12 +52,12 @@ post_return_name f = codes "cabi_post_" ++ f.name.wit
 abbrev pub return_entry : List TypeDef → Function → ExportEntry
 return_entry types f = record { kind = kind.PostReturn; export_name = post_return_name f; base = f.name.snake; params = return_args (passed types f); result = None }
 
--- what stands where a result passes by an area
-abbrev pub where_area : {A : Type 0} → Function → A → List A
-where_area f a = if needs_area f.result then a ∷ [] else []
+-- what stands where a result may hold a text
+abbrev pub where_returned : {A : Type 0} → List TypeDef → Function → A → List A
+where_returned types f a = if needs_return types f then a ∷ [] else []
 
 abbrev pub entries_of : List TypeDef → Function → List ExportEntry
-entries_of types f = export_entry types f ∷ where_area f (return_entry types f)
+entries_of types f = export_entry types f ∷ where_returned types f (return_entry types f)
 
 unfoldable pub world_prefix : Bytes
 world_prefix = codes "world_"
@@ -76,7 +77,7 @@ where_any [] items = []
 where_any (_ ∷ _) items = items
 
 abbrev pub trait_and_macro : List TypeDef → World → List Item
-trait_and_macro types world = where_any (exported_functions world) (item.Trait (guest_trait (exported_functions world)) ∷ item.ModuleMacro (world_macro types world) ∷ [])
+trait_and_macro types world = where_any (exported_functions world) (item.Trait (guest_trait types (exported_functions world)) ∷ item.ModuleMacro (world_macro types world) ∷ [])
 
 abbrev pub last_macro : World → List Item
 last_macro world = where_any (exported_functions world) (item.RootMacro (file_macro world) ∷ [])

@@ -1,7 +1,6 @@
 -- What is known of a world of which a tree is made.
-use Rattle.std.specs.Prelude.{◌≡◌, ℕ, true, List, Option, None, Some, slice_get}
+use Rattle.std.specs.Prelude.{◌≡◌, ℕ, true, List, [], Option, None, Some, slice_get}
 use Rattle.wit_model.specs.Distinct.{is_distinct}
-use Rattle.wit_model.specs.IndexRange.{function_in_range}
 use Rattle.wit_model.specs.WellFormed.{IsWellFormed}
 use Rattle.wit_model.specs.declared.function.Function.{Function}
 use Rattle.wit_model.specs.declared.name.WorldId.{WorldId}
@@ -9,26 +8,45 @@ use Rattle.wit_model.specs.declared.resolve.Resolve.{Resolve}
 use Rattle.wit_model.specs.declared.types.TypeDef.{TypeDef}
 use Rattle.wit_model.specs.declared.world.World.{World}
 use Rattle.wit_layout.specs.Filled.{IsFilledFor}
-use Rattle.wit_layout.specs.declared.size_align.SizeAlign.{SizeAlign}
+use Rattle.func_gen.specs.Records.{CanBeDefined}
+use Rattle.func_gen.specs.declared.record_site.RecordSite.{RecordSite}
+use Rattle.func_gen.specs.declared.type_tables.TypeTables.{TypeTables}
 use Rattle.type_defs.specs.DefinedNames.{AreDefinable}
+use Rattle.type_defs.specs.declared.type_opts.TypeOpts.{TypeOpts}
+use Rattle.type_defs.specs.TypeNames.{are_type_names}
+use Rattle.type_sites.specs.Sites.{record_sites}
+use Rattle.type_defs.specs.Used.{UsesTypes}
 use Rattle.gen_accept.specs.declared.opts.Opts.{Opts}
 use Rattle.gen_accept.specs.DeclaredNames.{declares_well, param_idents}
+use Rattle.gen_accept.specs.InRange.{AreInRange}
 use Rattle.gen_accept.specs.Emitted.{exported_functions, imported_functions}
 use Rattle.gen_accept.specs.NameText.{is_written_world}
 use Rattle.gen_accept.specs.TypeOpts.{type_opts}
-
--- the types of each function are in the table
-abbrev pub AreInRange : Resolve → List Function → Type 0
-AreInRange r fs = (nth : ℕ) (f : Function) → slice_get fs nth ≡ Some f → function_in_range r f ≡ true
 
 -- no two parameters of a function have the same identifier
 abbrev pub HaveDistinctParams : List Function → Type 0
 HaveDistinctParams fs = (nth : ℕ) (f : Function) → slice_get fs nth ≡ Some f → is_distinct (param_idents f) ≡ true
 
--- the layouts of the types of a table, where they are at hand
-abbrev pub AreLaidOut : List TypeDef → Option SizeAlign → Type 0
-AreLaidOut types None = ⊥
-AreLaidOut types (Some sizes) = IsFilledFor sizes types
+-- the tables of types, where they are at hand: the layouts are those of the types, and structs can define the records
+abbrev pub AreAtHand : List TypeDef → Option TypeTables → Type 0
+AreAtHand types None = ⊥
+AreAtHand types (Some tables) = IsFilledFor tables.sizes types × CanBeDefined tables.records
+
+-- how the records are written
+abbrev pub records_in : Option TypeTables → List (Option RecordSite)
+records_in None = []
+records_in (Some tables) = tables.records
+
+-- the types of some world of this place can be defined, and structs can define the records that its functions use
+pub record CanWriteRecords (r : Resolve) (id : WorldId) : Type 0 where
+  pub opts : TypeOpts
+  pub world : World
+  pub definable : AreDefinable opts r id world
+  pub defined : CanBeDefined (record_sites r world)
+
+-- each uses types of the table alone that can be defined
+abbrev pub UseTypes : Resolve → World → List Function → Type 0
+UseTypes r world fs = (nth : ℕ) (f : Function) → slice_get fs nth ≡ Some f → UsesTypes r world f
 
 pub record IsKnown (opts : Opts) (r : Resolve) (id : WorldId) (world : World) : Type 0 where
   pub well : IsWellFormed r
@@ -38,3 +56,6 @@ pub record IsKnown (opts : Opts) (r : Resolve) (id : WorldId) (world : World) : 
   pub imports : AreInRange r (imported_functions world)
   pub exports : AreInRange r (exported_functions world)
   pub distinct : HaveDistinctParams (imported_functions world)
+  pub names : are_type_names r.types ≡ true
+  pub imports_use : UseTypes r world (imported_functions world)
+  pub exports_use : UseTypes r world (exported_functions world)

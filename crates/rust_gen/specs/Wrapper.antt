@@ -15,8 +15,9 @@ use Rattle.rust_tree.specs.declared.stmt.ImportDecl.{ImportDecl}
 use Rattle.rust_tree.specs.declared.stmt.Stmt.{Stmt}
 use Rattle.rust_tree.specs.declared.stmt.Stmt.TheVariants as stmt
 use Rattle.rust_tree.specs.Ident.{rust_ident}
-use Rattle.gen_accept.specs.Area.{needs_area}
+use Rattle.gen_accept.specs.Area.{needs_return}
 use Rattle.type_defs.specs.Docs.{doc_lines}
+use Rattle.type_defs.specs.ParamType.{param_type}
 use Rattle.wrapper_faithful.specs.Passed.{passed}
 use Rattle.wrapper_meaning.specs.Areas.{result_record}
 use Rattle.wrapper_meaning.specs.Shape.{result_shape}
@@ -24,10 +25,11 @@ use Rattle.abi_driver.specs.Area.{AreFor}
 use Rattle.abi_driver.specs.declared.bindgen.Asked.{Asked}
 use Rattle.abi_driver.specs.Calls.{import_params, import_results}
 use Rattle.wrapper_closing.specs.Params.{export_args, result_types, return_args}
-use Rattle.rust_gen.specs.Signature.{param_type, printed_result}
+use Rattle.rust_gen.specs.Signature.{printed_result}
 
-abbrev pub printed_param : Param → FnParam
-printed_param p = record { name = rust_ident p.name; ty = param_type p.ty }
+-- a parameter is lent where its type reaches a text
+abbrev pub printed_param : List TypeDef → Param → FnParam
+printed_param types p = record { name = rust_ident p.name; ty = param_type types p.ty }
 
 -- the module of the core imports of a world's own functions
 unfoldable pub root_module : Bytes
@@ -55,8 +57,8 @@ DeclaresOne types f stmts = (decl : ImportDecl) × (declared stmts ≡ decl ∷ 
 pub record Wraps (types : List TypeDef) (f : Function) (item : FnItem) : Type 0 where
   pub docs : item.docs ≡ doc_lines f.docs
   pub name : item.name ≡ rust_ident f.name
-  pub params : item.params ≡ map printed_param f.params
-  pub answer : item.result ≡ printed_result f.result
+  pub params : item.params ≡ map (printed_param types) f.params
+  pub answer : item.result ≡ printed_result types f.result
   pub declares : DeclaresOne types f item.body.stmts
 
 -- the core result of an export, if it has one
@@ -77,7 +79,7 @@ pub record WrapsReturn (types : List TypeDef) (f : Function) (p : PostReturnFn) 
   pub bound : p.bound ≡ codes "Guest"
   pub params : p.params ≡ return_args (passed types f)
 
--- a post-return function stands where the result passes by an area
+-- a post-return function stands where the result may hold a text
 abbrev pub HasReturn : List TypeDef → Bool → Function → Option PostReturnFn → Type 0
 HasReturn types true f p = (q : PostReturnFn) × (p ≡ Some q) × WrapsReturn types f q
 HasReturn types false f p = p ≡ None
@@ -85,4 +87,4 @@ HasReturn types false f p = p ≡ None
 -- and the area that is needed is that of the result
 abbrev pub WrapsParts : List TypeDef → Function → ExportFn × Option PostReturnFn × Option Asked → Type 0
 WrapsParts types f parts =
-    WrapsExport types f parts.0 × HasReturn types (needs_area f.result) f parts.1 × AreFor (result_record (result_shape types f)) (option_to_list parts.2)
+    WrapsExport types f parts.0 × HasReturn types (needs_return types f) f parts.1 × AreFor (result_record (result_shape types f)) (option_to_list parts.2)

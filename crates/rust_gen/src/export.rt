@@ -7,15 +7,14 @@ ghost use Rattle.wit_model.specs.WellFormed.{IsWellFormed};
 ghost use Rattle.rust_tree.specs.Ident.{rust_ident};
 ghost use Rattle.wrapper_closing.specs.Params.{arg_names, ret_area};
 ghost use Rattle.rust_gen.specs.Body.{AreExportParts, CallsMethodOf, IsCodeOf, IsExportCode, IsExportMade, IsExportOutside};
-ghost use Rattle.rust_gen.specs.Known.{AreLaidOut};
+ghost use Rattle.rust_gen.specs.Known.{AreAtHand, records_in};
 
 use crate::exported::{export_result, guest_name};
-use crate::sizes::take_layouts;
+use crate::tables::take_tables;
 use abi_driver::Asked;
-use func_gen::Body;
+use func_gen::{Body, TypeTables};
 use rust_tree::{Block, CallBlock, CoreParam, ExportFn, RuntimeItem, to_rust_ident};
 use std::alloc::Global;
-use wit_layout::SizeAlign;
 use wit_model::{Function, List, OutOfMemory, Resolve};
 use wrapper_closing::{BodyParts, core_params, core_sites, export_body, ret_area};
 
@@ -36,20 +35,21 @@ pub(crate) struct ExportCode {
 pub(crate) fn export_parts(
     alloc: Global,
     resolve: &Resolve,
-    layouts: &mut Option<SizeAlign>,
+    tables: &mut Option<TypeTables>,
     params: &[CoreParam],
 ) -> Result<BodyParts, OutOfMemory>
     requires well { IsWellFormed resolve.now }
     requires distinct { is_distinct (ret_area ∷ arg_names params.now) ≡ true }
-    requires laid { AreLaidOut resolve.now.types layouts.old }
-    ensures { IfOk result (AreExportParts resolve.now.types params.now) }
+    requires tables { AreAtHand resolve.now.types tables.old }
+    ensures { IfOk result (AreExportParts resolve.now.types (records_in tables.old) params.now) }
 {
+    let taken = take_tables(tables)?;
     let parts = BodyParts {
-        sizes: take_layouts(layouts)?,
+        sizes: taken.sizes,
         home: guest_name(alloc)?,
         area: ret_area(alloc)?,
         params: core_sites(alloc, params)?,
-        records: List::new(alloc),
+        records: taken.records,
     };
     Ok(parts)
 }
@@ -79,19 +79,20 @@ fn code_of(body: Body) -> Result<ExportCode, OutOfMemory>
 fn export_code(
     alloc: Global,
     resolve: &Resolve,
-    layouts: &mut Option<SizeAlign>,
+    tables: &mut Option<TypeTables>,
     f: &Function,
 ) -> Result<ExportCode, OutOfMemory>
     requires well { IsWellFormed resolve.now }
     requires within { function_in_range resolve.now f.now ≡ true }
-    requires laid { AreLaidOut resolve.now.types layouts.old }
-    ensures made { IfOk result (IsExportCode resolve.now.types f.entry) }
-    ensures kept { OnOk result (AreLaidOut resolve.now.types layouts.new) }
+    requires tables { AreAtHand resolve.now.types tables.old }
+    ensures made { IfOk result (IsExportCode resolve.now.types (records_in tables.old) f.entry) }
+    ensures kept { OnOk result (AreAtHand resolve.now.types tables.new) }
+    ensures same { OnOk result (records_in tables.new ≡ records_in tables.old) }
 {
     let params = core_params(alloc, resolve, f)?;
-    let parts = export_parts(alloc, resolve, layouts, params.as_slice())?;
-    let (body, sizes) = export_body(alloc, resolve, f, parts)?;
-    *layouts = Some(sizes);
+    let parts = export_parts(alloc, resolve, tables, params.as_slice())?;
+    let (body, taken) = export_body(alloc, resolve, f, parts)?;
+    *tables = Some(taken);
     let code = code_of(body)?;
     Ok(code)
 }
@@ -129,17 +130,18 @@ fn export_fn(
 fn calling_code(
     alloc: Global,
     resolve: &Resolve,
-    layouts: &mut Option<SizeAlign>,
+    tables: &mut Option<TypeTables>,
     f: &Function,
 ) -> Result<ExportCode, OutOfMemory>
     requires well { IsWellFormed resolve.now }
     requires within { function_in_range resolve.now f.now ≡ true }
-    requires laid { AreLaidOut resolve.now.types layouts.old }
-    ensures code { IfOk result (IsExportCode resolve.now.types f.entry) }
+    requires tables { AreAtHand resolve.now.types tables.old }
+    ensures code { IfOk result (IsExportCode resolve.now.types (records_in tables.old) f.entry) }
     ensures calls { IfOk result (λ code. CallsMethodOf f.now code.call) }
-    ensures kept { OnOk result (AreLaidOut resolve.now.types layouts.new) }
+    ensures kept { OnOk result (AreAtHand resolve.now.types tables.new) }
+    ensures same { OnOk result (records_in tables.new ≡ records_in tables.old) }
 {
-    let code = export_code(alloc, resolve, layouts, f)?;
+    let code = export_code(alloc, resolve, tables, f)?;
     if calls(alloc, f, &code.call)? {
         Ok(code)
     } else {
@@ -147,7 +149,7 @@ fn calling_code(
     }
 }
 
-/// The wrapper of an exported function over scalars and texts; the area that it needs, if it needs one; and the items of `_rt` that it asks for.
+/// The wrapper of an exported function; the area that it needs, if it needs one; and the items of `_rt` that it asks for.
 #[derive(Drop)]
 pub(crate) struct ExportMade {
     pub(crate) wrapper: ExportFn,
@@ -155,25 +157,26 @@ pub(crate) struct ExportMade {
     pub(crate) runtime: List<RuntimeItem>,
 }
 
-/// The wrapper of an exported function over scalars and texts, and what it asks for.
+/// The wrapper of an exported function, and what it asks for.
 pub(crate) fn export_wrapper(
     alloc: Global,
     resolve: &Resolve,
-    layouts: &mut Option<SizeAlign>,
+    tables: &mut Option<TypeTables>,
     f: &Function,
 ) -> Result<ExportMade, OutOfMemory>
     requires well { IsWellFormed resolve.now }
     requires within { function_in_range resolve.now f.now ≡ true }
-    requires laid { AreLaidOut resolve.now.types layouts.old }
-    ensures made { IfOk result (IsExportMade resolve.now.types f.now) }
-    ensures kept { OnOk result (AreLaidOut resolve.now.types layouts.new) }
+    requires tables { AreAtHand resolve.now.types tables.old }
+    ensures made { IfOk result (IsExportMade resolve.now.types (records_in tables.old) f.now) }
+    ensures kept { OnOk result (AreAtHand resolve.now.types tables.new) }
+    ensures same { OnOk result (records_in tables.new ≡ records_in tables.old) }
 {
     let ExportCode {
         call,
         rest,
         area,
         runtime,
-    } = calling_code(alloc, resolve, layouts, f)?;
+    } = calling_code(alloc, resolve, tables, f)?;
     let wrapper = export_fn(alloc, resolve, f, call, rest)?;
     Ok(ExportMade {
         wrapper,

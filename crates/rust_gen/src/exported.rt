@@ -10,20 +10,20 @@ ghost use Rattle.func_gen.specs.Body.{needed};
 ghost use Rattle.wrapper_closing.specs.FileArea.{static_area};
 ghost use Rattle.rust_gen.specs.Bound.{area_items};
 ghost use Rattle.rust_gen.specs.Exported.{entries_of, export_entry, file_macro, guest_trait, last_macro, macro_name, post_return_name, return_entry, trait_and_macro, trait_fn, trait_param, world_macro};
-ghost use Rattle.rust_gen.specs.Known.{AreInRange};
+ghost use Rattle.gen_accept.specs.InRange.{AreInRange};
 ghost use Rattle.rust_gen.specs.Wrapper.{export_result};
 
 use crate::signature::printed_result;
 use abi_driver::Asked;
 use func_gen::needed_area;
-use gen_accept::needs_area;
+use gen_accept::needs_return;
 use rust_tree::{
     EntryKind, ExportEntry, FnParam, Item, ModuleMacro, RootMacro, StaticArea, TraitFn, TraitItem,
     to_rust_ident,
 };
 use std::alloc::Global;
-use type_defs::{doc_lines, one, printed_type};
-use wit_model::{Function, List, OutOfMemory, Param, Resolve, Text, WasmType, World};
+use type_defs::{doc_lines, one, part_type};
+use wit_model::{Function, List, OutOfMemory, Param, Resolve, Text, TypeDef, WasmType, World};
 use wrapper_closing::{core_params, core_result, post_return_params};
 
 /// The name of the trait.
@@ -34,42 +34,50 @@ pub(crate) fn guest_name(alloc: Global) -> Result<Text, OutOfMemory>
     Text::from_str(alloc, "Guest")
 }
 
-fn trait_param(alloc: Global, p: &Param) -> Result<FnParam, OutOfMemory>
-    ensures { IfOk result (λ printed. printed ≡ trait_param p.now) }
+fn trait_param(alloc: Global, types: &[TypeDef], p: &Param) -> Result<FnParam, OutOfMemory>
+    ensures { IfOk result (λ printed. printed ≡ trait_param types.now p.now) }
 {
     Ok(FnParam {
         name: to_rust_ident(alloc, &p.name)?,
-        ty: printed_type(p.ty),
+        ty: part_type(alloc, types, p.ty)?,
     })
 }
 
-fn trait_params(alloc: Global, params: &[Param]) -> Result<List<FnParam>, OutOfMemory>
-    ensures { IfOk result (λ printed. printed ≡ map trait_param params.now) }
+fn trait_params(
+    alloc: Global,
+    types: &[TypeDef],
+    params: &[Param],
+) -> Result<List<FnParam>, OutOfMemory>
+    ensures { IfOk result (λ printed. printed ≡ map (trait_param types.now) params.now) }
 {
     let mut printed = List::new(alloc);
     for p in params {
-        printed.push(trait_param(alloc, p)?)?;
+        printed.push(trait_param(alloc, types, p)?)?;
     }
     Ok(printed)
 }
 
-fn trait_fn(alloc: Global, f: &Function) -> Result<TraitFn, OutOfMemory>
-    ensures { IfOk result (λ printed. printed ≡ trait_fn f.now) }
+fn trait_fn(alloc: Global, resolve: &Resolve, f: &Function) -> Result<TraitFn, OutOfMemory>
+    ensures { IfOk result (λ printed. printed ≡ trait_fn resolve.now.types f.now) }
 {
     Ok(TraitFn {
         docs: doc_lines(alloc, &f.docs)?,
         name: to_rust_ident(alloc, &f.name)?,
-        params: trait_params(alloc, f.params.as_slice())?,
-        result: printed_result(&f.result),
+        params: trait_params(alloc, resolve.types.as_slice(), f.params.as_slice())?,
+        result: printed_result(alloc, resolve, &f.result)?,
     })
 }
 
-fn guest_trait(alloc: Global, functions: &[&Function]) -> Result<TraitItem, OutOfMemory>
-    ensures { IfOk result (λ t. t ≡ guest_trait (map (λ f. f.now) functions.now)) }
+fn guest_trait(
+    alloc: Global,
+    resolve: &Resolve,
+    functions: &[&Function],
+) -> Result<TraitItem, OutOfMemory>
+    ensures { IfOk result (λ t. t ≡ guest_trait resolve.now.types (map (λ f. f.now) functions.now)) }
 {
     let mut printed = List::new(alloc);
     for function in functions {
-        printed.push(trait_fn(alloc, function)?)?;
+        printed.push(trait_fn(alloc, resolve, function)?)?;
     }
     Ok(TraitItem {
         name: guest_name(alloc)?,
@@ -137,7 +145,7 @@ fn push_entries(
     ensures { OnOk result (entries.new ≡ entries.old ++ entries_of resolve.now.types f.now) }
 {
     entries.push(export_entry(alloc, resolve, f)?)?;
-    if needs_area(&f.result) {
+    if needs_return(resolve, f) {
         entries.push(return_entry(alloc, resolve, f)?)?;
     }
     Ok(())
@@ -212,7 +220,7 @@ pub(crate) fn push_trait_and_macro(
     if functions.is_empty() {
         return Ok(());
     }
-    items.push(Item::Trait(guest_trait(alloc, functions)?))?;
+    items.push(Item::Trait(guest_trait(alloc, resolve, functions)?))?;
     items.push(Item::ModuleMacro(world_macro(alloc, resolve, world, functions)?))
 }
 

@@ -6,21 +6,23 @@ ghost use Rattle.wit_model.specs.IndexRange.{function_in_range};
 ghost use Rattle.wit_model.specs.WellFormed.{IsWellFormed};
 ghost use Rattle.gen_accept.specs.DeclaredNames.{param_idents};
 ghost use Rattle.wrapper_closing.specs.Params.{ret_area};
-ghost use Rattle.rust_gen.specs.Body.{AreImportParts, IsImportCode, IsMade, IsOutside};
+ghost use Rattle.type_defs.specs.ParamType.{HasFacts};
+ghost use Rattle.rust_gen.specs.Body.{AreImportParts, IsImportCode, IsImportMade, IsImportOutside};
 ghost use Rattle.rust_gen.specs.FixedName.{IsFixedName};
-ghost use Rattle.rust_gen.specs.Known.{AreLaidOut};
+ghost use Rattle.rust_gen.specs.Known.{AreAtHand, records_in};
 ghost use Rattle.rust_gen.specs.Wrapper.{DeclaresOne, root_module};
 
 use crate::declared::declares;
 use crate::fixed_name::fixed_name;
 use crate::signature::{printed_params, printed_result};
 use crate::sites::import_sites;
-use crate::sizes::take_layouts;
+use crate::tables::take_tables;
+use func_gen::TypeTables;
 use gen_accept::param_idents;
 use rust_tree::{Block, FnItem, RuntimeItem, to_rust_ident};
 use std::alloc::Global;
 use type_defs::doc_lines;
-use wit_layout::SizeAlign;
+use type_facts::Types;
 use wit_model::{Function, List, OutOfMemory, Resolve, Text};
 use wrapper_closing::{BodyParts, import_block, import_body};
 
@@ -44,20 +46,21 @@ fn area_name(alloc: Global, f: &Function) -> Result<Text, OutOfMemory>
 fn import_parts(
     alloc: Global,
     resolve: &Resolve,
-    layouts: &mut Option<SizeAlign>,
+    tables: &mut Option<TypeTables>,
     f: &Function,
 ) -> Result<BodyParts, OutOfMemory>
     requires well { IsWellFormed resolve.now }
     requires distinct { is_distinct (param_idents f.now) ≡ true }
-    requires laid { AreLaidOut resolve.now.types layouts.old }
-    ensures { IfOk result (AreImportParts resolve.now.types f.now) }
+    requires tables { AreAtHand resolve.now.types tables.old }
+    ensures { IfOk result (AreImportParts resolve.now.types (records_in tables.old) f.now) }
 {
+    let taken = take_tables(tables)?;
     let parts = BodyParts {
-        sizes: take_layouts(layouts)?,
+        sizes: taken.sizes,
         home: root_module(alloc)?,
         area: area_name(alloc, f)?,
         params: import_sites(alloc, f.params.as_slice())?,
-        records: List::new(alloc),
+        records: taken.records,
     };
     Ok(parts)
 }
@@ -66,32 +69,41 @@ fn import_parts(
 fn import_code(
     alloc: Global,
     resolve: &Resolve,
-    layouts: &mut Option<SizeAlign>,
+    tables: &mut Option<TypeTables>,
     f: &Function,
 ) -> Result<(Block, List<RuntimeItem>), OutOfMemory>
     requires well { IsWellFormed resolve.now }
     requires within { function_in_range resolve.now f.now ≡ true }
     requires distinct { is_distinct (param_idents f.now) ≡ true }
-    requires laid { AreLaidOut resolve.now.types layouts.old }
-    ensures made { IfOk result (λ made. IsImportCode resolve.now.types f.entry made.0 made.1) }
-    ensures kept { OnOk result (AreLaidOut resolve.now.types layouts.new) }
+    requires tables { AreAtHand resolve.now.types tables.old }
+    ensures made { IfOk result (λ made. IsImportCode resolve.now.types (records_in tables.old) f.entry made.0 made.1) }
+    ensures kept { OnOk result (AreAtHand resolve.now.types tables.new) }
+    ensures same { OnOk result (records_in tables.new ≡ records_in tables.old) }
 {
-    let parts = import_parts(alloc, resolve, layouts, f)?;
+    let parts = import_parts(alloc, resolve, tables, f)?;
     let area = parts.area.copy(alloc)?;
-    let (body, sizes) = import_body(alloc, resolve, f, parts)?;
-    *layouts = Some(sizes);
+    let (body, taken) = import_body(alloc, resolve, f, parts)?;
+    *tables = Some(taken);
     let made = import_block(alloc, area, body)?;
     Ok(made)
 }
 
-fn import_fn(alloc: Global, f: &Function, body: Block) -> Result<FnItem, OutOfMemory>
-    ensures { IfOk result (IsOutside f.now body) }
+fn import_fn(
+    alloc: Global,
+    resolve: &Resolve,
+    facts: &Types,
+    f: &Function,
+    body: Block,
+) -> Result<FnItem, OutOfMemory>
+    requires facts { HasFacts resolve.now facts.now }
+    requires within { function_in_range resolve.now f.now ≡ true }
+    ensures { IfOk result (IsImportOutside resolve.now.types f.now body) }
 {
     Ok(FnItem {
         docs: doc_lines(alloc, &f.docs)?,
         name: to_rust_ident(alloc, &f.name)?,
-        params: printed_params(alloc, f.params.as_slice())?,
-        result: printed_result(&f.result),
+        params: printed_params(alloc, resolve, facts, f.params.as_slice())?,
+        result: printed_result(alloc, resolve, &f.result)?,
         body,
     })
 }
@@ -100,18 +112,19 @@ fn import_fn(alloc: Global, f: &Function, body: Block) -> Result<FnItem, OutOfMe
 fn declaring_code(
     alloc: Global,
     resolve: &Resolve,
-    layouts: &mut Option<SizeAlign>,
+    tables: &mut Option<TypeTables>,
     f: &Function,
 ) -> Result<(Block, List<RuntimeItem>), OutOfMemory>
     requires well { IsWellFormed resolve.now }
     requires within { function_in_range resolve.now f.now ≡ true }
     requires distinct { is_distinct (param_idents f.now) ≡ true }
-    requires laid { AreLaidOut resolve.now.types layouts.old }
-    ensures code { IfOk result (λ made. IsImportCode resolve.now.types f.entry made.0 made.1) }
+    requires tables { AreAtHand resolve.now.types tables.old }
+    ensures code { IfOk result (λ made. IsImportCode resolve.now.types (records_in tables.old) f.entry made.0 made.1) }
     ensures declares { IfOk result (λ made. DeclaresOne resolve.now.types f.now made.0.stmts) }
-    ensures kept { OnOk result (AreLaidOut resolve.now.types layouts.new) }
+    ensures kept { OnOk result (AreAtHand resolve.now.types tables.new) }
+    ensures same { OnOk result (records_in tables.new ≡ records_in tables.old) }
 {
-    let made = import_code(alloc, resolve, layouts, f)?;
+    let made = import_code(alloc, resolve, tables, f)?;
     if declares(alloc, resolve, f, made.0.stmts.as_slice())? {
         Ok(made)
     } else {
@@ -119,21 +132,24 @@ fn declaring_code(
     }
 }
 
-/// The wrapper of an imported function over scalars and texts, and the items of `_rt` that its body asks for.
+/// The wrapper of an imported function, and the items of `_rt` that its body asks for.
 pub(crate) fn import_wrapper(
     alloc: Global,
     resolve: &Resolve,
-    layouts: &mut Option<SizeAlign>,
+    facts: &Types,
+    tables: &mut Option<TypeTables>,
     f: &Function,
 ) -> Result<(FnItem, List<RuntimeItem>), OutOfMemory>
     requires well { IsWellFormed resolve.now }
     requires within { function_in_range resolve.now f.now ≡ true }
     requires distinct { is_distinct (param_idents f.now) ≡ true }
-    requires laid { AreLaidOut resolve.now.types layouts.old }
-    ensures made { IfOk result (λ made. IsMade resolve.now.types f.now made.0 made.1) }
-    ensures kept { OnOk result (AreLaidOut resolve.now.types layouts.new) }
+    requires tables { AreAtHand resolve.now.types tables.old }
+    requires facts { HasFacts resolve.now facts.now }
+    ensures made { IfOk result (λ made. IsImportMade resolve.now.types (records_in tables.old) f.now made.0 made.1) }
+    ensures kept { OnOk result (AreAtHand resolve.now.types tables.new) }
+    ensures same { OnOk result (records_in tables.new ≡ records_in tables.old) }
 {
-    let (body, runtime) = declaring_code(alloc, resolve, layouts, f)?;
-    let wrapper = import_fn(alloc, f, body)?;
+    let (body, runtime) = declaring_code(alloc, resolve, tables, f)?;
+    let wrapper = import_fn(alloc, resolve, facts, f, body)?;
     Ok((wrapper, runtime))
 }

@@ -11,8 +11,8 @@ mod post_return;
 mod runtime;
 mod signature;
 mod sites;
-mod sizes;
 mod sound;
+mod tables;
 mod tree;
 
 pub use gen_accept::{

@@ -4,14 +4,13 @@ ghost use Rattle.std.specs.Prelude.{◌≡◌, true, IfOk, OnOk};
 ghost use Rattle.wit_model.specs.IndexRange.{function_in_range};
 ghost use Rattle.wit_model.specs.WellFormed.{IsWellFormed};
 ghost use Rattle.rust_gen.specs.Body.{IsReturnCode, IsReturnMade, IsReturnOutside};
-ghost use Rattle.rust_gen.specs.Known.{AreLaidOut};
+ghost use Rattle.rust_gen.specs.Known.{AreAtHand, records_in};
 
 use crate::export::export_parts;
 use crate::exported::guest_name;
-use func_gen::Body;
+use func_gen::{Body, TypeTables};
 use rust_tree::{Block, PostReturnFn, RuntimeItem};
 use std::alloc::Global;
-use wit_layout::SizeAlign;
 use wit_model::{Function, List, OutOfMemory, Resolve};
 use wrapper_closing::{post_return_body, post_return_params};
 
@@ -19,22 +18,23 @@ use wrapper_closing::{post_return_body, post_return_params};
 fn return_code(
     alloc: Global,
     resolve: &Resolve,
-    layouts: &mut Option<SizeAlign>,
+    tables: &mut Option<TypeTables>,
     f: &Function,
 ) -> Result<(Block, List<RuntimeItem>), OutOfMemory>
     requires well { IsWellFormed resolve.now }
     requires within { function_in_range resolve.now f.now ≡ true }
-    requires laid { AreLaidOut resolve.now.types layouts.old }
-    ensures made { IfOk result (λ made. IsReturnCode resolve.now.types f.now made.0 made.1) }
-    ensures kept { OnOk result (AreLaidOut resolve.now.types layouts.new) }
+    requires tables { AreAtHand resolve.now.types tables.old }
+    ensures made { IfOk result (λ made. IsReturnCode resolve.now.types (records_in tables.old) f.now made.0 made.1) }
+    ensures kept { OnOk result (AreAtHand resolve.now.types tables.new) }
+    ensures same { OnOk result (records_in tables.new ≡ records_in tables.old) }
 {
     let params = post_return_params(alloc, resolve, f)?;
     if params.is_empty() {
         return Err(OutOfMemory);
     }
-    let parts = export_parts(alloc, resolve, layouts, params.as_slice())?;
-    let (body, sizes) = post_return_body(alloc, resolve, f, parts)?;
-    *layouts = Some(sizes);
+    let parts = export_parts(alloc, resolve, tables, params.as_slice())?;
+    let (body, taken) = post_return_body(alloc, resolve, f, parts)?;
+    *tables = Some(taken);
     let Body {
         stmts,
         tail,
@@ -66,16 +66,17 @@ fn return_fn(
 pub(crate) fn post_return(
     alloc: Global,
     resolve: &Resolve,
-    layouts: &mut Option<SizeAlign>,
+    tables: &mut Option<TypeTables>,
     f: &Function,
 ) -> Result<(PostReturnFn, List<RuntimeItem>), OutOfMemory>
     requires well { IsWellFormed resolve.now }
     requires within { function_in_range resolve.now f.now ≡ true }
-    requires laid { AreLaidOut resolve.now.types layouts.old }
-    ensures made { IfOk result (λ made. IsReturnMade resolve.now.types f.now made.0 made.1) }
-    ensures kept { OnOk result (AreLaidOut resolve.now.types layouts.new) }
+    requires tables { AreAtHand resolve.now.types tables.old }
+    ensures made { IfOk result (λ made. IsReturnMade resolve.now.types (records_in tables.old) f.now made.0 made.1) }
+    ensures kept { OnOk result (AreAtHand resolve.now.types tables.new) }
+    ensures same { OnOk result (records_in tables.new ≡ records_in tables.old) }
 {
-    let (body, runtime) = return_code(alloc, resolve, layouts, f)?;
+    let (body, runtime) = return_code(alloc, resolve, tables, f)?;
     let function = return_fn(alloc, resolve, f, body)?;
     Ok((function, runtime))
 }

@@ -8,12 +8,12 @@ use rust_tree::{Expr, to_rust_ident};
 use std::alloc::Global;
 use wit_model::{List, OutOfMemory, Param, Text, WitType};
 
-/// The expression of a parameter of this type and name: a text is taken as it is, and all else by a reference.
+/// The expression of a parameter of this type and name: a text and a type of the table are taken as they are, and all else by a reference.
 fn site_expr(ty: WitType, name: Text) -> Expr
     ensures { result ≡ site_expr ty name }
 {
     match ty {
-        WitType::String => Expr::Local(name),
+        WitType::String | WitType::Id(_) => Expr::Local(name),
         _ => Expr::Ref(name),
     }
 }

@@ -10,12 +10,15 @@ ghost use Rattle.rust_tree.specs.declared.export.PostReturnFn.{PostReturnFn};
 ghost use Rattle.rust_tree.specs.declared.item.FnItem.{FnItem};
 ghost use Rattle.rust_tree.specs.declared.item.Item.TheVariants as item;
 ghost use Rattle.rust_tree.specs.WellNamed.{are_well_named};
-ghost use Rattle.gen_accept.specs.Area.{needs_area};
+ghost use Rattle.gen_accept.specs.Area.{needs_return};
 ghost use Rattle.gen_accept.specs.DeclaredNames.{param_idents};
 ghost use Rattle.gen_accept.specs.Emitted.{emitted_places};
 ghost use Rattle.rust_gen.specs.Body.{ArePartsWritten, IsExportWritten, IsReturnWritten, IsWritten, ReturnWritten};
+ghost use Rattle.type_defs.specs.ParamType.{HasFacts};
+ghost use Rattle.type_sites.specs.Sites.{record_sites};
 ghost use Rattle.rust_gen.specs.Bound.{AreItems, Binds, Parts, areas_of, export_items, return_items};
-ghost use Rattle.rust_gen.specs.Known.{AreInRange, AreLaidOut, HaveDistinctParams, IsKnown};
+ghost use Rattle.gen_accept.specs.InRange.{AreInRange};
+ghost use Rattle.rust_gen.specs.Known.{AreAtHand, HaveDistinctParams, IsKnown, records_in};
 ghost use Rattle.rust_gen.specs.OptionLines.{option_lines, unused_types_line};
 ghost use Rattle.rust_gen.specs.Runtime.{runtime_module};
 
@@ -24,14 +27,15 @@ use crate::exported::{push_area, push_last_macro, push_trait_and_macro};
 use crate::import::import_wrapper;
 use crate::post_return::post_return;
 use crate::runtime::runtime_items;
-use crate::sizes::layouts;
 use crate::sound::test_at;
+use crate::tables::type_tables;
 use abi_driver::Asked;
-use gen_accept::{Opts, functions_in, needs_area, places_in};
+use func_gen::TypeTables;
+use gen_accept::{Opts, functions_in, needs_return, places_in};
 use rust_tree::{Bindings, FuncPlace, Item, RuntimeItem, TypeItem};
 use std::alloc::Global;
 use type_defs::{definitions_of, one};
-use wit_layout::SizeAlign;
+use type_facts::Types;
 use wit_model::{Function, List, OutOfMemory, Resolve, Text, World, WorldId};
 
 fn type_items(alloc: Global, types: List<TypeItem>) -> Result<List<Item>, OutOfMemory>
@@ -48,19 +52,22 @@ fn type_items(alloc: Global, types: List<TypeItem>) -> Result<List<Item>, OutOfM
 fn push_import(
     alloc: Global,
     resolve: &Resolve,
-    layouts: &mut Option<SizeAlign>,
+    facts: &Types,
+    tables: &mut Option<TypeTables>,
     items: &mut List<Item>,
     f: &Function,
 ) -> Result<(), OutOfMemory>
     requires well { IsWellFormed resolve.now }
     requires within { function_in_range resolve.now f.now ≡ true }
     requires distinct { is_distinct (param_idents f.now) ≡ true }
-    requires laid { AreLaidOut resolve.now.types layouts.old }
+    requires facts { HasFacts resolve.now facts.now }
+    requires tables { AreAtHand resolve.now.types tables.old }
     ensures made { OnOk result
-        ((w : FnItem) × (items.new ≡ items.old ++ item.Import w ∷ []) × IsWritten resolve.now.types f.now w) }
-    ensures kept { OnOk result (AreLaidOut resolve.now.types layouts.new) }
+        ((w : FnItem) × (items.new ≡ items.old ++ item.Import w ∷ []) × IsWritten resolve.now.types (records_in tables.old) f.now w) }
+    ensures kept { OnOk result (AreAtHand resolve.now.types tables.new) }
+    ensures same { OnOk result (records_in tables.new ≡ records_in tables.old) }
 {
-    let (wrapper, runtime) = import_wrapper(alloc, resolve, layouts, f)?;
+    let (wrapper, runtime) = import_wrapper(alloc, resolve, facts, tables, f)?;
     let at = items.len();
     items.push(Item::Import(wrapper))?;
     test_at(alloc, items.as_slice(), at, runtime.as_slice())?;
@@ -70,20 +77,23 @@ fn push_import(
 fn push_imports(
     alloc: Global,
     resolve: &Resolve,
-    layouts: &mut Option<SizeAlign>,
+    facts: &Types,
+    tables: &mut Option<TypeTables>,
     items: &mut List<Item>,
     functions: &[&Function],
 ) -> Result<(), OutOfMemory>
     requires well { IsWellFormed resolve.now }
     requires within { AreInRange resolve.now (map (λ f. f.now) functions.now) }
     requires distinct { HaveDistinctParams (map (λ f. f.now) functions.now) }
-    requires laid { AreLaidOut resolve.now.types layouts.old }
+    requires facts { HasFacts resolve.now facts.now }
+    requires tables { AreAtHand resolve.now.types tables.old }
     ensures made { OnOk result
-        ((ws : List FnItem) × (items.new ≡ items.old ++ map item.Import ws) × AllZip (IsWritten resolve.now.types) (map (λ f. f.now) functions.now) ws) }
-    ensures kept { OnOk result (AreLaidOut resolve.now.types layouts.new) }
+        ((ws : List FnItem) × (items.new ≡ items.old ++ map item.Import ws) × AllZip (IsWritten resolve.now.types (records_in tables.old)) (map (λ f. f.now) functions.now) ws) }
+    ensures kept { OnOk result (AreAtHand resolve.now.types tables.new) }
+    ensures same { OnOk result (records_in tables.new ≡ records_in tables.old) }
 {
     for function in functions {
-        push_import(alloc, resolve, layouts, items, function)?;
+        push_import(alloc, resolve, facts, tables, items, function)?;
     }
     Ok(())
 }
@@ -92,22 +102,23 @@ fn push_imports(
 fn push_wrapper(
     alloc: Global,
     resolve: &Resolve,
-    layouts: &mut Option<SizeAlign>,
+    tables: &mut Option<TypeTables>,
     items: &mut List<Item>,
     f: &Function,
 ) -> Result<Option<Asked>, OutOfMemory>
     requires well { IsWellFormed resolve.now }
     requires within { function_in_range resolve.now f.now ≡ true }
-    requires laid { AreLaidOut resolve.now.types layouts.old }
+    requires tables { AreAtHand resolve.now.types tables.old }
     ensures made { IfOk result
-        (λ area. (e : ExportFn) × (items.new ≡ items.old ++ item.Export e ∷ []) × IsExportWritten resolve.now.types f.now e area) }
-    ensures kept { OnOk result (AreLaidOut resolve.now.types layouts.new) }
+        (λ area. (e : ExportFn) × (items.new ≡ items.old ++ item.Export e ∷ []) × IsExportWritten resolve.now.types (records_in tables.old) f.now e area) }
+    ensures kept { OnOk result (AreAtHand resolve.now.types tables.new) }
+    ensures same { OnOk result (records_in tables.new ≡ records_in tables.old) }
 {
     let ExportMade {
         wrapper,
         area,
         runtime,
-    } = export_wrapper(alloc, resolve, layouts, f)?;
+    } = export_wrapper(alloc, resolve, tables, f)?;
     let at = items.len();
     items.push(Item::Export(wrapper))?;
     test_at(alloc, items.as_slice(), at, runtime.as_slice())?;
@@ -118,41 +129,43 @@ fn push_wrapper(
 fn push_returning(
     alloc: Global,
     resolve: &Resolve,
-    layouts: &mut Option<SizeAlign>,
+    tables: &mut Option<TypeTables>,
     items: &mut List<Item>,
     f: &Function,
 ) -> Result<(), OutOfMemory>
     requires well { IsWellFormed resolve.now }
     requires within { function_in_range resolve.now f.now ≡ true }
-    requires laid { AreLaidOut resolve.now.types layouts.old }
+    requires tables { AreAtHand resolve.now.types tables.old }
     ensures made { OnOk result
-        ((p : PostReturnFn) × (items.new ≡ items.old ++ item.PostReturn p ∷ []) × IsReturnWritten resolve.now.types f.now p) }
-    ensures kept { OnOk result (AreLaidOut resolve.now.types layouts.new) }
+        ((p : PostReturnFn) × (items.new ≡ items.old ++ item.PostReturn p ∷ []) × IsReturnWritten resolve.now.types (records_in tables.old) f.now p) }
+    ensures kept { OnOk result (AreAtHand resolve.now.types tables.new) }
+    ensures same { OnOk result (records_in tables.new ≡ records_in tables.old) }
 {
-    let (function, runtime) = post_return(alloc, resolve, layouts, f)?;
+    let (function, runtime) = post_return(alloc, resolve, tables, f)?;
     let at = items.len();
     items.push(Item::PostReturn(function))?;
     test_at(alloc, items.as_slice(), at, runtime.as_slice())?;
     Ok(())
 }
 
-/// The same where its result passes by an area.
+/// The same where its result may hold a text.
 fn push_post_return(
     alloc: Global,
     resolve: &Resolve,
-    layouts: &mut Option<SizeAlign>,
+    tables: &mut Option<TypeTables>,
     items: &mut List<Item>,
     f: &Function,
 ) -> Result<(), OutOfMemory>
     requires well { IsWellFormed resolve.now }
     requires within { function_in_range resolve.now f.now ≡ true }
-    requires laid { AreLaidOut resolve.now.types layouts.old }
+    requires tables { AreAtHand resolve.now.types tables.old }
     ensures made { OnOk result
-        ((p : Option PostReturnFn) × (items.new ≡ items.old ++ return_items p) × ReturnWritten resolve.now.types (needs_area f.now.result) f.now p) }
-    ensures kept { OnOk result (AreLaidOut resolve.now.types layouts.new) }
+        ((p : Option PostReturnFn) × (items.new ≡ items.old ++ return_items p) × ReturnWritten resolve.now.types (records_in tables.old) (needs_return resolve.now.types f.now) f.now p) }
+    ensures kept { OnOk result (AreAtHand resolve.now.types tables.new) }
+    ensures same { OnOk result (records_in tables.new ≡ records_in tables.old) }
 {
-    if needs_area(&f.result) {
-        push_returning(alloc, resolve, layouts, items, f)?;
+    if needs_return(resolve, f) {
+        push_returning(alloc, resolve, tables, items, f)?;
         Ok(())
     } else {
         Ok(())
@@ -173,20 +186,21 @@ fn push_needed(areas: &mut List<Asked>, area: Option<Asked>) -> Result<(), OutOf
 fn push_export(
     alloc: Global,
     resolve: &Resolve,
-    layouts: &mut Option<SizeAlign>,
+    tables: &mut Option<TypeTables>,
     items: &mut List<Item>,
     areas: &mut List<Asked>,
     f: &Function,
 ) -> Result<(), OutOfMemory>
     requires well { IsWellFormed resolve.now }
     requires within { function_in_range resolve.now f.now ≡ true }
-    requires laid { AreLaidOut resolve.now.types layouts.old }
+    requires tables { AreAtHand resolve.now.types tables.old }
     ensures made { OnOk result
-        ((parts : Parts) × (items.new ≡ items.old ++ export_items parts) × (areas.new ≡ areas.old ++ option_to_list parts.2) × ArePartsWritten resolve.now.types f.now parts) }
-    ensures kept { OnOk result (AreLaidOut resolve.now.types layouts.new) }
+        ((parts : Parts) × (items.new ≡ items.old ++ export_items parts) × (areas.new ≡ areas.old ++ option_to_list parts.2) × ArePartsWritten resolve.now.types (records_in tables.old) f.now parts) }
+    ensures kept { OnOk result (AreAtHand resolve.now.types tables.new) }
+    ensures same { OnOk result (records_in tables.new ≡ records_in tables.old) }
 {
-    let area = push_wrapper(alloc, resolve, layouts, items, f)?;
-    push_post_return(alloc, resolve, layouts, items, f)?;
+    let area = push_wrapper(alloc, resolve, tables, items, f)?;
+    push_post_return(alloc, resolve, tables, items, f)?;
     push_needed(areas, area)?;
     Ok(())
 }
@@ -195,20 +209,21 @@ fn push_export(
 fn push_exports(
     alloc: Global,
     resolve: &Resolve,
-    layouts: &mut Option<SizeAlign>,
+    tables: &mut Option<TypeTables>,
     items: &mut List<Item>,
     functions: &[&Function],
 ) -> Result<List<Asked>, OutOfMemory>
     requires well { IsWellFormed resolve.now }
     requires within { AreInRange resolve.now (map (λ f. f.now) functions.now) }
-    requires laid { AreLaidOut resolve.now.types layouts.old }
+    requires tables { AreAtHand resolve.now.types tables.old }
     ensures made { IfOk result
-        (λ areas. (es : List Parts) × (items.new ≡ items.old ++ flat_map export_items es) × (areas ≡ flat_map option_to_list (areas_of es)) × AllZip (ArePartsWritten resolve.now.types) (map (λ f. f.now) functions.now) es) }
-    ensures kept { OnOk result (AreLaidOut resolve.now.types layouts.new) }
+        (λ areas. (es : List Parts) × (items.new ≡ items.old ++ flat_map export_items es) × (areas ≡ flat_map option_to_list (areas_of es)) × AllZip (ArePartsWritten resolve.now.types (records_in tables.old)) (map (λ f. f.now) functions.now) es) }
+    ensures kept { OnOk result (AreAtHand resolve.now.types tables.new) }
+    ensures same { OnOk result (records_in tables.new ≡ records_in tables.old) }
 {
     let mut areas = List::new(alloc);
     for function in functions {
-        push_export(alloc, resolve, layouts, items, &mut areas, function)?;
+        push_export(alloc, resolve, tables, items, &mut areas, function)?;
     }
     Ok(areas)
 }
@@ -231,15 +246,23 @@ fn world_items(
     world: &World,
 ) -> Result<List<Item>, OutOfMemory>
     requires { IsKnown opts.now resolve.now id world.now }
-    ensures { IfOk result (AreItems (IsWritten resolve.now.types) (ArePartsWritten resolve.now.types) opts.now resolve.now id world.now) }
+    ensures { IfOk result (AreItems (IsWritten resolve.now.types (record_sites resolve.now world.now)) (ArePartsWritten resolve.now.types (record_sites resolve.now world.now)) opts.now resolve.now id world.now) }
 {
     let imports = functions_in(alloc, world.imports.as_slice())?;
     let exports = functions_in(alloc, world.exports.as_slice())?;
     let types = definitions_of(alloc, opts.type_opts(), resolve, id, world)?;
+    let facts = Types::analyze(alloc, resolve, id)?;
+    let mut tables = type_tables(alloc, resolve, id)?;
     let mut items = type_items(alloc, types)?;
-    let mut layouts = layouts(alloc, resolve)?;
-    push_imports(alloc, resolve, &mut layouts, &mut items, imports.as_slice())?;
-    let areas = push_exports(alloc, resolve, &mut layouts, &mut items, exports.as_slice())?;
+    push_imports(
+        alloc,
+        resolve,
+        &facts,
+        &mut tables,
+        &mut items,
+        imports.as_slice(),
+    )?;
+    let areas = push_exports(alloc, resolve, &mut tables, &mut items, exports.as_slice())?;
     push_trait_and_macro(alloc, resolve, &mut items, world, exports.as_slice())?;
     push_area(&mut items, areas.as_slice())?;
     let asked = runtime_items(alloc, items.as_slice())?;
@@ -284,7 +307,7 @@ pub(crate) fn bindings_of(
     world: &World,
 ) -> Result<Bindings, OutOfMemory>
     requires { IsKnown opts.now resolve.now id world.now }
-    ensures bound { IfOk result (Binds (IsWritten resolve.now.types) (ArePartsWritten resolve.now.types) opts.now resolve.now id world.now) }
+    ensures bound { IfOk result (Binds (IsWritten resolve.now.types (record_sites resolve.now world.now)) (ArePartsWritten resolve.now.types (record_sites resolve.now world.now)) opts.now resolve.now id world.now) }
     ensures named { IfOk result (λ tree. are_well_named tree.options tree.items ≡ true) }
 {
     let items = world_items(alloc, opts, resolve, id, world)?;

@@ -1,10 +1,8 @@
 -- The definitions of types whose names may stand in a tree may stand there.
-use Rattle.std.proofs.Common.{◌≡◌, ℕ, zero, suc, Bool, true, false, not, ◌&&◌, ◌||◌, List, [], ◌∷◌, Option, None, Some, map, refl, sym, ap, subst, ◌∙◌, append-nil, arith}
+use Rattle.std.proofs.Common.{◌≡◌, ℕ, suc, Bool, true, false, not, ◌&&◌, ◌||◌, List, [], ◌∷◌, Option, None, Some, map, refl, sym, ap, subst, ◌∙◌, append-nil, arith}
 use Rattle.std.specs.Prelude.{if◌then◌else◌, slice_get}
 use Rattle.std.specs.List.{AllZip, Contains, flat_map, list_all}
 use Rattle.std.proofs.lemmas.Bool.{and_from, and_parts}
-use Rattle.std.specs.Option.{option_map}
-use Rattle.std.proofs.lemmas.Option.{slice_get-map}
 use Rattle.std.proofs.lemmas.List.Folds.{list_all-append, list_all-map}
 use Rattle.wit_model.specs.Bytes.{Bytes}
 use Rattle.wit_model.specs.declared.name.Name.{Name}
@@ -18,7 +16,7 @@ use Rattle.wit_model.specs.declared.types.TypeDefKind.TheVariants as kind
 use Rattle.wit_model.specs.declared.types.WitType.{WitType}
 use Rattle.wit_model.specs.declared.types.WitType.TheVariants as wit
 use Rattle.wit_model.specs.declared.world.World.{World}
-use Rattle.wit_model.specs.Members.{has_members, has_one}
+use Rattle.wit_model.specs.Members.{has_members}
 use Rattle.wit_model.specs.Parts.{parts}
 use Rattle.wit_model.specs.Reaches.{Reaches, reaches_itself}
 use Rattle.wit_model.specs.WellFormed.{IsWellFormed}
@@ -29,9 +27,8 @@ use Rattle.rust_tree.specs.declared.type_expr.TypeExpr.{TypeExpr}
 use Rattle.rust_tree.specs.declared.type_expr.TypeExpr.TheVariants as type
 use Rattle.rust_tree.specs.declared.type_item.TypeItem.{TypeItem}
 use Rattle.rust_tree.specs.declared.type_item.TypeItem.TheVariants as item
-use Rattle.rust_tree.specs.Ident.{escaped_words, is_ident, is_primitive_name, is_type_name, rust_ident, type_ident}
-use Rattle.rust_tree.specs.WellNamed.{are_path_names, is_line, is_named_alias, is_named_field, is_named_struct, is_named_type, is_named_type_item, is_nonempty, is_quotable}
-use Rattle.rust_tree.proofs.NamedTypeLemmas.{is_named-path, is_named-tuple, is_named-unit}
+use Rattle.rust_tree.specs.Ident.{escaped_words, is_ident, is_primitive_name, rust_ident, type_ident}
+use Rattle.rust_tree.specs.WellNamed.{are_path_names, is_line, is_named_alias, is_named_field, is_named_struct, is_named_type, is_named_type_item, is_quotable}
 use Rattle.type_facts.specs.declared.info.TypeInfo.{TypeInfo}
 use Rattle.type_defs.specs.declared.type_opts.TypeOpts.{TypeOpts}
 use Rattle.type_defs.specs.Paths.{local_path}
@@ -41,43 +38,12 @@ use Rattle.type_defs.specs.Docs.{doc_lines}
 use Rattle.type_defs.specs.ListedTypes.{listed_types}
 use Rattle.type_defs.specs.Modes.{is_used}
 use Rattle.type_defs.specs.WitForm.{is_wit_form}
-use Rattle.type_defs.specs.PartType.{entry_type, found_type, levels_of, part_type, type_within, unnamed_type}
+use Rattle.type_defs.specs.PartType.{part_type}
 use Rattle.type_defs.proofs.DefinedLemmas.{definitions-owned, own_definitions}
-use Rattle.type_defs.proofs.NamedTextLemmas.{docs-named, local_path-named, wit-quotable}
-use Rattle.type_defs.proofs.PrintedLemmas.{type-named}
-
--- lists
-
-all_from : {A : Type 0} (p : A → Bool) (xs : List A) → ((k : ℕ) (x : A) → slice_get xs k ≡ Some x → p x ≡ true) → list_all p xs ≡ true
-all_from p [] h = refl
-all_from p (x ∷ xs) h = and_from (p x) (list_all p xs) (h 0 x refl) (all_from p xs (λ k y e. h (suc k) y e))
-
-nonempty-map : {A B : Type 0} (g : A → B) (xs : List A) → has_one xs ≡ true → is_nonempty (map g xs) ≡ true
-nonempty-map g [] h = absurd (cc)
-nonempty-map g (x ∷ xs) h = refl
-
-tuple-part : (members : List WitType) (k : ℕ) (ty : WitType) → slice_get members k ≡ Some ty → slice_get (parts (kind.Tuple members)) k ≡ Some (Some ty)
-unfolding parts
-tuple-part members k ty e = slice_get-map (λ ty. Some ty) members k ∙ ap (option_map (λ ty. Some ty)) e
-
-field-part : (fields : List Field) (k : ℕ) (f : Field) → slice_get fields k ≡ Some f → slice_get (parts (kind.Record fields)) k ≡ Some (Some f.ty)
-unfolding parts
-field-part fields k f e = slice_get-map (λ f. Some f.ty) fields k ∙ ap (option_map (λ f. Some f.ty)) e
-
-alias-part : (ty : WitType) → slice_get (parts (kind.Alias ty)) 0 ≡ Some (Some ty)
-unfolding parts
-alias-part ty = refl
-
-tuple-members : (members : List WitType) → has_members (kind.Tuple members) ≡ true → has_one members ≡ true
-unfolding has_members
-tuple-members members h = h
+use Rattle.type_defs.proofs.NamedTextLemmas.{docs-named, wit-quotable}
+use Rattle.type_defs.proofs.PartNameLemmas.{alias-part, all_from, field-part, part-named, tuple-members, tuple-named, tuple-part}
 
 -- names
-
-path-named : (name : Bytes) → is_type_name name ≡ true → is_named_type (type.Path (local_path name)) ≡ true
-path-named name h =
-    let own = and_parts (is_ident name) (not (is_primitive_name name)) h in
-    is_named-path (local_path name) ∙ and_from (are_path_names (name ∷ [])) (not (is_primitive_name name)) (local_path-named name own.0) own.1
 
 derive-named : (are_path_names (clone_name ∷ []) ≡ true) × (are_path_names (copy_name ∷ []) ≡ true)
 unfolding clone_name copy_name escaped_words
@@ -97,59 +63,15 @@ module _ (r : Resolve) (checked : IsWellFormed r) (id : TypeId) (named : IsNamed
   abbrev Reached : WitType → Type 0
   Reached ty = Reaches r.types (wit.Id id) ty
 
-  -- all types that are reached, printed with so many levels
-  abbrev AllNamed : ℕ → Type 0
-  AllNamed levels = (ty : WitType) → Reached ty → is_named_type (type_within r.types levels ty) ≡ true
-
-  goes-on : (part : TypeId) (entry : TypeDef) (nth : ℕ) (ty : WitType) → Reached (wit.Id part) → slice_get r.types part.0 ≡ Some entry → slice_get (parts entry.kind) nth ≡ Some (Some ty) → Reached ty
-  goes-on part entry nth ty reached e at = reaches_on reached (record { id = part; entry = entry; nth = nth; is_entry = refl; entry_at = e; part_at = at })
-
-  tuple-named : (printed : WitType → TypeExpr) (members : List WitType) → has_one members ≡ true → ((k : ℕ) (ty : WitType) → slice_get members k ≡ Some ty → is_named_type (printed ty) ≡ true)
-      → is_named_type (type.Tuple (map printed members)) ≡ true
-  tuple-named printed members some each =
-      is_named-tuple (map printed members)
-      ∙ and_from (is_nonempty (map printed members)) (list_all is_named_type (map printed members)) (nonempty-map printed members some)
-      (list_all-map is_named_type printed members ∙ all_from (λ ty. is_named_type (printed ty)) members each)
-
-  entry-named : (levels : ℕ) → AllNamed levels → (part : TypeId) (entry : TypeDef) → Reached (wit.Id part) → slice_get r.types part.0 ≡ Some entry
-      → is_named_type (entry_type (type_within r.types levels) entry.kind entry.name) ≡ true
-  entry-named levels below part entry reached e = by_name entry.name refl
-    where
-      members : (k : TypeDefKind) → entry.kind ≡ k → has_members k ≡ true
-      members k is = subst (λ k. has_members k ≡ true) is (has_members_at r part.0 entry checked.unbroken e)
-
-      on : (k : TypeDefKind) (nth : ℕ) (ty : WitType) → entry.kind ≡ k → slice_get (parts k) nth ≡ Some (Some ty) → Reached ty
-      on k nth ty is at = goes-on part entry nth ty reached e (ap (λ k. slice_get (parts k) nth) is ∙ at)
-
-      unnamed : (k : TypeDefKind) → entry.kind ≡ k → is_named_type (unnamed_type (type_within r.types levels) k) ≡ true
-      unnamed (kind.Alias ty) is = below ty (on (kind.Alias ty) 0 ty is (alias-part ty))
-      unnamed (kind.Tuple ms) is = tuple-named (type_within r.types levels) ms (tuple-members ms (members (kind.Tuple ms) is)) (λ k ty at. below ty (on (kind.Tuple ms) k ty is (tuple-part ms k ty at)))
-      unnamed _ is = is_named-unit
-
-      by_name : (o : Option Name) → entry.name ≡ o → is_named_type (entry_type (type_within r.types levels) entry.kind o) ≡ true
-      by_name None is = unnamed entry.kind refl
-      by_name (Some name) is = path-named (type_ident name) (named.reached part entry name reached e is)
-
-  found-named : (levels : ℕ) → AllNamed levels → (part : TypeId) → Reached (wit.Id part) → (o : Option TypeDef) → slice_get r.types part.0 ≡ o → is_named_type (found_type (type_within r.types levels) o) ≡ true
-  found-named levels below part reached None e = is_named-unit
-  found-named levels below part reached (Some entry) e = entry-named levels below part entry reached e
-
-  within-named : (levels : ℕ) → AllNamed levels
-  within-named zero (wit.Id part) reached = is_named-unit
-  within-named (suc levels) (wit.Id part) reached = found-named levels (within-named levels) part reached (slice_get r.types part.0) refl
-  within-named zero ty reached = type-named ty
-  within-named (suc levels) ty reached = type-named ty
-
-  part-named : (ty : WitType) → Reached ty → is_named_type (part_type r.types ty) ≡ true
-  unfolding part_type
-  part-named ty reached = within-named (levels_of ty) ty reached
+  printed-named : (ty : WitType) → Reached ty → is_named_type (part_type r.types ty) ≡ true
+  printed-named = part-named r checked (wit.Id id) named.reached
 
   field-named : (f : Field) → Reached f.ty → (is_ident (rust_ident f.name) && is_wit_form f.name.wit) ≡ true → is_named_field (field_item r.types f) ≡ true
   field-named f reached h =
       let own = and_parts (is_ident (rust_ident f.name)) (is_wit_form f.name.wit) h in
       and_from (list_all is_line (doc_lines f.docs) && is_ident (rust_ident f.name) && is_quotable f.name.wit) (is_named_type (part_type r.types f.ty))
       (and_from (list_all is_line (doc_lines f.docs) && is_ident (rust_ident f.name)) (is_quotable f.name.wit)
-      (and_from (list_all is_line (doc_lines f.docs)) (is_ident (rust_ident f.name)) (docs-named f.docs) own.0) (wit-quotable f.name.wit own.1)) (part-named f.ty reached)
+      (and_from (list_all is_line (doc_lines f.docs)) (is_ident (rust_ident f.name)) (docs-named f.docs) own.0) (wit-quotable f.name.wit own.1)) (printed-named f.ty reached)
 
   kind-named : (info : TypeInfo) (entry : TypeDef) (name : Bytes) → slice_get r.types id.0 ≡ Some entry → is_ident name ≡ true → list_all is_named_type_item (kind_items r.types info entry.docs name entry.kind) ≡ true
   kind-named info entry name e ident = go entry.kind refl
@@ -158,7 +80,7 @@ module _ (r : Resolve) (checked : IsWellFormed r) (id : TypeId) (named : IsNamed
       docs = docs-named entry.docs
 
       on : (k : TypeDefKind) (nth : ℕ) (ty : WitType) → entry.kind ≡ k → slice_get (parts k) nth ≡ Some (Some ty) → Reached ty
-      on k nth ty is at = goes-on id entry nth ty reaches_itself e (ap (λ k. slice_get (parts k) nth) is ∙ at)
+      on k nth ty is at = reaches_on reaches_itself (record { id = id; entry = entry; nth = nth; is_entry = refl; entry_at = e; part_at = ap (λ k. slice_get (parts k) nth) is ∙ at })
 
       alias : (ty : TypeExpr) → is_named_type ty ≡ true → list_all is_named_type_item (item.Alias (alias_item entry.docs name ty) ∷ []) ≡ true
       alias ty h =
@@ -179,11 +101,11 @@ module _ (r : Resolve) (checked : IsWellFormed r) (id : TypeId) (named : IsNamed
 
       go : (k : TypeDefKind) → entry.kind ≡ k → list_all is_named_type_item (kind_items r.types info entry.docs name k) ≡ true
       go (kind.Record fields) is = struct fields is
-      go (kind.Alias ty) is = alias (part_type r.types ty) (part-named ty (on (kind.Alias ty) 0 ty is (alias-part ty)))
+      go (kind.Alias ty) is = alias (part_type r.types ty) (printed-named ty (on (kind.Alias ty) 0 ty is (alias-part ty)))
       go (kind.Tuple ms) is =
           alias (type.Tuple (map (part_type r.types) ms))
           (tuple-named (part_type r.types) ms (tuple-members ms (subst (λ k. has_members k ≡ true) is (has_members_at r id.0 entry checked.unbroken e)))
-          (λ k ty at. part-named ty (on (kind.Tuple ms) k ty is (tuple-part ms k ty at))))
+          (λ k ty at. printed-named ty (on (kind.Tuple ms) k ty is (tuple-part ms k ty at))))
       go _ is = refl
 
 -- the definitions of one type, and of all

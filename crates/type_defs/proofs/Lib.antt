@@ -1,9 +1,17 @@
+mod CappedLemmas
 pub mod CutLemmas
-mod DefinedLemmas
+pub mod DefinedLemmas
 pub mod DefinedNameLemmas
+pub mod FunctionTypeLemmas
 mod LevelLemmas
 pub mod ListingLemmas
 pub mod NamedTextLemmas
-mod PartLemmas
+pub mod ParamInstances
+mod ParamLemmas
+pub mod PartLemmas
+pub mod PartNameLemmas
 pub mod PrintedLemmas
+pub mod UsedLemmas
+pub mod UsedNameLemmas
+pub mod UsedTypeLemmas
 pub mod ZipLemmas

@@ -1,7 +1,7 @@
 -- What a type reaches is listed where the parts of each are.
 use Rattle.std.proofs.Common.{◌≡◌, ℕ, zero, suc, ◌+◌, ◌<◌, ◌∙◌, Bool, true, false, cond, ◌&&◌, ◌||◌, not, nat_eq, inl, inr, List, [], ◌∷◌, ◌++◌, length, take, get_or, Option, Some, None, is_none, refl, sym, ap, subst, add-zero, arith}
 use Rattle.std.specs.List.{enumerate_from, list_all, list_any, slice_get}
-use Rattle.std.proofs.lemmas.Bool.{and_parts}
+use Rattle.std.proofs.lemmas.Bool.{and_from, and_parts}
 use Rattle.std.proofs.lemmas.List.Folds.{list_any-append}
 use Rattle.std.proofs.lemmas.Option.{slice_get-get_or, slice_get_within}
 use Rattle.wit_model.specs.declared.name.TypeId.{TypeId}
@@ -18,8 +18,10 @@ use Rattle.wit_model.proofs.BelowLemmas.{id_below}
 use Rattle.wit_model.proofs.ListLemmas.{at_end}
 use Rattle.type_defs.specs.ListedTypes.{listed_types}
 use Rattle.type_defs.specs.Levels.{are_shallow, is_any_deeper, is_deeper, is_shallow, parts_of, passes}
-use Rattle.type_defs.specs.Listing.{AreCovered, are_listed_well, covered_by, covers, is_covered, keeps_listing, lists, may_list, passes_or_none}
+use Rattle.type_defs.specs.Listing.{AreCovered, are_listed, are_listed_well, covered_by, covers, is_covered, keeps_listing, lists, may_list}
+use Rattle.type_defs.specs.FunctionTypes.{functions_pass, passes_or_none}
 use Rattle.type_defs.proofs.CutLemmas.{take_at}
+use Rattle.type_defs.proofs.FunctionTypeLemmas.{all-same, functions-more, functions-same}
 
 -- an id of any table
 abbrev pub first-id : TypeId
@@ -46,9 +48,25 @@ pub not-true : (b : Bool) → not b ≡ true → b ≡ false
 not-true false h = refl
 not-true true h = cc
 
+-- no type behind the end of a table is covered
+or-past : (known : List Bool) (types : List TypeDef) (n : ℕ) → length known ≡ length types → slice_get types n ≡ None → get_or known n false ≡ false
+or-past [] types n count none = refl
+or-past (b ∷ known) [] n count none = absurd (omega (arith, count))
+or-past (b ∷ known) (t ∷ types) zero count none = absurd (cc)
+or-past (b ∷ known) (t ∷ types) (suc n) count none = or-past known types n (omega (arith, count)) none
+
+length-zero : {A : Type 0} (xs : List A) → length xs ≡ 0 → xs ≡ []
+length-zero [] h = refl
+length-zero (x ∷ xs) h = absurd (omega (arith, h))
+
+-- a type that is covered before the table is gone up is none of its entries
+outside-covered : (types : List TypeDef) (listed : List TypeId) (ty : WitType) → covered_by [] (Some ty) ≡ true → is_covered types listed 100 ty ≡ true
+outside-covered types listed (Id id) h = absurd (cc)
+outside-covered types listed ty h = refl
+
 module _ (types : List TypeDef) (down : GoesDown types) (listed : List TypeId) (known : List Bool) (are : AreCovered types listed known) where
   type-covered : (n : ℕ) (ty : WitType) → type_below (length known) ty ≡ true → is_deeper types n ty ≡ false → is_covered types listed n ty ≡ covered_by known (Some ty)
-  type-covered n (Id id) below low = are id (get_or known id.0 true) (slice_get-get_or known id.0 true (id_below (length known) id below)) n low
+  type-covered n (Id id) below low = are id (get_or known id.0 false) (slice_get-get_or known id.0 false (id_below (length known) id below)) n low
   type-covered zero ty below low = refl
   type-covered (suc n) ty below low = refl
 
@@ -84,25 +102,43 @@ module _ (types : List TypeDef) (down : GoesDown types) (listed : List TypeId) (
           | inr last ↦ entry-covered n of (last.0 ∙ count) low ∙ last.1
         ]
 
-  -- of a type that a world may list
-  pub listed-covered : (world : ℕ) (id : TypeId) → length known ≡ length types → are_shallow types ≡ true
-      → (may_list world (slice_get types id.0) && covered_by known (Some (Id id))) ≡ (may_list world (slice_get types id.0) && is_covered types listed 100 (Id id))
-  unfolding are_shallow is_shallow
-  listed-covered world id count shallow = go (slice_get types id.0) refl
-    where
-      go : (entry : Option TypeDef) → slice_get types id.0 ≡ entry
-          → (may_list world (slice_get types id.0) && covered_by known (Some (Id id))) ≡ (may_list world (slice_get types id.0) && is_covered types listed 100 (Id id))
-      go None at = ap (λ e. may_list world e && covered_by known (Some (Id id))) at ∙ sym (ap (λ e. may_list world e && is_covered types listed 100 (Id id)) at)
-      go (Some t) at =
-          let within : id.0 < length known = subst (λ n. id.0 < n) (sym count) (slice_get_within types id.0 t at) in
-          let entry : is_shallow types t ≡ true = all_at (is_shallow types) types id.0 t shallow at in
-          let low : is_any_deeper types 99 (parts t.kind) ≡ false = not-true _ entry in
-          let lower : is_deeper types 100 (Id id) ≡ false = ap (λ o. is_any_deeper types 99 (parts_of o)) at ∙ low in
-          ap (λ b. may_list world (slice_get types id.0) && b) (sym (are id (get_or known id.0 true) (slice_get-get_or known id.0 true within) 100 lower))
+  -- of any type, once the whole table is known
+  module _ (count : length known ≡ length types) (shallow : are_shallow types ≡ true) where
+    id-covered : (id : TypeId) (entry : Option TypeDef) → slice_get types id.0 ≡ entry → covered_by known (Some (Id id)) ≡ is_covered types listed 100 (Id id)
+    unfolding are_shallow is_shallow
+    id-covered id None at =
+        or-past known types id.0 count at ∙ sym (ap (covers (is_covered types listed 99) listed id.0) at)
+    id-covered id (Some t) at =
+        let within : id.0 < length known = subst (λ n. id.0 < n) (sym count) (slice_get_within types id.0 t at) in
+        let entry : is_shallow types t ≡ true = all_at (is_shallow types) types id.0 t shallow at in
+        let low : is_any_deeper types 99 (parts t.kind) ≡ false = not-true _ entry in
+        let lower : is_deeper types 100 (Id id) ≡ false = ap (λ o. is_any_deeper types 99 (parts_of o)) at ∙ low in
+        sym (are id (get_or known id.0 false) (slice_get-get_or known id.0 false within) 100 lower)
+
+    pub covered-whole : (ty : WitType) → covered_by known (Some ty) ≡ is_covered types listed 100 ty
+    covered-whole (Id id) = id-covered id (slice_get types id.0) refl
+    covered-whole ty = refl
+
+    pub listed-whole : (nth : ℕ) (world : World)
+        → (list_all (λ id. may_list nth (slice_get types id.0) && covered_by known (Some (Id id))) listed && functions_pass (λ ty. covered_by known (Some ty)) world)
+        ≡ (are_listed types nth listed && functions_pass (is_covered types listed 100) world)
+    listed-whole nth world =
+        ap (λ b. b && functions_pass (λ ty. covered_by known (Some ty)) world)
+        (all-same (λ id. may_list nth (slice_get types id.0) && covered_by known (Some (Id id))) (λ id. may_list nth (slice_get types id.0) && is_covered types listed 100 (Id id))
+        (λ id. ap (λ b. may_list nth (slice_get types id.0) && b) (covered-whole (Id id))) listed)
+        ∙ ap (λ b. are_listed types nth listed && b) (functions-same (λ ty. covered_by known (Some ty)) (is_covered types listed 100) covered-whole world)
+
+-- a world that lists nothing, and whose functions name no entry of the table, keeps its listing
+pub nothing-listed : (types : List TypeDef) (nth : ℕ) (world : World) → length (listed_types world) ≡ 0 → functions_pass (λ ty. covered_by [] (Some ty)) world ≡ true → keeps_listing types nth world ≡ true
+unfolding keeps_listing
+nothing-listed types nth world none outside =
+    let listed : listed_types world ≡ [] = length-zero (listed_types world) none in
+    and_from (are_listed types nth (listed_types world)) (functions_pass (is_covered types (listed_types world) 100) world) (ap (are_listed types nth) listed)
+    (functions-more (λ ty. covered_by [] (Some ty)) (is_covered types (listed_types world) 100) (outside-covered types (listed_types world)) world outside)
 
 -- what is known of a world whose listing is kept
 
-any-false : {A : Type 0} (test : A → Bool) (xs : List A) (n : ℕ) (x : A) → list_any test xs ≡ false → slice_get xs n ≡ Some x → test x ≡ false
+pub any-false : {A : Type 0} (test : A → Bool) (xs : List A) (n : ℕ) (x : A) → list_any test xs ≡ false → slice_get xs n ≡ Some x → test x ≡ false
 any-false test [] n x h e = absurd (cc)
 any-false test (y ∷ xs) zero x h e = let is : y ≡ x = cc in ap test (sym is) ∙ (or-false (test y) (list_any test xs) h).0
 any-false test (y ∷ xs) (suc n) x h e = any-false test xs n x (or-false (test y) (list_any test xs) h).1 e
@@ -134,8 +170,8 @@ all-numbered test (y ∷ xs) n (suc k) x h e =
     ap (λ m. test (m, x)) (sym next) ∙ all-numbered test xs (n + 1) k x (and_parts (test (n, y)) (list_all test (enumerate_from (n + 1) xs)) h).1 e
 
 -- the listing of one world
-pub world-listing : (r : Resolve) (k : ℕ) (world : World) → are_listed_well r ≡ true → slice_get r.worlds k ≡ Some world → keeps_listing r.types k (listed_types world) ≡ true
+pub world-listing : (r : Resolve) (k : ℕ) (world : World) → are_listed_well r ≡ true → slice_get r.worlds k ≡ Some world → keeps_listing r.types k world ≡ true
 unfolding are_listed_well
 world-listing r k world h e =
     let same : 0 + k ≡ k = omega arith in
-    ap (λ n. keeps_listing r.types n (listed_types world)) (sym same) ∙ all-numbered (λ entry. keeps_listing r.types entry.0 (listed_types entry.1)) r.worlds 0 k world h e
+    ap (λ n. keeps_listing r.types n world) (sym same) ∙ all-numbered (λ entry. keeps_listing r.types entry.0 entry.1) r.worlds 0 k world h e

@@ -11,7 +11,10 @@ use Rattle.wit_model.specs.declared.types.Field.{Field}
 use Rattle.wit_model.specs.declared.types.TypeDef.{TypeDef}
 use Rattle.wit_model.specs.declared.types.TypeDefKind.{TypeDefKind}
 use Rattle.wit_model.specs.declared.types.TypeDefKind.TheVariants as kind
+use Rattle.wit_model.specs.declared.types.WitType.{WitType}
+use Rattle.wit_model.specs.declared.types.WitType.TheVariants.{ErrorContext}
 use Rattle.wit_model.specs.declared.world.World.{World}
+use Rattle.wit_model.specs.Parts.{parts}
 use Rattle.rust_tree.specs.declared.path.Path.{Path}
 use Rattle.rust_tree.specs.declared.type_expr.TypeExpr.{TypeExpr}
 use Rattle.rust_tree.specs.declared.type_expr.TypeExpr.TheVariants as type
@@ -105,3 +108,15 @@ is_defined_kind _ = false
 
 abbrev pub are_defined_kinds : List TypeDef → Bool
 are_defined_kinds types = list_all (λ entry. is_defined_kind entry.kind) types
+
+-- the types that they may name so far: no error context
+abbrev pub is_defined_type : WitType → Bool
+is_defined_type ErrorContext = false
+is_defined_type _ = true
+
+abbrev pub is_defined_part : Option WitType → Bool
+is_defined_part None = true
+is_defined_part (Some ty) = is_defined_type ty
+
+abbrev pub have_defined_parts : List TypeDef → Bool
+have_defined_parts types = list_all (λ entry. list_all is_defined_part (parts entry.kind)) types

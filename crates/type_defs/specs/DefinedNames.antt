@@ -1,5 +1,5 @@
 -- When the names that definitions of types print may stand in a tree.
-use Rattle.std.specs.Prelude.{◌≡◌, Bool, true, ◌&&◌, ◌||◌, nat_lt, List, length, Some, slice_get}
+use Rattle.std.specs.Prelude.{◌≡◌, Bool, true, ◌&&◌, ◌||◌, nat_lt, List, length, map, Some, slice_get}
 use Rattle.std.specs.List.{Contains, list_all}
 use Rattle.wit_model.specs.declared.name.Name.{Name}
 use Rattle.wit_model.specs.declared.name.TypeId.{TypeId}
@@ -8,8 +8,10 @@ use Rattle.wit_model.specs.declared.resolve.Resolve.{Resolve}
 use Rattle.wit_model.specs.declared.types.TypeDef.{TypeDef}
 use Rattle.wit_model.specs.declared.types.TypeDefKind.{TypeDefKind}
 use Rattle.wit_model.specs.declared.types.TypeDefKind.TheVariants as kind
+use Rattle.wit_model.specs.declared.types.WitType.{WitType}
 use Rattle.wit_model.specs.declared.types.WitType.TheVariants.{Id}
 use Rattle.wit_model.specs.declared.world.World.{World}
+use Rattle.wit_model.specs.Distinct.{is_distinct}
 use Rattle.wit_model.specs.Reaches.{Reaches}
 use Rattle.wit_model.specs.WellFormed.{IsWellFormed}
 use Rattle.rust_tree.specs.Ident.{is_ident, is_type_name, rust_ident, type_ident}
@@ -17,8 +19,11 @@ use Rattle.type_facts.specs.declared.info.TypeInfo.{TypeInfo}
 use Rattle.type_facts.specs.Facts.{IsInfoOf}
 use Rattle.type_defs.specs.declared.type_opts.TypeOpts.{TypeOpts}
 use Rattle.type_defs.specs.Modes.{is_owning, is_used}
-use Rattle.type_defs.specs.Defined.{are_defined_kinds}
+use Rattle.type_defs.specs.Defined.{are_defined_kinds, have_defined_parts}
+use Rattle.type_defs.specs.Levels.{are_shallow}
 use Rattle.type_defs.specs.ListedTypes.{listed_types}
+use Rattle.type_defs.specs.PrintedTypes.{field_names, type_name}
+use Rattle.type_defs.specs.Used.{Covers, defined_types, function_types}
 use Rattle.type_defs.specs.WitForm.{is_wit_form}
 
 -- the fields of a record
@@ -31,11 +36,18 @@ pub record IsNamedDefinition (types : List TypeDef) (id : TypeId) : Type 0 where
   pub reached : (part : TypeId) (entry : TypeDef) (name : Name) → Reaches types (Id id) (Id part) → slice_get types part.0 ≡ Some entry → entry.name ≡ Some name → is_type_name (type_ident name) ≡ true
   pub parts : (entry : TypeDef) → slice_get types id.0 ≡ Some entry → are_named_parts entry.kind ≡ true
 
--- what is known of tables whose types are defined: they are well formed, their types are of kinds that are defined, types are
--- owned, the world lists types of the table, and the names of each type that the world lists and the file defines may stand there
+-- what is known of tables whose types are defined: they are well formed, their types are of kinds that are defined, no way down is
+-- too long, types are owned, the world lists types of the table, and each named one that a function uses. The names of each type that
+-- the world lists and the file defines may stand there, and no two are the same
 pub record AreDefinable (opts : TypeOpts) (r : Resolve) (id : WorldId) (world : World) : Type 0 where
   pub checked : IsWellFormed r
+  pub found : slice_get r.worlds id.0 ≡ Some world
+  pub shallow : are_shallow r.types ≡ true
   pub kinds : are_defined_kinds r.types ≡ true
+  pub parts : have_defined_parts r.types ≡ true
   pub owning : is_owning opts.ownership ≡ true
+  pub covered : (ty : WitType) → Contains (function_types r world) ty → Covers r world ty
+  pub apart : is_distinct (map type_name (defined_types opts r world)) ≡ true
+  pub fields : list_all (λ t. is_distinct (field_names t.kind)) (defined_types opts r world) ≡ true
   pub within : list_all (λ type. nat_lt type.0 (length r.types)) (listed_types world) ≡ true
   pub named : (type : TypeId) (info : TypeInfo) → Contains (listed_types world) type → IsInfoOf r id type info → (is_used info || opts.generate_unused_types) ≡ true → IsNamedDefinition r.types type

@@ -1,4 +1,4 @@
--- How a type is printed as a part of a definition, in the owned mode.
+-- How a type is printed in the owned mode: as a part of a definition, as a result, and as a parameter that is handed over.
 use Rattle.std.specs.Prelude.{ℕ, zero, suc, List, Option, None, Some, map, slice_get}
 use Rattle.wit_model.specs.declared.name.Name.{Name}
 use Rattle.wit_model.specs.declared.types.TypeDef.{TypeDef}

@@ -1,17 +1,12 @@
--- Which types are defined in the file of a world, and under which names.
-use Rattle.std.specs.Prelude.{List, [], ◌∷◌, map, Option, None, Some, if◌then◌else◌, slice_get}
-use Rattle.std.specs.List.{flat_map}
+-- Under which names a type and its fields are defined.
+use Rattle.std.specs.Prelude.{List, [], ◌∷◌, map, Option, None, Some, slice_get}
 use Rattle.wit_model.specs.declared.name.Name.{Name}
 use Rattle.wit_model.specs.declared.name.TypeId.{TypeId}
-use Rattle.wit_model.specs.declared.resolve.Resolve.{Resolve}
 use Rattle.wit_model.specs.declared.types.TypeDef.{TypeDef}
 use Rattle.wit_model.specs.declared.types.TypeDefKind.{TypeDefKind}
 use Rattle.wit_model.specs.declared.types.TypeDefKind.TheVariants as kind
-use Rattle.wit_model.specs.declared.world.World.{World}
 use Rattle.wit_model.specs.Bytes.{Bytes}
 use Rattle.rust_tree.specs.Ident.{rust_ident, type_ident}
-use Rattle.type_defs.specs.declared.type_opts.TypeOpts.{TypeOpts}
-use Rattle.type_defs.specs.ListedTypes.{listed_types}
 
 abbrev pub entry_or_none : Option TypeDef → List TypeDef
 entry_or_none None = []
@@ -19,10 +14,6 @@ entry_or_none (Some t) = t ∷ []
 
 abbrev pub entry_at : List TypeDef → TypeId → List TypeDef
 entry_at types id = entry_or_none (slice_get types id.0)
-
--- no function reaches a type so far, so a world's own types are defined where unused ones are asked for
-unfoldable pub printed_types : TypeOpts → Resolve → World → List TypeDef
-printed_types opts r world = if opts.generate_unused_types then flat_map (entry_at r.types) (listed_types world) else []
 
 abbrev pub name_or_none : Option Name → Bytes
 name_or_none None = []

@@ -2,6 +2,7 @@
 
 mod alias;
 mod derives;
+mod param;
 mod part;
 mod record;
 mod tuple;
@@ -14,6 +15,8 @@ ghost use Rattle.type_defs.specs.DefinedNames.{AreDefinable};
 ghost use Rattle.rust_tree.specs.Ident.{type_ident};
 
 use crate::define::alias::alias_item;
+pub use crate::define::param::param_type;
+pub use crate::define::part::part_type;
 use crate::define::record::record_item;
 use crate::define::tuple::tuple_item;
 use crate::listed_types::types_in;
@@ -52,7 +55,7 @@ fn push_kind(
 }
 
 /// Whether a type is defined: a function uses it, or unused types are asked for.
-fn is_defined(opts: TypeOpts, info: TypeInfo) -> bool
+pub(crate) fn is_defined(opts: TypeOpts, info: TypeInfo) -> bool
     ensures { result ≡ (is_used info || opts.generate_unused_types) }
 {
     info.owned || info.borrowed || opts.generate_unused_types

@@ -2,28 +2,30 @@
 #![tactic(auto)]
 
 mod define;
-mod defined_types;
 mod docs;
 mod levels;
 mod listed_types;
 mod listing;
 mod lists;
+mod nodes;
 mod ownership;
 mod paths;
 mod printed;
 mod type_names;
 mod type_opts;
 mod unfolded;
+mod used;
 
-pub use define::definitions_of;
-pub use defined_types::{printed_types, type_name};
+pub use define::{definitions_of, param_type, part_type};
 pub use docs::doc_lines;
 pub use levels::are_shallow;
 pub use listing::are_listed_well;
 pub use lists::{one, two};
+pub use nodes::have_few_nodes;
 pub use ownership::{Ownership, OwnershipFault};
 pub use paths::local_path;
 pub use printed::printed_type;
 pub use type_names::are_type_names;
 pub use type_opts::TypeOpts;
 pub use unfolded::are_few;
+pub use used::{defined_types, type_name};

@@ -1,4 +1,5 @@
-//! Whether the types that worlds list are named and their own, and whether each named type that they reach is listed too.
+//! Whether the types that worlds list are named and their own, and whether each named type that these or the worlds'
+//! functions reach is listed too.
 
 ghost use Rattle.std.specs.Prelude.{◌≡◌, ◌||◌, ◌&&◌, ℕ, true, IfOk, Some, is_none, length, nat_eq, slice_get};
 ghost use Rattle.std.specs.HashSet.{contains};
@@ -7,13 +8,17 @@ ghost use Rattle.wit_model.specs.TypeOrder.{GoesDown};
 ghost use Rattle.wit_model.specs.WellFormed.{IsWellFormed};
 ghost use Rattle.wit_model.specs.declared.types.WitType.TheVariants.{Id};
 ghost use Rattle.wit_model.specs.Parts.{parts};
+ghost use Rattle.type_defs.specs.FunctionTypes.{entries_pass, function_passes, functions_pass, item_passes, passes_or_none};
 ghost use Rattle.type_defs.specs.Levels.{are_shallow};
-ghost use Rattle.type_defs.specs.Listing.{AreCovered, are_listed_well, covered_by, keeps_listing, lists, may_list, owns};
+ghost use Rattle.type_defs.specs.Listing.{AreCovered, are_listed, are_listed_well, covered_by, is_covered, keeps_listing, lists, may_list, owns};
 
 use crate::listed_types::types_in;
 use std::alloc::Global;
 use std::collections::HashSet;
-use wit_model::{List, OutOfMemory, Resolve, TypeDef, TypeDefKind, TypeId, TypeOwner, WitType};
+use wit_model::{
+    Function, List, OutOfMemory, Param, Resolve, TypeDef, TypeDefKind, TypeId, TypeOwner, WitType,
+    World, WorldItem, WorldKey,
+};
 
 fn owns(world: usize, owner: TypeOwner) -> bool
     ensures { result ≡ owns world owner }
@@ -50,7 +55,7 @@ fn covered_by(known: &[bool], part: Option<WitType>) -> bool
         return true;
     };
     match known.get(id.0 as usize) {
-        None => true,
+        None => false,
         Some(covered) => *covered,
     }
 }
@@ -64,6 +69,50 @@ fn are_parts_covered(known: &[bool], kind: &TypeDefKind) -> bool
         }
     }
     true
+}
+
+fn are_params_covered(known: &[bool], params: &[Param]) -> bool
+    ensures { result ≡ list_all (λ p. covered_by known.now (Some p.ty)) params.now }
+{
+    params.iter().all(|p| covered_by(known, Some(p.ty)))
+}
+
+fn is_result_covered(known: &[bool], answer: &Option<WitType>) -> bool
+    ensures { result ≡ passes_or_none (λ ty. covered_by known.now (Some ty)) answer.now }
+{
+    match answer {
+        None => true,
+        Some(ty) => covered_by(known, Some(*ty)),
+    }
+}
+
+fn is_function_covered(known: &[bool], f: &Function) -> bool
+    ensures { result ≡ function_passes (λ ty. covered_by known.now (Some ty)) f.now }
+{
+    are_params_covered(known, f.params.as_slice()) && is_result_covered(known, &f.result)
+}
+
+fn is_item_covered(known: &[bool], item: &WorldItem) -> bool
+    ensures { result ≡ item_passes (λ ty. covered_by known.now (Some ty)) item.now }
+{
+    match item {
+        WorldItem::Function(f) => is_function_covered(known, f),
+        WorldItem::Interface(_) => true,
+        WorldItem::Named(_) => true,
+    }
+}
+
+fn are_entries_covered(known: &[bool], entries: &[(WorldKey, WorldItem)]) -> bool
+    ensures { result ≡ entries_pass (λ ty. covered_by known.now (Some ty)) entries.now }
+{
+    entries.iter().all(|entry| is_item_covered(known, &entry.1))
+}
+
+fn are_functions_covered(known: &[bool], world: &World) -> bool
+    ensures { result ≡ functions_pass (λ ty. covered_by known.now (Some ty)) world.now }
+{
+    are_entries_covered(known, world.imports.as_slice())
+        && are_entries_covered(known, world.exports.as_slice())
 }
 
 fn is_covered_entry(known: &[bool], set: &HashSet<usize>, nth: usize, entry: &TypeDef) -> bool
@@ -92,36 +141,68 @@ fn covered_types(
     Ok(known)
 }
 
-fn is_listed_well(types: &[TypeDef], known: &[bool], world: usize, id: TypeId) -> bool
-    ensures { result ≡ (may_list world (slice_get types.now id.0) && covered_by known.now (Some (Id id))) }
+fn is_listed_well(types: &[TypeDef], known: &[bool], nth: usize, id: TypeId) -> bool
+    ensures { result ≡ (may_list nth (slice_get types.now id.0) && covered_by known.now (Some (Id id))) }
 {
-    may_list(types, world, id) && covered_by(known, Some(WitType::Id(id)))
+    may_list(types, nth, id) && covered_by(known, Some(WitType::Id(id)))
+}
+
+fn are_listed(types: &[TypeDef], known: &[bool], nth: usize, listed: &[TypeId]) -> bool
+    ensures { result ≡ list_all (λ id. may_list nth (slice_get types.now id.0) && covered_by known.now (Some (Id id))) listed.now }
+{
+    listed
+        .iter()
+        .all(|id| is_listed_well(types, known, nth, *id))
+}
+
+fn are_all_listed(
+    types: &[TypeDef],
+    known: &[bool],
+    nth: usize,
+    listed: &[TypeId],
+    world: &World,
+) -> bool
+    ensures { result ≡ (list_all (λ id. may_list nth (slice_get types.now id.0) && covered_by known.now (Some (Id id))) listed.now && functions_pass (λ ty. covered_by known.now (Some ty)) world.now) }
+{
+    are_listed(types, known, nth, listed) && are_functions_covered(known, world)
+}
+
+fn keeps_listed(
+    alloc: Global,
+    types: &[TypeDef],
+    nth: usize,
+    listed: &[TypeId],
+    world: &World,
+) -> Result<bool, OutOfMemory>
+    requires down { GoesDown types.now }
+    requires shallow { are_shallow types.now ≡ true }
+    ensures { IfOk result (λ b. b ≡ (are_listed types.now nth listed.now && functions_pass (is_covered types.now listed.now 100) world.now)) }
+{
+    let known = covered_types(alloc, types, listed)?;
+    Ok(are_all_listed(types, known.as_slice(), nth, listed, world))
 }
 
 fn keeps_listing(
     alloc: Global,
     types: &[TypeDef],
-    world: usize,
-    listed: &[TypeId],
+    nth: usize,
+    world: &World,
 ) -> Result<bool, OutOfMemory>
     requires down { GoesDown types.now }
     requires shallow { are_shallow types.now ≡ true }
-    ensures { IfOk result (λ b. b ≡ keeps_listing types.now world listed.now) }
+    ensures { IfOk result (λ b. b ≡ keeps_listing types.now nth world.now) }
 {
-    if listed.is_empty() {
+    let listed = types_in(alloc, world.imports.as_slice())?;
+    // where functions name no entry of the table, it need not be gone up for them
+    if listed.as_slice().is_empty() && are_functions_covered(&[], world) {
         return Ok(true);
     }
-    let known = covered_types(alloc, types, listed)?;
-    for id in listed {
-        if !is_listed_well(types, known.as_slice(), world, *id) {
-            return Ok(false);
-        }
-    }
-    Ok(true)
+    keeps_listed(alloc, types, nth, listed.as_slice(), world)
 }
 
 /// Whether each type that a world lists has a name and that world as its owner, and whether the world lists each named
-/// type that such a type reaches. For each world that lists a type it goes up the table once.
+/// type that such a type reaches, or a type of one of its functions. For each world that lists a type, or has a function
+/// that names an entry of the table, it goes up the table once.
 #[tactic(auto, unfolding(crate::specs::Listing::are_listed_well))]
 pub fn are_listed_well(alloc: Global, resolve: &Resolve) -> Result<bool, OutOfMemory>
     requires well { IsWellFormed resolve.now }
@@ -129,8 +210,7 @@ pub fn are_listed_well(alloc: Global, resolve: &Resolve) -> Result<bool, OutOfMe
     ensures { IfOk result (λ b. b ≡ are_listed_well resolve.now) }
 {
     for (i, world) in resolve.worlds.as_slice().iter().enumerate() {
-        let listed = types_in(alloc, world.imports.as_slice())?;
-        if !keeps_listing(alloc, resolve.types.as_slice(), i, listed.as_slice())? {
+        if !keeps_listing(alloc, resolve.types.as_slice(), i, world)? {
             return Ok(false);
         }
     }

@@ -14,6 +14,7 @@ pub mod FaithfulExport
 pub mod FaithfulImport
 pub mod FreedBlocks
 pub mod Givings
+pub mod HandedBack
 pub mod ImportBodyCloses
 pub mod ImportCalls
 pub mod ImportEnds

@@ -8,6 +8,7 @@ use Rattle.func_gen.specs.Made.{IsMadeOf}
 use Rattle.func_gen.specs.Records.{CanBeDefined}
 use Rattle.func_gen.specs.Sites.{IsSite, site_names}
 use Rattle.func_gen.specs.declared.function_bindgen.FunctionBindgen.{FunctionBindgen}
+use Rattle.func_gen.specs.declared.type_tables.TypeTables.{TypeTables}
 use Rattle.wrapper_closing.specs.declared.parts.BodyParts.{BodyParts}
 
 -- the layouts are those of the types, each parameter is denoted by its name or by a reference to it, no two names are the same, also with
@@ -21,3 +22,7 @@ pub record AreParts (types : List TypeDef) (parts : BodyParts) : Type 0 where
 -- a bindgen was made of them
 abbrev pub IsMadeFrom : Bool → BodyParts → FunctionBindgen → Type 0
 IsMadeFrom import parts b = IsMadeOf parts.sizes import parts.home parts.area parts.params parts.records b
+
+-- the tables among them
+abbrev pub tables_of : BodyParts → TypeTables
+tables_of parts = record { sizes = parts.sizes; records = parts.records }

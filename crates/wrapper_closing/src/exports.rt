@@ -5,30 +5,30 @@ ghost use Rattle.abi_driver.specs.Exports.{export_params};
 ghost use Rattle.wit_model.specs.IndexRange.{function_in_range};
 ghost use Rattle.wit_model.specs.WellFormed.{IsWellFormed};
 ghost use Rattle.wrapper_closing.specs.Bodies.{MakesExport, calls_method};
-ghost use Rattle.wrapper_closing.specs.Parts.{AreParts};
+ghost use Rattle.wrapper_closing.specs.Parts.{AreParts, tables_of};
 
 use crate::no_area::declares_no_area;
 use crate::parts::{BodyParts, begin};
 use abi_driver::{LiftLower, call};
-use func_gen::Body;
+use func_gen::{Body, TypeTables};
 use std::alloc::Global;
-use wit_layout::{AbiVariant, SizeAlign};
+use wit_layout::AbiVariant;
 use wit_model::{Function, OutOfMemory, Resolve};
 
-/// The body of the wrapper of an exported function: the block that calls its method, and the driver's code behind it; and the layouts of its
+/// The body of the wrapper of an exported function: the block that calls its method, and the driver's code behind it; and the tables of its
 /// parts. Of a function for which there is no such code, the answer is `OutOfMemory`, as where memory is wanting.
 pub fn export_body(
     alloc: Global,
     resolve: &Resolve,
     func: &Function,
     parts: BodyParts,
-) -> Result<(Body, SizeAlign), OutOfMemory>
+) -> Result<(Body, TypeTables), OutOfMemory>
     requires well { IsWellFormed resolve.now }
     requires within { function_in_range resolve.now func.now ≡ true }
     requires parts { AreParts resolve.now.types parts }
     requires many { length parts.params ≡ length (export_params resolve.now.types func.now) }
     ensures makes { IfOk result (λ made. MakesExport resolve.now.types func.entry parts made.0) }
-    ensures sizes { IfOk result (λ made. made.1 ≡ parts.sizes) }
+    ensures tables { IfOk result (λ made. made.1 ≡ tables_of parts) }
 {
     let mut bindgen = begin(alloc, false, parts)?;
     call(
@@ -39,11 +39,11 @@ pub fn export_body(
         func,
         &mut bindgen,
     )?;
-    let (body, sizes) = bindgen.finish()?;
+    let (body, tables) = bindgen.finish()?;
     if !calls_method(&body) || !declares_no_area(body.stmts.as_slice()) {
         return Err(OutOfMemory);
     }
-    Ok((body, sizes))
+    Ok((body, tables))
 }
 
 /// Whether a body has a block that calls a method, and that declares no area.

@@ -4,29 +4,29 @@ ghost use Rattle.std.specs.Prelude.{◌≡◌, length, true, IfOk};
 ghost use Rattle.wit_model.specs.IndexRange.{function_in_range};
 ghost use Rattle.wit_model.specs.WellFormed.{IsWellFormed};
 ghost use Rattle.wrapper_closing.specs.Bodies.{MakesImport};
-ghost use Rattle.wrapper_closing.specs.Parts.{AreParts};
+ghost use Rattle.wrapper_closing.specs.Parts.{AreParts, tables_of};
 
 use crate::parts::{BodyParts, begin};
 use abi_driver::{LiftLower, call};
-use func_gen::Body;
+use func_gen::{Body, TypeTables};
 use std::alloc::Global;
-use wit_layout::{AbiVariant, SizeAlign};
+use wit_layout::AbiVariant;
 use wit_model::{Function, OutOfMemory, Resolve};
 
-/// The body of the wrapper of an imported function, which is the driver's code for it; and the layouts of its parts. Of a function for which
+/// The body of the wrapper of an imported function, which is the driver's code for it; and the tables of its parts. Of a function for which
 /// there is no such code, the answer is `OutOfMemory`, as where memory is wanting.
 pub fn import_body(
     alloc: Global,
     resolve: &Resolve,
     func: &Function,
     parts: BodyParts,
-) -> Result<(Body, SizeAlign), OutOfMemory>
+) -> Result<(Body, TypeTables), OutOfMemory>
     requires well { IsWellFormed resolve.now }
     requires within { function_in_range resolve.now func.now ≡ true }
     requires parts { AreParts resolve.now.types parts }
     requires many { length parts.params ≡ length func.now.params }
     ensures makes { IfOk result (λ made. MakesImport resolve.now.types func.entry parts made.0) }
-    ensures sizes { IfOk result (λ made. made.1 ≡ parts.sizes) }
+    ensures tables { IfOk result (λ made. made.1 ≡ tables_of parts) }
 {
     let mut bindgen = begin(alloc, true, parts)?;
     call(
@@ -37,9 +37,9 @@ pub fn import_body(
         func,
         &mut bindgen,
     )?;
-    let (body, sizes) = bindgen.finish()?;
+    let (body, tables) = bindgen.finish()?;
     if body.call.is_some() {
         return Err(OutOfMemory);
     }
-    Ok((body, sizes))
+    Ok((body, tables))
 }

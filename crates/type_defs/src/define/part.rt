@@ -13,7 +13,7 @@ use std::alloc::Global;
 use wit_model::{List, Name, OutOfMemory, TypeDef, TypeDefKind, WitType};
 
 /// A named type, by its path.
-fn named_type(alloc: Global, name: &Name) -> Result<TypeExpr, OutOfMemory>
+pub(crate) fn named_type(alloc: Global, name: &Name) -> Result<TypeExpr, OutOfMemory>
     ensures { IfOk result (λ printed. printed ≡ type.Path (local_path (type_ident name.now))) }
 {
     let name = to_upper_camel_case(alloc, name)?;
@@ -81,7 +81,7 @@ fn types_within(
     Ok(printed)
 }
 
-fn levels_of(ty: WitType) -> u64
+pub(crate) fn levels_of(ty: WitType) -> u64
     ensures { result ≡ levels_of ty }
 {
     match ty {
@@ -90,13 +90,11 @@ fn levels_of(ty: WitType) -> u64
     }
 }
 
-/// A type as a part of a definition.
+/// A type as a part of a definition, or as a result or parameter that is handed over: a named type by its path, an unnamed one by
+/// its kind. What is not in the table, or of a kind that is not printed unnamed, is printed as `()`. `OutOfMemory` comes where there
+/// is no memory for a name or a part.
 #[tactic(auto, unfolding(crate::specs::PartType::part_type))]
-pub(crate) fn part_type(
-    alloc: Global,
-    types: &[TypeDef],
-    ty: WitType,
-) -> Result<TypeExpr, OutOfMemory>
+pub fn part_type(alloc: Global, types: &[TypeDef], ty: WitType) -> Result<TypeExpr, OutOfMemory>
     ensures { IfOk result (λ printed. printed ≡ part_type types.now ty) }
 {
     type_within(alloc, types, levels_of(ty), ty)

@@ -5,4 +5,4 @@ use Rattle.gen_accept.proofs.names.declare_returns.Given as goal
 
 abbrev pub invariant-loop-function : goal.invariant-loop-function
 invariant-loop-function l =
-    l.names ++ flat_map return_names (map (λ f. f.now) (drop l.function-index l.functions)) ≡ l.initial.names ++ flat_map return_names (map (λ f. f.now) l.functions)
+    l.names ++ flat_map (return_names l.resolve.types) (map (λ f. f.now) (drop l.function-index l.functions)) ≡ l.initial.names ++ flat_map (return_names l.resolve.types) (map (λ f. f.now) l.functions)

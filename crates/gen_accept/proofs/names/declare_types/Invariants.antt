@@ -5,4 +5,4 @@ use Rattle.type_defs.specs.PrintedTypes.{type_name}
 use Rattle.gen_accept.proofs.names.declare_types.Given as goal
 
 abbrev pub invariant-loop-entry : goal.invariant-loop-entry
-invariant-loop-entry l = l.names ≡ l.initial.names ++ map (declared WorldType) (map type_name (map (λ t. t.now) (take l.entry-index l.printed)))
+invariant-loop-entry l = l.names ≡ l.initial.names ++ map (declared WorldType) (map type_name (map (λ t. t.now) (take l.entry-index l.defined)))

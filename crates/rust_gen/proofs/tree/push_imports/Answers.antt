@@ -1,10 +1,11 @@
-use Rattle.std.proofs.Common.{◌≡◌, true, [], ◌∷◌, ◌++◌, ◌∙◌, ap, sym, append_assoc, arith}
+use Rattle.std.proofs.Common.{◌≡◌, true, [], ◌∷◌, ◌++◌, ◌∙◌, ap, sym, append_assoc, arith, subst}
 use Rattle.std.proofs.lemmas.List.{map-append}
 use Rattle.wit_model.specs.Distinct.{is_distinct}
 use Rattle.wit_model.specs.IndexRange.{function_in_range}
 use Rattle.rust_tree.specs.declared.item.Item.TheVariants as item
 use Rattle.gen_accept.specs.DeclaredNames.{param_idents}
 use Rattle.rust_gen.specs.Body.{IsWritten}
+use Rattle.rust_gen.specs.Known.{records_in}
 use Rattle.rust_gen.proofs.TreeLemmas.{at-loop, wraps-more}
 use Rattle.rust_gen.proofs.tree.push_imports.Goals as goal
 
@@ -16,15 +17,17 @@ pub push_import-requires-clause-distinct : goal.push_import-requires-clause-dist
 push_import-requires-clause-distinct c =
     at-loop (λ f. is_distinct (param_idents f) ≡ true) c.args.functions.now c.requires.distinct c.loop-function.function-index c.function-item.result (omega arith) c.function-item.is
 
-pub push_import-requires-clause-laid : goal.push_import-requires-clause-laid
-push_import-requires-clause-laid c = c.loop-function.invariant.0
+pub push_import-requires-clause-tables : goal.push_import-requires-clause-tables
+push_import-requires-clause-tables c = c.loop-function.invariant.0
 
 pub loop-function-preserved : goal.loop-function-preserved
 loop-function-preserved c =
-    let before = c.loop-function.invariant.1 in
+    let before = c.loop-function.invariant.2 in
+    let same = c.loop-function.invariant.1 in
     let more = c.in_ok-push_import.ensures.made in (
       c.in_ok-push_import.ensures.kept,
+      c.in_ok-push_import.ensures.same ∙ same,
       before ++ more.0 ∷ [],
-      more.1 ∙ ap (λ is. is ++ item.Import more.0 ∷ []) c.loop-function.invariant.2 ∙ append_assoc c.args.items.now _ _ ∙ ap (λ is. c.args.items.now ++ is) (sym (map-append item.Import before (more.0 ∷ []))),
-      wraps-more (IsWritten c.args.resolve.now.types) c.args.functions.now c.loop-function.function-index c.function-item.result before more.0 (omega arith) c.function-item.is c.loop-function.invariant.3 more.2,
+      more.1 ∙ ap (λ is. is ++ item.Import more.0 ∷ []) c.loop-function.invariant.3 ∙ append_assoc c.args.items.now _ _ ∙ ap (λ is. c.args.items.now ++ is) (sym (map-append item.Import before (more.0 ∷ []))),
+      wraps-more (IsWritten c.args.resolve.now.types (records_in c.args.tables.now)) c.args.functions.now c.loop-function.function-index c.function-item.result before more.0 (omega arith) c.function-item.is c.loop-function.invariant.4 (subst (λ records. IsWritten c.args.resolve.now.types records c.function-item.result.now more.0) same more.2),
     )

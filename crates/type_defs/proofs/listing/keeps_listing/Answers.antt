@@ -1,31 +1,23 @@
-use Rattle.std.proofs.Common.{◌≡◌, ◌∙◌, ◌+◌, ◌&&◌, Bool, List, Some, drop, get_or, sym, ap, slice_get}
-use Rattle.std.specs.List.{list_all}
-use Rattle.std.proofs.lemmas.Option.{slice_get-get_or}
+use Rattle.std.proofs.Common.{◌≡◌, ◌∙◌, ◌&&◌, IfOk, List, length, sym, ap, subst}
+use Rattle.std.proofs.lemmas.Bool.{eqb-true}
 use Rattle.wit_model.specs.declared.name.TypeId.{TypeId}
-use Rattle.wit_model.specs.declared.types.WitType.TheVariants.{Id}
-use Rattle.type_defs.specs.Listing.{covered_by, is_covered, may_list}
-use Rattle.type_defs.proofs.CutLemmas.{all_at_cut}
-use Rattle.type_defs.proofs.ListingLemmas.{first-id, listed-covered}
+use Rattle.type_defs.specs.FunctionTypes.{functions_pass}
+use Rattle.type_defs.specs.ListedTypes.{listed_types, types_in}
+use Rattle.type_defs.specs.Listing.{are_listed, is_covered, keeps_listing}
+use Rattle.type_defs.proofs.ListingLemmas.{nothing-listed}
 use Rattle.type_defs.proofs.listing.keeps_listing.Goals as goal
 
-pub returns-then-not-is_listed_well : goal.returns-then-not-is_listed_well
-returns-then-not-is_listed_well c =
-    let listed = c.args.listed.now in
-    let types = c.args.types.now in
-    let id = get_or listed c.loop-id.id-index first-id in
-    let test : TypeId → Bool = λ id. may_list c.args.world (slice_get types id.0) && is_covered types listed 100 (Id id) in
-    let at : slice_get listed c.loop-id.id-index ≡ Some id = slice_get-get_or listed c.loop-id.id-index first-id c.loop-id-test.true in
-    let is = c.is_listed_well.ensures ∙ ap (λ (k : List Bool). may_list c.args.world (slice_get types id.0) && covered_by k (Some (Id id))) c.as_slice.ensures
-    ∙ listed-covered types c.requires.down listed c.in_ok-known.known c.in_ok-known.ensures.covered c.args.world id c.in_ok-known.ensures.count c.requires.shallow in
-    sym (ap (λ b. b && list_all test (drop (c.loop-id.id-index + 1) listed)) c.if-not-is_listed_well.true) ∙ sym (all_at_cut test listed c.loop-id.id-index id at is) ∙ c.loop-id.invariant
+pub returns-then-are_functions_covered : goal.returns-then-are_functions_covered
+returns-then-are_functions_covered c =
+    let world = c.args.world.now in
+    let listed : c.as_slice-2.result.now ≡ listed_types world = c.as_slice-2.ensures ∙ c.in_ok-listed.ensures ∙ ap types_in c.as_slice.ensures in
+    let none : length (listed_types world) ≡ 0 = ap length (sym listed) ∙ eqb-true (length c.as_slice-2.result.now) 0 (sym c.is_empty.ensures ∙ c.if-is_empty.true) in
+    sym (nothing-listed c.args.types.now c.args.nth world none (sym c.are_functions_covered.ensures ∙ c.if-are_functions_covered.true))
 
-pub loop-id-preserved : goal.loop-id-preserved
-loop-id-preserved c =
-    let listed = c.args.listed.now in
+pub returns : goal.returns
+unfolding keeps_listing
+returns c =
     let types = c.args.types.now in
-    let id = get_or listed c.loop-id.id-index first-id in
-    let test : TypeId → Bool = λ id. may_list c.args.world (slice_get types id.0) && is_covered types listed 100 (Id id) in
-    let at : slice_get listed c.loop-id.id-index ≡ Some id = slice_get-get_or listed c.loop-id.id-index first-id c.loop-id-test.true in
-    let is = c.is_listed_well.ensures ∙ ap (λ (k : List Bool). may_list c.args.world (slice_get types id.0) && covered_by k (Some (Id id))) c.as_slice.ensures
-    ∙ listed-covered types c.requires.down listed c.in_ok-known.known c.in_ok-known.ensures.covered c.args.world id c.in_ok-known.ensures.count c.requires.shallow in
-    sym (ap (λ b. b && list_all test (drop (c.loop-id.id-index + 1) listed)) c.if-not-is_listed_well.false) ∙ sym (all_at_cut test listed c.loop-id.id-index id at is) ∙ c.loop-id.invariant
+    let world = c.args.world.now in
+    let listed : c.as_slice-3.result.now ≡ listed_types world = c.as_slice-3.ensures ∙ c.in_ok-listed.ensures ∙ ap types_in c.as_slice.ensures in
+    subst (λ (ids : List TypeId). IfOk c.keeps_listed.result (λ b. b ≡ (are_listed types c.args.nth ids && functions_pass (is_covered types ids 100) world))) listed c.keeps_listed.ensures

@@ -1,10 +1,12 @@
-use Rattle.std.proofs.Common.{◌∙◌}
+use Rattle.std.proofs.Common.{true}
 use Rattle.wit_layout.specs.declared.signature.AbiVariant.TheVariants.{GuestImport}
 use Rattle.abi_driver.specs.Code.{call_code}
 use Rattle.func_gen.proofs.StillSent.{still_sent}
+use Rattle.wrapper_closing.proofs.HandedBack.{handed_back}
 use Rattle.wrapper_closing.proofs.imports.import_body.Goals as goal
 
-pub returns-clause-sizes : goal.returns-clause-sizes
-returns-clause-sizes c =
+pub returns-clause-tables : goal.returns-clause-tables
+returns-clause-tables c =
     let types = c.args.resolve.now.types in
-    c.in_ok-body.ensures.sizes ∙ (still_sent types (call_code types GuestImport c.args.func) c.in_ok-bindgen.bindgen c.call.new.bindgen c.in_ok-call.ensures.sends).sizes ∙ c.in_ok-bindgen.ensures.of_sizes
+    handed_back true c.args.parts c.in_ok-bindgen.bindgen c.call.new.bindgen c.in_ok-body.tables c.in_ok-bindgen.ensures
+    (still_sent types (call_code types GuestImport c.args.func) c.in_ok-bindgen.bindgen c.call.new.bindgen c.in_ok-call.ensures.sends) c.in_ok-body.ensures.tables

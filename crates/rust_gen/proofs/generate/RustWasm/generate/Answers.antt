@@ -1,7 +1,8 @@
 use Rattle.std.proofs.Common.{subst}
 use Rattle.rust_gen.specs.Generated.{Generates}
 use Rattle.rust_gen.proofs.FaithfulLemmas.{are_faithful}
-use Rattle.rust_gen.proofs.KnownLemmas.{accepted-is-known, well-named}
+use Rattle.gen_accept.proofs.CauseLemmas.{accepted-named}
+use Rattle.rust_gen.proofs.KnownLemmas.{accepted-is-known}
 use Rattle.rust_gen.proofs.ServedLemmas.{serves}
 use Rattle.rust_gen.proofs.WrapperLemmas.{binds_wraps}
 use Rattle.rust_gen.proofs.generate.RustWasm.generate.Goals as goal
@@ -15,6 +16,7 @@ returns-clause-ok c =
     let world = c.in_ok-accepted.accepted.now in
     let found = c.in_ok-accepted.ensures.world in
     let written = c.in_ok-tree.ensures.bound in
+    let known = accepted-is-known c.self.inside.opts c.args.resolve.now c.args.world world c.in_ok-accepted.ensures.checked c.in_ok-accepted.ensures.built c.in_ok-accepted.ensures.accepted found in
     let made : Generates c.self.inside.opts c.args.resolve.now c.args.world c.args.files.now c.write_file.new.files c.in_ok-tree.tree = record {
       world = world;
       named = found;
@@ -22,7 +24,7 @@ returns-clause-ok c =
         bound = binds_wraps written;
         written = written;
         runtime = serves c.self.inside.opts c.args.resolve.now c.args.world world _ written;
-        faithful = are_faithful c.self.inside.opts c.args.resolve.now c.args.world.0 world found c.in_ok-accepted.ensures.built (well-named c.self.inside.opts c.args.resolve.now world c.in_ok-accepted.ensures.accepted) c.args.world _ written;
+        faithful = are_faithful c.self.inside.opts c.args.resolve.now c.args.world world known (accepted-named c.self.inside.opts c.args.resolve.now world c.in_ok-accepted.ensures.accepted) _ written;
         well_named = c.in_ok-tree.ensures.named;
       };
       gains = c.in_ok-tree.ensures.gains;

@@ -1,0 +1,8 @@
+use Rattle.gen_accept.proofs.FunctionLemmas.{exports-within, imports-within}
+use Rattle.gen_accept.proofs.names.declared_names.Goals as goal
+
+pub scopes_of-requires-clause-imports : goal.scopes_of-requires-clause-imports
+scopes_of-requires-clause-imports c = imports-within c.args.resolve.now c.args.id.0 c.args.world.now c.requires.well c.requires.found
+
+pub scopes_of-requires-clause-exports : goal.scopes_of-requires-clause-exports
+scopes_of-requires-clause-exports c = exports-within c.args.resolve.now c.args.id.0 c.args.world.now c.requires.well c.requires.found

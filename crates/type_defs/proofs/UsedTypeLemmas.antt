@@ -1,0 +1,43 @@
+-- The types that are defined, one listed type at a time.
+use Rattle.std.proofs.Common.{◌≡◌, ◌∙◌, ℕ, ◌<◌, Bool, true, false, cond, ◌&&◌, List, [], ◌∷◌, ◌++◌, Option, Some, None, filter, is_some, length, refl, sym, ap}
+use Rattle.std.specs.List.{flat_map, slice_get}
+use Rattle.std.proofs.lemmas.Bool.{and_parts}
+use Rattle.std.proofs.lemmas.Option.{slice_get_within}
+use Rattle.wit_model.specs.declared.name.TypeId.{TypeId}
+use Rattle.wit_model.specs.declared.resolve.Resolve.{Resolve}
+use Rattle.wit_model.specs.declared.types.TypeDef.{TypeDef}
+use Rattle.wit_model.specs.declared.types.WitType.TheVariants.{Id}
+use Rattle.wit_model.specs.declared.world.World.{World}
+use Rattle.wit_model.proofs.AllLemmas.{all_at}
+use Rattle.type_facts.specs.Facts.{IsNamed}
+use Rattle.type_defs.specs.FunctionTypes.{functions_pass}
+use Rattle.type_defs.specs.ListedTypes.{listed_types}
+use Rattle.type_defs.specs.Listing.{are_listed, are_listed_well, is_covered, keeps_listing, may_list, owns}
+use Rattle.type_defs.proofs.ListingLemmas.{world-listing}
+
+-- what passes a filter, one element at a time
+pub filtered : {A B : Type 0} (test : A → Bool) (g : A → List B) (xs : List A) → flat_map g (filter test xs) ≡ flat_map (λ x. cond (test x) (g x) []) xs
+filtered test g [] = refl
+filtered test g (x ∷ xs) = go (test x) refl (filtered test g xs)
+  where
+    go : (b : Bool) → test x ≡ b → flat_map g (filter test xs) ≡ flat_map (λ x. cond (test x) (g x) []) xs → flat_map g (filter test (x ∷ xs)) ≡ flat_map (λ x. cond (test x) (g x) []) (x ∷ xs)
+    go true e rest = ap (λ b. flat_map g (cond b (x ∷ filter test xs) (filter test xs))) e ∙ ap (λ ys. g x ++ ys) rest ∙ sym (ap (λ b. cond b (g x) [] ++ flat_map (λ x. cond (test x) (g x) []) xs) e)
+    go false e rest = ap (λ b. flat_map g (cond b (x ∷ filter test xs) (filter test xs))) e ∙ rest ∙ sym (ap (λ b. cond b (g x) [] ++ flat_map (λ x. cond (test x) (g x) []) xs) e)
+
+may-named : (r : Resolve) (k : ℕ) (id : TypeId) (o : Option TypeDef) → slice_get r.types id.0 ≡ o → may_list k (slice_get r.types id.0) ≡ true → IsNamed r.types id
+may-named r k id None at h = let wrong : may_list k None ≡ true = sym (ap (may_list k) at) ∙ h in absurd (cc)
+may-named r k id (Some t) at h =
+    let may : may_list k (Some t) ≡ true = sym (ap (may_list k) at) ∙ h in
+    record { entry = t; entry_at = at; named = (and_parts (is_some t.name) (owns k t.owner) may).0 }
+
+-- a type that a world lists has a name
+pub listed-named : (r : Resolve) (k : ℕ) (world : World) → are_listed_well r ≡ true → slice_get r.worlds k ≡ Some world → (n : ℕ) (id : TypeId) → slice_get (listed_types world) n ≡ Some id → IsNamed r.types id
+unfolding keeps_listing
+listed-named r k world well found n id at =
+    let listed = listed_types world in
+    let keep = and_parts (are_listed r.types k listed) (functions_pass (is_covered r.types listed 100) world) (world-listing r k world well found) in
+    let own = all_at (λ id. may_list k (slice_get r.types id.0) && is_covered r.types listed 100 (Id id)) listed n id keep.0 at in
+    may-named r k id (slice_get r.types id.0) refl (and_parts (may_list k (slice_get r.types id.0)) (is_covered r.types listed 100 (Id id)) own).0
+
+pub named-within : (types : List TypeDef) (id : TypeId) → IsNamed types id → id.0 < length types
+named-within types id named = slice_get_within types id.0 named.entry named.entry_at

@@ -1,0 +1,73 @@
+//! Which types are defined in the file of a world, and under which names.
+
+ghost use Rattle.std.specs.Prelude.{◌≡◌, ◌++◌, [], true, IfOk, OnOk, Some, if◌then◌else◌, map, slice_get};
+ghost use Rattle.wit_model.specs.WellFormed.{IsWellFormed};
+ghost use Rattle.type_defs.specs.Levels.{are_shallow};
+ghost use Rattle.type_defs.specs.Listing.{are_listed_well};
+ghost use Rattle.type_defs.specs.PrintedTypes.{entry_at, type_name};
+ghost use Rattle.type_defs.specs.Used.{defined_types};
+
+use crate::define::is_defined;
+use crate::listed_types::types_in;
+use crate::type_opts::TypeOpts;
+use rust_tree::to_upper_camel_case;
+use std::alloc::Global;
+use type_facts::Types;
+use wit_model::{OutOfMemory, Resolve, Text, TypeDef, TypeId, World, WorldId};
+
+fn push_where<'a>(
+    defined: &mut Vec<&'a TypeDef>,
+    is_defined: bool,
+    resolve: &'a Resolve,
+    id: TypeId,
+) -> Result<(), OutOfMemory>
+    ensures { OnOk result
+        (map (λ t. t.now) defined.new.items ≡ map (λ t. t.now) defined.old.items ++ (if is_defined then entry_at resolve.now.types id else [])) }
+{
+    if !is_defined {
+        return Ok(());
+    }
+    match resolve.type_def(id) {
+        None => Ok(()),
+        Some(entry) => {
+            defined.push(entry)?;
+            Ok(())
+        }
+    }
+}
+
+/// The types that a world lists and that are defined in its file, in its order: those that a function of the world uses,
+/// and all where unused types are asked for.
+pub fn defined_types<'a>(
+    alloc: Global,
+    opts: TypeOpts,
+    resolve: &'a Resolve,
+    id: WorldId,
+    world: &World,
+) -> Result<Vec<&'a TypeDef>, OutOfMemory>
+    requires well { IsWellFormed resolve.now }
+    requires found { slice_get resolve.now.worlds id.0 ≡ Some world.now }
+    requires shallow { are_shallow resolve.now.types ≡ true }
+    requires listed { are_listed_well resolve.now ≡ true }
+    ensures { IfOk result
+        (λ ts. map (λ t. t.now) ts.items ≡ defined_types opts resolve.now world.now) }
+{
+    let listed = types_in(alloc, world.imports.as_slice())?;
+    let facts = Types::analyze(alloc, resolve, id)?;
+    let mut defined = Vec::new(alloc);
+    for own in listed.as_slice() {
+        let wanted = is_defined(opts, facts.get(*own));
+        push_where(&mut defined, wanted, resolve, *own)?;
+    }
+    Ok(defined)
+}
+
+/// The name of a type that is defined: its identifier, and no text where it has no name.
+pub fn type_name(alloc: Global, entry: &TypeDef) -> Result<Text, OutOfMemory>
+    ensures { IfOk result (λ name. name ≡ type_name entry.now) }
+{
+    match &entry.name {
+        None => Ok(Text::new(alloc)),
+        Some(name) => to_upper_camel_case(alloc, name),
+    }
+}

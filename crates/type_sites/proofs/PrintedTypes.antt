@@ -1,0 +1,320 @@
+-- A type whose named parts have their definitions in a file is printed there as its shape.
+use Rattle.std.proofs.Common.{◌≡◌, ℕ, zero, suc, ◌+◌, ◌<◌, ◌≤◌, true, false, not, ◌||◌, List, [], ◌∷◌, length, map, Option, None, Some, is_some, refl, rules, sym, ap, ◌∙◌, subst, arith}
+use Rattle.std.specs.Prelude.{slice_get}
+use Rattle.std.specs.List.{list_all}
+use Rattle.wit_model.specs.Bytes.{Bytes}
+use Rattle.wit_model.specs.declared.name.Name.{Name}
+use Rattle.wit_model.specs.declared.name.TypeId.{TypeId}
+use Rattle.wit_model.specs.declared.types.Field.{Field}
+use Rattle.wit_model.specs.declared.types.TypeDef.{TypeDef}
+use Rattle.wit_model.specs.declared.types.TypeDefKind.{TypeDefKind}
+use Rattle.wit_model.specs.declared.types.TypeDefKind.TheVariants as kind
+use Rattle.wit_model.specs.declared.types.WitType.{WitType}
+use Rattle.wit_model.specs.declared.types.WitType.TheVariants as wit
+use Rattle.wit_model.specs.Parts.{parts}
+use Rattle.wit_model.specs.Reaches.{Names, Reaches, reaches_by, reaches_itself}
+use Rattle.wit_model.specs.TypeOrder.{GoesDown, parts_below, payload_below, type_below}
+use Rattle.wit_model.proofs.AllLemmas.{all_at}
+use Rattle.wit_model.proofs.BelowLemmas.{id_below}
+use Rattle.wit_layout.proofs.FlattenSteps.{rank}
+use Rattle.rust_tree.specs.Ident.{type_ident}
+use Rattle.rust_tree.specs.declared.item.Item.{Item}
+use Rattle.rust_tree.specs.declared.type_expr.Primitive.{Primitive}
+use Rattle.rust_tree.specs.declared.type_expr.Primitive.TheVariants as prim
+use Rattle.rust_tree.specs.declared.type_expr.TypeExpr.{TypeExpr, TypeExpr-F, out-TypeExpr, the_lemmas as type_lemmas}
+use Rattle.rust_tree.specs.declared.type_expr.TypeExpr.TheVariants as type
+use Rattle.rust_tree.specs.declared.type_item.StructItem.{StructItem}
+use Rattle.rust_tree.specs.declared.type_item.TypeItem.{TypeItem}
+use Rattle.rust_tree.specs.declared.type_item.TypeItem.TheVariants.{Alias, Struct}
+use Rattle.type_defs.specs.Defined.{alias_item, are_defined_kinds, field_item, have_defined_parts, is_defined_kind, is_defined_part, is_defined_type, kind_items, record_item}
+use Rattle.type_defs.specs.PartType.{entry_type, part_type}
+use Rattle.type_defs.specs.Paths.{local_path}
+use Rattle.type_defs.specs.TypeNames.{are_type_names, needs_name}
+use Rattle.wrapper_meaning.specs.Shape.{Shape, shape_of}
+use Rattle.wrapper_meaning.specs.Shape.Shape.{cases, fields, fixed, flags, handle, list, other, pairs, resource, scalar, text, tuple}
+use Rattle.wrapper_values.specs.Typed.{behind, behind_one, definition_in, target_in, target_of, unaliased}
+use Rattle.wrapper_values.specs.Fields.{type_named}
+use Rattle.abi_driver.specs.Instructions.{field_shapes, shapes_of}
+use Rattle.abi_driver.proofs.Records.{alias_rank, alias_shape, record_shape, tuple_shape}
+use Rattle.wrapper_closing.specs.PrintedAs.{ArePrintedAs, IsPrintedAs, scalar_type}
+use Rattle.type_sites.proofs.Definitions.{IsDefinedIn}
+use Rattle.type_sites.proofs.PartTypes.{below-more, printed-entry}
+
+-- 1. Types without parts, and paths
+
+-- what has no definition is no other name of a type
+no-path : (items : List Item) (ty : TypeExpr) (l : TypeExpr-F TypeExpr) → out-TypeExpr ty ≡ l → definition_in items l ≡ None → target_of items ty ≡ None
+no-path items ty l out none = ap target_in (ap (definition_in items) out ∙ none)
+
+primitive-ends : (items : List Item) (p : Primitive) → target_of items (type.Primitive p) ≡ None
+primitive-ends items p = no-path items (type.Primitive p) (TypeExpr-F.Primitive p) opened refl
+  where
+    opened : out-TypeExpr (type.Primitive p) ≡ TypeExpr-F.Primitive p
+    opened = search (rules, type_lemmas)
+
+string-ends : (items : List Item) → target_of items type.String ≡ None
+string-ends items = no-path items type.String TypeExpr-F.String opened refl
+  where
+    opened : out-TypeExpr type.String ≡ TypeExpr-F.String
+    opened = search (rules, type_lemmas)
+
+pub unit-ends : (items : List Item) → target_of items type.Unit ≡ None
+unit-ends items = no-path items type.Unit TypeExpr-F.Unit opened refl
+  where
+    opened : out-TypeExpr type.Unit ≡ TypeExpr-F.Unit
+    opened = search (rules, type_lemmas)
+
+tuple-ends : (items : List Item) (types : List TypeExpr) → target_of items (type.Tuple types) ≡ None
+tuple-ends items types = no-path items (type.Tuple types) (TypeExpr-F.Tuple types) opened refl
+  where
+    opened : out-TypeExpr (type.Tuple types) ≡ TypeExpr-F.Tuple types
+    opened = search (rules, type_lemmas)
+
+path-definition : (items : List Item) (name : Bytes) → definition_in items (out-TypeExpr (type.Path (local_path name))) ≡ type_named items name
+path-definition items name = ap (definition_in items) opened
+  where
+    opened : out-TypeExpr (type.Path (local_path name)) ≡ TypeExpr-F.Path (local_path name)
+    opened = search (rules, type_lemmas)
+
+pub stays : (items more : List Item) (ty : TypeExpr) → target_of items ty ≡ None → behind more items ty ≡ ty
+stays items [] ty e = refl
+stays items (i ∷ more) ty e = ap (behind_one (behind more items) ty) e
+
+-- one step, where there is another name
+steps : (items more : List Item) (ty target last : TypeExpr) → target_of items ty ≡ Some target → 0 < length more → ((later : List Item) → length more ≤ suc (length later) → behind later items target ≡ last)
+    → behind more items ty ≡ last
+steps items [] ty target last e some h = absurd (omega arith)
+steps items (i ∷ more) ty target last e some h = ap (behind_one (behind more items) ty) e ∙ h more (omega arith)
+
+-- an id of the table has an entry
+pub present : {A : Type 0} (xs : List A) (n : ℕ) → n < length xs → (x : A) × (slice_get xs n ≡ Some x)
+present [] n h = absurd (omega arith)
+present (x ∷ xs) zero h = (x, refl)
+present (x ∷ xs) (suc n) h = present xs n (omega arith)
+
+-- parts of a kind, by its members
+pub mapped : (tys : List WitType) (nth : ℕ) (ty : WitType) → slice_get tys nth ≡ Some ty → slice_get (map (λ ty. Some ty) tys) nth ≡ Some (Some ty)
+mapped [] nth ty e = absurd (cc)
+mapped (t ∷ tys) zero ty e = let is : t ≡ ty = cc in ap (λ ty. Some (Some ty)) is
+mapped (t ∷ tys) (suc nth) ty e = mapped tys nth ty e
+
+pub mapped-fields : (members : List Field) (nth : ℕ) (ty : WitType) → slice_get (map (λ f. f.ty) members) nth ≡ Some ty → slice_get (map (λ f. Some f.ty) members) nth ≡ Some (Some ty)
+mapped-fields [] nth ty e = absurd (cc)
+mapped-fields (f ∷ members) zero ty e = let is : f.ty ≡ ty = cc in ap (λ ty. Some (Some ty)) is
+mapped-fields (f ∷ members) (suc nth) ty e = mapped-fields members nth ty e
+
+-- 2. What a type ends in
+
+module _ (types : List TypeDef) (items : List Item) (count : ℕ → ℕ) where
+  -- the printed type of a shape, behind all aliases
+  abbrev IsEnd : Shape → TypeExpr → Type 0
+  IsEnd (scalar s) ty = ty ≡ scalar_type s
+  IsEnd text ty = ty ≡ type.String
+  IsEnd (tuple ts) ty = (tys : List TypeExpr) × (ty ≡ type.Tuple tys) × ArePrintedAs items ts tys
+  IsEnd (fields ts) ty = (s : StructItem) × (definition_in items (out-TypeExpr ty) ≡ Some (Struct s)) × ArePrintedAs items ts (map (λ f. f.ty) s.fields)
+  IsEnd _ ty = ⊥
+
+  -- a type is the same behind its aliases whenever the items suffice for them
+  record Ends (ty : WitType) : Type 0 where
+    last : TypeExpr
+    reached : (more : List Item) → count (rank ty) ≤ length more → behind more items (part_type types ty) ≡ last
+    is : IsEnd (shape_of types ty) last
+
+  ended : (t : Shape) (ty : TypeExpr) → IsEnd t (unaliased items ty) → IsPrintedAs items t ty
+  ended (scalar s) ty h = h
+  ended text ty h = h
+  ended (tuple ts) ty h = h
+  ended (fields ts) ty h = h
+  ended (list t) ty h = h
+  ended (pairs k v) ty h = h
+  ended (fixed t n) ty h = h
+  ended (cases ts) ty h = h
+  ended (flags n) ty h = h
+  ended (handle owns n) ty h = h
+  ended (resource n) ty h = h
+  ended other ty h = h
+
+  module _ (most : (n : ℕ) → count n ≤ length items) where
+    printed : (ty : WitType) → Ends ty → IsPrintedAs items (shape_of types ty) (part_type types ty)
+    printed ty e = ended (shape_of types ty) (part_type types ty) (subst (IsEnd (shape_of types ty)) (sym (e.reached items (most (rank ty)))) e.is)
+
+    all-printed : (tys : List WitType) → ((nth : ℕ) (ty : WitType) → slice_get tys nth ≡ Some ty → Ends ty) → ArePrintedAs items (shapes_of types tys) (map (part_type types) tys)
+    all-printed [] h = tt
+    all-printed (ty ∷ tys) h = (printed ty (h 0 ty refl), all-printed tys (λ nth ty e. h (suc nth) ty e))
+
+  primitive : (ty : WitType) (p : Primitive) → part_type types ty ≡ type.Primitive p → IsEnd (shape_of types ty) (type.Primitive p) → Ends ty
+  primitive ty p is end = record { last = type.Primitive p; reached = λ more _. ap (behind more items) is ∙ stays items more (type.Primitive p) (primitive-ends items p); is = end }
+
+  string : Ends wit.String
+  unfolding part_type
+  string = record { last = type.String; reached = λ more _. stays items more type.String (string-ends items); is = refl }
+
+  -- 3. An entry of the table
+
+  module _ (down : GoesDown types) (kinds : are_defined_kinds types ≡ true) (sound : have_defined_parts types ≡ true) (names : are_type_names types ≡ true) (grows : (n m : ℕ) → n ≤ m → count n ≤ count m) (most : (n : ℕ) → count n ≤ length items) where
+    -- each named type that it reaches has its definition
+    abbrev pub AreReachedDefined : WitType → Type 0
+    AreReachedDefined ty = (part : TypeId) (entry : TypeDef) (name : Name) → Reaches types ty (wit.Id part) → slice_get types part.0 ≡ Some entry → entry.name ≡ Some name → IsDefinedIn types items count part.0 entry (type_ident name)
+
+    module _ (id : TypeId) (entry : TypeDef) (at : slice_get types id.0 ≡ Some entry) (all : AreReachedDefined (wit.Id id))
+        (further : (ty : WitType) → type_below id.0 ty ≡ true → is_defined_type ty ≡ true → AreReachedDefined ty → Ends ty) where
+      -- of each part of its kind
+      part-ends : (nth : ℕ) (ty : WitType) → slice_get (parts entry.kind) nth ≡ Some (Some ty) → Ends ty
+      unfolding parts_below payload_below
+      part-ends nth ty part =
+          let names : Names types (wit.Id id) ty = record { id = id; entry = entry; nth = nth; is_entry = refl; entry_at = at; part_at = part } in
+          let below : payload_below id.0 (Some ty) ≡ true = all_at (λ part. payload_below id.0 part) (parts entry.kind) nth (Some ty) (down id.0 entry at) part in
+          let defined : is_defined_part (Some ty) ≡ true =
+          all_at is_defined_part (parts entry.kind) nth (Some ty) (all_at (λ (entry : TypeDef). list_all is_defined_part (parts entry.kind)) types id.0 entry sound at) part in
+          further ty below defined (λ part entry name reaches at named. all part entry name (reaches_by names reaches) at named)
+
+      -- a tuple, under its own name or none
+      tuple-printed : (tys : List WitType) → entry.kind ≡ kind.Tuple tys → ArePrintedAs items (shapes_of types tys) (map (part_type types) tys)
+      unfolding parts
+      tuple-printed tys e = all-printed most tys (λ nth ty is. part-ends nth ty (ap (λ k. slice_get (parts k) nth) e ∙ mapped tys nth ty is))
+
+      tuple-end : (tys : List WitType) → entry.kind ≡ kind.Tuple tys → IsEnd (shape_of types (wit.Id id)) (type.Tuple (map (part_type types) tys))
+      tuple-end tys e = subst (λ t. IsEnd t (type.Tuple (map (part_type types) tys))) (sym (tuple_shape types down id.0 entry at tys e)) (map (part_type types) tys, refl, tuple-printed tys e)
+
+      alias-ends : (ty : WitType) → entry.kind ≡ kind.Alias ty → Ends ty
+      unfolding parts
+      alias-ends ty e = part-ends 0 ty (ap (λ k. slice_get (parts k) 0) e)
+
+      here : (k : TypeDefKind) (n : Option Name) → entry.kind ≡ k → entry.name ≡ n → part_type types (wit.Id id) ≡ entry_type (part_type types) k n
+      here k n e named = printed-entry types down id entry at ∙ ap (λ k. entry_type (part_type types) k entry.name) e ∙ ap (entry_type (part_type types) k) named
+
+      -- without a name
+      unnamed-alias : (ty : WitType) → entry.kind ≡ kind.Alias ty → entry.name ≡ None → Ends (wit.Id id)
+      unnamed-alias ty e named =
+          let target = alias-ends ty e in
+          let lower = alias_rank types down id.0 entry at ty e in
+          record {
+            last = target.last;
+            reached = λ more enough.
+                let fewer = grows (rank ty) (rank (wit.Id id)) (omega (arith, lower)) in
+                ap (behind more items) (here (kind.Alias ty) None e named) ∙ target.reached more (omega (arith, fewer, enough));
+            is = subst (λ t. IsEnd t target.last) (sym (alias_shape types down id.0 entry at ty e)) target.is;
+          }
+
+      unnamed-tuple : (tys : List WitType) → entry.kind ≡ kind.Tuple tys → entry.name ≡ None → Ends (wit.Id id)
+      unnamed-tuple tys e named = record {
+        last = type.Tuple (map (part_type types) tys);
+        reached = λ more enough. ap (behind more items) (here (kind.Tuple tys) None e named) ∙ stays items more (type.Tuple (map (part_type types) tys)) (tuple-ends items (map (part_type types) tys));
+        is = tuple-end tys e;
+      }
+
+      -- a record has a name
+      unnamed-record : (members : List Field) → entry.kind ≡ kind.Record members → entry.name ≡ None → ⊥
+      unfolding are_type_names
+      unnamed-record members e named =
+          let has : (not (needs_name entry.kind) || is_some entry.name) ≡ true = all_at (λ (t : TypeDef). not (needs_name t.kind) || is_some t.name) types id.0 entry names at in
+          let no : false ≡ true = sym (ap (λ k. not (needs_name k) || is_some entry.name) e ∙ ap (λ n. is_some n) named) ∙ has in
+          cc
+
+      -- under its own name
+      module _ (name : Name) (named : entry.name ≡ Some name) where
+        definition : IsDefinedIn types items count id.0 entry (type_ident name)
+        definition = all id entry name reaches_itself at named
+
+        path : TypeExpr
+        path = type.Path (local_path (type_ident name))
+
+        item-is : (k : TypeDefKind) (i : TypeItem) → entry.kind ≡ k → kind_items types definition.info entry.docs (type_ident name) k ≡ i ∷ [] → definition_in items (out-TypeExpr path) ≡ Some i
+        unfolding path
+        item-is k i e are =
+            let both : i ∷ [] ≡ definition.item ∷ [] = sym are ∙ sym (ap (kind_items types definition.info entry.docs (type_ident name)) e) ∙ definition.is in
+            let same : i ≡ definition.item = cc in
+            path-definition items (type_ident name) ∙ definition.found ∙ ap (λ (i : TypeItem). Some i) (sym same)
+
+        alias-target : (k : TypeDefKind) (target : TypeExpr) → entry.kind ≡ k → kind_items types definition.info entry.docs (type_ident name) k ≡ Alias (alias_item entry.docs (type_ident name) target) ∷ []
+            → target_of items path ≡ Some target
+        alias-target k target e are = ap target_in (item-is k (Alias (alias_item entry.docs (type_ident name) target)) e are)
+
+        -- one item more is left for it than for what it is another name of
+        counts : count id.0 < count (rank (wit.Id id))
+        counts = let same : id.0 + 1 ≡ suc id.0 = omega arith in subst (λ n. count id.0 < count n) (sym same) definition.counted
+
+        printed-path : (k : TypeDefKind) → entry.kind ≡ k → part_type types (wit.Id id) ≡ path
+        unfolding path
+        printed-path k e = here k (Some name) e named
+
+        named-alias : (ty : WitType) → entry.kind ≡ kind.Alias ty → Ends (wit.Id id)
+        named-alias ty e =
+            let target = alias-ends ty e in
+            let lower = grows (rank ty) id.0 (alias_rank types down id.0 entry at ty e) in
+            record {
+              last = target.last;
+              reached = λ more enough.
+                  ap (behind more items) (printed-path (kind.Alias ty) e)
+                  ∙ steps items more path (part_type types ty) target.last (alias-target (kind.Alias ty) (part_type types ty) e refl) (omega (arith, counts, enough)) (λ later le. target.reached later (omega (arith, lower, counts, enough, le)));
+              is = subst (λ t. IsEnd t target.last) (sym (alias_shape types down id.0 entry at ty e)) target.is;
+            }
+
+        named-tuple : (tys : List WitType) → entry.kind ≡ kind.Tuple tys → Ends (wit.Id id)
+        named-tuple tys e = record {
+          last = type.Tuple (map (part_type types) tys);
+          reached = λ more enough.
+              ap (behind more items) (printed-path (kind.Tuple tys) e)
+              ∙ steps items more path (type.Tuple (map (part_type types) tys)) (type.Tuple (map (part_type types) tys)) (alias-target (kind.Tuple tys) (type.Tuple (map (part_type types) tys)) e refl) (omega (arith, counts, enough))
+              (λ later le. stays items later (type.Tuple (map (part_type types) tys)) (tuple-ends items (map (part_type types) tys)));
+          is = tuple-end tys e;
+        }
+
+        field-types : (members : List Field) → map (λ f. f.ty) (map (field_item types) members) ≡ map (part_type types) (map (λ f. f.ty) members)
+        field-types [] = refl
+        field-types (f ∷ members) = ap (λ tys. part_type types f.ty ∷ tys) (field-types members)
+
+        named-record : (members : List Field) → entry.kind ≡ kind.Record members → Ends (wit.Id id)
+        unfolding parts
+        named-record members e =
+            let struct : StructItem = record_item types definition.info entry.docs (type_ident name) members in
+            let is : definition_in items (out-TypeExpr path) ≡ Some (Struct struct) = item-is (kind.Record members) (Struct struct) e refl in
+            let printed_fields : ArePrintedAs items (field_shapes types members) (map (part_type types) (map (λ f. f.ty) members)) =
+            all-printed most (map (λ f. f.ty) members) (λ nth ty there. part-ends nth ty (ap (λ k. slice_get (parts k) nth) e ∙ mapped-fields members nth ty there)) in
+            let end : IsEnd (fields (field_shapes types members)) path = (struct, is, subst (ArePrintedAs items (field_shapes types members)) (sym (field-types members)) printed_fields) in
+            record {
+              last = path;
+              reached = λ more enough. ap (behind more items) (printed-path (kind.Record members) e) ∙ stays items more path (ap target_in is);
+              is = subst (λ t. IsEnd t path) (sym (record_shape types down id.0 entry at members e)) end;
+            }
+
+      -- by its kind, with a name or without
+      entry-ends : Ends (wit.Id id)
+      entry-ends = go entry.kind entry.name refl refl (all_at (λ (t : TypeDef). is_defined_kind t.kind) types id.0 entry kinds at)
+        where
+          go : (k : TypeDefKind) (n : Option Name) → entry.kind ≡ k → entry.name ≡ n → is_defined_kind entry.kind ≡ true → Ends (wit.Id id)
+          go (kind.Alias ty) None e named h = unnamed-alias ty e named
+          go (kind.Tuple tys) None e named h = unnamed-tuple tys e named
+          go (kind.Record members) None e named h = absurd (unnamed-record members e named)
+          go (kind.Alias ty) (Some name) e named h = named-alias name named ty e
+          go (kind.Tuple tys) (Some name) e named h = named-tuple name named tys e
+          go (kind.Record members) (Some name) e named h = named-record name named members e
+          go k n e named h = let wrong : is_defined_kind k ≡ true = sym (ap is_defined_kind e) ∙ h in absurd (cc)
+
+    -- 4. Every type of the table
+
+    -- up the table
+    ends-below : (n : ℕ) (ty : WitType) → n ≤ length types → type_below n ty ≡ true → is_defined_type ty ≡ true → AreReachedDefined ty → Ends ty
+    unfolding part_type
+    ends-below n wit.Bool within below h all = primitive wit.Bool prim.Bool refl refl
+    ends-below n wit.U8 within below h all = primitive wit.U8 prim.U8 refl refl
+    ends-below n wit.U16 within below h all = primitive wit.U16 prim.U16 refl refl
+    ends-below n wit.U32 within below h all = primitive wit.U32 prim.U32 refl refl
+    ends-below n wit.U64 within below h all = primitive wit.U64 prim.U64 refl refl
+    ends-below n wit.S8 within below h all = primitive wit.S8 prim.I8 refl refl
+    ends-below n wit.S16 within below h all = primitive wit.S16 prim.I16 refl refl
+    ends-below n wit.S32 within below h all = primitive wit.S32 prim.I32 refl refl
+    ends-below n wit.S64 within below h all = primitive wit.S64 prim.I64 refl refl
+    ends-below n wit.F32 within below h all = primitive wit.F32 prim.F32 refl refl
+    ends-below n wit.F64 within below h all = primitive wit.F64 prim.F64 refl refl
+    ends-below n wit.Char within below h all = primitive wit.Char prim.Char refl refl
+    ends-below n wit.String within below h all = string
+    ends-below n wit.ErrorContext within below h all = absurd (cc)
+    ends-below zero (wit.Id id) within below h all = let no : id.0 < 0 = id_below 0 id below in absurd (omega arith)
+    ends-below (suc n) (wit.Id id) within below h all =
+        let low = id_below (suc n) id below in
+        let there = present types id.0 (omega arith) in
+        entry-ends id there.0 there.1 all (λ ty part defined parts. ends-below n ty (omega arith) (below-more id.0 n ty (omega arith) part) defined parts)
+
+    pub type-printed : (ty : WitType) → type_below (length types) ty ≡ true → is_defined_type ty ≡ true → AreReachedDefined ty → IsPrintedAs items (shape_of types ty) (part_type types ty)
+    type-printed ty below h all = printed most ty (ends-below (length types) ty (omega arith) below h all)

@@ -1,0 +1,63 @@
+-- The sites of the records of a table, one after another, by the facts of their types.
+use Rattle.std.proofs.Common.{◌≡◌, ℕ, suc, ◌+◌, ◌<◌, ◌≤◌, Bool, true, false, cond, List, [], ◌∷◌, ◌++◌, length, drop, get_or, map, Option, None, Some, is_some, refl, sym, ap, append_assoc, append-nil, ◌∙◌, arith}
+use Rattle.std.specs.Prelude.{slice_get}
+use Rattle.std.specs.List.{enumerate_from}
+use Rattle.std.proofs.Math.Seq.{drop-cons}
+use Rattle.std.proofs.lemmas.List.{drop_all}
+use Rattle.std.proofs.lemmas.Option.{get_or_from_slice_get}
+use Rattle.wit_model.specs.declared.name.Name.{Name}
+use Rattle.wit_model.specs.declared.name.TypeId.{TypeId}
+use Rattle.wit_model.specs.declared.name.WorldId.{WorldId}
+use Rattle.wit_model.specs.declared.resolve.Resolve.{Resolve}
+use Rattle.wit_model.specs.declared.types.TypeDef.{TypeDef}
+use Rattle.wit_model.specs.declared.types.TypeDefKind.{TypeDefKind}
+use Rattle.wit_model.specs.declared.types.TypeDefKind.TheVariants as kind
+use Rattle.wit_model.specs.declared.world.World.{World}
+use Rattle.type_facts.specs.declared.info.TypeInfo.{TypeInfo}
+use Rattle.type_facts.specs.Facts.{IsInfoOf}
+use Rattle.type_defs.specs.declared.type_opts.TypeOpts.{TypeOpts}
+use Rattle.type_defs.specs.DefinedNames.{AreDefinable}
+use Rattle.type_defs.specs.Modes.{is_used}
+use Rattle.type_defs.specs.Used.{uses}
+use Rattle.type_defs.proofs.UsedLemmas.{used_is}
+use Rattle.func_gen.specs.declared.record_site.RecordSite.{RecordSite}
+use Rattle.type_sites.specs.Sites.{record_sites, site_at, site_by, site_of}
+
+pub unnamed-site : (k : TypeDefKind) → site_by k None ≡ None
+unnamed-site (kind.Record fields) = refl
+unnamed-site _ = refl
+
+none-either : (a b : Bool) → cond a None (let o : Option RecordSite = None in o) ≡ cond b None None
+none-either true true = refl
+none-either true false = refl
+none-either false true = refl
+none-either false false = refl
+
+-- by the facts of a type, as by the functions
+pub site-told : (opts : TypeOpts) (r : Resolve) (w : WorldId) (world : World) (id : TypeId) (entry : TypeDef) (info : TypeInfo) → AreDefinable opts r w world → slice_get r.types id.0 ≡ Some entry → IsInfoOf r w id info
+    → cond (is_used info) (site_of entry) None ≡ site_at r world (id.0, entry)
+site-told opts r w world id entry info d at facts = go entry.name refl
+  where
+    go : (n : Option Name) → entry.name ≡ n → cond (is_used info) (site_of entry) None ≡ site_at r world (id.0, entry)
+    go None named =
+        let unnamed : site_of entry ≡ None = ap (site_by entry.kind) named ∙ unnamed-site entry.kind in
+        ap (λ s. cond (is_used info) s None) unnamed ∙ none-either (is_used info) (uses r world id.0) ∙ sym (ap (λ s. cond (uses r world id.0) s None) unnamed)
+    go (Some name) named = ap (λ b. cond b (site_of entry) None) (used_is r w world id info d.shallow d.found (record { entry = entry; entry_at = at; named = ap (λ n. is_some n) named }) facts)
+
+-- with one more
+pub sites-more : (r : Resolve) (world : World) (records after : List (Option RecordSite)) (n : ℕ) (entry : TypeDef) (site : Option RecordSite) → n < length r.types → slice_get r.types n ≡ Some entry
+    → site ≡ site_at r world (n, entry) → after ≡ records ++ site ∷ [] → records ++ map (site_at r world) (enumerate_from n (drop n r.types)) ≡ map (site_at r world) (enumerate_from 0 r.types)
+    → after ++ map (site_at r world) (enumerate_from (n + 1) (drop (n + 1) r.types)) ≡ map (site_at r world) (enumerate_from 0 r.types)
+sites-more r world records after n entry site within at is more before =
+    let here : get_or r.types n entry ≡ entry = get_or_from_slice_get r.types n entry entry at in
+    let next : suc n ≡ n + 1 = omega arith in
+    let all : drop n r.types ≡ entry ∷ drop (n + 1) r.types = drop-cons r.types n entry within ∙ ap (λ t. t ∷ drop (suc n) r.types) here ∙ ap (λ m. entry ∷ drop m r.types) next in
+    ap (λ rs. rs ++ map (site_at r world) (enumerate_from (n + 1) (drop (n + 1) r.types))) (more ∙ ap (λ s. records ++ s ∷ []) is)
+    ∙ append_assoc records (site_at r world (n, entry) ∷ []) (map (site_at r world) (enumerate_from (n + 1) (drop (n + 1) r.types)))
+    ∙ sym (ap (λ ts. records ++ map (site_at r world) (enumerate_from n ts)) all) ∙ before
+
+pub sites-done : (r : Resolve) (world : World) (records : List (Option RecordSite)) (n : ℕ) → length r.types ≤ n
+    → records ++ map (site_at r world) (enumerate_from n (drop n r.types)) ≡ map (site_at r world) (enumerate_from 0 r.types) → records ≡ record_sites r world
+unfolding record_sites
+sites-done r world records n past before =
+    sym (append-nil records) ∙ sym (ap (λ ts. records ++ map (site_at r world) (enumerate_from n ts)) (drop_all n r.types past)) ∙ before

@@ -1,0 +1,3 @@
+pub mod PrintedLaws
+pub mod RecordLaws
+pub mod Sites
