@@ -1,5 +1,6 @@
 #!/usr/bin/env python3
-"""Measures the program on documents of 1,000, 2,000, 4,000 and 8,000 functions or records, and of up to 20,000 aliases.
+"""Measures the program on documents of 1,000, 2,000, 4,000 and 8,000 functions or records, of up to 2,000 functions over
+records of 20 fields, and of up to 20,000 aliases.
 
     python3 bench/measure.py [path of the built program]
 
@@ -20,6 +21,7 @@ import tempfile
 import time
 
 COUNTS = [1000, 2000, 4000, 8000]
+PASSED = [250, 500, 1000, 2000]
 CHAINS = [2500, 5000, 10000, 20000]
 RUNS = 5
 HERE = os.path.dirname(os.path.abspath(__file__))
@@ -49,8 +51,8 @@ def function(i):
     }
 
 
-def document(imports, types, world, options=None):
-    the_world = {"name": name("w"), "package": 0, "imports": imports, "exports": []}
+def document(imports, types, world, options=None, exports=()):
+    the_world = {"name": name("w"), "package": 0, "imports": imports, "exports": list(exports)}
     package = {"namespace": name("t"), "name": name("p"), "module": "p"}
     resolve = {"worlds": [the_world], "packages": [package], "interfaces": [], "types": types}
     whole = {"resolve": resolve, "world": world, "options": options or {}}
@@ -71,8 +73,8 @@ def chain(count, world):
     return document([], aliases + [unnamed({"map": [count - 1, "u8"]})] * count, world)
 
 
-def record(i):
-    fields = [{"name": name(f"part-{k}"), "ty": ["u8", "u32", "u64", "string"][(i + k) % 4]} for k in range(4)]
+def record(i, count=4):
+    fields = [{"name": name(f"part-{k}"), "ty": ["u8", "u32", "u64", "string"][(i + k) % 4]} for k in range(count)]
     return {"name": name(f"data-{i}"), "owner": {"world": 0}, "kind": {"record": fields}}
 
 
@@ -80,6 +82,18 @@ def records(count, world):
     """A world of so many records, which are defined though no function reaches them."""
     options = {"generate-unused-types": True}
     return document([{"type": i} for i in range(count)], [record(i) for i in range(count)], world, options)
+
+
+def passing(i):
+    """A function that takes a record of its own, and gives it."""
+    params = [{"name": name("value"), "ty": i}]
+    return {"function": {"name": name(f"pass-{i}"), "kind": "freestanding", "params": params, "result": i}}
+
+
+def passed_records(count, world):
+    """A world of so many functions over records of 20 fields, half of them imported and half exported."""
+    imports = [{"type": i} for i in range(count)] + [passing(i) for i in range(0, count, 2)]
+    return document(imports, [record(i, 20) for i in range(count)], world, exports=[passing(i) for i in range(1, count, 2)])
 
 
 def run(command, source, target):
@@ -155,6 +169,7 @@ def main():
             seconds, _ = best(["jq", "-c", "."], source, target, 0)
             print(f"jq -c . on the largest: {seconds * 1000:.0f} ms; the program takes {taken / seconds:.2f} of that")
         measure(program, folder, "records", records, COUNTS, 0)
+        measure(program, folder, "functions over records of 20 fields", passed_records, PASSED, 0)
         measure(program, folder, "aliases and as many maps", chain, CHAINS, 10)
 
 
