@@ -25,6 +25,7 @@ SAMPLES = os.path.join(HERE, "samples")
 WORLDS = {
     "numbers": None,
     "texts": "greeter",
+    "people": "people",
     "shapes": "t:shapes/drawing",
     "versions": "my:tool/tool",
     "inline": "window",
