@@ -31,7 +31,7 @@ use Rattle.abi_driver.specs.Touches.{reached}
 use Rattle.abi_driver.proofs.AreaHeaps.{contains_last, replaced_items}
 use Rattle.abi_driver.proofs.Done.{is_it, is_there, same_is, without_one}
 use Rattle.abi_driver.proofs.Replaced.{replaced_formed}
-use Rattle.abi_driver.proofs.Runs.{total-append}
+use Rattle.wrapper_meaning.proofs.PostReturn.{total-append}
 
 -- 1. Where the area was placed
 
@@ -84,7 +84,7 @@ releases_some (a ∷ places) taken rest h =
     let later = releases_some places (without a taken) rest (λ g. omega (arith, h g, without_one g a taken here)) in
     (later.0, (here, later.1), later.2)
 
-only_one : (left : List ℕ) (a : ℕ) → SameItems left (a ∷ []) → left ≡ a ∷ []
+pub only_one : (left : List ℕ) (a : ℕ) → SameItems left (a ∷ []) → left ≡ a ∷ []
 only_one [] a h = absurd (omega (arith, h (λ x. 1)))
 only_one (x ∷ []) a h = by (nat_eq x a) refl
   where

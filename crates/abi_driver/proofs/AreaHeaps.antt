@@ -17,7 +17,7 @@ use Rattle.abi_driver.specs.Places.{replaced}
 use Rattle.abi_driver.proofs.Done.{is_it}
 use Rattle.abi_driver.proofs.HonestAnswers.{free_once}
 use Rattle.abi_driver.proofs.Replaced.{byte_there, replaced_others, replaced_same, replaced_there, replaced_twice, split, there_again}
-use Rattle.abi_driver.proofs.Runs.{total-append}
+use Rattle.wrapper_meaning.proofs.PostReturn.{total-append}
 
 -- 1. One block among others
 
@@ -77,7 +77,7 @@ writes_inside (write ∷ writes) blocks b good there h =
 
 -- 3. Blocks that a peer brings
 
-address_weighs : (a : ℕ) (blocks : List Block) → total (is_it a) (addresses blocks) ≡ total (at_address a) blocks
+pub address_weighs : (a : ℕ) (blocks : List Block) → total (is_it a) (addresses blocks) ≡ total (at_address a) blocks
 address_weighs a [] = refl
 address_weighs a (b ∷ blocks) = ap (λ n. at_address a b + n) (address_weighs a blocks)
 
@@ -119,7 +119,7 @@ still_all blocks after (c ∷ own) h k = (replaced_others blocks after c h.0 k.0
 weighs_itself : (a : ℕ) (c : Block) (own : List Block) → c.address ≡ a → total (at_address a) (c ∷ own) ≡ 1 + total (at_address a) own
 weighs_itself a c own e = ap (λ b. (if b then 1 else 0) + total (at_address a) own) (eq-eqb c.address a e)
 
-none_at_address : (a : ℕ) (own : List Block) → total (at_address a) own ≡ 0 → AllByRecursion (λ c. c.address ≡ a → ⊥) own
+pub none_at_address : (a : ℕ) (own : List Block) → total (at_address a) own ≡ 0 → AllByRecursion (λ c. c.address ≡ a → ⊥) own
 none_at_address a [] h = tt
 none_at_address a (c ∷ own) h = (λ e. let one = weighs_itself a c own e in omega (arith, h, one), none_at_address a own (omega (arith, h)))
 

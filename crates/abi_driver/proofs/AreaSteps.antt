@@ -18,7 +18,6 @@ use Rattle.wrapper_meaning.specs.Represents.{LendsRecord, are_indirect, is_indir
 use Rattle.wrapper_meaning.specs.Shape.{Shape, Shapes}
 use Rattle.wrapper_meaning.specs.Shape.Shape.{fields}
 use Rattle.wrapper_meaning.specs.Value.{Parts}
-use Rattle.wrapper_meaning.proofs.PartPlaces.{parts_end}
 use Rattle.abi_driver.specs.declared.bindgen.Asked.{Asked}
 use Rattle.abi_driver.specs.Account.{Account, Done, Got, Peer, releasing}
 use Rattle.abi_driver.specs.Area.{AreFor, AreaStands, HoldsRecord, NeedsArea, SameArea, newly, pointing}
@@ -34,7 +33,9 @@ use Rattle.abi_driver.proofs.Done.{does_done}
 use Rattle.abi_driver.proofs.LiftSteps.{follows_done}
 use Rattle.abi_driver.proofs.RecordPlaces.{align_at_width, at_width}
 use Rattle.abi_driver.proofs.Replaced.{replaced_formed}
-use Rattle.abi_driver.proofs.Runs.{grows_both, grows_same, quiet_both, total-append}
+use Rattle.abi_driver.proofs.Runs.{grows_both, grows_same, quiet_both}
+use Rattle.wrapper_meaning.proofs.PostReturn.{total-append}
+use Rattle.wit_layout.proofs.RecordSteps.{record_behind}
 
 abbrev no_words : List Word
 no_words = []
@@ -196,7 +197,7 @@ module _ {Self Operand : Type 0} (m : Meaning Self Operand) (sound : Sound m) wh
         formed = g.formed;
         there = there;
         starts = omega arith;
-        fits = omega (arith, fit, parts_end es);
+        fits = omega (arith, fit, record_behind es);
         aligned = subst (λ n. n % 2 ^ (greatest es).grain ≡ 0) (let start : q ≡ reached m q nowhere = omega arith in start) one.aligned;
       } in
       let places1 = subst (λ (z : Account m.Item). HavePlaces m.width ts 0 (reached m q nowhere) blk 0 z.heap) (sym one.account) places in

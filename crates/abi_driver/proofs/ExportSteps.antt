@@ -45,7 +45,8 @@ use Rattle.abi_driver.proofs.ImportSteps.{follows_calls, no_result_record}
 use Rattle.abi_driver.proofs.LiftSteps.{follows_done, stand_count}
 use Rattle.abi_driver.proofs.MethodCalls.{Came, after_answer, came_many, handing_calls, handing_done, live_owners}
 use Rattle.abi_driver.proofs.RecordPlaces.{align_at_width, at_width}
-use Rattle.abi_driver.proofs.Runs.{adds_both, adds_same, addresses_both, follows_then, grows_both, ofs_none, quiet_both, total-append}
+use Rattle.abi_driver.proofs.Runs.{adds_both, adds_same, addresses_both, follows_then, grows_both, ofs_none, quiet_both}
+use Rattle.wrapper_meaning.proofs.PostReturn.{total-append}
 
 -- 1. The call
 

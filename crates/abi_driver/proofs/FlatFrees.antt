@@ -25,9 +25,10 @@ use Rattle.abi_driver.specs.Memory.{freeing}
 use Rattle.abi_driver.proofs.Done.{does_done}
 use Rattle.abi_driver.proofs.Freeing.{freed_both, frees_text, may_after}
 use Rattle.abi_driver.proofs.LiftSteps.{lifted_type}
-use Rattle.abi_driver.proofs.Runs.{adds_both, adds_same, core_append, ofs_append, total-append}
+use Rattle.abi_driver.proofs.Runs.{adds_both, adds_same, core_append, ofs_append}
 use Rattle.abi_driver.proofs.SaysLength.{says_length}
 use Rattle.abi_driver.proofs.TakingOver.{may_first}
+use Rattle.wrapper_meaning.proofs.PostReturn.{total-append}
 
 pub drop_some : {A : Type 0} (xs : List A) (i : ℕ) → i < length xs → (x : A) × (drop i xs ≡ x ∷ drop (suc i) xs)
 drop_some [] i l = absurd (omega (arith, l))

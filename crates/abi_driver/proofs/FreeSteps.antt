@@ -13,7 +13,7 @@ use Rattle.wrapper_meaning.specs.Layout.{layout, layouts}
 use Rattle.wrapper_meaning.specs.Shape.{Shape, Shapes, shape_of}
 use Rattle.wrapper_meaning.specs.Shape.Shape.{fields, tuple}
 use Rattle.wrapper_meaning.specs.Shape.Shapes.{none, more}
-use Rattle.wrapper_meaning.proofs.PartPlaces.{aligned_part, end_behind, grain_of_first, grain_of_rest, less_grain, parts_end, place_aligned, place_behind}
+use Rattle.wrapper_meaning.proofs.PartPlaces.{aligned_part, grain_of_first, grain_of_rest, less_grain, place_aligned, place_behind}
 use Rattle.abi_driver.specs.Account.{Account}
 use Rattle.abi_driver.specs.Frees.{FreesInMemory, FreesParts, MayFree, by_freeing}
 use Rattle.abi_driver.specs.Instructions.{shapes_of}
@@ -22,8 +22,10 @@ use Rattle.abi_driver.specs.Meaning.{Meaning, of, word}
 use Rattle.abi_driver.specs.Places.{HasRoom, HavePlaces}
 use Rattle.abi_driver.specs.Touches.{reached}
 use Rattle.abi_driver.proofs.Freeing.{free_first, free_rest, freed_both, without_formed, without_there}
-use Rattle.abi_driver.proofs.Runs.{adds_both, adds_same, total-append}
+use Rattle.abi_driver.proofs.Runs.{adds_both, adds_same}
 use Rattle.abi_driver.proofs.StoreSteps.{behind_of}
+use Rattle.wrapper_meaning.proofs.PostReturn.{total-append}
+use Rattle.wit_layout.proofs.RecordSteps.{end_behind, record_behind}
 
 module _ {Self Operand : Type 0} (m : Meaning Self Operand) (types : List TypeDef) where
   -- what frees the parts from one on, frees all
@@ -108,7 +110,7 @@ module _ {Self Operand : Type 0} (m : Meaning Self Operand) (sound : Sound m) (t
     adds = parts.adds;
     row = λ v own listed w f others s0 s q k blk at room holds may.
         let es = extents_of m.width (layouts ts) in
-        parts.row v own listed w f others s0 s q k blk at (record { formed = room.formed; there = room.there; starts = room.starts; fits = omega (arith, room.fits, parts_end es); aligned = room.aligned }) holds may;
+        parts.row v own listed w f others s0 s q k blk at (record { formed = room.formed; there = room.there; starts = room.starts; fits = omega (arith, room.fits, record_behind es); aligned = room.aligned }) holds may;
   }
 
   pub tuple_free : (ts : Shapes) (a b : Self) (address : Operand) (offset : ArchitectureSize) → FreesParts m ts address offset 0 a b → FreesInMemory m (tuple ts) address offset a b
@@ -116,7 +118,7 @@ module _ {Self Operand : Type 0} (m : Meaning Self Operand) (sound : Sound m) (t
     adds = parts.adds;
     row = λ v own listed w f others s0 s q k blk at room holds may.
         let es = extents_of m.width (layouts ts) in
-        parts.row v own listed w f others s0 s q k blk at (record { formed = room.formed; there = room.there; starts = room.starts; fits = omega (arith, room.fits, parts_end es); aligned = room.aligned }) holds may;
+        parts.row v own listed w f others s0 s q k blk at (record { formed = room.formed; there = room.there; starts = room.starts; fits = omega (arith, room.fits, record_behind es); aligned = room.aligned }) holds may;
   }
 
   pub frees_as : (s t : Shape) (a b : Self) (address : Operand) (offset : ArchitectureSize) → s ≡ t → FreesInMemory m t address offset a b → FreesInMemory m s address offset a b

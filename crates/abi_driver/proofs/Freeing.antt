@@ -1,7 +1,7 @@
 -- Blocks of a well-formed heap that nobody owns are freed, and the others stay.
 use Rattle.std.proofs.Common.{◌≡◌, ℕ, zero, suc, ◌-◌, ◌*◌, ◌^◌, ◌<◌, Bool, true, false, not, ◌&&◌, ◌||◌, nat_eq, nat_lt, if◌then◌else◌, List, [], ◌∷◌, ◌++◌, length, find, Option, None, Contains, refl, sym, ap, ap₂, ◌∙◌, subst, arith}
 use Rattle.std.specs.List.{AllByRecursion, list_all, list_any, slice_index_or}
-use Rattle.std.proofs.lemmas.Bool.{and_parts, and_from, cond-false, eq-eqb, le-ltb, ne_eqb, or_parts, or_from, true≢false}
+use Rattle.std.proofs.lemmas.Bool.{and_parts, and_from, cond-false, eq-eqb, le-ltb, ne_eqb, or_parts, or_from, true≢false, not-true}
 use Rattle.std.proofs.lemmas.List.Folds.{list_any-append}
 use Rattle.wrapper_data.specs.Heap.{are_apart, is_block, is_heap, overlaps, overlaps_any}
 use Rattle.wrapper_data.specs.declared.block.Block.{Block}
@@ -36,15 +36,11 @@ except_any p q (x ∷ blocks) h = let both = or_parts (p x) (list_any p blocks) 
     by true here all rest = all
     by false here all rest = or_from _ _ here rest
 
-none_of : (t : Bool) → not t ≡ true → t ≡ false
-none_of true h = absurd (let e = h in cc)
-none_of false h = refl
-
 except_apart : (q : Block → Bool) (blocks : List Block) → are_apart blocks ≡ true → are_apart (except q blocks) ≡ true
 except_apart q [] h = refl
 except_apart q (x ∷ blocks) h =
     let both = and_parts (not (overlaps_any x blocks)) (are_apart blocks) h in
-    by (q x) both.1 (ap not (except_any (overlaps x) q blocks (none_of (overlaps_any x blocks) both.0))) (except_apart q blocks both.1)
+    by (q x) both.1 (ap not (except_any (overlaps x) q blocks (not-true (overlaps_any x blocks) both.0))) (except_apart q blocks both.1)
   where
     by : (t : Bool) → are_apart blocks ≡ true → not (overlaps_any x (except q blocks)) ≡ true → are_apart (except q blocks) ≡ true → are_apart (if t then blocks else x ∷ except q blocks) ≡ true
     by true all away rest = all
@@ -107,7 +103,7 @@ free_fewer (b ∷ blocks) more less fewer free =
     list_any-append (λ t. nat_eq t a) less last ∙ or_from _ _ (fewer a both.0) both.1 in
     (fewer b.address free.0, free_fewer blocks (more ++ last) (less ++ last) still free.1)
 
-last_taken : (a : ℕ) (taken : List ℕ) → is_taken a (taken ++ a ∷ []) ≡ true
+pub last_taken : (a : ℕ) (taken : List ℕ) → is_taken a (taken ++ a ∷ []) ≡ true
 last_taken a [] = ap (λ t. t || false) (eq-eqb a a refl)
 last_taken a (t ∷ taken) = by (nat_eq t a) (last_taken a taken)
   where

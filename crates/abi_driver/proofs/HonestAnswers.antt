@@ -21,8 +21,8 @@ use Rattle.abi_driver.specs.Account.{Account, Call, Reply, have_types, is_taken}
 use Rattle.abi_driver.specs.Imports.{IsHonest, point_of}
 use Rattle.abi_driver.specs.Lifts.{AreFree, MayTake}
 use Rattle.abi_driver.proofs.Done.{is_it, same_is}
-use Rattle.abi_driver.proofs.Runs.{total-append}
 use Rattle.abi_driver.proofs.SaysTypes.{says_typed}
+use Rattle.wrapper_meaning.proofs.PostReturn.{total-append}
 
 -- 1. The words
 

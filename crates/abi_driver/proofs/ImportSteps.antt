@@ -52,9 +52,10 @@ use Rattle.abi_driver.proofs.AreaHeaps.{IsInside, contains_last, may_take_answer
 use Rattle.abi_driver.proofs.AreaSteps.{Names, ResultPointed, needs_for_parameters, needs_for_result, points_grows, result_pointed}
 use Rattle.abi_driver.proofs.Done.{does_done}
 use Rattle.abi_driver.proofs.HonestAnswers.{AnswerSays, answer_typed, in_words}
-use Rattle.abi_driver.proofs.Runs.{adds_both, adds_same, addresses_both, core_append, ofs_append, ofs_none, total-append}
-use Rattle.abi_driver.proofs.SaysTypes.{parts_typed}
+use Rattle.abi_driver.proofs.Runs.{adds_both, adds_same, addresses_both, core_append, ofs_append, ofs_none}
+use Rattle.abi_driver.proofs.SaysTypes.{parts_typed, types_both}
 use Rattle.abi_driver.proofs.TakingOver.{took_none}
+use Rattle.wrapper_meaning.proofs.PostReturn.{total-append}
 
 abbrev no_words : List Word
 no_words = []
@@ -115,14 +116,6 @@ pointer_told types f s is = is.pointed ∙ sym (ap needs_pointer (signature_is_b
 
 -- 3. The words of the call
 
-have_types_both : (xs ys : List WasmType) (ws zs : List Word) → have_types xs ws ≡ true → have_types ys zs ≡ true → have_types (xs ++ ys) (ws ++ zs) ≡ true
-have_types_both [] ys [] zs h k = k
-have_types_both [] ys (x ∷ ws) zs h k = absurd (let g = h in cc)
-have_types_both (ty ∷ xs) ys [] zs h k = absurd (let g = h in cc)
-have_types_both (ty ∷ xs) ys (x ∷ ws) zs h k =
-    let both = and_parts (has_type ty x) (have_types xs ws) h in
-    and_from (has_type ty x) (have_types (xs ++ ys) (ws ++ zs)) both.0 (have_types_both xs ys ws zs both.1 k)
-
 -- words that lend arguments have the types of the arguments' words
 lent_typed : (w : ℕ) (given written : List Block) (ts : Shapes) (vs : Parts ts) (ws : List Word) → AreListed ts vs → LendsArguments w given written ts vs ws → have_types (argument_types ts) ws ≡ true
 lent_typed w given written ts vs ws listed h = by (are_indirect ts) h
@@ -146,7 +139,7 @@ pointer_names m r given written ps h = by (is_indirect r) h
     by false h = h
 
 -- written blocks stand where they were
-same_addresses : (one two : List Block) → SameArea one two → addresses two ≡ addresses one
+pub same_addresses : (one two : List Block) → SameArea one two → addresses two ≡ addresses one
 same_addresses [] [] h = refl
 same_addresses [] (c ∷ two) h = absurd h
 same_addresses (b ∷ one) [] h = absurd h
@@ -401,7 +394,7 @@ module _ {Self Operand : Type 0} (m : Meaning Self Operand) (sound : Sound m) wh
       typed : have_types (import_params types fn.now) ws ≡ true
       typed =
           ap (λ tys. have_types tys ws) (import_words types fn.now).0
-          ∙ have_types_both (argument_types ts) (pointer_types r) lent.ws pointed_at.ps (lent_typed m.width gave lent.written ts vs lent.ws is.values.listed lent.lends) (pointer_typed m r gave lent.written pointed_at.ps pointed_at.names)
+          ∙ types_both (argument_types ts) (pointer_types r) lent.ws pointed_at.ps (lent_typed m.width gave lent.written ts vs lent.ws is.values.listed lent.lends) (pointer_typed m r gave lent.written pointed_at.ps pointed_at.names)
 
       abbrev call : Call m.Item
       call = call_point (m.target c fn.now) ws (m.account pointed_at.state)

@@ -20,7 +20,8 @@ use Rattle.abi_driver.specs.Lifts.{MayTake}
 use Rattle.abi_driver.specs.Meaning.{Meaning, of, word}
 use Rattle.abi_driver.proofs.LeafLoads.{text_words}
 use Rattle.abi_driver.proofs.LiftSteps.{lifted_type}
-use Rattle.abi_driver.proofs.Runs.{adds_both, adds_same, total-append}
+use Rattle.abi_driver.proofs.Runs.{adds_both, adds_same}
+use Rattle.wrapper_meaning.proofs.PostReturn.{total-append}
 
 module _ {Self Operand : Type 0} (m : Meaning Self Operand) (sound : Sound m) (types : List TypeDef) where
   scalar_at : (s : Scalar) (a : Self) (address : Operand) (offset : ArchitectureSize) → FreesInMemory m (scalar s) address offset a a

@@ -38,9 +38,10 @@ use Rattle.abi_driver.specs.Touches.{LoadsWord, Part, accessed, loads, low_byte,
 use Rattle.abi_driver.proofs.Done.{does_done}
 use Rattle.abi_driver.proofs.LeafStores.{at_least, itself}
 use Rattle.abi_driver.proofs.Ordinary.{adds_of, touches_ordinary}
-use Rattle.abi_driver.proofs.Runs.{adds_both, total-append}
+use Rattle.abi_driver.proofs.Runs.{adds_both}
 use Rattle.abi_driver.proofs.ScalarsInMemory.{load_access, load_grain, loaded_scalar, scalar_alignment, scalar_size, store_access}
 use Rattle.abi_driver.proofs.Storing.{loads_from}
+use Rattle.wrapper_meaning.proofs.PostReturn.{total-append}
 
 -- 1. Which load a scalar's is
 

@@ -37,10 +37,11 @@ use Rattle.abi_driver.proofs.Done.{does_done, lets_go}
 use Rattle.abi_driver.proofs.LowerSteps.{scalar_type}
 use Rattle.abi_driver.proofs.Replaced.{replaced_formed, replaced_twice}
 use Rattle.abi_driver.proofs.Ordinary.{adds_of, touches_ordinary}
-use Rattle.abi_driver.proofs.Runs.{adds_both, total-append}
+use Rattle.abi_driver.proofs.Runs.{adds_both}
 use Rattle.abi_driver.proofs.ScalarsInMemory.{scalar_alignment, scalar_size, store_access, stored_ranged, stored_scalar, stored_type}
 use Rattle.abi_driver.proofs.StoreSteps.{word_again}
 use Rattle.abi_driver.proofs.Storing.{stores_in, written_both}
+use Rattle.wrapper_meaning.proofs.PostReturn.{total-append}
 
 -- 1. Which store a scalar's is
 

@@ -32,9 +32,10 @@ use Rattle.abi_driver.specs.Lifts.{LiftsAll, LiftsFlat, MayTake, OneStands, Take
 use Rattle.abi_driver.specs.Meaning.{Meaning, item, of, word}
 use Rattle.abi_driver.specs.Parts.{LiftsParts, PartsStand, count}
 use Rattle.abi_driver.proofs.Ordinary.{adds_of, lifts_ordinary}
-use Rattle.abi_driver.proofs.Runs.{adds_both, adds_same, addresses_both, core_append, ofs_append, total-append}
+use Rattle.abi_driver.proofs.Runs.{adds_both, adds_same, addresses_both, core_append, ofs_append}
 use Rattle.abi_driver.proofs.SaysLength.{says_length}
 use Rattle.abi_driver.proofs.TakingOver.{may_first, may_rest, reads, taking_text, took_both, took_none}
+use Rattle.wrapper_meaning.proofs.PostReturn.{total-append}
 
 -- what follows an action that is done
 pub follows_done : {V A S : Type 0} (account : S → Account V) (o : Outcome V A) (q : Outcome V S) (P : A → S → Type 0) (x : A) → o ≡ Done x → Follows account o q P → (t : S) × (q ≡ Done t) × P x t

@@ -25,8 +25,9 @@ use Rattle.abi_driver.specs.Meaning.{Meaning}
 use Rattle.abi_driver.specs.Parts.{PartsStand}
 use Rattle.abi_driver.proofs.LiftSteps.{none_lifts, takes_both}
 use Rattle.abi_driver.proofs.ReadSteps.{args_both}
-use Rattle.abi_driver.proofs.Runs.{adds_both, adds_same, total-append}
+use Rattle.abi_driver.proofs.Runs.{adds_both, adds_same}
 use Rattle.abi_driver.proofs.SaysLength.{says_length}
+use Rattle.wrapper_meaning.proofs.PostReturn.{total-append}
 
 -- what lifts the arguments from one on, with what was lifted before it, lifts all
 abbrev pub Rest : {Self Operand : Type 0} (m : Meaning Self Operand) → List TypeDef → List WitType → (i first : ℕ) → List Operand → (a b : Self) → Type 0

@@ -21,7 +21,7 @@ use Rattle.wrapper_meaning.specs.Shape.{Shape, Shapes, shape_of}
 use Rattle.wrapper_meaning.specs.Shape.Shape.{fields, tuple}
 use Rattle.wrapper_meaning.specs.Shape.Shapes.{none, more}
 use Rattle.wrapper_meaning.specs.Value.{Parts, Value}
-use Rattle.wrapper_meaning.proofs.PartPlaces.{aligned_part, end_behind, grain_of_first, grain_of_rest, less_grain, parts_end, place_aligned, place_behind}
+use Rattle.wrapper_meaning.proofs.PartPlaces.{aligned_part, grain_of_first, grain_of_rest, less_grain, place_aligned, place_behind}
 use Rattle.abi_driver.specs.declared.instruction.Instruction.TheVariants.{RecordLift, TupleLift}
 use Rattle.abi_driver.specs.Account.{Account, Peer, addresses}
 use Rattle.abi_driver.specs.Instructions.{Emits, IsRecord, field_shapes, shapes_of}
@@ -33,8 +33,10 @@ use Rattle.abi_driver.specs.Parts.{LiftsParts, count}
 use Rattle.abi_driver.specs.Places.{HasRoom, HavePlaces}
 use Rattle.abi_driver.specs.Touches.{reached}
 use Rattle.abi_driver.proofs.LiftSteps.{stand_count}
-use Rattle.abi_driver.proofs.Runs.{adds_both, adds_same, addresses_both, total-append}
+use Rattle.abi_driver.proofs.Runs.{adds_both, adds_same, addresses_both}
 use Rattle.abi_driver.proofs.TakingOver.{may_first, may_rest, took_both, took_none}
+use Rattle.wrapper_meaning.proofs.PostReturn.{total-append}
+use Rattle.wit_layout.proofs.RecordSteps.{end_behind, record_behind}
 
 module _ {Self Operand : Type 0} (m : Meaning Self Operand) (types : List TypeDef) where
   -- where the parts from one on begin
@@ -137,7 +139,7 @@ module _ {Self Operand : Type 0} (m : Meaning Self Operand) (sound : Sound m) (t
         formed = room.formed;
         there = room.there;
         starts = room.starts;
-        fits = omega (arith, room.fits, size, parts_end es);
+        fits = omega (arith, room.fits, size, record_behind es);
         aligned = subst (λ l. reached m q offset % alignment m.width l ≡ 0) same room.aligned;
       } in
       let at1 : At m w f a b (of address (word (core.Pointer q)) ∷ others) s0 s = record { serves = adds.grows.serves w at.serves; done = at.done; holds = at.holds } in

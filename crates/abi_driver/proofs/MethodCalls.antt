@@ -21,7 +21,8 @@ use Rattle.abi_driver.specs.Meaning.{Meaning}
 use Rattle.abi_driver.proofs.Done.{is_it, same_is}
 use Rattle.abi_driver.proofs.HonestAnswers.{not_taken}
 use Rattle.abi_driver.proofs.ImportSteps.{if_calls}
-use Rattle.abi_driver.proofs.Runs.{total-append}
+use Rattle.wrapper_meaning.proofs.PostReturn.{total-append}
+use Rattle.abi_driver.proofs.AreaHeaps.{address_weighs}
 
 -- where values are passed as they are, the call was made, whatever is answered
 
@@ -54,10 +55,6 @@ handing_done {V} owned x target vals due reply acc v heap back passes e h came l
 
 -- addresses of blocks that stand apart are live in their heap
 
-addressed : (a : ℕ) (own : List Block) → total (is_it a) (addresses own) ≡ total (at_address a) own
-addressed a [] = refl
-addressed a (b ∷ own) = ap (λ n. at_address a b + n) (addressed a own)
-
 begin_there : (a : ℕ) (blocks : List Block) → list_all is_block blocks ≡ true → 1 ≤ total (at_address a) blocks → is_some (find (begins_at a) blocks) ≡ true
 begin_there a [] good h = absurd (omega (arith, h))
 begin_there a (b ∷ blocks) good h = by (nat_eq b.address a) (begin_there a blocks (and_parts (is_block b) (list_all is_block blocks) good).1) h
@@ -79,7 +76,7 @@ live_places (a ∷ places) blocks good most one =
 pub live_owners : (places : List ℕ) (heap : Heap) (own others : List Block) → is_heap heap ≡ true → SameItems heap.blocks (own ++ others) → SameItems places (addresses own) → are_live places heap.blocks ≡ true
 live_owners places heap own others formed all same =
     let parts = and_parts (list_all is_block heap.blocks) (are_apart heap.blocks) formed in
-    live_places places heap.blocks parts.0 (λ a. omega (arith, same (is_it a), addressed a own, all (at_address a), total-append (at_address a) own others)) (λ a. at_most_one heap.blocks a parts.0 parts.1)
+    live_places places heap.blocks parts.0 (λ a. omega (arith, same (is_it a), address_weighs a own, all (at_address a), total-append (at_address a) own others)) (λ a. at_most_one heap.blocks a parts.0 parts.1)
 
 module _ {Self Operand : Type 0} (m : Meaning Self Operand) where
   -- what came in of an answer, which stands for the value with the same blocks

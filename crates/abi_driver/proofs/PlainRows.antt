@@ -59,12 +59,12 @@ use Rattle.abi_driver.proofs.Ordinary.{code_of, lifts_ordinary, lowers_ordinary,
 use Rattle.abi_driver.proofs.PlainPlaces.{places_count}
 use Rattle.abi_driver.proofs.PlainRuns.{plain_adds, plain_does}
 use Rattle.abi_driver.proofs.Records.{count-shapes, one_record}
-use Rattle.abi_driver.proofs.Runs.{total-append}
+use Rattle.wrapper_meaning.proofs.PostReturn.{total-append}
 
 abbrev no_blocks : List ⊥
 no_blocks = []
 
-none_dropped : (n : ℕ) → no_blocks ≡ drop n no_blocks
+pub none_dropped : (n : ℕ) → no_blocks ≡ drop n no_blocks
 none_dropped zero = refl
 none_dropped (suc n) = refl
 
@@ -342,7 +342,7 @@ gathered_is : (vals : List PlainItem) → listed (gathered (item_data plain_mean
 gathered_is [] = refl
 gathered_is (a ∷ vals) = ap (λ xs. a ∷ xs) (gathered_is vals)
 
-field_count : (types : List TypeDef) (members : List Field) → count (field_shapes types members) ≡ length members
+pub field_count : (types : List TypeDef) (members : List Field) → count (field_shapes types members) ≡ length members
 field_count types members = count-shapes types (map (λ (f : Field). f.ty) members) ∙ length-map members (λ (f : Field). f.ty)
 
 -- 6. Rows

@@ -26,7 +26,6 @@ use Rattle.wrapper_meaning.specs.Shape.{Shapes}
 use Rattle.wrapper_meaning.specs.Shape.Shape.{fields}
 use Rattle.wrapper_meaning.specs.Value.{Parts}
 use Rattle.wrapper_meaning.proofs.Lists.{some_same}
-use Rattle.wrapper_meaning.proofs.PartPlaces.{parts_end}
 use Rattle.abi_driver.specs.Account.{Account, Done, Got, Outcome, Peer, addresses, failing, is_at, is_taken, stay}
 use Rattle.abi_driver.specs.Exports.{TakesArgumentsOver, TakesRecordOver, TookOver}
 use Rattle.abi_driver.specs.Frees.{nowhere}
@@ -38,12 +37,14 @@ use Rattle.abi_driver.specs.Parts.{PartsStand}
 use Rattle.abi_driver.specs.Places.{HavePlaces}
 use Rattle.abi_driver.specs.Touches.{reached}
 use Rattle.abi_driver.proofs.Done.{does_done}
-use Rattle.abi_driver.proofs.Freeing.{without_formed}
+use Rattle.abi_driver.proofs.Freeing.{without_formed, last_taken}
 use Rattle.abi_driver.proofs.LiftSteps.{stand_count}
 use Rattle.abi_driver.proofs.RecordPlaces.{at_width}
 use Rattle.abi_driver.proofs.Replaced.{IsSized, is_sized, split}
-use Rattle.abi_driver.proofs.Runs.{adds_both, total-append}
+use Rattle.abi_driver.proofs.Runs.{adds_both}
 use Rattle.abi_driver.proofs.Storing.{find_block}
+use Rattle.wrapper_meaning.proofs.PostReturn.{total-append}
+use Rattle.wit_layout.proofs.RecordSteps.{record_behind}
 
 -- 1. Blocks that nobody owns
 
@@ -70,9 +71,6 @@ not_among a (b ∷ own) taken here free =
     by : (t : Bool) → nat_eq b.address a ≡ t → t ≡ false
     by false e = refl
     by true e = absurd (true≢false (sym here ∙ ap (λ n. is_taken n taken) (sym (eqb-true b.address a e)) ∙ free.0))
-
-taken_itself : (a : ℕ) (taken : List ℕ) → is_taken a (taken ++ a ∷ []) ≡ true
-taken_itself a taken = taken_both a taken (a ∷ []) ∙ or_right (is_taken a taken) (is_taken a (a ∷ [])) (or_left (nat_eq a a) false (eq-eqb a a refl))
 
 -- 2. A block that is freed
 
@@ -187,7 +185,7 @@ module _ {Self Operand : Type 0} (m : Meaning Self Operand) (sound : Sound m) (t
             formed = may.formed;
             there = may.there.0;
             starts = omega arith;
-            fits = omega (arith, fit, parts_end es);
+            fits = omega (arith, fit, record_behind es);
             aligned = subst (λ n. n % 2 ^ (greatest es).grain ≡ 0) (let start : blk.address ≡ reached m blk.address nowhere = omega arith in start) begins.aligned;
           }
 
@@ -246,7 +244,7 @@ module _ {Self Operand : Type 0} (m : Meaning Self Operand) (sound : Sound m) (t
       free_then : is_taken blk.address ((m.account s).taken ++ addresses inner) ≡ false
       free_then =
           taken_both blk.address (m.account s).taken (addresses inner)
-          ∙ or_from (is_taken blk.address (m.account s).taken) (is_taken blk.address (addresses inner)) may.free.0 (not_among blk.address inner ((m.account s).taken ++ blk.address ∷ []) (taken_itself blk.address (m.account s).taken) may.free.1)
+          ∙ or_from (is_taken blk.address (m.account s).taken) (is_taken blk.address (addresses inner)) may.free.0 (not_among blk.address inner ((m.account s).taken ++ blk.address ∷ []) (last_taken blk.address (m.account s).taken) may.free.1)
 
       abbrev blocks_then : List Block
       blocks_then = except (is_at blk.address blk.size) (m.account s).heap.blocks

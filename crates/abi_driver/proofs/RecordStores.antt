@@ -20,8 +20,9 @@ use Rattle.abi_driver.specs.Meaning.{Meaning, arg, item, of, word}
 use Rattle.abi_driver.specs.Places.{HavePlaces}
 use Rattle.abi_driver.specs.Stores.{LowersToMemory, Releases, StoresArguments, StoresFrom, by_storing}
 use Rattle.abi_driver.specs.Touches.{reached}
-use Rattle.abi_driver.proofs.Runs.{adds_both, total-append}
+use Rattle.abi_driver.proofs.Runs.{adds_both}
 use Rattle.abi_driver.proofs.StoreSteps.{behind_of, more_stores, none_stores}
+use Rattle.wrapper_meaning.proofs.PostReturn.{total-append}
 
 module _ {Self Operand : Type 0} (m : Meaning Self Operand) (sound : Sound m) (types : List TypeDef) where
   -- the first argument is read before it is stored with the others

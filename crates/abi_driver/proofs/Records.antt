@@ -11,13 +11,14 @@ use Rattle.wit_model.specs.declared.types.TypeDefKind.TheVariants as kind
 use Rattle.wit_model.specs.declared.types.WitType.{WitType}
 use Rattle.wit_model.specs.Parts.{parts}
 use Rattle.wit_model.specs.TypeOrder.{GoesDown, payload_below, parts_below, type_below}
-use Rattle.wit_layout.proofs.FlattenSteps.{part_in_table, part_rank, payload_below_more, payload_rank_below, rank}
+use Rattle.wit_layout.proofs.FlattenSteps.{part_in_table, part_rank, payload_rank_below, rank}
 use Rattle.wrapper_meaning.specs.Shape.{payloads_in, shape_at, shape_by, shape_of, shapes}
 use Rattle.wrapper_meaning.specs.Shape.Shape.{fields, tuple}
 use Rattle.wrapper_meaning.proofs.ShapeIsByKind.{shape_is_by_kind}
 use Rattle.wrapper_meaning.proofs.Lists.{some_same}
 use Rattle.abi_driver.specs.Instructions.{IsRecord, field_shapes, shapes_of}
 use Rattle.abi_driver.specs.Parts.{count}
+use Rattle.wit_model.proofs.BelowLemmas.{payload_below_more}
 
 pub count-shapes : (types : List TypeDef) (tys : List WitType) → count (shapes_of types tys) ≡ length tys
 count-shapes types [] = refl

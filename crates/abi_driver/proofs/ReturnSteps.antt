@@ -12,7 +12,8 @@ use Rattle.abi_driver.specs.Laws.{Adds, At, Facts}
 use Rattle.abi_driver.specs.Meaning.{Meaning, arg, of, word}
 use Rattle.abi_driver.specs.Places.{HasRoom}
 use Rattle.abi_driver.specs.Touches.{reached}
-use Rattle.abi_driver.proofs.Runs.{adds_both, total-append}
+use Rattle.abi_driver.proofs.Runs.{adds_both}
+use Rattle.wrapper_meaning.proofs.PostReturn.{total-append}
 
 module _ {Self Operand : Type 0} (m : Meaning Self Operand) (types : List TypeDef) where
   pub argument_frees : (t : Shape) (a b c : Self) (o : Operand) → Emits m types (GetArg 0) [] (o ∷ []) a b → FreesInMemory m t o nowhere b c → FreesResult m (Some t) a c

@@ -7,10 +7,7 @@ use Rattle.abi_driver.specs.Account.{Account, Done, Follows, Got, Outcome, Stopp
 use Rattle.abi_driver.specs.Instructions.{IsSide}
 use Rattle.abi_driver.specs.Laws.{Adds, After, At, Data, Does, Facts, Grows, Quiet, Sound, Stays, core_data, ofs}
 use Rattle.abi_driver.specs.Meaning.{Meaning, of, word}
-
-pub total-append : {A : Type 0} (f : A → ℕ) (xs ys : List A) → total f (xs ++ ys) ≡ total f xs + total f ys
-total-append f [] ys = omega arith
-total-append f (x ∷ xs) ys = omega (arith, total-append f xs ys)
+use Rattle.wrapper_meaning.proofs.PostReturn.{total-append}
 
 -- 1. Outcomes
 

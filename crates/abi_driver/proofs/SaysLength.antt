@@ -15,11 +15,7 @@ use Rattle.wrapper_meaning.specs.Shape.Shape.{scalar, text, list, pairs, fixed, 
 use Rattle.wrapper_meaning.specs.Shape.Shapes.{none, more}
 use Rattle.wrapper_meaning.specs.Value.{Parts, Value}
 use Rattle.wrapper_meaning.specs.Words.{AreWords}
-
-words_length : (w : ℕ) (types : List WasmType) (ws : List Word) → AreWords w types ws → length ws ≡ length types
-words_length w [] ws h = ap length h
-words_length w (ty ∷ types) [] h = absurd h
-words_length w (ty ∷ types) (x ∷ ws) h = ap suc (words_length w types ws h.1)
+use Rattle.wrapper_meaning.proofs.WordsDetermined.{are_words-length}
 
 repeated_length : (n : ℕ) (cs : List WasmType) → length (repeated (suc n) cs) ≡ length cs + length (repeated n cs)
 unfolding repeated
@@ -46,8 +42,8 @@ module _ (w : ℕ) (dir : Direction) where
         each_length (Says w dir t) (IsListed t) (flatten_type (layout t)) (λ v ws own g h. says_length t v ws own g h) vs ws own g.1 h ∙ ap (λ k. length (repeated k (flatten_type (layout t)))) g.0
     says_length (fields ts) v ws own g h = parts_length ts v ws own g h
     says_length (tuple ts) v ws own g h = parts_length ts v ws own g h
-    says_length (cases ts) v ws own g h = ap length h.1 ∙ ap suc (words_length w (slots (layouts ts)) h.0 h.2)
-    says_length (flags n) v ws own g h = words_length w (words_of_flags n) ws h.0
+    says_length (cases ts) v ws own g h = ap length h.1 ∙ ap suc (are_words-length w (slots (layouts ts)) h.0 h.2)
+    says_length (flags n) v ws own g h = are_words-length w (words_of_flags n) ws h.0
     says_length (handle owns n) v ws own g h = ap length h.0
     says_length (resource n) v ws own g h = absurd h
     says_length other v ws own g h = absurd h

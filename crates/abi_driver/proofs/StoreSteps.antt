@@ -22,7 +22,7 @@ use Rattle.wrapper_meaning.specs.Shape.Shape.{fields, tuple}
 use Rattle.wrapper_meaning.specs.Shape.Shapes.{none, more}
 use Rattle.wrapper_meaning.specs.Value.{Parts, Value}
 use Rattle.wrapper_meaning.proofs.HoldsLocally.{holds_locally}
-use Rattle.wrapper_meaning.proofs.PartPlaces.{aligned_part, end_behind, grain_of_first, grain_of_rest, less_grain, parts_end, place_aligned, place_behind}
+use Rattle.wrapper_meaning.proofs.PartPlaces.{aligned_part, grain_of_first, grain_of_rest, less_grain, place_aligned, place_behind}
 use Rattle.abi_driver.specs.declared.instruction.Instruction.TheVariants.{RecordLower, TupleLower}
 use Rattle.abi_driver.specs.Account.{Account, Peer, addresses}
 use Rattle.abi_driver.specs.Instructions.{Emits, IsRecord, field_shapes, shapes_of}
@@ -34,10 +34,12 @@ use Rattle.abi_driver.specs.Places.{HasRoom, HavePlaces, replaced}
 use Rattle.abi_driver.specs.Stores.{LowersToMemory, Puts, Releases, StoresFrom, StoresParts}
 use Rattle.abi_driver.specs.Touches.{reached}
 use Rattle.abi_driver.proofs.Done.{releases_both}
-use Rattle.abi_driver.proofs.Runs.{adds_both, adds_same, addresses_both, total-append}
+use Rattle.abi_driver.proofs.Runs.{adds_both, adds_same, addresses_both}
 use Rattle.wrapper_meaning.specs.Items.{total}
 use Rattle.abi_driver.proofs.Replaced.{block_formed, replaced_formed, replaced_same, replaced_twice}
 use Rattle.abi_driver.proofs.Storing.{written_both, written_in}
+use Rattle.wrapper_meaning.proofs.PostReturn.{total-append}
+use Rattle.wit_layout.proofs.RecordSteps.{end_behind, record_behind}
 
 module _ {Self Operand : Type 0} (m : Meaning Self Operand) (types : List TypeDef) where
   -- where the parts from one on begin
@@ -186,7 +188,7 @@ module _ {Self Operand : Type 0} (m : Meaning Self Operand) (sound : Sound m) (t
         formed = room.formed;
         there = room.there;
         starts = room.starts;
-        fits = omega (arith, room.fits, size, parts_end es);
+        fits = omega (arith, room.fits, size, record_behind es);
         aligned = subst (λ l. reached m q offset % alignment m.width l ≡ 0) same room.aligned;
       } in
       let places1 = subst (λ (z : Account m.Item). HavePlaces m.width ts 0 (reached m q offset) blk k z.heap) (sym after1.account) places in
@@ -200,7 +202,7 @@ module _ {Self Operand : Type 0} (m : Meaning Self Operand) (sound : Sound m) (t
         all,
         two.2,
         record {
-          written = written_in blk all (k + 0) (end es 0 - 0) k (elem_size m.width (layout t)) put.written (omega arith) (omega (arith, size, parts_end es));
+          written = written_in blk all (k + 0) (end es 0 - 0) k (elem_size m.width (layout t)) put.written (omega arith) (omega (arith, size, record_behind es));
           holds = holds v (way realloc heap) all k own put.holds;
         },
         record {

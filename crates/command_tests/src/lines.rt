@@ -6,7 +6,7 @@ use std::alloc::Global;
 use std::process::Abort;
 use std::test::Fail;
 use wit_model::{OutOfMemory, Rule, Table, Text, TypeId};
-use wit_refusal::{Refusal, out_of_memory_line, write_fault_line};
+use wit_refusal::Refusal;
 
 fn shows(
     rt: &impl Abort,
@@ -47,12 +47,6 @@ fn causes_outside_the_generator(rt: HostRuntime) -> Result<(), Fail> {
     Ok(())
 }
 
-#[test]
-fn lines_that_take_no_memory(rt: HostRuntime) {
-    assert!(rt; write_fault_line() == "write fault\n");
-    assert!(rt; out_of_memory_line() == "out of memory\n");
-}
-
 fn invalid_option(alloc: Global) -> Result<GenError, OutOfMemory> {
     Ok(GenError::InvalidOption {
         field: Text::from_str(alloc, "with")?,
@@ -70,6 +64,10 @@ fn faulty_options(rt: HostRuntime) -> Result<(), Fail> {
     gen_shows(&rt, alloc, GenError::MissingWith(missing), 8, line)?;
     let unused = GenError::UnusedChainable(Text::from_str(alloc, "frob")?);
     gen_shows(&rt, alloc, unused, 14, "unused chaining entry: frob\n")?;
+    let unused = GenError::UnusedSelector(texts(alloc, &["a/b.c", "\""])?);
+    let line =
+        "unused selectors provided via `additional_type_attributes` / `additional_member_attributes`: [\"a/b.c\", \"\\\"\"]\n";
+    gen_shows(&rt, alloc, unused, 13, line)?;
     Ok(())
 }
 
@@ -125,32 +123,8 @@ fn keys_in_quotes(rt: HostRuntime) -> Result<(), Fail> {
     Ok(())
 }
 
-#[test]
-fn selectors_in_quotes(rt: HostRuntime) -> Result<(), Fail> {
-    let unused = GenError::UnusedSelector(texts(rt.alloc(), &["a/b.c", "\""])?);
-    let line =
-        "unused selectors provided via `additional_type_attributes` / `additional_member_attributes`: [\"a/b.c\", \"\\\"\"]\n";
-    gen_shows(&rt, rt.alloc(), unused, 13, line)?;
-    Ok(())
-}
-
-/// Each rule with its number, and each table with its word.
+/// The rules that no document of the examples breaks, each with its number, and two tables with their words.
 const INVALID: &[(Rule, Table, &str)] = &[
-    (
-        Rule::IndexRange,
-        Table::Type_,
-        "invalid world: rule 1 at type 20\n",
-    ),
-    (
-        Rule::TypeOrder,
-        Table::Type_,
-        "invalid world: rule 2 at type 20\n",
-    ),
-    (
-        Rule::Members,
-        Table::Type_,
-        "invalid world: rule 3 at type 20\n",
-    ),
     (
         Rule::MapKey,
         Table::Type_,
@@ -201,11 +175,6 @@ const INVALID: &[(Rule, Table, &str)] = &[
         Table::Package,
         "invalid world: rule 13 at package 20\n",
     ),
-    (
-        Rule::NameText,
-        Table::World,
-        "invalid world: rule 13 at world 20\n",
-    ),
 ];
 
 #[test]
@@ -255,7 +224,6 @@ const LACKS: &[(Lack, &str)] = &[
         Lack::OwningChain,
         "unsupported: owning chain at my:dep/a/t\n",
     ),
-    (Lack::Unbuilt, "unsupported: unbuilt at my:dep/a/t\n"),
 ];
 
 #[test]

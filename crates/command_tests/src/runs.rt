@@ -1,10 +1,10 @@
-//! What a run answers where an end fails, where the words are no command, and where the document is cut.
+//! What a run answers where an end fails, and where the words are no command.
 
 use crate::ends::{End, Left, SOUND, generate, runs};
 use std::test::Fail;
 
 /// The document of a world without items, of 299 bytes; its file has 68.
-pub(crate) const DOCUMENT: &str = concat!(
+const DOCUMENT: &str = concat!(
     r#"{"resolve":{"worlds":[{"name":{"wit":"w","snake":"w","camel":"W","upper":"W"},"package":0,"imports":[],"exports":[]}],"#,
     r#""packages":[{"namespace":{"wit":"t","snake":"t","camel":"T","upper":"T"},"#,
     r#""name":{"wit":"p","snake":"p","camel":"P","upper":"P"},"module":"p"}],"interfaces":[],"types":[]},"world":0}"#,
@@ -18,18 +18,6 @@ fn told(status: u8, fault: usize) -> Left {
         out: 0,
         fault,
     }
-}
-
-#[test]
-fn a_document_is_printed(rt: HostRuntime) -> Result<(), Fail> {
-    let left = generate(rt.alloc(), DOCUMENT.as_bytes(), SOUND, SOUND, SOUND)?;
-    assert!(rt;
-        left == Left {
-            out: 68,
-            ..told(0, 0)
-        }
-    );
-    Ok(())
 }
 
 #[test]
@@ -105,16 +93,6 @@ fn writes_that_fail(rt: HostRuntime) -> Result<(), Fail> {
                 ..told(15, 12)
             }
         );
-    }
-    Ok(())
-}
-
-#[test]
-fn a_document_that_is_cut_anywhere(rt: HostRuntime) -> Result<(), Fail> {
-    for end in 0..DOCUMENT.len() {
-        let cut = &DOCUMENT.as_bytes()[..end];
-        let left = generate(rt.alloc(), cut, SOUND, SOUND, SOUND)?;
-        assert!(rt; left == told(5, 24), "at {end}");
     }
     Ok(())
 }

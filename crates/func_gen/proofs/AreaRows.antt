@@ -34,7 +34,7 @@ use Rattle.wrapper_run.specs.Run.{eval, run_stmts}
 use Rattle.wrapper_run.proofs.GiveSteps.{eval-static}
 use Rattle.wrapper_run.proofs.QuietSteps.{quiet_static}
 use Rattle.wrapper_run.proofs.StepLemmas.{Quiet, quiet_or_stop}
-use Rattle.wrapper_run.proofs.TakeLemmas.{area_gives}
+use Rattle.wrapper_run.proofs.TakeLemmas.{area_gives, eval-return_pointer}
 use Rattle.abi_driver.specs.declared.bindgen.Asked.{Asked}
 use Rattle.abi_driver.specs.Account.{Done, Follows, Got, Outcome, Peer, Stopped, Stuck}
 use Rattle.abi_driver.specs.Area.{HoldsRecord, IsAlignment, newly, placed, pointing}
@@ -42,7 +42,7 @@ use Rattle.abi_driver.specs.Area as areas
 use Rattle.abi_driver.specs.Laws.{After, At, Facts, Grows, PointsTo, Quiet as QuietCode}
 use Rattle.abi_driver.specs.Meaning.{of, word}
 use Rattle.abi_driver.specs.PlainSound.{all_left, all_right}
-use Rattle.abi_driver.proofs.Runs.{follows_more, grows_both, quiet_both, stops_same, total-append}
+use Rattle.abi_driver.proofs.Runs.{follows_more, grows_both, quiet_both, stops_same}
 use Rattle.func_gen.specs.declared.function_bindgen.FunctionBindgen.{FunctionBindgen}
 use Rattle.func_gen.specs.Added.{Appends, Fresh}
 use Rattle.func_gen.specs.Area.{area_pointer, asking}
@@ -56,6 +56,7 @@ use Rattle.func_gen.proofs.Lasting.{owns_with, with_local}
 use Rattle.func_gen.proofs.Placed.{owned_placed}
 use Rattle.func_gen.proofs.Rows.{binds, bound, let_adds}
 use Rattle.func_gen.proofs.Steps.{ran, seen_done}
+use Rattle.wrapper_meaning.proofs.PostReturn.{total-append}
 
 -- 1. It is noted that the area was asked for
 
@@ -91,9 +92,6 @@ noted_grows a b aligned = record {
 }
 
 -- 2. The two pointers make no call
-
-eval-return_pointer : (w : Setting) (name : Bytes) → eval w (expr.ReturnPointer name) ≡ ask_local (stuck w) view_of.AreaAddress name
-eval-return_pointer w name = search (rules, the_lemmas)
 
 quiet_return_pointer : (w : Setting) (name : Bytes) → Quiet (eval w (expr.ReturnPointer name))
 unfolding ask_local

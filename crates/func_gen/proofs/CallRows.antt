@@ -43,7 +43,6 @@ use Rattle.abi_driver.specs.Calls.{CallsCore, answered_by, calling, call_point a
 use Rattle.abi_driver.specs.Instructions.{Emits}
 use Rattle.abi_driver.specs.Laws.{After, Facts, core_data, ofs}
 use Rattle.abi_driver.specs.Meaning.{Fact, of, word}
-use Rattle.abi_driver.proofs.Runs.{total-append}
 use Rattle.func_gen.specs.declared.function_bindgen.FunctionBindgen.{FunctionBindgen}
 use Rattle.func_gen.specs.declared.operand.ExprOperand.{ExprOperand}
 use Rattle.func_gen.specs.CallForms.{AddsCall, AddsStatement, FreshAll, exprs, import_of, local_path, import_name}
@@ -60,12 +59,14 @@ use Rattle.func_gen.specs.Scope.{Declares, declared_in, is_used, names_at}
 use Rattle.func_gen.specs.StandLemmas.{owned-unit}
 use Rattle.func_gen.specs.CodeOf.{calls_core}
 use Rattle.func_gen.specs.Added.{Appends}
-use Rattle.func_gen.proofs.CallWords.{same_test, types_length, words_are}
+use Rattle.func_gen.proofs.CallWords.{same_test, words_are}
 use Rattle.func_gen.proofs.Evaluated.{gives}
 use Rattle.func_gen.proofs.Lasting.{Beside, SameArea, add_plain, area_lasts, bound_under, denotes_on, lasts, owns_with, part, with_local}
 use Rattle.func_gen.proofs.Rows.{same_area}
 use Rattle.func_gen.proofs.Steps.{func_grows, ran}
 use Rattle.func_gen.proofs.Forming.{still_of, written}
+use Rattle.wrapper_meaning.proofs.PostReturn.{total-append}
+use Rattle.abi_driver.proofs.PlainCalls.{types_length}
 
 -- 1. What has an owner is there still, once the peer has answered
 

@@ -16,6 +16,7 @@ use Rattle.wrapper_values.specs.declared.state.Val.TheVariants as val
 use Rattle.wrapper_values.specs.Effect.{is_word_of}
 use Rattle.wrapper_run.specs.Run.{words_of}
 use Rattle.abi_driver.specs.Account.{has_type, have_types}
+use Rattle.wit_layout.proofs.SignatureSteps.{direct_short}
 
 -- 1. Words of core types
 
@@ -29,12 +30,6 @@ same_test wasm.Length (core.Length z) = refl
 same_test wasm.PointerOrI64 (core.Slot (Some z)) = refl
 same_test _ _ = refl
 
-pub types_length : (types : List WasmType) (ws : List Word) → have_types types ws ≡ true → length ws ≡ length types
-types_length [] [] h = refl
-types_length [] (x ∷ ws) h = absurd cc
-types_length (ty ∷ types) [] h = absurd cc
-types_length (ty ∷ types) (x ∷ ws) h = ap suc (types_length types ws (and_parts (has_type ty x) (have_types types ws) h).1)
-
 pub words_are : (types : List WasmType) (ws : List Word) → have_types types ws ≡ true → words_of types (map val.Word ws) ≡ Some ws
 words_are [] [] h = refl
 words_are [] (x ∷ ws) h = absurd cc
@@ -45,13 +40,6 @@ words_are (ty ∷ types) (x ∷ ws) h =
     ∙ ap (option_map (λ xs. x ∷ xs)) (words_are types ws parts.1)
 
 -- 2. The words of a signature
-
-direct_short : (params : List WasmType) → length (direct_words params) ≤ 16
-direct_short params = by_test (are_many params) refl
-  where
-    by_test : (b : Bool) → are_many params ≡ b → length (cond b (wasm.Pointer ∷ []) params) ≤ 16
-    by_test true e = omega arith
-    by_test false e = omega (arith, ltb-false 16 (length params) e)
 
 take_front : (xs ys : List WasmType) (n : ℕ) → n ≡ length xs → take n (xs ++ ys) ≡ xs
 take_front [] ys zero e = refl

@@ -27,7 +27,7 @@ with_name b n = record b { scope = record b.scope { used = b.scope.used ++ n ∷
 pub fresh_name : (b : FunctionBindgen) (n : Bytes) → is_used b.scope.used n ≡ false → Fresh b (with_name b n) n
 fresh_name b n free = record { free = free; used = refl }
 
-unused_with : (used : List Bytes) (x n : Bytes) → is_used used n ≡ false → bytes_eq x n ≡ false → is_used (used ++ x ∷ []) n ≡ false
+pub unused_with : (used : List Bytes) (x n : Bytes) → is_used used n ≡ false → bytes_eq x n ≡ false → is_used (used ++ x ∷ []) n ≡ false
 unused_with used x n free other = list_any-append (λ u. bytes_eq u n) used (x ∷ []) ∙ ap (λ b. b || (bytes_eq x n || false)) free ∙ ap (λ b. b || false) other
 
 pub unused_before : (old new : FunctionBindgen) (names : List Bytes) → FreshAll old new names → (n : Bytes) → is_used new.scope.used n ≡ false → is_used old.scope.used n ≡ false

@@ -27,7 +27,6 @@ use Rattle.abi_driver.specs.Calls.{Renames}
 use Rattle.abi_driver.specs.Instructions.{Emits}
 use Rattle.abi_driver.specs.Laws.{Adds, Data, Facts, ofs}
 use Rattle.abi_driver.specs.Meaning.{Datum, Fact, item, of, word}
-use Rattle.abi_driver.proofs.Runs.{total-append}
 use Rattle.abi_driver.specs.Sent.{sends}
 use Rattle.func_gen.specs.declared.function_bindgen.FunctionBindgen.{FunctionBindgen}
 use Rattle.func_gen.specs.declared.operand.ExprOperand.{ExprOperand}
@@ -55,6 +54,7 @@ use Rattle.func_gen.proofs.Quiet.{quiet_operand}
 use Rattle.func_gen.proofs.Rows.{same_area}
 use Rattle.func_gen.proofs.Several.{add_local}
 use Rattle.func_gen.proofs.Steps.{func_adds, ran}
+use Rattle.wrapper_meaning.proofs.PostReturn.{total-append}
 
 -- 1. One operand is used, whatever it denotes
 

@@ -11,7 +11,7 @@ use Rattle.rust_tree.specs.declared.type_expr.TypeExpr as expr_lemmas
 use Rattle.rust_tree.specs.declared.type_expr.TypeExpr.TheVariants as type
 use Rattle.wrapper_data.specs.declared.value.RustValue.{RustValue, RustValue-F, fold-roll-RustValue, ind-RustValue, map-RustValue, out-RustValue, roll-RustValue, roll-out-RustValue}
 use Rattle.wrapper_data.specs.declared.value.RustValue.TheVariants as value
-use Rattle.wrapper_data.specs.declared.value.RustValue.TheVariants.{rolls-Bool, rolls-Buffer, rolls-Case, rolls-Char, rolls-F32, rolls-F64, rolls-Num, rolls-Struct, rolls-Unit}
+use Rattle.wrapper_data.specs.declared.value.RustValue.TheVariants.{rolls-Bool, rolls-Buffer, rolls-Case, rolls-Char, rolls-F32, rolls-F64, rolls-Num, rolls-Unit}
 use Rattle.wrapper_values.specs.declared.state.Val.TheVariants as val
 use Rattle.wrapper_values.specs.Effect.{answer_as, answer_of, is_of_kind, is_printed_as, is_scalar, is_unit, num_of_level, number_as, text_of_level, value_as}
 use Rattle.wrapper_values.specs.Owning.{owned_by, owned_level, taken_by}

@@ -22,7 +22,6 @@ use Rattle.wrapper_values.specs.Owning.{owned, owned_in}
 use Rattle.wrapper_run.proofs.LocalLemmas.{last-append, reads-past}
 use Rattle.abi_driver.specs.declared.bindgen.Asked.{Asked}
 use Rattle.abi_driver.specs.Meaning.{Datum, Fact, of}
-use Rattle.abi_driver.proofs.Runs.{total-append}
 use Rattle.func_gen.specs.declared.function_bindgen.FunctionBindgen.{FunctionBindgen}
 use Rattle.func_gen.specs.declared.operand.ExprOperand.{ExprOperand}
 use Rattle.func_gen.specs.Added.{Fresh}
@@ -31,6 +30,7 @@ use Rattle.func_gen.specs.Meaning.{AreaIs, Denote, File, FuncState, owns_of}
 use Rattle.func_gen.specs.Read.{Env, Under, env_of, less, read}
 use Rattle.func_gen.specs.Scope.{is_used}
 use Rattle.func_gen.specs.FactLemmas.{Says, less_under, said, total_mono}
+use Rattle.wrapper_meaning.proofs.PostReturn.{total-append}
 
 -- 1. A local more
 

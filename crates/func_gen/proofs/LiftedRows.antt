@@ -65,6 +65,7 @@ use Rattle.func_gen.proofs.Rows.{Agrees, let_adds, lets}
 use Rattle.func_gen.proofs.ScalarRows.{calls_runtime, cast_says, emits_lifted, emits_lowered}
 use Rattle.func_gen.proofs.Scalars.{bool_is, stands_scalar}
 use Rattle.func_gen.specs.StandLemmas.{scalar_owns}
+use Rattle.func_gen.proofs.LowBits.{same_low}
 
 -- what one fact that holds says
 says_one : (items : List Item) (b : FunctionBindgen) (o : ExprOperand) (d : Datum RustValue) (s : State) → Hold items b (of o d ∷ []) s → Says d ((read items o.expr).at (env_of s))
@@ -102,10 +103,6 @@ bool_row types old new n e ok a fresh one =
 
 -- 2. A word is lifted
 
-low_is : (n : ℕ) (z : ℤ) → low n z ≡ pos (low_bits n z)
-low_is n (pos a) = refl
-low_is n (negsuc a) = refl
-
 low_u8 : (z : ℤ) → is_of_kind wit.U8 (low 8 z) ≡ true
 low_u8 z = grind (arith, ints)
 
@@ -138,13 +135,13 @@ bool_evaluates : (w : Setting) (e : Expr) (z : ℤ) (s : State) → runtime_item
     → eval w (runtime_call BoolLift (expr.Cast e cast.U8)) s ≡ lift_act w (Some (bool_of_number w.form (pos (low_bits 8 z)))) s
 bool_evaluates w e z s found h =
     lifted_act w BoolLift (expr.Cast e cast.U8) (val.Value (cast_integer cast.U8 z)) s (bool_of_number w.form (low 8 z)) found (cast_given w e cast.U8 z s (scalar_owns Scalar.u8 (low 8 z)) h) (bool_applied w (low 8 z) s (low_u8 z))
-    ∙ ap (λ k. lift_act w (Some (bool_of_number w.form k)) s) (low_is 8 z)
+    ∙ ap (λ k. lift_act w (Some (bool_of_number w.form k)) s) (same_low 8 z)
 
 char_evaluates : (w : Setting) (e : Expr) (z : ℤ) (s : State) → runtime_item_named w.items (item_name CharLift) ≡ Some CharLift → (read w.items e).at (env_of s) ≡ Some (val.Word (core.I32 z))
     → eval w (runtime_call CharLift (expr.Cast e cast.U32)) s ≡ lift_act w (Some (char_of_number (pos (low_bits 32 z)))) s
 char_evaluates w e z s found h =
     lifted_act w CharLift (expr.Cast e cast.U32) (val.Value (cast_integer cast.U32 z)) s (char_of_number (low 32 z)) found (cast_given w e cast.U32 z s (scalar_owns Scalar.u32 (low 32 z)) h) (char_applied w (low 32 z) s (low_u32 z))
-    ∙ ap (λ k. lift_act w (Some (char_of_number k)) s) (low_is 32 z)
+    ∙ ap (λ k. lift_act w (Some (char_of_number k)) s) (same_low 32 z)
 
 -- 3. It agrees with what the laws test
 

@@ -5,7 +5,7 @@ use Rattle.std.proofs.lemmas.Int.{ints}
 use Rattle.wrapper_meaning.specs.Numbers.{is_signed, is_unsigned, low_bits}
 use Rattle.wrapper_values.specs.Effect.{low}
 
-same_low : (n : ℕ) (z : ℤ) → low n z ≡ pos (low_bits n z)
+pub same_low : (n : ℕ) (z : ℤ) → low n z ≡ pos (low_bits n z)
 same_low n (pos a) = refl
 same_low n (negsuc a) = refl
 

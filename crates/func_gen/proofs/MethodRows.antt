@@ -57,7 +57,6 @@ use Rattle.abi_driver.specs.Calls as calls
 use Rattle.abi_driver.specs.Instructions.{Emits}
 use Rattle.abi_driver.specs.Laws.{At, Facts, Grows, item_data, ofs}
 use Rattle.abi_driver.specs.Meaning.{item, of}
-use Rattle.abi_driver.proofs.Runs.{total-append}
 use Rattle.func_gen.specs.declared.function_bindgen.Code.{Code}
 use Rattle.func_gen.specs.declared.function_bindgen.FunctionBindgen.{FunctionBindgen}
 use Rattle.func_gen.specs.declared.operand.ExprOperand.{ExprOperand}
@@ -84,6 +83,7 @@ use Rattle.func_gen.proofs.PartRows.{acts_same, all_owned}
 use Rattle.func_gen.proofs.Rows.{unmoved}
 use Rattle.func_gen.proofs.Several.{UsedAll, uses_all}
 use Rattle.func_gen.proofs.Steps.{seen_calls, seen_done}
+use Rattle.wrapper_meaning.proofs.PostReturn.{total-append}
 
 -- 1. The code, and what it leaves as it was
 

@@ -21,8 +21,8 @@ use Rattle.wrapper_values.specs.Effect.{answer_as, answer_of, f32_of_level, f64_
 use Rattle.wrapper_values.specs.Typed.{Typed, plain_as, typed, typed_level, unaliased}
 use Rattle.wrapper_run.specs.ExportRun.{passed_as, values_of}
 use Rattle.func_gen.specs.Facts.{item_of, item_of_word}
-use Rattle.func_gen.proofs.Scalars.{out-f32, out-f64, out-num}
 use Rattle.func_gen.proofs.Several.{AreItems}
+use Rattle.wrapper_meaning.proofs.RustValues.{out-num, out-f32, out-f64}
 
 -- 1. Of a plain type
 

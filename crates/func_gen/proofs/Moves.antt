@@ -13,9 +13,10 @@ use Rattle.wrapper_values.specs.declared.state.State.{State}
 use Rattle.wrapper_values.specs.declared.state.Val.{Val}
 use Rattle.wrapper_values.specs.Locals.{emptied, last, local_named, moved, value_of}
 use Rattle.wrapper_values.specs.Owning.{owned, owned_in}
-use Rattle.abi_driver.proofs.Runs.{total-append}
 use Rattle.func_gen.specs.Meaning.{owns_of}
 use Rattle.func_gen.specs.Read.{Under, env_of, less}
+use Rattle.wrapper_meaning.proofs.PostReturn.{total-append}
+use Rattle.wrapper_run.proofs.LocalLemmas.{last-none}
 
 -- 1. The last of a list
 
@@ -34,12 +35,6 @@ some_last {A} passes (x ∷ xs) h = go (list_any passes xs) (some_last passes xs
     go true there b k = first (last passes xs) (cond b (Some x) None) (there refl)
     go false there true k = second (last passes xs)
     go false there false k = absurd cc
-
-none_last : {A : Type 0} (passes : A → Bool) (xs : List A) → list_any passes xs ≡ false → last passes xs ≡ None
-none_last passes [] e = refl
-none_last {A} passes (x ∷ xs) e =
-    let parts = or_parts (passes x) (list_any passes xs) e in
-    ap (λ o. option_or o (cond (passes x) (Some x) None)) (none_last passes xs parts.1) ∙ ap (λ b. option_or (let o : Option A = None in o) (cond b (Some x) None)) parts.0
 
 -- 2. Another name reads as before
 
@@ -61,7 +56,7 @@ owns_in locals = flat_map (λ (l : Local). owned_in l.value) locals
 
 moved_owns : (f : ℕ → ℕ) (n : Bytes) (v : Val) (locals : List Local) → value_of (local_named n locals) ≡ Some v → total f (owns_in (moved n locals)) + total f (owned v) ≡ total f (owns_in locals)
 moved_owns f n v [] h = absurd cc
-moved_owns f n v (l ∷ locals) h = go (list_any (λ m. bytes_eq m.name n) locals) (bytes_eq l.name n) (some_last (λ m. bytes_eq m.name n) locals) (none_last (λ m. bytes_eq m.name n) locals) (moved_owns f n v locals) h
+moved_owns f n v (l ∷ locals) h = go (list_any (λ m. bytes_eq m.name n) locals) (bytes_eq l.name n) (some_last (λ m. bytes_eq m.name n) locals) (last-none (λ m. bytes_eq m.name n) locals) (moved_owns f n v locals) h
   where
     inner : (o p : Option Local) (y : Local) → o ≡ Some y → value_of (option_or o p) ≡ Some v → value_of o ≡ Some v
     inner o p y e k = ap value_of e ∙ sym (ap (λ q. value_of (option_or q p)) e) ∙ k

@@ -44,7 +44,6 @@ use Rattle.abi_driver.specs.Instructions.{Emits}
 use Rattle.abi_driver.specs.Laws.{Facts, Stays, item_data, ofs}
 use Rattle.abi_driver.specs.Meaning.{item, of}
 use Rattle.abi_driver.specs.Parts.{PartsStand, count}
-use Rattle.abi_driver.proofs.Runs.{total-append}
 use Rattle.abi_driver.specs.Sent.{sends}
 use Rattle.func_gen.specs.declared.function_bindgen.FunctionBindgen.{FunctionBindgen}
 use Rattle.func_gen.specs.declared.operand.ExprOperand.{ExprOperand}
@@ -63,6 +62,7 @@ use Rattle.func_gen.proofs.Quiet.{quiet_operand}
 use Rattle.func_gen.proofs.Rows.{let_adds, same_area}
 use Rattle.func_gen.proofs.Several.{Are, add_local, uses_all}
 use Rattle.func_gen.proofs.Steps.{ran}
+use Rattle.wrapper_meaning.proofs.PostReturn.{total-append}
 
 -- 1. What parts own together, and that they pass as they are
 

@@ -48,7 +48,6 @@ use Rattle.wrapper_run.proofs.StepLemmas.{Quiet, quiet_bind, quiet_or_stop, quie
 use Rattle.abi_driver.specs.Laws.{Adds, Stays, item_data, ofs}
 use Rattle.abi_driver.specs.Meaning.{Fact, item, of}
 use Rattle.abi_driver.specs.Parts.{PartsStand, count}
-use Rattle.abi_driver.proofs.Runs.{total-append}
 use Rattle.func_gen.specs.declared.function_bindgen.FunctionBindgen.{FunctionBindgen}
 use Rattle.func_gen.specs.declared.operand.ExprOperand.{ExprOperand}
 use Rattle.func_gen.specs.CallForms.{FreshAll}
@@ -70,6 +69,8 @@ use Rattle.func_gen.proofs.Steps.{func_adds, ran}
 use Rattle.abi_driver.specs.Account.{Account}
 use Rattle.func_gen.proofs.PartRows.{areas_last, struct_level}
 use Rattle.func_gen.proofs.Several.{add_local}
+use Rattle.wrapper_meaning.proofs.PostReturn.{total-append}
+use Rattle.func_gen.proofs.Declared.{unused_with}
 
 -- 1. New locals, one after the other
 
@@ -204,16 +205,13 @@ either : (b c : Bool) → c ≡ true → (b || c) ≡ true
 either true c e = refl
 either false c e = e
 
-none_used : (used : List Bytes) (n k : Bytes) → is_used used k ≡ false → bytes_eq n k ≡ false → is_used (used ++ n ∷ []) k ≡ false
-none_used used n k f e = list_any-append (λ u. bytes_eq u k) used (n ∷ []) ∙ ap (λ b. b || is_used (n ∷ []) k) f ∙ ap (λ b. b || false) e
-
 pub all_free : (used names : List Bytes) → ((n : Bytes) → is_used names n ≡ true → is_used used n ≡ false) → is_distinct names ≡ true → AllFree used names
 all_free used [] f d = tt
 all_free used (n ∷ ns) f d =
     let two = and_parts (not (is_used ns n)) (is_distinct ns) d in
     let out = not-true (is_used ns n) two.0 in (
       f n (ap (λ b. b || is_used ns n) (bytes_eq-same n)),
-      all_free (used ++ n ∷ []) ns (λ k there. none_used used n k (f k (either (bytes_eq n k) (is_used ns k) there)) (none_of_them n k ns out there)) two.1,
+      all_free (used ++ n ∷ []) ns (λ k there. unused_with used n k (f k (either (bytes_eq n k) (is_used ns k) there)) (none_of_them n k ns out there)) two.1,
     )
 
 -- names behind hide none that is not known

@@ -50,14 +50,12 @@ use Rattle.func_gen.proofs.PartsTaken.{apart_adds, apart_lowers, locals_many}
 use Rattle.func_gen.proofs.Quiet.{quiet_operand}
 use Rattle.func_gen.proofs.Rows.{let_adds}
 use Rattle.func_gen.proofs.Several.{Are}
+use Rattle.abi_driver.proofs.PlainRows.{field_count}
 
 -- 1. How many fields there are
 
 as_many : (types : List TypeDef) (id n : ℕ) (members : List Field) → HasFieldCount types id n → IsRecord types id members → n ≡ length members
 as_many types id n members (others, is, same) r = same ∙ ap length (one_record types id others members is r)
-
-shapes_many : (types : List TypeDef) (members : List Field) → count (field_shapes types members) ≡ length members
-shapes_many types members = count-shapes types (map (λ (f : Field). f.ty) members) ∙ length-map members (λ (f : Field). f.ty)
 
 -- 2. The expression of a record
 
@@ -130,7 +128,7 @@ record_made types old new n id os e made appends fresh one =
       results = refl;
       row = λ members is. lifts_whole old new n os whole a fresh
           (λ w p vs rs s t h len done are. record_gives (setting_for w p) site os vs rs s t (defined w old new types id.0 site appends.records made.is_site h) made.many len done are)
-          (field_shapes types members) (made.many ∙ as_many types id.0 (length site.fields) members made.is_site.count is ∙ sym (shapes_many types members));
+          (field_shapes types members) (made.many ∙ as_many types id.0 (length site.fields) members made.is_site.count is ∙ sym (field_count types members));
     }
 
 pub record_split : (types : List TypeDef) (old new : FunctionBindgen) (id : TypeId) (e : Expr) (names : List Bytes) → is_operand e ≡ true → SplitsRecord types id.0 e names old new
@@ -154,5 +152,5 @@ record_split types old new id e names ok split =
           (subst (λ ns. Appends old new (stmt.LetParts (pattern.Record site.lowered (zip site.fields ns)) e ∷ []) []) named split.stmts) (ap locals_of named ∙ locals_are (locals_for site.fields t));
       results = λ members is. locals_many names ∙ many ∙ as_many types id.0 (length site.fields) members split.is_site.count is;
       row = λ members is dir v r own (stands, normal). apart_lowers old new pat names e split.stmts split.fresh fits
-          (field_shapes types members) (many ∙ as_many types id.0 (length site.fields) members split.is_site.count is ∙ sym (shapes_many types members)) dir v r own stands normal;
+          (field_shapes types members) (many ∙ as_many types id.0 (length site.fields) members split.is_site.count is ∙ sym (field_count types members)) dir v r own stands normal;
     }

@@ -28,7 +28,6 @@ use Rattle.abi_driver.specs.declared.instruction.Instruction.{Instruction}
 use Rattle.abi_driver.specs.Instructions.{Emits}
 use Rattle.abi_driver.specs.Laws.{Adds, After, At, Does, Facts, Stays}
 use Rattle.abi_driver.specs.Meaning.{Datum, Fact, of}
-use Rattle.abi_driver.proofs.Runs.{total-append}
 use Rattle.func_gen.specs.declared.function_bindgen.FunctionBindgen.{FunctionBindgen}
 use Rattle.func_gen.specs.declared.operand.ExprOperand.{ExprOperand}
 use Rattle.func_gen.specs.declared.scope.Scope.{Scope}
@@ -43,6 +42,7 @@ use Rattle.func_gen.specs.FactLemmas.{Says, follows}
 use Rattle.func_gen.proofs.Lasting.{Beside, SameArea, add_plain, bound_under, denotes_on, lasts, owns_with, part, with_local, within_with, still_free}
 use Rattle.func_gen.proofs.RuntimeItems.{found_right}
 use Rattle.func_gen.proofs.Steps.{func_adds, ran, seen_calls}
+use Rattle.wrapper_meaning.proofs.PostReturn.{total-append}
 
 -- 1. A fact in place of another
 

@@ -52,15 +52,12 @@ use Rattle.func_gen.proofs.Emissions.{cast_emitted, conversion_emitted, kept_emi
 use Rattle.func_gen.proofs.Forming.{form_alone, ordinary_plain}
 use Rattle.func_gen.proofs.Rows.{none_adds, swaps, tests}
 use Rattle.func_gen.proofs.Scalars.{cast_word, conversion_to, converts_scalar, is_number, option_some, stands_scalar, taken_is, taken_word}
+use Rattle.abi_driver.proofs.PlainRows.{none_dropped}
 
 -- 1. What is emitted
 
 abbrev no_blocks : List ⊥
 no_blocks = []
-
-pub none_dropped : (n : ℕ) → no_blocks ≡ drop n no_blocks
-none_dropped zero = refl
-none_dropped (suc n) = refl
 
 pub calls_runtime : (i : RuntimeItem) → callee (runtime_path i) ≡ of_runtime (item_name i)
 unfolding callee runtime_name runtime_module_name

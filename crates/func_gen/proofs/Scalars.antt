@@ -20,7 +20,7 @@ use Rattle.wrapper_meaning.specs.InRange.{IsScalar}
 use Rattle.wrapper_meaning.specs.Shape.Shape.{scalar}
 use Rattle.wrapper_meaning.specs.StandsFor.{rust_scalar}
 use Rattle.wrapper_meaning.specs.Value.{ScalarValue}
-use Rattle.wrapper_meaning.proofs.RustValues.{f32_same, f64_same, num_same}
+use Rattle.wrapper_meaning.proofs.RustValues.{f32_same, f64_same, num_same, out-num, out-f32, out-f64, out-bool, out-char}
 use Rattle.wrapper_values.specs.declared.state.Val.{Val}
 use Rattle.wrapper_values.specs.declared.state.Val.TheVariants as val
 use Rattle.wrapper_values.specs.Effect.{cast_integer, cast_to, converted, integer_of, rust_of, rust_of_word}
@@ -113,21 +113,6 @@ shown_level _ = None
 
 abbrev shown : RustValue → Option Scalar
 shown r = shown_level (out-RustValue r)
-
-pub out-num : (k : WitType) (z : ℤ) → out-RustValue (value.Num k z) ≡ RustValue-F.Num k z
-out-num k z = search (rules, the_lemmas)
-
-pub out-f32 : (x : ℕ) → out-RustValue (value.F32 x) ≡ RustValue-F.F32 x
-out-f32 x = search (rules, the_lemmas)
-
-pub out-f64 : (x : ℕ) → out-RustValue (value.F64 x) ≡ RustValue-F.F64 x
-out-f64 x = search (rules, the_lemmas)
-
-out-bool : (b : Bool) → out-RustValue (value.Bool b) ≡ RustValue-F.Bool b
-out-bool b = search (rules, the_lemmas)
-
-out-char : (c : ℕ) → out-RustValue (value.Char c) ≡ RustValue-F.Char c
-out-char c = search (rules, the_lemmas)
 
 shown_scalar : (s : Scalar) (v : ScalarValue s) → shown (rust_scalar s v) ≡ Some s
 shown_scalar Scalar.bool v = ap shown_level (out-bool v)

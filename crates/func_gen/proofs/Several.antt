@@ -22,7 +22,6 @@ use Rattle.wrapper_run.specs.Run.{eval}
 use Rattle.wrapper_run.proofs.LocalLemmas.{reads-new}
 use Rattle.abi_driver.specs.Laws.{item_data, ofs}
 use Rattle.abi_driver.specs.Meaning.{Datum, Fact, of}
-use Rattle.abi_driver.proofs.Runs.{total-append}
 use Rattle.func_gen.specs.declared.function_bindgen.FunctionBindgen.{FunctionBindgen}
 use Rattle.func_gen.specs.declared.operand.ExprOperand.{ExprOperand}
 use Rattle.func_gen.specs.Added.{Fresh}
@@ -34,6 +33,7 @@ use Rattle.func_gen.specs.Read.{Env, Read, Under, env_of, less, read}
 use Rattle.func_gen.specs.ReadForms.{read-local}
 use Rattle.func_gen.proofs.Lasting.{bound_under, lasts, under_less, with_local, within_with}
 use Rattle.func_gen.proofs.Moving.{uses}
+use Rattle.wrapper_meaning.proofs.PostReturn.{total-append}
 
 -- 1. One after the other
 

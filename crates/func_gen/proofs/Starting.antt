@@ -4,7 +4,7 @@ use Rattle.std.specs.Prelude.{option_and_then, option_to_list, slice_get, Contai
 use Rattle.std.specs.List.{flat_map, AllByRecursion}
 use mathlib.Core.Logic.{inl, inr}
 use Rattle.std.specs.Str.{bytes_eq}
-use Rattle.std.proofs.lemmas.Bool.{and_from, and_parts, eq-eqb, lt-ltb}
+use Rattle.std.proofs.lemmas.Bool.{and_from, and_parts, eq-eqb, lt-ltb, or_parts}
 use Rattle.wit_model.specs.Bytes.{Bytes}
 use Rattle.wit_model.specs.Distinct.{is_distinct}
 use Rattle.rust_tree.specs.declared.item.Item.{Item}
@@ -159,7 +159,13 @@ begins (x ∷ blocks) a b (suc k, below, at) e l = go (begins_at a x) (begins bl
 
 -- 5. The start
 
-module _ (b : FunctionBindgen) (unasked : b.asked ≡ []) (used : b.scope.used ≡ b.area ∷ site_names b.params) (distinct : is_distinct (b.area ∷ site_names b.params) ≡ true) (are : AllByRecursion IsSite b.params) where
+-- a name that is free beside the second name too is free beside the others
+pub unused_first : (area second : Bytes) (names used : List Bytes) → used ≡ area ∷ second ∷ names → (n : Bytes) → is_used used n ≡ false → is_used (area ∷ names) n ≡ false
+unused_first area second names used is n free =
+    let two = or_parts (bytes_eq area n) (bytes_eq second n || is_used names n) (sym (ap (λ us. is_used us n) is) ∙ free) in
+    ap₂ (λ a b. a || b) two.0 (or_parts (bytes_eq second n) (is_used names n) two.1).1
+
+module _ (b : FunctionBindgen) (unasked : b.asked ≡ []) (used : (n : Bytes) → is_used b.scope.used n ≡ false → is_used (b.area ∷ site_names b.params) n ≡ false) (distinct : is_distinct (b.area ∷ site_names b.params) ≡ true) (are : AllByRecursion IsSite b.params) where
   distinct_names : is_distinct (site_names b.params) ≡ true
   distinct_names = (and_parts _ (is_distinct (site_names b.params)) distinct).1
 
@@ -196,11 +202,7 @@ module _ (b : FunctionBindgen) (unasked : b.asked ≡ []) (used : b.scope.used �
       )
     where
       unused : (n : Bytes) → is_used b.scope.used n ≡ false → is_used (site_names b.params) n ≡ false
-      unused n free = go (bytes_eq b.area n) (sym (ap (λ us. is_used us n) used) ∙ free)
-        where
-          go : (c : Bool) → (c || is_used (site_names b.params) n) ≡ false → is_used (site_names b.params) n ≡ false
-          go true e = absurd (let no : true ≡ false = e in cc)
-          go false e = e
+      unused n free = (or_parts (bytes_eq b.area n) (is_used (site_names b.params) n) (used n free)).1
 
   -- with one that does
   with_area : (w : File) (ds : Data func_meaning) (acc : Account RustValue) (area : Request) (address : ℕ) → length b.params ≡ length ds → AreLent func_meaning ds → acc.taken ≡ address ∷ [] → acc.guarded ≡ [] → b.import ≡ true → w.area ≡ Some area → 0 < area.size → StandsIn area address acc.heap
@@ -218,7 +220,7 @@ module _ (b : FunctionBindgen) (unasked : b.asked ≡ []) (used : b.scope.used �
         account_same acc (bound names values) unguarded,
         ap (λ xs. address ∷ xs) (bound_bare (site_names b.params) ds p),
         refl,
-        holds w ds s p reads len (λ n free. unbound names values n (sym (ap (λ us. is_used us n) used) ∙ free)) (subst (AreOwned acc.heap.blocks) (sym taken) (refl, there, tt))
+        holds w ds s p reads len (λ n free. unbound names values n (used n free)) (subst (AreOwned acc.heap.blocks) (sym taken) (refl, there, tt))
             (subst (λ i. AreaIs i w.area (Some address) b.asked b.area machine) (sym import) (subst (λ a. AreaIs true a (Some address) b.asked b.area machine) (sym is) (all.0, refl))),
       )
 

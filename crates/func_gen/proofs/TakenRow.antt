@@ -51,7 +51,6 @@ use Rattle.abi_driver.specs.declared.instruction.Instruction.TheVariants as inst
 use Rattle.abi_driver.specs.Instructions.{Emits}
 use Rattle.abi_driver.specs.Laws.{Adds, After, Facts}
 use Rattle.abi_driver.specs.Meaning.{Fact, item, of, word}
-use Rattle.abi_driver.proofs.Runs.{total-append}
 use Rattle.abi_driver.specs.Sent.{sends}
 use Rattle.func_gen.specs.declared.function_bindgen.FunctionBindgen.{FunctionBindgen}
 use Rattle.func_gen.specs.declared.operand.ExprOperand.{ExprOperand}
@@ -80,6 +79,8 @@ use Rattle.func_gen.proofs.RuntimeItems.{found_right}
 use Rattle.func_gen.proofs.ScalarRows.{calls_runtime}
 use Rattle.func_gen.proofs.Several.{add_local}
 use Rattle.func_gen.proofs.Steps.{func_adds, ran}
+use Rattle.abi_driver.proofs.Freeing.{last_taken}
+use Rattle.wrapper_meaning.proofs.PostReturn.{total-append}
 
 -- 1. One more owner
 
@@ -93,14 +94,6 @@ owned_more blocks p (t ∷ taken) free there (once, here, more) =
   where
     turned : (t p : ℕ) → nat_eq t p ≡ false → nat_eq p t ≡ false
     turned t p e = grind (arith, nat_tests)
-
-taken_last : (p : ℕ) (taken : List ℕ) → is_taken p (taken ++ p ∷ []) ≡ true
-taken_last p [] = let e : nat_eq p p ≡ true = grind (arith, nat_tests) in ap (λ b. b || false) e
-taken_last p (t ∷ taken) = go (nat_eq t p) (taken_last p taken)
-  where
-    go : (c : Bool) → is_taken p (taken ++ p ∷ []) ≡ true → (c || is_taken p (taken ++ p ∷ [])) ≡ true
-    go true e = refl
-    go false e = e
 
 there_of : (o : Option Block) (b : Block) → o ≡ Some b → IsThere o
 there_of o b e = subst IsThere (sym e) tt
@@ -293,7 +286,7 @@ module _ (w : File) (q : Peer RustValue) (old new : FunctionBindgen) (a n : Expr
       let at : b.address ≡ p = starts p (suc n) b (find_passes (is_at p (suc n)) blocks b there) in
       let from = begins blocks p n bytes (λ c. bytes_from c.cells 0 (suc n)) (ap (option_and_then (λ (c : Block). bytes_from c.cells 0 (suc n))) there ∙ read) in
       text_follows (suc n) bytes taken (b ∷ []) (record acc { taken = acc.taken ++ b.address ∷ [] }) pos (ap (λ x. record acc { taken = acc.taken ++ x ∷ [] }) (sym at))
-      (ap (λ c. if c then option_and_then (λ (c : Block). bytes_from c.cells 0 (suc n)) (block_at p (suc n) blocks) else None) (taken_last p s.machine.taken) ∙ ap (option_and_then (λ (c : Block). bytes_from c.cells 0 (suc n))) there ∙ read)
+      (ap (λ c. if c then option_and_then (λ (c : Block). bytes_from c.cells 0 (suc n)) (block_at p (suc n) blocks) else None) (last_taken p s.machine.taken) ∙ ap (option_and_then (λ (c : Block). bytes_from c.cells 0 (suc n))) there ∙ read)
       (owned-block p n ∙ ap (λ x. x ∷ []) (sym at)) (owned_more blocks p s.machine.taken free_p (there_of (block_from p blocks) from.0 from.1) d.owners) (is_utf8 bytes) refl
 
   block_agrees : (n : ℕ) (o : Option Block) → 0 < p → is_taken p s.machine.taken ≡ false → block_at p (suc n) s.machine.heap.blocks ≡ o → Agree (suc n) (law_found q.form (suc n) o acc) (own_block set p (suc n) o (base (suc n)))

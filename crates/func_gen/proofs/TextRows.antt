@@ -30,7 +30,6 @@ use Rattle.abi_driver.specs.declared.instruction.Instruction.TheVariants.{String
 use Rattle.abi_driver.specs.Instructions.{Emits}
 use Rattle.abi_driver.specs.Laws.{Adds, After, Does, Facts}
 use Rattle.abi_driver.specs.Meaning.{Fact, item, of}
-use Rattle.abi_driver.proofs.Runs.{total-append}
 use Rattle.abi_driver.specs.Sent.{sends}
 use Rattle.func_gen.specs.declared.function_bindgen.FunctionBindgen.{FunctionBindgen}
 use Rattle.func_gen.specs.declared.operand.ExprOperand.{ExprOperand}
@@ -55,6 +54,7 @@ use Rattle.func_gen.proofs.PartRows.{areas_last}
 use Rattle.func_gen.proofs.Quiet.{quiet_operand}
 use Rattle.func_gen.proofs.Rows.{same_area}
 use Rattle.func_gen.proofs.Steps.{func_adds, ran, seen_calls}
+use Rattle.wrapper_meaning.proofs.PostReturn.{total-append}
 
 -- 1. A text is lent
 

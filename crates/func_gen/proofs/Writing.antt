@@ -19,7 +19,6 @@ use Rattle.wrapper_run.specs.Run.{run_stmts}
 use Rattle.wrapper_run.proofs.StepLemmas.{Quiet}
 use Rattle.abi_driver.specs.Account.{Account, Act, Done, Follows, Got, Outcome, Peer, Stopped, Stuck, account_in}
 use Rattle.abi_driver.specs.Laws.{Adds, After, Does, Facts}
-use Rattle.abi_driver.proofs.Runs.{total-append}
 use Rattle.func_gen.specs.declared.function_bindgen.FunctionBindgen.{FunctionBindgen}
 use Rattle.func_gen.specs.declared.scope.Scope.{Scope}
 use Rattle.func_gen.specs.Added.{Appends}
@@ -31,6 +30,7 @@ use Rattle.func_gen.proofs.MemoryTies.{by_blocks}
 use Rattle.func_gen.proofs.Rows.{same_area, unmoved}
 use Rattle.func_gen.proofs.RuntimeItems.{found_right}
 use Rattle.func_gen.proofs.Steps.{func_adds, ran, seen_calls}
+use Rattle.wrapper_meaning.proofs.PostReturn.{total-append}
 
 abbrev pub with_heap : State → List Block → State
 with_heap s blocks = record s { heap = record { blocks = blocks } }

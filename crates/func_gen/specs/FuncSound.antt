@@ -22,10 +22,7 @@ use Rattle.func_gen.specs.Meaning.{Denote, File, FuncState, func_meaning}
 use Rattle.func_gen.specs.Read.{env_of, less, read}
 use Rattle.func_gen.specs.ReadForms.{stable}
 use Rattle.func_gen.specs.StandLemmas.{given_on, lent_alone, taken_on, taken_owns}
-
-total-append : {A : Type 0} (f : A → ℕ) (xs ys : List A) → total f (xs ++ ys) ≡ total f xs + total f ys
-total-append f [] ys = omega arith
-total-append f (x ∷ xs) ys = omega (arith, total-append f xs ys)
+use Rattle.wrapper_meaning.proofs.PostReturn.{total-append}
 
 -- facts that weigh no more hold too
 module _ (w : File) (b : FunctionBindgen) (facts others : Facts func_meaning) (less_weight : (g : Fact ExprOperand (Unit {0}) RustValue → ℕ) → total g others ≤ total g facts) where

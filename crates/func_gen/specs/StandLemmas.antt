@@ -27,9 +27,7 @@ use Rattle.wrapper_run.proofs.OwningLemmas.{owned-bool, owned-char, owned-f32, o
 use Rattle.wrapper_values.specs.declared.state.Val.TheVariants as val
 use Rattle.wrapper_values.specs.Owning.{owned, owned_by, owned_level, taken_by, taken_by_entries}
 use Rattle.abi_driver.specs.Account.{addresses}
-
-addresses_both : (xs ys : List Block) → addresses (xs ++ ys) ≡ addresses xs ++ addresses ys
-addresses_both xs ys = map-append (λ (b : Block). b.address) xs ys
+use Rattle.abi_driver.proofs.Runs.{addresses_both}
 
 -- 1. What values own
 

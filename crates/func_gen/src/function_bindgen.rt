@@ -61,11 +61,17 @@ pub struct FunctionBindgen {
 }
 
 /// The names that are used at first.
-fn first_names(alloc: Global, area: &Text, params: &[ParamSite]) -> Result<List<Text>, OutOfMemory>
-    ensures { IfOk result (λ names. names ≡ area.now ∷ site_names params.now) }
+fn first_names(
+    alloc: Global,
+    area: &Text,
+    cleanup: Text,
+    params: &[ParamSite],
+) -> Result<List<Text>, OutOfMemory>
+    ensures { IfOk result (λ names. names ≡ area.now ∷ cleanup ∷ site_names params.now) }
 {
     let mut names = List::new(alloc);
     names.push(area.copy(alloc)?)?;
+    names.push(cleanup)?;
     for site in params {
         names.push(site.name.copy(alloc)?)?;
     }
@@ -74,26 +80,27 @@ fn first_names(alloc: Global, area: &Text, params: &[ParamSite]) -> Result<List<
 
 impl FunctionBindgen {
     /// One without code, for a wrapper of these parameters, of an import or of an export. Core imports that are called are of the module
-    /// `home`, and methods of the trait of that name. The area is the local that holds an import's return area. The records are by the numbers
-    /// of their types.
+    /// `home`, and methods of the trait of that name. The area is the local that holds an import's return area, and the cleanup the
+    /// one that holds the lists to be freed: no local that is numbered gets either name. The records are by the numbers of their types.
     pub fn new(
         alloc: Global,
         sizes: SizeAlign,
         import: bool,
         home: Text,
         area: Text,
+        cleanup: Text,
         params: List<ParamSite>,
         records: List<Option<RecordSite>>,
     ) -> Result<FunctionBindgen, OutOfMemory>
         requires sites { AllByRecursion IsSite params }
         requires defined { CanBeDefined records }
         requires distinct { is_distinct (area ∷ site_names params) ≡ true }
-        ensures made { IfOk result (IsMadeOf sizes import home area params records) }
+        ensures made { IfOk result (IsMadeOf sizes import home area cleanup params records) }
         ensures begins { IfOk result (λ b. IsNew func_meaning b) }
         ensures imports { IfOk result (λ b. func_meaning.imports b ≡ import) }
         ensures exports { IfOk result (λ b. func_meaning.exports b ≡ not import) }
     {
-        let used = first_names(alloc, &area, params.as_slice())?;
+        let used = first_names(alloc, &area, cleanup, params.as_slice())?;
         Ok(FunctionBindgen {
             alloc,
             sizes,

@@ -14,12 +14,10 @@ use Rattle.wit_model.specs.declared.function.Function.{Function}
 use Rattle.wit_model.specs.declared.name.TypeId.{TypeId}
 use Rattle.wit_model.specs.declared.name.WorldId.{WorldId}
 use Rattle.wit_model.specs.declared.resolve.Resolve.{Resolve}
-use Rattle.wit_model.specs.declared.types.Field.{Field}
 use Rattle.wit_model.specs.declared.types.TypeDef.{TypeDef}
 use Rattle.wit_model.specs.declared.types.TypeDefKind.{TypeDefKind}
 use Rattle.wit_model.specs.declared.types.TypeDefKind.TheVariants as kind
 use Rattle.wit_model.specs.declared.types.WitType.{WitType}
-use Rattle.wit_model.specs.declared.types.WitType.TheVariants as wit
 use Rattle.wit_model.specs.declared.world.World.{World}
 use Rattle.wit_model.specs.declared.world.WorldItem.{WorldItem}
 use Rattle.wit_model.specs.declared.world.WorldItem.TheVariants as entry
@@ -29,7 +27,7 @@ use Rattle.type_facts.specs.Facts.{IsInfoOf}
 use Rattle.type_facts.specs.Roots.{param_types, result_types}
 use Rattle.type_defs.specs.Defined.{are_defined_kinds, is_defined_kind, is_defined_part, is_defined_type}
 use Rattle.type_defs.specs.DefinedNames.{AreDefinable}
-use Rattle.type_defs.specs.FunctionTypes.{entries_pass, functions_pass, item_passes, passes_or_none}
+use Rattle.type_defs.specs.FunctionTypes.{entries_pass, function_passes, functions_pass, item_passes}
 use Rattle.type_defs.specs.ListedTypes.{listed_types}
 use Rattle.type_defs.specs.Listing.{is_covered}
 use Rattle.type_defs.specs.Modes.{is_owning, is_used}
@@ -37,7 +35,7 @@ use Rattle.type_defs.specs.Used.{IsUsed, UsesTypes, function_types, uses}
 use Rattle.type_defs.proofs.FunctionTypeLemmas.{all-more}
 use Rattle.type_defs.proofs.UsedLemmas.{used_is}
 use Rattle.gen_accept.specs.declared.opts.Opts.{Opts}
-use Rattle.gen_accept.specs.Built.{are_built_options, are_built_tables, is_built_item, is_built_kind, is_built_result, is_built_type, is_built_world, is_empty, is_freestanding, is_no_type, is_under_itself}
+use Rattle.gen_accept.specs.Built.{are_built_options, are_built_tables, is_built_item, is_built_kind, is_built_world, is_empty, is_freestanding, is_no_type, is_under_itself}
 use Rattle.gen_accept.specs.Cause.{is_accepted, is_built}
 use Rattle.gen_accept.specs.Emitted.{exported_functions, imported_functions}
 use Rattle.gen_accept.specs.TypeOpts.{type_opts}
@@ -62,39 +60,28 @@ defined-kinds (t ∷ types) h =
 
 -- no part of them is an error context
 
-defined-type : (ty : WitType) → is_built_type ty ≡ true → is_defined_type ty ≡ true
-defined-type wit.ErrorContext h = cc
-defined-type _ h = refl
-
 defined-parts : (kind : TypeDefKind) → is_built_kind kind ≡ true → list_all is_defined_part (parts kind) ≡ true
 unfolding parts
-defined-parts (kind.Alias ty) h = and_from (is_defined_type ty) true (defined-type ty h) refl
-defined-parts (kind.Record fields) h = list_all-map is_defined_part (λ f. Some f.ty) fields ∙ all-more (λ (f : Field). is_built_type f.ty) (λ f. is_defined_type f.ty) (λ f. defined-type f.ty) fields h
-defined-parts (kind.Tuple members) h = list_all-map is_defined_part (λ ty. Some ty) members ∙ all-more is_built_type is_defined_type defined-type members h
+defined-parts (kind.Alias ty) h = and_from (is_defined_type ty) true h refl
+defined-parts (kind.Record fields) h = list_all-map is_defined_part (λ f. Some f.ty) fields ∙ h
+defined-parts (kind.Tuple members) h = list_all-map is_defined_part (λ ty. Some ty) members ∙ h
 defined-parts _ h = absurd (cc)
 
 -- the types of a built world's functions are built
 
-result-built : (answer : Option WitType) → is_built_result answer ≡ true → passes_or_none is_built_type answer ≡ true
-result-built None h = refl
-result-built (Some ty) h = h
-
-item-types : (i : WorldItem) → is_built_item i ≡ true → item_passes is_built_type i ≡ true
+item-types : (i : WorldItem) → is_built_item i ≡ true → item_passes is_defined_type i ≡ true
 item-types (entry.Interface id) h = refl
 item-types (entry.Named id) h = refl
-item-types (entry.Function f) h =
-    let last = and_parts (is_freestanding f.kind && list_all (λ p. is_built_type p.ty) f.params) (is_built_result f.result) h in
-    let params = and_parts (is_freestanding f.kind) (list_all (λ p. is_built_type p.ty) f.params) last.0 in
-    and_from (list_all (λ p. is_built_type p.ty) f.params) (passes_or_none is_built_type f.result) params.1 (result-built f.result last.1)
+item-types (entry.Function f) h = (and_parts (is_freestanding f.kind) (function_passes is_defined_type f) h).1
 
-world-types : (world : World) → is_built_world world ≡ true → functions_pass is_built_type world ≡ true
+world-types : (world : World) → is_built_world world ≡ true → functions_pass is_defined_type world ≡ true
 unfolding is_built_world
 world-types world h =
     let items = and_parts (list_all (λ entry. is_built_item entry.1) world.imports) (list_all (λ entry. is_built_item entry.1) world.exports)
     (and_parts _ (list_all (λ entry. is_under_itself entry.0 entry.1) world.imports) (and_parts _ (list_all (λ entry. is_no_type entry.1) world.exports) h).0).0 in
-    and_from (entries_pass is_built_type world.imports) (entries_pass is_built_type world.exports)
-    (all-more (λ e. is_built_item e.1) (λ e. item_passes is_built_type e.1) (λ e. item-types e.1) world.imports items.0)
-    (all-more (λ e. is_built_item e.1) (λ e. item_passes is_built_type e.1) (λ e. item-types e.1) world.exports items.1)
+    and_from (entries_pass is_defined_type world.imports) (entries_pass is_defined_type world.exports)
+    (all-more (λ e. is_built_item e.1) (λ e. item_passes is_defined_type e.1) (λ e. item-types e.1) world.imports items.0)
+    (all-more (λ e. is_built_item e.1) (λ e. item_passes is_defined_type e.1) (λ e. item-types e.1) world.exports items.1)
 
 module _ (opts : Opts) (r : Resolve) (id : WorldId) (world : World) (checked : IsWellFormed r) (built : is_built opts r ≡ true) (accepted : is_accepted opts r world ≡ true) (found : slice_get r.worlds id.0 ≡ Some world) where
   tables : (list_all (λ t. is_built_kind t.kind) r.types ≡ true) × (list_all is_built_world r.worlds ≡ true)
@@ -135,11 +122,11 @@ module _ (opts : Opts) (r : Resolve) (id : WorldId) (world : World) (checked : I
 
   -- the types of its functions
 
-  types-pass : list_all is_built_type (function_types r world) ≡ true
-  types-pass = function-types-pass is_built_type r world built-world (world-types world built-world)
+  types-pass : list_all is_defined_type (function_types r world) ≡ true
+  types-pass = function-types-pass is_defined_type r world built-world (world-types world built-world)
 
   used-type : (ty : WitType) → Contains (function_types r world) ty → type_below (length r.types) ty ≡ true → IsUsed r world ty
-  used-type ty among below = record { used = among; below = below; defined = defined-type ty (all-contained is_built_type (function_types r world) ty types-pass among) }
+  used-type ty among below = record { used = among; below = below; defined = all-contained is_defined_type (function_types r world) ty types-pass among }
 
   -- of a function in range
   type-within : (f : Function) → function_in_range r f ≡ true → (ty : WitType) → OfFunction f ty → type_below (length r.types) ty ≡ true

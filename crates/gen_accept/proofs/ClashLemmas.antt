@@ -10,9 +10,11 @@ use Rattle.gen_accept.specs.contracts.declared.SpacePartialEq.TheImpl as impl
 use Rattle.gen_accept.specs.declared.declared.NameScope.{NameScope}
 use Rattle.gen_accept.specs.declared.error.Clash.TheVariants.{Twice, NotIdent}
 use Rattle.gen_accept.specs.Clash.{clash_behind, entry_in, is_name, is_same, is_same_space, space}
-use Rattle.type_defs.proofs.CutLemmas.{drop_at, take_at}
+use Rattle.type_defs.proofs.CutLemmas.{take_at}
 use Rattle.std.proofs.Math.Bool.{not-not}
 use Rattle.std.proofs.lemmas.List.Folds.{list_any-append}
+use Rattle.type_defs.proofs.ListingLemmas.{or-cond}
+use Rattle.wit_model.proofs.ListLemmas.{drop_at}
 
 abbrev pub Key : Type 0
 Key = Space × Bor Bytes
@@ -34,12 +36,6 @@ same-spaces Macros Macros = refl
 -- a key is that of a name
 abbrev pub is_key_of : Key → Declared → Bool
 is_key_of k d = is_same_space (space d.sort) k.0 && bytes_eq d.name k.1.now
-
-or-cond : (a b : Bool) → cond a true b ≡ (b || (a || false))
-or-cond true true = refl
-or-cond true false = refl
-or-cond false true = refl
-or-cond false false = refl
 
 module _ (scope : NameScope) (n : ℕ) (d : Declared) (at : slice_get scope.names n ≡ Some d) where
   abbrev names : List Declared

@@ -1,14 +1,12 @@
 -- The types of a built world's functions are those of its roots: what each of them passes the roots pass, and each stands among them.
-use Rattle.std.proofs.Common.{◌≡◌, ℕ, zero, suc, ◌⊎◌, inl, inr, Bool, true, List, [], ◌∷◌, ◌++◌, Option, None, Some, refl, sym, subst, ap, ◌∙◌}
+use Rattle.std.proofs.Common.{◌≡◌, ℕ, zero, suc, ◌⊎◌, inl, inr, Bool, true, List, [], ◌∷◌, ◌++◌, Option, None, Some, refl, subst, ◌∙◌}
 use Rattle.std.specs.Prelude.{slice_get}
 use Rattle.std.specs.List.{Contains, list_all}
-use Rattle.std.specs.Option.{option_map, option_to_list}
+use Rattle.std.specs.Option.{option_to_list}
 use Rattle.std.proofs.lemmas.Bool.{and_from, and_parts}
 use Rattle.std.proofs.lemmas.List.Elements.{Contains-append_left, Contains-append_right}
 use Rattle.std.proofs.lemmas.List.Folds.{list_all-append, list_all-map}
-use Rattle.std.proofs.lemmas.Option.{slice_get-map}
 use Rattle.wit_model.specs.declared.function.Function.{Function}
-use Rattle.wit_model.specs.declared.function.Param.{Param}
 use Rattle.wit_model.specs.declared.resolve.Resolve.{Resolve}
 use Rattle.wit_model.specs.declared.types.TypeDef.{TypeDef}
 use Rattle.wit_model.specs.declared.types.WitType.{WitType}
@@ -18,7 +16,6 @@ use Rattle.type_facts.specs.Roots.{Roots, both, export_side, function_roots, imp
 use Rattle.type_defs.specs.FunctionTypes.{entries_pass, function_passes, functions_pass, item_passes, passes_or_none}
 use Rattle.type_defs.specs.ListedTypes.{Entries}
 use Rattle.type_defs.specs.Used.{function_types}
-use Rattle.type_defs.proofs.UsedLemmas.{contained-at}
 use Rattle.gen_accept.specs.Built.{is_built_item, is_built_world, is_no_type, is_under_itself}
 use Rattle.gen_accept.specs.Emitted.{exported_functions, functions_in, imported_functions}
 

@@ -8,16 +8,12 @@ use Rattle.wit_model.specs.declared.world.World.{World}
 use Rattle.wit_model.specs.declared.world.WorldItem.TheVariants as entry
 use Rattle.wit_model.specs.IndexRange.{item_in_range, key_in_range, listed_in_range, world_in_range, first_out_of_range}
 use Rattle.wit_model.specs.WellFormed.{IsWellFormed, first_fault}
-use Rattle.wit_model.proofs.InRange.{neither, passes_at, unmapped}
+use Rattle.wit_model.proofs.InRange.{neither, passes_at, unmapped, none_out_of_range}
 use Rattle.type_defs.specs.ListedTypes.{Entries, listed_types, types_in}
-
-none-out : (r : Resolve) → first_fault r ≡ None → first_out_of_range r ≡ None
-unfolding first_fault
-none-out r h = unmapped _ (first_out_of_range r) (neither _ _ h).0
 
 pub world-in : (r : Resolve) (k : ℕ) (world : World) → first_fault r ≡ None → slice_get r.worlds k ≡ Some world → world_in_range r world ≡ true
 unfolding first_out_of_range
-world-in r k world h e = passes_at _ (world_in_range r) r.worlds k world (neither _ _ (neither _ _ (none-out r h)).1).1 e
+world-in r k world h e = passes_at _ (world_in_range r) r.worlds k world (neither _ _ (neither _ _ (none_out_of_range r h)).1).1 e
 
 types-within : (r : Resolve) (entries : Entries) → list_all (λ l. key_in_range r l.0 && item_in_range r l.1) entries ≡ true → list_all (λ type. nat_lt type.0 (length r.types)) (types_in entries) ≡ true
 unfolding item_in_range

@@ -1,8 +1,6 @@
 -- Which tables and options hold only what the generator builds so far.
-use Rattle.std.specs.Prelude.{Bool, true, false, not, ◌&&◌, ◌==◌, List, [], ◌∷◌, Option, None, Some, is_none}
+use Rattle.std.specs.Prelude.{Bool, true, false, not, ◌&&◌, ◌==◌, List, [], ◌∷◌, is_none}
 use Rattle.std.specs.List.{list_all}
-use Rattle.wit_model.specs.declared.types.WitType.{WitType}
-use Rattle.wit_model.specs.declared.types.WitType.TheVariants as wit
 use Rattle.wit_model.specs.declared.types.TypeDefKind.{TypeDefKind}
 use Rattle.wit_model.specs.declared.types.TypeDefKind.TheVariants as sort
 use Rattle.wit_model.specs.declared.function.Function.{Function}
@@ -15,24 +13,17 @@ use Rattle.wit_model.specs.declared.world.WorldItem.TheVariants as item
 use Rattle.wit_model.specs.declared.world.World.{World}
 use Rattle.wit_model.specs.declared.resolve.Resolve.{Resolve}
 use Rattle.gen_accept.specs.declared.opts.Opts.{Opts}
+use Rattle.type_defs.specs.Defined.{is_defined_type}
+use Rattle.type_defs.specs.FunctionTypes.{function_passes}
 use Rattle.type_defs.specs.Modes.{is_owning}
-
--- a scalar, a text or an entry of the table; what entries name is looked at by themselves
-abbrev pub is_built_type : WitType → Bool
-is_built_type wit.ErrorContext = false
-is_built_type _ = true
-
--- no result, or one of a built type
-abbrev pub is_built_result : Option WitType → Bool
-is_built_result None = true
-is_built_result (Some ty) = is_built_type ty
 
 abbrev pub is_freestanding : FunctionKind → Bool
 is_freestanding kind.Freestanding = true
 is_freestanding _ = false
 
+-- its types can be named in a definition; what entries of the table name is looked at by themselves
 abbrev pub is_built_function : Function → Bool
-is_built_function f = is_freestanding f.kind && list_all (λ p. is_built_type p.ty) f.params && is_built_result f.result
+is_built_function f = is_freestanding f.kind && function_passes is_defined_type f
 
 abbrev pub is_built_item : WorldItem → Bool
 is_built_item (item.Function f) = is_built_function f
@@ -61,9 +52,9 @@ is_built_world world =
 
 -- a type that the table may have: an alias, a record or a tuple
 abbrev pub is_built_kind : TypeDefKind → Bool
-is_built_kind (sort.Alias ty) = is_built_type ty
-is_built_kind (sort.Tuple members) = list_all is_built_type members
-is_built_kind (sort.Record fields) = list_all (λ f. is_built_type f.ty) fields
+is_built_kind (sort.Alias ty) = is_defined_type ty
+is_built_kind (sort.Tuple members) = list_all is_defined_type members
+is_built_kind (sort.Record fields) = list_all (λ f. is_defined_type f.ty) fields
 is_built_kind _ = false
 
 unfoldable pub are_built_tables : Resolve → Bool

@@ -2,7 +2,9 @@
 
 ghost use Rattle.std.specs.Prelude.{◌≡◌};
 ghost use Rattle.std.specs.List.{list_all};
-ghost use Rattle.gen_accept.specs.Built.{is_built_kind, is_built_type, is_built_result, is_freestanding, is_built_function, is_built_item, is_empty, is_no_type, is_under_itself, is_built_world, are_built_tables, are_flags_off, are_lists_empty, are_values_absent, are_built_options};
+ghost use Rattle.gen_accept.specs.Built.{is_built_kind, is_freestanding, is_built_function, is_built_item, is_empty, is_no_type, is_under_itself, is_built_world, are_built_tables, are_flags_off, are_lists_empty, are_values_absent, are_built_options};
+ghost use Rattle.type_defs.specs.Defined.{is_defined_type};
+ghost use Rattle.type_defs.specs.FunctionTypes.{function_passes, passes_or_none};
 ghost use Rattle.type_defs.specs.Modes.{is_owning};
 
 use crate::opts::Opts;
@@ -12,18 +14,18 @@ use wit_model::{
     WorldItem, WorldKey,
 };
 
-fn is_built_type(ty: WitType) -> bool
-    ensures { result ≡ is_built_type ty }
+fn is_defined_type(ty: WitType) -> bool
+    ensures { result ≡ is_defined_type ty }
 {
     !matches!(ty, WitType::ErrorContext)
 }
 
-fn is_built_result(answer: &Option<WitType>) -> bool
-    ensures { result ≡ is_built_result answer.now }
+fn is_defined_result(answer: &Option<WitType>) -> bool
+    ensures { result ≡ passes_or_none is_defined_type answer.now }
 {
     match answer {
         None => true,
-        Some(ty) => is_built_type(*ty),
+        Some(ty) => is_defined_type(*ty),
     }
 }
 
@@ -33,16 +35,22 @@ fn is_freestanding(kind: FunctionKind) -> bool
     matches!(kind, FunctionKind::Freestanding)
 }
 
-fn are_built_types(params: &[Param]) -> bool
-    ensures { result ≡ list_all (λ p. is_built_type p.ty) params.now }
+fn are_defined_params(params: &[Param]) -> bool
+    ensures { result ≡ list_all (λ p. is_defined_type p.ty) params.now }
 {
-    params.iter().all(|p| is_built_type(p.ty))
+    params.iter().all(|p| is_defined_type(p.ty))
+}
+
+fn has_defined_types(f: &Function) -> bool
+    ensures { result ≡ function_passes is_defined_type f.now }
+{
+    are_defined_params(f.params.as_slice()) && is_defined_result(&f.result)
 }
 
 fn is_built_function(f: &Function) -> bool
     ensures { result ≡ is_built_function f.now }
 {
-    is_freestanding(f.kind) && are_built_types(f.params.as_slice()) && is_built_result(&f.result)
+    is_freestanding(f.kind) && has_defined_types(f)
 }
 
 fn is_built_item(item: &WorldItem) -> bool
@@ -115,22 +123,22 @@ fn are_built_worlds(worlds: &[World]) -> bool
 }
 
 fn are_built_parts(members: &[WitType]) -> bool
-    ensures { result ≡ list_all is_built_type members.now }
+    ensures { result ≡ list_all is_defined_type members.now }
 {
-    members.iter().all(|ty| is_built_type(*ty))
+    members.iter().all(|ty| is_defined_type(*ty))
 }
 
 fn are_built_fields(fields: &[Field]) -> bool
-    ensures { result ≡ list_all (λ f. is_built_type f.ty) fields.now }
+    ensures { result ≡ list_all (λ f. is_defined_type f.ty) fields.now }
 {
-    fields.iter().all(|field| is_built_type(field.ty))
+    fields.iter().all(|field| is_defined_type(field.ty))
 }
 
 fn is_built_kind(kind: &TypeDefKind) -> bool
     ensures { result ≡ is_built_kind kind.now }
 {
     match kind {
-        TypeDefKind::Alias(ty) => is_built_type(*ty),
+        TypeDefKind::Alias(ty) => is_defined_type(*ty),
         TypeDefKind::Tuple(members) => are_built_parts(members.as_slice()),
         TypeDefKind::Record(fields) => are_built_fields(fields.as_slice()),
         _ => false,

@@ -64,7 +64,7 @@ fn has_small_functions(alloc: Global, sizes: &SizeAlign, world: &World) -> Resul
     have_small_params(alloc, sizes, exports.as_slice())
 }
 
-fn have_sizes(alloc: Global, resolve: &Resolve, world: &World) -> Result<bool, OutOfMemory>
+fn are_sizes_small(alloc: Global, resolve: &Resolve, world: &World) -> Result<bool, OutOfMemory>
     requires well { IsWellFormed resolve.now }
     requires imports { AreInRange resolve.now (imported_functions world.now) }
     requires exports { AreInRange resolve.now (exported_functions world.now) }
@@ -99,5 +99,5 @@ pub(crate) fn are_small(
     if !have_few_nodes(alloc, types, world)? {
         return Ok(false);
     }
-    have_sizes(alloc, resolve, world)
+    are_sizes_small(alloc, resolve, world)
 }

@@ -1,11 +1,11 @@
-//! What stands behind aliases, and what constructors give.
+//! What constructors give.
 
 use crate::samples::{docs, entry, no_name, no_tables, type_def};
 use std::alloc::Global;
 use std::test::Fail;
 use wit_model::{
     ConstructorReturn, Function, FunctionKind, Handle, List, OutOfMemory, Resolve, TypeDefKind,
-    TypeId, TypeOwner, WitType, classify_constructor, dealias,
+    TypeId, TypeOwner, WitType, classify_constructor,
 };
 
 fn kind(number: u32) -> TypeDefKind {
@@ -16,14 +16,13 @@ fn kind(number: u32) -> TypeDefKind {
         3 => TypeDefKind::Result(Some(entry(2)), Some(WitType::String)),
         4 => TypeDefKind::Alias(entry(3)),
         5 => TypeDefKind::Alias(entry(4)),
-        6 => TypeDefKind::Result(Some(entry(1)), None),
-        _ => TypeDefKind::Alias(WitType::U8),
+        _ => TypeDefKind::Result(Some(entry(1)), None),
     }
 }
 
 fn sample(alloc: Global) -> Result<Resolve, OutOfMemory> {
     let mut tables = no_tables(alloc);
-    for number in 0..8 {
+    for number in 0..7 {
         tables.types.push(type_def(TypeOwner::None, kind(number)))?;
     }
     Ok(tables)
@@ -37,16 +36,6 @@ fn constructor(alloc: Global, number: u32) -> Function {
         result: Some(entry(number)),
         docs: docs(),
     }
-}
-
-#[test]
-fn follows_aliases_to_their_end(rt: HostRuntime) -> Result<(), Fail> {
-    let tables = sample(rt.alloc())?;
-    tables.check(rt.alloc())?;
-    for (alias, end) in [(0, 0), (2, 1), (5, 3), (7, 7)] {
-        assert!(rt; dealias(&tables, TypeId(alias)).0 == end, "type {alias}");
-    }
-    Ok(())
 }
 
 #[test]

@@ -19,6 +19,7 @@ use Rattle.func_gen.specs.Meaning as bodies
 use Rattle.rust_gen.specs.Body.{is_among, is_sound}
 use Rattle.rust_gen.specs.Bound.{Parts, export_items}
 use Rattle.rust_gen.specs.Runtime.{is_same_item, runtime_items, runtime_module, with_asked, with_needed}
+use Rattle.wrapper_run.proofs.LocalLemmas.{option_or-None}
 
 abbrev pub IsAmong : RuntimeItem → List RuntimeItem → Type 0
 IsAmong x items = list_any (λ i. is_same_item i x) items ≡ true
@@ -84,10 +85,6 @@ among-later x i items h e = sym (ap (λ b. b || list_any (λ i. is_same_item i x
 find-among : (x : RuntimeItem) (items : List RuntimeItem) → IsAmong x items → find (found_by x) items ≡ Some x
 find-among x [] h = absurd (cc)
 find-among x (i ∷ items) h = find-here x i items (is_same_item i x) refl (λ e. find-among x items (among-later x i items h e))
-
-option_or-None : {A : Type 0} (o : Option A) → option_or o None ≡ o
-option_or-None None = refl
-option_or-None (Some x) = refl
 
 found-in_module : (x : RuntimeItem) (items : List RuntimeItem) → IsAmong x items → runtime_item_named (runtime_module items) (item_name x) ≡ Some x
 found-in_module x [] h = absurd (cc)

@@ -19,6 +19,7 @@ use Rattle.gen_accept.specs.NameText.{is_written_entry, is_written_function, is_
 use Rattle.type_defs.specs.WitForm.{is_name_char, is_nonempty, is_wit_form}
 use Rattle.rust_gen.proofs.ItemLemmas.{alone-named}
 use Rattle.wit_model.specs.Bytes.{Bytes}
+use Rattle.rust_gen.proofs.IdentLemmas.{unlike}
 
 -- the functions of written entries have written names
 pub wit-forms : (entries : Entries) → list_all is_written_entry entries ≡ true → list_all (λ f. is_wit_form f.name.wit) (functions_in entries) ≡ true
@@ -44,13 +45,6 @@ same-truth a b c d f g = go (bytes_eq a b) (bytes_eq c d) refl refl
     go false true p q =
         let same : bytes_eq a b ≡ true = (bytes_eq-Decides a b).1 (g ((bytes_eq-Decides c d).0 q)) in
         absurd (cc)
-
-never : (a b : Bytes) → (a ≡ b → ⊥) → bytes_eq a b ≡ false
-never a b n = go (bytes_eq a b) refl
-  where
-    go : (x : Bool) → bytes_eq a b ≡ x → bytes_eq a b ≡ false
-    go true p = absurd (n ((bytes_eq-Decides a b).0 p))
-    go false p = p
 
 -- `_` stands in no WIT name
 no_wit_name : (f : Function) (name : Bytes) → is_wit_form name ≡ true → post_return_name f ≡ name → ⊥
@@ -91,7 +85,7 @@ module _ (types : List TypeDef) where
       ∙ ap (flat_map (λ g. export_entry types g ∷ [])) (alone-named (λ g. g.name.wit) fs nth f d e)
     where
       behind : (g : Function) (b : Bool) → filter (λ x. bytes_eq x.export_name f.name.wit) (cond b (return_entry types g ∷ []) []) ≡ []
-      behind g true = ap (λ b. cond b (return_entry types g ∷ []) []) (never (post_return_name g) f.name.wit (no_wit_name g f.name.wit form))
+      behind g true = ap (λ b. cond b (return_entry types g ∷ []) []) (unlike (post_return_name g) f.name.wit (no_wit_name g f.name.wit form))
       behind g false = refl
 
       each : (g : Function) → is_wit_form g.name.wit ≡ true → filter (λ x. bytes_eq x.export_name f.name.wit) (entries_of types g) ≡ cond (bytes_eq g.name.wit f.name.wit) (export_entry types g ∷ []) []
@@ -115,7 +109,7 @@ module _ (types : List TypeDef) where
 
       each : (g : Function) → is_wit_form g.name.wit ≡ true → filter (λ x. bytes_eq x.export_name (post_return_name f)) (entries_of types g) ≡ cond (bytes_eq g.name.wit f.name.wit) (where_returned types g (return_entry types g)) []
       each g h =
-          ap (λ b. cond b (export_entry types g ∷ rest g) (rest g)) (never g.name.wit (post_return_name f) (λ e. no_wit_name f g.name.wit h (sym e)))
+          ap (λ b. cond b (export_entry types g ∷ rest g) (rest g)) (unlike g.name.wit (post_return_name f) (λ e. no_wit_name f g.name.wit h (sym e)))
           ∙ behind g (needs_return types g) (bytes_eq g.name.wit f.name.wit) (same-named f g)
         where
           rest : Function → List ExportEntry

@@ -30,7 +30,7 @@ use Rattle.rust_tree.specs.Asked.{asked_by_item, asked_in}
 use Rattle.rust_tree.specs.Ident.{rust_ident}
 use Rattle.rust_tree.specs.Runtime.{item_name}
 use Rattle.rust_tree.specs.Tree.{Tree, wrapper_info, wrappers_from, wrappers_of}
-use Rattle.type_defs.specs.PartType.{part_type}
+use Rattle.type_defs.specs.PartType.{part_type, printed_result}
 use Rattle.type_defs.specs.WitForm.{is_wit_form}
 use Rattle.gen_accept.specs.Area.{needs_return}
 use Rattle.gen_accept.specs.Cause.{is_well_named}
@@ -86,7 +86,6 @@ use Rattle.rust_gen.specs.Exported.{entries_of, export_entry, file_macro, guest_
 use Rattle.rust_gen.specs.Known.{IsKnown}
 use Rattle.rust_gen.specs.Faithful.{AreFaithful, export_names, import_target}
 use Rattle.rust_gen.specs.Runtime.{runtime_items, runtime_module}
-use Rattle.rust_gen.specs.Signature.{printed_result}
 use Rattle.rust_gen.specs.Wrapper.{printed_param, root_module}
 use Rattle.rust_gen.proofs.AskedLemmas.{Found, found-asked, found-at, found-export, found-parts, found-return, found-wrapper, found_all}
 use Rattle.rust_gen.proofs.EntryLemmas.{alone-return, alone-wrapper, wit-forms}
@@ -95,6 +94,7 @@ use Rattle.rust_gen.proofs.PartsLemmas.{exports-of_parts, no_exports-behind, no_
 use Rattle.rust_gen.proofs.SkipLemmas.{skip-area, skip-entries, skip-export, skip-exports, skip-import, skip-method, skip-post_return, skip-post_returns, skip-runtime_item, skip-wrappers}
 use Rattle.rust_gen.proofs.TreeLemmas.{length-places_from, own-first}
 use Rattle.rust_gen.proofs.WrapperLemmas.{area-for}
+use Rattle.type_defs.proofs.UsedLemmas.{contained-at}
 
 -- what holds of all holds of each
 zip-at : {A B : Type 0} (R : A → B → Type 0) (xs : List A) (ys : List B) (nth : ℕ) (x : A) → AllZip R xs ys → slice_get xs nth ≡ Some x → (y : B) × (slice_get ys nth ≡ Some y) × R x y
@@ -110,11 +110,6 @@ get-map : {A B : Type 0} (g : A → B) (xs : List A) (nth : ℕ) (x : A) → sli
 get-map g [] nth x e = absurd (cc)
 get-map g (y ∷ xs) zero x e = let is : y ≡ x = cc in ap (λ y. Some (g y)) is
 get-map g (y ∷ xs) (suc nth) x e = get-map g xs nth x e
-
-contains-at : {A : Type 0} (xs : List A) (nth : ℕ) (x : A) → slice_get xs nth ≡ Some x → Contains xs x
-contains-at [] nth x e = absurd (cc)
-contains-at (y ∷ xs) zero x e = let is : y ≡ x = cc in (0, omega arith, is)
-contains-at (y ∷ xs) (suc nth) x e = let c = contains-at xs nth x e in (suc c.0, omega (arith, c.1), c.2)
 
 map-map : {A B C : Type 0} (h : B → C) (g : A → B) (xs : List A) → map h (map g xs) ≡ map (λ x. h (g x)) xs
 map-map h g [] = refl
@@ -525,7 +520,7 @@ module _ (opts : Opts) (resolve : Resolve) (id : WorldId) (world : World) (known
     has_area = record {
       need = needs-all fs es b.items.exported;
       has = area_is;
-      shares = contains-at results nth (result_shape types f) (get-map (result_shape types) fs nth f e);
+      shares = contained-at results nth (result_shape types f) (get-map (result_shape types) fs nth f e);
       direct = all-direct;
     }
 

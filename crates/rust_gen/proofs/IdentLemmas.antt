@@ -57,7 +57,7 @@ decimal-some n = digits-some 63 n []
 
 -- a text with a digit is none of the words
 
-unlike : (a b : Bytes) → (a ≡ b → ⊥) → bytes_eq a b ≡ false
+pub unlike : (a b : Bytes) → (a ≡ b → ⊥) → bytes_eq a b ≡ false
 unlike a b n = false_from_ne_true (bytes_eq a b) (λ e. n ((bytes_eq-Decides a b).0 e))
 
 digits-differ : (a b : Bytes) → has_digit a ≡ false → has_digit b ≡ true → a ≡ b → ⊥

@@ -21,16 +21,12 @@ use Rattle.wrapper_values.specs.Owning.{listed}
 use Rattle.wrapper_run.specs.Places.{area_in}
 use Rattle.wrapper_run.specs.ExportRun.{method_in, method_named, method_of}
 use Rattle.wrapper_run.specs.Run.{found_in, runtime_item_named, bound}
-use Rattle.wrapper_run.proofs.LocalLemmas.{bytes_eq-same}
+use Rattle.wrapper_run.proofs.LocalLemmas.{bytes_eq-same, option_or-assoc}
 use Rattle.rust_gen.specs.Bound.{Parts, area_items, export_items}
 use Rattle.rust_gen.specs.Exported.{where_any}
 use Rattle.rust_gen.specs.Runtime.{runtime_module}
 use Rattle.rust_tree.specs.declared.item.Item.TheVariants as item
 use Rattle.wit_model.specs.Bytes.{Bytes}
-
-option_or-assoc : {A : Type 0} (o p q : Option A) → option_or (option_or o p) q ≡ option_or o (option_or p q)
-option_or-assoc None p q = refl
-option_or-assoc (Some x) p q = refl
 
 -- items of `_rt`
 

@@ -2,7 +2,7 @@ mod AskedLemmas
 mod EntryLemmas
 mod FaithfulLemmas
 mod FixedLemmas
-mod IdentLemmas
+pub mod IdentLemmas
 mod ItemLemmas
 mod KnownLemmas
 mod NamedLemmas

@@ -39,7 +39,7 @@ use Rattle.rust_gen.specs.Exported.{entries_of, export_entry, file_macro, guest_
 use Rattle.gen_accept.specs.NameText.{is_written_entry}
 use Rattle.type_defs.specs.WitForm.{is_wit_form}
 use Rattle.rust_gen.specs.OptionLines.{option_lines, unused_types_line}
-use Rattle.rust_gen.specs.Signature.{printed_result}
+use Rattle.type_defs.specs.PartType.{printed_result}
 use Rattle.rust_gen.specs.Runtime.{runtime_items, runtime_module}
 use Rattle.type_facts.specs.Roots as roots
 use Rattle.type_defs.proofs.DefinedNameLemmas.{definitions-named}

@@ -12,10 +12,9 @@ use Rattle.rust_tree.specs.Ident.{is_ident, rust_ident}
 use Rattle.rust_tree.specs.WellNamed.{is_named_param, is_named_type}
 use Rattle.rust_tree.proofs.NamedTypeLemmas.{is_named-unit}
 use Rattle.type_defs.specs.NamedParts.{HasNamedParts}
-use Rattle.type_defs.specs.PartType.{part_type}
+use Rattle.type_defs.specs.PartType.{part_type, printed_result}
 use Rattle.type_defs.proofs.PartNameLemmas.{type-part-named}
 use Rattle.rust_gen.specs.Exported.{trait_param}
-use Rattle.rust_gen.specs.Signature.{printed_result}
 
 -- each of these types reaches no named type that may not have its name
 abbrev pub AreNamedTypes : List TypeDef → List WitType → Type 0

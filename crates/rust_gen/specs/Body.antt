@@ -32,12 +32,12 @@ use Rattle.func_gen.specs.declared.function_bindgen.ParamSite.{ParamSite}
 use Rattle.func_gen.specs.declared.record_site.RecordSite.{RecordSite}
 use Rattle.wrapper_closing.specs.Bodies.{MakesExport, MakesImport, MakesPostReturn}
 use Rattle.wrapper_closing.specs.ImportBlock.{block_of}
-use Rattle.wrapper_closing.specs.Params.{arg_names, export_args, local_sites, ret_area, return_args}
+use Rattle.wrapper_closing.specs.Params.{arg_names, cleanup_list, export_args, local_sites, ret_area, return_args}
 use Rattle.wrapper_closing.specs.Parts.{AreParts}
 use Rattle.wrapper_closing.specs.declared.parts.BodyParts.{BodyParts}
 use Rattle.rust_gen.specs.FixedName.{IsFixedName}
 use Rattle.rust_gen.specs.Runtime.{is_same_item}
-use Rattle.rust_gen.specs.Signature.{printed_result}
+use Rattle.type_defs.specs.PartType.{printed_result}
 use Rattle.rust_gen.specs.Wrapper.{DeclaresOne, export_result, printed_param, root_module}
 use Rattle.rust_gen.specs.declared.export.ExportCode.{ExportCode}
 use Rattle.rust_gen.specs.declared.export.ExportMade.{ExportMade}
@@ -53,18 +53,22 @@ site_expr _ name = expr.Ref name
 abbrev pub import_site : Param → ParamSite
 import_site p = record { operand = record { expr = site_expr p.ty (rust_ident p.name) }; name = rust_ident p.name }
 
--- calls go to the root's module, and the area has its fixed name
+-- calls go to the root's module, and the area and the list of cleanups have their fixed names
 pub record AreImportParts (types : List TypeDef) (records : List (Option RecordSite)) (f : Function) (parts : BodyParts) : Type 0 where
   pub are : AreParts types parts
   pub home : parts.home ≡ root_module
   pub area : IsFixedName (param_idents f) ret_area parts.area
+  pub cleanup : IsFixedName (param_idents f) cleanup_list parts.cleanup
   pub params : parts.params ≡ map import_site f.params
   pub written : parts.records ≡ records
 
--- the wrapper of an export has core parameters, which are denoted by their names, and calls go to the trait of the world's own functions
+-- the wrapper of an export has core parameters, which are denoted by their names, calls go to the trait of the world's own functions, and
+-- the list of cleanups has its fixed name, which no core parameter has
 pub record AreExportParts (types : List TypeDef) (records : List (Option RecordSite)) (args : List CoreParam) (parts : BodyParts) : Type 0 where
   pub are : AreParts types parts
   pub home : parts.home ≡ guest_name
+  pub area : parts.area ≡ ret_area
+  pub cleanup : parts.cleanup ≡ cleanup_list
   pub params : parts.params ≡ local_sites (arg_names args)
   pub written : parts.records ≡ records
 

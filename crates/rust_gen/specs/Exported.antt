@@ -20,10 +20,9 @@ use Rattle.gen_accept.specs.Area.{needs_return}
 use Rattle.gen_accept.specs.DeclaredNames.{guest_name}
 use Rattle.gen_accept.specs.Emitted.{exported_functions}
 use Rattle.type_defs.specs.Docs.{doc_lines}
-use Rattle.type_defs.specs.PartType.{part_type}
+use Rattle.type_defs.specs.PartType.{part_type, printed_result}
 use Rattle.wrapper_faithful.specs.Passed.{passed}
 use Rattle.wrapper_closing.specs.Params.{export_args, return_args}
-use Rattle.rust_gen.specs.Signature.{printed_result}
 use Rattle.rust_gen.specs.Wrapper.{export_result}
 
 -- the trait

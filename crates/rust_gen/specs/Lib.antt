@@ -8,5 +8,4 @@ pub mod Known
 pub mod OptionLines
 pub mod Runtime
 pub mod Served
-pub mod Signature
 pub mod Wrapper

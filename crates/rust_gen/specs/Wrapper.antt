@@ -25,7 +25,7 @@ use Rattle.abi_driver.specs.Area.{AreFor}
 use Rattle.abi_driver.specs.declared.bindgen.Asked.{Asked}
 use Rattle.abi_driver.specs.Calls.{import_params, import_results}
 use Rattle.wrapper_closing.specs.Params.{export_args, result_types, return_args}
-use Rattle.rust_gen.specs.Signature.{printed_result}
+use Rattle.type_defs.specs.PartType.{printed_result}
 
 -- a parameter is lent where its type reaches a text
 abbrev pub printed_param : List TypeDef → Param → FnParam

@@ -16,7 +16,7 @@ use func_gen::{Body, TypeTables};
 use rust_tree::{Block, CallBlock, CoreParam, ExportFn, RuntimeItem, to_rust_ident};
 use std::alloc::Global;
 use wit_model::{Function, List, OutOfMemory, Resolve};
-use wrapper_closing::{BodyParts, core_params, core_sites, export_body, ret_area};
+use wrapper_closing::{BodyParts, cleanup_list, core_params, core_sites, export_body, ret_area};
 
 /// The code of an export's wrapper.
 #[derive(Drop)]
@@ -48,6 +48,7 @@ pub(crate) fn export_parts(
         sizes: taken.sizes,
         home: guest_name(alloc)?,
         area: ret_area(alloc)?,
+        cleanup: cleanup_list(alloc)?,
         params: core_sites(alloc, params)?,
         records: taken.records,
     };

@@ -5,7 +5,6 @@ ghost use Rattle.wit_model.specs.Distinct.{is_distinct};
 ghost use Rattle.wit_model.specs.IndexRange.{function_in_range};
 ghost use Rattle.wit_model.specs.WellFormed.{IsWellFormed};
 ghost use Rattle.gen_accept.specs.DeclaredNames.{param_idents};
-ghost use Rattle.wrapper_closing.specs.Params.{ret_area};
 ghost use Rattle.type_defs.specs.ParamType.{HasFacts};
 ghost use Rattle.rust_gen.specs.Body.{AreImportParts, IsImportCode, IsImportMade, IsImportOutside};
 ghost use Rattle.rust_gen.specs.FixedName.{IsFixedName};
@@ -34,13 +33,12 @@ fn root_module(alloc: Global) -> Result<Text, OutOfMemory>
     Text::from_str(alloc, "$root")
 }
 
-/// The name of the return area.
-#[tactic(auto, unfolding(wrapper_closing::specs::Params::ret_area))]
-fn area_name(alloc: Global, f: &Function) -> Result<Text, OutOfMemory>
-    ensures { IfOk result (IsFixedName (param_idents f.now) ret_area) }
+/// The fixed name of the body that begins with `base`, which no parameter has.
+fn name_beside(alloc: Global, f: &Function, base: &str) -> Result<Text, OutOfMemory>
+    ensures { IfOk result (IsFixedName (param_idents f.now) base.now) }
 {
     let params = param_idents(alloc, f.params.as_slice())?;
-    fixed_name(alloc, params.as_slice(), "ret_area")
+    fixed_name(alloc, params.as_slice(), base)
 }
 
 fn import_parts(
@@ -58,7 +56,8 @@ fn import_parts(
     let parts = BodyParts {
         sizes: taken.sizes,
         home: root_module(alloc)?,
-        area: area_name(alloc, f)?,
+        area: name_beside(alloc, f, "ret_area")?,
+        cleanup: name_beside(alloc, f, "cleanup_list")?,
         params: import_sites(alloc, f.params.as_slice())?,
         records: taken.records,
     };

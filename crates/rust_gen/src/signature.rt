@@ -4,7 +4,7 @@ ghost use Rattle.std.specs.Prelude.{◌≡◌, true, IfOk, map};
 ghost use Rattle.std.specs.List.{list_all};
 ghost use Rattle.wit_model.specs.IndexRange.{type_in_range};
 ghost use Rattle.type_defs.specs.ParamType.{HasFacts};
-ghost use Rattle.rust_gen.specs.Signature.{printed_result};
+ghost use Rattle.type_defs.specs.PartType.{printed_result};
 ghost use Rattle.rust_gen.specs.Wrapper.{printed_param};
 
 use rust_tree::{FnParam, TypeExpr, to_rust_ident};

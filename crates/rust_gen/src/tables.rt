@@ -1,9 +1,8 @@
 //! What is known of a world's types, by which the bodies of a file are made.
 
-ghost use Rattle.std.specs.Prelude.{◌≡◌, Some, IfOk};
+ghost use Rattle.std.specs.Prelude.{◌≡◌, true, Some, IfOk, slice_get};
 ghost use Rattle.wit_model.specs.declared.world.World.{World};
-ghost use Rattle.type_defs.specs.DefinedNames.{AreDefinable};
-ghost use Rattle.type_defs.specs.declared.type_opts.TypeOpts.{TypeOpts};
+ghost use Rattle.type_defs.specs.Levels.{are_shallow};
 ghost use Rattle.type_sites.specs.Sites.{record_sites};
 ghost use Rattle.rust_gen.specs.Known.{AreAtHand, CanWriteRecords, records_in};
 
@@ -23,7 +22,7 @@ pub(crate) fn type_tables(
     requires { CanWriteRecords resolve.now id }
     ensures tables { IfOk result (AreAtHand resolve.now.types) }
     ensures records { IfOk result
-        (λ tables. (opts : TypeOpts) (world : World) → AreDefinable opts resolve.now id world → records_in tables ≡ record_sites resolve.now world) }
+        (λ tables. (world : World) → slice_get resolve.now.worlds id.0 ≡ Some world → are_shallow resolve.now.types ≡ true → records_in tables ≡ record_sites resolve.now world) }
 {
     let records = record_sites(alloc, resolve, id)?;
     match SizeAlign::fill(alloc, resolve) {

@@ -10,8 +10,6 @@ mod made;
 #[cfg(test)]
 mod names;
 #[cfg(test)]
-mod needs;
-#[cfg(test)]
 mod well_named;
 #[cfg(test)]
 mod wrapping;

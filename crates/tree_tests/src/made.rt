@@ -4,8 +4,8 @@ ghost use Rattle.std.specs.Prelude.{◌≡◌, IfOk, length};
 ghost use Rattle.rust_tree.specs.Tree.{wrapper_count};
 
 use rust_tree::{
-    Bindings, Block, CallBlock, ExportFn, Expr, FnItem, FnParam, FuncPlace, Item, Path, Stmt,
-    TypeExpr, are_well_named,
+    Bindings, Block, CallBlock, ExportFn, FnItem, FuncPlace, Item, Path, Stmt, TypeExpr,
+    are_well_named,
 };
 use std::alloc::Global;
 use std::test::Fail;
@@ -32,24 +32,18 @@ pub(crate) fn path(alloc: Global, names: &[&str]) -> Result<Path, OutOfMemory> {
     })
 }
 
-/// The statement `path();`.
-pub(crate) fn called(alloc: Global, path: Path) -> Stmt {
-    Stmt::Expr(Expr::Call(path, List::new(alloc)))
-}
-
-/// An import's wrapper of this name without a result, whose body is these statements.
+/// An import's wrapper of this name without parameters and a result, whose body is these statements.
 pub(crate) fn import(
     alloc: Global,
     name: &str,
     docs: &[&str],
-    params: List<FnParam>,
     stmts: List<Stmt>,
 ) -> Result<FnItem, OutOfMemory> {
     let name = text(alloc, name)?;
     Ok(FnItem {
         docs: texts(alloc, docs)?,
         name,
-        params,
+        params: List::new(alloc),
         result: TypeExpr::Unit,
         body: Block { stmts, tail: None },
     })
@@ -94,17 +88,15 @@ pub(crate) const fn place(nth: u32) -> FuncPlace {
 /// The file of these items, or a failure where a name may not stand in one.
 pub(crate) fn file(
     alloc: Global,
-    options: &[&str],
     items: List<Item>,
     places: List<FuncPlace>,
 ) -> Result<Bindings, Fail>
     requires { length places ≡ wrapper_count items }
     ensures { IfOk result (λ t. (t.items ≡ items) × (t.places ≡ places)) }
 {
-    let options = texts(alloc, options)?;
-    if !are_well_named(options.as_slice(), items.as_slice()) {
+    if !are_well_named(&[], items.as_slice()) {
         return Err(Fail::new("a name may not stand in a tree"));
     }
-    let tree = Bindings::new(alloc, options, items, places)?;
+    let tree = Bindings::new(alloc, List::new(alloc), items, places)?;
     Ok(tree)
 }

@@ -1,6 +1,6 @@
 //! Which texts may stand in a tree at which place.
 
-use crate::made::{called, export, import, path, text, texts};
+use crate::made::{export, import, path, text, texts};
 use rust_tree::{
     CastType, EntryKind, ExportEntry, Expr, ImportDecl, Item, ModuleMacro, RootMacro, Stmt,
     TraitItem, are_well_named,
@@ -35,19 +35,25 @@ enum Place {
 fn wrapper(alloc: Global, stmt: Stmt) -> Result<Item, OutOfMemory> {
     let mut stmts = List::new(alloc);
     stmts.push(stmt)?;
-    let function = import(alloc, "f", &[], List::new(alloc), stmts)?;
+    let function = import(alloc, "f", &[], stmts)?;
     Ok(Item::Import(function))
 }
 
 /// An import's wrapper of this name, with one doc line.
 fn named(alloc: Global, name: &str, doc: &str) -> Result<Item, OutOfMemory> {
-    let function = import(alloc, name, &[doc], List::new(alloc), List::new(alloc))?;
+    let function = import(alloc, name, &[doc], List::new(alloc))?;
     Ok(Item::Import(function))
 }
 
 fn cast(alloc: Global, name: &str) -> Result<Stmt, OutOfMemory> {
     let local = Boxed::new(alloc, Expr::Local(text(alloc, name)?))?;
     Ok(Stmt::Expr(Expr::Cast(local, CastType::U8)))
+}
+
+/// The statement `a::name();`.
+fn called(alloc: Global, name: &str) -> Result<Stmt, OutOfMemory> {
+    let callee = path(alloc, &["a", name])?;
+    Ok(Stmt::Expr(Expr::Call(callee, List::new(alloc))))
 }
 
 fn declared(alloc: Global, module: &str, link_name: &str) -> Result<Stmt, OutOfMemory> {
@@ -67,7 +73,7 @@ fn statement(alloc: Global, place: Place, name: &str) -> Result<Stmt, OutOfMemor
         Place::Local => Ok(Stmt::Let(text(alloc, name)?, Expr::StaticPointer)),
         Place::Reference => Ok(Stmt::Expr(Expr::Ref(text(alloc, name)?))),
         Place::Cast => cast(alloc, name),
-        Place::SecondName => Ok(called(alloc, path(alloc, &["a", name])?)),
+        Place::SecondName => called(alloc, name),
         Place::Module => declared(alloc, name, "f"),
         _ => declared(alloc, "m", name),
     }

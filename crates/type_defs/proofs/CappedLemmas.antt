@@ -1,17 +1,11 @@
 -- A count that is capped on the way is capped as the whole.
-use Rattle.std.proofs.Common.{◌≡◌, ℕ, ◌+◌, ◌≤◌, nat_le, arith}
+use Rattle.std.proofs.Common.{◌≡◌, ℕ, ◌+◌, ◌≤◌, arith}
 use Prim.Native.Nat.{min}
 use Rattle.std.proofs.lemmas.Grind.{common_steps}
 use Rattle.type_defs.specs.Nodes.{capped}
 
 pub capped-few : (a : ℕ) → capped a ≤ 65537
 capped-few a = grind (arith, common_steps)
-
-pub capped-more : (a b : ℕ) → capped (capped a + b) ≡ capped (a + b)
-capped-more a b = grind (arith, common_steps)
-
-pub few-more : (a b : ℕ) → nat_le (capped a + b) 65536 ≡ nat_le (a + b) 65536
-few-more a b = grind (arith, common_steps)
 
 -- one more count, added without wrapping and capped
 pub capped-next : (sum next rest top : ℕ) {added now : ℕ} → 65537 ≤ top → added ≡ min (sum + next) top → now ≡ capped added → capped (now + rest) ≡ capped (sum + (next + rest))

@@ -3,13 +3,7 @@ use Rattle.std.proofs.Common.{◌≡◌, ℕ, suc, ◌+◌, ◌<◌, ◌∙◌, 
 use Rattle.std.specs.List.{list_all, slice_get}
 use Rattle.std.proofs.Math.Seq.{drop-cons, take-suc}
 use Rattle.std.proofs.lemmas.Option.{slice_get_within, get_or_from_slice_get}
-
-pub drop_at : {A : Type 0} (xs : List A) (n : ℕ) (x : A) → slice_get xs n ≡ Some x → drop n xs ≡ x ∷ drop (n + 1) xs
-drop_at xs n x e =
-    let within : n < length xs = slice_get_within xs n x e in
-    let at : get_or xs n x ≡ x = get_or_from_slice_get xs n x x e in
-    let next : n + 1 ≡ suc n = omega arith in
-    rw next (drop-cons xs n x within ∙ ap (λ y. y ∷ drop (suc n) xs) at)
+use Rattle.wit_model.proofs.ListLemmas.{drop_at}
 
 pub take_at : {A : Type 0} (xs : List A) (n : ℕ) (x : A) → slice_get xs n ≡ Some x → take (n + 1) xs ≡ take n xs ++ x ∷ []
 take_at xs n x e =

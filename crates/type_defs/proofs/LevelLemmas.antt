@@ -11,8 +11,7 @@ use Rattle.wit_model.specs.declared.types.TypeDef.{TypeDef}
 use Rattle.wit_model.specs.Parts.{parts}
 use Rattle.wit_model.specs.TypeOrder.{type_below, payload_below, parts_below, GoesDown}
 use Rattle.wit_model.proofs.BelowLemmas.{id_below}
-use Rattle.wit_model.proofs.ListLemmas.{at_end}
-use Rattle.type_defs.proofs.CutLemmas.{drop_at}
+use Rattle.wit_model.proofs.ListLemmas.{at_end, drop_at}
 use Rattle.type_defs.specs.Levels.{AreLevels, greater, greatest, greatest_below, is_any_deeper, is_deeper, is_shallow, level_of, parts_of}
 
 greater-assoc : (a b c : ℕ) → greater (greater a b) c ≡ greater a (greater b c)

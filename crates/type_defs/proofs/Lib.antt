@@ -7,7 +7,7 @@ mod LevelLemmas
 pub mod ListingLemmas
 pub mod NamedTextLemmas
 pub mod ParamInstances
-mod ParamLemmas
+pub mod ParamLemmas
 pub mod PartLemmas
 pub mod PartNameLemmas
 pub mod PrintedLemmas

@@ -1,7 +1,7 @@
 -- What a type reaches is listed where the parts of each are.
 use Rattle.std.proofs.Common.{◌≡◌, ℕ, zero, suc, ◌+◌, ◌<◌, ◌∙◌, Bool, true, false, cond, ◌&&◌, ◌||◌, not, nat_eq, inl, inr, List, [], ◌∷◌, ◌++◌, length, take, get_or, Option, Some, None, is_none, refl, sym, ap, subst, add-zero, arith}
 use Rattle.std.specs.List.{enumerate_from, list_all, list_any, slice_get}
-use Rattle.std.proofs.lemmas.Bool.{and_from, and_parts}
+use Rattle.std.proofs.lemmas.Bool.{and_from, and_parts, not-true}
 use Rattle.std.proofs.lemmas.List.Folds.{list_any-append}
 use Rattle.std.proofs.lemmas.Option.{slice_get-get_or, slice_get_within}
 use Rattle.wit_model.specs.declared.name.TypeId.{TypeId}
@@ -22,12 +22,13 @@ use Rattle.type_defs.specs.Listing.{AreCovered, are_listed, are_listed_well, cov
 use Rattle.type_defs.specs.FunctionTypes.{functions_pass, passes_or_none}
 use Rattle.type_defs.proofs.CutLemmas.{take_at}
 use Rattle.type_defs.proofs.FunctionTypeLemmas.{all-same, functions-more, functions-same}
+use Rattle.std.proofs.lemmas.List.{nil_from_length}
 
 -- an id of any table
 abbrev pub first-id : TypeId
 first-id = record { 0 = 0 }
 
-or-cond : (a b : Bool) → cond a true b ≡ (b || (a || false))
+pub or-cond : (a b : Bool) → cond a true b ≡ (b || (a || false))
 or-cond true true = refl
 or-cond true false = refl
 or-cond false true = refl
@@ -44,20 +45,12 @@ or-false : (a b : Bool) → (a || b) ≡ false → (a ≡ false) × (b ≡ false
 or-false true b h = cc
 or-false false b h = (refl, h)
 
-pub not-true : (b : Bool) → not b ≡ true → b ≡ false
-not-true false h = refl
-not-true true h = cc
-
 -- no type behind the end of a table is covered
 or-past : (known : List Bool) (types : List TypeDef) (n : ℕ) → length known ≡ length types → slice_get types n ≡ None → get_or known n false ≡ false
 or-past [] types n count none = refl
 or-past (b ∷ known) [] n count none = absurd (omega (arith, count))
 or-past (b ∷ known) (t ∷ types) zero count none = absurd (cc)
 or-past (b ∷ known) (t ∷ types) (suc n) count none = or-past known types n (omega (arith, count)) none
-
-length-zero : {A : Type 0} (xs : List A) → length xs ≡ 0 → xs ≡ []
-length-zero [] h = refl
-length-zero (x ∷ xs) h = absurd (omega (arith, h))
 
 -- a type that is covered before the table is gone up is none of its entries
 outside-covered : (types : List TypeDef) (listed : List TypeId) (ty : WitType) → covered_by [] (Some ty) ≡ true → is_covered types listed 100 ty ≡ true
@@ -132,7 +125,7 @@ module _ (types : List TypeDef) (down : GoesDown types) (listed : List TypeId) (
 pub nothing-listed : (types : List TypeDef) (nth : ℕ) (world : World) → length (listed_types world) ≡ 0 → functions_pass (λ ty. covered_by [] (Some ty)) world ≡ true → keeps_listing types nth world ≡ true
 unfolding keeps_listing
 nothing-listed types nth world none outside =
-    let listed : listed_types world ≡ [] = length-zero (listed_types world) none in
+    let listed : listed_types world ≡ [] = nil_from_length (listed_types world) none in
     and_from (are_listed types nth (listed_types world)) (functions_pass (is_covered types (listed_types world) 100) world) (ap (are_listed types nth) listed)
     (functions-more (λ ty. covered_by [] (Some ty)) (is_covered types (listed_types world) 100) (outside-covered types (listed_types world)) world outside)
 

@@ -15,7 +15,7 @@ use Rattle.wit_model.specs.declared.types.WitType.{WitType}
 use Rattle.wit_model.specs.declared.types.WitType.TheVariants as wit
 use Rattle.wit_model.specs.Parts.{parts}
 use Rattle.wit_model.specs.TypeOrder.{GoesDown, parts_below, payload_below, type_below}
-use Rattle.wit_model.proofs.BelowLemmas.{id_below}
+use Rattle.wit_model.proofs.BelowLemmas.{id_below, type_below_more, payload_below_more}
 use Rattle.rust_tree.specs.declared.type_expr.TypeExpr.TheVariants as type
 use Rattle.type_facts.specs.declared.info.TypeInfo.{TypeInfo}
 use Rattle.type_facts.specs.Facts.{IsInfoOf}
@@ -24,12 +24,7 @@ use Rattle.type_defs.specs.Finds.{finds}
 use Rattle.type_defs.specs.Levels.{are_shallow}
 use Rattle.type_defs.specs.ParamType.{has_list, is_text, lent_by, lent_entry, lent_found, lent_within, text_or}
 use Rattle.type_defs.specs.Printed.{printed_type}
-use Rattle.type_defs.proofs.UsedLemmas.{finds_reached, reached_found, shallow_low}
-
-same-truth : (a b : Bool) → (a ≡ true → b ≡ true) → (b ≡ true → a ≡ true) → a ≡ b
-same-truth true b f g = sym (f refl)
-same-truth false true f g = g refl
-same-truth false false f g = refl
+use Rattle.type_defs.proofs.UsedLemmas.{finds_reached, reached_found, shallow_low, same-truth}
 
 -- the facts of a type tell whether it reaches a text or a list
 pub has_list-told : (r : Resolve) (world : WorldId) (id : TypeId) (info : TypeInfo) → are_shallow r.types ≡ true → IsInfoOf r world id info → info.has_list ≡ has_list r.types (wit.Id id)
@@ -66,21 +61,11 @@ lent-level types (suc levels) id entry some h e =
 
 -- what a type of the table names is in the table
 
-type-below-more : (low high : ℕ) (ty : WitType) → low ≤ high → type_below low ty ≡ true → type_below high ty ≡ true
-unfolding type_below
-type-below-more low high (wit.Id id) le h = let below : id.0 < low = id_below low id h in grind (arith, common_steps)
-type-below-more low high _ le h = refl
-
-payload-below-more : (low high : ℕ) (p : Option WitType) → low ≤ high → payload_below low p ≡ true → payload_below high p ≡ true
-unfolding payload_below
-payload-below-more low high None le h = refl
-payload-below-more low high (Some ty) le h = type-below-more low high ty le h
-
 all-below-more : (low high : ℕ) (ps : List (Option WitType)) → low ≤ high → list_all (λ p. payload_below low p) ps ≡ true → list_all (λ p. payload_below high p) ps ≡ true
 all-below-more low high [] le h = refl
 all-below-more low high (p ∷ ps) le h =
     let each = and_parts (payload_below low p) (list_all (λ p. payload_below low p) ps) h in
-    and_from (payload_below high p) (list_all (λ p. payload_below high p) ps) (payload-below-more low high p le each.0) (all-below-more low high ps le each.1)
+    and_from (payload_below high p) (list_all (λ p. payload_below high p) ps) (payload_below_more low high p le each.0) (all-below-more low high ps le each.1)
 
 pub entry-below : (types : List TypeDef) (k : ℕ) (entry : TypeDef) → GoesDown types → slice_get types k ≡ Some entry → parts_below (length types) entry.kind ≡ true
 unfolding parts_below

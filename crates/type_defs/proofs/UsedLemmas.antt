@@ -1,7 +1,7 @@
 -- What a test finds in a type is what the type reaches, so the facts of a named type tell whether a function uses it.
 use Rattle.std.proofs.Common.{◌≡◌, ℕ, zero, suc, ◌⊎◌, inl, inr, ◌∙◌, Bool, true, false, ◌||◌, List, [], ◌∷◌, Option, Some, None, refl, sym, ap, subst, arith}
 use Rattle.std.specs.List.{Contains, list_any, slice_get}
-use Rattle.std.proofs.lemmas.Bool.{eq-eqb, eqb-true, or_left, or_right}
+use Rattle.std.proofs.lemmas.Bool.{eq-eqb, eqb-true, or_left, or_right, not-true}
 use Rattle.std.proofs.lemmas.List.Elements.{Contains-append_cases, Contains-append_left, Contains-append_right}
 use Rattle.wit_model.specs.declared.name.TypeId.{TypeId}
 use Rattle.wit_model.specs.declared.name.WorldId.{WorldId}
@@ -20,7 +20,7 @@ use Rattle.type_defs.specs.Finds.{finds, finds_within}
 use Rattle.type_defs.specs.Levels.{are_shallow, is_any_deeper, is_deeper, is_shallow, parts_of, passes}
 use Rattle.type_defs.specs.Modes.{is_used}
 use Rattle.type_defs.specs.Used.{function_types, is_at, uses}
-use Rattle.type_defs.proofs.ListingLemmas.{any-false, not-true}
+use Rattle.type_defs.proofs.ListingLemmas.{any-false}
 
 -- 1. Lists
 
@@ -146,7 +146,7 @@ reached_uses r world type shallow from =
     any-contained (finds r.types (is_at type.0)) (function_types r world) from.root from.is_root
     (reached_found r.types (is_at type.0) from.root (Id type) (shallow_low r.types from.root shallow) from.reached (eq-eqb type.0 type.0 refl))
 
-same-truth : (a b : Bool) → (a ≡ true → b ≡ true) → (b ≡ true → a ≡ true) → a ≡ b
+pub same-truth : (a b : Bool) → (a ≡ true → b ≡ true) → (b ≡ true → a ≡ true) → a ≡ b
 same-truth true b f g = sym (f refl)
 same-truth false true f g = g refl
 same-truth false false f g = refl
@@ -183,15 +183,6 @@ used_is r id world type info shallow found named facts = same-truth (is_used inf
           | inl b ↦ or_right info.owned info.borrowed (facts.borrowed.1 (named, subst (λ (rs : Roots). IsReachedFrom r.types rs.borrowed (Id type)) (sym roots) (record { root = from.root; is_root = b; reached = from.reached })))
           | inr o ↦ or_left info.owned info.borrowed (facts.owned.1 (named, subst (λ (rs : Roots). IsReachedFrom r.types rs.owned (Id type)) (sym roots) (record { root = from.root; is_root = o; reached = from.reached })))
         ]
-
--- an unnamed type has no use by the facts
-pub unnamed_unused : (r : Resolve) (id : WorldId) (type : TypeId) (info : TypeInfo) → (IsNamed r.types type → ⊥) → IsInfoOf r id type info → is_used info ≡ false
-unnamed_unused r id type info none facts = go info.owned info.borrowed (λ o. none (facts.owned.0 o).0) (λ b. none (facts.borrowed.0 b).0)
-  where
-    go : (o b : Bool) → (o ≡ true → ⊥) → (b ≡ true → ⊥) → (o || b) ≡ false
-    go true b f g = absurd (f refl)
-    go false true f g = absurd (g refl)
-    go false false f g = refl
 
 pub reaches_through : {types : List TypeDef} {from middle ty : WitType} → Reaches types from middle → Reaches types middle ty → Reaches types from ty
 reaches_through reaches_itself after = after

@@ -1,7 +1,6 @@
 -- When the names that definitions of types print may stand in a tree.
 use Rattle.std.specs.Prelude.{◌≡◌, Bool, true, ◌&&◌, ◌||◌, nat_lt, List, length, map, Some, slice_get}
 use Rattle.std.specs.List.{Contains, list_all}
-use Rattle.wit_model.specs.declared.name.Name.{Name}
 use Rattle.wit_model.specs.declared.name.TypeId.{TypeId}
 use Rattle.wit_model.specs.declared.name.WorldId.{WorldId}
 use Rattle.wit_model.specs.declared.resolve.Resolve.{Resolve}
@@ -12,9 +11,8 @@ use Rattle.wit_model.specs.declared.types.WitType.{WitType}
 use Rattle.wit_model.specs.declared.types.WitType.TheVariants.{Id}
 use Rattle.wit_model.specs.declared.world.World.{World}
 use Rattle.wit_model.specs.Distinct.{is_distinct}
-use Rattle.wit_model.specs.Reaches.{Reaches}
 use Rattle.wit_model.specs.WellFormed.{IsWellFormed}
-use Rattle.rust_tree.specs.Ident.{is_ident, is_type_name, rust_ident, type_ident}
+use Rattle.rust_tree.specs.Ident.{is_ident, rust_ident}
 use Rattle.type_facts.specs.declared.info.TypeInfo.{TypeInfo}
 use Rattle.type_facts.specs.Facts.{IsInfoOf}
 use Rattle.type_defs.specs.declared.type_opts.TypeOpts.{TypeOpts}
@@ -22,6 +20,7 @@ use Rattle.type_defs.specs.Modes.{is_owning, is_used}
 use Rattle.type_defs.specs.Defined.{are_defined_kinds, have_defined_parts}
 use Rattle.type_defs.specs.Levels.{are_shallow}
 use Rattle.type_defs.specs.ListedTypes.{listed_types}
+use Rattle.type_defs.specs.NamedParts.{HasNamedParts}
 use Rattle.type_defs.specs.PrintedTypes.{field_names, type_name}
 use Rattle.type_defs.specs.Used.{Covers, defined_types, function_types}
 use Rattle.type_defs.specs.WitForm.{is_wit_form}
@@ -33,7 +32,7 @@ are_named_parts _ = true
 
 -- each named type that a type reaches has a name that a type may have, and so have its fields
 pub record IsNamedDefinition (types : List TypeDef) (id : TypeId) : Type 0 where
-  pub reached : (part : TypeId) (entry : TypeDef) (name : Name) → Reaches types (Id id) (Id part) → slice_get types part.0 ≡ Some entry → entry.name ≡ Some name → is_type_name (type_ident name) ≡ true
+  pub reached : HasNamedParts types (Id id)
   pub parts : (entry : TypeDef) → slice_get types id.0 ≡ Some entry → are_named_parts entry.kind ≡ true
 
 -- what is known of tables whose types are defined: they are well formed, their types are of kinds that are defined, no way down is

@@ -40,3 +40,8 @@ levels_of _ = 0
 
 unfoldable pub part_type : List TypeDef → WitType → TypeExpr
 part_type types ty = type_within types (levels_of ty) ty
+
+-- of a function's result; without one it answers `()`
+abbrev pub printed_result : List TypeDef → Option WitType → TypeExpr
+printed_result types None = type.Unit
+printed_result types (Some ty) = part_type types ty

@@ -113,7 +113,8 @@ fn push_type(
     Ok(())
 }
 
-/// The definitions of the types that a world lists itself, in its order.
+/// The definitions of the types that a world lists itself, in its order. `OutOfMemory` comes where there is no memory for a definition, or
+/// for a mark for each type.
 pub fn definitions_of(
     alloc: Global,
     opts: TypeOpts,

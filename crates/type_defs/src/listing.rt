@@ -202,7 +202,8 @@ fn keeps_listing(
 
 /// Whether each type that a world lists has a name and that world as its owner, and whether the world lists each named
 /// type that such a type reaches, or a type of one of its functions. For each world that lists a type, or has a function
-/// that names an entry of the table, it goes up the table once.
+/// that names an entry of the table, it goes up the table once. `OutOfMemory` comes where there is no memory for a mark for
+/// each type, or for the types that a world lists.
 #[tactic(auto, unfolding(crate::specs::Listing::are_listed_well))]
 pub fn are_listed_well(alloc: Global, resolve: &Resolve) -> Result<bool, OutOfMemory>
     requires well { IsWellFormed resolve.now }

@@ -37,7 +37,8 @@ fn push_where<'a>(
 }
 
 /// The types that a world lists and that are defined in its file, in its order: those that a function of the world uses,
-/// and all where unused types are asked for.
+/// and all where unused types are asked for. `OutOfMemory` comes where there is no memory for a place for each, or for a mark
+/// for each type.
 pub fn defined_types<'a>(
     alloc: Global,
     opts: TypeOpts,
@@ -62,7 +63,8 @@ pub fn defined_types<'a>(
     Ok(defined)
 }
 
-/// The name of a type that is defined: its identifier, and no text where it has no name.
+/// The name of a type that is defined: its identifier, and no text where it has no name. `OutOfMemory` comes where there is
+/// no memory for the identifier.
 pub fn type_name(alloc: Global, entry: &TypeDef) -> Result<Text, OutOfMemory>
     ensures { IfOk result (λ name. name ≡ type_name entry.now) }
 {

@@ -1,5 +1,4 @@
 pub mod Analysing
-pub mod Lists
 pub mod Marking
 pub mod Reaching
 pub mod Spreading

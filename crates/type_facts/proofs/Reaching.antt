@@ -19,8 +19,7 @@ use Rattle.type_facts.specs.declared.reach.Reach.{Reach}
 use Rattle.type_facts.specs.Facts.{Has}
 use Rattle.type_facts.specs.Own.{own, own_of_kind, own_of_entry, nothing}
 use Rattle.type_facts.specs.Passes.{join, reach_of, reach_of_part, reach_of_parts, reach_of_kind, IsReach, AreReaches}
-use Rattle.wit_model.proofs.ListLemmas.{at_end}
-use Rattle.type_facts.proofs.Lists.{drop_at}
+use Rattle.wit_model.proofs.ListLemmas.{at_end, drop_at}
 
 join-assoc : (a b c : Reach) → join a (join b c) ≡ join (join a b) c
 join-assoc a b c =

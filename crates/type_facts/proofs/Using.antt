@@ -20,9 +20,9 @@ use Rattle.type_facts.specs.declared.uses.Uses.{Uses}
 use Rattle.type_facts.specs.Facts.{IsReachedFrom}
 use Rattle.type_facts.specs.Passes.{mark_all, with_marked, no_uses, IsMarked, Spreads, AreUses}
 use Rattle.type_facts.specs.Roots.{Roots, both, function_roots, functions_roots, item_roots, listed_roots, world_roots}
-use Rattle.type_facts.proofs.Lists.{drop_at}
 use Rattle.type_facts.proofs.Marking.{all_marked, all_there, length-mark_all, mark_all-append}
 use Rattle.type_facts.proofs.Spreading.{same_id}
+use Rattle.wit_model.proofs.ListLemmas.{drop_at}
 
 pub with_marked-both : (uses : Uses) (a b : Roots) → with_marked uses (both a b) ≡ with_marked (with_marked uses a) b
 with_marked-both uses a b =

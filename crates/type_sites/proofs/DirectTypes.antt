@@ -13,14 +13,14 @@ use Rattle.wit_model.specs.declared.types.WitType.TheVariants as wit
 use Rattle.wit_model.specs.Parts.{parts}
 use Rattle.wit_model.specs.TypeOrder.{GoesDown, parts_below, payload_below, type_below}
 use Rattle.wit_model.proofs.AllLemmas.{all_at}
-use Rattle.wit_model.proofs.BelowLemmas.{id_below}
+use Rattle.wit_model.proofs.BelowLemmas.{id_below, type_below_more}
 use Rattle.type_defs.specs.Defined.{are_defined_kinds, have_defined_parts, is_defined_kind, is_defined_part, is_defined_type}
 use Rattle.wrapper_meaning.specs.Shape.{shape_of}
 use Rattle.abi_driver.specs.Instructions.{shapes_of}
 use Rattle.abi_driver.proofs.Records.{alias_shape, record_shape, tuple_shape}
 use Rattle.wrapper_closing.specs.Direct.{are_direct, is_direct}
-use Rattle.type_sites.proofs.PartTypes.{below-more}
-use Rattle.type_sites.proofs.PrintedTypes.{mapped, mapped-fields, present}
+use Rattle.type_sites.proofs.PrintedTypes.{mapped, mapped-fields}
+use Rattle.wit_layout.proofs.AheadTurns.{entry_at}
 
 module _ (types : List TypeDef) (down : GoesDown types) (kinds : are_defined_kinds types ≡ true) (sound : have_defined_parts types ≡ true) where
   pub all-direct : (tys : List WitType) → ((nth : ℕ) (ty : WitType) → slice_get tys nth ≡ Some ty → is_direct (shape_of types ty) ≡ true) → are_direct (shapes_of types tys) ≡ true
@@ -55,8 +55,8 @@ module _ (types : List TypeDef) (down : GoesDown types) (kinds : are_defined_kin
   direct-below zero (wit.Id id) within below h = let no : id.0 < 0 = id_below 0 id below in absurd (omega arith)
   direct-below (suc n) (wit.Id id) within below h =
       let low = id_below (suc n) id below in
-      let there = present types id.0 (omega arith) in
-      entry-direct id there.0 there.1 (λ ty part defined. direct-below n ty (omega arith) (below-more id.0 n ty (omega arith) part) defined)
+      let there = entry_at types id.0 (omega arith) in
+      entry-direct id there.0 there.1 (λ ty part defined. direct-below n ty (omega arith) (type_below_more id.0 n ty (omega arith) part) defined)
   direct-below n wit.Bool within below h = refl
   direct-below n wit.U8 within below h = refl
   direct-below n wit.U16 within below h = refl

@@ -12,16 +12,10 @@ use Rattle.wit_model.specs.declared.types.WitType.{WitType}
 use Rattle.wit_model.specs.declared.types.WitType.TheVariants.{Id}
 use Rattle.wit_model.specs.Parts.{parts}
 use Rattle.wit_model.specs.TypeOrder.{GoesDown, parts_below, payload_below, type_below}
-use Rattle.wit_model.proofs.BelowLemmas.{id_below}
+use Rattle.wit_model.proofs.BelowLemmas.{id_below, type_below_more}
 use Rattle.rust_tree.specs.declared.type_expr.TypeExpr.{TypeExpr}
 use Rattle.rust_tree.specs.declared.type_expr.TypeExpr.TheVariants as type
 use Rattle.type_defs.specs.PartType.{entry_type, found_type, levels_of, part_type, type_within}
-
--- an id below a bound is below a higher one; what is no entry is below any
-pub below-more : (low high : ℕ) (ty : WitType) → low ≤ high → type_below low ty ≡ true → type_below high ty ≡ true
-unfolding type_below
-below-more low high (Id id) le h = let less = id_below low id h in lt-ltb id.0 high (omega arith)
-below-more low high _ le h = refl
 
 pub below-itself : (ty : WitType) → type_below (levels_of ty) ty ≡ true
 unfolding type_below
@@ -56,7 +50,7 @@ within-same types down (suc n) (suc m) (Id id) h g = go (slice_get types id.0) r
         let high = id_below (suc n) id h in
         let higher = id_below (suc m) id g in
         ap (found_type (type_within types n)) at
-        ∙ entry-alike id.0 (type_within types n) (type_within types m) (λ ty low. further ty (below-more id.0 n ty (omega arith) low) (below-more id.0 m ty (omega arith) low)) entry.kind entry.name (down id.0 entry at)
+        ∙ entry-alike id.0 (type_within types n) (type_within types m) (λ ty low. further ty (type_below_more id.0 n ty (omega arith) low) (type_below_more id.0 m ty (omega arith) low)) entry.kind entry.name (down id.0 entry at)
         ∙ sym (ap (found_type (type_within types m)) at)
 within-same types down zero zero _ h g = refl
 within-same types down zero (suc m) _ h g = refl

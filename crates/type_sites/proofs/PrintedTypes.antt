@@ -15,7 +15,7 @@ use Rattle.wit_model.specs.Parts.{parts}
 use Rattle.wit_model.specs.Reaches.{Names, Reaches, reaches_by, reaches_itself}
 use Rattle.wit_model.specs.TypeOrder.{GoesDown, parts_below, payload_below, type_below}
 use Rattle.wit_model.proofs.AllLemmas.{all_at}
-use Rattle.wit_model.proofs.BelowLemmas.{id_below}
+use Rattle.wit_model.proofs.BelowLemmas.{id_below, type_below_more}
 use Rattle.wit_layout.proofs.FlattenSteps.{rank}
 use Rattle.rust_tree.specs.Ident.{type_ident}
 use Rattle.rust_tree.specs.declared.item.Item.{Item}
@@ -38,7 +38,8 @@ use Rattle.abi_driver.specs.Instructions.{field_shapes, shapes_of}
 use Rattle.abi_driver.proofs.Records.{alias_rank, alias_shape, record_shape, tuple_shape}
 use Rattle.wrapper_closing.specs.PrintedAs.{ArePrintedAs, IsPrintedAs, scalar_type}
 use Rattle.type_sites.proofs.Definitions.{IsDefinedIn}
-use Rattle.type_sites.proofs.PartTypes.{below-more, printed-entry}
+use Rattle.type_sites.proofs.PartTypes.{printed-entry}
+use Rattle.wit_layout.proofs.AheadTurns.{entry_at}
 
 -- 1. Types without parts, and paths
 
@@ -85,12 +86,6 @@ steps : (items more : List Item) (ty target last : TypeExpr) → target_of items
     → behind more items ty ≡ last
 steps items [] ty target last e some h = absurd (omega arith)
 steps items (i ∷ more) ty target last e some h = ap (behind_one (behind more items) ty) e ∙ h more (omega arith)
-
--- an id of the table has an entry
-pub present : {A : Type 0} (xs : List A) (n : ℕ) → n < length xs → (x : A) × (slice_get xs n ≡ Some x)
-present [] n h = absurd (omega arith)
-present (x ∷ xs) zero h = (x, refl)
-present (x ∷ xs) (suc n) h = present xs n (omega arith)
 
 -- parts of a kind, by its members
 pub mapped : (tys : List WitType) (nth : ℕ) (ty : WitType) → slice_get tys nth ≡ Some ty → slice_get (map (λ ty. Some ty) tys) nth ≡ Some (Some ty)
@@ -313,8 +308,8 @@ module _ (types : List TypeDef) (items : List Item) (count : ℕ → ℕ) where
     ends-below zero (wit.Id id) within below h all = let no : id.0 < 0 = id_below 0 id below in absurd (omega arith)
     ends-below (suc n) (wit.Id id) within below h all =
         let low = id_below (suc n) id below in
-        let there = present types id.0 (omega arith) in
-        entry-ends id there.0 there.1 all (λ ty part defined parts. ends-below n ty (omega arith) (below-more id.0 n ty (omega arith) part) defined parts)
+        let there = entry_at types id.0 (omega arith) in
+        entry-ends id there.0 there.1 all (λ ty part defined parts. ends-below n ty (omega arith) (type_below_more id.0 n ty (omega arith) part) defined parts)
 
     pub type-printed : (ty : WitType) → type_below (length types) ty ≡ true → is_defined_type ty ≡ true → AreReachedDefined ty → IsPrintedAs items (shape_of types ty) (part_type types ty)
     type-printed ty below h all = printed most ty (ends-below (length types) ty (omega arith) below h all)

@@ -15,8 +15,7 @@ use Rattle.wit_model.specs.declared.types.TypeDefKind.TheVariants as kind
 use Rattle.wit_model.specs.declared.world.World.{World}
 use Rattle.type_facts.specs.declared.info.TypeInfo.{TypeInfo}
 use Rattle.type_facts.specs.Facts.{IsInfoOf}
-use Rattle.type_defs.specs.declared.type_opts.TypeOpts.{TypeOpts}
-use Rattle.type_defs.specs.DefinedNames.{AreDefinable}
+use Rattle.type_defs.specs.Levels.{are_shallow}
 use Rattle.type_defs.specs.Modes.{is_used}
 use Rattle.type_defs.specs.Used.{uses}
 use Rattle.type_defs.proofs.UsedLemmas.{used_is}
@@ -34,15 +33,15 @@ none-either false true = refl
 none-either false false = refl
 
 -- by the facts of a type, as by the functions
-pub site-told : (opts : TypeOpts) (r : Resolve) (w : WorldId) (world : World) (id : TypeId) (entry : TypeDef) (info : TypeInfo) → AreDefinable opts r w world → slice_get r.types id.0 ≡ Some entry → IsInfoOf r w id info
+pub site-told : (r : Resolve) (w : WorldId) (world : World) (id : TypeId) (entry : TypeDef) (info : TypeInfo) → slice_get r.worlds w.0 ≡ Some world → are_shallow r.types ≡ true → slice_get r.types id.0 ≡ Some entry → IsInfoOf r w id info
     → cond (is_used info) (site_of entry) None ≡ site_at r world (id.0, entry)
-site-told opts r w world id entry info d at facts = go entry.name refl
+site-told r w world id entry info found shallow at facts = go entry.name refl
   where
     go : (n : Option Name) → entry.name ≡ n → cond (is_used info) (site_of entry) None ≡ site_at r world (id.0, entry)
     go None named =
         let unnamed : site_of entry ≡ None = ap (site_by entry.kind) named ∙ unnamed-site entry.kind in
         ap (λ s. cond (is_used info) s None) unnamed ∙ none-either (is_used info) (uses r world id.0) ∙ sym (ap (λ s. cond (uses r world id.0) s None) unnamed)
-    go (Some name) named = ap (λ b. cond b (site_of entry) None) (used_is r w world id info d.shallow d.found (record { entry = entry; entry_at = at; named = ap (λ n. is_some n) named }) facts)
+    go (Some name) named = ap (λ b. cond b (site_of entry) None) (used_is r w world id info shallow found (record { entry = entry; entry_at = at; named = ap (λ n. is_some n) named }) facts)
 
 -- with one more
 pub sites-more : (r : Resolve) (world : World) (records after : List (Option RecordSite)) (n : ℕ) (entry : TypeDef) (site : Option RecordSite) → n < length r.types → slice_get r.types n ≡ Some entry

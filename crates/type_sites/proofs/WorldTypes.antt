@@ -26,14 +26,14 @@ use Rattle.type_facts.specs.Roots.{param_types, result_types}
 use Rattle.type_defs.specs.declared.type_opts.TypeOpts.{TypeOpts}
 use Rattle.type_defs.specs.Defined.{is_defined_type}
 use Rattle.type_defs.specs.DefinedNames.{AreDefinable}
-use Rattle.type_defs.specs.PartType.{part_type}
+use Rattle.type_defs.specs.PartType.{part_type, printed_result}
 use Rattle.type_defs.specs.Used.{Covers, function_types, uses}
 use Rattle.type_defs.proofs.UsedLemmas.{contained-at, reached_uses}
 use Rattle.wrapper_meaning.specs.Shape.{param_shapes, result_shape, shape_of}
 use Rattle.abi_driver.specs.Instructions.{shapes_of}
 use Rattle.wrapper_closing.specs.Direct.{are_direct, is_direct, is_direct_result}
 use Rattle.wrapper_closing.specs.PrintedAs.{ArePrintedAs, ArePrintedParams, IsPrintedAs, IsPrintedResult}
-use Rattle.type_sites.specs.PrintedLaws.{AreSites, ArePartParams, ParamsAreDirect, ParamsArePrinted, ResultsAreDirect, ResultsArePrinted, TypesAreDirect, TypesArePrinted, file_of, part_result}
+use Rattle.type_sites.specs.PrintedLaws.{AreSites, ArePartParams, ParamsAreDirect, ParamsArePrinted, ResultsAreDirect, ResultsArePrinted, TypesAreDirect, TypesArePrinted, file_of}
 use Rattle.type_defs.specs.Used.{IsUsed, UsesTypes}
 use Rattle.type_sites.proofs.Definitions.{IsDefinedIn, count, count-grows, count-most, definition-of}
 use Rattle.type_sites.proofs.DirectTypes.{all-direct, type-direct}
@@ -73,10 +73,10 @@ module _ (opts : TypeOpts) (r : Resolve) (id : WorldId) (world : World) (defs : 
   params-printed f uses params are =
       subst (ArePrintedAs items (param_shapes r.types f)) (sym are) (all-used-printed (param_types f) (λ ty has. uses ty (Contains-append_left (param_types f) (result_types f) ty has)))
 
-  result-printed : (f : Function) → UsesTypes r world f → IsPrintedResult items (result_shape r.types f) (part_result r.types f.result)
+  result-printed : (f : Function) → UsesTypes r world f → IsPrintedResult items (result_shape r.types f) (printed_result r.types f.result)
   result-printed f uses = go f.result (λ ty has. uses ty (Contains-append_right (param_types f) (result_types f) ty has))
     where
-      go : (o : Option WitType) → ((ty : WitType) → Contains (option_to_list o) ty → IsUsed r world ty) → IsPrintedResult items (option_map (shape_of r.types) o) (part_result r.types o)
+      go : (o : Option WitType) → ((ty : WitType) → Contains (option_to_list o) ty → IsUsed r world ty) → IsPrintedResult items (option_map (shape_of r.types) o) (printed_result r.types o)
       go None h = stays items items type.Unit (unit-ends items)
       go (Some ty) h = used-printed ty (h ty (0, omega arith, refl))
 

@@ -1,6 +1,6 @@
 -- Laws: the definitions of a world print each type that its functions use as its shape, whatever other items stand behind them; and such a
 -- shape is passed directly.
-use Rattle.std.specs.Prelude.{◌≡◌, true, List, ◌++◌, map, Option, None, Some}
+use Rattle.std.specs.Prelude.{◌≡◌, true, List, ◌++◌, map}
 use Rattle.wit_model.specs.declared.function.Function.{Function}
 use Rattle.wit_model.specs.declared.name.WorldId.{WorldId}
 use Rattle.wit_model.specs.declared.resolve.Resolve.{Resolve}
@@ -10,14 +10,12 @@ use Rattle.wit_model.specs.declared.world.World.{World}
 use Rattle.rust_tree.specs.declared.item.FnParam.{FnParam}
 use Rattle.rust_tree.specs.declared.item.Item.{Item}
 use Rattle.rust_tree.specs.declared.item.Item.TheVariants as item
-use Rattle.rust_tree.specs.declared.type_expr.TypeExpr.{TypeExpr}
-use Rattle.rust_tree.specs.declared.type_expr.TypeExpr.TheVariants as type
 use Rattle.rust_tree.specs.declared.type_item.TypeItem.{TypeItem}
 use Rattle.type_facts.specs.Roots.{param_types}
 use Rattle.type_defs.specs.declared.type_opts.TypeOpts.{TypeOpts}
 use Rattle.type_defs.specs.Defined.{AreDefinitions}
 use Rattle.type_defs.specs.DefinedNames.{AreDefinable}
-use Rattle.type_defs.specs.PartType.{part_type}
+use Rattle.type_defs.specs.PartType.{part_type, printed_result}
 use Rattle.type_defs.specs.TypeNames.{are_type_names}
 use Rattle.wrapper_meaning.specs.Shape.{param_shapes, result_shape, shape_of}
 use Rattle.wrapper_closing.specs.Direct.{are_direct, is_direct, is_direct_result}
@@ -38,11 +36,6 @@ pub record AreSites (opts : TypeOpts) (r : Resolve) (id : WorldId) (world : Worl
 abbrev pub ArePartParams : List TypeDef → Function → List FnParam → Type 0
 ArePartParams types f params = map (λ p. p.ty) params ≡ map (part_type types) (param_types f)
 
--- and so is a result
-abbrev pub part_result : List TypeDef → Option WitType → TypeExpr
-part_result types None = type.Unit
-part_result types (Some ty) = part_type types ty
-
 abbrev pub TypesArePrinted : Type 0
 TypesArePrinted = (opts : TypeOpts) (r : Resolve) (id : WorldId) (world : World) (defs : List TypeItem) (rest : List Item) → AreSites opts r id world defs → (ty : WitType) → IsUsed r world ty → IsPrintedAs (file_of defs rest) (shape_of r.types ty) (part_type r.types ty)
 
@@ -57,7 +50,7 @@ ParamsArePrinted = (opts : TypeOpts) (r : Resolve) (id : WorldId) (world : World
 
 abbrev pub ResultsArePrinted : Type 0
 ResultsArePrinted = (opts : TypeOpts) (r : Resolve) (id : WorldId) (world : World) (defs : List TypeItem) (rest : List Item) → AreSites opts r id world defs → (f : Function) → UsesTypes r world f
-    → IsPrintedResult (file_of defs rest) (result_shape r.types f) (part_result r.types f.result)
+    → IsPrintedResult (file_of defs rest) (result_shape r.types f) (printed_result r.types f.result)
 
 abbrev pub ParamsAreDirect : Type 0
 ParamsAreDirect = (opts : TypeOpts) (r : Resolve) (id : WorldId) (world : World) → AreDefinable opts r id world → (f : Function) → UsesTypes r world f → are_direct (param_shapes r.types f) ≡ true

@@ -1,12 +1,11 @@
 //! How the records that the functions of a world use are written.
 
-ghost use Rattle.std.specs.Prelude.{◌≡◌, ◌||◌, None, IfOk, if◌then◌else◌, map};
+ghost use Rattle.std.specs.Prelude.{◌≡◌, ◌||◌, None, Some, true, IfOk, if◌then◌else◌, map, slice_get};
 ghost use Rattle.wit_model.specs.WellFormed.{IsWellFormed};
 ghost use Rattle.wit_model.specs.declared.world.World.{World};
 ghost use Rattle.rust_tree.specs.Ident.{rust_ident, type_ident};
-ghost use Rattle.type_defs.specs.DefinedNames.{AreDefinable};
+ghost use Rattle.type_defs.specs.Levels.{are_shallow};
 ghost use Rattle.type_defs.specs.Modes.{is_used};
-ghost use Rattle.type_defs.specs.declared.type_opts.TypeOpts.{TypeOpts};
 ghost use Rattle.type_sites.specs.Sites.{record_sites, site_named, site_of};
 
 use func_gen::RecordSite;
@@ -79,7 +78,7 @@ pub fn record_sites(
 ) -> Result<List<Option<RecordSite>>, OutOfMemory>
     requires { IsWellFormed resolve.now }
     ensures { IfOk result
-        (λ records. (opts : TypeOpts) (world : World) → AreDefinable opts resolve.now id world → records ≡ record_sites resolve.now world) }
+        (λ records. (world : World) → slice_get resolve.now.worlds id.0 ≡ Some world → are_shallow resolve.now.types ≡ true → records ≡ record_sites resolve.now world) }
 {
     let facts = Types::analyze(alloc, resolve, id)?;
     let mut records = List::new(alloc);

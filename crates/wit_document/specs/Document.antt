@@ -5,7 +5,7 @@ use Rattle.wit_model.specs.declared.resolve.Resolve.{Resolve}
 use Rattle.serde_json.specs.Data.{Data}
 use Rattle.serde_json.specs.Read.{read}
 use Rattle.wit_document.specs.declared.document.Document.{Document}
-use Rattle.wit_document.specs.Members.{◌>>=◌, all_of, empty_of, only, required, given}
+use Rattle.wit_document.specs.Members.{◌>>=◌, all_of, empty_of, only, required, required_two, given}
 use Rattle.wit_document.specs.Options.{options_of, no_options}
 use Rattle.wit_document.specs.TypeTable.{type_def_of}
 use Rattle.wit_document.specs.World.{world_id_of, package_of, world_of}
@@ -13,18 +13,17 @@ use Rattle.wit_document.specs.World.{world_id_of, package_of, world_of}
 unfoldable pub resolve_of : Data → Option Resolve
 resolve_of d = do
   _ ← only (codes "worlds" ∷ codes "packages" ∷ codes "interfaces" ∷ codes "types" ∷ []) d
-  worlds ← required (all_of world_of) (codes "worlds") d
-  packages ← required (all_of package_of) (codes "packages") d
+  named ← required_two (all_of world_of) (all_of package_of) (codes "worlds") (codes "packages") d
   interfaces ← required empty_of (codes "interfaces") d
   types ← required (all_of type_def_of) (codes "types") d
-  Some (record { worlds = worlds; packages = packages; interfaces = interfaces; types = types })
+  Some (record { worlds = named.0; packages = named.1; interfaces = interfaces; types = types })
 
 unfoldable pub document : Data → Option Document
 document d = do
   _ ← only (codes "resolve" ∷ codes "world" ∷ codes "options" ∷ []) d
-  resolve ← required resolve_of (codes "resolve") d
   world ← required world_id_of (codes "world") d
   options ← given options_of (codes "options") d
+  resolve ← required resolve_of (codes "resolve") d
   Some (record { resolve = resolve; world = world; options = unwrap_or options no_options })
 
 -- the document of the value that these bytes are in JSON

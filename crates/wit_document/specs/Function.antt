@@ -10,7 +10,7 @@ use Rattle.wit_model.specs.declared.function.FunctionKind.{FunctionKind}
 use Rattle.wit_model.specs.declared.function.FunctionKind.TheVariants.{Freestanding, Method, Static, Constructor, AsyncFreestanding, AsyncMethod, AsyncStatic}
 use Rattle.serde_json.specs.Data.{Data}
 use Rattle.serde_json.specs.Find.{as_str}
-use Rattle.wit_document.specs.Members.{◌>>=◌, all_of, only, required, optional, sole_member}
+use Rattle.wit_document.specs.Members.{◌>>=◌, all_of, only, required, required_two, optional, sole_member}
 use Rattle.wit_document.specs.Name.{name_of, docs_in}
 use Rattle.wit_document.specs.Types.{type_id_of, type_of}
 
@@ -44,16 +44,15 @@ kind_of d = option_map_or free_kind (as_str d) (bound_kind_of d)
 unfoldable pub param_of : Data → Option Param
 param_of d = do
   _ ← only (codes "name" ∷ codes "ty" ∷ []) d
-  name ← required name_of (codes "name") d
   ty ← required type_of (codes "ty") d
+  name ← required name_of (codes "name") d
   Some (record { name = name; ty = ty })
 
 unfoldable pub function_of : Data → Option Function
 function_of d = do
   _ ← only (codes "name" ∷ codes "kind" ∷ codes "params" ∷ codes "result" ∷ codes "docs" ∷ []) d
-  name ← required name_of (codes "name") d
   kind ← required kind_of (codes "kind") d
-  params ← required (all_of param_of) (codes "params") d
   ty ← optional type_of (codes "result") d
+  named ← required_two name_of (all_of param_of) (codes "name") (codes "params") d
   docs ← docs_in d
-  Some (record { name = name; kind = kind; params = params; result = ty; docs = docs })
+  Some (record { name = named.0; kind = kind; params = named.1; result = ty; docs = docs })

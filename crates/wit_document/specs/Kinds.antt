@@ -17,8 +17,8 @@ use Rattle.wit_document.specs.Types.{id_of, type_id_of, type_of}
 unfoldable pub field_of : Data → Option Field
 field_of d = do
   _ ← only (codes "name" ∷ codes "ty" ∷ codes "docs" ∷ []) d
-  name ← required name_of (codes "name") d
   ty ← required type_of (codes "ty") d
+  name ← required name_of (codes "name") d
   docs ← docs_in d
   Some (record { name = name; ty = ty; docs = docs })
 
@@ -26,8 +26,8 @@ field_of d = do
 unfoldable pub case_of : Data → Option Case
 case_of d = do
   _ ← only (codes "name" ∷ codes "ty" ∷ codes "docs" ∷ []) d
-  name ← required name_of (codes "name") d
   ty ← optional type_of (codes "ty") d
+  name ← required name_of (codes "name") d
   docs ← docs_in d
   Some (record { name = name; ty = ty; docs = docs })
 

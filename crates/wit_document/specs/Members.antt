@@ -39,6 +39,13 @@ only keys d = do
 unfoldable pub required : {T : Type 0} → (Data → Option T) → List ℕ → Data → Option T
 required read key d = option_and_then read (get key d)
 
+-- the members at two keys
+unfoldable pub required_two : {A B : Type 0} → (Data → Option A) → (Data → Option B) → List ℕ → List ℕ → Data → Option (A × B)
+required_two first second key other d = do
+  a ← required first key d
+  b ← required second other d
+  Some (a, b)
+
 -- a value, or nothing where it is null
 abbrev pub unless_null : {T : Type 0} → (Data → Option T) → Data → Option (Option T)
 unless_null read null = Some None

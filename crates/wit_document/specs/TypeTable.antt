@@ -31,8 +31,8 @@ owner_of d = named_owner_of d
 unfoldable pub type_def_of : Data → Option TypeDef
 type_def_of d = do
   _ ← only (codes "name" ∷ codes "owner" ∷ codes "kind" ∷ codes "docs" ∷ []) d
-  name ← optional name_of (codes "name") d
   owner ← required owner_of (codes "owner") d
+  name ← optional name_of (codes "name") d
   kind ← required type_kind_of (codes "kind") d
   docs ← docs_in d
   Some (record { name = name; owner = owner; kind = kind; docs = docs })

@@ -5,7 +5,7 @@ use Rattle.wit_model.specs.declared.name.WorldId.{WorldId}
 use Rattle.wit_model.specs.declared.world.Package.{Package}
 use Rattle.wit_model.specs.declared.world.World.{World}
 use Rattle.serde_json.specs.Data.{Data}
-use Rattle.wit_document.specs.Members.{◌>>=◌, text_of, all_of, only, required, optional}
+use Rattle.wit_document.specs.Members.{◌>>=◌, text_of, all_of, only, required, required_two, optional}
 use Rattle.wit_document.specs.Name.{name_of}
 use Rattle.wit_document.specs.Types.{id_of}
 use Rattle.wit_document.specs.Items.{entry_of}
@@ -19,17 +19,15 @@ package_id_of d = option_map (λ n. record { 0 = n }) (id_of d)
 unfoldable pub package_of : Data → Option Package
 package_of d = do
   _ ← only (codes "namespace" ∷ codes "name" ∷ codes "version" ∷ codes "module" ∷ []) d
-  namespace ← required name_of (codes "namespace") d
-  name ← required name_of (codes "name") d
+  names ← required_two name_of name_of (codes "namespace") (codes "name") d
   version ← optional text_of (codes "version") d
   module_name ← required text_of (codes "module") d
-  Some (record { namespace = namespace; name = name; version = version; «module» = module_name })
+  Some (record { namespace = names.0; name = names.1; version = version; «module» = module_name })
 
 unfoldable pub world_of : Data → Option World
 world_of d = do
   _ ← only (codes "name" ∷ codes "package" ∷ codes "imports" ∷ codes "exports" ∷ []) d
-  name ← required name_of (codes "name") d
   package_id ← required package_id_of (codes "package") d
-  imports ← required (all_of entry_of) (codes "imports") d
-  exports ← required (all_of entry_of) (codes "exports") d
-  Some (record { name = name; «package» = package_id; imports = imports; exports = exports })
+  name ← required name_of (codes "name") d
+  items ← required_two (all_of entry_of) (all_of entry_of) (codes "imports") (codes "exports") d
+  Some (record { name = name; «package» = package_id; imports = items.0; exports = items.1 })

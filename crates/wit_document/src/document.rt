@@ -2,7 +2,7 @@ ghost use Rattle.wit_document.specs.Reads.{Reads};
 ghost use Rattle.wit_document.specs.Document.{resolve_of, document, document_in};
 
 use crate::fault::DocumentFault;
-use crate::members::{empty_list, given, only, required};
+use crate::members::{empty_list, given, only, required, required_two};
 use crate::options::DocumentOptions;
 use crate::reading::Readable;
 use crate::value::parse;
@@ -44,9 +44,9 @@ impl Readable for Document {
 
     fn read(alloc: Global, value: &Value<'_>) -> Result<Document, DocumentFault> {
         only(value, &["resolve", "world", "options"])?;
-        let resolve = required(alloc, value, "resolve")?;
         let world = required(alloc, value, "world")?;
         let options = given(alloc, value, "options")?;
+        let resolve = required(alloc, value, "resolve")?;
         Ok(Document {
             resolve,
             world,
@@ -61,11 +61,15 @@ impl Readable for Resolve {
 
     fn read(alloc: Global, value: &Value<'_>) -> Result<Resolve, DocumentFault> {
         only(value, &["worlds", "packages", "interfaces", "types"])?;
+        let named = required_two(alloc, value, "worlds", "packages")?;
+        let interfaces = empty_list(alloc, value, "interfaces")?;
+        let types = required(alloc, value, "types")?;
+        let (worlds, packages) = named;
         Ok(Resolve {
-            worlds: required(alloc, value, "worlds")?,
-            packages: required(alloc, value, "packages")?,
-            interfaces: empty_list(alloc, value, "interfaces")?,
-            types: required(alloc, value, "types")?,
+            worlds,
+            packages,
+            interfaces,
+            types,
         })
     }
 }

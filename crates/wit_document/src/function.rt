@@ -4,7 +4,7 @@ ghost use Rattle.wit_document.specs.View.{view};
 ghost use Rattle.wit_document.specs.Reads.{Reads};
 
 use crate::fault::DocumentFault;
-use crate::members::{only, optional, required, sole_member};
+use crate::members::{only, optional, required, required_two, sole_member};
 use crate::name::docs_in;
 use crate::reading::Readable;
 use crate::value::as_str;
@@ -66,9 +66,10 @@ impl Readable for Param {
 
     fn read(alloc: Global, value: &Value<'_>) -> Result<Param, DocumentFault> {
         only(value, &["name", "ty"])?;
+        let ty = required(alloc, value, "ty")?;
         Ok(Param {
             name: required(alloc, value, "name")?,
-            ty: required(alloc, value, "ty")?,
+            ty,
         })
     }
 }
@@ -79,12 +80,17 @@ impl Readable for Function {
 
     fn read(alloc: Global, value: &Value<'_>) -> Result<Function, DocumentFault> {
         only(value, &["name", "kind", "params", "result", "docs"])?;
+        let kind = required(alloc, value, "kind")?;
+        let result = optional(alloc, value, "result")?;
+        let named = required_two(alloc, value, "name", "params")?;
+        let docs = docs_in(alloc, value)?;
+        let (name, params) = named;
         Ok(Function {
-            name: required(alloc, value, "name")?,
-            kind: required(alloc, value, "kind")?,
-            params: required(alloc, value, "params")?,
-            result: optional(alloc, value, "result")?,
-            docs: docs_in(alloc, value)?,
+            name,
+            kind,
+            params,
+            result,
+            docs,
         })
     }
 }

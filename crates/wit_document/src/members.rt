@@ -4,7 +4,7 @@ ghost use Rattle.std.specs.Str.{bytes_eq};
 ghost use Rattle.serde_json.specs.Find.{as_null};
 ghost use Rattle.wit_document.specs.View.{view};
 ghost use Rattle.wit_document.specs.Reads.{Reads};
-ghost use Rattle.wit_document.specs.Members.{only, required, optional, given, empty_of, sole_member};
+ghost use Rattle.wit_document.specs.Members.{only, required, required_two, optional, given, empty_of, sole_member};
 
 use crate::fault::DocumentFault;
 use crate::reading::Readable;
@@ -54,6 +54,20 @@ pub(crate) fn required<T: Readable>(
         Some(member) => T::read(alloc, member),
         None => Err(DocumentFault::BadJson),
     }
+}
+
+/// The members at two keys, which must be there.
+#[tactic(auto, unfolding(crate::specs::Members::required_two))]
+pub(crate) fn required_two<A: Readable, B: Readable>(
+    alloc: Global,
+    value: &Value<'_>,
+    key: &str,
+    other: &str,
+) -> Result<(A, B), DocumentFault>
+    ensures { Reads result (required_two A.read_of B.read_of key.now other.now (view value.now)) }
+{
+    let first = required(alloc, value, key)?;
+    Ok((first, required(alloc, value, other)?))
 }
 
 /// The member at a key, or nothing where it is null or absent.

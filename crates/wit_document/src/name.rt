@@ -3,7 +3,7 @@ ghost use Rattle.wit_document.specs.Reads.{Reads};
 ghost use Rattle.wit_document.specs.Name.{name_of, docs_in};
 
 use crate::fault::DocumentFault;
-use crate::members::{only, optional, required};
+use crate::members::{only, optional, required_two};
 use crate::reading::Readable;
 use json::Value;
 use std::alloc::Global;
@@ -15,11 +15,14 @@ impl Readable for Name {
 
     fn read(alloc: Global, value: &Value<'_>) -> Result<Name, DocumentFault> {
         only(value, &["wit", "snake", "camel", "upper"])?;
+        let lower = required_two(alloc, value, "wit", "snake")?;
+        let (camel, upper) = required_two(alloc, value, "camel", "upper")?;
+        let (wit, snake) = lower;
         Ok(Name {
-            wit: required(alloc, value, "wit")?,
-            snake: required(alloc, value, "snake")?,
-            camel: required(alloc, value, "camel")?,
-            upper: required(alloc, value, "upper")?,
+            wit,
+            snake,
+            camel,
+            upper,
         })
     }
 }

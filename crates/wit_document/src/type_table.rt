@@ -54,9 +54,10 @@ impl Readable for TypeDef {
 
     fn read(alloc: Global, value: &Value<'_>) -> Result<TypeDef, DocumentFault> {
         only(value, &["name", "owner", "kind", "docs"])?;
+        let owner = required(alloc, value, "owner")?;
         Ok(TypeDef {
             name: optional(alloc, value, "name")?,
-            owner: required(alloc, value, "owner")?,
+            owner,
             kind: required(alloc, value, "kind")?,
             docs: docs_in(alloc, value)?,
         })

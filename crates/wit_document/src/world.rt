@@ -1,7 +1,7 @@
 ghost use Rattle.wit_document.specs.World.{world_id_of, package_id_of, package_of, world_of};
 
 use crate::fault::DocumentFault;
-use crate::members::{only, optional, required};
+use crate::members::{only, optional, required, required_two};
 use crate::reading::Readable;
 use json::Value;
 use std::alloc::Global;
@@ -31,11 +31,15 @@ impl Readable for Package {
 
     fn read(alloc: Global, value: &Value<'_>) -> Result<Package, DocumentFault> {
         only(value, &["namespace", "name", "version", "module"])?;
+        let names = required_two(alloc, value, "namespace", "name")?;
+        let version = optional(alloc, value, "version")?;
+        let module = required(alloc, value, "module")?;
+        let (namespace, name) = names;
         Ok(Package {
-            namespace: required(alloc, value, "namespace")?,
-            name: required(alloc, value, "name")?,
-            version: optional(alloc, value, "version")?,
-            module: required(alloc, value, "module")?,
+            namespace,
+            name,
+            version,
+            module,
         })
     }
 }
@@ -46,11 +50,14 @@ impl Readable for World {
 
     fn read(alloc: Global, value: &Value<'_>) -> Result<World, DocumentFault> {
         only(value, &["name", "package", "imports", "exports"])?;
+        let package = required(alloc, value, "package")?;
+        let name = required(alloc, value, "name")?;
+        let (imports, exports) = required_two(alloc, value, "imports", "exports")?;
         Ok(World {
-            name: required(alloc, value, "name")?,
-            package: required(alloc, value, "package")?,
-            imports: required(alloc, value, "imports")?,
-            exports: required(alloc, value, "exports")?,
+            name,
+            package,
+            imports,
+            exports,
         })
     }
 }

@@ -20,8 +20,9 @@ use Rattle.wit_layout.specs.Flat.{EachHasWords, flatten_type, flatten_record}
 use Rattle.wit_layout.specs.inside.Sequence.{members, members_at, members_of_entry}
 use Rattle.wit_layout.specs.Tree.{tree_at, tree_in, payload_in, payloads_in, trees}
 use Rattle.wit_layout.proofs.AheadTurns.{entry_at}
-use Rattle.wit_layout.proofs.FlattenSteps.{members_low, payload_below_more}
+use Rattle.wit_layout.proofs.FlattenSteps.{members_low}
 use Rattle.wit_layout.proofs.SequenceSteps.{every_element, flatten_record-append}
+use Rattle.wit_model.proofs.BelowLemmas.{payload_below_more}
 
 of_map : {A B : Type 0} (f : A → B) (xs : List A) (nth : ℕ) (y : B) → slice_get (map f xs) nth ≡ Some y → (x : A) × (f x ≡ y)
 of_map f [] nth y e = cc

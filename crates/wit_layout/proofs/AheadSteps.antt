@@ -10,7 +10,7 @@ use Rattle.wit_layout.specs.declared.ahead.Run.{Run}
 use Rattle.wit_layout.specs.declared.ahead.Ahead.{Ahead}
 use Rattle.wit_layout.specs.inside.Ahead.{runs, runs_members, run_members, ahead_members, IsRun, AreRuns, ArePut}
 use Rattle.wit_layout.specs.inside.Sequence.{members_at}
-use Rattle.wit_layout.proofs.WordLists.{drop_at}
+use Rattle.wit_model.proofs.ListLemmas.{drop_at}
 
 pub runs-length : (a : Ahead) → length (runs a) ≡ a.count
 runs-length a = length-take-le a.count a.runs (omega (arith, a.bounded, a.whole))

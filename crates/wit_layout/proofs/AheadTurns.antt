@@ -11,9 +11,10 @@ use Rattle.wit_model.specs.TypeOrder.{type_below, payload_below, GoesDown}
 use Rattle.wit_layout.specs.Flat.{flatten_type, flatten_record}
 use Rattle.wit_layout.specs.inside.Sequence.{members_at}
 use Rattle.wit_layout.specs.Tree.{trees, payload_in, payloads_in}
-use Rattle.wit_layout.proofs.FlattenSteps.{payload_below_more, members_low, words_at}
+use Rattle.wit_layout.proofs.FlattenSteps.{members_low, words_at}
 use Rattle.wit_layout.proofs.SequenceSteps.{IsSequenceAt}
 use Rattle.wit_layout.proofs.AheadWeight.{weights, weights_put}
+use Rattle.wit_model.proofs.BelowLemmas.{payload_below_more}
 
 pub entry_at : {A : Type 0} (xs : List A) (i : ℕ) → i < length xs → (x : A) × (slice_get xs i ≡ Some x)
 entry_at [] i l = absurd (omega arith)

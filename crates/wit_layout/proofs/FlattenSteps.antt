@@ -21,6 +21,7 @@ use Rattle.wit_layout.specs.inside.Sequence.{is_sequence, members, members_of_en
 use Rattle.wit_layout.proofs.SequenceSteps.{member_below, words_of_members}
 use Rattle.wit_layout.proofs.TreeLemmas.{tree_at_by}
 use Rattle.wit_layout.proofs.PartSteps.{part_below}
+use Rattle.wit_model.proofs.BelowLemmas.{type_below_more, payload_below_more}
 
 -- one more than the place of a type in the table, and 0 for a primitive
 abbrev pub rank : WitType → ℕ
@@ -49,34 +50,10 @@ rank_below bound wit.Char h = omega arith
 rank_below bound wit.String h = omega arith
 rank_below bound wit.ErrorContext h = omega arith
 
-type_below_more : (low high : ℕ) (ty : WitType) → low ≤ high → type_below low ty ≡ true → type_below high ty ≡ true
-unfolding type_below
-type_below_more low high (wit.Id id) le h =
-    let less = ltb-true id.0 low h in lt-ltb id.0 high (omega arith)
-type_below_more low high wit.Bool le h = refl
-type_below_more low high wit.U8 le h = refl
-type_below_more low high wit.U16 le h = refl
-type_below_more low high wit.U32 le h = refl
-type_below_more low high wit.U64 le h = refl
-type_below_more low high wit.S8 le h = refl
-type_below_more low high wit.S16 le h = refl
-type_below_more low high wit.S32 le h = refl
-type_below_more low high wit.S64 le h = refl
-type_below_more low high wit.F32 le h = refl
-type_below_more low high wit.F64 le h = refl
-type_below_more low high wit.Char le h = refl
-type_below_more low high wit.String le h = refl
-type_below_more low high wit.ErrorContext le h = refl
-
 pub payload_rank_below : (bound : ℕ) (p : Option WitType) → payload_below bound p ≡ true → payload_rank p ≤ bound
 unfolding payload_below
 payload_rank_below bound None h = omega arith
 payload_rank_below bound (Some ty) h = rank_below bound ty h
-
-pub payload_below_more : (low high : ℕ) (p : Option WitType) → low ≤ high → payload_below low p ≡ true → payload_below high p ≡ true
-unfolding payload_below
-payload_below_more low high None le h = refl
-payload_below_more low high (Some ty) le h = type_below_more low high ty le h
 
 slots-bare : {A : Type 0} (members : List A) → slots (bare members) ≡ []
 slots-bare [] = refl

@@ -8,7 +8,7 @@ use Rattle.wit_layout.specs.Join.{join}
 use Rattle.wit_layout.specs.Flat.{joined, flatten_type, slots}
 use Rattle.wit_layout.specs.Tree.{Tree, payload_in, payloads_in}
 use Rattle.wit_layout.proofs.AheadTurns.{entry_at}
-use Rattle.wit_layout.proofs.WordLists.{drop_at}
+use Rattle.wit_model.proofs.ListLemmas.{drop_at}
 
 join-self : (a : WasmType) → join a a ≡ a
 join-self I32 = refl

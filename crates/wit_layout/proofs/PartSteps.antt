@@ -16,7 +16,7 @@ use Rattle.wit_layout.specs.declared.stored.StoredExtent.{StoredExtent}
 use Rattle.wit_layout.specs.Extent.{Extent, extent, place, places, end, greater, greatest}
 use Rattle.wit_layout.specs.inside.Grain.{exponent}
 use Rattle.wit_layout.specs.inside.Stored.{seen}
-use Rattle.wit_layout.proofs.WordLists.{drop_at}
+use Rattle.wit_model.proofs.ListLemmas.{drop_at}
 
 -- a part of a kind whose parts all name lower ids
 pub part_below : (bound : ℕ) (kind : TypeDefKind) (i : ℕ) (p : Option WitType) → parts_below bound kind ≡ true → slice_get (parts kind) i ≡ Some p → payload_below bound p ≡ true

@@ -31,7 +31,7 @@ at_end [] x (suc n) e = absurd (omega arith)
 at_end (y ∷ xs) x zero e = absurd (omega arith)
 at_end (y ∷ xs) x (suc n) e = at_end xs x n (omega arith)
 
-direct_short : (params : List WasmType) → length (direct_words params) ≤ 16
+pub direct_short : (params : List WasmType) → length (direct_words params) ≤ 16
 direct_short params = by_test (are_many params) refl
   where
     by_test : (b : Bool) → are_many params ≡ b → length (cond b (Pointer ∷ []) params) ≤ 16

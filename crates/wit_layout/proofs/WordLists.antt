@@ -6,6 +6,7 @@ use Rattle.std.proofs.lemmas.Option.{slice_get_within, get_or_from_slice_get}
 use Rattle.wit_model.specs.declared.wasm_type.WasmType.{WasmType}
 use Rattle.wit_layout.specs.Join.{join}
 use Rattle.wit_layout.specs.Flat.{joined}
+use Rattle.wit_model.proofs.ListLemmas.{drop_at}
 
 abbrev Words : Type 0
 Words = List WasmType
@@ -48,10 +49,6 @@ take_joined zero xs ys = refl
 take_joined (suc r) [] ys = take-take (suc r) (suc r) ys (omega arith)
 take_joined (suc r) (x ∷ xs) [] = ap (λ zs. x ∷ zs) (take-take r r xs (omega arith))
 take_joined (suc r) (x ∷ xs) (y ∷ ys) = ap (λ zs. join x y ∷ zs) (take_joined r xs ys)
-
-pub drop_at : {A : Type 0} (xs : List A) (i : ℕ) (x : A) → slice_get xs i ≡ Some x → drop i xs ≡ x ∷ drop (i + 1) xs
-drop_at xs i x e =
-    drop_more xs i x (slice_get_within xs i x e) ∙ ap (λ y. y ∷ drop (i + 1) xs) (get_or_from_slice_get xs i x x e)
 
 past : (xs : Words) (i : ℕ) → slice_get xs i ≡ None → length xs ≤ i
 past [] i e = omega arith

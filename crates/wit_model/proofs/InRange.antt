@@ -39,7 +39,7 @@ passes_at {A} table p xs k x h e =
     let fails = fails_before_first test xs k x (omega arith) in
     not_false (p x) (subst (λ y. not (p y) ≡ false) (get_or_from_slice_get xs k x x e) fails)
 
-none_out_of_range : (r : Resolve) → first_fault r ≡ None → first_out_of_range r ≡ None
+pub none_out_of_range : (r : Resolve) → first_fault r ≡ None → first_out_of_range r ≡ None
 unfolding first_fault
 none_out_of_range r h = unmapped _ (first_out_of_range r) (neither _ _ h).0
 

@@ -15,7 +15,7 @@ use Rattle.wrapper_run.specs.Memory.{begins_at, block_at, block_from, is_at, wit
 use Rattle.abi_driver.specs.Account.{addresses}
 use Rattle.abi_driver.proofs.AreaHeaps.{IsInside, contains_last, replaced_items, writes_inside}
 use Rattle.abi_driver.proofs.Replaced.{find_there, is_sized, meet}
-use Rattle.abi_driver.proofs.Runs.{total-append}
+use Rattle.wrapper_meaning.proofs.PostReturn.{total-append}
 
 -- 1. A block that is freed by its address
 

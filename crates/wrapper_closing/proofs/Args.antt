@@ -24,6 +24,7 @@ use Rattle.wrapper_meaning.specs.Represents.{param_words, result_words}
 use Rattle.wrapper_faithful.specs.Passed.{Passed, passed}
 use Rattle.abi_driver.specs.Exports.{export_params}
 use Rattle.wrapper_closing.specs.Params.{arg_name, arg_names, arg_prefix, arg_types, core_args, param_types, result_types, ret_area}
+use Rattle.wit_layout.proofs.SignatureSteps.{direct_short}
 
 pub types_of_args : (n : ℕ) (types : List WasmType) → arg_types (core_args n types) ≡ types
 types_of_args n [] = refl
@@ -32,14 +33,6 @@ types_of_args n (ty ∷ types) = ap (λ ts. ty ∷ ts) (types_of_args (n + 1) ty
 -- the words of a signature that are told are all of them, where there are sixteen at most
 pub all_told : (f : Flat) (words : List WasmType) → IsFlatOf f words → length words ≤ 16 → take f.count f.words ≡ words
 all_told f words is few = is.kept ∙ take_all 16 words few
-
--- parameters that pass directly are sixteen words at most, and a result is one
-pub few_params : (words : List WasmType) → length (direct_words words) ≤ 16
-few_params words = go (are_many words) refl
-  where
-    go : (b : Bool) → are_many words ≡ b → length (direct_words words) ≤ 16
-    go true e = subst (λ b. length (if b then Pointer ∷ [] else words) ≤ 16) (sym e) (omega arith)
-    go false e = subst (λ b. length (if b then Pointer ∷ [] else words) ≤ 16) (sym e) (ltb-false 16 (length words) e)
 
 pub few_results : (words : List WasmType) → length (core_results GuestExport words) ≤ 1
 few_results words = go (needs_pointer words) refl
@@ -103,7 +96,7 @@ driver_params types f = sym (param_types_by_shapes types f)
 
 -- what a signature tells of an exported function
 pub told_params : (types : List TypeDef) (f : Function) (s : WasmSignature) → IsFlattenedFunctype types GuestExport f s → take s.params.count s.params.words ≡ param_types (passed types f)
-told_params types f s is = all_told s.params _ is.params_told (few_params (signature.param_words types f.params)) ∙ param_types_by_shapes types f
+told_params types f s is = all_told s.params _ is.params_told (direct_short (signature.param_words types f.params)) ∙ param_types_by_shapes types f
 
 pub told_results : (types : List TypeDef) (f : Function) (s : WasmSignature) → IsFlattenedFunctype types GuestExport f s → take s.results.count s.results.words ≡ result_types (passed types f)
 told_results types f s is =
@@ -111,7 +104,7 @@ told_results types f s is =
     all_told s.results _ is.results_told few ∙ result_types_by_shapes types f
 
 pub params_fit : (p : Passed) → length (param_types p) ≤ 16
-params_fit p = few_params (param_words p.params)
+params_fit p = direct_short (param_words p.params)
 
 pub results_fit : (p : Passed) → length (result_types p) ≤ 16
 results_fit p = omega (arith, few_results (result_words p.result))

@@ -18,7 +18,6 @@ use Rattle.wrapper_meaning.specs.Represents.{are_indirect, is_indirect}
 use Rattle.wrapper_meaning.specs.Shape.{Shape, Shapes}
 use Rattle.wrapper_meaning.specs.Shape.Shape.{cases, fields, fixed, flags, handle, list, other, pairs, resource, scalar, text, tuple}
 use Rattle.wrapper_meaning.specs.Shape.Shapes.{more, none}
-use Rattle.wrapper_meaning.proofs.PartPlaces.{end_behind, parts_end}
 use Rattle.abi_driver.specs.declared.bindgen.Asked.{Asked}
 use Rattle.abi_driver.specs.Area.{AreFor, HoldsRecord}
 use Rattle.abi_driver.specs.Code.{record_size}
@@ -27,6 +26,7 @@ use Rattle.func_gen.specs.Meaning.{IsArea}
 use Rattle.wrapper_closing.specs.Direct.{are_direct, is_direct, is_direct_result}
 use Rattle.wrapper_closing.specs.ImportBlock.{wanted}
 use Rattle.wrapper_closing.proofs.AreaRoom.{area_aligned, area_large, area_room}
+use Rattle.wit_layout.proofs.RecordSteps.{end_behind, record_behind}
 
 -- 1. What has words has bytes
 
@@ -37,8 +37,8 @@ mutual
   no_words : (t : Shape) → is_direct t ≡ true → elem_size 2 (layout t) ≡ 0 → flatten_type (layout t) ≡ []
   no_words (scalar s) d h = absurd (omega (arith, h, pow_pos (scalar_grain s)))
   no_words text d h = absurd (omega (arith, h))
-  no_words (fields ts) d h = no_words_in ts 0 d (omega (arith, h, parts_end (extents_of 2 (layouts ts))))
-  no_words (tuple ts) d h = no_words_in ts 0 d (omega (arith, h, parts_end (extents_of 2 (layouts ts))))
+  no_words (fields ts) d h = no_words_in ts 0 d (omega (arith, h, record_behind (extents_of 2 (layouts ts))))
+  no_words (tuple ts) d h = no_words_in ts 0 d (omega (arith, h, record_behind (extents_of 2 (layouts ts))))
   no_words (list t) d h = absurd cc
   no_words (pairs x y) d h = absurd cc
   no_words (fixed t n) d h = absurd cc

@@ -45,17 +45,13 @@ use Rattle.func_gen.proofs.Steps.{seen_calls}
 use Rattle.wrapper_closing.specs.ClosedExport.{ClosesExport, export_file}
 use Rattle.wrapper_closing.specs.ImportBlock.{tail_of}
 use Rattle.wrapper_closing.proofs.ExportStart.{at_words, received, words_expected}
-use Rattle.wrapper_closing.proofs.ImportCalls.{one_call}
+use Rattle.wrapper_closing.proofs.ImportCalls.{one_call, quiet_tail}
 
 -- 1. The run of the whole item
 
 -- what follows the code
 abbrev pub finish : Setting → Option WasmType → Option Expr → machine.Outcome (Unit {0}) → machine.Outcome (List Word)
 finish w ty tail o = machine.and_then (machine.and_then o (λ u. run_tail w tail)) (λ v. give_and_leave w (core_answer ty v))
-
-quiet_tail : (w : Setting) (given : List ExprOperand) → are_operands given ≡ true → Quiet (run_tail w (tail_of given))
-quiet_tail w [] h = quiet_pure _
-quiet_tail w (o ∷ os) h = quiet_operand w o.expr (and_parts (is_operand o.expr) (are_operands os) h).0
 
 finish_calls : (w : Setting) (ty : Option WasmType) (given : List ExprOperand) → are_operands given ≡ true → (o : machine.Outcome (Unit {0})) → calls_at (finish w ty (tail_of given) o) ≡ calls_at o
 finish_calls w ty given h (machine.Stopped e t) = refl

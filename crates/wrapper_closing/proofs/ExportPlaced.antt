@@ -17,9 +17,10 @@ use Rattle.wrapper_run.specs.Run.{run_stmts}
 use Rattle.func_gen.specs.Meaning.{owns_of, run_code, run_head}
 use Rattle.func_gen.specs.declared.function_bindgen.Code.{Code}
 use Rattle.wrapper_closing.specs.NoArea.{declares_no_area}
-use Rattle.wrapper_closing.proofs.Leaving.{no_items, one_item}
+use Rattle.wrapper_closing.proofs.Leaving.{no_items}
 use Rattle.wrapper_closing.proofs.Unasking.{unasked_done}
 use Rattle.wrapper_closing.proofs.Unplaced.{unasking_call, unasking_stmts}
+use Rattle.abi_driver.proofs.AnswerArea.{only_one}
 
 -- an outcome that is done came from one that was
 split_done : {A : Type 0} (o : machine.Outcome (Unit {0})) (g : machine.Act A) (a : A) (t : State) → machine.and_then o (λ u. g) ≡ machine.Done a t → (s : State) × (o ≡ machine.Done tt s) × (g s ≡ machine.Done a t)
@@ -52,7 +53,7 @@ placed_locals s a some owns = by s.place refl
     by : (o : Option ℕ) → s.place ≡ o → (locals_of s ≡ []) × (s.place ≡ Some a)
     by None e = absurd (some e)
     by (Some b) e =
-        let both : b ∷ locals_of s ≡ a ∷ [] = sym (ap (λ o. option_to_list o ++ locals_of s) e) ∙ one_item (owns_of s) a owns in
+        let both : b ∷ locals_of s ≡ a ∷ [] = sym (ap (λ o. option_to_list o ++ locals_of s) e) ∙ only_one (owns_of s) a owns in
         (cc, e ∙ cc)
 
 -- code that was done, and made a request, placed the area

@@ -43,7 +43,6 @@ use Rattle.abi_driver.specs.Laws.{AreLent, args, core_data}
 use Rattle.abi_driver.specs.Lifts.{MayTake}
 use Rattle.abi_driver.proofs.ExportSteps.{export_words}
 use Rattle.abi_driver.proofs.HonestAnswers.{free_once}
-use Rattle.abi_driver.proofs.Runs.{total-append}
 use Rattle.abi_driver.proofs.SaysTypes.{parts_typed}
 use Rattle.func_gen.specs.FuncSound.{func_sound}
 use Rattle.func_gen.specs.Meaning.{AreaIs, Denote, File, GivesAsCalled, Serves, account_of, func_meaning, owns_of, static_request}
@@ -55,6 +54,7 @@ use Rattle.func_gen.proofs.Starting.{bound_bare, holds, passed, reads_env, same_
 use Rattle.wrapper_closing.specs.Begun.{IsBegun}
 use Rattle.wrapper_closing.specs.ClosedExport.{ClosesExport, export_file}
 use Rattle.wrapper_closing.proofs.SharedArea.{shared_room, shared_sized}
+use Rattle.wrapper_meaning.proofs.PostReturn.{total-append}
 
 -- 1. Words of types
 
@@ -119,7 +119,7 @@ module _ (b : FunctionBindgen) (begun : IsBegun b) (export : b.import ≡ false)
       (reads_env (site_names b.params) (vals ds) (at_words b ws heap choices)
       (subst (λ vs. ReadsAll (site_names b.params) (vals ds) (bound (site_names b.params) vs)) (sym same) (reads_bound (site_names b.params) (vals ds) (and_parts _ (is_distinct (site_names b.params)) begun.distinct).1 (same_length b.params ds len))))
       len
-      (λ n free. unbound (site_names b.params) (map (λ x. val.Word x) ws) n (or_parts (bytes_eq b.area n) (is_used (site_names b.params) n) (sym (ap (λ us. is_used us n) begun.used) ∙ free)).1) tt
+      (λ n free. unbound (site_names b.params) (map (λ x. val.Word x) ws) n (or_parts (bytes_eq b.area n) (is_used (site_names b.params) n) (begun.used n free)).1) tt
       (subst (λ i. AreaIs i w.area None b.asked b.area (at_words b ws heap choices)) (sym export) (λ e. refl))
 
   pub words_own : owns_of (at_words b ws heap choices) ≡ []

@@ -40,7 +40,6 @@ use Rattle.wrapper_faithful.specs.Resources.{Resources, calls_of}
 use Rattle.wrapper_faithful.proofs.KeptHeaps.{export_keeps_heap}
 use Rattle.wrapper_faithful.proofs.NoHandles.{all_calls_count, nothing_is_dropped}
 use Rattle.abi_driver.specs.Account.{Peer}
-use Rattle.abi_driver.proofs.Runs.{total-append}
 use Rattle.func_gen.specs.Meaning.{answer_of, setting_for, static_request}
 use Rattle.func_gen.specs.declared.function_bindgen.FunctionBindgen.{FunctionBindgen}
 use Rattle.wrapper_closing.specs.ClosedExport.{ClosesExport, export_file}
@@ -52,6 +51,7 @@ use Rattle.wrapper_closing.proofs.ExportEnds.{Finished, Missed, ends}
 use Rattle.wrapper_closing.proofs.ExportStart.{at_words}
 use Rattle.wrapper_closing.proofs.FaithfulImport.{answer_back, in_place, peer_of}
 use Rattle.wrapper_closing.proofs.SharedArea.{shared_due}
+use Rattle.wrapper_meaning.proofs.PostReturn.{total-append}
 
 one_direct : (results : List (Option Shape)) (r : Option Shape) → AllByRecursion (λ r. is_direct_result r ≡ true) results → Contains results r → is_direct_result r ≡ true
 one_direct [] r d (k, below, at) = absurd (omega (below, arith))

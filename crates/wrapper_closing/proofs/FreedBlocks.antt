@@ -14,21 +14,15 @@ use Rattle.abi_driver.specs.Memory.{except}
 use Rattle.abi_driver.proofs.Freeing.{may_after}
 use Rattle.abi_driver.proofs.HonestAnswers.{free_once}
 use Rattle.abi_driver.proofs.Replaced.{block_formed}
-use Rattle.abi_driver.proofs.Runs.{total-append}
 use Rattle.func_gen.proofs.MemoryTies.{without_is}
 use Rattle.wrapper_closing.proofs.AnswerHeap.{left_without}
+use Rattle.wrapper_meaning.proofs.PostReturn.{total-append}
+use Rattle.abi_driver.proofs.AreaHeaps.{none_at_address}
 
 -- 1. They may be freed
 
 is_there : (b : Block) → at_address b.address b ≡ 1
 is_there b = ap {B = ℕ} (λ q. if q then 1 else 0) (eq-eqb b.address b.address refl)
-
-none_at : (a : ℕ) (blocks : List Block) → total (at_address a) blocks ≡ 0 → AllByRecursion (λ c. c.address ≡ a → ⊥) blocks
-none_at a [] h = tt
-none_at a (c ∷ blocks) h = (
-  λ e. absurd (omega (arith, h, ap {B = ℕ} (λ q. if q then 1 else 0) (eq-eqb c.address a e))),
-  none_at a blocks (omega (arith, h)),
-)
 
 -- blocks without owners, beside that of an area
 pub may_free : {V : Type 0} (own others : List Block) (b : Block) (acc : Account V) → is_heap acc.heap ≡ true → acc.taken ≡ [] → SameItems acc.heap.blocks (own ++ b ∷ others) → MayFree own b acc
@@ -41,7 +35,7 @@ may_free own others b acc whole free all =
         there = all_in_heap acc.heap.blocks own (b ∷ others) all;
         free = subst (AreFree own) (sym free) (free_once own [] (λ a. omega (arith, one a)));
       };
-      others = none_at b.address own (omega (arith, one b.address, is_there b));
+      others = none_at_address b.address own (omega (arith, one b.address, is_there b));
     }
 
 -- 2. They are gone then

@@ -10,6 +10,8 @@ use Rattle.wit_model.specs.declared.types.TypeDef.{TypeDef}
 use Rattle.func_gen.specs.Body.{Gives}
 use Rattle.func_gen.specs.Operand.{is_operand}
 use Rattle.func_gen.specs.PartForms.{are_operands}
+use Rattle.func_gen.proofs.Starting.{unused_first}
+use Rattle.func_gen.specs.Scope.{is_used}
 use Rattle.func_gen.specs.Sites.{IsSite, site_names}
 use Rattle.func_gen.specs.declared.function_bindgen.FunctionBindgen.{FunctionBindgen}
 use Rattle.func_gen.specs.declared.operand.ExprOperand.{ExprOperand}
@@ -24,7 +26,7 @@ begun_of types import parts b p m =
     record {
       distinct = ap is_distinct names ∙ p.distinct;
       sites = subst (AllByRecursion IsSite) (sym m.of_params) p.sites;
-      used = m.used ∙ sym names;
+      used = λ n free. ap (λ ns. is_used ns n) names ∙ unused_first parts.area parts.cleanup (site_names parts.params) b.scope.used m.used n free;
       empty = m.empty;
       unasked = m.unasked;
     }

@@ -54,7 +54,7 @@ use Rattle.wrapper_closing.proofs.Start.{at_first}
 abbrev pub finish : Setting → FnItem → Option Expr → machine.Outcome (Unit {0}) → machine.Outcome (Option RustValue)
 finish w item tail o = machine.and_then (machine.and_then o (λ u. run_tail w tail)) (answer_and_leave w item.result)
 
-quiet_tail : (w : Setting) (given : List ExprOperand) → are_operands given ≡ true → Quiet (run_tail w (tail_of given))
+pub quiet_tail : (w : Setting) (given : List ExprOperand) → are_operands given ≡ true → Quiet (run_tail w (tail_of given))
 quiet_tail w [] h = quiet_pure _
 quiet_tail w (o ∷ os) h = quiet_operand w o.expr (and_parts (is_operand o.expr) (are_operands os) h).0
 

@@ -49,9 +49,8 @@ use Rattle.abi_driver.specs.Imports.{IsHonest, ResultStands as DriverResult, poi
 use Rattle.abi_driver.specs.Laws.{item_data, ofs}
 use Rattle.abi_driver.specs.Meaning.{item, of}
 use Rattle.abi_driver.proofs.HonestAnswers.{in_words}
-use Rattle.abi_driver.proofs.ImportSteps.{answer_in_area}
+use Rattle.abi_driver.proofs.ImportSteps.{answer_in_area, same_addresses}
 use Rattle.func_gen.specs.FuncSound.{func_sound}
-use Rattle.abi_driver.proofs.Runs.{total-append}
 use Rattle.func_gen.specs.Facts.{Hold}
 use Rattle.func_gen.specs.Meaning.{AreaIs, FuncState, account_of, answer_of, call_of, func_meaning, owns_of, setting_for}
 use Rattle.func_gen.specs.declared.function_bindgen.FunctionBindgen.{FunctionBindgen}
@@ -67,6 +66,7 @@ use Rattle.wrapper_closing.proofs.ImportCalls.{carried, does_is, finish, rest, w
 use Rattle.wrapper_closing.proofs.ImportLeaves.{LeftOver, gives_and_leaves, left_over}
 use Rattle.wrapper_closing.proofs.ImportStart.{Ready, asked_for, due_area, file}
 use Rattle.wrapper_closing.proofs.SettledDirect.{settled_listed}
+use Rattle.wrapper_meaning.proofs.PostReturn.{total-append}
 
 -- 1. Honesty, as the driver tells it
 
@@ -95,12 +95,6 @@ unplaced (Some r) None asked name s h = absurd h
 unplaced (Some r) (Some a) asked name s h = h.1
 
 -- 2. The heap after it
-
-same_addresses : (area written : List Block) → SameArea area written → addresses written ≡ addresses area
-same_addresses [] [] h = refl
-same_addresses [] (b ∷ written) h = absurd h
-same_addresses (b ∷ area) [] h = absurd h
-same_addresses (b ∷ area) (d ∷ written) h = ap₂ (λ x xs. x ∷ xs) h.0 (same_addresses area written h.2)
 
 many_addresses : (blocks : List Block) → length (addresses blocks) ≡ length blocks
 many_addresses [] = refl

@@ -22,10 +22,11 @@ use Rattle.wrapper_run.specs.Run.{answer_and_leave}
 use Rattle.abi_driver.specs.Account.{addresses}
 use Rattle.abi_driver.proofs.AreaHeaps.{contains_last}
 use Rattle.abi_driver.proofs.Replaced.{block_formed}
-use Rattle.abi_driver.proofs.Runs.{total-append}
 use Rattle.func_gen.specs.Meaning.{owns_of}
 use Rattle.wrapper_closing.proofs.AnswerHeap.{begins_there, left_without}
-use Rattle.wrapper_closing.proofs.Leaving.{leaves_block, leaves_nothing, no_items, one_item}
+use Rattle.wrapper_closing.proofs.Leaving.{leaves_block, leaves_nothing, no_items}
+use Rattle.wrapper_meaning.proofs.PostReturn.{total-append}
+use Rattle.abi_driver.proofs.AnswerArea.{only_one}
 
 -- a state in which all locals are gone, and of the heap the area
 pub record LeftOver (w : Setting) (s : State) (rest : List Block) : Type 0 where
@@ -52,7 +53,7 @@ module _ (w : Setting) (s : State) (rest : List Block) (whole : is_heap s.heap �
       let found : owned_block b.address s ≡ Some b = ap (λ c. cond c (block_from b.address s.heap.blocks) None) taken ∙ begins_there s.heap.blocks b whole there good in
       record {
         state = without_block (b.address, b.size) (record s { locals = [] });
-        leaves = leaves_block w s b.address b (sym locals_own ∙ one_item (owns_of s) b.address owns) found;
+        leaves = leaves_block w s b.address b (sym locals_own ∙ only_one (owns_of s) b.address owns) found;
         heap = λ g. let left = left_without s.heap.blocks b whole there good g in omega (arith, left, all g, total-append g (without b.address b.size s.heap.blocks) (b ∷ []), total-append g rest (b ∷ []));
         calls = refl;
         requests = refl;

@@ -29,7 +29,7 @@ use Rattle.abi_driver.specs.Account.{Done, Peer, addresses}
 use Rattle.abi_driver.specs.Area.{AreFor, AreaStands, NeedsArea}
 use Rattle.abi_driver.specs.Imports.{Given}
 use Rattle.abi_driver.specs.Laws.{args, item_data}
-use Rattle.abi_driver.proofs.Runs.{addresses_both, total-append}
+use Rattle.abi_driver.proofs.Runs.{addresses_both}
 use Rattle.func_gen.specs.Meaning.{Denote, File, FuncState, GivesAsCalled, IsArea, Serves, func_meaning, owns_of, setting_for}
 use Rattle.func_gen.specs.Records.{AreDefined}
 use Rattle.func_gen.specs.FuncSound.{func_sound}
@@ -41,6 +41,7 @@ use Rattle.wrapper_closing.proofs.Arguments.{AreItems}
 use Rattle.wrapper_closing.proofs.ClosedArea.{area_due, area_holds, area_sized, records_of}
 use Rattle.wrapper_closing.proofs.Placing.{Misses, Places, asking, placed, places}
 use Rattle.wrapper_closing.proofs.Start.{area_owns, at_first, bare_owns, begins_bare, begins_with_area}
+use Rattle.wrapper_meaning.proofs.PostReturn.{total-append}
 
 module _ (types : List TypeDef) (f : Function) (tree : Tree) (nth : ℕ) (old new : FunctionBindgen) (c : ClosesImport types f tree nth old new) where
   abbrev pub shapes : Shapes

@@ -11,6 +11,7 @@ use Rattle.wrapper_values.specs.Owning.{owned_in}
 use Rattle.wrapper_values.specs.Setting.{Setting}
 use Rattle.wrapper_run.specs.Blocks.{drop_local, drop_locals, free, free_all, keep_locals, leave_to, owned_block, without_block}
 use Rattle.wrapper_run.proofs.TakeLemmas.{frees_one}
+use Rattle.wrapper_faithful.proofs.NoHandles.{apart}
 
 abbrev owns_in : List Local → List ℕ
 owns_in locals = flat_map (λ (l : Local). owned_in l.value) locals
@@ -40,21 +41,12 @@ same_is_no_other a = go (nat_eq a a) refl
     go true e = refl
     go false e = absurd (grind (arith, nat_tests))
 
-pub one_item : (xs : List ℕ) (a : ℕ) → SameItems xs (a ∷ []) → xs ≡ a ∷ []
-one_item [] a h = absurd (omega (arith, h (λ y. 1)))
-one_item (x ∷ []) a h = ap (λ z. z ∷ []) (other_none a x (omega (arith, h (is_other a), same_is_no_other a)))
-one_item (x ∷ y ∷ xs) a h = absurd (omega (arith, h (λ z. 1)))
-
 -- 2. Drops
-
-pub none_in_both : (xs ys : List ℕ) → xs ++ ys ≡ [] → (xs ≡ []) × (ys ≡ [])
-none_in_both [] ys h = (refl, h)
-none_in_both (x ∷ xs) ys h = absurd cc
 
 drops_nothing : (w : Setting) (locals : List Local) (s : State) → owns_in locals ≡ [] → drop_locals w locals s ≡ Done tt s
 drops_nothing w [] s h = refl
 drops_nothing w (l ∷ locals) s h =
-    let both = none_in_both (owned_in l.value) (owns_in locals) h in
+    let both = apart (owned_in l.value) (owns_in locals) h in
     ap (λ o. and_then o (λ u. drop_local w l.value)) (drops_nothing w locals s both.1) ∙ ap (λ xs. free_all w xs s) both.0
 
 -- of two lists that are one item together, one has it
@@ -63,7 +55,7 @@ one_of_two [] ys a P h none one = none refl h
 one_of_two (x ∷ xs) ys a P h none one =
     let first : x ≡ a = cc in
     let rest : xs ++ ys ≡ [] = cc in
-    let both = none_in_both xs ys rest in
+    let both = apart xs ys rest in
     one (ap (λ z. z ∷ xs) first ∙ ap (λ zs. a ∷ zs) both.0) both.1
 
 freed : (w : Setting) (a : ℕ) (s : State) → free_all w (a ∷ []) s ≡ free w a s

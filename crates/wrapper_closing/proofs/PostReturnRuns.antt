@@ -37,7 +37,6 @@ use Rattle.abi_driver.specs.Meaning.{arg, word}
 use Rattle.abi_driver.specs.Places.{HasRoom}
 use Rattle.abi_driver.specs.Touches.{reached}
 use Rattle.abi_driver.proofs.AreaHeaps.{contains_last}
-use Rattle.abi_driver.proofs.Runs.{total-append}
 use Rattle.func_gen.specs.FuncSound.{func_sound}
 use Rattle.func_gen.specs.Meaning.{File, FuncState, GivesAsCalled, Serves, account_of, func_meaning, owns_of, run_head, seen, setting_for, static_request}
 use Rattle.func_gen.specs.declared.function_bindgen.FunctionBindgen.{FunctionBindgen}
@@ -47,8 +46,10 @@ use Rattle.wrapper_closing.specs.ClosedExport.{export_file}
 use Rattle.wrapper_closing.specs.ClosedPostReturn.{ClosesPostReturn}
 use Rattle.wrapper_closing.proofs.ExportStart.{at_words, words_begin, words_own}
 use Rattle.wrapper_closing.proofs.FreedBlocks.{freed_are_gone, may_free}
-use Rattle.wrapper_closing.proofs.Leaving.{no_items, none_in_both}
+use Rattle.wrapper_closing.proofs.Leaving.{no_items}
 use Rattle.wrapper_closing.proofs.TwoWords.{by_area}
+use Rattle.wrapper_meaning.proofs.PostReturn.{total-append}
+use Rattle.wrapper_faithful.proofs.NoHandles.{apart}
 
 module _ (types : List TypeDef) (f : Function) (tree : Tree) (nth : ℕ) (old new : FunctionBindgen) (c : ClosesPostReturn types f tree nth old new) where
   -- 1. What it stands in
@@ -130,7 +131,7 @@ module _ (types : List TypeDef) (f : Function) (tree : Tree) (nth : ℕ) (old ne
           state = s.machine;
           done = (seen_done None (run_stmts (setting_for file (unanswered form)) new.code.stmts (entered_at b.address heap)) s (sym (does_is (unanswered form) (at_first b.address heap)) ∙ done)).0;
           left = λ g. ap (λ (x : Account RustValue). total g (x.heap.blocks ++ blocks)) after.account ∙ freed_are_gone blocks (account_of (entered_at b.address heap)) may.may g;
-          owns = (none_in_both (option_to_list s.machine.place) (flat_map (λ (l : Local). owned_in l.value) s.machine.locals)
+          owns = (apart (option_to_list s.machine.place) (flat_map (λ (l : Local). owned_in l.value) s.machine.locals)
               (no_items (owns_of s.machine) (λ g. sym (ap (total g) (append-nil (owns_of s.machine))) ∙ after.owns g ∙ ap (λ xs. total g (xs ++ [])) (words_own old c.begun c.export (core.Pointer b.address ∷ []) heap (record { list = [] }) one_site)))).1;
           calls = ap (λ (x : Account RustValue). x.calls) after.account;
           requests = ap (λ (x : Account RustValue). x.requests) after.account;

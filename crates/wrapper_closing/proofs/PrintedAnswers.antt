@@ -31,13 +31,13 @@ use Rattle.abi_driver.specs.Parts.{PartsStand}
 use Rattle.func_gen.specs.Facts.{item_of}
 use Rattle.func_gen.specs.Meaning.{func_meaning}
 use Rattle.func_gen.proofs.MethodValues.{passed_alike}
-use Rattle.func_gen.proofs.Scalars.{out-f32, out-f64, out-num}
 use Rattle.wrapper_closing.specs.Direct.{are_direct, is_direct}
 use Rattle.wrapper_closing.specs.PrintedAs.{ArePrintedAs, ArePrintedParams, IsPrintedAs}
 use Rattle.wrapper_closing.specs.PrintedLaws.{PrintedParamsPass, PrintedResultsAnswer, PrintedResultsComeIn, PrintedValuesAreTaken}
 use Rattle.wrapper_closing.proofs.OwningValues.{owning, owns}
 use Rattle.wrapper_closing.proofs.PrintedValues.{is_typed}
 use Rattle.wrapper_closing.proofs.SettledDirect.{all_settled_same}
+use Rattle.wrapper_meaning.proofs.RustValues.{out-num, out-f32, out-f64}
 
 -- 1. Words that are values
 

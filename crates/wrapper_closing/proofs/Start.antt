@@ -89,7 +89,7 @@ module _ (b : FunctionBindgen) (begun : IsBegun b) (import : b.import ≡ true) 
 
   -- a name that is free is none of a parameter, nor of the area
   unused : (n : Bytes) → is_used b.scope.used n ≡ false → (bytes_eq b.area n ≡ false) × (is_used (site_names b.params) n ≡ false)
-  unused n free = or_parts (bytes_eq b.area n) (is_used (site_names b.params) n) (sym (ap (λ us. is_used us n) begun.used) ∙ free)
+  unused n free = or_parts (bytes_eq b.area n) (is_used (site_names b.params) n) (begun.used n free)
 
   first_free : (n : Bytes) → is_used (site_names b.params) n ≡ false → local_named n (at_first b rs heap choices).locals ≡ None
   first_free n free = unbound (site_names b.params) (map (λ r. val.Value r) rs) n free

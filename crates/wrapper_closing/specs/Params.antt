@@ -45,6 +45,10 @@ arg_types args = map (λ a. a.ty) args
 unfoldable pub ret_area : Bytes
 ret_area = codes "ret_area"
 
+-- the local that holds the lists to be freed, where no parameter has its name
+unfoldable pub cleanup_list : Bytes
+cleanup_list = codes "cleanup_list"
+
 -- a parameter that is denoted by its name
 abbrev pub local_site : Bytes → ParamSite
 local_site name = record { operand = record { expr = expr.Local name }; name = name }

@@ -21,7 +21,7 @@ pub record AreParts (types : List TypeDef) (parts : BodyParts) : Type 0 where
 
 -- a bindgen was made of them
 abbrev pub IsMadeFrom : Bool → BodyParts → FunctionBindgen → Type 0
-IsMadeFrom import parts b = IsMadeOf parts.sizes import parts.home parts.area parts.params parts.records b
+IsMadeFrom import parts b = IsMadeOf parts.sizes import parts.home parts.area parts.cleanup parts.params parts.records b
 
 -- the tables among them
 abbrev pub tables_of : BodyParts → TypeTables

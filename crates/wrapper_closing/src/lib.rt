@@ -26,4 +26,4 @@ pub use params::{core_params, core_result, post_return_params};
 pub use parts::BodyParts;
 pub use post_returns::post_return_body;
 pub use printed_law::printed_types_law;
-pub use sites::{are_distinct_names, core_sites, param_sites, ret_area};
+pub use sites::{are_distinct_names, cleanup_list, core_sites, param_sites, ret_area};

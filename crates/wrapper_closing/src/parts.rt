@@ -21,6 +21,8 @@ pub struct BodyParts {
     pub home: Text,
     /// The local that holds an import's return area.
     pub area: Text,
+    /// The local that holds the lists to be freed.
+    pub cleanup: Text,
     /// The wrapper's parameters.
     pub params: List<ParamSite>,
     /// By the number of a type, how it is written if it is a record.
@@ -42,8 +44,9 @@ pub(crate) fn begin(
         sizes,
         home,
         area,
+        cleanup,
         params,
         records,
     } = parts;
-    FunctionBindgen::new(alloc, sizes, import, home, area, params, records)
+    FunctionBindgen::new(alloc, sizes, import, home, area, cleanup, params, records)
 }

@@ -5,7 +5,7 @@ ghost use Rattle.std.specs.List.{AllByRecursion};
 ghost use Rattle.wit_model.specs.Distinct.{is_distinct};
 ghost use Rattle.func_gen.specs.Scope.{is_used};
 ghost use Rattle.func_gen.specs.Sites.{IsSite, site_names};
-ghost use Rattle.wrapper_closing.specs.Params.{arg_names, local_site, local_sites, ret_area};
+ghost use Rattle.wrapper_closing.specs.Params.{arg_names, cleanup_list, local_site, local_sites, ret_area};
 
 use func_gen::{ExprOperand, ParamSite};
 use rust_tree::{CoreParam, Expr};
@@ -73,4 +73,12 @@ pub fn ret_area(alloc: Global) -> Result<Text, OutOfMemory>
     ensures { IfOk result (λ name. name ≡ ret_area) }
 {
     Text::from_str(alloc, "ret_area")
+}
+
+/// The name of the local that holds the lists to be freed, where no parameter has it.
+#[tactic(auto, unfolding(crate::specs::Params::cleanup_list))]
+pub fn cleanup_list(alloc: Global) -> Result<Text, OutOfMemory>
+    ensures { IfOk result (λ name. name ≡ cleanup_list) }
+{
+    Text::from_str(alloc, "cleanup_list")
 }

@@ -160,7 +160,7 @@ each_added (c ∷ blocks) b h one =
     let parts = and_parts (is_block c) (list_all is_block blocks) h in
     and_from (is_block c) (list_all is_block (blocks ++ b ∷ [])) parts.0 (each_added blocks b parts.1 one)
 
-either_way : (a b : Block) → overlaps a b ≡ false → overlaps b a ≡ false
+pub either_way : (a b : Block) → overlaps a b ≡ false → overlaps b a ≡ false
 either_way a b h = grind (arith, nat_tests)
 
 overlaps_added : (c : Block) (blocks : List Block) (b : Block) → overlaps_any c blocks ≡ false → overlaps c b ≡ false → overlaps_any c (blocks ++ b ∷ []) ≡ false

@@ -1,2 +1,3 @@
 pub mod FormedHeaps
+pub mod Opened
 mod Written

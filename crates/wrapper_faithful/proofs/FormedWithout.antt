@@ -6,6 +6,7 @@ use Rattle.wrapper_data.specs.declared.block.Block.{Block}
 use Rattle.wrapper_data.specs.Heap.{are_apart, is_block, overlaps, overlaps_any}
 use Rattle.wrapper_data.proofs.FormedHeaps.{AreFormed}
 use Rattle.wrapper_run.specs.Memory.{is_at, without}
+use Rattle.wrapper_run.proofs.BesideLemmas.{without_apart}
 
 each_without : (address size : ℕ) (blocks : List Block) → list_all is_block blocks ≡ true → list_all is_block (without address size blocks) ≡ true
 each_without address size [] h = refl
@@ -15,14 +16,6 @@ each_without address size (b ∷ blocks) h = by_test (is_at address size b) (eac
     by_test true others = (and_parts (is_block b) (list_all is_block blocks) h).1
     by_test false others = and_from (is_block b) (list_all is_block (without address size blocks)) (and_parts (is_block b) (list_all is_block blocks) h).0 others
 
-overlaps_without : (x : Block) (address size : ℕ) (blocks : List Block) → overlaps_any x blocks ≡ false → overlaps_any x (without address size blocks) ≡ false
-overlaps_without x address size [] h = refl
-overlaps_without x address size (b ∷ blocks) h = by_test (is_at address size b) (overlaps_without x address size blocks (or_parts (overlaps x b) (overlaps_any x blocks) h).1)
-  where
-    by_test : (t : Bool) → overlaps_any x (without address size blocks) ≡ false → overlaps_any x (cond t blocks (b ∷ without address size blocks)) ≡ false
-    by_test true others = (or_parts (overlaps x b) (overlaps_any x blocks) h).1
-    by_test false others = or_from (overlaps x b) (overlaps_any x (without address size blocks)) (or_parts (overlaps x b) (overlaps_any x blocks) h).0 others
-
 apart_without : (address size : ℕ) (blocks : List Block) → are_apart blocks ≡ true → are_apart (without address size blocks) ≡ true
 apart_without address size [] h = refl
 apart_without address size (b ∷ blocks) h = by_test (is_at address size b) (apart_without address size blocks (and_parts (not (overlaps_any b blocks)) (are_apart blocks) h).1)
@@ -31,7 +24,7 @@ apart_without address size (b ∷ blocks) h = by_test (is_at address size b) (ap
     by_test true others = (and_parts (not (overlaps_any b blocks)) (are_apart blocks) h).1
     by_test false others =
         let parts = and_parts (not (overlaps_any b blocks)) (are_apart blocks) h in
-        and_from (not (overlaps_any b (without address size blocks))) (are_apart (without address size blocks)) (ap not (overlaps_without b address size blocks (not-true (overlaps_any b blocks) parts.0)))
+        and_from (not (overlaps_any b (without address size blocks))) (are_apart (without address size blocks)) (ap not (without_apart b address size blocks (not-true (overlaps_any b blocks) parts.0)))
         others
 
 pub formed_without : (address size : ℕ) (blocks : List Block) → AreFormed blocks → AreFormed (without address size blocks)

@@ -13,7 +13,7 @@ use Rattle.wrapper_meaning.specs.Value.{Case, Parts, Result, Value}
 use Rattle.wrapper_faithful.specs.Laws.{AllCallsCount, NothingIsDropped}
 
 -- two lists that are empty together
-apart : (xs ys : List ℕ) → xs ++ ys ≡ [] → (xs ≡ []) × (ys ≡ [])
+pub apart : (xs ys : List ℕ) → xs ++ ys ≡ [] → (xs ≡ []) × (ys ≡ [])
 apart [] ys e = (refl, e)
 apart (x ∷ xs) ys e = absurd (omega (ap length e, arith))
 

@@ -16,7 +16,8 @@ use Rattle.wrapper_meaning.specs.Shape.{Shape, Shapes}
 use Rattle.wrapper_meaning.specs.Shape.Shape.{scalar, text, list, pairs, fixed, fields, tuple, cases, flags, handle, resource, other}
 use Rattle.wrapper_meaning.specs.Shape.Shapes.{none, more}
 use Rattle.wrapper_meaning.specs.Value.{Case, Parts, Value}
-use Rattle.wrapper_meaning.proofs.PartPlaces.{bytes_of_first, bytes_of_rest, end_behind, parts_end, place_behind}
+use Rattle.wrapper_meaning.proofs.PartPlaces.{bytes_of_first, bytes_of_rest, place_behind}
+use Rattle.wit_layout.proofs.RecordSteps.{end_behind, record_behind}
 
 -- 1. A value depends on its own bytes alone
 
@@ -55,7 +56,7 @@ payload_within n e = place_behind (extent (max (discriminant_grain n) e.grain) 0
 -- and the parts of a record within those of the record
 record_alike : (es : List Extent) (b after : Block) (k : ℕ) → AlikeWithin k (k + (record_extent es).bytes) b after → AlikeWithin (k + 0) (k + end es 0) b after
 record_alike es b after k alike =
-    let inside = parts_end es in
+    let inside = record_behind es in
     alike_inside k (k + (record_extent es).bytes) (k + 0) (k + end es 0) b after (omega arith) (omega arith) alike
 
 module _ (w : ℕ) (dir : Direction) where

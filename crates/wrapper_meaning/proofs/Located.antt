@@ -1,6 +1,6 @@
 -- Which block a buffer lies in: its own block is the first of its blocks, and bytes that are lent lie in one block of a well-formed heap.
 use Rattle.std.proofs.Common.{◌≡◌, ◌⊎◌, ◌<◌, ◌≤◌, ◌+◌, ℕ, zero, suc, Bool, true, false, not, List, [], ◌∷◌, ◌++◌, length, slice_index_or, Contains, refl, sym, ap, subst, arith, ◌∙◌}
-use Rattle.std.proofs.lemmas.Bool.{and_parts, and_from, lt-ltb, true≢false}
+use Rattle.std.proofs.lemmas.Bool.{and_parts, and_from, lt-ltb, true≢false, not-true}
 use mathlib.Core.Logic.{inl, inr}
 use Rattle.wrapper_data.specs.declared.block.Block.{Block}
 use Rattle.wrapper_data.specs.Heap.{are_apart, is_heap, overlaps, overlaps_any}
@@ -20,10 +20,6 @@ overlap : (b c : Block) → Meets b c → overlaps b c ≡ true
 overlap b c m =
     and_from _ _ (lt-ltb b.address (c.address + c.size) (omega (m.from, m.below', arith))) (lt-ltb c.address (b.address + b.size) (omega (m.from', m.below, arith)))
 
-not_false : (b : Bool) → not b ≡ true → b ≡ false
-not_false false e = refl
-not_false true e = sym e
-
 -- and are one
 one_block : (heap : List Block) → are_apart heap ≡ true → (b c : Block) → Contains heap b → Contains heap c → Meets b c → b ≡ c
 one_block heap apart b c (i, inside, at) (j, inside', at') m = by_place heap i j apart inside inside' at at'
@@ -32,10 +28,10 @@ one_block heap apart b c (i, inside, at) (j, inside', at') m = by_place heap i j
     by_place [] i j apart inside inside' at at' = absurd (omega (inside, arith))
     by_place (d ∷ heap) zero zero apart inside inside' at at' = sym at ∙ at'
     by_place (d ∷ heap) zero (suc j) apart inside inside' at at' =
-        let free = not_false _ (and_parts (not (overlaps_any d heap)) (are_apart heap) apart).0 in
+        let free = not-true _ (and_parts (not (overlaps_any d heap)) (are_apart heap) apart).0 in
         absurd (true≢false (sym (overlap b c m) ∙ subst (λ x. overlaps x c ≡ false) at (none_at (overlaps d) heap j c free (omega (inside', arith)) at')))
     by_place (d ∷ heap) (suc i) zero apart inside inside' at at' =
-        let free = not_false _ (and_parts (not (overlaps_any d heap)) (are_apart heap) apart).0 in
+        let free = not-true _ (and_parts (not (overlaps_any d heap)) (are_apart heap) apart).0 in
         let turned : Meets c b = record { address = m.address; from = m.from'; below = m.below'; from' = m.from; below' = m.below } in
         absurd (true≢false (sym (overlap c b turned) ∙ subst (λ x. overlaps x b ≡ false) at' (none_at (overlaps d) heap i b free (omega (inside, arith)) at)))
     by_place (d ∷ heap) (suc i) (suc j) apart inside inside' at at' =

@@ -9,13 +9,11 @@ use Rattle.wrapper_data.specs.Heap.{are_apart, is_block, overlaps, overlaps_any}
 use Rattle.wrapper_data.specs.declared.block.Block.{Block}
 use Rattle.wrapper_data.specs.declared.heap.Heap.{Heap}
 use Rattle.wrapper_meaning.specs.Honest.{are_new}
+use Rattle.wrapper_data.proofs.FormedHeaps.{either_way}
 
 -- a block that may stand beside these
 abbrev is_free : List Block → Block → Bool
 is_free blocks b = is_block b && not (overlaps_any b blocks)
-
-either_way : (a b : Block) → overlaps a b ≡ false → overlaps b a ≡ false
-either_way a b h = grind (arith, nat_tests)
 
 -- those that overlap no block and not the next, overlap none of both
 still_free : (blocks : List Block) (n : Block) (new : List Block) → list_all (is_free blocks) new ≡ true → overlaps_any n new ≡ false → list_all (is_free (blocks ++ n ∷ [])) new ≡ true

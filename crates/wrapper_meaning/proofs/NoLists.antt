@@ -22,8 +22,8 @@ use Rattle.wrapper_meaning.specs.StandsFor.{CaseStands, EachStands, PartsStand, 
 use Rattle.wrapper_meaning.specs.Value.{Case, Parts, Result, Value}
 use Rattle.wrapper_meaning.specs.Words.{read_slots}
 
-both : (xs f g : List Block) → xs ≡ f ++ g → f ≡ [] → g ≡ [] → xs ≡ []
-both xs f g all nf ng = all ∙ ap₂ (λ a c. a ++ c) nf ng
+pub no_blocks : (xs f g : List Block) → xs ≡ f ++ g → f ≡ [] → g ≡ [] → xs ≡ []
+no_blocks xs f g all nf ng = all ∙ ap₂ (λ a c. a ++ c) nf ng
 
 -- in memory
 
@@ -32,7 +32,7 @@ HeldAlone {A} holds = (v : A) (b : Block) (k : ℕ) (blocks : List Block) → ho
 
 each_alone : {A : Type 0} (holds : Holder A) (size : ℕ) → HeldAlone holds → HeldAlone (EachHolds holds size)
 each_alone holds size alone [] b k blocks h = h
-each_alone holds size alone (v ∷ vs) b k blocks (first, rest, h, hs, all) = both blocks first rest all (alone v b k first h) (each_alone holds size alone vs b (k + size) rest hs)
+each_alone holds size alone (v ∷ vs) b k blocks (first, rest, h, hs, all) = no_blocks blocks first rest all (alone v b k first h) (each_alone holds size alone vs b (k + size) rest hs)
 
 -- as words
 
@@ -41,7 +41,7 @@ SaidAlone {A} says = (v : A) (words : List Word) (blocks : List Block) → says 
 
 each_said : {A : Type 0} (says : A → Saying) → SaidAlone says → SaidAlone (EachSays says)
 each_said says alone [] words blocks h = h.1
-each_said says alone (v ∷ vs) words blocks (front, back, first, rest, h, hs, e, all) = both blocks first rest all (alone v front first h) (each_said says alone vs back rest hs)
+each_said says alone (v ∷ vs) words blocks (front, back, first, rest, h, hs, e, all) = no_blocks blocks first rest all (alone v front first h) (each_said says alone vs back rest hs)
 
 -- as values of the Rust side
 
@@ -50,7 +50,7 @@ StandsAlone {A} stands = (v : A) (r : RustValue) (blocks : List Block) → stand
 
 each_stands : {A : Type 0} (stands : A → Standing RustValue) → StandsAlone stands → (vs : List A) (rs : List RustValue) (blocks : List Block) → EachStands stands vs rs blocks → blocks ≡ []
 each_stands stands alone [] rs blocks h = h.1
-each_stands stands alone (v ∷ vs) rs blocks (r, others, first, rest, e, h, hs, all) = both blocks first rest all (alone v r first h) (each_stands stands alone vs others rest hs)
+each_stands stands alone (v ∷ vs) rs blocks (r, others, first, rest, e, h, hs, all) = no_blocks blocks first rest all (alone v r first h) (each_stands stands alone vs others rest hs)
 
 payload_stands : {A : Type 0} (empty : Bool) (stands : A → Standing RustValue) (v : A) → StandsAlone stands → (payload : Option RustValue) (blocks : List Block) → PayloadStands empty (stands v) payload blocks → blocks ≡ []
 payload_stands true stands v alone None blocks h = h
@@ -80,7 +80,7 @@ module _ (w : ℕ) (dir : Direction) where
     parts_alone none e behind v b k blocks h = h
     parts_alone (more t ts) e behind v b k blocks (first, rest, h, hs, all) =
         let each = or_parts (has_list t) (have_list ts) e in
-        both blocks first rest all (holds_alone t each.0 v.0 b (k + place (extent_of w (layout t)) behind) first h) (parts_alone ts each.1 (place (extent_of w (layout t)) behind + elem_size w (layout t)) v.1 b k rest hs)
+        no_blocks blocks first rest all (holds_alone t each.0 v.0 b (k + place (extent_of w (layout t)) behind) first h) (parts_alone ts each.1 (place (extent_of w (layout t)) behind + elem_size w (layout t)) v.1 b k rest hs)
 
     case_alone : (ts : Shapes) → have_list ts ≡ false → HeldAlone (CaseHolds w dir ts)
     case_alone none e c b k blocks h = elim c [ ]
@@ -106,7 +106,7 @@ module _ (w : ℕ) (dir : Direction) where
     parts_said none e v words blocks h = h.1
     parts_said (more t ts) e v words blocks (front, back, first, rest, h, hs, is, all) =
         let each = or_parts (has_list t) (have_list ts) e in
-        both blocks first rest all (says_alone t each.0 v.0 front first h) (parts_said ts each.1 v.1 back rest hs)
+        no_blocks blocks first rest all (says_alone t each.0 v.0 front first h) (parts_said ts each.1 v.1 back rest hs)
 
     case_said : (ts : Shapes) → have_list ts ≡ false → SaidAlone (CaseSays w dir ts)
     case_said none e c shared blocks h = elim c [ ]
@@ -132,7 +132,7 @@ module _ (w : ℕ) (dir : Direction) where
     parts_stand none e v rs blocks h = h.1
     parts_stand (more t ts) e v rs blocks (r, others, first, rest, is, h, hs, all) =
         let each = or_parts (has_list t) (have_list ts) e in
-        both blocks first rest all (stands_alone t each.0 v.0 r first h) (parts_stand ts each.1 v.1 others rest hs)
+        no_blocks blocks first rest all (stands_alone t each.0 v.0 r first h) (parts_stand ts each.1 v.1 others rest hs)
 
     case_stands : (ts : Shapes) → have_list ts ≡ false → (c : Case ts) (payload : Option RustValue) (blocks : List Block) → CaseStands w dir ts c payload blocks → blocks ≡ []
     case_stands none e c payload blocks h = elim c [ ]

@@ -43,13 +43,6 @@ place_aligned e k = mul-mod_left ((k + (2 ^ e.grain - 1)) / 2 ^ e.grain) (2 ^ e.
 
 -- 3. All of them
 
-pub end_behind : (es : List Extent) (k : ℕ) → k ≤ end es k
-end_behind [] k = omega arith
-end_behind (e ∷ es) k = omega (arith, place_behind e k, end_behind es (place e k + e.bytes))
-
-pub parts_end : (es : List Extent) → end es 0 ≤ (record_extent es).bytes
-parts_end es = place_behind (record_extent es) (end es 0)
-
 pub grain_of_first : (e : Extent) (es : List Extent) → e.grain ≤ (greatest (e ∷ es)).grain
 grain_of_first e es = omega arith
 

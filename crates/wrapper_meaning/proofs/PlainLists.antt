@@ -19,13 +19,11 @@ use Rattle.wrapper_meaning.specs.Shape.Shapes.{none, more}
 use Rattle.wrapper_meaning.specs.StandsFor.{EachStands, Stands, StandsAsBuffer}
 use Rattle.wrapper_meaning.proofs.Lists.{some_same}
 use Rattle.wrapper_meaning.proofs.RustValues.{buffer_same}
+use Rattle.wrapper_meaning.proofs.NoLists.{no_blocks}
 
 -- what holds a value has no blocks, and is held otherwise too
 abbrev AlikeHeld : {A : Type 0} → Holder A → Holder A → Type 0
 AlikeHeld {A} holds otherwise = (v : A) (b : Block) (k : ℕ) (blocks : List Block) → holds v b k blocks → (blocks ≡ []) × otherwise v b k []
-
-no_blocks : (xs f g : List Block) → xs ≡ f ++ g → f ≡ [] → g ≡ [] → xs ≡ []
-no_blocks xs f g all nf ng = all ∙ ap₂ (λ a c. a ++ c) nf ng
 
 each_alike : {A : Type 0} (holds otherwise : Holder A) (size : ℕ) → AlikeHeld holds otherwise → AlikeHeld (EachHolds holds size) (EachHolds otherwise size)
 each_alike holds otherwise size alike [] b k blocks h = (h, refl)

@@ -47,7 +47,7 @@ same_split (x ∷ ws) (z ∷ zs) w' z' n e =
     let rest = same_split ws zs w' z' (omega (n, arith)) (ap later e) in
     (ap₂ (λ a c. a ∷ c) (ap (first_or x) e) rest.0, rest.1)
 
-are_words-length : (w : ℕ) (types : List WasmType) (ws : List Word) → AreWords w types ws → length ws ≡ length types
+pub are_words-length : (w : ℕ) (types : List WasmType) (ws : List Word) → AreWords w types ws → length ws ≡ length types
 are_words-length w [] ws h = ap length h
 are_words-length w (ty ∷ types) [] h = elim h [ ]
 are_words-length w (ty ∷ types) (x ∷ ws) h = ap suc (are_words-length w types ws h.1)

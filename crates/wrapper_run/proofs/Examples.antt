@@ -5,6 +5,7 @@ use Rattle.std.specs.Prelude.{codes, negsuc, option_and_then, pos}
 use Rattle.std.specs.Option.{option_map}
 use Rattle.wit_model.specs.Bytes.{Bytes}
 use Rattle.wit_model.specs.declared.types.WitType.TheVariants as wit
+use Rattle.wit_model.specs.declared.wasm_type.WasmType.TheVariants as core
 use Rattle.rust_tree.specs.declared.expr.Expr.{Expr, the_lemmas as expr_lemmas}
 use Rattle.rust_tree.specs.declared.expr.Expr.TheVariants as expr
 use Rattle.rust_tree.specs.declared.expr.SmallType.TheVariants as small
@@ -39,9 +40,9 @@ use Rattle.wrapper_values.specs.Locals.{lend_local, use_local}
 use Rattle.wrapper_run.specs.Memory.{loaded_small, stored_small}
 use Rattle.wrapper_values.specs.Owning.{lent, owned}
 use Rattle.wrapper_run.specs.Results.{results, run_inner}
-use Rattle.wrapper_run.specs.Run.{begin, call, eval, run_stmt}
+use Rattle.wrapper_run.specs.Run.{begin, bound_args, call, eval, result_of, run_stmt}
 use Rattle.wrapper_values.specs.Setting.{Setting, stuck}
-use Rattle.wrapper_values.specs.Typed.{Typed, answer_in, typed, typed_case, typed_level, unaliased}
+use Rattle.wrapper_values.specs.Typed.{Typed, answer_in, typed, typed_case, typed_level, typed_option, unaliased}
 use Rattle.wrapper_values.specs.Whole.{whole_of}
 use Rattle.wrapper_run.proofs.OwningLemmas.{owned-block, owned-number}
 use Rattle.wrapper_run.proofs.PartSteps.{eval-record, takes_apart}
@@ -213,23 +214,41 @@ option_none : answer_in [] number_option (val.Value (value.Case 0 None)) ≡ Som
 unfolding answer_of
 option_none = search (rules, the_lemmas, type_lemmas)
 
--- and so is the case 1 with a payload of its type
+-- a case with a payload is what that payload makes it
 
-some_is_typed : (r : RustValue) → typed [] (value.Case 1 (Some r)) number_option ≡ option_map (λ x. value.Case 1 (Some x)) (typed [] r (type.Primitive prim.I32))
-some_is_typed r =
-    ap (λ v. typed [] v number_option) (sym (rolls-Case 1 (Some r)))
-    ∙ ap (λ (f : Typed). f number_option) (fold-roll-RustValue Typed (λ l ty. typed_level [] l (unaliased [] ty)) (RustValue-F.Case 1 (Some r)))
-    ∙ ap (typed_case 1 (Some (typed [] r))) number_opened
+case_is_typed : (n : ℕ) (r : RustValue) → typed [] (value.Case n (Some r)) number_option ≡ typed_option n (Some (typed [] r)) (type.Primitive prim.I32)
+case_is_typed n r =
+    ap (λ v. typed [] v number_option) (sym (rolls-Case n (Some r)))
+    ∙ ap (λ (f : Typed). f number_option) (fold-roll-RustValue Typed (λ l ty. typed_level [] l (unaliased [] ty)) (RustValue-F.Case n (Some r)))
+    ∙ ap (typed_case n (Some (typed [] r))) number_opened
   where
     number_opened : out-TypeExpr number_option ≡ TypeExpr-F.Optional (type.Primitive prim.I32)
     number_opened = search (rules, type_lemmas)
+
+-- the case 0 with `()` is the same option, and with another payload it is none
+
+unit_is_typed : typed [] value.Unit type.Unit ≡ Some value.Unit
+unfolding answer_of
+unit_is_typed = search (rules, the_lemmas, type_lemmas)
+
+option_unit : typed [] (value.Case 0 (Some value.Unit)) number_option ≡ Some (value.Case 0 None)
+option_unit = case_is_typed 0 value.Unit ∙ ap (option_map (λ r. value.Case 0 None)) unit_is_typed
+
+number_is_no_unit : typed [] (value.Num wit.S32 (pos 7)) type.Unit ≡ None
+unfolding answer_of
+number_is_no_unit = search (rules, the_lemmas, type_lemmas)
+
+option_not_unit : typed [] (value.Case 0 (Some (value.Num wit.S32 (pos 7)))) number_option ≡ None
+option_not_unit = case_is_typed 0 (value.Num wit.S32 (pos 7)) ∙ ap (option_map (λ r. value.Case 0 None)) number_is_no_unit
+
+-- the case 1 with a payload of its type is one
 
 seven_is_typed : typed [] (value.Num wit.S32 (pos 7)) (type.Primitive prim.I32) ≡ Some (value.Num wit.S32 (pos 7))
 unfolding answer_of
 seven_is_typed = search (rules, the_lemmas, type_lemmas)
 
 option_some : typed [] (value.Case 1 (Some (value.Num wit.S32 (pos 7)))) number_option ≡ Some (value.Case 1 (Some (value.Num wit.S32 (pos 7))))
-option_some = some_is_typed (value.Num wit.S32 (pos 7)) ∙ ap (option_map (λ x. value.Case 1 (Some x))) seven_is_typed
+option_some = case_is_typed 1 (value.Num wit.S32 (pos 7)) ∙ ap (option_map (λ x. value.Case 1 (Some x))) seven_is_typed
 
 -- one with a payload of another type, whether another number or a bool, is none
 
@@ -238,14 +257,14 @@ unfolding answer_of
 unsigned_is_none = search (rules, the_lemmas, type_lemmas)
 
 option_of_another : typed [] (value.Case 1 (Some (value.Num wit.U32 (pos 7)))) number_option ≡ None
-option_of_another = some_is_typed (value.Num wit.U32 (pos 7)) ∙ ap (option_map (λ x. value.Case 1 (Some x))) unsigned_is_none
+option_of_another = case_is_typed 1 (value.Num wit.U32 (pos 7)) ∙ ap (option_map (λ x. value.Case 1 (Some x))) unsigned_is_none
 
 bool_is_none : typed [] (value.Bool true) (type.Primitive prim.I32) ≡ None
 unfolding answer_of
 bool_is_none = search (rules, the_lemmas, type_lemmas)
 
 option_of_bool : typed [] (value.Case 1 (Some (value.Bool true))) number_option ≡ None
-option_of_bool = some_is_typed (value.Bool true) ∙ ap (option_map (λ x. value.Case 1 (Some x))) bool_is_none
+option_of_bool = case_is_typed 1 (value.Bool true) ∙ ap (option_map (λ x. value.Case 1 (Some x))) bool_is_none
 
 -- the case 1 without one, and another case, are none
 
@@ -268,6 +287,22 @@ array_of_two = search (rules, the_lemmas, type_lemmas)
 array_of_one : answer_in two_types two_qs (val.Value (value.Struct (text_and_seven true ∷ []))) ≡ None
 unfolding answer_of
 array_of_one = search (rules, the_lemmas, type_lemmas)
+
+array_of_three : answer_in two_types two_qs (val.Value (value.Struct (text_and_seven true ∷ text_and_seven true ∷ text_and_seven true ∷ []))) ≡ None
+unfolding answer_of
+array_of_three = search (rules, the_lemmas, type_lemmas)
+
+-- a parameter without an argument is no local, and a word of another type is no result: neither has a meaning
+
+abbrev without_argument : State
+without_argument = begin (bound_args (record { name = b_name; ty = type.Primitive prim.U32 } ∷ []) []) [] (record { blocks = [] }) (record { list = [] })
+
+argument_missing : (w : Setting) → eval w (expr.Ref b_name) without_argument ≡ Stopped (stuck w) without_argument
+unfolding lend_local
+argument_missing w = ap (λ act. act without_argument) (eval-ref w b_name)
+
+another_word : result_of (Some core.I32) (Some (word.I64 (pos 1))) ≡ None
+another_word = refl
 
 -- an area is no value: `::core::mem::forget(ret_area)` and `&ret_area` have no meaning, so no stack area outlives its body
 

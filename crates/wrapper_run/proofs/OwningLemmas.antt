@@ -10,6 +10,7 @@ use Rattle.wrapper_values.specs.Act.{Outcome, Done, Stopped, and_then, pure}
 use Rattle.wrapper_run.specs.Blocks.{drop_local, drop_locals, free, free_all}
 use Rattle.wrapper_values.specs.Owning.{buffer_of, buffer_of_level, owned, owned_in, owned_level}
 use Rattle.wrapper_values.specs.Setting.{Setting}
+use Rattle.wrapper_data.proofs.Opened.{out-buffer}
 
 -- a scalar and `()` own nothing
 
@@ -44,11 +45,8 @@ no_buffer-f64 bits = let opened : out-RustValue (value.F64 bits) ≡ RustValue-F
 
 -- a text
 
-opened_text : (p n : ℕ) (o : Bool) → out-RustValue (value.Buffer p n o) ≡ RustValue-F.Buffer p n o
-opened_text p n o = search (rules, the_lemmas)
-
 pub buffer-text : (p n : ℕ) (o : Bool) → buffer_of (val.Value (value.Buffer p n o)) ≡ Some (p, n, o)
-buffer-text p n o = ap buffer_of_level (opened_text p n o)
+buffer-text p n o = ap buffer_of_level (out-buffer p n o)
 
 owned-buffer : (p n : ℕ) (o : Bool) → owned (val.Value (value.Buffer p n o)) ≡ owned_level (RustValue-F.Buffer p n o)
 owned-buffer p n o = search (rules, the_lemmas)

@@ -6,7 +6,7 @@ use Rattle.std.specs.List.{list_any}
 use Rattle.std.specs.Option.{option_map}
 use Rattle.std.specs.Str.{bytes_eq}
 use Rattle.std.proofs.Math.Seq.{drop-append_seam, take-append_seam}
-use Rattle.std.proofs.lemmas.List.{length-append, length-map, take-append-drop, take-map}
+use Rattle.std.proofs.lemmas.List.{length-append, length-map, take-append-drop, take-map, nil_from_length}
 use Rattle.std.proofs.lemmas.List.Elements.{filter-append}
 use Rattle.wit_model.specs.Bytes.{Bytes}
 use Rattle.rust_tree.specs.declared.stmt.Block.{Block as Code}
@@ -138,10 +138,6 @@ alike p (x ∷ xs) (y ∷ ys) e =
     go true more = omega (more, arith)
     go false more = more
 
-empty_of : {A : Type 0} (xs : List A) → length xs ≡ 0 → xs ≡ []
-empty_of [] e = refl
-empty_of (x ∷ xs) e = absurd (omega (e, arith))
-
 all_known : (known : Bytes → Bool) (ls : List Local) → length (other_locals known ls) ≡ 0 → known_locals known ls ≡ ls
 all_known known [] e = refl
 all_known known (l ∷ ls) e = go (known l.name) e (all_known known ls)
@@ -172,7 +168,7 @@ parts known outer locals more named kept =
     record {
       taken = ap (λ m. take m (known_locals known locals)) at ∙ ap (take (length (known_locals known p))) split ∙ take-append_seam (known_locals known p) q;
       dropped = ap (λ m. drop m (known_locals known locals)) at ∙ ap (drop (length (known_locals known p))) split ∙ drop-append_seam (known_locals known p) q;
-      others = sym (append-nil (other_locals known p)) ∙ ap (λ ls. other_locals known p ++ ls) (sym (empty_of (other_locals known q) fewer)) ∙ other;
+      others = sym (append-nil (other_locals known p)) ∙ ap (λ ls. other_locals known p ++ ls) (sym (nil_from_length (other_locals known q) fewer)) ∙ other;
     }
 
 -- 3. The end of a scope

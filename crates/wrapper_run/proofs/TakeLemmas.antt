@@ -151,7 +151,7 @@ quiet_raw w e name h =
 
 -- the address of an area
 
-eval-return_pointer : (w : Setting) (name : Bytes) → eval w (expr.ReturnPointer name) ≡ ask_local (stuck w) view_of.AreaAddress name
+pub eval-return_pointer : (w : Setting) (name : Bytes) → eval w (expr.ReturnPointer name) ≡ ask_local (stuck w) view_of.AreaAddress name
 eval-return_pointer w name = search (rules, the_lemmas)
 
 pub area_gives : (w : Setting) (name : Bytes) (a n : ℕ) (s : State) → value_of (local_named name s.locals) ≡ Some (val.Area a n) → eval w (expr.ReturnPointer name) s ≡ Done (val.Word (word.Pointer a)) s

@@ -52,6 +52,20 @@ fn owned_block(state: &State, address: u32) -> Option<&Block>
     }
 }
 
+/// Takes a block of this address and size from its owner, and removes it.
+fn remove_owned(
+    alloc: Global,
+    state: &mut State,
+    address: u32,
+    size: u32,
+) -> Result<(), OutOfMemory>
+    ensures { OnOk result (state.new ≡ spec.without_block (address, size) state.old) }
+{
+    disown(alloc, state, address)?;
+    remove_block(state, alloc, address, size);
+    Ok(())
+}
+
 /// Frees the block that begins at an address, where an owner has it.
 #[tactic(auto, unfolding(crate::specs::Blocks::free))]
 fn free(alloc: Global, world: &World, state: &mut State, address: u32) -> Result<(), Halt>
@@ -61,8 +75,7 @@ fn free(alloc: Global, world: &World, state: &mut State, address: u32) -> Result
         None => return Err(Halt::Stopped(world.stuck())),
         Some(b) => b.size,
     };
-    disown(alloc, state, address)?;
-    remove_block(state, alloc, address, size);
+    remove_owned(alloc, state, address, size)?;
     Ok(())
 }
 

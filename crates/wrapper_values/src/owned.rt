@@ -77,13 +77,7 @@ pub(crate) fn lent_value(value: &RustValue, alloc: Global) -> Result<RustValue, 
             Ok(RustValue::Case(*number, lent_payload(payload, alloc)?))
         }
         RustValue::Map(entries) => Ok(RustValue::Map(lent_entries(entries.as_slice(), alloc)?)),
-        RustValue::Bool(b) => Ok(RustValue::Bool(*b)),
-        RustValue::Num(kind, n) => Ok(RustValue::Num(*kind, *n)),
-        RustValue::F32(bits) => Ok(RustValue::F32(*bits)),
-        RustValue::F64(bits) => Ok(RustValue::F64(*bits)),
-        RustValue::Char(code) => Ok(RustValue::Char(*code)),
-        RustValue::Bits(bits) => Ok(RustValue::Bits(*bits)),
-        RustValue::Unit => Ok(RustValue::Unit),
+        _ => value.copy(alloc),
     }
 }
 

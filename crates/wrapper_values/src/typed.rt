@@ -62,10 +62,7 @@ fn unaliased<'a>(items: &'a [Item], ty: &'a TypeExpr) -> &'a TypeExpr
 fn plain_as(ty: &TypeExpr, v: &Val) -> Option<RustValue>
     ensures { result ≡ spec.plain_as ty.now v.now }
 {
-    match answer_of(ty, v) {
-        None => None,
-        Some(value) => value,
-    }
+    answer_of(ty, v)?
 }
 
 /// A value, as one of a type.

@@ -18,9 +18,10 @@ impl Readable for Field {
 
     fn read(alloc: Global, value: &Value<'_>) -> Result<Field, DocumentFault> {
         only(value, &["name", "ty", "docs"])?;
+        let ty = required(alloc, value, "ty")?;
         Ok(Field {
             name: required(alloc, value, "name")?,
-            ty: required(alloc, value, "ty")?,
+            ty,
             docs: docs_in(alloc, value)?,
         })
     }

@@ -18,9 +18,10 @@ impl Readable for Case {
 
     fn read(alloc: Global, value: &Value<'_>) -> Result<Case, DocumentFault> {
         only(value, &["name", "ty", "docs"])?;
+        let ty = optional(alloc, value, "ty")?;
         Ok(Case {
             name: required(alloc, value, "name")?,
-            ty: optional(alloc, value, "ty")?,
+            ty,
             docs: docs_in(alloc, value)?,
         })
     }

@@ -60,7 +60,7 @@ exported = record {
   form = form.Release;
   choices = record { list = [] };
   answer = answer.Value None empty;
-  run = plain_export.run_of (answer.Value None empty) form.Release empty (record { list = [] });
+  run = plain_export.export_run (answer.Value None empty) form.Release empty (record { list = [] });
   ran = refl;
 }
 

@@ -116,27 +116,27 @@ done_end w left heap choices says =
     ∙ ap (λ addresses. and_then (free_all w addresses (left_state left heap choices)) (λ _. run_to_words w None wrapper.rest)) owned-unit
     ∙ gives_plain w (core_answer None (val.Value value.Unit)) [] (left_state left heap choices) unit_words tt
 
-abbrev pub run_of : Answer → Form → Heap → Choices → Run
-run_of a form heap choices = run_export_item (setting a form) wrapper [] heap choices
+abbrev pub export_run : Answer → Form → Heap → Choices → Run
+export_run a form heap choices = run_export_item (setting a form) wrapper [] heap choices
 
-run_is : (a : Answer) (form : Form) (heap : Heap) (choices : Choices) → run_of a form heap choices ≡ ended_export (ends_with (setting a form) (called_state heap choices))
+run_is : (a : Answer) (form : Form) (heap : Heap) (choices : Choices) → export_run a form heap choices ≡ ended_export (ends_with (setting a form) (called_state heap choices))
 unfolding run_export_item
 run_is a form heap choices = ap ended_export (goes a form heap choices)
 
-run_calls : (a : Answer) (form : Form) (heap : Heap) (choices : Choices) → (run_of a form heap choices).calls ≡ point heap ∷ []
+run_calls : (a : Answer) (form : Form) (heap : Heap) (choices : Choices) → (export_run a form heap choices).calls ≡ point heap ∷ []
 run_calls a form heap choices =
     ap (λ (r : Run). r.calls) (run_is a form heap choices) ∙ ended-words (ends_with (setting a form) (called_state heap choices)) ∙ (quiet_end (setting a form)).quiet (called_state heap choices)
 
 abbrev done_run : Heap → Heap → Run
 done_run left heap = record { stop = stop.Done; calls = point heap ∷ []; requests = []; heap = left; words = []; value = None }
 
-run_done : (a : Answer) (form : Form) (left heap : Heap) (choices : Choices) → a ≡ answer.Value None left → run_of a form heap choices ≡ done_run left heap
+run_done : (a : Answer) (form : Form) (left heap : Heap) (choices : Choices) → a ≡ answer.Value None left → export_run a form heap choices ≡ done_run left heap
 run_done a form left heap choices says = run_is a form heap choices ∙ ap ended_export (done_end (setting a form) left heap choices says)
 
 -- 3. The claim
 
 -- a run from what it is given is this one
-same_run : (x : RunOfExport nothing tree 0) → x.run ≡ run_of x.answer x.form x.heap x.choices
+same_run : (x : RunOfExport nothing tree 0) → x.run ≡ export_run x.answer x.form x.heap x.choices
 same_run x =
     let words : x.words ≡ [] = x.caller.takes.0 in
     let ran : Some (run_export_item (setting x.answer x.form) wrapper x.words x.heap x.choices) ≡ Some x.run = x.ran in

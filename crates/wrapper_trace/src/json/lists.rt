@@ -16,8 +16,11 @@ pub(crate) fn items_of(value: &Value) -> Result<&[Value], LineFault> {
 
 /// The two items of an array that has two.
 pub(crate) fn pair_of(value: &Value) -> Result<(&Value, &Value), LineFault> {
-    match value.as_array().map(|items| items.as_slice()) {
-        Some([first, second]) => Ok((first, second)),
+    let Some(items) = value.as_array() else {
+        return Err(LineFault::Expected(Part::Pair));
+    };
+    match items.as_slice() {
+        [first, second] => Ok((first, second)),
         _ => Err(LineFault::Expected(Part::Pair)),
     }
 }

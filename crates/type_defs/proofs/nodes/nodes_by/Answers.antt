@@ -2,8 +2,8 @@ use Rattle.std.proofs.Common.{◌≡◌, ◌+◌, ◌≤◌, ◌∙◌, ℕ, suc
 use Rattle.wit_model.specs.Parts.{parts}
 use Rattle.type_defs.specs.Nodes.{capped, nodes_as, nodes_by, nodes_in}
 use Rattle.type_defs.proofs.CappedLemmas.{capped-few, capped-next}
-use Rattle.type_defs.proofs.CutLemmas.{drop_at}
 use Rattle.type_defs.proofs.nodes.nodes_by.Goals as goal
+use Rattle.wit_model.proofs.ListLemmas.{drop_at}
 
 pub loop-nth-init : goal.loop-nth-init
 unfolding nodes_by

@@ -3,8 +3,8 @@ use Rattle.std.proofs.lemmas.Bool.{true≢false}
 use Rattle.std.proofs.lemmas.List.{drop_all}
 use Rattle.std.proofs.lemmas.Option.{slice_get_read}
 use Rattle.type_defs.specs.Unfolded.{are_few, are_few_behind, as_part, few, printed_by}
-use Rattle.type_defs.proofs.CutLemmas.{drop_at}
 use Rattle.type_defs.proofs.unfolded.are_few.Goals as goal
+use Rattle.wit_model.proofs.ListLemmas.{drop_at}
 
 too_many : (n : ℕ) → few n ≡ None → nat_le n 65536 ≡ false
 too_many n h = by_test (nat_le n 65536) refl

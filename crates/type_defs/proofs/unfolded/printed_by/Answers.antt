@@ -2,8 +2,8 @@ use Rattle.std.proofs.Common.{◌≡◌, ◌+◌, ℕ, false, nat_le, drop, List
 use Rattle.std.proofs.lemmas.Bool.{lt-leb}
 use Rattle.wit_model.specs.Parts.{parts}
 use Rattle.type_defs.specs.Unfolded.{printed_as, printed_by, printed_in}
-use Rattle.type_defs.proofs.CutLemmas.{drop_at}
 use Rattle.type_defs.proofs.unfolded.printed_by.Goals as goal
+use Rattle.wit_model.proofs.ListLemmas.{drop_at}
 
 pub loop-nth-init : goal.loop-nth-init
 unfolding printed_by

@@ -7,11 +7,11 @@ use Rattle.type_facts.specs.Facts.{IsNamed}
 use Rattle.type_defs.specs.ListedTypes.{listed_types, types_in}
 use Rattle.type_defs.specs.PrintedTypes.{entry_at}
 use Rattle.type_defs.specs.Used.{uses}
-use Rattle.type_defs.proofs.CutLemmas.{drop_at}
 use Rattle.type_defs.proofs.ListingLemmas.{first-id}
 use Rattle.type_defs.proofs.UsedLemmas.{used_is}
 use Rattle.type_defs.proofs.UsedTypeLemmas.{filtered, listed-named, named-within}
 use Rattle.type_defs.proofs.used.defined_types.Goals as goal
+use Rattle.wit_model.proofs.ListLemmas.{drop_at}
 
 pub get-requires : goal.get-requires
 get-requires c =

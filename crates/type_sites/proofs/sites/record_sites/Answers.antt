@@ -13,7 +13,7 @@ overflow_cast-number c =
     omega (arith, short, same, c.loop-number-test.true)
 
 pub loop-number-preserved : goal.loop-number-preserved
-loop-number-preserved c = λ opts id world analyzed d.
+loop-number-preserved c = λ id world analyzed found shallow.
     let r = c.args.resolve.now in
     let entry = c.entry-item.result in
     let number = c.loop-number.number in
@@ -22,10 +22,10 @@ loop-number-preserved c = λ opts id world analyzed d.
     let read : entry ≡ get_or r.types number entry = c.entry-item.is ∙ ap (λ (ts : List TypeDef). get_or ts number entry) c.as_slice-entry-items.ensures in
     let at : slice_get r.types number ≡ Some entry = slice_get-get_or r.types number entry within ∙ ap (λ (t : TypeDef). Some t) (sym read) in
     let facts = c.get-info.ensures r id analyzed in
-    let is = c.in_ok-site_where.ensures ∙ site-told opts r id world (record { 0 = number }) entry c.get-info.result d at facts in
-    sites-more r world c.loop-number.records c.push.new.self number entry c.in_ok-site_where.field-0 within at is c.in_ok-push.ensures.ok (c.loop-number.invariant opts id world analyzed d)
+    let is = c.in_ok-site_where.ensures ∙ site-told r id world (record { 0 = number }) entry c.get-info.result found shallow at facts in
+    sites-more r world c.loop-number.records c.push.new.self number entry c.in_ok-site_where.field-0 within at is c.in_ok-push.ensures.ok (c.loop-number.invariant id world analyzed found shallow)
 
 pub returns : goal.returns
-returns c = λ opts world d.
+returns c = λ world found shallow.
     let same = ap (λ (ts : List TypeDef). length ts) c.as_slice-entry-items.ensures in
-    sites-done c.args.resolve.now world c.loop-number.records c.loop-number.number (omega (arith, same, c.loop-number-test.false)) (c.loop-number.invariant opts c.args.id world c.in_ok-facts.ensures d)
+    sites-done c.args.resolve.now world c.loop-number.records c.loop-number.number (omega (arith, same, c.loop-number-test.false)) (c.loop-number.invariant c.args.id world c.in_ok-facts.ensures found shallow)

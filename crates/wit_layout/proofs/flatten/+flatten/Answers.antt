@@ -15,11 +15,13 @@ use Rattle.wit_model.specs.Parts.{parts}
 use Rattle.wit_layout.specs.Flat.{flatten_type, flatten_record, slots, joined, words_of_flags}
 use Rattle.wit_layout.specs.inside.Words.{kept}
 use Rattle.wit_layout.specs.Tree.{trees, payload_in, payloads_in}
-use Rattle.wit_layout.proofs.FlattenSteps.{payload_rank, payload_rank_below, payload_below_more, by_kind, members_low, words_of_entry, part_rank, part_in_table, words_of_lists, words_of_flag_kind, words_of_handles, words_of_async, words_of_unknown, words_of_payloads, words_of_cases}
+use Rattle.wit_layout.proofs.FlattenSteps.{payload_rank, payload_rank_below, by_kind, members_low, words_of_entry, part_rank, part_in_table, words_of_lists, words_of_flag_kind, words_of_handles, words_of_async, words_of_unknown, words_of_payloads, words_of_cases}
 use Rattle.wit_layout.proofs.JoinedWords.{repeated_slots}
 use Rattle.wit_layout.proofs.KeptWords.{kept_fit}
-use Rattle.wit_layout.proofs.WordLists.{drop_at, take_then, take_none_left, take_back, take_joined, from_none}
+use Rattle.wit_layout.proofs.WordLists.{take_then, take_none_left, take_back, take_joined, from_none}
 use Rattle.wit_layout.proofs.flatten.+flatten.Goals as goal
+use Rattle.wit_model.proofs.ListLemmas.{drop_at}
+use Rattle.wit_model.proofs.BelowLemmas.{payload_below_more}
 
 pub flatten_cases-flatten_payload-case-requires : goal.flatten_cases-flatten_payload-case-requires
 flatten_cases-flatten_payload-case-requires t c =

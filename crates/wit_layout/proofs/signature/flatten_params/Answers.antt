@@ -6,8 +6,9 @@ use Rattle.wit_layout.specs.Flat.{flatten_type, flatten_record}
 use Rattle.wit_layout.specs.inside.Words.{kept}
 use Rattle.wit_layout.specs.Tree.{trees, tree_in, payloads_in}
 use Rattle.wit_layout.proofs.KeptWords.{kept_fit}
-use Rattle.wit_layout.proofs.WordLists.{drop_at, take_then, take_settled}
+use Rattle.wit_layout.proofs.WordLists.{take_then, take_settled}
 use Rattle.wit_layout.proofs.signature.flatten_params.Goals as goal
+use Rattle.wit_model.proofs.ListLemmas.{drop_at}
 
 pub loop-param-preserved : goal.loop-param-preserved
 loop-param-preserved c =

@@ -1,9 +1,9 @@
 use Rattle.std.proofs.Common.{◌+◌, ◌∙◌, List, Bool, drop, sym, ap}
 use Rattle.wit_model.specs.Parts.{parts}
 use Rattle.type_facts.specs.Passes.{given, mark_all}
-use Rattle.type_facts.proofs.Lists.{drop_at}
 use Rattle.type_facts.proofs.Marking.{mark_all-given}
 use Rattle.type_facts.proofs.marks.Marks.mark_parts.Goals as goal
+use Rattle.wit_model.proofs.ListLemmas.{drop_at}
 
 pub loop-nth-preserved : goal.loop-nth-preserved
 loop-nth-preserved c =
