@@ -14,9 +14,9 @@ use Rattle.abi_driver.specs.Account.{Account, Done, Got, Outcome, is_at, is_take
 use Rattle.abi_driver.specs.Frees.{MayFree, by_freeing, without_blocks}
 use Rattle.abi_driver.specs.Lifts.{AreFree, MayTake}
 use Rattle.abi_driver.specs.Memory.{except, freed, freeing}
-use Rattle.abi_driver.proofs.Replaced.{more_there}
 use Rattle.abi_driver.proofs.Storing.{find_block}
 use Rattle.abi_driver.proofs.TakingOver.{may_first}
+use Rattle.wrapper_meaning.proofs.HeapBlocks.{behind_one}
 
 -- 1. The blocks without one that passes a test
 
@@ -58,7 +58,7 @@ except_at q c (x ∷ blocks) (suc k) l e fails = by (q x) (except_at q c blocks 
   where
     by : (t : Bool) → Contains (except q blocks) c → Contains (if t then blocks else x ∷ except q blocks) c
     by true rest = (k, omega (arith, l), e)
-    by false rest = more_there x c (except q blocks) rest
+    by false rest = behind_one x c (except q blocks) rest
 
 -- a block at another address stays
 stays_there : (b c : Block) (blocks : List Block) → (c.address ≡ b.address → ⊥) → Contains blocks c → Contains (except (is_at b.address b.size) blocks) c

@@ -7,6 +7,7 @@ use Rattle.wrapper_data.specs.Heap.{are_apart, are_cells, covers, is_block, is_h
 use Rattle.wrapper_data.specs.declared.block.Block.{Block}
 use Rattle.wrapper_meaning.proofs.Lists.{none_at}
 use Rattle.abi_driver.specs.Places.{IsWritten, replaced}
+use Rattle.wrapper_meaning.proofs.HeapBlocks.{behind_one}
 
 -- 1. The blocks before and behind one
 
@@ -133,10 +134,6 @@ replaced_twice after later (x ∷ blocks) same = by (nat_eq x.address after.addr
         let other : nat_eq x.address later.address ≡ false = ap (nat_eq x.address) (sym same) ∙ e in
         cond-false (nat_eq x.address later.address) _ _ other ∙ ap (λ bs. x ∷ bs) rest ∙ sym (cond-false (nat_eq x.address later.address) _ _ other)
 
--- a block at another address stays
-pub more_there : (x c : Block) (blocks : List Block) → Contains blocks c → Contains (x ∷ blocks) c
-more_there x c blocks (k, l, e) = (suc k, omega (arith, l), e)
-
 others_at : (after c : Block) (blocks : List Block) (k : ℕ) → k < length blocks → slice_index_or blocks k c ≡ c → (c.address ≡ after.address → ⊥) → Contains (replaced after blocks) c
 others_at after c [] k l e other = absurd (omega (arith, l))
 others_at after c (x ∷ blocks) zero l e other =
@@ -146,7 +143,7 @@ others_at after c (x ∷ blocks) (suc k) l e other = by (nat_eq x.address after.
   where
     by : (t : Bool) → Contains (replaced after blocks) c → Contains (if t then after ∷ blocks else x ∷ replaced after blocks) c
     by true rest = (suc k, omega (arith, l), e)
-    by false rest = more_there x c (replaced after blocks) rest
+    by false rest = behind_one x c (replaced after blocks) rest
 
 pub replaced_others : (blocks : List Block) (after c : Block) → Contains blocks c → (c.address ≡ after.address → ⊥) → Contains (replaced after blocks) c
 replaced_others blocks after c there other = others_at after c blocks there.0 there.1 there.2 other

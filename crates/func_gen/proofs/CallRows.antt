@@ -67,16 +67,13 @@ use Rattle.func_gen.proofs.Steps.{func_grows, ran}
 use Rattle.func_gen.proofs.Forming.{still_of, written}
 use Rattle.wrapper_meaning.proofs.PostReturn.{total-append}
 use Rattle.abi_driver.proofs.PlainCalls.{types_length}
+use Rattle.func_gen.proofs.Writing.{there_first}
 
 -- 1. What has an owner is there still, once the peer has answered
 
-there_step : (b : Bool) (x y : Block) (o p : Option Block) → (IsThere o → IsThere p) → IsThere (cond b (Some x) o) → IsThere (cond b (Some y) p)
-there_step true x y o p f h = tt
-there_step false x y o p f h = f h
-
 pub there_behind : (a : ℕ) (blocks : List Block) (x : Block) → IsThere (block_from a blocks) → IsThere (block_from a (blocks ++ x ∷ []))
 there_behind a [] x h = absurd h
-there_behind a (b ∷ blocks) x h = there_step (begins_at a b) b b (block_from a blocks) (block_from a (blocks ++ x ∷ [])) (there_behind a blocks x) h
+there_behind a (b ∷ blocks) x h = there_first (begins_at a b) b b (block_from a blocks) (block_from a (blocks ++ x ∷ [])) (there_behind a blocks x) h
 
 there_with : (a : ℕ) (blocks : List Block) (x : Block) → IsThere (block_from a blocks) → IsThere (block_from a (with_block blocks x))
 unfolding with_block
@@ -96,8 +93,8 @@ there_byte a [] address byte h = h
 there_byte a (b ∷ blocks) address byte h = go (there_byte a blocks address byte) (covers address b)
   where
     go : (IsThere (block_from a blocks) → IsThere (block_from a (written_byte blocks address byte))) → (c : Bool) → IsThere (block_from a (cond c (written_block b address byte ∷ blocks) (b ∷ written_byte blocks address byte)))
-    go later true = there_step (begins_at a b) b (written_block b address byte) (block_from a blocks) (block_from a blocks) (λ x. x) h
-    go later false = there_step (begins_at a b) b b (block_from a blocks) (block_from a (written_byte blocks address byte)) later h
+    go later true = there_first (begins_at a b) b (written_block b address byte) (block_from a blocks) (block_from a blocks) (λ x. x) h
+    go later false = there_first (begins_at a b) b b (block_from a blocks) (block_from a (written_byte blocks address byte)) later h
 
 there_writes : (a : ℕ) (blocks : List Block) (writes : List (ℕ × ℕ)) → IsThere (block_from a blocks) → IsThere (block_from a (with_writes blocks writes))
 there_writes a blocks [] h = h

@@ -31,7 +31,7 @@ use Rattle.wrapper_run.specs.Memory.{begins_at, block_at, block_from, is_at, wit
 use Rattle.wrapper_run.specs.Run.{apply, call, call_callee, call_runtime, eval, run_stmts, runtime_item_named}
 use Rattle.wrapper_run.proofs.OwningLemmas.{owned-unit}
 use Rattle.wrapper_run.proofs.QuietSteps.{quiet_expr}
-use Rattle.wrapper_run.proofs.StepLemmas.{Quiet, calls_at, call_gives, eval-call, quiet_pure, quiet_then}
+use Rattle.wrapper_run.proofs.StepLemmas.{Quiet, calls_at, call_gives, eval-call, quiet_pure, quiet_then, quiet_free_bytes, quiet_dealloc, quiet_dealloc_words}
 use Rattle.wrapper_run.proofs.FreeSteps.{eval-size, one_byte}
 use Rattle.abi_driver.specs.declared.instruction.Instruction.TheVariants.{GuestDeallocate, GuestDeallocateString}
 use Rattle.abi_driver.specs.Account.{failing}
@@ -63,30 +63,9 @@ size_is w size h = eval-size w size ∙ ap (λ b. or_stop (stuck w) (cond b (Som
 quiet_size : (w : Setting) (size : ArchitectureSize) → is_length size ≡ true → Quiet (eval w (expr.Size size))
 quiet_size w size h = subst Quiet (sym (size_is w size h)) (quiet_pure (val.Word (core.Length (bytes_at size 4))))
 
-quiet_bytes : (w : Setting) (address size : ℕ) → Quiet (free_bytes w address size)
-quiet_bytes w address zero = quiet_pure tt
-quiet_bytes w address (suc n) = record { quiet = λ s. go s (untaken address (suc n) s) }
-  where
-    go : (s : State) (o : Option Block) → calls_at (free_untaken w address (suc n) o s) ≡ s.calls
-    go s None = refl
-    go s (Some b) = refl
-
-quiet_dealloc : (w : Setting) (address size : ℕ) → Quiet (dealloc w address size)
-unfolding dealloc
-quiet_dealloc w address size = go (nat_lt (2 ^ 31 - 1) size)
-  where
-    go : (b : Bool) → Quiet (cond b (stop (failed w trap.Size)) (free_bytes w address size))
-    go true = record { quiet = λ s. refl }
-    go false = quiet_bytes w address size
-
-quiet_words : (w : Setting) (vs : List Val) → Quiet (dealloc_words w vs)
-quiet_words w (val.Word (core.Pointer address) ∷ val.Word (core.Length size) ∷ val.Word (core.Length align) ∷ []) =
-    quiet_then (dealloc w address size) (λ _. pure (val.Value value.Unit)) (quiet_dealloc w address size) (λ _. quiet_pure (val.Value value.Unit))
-quiet_words w _ = record { quiet = λ s. refl }
-
 -- no other function of `_rt` has three arguments
 quiet_three : (w : Setting) (i : Option RuntimeItem) (x y z : Val) → Quiet (apply w i (x ∷ y ∷ z ∷ []))
-quiet_three w (Some CabiDealloc) x y z = quiet_words w (x ∷ y ∷ z ∷ [])
+quiet_three w (Some CabiDealloc) x y z = quiet_dealloc_words w (x ∷ y ∷ z ∷ [])
 quiet_three w None x y z = record { quiet = λ s. refl }
 quiet_three w (Some i) x y z = record { quiet = λ s. refl }
 

@@ -44,7 +44,7 @@ same_start : (a place byte : ℕ) (b : Block) → begins_at a (written_block b p
 unfolding written_block
 same_start a place byte b = refl
 
-there_first : (t : Bool) (b c : Block) (o p : Option Block) → (IsThere o → IsThere p) → IsThere (cond t (Some b) o) → IsThere (cond t (Some c) p)
+pub there_first : (t : Bool) (b c : Block) (o p : Option Block) → (IsThere o → IsThere p) → IsThere (cond t (Some b) o) → IsThere (cond t (Some c) p)
 there_first true b c o p later h = tt
 there_first false b c o p later h = later h
 

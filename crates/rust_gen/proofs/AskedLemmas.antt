@@ -138,7 +138,7 @@ found-left items xs ys h x k = h x (list_any-append (λ i. is_same_item i x) xs 
 pub found-right : (items : List Item) (xs ys : List RuntimeItem) → Found items (xs ++ ys) → Found items ys
 found-right items xs ys h x k = h x (list_any-append (λ i. is_same_item i x) xs ys ∙ or_right (list_any (λ i. is_same_item i x) xs) _ k)
 
-needed-stays : (x : RuntimeItem) (items : List RuntimeItem) → IsAmong x items → IsAmong x (with_needed items)
+pub needed-stays : (x : RuntimeItem) (items : List RuntimeItem) → IsAmong x items → IsAmong x (with_needed items)
 needed-stays x items h = asked-all x (flat_map needed_items items) items (inl h)
 
 -- the module has what is asked for

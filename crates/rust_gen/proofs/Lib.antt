@@ -1,4 +1,4 @@
-mod AskedLemmas
+pub mod AskedLemmas
 mod EntryLemmas
 mod FaithfulLemmas
 mod FixedLemmas

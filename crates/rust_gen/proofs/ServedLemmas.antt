@@ -35,7 +35,7 @@ use Rattle.rust_gen.specs.Runtime.{is_same_item, runtime_items, runtime_module, 
 use Rattle.rust_gen.specs.Served.{IsDue, Serves, asked_for, needed_by, runtime_in}
 use Rattle.rust_gen.proofs.TreeLemmas.{own-first}
 use Rattle.rust_gen.proofs.SkipLemmas.{skip-runtime}
-use Rattle.rust_gen.proofs.AskedLemmas.{IsAmong, asked-all, is-same, same-function, same-refl}
+use Rattle.rust_gen.proofs.AskedLemmas.{IsAmong, asked-all, is-same, same-function, same-refl, needed-stays}
 
 -- an element of a list, and one that a test finds there
 
@@ -194,9 +194,6 @@ round x items h = go (asked-from x (flat_map needed_items items) items h)
     go (inl k) = inl k
     go (inr k) = inr (needer x items k)
 
-stays : (x : RuntimeItem) (items : List RuntimeItem) → IsAmong x items → IsAmong x (with_needed items)
-stays x items h = asked-all x (flat_map needed_items items) items (inl h)
-
 adds : (x i : RuntimeItem) (items : List RuntimeItem) → IsAmong i items → IsAmong x (needed_items i) → IsAmong x (with_needed items)
 adds x i items h k = asked-all x (flat_map needed_items items) items (inr (needed-among x i items h k))
 
@@ -227,7 +224,7 @@ module _ (asked : List RuntimeItem) where
       go (inr n) = deep n (round n.0 first n.1)
 
   has_due : (i : RuntimeItem) → IsDue asked i → IsAmong i third
-  has_due i (asked_for _ h) = stays i second (stays i first (asked-all i asked [] (inr (among-of asked i h))))
+  has_due i (asked_for _ h) = needed-stays i second (needed-stays i first (asked-all i asked [] (inr (among-of asked i h))))
   has_due j (needed_by i _ d h) = closed i j (has_due i d) (among-of (needed_items i) j h)
 
   due-first : (i : RuntimeItem) → IsAmong i first → IsDue asked i

@@ -27,6 +27,7 @@ use Rattle.wrapper_closing.specs.Direct.{are_direct, is_direct, is_direct_result
 use Rattle.wrapper_closing.specs.ImportBlock.{wanted}
 use Rattle.wrapper_closing.proofs.AreaRoom.{area_aligned, area_large, area_room}
 use Rattle.wit_layout.proofs.RecordSteps.{end_behind, record_behind}
+use Rattle.abi_driver.proofs.AreaSteps.{last_room}
 
 -- 1. What has words has bytes
 
@@ -137,16 +138,12 @@ rooms [] (a ∷ asked) area h k = absurd h
 rooms (t ∷ ts) [] area h k = absurd h
 rooms (t ∷ ts) (a ∷ asked) area h k = (omega (arith, h.0.0, k.0.size), rooms ts asked area h.2 k.1)
 
-last_of_all : {A : Type 0} (P : A → Type 0) (xs : List A) (x : A) → AllByRecursion P (xs ++ x ∷ []) → P x
-last_of_all P [] x h = h.0
-last_of_all P (y ∷ xs) x h = last_of_all P xs x h.1
-
 -- that of the result too
 pub room_for_result : (ts : Shapes) (t : Shape) (asked : List Asked) (area : Request) → is_indirect (Some t) ≡ true → AreFor (records_of ts (Some t)) asked → wanted asked ≡ Some area → elem_size 2 (layout t) ≤ area.size
 room_for_result ts t asked area many h is =
     let last : result_record (Some t) ≡ t ∷ [] = ap (λ c. cond c (t ∷ []) []) many in
     let all = rooms (records_of ts (Some t)) asked area h (subst (λ a. AllByRecursion (HoldsRecord 2 a) asked) is (area_holds (records_of ts (Some t)) asked h)) in
-    last_of_all (λ u. elem_size 2 (layout u) ≤ area.size) (parameter_record ts) t (subst (λ us. AllByRecursion (λ u. elem_size 2 (layout u) ≤ area.size) (parameter_record ts ++ us)) last all)
+    last_room (λ u. elem_size 2 (layout u) ≤ area.size) (parameter_record ts) t (subst (λ us. AllByRecursion (λ u. elem_size 2 (layout u) ≤ area.size) (parameter_record ts ++ us)) last all)
 
 -- where the result passes by the area, there is one
 pub some_wanted : (ts : Shapes) (t : Shape) (asked : List Asked) → is_indirect (Some t) ≡ true → AreFor (records_of ts (Some t)) asked → (area : Request) × (wanted asked ≡ Some area)

@@ -14,7 +14,7 @@ moved_in : (xs ys : List Block) → ((b : Block) → Contains xs b → Contains 
 moved_in xs ys h [] all = tt
 moved_in xs ys h (z ∷ zs) all = (h z all.0, moved_in xs ys h zs all.1)
 
-behind_one : (x b : Block) (xs : List Block) → Contains xs b → Contains (x ∷ xs) b
+pub behind_one : (x b : Block) (xs : List Block) → Contains xs b → Contains (x ∷ xs) b
 behind_one x b xs (k, below, at) = (suc k, omega (below, arith), at)
 
 in_front : (xs ys : List Block) → AllIn (xs ++ ys) xs

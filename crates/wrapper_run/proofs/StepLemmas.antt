@@ -229,7 +229,7 @@ quiet_apply_one w None vs = record { quiet = λ s. refl }
 quiet_apply_one w (Some i) [] = record { quiet = λ s. refl }
 quiet_apply_one w (Some i) (v ∷ u ∷ vs) = record { quiet = λ s. refl }
 
-quiet_free_bytes : (w : Setting) (address size : ℕ) → Quiet (free_bytes w address size)
+pub quiet_free_bytes : (w : Setting) (address size : ℕ) → Quiet (free_bytes w address size)
 quiet_free_bytes w address zero = quiet_pure tt
 quiet_free_bytes w address (suc n) = record { quiet = λ s. go s (untaken address (suc n) s) }
   where
@@ -237,7 +237,7 @@ quiet_free_bytes w address (suc n) = record { quiet = λ s. go s (untaken addres
     go s None = refl
     go s (Some b) = refl
 
-quiet_dealloc : (w : Setting) (address size : ℕ) → Quiet (dealloc w address size)
+pub quiet_dealloc : (w : Setting) (address size : ℕ) → Quiet (dealloc w address size)
 unfolding dealloc
 quiet_dealloc w address size = go (nat_lt (2 ^ 31 - 1) size)
   where
@@ -245,7 +245,7 @@ quiet_dealloc w address size = go (nat_lt (2 ^ 31 - 1) size)
     go true = record { quiet = λ s. refl }
     go false = quiet_free_bytes w address size
 
-quiet_dealloc_words : (w : Setting) (vs : List Val) → Quiet (dealloc_words w vs)
+pub quiet_dealloc_words : (w : Setting) (vs : List Val) → Quiet (dealloc_words w vs)
 quiet_dealloc_words w (val.Word (word.Pointer address) ∷ val.Word (word.Length size) ∷ val.Word (word.Length align) ∷ []) =
     quiet_then (dealloc w address size) (λ _. pure (val.Value value.Unit)) (quiet_dealloc w address size) (λ _. quiet_pure (val.Value value.Unit))
 quiet_dealloc_words w _ = record { quiet = λ s. refl }
