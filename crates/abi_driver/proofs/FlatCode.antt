@@ -4,12 +4,13 @@ use Rattle.std.specs.List.{slice_get}
 use Rattle.wit_model.specs.TypeOrder.{GoesDown}
 use Rattle.wit_model.specs.declared.name.TypeId.{TypeId}
 use Rattle.wit_model.specs.declared.types.Field.{Field}
+use Rattle.wit_model.specs.declared.types.Member.{Member}
 use Rattle.wit_model.specs.declared.types.TypeDef.{TypeDef}
 use Rattle.wit_model.specs.declared.types.TypeDefKind.TheVariants as kind
 use Rattle.wit_model.specs.declared.types.WitType.{WitType}
 use Rattle.wit_model.specs.declared.types.WitType.TheVariants as wit
 use Rattle.abi_driver.specs.declared.instruction.Instruction.{Instruction}
-use Rattle.abi_driver.specs.declared.instruction.Instruction.TheVariants.{GuestDeallocateString, RecordLift, RecordLower, StringLift, StringLower, TupleLift, TupleLower}
+use Rattle.abi_driver.specs.declared.instruction.Instruction.TheVariants.{EnumLift, EnumLower, FlagsLift, FlagsLower, GuestDeallocateString, RecordLift, RecordLower, StringLift, StringLower, TupleLift, TupleLower}
 use Rattle.abi_driver.specs.Code.{each, free_words_code, free_words_kind, free_words_leaf, lift_code, lift_kind, lift_leaf, lower_code, lower_kind, lower_leaf, sent}
 use Rattle.abi_driver.specs.Instructions.{lifting, lowering}
 use Rattle.abi_driver.specs.Sent.{sends}
@@ -84,9 +85,33 @@ module _ (types : List TypeDef) (down : GoesDown types) (id : TypeId) (entry : T
       made_by_kind lift_leaf lift_kind types id entry (kind.Tuple tys) down at e
       ∙ ap (λ steps. steps ++ sends (TupleLift (length tys)) ∷ []) (each_map (λ n part. part) (lift_code types) 0 tys)
 
+  pub lower_enum_code : (realloc : Bool) (members : List Member) → entry.kind ≡ kind.Enum members → lower_code types realloc (wit.Id id) ≡ sends (EnumLower id) ∷ []
+  unfolding lower_code
+  lower_enum_code realloc members e = made_by_kind (lower_leaf realloc) lower_kind types id entry (kind.Enum members) down at e
+
+  pub lift_enum_code : (members : List Member) → entry.kind ≡ kind.Enum members → lift_code types (wit.Id id) ≡ sends (EnumLift id) ∷ []
+  unfolding lift_code
+  lift_enum_code members e = made_by_kind lift_leaf lift_kind types id entry (kind.Enum members) down at e
+
+  pub lower_flags_code : (realloc : Bool) (members : List Member) → entry.kind ≡ kind.Flags members → lower_code types realloc (wit.Id id) ≡ sends (FlagsLower id) ∷ []
+  unfolding lower_code
+  lower_flags_code realloc members e = made_by_kind (lower_leaf realloc) lower_kind types id entry (kind.Flags members) down at e
+
+  pub lift_flags_code : (members : List Member) → entry.kind ≡ kind.Flags members → lift_code types (wit.Id id) ≡ sends (FlagsLift id) ∷ []
+  unfolding lift_code
+  lift_flags_code members e = made_by_kind lift_leaf lift_kind types id entry (kind.Flags members) down at e
+
   pub free_words_alias_code : (ty : WitType) → entry.kind ≡ kind.Alias ty → free_words_code types (wit.Id id) ≡ free_words_code types ty
   unfolding free_words_code
   free_words_alias_code ty e = made_by_kind free_words_leaf free_words_kind types id entry (kind.Alias ty) down at e ∙ append-nil _
+
+  pub free_words_enum_code : (members : List Member) → entry.kind ≡ kind.Enum members → free_words_code types (wit.Id id) ≡ []
+  unfolding free_words_code
+  free_words_enum_code members e = made_by_kind free_words_leaf free_words_kind types id entry (kind.Enum members) down at e
+
+  pub free_words_flags_code : (members : List Member) → entry.kind ≡ kind.Flags members → free_words_code types (wit.Id id) ≡ []
+  unfolding free_words_code
+  free_words_flags_code members e = made_by_kind free_words_leaf free_words_kind types id entry (kind.Flags members) down at e
 
   pub free_words_record_code : (members : List Field) → entry.kind ≡ kind.Record members → free_words_code types (wit.Id id) ≡ each (λ n ty. free_words_code types ty) 0 (map (λ f. f.ty) members)
   unfolding free_words_code

@@ -1,8 +1,9 @@
--- The blocks of values that words represent are freed: of scalars, which have none, of texts, and of parts.
+-- The blocks of values that words represent are freed: of scalars, enums and flags, which have none, of texts, and of parts.
 use Rattle.std.proofs.Common.{◌≡◌, ℕ, zero, suc, ◌+◌, ◌≤◌, ◌<◌, List, [], ◌∷◌, ◌++◌, length, drop, Some, refl, sym, ap, ◌∙◌, subst, arith, append_assoc, append-nil}
 use Rattle.std.proofs.lemmas.List.{drop_all, length-append, length-map}
 use Rattle.wit_model.specs.declared.types.TypeDef.{TypeDef}
 use Rattle.wit_model.specs.declared.types.WitType.{WitType}
+use Rattle.wit_layout.specs.Extent.{flag_words}
 use Rattle.wit_layout.specs.Flat.{flatten_record, flatten_type}
 use Rattle.wit_layout.specs.Tree.{Scalar}
 use Rattle.wrapper_data.specs.declared.block.Block.{Block}
@@ -10,8 +11,10 @@ use Rattle.wrapper_data.specs.declared.word.Word.{Word}
 use Rattle.wrapper_data.specs.declared.word.Word.TheVariants as core
 use Rattle.wrapper_meaning.specs.Direction.{give}
 use Rattle.wrapper_meaning.specs.Layout.{layout, layouts}
-use Rattle.wrapper_meaning.specs.Shape.{Shape, Shapes, shape_of}
-use Rattle.wrapper_meaning.specs.Shape.Shape.{scalar, text, fields, tuple}
+use Rattle.wrapper_meaning.specs.AsWords.{Says}
+use Rattle.wrapper_meaning.specs.Shape.{Shape, Shapes, bare, shape_of}
+use Rattle.wrapper_meaning.specs.Shape.Shape.{cases, flags, scalar, text, fields, tuple}
+use Rattle.wrapper_meaning.specs.Value.{Value}
 use Rattle.wrapper_meaning.specs.Shape.Shapes.{none, more}
 use Rattle.abi_driver.specs.declared.instruction.Instruction.{Instruction}
 use Rattle.abi_driver.specs.declared.instruction.Instruction.TheVariants.{GuestDeallocateString}
@@ -22,7 +25,9 @@ use Rattle.abi_driver.specs.Laws.{At, Facts, Sound, core_data, ofs}
 use Rattle.abi_driver.specs.Lifts.{MayTake}
 use Rattle.abi_driver.specs.Meaning.{Meaning, word}
 use Rattle.abi_driver.specs.Memory.{freeing}
+use Rattle.abi_driver.proofs.BareCases.{no_slots, none_said}
 use Rattle.abi_driver.proofs.Done.{does_done}
+use Rattle.abi_driver.proofs.FlagSteps.{length_words}
 use Rattle.abi_driver.proofs.Freeing.{freed_both, frees_text, may_after}
 use Rattle.abi_driver.proofs.LiftSteps.{lifted_type}
 use Rattle.abi_driver.proofs.Runs.{adds_both, adds_same, core_append, ofs_append}
@@ -36,26 +41,40 @@ drop_some (x ∷ xs) zero l = (x, refl)
 drop_some (x ∷ xs) (suc i) l = drop_some xs i (omega (arith, l))
 
 module _ {Self Operand : Type 0} (m : Meaning Self Operand) (sound : Sound m) (types : List TypeDef) where
-  scalar_word : (s : Scalar) (a : Self) (o : Operand) → FreesFlat m (scalar s) (o ∷ []) a a
-  scalar_word s a o = record {
+  -- values without blocks are freed by no code
+  alone_words : (t : Shape) → ((v : Value t) (ws : List Word) (own : List Block) → Says m.width give t v ws own → own ≡ []) → (a : Self) (os : List Operand) → length os ≡ length (flatten_type (layout t)) → FreesFlat m t os a a
+  alone_words t alone a os many = record {
     adds = adds_same m a;
-    fits = refl;
+    fits = many;
     row = λ v ws own listed says w f others s0 st at may. (
       st,
       at.done,
       record {
-        account = sym (ap (λ (bs : List Block). (by_freeing bs (m.account st)).account) says.3);
+        account = sym (ap (λ (bs : List Block). (by_freeing bs (m.account st)).account) (alone v ws own says));
         owns = λ g. refl;
-        denotes = sound.fewer w a (ofs m (o ∷ []) (core_data m ws)) others st at.holds;
+        denotes = sound.fewer w a (ofs m os (core_data m ws)) others st at.holds;
       },
     );
   }
+
+  scalar_word : (s : Scalar) (a : Self) (o : Operand) → FreesFlat m (scalar s) (o ∷ []) a a
+  scalar_word s a o = alone_words (scalar s) (λ v ws own says. says.3) a (o ∷ []) refl
 
   pub scalar_passed : (ty : WitType) (i : Instruction) (a : Self) (words : List Operand) (at next : ℕ) → lifting ty ≡ Some i → (o : Operand) × (drop at words ≡ o ∷ drop next words)
       → (used : List Operand) × (drop at words ≡ used ++ drop next words) × FreesFlat m (shape_of types ty) used a a
   scalar_passed ty i a words at next is h =
       let s = lifted_type ty i is in
       (h.0 ∷ [], h.1, subst (λ t. FreesFlat m t (h.0 ∷ []) a a) (sym (s.shape types)) (scalar_word s.scalar_is a h.0))
+
+  pub enum_passed : {A : Type 0} (members : List A) (a : Self) (words : List Operand) (at next : ℕ) → (o : Operand) × (drop at words ≡ o ∷ drop next words)
+      → (used : List Operand) × (drop at words ≡ used ++ drop next words) × FreesFlat m (cases (bare members)) used a a
+  enum_passed members a words at next h =
+      let many : 1 ≡ length (flatten_type (layout (cases (bare members)))) = sym (ap (λ cs. suc (length cs)) (no_slots members)) in
+      (h.0 ∷ [], h.1, alone_words (cases (bare members)) (λ v ws own says. none_said m.width give members v says.0 own says.3) a (h.0 ∷ []) many)
+
+  pub flags_passed : (n : ℕ) (a : Self) (words : List Operand) (at next : ℕ) → (used : List Operand) × (drop at words ≡ used ++ drop next words) × (length used ≡ flag_words n)
+      → (used : List Operand) × (drop at words ≡ used ++ drop next words) × FreesFlat m (flags n) used a a
+  flags_passed n a words at next h = (h.0, h.1, alone_words (flags n) (λ v ws own says. says.2) a h.0 (h.2 ∙ sym (length_words n)))
 
   pub text_freed : (a b : Self) (o p : Operand) (rs : List Operand) → Emits m types GuestDeallocateString (o ∷ p ∷ []) rs a b → FreesFlat m text (o ∷ p ∷ []) a b
   text_freed a b o p rs e = record {

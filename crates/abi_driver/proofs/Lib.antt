@@ -13,6 +13,7 @@ pub mod PlainOperands
 pub mod PlainPlaces
 pub mod PlainRows
 pub mod PlainRuns
+pub mod PlainKinds
 pub mod PlainNew
 pub mod ArgumentSteps
 pub mod ExportSteps
@@ -28,11 +29,15 @@ pub mod SaysLength
 pub mod TakingOver
 pub mod Done
 pub mod Runs
+pub mod BareCases
 pub mod Bytes
 pub mod CellWrites
+pub mod EnumSteps
+pub mod FlagSteps
 pub mod LeafLoads
 pub mod LeafStores
 pub mod LoadSteps
+pub mod NumberWords
 pub mod PartOffsets
 pub mod Replaced
 pub mod ScalarsInMemory

@@ -1,19 +1,21 @@
 -- What is sent for memory, by the kind of a type.
-use Rattle.std.proofs.Common.{◌≡◌, ℕ, Bool, List, [], ◌∷◌, ◌++◌, length, map, Some, refl, ap, ap₂, ◌∙◌, append-nil}
+use Rattle.std.proofs.Common.{◌≡◌, ℕ, Bool, List, [], ◌∷◌, ◌++◌, length, map, reverse, Some, refl, ap, ap₂, ◌∙◌, append-nil}
 use Rattle.std.specs.List.{slice_get}
 use Rattle.wit_model.specs.TypeOrder.{GoesDown}
 use Rattle.wit_model.specs.declared.name.TypeId.{TypeId}
 use Rattle.wit_model.specs.declared.size.ArchitectureSize.{ArchitectureSize}
 use Rattle.wit_model.specs.declared.types.Field.{Field}
+use Rattle.wit_model.specs.declared.types.Member.{Member}
 use Rattle.wit_model.specs.declared.types.TypeDef.{TypeDef}
 use Rattle.wit_model.specs.declared.types.TypeDefKind.TheVariants as kind
 use Rattle.wit_model.specs.declared.types.WitType.{WitType}
 use Rattle.wit_model.specs.declared.types.WitType.TheVariants as wit
 use Rattle.wit_layout.specs.Tree.{tree_at}
 use Rattle.abi_driver.specs.declared.instruction.Instruction.{Instruction}
-use Rattle.abi_driver.specs.declared.instruction.Instruction.TheVariants.{GuestDeallocateString, LengthLoad, LengthStore, PointerLoad, PointerStore, RecordLift, RecordLower, StringLift, StringLower, TupleLift, TupleLower}
-use Rattle.abi_driver.specs.Code.{beyond, each, free_code, free_kind, free_leaf, load_code, load_kind, load_leaf, one_pointer, place_in, sent, store_code, store_kind, store_leaf}
+use Rattle.abi_driver.specs.declared.instruction.Instruction.TheVariants.{EnumLift, EnumLower, FlagsLift, FlagsLower, GuestDeallocateString, LengthLoad, LengthStore, PointerLoad, PointerStore, RecordLift, RecordLower, StringLift, StringLower, TupleLift, TupleLower}
+use Rattle.abi_driver.specs.Code.{at_words, beyond, each, free_code, free_kind, free_leaf, load_code, load_kind, load_leaf, one_pointer, place_in, sent, store_code, store_kind, store_leaf}
 use Rattle.abi_driver.specs.Instructions.{lifting, lowering}
+use Rattle.abi_driver.specs.NumberTouches.{flags_load, flags_store, tag_load, tag_store}
 use Rattle.abi_driver.specs.ScalarTouches.{scalar_load, scalar_store}
 use Rattle.abi_driver.specs.Sent.{sends}
 use Rattle.abi_driver.proofs.CodeByKind.{made_by_kind}
@@ -94,9 +96,35 @@ module _ (types : List TypeDef) (down : GoesDown types) (id : TypeId) (entry : T
       ap (λ f. f offset) (made_by_kind load_leaf (load_kind types) types id entry (kind.Tuple tys) down at e)
       ∙ ap (λ steps. steps ++ sends (TupleLift (length tys)) ∷ []) (each_map (λ n part. part (part_at n)) (load_code types) 0 tys)
 
+  pub store_enum_code : (realloc : Bool) (members : List Member) → entry.kind ≡ kind.Enum members → store_code types realloc (wit.Id id) offset ≡ sends (EnumLower id) ∷ sends (tag_store (length members) offset) ∷ []
+  unfolding store_code
+  store_enum_code realloc members e = ap (λ f. f offset) (made_by_kind (store_leaf realloc) (store_kind types) types id entry (kind.Enum members) down at e)
+
+  pub load_enum_code : (members : List Member) → entry.kind ≡ kind.Enum members → load_code types (wit.Id id) offset ≡ sends (tag_load (length members) offset) ∷ sends (EnumLift id) ∷ []
+  unfolding load_code
+  load_enum_code members e = ap (λ f. f offset) (made_by_kind load_leaf (load_kind types) types id entry (kind.Enum members) down at e)
+
+  pub store_flags_code : (realloc : Bool) (members : List Member) → entry.kind ≡ kind.Flags members
+      → store_code types realloc (wit.Id id) offset ≡ sends (FlagsLower id) ∷ reverse (at_words (flags_store (length members)) (length members) offset)
+  unfolding store_code
+  store_flags_code realloc members e = ap (λ f. f offset) (made_by_kind (store_leaf realloc) (store_kind types) types id entry (kind.Flags members) down at e)
+
+  pub load_flags_code : (members : List Member) → entry.kind ≡ kind.Flags members
+      → load_code types (wit.Id id) offset ≡ at_words (flags_load (length members)) (length members) offset ++ sends (FlagsLift id) ∷ []
+  unfolding load_code
+  load_flags_code members e = ap (λ f. f offset) (made_by_kind load_leaf (load_kind types) types id entry (kind.Flags members) down at e)
+
   pub free_alias_code : (ty : WitType) → entry.kind ≡ kind.Alias ty → free_code types (wit.Id id) offset ≡ free_code types ty offset
   unfolding free_code
   free_alias_code ty e = ap (λ f. f offset) (made_by_kind free_leaf (free_kind types) types id entry (kind.Alias ty) down at e) ∙ append-nil _
+
+  pub free_enum_code : (members : List Member) → entry.kind ≡ kind.Enum members → free_code types (wit.Id id) offset ≡ []
+  unfolding free_code
+  free_enum_code members e = ap (λ f. f offset) (made_by_kind free_leaf (free_kind types) types id entry (kind.Enum members) down at e)
+
+  pub free_flags_code : (members : List Member) → entry.kind ≡ kind.Flags members → free_code types (wit.Id id) offset ≡ []
+  unfolding free_code
+  free_flags_code members e = ap (λ f. f offset) (made_by_kind free_leaf (free_kind types) types id entry (kind.Flags members) down at e)
 
   pub free_record_code : (members : List Field) → entry.kind ≡ kind.Record members → free_code types (wit.Id id) offset ≡ each (λ n ty. free_code types ty (part_at n)) 0 (map (λ f. f.ty) members)
   unfolding free_code

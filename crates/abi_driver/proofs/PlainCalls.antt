@@ -33,7 +33,7 @@ types_length [] (x ∷ ws) e = absurd (let h = e in cc)
 types_length (ty ∷ types) [] e = absurd (let h = e in cc)
 types_length (ty ∷ types) (x ∷ ws) e = ap suc (types_length types ws (and_parts (has_type ty x) (have_types types ws) e).1)
 
-words_all : (ws : List Word) → all_words (core_data plain_meaning ws) ≡ Some ws
+pub words_all : (ws : List Word) → all_words (core_data plain_meaning ws) ≡ Some ws
 words_all [] = refl
 words_all (x ∷ ws) = ap (and_word (word x)) (words_all ws)
 

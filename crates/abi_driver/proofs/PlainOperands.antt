@@ -22,7 +22,7 @@ use Rattle.abi_driver.proofs.PlainRows.{frees_block, frees_text, loads_word, pas
 abbrev pub OfOne : (List Place → Type 0) → Type 0
 OfOne P = (o : Place) → P (o ∷ [])
 
-one_of : (P : List Place → Type 0) → OfOne P → (os : List Place) → length os ≡ 1 → P os
+pub one_of : (P : List Place → Type 0) → OfOne P → (os : List Place) → length os ≡ 1 → P os
 one_of P h [] e = absurd (omega (arith, e))
 one_of P h (o ∷ []) e = h o
 one_of P h (o ∷ p ∷ os) e = absurd (omega (arith, e))

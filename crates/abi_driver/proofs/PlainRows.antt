@@ -70,19 +70,19 @@ none_dropped (suc n) = refl
 
 -- 1. What actions leave of the owners
 
-abbrev OnDone : {V A : Type 0} → Outcome V (Got V A) → (Got V A → Type 0) → Type 0
+abbrev pub OnDone : {V A : Type 0} → Outcome V (Got V A) → (Got V A → Type 0) → Type 0
 OnDone (Done x) P = P x
 OnDone (Stopped e acc) P = Unit {0}
 OnDone (Stuck acc) P = Unit {0}
 
-done_is : {V A : Type 0} (o : Outcome V (Got V A)) (P : Got V A → Type 0) (x : Got V A) → OnDone o P → o ≡ Done x → P x
+pub done_is : {V A : Type 0} (o : Outcome V (Got V A)) (P : Got V A → Type 0) (x : Got V A) → OnDone o P → o ≡ Done x → P x
 done_is o P x h e = subst (λ q. OnDone q P) e h
 
-if_done : {V A : Type 0} (b : Bool) (o q : Outcome V (Got V A)) (P : Got V A → Type 0) → (b ≡ true → OnDone o P) → (b ≡ false → OnDone q P) → OnDone (if b then o else q) P
+pub if_done : {V A : Type 0} (b : Bool) (o q : Outcome V (Got V A)) (P : Got V A → Type 0) → (b ≡ true → OnDone o P) → (b ≡ false → OnDone q P) → OnDone (if b then o else q) P
 if_done true o q P h k = h refl
 if_done false o q P h k = k refl
 
-fails : {V A : Type 0} (f : Form) (kind : TrapKind) (acc : Account V) (P : Got V A → Type 0) → OnDone (failing f kind acc) P
+pub fails : {V A : Type 0} (f : Form) (kind : TrapKind) (acc : Account V) (P : Got V A → Type 0) → OnDone (failing f kind acc) P
 fails form.Debug kind acc P = tt
 fails form.Release kind acc P = tt
 
@@ -138,12 +138,12 @@ taking_owns f address n acc =
 pub same_owns : (xs ys : List ℕ) → xs ≡ ys → SameItems (xs ++ []) (ys ++ [])
 same_owns xs ys e g = ap (λ zs. total g (zs ++ [])) e
 
-stay_owns : (acc : Account PlainItem) (x : Got PlainItem (Unit {0})) → stay acc ≡ Done x → SameItems (x.account.taken ++ []) (acc.taken ++ [])
+pub stay_owns : (acc : Account PlainItem) (x : Got PlainItem (Unit {0})) → stay acc ≡ Done x → SameItems (x.account.taken ++ []) (acc.taken ++ [])
 stay_owns acc x e = same_owns x.account.taken acc.taken (done_is (stay acc) (λ y. y.account.taken ≡ acc.taken) x refl e)
 
 -- 2. Data that are read
 
-one_at : (b : PlainBindgen) (s : PlainState) (o : Place) (d : Datum PlainItem) → AllByRecursion (IsRight b s) (of o d ∷ []) → all_at s.values (o.number ∷ []) ≡ Some (d ∷ [])
+pub one_at : (b : PlainBindgen) (s : PlainState) (o : Place) (d : Datum PlainItem) → AllByRecursion (IsRight b s) (of o d ∷ []) → all_at s.values (o.number ∷ []) ≡ Some (d ∷ [])
 one_at b s o d h = ap (λ x. and_all x (Some [])) h.0.1
 
 two_at : (b : PlainBindgen) (s : PlainState) (o p : Place) (d e : Datum PlainItem) → AllByRecursion (IsRight b s) (of o d ∷ of p e ∷ []) → all_at s.values (o.number ∷ p.number ∷ []) ≡ Some (d ∷ e ∷ [])

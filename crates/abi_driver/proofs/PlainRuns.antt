@@ -1,5 +1,5 @@
 -- What the steps of a `PlainBindgen` do: a run of more steps, the calls that they leave alone, and the action of a step.
-use Rattle.std.proofs.Common.{◌≡◌, ℕ, zero, suc, ◌+◌, ◌-◌, ◌^◌, ◌≤◌, Bool, true, false, ◌&&◌, ◌||◌, not, nat_eq, nat_lt, if◌then◌else◌, List, [], ◌∷◌, ◌++◌, length, map, find, Option, None, Some, is_some, option_map, refl, sym, ap, ap₂, ◌∙◌, subst, arith}
+use Rattle.std.proofs.Common.{◌≡◌, ℕ, zero, suc, ◌+◌, ◌-◌, ◌^◌, ◌≤◌, pos, Bool, true, false, ◌&&◌, ◌||◌, not, nat_eq, nat_lt, if◌then◌else◌, List, [], ◌∷◌, ◌++◌, length, map, find, Option, None, Some, is_some, option_map, refl, sym, ap, ap₂, ◌∙◌, subst, arith}
 use Rattle.std.specs.List.{AllByRecursion}
 use Rattle.std.specs.Str.{is_utf8}
 use Rattle.wit_model.specs.Size.{bytes_at}
@@ -29,12 +29,13 @@ use Rattle.abi_driver.specs.declared.plain.PlainBindgen.{PlainBindgen}
 use Rattle.abi_driver.specs.declared.plain.Step.{Step}
 use Rattle.abi_driver.specs.declared.plain.Step.TheVariants as step
 use Rattle.abi_driver.specs.Account.{Account, Act, Done, Follows, Got, Outcome, Peer, Stopped, Stops, Stuck, account_in, addresses, checking, failing, found, has_type, gives, is_at, is_taken, reading, releasing, stay, taking, tested, then_do, without}
+use Rattle.abi_driver.specs.Cases.{reading_tag, tag_of}
 use Rattle.abi_driver.specs.Area.{HoldsRecord, placed, placing, with_area}
 use Rattle.abi_driver.specs.Laws.{Adds, After, At, Does, Facts, Grows, ofs}
 use Rattle.abi_driver.specs.Meaning.{Datum, item, word}
 use Rattle.abi_driver.specs.Memory.{Access, access, bytes_on, freed, freeing, is_aligned, is_inside, is_ranged, is_reached, little_bytes, loaded, storing}
 use Rattle.abi_driver.specs.Memory as memory
-use Rattle.abi_driver.specs.Plain.{AddsStep, IsRight, PlainItem, PlainState, free_block, free_text, inputs, kept, leaf, load_word, normal, passing, performed, performs, places_from, pointed, plain_meaning, put, read_as, runs, scalar_of, splitting, store_word, take_text, whole, writes}
+use Rattle.abi_driver.specs.Plain.{AddsStep, IsRight, PlainItem, PlainState, all_words, as_flags, free_block, free_text, inputs, kept, leaf, load_word, normal, passing, performed, performs, places_from, pointed, plain_meaning, put, read_as, read_tag, runs, scalar_of, splitting, store_word, take_text, whole, writes}
 use Rattle.abi_driver.specs.PlainSound.{all_both, all_left, all_right}
 use Rattle.abi_driver.proofs.PlainPlaces.{put_below, put_right, still_right}
 use Rattle.abi_driver.proofs.Runs.{follows_more}
@@ -107,6 +108,18 @@ read_quiet : (s : Scalar) (f : Form) (ds : List (Datum PlainItem)) (acc : Accoun
 read_quiet s f (word x ∷ []) acc = then_quiet acc (reading s f x acc) (λ u. item (leaf (normal s x ∷ []) []) ∷ []) (reading_quiet s f x acc)
 read_quiet s f _ acc = refl
 
+tag_quiet : (n : ℕ) (f : Form) (x : Word) (acc : Account PlainItem) → Quietly acc (reading_tag f n x acc)
+tag_quiet n f (core.I32 z) acc = if_quiet acc (nat_lt (tag_of n (core.I32 z)) n) (stay acc) (failing f trap.Discriminant acc) refl (failing_quiet _ f trap.Discriminant acc)
+tag_quiet n f _ acc = refl
+
+read_tag_quiet : (n : ℕ) (f : Form) (ds : List (Datum PlainItem)) (acc : Account PlainItem) → Quietly acc (read_tag n f ds acc)
+read_tag_quiet n f (word x ∷ []) acc = then_quiet acc (reading_tag f n x acc) (λ u. item (leaf (core.I32 (pos (tag_of n x)) ∷ []) []) ∷ []) (tag_quiet n f x acc)
+read_tag_quiet n f _ acc = refl
+
+flags_quiet : (ws : Option (List Word)) (acc : Account PlainItem) → Quietly acc (as_flags ws acc)
+flags_quiet None acc = refl
+flags_quiet (Some ws) acc = refl
+
 take_quiet : (f : Form) (ds : List (Datum PlainItem)) (acc : Account PlainItem) → Quietly acc (take_text f ds acc)
 take_quiet f (word (core.Pointer q) ∷ word (core.Length n) ∷ []) acc = then_quiet acc (taking f q n acc) (λ x. item (leaf (core.Pointer q ∷ core.Length n ∷ []) x.blocks) ∷ []) (taking_quiet f q n acc)
 take_quiet f _ acc = refl
@@ -171,6 +184,8 @@ performs_quiet : (area : Option Request) (st : Step) (p : Peer PlainItem) (ds : 
 performs_quiet area (step.Argument n to) p ds acc e = refl
 performs_quiet area (step.Pass from to) p ds acc e = passing_quiet ds acc
 performs_quiet area (step.Read ty from to) p ds acc e = read_quiet (scalar_of ty) p.form ds acc
+performs_quiet area (step.ReadTag n from to) p ds acc e = read_tag_quiet n p.form ds acc
+performs_quiet area (step.ReadFlags from to) p ds acc e = flags_quiet (all_words ds) acc
 performs_quiet area (step.Take at len to) p ds acc e = take_quiet p.form ds acc
 performs_quiet area (step.Split from to) p ds acc e = splitting_quiet ds acc
 performs_quiet area (step.Join from to) p ds acc e = refl

@@ -1,10 +1,11 @@
--- Aliases, records and tuples of the table, and the types of their parts.
+-- Aliases, records, tuples, enums and flags of the table, and the types of their parts.
 use Rattle.std.proofs.Common.{◌≡◌, ℕ, zero, suc, ◌+◌, ◌≤◌, ◌<◌, true, Bool, ◌&&◌, List, [], ◌∷◌, length, map, drop, get_or, Some, refl, sym, ap, ap₂, ◌∙◌, arith}
 use Rattle.std.specs.List.{slice_get, list_all}
 use Rattle.std.proofs.lemmas.Option.{slice_get-get_or}
 use Rattle.std.proofs.lemmas.List.{drop_more}
 use Rattle.std.proofs.lemmas.Bool.{and_parts}
 use Rattle.wit_model.specs.declared.types.Field.{Field}
+use Rattle.wit_model.specs.declared.types.Member.{Member}
 use Rattle.wit_model.specs.declared.types.TypeDef.{TypeDef}
 use Rattle.wit_model.specs.declared.types.TypeDefKind.{TypeDefKind}
 use Rattle.wit_model.specs.declared.types.TypeDefKind.TheVariants as kind
@@ -12,8 +13,8 @@ use Rattle.wit_model.specs.declared.types.WitType.{WitType}
 use Rattle.wit_model.specs.Parts.{parts}
 use Rattle.wit_model.specs.TypeOrder.{GoesDown, payload_below, parts_below, type_below}
 use Rattle.wit_layout.proofs.FlattenSteps.{part_in_table, part_rank, payload_rank_below, rank}
-use Rattle.wrapper_meaning.specs.Shape.{payloads_in, shape_at, shape_by, shape_of, shapes}
-use Rattle.wrapper_meaning.specs.Shape.Shape.{fields, tuple}
+use Rattle.wrapper_meaning.specs.Shape.{bare, payloads_in, shape_at, shape_by, shape_of, shapes}
+use Rattle.wrapper_meaning.specs.Shape.Shape.{cases, fields, flags, tuple}
 use Rattle.wrapper_meaning.proofs.ShapeIsByKind.{shape_is_by_kind}
 use Rattle.wrapper_meaning.proofs.Lists.{some_same}
 use Rattle.abi_driver.specs.Instructions.{IsRecord, field_shapes, shapes_of}
@@ -64,6 +65,12 @@ module _ (types : List TypeDef) (down : GoesDown types) (id : ℕ) (entry : Type
   pub tuple_below : (tys : List WitType) → entry.kind ≡ kind.Tuple tys → list_all (λ ty. type_below id ty) tys ≡ true
   unfolding parts_below parts
   tuple_below tys e = all_below id tys (sym (ap (parts_below id) e) ∙ down id entry at)
+
+  pub enum_shape : (members : List Member) → entry.kind ≡ kind.Enum members → shape_at types id ≡ cases (bare members)
+  enum_shape members e = shape_here (kind.Enum members) e
+
+  pub flags_shape : (members : List Member) → entry.kind ≡ kind.Flags members → shape_at types id ≡ flags (length members)
+  flags_shape members e = shape_here (kind.Flags members) e
 
 -- what was read at a place of the table is its entry
 pub entry_at : (types read : List TypeDef) (id : ℕ) (d : TypeDef) → read ≡ types → id < length types → d ≡ get_or read id d → slice_get types id ≡ Some d

@@ -40,7 +40,7 @@ word_typed w wasm.PointerOrI64 (core.Slot (Some x)) h = refl
 word_typed w wasm.Length (core.Length n) h = refl
 word_typed w _ _ h = absurd h
 
-words_typed : (w : ℕ) (types : List WasmType) (ws : List Word) → AreWords w types ws → have_types types ws ≡ true
+pub words_typed : (w : ℕ) (types : List WasmType) (ws : List Word) → AreWords w types ws → have_types types ws ≡ true
 words_typed w [] ws h = ap (have_types []) h
 words_typed w (ty ∷ types) [] h = absurd h
 words_typed w (ty ∷ types) (x ∷ ws) h = and_from (has_type ty x) (have_types types ws) (word_typed w ty x h.0) (words_typed w types ws h.1)

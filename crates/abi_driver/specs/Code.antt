@@ -1,6 +1,6 @@
 -- Which instructions are sent for a type and for a function, and in which order. Of types that the driver answers an error on there are none.
 use Rattle.std.specs.Borrow.{Bor}
-use Rattle.std.specs.Prelude.{ℕ, suc, ◌+◌, Bool, true, false, if◌then◌else◌, List, [], ◌∷◌, ◌++◌, length, map, Option, None, Some, option_to_list, slice_index, slice_index_or}
+use Rattle.std.specs.Prelude.{ℕ, suc, ◌+◌, ◌*◌, Bool, true, false, if◌then◌else◌, List, [], ◌∷◌, ◌++◌, length, map, Option, None, Some, option_to_list, reverse, slice_index, slice_index_or}
 use Rattle.wit_model.specs.Size.{paired}
 use Rattle.wit_model.specs.declared.function.Function.{Function}
 use Rattle.wit_model.specs.declared.size.ArchitectureSize.{ArchitectureSize}
@@ -11,7 +11,7 @@ use Rattle.wit_model.specs.declared.types.WitType.{WitType}
 use Rattle.wit_model.specs.declared.types.WitType.TheVariants as wit
 use Rattle.wit_layout.specs.declared.signature.AbiVariant.{AbiVariant}
 use Rattle.wit_layout.specs.declared.signature.AbiVariant.TheVariants.{GuestExport, GuestImport}
-use Rattle.wit_layout.specs.Flat.{flatten_type}
+use Rattle.wit_layout.specs.Flat.{flatten_type, words_of_flags}
 use Rattle.wit_layout.specs.Signature.{core_results}
 use Rattle.wit_layout.specs.Sizes.{elem_size, field_offsets}
 use Rattle.wit_layout.specs.Tree.{Tree, record_of, tree_at, tree_of}
@@ -21,9 +21,10 @@ use Rattle.wrapper_meaning.specs.Represents.{are_indirect, is_indirect, result_w
 use Rattle.wrapper_meaning.specs.Shape.{Shape, result_shape, shape_of}
 use Rattle.wrapper_meaning.specs.Shape.Shape.{fields}
 use Rattle.abi_driver.specs.declared.instruction.Instruction.{Instruction}
-use Rattle.abi_driver.specs.declared.instruction.Instruction.TheVariants.{CallInterface, CallWasm, Flush, GetArg, GuestDeallocate, GuestDeallocateString, LengthLoad, LengthStore, PointerLoad, PointerStore, RecordLift, RecordLower, Return, StringLift, StringLower, TupleLift, TupleLower}
+use Rattle.abi_driver.specs.declared.instruction.Instruction.TheVariants.{CallInterface, CallWasm, EnumLift, EnumLower, FlagsLift, FlagsLower, Flush, GetArg, GuestDeallocate, GuestDeallocateString, LengthLoad, LengthStore, PointerLoad, PointerStore, RecordLift, RecordLower, Return, StringLift, StringLower, TupleLift, TupleLower}
 use Rattle.abi_driver.specs.Frees.{nowhere}
 use Rattle.abi_driver.specs.Instructions.{lifting, lowering, shapes_of}
+use Rattle.abi_driver.specs.NumberTouches.{flags_load, flags_store, tag_load, tag_store}
 use Rattle.abi_driver.specs.ScalarTouches.{scalar_load, scalar_store}
 use Rattle.abi_driver.specs.Sent.{Sent, asks, sends}
 
@@ -74,6 +75,8 @@ abbrev pub lower_kind : ℕ → TypeDefKind → List (List Sent) → List Sent
 lower_kind id (kind.Alias ty) parts = in_turn parts
 lower_kind id (kind.Record members) parts = sends (RecordLower (record { 0 = id })) ∷ in_turn parts
 lower_kind id (kind.Tuple members) parts = sends (TupleLower (length members)) ∷ in_turn parts
+lower_kind id (kind.Enum members) parts = sends (EnumLower (record { 0 = id })) ∷ []
+lower_kind id (kind.Flags members) parts = sends (FlagsLower (record { 0 = id })) ∷ []
 lower_kind id _ parts = []
 
 unfoldable pub lower_code : List TypeDef → Bool → WitType → List Sent
@@ -87,6 +90,8 @@ abbrev pub lift_kind : ℕ → TypeDefKind → List (List Sent) → List Sent
 lift_kind id (kind.Alias ty) parts = in_turn parts
 lift_kind id (kind.Record members) parts = in_turn parts ++ sends (RecordLift (record { 0 = id })) ∷ []
 lift_kind id (kind.Tuple members) parts = in_turn parts ++ sends (TupleLift (length members)) ∷ []
+lift_kind id (kind.Enum members) parts = sends (EnumLift (record { 0 = id })) ∷ []
+lift_kind id (kind.Flags members) parts = sends (FlagsLift (record { 0 = id })) ∷ []
 lift_kind id _ parts = []
 
 unfoldable pub lift_code : List TypeDef → WitType → List Sent
@@ -122,6 +127,14 @@ all_at parts offset = each (λ n part. part offset) 0 parts
 abbrev pub at_places : List TypeDef → ℕ → List (ArchitectureSize → List Sent) → ArchitectureSize → List Sent
 at_places types id parts offset = each (λ n part. part (beyond offset (place_in (tree_at types id) n))) 0 parts
 
+-- where a word of flags stands behind the first
+abbrev pub word_place : ℕ → ArchitectureSize
+word_place n = record { bytes = 4 * n; pointers = 0 }
+
+-- each word of so many flags at its place
+abbrev pub at_words : (ArchitectureSize → Instruction) → ℕ → ArchitectureSize → List Sent
+at_words touch flags offset = each (λ n word. sends (touch (beyond offset (word_place n))) ∷ []) 0 (words_of_flags flags)
+
 abbrev pub store_leaf : Bool → WitType → ArchitectureSize → List Sent
 store_leaf realloc wit.String offset = sends (StringLower realloc) ∷ sends (LengthStore (beyond offset one_pointer)) ∷ sends (PointerStore offset) ∷ []
 store_leaf realloc ty offset = sent (lowering ty) ++ sent (scalar_store ty offset)
@@ -130,6 +143,9 @@ abbrev pub store_kind : List TypeDef → ℕ → TypeDefKind → List (Architect
 store_kind types id (kind.Alias ty) parts offset = all_at parts offset
 store_kind types id (kind.Record members) parts offset = sends (RecordLower (record { 0 = id })) ∷ at_places types id parts offset
 store_kind types id (kind.Tuple members) parts offset = sends (TupleLower (length members)) ∷ at_places types id parts offset
+store_kind types id (kind.Enum members) parts offset = sends (EnumLower (record { 0 = id })) ∷ sends (tag_store (length members) offset) ∷ []
+store_kind types id (kind.Flags members) parts offset =
+    sends (FlagsLower (record { 0 = id })) ∷ reverse (at_words (flags_store (length members)) (length members) offset)
 store_kind types id _ parts offset = []
 
 unfoldable pub store_code : List TypeDef → Bool → WitType → ArchitectureSize → List Sent
@@ -143,6 +159,9 @@ abbrev pub load_kind : List TypeDef → ℕ → TypeDefKind → List (Architectu
 load_kind types id (kind.Alias ty) parts offset = all_at parts offset
 load_kind types id (kind.Record members) parts offset = at_places types id parts offset ++ sends (RecordLift (record { 0 = id })) ∷ []
 load_kind types id (kind.Tuple members) parts offset = at_places types id parts offset ++ sends (TupleLift (length members)) ∷ []
+load_kind types id (kind.Enum members) parts offset = sends (tag_load (length members) offset) ∷ sends (EnumLift (record { 0 = id })) ∷ []
+load_kind types id (kind.Flags members) parts offset =
+    at_words (flags_load (length members)) (length members) offset ++ sends (FlagsLift (record { 0 = id })) ∷ []
 load_kind types id _ parts offset = []
 
 unfoldable pub load_code : List TypeDef → WitType → ArchitectureSize → List Sent

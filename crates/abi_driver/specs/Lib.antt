@@ -24,6 +24,7 @@ pub mod Lowers
 pub mod Maps
 pub mod Meaning
 pub mod Memory
+pub mod NumberTouches
 pub mod Parts
 pub mod Places
 pub mod Plain

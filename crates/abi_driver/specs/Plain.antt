@@ -1,5 +1,5 @@
 -- What the code of a `PlainBindgen` means: a list of steps, over values that are held in memory by numbered places.
-use Rattle.std.specs.Prelude.{◌≡◌, ◌<◌, ◌+◌, ℕ, zero, suc, not, false, nat_eq, if◌then◌else◌, option_to_list, pos, List, [], ◌∷◌, ◌++◌, length, map, Option, None, Some}
+use Rattle.std.specs.Prelude.{◌≡◌, ◌<◌, ◌+◌, ◌%◌, ◌^◌, ◌&&◌, ℕ, zero, suc, not, Bool, true, false, nat_eq, if◌then◌else◌, option_to_list, pos, List, [], ◌∷◌, ◌++◌, length, map, Option, None, Some}
 use Rattle.std.specs.Int.{w8, w16, w32, w64, cast_signed}
 use Rattle.std.specs.List.{AllByRecursion}
 use Rattle.wit_model.specs.Size.{bytes_at}
@@ -9,6 +9,7 @@ use Rattle.wit_model.specs.declared.types.WitType.{WitType}
 use Rattle.wit_model.specs.declared.types.WitType.TheVariants as wit
 use Rattle.wit_model.specs.declared.wasm_type.WasmType.{WasmType}
 use Rattle.wit_layout.specs.Filled.{IsFilledFor}
+use Rattle.wit_layout.specs.Flat.{words_of_flags}
 use Rattle.wit_layout.specs.Tree.{Scalar}
 use Rattle.wrapper_data.specs.declared.block.Block.{Block}
 use Rattle.wrapper_data.specs.declared.choice.Request.{Request}
@@ -17,14 +18,15 @@ use Rattle.wrapper_data.specs.declared.run.Target.{Target}
 use Rattle.wrapper_data.specs.declared.run.Target.TheVariants as target
 use Rattle.wrapper_data.specs.declared.word.Word.{Word}
 use Rattle.wrapper_data.specs.declared.word.Word.TheVariants as core
-use Rattle.wrapper_meaning.specs.AsWords.{Says, passed_word}
+use Rattle.wrapper_meaning.specs.AsWords.{Says, flag_bits, passed_word}
 use Rattle.wrapper_meaning.specs.Direction.{Direction}
 use Rattle.wrapper_meaning.specs.Numbers.{low_bits}
-use Rattle.wrapper_meaning.specs.Shape.{Shape, Shapes}
+use Rattle.wrapper_meaning.specs.Shape.{Shape, Shapes, is_nothing}
 use Rattle.wrapper_meaning.specs.Shape.Shape.{scalar, text, list, pairs, fixed, fields, tuple, cases, flags, handle, resource, other}
 use Rattle.wrapper_meaning.specs.Shape.Shapes.{none, more}
 use Rattle.wrapper_meaning.specs.StandsFor.{BothStand}
-use Rattle.wrapper_meaning.specs.Value.{Parts, Value}
+use Rattle.wrapper_meaning.specs.Value.{Parts, Value, case_number}
+use Rattle.wrapper_meaning.specs.Words.{AreWords}
 use Rattle.abi_driver.specs.declared.instruction.Instruction.{Instruction}
 use Rattle.abi_driver.specs.declared.instruction.Instruction.TheVariants as instruction
 use Rattle.abi_driver.specs.declared.plain.Place.{Place}
@@ -36,13 +38,14 @@ use Rattle.abi_driver.specs.declared.plain.words.WordTouch.TheVariants as touche
 use Rattle.abi_driver.specs.Account.{Account, Act, Crossing, Done, Got, Outcome, Peer, Reply, Stuck, addresses, gives, reading, releasing, taking, then_do}
 use Rattle.abi_driver.specs.Area.{HoldsRecord, placing}
 use Rattle.abi_driver.specs.Calls.{calling, handing}
+use Rattle.abi_driver.specs.Cases.{reading_tag, tag_of}
 use Rattle.abi_driver.specs.Meaning.{Datum, Fact, Meaning, arg, bound, item, of, word}
 use Rattle.abi_driver.specs.Memory.{Access, freeing, loading, storing}
 use Rattle.abi_driver.specs.Touches.{Touch, loads, part_grain, stores}
 
 -- 1. Values
 
--- a scalar or a text, by the words that say it and the blocks that it owns; or parts
+-- a scalar, a text, an enum or flags, by the words that say it and the blocks that it owns; or parts
 mutual
   pub data PlainItem : Type 0 where
     leaf : List Word → List Block → PlainItem
@@ -77,6 +80,11 @@ abbrev pub IsPlainText : Direction → List ℕ → PlainItem → List Block →
 IsPlainText dir bytes a own =
     (address : ℕ) × (length bytes ≡ 0 → 0 < address) × (a ≡ leaf (core.Pointer address ∷ core.Length (length bytes) ∷ []) own) × Says 2 dir text bytes (core.Pointer address ∷ core.Length (length bytes) ∷ []) own
 
+-- cases without payload
+abbrev pub is_bare : Shapes → Bool
+is_bare none = true
+is_bare (more t ts) = is_nothing t && is_bare ts
+
 -- a pointer has four bytes
 abbrev mutual
   pub PlainStands : Direction → (t : Shape) → Value t → PlainItem → List Block → Type 0
@@ -87,8 +95,8 @@ abbrev mutual
   PlainStands dir (list t) v a own = ⊥
   PlainStands dir (pairs k x) v a own = ⊥
   PlainStands dir (fixed t n) v a own = ⊥
-  PlainStands dir (cases ts) v a own = ⊥
-  PlainStands dir (flags n) v a own = ⊥
+  PlainStands dir (cases ts) v a own = (is_bare ts ≡ true) × (a ≡ leaf (core.I32 (pos (case_number ts v)) ∷ []) []) × (own ≡ [])
+  PlainStands dir (flags n) v a own = (ws : List Word) × AreWords 2 (words_of_flags n) ws × (v ≡ flag_bits ws % 2 ^ n) × (a ≡ leaf ws []) × (own ≡ [])
   PlainStands dir (handle owns n) v a own = ⊥
   PlainStands dir (resource n) v a own = ⊥
   PlainStands dir other v a own = ⊥
@@ -184,6 +192,10 @@ abbrev pub read_as : Scalar → Form → List (Datum PlainItem) → PlainAct
 read_as s f (word x ∷ []) acc = then_do (reading s f x acc) (λ u. gives (item (leaf (normal s x ∷ []) []) ∷ []) u.account)
 read_as s f _ acc = Stuck acc
 
+abbrev pub read_tag : ℕ → Form → List (Datum PlainItem) → PlainAct
+read_tag n f (word x ∷ []) acc = then_do (reading_tag f n x acc) (λ u. gives (item (leaf (core.I32 (pos (tag_of n x)) ∷ []) []) ∷ []) u.account)
+read_tag n f _ acc = Stuck acc
+
 abbrev pub take_text : Form → List (Datum PlainItem) → PlainAct
 take_text f (word (core.Pointer address) ∷ word (core.Length n) ∷ []) acc =
     then_do (taking f address n acc) (λ x. gives (item (leaf (core.Pointer address ∷ core.Length n ∷ []) x.result.blocks) ∷ []) x.account)
@@ -218,6 +230,10 @@ abbrev pub all_words : List (Datum PlainItem) → Option (List Word)
 all_words [] = Some []
 all_words (d ∷ ds) = and_word d (all_words ds)
 
+abbrev pub as_flags : Option (List Word) → PlainAct
+as_flags None acc = Stuck acc
+as_flags (Some ws) acc = gives (item (leaf ws []) ∷ []) acc
+
 abbrev pub called : Target → List WasmType → Reply PlainItem → Option (List Word) → PlainAct
 called target types reply None acc = Stuck acc
 called target types reply (Some ws) acc = then_do (calling target ws types reply acc) (λ x. gives (map (λ w. word w) x.result) x.account)
@@ -250,6 +266,8 @@ abbrev pub performs : Option Request → Step → Peer PlainItem → List (Datum
 performs area (step.Argument number to) p ds acc = gives ds acc
 performs area (step.Pass from to) p ds acc = passing ds acc
 performs area (step.Read ty from to) p ds acc = read_as (scalar_of ty) p.form ds acc
+performs area (step.ReadTag n from to) p ds acc = read_tag n p.form ds acc
+performs area (step.ReadFlags from to) p ds acc = as_flags (all_words ds) acc
 performs area (step.Take at length to) p ds acc = take_text p.form ds acc
 performs area (step.Split from to) p ds acc = splitting ds acc
 performs area (step.Join from to) p ds acc = gives (item (whole (gathered ds)) ∷ []) acc
@@ -280,6 +298,8 @@ abbrev pub inputs : Step → PlainState → Option (List (Datum PlainItem))
 inputs (step.Argument number to) s = all_at s.arguments (number ∷ [])
 inputs (step.Pass from to) s = all_at s.values (from ∷ [])
 inputs (step.Read ty from to) s = all_at s.values (from ∷ [])
+inputs (step.ReadTag n from to) s = all_at s.values (from ∷ [])
+inputs (step.ReadFlags from to) s = all_at s.values (map (λ (p : Place). p.number) from)
 inputs (step.Take at length to) s = all_at s.values (at ∷ length ∷ [])
 inputs (step.Split from to) s = all_at s.values (from ∷ [])
 inputs (step.Join from to) s = all_at s.values (map (λ (p : Place). p.number) from)
@@ -296,6 +316,8 @@ abbrev pub writes : Step → ℕ
 writes (step.Argument number to) = to
 writes (step.Pass from to) = to
 writes (step.Read ty from to) = to
+writes (step.ReadTag n from to) = to
+writes (step.ReadFlags from to) = to
 writes (step.Take at length to) = to
 writes (step.Split from to) = to
 writes (step.Join from to) = to

@@ -1,28 +1,29 @@
 -- That the meaning of a `PlainBindgen` is one: it keeps the laws on facts, operands and items.
-use mathlib.Core.Logic.{inl}
-use Rattle.std.proofs.Common.{◌≡◌, ℕ, zero, suc, ◌<◌, true, List, [], ◌∷◌, ◌++◌, length, refl, sym, ap, ap₂, ◌∙◌, subst}
+use mathlib.Core.Logic.{inl, inr}
+use Rattle.std.proofs.Common.{◌≡◌, ℕ, zero, suc, ◌%◌, ◌^◌, ◌<◌, true, pos, unsigned_abs, List, [], ◌∷◌, ◌++◌, length, refl, sym, ap, ap₂, ◌∙◌, subst, arith}
 use Rattle.std.specs.List.{AllByRecursion, flat_map}
+use Rattle.std.proofs.lemmas.Bool.{and_parts}
 use Rattle.std.proofs.lemmas.List.{map-append}
 use Rattle.wrapper_data.specs.declared.block.Block.{Block}
 use Rattle.wrapper_data.specs.declared.word.Word.{Word}
 use Rattle.wrapper_data.specs.declared.word.Word.TheVariants as core
-use Rattle.wrapper_meaning.specs.AsWords.{Says, passed_word}
+use Rattle.wrapper_meaning.specs.AsWords.{Says, flag_bits, passed_word}
 use Rattle.wrapper_meaning.specs.Buffer.{Contents, IsPlaced}
 use Rattle.wrapper_meaning.specs.Direction.{Direction, give, lend, take}
 use Rattle.wrapper_meaning.specs.InMemory.{TextHolds}
 use Rattle.wrapper_meaning.specs.InRange.{AreListed, IsListed}
 use Rattle.wrapper_meaning.specs.Items.{total}
-use Rattle.wrapper_meaning.specs.Shape.{Shape, Shapes}
+use Rattle.wrapper_meaning.specs.Shape.{Shape, Shapes, is_nothing}
 use Rattle.wrapper_meaning.specs.Shape.Shape.{scalar, text, list, pairs, fixed, fields, tuple, cases, flags, handle, resource, other}
 use Rattle.wrapper_meaning.specs.Shape.Shapes.{none, more}
-use Rattle.wrapper_meaning.specs.Value.{Parts, Value}
+use Rattle.wrapper_meaning.specs.Value.{Case, Parts, Value, case_number}
 use Rattle.wrapper_meaning.proofs.Lists.{some_same}
 use Rattle.wrapper_meaning.proofs.WordScalars.{word_same}
 use Rattle.wrapper_meaning.proofs.WordsDetermined.{words_determine}
 use Rattle.abi_driver.specs.Account.{addresses}
 use Rattle.abi_driver.specs.Meaning.{Datum, item, word}
 use Rattle.abi_driver.specs.Laws.{Sound}
-use Rattle.abi_driver.specs.Plain.{IsPlainText, IsRight, PlainItem, PlainItems, PlainPartsStand, PlainStands, item_and, leaf, listed, no_items, owned_by, owned_by_all, plain_meaning, whole}
+use Rattle.abi_driver.specs.Plain.{IsPlainText, IsRight, PlainItem, PlainItems, PlainPartsStand, PlainStands, is_bare, item_and, leaf, listed, no_items, owned_by, owned_by_all, plain_meaning, whole}
 
 -- 1. Lists of facts
 
@@ -101,6 +102,37 @@ text_same u v a xs ys hu hv h g =
     let words = same_words _ _ xs ys e in
     (words_determine 2 take text u v _ xs tt hu hv h.3 (subst (λ ws. Says 2 take text v ws xs) (sym words) (subst (Says 2 take text v _) (sym blocks) g.3)), blocks)
 
+number_in : Word → ℕ
+number_in (core.I32 z) = unsigned_abs z
+number_in _ = 0
+
+same_number : (n k : ℕ) → core.I32 (pos n) ≡ core.I32 (pos k) → n ≡ k
+unfolding number_in
+same_number n k e = ap number_in e
+
+nothing_same : (t : Shape) → is_nothing t ≡ true → (u v : Value t) → u ≡ v
+nothing_same (fields none) e u v = refl
+nothing_same (fields (more t ts)) e u v = absurd (let h = e in cc)
+nothing_same (scalar s) e u v = absurd (let h = e in cc)
+nothing_same text e u v = absurd (let h = e in cc)
+nothing_same (list t) e u v = absurd (let h = e in cc)
+nothing_same (pairs k x) e u v = absurd (let h = e in cc)
+nothing_same (fixed t n) e u v = absurd (let h = e in cc)
+nothing_same (tuple ts) e u v = absurd (let h = e in cc)
+nothing_same (cases ts) e u v = absurd (let h = e in cc)
+nothing_same (flags n) e u v = absurd (let h = e in cc)
+nothing_same (handle owns n) e u v = absurd (let h = e in cc)
+nothing_same (resource n) e u v = elim u [ ]
+nothing_same other e u v = elim u [ ]
+
+-- a case without payload is told by its number
+one_case : (ts : Shapes) (u v : Case ts) → is_bare ts ≡ true → case_number ts u ≡ case_number ts v → u ≡ v
+one_case none u v b e = elim u [ ]
+one_case (more t ts) (inl u) (inl v) b e = ap (λ x. inl x) (nothing_same t (and_parts (is_nothing t) (is_bare ts) b).0 u v)
+one_case (more t ts) (inl u) (inr v) b e = absurd (omega (arith, e))
+one_case (more t ts) (inr u) (inl v) b e = absurd (omega (arith, e))
+one_case (more t ts) (inr u) (inr v) b e = ap (λ x. inr x) (one_case ts u v (and_parts (is_nothing t) (is_bare ts) b).1 (omega (arith, e)))
+
 mutual
   stands_same : (t : Shape) (u v : Value t) (a b : PlainItem) (xs ys : List Block) → a ≡ b → IsListed t u → IsListed t v → PlainStands take t u a xs → PlainStands take t v b ys → Same (Value t) u v xs ys
   stands_same (scalar s) u v a b xs ys ab hu hv h g =
@@ -111,8 +143,10 @@ mutual
   stands_same (list t) u v a b xs ys ab hu hv h g = absurd h
   stands_same (pairs k x) u v a b xs ys ab hu hv h g = absurd h
   stands_same (fixed t n) u v a b xs ys ab hu hv h g = absurd h
-  stands_same (cases ts) u v a b xs ys ab hu hv h g = absurd h
-  stands_same (flags n) u v a b xs ys ab hu hv h g = absurd h
+  stands_same (cases ts) u v a b xs ys ab hu hv h g =
+      (one_case ts u v h.0 (same_number _ _ (same_word _ _ (same_words _ _ [] [] (sym h.1 ∙ ab ∙ g.1)))), h.2 ∙ sym g.2)
+  stands_same (flags n) u v a b xs ys ab hu hv h g =
+      (h.2 ∙ ap (λ ws. flag_bits ws % 2 ^ n) (same_words _ _ [] [] (sym h.3 ∙ ab ∙ g.3)) ∙ sym g.2, h.4 ∙ sym g.4)
   stands_same (handle owns n) u v a b xs ys ab hu hv h g = absurd h
   stands_same (resource n) u v a b xs ys ab hu hv h g = absurd h
   stands_same other u v a b xs ys ab hu hv h g = absurd h
@@ -228,8 +262,8 @@ mutual
   bare_on heap (list t) v a own h = absurd h
   bare_on heap (pairs k x) v a own h = absurd h
   bare_on heap (fixed t n) v a own h = absurd h
-  bare_on heap (cases ts) v a own h = absurd h
-  bare_on heap (flags n) v a own h = absurd h
+  bare_on heap (cases ts) v a own h = h.2
+  bare_on heap (flags n) v a own h = h.4
   bare_on heap (handle owns n) v a own h = absurd h
   bare_on heap (resource n) v a own h = absurd h
   bare_on heap other v a own h = absurd h
@@ -254,8 +288,8 @@ mutual
   owned_is dir (list t) v a own h = absurd h
   owned_is dir (pairs k x) v a own h = absurd h
   owned_is dir (fixed t n) v a own h = absurd h
-  owned_is dir (cases ts) v a own h = absurd h
-  owned_is dir (flags n) v a own h = absurd h
+  owned_is dir (cases ts) v a own h = ap owned_by h.1 ∙ ap addresses (sym h.2)
+  owned_is dir (flags n) v a own h = ap owned_by h.3 ∙ ap addresses (sym h.4)
   owned_is dir (handle owns n) v a own h = absurd h
   owned_is dir (resource n) v a own h = absurd h
   owned_is dir other v a own h = absurd h

@@ -1,5 +1,7 @@
 //! Core words become values.
 
+pub(crate) mod enums;
+pub(crate) mod flags;
 pub(crate) mod leaf;
 
 ghost use Rattle.std.specs.Prelude.{◌≡◌, ◌<◌, ◌≤◌, ◌++◌, IsTrue, List, true, drop, length, IfOk, OnOk};
@@ -14,6 +16,8 @@ ghost use Rattle.abi_driver.specs.Sends.{Sends};
 
 use crate::bindgen::Bindgen;
 use crate::instruction::Instruction;
+use crate::lift::enums::lift_enum;
+use crate::lift::flags::lift_flags;
 use crate::lift::leaf::{lift_scalar, lift_text, scalar_lifting};
 use crate::parts::{field_types, part_count};
 use crate::send::send_one;
@@ -36,7 +40,7 @@ struct LiftedParts<O> {
 
 /// What denotes the value that some core words represent, one operand for each word. What the words own is taken over.
 ///
-/// So far it is a scalar or a text, or a record or a tuple of such, also through aliases. Of a type that holds any other, and
+/// So far it is a scalar, a text, an enum or flags, or a record or a tuple of such, also through aliases. Of a type that holds any other, and
 /// of more or fewer words than the type has, the answer is `OutOfMemory`, as where memory is wanting.
 pub fn lift_flat<B: Bindgen>(
     alloc: Global,
@@ -128,6 +132,10 @@ fn lift_id<B: Bindgen>(
             let LiftedParts { parts, next } = lifted;
             let operand = send_one(alloc, resolve, bindgen, inst, parts)?;
             Ok(Lifted { operand, next })
+        }
+        TypeDefKind::Enum(members) => { lift_enum(alloc, resolve, bindgen, words, at, id, members) }
+        TypeDefKind::Flags(members) => {
+            lift_flags(alloc, resolve, bindgen, words, at, id, members)
         }
         _ => Err(OutOfMemory),
     }

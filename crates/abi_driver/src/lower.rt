@@ -22,8 +22,8 @@ use wit_model::{List, OutOfMemory, Resolve, TypeDefKind, TypeId, WitType};
 
 /// The core words of the value that an operand denotes, after `lower_flat` of wit-bindgen-core.
 ///
-/// Without `realloc` the value is lent, and with it given away. So far it is a scalar or a text, or a record or a tuple of
-/// such, also through aliases; of a type that holds any other the answer is `OutOfMemory`, as where memory is wanting.
+/// Without `realloc` the value is lent, and with it given away. So far it is a scalar, a text, an enum or flags, or a record
+/// or a tuple of such, also through aliases; of a type that holds any other the answer is `OutOfMemory`, as where memory is wanting.
 pub fn lower_flat<B: Bindgen>(
     alloc: Global,
     resolve: &Resolve,
@@ -108,6 +108,14 @@ fn lower_id<B: Bindgen>(
             let inst = Instruction::TupleLower(part_count(tys)?);
             let parts = lower_by(alloc, resolve, bindgen, value, inst)?;
             let words = lower_parts(alloc, resolve, bindgen, at, tys, &parts, realloc)?;
+            Ok(words)
+        }
+        TypeDefKind::Enum(_) => {
+            let words = lower_by(alloc, resolve, bindgen, value, Instruction::EnumLower(id))?;
+            Ok(words)
+        }
+        TypeDefKind::Flags(_) => {
+            let words = lower_by(alloc, resolve, bindgen, value, Instruction::FlagsLower(id))?;
             Ok(words)
         }
         _ => Err(OutOfMemory),

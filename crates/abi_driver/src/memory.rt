@@ -1,6 +1,9 @@
 //! Values are put into memory, and read from it.
 
+pub(crate) mod enums;
+pub(crate) mod flags;
 pub(crate) mod load;
+pub(crate) mod number;
 pub(crate) mod place;
 pub(crate) mod store;
 pub(crate) mod word;

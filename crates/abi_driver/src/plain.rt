@@ -3,6 +3,8 @@
 mod area;
 mod calls;
 mod emit;
+mod enums;
+mod flags;
 mod frees;
 mod lawful;
 mod scalars;
@@ -33,7 +35,7 @@ pub enum Step {
         number: u32,
         to: u32,
     },
-    /// The words of a scalar or a text. It owns nothing any more.
+    /// The words of a scalar, a text, an enum or flags. It owns nothing any more.
     Pass {
         from: u32,
         to: u32,
@@ -42,6 +44,17 @@ pub enum Step {
     Read {
         ty: WitType,
         from: u32,
+        to: u32,
+    },
+    /// The value of an enum of so many cases that is read from its tag.
+    ReadTag {
+        cases: u32,
+        from: u32,
+        to: u32,
+    },
+    /// The flags that have these words.
+    ReadFlags {
+        from: List<Place>,
         to: u32,
     },
     /// The text that is taken over at an address, by its length.

@@ -8,6 +8,8 @@ mod flat;
 #[cfg(test)]
 mod frees;
 #[cfg(test)]
+mod members;
+#[cfg(test)]
 mod memory;
 #[cfg(test)]
 mod post_return;

@@ -11,8 +11,8 @@ use std::alloc::Global;
 use std::test::Fail;
 use wit_layout::SizeAlign;
 use wit_model::{
-    Docs, Field, List, Name, OutOfMemory, Resolve, Text, TypeDef, TypeDefKind, TypeId, TypeOwner,
-    WitType,
+    Docs, Field, List, Member, Name, OutOfMemory, Resolve, Text, TypeDef, TypeDefKind, TypeId,
+    TypeOwner, WitType,
 };
 
 pub(crate) fn docs() -> Docs {
@@ -69,6 +69,46 @@ fn unchecked(alloc: Global) -> Result<Resolve, OutOfMemory> {
     let name = no_name(alloc);
     let alias = TypeDefKind::Alias(WitType::Id(TypeId(1)));
     push(&mut tables, Some(name), alias)?;
+    Ok(tables)
+}
+
+/// So many members, of which the names are empty.
+fn members(alloc: Global, count: usize) -> Result<List<Member>, OutOfMemory> {
+    let mut list = List::new(alloc);
+    for _ in 0..count {
+        list.push(Member {
+            name: no_name(alloc),
+            docs: docs(),
+        })?;
+    }
+    Ok(list)
+}
+
+/// Enums of 256 cases and of 257, and then 8, 9, 17, 33 and 40 flags.
+fn unchecked_members(alloc: Global) -> Result<Resolve, OutOfMemory> {
+    let mut tables = Resolve {
+        worlds: List::new(alloc),
+        packages: List::new(alloc),
+        interfaces: List::new(alloc),
+        types: List::new(alloc),
+    };
+    for count in [256, 257] {
+        let kind = TypeDefKind::Enum(members(alloc, count)?);
+        push(&mut tables, Some(no_name(alloc)), kind)?;
+    }
+    for count in [8, 9, 17, 33, 40] {
+        let kind = TypeDefKind::Flags(members(alloc, count)?);
+        push(&mut tables, Some(no_name(alloc)), kind)?;
+    }
+    Ok(tables)
+}
+
+pub(crate) fn sample_of_members(alloc: Global) -> Result<Resolve, Fail>
+    ensures well { IfOk result IsWellFormed }
+    ensures down { IfOk result (λ tables. GoesDown tables.types) }
+{
+    let tables = unchecked_members(alloc)?;
+    tables.check(alloc)?;
     Ok(tables)
 }
 

@@ -10,6 +10,8 @@ pub(crate) enum Told {
     Argument(u32, u32),
     Pass(u32, u32),
     Read(WitType, u32, u32),
+    ReadTag(u32, u32, u32),
+    ReadFlags(usize, [u32; 3], u32),
     Take(u32, u32, u32),
     Split(u32, u32),
     Join(usize, [u32; 3], u32),
@@ -37,11 +39,17 @@ fn at4(offset: ArchitectureSize) -> u64 {
     offset.pointers.wrapping_mul(4).wrapping_add(offset.bytes)
 }
 
+fn flags_read(from: &[Place], to: u32) -> Told {
+    Told::ReadFlags(from.len(), numbers(from), to)
+}
+
 fn seen(step: &Step) -> Told {
     match step {
         Step::Argument { number, to } => Told::Argument(*number, *to),
         Step::Pass { from, to } => Told::Pass(*from, *to),
         Step::Read { ty, from, to } => Told::Read(*ty, *from, *to),
+        Step::ReadTag { cases, from, to } => Told::ReadTag(*cases, *from, *to),
+        Step::ReadFlags { from, to } => flags_read(from.as_slice(), *to),
         Step::Take { at, length, to } => Told::Take(*at, *length, *to),
         Step::Split { from, to } => Told::Split(*from, *to),
         Step::Join { from, to } => Told::Join(from.len(), numbers(from.as_slice()), *to),
@@ -63,18 +71,16 @@ fn seen(step: &Step) -> Told {
         Step::Free { at, length } => Told::Free(*at, *length),
         Step::FreeSized { size, at } => Told::FreeSized(at4(*size), *at),
         Step::Call {
-            core_module: _,
-            name: _,
             from,
             result,
             to,
+            ..
         } => Told::Call(from.len(), numbers(from.as_slice()), *result, *to),
         Step::CallMethod {
-            trait_path: _,
-            name: _,
             from,
             results,
             to,
+            ..
         } => Told::CallMethod(from.len(), numbers(from.as_slice()), *results, *to),
         Step::Area { to } => Told::Area(*to),
     }

@@ -71,7 +71,7 @@ more_room a b aligned w h =
       record { items = with_static r w.items; item = w.item; bound = w.bound; area = Some r },
       record {
         runtime = found_still r w.items b.runtime h.runtime;
-        records = still_defined w.items (with_static r w.items) (λ name. refl) b.records h.records;
+        sites = still_defined w.items (with_static r w.items) (λ name. refl) b.sites h.sites;
         room = all_roomy w.area a b.asked h.room;
         sized = is_area w.area a h.sized aligned;
         static = λ e. sym (static_is r w.items);

@@ -78,7 +78,7 @@ known a b w facts s d = record {
 
 noted_grows : (a : Asked) (b : FunctionBindgen) → IsAlignment a.align → Grows func_meaning b (asking a b)
 noted_grows a b aligned = record {
-  serves = λ w h. record { runtime = h.runtime; records = h.records; room = all_left (HoldsRecord 2 w.area) b.asked (a ∷ []) h.room; sized = h.sized; static = h.static; bound = h.bound; called = h.called };
+  serves = λ w h. record { runtime = h.runtime; sites = h.sites; room = all_left (HoldsRecord 2 w.area) b.asked (a ∷ []) h.room; sized = h.sized; static = h.static; bound = h.bound; called = h.called };
   more = more_room a b aligned;
   stops = λ w p s h. stops_same func_meaning.account (func_meaning.does w p b.code s);
   imports = refl;
@@ -284,7 +284,7 @@ module _ (a : Asked) (old mid : FunctionBindgen) (n : Bytes) (added : Appends ol
         blocks = refl;
         form = record {
           code = record { code = one_local (codes "ptr") (area_pointer old) []; is = refl; writes = record { number = writes.number; takes = writes.takes; call = writes.call; stmts = writes.stmts; runtime = writes.runtime; results = writes.results } };
-          still = record { import = added.import; home = added.home; area = added.area; params = added.params; records = added.records; sizes = added.sizes };
+          still = record { import = added.import; home = added.home; area = added.area; params = added.params; sites = added.sites; sizes = added.sizes };
           given = tt;
         };
         row = λ w p others s0 s at stands here first.

@@ -107,7 +107,7 @@ owned_still blocks new writes (a ∷ taken) h = (h.0, there_writes a (with_block
 -- 2. The call
 
 -- operands that denote words are evaluated to them
-words_give : (w : Setting) (b : FunctionBindgen) (os : List ExprOperand) (ws : List Word) (others : List (Fact ExprOperand (Unit {0}) RustValue)) (s : State) → length os ≡ length ws
+pub words_give : (w : Setting) (b : FunctionBindgen) (os : List ExprOperand) (ws : List Word) (others : List (Fact ExprOperand (Unit {0}) RustValue)) (s : State) → length os ≡ length ws
     → Hold w.items b (ofs func_meaning os (core_data func_meaning ws) ++ others) s → Give w s (exprs os) (map val.Word ws)
 words_give w b [] [] others s len h = tt
 words_give w b [] (x ∷ ws) others s len h = absurd (omega (arith, len))

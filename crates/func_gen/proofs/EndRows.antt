@@ -38,14 +38,14 @@ giving os b = record b { returned = Some os }
 
 module _ (os : List ExprOperand) (b : FunctionBindgen) where
   serves_giving : (w : File) → Serves w b → Serves w (giving os b)
-  serves_giving w h = record { runtime = h.runtime; records = h.records; room = h.room; sized = h.sized; static = h.static; bound = h.bound; called = h.called }
+  serves_giving w h = record { runtime = h.runtime; sites = h.sites; room = h.room; sized = h.sized; static = h.static; bound = h.bound; called = h.called }
 
   known_giving : (w : File) (facts : Facts func_meaning) (s : FuncState) → Denote w b facts s → Denote w (giving os b) facts s
   known_giving w facts s d = record { hold = record { right = d.hold.right; apart = d.hold.apart; within = d.hold.within }; owners = d.owners; area = d.area }
 
   giving_grows : Grows func_meaning b (giving os b)
   giving_grows = record {
-    serves = λ w h. record { runtime = h.runtime; records = h.records; room = h.room; sized = h.sized; static = h.static; bound = h.bound; called = h.called };
+    serves = λ w h. record { runtime = h.runtime; sites = h.sites; room = h.room; sized = h.sized; static = h.static; bound = h.bound; called = h.called };
     more = λ w h. (w, serves_giving w h);
     stops = λ w p s h. stops_same func_meaning.account (func_meaning.does w p b.code s);
     imports = refl;
@@ -66,7 +66,7 @@ module _ (os : List ExprOperand) (b : FunctionBindgen) where
     asked = refl;
     results = refl;
     form = record {
-      still = record { import = refl; home = refl; area = refl; params = refl; records = refl; sizes = refl };
+      still = record { import = refl; home = refl; area = refl; params = refl; sites = refl; sizes = refl };
       given = many;
       code = record { code = λ t. nothing; is = refl; writes = record { number = b.scope.next; takes = takes_none b.scope b.scope refl; call = refl; stmts = sym (append-nil b.code.stmts); runtime = sym (append-nil b.runtime); results = refl } };
     };

@@ -1,12 +1,12 @@
 -- What an operand reads is what it evaluates to, where that owns no block.
-use Rattle.std.proofs.Common.{◌≡◌, [], ◌∷◌, map, Option, None, Some, refl, sym, ap, ◌∙◌, subst}
+use Rattle.std.proofs.Common.{rules, ◌≡◌, ℕ, [], ◌∷◌, map, Option, None, Some, refl, sym, ap, ◌∙◌, subst}
 use Rattle.std.specs.Prelude.{option_and_then, Result}
 use Rattle.std.specs.Option.{option_map}
 use Rattle.wit_model.specs.Bytes.{Bytes}
 use Rattle.rust_tree.specs.declared.expr.CastType.{CastType}
-use Rattle.rust_tree.specs.declared.expr.Expr.{Expr, Expr-F, fold-roll-Expr, ind-Expr, map-Expr, roll-Expr}
+use Rattle.rust_tree.specs.declared.expr.Expr.{Expr, Expr-F, fold-roll-Expr, ind-Expr, map-Expr, roll-Expr, the_lemmas}
 use Rattle.rust_tree.specs.declared.expr.Expr.TheVariants as expr
-use Rattle.rust_tree.specs.declared.expr.Expr.TheVariants.{rolls-Call, rolls-Cast, rolls-CastMut, rolls-Local, rolls-Ref}
+use Rattle.rust_tree.specs.declared.expr.Expr.TheVariants.{rolls-Call, rolls-Cast, rolls-CastMut, rolls-EnumNumber, rolls-FlagsBits, rolls-Local, rolls-Ref}
 use Rattle.rust_tree.specs.declared.path.Path.{Path}
 use Rattle.rust_tree.specs.declared.runtime_item.RuntimeItem.{RuntimeItem}
 use Rattle.rust_tree.specs.declared.runtime_item.RuntimeItem.TheVariants.{CabiDealloc, StringLift}
@@ -17,15 +17,23 @@ use Rattle.wrapper_values.specs.declared.owning.View.TheVariants as view_of
 use Rattle.wrapper_values.specs.declared.state.State.{State}
 use Rattle.wrapper_values.specs.declared.state.Val.{Val}
 use Rattle.wrapper_values.specs.declared.state.Val.TheVariants as val
-use Rattle.wrapper_values.specs.Act.{Done, ◌>>=◌, all, and_then, or_stop, pure}
+use Rattle.wrapper_values.specs.Act.{Act, Done, ◌>>=◌, all, and_then, or_stop, pure}
 use Rattle.wrapper_values.specs.Effect.{cast_to, converted, lift_of}
 use Rattle.wrapper_values.specs.Locals.{ask_local, lend_local, local_named, usable, use_local, used, value_of}
 use Rattle.wrapper_values.specs.Owning.{lent, owned, view}
+use Rattle.wrapper_values.specs.Enums.{word_of_case}
+use Rattle.wrapper_values.specs.Flags.{bits_of_flags, word_at}
 use Rattle.wrapper_values.specs.Setting.{Setting, stuck}
-use Rattle.wrapper_run.specs.Run.{Callee, alone, apply, call, call_callee, call_runtime, callee, converted_or_lifted, core_forget, eval, of_runtime, runtime_item_named, unknown}
+use Rattle.wrapper_run.specs.Run.{Callee, alone, apply, call, call_callee, call_runtime, callee, converted_or_lifted, core_forget, enum_lift, eval, eval_step, of_runtime, runtime_item_named, unknown}
 use Rattle.wrapper_run.proofs.StepLemmas.{eval-call, eval-cast, eval-cast_mut, eval-local, eval-ref}
-use Rattle.func_gen.specs.Read.{Read, as_pointer, conversion, converts, env_of, nothing, read, read_step}
-use Rattle.func_gen.specs.ReadForms.{at_read, bare_value, lent_of, read-call, read-cast, read-cast_mut, read-local, read-ref}
+use Rattle.func_gen.specs.Read.{Read, as_case_word, as_flags_word, as_pointer, conversion, converts, env_of, nothing, on_bare, read, read_step}
+use Rattle.func_gen.specs.ReadForms.{at_read, bare_value, lent_of, read-call, read-cast, read-cast_mut, read-enum_number, read-flags_bits, read-local, read-ref}
+
+pub eval-flags_bits : (w : Setting) (name : Bytes) (by : ℕ) → eval w (expr.FlagsBits name by) ≡ ask_local (stuck w) (view_of.FlagsWord by) name
+eval-flags_bits w name by = search (rules, the_lemmas)
+
+pub eval-enum_number : (w : Setting) (e : Expr) → eval w (expr.EnumNumber e) ≡ (eval w e >>= (λ v. or_stop (stuck w) (option_map val.Word (word_of_case v))))
+eval-enum_number w e = ap (eval w) (sym (rolls-EnumNumber e)) ∙ fold-roll-Expr (Act Val) (eval_step w) (Expr-F.EnumNumber e)
 
 module _ (w : Setting) where
   abbrev pub Gives : Expr → Type 0
@@ -56,6 +64,24 @@ module _ (w : Setting) where
   gives-cast_mut : (name : Bytes) → Gives (expr.CastMut name)
   gives-cast_mut name s v h o = ap (λ act. act s) (eval-cast_mut w name) ∙ points name v s (at_read w.items _ _ (env_of s) v (read-cast_mut w.items name) h)
 
+  tells_word : (name : Bytes) (by : ℕ) (v : Val) (s : State) → option_and_then (on_bare (as_flags_word by)) (value_of (local_named name s.locals)) ≡ Some v → ask_local (stuck w) (view_of.FlagsWord by) name s ≡ Done v s
+  unfolding ask_local
+  tells_word name by v s h =
+      let x = bare_value (as_flags_word by) (value_of (local_named name s.locals)) v h in
+      ap (λ o. or_stop (stuck w) (option_map val.Word (option_and_then (view (view_of.FlagsWord by)) o)) s) x.1 ∙ ap (λ o. or_stop (stuck w) o s) (word_again (bits_of_flags x.0) x.3)
+    where
+      word_again : (o : Option ℕ) → option_map (λ bits. val.Word (word_at by bits)) o ≡ Some v → option_map val.Word (option_map (word_at by) o) ≡ Some v
+      word_again None k = k
+      word_again (Some bits) k = k
+
+  gives-flags_bits : (name : Bytes) (by : ℕ) → Gives (expr.FlagsBits name by)
+  gives-flags_bits name by s v h o = ap (λ act. act s) (eval-flags_bits w name by) ∙ tells_word name by v s (at_read w.items _ _ (env_of s) v (read-flags_bits w.items name by) h)
+
+  gives-enum_number : (e : Expr) → Gives e → Gives (expr.EnumNumber e)
+  gives-enum_number e g s v h o =
+      let x = bare_value as_case_word ((read w.items e).at (env_of s)) v (at_read w.items _ _ (env_of s) v (read-enum_number w.items e) h) in
+      ap (λ act. act s) (eval-enum_number w e) ∙ ap (λ z. and_then z (λ v. or_stop (stuck w) (option_map val.Word (word_of_case v)))) (g s x.0 x.1 x.2) ∙ ap (λ z. or_stop (stuck w) z s) x.3
+
   gives-cast : (e : Expr) (to : CastType) → Gives e → Gives (expr.Cast e to)
   gives-cast e to g s v h o =
       let x = bare_value (cast_to to) ((read w.items e).at (env_of s)) v (at_read w.items _ _ (env_of s) v (read-cast w.items e to) h) in
@@ -79,6 +105,7 @@ module _ (w : Setting) where
       go None k = absurd cc
       go (Some i) k = converted_is i x v s k
   callee_is (alone name) x v s h = absurd cc
+  callee_is (enum_lift name) x v s h = absurd cc
   callee_is core_forget x v s h = absurd cc
   callee_is unknown x v s h = absurd cc
 
@@ -96,6 +123,8 @@ module _ (w : Setting) where
   step fst snd l (Expr-F.Local name) is = subst (λ z. Gives (roll-Expr z)) is (subst Gives (sym (rolls-Local name)) (gives-local name))
   step fst snd l (Expr-F.Ref name) is = subst (λ z. Gives (roll-Expr z)) is (subst Gives (sym (rolls-Ref name)) (gives-ref name))
   step fst snd l (Expr-F.CastMut name) is = subst (λ z. Gives (roll-Expr z)) is (subst Gives (sym (rolls-CastMut name)) (gives-cast_mut name))
+  step fst snd l (Expr-F.FlagsBits name by) is = subst (λ z. Gives (roll-Expr z)) is (subst Gives (sym (rolls-FlagsBits name by)) (gives-flags_bits name by))
+  step fst snd l (Expr-F.EnumNumber x) is = subst (λ z. Gives (roll-Expr z)) is (subst Gives (sym (rolls-EnumNumber (fst x))) (gives-enum_number (fst x) (snd x)))
   step fst snd l (Expr-F.Cast x to) is = subst (λ z. Gives (roll-Expr z)) is (subst Gives (sym (rolls-Cast (fst x) to)) (gives-cast (fst x) to (snd x)))
   step fst snd l (Expr-F.Call path []) is = subst (λ z. Gives (roll-Expr z)) is (nothing_read (Expr-F.Call path []) refl)
   step fst snd l (Expr-F.Call path (x ∷ [])) is = subst (λ z. Gives (roll-Expr z)) is (subst Gives (sym (rolls-Call path (fst x ∷ []))) (gives-call path (fst x) (snd x)))

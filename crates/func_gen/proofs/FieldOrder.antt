@@ -11,14 +11,19 @@ use Rattle.wit_model.specs.Bytes.{Bytes}
 use Rattle.wit_model.specs.Distinct.{is_distinct}
 use Rattle.rust_tree.specs.declared.item.Item.{Item}
 use Rattle.rust_tree.specs.declared.path.Path.{Path}
+use Rattle.rust_tree.specs.declared.repr.Repr.{Repr}
 use Rattle.rust_tree.specs.declared.type_item.StructField.{StructField}
 use Rattle.wrapper_meaning.proofs.Lists.{some_same}
 use Rattle.wrapper_run.proofs.LocalLemmas.{bytes_eq-same}
+use Rattle.wrapper_values.specs.Enums.{enum_in}
+use Rattle.wrapper_values.specs.Flags.{flags_in}
 use Rattle.wrapper_values.specs.Fields.{arranged, arranged_by, each_named, field_named, fields_in, in_order, root_name, type_named}
 use Rattle.func_gen.specs.declared.record_site.RecordSite.{RecordSite}
 use Rattle.func_gen.specs.declared.scope.Scope.{Scope}
-use Rattle.func_gen.specs.RecordForms.{DeclaresFields, locals_for, site_at}
-use Rattle.func_gen.specs.Records.{AreDefined, Defines, HasFields, field_names}
+use Rattle.func_gen.specs.declared.type_site.TypeSite.{TypeSite}
+use Rattle.func_gen.specs.declared.type_site.TypeSite.TheVariants as site
+use Rattle.func_gen.specs.RecordForms.{DeclaresFields, locals_for, record_at, record_in}
+use Rattle.func_gen.specs.TypeSites.{AreDefined, Defines, DefinesRecord, HasCases, HasFields, HasMembers, field_names, held_cases, held_members, site_at}
 
 -- 1. The order
 
@@ -84,25 +89,47 @@ arranged_fields {A} items path fields xs has d len = go (root_name path) has
 
 -- 2. The record of a site
 
-pub defined_at : (items : List Item) (records : List (Option RecordSite)) (id : ℕ) (site : RecordSite) → AreDefined items records → site_at records id ≡ Some site → Defines items site
-defined_at items [] id site all at = absurd cc
-defined_at items (None ∷ records) zero site all at = absurd cc
-defined_at items (Some s ∷ records) zero site all at = subst (Defines items) (some_same s site at) all.0
-defined_at items (None ∷ records) (suc id) site all at = defined_at items records id site all.1 at
-defined_at items (Some s ∷ records) (suc id) site all at = defined_at items records id site all.1 at
+-- what holds of each site that is defined holds of one that is looked up
+pub defined_as : {S : Type 0} (items : List Item) (one : TypeSite → Option S) (D : S → Type 0) → ((t : TypeSite) (s : S) → Defines items t → one t ≡ Some s → D s) → (sites : List (Option TypeSite)) (id : ℕ) (s : S) → AreDefined items sites → option_and_then one (site_at sites id) ≡ Some s → D s
+defined_as items one D is [] id s all at = absurd cc
+defined_as items one D is (None ∷ sites) zero s all at = absurd cc
+defined_as items one D is (Some t ∷ sites) zero s all at = is t s all.0 at
+defined_as items one D is (None ∷ sites) (suc id) s all at = defined_as items one D is sites id s all.1 at
+defined_as items one D is (Some t ∷ sites) (suc id) s all at = defined_as items one D is sites id s all.1 at
+
+record_defined : (items : List Item) (t : TypeSite) (r : RecordSite) → Defines items t → record_in t ≡ Some r → DefinesRecord items r
+record_defined items (site.Record s) r d is = subst (DefinesRecord items) (some_same s r is) d
+record_defined items (site.Enum s) r d is = absurd cc
+record_defined items (site.Flags s) r d is = absurd cc
+
+pub defined_at : (items : List Item) (sites : List (Option TypeSite)) (id : ℕ) (r : RecordSite) → AreDefined items sites → record_at sites id ≡ Some r → DefinesRecord items r
+defined_at items = defined_as items record_in (DefinesRecord items) (record_defined items)
 
 -- where the same names are defined alike
-pub still_defined : (items all : List Item) → ((name : Bytes) → type_named all name ≡ type_named items name) → (records : List (Option RecordSite)) → AreDefined items records → AreDefined all records
+pub still_defined : (items all : List Item) → ((name : Bytes) → type_named all name ≡ type_named items name) → (sites : List (Option TypeSite)) → AreDefined items sites → AreDefined all sites
 still_defined items all same = each
   where
     still : (fields : List Bytes) (o : Option Bytes) → HasFields items fields o → HasFields all fields o
     still fields None h = tt
     still fields (Some name) h = ap (λ t. option_map field_names (fields_in t)) (same name) ∙ h
 
-    each : (records : List (Option RecordSite)) → AreDefined items records → AreDefined all records
+    of_cases : (held : Repr × ℕ) (o : Option Bytes) → HasCases items held o → HasCases all held o
+    of_cases held None h = tt
+    of_cases held (Some name) h = ap (λ t. option_map held_cases (enum_in t)) (same name) ∙ h
+
+    of_members : (held : Repr × ℕ) (o : Option Bytes) → HasMembers items held o → HasMembers all held o
+    of_members held None h = tt
+    of_members held (Some name) h = ap (λ t. option_map held_members (flags_in t)) (same name) ∙ h
+
+    of_site : (s : TypeSite) → Defines items s → Defines all s
+    of_site (site.Record s) d = record { lifted = still s.fields (root_name s.lifted) d.lifted; lowered = still s.fields (root_name s.lowered) d.lowered; distinct = d.distinct }
+    of_site (site.Enum s) d = of_cases (s.repr, s.cases) (root_name s.path) d
+    of_site (site.Flags s) d = of_members (s.repr, s.members) (root_name s.path) d
+
+    each : (sites : List (Option TypeSite)) → AreDefined items sites → AreDefined all sites
     each [] h = tt
-    each (None ∷ records) h = (tt, each records h.1)
-    each (Some s ∷ records) h = (record { lifted = still s.fields (root_name s.lifted) h.0.lifted; lowered = still s.fields (root_name s.lowered) h.0.lowered; distinct = h.0.distinct }, each records h.1)
+    each (None ∷ sites) h = (tt, each sites h.1)
+    each (Some s ∷ sites) h = (of_site s h.0, each sites h.1)
 
 -- 3. Names of locals
 

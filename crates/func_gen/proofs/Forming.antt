@@ -67,7 +67,7 @@ locals_are [] = refl
 locals_are (n ∷ names) = ap (λ os. operand_of (expr.Local n) ∷ os) (locals_are names)
 
 pub still_of : (old new : FunctionBindgen) (added : List Stmt) (items : List RuntimeItem) → Appends old new added items → StillOf old new
-still_of old new added items a = record { import = a.import; home = a.home; area = a.area; params = a.params; records = a.records; sizes = a.sizes }
+still_of old new added items a = record { import = a.import; home = a.home; area = a.area; params = a.params; sites = a.sites; sizes = a.sizes }
 
 pub written : (old new : FunctionBindgen) (rs : List ExprOperand) (code : ℕ → Emission) (t : ℕ) → Takes old.scope (λ k. (code k).names) t new.scope → Appends old new (code t).stmts (code t).items
     → rs ≡ map operand_of (code t).results → Writes code rs old new

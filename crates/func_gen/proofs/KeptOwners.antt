@@ -1,8 +1,10 @@
 -- A value that comes in as one of a type owns what it did.
-use Rattle.std.proofs.Common.{◌≡◌, ℕ, ℤ, zero, suc, Bool, true, false, if◌then◌else◌, nat_eq, List, [], ◌∷◌, ◌++◌, length, map, Option, None, Some, refl, sym, ap, ap₂, ◌∙◌, subst, rules}
+use Rattle.std.proofs.Common.{◌≡◌, ℕ, ℤ, zero, suc, ◌^◌, Bool, true, false, if◌then◌else◌, nat_eq, nat_lt, List, [], ◌∷◌, ◌++◌, length, map, Option, None, Some, refl, sym, ap, ap₂, ◌∙◌, subst, rules}
 use Rattle.std.specs.Prelude.{option_and_then}
 use Rattle.std.specs.Option.{option_map, option_or}
 use Rattle.wit_model.specs.declared.types.WitType.{WitType}
+use Rattle.rust_tree.specs.declared.enum_item.EnumItem.{EnumItem}
+use Rattle.rust_tree.specs.declared.flags_item.FlagsItem.{FlagsItem}
 use Rattle.rust_tree.specs.declared.item.Item.{Item}
 use Rattle.rust_tree.specs.declared.type_expr.Primitive.{Primitive}
 use Rattle.rust_tree.specs.declared.type_expr.Primitive.TheVariants as prim
@@ -11,11 +13,13 @@ use Rattle.rust_tree.specs.declared.type_expr.TypeExpr as expr_lemmas
 use Rattle.rust_tree.specs.declared.type_expr.TypeExpr.TheVariants as type
 use Rattle.wrapper_data.specs.declared.value.RustValue.{RustValue, RustValue-F, fold-roll-RustValue, ind-RustValue, map-RustValue, out-RustValue, roll-RustValue, roll-out-RustValue}
 use Rattle.wrapper_data.specs.declared.value.RustValue.TheVariants as value
-use Rattle.wrapper_data.specs.declared.value.RustValue.TheVariants.{rolls-Bool, rolls-Buffer, rolls-Case, rolls-Char, rolls-F32, rolls-F64, rolls-Num, rolls-Unit}
+use Rattle.wrapper_data.specs.declared.value.RustValue.TheVariants.{rolls-Bits, rolls-Bool, rolls-Buffer, rolls-Case, rolls-Char, rolls-F32, rolls-F64, rolls-Num, rolls-Unit}
 use Rattle.wrapper_values.specs.declared.state.Val.TheVariants as val
 use Rattle.wrapper_values.specs.Effect.{answer_as, answer_of, is_of_kind, is_printed_as, is_scalar, is_unit, num_of_level, number_as, text_of_level, value_as}
+use Rattle.wrapper_values.specs.Enums.{enum_in}
+use Rattle.wrapper_values.specs.Flags.{flags_in, repr_bits}
 use Rattle.wrapper_values.specs.Owning.{owned_by, owned_level, taken_by}
-use Rattle.wrapper_values.specs.Typed.{Typed, behind, behind_one, definition_in, part_types_in, plain_as, target_in, typed, typed_alike, typed_case, typed_each, typed_level, typed_option, typed_parts, typed_unit, unaliased}
+use Rattle.wrapper_values.specs.Typed.{Typed, behind, behind_one, definition_in, part_types_in, plain_as, target_in, typed, typed_alike, typed_bare, typed_case, typed_each, typed_enum, typed_flags, typed_level, typed_option, typed_parts, typed_unit, unaliased}
 use Rattle.wrapper_run.specs.ExportRun.{passed_as, returned_of}
 use Rattle.func_gen.specs.StandLemmas.{owned-struct}
 use Rattle.func_gen.proofs.MethodValues.{as_level, value_level}
@@ -223,13 +227,27 @@ module _ (items : List Item) where
         no : LevelUnit (RustValue-F.Struct (map fst xs))
         no c h = absurd (let e : (let o : Option RustValue = None in o ≡ Some c) = sym (ap (λ l. option_map value.Struct (typed_parts items (parts xs) l)) out_unit) ∙ h in cc)
 
-    -- a case of an option
+    -- a case
 
     case_owned : (n : ℕ) (o : Option RustValue) → owned_by (value.Case n o) ≡ level_owns (RustValue-F.Case n o)
     case_owned n o = ap owned_by (sym (rolls-Case n o)) ∙ owned_roll (RustValue-F.Case n o)
 
+    -- one without payload, or with `()`
+
+    bare_none : (n : ℕ) (c : RustValue) → typed_bare n None ≡ Some c → owned_by c ≡ level_owns (RustValue-F.Case n None)
+    bare_none n c h = let same : value.Case n None ≡ c = cc in ap owned_by (sym same) ∙ case_owned n None
+
+    bare_some : (n : ℕ) (x : X) (c : RustValue) → typed_bare n (Some (typed items (fst x))) ≡ Some c → owned_by c ≡ level_owns (RustValue-F.Case n (Some (fst x)))
+    bare_some n x c h = go (typed items (fst x) type.Unit) refl h
+      where
+        go : (q : Option RustValue) → typed items (fst x) type.Unit ≡ q → option_map (λ r. value.Case n (Some r)) q ≡ Some c → owned_by c ≡ level_owns (RustValue-F.Case n (Some (fst x)))
+        go None e k = absurd cc
+        go (Some r) e k =
+            let same : value.Case n (Some r) ≡ c = cc in
+            ap owned_by (sym same) ∙ case_owned n (Some r) ∙ ap (λ xs. xs ++ []) ((snd x).owners type.Unit r e)
+
     none_kept : (n : ℕ) (ty : TypeExpr) (c : RustValue) → typed_option n None ty ≡ Some c → owned_by c ≡ level_owns (RustValue-F.Case n None)
-    none_kept zero ty c h = let same : value.Case 0 None ≡ c = cc in ap owned_by (sym same) ∙ case_owned 0 None
+    none_kept zero ty c h = bare_none 0 c h
     none_kept (suc zero) ty c h = absurd cc
     none_kept (suc (suc n)) ty c h = absurd cc
 
@@ -250,21 +268,43 @@ module _ (items : List Item) where
             ap owned_by (sym same) ∙ case_owned 1 (Some r) ∙ ap (λ xs. xs ++ []) ((snd x).owners ty r e)
     some_kept (suc (suc n)) x ty c h = absurd cc
 
-    -- a case is of an option alone
-    of_option : (n : ℕ) (payload : Option Typed) (own : List ℕ) → ((ty : TypeExpr) (c : RustValue) → typed_option n payload ty ≡ Some c → owned_by c ≡ own) → (l : TypeExpr-F TypeExpr) (c : RustValue) → typed_case n payload l ≡ Some c → owned_by c ≡ own
-    of_option n payload own k (TypeExpr-F.Optional ty) c h = k ty c h
-    of_option n payload own k _ c h = absurd (let e = h in cc)
+    of_enum : (n : ℕ) (payload : Option Typed) (own : List ℕ) → ((c : RustValue) → typed_bare n payload ≡ Some c → owned_by c ≡ own) → (o : Option EnumItem) (c : RustValue) → typed_enum n payload o ≡ Some c → owned_by c ≡ own
+    of_enum n payload own k None c h = absurd cc
+    of_enum n payload own k (Some e) c h = go (nat_lt n (length e.cases)) h
+      where
+        go : (b : Bool) → (if b then typed_bare n payload else None) ≡ Some c → owned_by c ≡ own
+        go true h = k c h
+        go false h = absurd cc
 
-    no_case : {A : Type 0} (n : ℕ) (payload : Option Typed) (c : RustValue) → typed_case n payload (out-TypeExpr type.Unit) ≡ Some c → A
-    no_case n payload c h = absurd (let e : (let q : Option RustValue = None in q ≡ Some c) = sym (ap (typed_case n payload) out_unit) ∙ h in cc)
+    -- a case is of an option, or of an enum
+    of_case : (n : ℕ) (payload : Option Typed) (own : List ℕ) → ((ty : TypeExpr) (c : RustValue) → typed_option n payload ty ≡ Some c → owned_by c ≡ own) → ((c : RustValue) → typed_bare n payload ≡ Some c → owned_by c ≡ own)
+        → (l : TypeExpr-F TypeExpr) (c : RustValue) → typed_case items n payload l ≡ Some c → owned_by c ≡ own
+    of_case n payload own k b (TypeExpr-F.Optional ty) c h = k ty c h
+    of_case n payload own k b l c h = of_enum n payload own b (enum_in (definition_in items l)) c h
+
+    no_case : {A : Type 0} (n : ℕ) (payload : Option Typed) (c : RustValue) → typed_case items n payload (out-TypeExpr type.Unit) ≡ Some c → A
+    no_case n payload c h = absurd (let e : (let q : Option RustValue = None in q ≡ Some c) = sym (ap (typed_case items n payload) out_unit) ∙ h in cc)
 
     case_none : (n : ℕ) → Kept (roll-RustValue (RustValue-F.Case n None))
-    case_none n = kept_level (RustValue-F.Case n None) (λ ty c h. of_option n None (level_owns (RustValue-F.Case n None)) (none_kept n) (out-TypeExpr ty) c h) (λ c h. no_case n None c h)
+    case_none n = kept_level (RustValue-F.Case n None) (λ ty c h. of_case n None (level_owns (RustValue-F.Case n None)) (none_kept n) (bare_none n) (out-TypeExpr ty) c h) (λ c h. no_case n None c h)
 
     case_some : (n : ℕ) (x : X) → Kept (roll-RustValue (RustValue-F.Case n (Some (fst x))))
     case_some n x =
-        kept_level (RustValue-F.Case n (Some (fst x))) (λ ty c h. of_option n (Some (typed items (fst x))) (level_owns (RustValue-F.Case n (Some (fst x)))) (some_kept n x) (out-TypeExpr ty) c h)
+        kept_level (RustValue-F.Case n (Some (fst x))) (λ ty c h. of_case n (Some (typed items (fst x))) (level_owns (RustValue-F.Case n (Some (fst x)))) (some_kept n x) (bare_some n x) (out-TypeExpr ty) c h)
         (λ c h. no_case n (Some (typed items (fst x))) c h)
+
+    -- flags own nothing
+
+    flags_kept : (n : ℕ) → Kept (roll-RustValue (RustValue-F.Bits n))
+    flags_kept n = kept_level (RustValue-F.Bits n) (λ ty c h. of_flags c (flags_in (definition_in items (out-TypeExpr ty))) h) (λ c h. refl)
+      where
+        held : (c : RustValue) (b : Bool) → (if b then Some (value.Bits n) else None) ≡ Some c → owned_by c ≡ []
+        held c true h = let same : value.Bits n ≡ c = cc in ap owned_by (sym same) ∙ ap owned_by (sym (rolls-Bits n)) ∙ owned_roll (RustValue-F.Bits n)
+        held c false h = absurd cc
+
+        of_flags : (c : RustValue) (o : Option FlagsItem) → typed_flags n o ≡ Some c → owned_by c ≡ []
+        of_flags c None h = absurd cc
+        of_flags c (Some f) h = held c (nat_lt n (2 ^ repr_bits f.repr)) h
 
     -- each kind of value
     step : (l : RustValue-F RustValue) (y : RustValue-F X) → map-RustValue X RustValue fst y ≡ l → Kept (roll-RustValue l)
@@ -285,6 +325,7 @@ module _ (items : List Item) where
     step l (RustValue-F.F64 n) is = subst (λ z. Kept (roll-RustValue z)) is (leaf (value.F64 n) (RustValue-F.F64 n) (ap owned_by (sym (rolls-F64 n)) ∙ owned_roll (RustValue-F.F64 n)) (λ ty. refl))
     step l (RustValue-F.Char n) is = subst (λ z. Kept (roll-RustValue z)) is (leaf (value.Char n) (RustValue-F.Char n) (ap owned_by (sym (rolls-Char n)) ∙ owned_roll (RustValue-F.Char n)) (λ ty. refl))
     step l (RustValue-F.Buffer a n o) is = subst (λ z. Kept (roll-RustValue z)) is (leaf (value.Buffer a n o) (RustValue-F.Buffer a n o) (owned_text a n o) (λ ty. refl))
+    step l (RustValue-F.Bits n) is = subst (λ z. Kept (roll-RustValue z)) is (flags_kept n)
     step l y is = subst (λ z. Kept (roll-RustValue z)) is (never (map-RustValue X RustValue fst y) (λ ty. refl))
 
   kept : (r : RustValue) → Kept r

@@ -8,8 +8,12 @@ pub mod CodeTexts
 pub mod Declared
 pub mod Emissions
 pub mod EndRows
+pub mod EnumRows
 pub mod Evaluated
 pub mod FieldOrder
+pub mod FlagsBits
+pub mod FlagsRows
+pub mod FlagsWords
 pub mod FlushRow
 pub mod Forgetting
 pub mod Forming
@@ -25,6 +29,7 @@ pub mod MethodRows
 pub mod MethodValues
 pub mod Moves
 pub mod Moving
+pub mod Normals
 pub mod PartNames
 pub mod PartRows
 pub mod PartsTaken
@@ -37,6 +42,7 @@ pub mod RuntimeItems
 pub mod ScalarRows
 pub mod Scalars
 pub mod Several
+pub mod SiteInstances
 pub mod Starting
 pub mod Steps
 pub mod StillSent

@@ -68,7 +68,7 @@ use Rattle.func_gen.specs.StandLemmas.{scalar_owns}
 use Rattle.func_gen.proofs.LowBits.{same_low}
 
 -- what one fact that holds says
-says_one : (items : List Item) (b : FunctionBindgen) (o : ExprOperand) (d : Datum RustValue) (s : State) → Hold items b (of o d ∷ []) s → Says d ((read items o.expr).at (env_of s))
+pub says_one : (items : List Item) (b : FunctionBindgen) (o : ExprOperand) (d : Datum RustValue) (s : State) → Hold items b (of o d ∷ []) s → Says d ((read items o.expr).at (env_of s))
 says_one items b o d s h = is_said items b.params (env_of s) (of o d) (omega (arith, h.right))
 
 -- 1. A bool becomes a word
@@ -77,7 +77,7 @@ same_bit : (b : Bool) → bit b ≡ pos (number.bit b)
 same_bit true = refl
 same_bit false = refl
 
-read_some : (o : Option Val) (r : RustValue) → option_and_then item_of o ≡ Some r → (v : Val) × (o ≡ Some v) × (rust_of v ≡ Some r)
+pub read_some : (o : Option Val) (r : RustValue) → option_and_then item_of o ≡ Some r → (v : Val) × (o ≡ Some v) × (rust_of v ≡ Some r)
 read_some None r h = absurd cc
 read_some (Some v) r h = (v, refl, item_rust v r h)
 
@@ -103,10 +103,10 @@ bool_row types old new n e ok a fresh one =
 
 -- 2. A word is lifted
 
-low_u8 : (z : ℤ) → is_of_kind wit.U8 (low 8 z) ≡ true
+pub low_u8 : (z : ℤ) → is_of_kind wit.U8 (low 8 z) ≡ true
 low_u8 z = grind (arith, ints)
 
-low_u32 : (z : ℤ) → is_of_kind wit.U32 (low 32 z) ≡ true
+pub low_u32 : (z : ℤ) → is_of_kind wit.U32 (low 32 z) ≡ true
 low_u32 z = grind (arith, ints)
 
 -- the call of a function of `_rt` that lifts a number
@@ -128,7 +128,7 @@ char_applied w z s h =
     let v = val.Value (value.Num wit.U32 z) in
     ap (λ o. converted_or_lifted w o (lift_of w.form CharLift v) s) (not-converted v).1 ∙ ap (λ o. lift_act w (option_and_then (lift_of_number w.form CharLift) o) s) (num_of-number wit.U32 z h)
 
-cast_given : (w : Setting) (e : Expr) (to : CastType) (z : ℤ) (s : State) → owned (val.Value (cast_integer to z)) ≡ [] → (read w.items e).at (env_of s) ≡ Some (val.Word (core.I32 z)) → eval w (expr.Cast e to) s ≡ machine.Done (val.Value (cast_integer to z)) s
+pub cast_given : (w : Setting) (e : Expr) (to : CastType) (z : ℤ) (s : State) → owned (val.Value (cast_integer to z)) ≡ [] → (read w.items e).at (env_of s) ≡ Some (val.Word (core.I32 z)) → eval w (expr.Cast e to) s ≡ machine.Done (val.Value (cast_integer to z)) s
 cast_given w e to z s none h = gives w (expr.Cast e to) s (val.Value (cast_integer to z)) (cast_says w.items e to (core.I32 z) z (env_of s) refl h) none
 
 bool_evaluates : (w : Setting) (e : Expr) (z : ℤ) (s : State) → runtime_item_named w.items (item_name BoolLift) ≡ Some BoolLift → (read w.items e).at (env_of s) ≡ Some (val.Word (core.I32 z))

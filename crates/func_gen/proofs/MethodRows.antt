@@ -70,7 +70,7 @@ use Rattle.func_gen.specs.Meaning.{AreaIs, Denote, File, Found, FuncState, Gives
 use Rattle.func_gen.specs.MethodForms.{CallsIn, call_block, is_uncalled}
 use Rattle.func_gen.specs.Read.{Env, Read, env_of, less, read}
 use Rattle.func_gen.specs.ReadForms.{read-local}
-use Rattle.func_gen.specs.Records.{AreDefined}
+use Rattle.func_gen.specs.TypeSites.{AreDefined}
 use Rattle.func_gen.specs.Scope.{is_used, TakesOne}
 use Rattle.func_gen.specs.StandLemmas.{owned-unit}
 use Rattle.func_gen.specs.Formed.{CallsMethod}
@@ -136,7 +136,7 @@ module _ (f : Function) (os : List ExprOperand) (held : Option Bytes) (old new :
     method_grows = record {
       serves = λ w h. record {
         runtime = subst (Found w.items) a.runtime h.runtime;
-        records = subst (AreDefined w.items) a.records h.records;
+        sites = subst (AreDefined w.items) a.sites h.sites;
         room = subst (AllByRecursion (HoldsRecord 2 w.area)) a.asked h.room;
         sized = h.sized;
         static = λ e. h.static (a.import ∙ e);
@@ -148,7 +148,7 @@ module _ (f : Function) (os : List ExprOperand) (held : Option Bytes) (old new :
             record { items = items; item = w.item; bound = w.bound; area = w.area },
             record {
               runtime = subst (Found items) (sym a.runtime) (found_still w.bound (rust_ident f.name) w.items old.runtime h.runtime);
-              records = subst (AreDefined items) (sym a.records) (still_defined w.items items (λ name. refl) old.records h.records);
+              sites = subst (AreDefined items) (sym a.sites) (still_defined w.items items (λ name. refl) old.sites h.sites);
               room = subst (AllByRecursion (HoldsRecord 2 w.area)) (sym a.asked) h.room;
               sized = h.sized;
               static = λ e. h.static (sym a.import ∙ e);
@@ -541,7 +541,7 @@ method_row types f os held old new a none export due local named =
       asked = a.asked;
       results = as_many held ∙ sym due;
       form = record {
-        still = record { import = a.import; home = a.home; area = a.area; params = a.params; records = a.records; sizes = a.sizes };
+        still = record { import = a.import; home = a.home; area = a.area; params = a.params; sites = a.sites; sizes = a.sizes };
         given = tt;
         code = becomes f.now os f.now.result held old new a first due named;
       };

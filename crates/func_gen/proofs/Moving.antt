@@ -10,7 +10,7 @@ use Rattle.rust_tree.specs.declared.expr.CastType.{CastType}
 use Rattle.rust_tree.specs.declared.expr.CastType.TheVariants as cast
 use Rattle.rust_tree.specs.declared.expr.Expr.{Expr, Expr-F, fold-roll-Expr, ind-Expr, map-Expr, roll-Expr}
 use Rattle.rust_tree.specs.declared.expr.Expr.TheVariants as expr
-use Rattle.rust_tree.specs.declared.expr.Expr.TheVariants.{rolls-Call, rolls-Cast, rolls-CastMut, rolls-Local, rolls-Ref}
+use Rattle.rust_tree.specs.declared.expr.Expr.TheVariants.{rolls-Call, rolls-Cast, rolls-CastMut, rolls-EnumNumber, rolls-FlagsBits, rolls-Local, rolls-Ref}
 use Rattle.rust_tree.specs.declared.item.Item.{Item}
 use Rattle.rust_tree.specs.declared.path.Path.{Path}
 use Rattle.rust_tree.specs.declared.runtime_item.RuntimeItem.{RuntimeItem}
@@ -23,10 +23,12 @@ use Rattle.wrapper_values.specs.declared.state.Val.TheVariants as val
 use Rattle.wrapper_values.specs.Act as machine
 use Rattle.wrapper_values.specs.Act.{and_then, or_stop}
 use Rattle.wrapper_values.specs.Effect.{cast_integer, cast_to, converted, integer_of, rust_of}
+use Rattle.wrapper_values.specs.Enums.{word_of_case}
+use Rattle.wrapper_values.specs.Flags.{bits_of_flags, word_at}
 use Rattle.wrapper_values.specs.Locals.{local_named, moved, usable, use_local, used, value_of}
 use Rattle.wrapper_values.specs.Owning.{owned, pointer_of}
 use Rattle.wrapper_values.specs.Setting.{Setting, stuck}
-use Rattle.wrapper_run.specs.Run.{Callee, alone, callee, core_forget, eval, of_runtime, runtime_item_named, unknown}
+use Rattle.wrapper_run.specs.Run.{Callee, alone, callee, core_forget, enum_lift, eval, of_runtime, runtime_item_named, unknown}
 use Rattle.wrapper_run.proofs.LocalLemmas.{bytes_eq-same}
 use Rattle.wrapper_run.proofs.StepLemmas.{eval-local}
 use Rattle.abi_driver.specs.Meaning.{Fact, item, of}
@@ -37,8 +39,8 @@ use Rattle.func_gen.specs.FactLemmas.{is_said, item_rust, less_under, matches_sa
 use Rattle.func_gen.specs.Facts.{Hold, Owns, item_of, matches, wrong}
 use Rattle.func_gen.specs.Forms.{operand_of}
 use Rattle.func_gen.specs.Meaning.{account_of, owns_of}
-use Rattle.func_gen.specs.Read.{Env, Read, Under, as_pointer, conversion, converts, env_of, less, nothing, read, read_step}
-use Rattle.func_gen.specs.ReadForms.{at_read, bare_value, read-call, read-cast, read-cast_mut, read-local, read-ref, ref_bare, usable_is}
+use Rattle.func_gen.specs.Read.{Env, Read, Under, as_case_word, as_flags_word, as_pointer, conversion, converts, env_of, less, nothing, read, read_step}
+use Rattle.func_gen.specs.ReadForms.{at_read, bare_value, read-call, read-cast, read-cast_mut, read-enum_number, read-flags_bits, read-local, read-ref, ref_bare, usable_is}
 use Rattle.func_gen.specs.Scope.{is_used}
 use Rattle.func_gen.specs.StandLemmas.{scalar_owns}
 use Rattle.func_gen.proofs.Evaluated.{gives}
@@ -47,7 +49,7 @@ use Rattle.func_gen.proofs.Moves.{less_stays, other_named, owns_without, without
 
 -- 1. Only a local by itself gives a value that owns a block
 
-cast_owns : (to : CastType) (z : ℤ) → owned (val.Value (cast_integer to z)) ≡ []
+pub cast_owns : (to : CastType) (z : ℤ) → owned (val.Value (cast_integer to z)) ≡ []
 cast_owns cast.U8 z = scalar_owns Scalar.u8 _
 cast_owns cast.I8 z = scalar_owns Scalar.s8 _
 cast_owns cast.U16 z = scalar_owns Scalar.u16 _
@@ -76,6 +78,20 @@ module _ (items : List Item) where
       go None k = absurd cc
       go (Some z) k = let e : val.Value (cast_integer to z) ≡ v = cc in ap owned (sym e) ∙ cast_owns to z
 
+  owner-enum_number : (e : Expr) → Owner (expr.EnumNumber e)
+  owner-enum_number e env v h owns =
+      let x = bare_value as_case_word ((read items e).at env) v (at_read items _ _ env v (read-enum_number items e) h) in
+      absurd (owns (word_owns (word_of_case x.0) v x.3))
+
+  owner-flags_bits : (name : Bytes) (by : ℕ) → Owner (expr.FlagsBits name by)
+  owner-flags_bits name by env v h owns =
+      let x = bare_value (as_flags_word by) (env name) v (at_read items _ _ env v (read-flags_bits items name by) h) in
+      absurd (owns (go (bits_of_flags x.0) x.3))
+    where
+      go : (o : Option ℕ) → option_map (λ bits. val.Word (word_at by bits)) o ≡ Some v → owned v ≡ []
+      go None k = absurd cc
+      go (Some bits) k = word_owns (Some (word_at by bits)) v k
+
   owner-call : (path : Path) (e : Expr) → Owner (expr.Call path (e ∷ []))
   owner-call path e env v h owns =
       let x = bare_value (conversion items (callee path)) ((read items e).at env) v (at_read items _ _ env v (read-call items path (e ∷ [])) h) in
@@ -88,6 +104,7 @@ module _ (items : List Item) where
       go : (c : Callee) (x : Val) → conversion items c x ≡ Some v → owned v ≡ []
       go (of_runtime name) x k = item_owns (runtime_item_named items name) x k
       go (alone name) x k = absurd cc
+      go (enum_lift name) x k = absurd cc
       go core_forget x k = absurd cc
       go unknown x k = absurd cc
 
@@ -107,6 +124,8 @@ module _ (items : List Item) where
   step fst l (Expr-F.Local name) is = subst (λ z. Owner (roll-Expr z)) is (subst Owner (sym (rolls-Local name)) (λ env v h owns. (name, refl)))
   step fst l (Expr-F.Ref name) is = subst (λ z. Owner (roll-Expr z)) is (subst Owner (sym (rolls-Ref name)) (owner-ref name))
   step fst l (Expr-F.CastMut name) is = subst (λ z. Owner (roll-Expr z)) is (subst Owner (sym (rolls-CastMut name)) (owner-cast_mut name))
+  step fst l (Expr-F.FlagsBits name by) is = subst (λ z. Owner (roll-Expr z)) is (subst Owner (sym (rolls-FlagsBits name by)) (owner-flags_bits name by))
+  step fst l (Expr-F.EnumNumber x) is = subst (λ z. Owner (roll-Expr z)) is (subst Owner (sym (rolls-EnumNumber (fst x))) (owner-enum_number (fst x)))
   step fst l (Expr-F.Cast x to) is = subst (λ z. Owner (roll-Expr z)) is (subst Owner (sym (rolls-Cast (fst x) to)) (owner-cast (fst x) to))
   step fst l (Expr-F.Call path []) is = subst (λ z. Owner (roll-Expr z)) is (nothing_owned (Expr-F.Call path []) refl)
   step fst l (Expr-F.Call path (x ∷ [])) is = subst (λ z. Owner (roll-Expr z)) is (subst Owner (sym (rolls-Call path (fst x ∷ []))) (owner-call path (fst x)))

@@ -8,8 +8,9 @@ use Rattle.rust_tree.specs.declared.type_expr.TypeExpr.TheVariants as type
 use Rattle.rust_tree.specs.declared.type_item.StructField.{StructField}
 use Rattle.rust_tree.specs.declared.type_item.TypeItem.{TypeItem}
 use Rattle.rust_tree.specs.declared.type_item.TypeItem.TheVariants.{Struct}
-use Rattle.func_gen.specs.declared.record_site.RecordSite.{RecordSite}
-use Rattle.func_gen.specs.Records.{CanBeDefined, Defines, items_of}
+use Rattle.func_gen.specs.declared.type_site.TypeSite.{TypeSite}
+use Rattle.func_gen.specs.declared.type_site.TypeSite.TheVariants as site
+use Rattle.func_gen.specs.TypeSites.{CanBeDefined, Defines, items_of}
 
 abbrev field : Bytes → StructField
 field name = record { docs = []; name = name; wit = name; ty = type.Unit }
@@ -20,8 +21,8 @@ point = Struct (record { docs = []; repr_c = false; derives = []; name = codes "
 abbrev point_path : Path
 point_path = record { lead = false; supers = 0; names = codes "Point" ∷ [] }
 
-abbrev site_of : List Bytes → RecordSite
-site_of fields = record { lifted = point_path; lowered = point_path; fields = fields }
+abbrev site_of : List Bytes → TypeSite
+site_of fields = site.Record (record { lifted = point_path; lowered = point_path; fields = fields })
 
 pub none_is_defined : CanBeDefined (None ∷ None ∷ [])
 none_is_defined = ([], (tt, (tt, tt)))

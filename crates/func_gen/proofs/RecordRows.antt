@@ -40,7 +40,7 @@ use Rattle.func_gen.specs.Meaning.{File, Serves, func_meaning, setting_for}
 use Rattle.func_gen.specs.Operand.{is_operand}
 use Rattle.func_gen.specs.PartForms.{are_operands, exprs_of, locals_of}
 use Rattle.func_gen.specs.RecordForms.{HasFieldCount, IsSiteOf, MakesRecord, SplitsRecord, locals_for}
-use Rattle.func_gen.specs.Records.{AreDefined, Defines}
+use Rattle.func_gen.specs.TypeSites.{AreDefined, DefinesRecord}
 use Rattle.func_gen.specs.Scope.{TakesOne}
 use Rattle.func_gen.specs.CodeOf.{makes_record, splits_record}
 use Rattle.func_gen.proofs.FieldOrder.{arranged_fields, defined_at, fields_named, locals_distinct, locals_many as fields_many}
@@ -99,7 +99,7 @@ module _ (w : Setting) where
       go later (machine.Stopped e t) = refl
 
   -- so the record is the value with these parts
-  record_gives : (site : RecordSite) (os : List ExprOperand) (vs : List Val) (rs : List RustValue) (s t : State) → Defines w.items site → length os ≡ length site.fields → length vs ≡ length os
+  record_gives : (site : RecordSite) (os : List ExprOperand) (vs : List Val) (rs : List RustValue) (s t : State) → DefinesRecord w.items site → length os ≡ length site.fields → length vs ≡ length os
       → all (map (λ (o : ExprOperand). eval w o.expr) os) s ≡ machine.Done vs t → Are vs rs → eval w (expr.Record site.lifted (zip site.fields (exprs_of os))) s ≡ machine.Done (val.Value (value.Struct rs)) t
   record_gives site os vs rs s t d many len h is =
       let whole = λ (vs : List (Bytes × Val)). or_stop (stuck w) (option_and_then whole_of (arranged w.items site.lifted vs)) in
@@ -110,10 +110,10 @@ module _ (w : Setting) where
 -- 3. The rows
 
 -- what serves the new code defines the record
-defined : (w : File) (old new : FunctionBindgen) (types : List TypeDef) (id : ℕ) (site : RecordSite) → new.records ≡ old.records → IsSiteOf types old.records id site → Serves w new → Defines w.items site
-defined w old new types id site same is h = defined_at w.items old.records id site (subst (AreDefined w.items) same h.records) is.at
+defined : (w : File) (old new : FunctionBindgen) (types : List TypeDef) (id : ℕ) (site : RecordSite) → new.sites ≡ old.sites → IsSiteOf types old.sites id site → Serves w new → DefinesRecord w.items site
+defined w old new types id site same is h = defined_at w.items old.sites id site (subst (AreDefined w.items) same h.sites) is.at
 
-pub record_made : (types : List TypeDef) (old new : FunctionBindgen) (n : Bytes) (id : TypeId) (os : List ExprOperand) (e : Expr) → MakesRecord types old.records id.0 os e → Appends old new (stmt.Let n e ∷ []) [] → Fresh old new n → TakesOne old.scope (codes "record") n new.scope
+pub record_made : (types : List TypeDef) (old new : FunctionBindgen) (n : Bytes) (id : TypeId) (os : List ExprOperand) (e : Expr) → MakesRecord types old.sites id.0 os e → Appends old new (stmt.Let n e ∷ []) [] → Fresh old new n → TakesOne old.scope (codes "record") n new.scope
     → Emits func_meaning types (RecordLift id) os (operand_of (expr.Local n) ∷ []) old new
 record_made types old new n id os e made appends fresh one =
     let site = made.site in
@@ -127,7 +127,7 @@ record_made types old new n id os e made appends fresh one =
       form = form_let (sends (RecordLift id)) (record { gives = refl; calls = refl }) os old new (codes "record") n whole [] (ap (option_map (makes_record (exprs_of os))) made.is_site.at) one a;
       results = refl;
       row = λ members is. lifts_whole old new n os whole a fresh
-          (λ w p vs rs s t h len done are. record_gives (setting_for w p) site os vs rs s t (defined w old new types id.0 site appends.records made.is_site h) made.many len done are)
+          (λ w p vs rs s t h len done are. record_gives (setting_for w p) site os vs rs s t (defined w old new types id.0 site appends.sites made.is_site h) made.many len done are)
           (field_shapes types members) (made.many ∙ as_many types id.0 (length site.fields) members made.is_site.count is ∙ sym (field_count types members));
     }
 
@@ -140,7 +140,7 @@ record_split types old new id e names ok split =
     let named = fields_named split.declares in
     let many : length names ≡ length site.fields = ap length named ∙ fields_many site.fields t in
     let fits : (w : File) → Serves w new → (given_names w.items pat ≡ Some names) × (is_distinct names ≡ true) = λ w h.
-    let d = defined w old new types id.0 site split.stmts.records split.is_site h in
+    let d = defined w old new types id.0 site split.stmts.sites split.is_site h in
     (arranged_fields w.items site.lowered site.fields names d.lowered d.distinct (sym many), ap is_distinct named ∙ locals_distinct site.fields t d.distinct) in
     record {
       adds = apart_adds old new pat names e split.stmts split.fresh fits ok;

@@ -34,7 +34,7 @@ use Rattle.func_gen.specs.declared.scope.Scope.{Scope}
 use Rattle.func_gen.specs.Added.{Appends, Fresh}
 use Rattle.func_gen.specs.Facts.{Hold, fact_datum, fact_value, wrong}
 use Rattle.func_gen.specs.Forms.{operand_of}
-use Rattle.func_gen.specs.Meaning.{File, Found, FuncState, account_of, call_of, func_meaning, owns_of, seen, setting_for}
+use Rattle.func_gen.specs.Meaning.{File, Found, FuncState, Serves, account_of, call_of, func_meaning, owns_of, seen, setting_for}
 use Rattle.func_gen.specs.Read.{Env, Read, env_of, less}
 use Rattle.func_gen.specs.Scope.{is_used}
 use Rattle.func_gen.specs.ReadForms.{read-local}
@@ -135,13 +135,13 @@ module _ (old new : FunctionBindgen) (n : Bytes) (e : Expr) (items : List Runtim
       (λ env at. subst (Says d) (sym (ap (λ (r : Read). r.at env) (read-local w.items n) ∙ ap (option_and_then usable) at)) says)
       (reads-new n (Some v) s.machine.locals) none last)
 
-  pub lets_by : (A : Type 0) (ins : Facts func_meaning) (act : Peer RustValue → Act RustValue A) (d : A → Datum RustValue) (Outs : A → Facts func_meaning → Type 0) → ((x : A) → Outs x (of (operand_of (expr.Local n)) (d x) ∷ []))
-      → ((w : File) (p : Peer RustValue) (s : State) → Found w.items items → Hold w.items old ins s → AgreesBy A (account_of s) (act p (account_of s)) (eval (setting_for w p) e s) s d)
+  -- in a file that serves the new code
+  pub lets_served : (A : Type 0) (ins : Facts func_meaning) (act : Peer RustValue → Act RustValue A) (d : A → Datum RustValue) (Outs : A → Facts func_meaning → Type 0) → ((x : A) → Outs x (of (operand_of (expr.Local n)) (d x) ∷ []))
+      → ((w : File) (p : Peer RustValue) (s : State) → Serves w new → Hold w.items old ins s → AgreesBy A (account_of s) (act p (account_of s)) (eval (setting_for w p) e s) s d)
       → Does func_meaning A old new ins act Outs (λ x. []) (λ x. [])
-  lets_by A ins act d Outs outs agrees w p others s0 s at =
-      let found = found_right w.items old.runtime items (subst (Found w.items) a.runtime at.serves.runtime) in
+  lets_served A ins act d Outs outs agrees w p others s0 s at =
       let here = part w.items old ins (ins ++ others) s.machine (λ g. omega (arith, total-append g ins others)) at.holds.hold in
-      go (act p (account_of s.machine)) (agrees w p s.machine found here)
+      go (act p (account_of s.machine)) (agrees w p s.machine at.serves here)
     where
       go : (o : Outcome RustValue (Got RustValue A)) → AgreesBy A (account_of s.machine) o (eval (setting_for w p) e s.machine) s.machine d
           → Follows func_meaning.account o (func_meaning.does w p new.code s0) (λ x t. (fs : Facts func_meaning) × Outs x.result fs × After func_meaning w new (fs ++ others) [] [] s x t)
@@ -164,6 +164,11 @@ module _ (old new : FunctionBindgen) (n : Bytes) (e : Expr) (items : List Runtim
           ap (λ o. (account_in func_meaning.account o).calls) (ran old new (stmt.Let n e ∷ []) items a w p (ins ++ others) s0 s at)
           ∙ seen_calls s.area (run_stmts (setting_for w p) (stmt.Let n e ∷ []) s.machine) ∙ ap (map call_of) ((quiet_let n e quiet (setting_for w p)).quiet s.machine) ∙ sym h
 
+  pub lets_by : (A : Type 0) (ins : Facts func_meaning) (act : Peer RustValue → Act RustValue A) (d : A → Datum RustValue) (Outs : A → Facts func_meaning → Type 0) → ((x : A) → Outs x (of (operand_of (expr.Local n)) (d x) ∷ []))
+      → ((w : File) (p : Peer RustValue) (s : State) → Found w.items items → Hold w.items old ins s → AgreesBy A (account_of s) (act p (account_of s)) (eval (setting_for w p) e s) s d)
+      → Does func_meaning A old new ins act Outs (λ x. []) (λ x. [])
+  lets_by A ins act d Outs outs agrees = lets_served A ins act d Outs outs (λ w p s serves h. agrees w p s (found_right w.items old.runtime items (subst (Found w.items) a.runtime serves.runtime)) h)
+
   pub lets : (ins : Facts func_meaning) (act : Peer RustValue → Act RustValue (Unit {0})) (d : Datum RustValue) (Outs : Facts func_meaning → Type 0) → Outs (of (operand_of (expr.Local n)) d ∷ [])
       → ((w : File) (p : Peer RustValue) (s : State) → Found w.items items → Hold w.items old ins s → Agrees (account_of s) (act p (account_of s)) (eval (setting_for w p) e s) s d)
       → Does func_meaning (Unit {0}) old new ins act (λ u fs. Outs fs) (λ u. []) (λ u. [])
@@ -178,7 +183,7 @@ pub pushed : (old new : List ExprOperand) (e f : Expr) → new ≡ old ++ operan
 pushed old new e f is none same = is ∙ ap (λ ys. ys ++ operand_of e ∷ []) none ∙ ap (λ x. operand_of x ∷ []) same
 
 pub unchanged : (b : FunctionBindgen) → Appends b b [] []
-unchanged b = record { call = refl; stmts = sym (append-nil b.code.stmts); runtime = sym (append-nil b.runtime); import = refl; home = refl; area = refl; params = refl; records = refl; sizes = refl; asked = refl; returned = refl }
+unchanged b = record { call = refl; stmts = sym (append-nil b.code.stmts); runtime = sym (append-nil b.runtime); import = refl; home = refl; area = refl; params = refl; sites = refl; sizes = refl; asked = refl; returned = refl }
 
 -- statements and items after others
 pub appends_both : (a b c : FunctionBindgen) (xs ys : List Stmt) (is js : List RuntimeItem) → Appends a b xs is → Appends b c ys js → Appends a c (xs ++ ys) (is ++ js)
@@ -190,7 +195,7 @@ appends_both a b c xs ys is js h k = record {
   home = k.home ∙ h.home;
   area = k.area ∙ h.area;
   params = k.params ∙ h.params;
-  records = k.records ∙ h.records;
+  sites = k.sites ∙ h.sites;
   sizes = k.sizes ∙ h.sizes;
   asked = k.asked ∙ h.asked;
   returned = k.returned ∙ h.returned;

@@ -128,7 +128,7 @@ convert_row types old new i f e is a scope =
 
 -- 3. Numbers of words
 
-i32_word : (x : Word) → has_type wasm.I32 x ≡ true → (z : ℤ) × (x ≡ core.I32 z)
+pub i32_word : (x : Word) → has_type wasm.I32 x ≡ true → (z : ℤ) × (x ≡ core.I32 z)
 i32_word (core.I32 z) h = (z, refl)
 i32_word (core.I64 z) h = absurd cc
 i32_word (core.F32 z) h = absurd cc

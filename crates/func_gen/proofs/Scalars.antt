@@ -92,7 +92,7 @@ stands_scalar dir s v r e = ((e, refl), subst (IsNormal dir) (sym e) (scalar_nor
 
 -- 2. Which scalar a value is
 
-abbrev kind_shown : WitType → Option Scalar
+abbrev pub kind_shown : WitType → Option Scalar
 kind_shown wit.U8 = Some Scalar.u8
 kind_shown wit.S8 = Some Scalar.s8
 kind_shown wit.U16 = Some Scalar.u16
@@ -103,7 +103,7 @@ kind_shown wit.U64 = Some Scalar.u64
 kind_shown wit.S64 = Some Scalar.s64
 kind_shown _ = None
 
-abbrev shown_level : RustValue-F RustValue → Option Scalar
+abbrev pub shown_level : RustValue-F RustValue → Option Scalar
 shown_level (RustValue-F.Bool b) = Some Scalar.bool
 shown_level (RustValue-F.Num k z) = kind_shown k
 shown_level (RustValue-F.F32 x) = Some Scalar.f32
@@ -111,7 +111,7 @@ shown_level (RustValue-F.F64 x) = Some Scalar.f64
 shown_level (RustValue-F.Char c) = Some Scalar.char
 shown_level _ = None
 
-abbrev shown : RustValue → Option Scalar
+abbrev pub shown : RustValue → Option Scalar
 shown r = shown_level (out-RustValue r)
 
 shown_scalar : (s : Scalar) (v : ScalarValue s) → shown (rust_scalar s v) ≡ Some s
@@ -184,6 +184,27 @@ core_word s v (core.Pointer z) c h = absurd cc
 core_word s v (core.Length z) c h = absurd cc
 core_word s v (core.Slot z) c h = absurd cc
 core_word s v x c h = absurd (let e : false ≡ true = c in cc)
+
+-- what is no scalar for the Rust side is no core word
+no_word : (x : Word) (r : RustValue) → shown r ≡ None → rust_of_word x ≡ Some r → ⊥
+no_word x r none h = go x h
+  where
+    differs : (s : Scalar) (q : RustValue) → shown q ≡ Some s → (let o : Option RustValue = Some q in o ≡ Some r) → ⊥
+    differs s q is e = let no : (let o : Option Scalar = Some s in o ≡ None) = sym is ∙ ap shown (value_same q r e) ∙ none in absurd cc
+
+    go : (x : Word) → rust_of_word x ≡ Some r → ⊥
+    go (core.I32 z) e = differs Scalar.s32 (value.Num wit.S32 z) (ap shown_level (out-num wit.S32 z)) e
+    go (core.I64 z) e = differs Scalar.s64 (value.Num wit.S64 z) (ap shown_level (out-num wit.S64 z)) e
+    go (core.F32 z) e = differs Scalar.f32 (value.F32 z) (ap shown_level (out-f32 z)) e
+    go (core.F64 z) e = differs Scalar.f64 (value.F64 z) (ap shown_level (out-f64 z)) e
+    go (core.Pointer z) e = absurd cc
+    go (core.Length z) e = absurd cc
+    go (core.Slot z) e = absurd cc
+
+pub value_is : (v : Val) (r : RustValue) → shown r ≡ None → rust_of v ≡ Some r → v ≡ val.Value r
+value_is (val.Value q) r none h = ap val.Value (value_same q r h)
+value_is (val.Word x) r none h = absurd (no_word x r none h)
+value_is (val.Area a n) r none h = absurd cc
 
 -- 3. The core words of scalars
 

@@ -36,7 +36,7 @@ use Rattle.func_gen.specs.Facts.{AreOwned, IsThere, Owns, wrong}
 use Rattle.func_gen.specs.Meaning.{AreaIs, Denote, File, Found, FuncState, GivesAsCalled, IsArea, Serves, account_of, call_of, func_meaning, owns_of, static_request}
 use Rattle.func_gen.specs.Read.{Env, Read, bare, bare_or, env_of, lent_bare, less, on_bare, read}
 use Rattle.func_gen.specs.ReadForms.{read-local, read-ref, still_there}
-use Rattle.func_gen.specs.Records.{CanBeDefined, items_of}
+use Rattle.func_gen.specs.TypeSites.{CanBeDefined, items_of}
 use Rattle.func_gen.specs.Scope.{is_used}
 use Rattle.func_gen.specs.Sites.{IsSite, site_names}
 use Rattle.func_gen.specs.StandLemmas.{lent_alone}
@@ -234,7 +234,7 @@ module _ (b : FunctionBindgen) (unasked : b.asked ≡ []) (used : (n : Bytes) �
   start w ds acc (Some address) sv len l taken g false i area a h = absurd h
 
   -- a file of no more than definitions of types serves it
-  pub func_new : b.code ≡ record { call = None; stmts = [] } → b.returned ≡ None → b.runtime ≡ [] → CanBeDefined b.records → IsNew func_meaning b
+  pub func_new : b.code ≡ record { call = None; stmts = [] } → b.returned ≡ None → b.runtime ≡ [] → CanBeDefined b.sites → IsNew func_meaning b
   func_new empty endless runtime (defs, defined) = record {
     closed = refl;
     unfinished = refl;
@@ -244,7 +244,7 @@ module _ (b : FunctionBindgen) (unasked : b.asked ≡ []) (used : (n : Bytes) �
     world = record { items = items_of defs; item = 0; bound = b.home; area = None };
     serves = record {
       runtime = subst (Found (items_of defs)) (sym runtime) tt;
-      records = defined;
+      sites = defined;
       room = subst (AllByRecursion (HoldsRecord 2 None)) (sym unasked) tt;
       sized = tt;
       static = λ e. sym (ap static_request (no_area defs));

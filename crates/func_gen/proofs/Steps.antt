@@ -23,7 +23,7 @@ use Rattle.func_gen.specs.declared.function_bindgen.Code.{Code}
 use Rattle.func_gen.specs.declared.function_bindgen.FunctionBindgen.{FunctionBindgen}
 use Rattle.func_gen.specs.Added.{Appends}
 use Rattle.func_gen.specs.Meaning.{Denote, File, Found, FuncState, GivesAsCalled, Serves, call_of, func_meaning, run_code, run_head, seen, setting_for, static_request}
-use Rattle.func_gen.specs.Records.{AreDefined}
+use Rattle.func_gen.specs.TypeSites.{AreDefined}
 use Rattle.func_gen.specs.Scope.{is_used}
 use Rattle.func_gen.proofs.FieldOrder.{still_defined}
 use Rattle.func_gen.proofs.Lasting.{denotes_on, lasts}
@@ -96,7 +96,7 @@ module _ (old new : FunctionBindgen) (added : List Stmt) (items : List RuntimeIt
   serves_old : (w : File) → Serves w new → Serves w old
   serves_old w h = record {
     runtime = found_left w.items old.runtime items (subst (Found w.items) a.runtime h.runtime);
-    records = subst (AreDefined w.items) a.records h.records;
+    sites = subst (AreDefined w.items) a.sites h.sites;
     room = subst (AllByRecursion (HoldsRecord 2 w.area)) a.asked h.room;
     sized = h.sized;
     static = λ e. h.static (a.import ∙ e);
@@ -110,7 +110,7 @@ module _ (old new : FunctionBindgen) (added : List Stmt) (items : List RuntimeIt
         record { items = m.all; item = w.item; bound = w.bound; area = w.area },
         record {
           runtime = subst (Found m.all) (sym a.runtime) m.found;
-          records = subst (AreDefined m.all) (sym a.records) (still_defined w.items m.all m.types old.records h.records);
+          sites = subst (AreDefined m.all) (sym a.sites) (still_defined w.items m.all m.types old.sites h.sites);
           room = subst (AllByRecursion (HoldsRecord 2 w.area)) (sym a.asked) h.room;
           sized = h.sized;
           static = λ e. h.static (sym a.import ∙ e) ∙ ap static_request (sym m.area);

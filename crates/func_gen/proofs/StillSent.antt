@@ -10,7 +10,7 @@ use Rattle.func_gen.specs.Meaning.{func_meaning}
 use Rattle.func_gen.specs.Still.{StillOf}
 
 still_self : (b : FunctionBindgen) → StillOf b b
-still_self b = record { import = refl; home = refl; area = refl; params = refl; records = refl; sizes = refl }
+still_self b = record { import = refl; home = refl; area = refl; params = refl; sites = refl; sizes = refl }
 
 still_then : (a b c : FunctionBindgen) → StillOf a b → StillOf b c → StillOf a c
 still_then a b c h k = record {
@@ -18,7 +18,7 @@ still_then a b c h k = record {
   home = k.home ∙ h.home;
   area = k.area ∙ h.area;
   params = k.params ∙ h.params;
-  records = k.records ∙ h.records;
+  sites = k.sites ∙ h.sites;
   sizes = k.sizes ∙ h.sizes;
 }
 

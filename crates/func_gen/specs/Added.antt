@@ -15,7 +15,7 @@ pub record Appends (old new : FunctionBindgen) (added : List Stmt) (items : List
   pub home : new.home ≡ old.home
   pub area : new.area ≡ old.area
   pub params : new.params ≡ old.params
-  pub records : new.records ≡ old.records
+  pub sites : new.sites ≡ old.sites
   pub sizes : new.sizes ≡ old.sizes
   pub asked : new.asked ≡ old.asked
   pub returned : new.returned ≡ old.returned

@@ -46,4 +46,4 @@ pub record IsBodyOf (b : FunctionBindgen) (body : Body) : Type 0 where
 
 -- the tables by which code is made
 abbrev pub tables_of : FunctionBindgen → TypeTables
-tables_of b = record { sizes = b.sizes; records = b.records }
+tables_of b = record { sizes = b.sizes; sites = b.sites }

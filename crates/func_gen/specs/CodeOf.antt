@@ -1,5 +1,5 @@
 -- What each step becomes.
-use Rattle.std.specs.Prelude.{ℕ, true, false, List, [], ◌∷◌, codes, zip, Option, None, Some, option_map, slice_get}
+use Rattle.std.specs.Prelude.{ℕ, true, false, List, [], ◌∷◌, codes, zip, Option, None, Some, option_and_then, option_map, slice_get}
 use Rattle.wit_model.specs.Bytes.{Bytes}
 use Rattle.wit_model.specs.declared.function.Function.{Function}
 use Rattle.wit_model.specs.declared.wasm_type.WasmType.{WasmType}
@@ -11,7 +11,7 @@ use Rattle.rust_tree.specs.declared.expr.SmallType.TheVariants as small
 use Rattle.rust_tree.specs.declared.pattern.Pattern.TheVariants as pattern
 use Rattle.rust_tree.specs.declared.runtime_item.RuntimeItem.TheVariants.{AsF32, AsF64, AsI32, AsI64, BoolLift, CabiDealloc, CharLift}
 use Rattle.rust_tree.specs.declared.stmt.Stmt.TheVariants as stmt
-use Rattle.abi_driver.specs.declared.instruction.Instruction.TheVariants.{BoolFromI32, CharFromI32, CoreF32FromF32, CoreF64FromF64, F32FromCoreF32, F32Load, F32Store, F64FromCoreF64, F64Load, F64Store, Flush, GetArg, GuestDeallocate, GuestDeallocateString, I32FromBool, I32FromChar, I32FromS16, I32FromS32, I32FromS8, I32FromU16, I32FromU32, I32FromU8, I32Load, I32Load16S, I32Load16U, I32Load8S, I32Load8U, I32Store, I32Store16, I32Store8, I64FromS64, I64FromU64, I64Load, I64Store, LengthLoad, LengthStore, PointerLoad, PointerStore, RecordLift, RecordLower, Return, S16FromI32, S32FromI32, S64FromI64, S8FromI32, StringLift, StringLower, TupleLift, TupleLower, U16FromI32, U32FromI32, U64FromI64, U8FromI32}
+use Rattle.abi_driver.specs.declared.instruction.Instruction.TheVariants.{BoolFromI32, CharFromI32, CoreF32FromF32, CoreF64FromF64, EnumLift, EnumLower, F32FromCoreF32, F32Load, F32Store, F64FromCoreF64, F64Load, F64Store, FlagsLift, FlagsLower, Flush, GetArg, GuestDeallocate, GuestDeallocateString, I32FromBool, I32FromChar, I32FromS16, I32FromS32, I32FromS8, I32FromU16, I32FromU32, I32FromU8, I32Load, I32Load16S, I32Load16U, I32Load8S, I32Load8U, I32Store, I32Store16, I32Store8, I64FromS64, I64FromU64, I64Load, I64Store, LengthLoad, LengthStore, PointerLoad, PointerStore, RecordLift, RecordLower, Return, S16FromI32, S32FromI32, S64FromI64, S8FromI32, StringLift, StringLower, TupleLift, TupleLower, U16FromI32, U32FromI32, U64FromI64, U8FromI32}
 use Rattle.abi_driver.specs.Sent.{Sent, asks, sends}
 use Rattle.func_gen.specs.declared.function_bindgen.FunctionBindgen.{FunctionBindgen}
 use Rattle.func_gen.specs.declared.function_bindgen.ParamSite.{ParamSite}
@@ -19,11 +19,13 @@ use Rattle.func_gen.specs.declared.record_site.RecordSite.{RecordSite}
 use Rattle.func_gen.specs.Area.{area_pointer}
 use Rattle.func_gen.specs.CallForms.{import_name, import_of, local_path, ret_name}
 use Rattle.func_gen.specs.Emission.{Emission, one_local, converted, all_locals, effect, alone, nothing}
+use Rattle.func_gen.specs.EnumForms.{enum_at, lifts_enum}
+use Rattle.func_gen.specs.FlagsForms.{flags_at, lifts_flags, lowers_flags}
 use Rattle.func_gen.specs.FlushForms.{flush_prefix, lets_of}
 use Rattle.func_gen.specs.Forms.{runtime_call}
 use Rattle.func_gen.specs.MemoryForms.{block_freed, text_freed}
 use Rattle.func_gen.specs.PartForms.{names_from, part_prefix}
-use Rattle.func_gen.specs.RecordForms.{locals_for, site_at}
+use Rattle.func_gen.specs.RecordForms.{locals_for, record_at}
 use Rattle.func_gen.specs.TextForms.{buffer_names, buffer_stmts, given_stmts, len_name, ptr_name, taken_names, taken_stmts, taking_items, text_name}
 
 -- 1. Forms of several statements
@@ -101,8 +103,12 @@ emitted b (sends U64FromI64) (a ∷ []) = Some (λ t. alone (expr.Cast a cast.U6
 emitted b (sends CharFromI32) (a ∷ []) = Some (one_local (codes "c") (runtime_call CharLift (expr.Cast a cast.U32)) (CharLift ∷ []))
 emitted b (sends I32FromBool) (a ∷ []) = Some (one_local (codes "b") (expr.I32FromBool a) [])
 emitted b (sends BoolFromI32) (a ∷ []) = Some (one_local (codes "b") (runtime_call BoolLift (expr.Cast a cast.U8)) (BoolLift ∷ []))
-emitted b (sends (RecordLower id)) (a ∷ []) = option_map (splits_record a) (site_at b.records id.0)
-emitted b (sends (RecordLift id)) es = option_map (makes_record es) (site_at b.records id.0)
+emitted b (sends (RecordLower id)) (a ∷ []) = option_map (splits_record a) (record_at b.sites id.0)
+emitted b (sends (RecordLift id)) es = option_map (makes_record es) (record_at b.sites id.0)
+emitted b (sends (EnumLower id)) (a ∷ []) = Some (λ t. alone (expr.EnumNumber a))
+emitted b (sends (EnumLift id)) (a ∷ []) = option_and_then (lifts_enum a) (enum_at b.sites id.0)
+emitted b (sends (FlagsLower id)) (a ∷ []) = option_map (lowers_flags a) (flags_at b.sites id.0)
+emitted b (sends (FlagsLift id)) es = option_map (lifts_flags es) (flags_at b.sites id.0)
 emitted b (sends (TupleLower n)) (a ∷ []) = Some (splits_tuple n a)
 emitted b (sends (TupleLift n)) es = Some (one_local (codes "tuple") (expr.Tuple es) [])
 emitted b (sends (StringLower false)) (a ∷ []) = Some (lends_text a)

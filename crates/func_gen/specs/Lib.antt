@@ -4,8 +4,10 @@ pub mod Body
 pub mod CallForms
 pub mod CodeOf
 pub mod Emission
+pub mod EnumForms
 pub mod FactLemmas
 pub mod Facts
+pub mod FlagsForms
 pub mod FlushForms
 pub mod Formed
 pub mod Forms
@@ -19,9 +21,9 @@ pub mod PartForms
 pub mod Read
 pub mod ReadForms
 pub mod RecordForms
-pub mod Records
 pub mod Scope
 pub mod Sites
 pub mod StandLemmas
 pub mod Still
 pub mod TextForms
+pub mod TypeSites

@@ -45,7 +45,7 @@ use Rattle.func_gen.specs.declared.function_bindgen.FunctionBindgen.{FunctionBin
 use Rattle.func_gen.specs.declared.operand.ExprOperand.{ExprOperand}
 use Rattle.func_gen.specs.Facts.{AreOwned, Hold}
 use Rattle.func_gen.specs.Read.{env_of}
-use Rattle.func_gen.specs.Records.{AreDefined}
+use Rattle.func_gen.specs.TypeSites.{AreDefined}
 use Rattle.func_gen.specs.Formed.{Formed}
 
 -- 1. What is known of the whole
@@ -76,7 +76,7 @@ GivesAsCalled items bound (Some c) = c.result ≡ None → IfSome (method_named 
 
 pub record Serves (w : File) (b : FunctionBindgen) : Type 0 where
   pub runtime : Found w.items b.runtime
-  pub records : AreDefined w.items b.records
+  pub sites : AreDefined w.items b.sites
   pub room : AllByRecursion (HoldsRecord 2 w.area) b.asked
   pub sized : IfSome w.area IsArea
   -- the area of exports is the file's static one, and their methods are of one trait

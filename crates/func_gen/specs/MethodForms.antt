@@ -32,7 +32,7 @@ pub record CallsIn (f : Function) (arguments : List Expr) (value : Option Bytes)
   pub area : new.area ≡ old.area
   pub params : new.params ≡ old.params
   pub sizes : new.sizes ≡ old.sizes
-  pub records : new.records ≡ old.records
+  pub sites : new.sites ≡ old.sites
   pub asked : new.asked ≡ old.asked
   pub returned : new.returned ≡ old.returned
 

@@ -25,7 +25,9 @@ abbrev pub operand_step : Expr-F Bool → Bool
 operand_step (Expr-F.Local name) = true
 operand_step (Expr-F.Ref name) = true
 operand_step (Expr-F.CastMut name) = true
+operand_step (Expr-F.FlagsBits name by) = true
 operand_step (Expr-F.Cast e to) = e
+operand_step (Expr-F.EnumNumber e) = e
 operand_step (Expr-F.Call path arguments) = is_converted (is_conversion path) arguments
 operand_step _ = false
 

@@ -10,9 +10,11 @@ use Rattle.wrapper_values.specs.declared.state.State.{State}
 use Rattle.wrapper_values.specs.declared.state.Val.{Val}
 use Rattle.wrapper_values.specs.declared.state.Val.TheVariants as val
 use Rattle.wrapper_values.specs.Effect.{cast_to, converted}
+use Rattle.wrapper_values.specs.Enums.{word_of_case}
+use Rattle.wrapper_values.specs.Flags.{bits_of_flags, word_at}
 use Rattle.wrapper_values.specs.Locals.{local_named, usable, value_of}
 use Rattle.wrapper_values.specs.Owning.{lent, owned, pointer_of}
-use Rattle.wrapper_run.specs.Run.{Callee, alone, callee, core_forget, of_runtime, runtime_item_named, unknown}
+use Rattle.wrapper_run.specs.Run.{Callee, alone, callee, core_forget, enum_lift, of_runtime, runtime_item_named, unknown}
 
 -- 1. Environments
 
@@ -115,6 +117,14 @@ lent_bare v = on_bare (λ x. option_and_then bare (lent x)) v
 abbrev pub as_pointer : Val → Option Val
 as_pointer v = option_map val.Word (pointer_of v)
 
+-- one word of flags
+abbrev pub as_flags_word : ℕ → Val → Option Val
+as_flags_word by v = option_map (λ bits. val.Word (word_at by bits)) (bits_of_flags v)
+
+-- the number of an enum's case
+abbrev pub as_case_word : Val → Option Val
+as_case_word v = option_map val.Word (word_of_case v)
+
 -- a conversion of `_rt`
 abbrev pub converts : Option RuntimeItem → Val → Option Val
 converts None v = None
@@ -123,6 +133,7 @@ converts (Some i) v = option_map val.Word (converted i v)
 abbrev pub conversion : List Item → Callee → Val → Option Val
 conversion items (of_runtime name) v = converts (runtime_item_named items name) v
 conversion items (alone name) v = None
+conversion items (enum_lift name) v = None
 conversion items core_forget v = None
 conversion items unknown v = None
 
@@ -137,6 +148,8 @@ read_step items (Expr-F.Ref name) = through lent_bare (of_local name)
 read_step items (Expr-F.Cast e to) = through (on_bare (cast_to to)) e
 read_step items (Expr-F.Call path arguments) = call_reads items (callee path) arguments
 read_step items (Expr-F.CastMut name) = through as_pointer (of_local name)
+read_step items (Expr-F.EnumNumber e) = through (on_bare as_case_word) e
+read_step items (Expr-F.FlagsBits name by) = through (on_bare (as_flags_word by)) (of_local name)
 read_step items _ = nothing
 
 -- in a file of these items

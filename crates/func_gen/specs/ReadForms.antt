@@ -7,7 +7,7 @@ use Rattle.wit_model.specs.Bytes.{Bytes}
 use Rattle.rust_tree.specs.declared.expr.CastType.{CastType}
 use Rattle.rust_tree.specs.declared.expr.Expr.{Expr, Expr-F, fold-roll-Expr, ind-Expr, map-Expr, roll-Expr, the_lemmas}
 use Rattle.rust_tree.specs.declared.expr.Expr.TheVariants as expr
-use Rattle.rust_tree.specs.declared.expr.Expr.TheVariants.{rolls-Call, rolls-Cast, rolls-CastMut, rolls-Local, rolls-Ref}
+use Rattle.rust_tree.specs.declared.expr.Expr.TheVariants.{rolls-Call, rolls-Cast, rolls-CastMut, rolls-EnumNumber, rolls-FlagsBits, rolls-Local, rolls-Ref}
 use Rattle.rust_tree.specs.declared.item.Item.{Item}
 use Rattle.rust_tree.specs.declared.path.Path.{Path}
 use Rattle.wrapper_values.specs.declared.state.Val.{Val}
@@ -17,7 +17,7 @@ use Rattle.wrapper_values.specs.Locals.{usable}
 use Rattle.wrapper_values.specs.Owning.{lent, owned}
 use Rattle.wrapper_run.specs.Run.{callee}
 use Rattle.func_gen.specs.Facts.{Owns}
-use Rattle.func_gen.specs.Read.{Env, Read, as_pointer, bare, bare_or, conversion, less, lent_bare, nothing, on_bare, read, read_step}
+use Rattle.func_gen.specs.Read.{Env, Read, as_case_word, as_flags_word, as_pointer, bare, bare_or, conversion, less, lent_bare, nothing, on_bare, read, read_step}
 
 module _ (items : List Item) where
   -- 1. What each form reads
@@ -30,6 +30,12 @@ module _ (items : List Item) where
 
   pub read-cast_mut : (name : Bytes) → read items (expr.CastMut name) ≡ read_step items (Expr-F.CastMut name)
   read-cast_mut name = search (rules, the_lemmas)
+
+  pub read-flags_bits : (name : Bytes) (by : ℕ) → read items (expr.FlagsBits name by) ≡ read_step items (Expr-F.FlagsBits name by)
+  read-flags_bits name by = search (rules, the_lemmas)
+
+  pub read-enum_number : (e : Expr) → read items (expr.EnumNumber e) ≡ read_step items (Expr-F.EnumNumber (read items e))
+  read-enum_number e = ap (read items) (sym (rolls-EnumNumber e)) ∙ fold-roll-Expr Read (read_step items) (Expr-F.EnumNumber e)
 
   pub read-cast : (e : Expr) (to : CastType) → read items (expr.Cast e to) ≡ read_step items (Expr-F.Cast (read items e) to)
   read-cast e to = ap (read items) (sym (rolls-Cast e to)) ∙ fold-roll-Expr Read (read_step items) (Expr-F.Cast e to)
@@ -100,6 +106,9 @@ module _ (items : List Item) where
   pointer_bare (Some (val.Value r)) v h = absurd cc
   pointer_bare (Some (val.Area a n)) v h = absurd cc
 
+  flags_bare : (by : ℕ) (o : Option Val) (v : Val) → option_and_then (on_bare (as_flags_word by)) o ≡ Some v → (x : Val) × (o ≡ Some x) × (owned x ≡ [])
+  flags_bare by o v h = let (x, is, none, word) = bare_value (as_flags_word by) o v h in (x, is, none)
+
   -- one step on what is read by a name
   by_name : (f : Val → Option Val) (e : Expr) (k : Bytes) → ((env : Env) → (read items e).at env ≡ option_and_then f (env k)) → ((env : Env) (v : Val) → option_and_then f (env k) ≡ Some v → owned v ≡ [] → (x : Val) × (env k ≡ Some x) × (owned x ≡ [])) → Stable e
   by_name f e k reads bare env v h none n owns =
@@ -115,6 +124,9 @@ module _ (items : List Item) where
   stable-cast_mut : (k : Bytes) → Stable (expr.CastMut k)
   stable-cast_mut k = by_name as_pointer (expr.CastMut k) k (λ env. ap (λ (r : Read). r.at env) (read-cast_mut items k)) (λ env v h none. pointer_bare (env k) v h)
 
+  stable-flags_bits : (k : Bytes) (by : ℕ) → Stable (expr.FlagsBits k by)
+  stable-flags_bits k by = by_name (on_bare (as_flags_word by)) (expr.FlagsBits k by) k (λ env. ap (λ (r : Read). r.at env) (read-flags_bits items k by)) (λ env v h none. flags_bare by (env k) v h)
+
   -- one step on what another operand reads
   by_operand : (f : Val → Option Val) (e whole : Expr) → ((env : Env) → (read items whole).at env ≡ option_and_then (on_bare f) ((read items e).at env)) → Stable e → Stable whole
   by_operand f e whole reads stable env v h none n owns =
@@ -123,6 +135,9 @@ module _ (items : List Item) where
 
   stable-cast : (e : Expr) (to : CastType) → Stable e → Stable (expr.Cast e to)
   stable-cast e to = by_operand (cast_to to) e (expr.Cast e to) (λ env. ap (λ (r : Read). r.at env) (read-cast items e to))
+
+  stable-enum_number : (e : Expr) → Stable e → Stable (expr.EnumNumber e)
+  stable-enum_number e = by_operand as_case_word e (expr.EnumNumber e) (λ env. ap (λ (r : Read). r.at env) (read-enum_number items e))
 
   stable-call : (path : Path) (e : Expr) → Stable e → Stable (expr.Call path (e ∷ []))
   stable-call path e = by_operand (conversion items (callee path)) e (expr.Call path (e ∷ [])) (λ env. ap (λ (r : Read). r.at env) (read-call items path (e ∷ [])))
@@ -136,6 +151,8 @@ module _ (items : List Item) where
   step fst snd l (Expr-F.Local name) is = subst (λ z. Stable (roll-Expr z)) is (subst Stable (sym (rolls-Local name)) (stable-local name))
   step fst snd l (Expr-F.Ref name) is = subst (λ z. Stable (roll-Expr z)) is (subst Stable (sym (rolls-Ref name)) (stable-ref name))
   step fst snd l (Expr-F.CastMut name) is = subst (λ z. Stable (roll-Expr z)) is (subst Stable (sym (rolls-CastMut name)) (stable-cast_mut name))
+  step fst snd l (Expr-F.FlagsBits name by) is = subst (λ z. Stable (roll-Expr z)) is (subst Stable (sym (rolls-FlagsBits name by)) (stable-flags_bits name by))
+  step fst snd l (Expr-F.EnumNumber x) is = subst (λ z. Stable (roll-Expr z)) is (subst Stable (sym (rolls-EnumNumber (fst x))) (stable-enum_number (fst x) (snd x)))
   step fst snd l (Expr-F.Cast x to) is = subst (λ z. Stable (roll-Expr z)) is (subst Stable (sym (rolls-Cast (fst x) to)) (stable-cast (fst x) to (snd x)))
   step fst snd l (Expr-F.Call path []) is = subst (λ z. Stable (roll-Expr z)) is (nothing_stable (Expr-F.Call path []) refl)
   step fst snd l (Expr-F.Call path (x ∷ [])) is = subst (λ z. Stable (roll-Expr z)) is (subst Stable (sym (rolls-Call path (fst x ∷ []))) (stable-call path (fst x) (snd x)))

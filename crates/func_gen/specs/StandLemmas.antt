@@ -58,13 +58,13 @@ owned-struct rs = ap owned_by (sym (rolls-Struct rs)) ∙ fold-roll-RustValue (L
 owned-map : (rs : List (RustValue × RustValue)) → owned_by (value.Map rs) ≡ taken_by_entries rs
 owned-map rs = ap owned_by (sym (rolls-Map rs)) ∙ fold-roll-RustValue (List ℕ) owned_level (RustValue-F.Map rs)
 
-owned-none : (n : ℕ) → owned_by (value.Case n None) ≡ []
+pub owned-none : (n : ℕ) → owned_by (value.Case n None) ≡ []
 owned-none n = ap owned_by (sym (rolls-Case n None)) ∙ fold-roll-RustValue (List ℕ) owned_level (RustValue-F.Case n None)
 
-owned-some : (n : ℕ) (r : RustValue) → owned_by (value.Case n (Some r)) ≡ taken_by (r ∷ [])
+pub owned-some : (n : ℕ) (r : RustValue) → owned_by (value.Case n (Some r)) ≡ taken_by (r ∷ [])
 owned-some n r = ap owned_by (sym (rolls-Case n (Some r))) ∙ fold-roll-RustValue (List ℕ) owned_level (RustValue-F.Case n (Some r))
 
-owned-bits : (n : ℕ) → owned_by (value.Bits n) ≡ []
+pub owned-bits : (n : ℕ) → owned_by (value.Bits n) ≡ []
 owned-bits n = ap owned_by (sym (rolls-Bits n)) ∙ fold-roll-RustValue (List ℕ) owned_level (RustValue-F.Bits n)
 
 owned-handle : (n : ℕ) (o : Bool) → owned_by (value.Handle n o) ≡ []

@@ -38,7 +38,7 @@ impl FunctionBindgen {
         let FunctionBindgen {
             alloc,
             sizes,
-            records,
+            sites,
             code,
             runtime,
             asked,
@@ -55,7 +55,7 @@ impl FunctionBindgen {
             area,
             runtime,
         };
-        Ok((body, TypeTables { sizes, records }))
+        Ok((body, TypeTables { sizes, sites }))
     }
 }
 

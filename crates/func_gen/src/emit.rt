@@ -1,6 +1,8 @@
 //! The code of each instruction.
 
 mod calls;
+mod enums;
+mod flags;
 mod flush;
 mod frees;
 mod loads;

@@ -6,12 +6,12 @@ ghost use Rattle.wit_model.specs.Distinct.{is_distinct};
 ghost use Rattle.abi_driver.specs.Laws.{IsNew};
 ghost use Rattle.func_gen.specs.Made.{IsMadeOf};
 ghost use Rattle.func_gen.specs.Meaning.{func_meaning};
-ghost use Rattle.func_gen.specs.Records.{CanBeDefined};
 ghost use Rattle.func_gen.specs.Sites.{IsSite, site_names};
+ghost use Rattle.func_gen.specs.TypeSites.{CanBeDefined};
 
 use crate::operand::ExprOperand;
-use crate::record_site::RecordSite;
 use crate::scope::Scope;
+use crate::type_site::TypeSite;
 use abi_driver::Asked;
 use rust_tree::{CallBlock, RuntimeItem, Stmt};
 use std::alloc::Global;
@@ -48,8 +48,8 @@ pub struct FunctionBindgen {
     /// The local that holds an import's return area.
     pub(crate) area: Text,
     pub(crate) params: List<ParamSite>,
-    /// By the number of a type, how it is written if it is a record.
-    pub(crate) records: List<Option<RecordSite>>,
+    /// By the number of a type, how it is written, where it has a site.
+    pub(crate) sites: List<Option<TypeSite>>,
     pub(crate) scope: Scope,
     pub(crate) code: Code,
     /// The items of `_rt` that the code names.
@@ -81,7 +81,7 @@ fn first_names(
 impl FunctionBindgen {
     /// One without code, for a wrapper of these parameters, of an import or of an export. Core imports that are called are of the module
     /// `home`, and methods of the trait of that name. The area is the local that holds an import's return area, and the cleanup the
-    /// one that holds the lists to be freed: no local that is numbered gets either name. The records are by the numbers of their types.
+    /// one that holds the lists to be freed: no local that is numbered gets either name. The sites are by the numbers of their types.
     pub fn new(
         alloc: Global,
         sizes: SizeAlign,
@@ -90,12 +90,12 @@ impl FunctionBindgen {
         area: Text,
         cleanup: Text,
         params: List<ParamSite>,
-        records: List<Option<RecordSite>>,
+        sites: List<Option<TypeSite>>,
     ) -> Result<FunctionBindgen, OutOfMemory>
         requires sites { AllByRecursion IsSite params }
-        requires defined { CanBeDefined records }
+        requires defined { CanBeDefined sites }
         requires distinct { is_distinct (area ∷ site_names params) ≡ true }
-        ensures made { IfOk result (IsMadeOf sizes import home area cleanup params records) }
+        ensures made { IfOk result (IsMadeOf sizes import home area cleanup params sites) }
         ensures begins { IfOk result (λ b. IsNew func_meaning b) }
         ensures imports { IfOk result (λ b. func_meaning.imports b ≡ import) }
         ensures exports { IfOk result (λ b. func_meaning.exports b ≡ not import) }
@@ -108,7 +108,7 @@ impl FunctionBindgen {
             home,
             area,
             params,
-            records,
+            sites,
             scope: Scope { used, next: 0 },
             code: Code {
                 call: None,

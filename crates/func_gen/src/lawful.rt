@@ -17,7 +17,7 @@ impl Bindgen for FunctionBindgen {
 
     ghost sound = { func_sound };
 
-    /// The statements of arguments and scalars, of texts, tuples and records, of stores, loads and frees, of operands that get locals of
+    /// The statements of arguments and scalars, of texts, tuples and records, of enums and flags, of stores, loads and frees, of operands that get locals of
     /// their own and of the call of a core import, the block that calls a method of no resource, and what the code gives. Of any other
     /// instruction so far, and of an expression that is no operand, the answer is `OutOfMemory`.
     fn emit(
@@ -50,6 +50,10 @@ impl Bindgen for FunctionBindgen {
             Instruction::RecordLift(id) => self.lift_record(resolve, id, operands, results),
             Instruction::TupleLower(n) => self.lower_tuple(resolve, n, operands, results),
             Instruction::TupleLift(n) => self.lift_tuple(resolve, n, operands, results),
+            Instruction::EnumLower(id) => self.lower_enum(resolve, id, operands, results),
+            Instruction::EnumLift(id) => self.lift_enum(resolve, id, operands, results),
+            Instruction::FlagsLower(id) => self.lower_flags(resolve, id, operands, results),
+            Instruction::FlagsLift(id) => self.lift_flags(resolve, id, operands, results),
             Instruction::GuestDeallocate(size, align) => {
                 self.free_block(resolve, size, align, operands, results)
             }

@@ -8,7 +8,8 @@ use rust_tree::{Expr, Path};
 use std::alloc::Global;
 use wit_model::{Boxed, List, OutOfMemory, Text};
 
-/// An operand: a local, by itself or by a reference, or a pointer to write through, or the cast or the core value of such.
+/// An operand: a local, by itself or by a reference, a pointer to write through, or a word of the flags in a local; or the cast, the core value
+/// or the case number of such.
 #[derive(Drop)]
 pub struct ExprOperand {
     pub expr: Expr,
@@ -29,6 +30,11 @@ pub(crate) fn copy_expr(e: &Expr, alloc: Global) -> Result<Expr, OutOfMemory>
         Expr::Local(name) => Ok(Expr::Local(name.copy(alloc)?)),
         Expr::Ref(name) => Ok(Expr::Ref(name.copy(alloc)?)),
         Expr::CastMut(name) => Ok(Expr::CastMut(name.copy(alloc)?)),
+        Expr::FlagsBits(name, by) => Ok(Expr::FlagsBits(name.copy(alloc)?, *by)),
+        Expr::EnumNumber(inner) => Ok(Expr::EnumNumber(Boxed::new(
+            alloc,
+            copy_expr(inner.get(), alloc)?,
+        )?)),
         Expr::Cast(inner, to) => Ok(Expr::Cast(
             Boxed::new(alloc, copy_expr(inner.get(), alloc)?)?,
             *to,
@@ -89,14 +95,14 @@ fn is_conversion(path: &Path) -> bool
     }
 }
 
-/// Whether an expression may be an operand: a local, by itself or by a reference, or a pointer to write through, or the cast or the
-/// core value of an operand.
+/// Whether an expression may be an operand: a local, by itself or by a reference, a pointer to write through, or a word of the flags in a local;
+/// or the cast, the core value or the case number of an operand.
 pub(crate) fn is_operand(e: &Expr) -> bool
     ensures { result ≡ is_operand e.now }
 {
     match e {
-        Expr::Local(_) | Expr::Ref(_) | Expr::CastMut(_) => true,
-        Expr::Cast(inner, _) => is_operand(inner.get()),
+        Expr::Local(_) | Expr::Ref(_) | Expr::CastMut(_) | Expr::FlagsBits(_, _) => true,
+        Expr::Cast(inner, _) | Expr::EnumNumber(inner) => is_operand(inner.get()),
         Expr::Call(path, arguments) => match arguments.as_slice() {
             [argument] => is_conversion(path) && is_operand(argument),
             _ => false,

@@ -1,13 +1,13 @@
 //! What bodies are made by, of the types of a table.
 
-use crate::record_site::RecordSite;
+use crate::type_site::TypeSite;
 use wit_layout::SizeAlign;
 use wit_model::List;
 
-/// What is known of the types of a table: their layouts; and by the number of a type, how it is written if it is a record. Each body takes
+/// What is known of the types of a table: their layouts; and by the number of a type, how it is written, where it has a site. Each body takes
 /// them and hands them back.
 #[derive(Drop)]
 pub struct TypeTables {
     pub sizes: SizeAlign,
-    pub records: List<Option<RecordSite>>,
+    pub sites: List<Option<TypeSite>>,
 }

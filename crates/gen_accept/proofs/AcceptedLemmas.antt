@@ -30,8 +30,8 @@ use Rattle.type_defs.specs.DefinedNames.{AreDefinable}
 use Rattle.type_defs.specs.FunctionTypes.{entries_pass, function_passes, functions_pass, item_passes}
 use Rattle.type_defs.specs.ListedTypes.{listed_types}
 use Rattle.type_defs.specs.Listing.{is_covered}
-use Rattle.type_defs.specs.Modes.{is_owning, is_used}
-use Rattle.type_defs.specs.Used.{IsUsed, UsesTypes, function_types, uses}
+use Rattle.type_defs.specs.Modes.{is_always_defined, is_owning, is_wanted}
+use Rattle.type_defs.specs.Used.{IsUsed, UsesTypes, function_types, is_always_entry, is_wanted_at, uses}
 use Rattle.type_defs.proofs.FunctionTypeLemmas.{all-more}
 use Rattle.type_defs.proofs.UsedLemmas.{used_is}
 use Rattle.gen_accept.specs.declared.opts.Opts.{Opts}
@@ -40,7 +40,7 @@ use Rattle.gen_accept.specs.Cause.{is_accepted, is_built}
 use Rattle.gen_accept.specs.Emitted.{exported_functions, imported_functions}
 use Rattle.gen_accept.specs.TypeOpts.{type_opts}
 use Rattle.gen_accept.proofs.CauseLemmas.{accepted-declares, accepted-shallow}
-use Rattle.gen_accept.proofs.DeclaredLemmas.{distinct_fields, distinct_types}
+use Rattle.gen_accept.proofs.DeclaredLemmas.{distinct_fields, distinct_members, distinct_types}
 use Rattle.gen_accept.proofs.FunctionLemmas.{exports-within, imports-within, param-types-below, result-below}
 use Rattle.gen_accept.proofs.ListedNameLemmas.{all-contained, covers, functions-covered, listed-is-named, named-definition}
 use Rattle.gen_accept.proofs.RootLemmas.{OfFunction, function-types-pass, of-export, of-import}
@@ -50,6 +50,8 @@ defined-kind : (kind : TypeDefKind) → is_built_kind kind ≡ true → is_defin
 defined-kind (kind.Alias ty) h = refl
 defined-kind (kind.Record fields) h = refl
 defined-kind (kind.Tuple members) h = refl
+defined-kind (kind.Enum cases) h = refl
+defined-kind (kind.Flags members) h = h
 defined-kind _ h = absurd (cc)
 
 defined-kinds : (types : List TypeDef) → list_all (λ t. is_built_kind t.kind) types ≡ true → are_defined_kinds types ≡ true
@@ -65,6 +67,8 @@ unfolding parts
 defined-parts (kind.Alias ty) h = and_from (is_defined_type ty) true h refl
 defined-parts (kind.Record fields) h = list_all-map is_defined_part (λ f. Some f.ty) fields ∙ h
 defined-parts (kind.Tuple members) h = list_all-map is_defined_part (λ ty. Some ty) members ∙ h
+defined-parts (kind.Enum cases) h = refl
+defined-parts (kind.Flags members) h = refl
 defined-parts _ h = absurd (cc)
 
 -- the types of a built world's functions are built
@@ -98,9 +102,11 @@ module _ (opts : Opts) (r : Resolve) (id : WorldId) (world : World) (checked : I
   unfolding is_built are_built_options
   owning = (and_parts _ (is_owning opts.ownership) (and_parts (are_built_tables r) (are_built_options opts) built).1).1
 
-  wants : (type : TypeId) (info : TypeInfo) → Contains (listed_types world) type → IsInfoOf r id type info → (is_used info || opts.generate_unused_types) ≡ true → (uses r world type.0 || opts.generate_unused_types) ≡ true
-  wants type info among facts used =
-      sym (ap (λ b. b || opts.generate_unused_types) (used_is r id world type info (accepted-shallow opts r world accepted) found (listed-is-named opts r id world accepted found type among) facts)) ∙ used
+  wants : (type : TypeId) (entry : TypeDef) (info : TypeInfo) → Contains (listed_types world) type → slice_get r.types type.0 ≡ Some entry → IsInfoOf r id type info → is_wanted (type_opts opts) info entry.kind ≡ true
+      → is_wanted_at (type_opts opts) r world type.0 ≡ true
+  wants type entry info among at facts wanted =
+      ap (λ o. is_always_entry o || (uses r world type.0 || opts.generate_unused_types)) at
+      ∙ sym (ap (λ b. is_always_defined entry.kind || (b || opts.generate_unused_types)) (used_is r id world type info (accepted-shallow opts r world accepted) found (listed-is-named opts r id world accepted found type among) facts)) ∙ wanted
 
   pub definable : AreDefinable (type_opts opts) r id world
   definable = record {
@@ -116,8 +122,9 @@ module _ (opts : Opts) (r : Resolve) (id : WorldId) (world : World) (checked : I
         (function-types-pass (is_covered r.types (listed_types world) 100) r world built-world (functions-covered opts r id world accepted found)) among);
     apart = distinct_types opts r world (accepted-declares opts r world accepted);
     fields = distinct_fields opts r world (accepted-declares opts r world accepted);
+    members = distinct_members opts r world (accepted-declares opts r world accepted);
     within = listed-within r id.0 world checked found;
-    named = λ type info among facts used. named-definition opts r id world accepted found type among (wants type info among facts used);
+    named = λ type entry info among at facts wanted. named-definition opts r id world accepted found type among (wants type entry info among at facts wanted);
   }
 
   -- the types of its functions

@@ -19,8 +19,8 @@ use Rattle.gen_accept.specs.declared.declared.Space.{Space}
 use Rattle.gen_accept.specs.declared.declared.Space.TheVariants.{Types, Values, Macros}
 use Rattle.gen_accept.specs.declared.error.Clash.{Clash}
 use Rattle.gen_accept.specs.Clash.{clash_behind, clash_in, first_clash, is_name, is_same, is_same_space, space}
-use Rattle.gen_accept.specs.DeclaredNames.{all_declared, among_types, area_idents, area_type_idents, declared, declared_names, declares_well, export_ident, field_scope, macro_idents, module_scope, param_idents, param_scope, return_names, runtime_ident, trait_idents, trait_scope, where_exported}
-use Rattle.type_defs.specs.PrintedTypes.{field_names, type_name}
+use Rattle.gen_accept.specs.DeclaredNames.{all_declared, among_types, area_idents, area_type_idents, declared, declared_names, declares_well, export_ident, field_scope, macro_idents, member_scope, module_scope, outside_idents, param_idents, param_scope, return_names, runtime_ident, trait_idents, trait_scope, where_exported}
+use Rattle.type_defs.specs.PrintedTypes.{field_names, member_names, type_name}
 use Rattle.type_defs.specs.Used.{defined_types}
 use Rattle.gen_accept.specs.declared.opts.Opts.{Opts}
 use Rattle.gen_accept.specs.TypeOpts.{type_opts}
@@ -187,6 +187,12 @@ fields-all (t ∷ types) h =
     let parts = neither (clash_in (field_scope t)) (first_clash (map field_scope types)) h in
     and_from _ _ (sym (texts-all (field_names t.kind)) ∙ all-idents (field_scope t) [] (field_scope t).names parts.0) (fields-all types parts.1)
 
+members-all : (types : List TypeDef) → first_clash (map member_scope types) ≡ None → list_all (λ t. list_all is_ident (member_names t.kind)) types ≡ true
+members-all [] h = refl
+members-all (t ∷ types) h =
+    let parts = neither (clash_in (member_scope t)) (first_clash (map member_scope types)) h in
+    and_from _ _ (sym (texts-all (member_names t.kind)) ∙ all-idents (member_scope t) [] (member_scope t).names parts.0) (members-all types parts.1)
+
 texts-values : (names : List Bytes) → names_in Values (all_declared Value names) ≡ names
 texts-values [] = refl
 texts-values (n ∷ names) = ap (λ ns. n ∷ ns) (texts-values names)
@@ -200,6 +206,12 @@ fields-distinct [] h = refl
 fields-distinct (t ∷ types) h =
     let parts = neither (clash_in (field_scope t)) (first_clash (map field_scope types)) h in
     and_from _ _ (ap is_distinct (sym (texts-values (field_names t.kind))) ∙ distinct_in (field_scope t) Values [] (field_scope t).names parts.0) (fields-distinct types parts.1)
+
+members-distinct : (types : List TypeDef) → first_clash (map member_scope types) ≡ None → list_all (λ t. is_distinct (member_names t.kind)) types ≡ true
+members-distinct [] h = refl
+members-distinct (t ∷ types) h =
+    let parts = neither (clash_in (member_scope t)) (first_clash (map member_scope types)) h in
+    and_from _ _ (ap is_distinct (sym (texts-values (member_names t.kind))) ∙ distinct_in (member_scope t) Values [] (member_scope t).names parts.0) (members-distinct types parts.1)
 
 is-none : {A : Type 0} (o : Option A) → is_none o ≡ true → o ≡ None
 is-none None h = refl
@@ -218,15 +230,19 @@ module _ (opts : Opts) (r : Resolve) (world : World) (h : declares_well opts r w
   abbrev root : NameScope
   root = module_scope r.types world defined imports exports
 
+  abbrev of_functions : List NameScope
+  of_functions = trait_scope exports ∷ map param_scope imports ++ map param_scope exports
+
   scopes-clear : (clash_in root ≡ None) × (first_clash (map field_scope defined) ≡ None) × (clash_in (trait_scope exports) ≡ None) × (first_clash (map param_scope imports) ≡ None)
-      × (first_clash (map param_scope exports) ≡ None)
+      × (first_clash (map param_scope exports) ≡ None) × (first_clash (map member_scope defined) ≡ None)
   unfolding declares_well
   scopes-clear =
-      let all = neither (clash_in root) (first_clash (map field_scope defined ++ (trait_scope exports ∷ map param_scope imports ++ map param_scope exports))) (is-none (first_clash (declared_names opts r world)) h) in
-      let inner = no-clash (map field_scope defined) (trait_scope exports ∷ map param_scope imports ++ map param_scope exports) all.1 in
-      let functions = neither (clash_in (trait_scope exports)) (first_clash (map param_scope imports ++ map param_scope exports)) inner.1 in
+      let all = neither (clash_in root) (first_clash (map field_scope defined ++ (map member_scope defined ++ of_functions))) (is-none (first_clash (declared_names opts r world)) h) in
+      let inner = no-clash (map field_scope defined) (map member_scope defined ++ of_functions) all.1 in
+      let behind = no-clash (map member_scope defined) of_functions inner.1 in
+      let functions = neither (clash_in (trait_scope exports)) (first_clash (map param_scope imports ++ map param_scope exports)) behind.1 in
       let params = no-clash (map param_scope imports) (map param_scope exports) functions.1 in
-      (all.0, inner.0, functions.0, params.0, params.1)
+      (all.0, inner.0, functions.0, params.0, params.1, behind.0)
 
   abbrev macros : List Declared
   macros = all_declared Macro (where_exported exports (macro_idents world))
@@ -239,7 +255,8 @@ module _ (opts : Opts) (r : Resolve) (world : World) (h : declares_well opts r w
 
   abbrev behind_types : List Declared
   behind_types =
-      all_declared Type_ (trait_idents exports) ++ (all_declared Type_ (area_type_idents r.types imports exports) ++ (map (λ f. declared Value (rust_ident f.name)) imports ++ behind_imports))
+      all_declared Type_ (trait_idents exports) ++ (all_declared Type_ (area_type_idents r.types imports exports)
+      ++ (all_declared Type_ (outside_idents defined) ++ (map (λ f. declared Value (rust_ident f.name)) imports ++ behind_imports)))
 
   -- the types of the world, behind the module of runtime items
   root-types : (between : List Declared) × NoneClashes root between (all_declared WorldType (map type_name defined)) × ((later : List Declared) × NoneClashes root later behind_types)
@@ -252,7 +269,8 @@ module _ (opts : Opts) (r : Resolve) (world : World) (h : declares_well opts r w
   root-values : (between : List Declared) × NoneClashes root between (map (λ f. declared Value (rust_ident f.name)) imports ++ behind_imports)
   root-values =
       let b = in-parts root root-types.2.0 (all_declared Type_ (trait_idents exports)) _ root-types.2.1 in
-      (in-parts root b.1.0 (all_declared Type_ (area_type_idents r.types imports exports)) _ b.1.1).1
+      let c = in-parts root b.1.0 (all_declared Type_ (area_type_idents r.types imports exports)) _ b.1.1 in
+      (in-parts root c.1.0 (all_declared Type_ (outside_idents defined)) _ c.1.1).1
 
   values-of-imports : NoneClashes root root-values.0 (map (λ f. declared Value (rust_ident f.name)) imports) × ((between : List Declared) × NoneClashes root between behind_imports)
   values-of-imports = in-parts root root-values.0 (map (λ f. declared Value (rust_ident f.name)) imports) behind_imports root-values.1
@@ -266,11 +284,17 @@ module _ (opts : Opts) (r : Resolve) (world : World) (h : declares_well opts r w
   pub field_idents : list_all (λ t. list_all is_ident (field_names t.kind)) defined ≡ true
   field_idents = fields-all defined scopes-clear.1
 
+  pub member_idents : list_all (λ t. list_all is_ident (member_names t.kind)) defined ≡ true
+  member_idents = members-all defined scopes-clear.5
+
   pub distinct_types : is_distinct (map type_name defined) ≡ true
   distinct_types = ap is_distinct (sym (types-in (map type_name defined))) ∙ distinct_in root Types root-types.0 _ root-types.1
 
   pub distinct_fields : list_all (λ t. is_distinct (field_names t.kind)) defined ≡ true
   distinct_fields = fields-distinct defined scopes-clear.1
+
+  pub distinct_members : list_all (λ t. is_distinct (member_names t.kind)) defined ≡ true
+  distinct_members = members-distinct defined scopes-clear.5
 
   pub import_idents : list_all (λ f. is_ident (rust_ident f.name)) imports ≡ true
   import_idents = sym (declared-all (λ f. rust_ident f.name) imports) ∙ all-idents root root-values.0 _ values-of-imports.0

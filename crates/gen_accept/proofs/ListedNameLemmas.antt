@@ -17,7 +17,7 @@ use Rattle.wit_model.specs.declared.types.WitType.TheVariants.{Id}
 use Rattle.wit_model.specs.Reaches.{Reaches}
 use Rattle.type_facts.specs.Facts.{IsNamed}
 use Rattle.type_defs.specs.FunctionTypes.{functions_pass}
-use Rattle.type_defs.specs.Used.{Covers, defined_ids, defined_types, function_types, uses}
+use Rattle.type_defs.specs.Used.{Covers, defined_ids, defined_types, function_types, is_always_entry, is_wanted_at, uses}
 use Rattle.wit_model.specs.declared.world.World.{World}
 use Rattle.rust_tree.specs.Ident.{is_ident, is_type_name, rust_ident}
 use Rattle.gen_accept.specs.declared.opts.Opts.{Opts}
@@ -29,12 +29,12 @@ use Rattle.type_defs.specs.Levels.{are_shallow}
 use Rattle.type_defs.specs.Listing.{are_listed, is_covered, keeps_listing, lists, may_list}
 use Rattle.gen_accept.specs.NameText.{are_written_members, are_written_tables, is_written_package, is_written_type, is_written_type_name, is_written_world}
 use Rattle.type_defs.specs.WitForm.{is_wit_form}
-use Rattle.type_defs.specs.PrintedTypes.{entry_at, entry_or_none, field_names, name_or_none, type_name}
+use Rattle.type_defs.specs.PrintedTypes.{entry_at, entry_or_none, field_names, member_names, name_or_none, type_name}
 use Rattle.wit_model.proofs.AllLemmas.{all_at}
-use Rattle.gen_accept.proofs.DeclaredLemmas.{field_idents, type_idents}
+use Rattle.gen_accept.proofs.DeclaredLemmas.{field_idents, member_idents, type_idents}
 use Rattle.type_defs.proofs.ListingLemmas.{listed-reached, world-listing}
 use Rattle.type_defs.proofs.UsedLemmas.{reached_from, reached_uses, shallow_low, uses_reached}
-use Rattle.type_defs.proofs.UsedTypeLemmas.{listed-named}
+use Rattle.type_defs.proofs.UsedTypeLemmas.{listed-named, reaches-alone}
 use Rattle.gen_accept.proofs.CauseLemmas.{accepted-declares, accepted-listed, accepted-shallow, accepted-written}
 use Rattle.type_defs.specs.DefinedNames.{IsNamedDefinition, are_named_parts}
 
@@ -66,9 +66,11 @@ both-all p q (x ∷ xs) h g =
     let b = and_parts (q x) (list_all q xs) g in
     and_from _ _ (and_from _ _ a.0 b.0) (both-all p q xs a.1 b.1)
 
-pub named-parts : (k : TypeDefKind) → list_all is_ident (field_names k) ≡ true → are_written_members k ≡ true → are_named_parts k ≡ true
-named-parts (kind.Record fields) h g = both-all (λ f. is_ident (rust_ident f.name)) (λ f. is_wit_form f.name.wit) fields (sym (list_all-map is_ident (λ f. rust_ident f.name) fields) ∙ h) g
-named-parts _ h g = refl
+pub named-parts : (k : TypeDefKind) → list_all is_ident (field_names k) ≡ true → list_all is_ident (member_names k) ≡ true → are_written_members k ≡ true → are_named_parts k ≡ true
+named-parts (kind.Record fields) h m g = both-all (λ f. is_ident (rust_ident f.name)) (λ f. is_wit_form f.name.wit) fields (sym (list_all-map is_ident (λ f. rust_ident f.name) fields) ∙ h) g
+named-parts (kind.Enum cases) h m g = both-all (λ c. is_ident c.name.camel) (λ c. is_wit_form c.name.wit) cases (sym (list_all-map is_ident (λ c. c.name.camel) cases) ∙ m) g
+named-parts (kind.Flags members) h m g = sym (list_all-map is_ident (λ m. m.name.upper) members) ∙ m
+named-parts _ h m g = refl
 
 contained-lists : (listed : List TypeId) (id : TypeId) → Contains listed id → lists listed id.0 ≡ true
 contained-lists [] id (k, below, e) = absurd (omega arith)
@@ -98,7 +100,7 @@ module _ (opts : Opts) (r : Resolve) (id : WorldId) (world : World) (accepted : 
   listed = listed_types world
 
   abbrev wanted : ℕ → Bool
-  wanted n = uses r world n || opts.generate_unused_types
+  wanted n = is_wanted_at (type_opts opts) r world n
 
   abbrev defined : List TypeId
   defined = defined_ids (type_opts opts) r world
@@ -137,15 +139,22 @@ module _ (opts : Opts) (r : Resolve) (id : WorldId) (world : World) (accepted : 
   pub listed-is-named : (type : TypeId) → Contains listed type → IsNamed r.types type
   listed-is-named type among = let at = contained listed type among in listed-named r id.0 world (accepted-listed opts r world accepted) found at.0 type at.1
 
-  -- what a type that is defined reaches is asked for or used too
+  -- what a type that is defined reaches is defined too
   wanted-reached : (type part : TypeId) → wanted type.0 ≡ true → Reaches r.types (Id type) (Id part) → wanted part.0 ≡ true
-  wanted-reached type part want reaches = go (uses r world type.0) refl want
+  wanted-reached type part want reaches = kinds (is_always_entry (slice_get r.types type.0)) refl want
     where
-      go : (b : Bool) → uses r world type.0 ≡ b → (uses r world type.0 || opts.generate_unused_types) ≡ true → wanted part.0 ≡ true
+      asked : Bool
+      asked = uses r world part.0 || opts.generate_unused_types
+
+      go : (b : Bool) → uses r world type.0 ≡ b → (uses r world type.0 || opts.generate_unused_types) ≡ true → asked ≡ true
       go true e w =
           or_left (uses r world part.0) opts.generate_unused_types
           (reached_uses r world part shallow (reached_from r.types (function_types r world) (Id type) (Id part) (uses_reached r world type shallow e) reaches))
       go false e w = or_right (uses r world part.0) opts.generate_unused_types (sym (ap (λ b. b || opts.generate_unused_types) e) ∙ w)
+
+      kinds : (b : Bool) → is_always_entry (slice_get r.types type.0) ≡ b → wanted type.0 ≡ true → wanted part.0 ≡ true
+      kinds true e w = ap wanted (reaches-alone r.types type part e reaches) ∙ w
+      kinds false e w = or_right (is_always_entry (slice_get r.types part.0)) asked (go (uses r world type.0) refl (sym (ap (λ b. b || (uses r world type.0 || opts.generate_unused_types)) e) ∙ w))
 
   -- what all defined types pass each of them passes
   defined-passes : (test : TypeDef → Bool) → list_all test (defined_types (type_opts opts) r world) ≡ true → (part : TypeId) (entry : TypeDef) → lists listed part.0 ≡ true → wanted part.0 ≡ true
@@ -157,11 +166,13 @@ module _ (opts : Opts) (r : Resolve) (id : WorldId) (world : World) (accepted : 
   named-definition type among want =
       let names = sym (list_all-map is_type_name type_name (defined_types (type_opts opts) r world)) ∙ type_idents opts r world declares in
       let fields = field_idents opts r world declares in
+      let members = member_idents opts r world declares in
       record {
         reached = λ part entry name reaches there named.
             let l = listed-reached r.types listed 100 part entry (shallow_low r.types (Id type) shallow) (listed-covered type among) reaches there (ap is_none named) in
             ap (λ o. is_type_name (name_or_none o)) (sym named) ∙ defined-passes (λ t. is_type_name (type_name t)) names part entry l (wanted-reached type part want reaches) there;
         parts = λ entry there.
             named-parts entry.kind (defined-passes (λ t. list_all is_ident (field_names t.kind)) fields type entry (contained-lists listed type among) want there)
+            (defined-passes (λ t. list_all is_ident (member_names t.kind)) members type entry (contained-lists listed type among) want there)
             (and_parts (is_written_type_name entry.name) (are_written_members entry.kind) (all_at is_written_type r.types type.0 entry types-written there)).1;
       }

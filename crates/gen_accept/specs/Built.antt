@@ -1,5 +1,5 @@
 -- Which tables and options hold only what the generator builds so far.
-use Rattle.std.specs.Prelude.{Bool, true, false, not, ◌&&◌, ◌==◌, List, [], ◌∷◌, is_none}
+use Rattle.std.specs.Prelude.{Bool, true, false, not, ◌&&◌, ◌==◌, nat_le, List, [], ◌∷◌, length, is_none}
 use Rattle.std.specs.List.{list_all}
 use Rattle.wit_model.specs.declared.types.TypeDefKind.{TypeDefKind}
 use Rattle.wit_model.specs.declared.types.TypeDefKind.TheVariants as sort
@@ -50,11 +50,13 @@ is_built_world world =
     list_all (λ entry. is_built_item entry.1) world.imports && list_all (λ entry. is_built_item entry.1) world.exports
     && list_all (λ entry. is_under_itself entry.0 entry.1) world.imports && list_all (λ entry. is_no_type entry.1) world.exports
 
--- a type that the table may have: an alias, a record or a tuple
+-- a type that the table may have: an alias, a record, a tuple, an enum, or flags of which there are 128 at most
 abbrev pub is_built_kind : TypeDefKind → Bool
 is_built_kind (sort.Alias ty) = is_defined_type ty
 is_built_kind (sort.Tuple members) = list_all is_defined_type members
 is_built_kind (sort.Record fields) = list_all (λ f. is_defined_type f.ty) fields
+is_built_kind (sort.Enum _) = true
+is_built_kind (sort.Flags members) = nat_le (length members) 128
 is_built_kind _ = false
 
 unfoldable pub are_built_tables : Resolve → Bool

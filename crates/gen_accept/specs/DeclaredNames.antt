@@ -17,7 +17,9 @@ use Rattle.gen_accept.specs.declared.opts.Opts.{Opts}
 use Rattle.gen_accept.specs.Clash.{first_clash}
 use Rattle.gen_accept.specs.Emitted.{exported_functions, imported_functions}
 use Rattle.gen_accept.specs.TypeOpts.{type_opts}
-use Rattle.type_defs.specs.PrintedTypes.{field_names, type_name}
+use Rattle.type_defs.specs.FlagsDef.{is_flags_kind}
+use Rattle.type_defs.specs.Paths.{runtime_crate}
+use Rattle.type_defs.specs.PrintedTypes.{field_names, member_names, type_name}
 use Rattle.type_defs.specs.Used.{defined_types}
 
 abbrev pub declared : Sort → Bytes → Declared
@@ -57,6 +59,13 @@ area_type_ident = codes "_RetArea"
 -- the type of an area, where the root or a body in it has one
 abbrev pub area_type_idents : List TypeDef → List Function → List Function → List Bytes
 area_type_idents types imports exports = if list_any (import_needs_area types) imports || list_any (needs_area types) exports then area_type_ident ∷ [] else []
+
+abbrev pub is_flags : TypeDef → Bool
+is_flags t = is_flags_kind t.kind
+
+-- the first name of the path of flags types, where there is one
+abbrev pub outside_idents : List TypeDef → List Bytes
+outside_idents defined = if list_any is_flags defined then runtime_crate ∷ [] else []
 
 -- the functions of the root, and its static
 
@@ -98,14 +107,19 @@ module_scope types world defined imports exports = record {
   name = [];
   names =
       all_declared Type_ (runtime_ident ∷ []) ++ (all_declared WorldType (map type_name defined) ++ (all_declared Type_ (trait_idents exports)
-      ++ (all_declared Type_ (area_type_idents types imports exports) ++ (map (λ f. declared Value (rust_ident f.name)) imports
-      ++ (flat_map (λ f. among_types (export_ident f)) exports ++ (flat_map (return_names types) exports
-      ++ (all_declared Value (area_idents types exports) ++ all_declared Macro (where_exported exports (macro_idents world)))))))));
+      ++ (all_declared Type_ (area_type_idents types imports exports) ++ (all_declared Type_ (outside_idents defined)
+      ++ (map (λ f. declared Value (rust_ident f.name)) imports ++ (flat_map (λ f. among_types (export_ident f)) exports
+      ++ (flat_map (return_names types) exports ++ (all_declared Value (area_idents types exports)
+      ++ all_declared Macro (where_exported exports (macro_idents world))))))))));
 }
 
 -- the fields of a record
 abbrev pub field_scope : TypeDef → NameScope
 field_scope t = record { name = type_name t; names = all_declared Value (field_names t.kind) }
+
+-- the cases of an enum, or the members of a flags type
+abbrev pub member_scope : TypeDef → NameScope
+member_scope t = record { name = type_name t; names = all_declared Value (member_names t.kind) }
 
 -- the functions of the trait
 abbrev pub trait_scope : List Function → NameScope
@@ -122,8 +136,8 @@ param_scope f = record { name = rust_ident f.name; names = map (λ p. declared V
 abbrev pub scopes_of : List TypeDef → World → (defined : List TypeDef) → List NameScope
 scopes_of types world defined =
     module_scope types world defined (imported_functions world) (exported_functions world)
-    ∷ map field_scope defined ++ (trait_scope (exported_functions world)
-    ∷ map param_scope (imported_functions world) ++ map param_scope (exported_functions world))
+    ∷ map field_scope defined ++ (map member_scope defined ++ (trait_scope (exported_functions world)
+    ∷ map param_scope (imported_functions world) ++ map param_scope (exported_functions world)))
 
 abbrev pub declared_names : Opts → Resolve → World → List NameScope
 declared_names opts r world = scopes_of r.types world (defined_types (type_opts opts) r world)

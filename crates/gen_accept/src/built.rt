@@ -141,6 +141,8 @@ fn is_built_kind(kind: &TypeDefKind) -> bool
         TypeDefKind::Alias(ty) => is_defined_type(*ty),
         TypeDefKind::Tuple(members) => are_built_parts(members.as_slice()),
         TypeDefKind::Record(fields) => are_built_fields(fields.as_slice()),
+        TypeDefKind::Enum(_) => true,
+        TypeDefKind::Flags(members) => members.len() <= 128,
         _ => false,
     }
 }
@@ -151,8 +153,8 @@ fn are_built_kinds(types: &[TypeDef]) -> bool
     types.iter().all(|entry| is_built_kind(&entry.kind))
 }
 
-/// Whether the tables hold only worlds of functions over scalars, texts, aliases, records and tuples, and such types, which a
-/// world may import.
+/// Whether the tables hold only worlds of functions, and of types which a world may import: aliases, records, tuples, enums, and
+/// flags types of 128 members at most.
 #[tactic(auto, unfolding(crate::specs::Built::are_built_tables))]
 pub(crate) fn are_built_tables(resolve: &Resolve) -> bool
     ensures { result ≡ are_built_tables resolve.now }

@@ -14,6 +14,7 @@ mod names;
 mod opts;
 mod too_large;
 mod try_copy;
+mod type_scopes;
 
 pub use accept::accepted_world;
 pub use area::{import_needs_area, needs_area, needs_return};

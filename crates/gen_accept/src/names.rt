@@ -1,7 +1,7 @@
 //! Which names the file of a world declares, in the order of the format, and whether functions of one side have distinct names.
 
 ghost use Rattle.std.specs.Prelude.{◌≡◌, ◌∷◌, [], ◌++◌, true, IfOk, IsTrue, OnOk, Some, map, slice_get};
-ghost use Rattle.std.specs.List.{flat_map, list_all};
+ghost use Rattle.std.specs.List.{flat_map, list_all, list_any};
 ghost use Rattle.wit_model.specs.IndexRange.{function_in_range};
 ghost use Rattle.wit_model.specs.WellFormed.{IsWellFormed};
 ghost use Rattle.rust_tree.specs.Ident.{rust_ident};
@@ -9,20 +9,21 @@ ghost use Rattle.type_defs.specs.Levels.{are_shallow};
 ghost use Rattle.type_defs.specs.Listing.{are_listed_well};
 ghost use Rattle.gen_accept.specs.InRange.{AreInRange};
 ghost use Rattle.gen_accept.specs.declared.declared.Sort.TheVariants.{Macro, Type_, Value, WorldType};
-ghost use Rattle.gen_accept.specs.DeclaredNames.{all_declared, among_types, are_distinct_functions, area_idents, area_type_idents, declared, declared_names, field_scope, export_ident, has_distinct_names, macro_idents, module_scope, param_scope, return_names, return_prefix, runtime_ident, scopes_of, trait_idents, trait_scope, where_exported};
+ghost use Rattle.gen_accept.specs.DeclaredNames.{all_declared, among_types, are_distinct_functions, area_idents, area_type_idents, declared, declared_names, export_ident, has_distinct_names, is_flags, macro_idents, module_scope, outside_idents, param_scope, return_names, return_prefix, runtime_ident, scopes_of, trait_idents, trait_scope, where_exported};
 ghost use Rattle.gen_accept.specs.Emitted as emitted;
-ghost use Rattle.type_defs.specs.PrintedTypes.{field_names, type_name};
+ghost use Rattle.type_defs.specs.PrintedTypes.{type_name};
 
 use crate::area::{any_needs_area, needs_return};
 use crate::declared::{Declared, NameScope, Sort};
 use crate::emitted::functions_in;
 use crate::opts::Opts;
+use crate::type_scopes::{push_field_scopes, push_member_scopes};
 use rust_tree::to_rust_ident;
 use std::alloc::Global;
 use type_defs::{defined_types, type_name};
 use wit_layout::AbiVariant;
 use wit_model::{
-    Field, Function, List, OutOfMemory, Param, Resolve, Text, TypeDef, TypeDefKind, World, WorldId,
+    Function, List, OutOfMemory, Param, Resolve, Text, TypeDef, TypeDefKind, World, WorldId,
     WorldItem, WorldKey, are_distinct,
 };
 
@@ -254,6 +255,40 @@ fn declare_area_type(
     }
 }
 
+fn is_flags(entry: &TypeDef) -> bool
+    ensures { result ≡ is_flags entry.now }
+{
+    matches!(entry.kind, TypeDefKind::Flags(_))
+}
+
+fn has_flags(defined: &[&TypeDef]) -> bool
+    ensures { result ≡ list_any is_flags (map (λ t. t.now) defined.now) }
+{
+    for entry in defined {
+        if is_flags(entry) {
+            return true;
+        }
+    }
+    false
+}
+
+/// The crate of the runtime, by which flags types are written.
+#[tactic(auto, unfolding(type_defs::specs::Paths::runtime_crate))]
+fn declare_outside(
+    alloc: Global,
+    names: &mut List<Declared>,
+    defined: &[&TypeDef],
+) -> Result<(), OutOfMemory>
+    ensures { OnOk result
+        (names.new ≡ names.old ++ all_declared Type_ (outside_idents (map (λ t. t.now) defined.now))) }
+{
+    if has_flags(defined) {
+        declare_all(alloc, names, Sort::Type_, &["wit_bindgen"])
+    } else {
+        Ok(())
+    }
+}
+
 #[tactic(auto, unfolding(crate::specs::DeclaredNames::area_ident))]
 fn declare_area(
     alloc: Global,
@@ -355,6 +390,7 @@ fn module_scope(
     declare_types(alloc, &mut names, defined)?;
     declare_trait(alloc, &mut names, exports)?;
     declare_area_type(alloc, &mut names, resolve, imports, exports)?;
+    declare_outside(alloc, &mut names, defined)?;
     declare_functions(alloc, &mut names, imports)?;
     declare_exports(alloc, &mut names, exports)?;
     declare_returns(alloc, &mut names, resolve, exports)?;
@@ -364,61 +400,6 @@ fn module_scope(
         name: Text::new(alloc),
         names,
     })
-}
-
-fn declare_fields(
-    alloc: Global,
-    names: &mut List<Declared>,
-    fields: &[Field],
-) -> Result<(), OutOfMemory>
-    ensures { OnOk result
-        (names.new ≡ names.old ++ all_declared Value (map (λ f. rust_ident f.name) fields.now)) }
-{
-    for field in fields {
-        names.push(Declared {
-            sort: Sort::Value,
-            name: to_rust_ident(alloc, &field.name)?,
-        })?;
-    }
-    Ok(())
-}
-
-fn declare_members(
-    alloc: Global,
-    names: &mut List<Declared>,
-    kind: &TypeDefKind,
-) -> Result<(), OutOfMemory>
-    ensures { OnOk result (names.new ≡ names.old ++ all_declared Value (field_names kind.now)) }
-{
-    match kind {
-        TypeDefKind::Record(fields) => declare_fields(alloc, names, fields.as_slice()),
-        _ => Ok(()),
-    }
-}
-
-fn field_scope(alloc: Global, entry: &TypeDef) -> Result<NameScope, OutOfMemory>
-    ensures { IfOk result (λ scope. scope ≡ field_scope entry.now) }
-{
-    let mut names = List::new(alloc);
-    declare_members(alloc, &mut names, &entry.kind)?;
-    Ok(NameScope {
-        name: type_name(alloc, entry)?,
-        names,
-    })
-}
-
-fn push_field_scopes(
-    alloc: Global,
-    scopes: &mut List<NameScope>,
-    defined: &[&TypeDef],
-) -> Result<(), OutOfMemory>
-    ensures { OnOk result
-        (scopes.new ≡ scopes.old ++ map field_scope (map (λ t. t.now) defined.now)) }
-{
-    for entry in defined {
-        scopes.push(field_scope(alloc, entry)?)?;
-    }
-    Ok(())
 }
 
 #[tactic(auto, unfolding(crate::specs::DeclaredNames::guest_name))]
@@ -487,14 +468,15 @@ fn scopes_of(
         exports.as_slice(),
     )?)?;
     push_field_scopes(alloc, &mut scopes, defined)?;
+    push_member_scopes(alloc, &mut scopes, defined)?;
     scopes.push(trait_scope(alloc, exports.as_slice())?)?;
     push_param_scopes(alloc, &mut scopes, imports.as_slice())?;
     push_param_scopes(alloc, &mut scopes, exports.as_slice())?;
     Ok(scopes)
 }
 
-/// The names that the file of a world declares, scope by scope: the root's, the fields of each record, the trait's, and
-/// the parameters of each function.
+/// The names that the file of a world declares, scope by scope: the root's, the fields of each record, the members of
+/// each enum and flags type, the trait's, and the parameters of each function.
 pub(crate) fn declared_names(
     alloc: Global,
     opts: &Opts,

@@ -53,7 +53,7 @@ use Rattle.wrapper_faithful.specs.Resources.{Resources}
 use Rattle.wrapper_faithful.specs.Returned.{IsReturned, IsUnreturned, Returns}
 use Rattle.func_gen.specs.Meaning as bodies
 use Rattle.func_gen.specs.Meaning.{GivesAsCalled, method}
-use Rattle.func_gen.specs.Records.{AreDefined}
+use Rattle.func_gen.specs.TypeSites.{AreDefined}
 use Rattle.func_gen.specs.Sites.{site_names}
 use Rattle.wrapper_closing.specs.ClosedExport.{SharesArea, export_file}
 use Rattle.wrapper_closing.specs.ClosedImport.{AnswersAs}
@@ -74,11 +74,11 @@ use Rattle.wrapper_closing.proofs.PrintedAnswers.{printed_params_pass, printed_r
 use Rattle.wrapper_closing.proofs.ReturnedFrees.{unlisted_is_unreturned}
 use Rattle.wrapper_closing.proofs.SharedArea.{shared_sized}
 use Rattle.type_sites.specs.PrintedLaws.{AreSites}
-use Rattle.type_sites.specs.Sites.{record_sites}
+use Rattle.type_sites.specs.Sites.{type_sites}
 use Rattle.type_defs.specs.Used.{UsesTypes}
-use Rattle.type_sites.proofs.RecordsDefined.{records-are-defined}
+use Rattle.type_sites.proofs.SitesDefined.{sites-are-defined}
 use Rattle.type_sites.proofs.WorldTypes.{params-are-direct, params-are-printed, results-are-direct, results-are-printed}
-use Rattle.func_gen.specs.declared.record_site.RecordSite.{RecordSite}
+use Rattle.func_gen.specs.declared.type_site.TypeSite.{TypeSite}
 use Rattle.gen_accept.specs.TypeOpts.{type_opts}
 use Rattle.rust_gen.specs.Body.{ArePartsWritten, IsExportWritten, IsReturnWritten, IsWritten, ReturnWritten, import_site}
 use Rattle.rust_gen.specs.Bound.{Binds, Parts, area_items, areas_of, export_items, file_area, own_items}
@@ -119,11 +119,11 @@ nonempty : {A : Type 0} (xs : List A) (nth : ℕ) (x : A) → slice_get xs nth �
 nonempty [] nth x e = absurd (cc)
 nonempty (y ∷ ys) nth x e = (y, ys, refl)
 
-bases-are : (types : List TypeDef) (records : List (Option RecordSite)) (fs : List Function) (es : List Parts) → AllZip (ArePartsWritten types records) fs es → map (λ e. e.0.base) es ≡ map (λ f. f.name.snake) fs
-bases-are types records [] [] z = refl
-bases-are types records [] (e ∷ es) z = absurd z
-bases-are types records (f ∷ fs) [] z = absurd z
-bases-are types records (f ∷ fs) (e ∷ es) z = ap (λ b. b ∷ map (λ e. e.0.base) es) z.0.0.made.outside.base ∙ ap (λ bs. f.name.snake ∷ bs) (bases-are types records fs es z.1)
+bases-are : (types : List TypeDef) (sites : List (Option TypeSite)) (fs : List Function) (es : List Parts) → AllZip (ArePartsWritten types sites) fs es → map (λ e. e.0.base) es ≡ map (λ f. f.name.snake) fs
+bases-are types sites [] [] z = refl
+bases-are types sites [] (e ∷ es) z = absurd z
+bases-are types sites (f ∷ fs) [] z = absurd z
+bases-are types sites (f ∷ fs) (e ∷ es) z = ap (λ b. b ∷ map (λ e. e.0.base) es) z.0.0.made.outside.base ∙ ap (λ bs. f.name.snake ∷ bs) (bases-are types sites fs es z.1)
 
 -- the functions of a world that is accepted
 
@@ -223,7 +223,7 @@ no_places m (item.Area a ∷ items) = no_places (m + 1) items
 no_places m (item.Type t ∷ items) = no_places (m + 1) items
 
 module _ (opts : Opts) (resolve : Resolve) (id : WorldId) (world : World) (known : IsKnown opts resolve id world) (well : is_well_named opts resolve world ≡ true) (tree : Tree)
-    (b : Binds (IsWritten resolve.types (record_sites resolve world)) (ArePartsWritten resolve.types (record_sites resolve world)) opts resolve id world tree) where
+    (b : Binds (IsWritten resolve.types (type_sites resolve world)) (ArePartsWritten resolve.types (type_sites resolve world)) opts resolve id world tree) where
   found : slice_get resolve.worlds id.0 ≡ Some world
   found = known.types.found
 
@@ -237,8 +237,8 @@ module _ (opts : Opts) (resolve : Resolve) (id : WorldId) (world : World) (known
   abbrev types : List TypeDef
   types = resolve.types
 
-  abbrev records : List (Option RecordSite)
-  records = record_sites resolve world
+  abbrev sites : List (Option TypeSite)
+  sites = type_sites resolve world
 
   abbrev ws : List FnItem
   ws = b.items.wrappers
@@ -263,10 +263,10 @@ module _ (opts : Opts) (resolve : Resolve) (id : WorldId) (world : World) (known
   qs = places_from 0 world.exports
 
   as_many : length ps ≡ length ws
-  as_many = length-places_from 0 world.imports ∙ sym (AllZip-long (IsWritten types records) (imported_functions world) ws b.items.wraps)
+  as_many = length-places_from 0 world.imports ∙ sym (AllZip-long (IsWritten types sites) (imported_functions world) ws b.items.wraps)
 
   as_many_exports : length qs ≡ length es
-  as_many_exports = length-places_from 0 world.exports ∙ sym (AllZip-long (ArePartsWritten types records) fs es b.items.exported)
+  as_many_exports = length-places_from 0 world.exports ∙ sym (AllZip-long (ArePartsWritten types sites) fs es b.items.exported)
 
   abbrev ts : List TypeItem
   ts = b.items.types
@@ -293,16 +293,16 @@ module _ (opts : Opts) (resolve : Resolve) (id : WorldId) (world : World) (known
 
   -- 1. Its types
 
-  sites : AreSites (type_opts opts) resolve id world ts
-  sites = record { definable = known.types; names = known.names; are = b.items.defined }
+  are-sites : AreSites (type_opts opts) resolve id world ts
+  are-sites = record { definable = known.types; names = known.names; are = b.items.defined }
 
   result-printed : (f : Function) → UsesTypes resolve world f → IsPrintedResult tree.items (result_shape types f) (printed_result types f.result)
-  result-printed f uses = subst (λ is. IsPrintedResult is (result_shape types f) (printed_result types f.result)) (sym are) (results-are-printed (type_opts opts) resolve id world ts others sites f uses)
+  result-printed f uses = subst (λ is. IsPrintedResult is (result_shape types f) (printed_result types f.result)) (sym are) (results-are-printed (type_opts opts) resolve id world ts others are-sites f uses)
 
   params-printed : (f : Function) → UsesTypes resolve world f → ArePrintedParams tree.items (param_shapes types f) (map (trait_param types) f.params)
   params-printed f uses =
       subst (λ is. ArePrintedParams is (param_shapes types f) (map (trait_param types) f.params)) (sym are)
-      (params-are-printed (type_opts opts) resolve id world ts others sites f uses (map (trait_param types) f.params)
+      (params-are-printed (type_opts opts) resolve id world ts others are-sites f uses (map (trait_param types) f.params)
       (map-map (λ p. p.ty) (trait_param types) f.params ∙ sym (map-map (part_type types) (λ p. p.ty) f.params)))
 
   params-direct : (f : Function) → UsesTypes resolve world f → are_direct (param_shapes types f) ≡ true
@@ -311,8 +311,8 @@ module _ (opts : Opts) (resolve : Resolve) (id : WorldId) (world : World) (known
   result-direct : (f : Function) → UsesTypes resolve world f → is_direct_result (result_shape types f) ≡ true
   result-direct f uses = results-are-direct (type_opts opts) resolve id world known.types f uses
 
-  records-defined : (given : List (Option RecordSite)) → given ≡ records → AreDefined tree.items given
-  records-defined given is = subst (AreDefined tree.items) (sym is) (subst (λ items. AreDefined items records) (sym are) (records-are-defined (type_opts opts) resolve id world ts others known.types b.items.defined))
+  sites-defined : (given : List (Option TypeSite)) → given ≡ sites → AreDefined tree.items given
+  sites-defined given is = subst (AreDefined tree.items) (sym is) (subst (λ items. AreDefined items sites) (sym are) (sites-are-defined (type_opts opts) resolve id world ts others known.types b.items.defined))
 
   -- 2. What its items ask for is found
 
@@ -344,8 +344,8 @@ module _ (opts : Opts) (resolve : Resolve) (id : WorldId) (world : World) (known
       (no_places e.0 behind) ∙ append-nil (on_side false qs))
 
   module _ (nth : ℕ) (f : Function) (e : slice_get (imported_functions world) nth ≡ Some f) where
-    wrapper : (w : FnItem) × (slice_get ws nth ≡ Some w) × IsWritten types records f w
-    wrapper = zip-at (IsWritten types records) (imported_functions world) ws nth f b.items.wraps e
+    wrapper : (w : FnItem) × (slice_get ws nth ≡ Some w) × IsWritten types sites f w
+    wrapper = zip-at (IsWritten types sites) (imported_functions world) ws nth f b.items.wraps e
 
     info : (info : WrapperInfo) × (slice_get (wrappers_of tree) nth ≡ Some info)
     info =
@@ -377,7 +377,7 @@ module _ (opts : Opts) (resolve : Resolve) (id : WorldId) (world : World) (known
               ∙ ap (λ g. map (λ p. p.name) (map import_site g.params)) (sym w.of) ∙ ap (map (λ p. p.name)) (sym code.made_of.params);
           block = code.is;
           runtime = subst (bodies.Found tree.items) code.asks (found-asked tree.items (item.Import wrapper.0) wrapper.2.runtime wrapper.2.sound asks-import);
-          records = records-defined code.parts.records code.made_of.written;
+          sites = sites-defined code.parts.sites code.made_of.written;
           answers =
               subst (λ ty. AnswersAs tree.items ty (result_shape types w.func.now)) (ap (λ g. printed_result types g.result) w.of ∙ sym w.outside.answer)
               (printed_results_answer tree.items (result_shape types w.func.now) (printed_result types w.func.now.result) (result-printed w.func.now uses));
@@ -407,11 +407,11 @@ module _ (opts : Opts) (resolve : Resolve) (id : WorldId) (world : World) (known
       each [] h = tt
       each (f ∷ fs) h = (h 0 f refl, each fs (λ nth g e. h (suc nth) g e))
 
-  needs-all : (fs : List Function) (es : List Parts) → AllZip (ArePartsWritten types records) fs es → NeedAreas (map (result_shape types) fs) (areas_of es)
+  needs-all : (fs : List Function) (es : List Parts) → AllZip (ArePartsWritten types sites) fs es → NeedAreas (map (result_shape types) fs) (areas_of es)
   needs-all [] [] z = tt
   needs-all [] (x ∷ es) z = absurd z
   needs-all (f ∷ fs) [] z = absurd z
-  needs-all (f ∷ fs) (x ∷ es) z = (area-for types records f x.0 x.2 z.0.0, needs-all fs es z.1)
+  needs-all (f ∷ fs) (x ∷ es) z = (area-for types sites f x.0 x.2 z.0.0, needs-all fs es z.1)
 
   area_is : area_in tree.items ≡ area
   area_is = ap area_in are ∙ skip-area ts others ∙ area-found ws es fs fs area (guest_trait types fs) (world_macro types world) asked (file_macro world)
@@ -420,17 +420,17 @@ module _ (opts : Opts) (resolve : Resolve) (id : WorldId) (world : World) (known
     abbrev place : ℕ
     place = length (imported_functions world) + nth
 
-    parts : (x : Parts) × (slice_get es nth ≡ Some x) × ArePartsWritten types records f x
-    parts = zip-at (ArePartsWritten types records) fs es nth f b.items.exported e
+    parts : (x : Parts) × (slice_get es nth ≡ Some x) × ArePartsWritten types sites f x
+    parts = zip-at (ArePartsWritten types sites) fs es nth f b.items.exported e
 
     abbrev export : ExportFn
     export = parts.0.0
 
-    abbrev written : IsExportWritten types records f export parts.0.2
+    abbrev written : IsExportWritten types sites f export parts.0.2
     written = parts.2.0
 
     place_is : place ≡ length ws + nth
-    place_is = ap (λ n. n + nth) (sym (AllZip-long (IsWritten types records) (imported_functions world) ws b.items.wraps))
+    place_is = ap (λ n. n + nth) (sym (AllZip-long (IsWritten types sites) (imported_functions world) ws b.items.wraps))
 
     export-info : (info : WrapperInfo) × (slice_get (wrappers_of tree) place ≡ Some info)
     export-info =
@@ -485,17 +485,17 @@ module _ (opts : Opts) (resolve : Resolve) (id : WorldId) (world : World) (known
       answer = sym written.made.outside.answer;
       named =
           ap (λ base. filter (λ x. bytes_eq x.base base) (exports_in tree.items)) (sym written.made.outside.base)
-          ∙ ap (filter (λ x. bytes_eq x.base export.base)) (ap exports_in are ∙ skip-exports ts others ∙ exports-of_parts ws es behind (no_exports-behind types records area asked world))
-          ∙ alone-named (λ x. x.base) (map (λ x. x.0) es) nth export (ap is_distinct (map-map (λ x. x.base) (λ x. x.0) es ∙ bases-are types records fs es b.items.exported) ∙ distinct-bases opts resolve world named) (get-map (λ x. x.0) es nth parts.0 parts.1);
+          ∙ ap (filter (λ x. bytes_eq x.base export.base)) (ap exports_in are ∙ skip-exports ts others ∙ exports-of_parts ws es behind (no_exports-behind types sites area asked world))
+          ∙ alone-named (λ x. x.base) (map (λ x. x.0) es) nth export (ap is_distinct (map-map (λ x. x.base) (λ x. x.0) es ∙ bases-are types sites fs es b.items.exported) ∙ distinct-bases opts resolve world named) (get-map (λ x. x.0) es nth parts.0 parts.1);
     }
 
     no_returns : post_returns_in behind ≡ []
-    no_returns = no_returns-behind types records area asked world
+    no_returns = no_returns-behind types sites area asked world
 
     post-return-there : post_return_named export.base tree.items ≡ parts.0.1
     post-return-there =
         ap (λ base. post_return_named base tree.items) written.made.outside.base ∙ ap (post_return_named f.name.snake) are ∙ skip-post_return ts others f.name.snake
-        ∙ post_return_named-at types records ws es fs behind nth f parts.0 b.items.exported (distinct-bases opts resolve world named) e parts.1 no_returns
+        ∙ post_return_named-at types sites ws es fs behind nth f parts.0 b.items.exported (distinct-bases opts resolve world named) e parts.1 no_returns
 
     return-at : post_return_at tree place ≡ option_map (λ p. (export-info.0.item.0, p)) parts.0.1
     return-at =
@@ -529,7 +529,7 @@ module _ (opts : Opts) (resolve : Resolve) (id : WorldId) (world : World) (known
 
     -- the post-return function
 
-    abbrev returned-body : (p : PostReturnFn) → parts.0.1 ≡ Some p → (w : IsReturnWritten types records f p) → needs_return types f ≡ true → ClosesPostReturnBody types f w.made.code.parts w.made.code.body tree place
+    abbrev returned-body : (p : PostReturnFn) → parts.0.1 ≡ Some p → (w : IsReturnWritten types sites f p) → needs_return types f ≡ true → ClosesPostReturnBody types f w.made.code.parts w.made.code.body tree place
     returned-body p is w needs = record {
       parted = w.made.code.made_of.are;
       makes = w.made.code.makes;
@@ -541,7 +541,7 @@ module _ (opts : Opts) (resolve : Resolve) (id : WorldId) (world : World) (known
       pinned = ap arg_types w.made.outside.params ∙ types_of_args 0 (result_types (passed types f));
       block = w.made.code.is;
       runtime = subst (bodies.Found tree.items) w.made.code.asks (found-asked tree.items (item.PostReturn p) w.runtime w.sound (found-return tree.items parts.0 p is asked-parts));
-      records = records-defined w.made.code.parts.records w.made.code.made_of.written;
+      sites = sites-defined w.made.code.parts.sites w.made.code.made_of.written;
       sized = shared_sized results (result_shape types f) tree shared;
       result = result-direct f uses-here;
       lists = needs;
@@ -556,7 +556,7 @@ module _ (opts : Opts) (resolve : Resolve) (id : WorldId) (world : World) (known
         Unreturned : Type 0
         Unreturned = IsUnreturned (post_return_name f) tree place (passed types f)
 
-        go : (b : Bool) → needs_return types f ≡ b → ReturnWritten types records b f parts.0.1 → MatchBool b Returned Unreturned
+        go : (b : Bool) → needs_return types f ≡ b → ReturnWritten types sites b f parts.0.1 → MatchBool b Returned Unreturned
         go true needs (p, is, w) =
             post_return_body_is_returned types (post_return_name f) tree place f w.made.code.parts w.made.code.body (returned-body p is w needs) (record {
               entry = return_entry types f;
@@ -565,7 +565,7 @@ module _ (opts : Opts) (resolve : Resolve) (id : WorldId) (world : World) (known
               params = sym w.made.outside.params;
               pinned = ap arg_types w.made.outside.params ∙ types_of_args 0 (result_types (passed types f));
               answer = refl;
-              named = ap (filter (λ x. bytes_eq x.base f.name.snake)) (ap post_returns_in are ∙ skip-post_returns ts others) ∙ post_return-alone types records ws es fs behind nth f parts.0 p b.items.exported (distinct-bases opts resolve world named) e parts.1 no_returns is;
+              named = ap (filter (λ x. bytes_eq x.base f.name.snake)) (ap post_returns_in are ∙ skip-post_returns ts others) ∙ post_return-alone types sites ws es fs behind nth f parts.0 p b.items.exported (distinct-bases opts resolve world named) e parts.1 no_returns is;
             })
         go false needs none =
             unlisted_is_unreturned types (post_return_name f) tree place f needs
@@ -612,7 +612,7 @@ module _ (opts : Opts) (resolve : Resolve) (id : WorldId) (world : World) (known
           signature = subst (λ g. HasCoreSignature (passed types g) export) (sym w.of) signature-is;
           block = code.is.rest;
           runtime = subst (bodies.Found tree.items) code.is.asks (found-asked tree.items (item.Export export) written.runtime written.sound asks-export);
-          records = records-defined code.parts.records code.made_of.written;
+          sites = sites-defined code.parts.sites code.made_of.written;
           called = gives-as_called;
           area = subst (λ g. SharesArea results (result_shape types g) tree) (sym w.of) shared;
           passes =

@@ -24,8 +24,8 @@ use Rattle.rust_tree.specs.WellNamed.{are_named_core_params, are_well_named, is_
 use Rattle.gen_accept.specs.Area.{needs_return}
 use Rattle.gen_accept.specs.declared.opts.Opts.{Opts}
 use Rattle.gen_accept.specs.TypeOpts.{type_opts}
-use Rattle.func_gen.specs.declared.record_site.RecordSite.{RecordSite}
-use Rattle.type_sites.specs.Sites.{record_sites}
+use Rattle.func_gen.specs.declared.type_site.TypeSite.{TypeSite}
+use Rattle.type_sites.specs.Sites.{type_sites}
 use Rattle.rust_gen.specs.Body.{ArePartsWritten, IsWritten, ReturnWritten, is_among, is_sound}
 use Rattle.rust_gen.specs.Bound.{AreItems, Parts, area_items, area_of, areas_of, export_items, file_area, own_items}
 use Rattle.rust_gen.specs.Known.{IsKnown}
@@ -162,32 +162,32 @@ sound-named i runtime h =
     let named = (and_parts (are_well_named [] (i ∷ [])) (list_all (is_among (asked_in (i ∷ []))) runtime) h).0 in
     (and_parts (is_named_item i) true named).0
 
-imports-named : (types : List TypeDef) (records : List (Option RecordSite)) (fs : List Function) (ws : List FnItem) → AllZip (IsWritten types records) fs ws → list_all is_named_item (map item.Import ws) ≡ true
-imports-named types records [] [] z = refl
-imports-named types records [] (w ∷ ws) z = absurd z
-imports-named types records (f ∷ fs) [] z = absurd z
-imports-named types records (f ∷ fs) (w ∷ ws) z =
-    and_from (is_named_item (item.Import w)) (list_all is_named_item (map item.Import ws)) (sound-named (item.Import w) z.0.runtime z.0.sound) (imports-named types records fs ws z.1)
+imports-named : (types : List TypeDef) (sites : List (Option TypeSite)) (fs : List Function) (ws : List FnItem) → AllZip (IsWritten types sites) fs ws → list_all is_named_item (map item.Import ws) ≡ true
+imports-named types sites [] [] z = refl
+imports-named types sites [] (w ∷ ws) z = absurd z
+imports-named types sites (f ∷ fs) [] z = absurd z
+imports-named types sites (f ∷ fs) (w ∷ ws) z =
+    and_from (is_named_item (item.Import w)) (list_all is_named_item (map item.Import ws)) (sound-named (item.Import w) z.0.runtime z.0.sound) (imports-named types sites fs ws z.1)
 
-parts-named : (types : List TypeDef) (records : List (Option RecordSite)) (f : Function) (x : Parts) → ArePartsWritten types records f x → list_all is_named_item (export_items x) ≡ true
-parts-named types records f (e, o, a) w = go (needs_return types f) o w.1
+parts-named : (types : List TypeDef) (sites : List (Option TypeSite)) (f : Function) (x : Parts) → ArePartsWritten types sites f x → list_all is_named_item (export_items x) ≡ true
+parts-named types sites f (e, o, a) w = go (needs_return types f) o w.1
   where
     own : is_named_item (item.Export e) ≡ true
     own = sound-named (item.Export e) w.0.runtime w.0.sound
 
-    go : (b : Bool) (o : Option PostReturnFn) → ReturnWritten types records b f o → list_all is_named_item (export_items (e, o, a)) ≡ true
+    go : (b : Bool) (o : Option PostReturnFn) → ReturnWritten types sites b f o → list_all is_named_item (export_items (e, o, a)) ≡ true
     go true o (q, is, written) =
         let alone : is_named_item (item.PostReturn q) ≡ true = sound-named (item.PostReturn q) written.runtime written.sound in
         ap (λ o. list_all is_named_item (export_items (e, o, a))) is ∙ and_from (is_named_item (item.Export e)) (is_named_item (item.PostReturn q) && true) own (and_from (is_named_item (item.PostReturn q)) true alone refl)
     go false o is = ap (λ o. list_all is_named_item (export_items (e, o, a))) is ∙ and_from (is_named_item (item.Export e)) true own refl
 
-exports-named : (types : List TypeDef) (records : List (Option RecordSite)) (fs : List Function) (es : List Parts) → AllZip (ArePartsWritten types records) fs es → list_all is_named_item (flat_map export_items es) ≡ true
-exports-named types records [] [] z = refl
-exports-named types records [] (x ∷ es) z = absurd z
-exports-named types records (f ∷ fs) [] z = absurd z
-exports-named types records (f ∷ fs) (x ∷ es) z =
+exports-named : (types : List TypeDef) (sites : List (Option TypeSite)) (fs : List Function) (es : List Parts) → AllZip (ArePartsWritten types sites) fs es → list_all is_named_item (flat_map export_items es) ≡ true
+exports-named types sites [] [] z = refl
+exports-named types sites [] (x ∷ es) z = absurd z
+exports-named types sites (f ∷ fs) [] z = absurd z
+exports-named types sites (f ∷ fs) (x ∷ es) z =
     list_all-append is_named_item (export_items x) (flat_map export_items es)
-    ∙ and_from (list_all is_named_item (export_items x)) (list_all is_named_item (flat_map export_items es)) (parts-named types records f x z.0) (exports-named types records fs es z.1)
+    ∙ and_from (list_all is_named_item (export_items x)) (list_all is_named_item (flat_map export_items es)) (parts-named types sites f x z.0) (exports-named types sites fs es z.1)
 
 -- the whole
 
@@ -211,7 +211,7 @@ known opts r world h = record {
     snake [] h full = cc
     snake (f ∷ exports) h full = part_of (codes "__export_world_") world.name.snake (codes "_cabi") (and_parts (is_ident (codes "__export_world_" ++ world.name.snake ++ codes "_cabi")) _ h).0
 
-items-named : (opts : Opts) (r : Resolve) (id : WorldId) (world : World) (items : List Item) → IsKnown opts r id world → AreItems (IsWritten r.types (record_sites r world)) (ArePartsWritten r.types (record_sites r world)) opts r id world items → list_all is_named_item items ≡ true
+items-named : (opts : Opts) (r : Resolve) (id : WorldId) (world : World) (items : List Item) → IsKnown opts r id world → AreItems (IsWritten r.types (type_sites r world)) (ArePartsWritten r.types (type_sites r world)) opts r id world items → list_all is_named_item items ≡ true
 items-named opts r id world items w a =
     let k = known opts r world w.declared in
     let es : List Function = exported_functions world in
@@ -229,8 +229,8 @@ items-named opts r id world items w a =
     let definitions : list_all is_named_item (map item.Type a.types) ≡ true = list_all-map is_named_item item.Type a.types ∙ definitions-named (type_opts opts) r id world a.types w.types a.defined in
     ap (list_all is_named_item) (a.are ∙ own-first r.types a.types a.wrappers a.exports world (runtime ++ last_macro world))
     ∙ items-append (map item.Type a.types) (map item.Import a.wrappers ++ (flat_map export_items a.exports ++ (trait_and_macro r.types world ++ (area ++ (runtime ++ last_macro world))))) definitions
-    (items-append (map item.Import a.wrappers) (flat_map export_items a.exports ++ (trait_and_macro r.types world ++ (area ++ (runtime ++ last_macro world)))) (imports-named r.types (record_sites r world) (imported_functions world) a.wrappers a.wraps)
-    (items-append (flat_map export_items a.exports) (trait_and_macro r.types world ++ (area ++ (runtime ++ last_macro world))) (exports-named r.types (record_sites r world) es a.exports a.exported)
+    (items-append (map item.Import a.wrappers) (flat_map export_items a.exports ++ (trait_and_macro r.types world ++ (area ++ (runtime ++ last_macro world)))) (imports-named r.types (type_sites r world) (imported_functions world) a.wrappers a.wraps)
+    (items-append (flat_map export_items a.exports) (trait_and_macro r.types world ++ (area ++ (runtime ++ last_macro world))) (exports-named r.types (type_sites r world) es a.exports a.exported)
     (items-append (trait_and_macro r.types world) (area ++ (runtime ++ last_macro world)) traits
     (items-append area (runtime ++ last_macro world) (area-named (file_area (areas_of a.exports))) (items-append runtime (last_macro world) (runtime-named asked) last)))))
 
@@ -246,7 +246,7 @@ options-named opts = go opts.generate_unused_types
     go false = refl
 
 pub tree-named : (opts : Opts) (r : Resolve) (id : WorldId) (world : World) (options : List Bytes) (items : List Item) → IsKnown opts r id world
-    → options ≡ option_lines opts → AreItems (IsWritten r.types (record_sites r world)) (ArePartsWritten r.types (record_sites r world)) opts r id world items → are_well_named options items ≡ true
+    → options ≡ option_lines opts → AreItems (IsWritten r.types (type_sites r world)) (ArePartsWritten r.types (type_sites r world)) opts r id world items → are_well_named options items ≡ true
 tree-named opts r id world options items w lines a =
     ap (λ o. are_well_named o items) lines
     ∙ and_from (list_all is_option_line (option_lines opts)) (list_all is_named_item items) (options-named opts) (items-named opts r id world items w a)

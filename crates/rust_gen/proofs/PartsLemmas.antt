@@ -24,7 +24,7 @@ use Rattle.wit_model.specs.Bytes.{Bytes}
 use Rattle.wrapper_values.specs.Owning.{listed}
 use Rattle.wrapper_run.specs.PostReturn.{post_return_named}
 use Rattle.wrapper_run.proofs.LocalLemmas.{bytes_eq-same}
-use Rattle.func_gen.specs.declared.record_site.RecordSite.{RecordSite}
+use Rattle.func_gen.specs.declared.type_site.TypeSite.{TypeSite}
 use Rattle.rust_gen.specs.Body.{ArePartsWritten, ReturnWritten}
 use Rattle.rust_gen.specs.Bound.{Parts, area_items, export_items}
 use Rattle.gen_accept.specs.Emitted.{exported_functions}
@@ -70,23 +70,23 @@ named-first base [] = refl
 named-first base (item.PostReturn p ∷ items) = ap (λ o. cond (bytes_eq p.base base) (Some p) o) (named-first base items)
 named-first base (_ ∷ items) = named-first base items
 
-module _ (types : List TypeDef) (records : List (Option RecordSite)) where
+module _ (types : List TypeDef) (sites : List (Option TypeSite)) where
   -- a function's own has its base name, and no other has
 
-  base_of : (needed : Bool) (f : Function) (p : PostReturnFn) → ReturnWritten types records needed f (Some p) → p.base ≡ f.name.snake
+  base_of : (needed : Bool) (f : Function) (p : PostReturnFn) → ReturnWritten types sites needed f (Some p) → p.base ≡ f.name.snake
   base_of true f p (q, e, is) = let same : p ≡ q = cc in ap (λ p. p.base) same ∙ is.made.outside.base
   base_of false f p e = absurd (cc)
 
-  own_kept : (f : Function) (o : Option PostReturnFn) → ReturnWritten types records (needs_return types f) f o → filter (λ p. bytes_eq p.base f.name.snake) (listed o) ≡ listed o
+  own_kept : (f : Function) (o : Option PostReturnFn) → ReturnWritten types sites (needs_return types f) f o → filter (λ p. bytes_eq p.base f.name.snake) (listed o) ≡ listed o
   own_kept f None is = refl
   own_kept f (Some p) is =
       ap (λ b. cond b (p ∷ []) []) (ap (λ base. bytes_eq base f.name.snake) (base_of (needs_return types f) f p is) ∙ bytes_eq-same f.name.snake)
 
-  other_left : (f : Function) (o : Option PostReturnFn) (base : Bytes) → ReturnWritten types records (needs_return types f) f o → bytes_eq f.name.snake base ≡ false → filter (λ p. bytes_eq p.base base) (listed o) ≡ []
+  other_left : (f : Function) (o : Option PostReturnFn) (base : Bytes) → ReturnWritten types sites (needs_return types f) f o → bytes_eq f.name.snake base ≡ false → filter (λ p. bytes_eq p.base base) (listed o) ≡ []
   other_left f None base is h = refl
   other_left f (Some p) base is h = ap (λ b. cond b (p ∷ []) []) (ap (λ own. bytes_eq own base) (base_of (needs_return types f) f p is) ∙ h)
 
-  all_left : (fs : List Function) (es : List Parts) (base : Bytes) → AllZip (ArePartsWritten types records) fs es → list_any (λ u. bytes_eq u base) (map (λ f. f.name.snake) fs) ≡ false → filter (λ p. bytes_eq p.base base) (returned_in es) ≡ []
+  all_left : (fs : List Function) (es : List Parts) (base : Bytes) → AllZip (ArePartsWritten types sites) fs es → list_any (λ u. bytes_eq u base) (map (λ f. f.name.snake) fs) ≡ false → filter (λ p. bytes_eq p.base base) (returned_in es) ≡ []
   all_left [] [] base are h = refl
   all_left [] (e ∷ es) base are h = absurd are
   all_left (f ∷ fs) [] base are h = absurd are
@@ -95,7 +95,7 @@ module _ (types : List TypeDef) (records : List (Option RecordSite)) where
       let named : PostReturnFn → Bool = λ p. bytes_eq p.base base in
       filter-append named (listed e.1) (returned_in es) ∙ ap (λ ps. ps ++ filter named (returned_in es)) (other_left f e.1 base are.0.1 parts.0) ∙ all_left fs es base are.1 parts.1
 
-  returned-alone : (fs : List Function) (es : List Parts) (nth : ℕ) (f : Function) (parts : Parts) → AllZip (ArePartsWritten types records) fs es → is_distinct (map (λ f. f.name.snake) fs) ≡ true → slice_get fs nth ≡ Some f → slice_get es nth ≡ Some parts
+  returned-alone : (fs : List Function) (es : List Parts) (nth : ℕ) (f : Function) (parts : Parts) → AllZip (ArePartsWritten types sites) fs es → is_distinct (map (λ f. f.name.snake) fs) ≡ true → slice_get fs nth ≡ Some f → slice_get es nth ≡ Some parts
       → filter (λ p. bytes_eq p.base f.name.snake) (returned_in es) ≡ listed parts.1
   returned-alone [] es nth f parts are d at there = absurd (cc)
   returned-alone (g ∷ fs) [] nth f parts are d at there = absurd are
@@ -117,7 +117,7 @@ module _ (types : List TypeDef) (records : List (Option RecordSite)) where
 
   -- the file has a function's own post-return function, where it has one
 
-  pub post_return_named-at : (ws : List FnItem) (es : List Parts) (fs : List Function) (behind : List Item) (nth : ℕ) (f : Function) (parts : Parts) → AllZip (ArePartsWritten types records) fs es → is_distinct (map (λ f. f.name.snake) fs) ≡ true
+  pub post_return_named-at : (ws : List FnItem) (es : List Parts) (fs : List Function) (behind : List Item) (nth : ℕ) (f : Function) (parts : Parts) → AllZip (ArePartsWritten types sites) fs es → is_distinct (map (λ f. f.name.snake) fs) ≡ true
       → slice_get fs nth ≡ Some f → slice_get es nth ≡ Some parts → post_returns_in behind ≡ [] → post_return_named f.name.snake (map item.Import ws ++ (flat_map export_items es ++ behind)) ≡ parts.1
   post_return_named-at ws es fs behind nth f parts are d at there h =
       let named : PostReturnFn → Bool = λ p. bytes_eq p.base f.name.snake in
@@ -125,7 +125,7 @@ module _ (types : List TypeDef) (records : List (Option RecordSite)) where
       ∙ found_of named (returned_in es) parts.1 (returned-alone fs es nth f parts are d at there)
 
   -- no other post-return function has its base name
-  pub post_return-alone : (ws : List FnItem) (es : List Parts) (fs : List Function) (behind : List Item) (nth : ℕ) (f : Function) (parts : Parts) (p : PostReturnFn) → AllZip (ArePartsWritten types records) fs es → is_distinct (map (λ f. f.name.snake) fs) ≡ true
+  pub post_return-alone : (ws : List FnItem) (es : List Parts) (fs : List Function) (behind : List Item) (nth : ℕ) (f : Function) (parts : Parts) (p : PostReturnFn) → AllZip (ArePartsWritten types sites) fs es → is_distinct (map (λ f. f.name.snake) fs) ≡ true
       → slice_get fs nth ≡ Some f → slice_get es nth ≡ Some parts → post_returns_in behind ≡ [] → parts.1 ≡ Some p
       → filter (λ x. bytes_eq x.base f.name.snake) (post_returns_in (map item.Import ws ++ (flat_map export_items es ++ behind))) ≡ p ∷ []
   post_return-alone ws es fs behind nth f parts p are d at there h has =

@@ -20,7 +20,7 @@ use Rattle.wrapper_closing.specs.declared.parts.BodyParts.{BodyParts}
 use Rattle.wrapper_closing.proofs.LocalSites.{are_sites, named_so}
 use Rattle.rust_gen.specs.Body.{import_site, site_expr}
 use Rattle.rust_gen.specs.FixedName.{IsFixedName}
-use Rattle.rust_gen.specs.Known.{AreAtHand, records_in}
+use Rattle.rust_gen.specs.Known.{AreAtHand, sites_in}
 
 -- a fixed name is that of no parameter
 free-name : (params : List Bytes) (base name : Bytes) → IsFixedName params base name → is_used params name ≡ false
@@ -65,6 +65,6 @@ taken-tables types o tables at_hand is = subst (AreAtHand types) is at_hand
 pub given-tables : (types : List TypeDef) (parts : BodyParts) (tables : TypeTables) → AreParts types parts → tables ≡ tables_of parts → AreAtHand types (Some tables)
 given-tables types parts tables are is = subst (λ t. AreAtHand types (Some t)) (sym is) (are.filled, are.defined)
 
--- and know the same records
-pub same-records : (o : Option TypeTables) (parts : BodyParts) (tables : TypeTables) → parts.records ≡ records_in o → tables ≡ tables_of parts → records_in (Some tables) ≡ records_in o
-same-records o parts tables written is = ap (λ (t : TypeTables). t.records) is ∙ written
+-- and know the same sites
+pub same-sites : (o : Option TypeTables) (parts : BodyParts) (tables : TypeTables) → parts.sites ≡ sites_in o → tables ≡ tables_of parts → sites_in (Some tables) ≡ sites_in o
+same-sites o parts tables written is = ap (λ (t : TypeTables). t.sites) is ∙ written

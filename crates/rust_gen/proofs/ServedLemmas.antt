@@ -26,7 +26,7 @@ use Rattle.rust_tree.specs.Runtime.{item_name, needed_items}
 use Rattle.rust_tree.specs.declared.macros.RootMacro.{RootMacro}
 use Rattle.rust_tree.specs.Tree.{Tree}
 use Rattle.gen_accept.specs.declared.opts.Opts.{Opts}
-use Rattle.type_sites.specs.Sites.{record_sites}
+use Rattle.type_sites.specs.Sites.{type_sites}
 use Rattle.rust_gen.specs.Body.{ArePartsWritten, IsWritten}
 use Rattle.rust_gen.specs.Bound.{Binds, Parts, area_items, area_of, areas_of, export_items, file_area, own_items}
 use Rattle.gen_accept.specs.Emitted.{exported_functions}
@@ -296,7 +296,7 @@ asked-last : (fs : List Function) (m : RootMacro) → asked_in (where_any fs (it
 asked-last [] m = refl
 asked-last (f ∷ fs) m = refl
 
-module _ (opts : Opts) (r : Resolve) (id : WorldId) (world : World) (tree : Tree) (b : Binds (IsWritten r.types (record_sites r world)) (ArePartsWritten r.types (record_sites r world)) opts r id world tree) where
+module _ (opts : Opts) (r : Resolve) (id : WorldId) (world : World) (tree : Tree) (b : Binds (IsWritten r.types (type_sites r world)) (ArePartsWritten r.types (type_sites r world)) opts r id world tree) where
   abbrev ts : List TypeItem
   ts = b.items.types
 

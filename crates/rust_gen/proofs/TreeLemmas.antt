@@ -16,7 +16,7 @@ use Rattle.rust_tree.specs.declared.type_item.TypeItem.{TypeItem}
 use Rattle.rust_tree.specs.declared.place.FuncPlace.{FuncPlace}
 use Rattle.rust_tree.specs.Tree.{wrapper_count}
 use Rattle.gen_accept.specs.declared.opts.Opts.{Opts}
-use Rattle.type_sites.specs.Sites.{record_sites}
+use Rattle.type_sites.specs.Sites.{type_sites}
 use Rattle.rust_gen.specs.Body.{ArePartsWritten, IsWritten}
 use Rattle.gen_accept.specs.Emitted.{functions_in, places_from, emitted_places, exported_functions, imported_functions}
 use Rattle.type_defs.specs.ListedTypes.{Entries}
@@ -158,7 +158,7 @@ all-made own i4 i5 i6 last asked a b c d =
 
 -- there is a place for each wrapper
 pub places_fit : (opts : Opts) (r : Resolve) (id : WorldId) (world : World) (items : List Item) (places : List FuncPlace)
-    → AreItems (IsWritten r.types (record_sites r world)) (ArePartsWritten r.types (record_sites r world)) opts r id world items → places ≡ emitted_places world → length places ≡ wrapper_count items
+    → AreItems (IsWritten r.types (type_sites r world)) (ArePartsWritten r.types (type_sites r world)) opts r id world items → places ≡ emitted_places world → length places ≡ wrapper_count items
 places_fit opts r id world items places a p =
     let last = last_macro world in
     let asked = runtime_items (own_items r.types a.types a.wrappers a.exports world) in
@@ -181,6 +181,6 @@ places_fit opts r id world items places a p =
     let all = ap wrapper_count (a.are ∙ own-first r.types a.types a.wrappers a.exports world (runtime ++ last)) in
     let counted : wrapper_count items ≡ length a.wrappers + length a.exports = omega arith in
     ap length p ∙ length-append (places_from 0 world.imports) (places_from 0 world.exports)
-    ∙ ap (λ n. n + length (places_from 0 world.exports)) (length-places_from 0 world.imports ∙ sym (AllZip-long (IsWritten r.types (record_sites r world)) (imported_functions world) a.wrappers a.wraps))
-    ∙ ap (λ n. length a.wrappers + n) (length-places_from 0 world.exports ∙ sym (AllZip-long (ArePartsWritten r.types (record_sites r world)) (exported_functions world) a.exports a.exported))
+    ∙ ap (λ n. n + length (places_from 0 world.exports)) (length-places_from 0 world.imports ∙ sym (AllZip-long (IsWritten r.types (type_sites r world)) (imported_functions world) a.wrappers a.wraps))
+    ∙ ap (λ n. length a.wrappers + n) (length-places_from 0 world.exports ∙ sym (AllZip-long (ArePartsWritten r.types (type_sites r world)) (exported_functions world) a.exports a.exported))
     ∙ sym counted

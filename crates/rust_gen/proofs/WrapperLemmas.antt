@@ -18,36 +18,36 @@ use Rattle.wrapper_meaning.specs.Areas.{result_record}
 use Rattle.wrapper_meaning.specs.Shape.{result_shape}
 use Rattle.abi_driver.specs.Area.{AreFor}
 use Rattle.abi_driver.specs.declared.bindgen.Asked.{Asked}
-use Rattle.func_gen.specs.declared.record_site.RecordSite.{RecordSite}
-use Rattle.type_sites.specs.Sites.{record_sites}
+use Rattle.func_gen.specs.declared.type_site.TypeSite.{TypeSite}
+use Rattle.type_sites.specs.Sites.{type_sites}
 use Rattle.wrapper_closing.proofs.BodyAreas.{export_body_area_is_for}
 use Rattle.rust_gen.specs.Body.{ArePartsWritten, IsExportWritten, IsReturnWritten, IsWritten, ReturnWritten}
 use Rattle.rust_gen.specs.Bound.{Binds, Parts}
 use Rattle.rust_gen.specs.Wrapper.{HasReturn, Wraps, WrapsExport, WrapsParts, WrapsReturn}
 
-wraps : (types : List TypeDef) (records : List (Option RecordSite)) (f : Function) (item : FnItem) → IsWritten types records f item → Wraps types f item
-wraps types records f item w = record { docs = w.made.outside.docs; name = w.made.outside.name; params = w.made.outside.params; answer = w.made.outside.answer; declares = w.made.declares }
+wraps : (types : List TypeDef) (sites : List (Option TypeSite)) (f : Function) (item : FnItem) → IsWritten types sites f item → Wraps types f item
+wraps types sites f item w = record { docs = w.made.outside.docs; name = w.made.outside.name; params = w.made.outside.params; answer = w.made.outside.answer; declares = w.made.declares }
 
-wraps_export : (types : List TypeDef) (records : List (Option RecordSite)) (f : Function) (e : ExportFn) (a : Option Asked) → IsExportWritten types records f e a → WrapsExport types f e
+wraps_export : (types : List TypeDef) (sites : List (Option TypeSite)) (f : Function) (e : ExportFn) (a : Option Asked) → IsExportWritten types sites f e a → WrapsExport types f e
 unfolding guest_name
-wraps_export types records f e a w = record { base = w.made.outside.base; bound = w.made.outside.bound; params = w.made.outside.params; answer = w.made.outside.answer; calls = w.made.calls.calls; keeps = w.made.calls.keeps }
+wraps_export types sites f e a w = record { base = w.made.outside.base; bound = w.made.outside.bound; params = w.made.outside.params; answer = w.made.outside.answer; calls = w.made.calls.calls; keeps = w.made.calls.keeps }
 
-wraps_return : (types : List TypeDef) (records : List (Option RecordSite)) (f : Function) (p : PostReturnFn) → IsReturnWritten types records f p → WrapsReturn types f p
+wraps_return : (types : List TypeDef) (sites : List (Option TypeSite)) (f : Function) (p : PostReturnFn) → IsReturnWritten types sites f p → WrapsReturn types f p
 unfolding guest_name
-wraps_return types records f p w = record { base = w.made.outside.base; bound = w.made.outside.bound; params = w.made.outside.params }
+wraps_return types sites f p w = record { base = w.made.outside.base; bound = w.made.outside.bound; params = w.made.outside.params }
 
 -- the area that its body needs is that of its result
-pub area-for : (types : List TypeDef) (records : List (Option RecordSite)) (f : Function) (e : ExportFn) (a : Option Asked) → IsExportWritten types records f e a → AreFor (result_record (result_shape types f)) (option_to_list a)
-area-for types records f e a w =
+pub area-for : (types : List TypeDef) (sites : List (Option TypeSite)) (f : Function) (e : ExportFn) (a : Option Asked) → IsExportWritten types sites f e a → AreFor (result_record (result_shape types f)) (option_to_list a)
+area-for types sites f e a w =
     let for = export_body_area_is_for types w.made.func w.made.code.parts w.made.code.body w.made.code.makes in
     subst (λ a. AreFor (result_record (result_shape types f)) (option_to_list a)) (sym w.made.code.is.area)
     (subst (λ g. AreFor (result_record (result_shape types g)) (option_to_list w.made.code.body.area)) w.made.of for)
 
-wraps_parts : (types : List TypeDef) (records : List (Option RecordSite)) (f : Function) (parts : Parts) → ArePartsWritten types records f parts → WrapsParts types f parts
-wraps_parts types records f parts w = (wraps_export types records f parts.0 parts.2 w.0, go (needs_return types f) w.1, area-for types records f parts.0 parts.2 w.0)
+wraps_parts : (types : List TypeDef) (sites : List (Option TypeSite)) (f : Function) (parts : Parts) → ArePartsWritten types sites f parts → WrapsParts types f parts
+wraps_parts types sites f parts w = (wraps_export types sites f parts.0 parts.2 w.0, go (needs_return types f) w.1, area-for types sites f parts.0 parts.2 w.0)
   where
-    go : (b : Bool) → ReturnWritten types records b f parts.1 → HasReturn types b f parts.1
-    go true (q, is, written) = (q, is, wraps_return types records f q written)
+    go : (b : Bool) → ReturnWritten types sites b f parts.1 → HasReturn types b f parts.1
+    go true (q, is, written) = (q, is, wraps_return types sites f q written)
     go false e = e
 
 pub AllZip-map : {A B : Type 0} (R S : A → B → Type 0) → ((a : A) (b : B) → R a b → S a b) → (xs : List A) (ys : List B) → AllZip R xs ys → AllZip S xs ys
@@ -56,7 +56,7 @@ AllZip-map R S h [] (b ∷ ys) z = absurd z
 AllZip-map R S h (a ∷ xs) [] z = absurd z
 AllZip-map R S h (a ∷ xs) (b ∷ ys) z = (h a b z.0, AllZip-map R S h xs ys z.1)
 
-pub binds_wraps : {opts : Opts} {r : Resolve} {id : WorldId} {world : World} {tree : Tree} → Binds (IsWritten r.types (record_sites r world)) (ArePartsWritten r.types (record_sites r world)) opts r id world tree → Binds (Wraps r.types) (WrapsParts r.types) opts r id world tree
+pub binds_wraps : {opts : Opts} {r : Resolve} {id : WorldId} {world : World} {tree : Tree} → Binds (IsWritten r.types (type_sites r world)) (ArePartsWritten r.types (type_sites r world)) opts r id world tree → Binds (Wraps r.types) (WrapsParts r.types) opts r id world tree
 binds_wraps {r = r} {world = world} b = record {
   items = record {
     types = b.items.types;
@@ -64,8 +64,8 @@ binds_wraps {r = r} {world = world} b = record {
     exports = b.items.exports;
     are = b.items.are;
     defined = b.items.defined;
-    wraps = AllZip-map (IsWritten r.types (record_sites r world)) (Wraps r.types) (wraps r.types (record_sites r world)) _ b.items.wrappers b.items.wraps;
-    exported = AllZip-map (ArePartsWritten r.types (record_sites r world)) (WrapsParts r.types) (wraps_parts r.types (record_sites r world)) _ b.items.exports b.items.exported;
+    wraps = AllZip-map (IsWritten r.types (type_sites r world)) (Wraps r.types) (wraps r.types (type_sites r world)) _ b.items.wrappers b.items.wraps;
+    exported = AllZip-map (ArePartsWritten r.types (type_sites r world)) (WrapsParts r.types) (wraps_parts r.types (type_sites r world)) _ b.items.exports b.items.exported;
   };
   places = b.places;
   options = b.options;

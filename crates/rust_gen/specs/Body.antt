@@ -29,7 +29,7 @@ use Rattle.wrapper_faithful.specs.Passed.{passed}
 use Rattle.abi_driver.specs.declared.bindgen.Asked.{Asked}
 use Rattle.func_gen.specs.declared.body.Body.{Body}
 use Rattle.func_gen.specs.declared.function_bindgen.ParamSite.{ParamSite}
-use Rattle.func_gen.specs.declared.record_site.RecordSite.{RecordSite}
+use Rattle.func_gen.specs.declared.type_site.TypeSite.{TypeSite}
 use Rattle.wrapper_closing.specs.Bodies.{MakesExport, MakesImport, MakesPostReturn}
 use Rattle.wrapper_closing.specs.ImportBlock.{block_of}
 use Rattle.wrapper_closing.specs.Params.{arg_names, cleanup_list, export_args, local_sites, ret_area, return_args}
@@ -54,23 +54,23 @@ abbrev pub import_site : Param → ParamSite
 import_site p = record { operand = record { expr = site_expr p.ty (rust_ident p.name) }; name = rust_ident p.name }
 
 -- calls go to the root's module, and the area and the list of cleanups have their fixed names
-pub record AreImportParts (types : List TypeDef) (records : List (Option RecordSite)) (f : Function) (parts : BodyParts) : Type 0 where
+pub record AreImportParts (types : List TypeDef) (sites : List (Option TypeSite)) (f : Function) (parts : BodyParts) : Type 0 where
   pub are : AreParts types parts
   pub home : parts.home ≡ root_module
   pub area : IsFixedName (param_idents f) ret_area parts.area
   pub cleanup : IsFixedName (param_idents f) cleanup_list parts.cleanup
   pub params : parts.params ≡ map import_site f.params
-  pub written : parts.records ≡ records
+  pub written : parts.sites ≡ sites
 
 -- the wrapper of an export has core parameters, which are denoted by their names, calls go to the trait of the world's own functions, and
 -- the list of cleanups has its fixed name, which no core parameter has
-pub record AreExportParts (types : List TypeDef) (records : List (Option RecordSite)) (args : List CoreParam) (parts : BodyParts) : Type 0 where
+pub record AreExportParts (types : List TypeDef) (sites : List (Option TypeSite)) (args : List CoreParam) (parts : BodyParts) : Type 0 where
   pub are : AreParts types parts
   pub home : parts.home ≡ guest_name
   pub area : parts.area ≡ ret_area
   pub cleanup : parts.cleanup ≡ cleanup_list
   pub params : parts.params ≡ local_sites (arg_names args)
-  pub written : parts.records ≡ records
+  pub written : parts.sites ≡ sites
 
 -- 2. What each item is
 
@@ -83,9 +83,9 @@ abbrev pub is_sound : Item → List RuntimeItem → Bool
 is_sound i runtime = are_well_named [] (i ∷ []) && list_all (is_among (asked_in (i ∷ []))) runtime
 
 -- the block of an import's body, and what that asks for of `_rt`
-pub record IsImportCode (types : List TypeDef) (records : List (Option RecordSite)) (func : Bor Function) (block : Block) (runtime : List RuntimeItem) : Type 0 where
+pub record IsImportCode (types : List TypeDef) (sites : List (Option TypeSite)) (func : Bor Function) (block : Block) (runtime : List RuntimeItem) : Type 0 where
   pub parts : BodyParts
-  pub made_of : AreImportParts types records func.now parts
+  pub made_of : AreImportParts types sites func.now parts
   pub body : Body
   pub makes : MakesImport types func parts body
   pub is : block ≡ block_of parts.area body
@@ -99,16 +99,16 @@ pub record IsImportOutside (types : List TypeDef) (f : Function) (body : Block) 
   pub answer : wrapper.result ≡ printed_result types f.result
   pub block : wrapper.body ≡ body
 
-pub record IsImportMade (types : List TypeDef) (records : List (Option RecordSite)) (f : Function) (wrapper : FnItem) (runtime : List RuntimeItem) : Type 0 where
+pub record IsImportMade (types : List TypeDef) (sites : List (Option TypeSite)) (f : Function) (wrapper : FnItem) (runtime : List RuntimeItem) : Type 0 where
   pub func : Bor Function
   pub of : func.now ≡ f
-  pub code : IsImportCode types records func wrapper.body runtime
+  pub code : IsImportCode types sites func wrapper.body runtime
   pub outside : IsImportOutside types f wrapper.body wrapper
   pub declares : DeclaresOne types f wrapper.body.stmts
 
-pub record IsWritten (types : List TypeDef) (records : List (Option RecordSite)) (f : Function) (wrapper : FnItem) : Type 0 where
+pub record IsWritten (types : List TypeDef) (sites : List (Option TypeSite)) (f : Function) (wrapper : FnItem) : Type 0 where
   pub runtime : List RuntimeItem
-  pub made : IsImportMade types records f wrapper runtime
+  pub made : IsImportMade types sites f wrapper runtime
   pub sound : is_sound (item.Import wrapper) runtime ≡ true
 
 -- the call block of a body, what stands behind it, the area that they need, and what they ask for of `_rt`
@@ -119,9 +119,9 @@ pub record IsCodeOf (body : Body) (code : ExportCode) : Type 0 where
   pub asks : code.runtime ≡ body.runtime
 
 -- that of an export
-pub record IsExportCode (types : List TypeDef) (records : List (Option RecordSite)) (func : Bor Function) (code : ExportCode) : Type 0 where
+pub record IsExportCode (types : List TypeDef) (sites : List (Option TypeSite)) (func : Bor Function) (code : ExportCode) : Type 0 where
   pub parts : BodyParts
-  pub made_of : AreExportParts types records (export_args (passed types func.now)) parts
+  pub made_of : AreExportParts types sites (export_args (passed types func.now)) parts
   pub body : Body
   pub makes : MakesExport types func parts body
   pub is : IsCodeOf body code
@@ -139,22 +139,22 @@ pub record IsExportOutside (types : List TypeDef) (f : Function) (call : CallBlo
   pub head : wrapper.call ≡ call
   pub behind : wrapper.rest ≡ rest
 
-pub record IsExportMade (types : List TypeDef) (records : List (Option RecordSite)) (f : Function) (made : ExportMade) : Type 0 where
+pub record IsExportMade (types : List TypeDef) (sites : List (Option TypeSite)) (f : Function) (made : ExportMade) : Type 0 where
   pub func : Bor Function
   pub of : func.now ≡ f
-  pub code : IsExportCode types records func (record { call = made.wrapper.call; rest = made.wrapper.rest; area = made.area; runtime = made.runtime })
+  pub code : IsExportCode types sites func (record { call = made.wrapper.call; rest = made.wrapper.rest; area = made.area; runtime = made.runtime })
   pub outside : IsExportOutside types f made.wrapper.call made.wrapper.rest made.wrapper
   pub calls : CallsMethodOf f made.wrapper.call
 
-pub record IsExportWritten (types : List TypeDef) (records : List (Option RecordSite)) (f : Function) (wrapper : ExportFn) (area : Option Asked) : Type 0 where
+pub record IsExportWritten (types : List TypeDef) (sites : List (Option TypeSite)) (f : Function) (wrapper : ExportFn) (area : Option Asked) : Type 0 where
   pub runtime : List RuntimeItem
-  pub made : IsExportMade types records f (record { wrapper = wrapper; area = area; runtime = runtime })
+  pub made : IsExportMade types sites f (record { wrapper = wrapper; area = area; runtime = runtime })
   pub sound : is_sound (item.Export wrapper) runtime ≡ true
 
 -- the same of a post-return function, which has no call block and needs no area
-pub record IsReturnCode (types : List TypeDef) (records : List (Option RecordSite)) (f : Function) (block : Block) (runtime : List RuntimeItem) : Type 0 where
+pub record IsReturnCode (types : List TypeDef) (sites : List (Option TypeSite)) (f : Function) (block : Block) (runtime : List RuntimeItem) : Type 0 where
   pub parts : BodyParts
-  pub made_of : AreExportParts types records (return_args (passed types f)) parts
+  pub made_of : AreExportParts types sites (return_args (passed types f)) parts
   pub body : Body
   pub makes : MakesPostReturn types f parts body
   pub is : block ≡ record { stmts = body.stmts; tail = body.tail }
@@ -166,20 +166,20 @@ pub record IsReturnOutside (types : List TypeDef) (f : Function) (body : Block) 
   pub params : function.params ≡ return_args (passed types f)
   pub block : function.body ≡ body
 
-pub record IsReturnMade (types : List TypeDef) (records : List (Option RecordSite)) (f : Function) (function : PostReturnFn) (runtime : List RuntimeItem) : Type 0 where
-  pub code : IsReturnCode types records f function.body runtime
+pub record IsReturnMade (types : List TypeDef) (sites : List (Option TypeSite)) (f : Function) (function : PostReturnFn) (runtime : List RuntimeItem) : Type 0 where
+  pub code : IsReturnCode types sites f function.body runtime
   pub outside : IsReturnOutside types f function.body function
 
-pub record IsReturnWritten (types : List TypeDef) (records : List (Option RecordSite)) (f : Function) (function : PostReturnFn) : Type 0 where
+pub record IsReturnWritten (types : List TypeDef) (sites : List (Option TypeSite)) (f : Function) (function : PostReturnFn) : Type 0 where
   pub runtime : List RuntimeItem
-  pub made : IsReturnMade types records f function runtime
+  pub made : IsReturnMade types sites f function runtime
   pub sound : is_sound (item.PostReturn function) runtime ≡ true
 
 -- an export's wrapper, its post-return function where its result may hold a text, and the area that it needs
 
-abbrev pub ReturnWritten : List TypeDef → List (Option RecordSite) → Bool → Function → Option PostReturnFn → Type 0
-ReturnWritten types records true f p = (q : PostReturnFn) × (p ≡ Some q) × IsReturnWritten types records f q
-ReturnWritten types records false f p = p ≡ None
+abbrev pub ReturnWritten : List TypeDef → List (Option TypeSite) → Bool → Function → Option PostReturnFn → Type 0
+ReturnWritten types sites true f p = (q : PostReturnFn) × (p ≡ Some q) × IsReturnWritten types sites f q
+ReturnWritten types sites false f p = p ≡ None
 
-abbrev pub ArePartsWritten : List TypeDef → List (Option RecordSite) → Function → ExportFn × Option PostReturnFn × Option Asked → Type 0
-ArePartsWritten types records f parts = IsExportWritten types records f parts.0 parts.2 × ReturnWritten types records (needs_return types f) f parts.1
+abbrev pub ArePartsWritten : List TypeDef → List (Option TypeSite) → Function → ExportFn × Option PostReturnFn × Option Asked → Type 0
+ArePartsWritten types sites f parts = IsExportWritten types sites f parts.0 parts.2 × ReturnWritten types sites (needs_return types f) f parts.1

@@ -10,7 +10,7 @@ use Rattle.rust_tree.specs.Text.{text}
 use Rattle.rust_tree.specs.Tree.{Tree}
 use Rattle.rust_tree.specs.WellNamed.{are_well_named}
 use Rattle.gen_accept.specs.declared.opts.Opts.{Opts}
-use Rattle.type_sites.specs.Sites.{record_sites}
+use Rattle.type_sites.specs.Sites.{type_sites}
 use Rattle.rust_gen.specs.Body.{ArePartsWritten, IsWritten}
 use Rattle.rust_gen.specs.Bound.{Binds}
 use Rattle.rust_gen.specs.Faithful.{AreFaithful}
@@ -32,7 +32,7 @@ pub record Gains (old new : List Entry) (name bytes : Bytes) : Type 0 where
 
 -- the body of each wrapper is the driver's code for its function
 abbrev pub AreWritten : Opts → Resolve → WorldId → World → Tree → Type 0
-AreWritten opts r id world tree = Binds (IsWritten r.types (record_sites r world)) (ArePartsWritten r.types (record_sites r world)) opts r id world tree
+AreWritten opts r id world tree = Binds (IsWritten r.types (type_sites r world)) (ArePartsWritten r.types (type_sites r world)) opts r id world tree
 
 -- the tree is that of a world: it holds the definitions of the world's own types, and a wrapper for each function. From outside that has the
 -- signature and the core import or the method of its function, its body is the driver's code, and it carries each call of it. `_rt` holds

@@ -8,13 +8,13 @@ use Rattle.wit_model.specs.declared.resolve.Resolve.{Resolve}
 use Rattle.wit_model.specs.declared.types.TypeDef.{TypeDef}
 use Rattle.wit_model.specs.declared.world.World.{World}
 use Rattle.wit_layout.specs.Filled.{IsFilledFor}
-use Rattle.func_gen.specs.Records.{CanBeDefined}
-use Rattle.func_gen.specs.declared.record_site.RecordSite.{RecordSite}
+use Rattle.func_gen.specs.TypeSites.{CanBeDefined}
+use Rattle.func_gen.specs.declared.type_site.TypeSite.{TypeSite}
 use Rattle.func_gen.specs.declared.type_tables.TypeTables.{TypeTables}
 use Rattle.type_defs.specs.DefinedNames.{AreDefinable}
 use Rattle.type_defs.specs.declared.type_opts.TypeOpts.{TypeOpts}
 use Rattle.type_defs.specs.TypeNames.{are_type_names}
-use Rattle.type_sites.specs.Sites.{record_sites}
+use Rattle.type_sites.specs.Sites.{type_sites}
 use Rattle.type_defs.specs.Used.{UsesTypes}
 use Rattle.gen_accept.specs.declared.opts.Opts.{Opts}
 use Rattle.gen_accept.specs.DeclaredNames.{declares_well, param_idents}
@@ -27,22 +27,22 @@ use Rattle.gen_accept.specs.TypeOpts.{type_opts}
 abbrev pub HaveDistinctParams : List Function → Type 0
 HaveDistinctParams fs = (nth : ℕ) (f : Function) → slice_get fs nth ≡ Some f → is_distinct (param_idents f) ≡ true
 
--- the tables of types, where they are at hand: the layouts are those of the types, and structs can define the records
+-- the tables of types, where they are at hand: the layouts are those of the types, and items can define the types that have a site
 abbrev pub AreAtHand : List TypeDef → Option TypeTables → Type 0
 AreAtHand types None = ⊥
-AreAtHand types (Some tables) = IsFilledFor tables.sizes types × CanBeDefined tables.records
+AreAtHand types (Some tables) = IsFilledFor tables.sizes types × CanBeDefined tables.sites
 
--- how the records are written
-abbrev pub records_in : Option TypeTables → List (Option RecordSite)
-records_in None = []
-records_in (Some tables) = tables.records
+-- how the types are written
+abbrev pub sites_in : Option TypeTables → List (Option TypeSite)
+sites_in None = []
+sites_in (Some tables) = tables.sites
 
--- the types of some world of this place can be defined, and structs can define the records that its functions use
-pub record CanWriteRecords (r : Resolve) (id : WorldId) : Type 0 where
+-- the types of some world of this place can be defined, and items can define as they are written those that its functions use
+pub record CanWriteTypes (r : Resolve) (id : WorldId) : Type 0 where
   pub opts : TypeOpts
   pub world : World
   pub definable : AreDefinable opts r id world
-  pub defined : CanBeDefined (record_sites r world)
+  pub defined : CanBeDefined (type_sites r world)
 
 -- each uses types of the table alone that can be defined
 abbrev pub UseTypes : Resolve → World → List Function → Type 0

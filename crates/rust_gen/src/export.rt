@@ -7,7 +7,7 @@ ghost use Rattle.wit_model.specs.WellFormed.{IsWellFormed};
 ghost use Rattle.rust_tree.specs.Ident.{rust_ident};
 ghost use Rattle.wrapper_closing.specs.Params.{arg_names, ret_area};
 ghost use Rattle.rust_gen.specs.Body.{AreExportParts, CallsMethodOf, IsCodeOf, IsExportCode, IsExportMade, IsExportOutside};
-ghost use Rattle.rust_gen.specs.Known.{AreAtHand, records_in};
+ghost use Rattle.rust_gen.specs.Known.{AreAtHand, sites_in};
 
 use crate::exported::{export_result, guest_name};
 use crate::tables::take_tables;
@@ -41,7 +41,7 @@ pub(crate) fn export_parts(
     requires well { IsWellFormed resolve.now }
     requires distinct { is_distinct (ret_area ∷ arg_names params.now) ≡ true }
     requires tables { AreAtHand resolve.now.types tables.old }
-    ensures { IfOk result (AreExportParts resolve.now.types (records_in tables.old) params.now) }
+    ensures { IfOk result (AreExportParts resolve.now.types (sites_in tables.old) params.now) }
 {
     let taken = take_tables(tables)?;
     let parts = BodyParts {
@@ -50,7 +50,7 @@ pub(crate) fn export_parts(
         area: ret_area(alloc)?,
         cleanup: cleanup_list(alloc)?,
         params: core_sites(alloc, params)?,
-        records: taken.records,
+        sites: taken.sites,
     };
     Ok(parts)
 }
@@ -86,9 +86,9 @@ fn export_code(
     requires well { IsWellFormed resolve.now }
     requires within { function_in_range resolve.now f.now ≡ true }
     requires tables { AreAtHand resolve.now.types tables.old }
-    ensures made { IfOk result (IsExportCode resolve.now.types (records_in tables.old) f.entry) }
+    ensures made { IfOk result (IsExportCode resolve.now.types (sites_in tables.old) f.entry) }
     ensures kept { OnOk result (AreAtHand resolve.now.types tables.new) }
-    ensures same { OnOk result (records_in tables.new ≡ records_in tables.old) }
+    ensures same { OnOk result (sites_in tables.new ≡ sites_in tables.old) }
 {
     let params = core_params(alloc, resolve, f)?;
     let parts = export_parts(alloc, resolve, tables, params.as_slice())?;
@@ -137,10 +137,10 @@ fn calling_code(
     requires well { IsWellFormed resolve.now }
     requires within { function_in_range resolve.now f.now ≡ true }
     requires tables { AreAtHand resolve.now.types tables.old }
-    ensures code { IfOk result (IsExportCode resolve.now.types (records_in tables.old) f.entry) }
+    ensures code { IfOk result (IsExportCode resolve.now.types (sites_in tables.old) f.entry) }
     ensures calls { IfOk result (λ code. CallsMethodOf f.now code.call) }
     ensures kept { OnOk result (AreAtHand resolve.now.types tables.new) }
-    ensures same { OnOk result (records_in tables.new ≡ records_in tables.old) }
+    ensures same { OnOk result (sites_in tables.new ≡ sites_in tables.old) }
 {
     let code = export_code(alloc, resolve, tables, f)?;
     if calls(alloc, f, &code.call)? {
@@ -168,9 +168,9 @@ pub(crate) fn export_wrapper(
     requires well { IsWellFormed resolve.now }
     requires within { function_in_range resolve.now f.now ≡ true }
     requires tables { AreAtHand resolve.now.types tables.old }
-    ensures made { IfOk result (IsExportMade resolve.now.types (records_in tables.old) f.now) }
+    ensures made { IfOk result (IsExportMade resolve.now.types (sites_in tables.old) f.now) }
     ensures kept { OnOk result (AreAtHand resolve.now.types tables.new) }
-    ensures same { OnOk result (records_in tables.new ≡ records_in tables.old) }
+    ensures same { OnOk result (sites_in tables.new ≡ sites_in tables.old) }
 {
     let ExportCode {
         call,

@@ -8,7 +8,7 @@ ghost use Rattle.gen_accept.specs.DeclaredNames.{param_idents};
 ghost use Rattle.type_defs.specs.ParamType.{HasFacts};
 ghost use Rattle.rust_gen.specs.Body.{AreImportParts, IsImportCode, IsImportMade, IsImportOutside};
 ghost use Rattle.rust_gen.specs.FixedName.{IsFixedName};
-ghost use Rattle.rust_gen.specs.Known.{AreAtHand, records_in};
+ghost use Rattle.rust_gen.specs.Known.{AreAtHand, sites_in};
 ghost use Rattle.rust_gen.specs.Wrapper.{DeclaresOne, root_module};
 
 use crate::declared::declares;
@@ -50,7 +50,7 @@ fn import_parts(
     requires well { IsWellFormed resolve.now }
     requires distinct { is_distinct (param_idents f.now) ≡ true }
     requires tables { AreAtHand resolve.now.types tables.old }
-    ensures { IfOk result (AreImportParts resolve.now.types (records_in tables.old) f.now) }
+    ensures { IfOk result (AreImportParts resolve.now.types (sites_in tables.old) f.now) }
 {
     let taken = take_tables(tables)?;
     let parts = BodyParts {
@@ -59,7 +59,7 @@ fn import_parts(
         area: name_beside(alloc, f, "ret_area")?,
         cleanup: name_beside(alloc, f, "cleanup_list")?,
         params: import_sites(alloc, f.params.as_slice())?,
-        records: taken.records,
+        sites: taken.sites,
     };
     Ok(parts)
 }
@@ -75,9 +75,9 @@ fn import_code(
     requires within { function_in_range resolve.now f.now ≡ true }
     requires distinct { is_distinct (param_idents f.now) ≡ true }
     requires tables { AreAtHand resolve.now.types tables.old }
-    ensures made { IfOk result (λ made. IsImportCode resolve.now.types (records_in tables.old) f.entry made.0 made.1) }
+    ensures made { IfOk result (λ made. IsImportCode resolve.now.types (sites_in tables.old) f.entry made.0 made.1) }
     ensures kept { OnOk result (AreAtHand resolve.now.types tables.new) }
-    ensures same { OnOk result (records_in tables.new ≡ records_in tables.old) }
+    ensures same { OnOk result (sites_in tables.new ≡ sites_in tables.old) }
 {
     let parts = import_parts(alloc, resolve, tables, f)?;
     let area = parts.area.copy(alloc)?;
@@ -118,10 +118,10 @@ fn declaring_code(
     requires within { function_in_range resolve.now f.now ≡ true }
     requires distinct { is_distinct (param_idents f.now) ≡ true }
     requires tables { AreAtHand resolve.now.types tables.old }
-    ensures code { IfOk result (λ made. IsImportCode resolve.now.types (records_in tables.old) f.entry made.0 made.1) }
+    ensures code { IfOk result (λ made. IsImportCode resolve.now.types (sites_in tables.old) f.entry made.0 made.1) }
     ensures declares { IfOk result (λ made. DeclaresOne resolve.now.types f.now made.0.stmts) }
     ensures kept { OnOk result (AreAtHand resolve.now.types tables.new) }
-    ensures same { OnOk result (records_in tables.new ≡ records_in tables.old) }
+    ensures same { OnOk result (sites_in tables.new ≡ sites_in tables.old) }
 {
     let made = import_code(alloc, resolve, tables, f)?;
     if declares(alloc, resolve, f, made.0.stmts.as_slice())? {
@@ -144,9 +144,9 @@ pub(crate) fn import_wrapper(
     requires distinct { is_distinct (param_idents f.now) ≡ true }
     requires tables { AreAtHand resolve.now.types tables.old }
     requires facts { HasFacts resolve.now facts.now }
-    ensures made { IfOk result (λ made. IsImportMade resolve.now.types (records_in tables.old) f.now made.0 made.1) }
+    ensures made { IfOk result (λ made. IsImportMade resolve.now.types (sites_in tables.old) f.now made.0 made.1) }
     ensures kept { OnOk result (AreAtHand resolve.now.types tables.new) }
-    ensures same { OnOk result (records_in tables.new ≡ records_in tables.old) }
+    ensures same { OnOk result (sites_in tables.new ≡ sites_in tables.old) }
 {
     let (body, runtime) = declaring_code(alloc, resolve, tables, f)?;
     let wrapper = import_fn(alloc, resolve, facts, f, body)?;

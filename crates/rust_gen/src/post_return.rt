@@ -4,7 +4,7 @@ ghost use Rattle.std.specs.Prelude.{◌≡◌, true, IfOk, OnOk};
 ghost use Rattle.wit_model.specs.IndexRange.{function_in_range};
 ghost use Rattle.wit_model.specs.WellFormed.{IsWellFormed};
 ghost use Rattle.rust_gen.specs.Body.{IsReturnCode, IsReturnMade, IsReturnOutside};
-ghost use Rattle.rust_gen.specs.Known.{AreAtHand, records_in};
+ghost use Rattle.rust_gen.specs.Known.{AreAtHand, sites_in};
 
 use crate::export::export_parts;
 use crate::exported::guest_name;
@@ -24,9 +24,9 @@ fn return_code(
     requires well { IsWellFormed resolve.now }
     requires within { function_in_range resolve.now f.now ≡ true }
     requires tables { AreAtHand resolve.now.types tables.old }
-    ensures made { IfOk result (λ made. IsReturnCode resolve.now.types (records_in tables.old) f.now made.0 made.1) }
+    ensures made { IfOk result (λ made. IsReturnCode resolve.now.types (sites_in tables.old) f.now made.0 made.1) }
     ensures kept { OnOk result (AreAtHand resolve.now.types tables.new) }
-    ensures same { OnOk result (records_in tables.new ≡ records_in tables.old) }
+    ensures same { OnOk result (sites_in tables.new ≡ sites_in tables.old) }
 {
     let params = post_return_params(alloc, resolve, f)?;
     if params.is_empty() {
@@ -72,9 +72,9 @@ pub(crate) fn post_return(
     requires well { IsWellFormed resolve.now }
     requires within { function_in_range resolve.now f.now ≡ true }
     requires tables { AreAtHand resolve.now.types tables.old }
-    ensures made { IfOk result (λ made. IsReturnMade resolve.now.types (records_in tables.old) f.now made.0 made.1) }
+    ensures made { IfOk result (λ made. IsReturnMade resolve.now.types (sites_in tables.old) f.now made.0 made.1) }
     ensures kept { OnOk result (AreAtHand resolve.now.types tables.new) }
-    ensures same { OnOk result (records_in tables.new ≡ records_in tables.old) }
+    ensures same { OnOk result (sites_in tables.new ≡ sites_in tables.old) }
 {
     let (body, runtime) = return_code(alloc, resolve, tables, f)?;
     let function = return_fn(alloc, resolve, f, body)?;

@@ -15,10 +15,10 @@ ghost use Rattle.gen_accept.specs.DeclaredNames.{param_idents};
 ghost use Rattle.gen_accept.specs.Emitted.{emitted_places};
 ghost use Rattle.rust_gen.specs.Body.{ArePartsWritten, IsExportWritten, IsReturnWritten, IsWritten, ReturnWritten};
 ghost use Rattle.type_defs.specs.ParamType.{HasFacts};
-ghost use Rattle.type_sites.specs.Sites.{record_sites};
+ghost use Rattle.type_sites.specs.Sites.{type_sites};
 ghost use Rattle.rust_gen.specs.Bound.{AreItems, Binds, Parts, areas_of, export_items, return_items};
 ghost use Rattle.gen_accept.specs.InRange.{AreInRange};
-ghost use Rattle.rust_gen.specs.Known.{AreAtHand, HaveDistinctParams, IsKnown, records_in};
+ghost use Rattle.rust_gen.specs.Known.{AreAtHand, HaveDistinctParams, IsKnown, sites_in};
 ghost use Rattle.rust_gen.specs.OptionLines.{option_lines, unused_types_line};
 ghost use Rattle.rust_gen.specs.Runtime.{runtime_module};
 
@@ -63,9 +63,9 @@ fn push_import(
     requires facts { HasFacts resolve.now facts.now }
     requires tables { AreAtHand resolve.now.types tables.old }
     ensures made { OnOk result
-        ((w : FnItem) × (items.new ≡ items.old ++ item.Import w ∷ []) × IsWritten resolve.now.types (records_in tables.old) f.now w) }
+        ((w : FnItem) × (items.new ≡ items.old ++ item.Import w ∷ []) × IsWritten resolve.now.types (sites_in tables.old) f.now w) }
     ensures kept { OnOk result (AreAtHand resolve.now.types tables.new) }
-    ensures same { OnOk result (records_in tables.new ≡ records_in tables.old) }
+    ensures same { OnOk result (sites_in tables.new ≡ sites_in tables.old) }
 {
     let (wrapper, runtime) = import_wrapper(alloc, resolve, facts, tables, f)?;
     let at = items.len();
@@ -88,9 +88,9 @@ fn push_imports(
     requires facts { HasFacts resolve.now facts.now }
     requires tables { AreAtHand resolve.now.types tables.old }
     ensures made { OnOk result
-        ((ws : List FnItem) × (items.new ≡ items.old ++ map item.Import ws) × AllZip (IsWritten resolve.now.types (records_in tables.old)) (map (λ f. f.now) functions.now) ws) }
+        ((ws : List FnItem) × (items.new ≡ items.old ++ map item.Import ws) × AllZip (IsWritten resolve.now.types (sites_in tables.old)) (map (λ f. f.now) functions.now) ws) }
     ensures kept { OnOk result (AreAtHand resolve.now.types tables.new) }
-    ensures same { OnOk result (records_in tables.new ≡ records_in tables.old) }
+    ensures same { OnOk result (sites_in tables.new ≡ sites_in tables.old) }
 {
     for function in functions {
         push_import(alloc, resolve, facts, tables, items, function)?;
@@ -110,9 +110,9 @@ fn push_wrapper(
     requires within { function_in_range resolve.now f.now ≡ true }
     requires tables { AreAtHand resolve.now.types tables.old }
     ensures made { IfOk result
-        (λ area. (e : ExportFn) × (items.new ≡ items.old ++ item.Export e ∷ []) × IsExportWritten resolve.now.types (records_in tables.old) f.now e area) }
+        (λ area. (e : ExportFn) × (items.new ≡ items.old ++ item.Export e ∷ []) × IsExportWritten resolve.now.types (sites_in tables.old) f.now e area) }
     ensures kept { OnOk result (AreAtHand resolve.now.types tables.new) }
-    ensures same { OnOk result (records_in tables.new ≡ records_in tables.old) }
+    ensures same { OnOk result (sites_in tables.new ≡ sites_in tables.old) }
 {
     let ExportMade {
         wrapper,
@@ -137,9 +137,9 @@ fn push_returning(
     requires within { function_in_range resolve.now f.now ≡ true }
     requires tables { AreAtHand resolve.now.types tables.old }
     ensures made { OnOk result
-        ((p : PostReturnFn) × (items.new ≡ items.old ++ item.PostReturn p ∷ []) × IsReturnWritten resolve.now.types (records_in tables.old) f.now p) }
+        ((p : PostReturnFn) × (items.new ≡ items.old ++ item.PostReturn p ∷ []) × IsReturnWritten resolve.now.types (sites_in tables.old) f.now p) }
     ensures kept { OnOk result (AreAtHand resolve.now.types tables.new) }
-    ensures same { OnOk result (records_in tables.new ≡ records_in tables.old) }
+    ensures same { OnOk result (sites_in tables.new ≡ sites_in tables.old) }
 {
     let (function, runtime) = post_return(alloc, resolve, tables, f)?;
     let at = items.len();
@@ -160,9 +160,9 @@ fn push_post_return(
     requires within { function_in_range resolve.now f.now ≡ true }
     requires tables { AreAtHand resolve.now.types tables.old }
     ensures made { OnOk result
-        ((p : Option PostReturnFn) × (items.new ≡ items.old ++ return_items p) × ReturnWritten resolve.now.types (records_in tables.old) (needs_return resolve.now.types f.now) f.now p) }
+        ((p : Option PostReturnFn) × (items.new ≡ items.old ++ return_items p) × ReturnWritten resolve.now.types (sites_in tables.old) (needs_return resolve.now.types f.now) f.now p) }
     ensures kept { OnOk result (AreAtHand resolve.now.types tables.new) }
-    ensures same { OnOk result (records_in tables.new ≡ records_in tables.old) }
+    ensures same { OnOk result (sites_in tables.new ≡ sites_in tables.old) }
 {
     if needs_return(resolve, f) {
         push_returning(alloc, resolve, tables, items, f)?;
@@ -195,9 +195,9 @@ fn push_export(
     requires within { function_in_range resolve.now f.now ≡ true }
     requires tables { AreAtHand resolve.now.types tables.old }
     ensures made { OnOk result
-        ((parts : Parts) × (items.new ≡ items.old ++ export_items parts) × (areas.new ≡ areas.old ++ option_to_list parts.2) × ArePartsWritten resolve.now.types (records_in tables.old) f.now parts) }
+        ((parts : Parts) × (items.new ≡ items.old ++ export_items parts) × (areas.new ≡ areas.old ++ option_to_list parts.2) × ArePartsWritten resolve.now.types (sites_in tables.old) f.now parts) }
     ensures kept { OnOk result (AreAtHand resolve.now.types tables.new) }
-    ensures same { OnOk result (records_in tables.new ≡ records_in tables.old) }
+    ensures same { OnOk result (sites_in tables.new ≡ sites_in tables.old) }
 {
     let area = push_wrapper(alloc, resolve, tables, items, f)?;
     push_post_return(alloc, resolve, tables, items, f)?;
@@ -217,9 +217,9 @@ fn push_exports(
     requires within { AreInRange resolve.now (map (λ f. f.now) functions.now) }
     requires tables { AreAtHand resolve.now.types tables.old }
     ensures made { IfOk result
-        (λ areas. (es : List Parts) × (items.new ≡ items.old ++ flat_map export_items es) × (areas ≡ flat_map option_to_list (areas_of es)) × AllZip (ArePartsWritten resolve.now.types (records_in tables.old)) (map (λ f. f.now) functions.now) es) }
+        (λ areas. (es : List Parts) × (items.new ≡ items.old ++ flat_map export_items es) × (areas ≡ flat_map option_to_list (areas_of es)) × AllZip (ArePartsWritten resolve.now.types (sites_in tables.old)) (map (λ f. f.now) functions.now) es) }
     ensures kept { OnOk result (AreAtHand resolve.now.types tables.new) }
-    ensures same { OnOk result (records_in tables.new ≡ records_in tables.old) }
+    ensures same { OnOk result (sites_in tables.new ≡ sites_in tables.old) }
 {
     let mut areas = List::new(alloc);
     for function in functions {
@@ -246,7 +246,7 @@ fn world_items(
     world: &World,
 ) -> Result<List<Item>, OutOfMemory>
     requires { IsKnown opts.now resolve.now id world.now }
-    ensures { IfOk result (AreItems (IsWritten resolve.now.types (record_sites resolve.now world.now)) (ArePartsWritten resolve.now.types (record_sites resolve.now world.now)) opts.now resolve.now id world.now) }
+    ensures { IfOk result (AreItems (IsWritten resolve.now.types (type_sites resolve.now world.now)) (ArePartsWritten resolve.now.types (type_sites resolve.now world.now)) opts.now resolve.now id world.now) }
 {
     let imports = functions_in(alloc, world.imports.as_slice())?;
     let exports = functions_in(alloc, world.exports.as_slice())?;
@@ -307,7 +307,7 @@ pub(crate) fn bindings_of(
     world: &World,
 ) -> Result<Bindings, OutOfMemory>
     requires { IsKnown opts.now resolve.now id world.now }
-    ensures bound { IfOk result (Binds (IsWritten resolve.now.types (record_sites resolve.now world.now)) (ArePartsWritten resolve.now.types (record_sites resolve.now world.now)) opts.now resolve.now id world.now) }
+    ensures bound { IfOk result (Binds (IsWritten resolve.now.types (type_sites resolve.now world.now)) (ArePartsWritten resolve.now.types (type_sites resolve.now world.now)) opts.now resolve.now id world.now) }
     ensures named { IfOk result (λ tree. are_well_named tree.options tree.items ≡ true) }
 {
     let items = world_items(alloc, opts, resolve, id, world)?;

@@ -1,12 +1,13 @@
 -- One level of what types and expressions name of `_rt`.
-use Rattle.std.proofs.Common.{◌≡◌, List, ◌∷◌, ◌++◌, sym, ap, ◌∙◌, append_assoc}
+use Rattle.std.proofs.Common.{◌≡◌, ℕ, List, ◌∷◌, ◌++◌, sym, ap, ◌∙◌, append_assoc}
 use Rattle.std.specs.List.{flat_map}
 use Rattle.std.proofs.lemmas.List.Folds.{flat_map-map}
 use Rattle.wit_model.specs.Bytes.{Bytes}
 use Rattle.rust_tree.specs.declared.expr.Expr.{Expr, Expr-F, fold-roll-Expr}
 use Rattle.rust_tree.specs.declared.expr.Expr.TheVariants as expr
-use Rattle.rust_tree.specs.declared.expr.Expr.TheVariants.{rolls-Array, rolls-Call, rolls-FromRawParts, rolls-Record, rolls-Tuple}
+use Rattle.rust_tree.specs.declared.expr.Expr.TheVariants.{rolls-Array, rolls-Call, rolls-FlagsOfWords, rolls-FromRawParts, rolls-Record, rolls-Tuple}
 use Rattle.rust_tree.specs.declared.path.Path.{Path}
+use Rattle.rust_tree.specs.declared.repr.Repr.{Repr}
 use Rattle.rust_tree.specs.declared.runtime_item.RuntimeItem.{RuntimeItem}
 use Rattle.rust_tree.specs.declared.runtime_item.RuntimeItem.TheVariants.{VecType}
 use Rattle.rust_tree.specs.declared.type_expr.TypeExpr.{TypeExpr, TypeExpr-F, fold-roll-TypeExpr}
@@ -36,6 +37,12 @@ asked-tuple es = ap asked_by_expr (sym (rolls-Tuple es)) ∙ fold-roll-Expr (Lis
 
 pub asked-array : (es : List Expr) → asked_by_expr (expr.Array es) ≡ flat_map asked_by_expr es
 asked-array es = ap asked_by_expr (sym (rolls-Array es)) ∙ fold-roll-Expr (List RuntimeItem) asked_step (Expr-F.Array es) ∙ flat_map-map (λ items. items) asked_by_expr es
+
+pub asked-words : (path : Path) (repr : Repr) (words : List (ℕ × Expr))
+    → asked_by_expr (expr.FlagsOfWords path repr words) ≡ asked_by_path path ++ flat_map (λ w. asked_by_path path ++ asked_by_expr w.1) words
+asked-words path repr words =
+    ap asked_by_expr (sym (rolls-FlagsOfWords path repr words)) ∙ fold-roll-Expr (List RuntimeItem) asked_step (Expr-F.FlagsOfWords path repr words)
+    ∙ ap (λ items. asked_by_path path ++ items) (flat_map-map (λ w. asked_by_path path ++ w.1) (λ (w : ℕ × Expr). (w.0, asked_by_expr w.1)) words)
 
 -- two parts that are named behind one another
 pub asked-behind : (before between first rest whole : List RuntimeItem) → between ≡ before ++ first → whole ≡ first ++ rest → between ++ rest ≡ before ++ whole

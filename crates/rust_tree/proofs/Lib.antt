@@ -1,4 +1,5 @@
 pub mod AskedLemmas
+pub mod Escapes
 pub mod Joins
 pub mod NamedLemmas
 pub mod NamedTypeLemmas

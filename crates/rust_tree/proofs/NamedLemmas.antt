@@ -1,5 +1,5 @@
 -- One level of an expression's names.
-use Rattle.std.proofs.Common.{◌≡◌, Bool, true, ◌&&◌, List, sym, ap, ◌∙◌, rules}
+use Rattle.std.proofs.Common.{◌≡◌, ℕ, Bool, true, ◌&&◌, List, map, sym, ap, ◌∙◌, rules}
 use Rattle.std.specs.List.{list_all}
 use Rattle.std.proofs.lemmas.List.Folds.{list_all-map}
 use Rattle.wit_model.specs.Bytes.{Bytes}
@@ -9,11 +9,12 @@ use Rattle.wit_model.specs.declared.wasm_type.WasmType.{WasmType}
 use Rattle.rust_tree.specs.declared.expr.CastType.{CastType}
 use Rattle.rust_tree.specs.declared.expr.Expr.{Expr, Expr-F, fold-roll-Expr, the_lemmas}
 use Rattle.rust_tree.specs.declared.expr.Expr.TheVariants as expr
-use Rattle.rust_tree.specs.declared.expr.Expr.TheVariants.{rolls-Array, rolls-Call, rolls-Cast, rolls-FromRawParts, rolls-I32FromBool, rolls-Load, rolls-LoadSmall, rolls-Tuple}
+use Rattle.rust_tree.specs.declared.expr.Expr.TheVariants.{rolls-Array, rolls-Call, rolls-Cast, rolls-EnumNumber, rolls-FlagsOfWords, rolls-FromRawParts, rolls-I32FromBool, rolls-Load, rolls-LoadSmall, rolls-Tuple}
 use Rattle.rust_tree.specs.declared.expr.SmallType.{SmallType}
 use Rattle.rust_tree.specs.declared.path.Path.{Path}
+use Rattle.rust_tree.specs.declared.repr.Repr.{Repr}
 use Rattle.rust_tree.specs.Ident.{is_ident}
-use Rattle.rust_tree.specs.WellNamed.{are_path_names, is_named_expr, named_step}
+use Rattle.rust_tree.specs.WellNamed.{are_path_names, are_words, is_named_expr, named_step}
 
 pub is_named-local : (name : Bytes) → is_named_expr (expr.Local name) ≡ is_ident name
 is_named-local name = search (rules, the_lemmas)
@@ -67,3 +68,13 @@ is_named-tuple es = ap is_named_expr (sym (rolls-Tuple es)) ∙ fold-roll-Expr B
 
 pub is_named-array : (es : List Expr) → is_named_expr (expr.Array es) ≡ list_all is_named_expr es
 is_named-array es = ap is_named_expr (sym (rolls-Array es)) ∙ fold-roll-Expr Bool named_step (Expr-F.Array es) ∙ list_all-map (λ b. b) is_named_expr es
+
+pub is_named-number : (e : Expr) → is_named_expr (expr.EnumNumber e) ≡ is_named_expr e
+is_named-number e = ap is_named_expr (sym (rolls-EnumNumber e)) ∙ fold-roll-Expr Bool named_step (Expr-F.EnumNumber e)
+
+pub is_named-bits : (name : Bytes) (n : ℕ) → is_named_expr (expr.FlagsBits name n) ≡ is_ident name
+is_named-bits name n = search (rules, the_lemmas)
+
+pub is_named-words : (path : Path) (repr : Repr) (words : List (ℕ × Expr))
+    → is_named_expr (expr.FlagsOfWords path repr words) ≡ (are_path_names path.names && are_words (map (λ w. (w.0, is_named_expr w.1)) words))
+is_named-words path repr words = ap is_named_expr (sym (rolls-FlagsOfWords path repr words)) ∙ fold-roll-Expr Bool named_step (Expr-F.FlagsOfWords path repr words)

@@ -78,6 +78,9 @@ asked_step (Expr-F.Size size) = []
 asked_step (Expr-F.Record path fields) = asked_by_path path ++ flat_map (λ f. f.1) fields
 asked_step (Expr-F.Tuple parts) = flat_map (λ e. e) parts
 asked_step (Expr-F.Array parts) = flat_map (λ e. e) parts
+asked_step (Expr-F.EnumNumber e) = e
+asked_step (Expr-F.FlagsBits name n) = []
+asked_step (Expr-F.FlagsOfWords path repr words) = asked_by_path path ++ flat_map (λ w. asked_by_path path ++ w.1) words
 
 abbrev pub asked_by_expr : Expr → List RuntimeItem
 asked_by_expr = fold-Expr (List RuntimeItem) asked_step
@@ -125,6 +128,8 @@ asked_by_method f = asked_by_signature f.params f.result
 abbrev pub asked_by_definition : TypeItem → List RuntimeItem
 asked_by_definition (type_item.Struct s) = flat_map asked_by_path s.derives ++ flat_map (λ f. asked_by_type f.ty) s.fields
 asked_by_definition (type_item.Alias a) = asked_by_type a.ty
+asked_by_definition (type_item.Enum e) = flat_map asked_by_path e.derives
+asked_by_definition (type_item.Flags f) = asked_by_path f.bitflags
 
 -- what stands in `_rt` is needed by what stands there, and not asked for
 abbrev pub asked_by_item : Item → List RuntimeItem

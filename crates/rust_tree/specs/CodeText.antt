@@ -16,6 +16,8 @@ use Rattle.rust_tree.specs.declared.expr.SmallType.TheVariants as small
 use Rattle.rust_tree.specs.declared.path.Path.{Path}
 use Rattle.rust_tree.specs.declared.pattern.Pattern.{Pattern}
 use Rattle.rust_tree.specs.declared.pattern.Pattern.TheVariants as pattern
+use Rattle.rust_tree.specs.declared.repr.Repr.{Repr}
+use Rattle.rust_tree.specs.declared.repr.Repr.TheVariants as repr
 use Rattle.rust_tree.specs.declared.stmt.Block.{Block}
 use Rattle.rust_tree.specs.declared.stmt.ImportDecl.{ImportDecl}
 use Rattle.rust_tree.specs.declared.stmt.Stmt.{Stmt}
@@ -25,13 +27,14 @@ use Rattle.rust_tree.specs.declared.type_expr.Primitive.TheVariants as primitive
 use Rattle.rust_tree.specs.declared.type_expr.TypeExpr.{TypeExpr, TypeExpr-F, fold-TypeExpr}
 use Rattle.rust_tree.specs.declared.print.word.area.AreaWord.TheVariants.{PointerAlign, Align, AlignEnd, AreaType, AreaValue, AreaEnd}
 use Rattle.rust_tree.specs.declared.print.word.definition.DefinitionWord.TheVariants.{TupleEnd, OptionType, OptionEnd, ArrayLength}
-use Rattle.rust_tree.specs.declared.print.word.expr.ExprWord.TheVariants.{Match, BoolArms, AsPtr, Len, CastMut, AreaPointer, Dereference, Add, CastTo, CastEnd, FromRawParts, PointerCast, IntoBoxedBytes, StaticPointer, OpenFields, CloseFields, OpenArray, CloseArray, LoneComma, Widened}
+use Rattle.rust_tree.specs.declared.print.word.expr.ExprWord.TheVariants.{Match, BoolArms, AsPtr, Len, CastMut, AreaPointer, Dereference, Add, CastTo, CastEnd, FromRawParts, PointerCast, IntoBoxedBytes, StaticPointer, OpenFields, CloseFields, OpenArray, CloseArray, LoneComma, Widened, CaseNumber}
+use Rattle.rust_tree.specs.declared.print.word.flags.FlagsWord.TheVariants.{Bits, AsCoreWord, Empty, Or, FromBits, AsWord, ShiftedBy, FromBitsEnd}
 use Rattle.rust_tree.specs.declared.print.word.import.ImportWord.TheVariants.{WasmLink, ExternBlock, LinkedFn, OtherFn, Unreachable, UnnamedParam}
 use Rattle.rust_tree.specs.declared.print.word.item.ItemWord.TheVariants.{EmptyDoc, Doc, UnitType, StrType, StringName}
 use Rattle.rust_tree.specs.declared.print.word.sign.Sign.{Sign}
 use Rattle.rust_tree.specs.declared.print.word.sign.Sign.TheVariants.{LineEnd, StatementEnd, CloseBlock, Open, Close, Comma, Colon, Arrow, PathMark, Super, Reference, As, Let, Equals, LetMut}
 use Rattle.wit_model.specs.Bytes.{Bytes}
-use Rattle.rust_tree.specs.Word.{area_word, definition_word, expr_word, import_word, item_word, sign}
+use Rattle.rust_tree.specs.Word.{area_word, definition_word, expr_word, flags_word, import_word, item_word, sign}
 
 -- doc lines
 
@@ -122,6 +125,13 @@ core_type_text core.Pointer = codes "*mut u8"
 core_type_text core.PointerOrI64 = codes "::core::mem::MaybeUninit::<u64>"
 core_type_text core.Length = codes "usize"
 
+abbrev pub repr_type_text : Repr → Bytes
+repr_type_text repr.U8 = codes "u8"
+repr_type_text repr.U16 = codes "u16"
+repr_type_text repr.U32 = codes "u32"
+repr_type_text repr.U64 = codes "u64"
+repr_type_text repr.U128 = codes "u128"
+
 -- sizes
 
 -- a size as an argument, and as a length: without brackets
@@ -187,6 +197,23 @@ parts_text es = sign Open ++ listed_text es ++ lone_comma es ++ sign Close
 abbrev pub array_text : List Spelled → Bytes
 array_text es = expr_word OpenArray ++ listed_text es ++ expr_word CloseArray
 
+-- words with the texts of the expressions that they are
+abbrev pub spelled_words : List (ℕ × Spelled) → List (ℕ × Bytes)
+spelled_words words = map (λ w. (w.0, w.1.text)) words
+
+-- ` | P::from_bits_retain(((e as u32 as u64) << 32) as _)`, with the text of the word
+abbrev pub or_word_text : Path → Repr → ℕ × Bytes → Bytes
+or_word_text path r w =
+    (flags_word Or ++ path_text path ++ flags_word FromBits) ++ w.1 ++ (flags_word AsWord ++ repr_type_text r ++ flags_word ShiftedBy ++ decimal w.0 ++ flags_word FromBitsEnd)
+
+-- `P::empty() | P::from_bits_retain(((e as u32 as u64) << 32) as _)`
+abbrev pub flags_of_words_text : Path → Repr → List (ℕ × Bytes) → Bytes
+flags_of_words_text path r words = path_text path ++ flags_word Empty ++ flat_map (or_word_text path r) words
+
+-- `(x.bits() >> 32) as i32`
+abbrev pub flags_bits_text : Bytes → ℕ → Bytes
+flags_bits_text name n = sign Open ++ name ++ flags_word Bits ++ decimal n ++ flags_word AsCoreWord
+
 -- one level of an expression, with the expressions in it as they are spelled
 abbrev pub expr_step : Expr-F Spelled → Spelled
 expr_step (Expr-F.Local name) = record { text = name; is_local = true }
@@ -207,6 +234,9 @@ expr_step (Expr-F.Size size) = compound (term_text size)
 expr_step (Expr-F.Record path fields) = compound (path_text path ++ fields_text (spelled_fields fields))
 expr_step (Expr-F.Tuple parts) = compound (parts_text parts)
 expr_step (Expr-F.Array parts) = compound (array_text parts)
+expr_step (Expr-F.EnumNumber e) = compound (sign Open ++ e.text ++ expr_word CaseNumber)
+expr_step (Expr-F.FlagsBits name n) = compound (flags_bits_text name n)
+expr_step (Expr-F.FlagsOfWords path r words) = compound (flags_of_words_text path r (spelled_words words))
 
 abbrev pub expr_spelled : Expr → Spelled
 expr_spelled = fold-Expr Spelled expr_step
@@ -217,6 +247,10 @@ expr_text e = (expr_spelled e).text
 -- the fields of a record, with the texts of the expressions behind them
 abbrev pub expr_fields : List (Bytes × Expr) → List (Bytes × Bytes)
 expr_fields fields = spelled_fields (map (λ f. (f.0, expr_spelled f.1)) fields)
+
+-- words with the texts of the expressions that they are
+abbrev pub expr_words : List (ℕ × Expr) → List (ℕ × Bytes)
+expr_words words = spelled_words (map (λ w. (w.0, expr_spelled w.1)) words)
 
 abbrev pub arguments_text : List Expr → Bytes
 arguments_text es = bracketed_text (map expr_spelled es)

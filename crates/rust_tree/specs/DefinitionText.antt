@@ -1,15 +1,17 @@
 -- The text of the definition of a type.
-use Rattle.std.specs.Prelude.{Bool, true, false, List, [], ◌∷◌, ◌++◌}
-use Rattle.std.specs.List.{flat_map, join_by}
-use Rattle.rust_tree.specs.declared.path.Path.{Path}
+use Rattle.std.specs.Prelude.{Bool, true, false, [], ◌++◌}
+use Rattle.std.specs.List.{flat_map}
 use Rattle.rust_tree.specs.declared.type_item.AliasItem.{AliasItem}
 use Rattle.rust_tree.specs.declared.type_item.StructField.{StructField}
 use Rattle.rust_tree.specs.declared.type_item.StructItem.{StructItem}
 use Rattle.rust_tree.specs.declared.type_item.TypeItem.{TypeItem}
-use Rattle.rust_tree.specs.declared.type_item.TypeItem.TheVariants.{Struct, Alias}
-use Rattle.rust_tree.specs.declared.print.word.definition.DefinitionWord.TheVariants.{ReprC, Derive, DeriveEnd, PublicStruct, PublicField, FieldEnd, DebugImpl, DebugFn, DebugStruct, DebugName, DebugField, DebugValue, Finish, PublicType}
-use Rattle.rust_tree.specs.declared.print.word.sign.Sign.TheVariants.{StatementEnd, OpenBlock, CloseBlock, Close, Comma, Colon, Equals}
-use Rattle.rust_tree.specs.CodeText.{doc_text, path_text, type_text}
+use Rattle.rust_tree.specs.declared.type_item.TypeItem.TheVariants.{Struct, Alias, Enum, Flags}
+use Rattle.rust_tree.specs.declared.print.word.definition.DefinitionWord.TheVariants.{ReprC, PublicStruct, PublicField, FieldEnd, DebugImpl, DebugFn, DebugStruct, DebugName, DebugField, DebugValue, Finish, PublicType}
+use Rattle.rust_tree.specs.declared.print.word.sign.Sign.TheVariants.{StatementEnd, OpenBlock, CloseBlock, Close, Colon, Equals}
+use Rattle.rust_tree.specs.CodeText.{doc_text, type_text}
+use Rattle.rust_tree.specs.Derives.{derives_text}
+use Rattle.rust_tree.specs.EnumText.{enum_text}
+use Rattle.rust_tree.specs.FlagsText.{flags_text}
 use Rattle.wit_model.specs.Bytes.{Bytes}
 use Rattle.rust_tree.specs.Word.{definition_word, sign}
 
@@ -17,11 +19,6 @@ use Rattle.rust_tree.specs.Word.{definition_word, sign}
 abbrev pub repr_text : Bool → Bytes
 repr_text true = definition_word ReprC
 repr_text false = []
-
--- `#[derive(X, Y)]`, or nothing
-abbrev pub derives_text : List Path → Bytes
-derives_text [] = []
-derives_text (first ∷ others) = definition_word Derive ++ join_by path_text (sign Comma) (first ∷ others) ++ definition_word DeriveEnd
 
 -- `pub name: T,`
 abbrev pub field_text : StructField → Bytes
@@ -52,3 +49,5 @@ alias_text a = flat_map doc_text a.docs ++ definition_word PublicType ++ a.name 
 abbrev pub type_item_text : TypeItem → Bytes
 type_item_text (Struct s) = struct_text s
 type_item_text (Alias a) = alias_text a
+type_item_text (Enum e) = enum_text e
+type_item_text (Flags f) = flags_text f

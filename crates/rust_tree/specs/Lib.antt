@@ -1,7 +1,10 @@
 pub mod Asked
 pub mod CodeText
 pub mod DefinitionText
+pub mod Derives
+pub mod EnumText
 pub mod ExportText
+pub mod FlagsText
 pub mod Ident
 pub mod Runtime
 pub mod RuntimeText

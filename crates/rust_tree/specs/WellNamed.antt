@@ -1,13 +1,19 @@
 -- Which texts may stand in a tree: as its names, between double quotes, as doc lines, and as the option lines of its preamble.
-use Rattle.std.specs.Prelude.{Bool, true, false, not, ◌&&◌, ◌||◌, ◌==◌, List, [], ◌∷◌, Option, None, Some, codes, map}
+use Rattle.std.specs.Prelude.{ℕ, Bool, true, false, not, ◌&&◌, ◌||◌, ◌==◌, List, [], ◌∷◌, Option, None, Some, codes, map}
 use Rattle.std.specs.List.{list_all, starts_with}
 use Rattle.std.specs.Str.{bytes_eq}
 use Rattle.wit_model.specs.Bytes.{Bytes}
+use Rattle.rust_tree.specs.declared.enum_item.EnumCase.{EnumCase}
+use Rattle.rust_tree.specs.declared.enum_item.EnumItem.{EnumItem}
+use Rattle.rust_tree.specs.declared.enum_item.ErrorCase.{ErrorCase}
+use Rattle.rust_tree.specs.declared.enum_item.ErrorEnum.{ErrorEnum}
 use Rattle.rust_tree.specs.declared.export.CallBlock.{CallBlock}
 use Rattle.rust_tree.specs.declared.export.CoreParam.{CoreParam}
 use Rattle.rust_tree.specs.declared.export.ExportFn.{ExportFn}
 use Rattle.rust_tree.specs.declared.export.PostReturnFn.{PostReturnFn}
 use Rattle.rust_tree.specs.declared.expr.Expr.{Expr, Expr-F, fold-Expr}
+use Rattle.rust_tree.specs.declared.flags_item.FlagsItem.{FlagsItem}
+use Rattle.rust_tree.specs.declared.flags_item.FlagsMember.{FlagsMember}
 use Rattle.rust_tree.specs.declared.item.FnItem.{FnItem}
 use Rattle.rust_tree.specs.declared.item.FnParam.{FnParam}
 use Rattle.rust_tree.specs.declared.item.Item.{Item}
@@ -29,7 +35,7 @@ use Rattle.rust_tree.specs.declared.type_item.AliasItem.{AliasItem}
 use Rattle.rust_tree.specs.declared.type_item.StructField.{StructField}
 use Rattle.rust_tree.specs.declared.type_item.StructItem.{StructItem}
 use Rattle.rust_tree.specs.declared.type_item.TypeItem.{TypeItem}
-use Rattle.rust_tree.specs.declared.type_item.TypeItem.TheVariants.{Struct, Alias}
+use Rattle.rust_tree.specs.declared.type_item.TypeItem.TheVariants.{Struct, Alias, Enum, Flags}
 use Rattle.rust_tree.specs.Ident.{is_ident, is_primitive_name, may_follow}
 
 -- texts
@@ -96,6 +102,10 @@ is_named_type = fold-TypeExpr Bool named_type_step
 abbrev pub are_fields : List (Bytes × Bool) → Bool
 are_fields fields = list_all (λ f. is_ident f.0 && f.1) fields
 
+-- words of flags, of which there is one at least, with the answers for the expressions that they are
+abbrev pub are_words : List (ℕ × Bool) → Bool
+are_words words = is_nonempty words && list_all (λ w. w.1) words
+
 -- one level of an expression, with the answers for the expressions in it
 abbrev pub named_step : Expr-F Bool → Bool
 named_step (Expr-F.Local name) = is_ident name
@@ -116,6 +126,9 @@ named_step (Expr-F.Size size) = true
 named_step (Expr-F.Record path fields) = are_path_names path.names && are_fields fields
 named_step (Expr-F.Tuple parts) = list_all (λ e. e) parts
 named_step (Expr-F.Array parts) = list_all (λ e. e) parts
+named_step (Expr-F.EnumNumber e) = e
+named_step (Expr-F.FlagsBits name n) = is_ident name
+named_step (Expr-F.FlagsOfWords path repr words) = are_path_names path.names && are_words words
 
 abbrev pub is_named_expr : Expr → Bool
 is_named_expr = fold-Expr Bool named_step
@@ -165,9 +178,31 @@ is_named_struct s = list_all is_line s.docs && list_all (λ path. are_path_names
 abbrev pub is_named_alias : AliasItem → Bool
 is_named_alias a = list_all is_line a.docs && is_ident a.name && is_named_type a.ty
 
+abbrev pub is_named_case : EnumCase → Bool
+is_named_case c = list_all is_line c.docs && is_ident c.name
+
+-- a message may be any text, since it is escaped
+abbrev pub is_named_error_case : ErrorCase → Bool
+is_named_error_case c = is_ident c.name && is_quotable c.wit
+
+abbrev pub is_named_error : ErrorEnum → Bool
+is_named_error e = list_all is_named_error_case e.cases
+
+abbrev pub is_named_enum : EnumItem → Bool
+is_named_enum e =
+    list_all is_line e.docs && list_all (λ path. are_path_names path.names) e.derives && is_ident e.name && list_all is_named_case e.cases && is_absent_or is_named_error e.error
+
+abbrev pub is_named_member : FlagsMember → Bool
+is_named_member m = list_all is_line m.docs && is_ident m.name
+
+abbrev pub is_named_flags : FlagsItem → Bool
+is_named_flags f = are_path_names f.bitflags.names && list_all is_line f.docs && is_ident f.name && list_all is_named_member f.members
+
 abbrev pub is_named_type_item : TypeItem → Bool
 is_named_type_item (Struct s) = is_named_struct s
 is_named_type_item (Alias a) = is_named_alias a
+is_named_type_item (Enum e) = is_named_enum e
+is_named_type_item (Flags f) = is_named_flags f
 
 -- what is exported
 

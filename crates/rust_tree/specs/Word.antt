@@ -8,7 +8,7 @@ use Rattle.rust_tree.specs.declared.print.word.item.ItemWord.TheVariants.{Preamb
 use Rattle.rust_tree.specs.declared.print.word.import.ImportWord.{ImportWord}
 use Rattle.rust_tree.specs.declared.print.word.import.ImportWord.TheVariants.{WasmLink, ExternBlock, LinkedFn, OtherFn, Unreachable, UnnamedParam}
 use Rattle.rust_tree.specs.declared.print.word.expr.ExprWord.{ExprWord}
-use Rattle.rust_tree.specs.declared.print.word.expr.ExprWord.TheVariants.{Match, BoolArms, AsPtr, Len, CastMut, AreaPointer, Dereference, Add, CastTo, CastEnd, FromRawParts, PointerCast, IntoBoxedBytes, StaticPointer, OpenFields, CloseFields, OpenArray, CloseArray, LoneComma, Widened}
+use Rattle.rust_tree.specs.declared.print.word.expr.ExprWord.TheVariants.{Match, BoolArms, AsPtr, Len, CastMut, AreaPointer, Dereference, Add, CastTo, CastEnd, FromRawParts, PointerCast, IntoBoxedBytes, StaticPointer, OpenFields, CloseFields, OpenArray, CloseArray, LoneComma, Widened, CaseNumber}
 use Rattle.rust_tree.specs.declared.print.word.area.AreaWord.{AreaWord}
 use Rattle.rust_tree.specs.declared.print.word.area.AreaWord.TheVariants.{PointerAlign, Align, AlignEnd, AreaType, AreaValue, AreaEnd, StaticArea}
 use Rattle.rust_tree.specs.declared.print.word.export.ExportWord.{ExportWord}
@@ -23,6 +23,10 @@ use Rattle.rust_tree.specs.declared.print.word.definition.DefinitionWord.{Defini
 use Rattle.rust_tree.specs.declared.print.word.definition.DefinitionWord.TheVariants.{ReprC, Derive, DeriveEnd, PublicStruct, PublicField, FieldEnd, DebugImpl, DebugFn, DebugStruct, DebugName, DebugField, DebugValue, Finish, PublicType, TupleEnd, OptionType, OptionEnd, ArrayLength}
 use Rattle.rust_tree.specs.declared.print.word.lift.LiftWord.{LiftWord}
 use Rattle.rust_tree.specs.declared.print.word.lift.LiftWord.TheVariants.{IfDebug, Otherwise, LiftEnd, BoolLiftType, CheckedBool, UncheckedBool, CharLiftType, CheckedChar, UncheckedChar, StringLiftType, CheckedString, UncheckedString}
+use Rattle.rust_tree.specs.declared.print.word.enums.EnumWord.{EnumWord}
+use Rattle.rust_tree.specs.declared.print.word.enums.EnumWord.TheVariants.{OpenRepr, CloseRepr, PublicEnum, CaseEnd, Impl, MatchSelf, CaseTuple, CaseFinish, NameFn, MessageFn, CaseText, CaseTextEnd, ErrorFields, DisplayImpl, WriteError, StdFeature, ErrorImpl, EmptyBlock, LiftFn, LiftResult, LiftBody, Arm, NoCase, EscapedQuote, EscapedBackslash, EscapedLineFeed, EscapedReturn}
+use Rattle.rust_tree.specs.declared.print.word.flags.FlagsWord.{FlagsWord}
+use Rattle.rust_tree.specs.declared.print.word.flags.FlagsWord.TheVariants.{OpenMacro, PublicFlags, Const, Bit, Bits, AsCoreWord, Empty, Or, FromBits, AsWord, ShiftedBy, FromBitsEnd}
 
 -- marks and small words
 unfoldable pub sign : Sign → Bytes
@@ -87,6 +91,7 @@ expr_word OpenArray = codes "["
 expr_word CloseArray = codes "]"
 expr_word LoneComma = codes ","
 expr_word Widened = codes "i32::from(*"
+expr_word CaseNumber = codes ").clone() as i32"
 
 -- a return area, and a static one
 unfoldable pub area_word : AreaWord → Bytes
@@ -193,3 +198,48 @@ definition_word TupleEnd = codes ",)"
 definition_word OptionType = codes "::core::option::Option<"
 definition_word OptionEnd = codes ">"
 definition_word ArrayLength = codes "; "
+
+-- the definition of an enum, its `Debug`, what an error enum has, and `_lift`
+unfoldable pub enum_word : EnumWord → Bytes
+enum_word OpenRepr = codes "#[repr("
+enum_word CloseRepr = codes ")]\n"
+enum_word PublicEnum = codes "pub enum "
+enum_word CaseEnd = codes ",\n"
+enum_word Impl = codes "impl "
+enum_word MatchSelf = codes "match self {\n"
+enum_word CaseTuple = codes " => f.debug_tuple(\""
+enum_word CaseFinish = codes "\").finish(),\n"
+enum_word NameFn = codes "pub fn name(&self) -> &'static str {\n"
+enum_word MessageFn = codes "pub fn message(&self) -> &'static str {\n"
+enum_word CaseText = codes " => \""
+enum_word CaseTextEnd = codes "\",\n"
+enum_word ErrorFields = codes "\").field(\"code\", &(*self as i32)).field(\"name\", &self.name()).field(\"message\", &self.message()).finish()\n"
+enum_word DisplayImpl = codes "impl ::core::fmt::Display for "
+enum_word WriteError = codes "::core::write!(f, \"{} (error {})\", self.name(), *self as i32)\n"
+enum_word StdFeature = codes "#[cfg(feature = \"std\")]\n"
+enum_word ErrorImpl = codes "impl ::core::error::Error for "
+enum_word EmptyBlock = codes " {}\n"
+enum_word LiftFn = codes "#[doc(hidden)]\npub unsafe fn _lift(val: "
+enum_word LiftResult = codes ") -> "
+enum_word LiftBody = codes " {\nif !cfg!(debug_assertions) { return unsafe { ::core::mem::transmute(val) }; }\nmatch val {\n"
+enum_word Arm = codes " => "
+enum_word NoCase = codes "_ => panic!(\"invalid enum discriminant\"),\n}\n}\n}\n"
+enum_word EscapedQuote = codes "\\\""
+enum_word EscapedBackslash = codes "\\\\"
+enum_word EscapedLineFeed = codes "\\n"
+enum_word EscapedReturn = codes "\\r"
+
+-- the definition of a flags type, and flags as words
+unfoldable pub flags_word : FlagsWord → Bytes
+flags_word OpenMacro = codes "::bitflags! {\n"
+flags_word PublicFlags = codes "#[derive(PartialEq, Eq, PartialOrd, Ord, Hash, Debug, Clone, Copy)]\npub struct "
+flags_word Const = codes "const "
+flags_word Bit = codes " = 1 << "
+flags_word Bits = codes ".bits() >> "
+flags_word AsCoreWord = codes ") as i32"
+flags_word Empty = codes "::empty()"
+flags_word Or = codes " | "
+flags_word FromBits = codes "::from_bits_retain((("
+flags_word AsWord = codes " as u32 as "
+flags_word ShiftedBy = codes ") << "
+flags_word FromBitsEnd = codes ") as _)"

@@ -80,8 +80,10 @@ fn ask_by_expr(asked: &mut List<RuntimeItem>, e: &Expr) -> Result<(), OutOfMemor
     match e {
         Expr::Local(_) | Expr::Ref(_) | Expr::AsPtr(_) | Expr::Len(_) => Ok(()),
         Expr::CastMut(_) | Expr::ReturnPointer(_) | Expr::IntoBoxedBytes(_) => Ok(()),
-        Expr::StaticPointer | Expr::Size(_) => Ok(()),
-        Expr::Cast(e, _) | Expr::I32FromBool(e) => ask_by_expr(asked, e.get()),
+        Expr::StaticPointer | Expr::Size(_) | Expr::FlagsBits(_, _) => Ok(()),
+        Expr::Cast(e, _) | Expr::I32FromBool(e) | Expr::EnumNumber(e) => {
+            ask_by_expr(asked, e.get())
+        }
         Expr::Call(path, arguments) => {
             ask_by_path(asked, path)?;
             ask_by_exprs(asked, arguments.as_slice())
@@ -99,6 +101,10 @@ fn ask_by_expr(asked: &mut List<RuntimeItem>, e: &Expr) -> Result<(), OutOfMemor
         }
         Expr::Tuple(parts) => ask_by_exprs(asked, parts.as_slice()),
         Expr::Array(parts) => ask_by_exprs(asked, parts.as_slice()),
+        Expr::FlagsOfWords(path, _, words) => {
+            ask_by_path(asked, path)?;
+            ask_by_words(asked, path, words.as_slice())
+        }
     }
 }
 
@@ -118,6 +124,22 @@ fn ask_by_fields(asked: &mut List<RuntimeItem>, fields: &[(Text, Expr)]) -> Resu
 {
     for field in fields {
         ask_by_expr(asked, &field.1)?;
+    }
+    Ok(())
+}
+
+/// What the words of flags name: each stands behind the path of the flags' type.
+#[cycle(asked_expr)]
+fn ask_by_words(
+    asked: &mut List<RuntimeItem>,
+    path: &Path,
+    words: &[(u32, Expr)],
+) -> Result<(), OutOfMemory>
+    ensures { OnOk result (asked.new ≡ asked.old ++ flat_map (λ w. asked_by_path path.now ++ asked_by_expr w.1) words.now) }
+{
+    for word in words {
+        ask_by_path(asked, path)?;
+        ask_by_expr(asked, &word.1)?;
     }
     Ok(())
 }
@@ -250,6 +272,8 @@ fn ask_by_definition(asked: &mut List<RuntimeItem>, item: &TypeItem) -> Result<(
             ask_by_struct_fields(asked, item.fields.as_slice())
         }
         TypeItem::Alias(item) => ask_by_type(asked, &item.ty),
+        TypeItem::Enum(item) => ask_by_paths(asked, item.derives.as_slice()),
+        TypeItem::Flags(item) => ask_by_path(asked, &item.bitflags),
     }
 }
 

@@ -1,4 +1,5 @@
 use crate::path::Path;
+use crate::repr::Repr;
 use wit_model::{ArchitectureSize, Boxed, List, Text, WasmType};
 
 /// The type behind `as` in a cast.
@@ -60,4 +61,11 @@ pub enum Expr {
     Tuple(List<Expr>),
     /// An array: `[x, y]`.
     Array(List<Expr>),
+    /// The number of an enum's case, as a word: `(e).clone() as i32`.
+    EnumNumber(Boxed<Expr>),
+    /// The lowest word of the flags in a local once they are shifted by so many bits: `(x.bits() >> 32) as i32`.
+    FlagsBits(Text, u32),
+    /// The flags of a type by its path, of words that are each shifted by so many bits; there is a word:
+    /// `P::empty() | P::from_bits_retain(((e as u32 as u64) << 32) as _)`.
+    FlagsOfWords(Path, Repr, List<(u32, Expr)>),
 }

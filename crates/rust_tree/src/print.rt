@@ -3,8 +3,13 @@
 mod area;
 mod conversion;
 mod core_import;
+mod derives;
+mod enum_item;
+mod error_enum;
+mod escaped;
 mod export;
 mod expr;
+mod flags_item;
 mod function;
 mod macros;
 mod named_param;

@@ -1,5 +1,7 @@
 //! Definitions of types.
 
+use crate::enum_item::EnumItem;
+use crate::flags_item::FlagsItem;
 use crate::path::Path;
 use crate::type_expr::TypeExpr;
 use wit_model::{List, Text};
@@ -42,4 +44,6 @@ pub struct AliasItem {
 pub enum TypeItem {
     Struct(StructItem),
     Alias(AliasItem),
+    Enum(EnumItem),
+    Flags(FlagsItem),
 }

@@ -1,7 +1,9 @@
 //! Whether the names of a tree are identifiers, and its other texts stay where they are printed.
 
 mod code;
+mod enum_item;
 mod export;
+mod flags_item;
 mod function;
 mod text;
 mod type_expr;

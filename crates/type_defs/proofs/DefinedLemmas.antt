@@ -21,7 +21,7 @@ use Rattle.rust_tree.specs.Ident.{type_ident}
 use Rattle.type_defs.specs.declared.type_opts.TypeOpts.{TypeOpts}
 use Rattle.type_defs.specs.declared.ownership.Ownership.{Ownership}
 use Rattle.type_defs.specs.declared.ownership.Ownership.TheVariants.{Owning, Borrowing}
-use Rattle.type_defs.specs.Modes.{is_owning, Borrowed, Defined, Mode, Owned, decided_lifetime, definitions, is_always_defined, is_same_mode, is_same_style, is_used, mode_by, mode_of_type, owned_mode, owned_name, used_definitions}
+use Rattle.type_defs.specs.Modes.{is_owning, Borrowed, Defined, Mode, Owned, decided_lifetime, definitions, is_always_defined, is_same_mode, is_same_style, is_used, is_wanted, mode_by, mode_of_type, owned_mode, owned_name, used_definitions}
 use Rattle.type_defs.specs.Defined.{are_defined_kinds, are_owned_modes, entry_definitions, entry_items, is_defined_kind, kind_items}
 use Rattle.wit_model.proofs.AllLemmas.{all_at}
 
@@ -40,25 +40,32 @@ one-used : (o : Ownership) (info : TypeInfo) (name : Name) (owned lent : Mode) �
 one-used Owning info name owned lent e = ap (λ b. cond b ((type_ident name, owned) ∷ []) ((type_ident name, lent) ∷ [])) (or_right (is_same_mode owned lent || info.owned) true refl)
 one-used (Borrowing duplicates) info name owned lent e = absurd (cc)
 
-not-always : (kind : TypeDefKind) → is_defined_kind kind ≡ true → is_always_defined kind ≡ false
-not-always (kind.Alias ty) e = refl
-not-always (kind.Record fields) e = refl
-not-always (kind.Tuple parts) e = refl
-not-always _ e = absurd (cc)
+owned-named : (o : Ownership) (info : TypeInfo) (name : Name) → is_owning o ≡ true → owned_name o info name ≡ type_ident name
+owned-named Owning info name e = refl
+owned-named (Borrowing duplicates) info name e = absurd (cc)
 
 abbrev pub own_definitions : Bool → TypeOpts → TypeInfo → Name → List (Bytes × Mode)
 own_definitions defined opts info name = if defined then (type_ident name, mode_of_type opts.ownership info Owned Defined) ∷ [] else []
 
-pub definitions-owned : (opts : TypeOpts) (info : TypeInfo) (kind : TypeDefKind) (name : Name) → is_owning opts.ownership ≡ true → is_defined_kind kind ≡ true
-    → definitions opts info kind name ≡ own_definitions (is_used info || opts.generate_unused_types) opts info name
+pub definitions-owned : (opts : TypeOpts) (info : TypeInfo) (kind : TypeDefKind) (name : Name) → is_owning opts.ownership ≡ true → definitions opts info kind name ≡ own_definitions (is_wanted opts info kind) opts info name
 unfolding definitions
-definitions-owned opts info kind name owning defined =
-    let owned : Mode = mode_of_type opts.ownership info Owned Defined in
-    let lent : Mode = mode_of_type opts.ownership info Borrowed Defined in
-    let always : List (Bytes × Mode) = (owned_name opts.ownership info name, owned) ∷ [] in
-    let used : List (Bytes × Mode) = used_definitions opts.ownership info name owned lent in
-    let wanted : Bool = is_used info || opts.generate_unused_types in
-    ap (λ b. cond b always (cond wanted used [])) (not-always kind defined) ∙ ap (λ ds. cond wanted ds []) (one-used opts.ownership info name owned lent owning)
+definitions-owned opts info kind name owning = go (is_always_defined kind)
+  where
+    owned : Mode
+    owned = mode_of_type opts.ownership info Owned Defined
+
+    lent : Mode
+    lent = mode_of_type opts.ownership info Borrowed Defined
+
+    used : List (Bytes × Mode)
+    used = used_definitions opts.ownership info name owned lent
+
+    wanted : Bool
+    wanted = is_used info || opts.generate_unused_types
+
+    go : (b : Bool) → cond b ((owned_name opts.ownership info name, owned) ∷ []) (cond wanted used []) ≡ own_definitions (b || wanted) opts info name
+    go true = ap (λ n. (n, owned) ∷ []) (owned-named opts.ownership info name owning)
+    go false = ap (λ ds. cond wanted ds []) (one-used opts.ownership info name owned lent owning)
 
 pub definitions-modes : (b : Bool) (opts : TypeOpts) (info : TypeInfo) (name : Name) → info.has_borrow_handle ≡ false → are_owned_modes (own_definitions b opts info name) ≡ true
 definitions-modes true opts info name e = ap (λ b. b && true) (own-mode opts.ownership info e)
@@ -70,6 +77,8 @@ no-borrow : (kind : TypeDefKind) → is_defined_kind kind ≡ true → is_borrow
 no-borrow (kind.Alias ty) e = refl
 no-borrow (kind.Record fields) e = refl
 no-borrow (kind.Tuple parts) e = refl
+no-borrow (kind.Enum cases) e = refl
+no-borrow (kind.Flags members) e = refl
 no-borrow _ e = absurd (cc)
 
 none-borrows : (types : List TypeDef) (ty : WitType) → are_defined_kinds types ≡ true → (own types ty).borrow_handle ≡ false
@@ -87,19 +96,19 @@ facts-owned r world id info kinds facts =
 
 -- the definitions of an entry
 
-pub entry-modes : (opts : TypeOpts) (info : TypeInfo) (kind : TypeDefKind) (o : Option Name) → is_owning opts.ownership ≡ true → is_defined_kind kind ≡ true → info.has_borrow_handle ≡ false
+pub entry-modes : (opts : TypeOpts) (info : TypeInfo) (kind : TypeDefKind) (o : Option Name) → is_owning opts.ownership ≡ true → info.has_borrow_handle ≡ false
     → are_owned_modes (entry_definitions opts info kind o) ≡ true
-entry-modes opts info kind None owning defined e = refl
-entry-modes opts info kind (Some name) owning defined e = ap are_owned_modes (definitions-owned opts info kind name owning defined) ∙ definitions-modes (is_used info || opts.generate_unused_types) opts info name e
+entry-modes opts info kind None owning e = refl
+entry-modes opts info kind (Some name) owning e = ap are_owned_modes (definitions-owned opts info kind name owning) ∙ definitions-modes (is_wanted opts info kind) opts info name e
 
 abbrev pub items_where : Bool → List TypeDef → TypeInfo → TypeDef → Name → List TypeItem
 items_where defined types info entry name = if defined then kind_items types info entry.docs (type_ident name) entry.kind else []
 
-pub entry-items : (opts : TypeOpts) (types : List TypeDef) (info : TypeInfo) (entry : TypeDef) (name : Name) (b : Bool) → is_owning opts.ownership ≡ true → is_defined_kind entry.kind ≡ true → entry.name ≡ Some name
-    → (is_used info || opts.generate_unused_types) ≡ b → entry_items types info entry (entry_definitions opts info entry.kind entry.name) ≡ items_where b types info entry name
-entry-items opts types info entry name b owning defined is used =
+pub entry-items : (opts : TypeOpts) (types : List TypeDef) (info : TypeInfo) (entry : TypeDef) (name : Name) (b : Bool) → is_owning opts.ownership ≡ true → entry.name ≡ Some name
+    → is_wanted opts info entry.kind ≡ b → entry_items types info entry (entry_definitions opts info entry.kind entry.name) ≡ items_where b types info entry name
+entry-items opts types info entry name b owning is used =
     ap (λ o. entry_items types info entry (entry_definitions opts info entry.kind o)) is
-    ∙ ap (entry_items types info entry) (definitions-owned opts info entry.kind name owning defined) ∙ ap (λ b. entry_items types info entry (own_definitions b opts info name)) used ∙ go b
+    ∙ ap (entry_items types info entry) (definitions-owned opts info entry.kind name owning) ∙ ap (λ b. entry_items types info entry (own_definitions b opts info name)) used ∙ go b
   where
     go : (b : Bool) → entry_items types info entry (own_definitions b opts info name) ≡ items_where b types info entry name
     go true = append-nil (kind_items types info entry.docs (type_ident name) entry.kind)

@@ -2,6 +2,7 @@ mod CappedLemmas
 pub mod CutLemmas
 pub mod DefinedLemmas
 pub mod DefinedNameLemmas
+pub mod EnumInstances
 pub mod FunctionTypeLemmas
 mod LevelLemmas
 pub mod ListingLemmas

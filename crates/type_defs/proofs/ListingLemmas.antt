@@ -1,5 +1,5 @@
 -- What a type reaches is listed where the parts of each are.
-use Rattle.std.proofs.Common.{◌≡◌, ℕ, zero, suc, ◌+◌, ◌<◌, ◌∙◌, Bool, true, false, cond, ◌&&◌, ◌||◌, not, nat_eq, inl, inr, List, [], ◌∷◌, ◌++◌, length, take, get_or, Option, Some, None, is_none, refl, sym, ap, subst, add-zero, arith}
+use Rattle.std.proofs.Common.{◌≡◌, ℕ, zero, suc, ◌+◌, ◌<◌, ◌∙◌, Bool, true, false, cond, ◌&&◌, ◌||◌, nat_eq, inl, inr, List, [], ◌∷◌, ◌++◌, length, take, get_or, Option, Some, None, is_none, refl, sym, ap, subst, add-zero, arith}
 use Rattle.std.specs.List.{enumerate_from, list_all, list_any, slice_get}
 use Rattle.std.proofs.lemmas.Bool.{and_from, and_parts, not-true}
 use Rattle.std.proofs.lemmas.List.Folds.{list_any-append}
@@ -153,7 +153,7 @@ listed-reached types listed (suc n) id t low covered (reaches_by {part = part} n
     listed-reached types listed n id t (any-false (passes (is_deeper types n)) (parts names.entry.kind) names.nth (Some part) lows names.part_at)
     (all_at (passes_or_none (is_covered types listed n)) (parts names.entry.kind) names.nth (Some part) covereds names.part_at) rest at named
 
-all-numbered : {A : Type 0} (test : ℕ × A → Bool) (xs : List A) (n k : ℕ) (x : A) → list_all test (enumerate_from n xs) ≡ true → slice_get xs k ≡ Some x → test (n + k, x) ≡ true
+pub all-numbered : {A : Type 0} (test : ℕ × A → Bool) (xs : List A) (n k : ℕ) (x : A) → list_all test (enumerate_from n xs) ≡ true → slice_get xs k ≡ Some x → test (n + k, x) ≡ true
 all-numbered test [] n k x h e = absurd (cc)
 all-numbered test (y ∷ xs) n zero x h e =
     let is : y ≡ x = cc in

@@ -1,7 +1,7 @@
 -- The named types that the functions of a world reach have names that a type may have.
 use Rattle.std.proofs.Common.{◌≡◌, ℕ, zero, suc, true, ◌||◌, List, [], ◌∷◌, is_some, ap, subst, ◌∙◌, eqb, arith}
 use Rattle.std.specs.List.{AllZip, Contains}
-use Rattle.std.proofs.lemmas.Bool.{eqb-true, or_left}
+use Rattle.std.proofs.lemmas.Bool.{eqb-true, or_left, or_right}
 use Rattle.wit_model.specs.declared.name.TypeId.{TypeId}
 use Rattle.wit_model.specs.declared.name.WorldId.{WorldId}
 use Rattle.wit_model.specs.declared.resolve.Resolve.{Resolve}
@@ -14,7 +14,7 @@ use Rattle.type_defs.specs.Defined.{AreDefinitions, AreDefinitionsOf}
 use Rattle.type_defs.specs.DefinedNames.{AreDefinable}
 use Rattle.type_defs.specs.ListedTypes.{listed_types}
 use Rattle.type_defs.specs.Listing.{lists}
-use Rattle.type_defs.specs.Modes.{is_used}
+use Rattle.type_defs.specs.Modes.{is_always_defined, is_used, is_wanted}
 use Rattle.type_defs.specs.NamedParts.{HasNamedParts}
 use Rattle.type_defs.specs.Used.{function_types}
 use Rattle.type_defs.proofs.UsedLemmas.{any-found, contained-at, reached_uses, used_is}
@@ -41,5 +41,6 @@ functions-named opts r id world items may defs ty root part entry name reached a
     let facts = found.1.facts in
     let uses = reached_uses r world part may.shallow (record { root = ty; is_root = root; reached = reached }) in
     let used : is_used found.1.info ≡ true = used_is r id world part found.1.info may.shallow may.found (record { entry = entry; entry_at = at; named = named }) facts ∙ uses in
-    let asked : (is_used found.1.info || opts.generate_unused_types) ≡ true = or_left (is_used found.1.info) opts.generate_unused_types used in
-    (may.named part found.1.info listed facts asked).reached part entry name reaches_itself at is
+    let asked : is_wanted opts found.1.info entry.kind ≡ true =
+    or_right (is_always_defined entry.kind) (is_used found.1.info || opts.generate_unused_types) (or_left (is_used found.1.info) opts.generate_unused_types used) in
+    (may.named part entry found.1.info listed at facts asked).reached part entry name reaches_itself at is

@@ -1,6 +1,6 @@
 -- The definitions of a world's types, each from its entry in the table, its facts and the options. So far these are aliases,
--- records and tuples, in the owned mode.
-use Rattle.std.specs.Prelude.{◌≡◌, Bool, true, false, not, ◌&&◌, List, [], ◌∷◌, Option, None, Some, codes, map, slice_get, if◌then◌else◌}
+-- records, tuples, enums and flags types, in the owned mode.
+use Rattle.std.specs.Prelude.{◌≡◌, Bool, true, false, nat_le, List, [], ◌∷◌, length, Option, None, Some, map, slice_get}
 use Rattle.std.specs.List.{AllZip, flat_map, list_all}
 use Rattle.wit_model.specs.declared.name.Docs.{Docs}
 use Rattle.wit_model.specs.declared.name.Name.{Name}
@@ -15,7 +15,6 @@ use Rattle.wit_model.specs.declared.types.WitType.{WitType}
 use Rattle.wit_model.specs.declared.types.WitType.TheVariants.{ErrorContext}
 use Rattle.wit_model.specs.declared.world.World.{World}
 use Rattle.wit_model.specs.Parts.{parts}
-use Rattle.rust_tree.specs.declared.path.Path.{Path}
 use Rattle.rust_tree.specs.declared.type_expr.TypeExpr.{TypeExpr}
 use Rattle.rust_tree.specs.declared.type_expr.TypeExpr.TheVariants as type
 use Rattle.rust_tree.specs.declared.type_item.AliasItem.{AliasItem}
@@ -27,31 +26,14 @@ use Rattle.rust_tree.specs.Ident.{rust_ident}
 use Rattle.type_facts.specs.declared.info.TypeInfo.{TypeInfo}
 use Rattle.type_facts.specs.Facts.{IsInfoOf}
 use Rattle.type_defs.specs.declared.type_opts.TypeOpts.{TypeOpts}
-use Rattle.type_defs.specs.Paths.{local_path}
+use Rattle.type_defs.specs.Derives.{derives_of, is_copied}
 use Rattle.type_defs.specs.Docs.{doc_lines}
+use Rattle.type_defs.specs.EnumDef.{enum_item}
+use Rattle.type_defs.specs.FlagsDef.{flags_item}
 use Rattle.type_defs.specs.ListedTypes.{listed_types}
 use Rattle.type_defs.specs.Modes.{Mode, definitions, is_same_mode, owned_mode}
 use Rattle.type_defs.specs.PartType.{part_type}
 use Rattle.wit_model.specs.Bytes.{Bytes}
-
--- what is derived
-
-unfoldable pub clone_name : Bytes
-clone_name = codes "Clone"
-
-unfoldable pub copy_name : Bytes
-copy_name = codes "Copy"
-
--- a type that reaches no list and no resource is copied
-abbrev pub is_copied : TypeInfo → Bool
-is_copied info = not info.has_list && not info.has_resource
-
-abbrev pub copy_derive : TypeInfo → List Path
-copy_derive info = if is_copied info then local_path copy_name ∷ [] else []
-
--- a type that reaches no resource is cloned
-abbrev pub derives_of : TypeInfo → List Path
-derives_of info = if info.has_resource then [] else local_path clone_name ∷ copy_derive info
 
 -- by kind
 
@@ -69,6 +51,8 @@ abbrev pub kind_items : List TypeDef → TypeInfo → Docs → Bytes → TypeDef
 kind_items types info docs name (kind.Record fields) = item.Struct (record_item types info docs name fields) ∷ []
 kind_items types info docs name (kind.Alias ty) = item.Alias (alias_item docs name (part_type types ty)) ∷ []
 kind_items types info docs name (kind.Tuple parts) = item.Alias (alias_item docs name (type.Tuple (map (part_type types) parts))) ∷ []
+kind_items types info docs name (kind.Enum cases) = item.Enum (enum_item info docs name cases) ∷ []
+kind_items types info docs name (kind.Flags members) = item.Flags (flags_item docs name members) ∷ []
 kind_items types info docs name _ = []
 
 -- by name
@@ -99,11 +83,13 @@ pub record AreDefinitions (opts : TypeOpts) (r : Resolve) (id : WorldId) (world 
   pub are : items ≡ flat_map (λ own. own) of_each
   pub defined : AllZip (AreDefinitionsOf opts r id) (listed_types world) of_each
 
--- the kinds that are defined so far
+-- the kinds that are defined so far; flags types have 128 members at most
 abbrev pub is_defined_kind : TypeDefKind → Bool
 is_defined_kind (kind.Alias _) = true
 is_defined_kind (kind.Record _) = true
 is_defined_kind (kind.Tuple _) = true
+is_defined_kind (kind.Enum _) = true
+is_defined_kind (kind.Flags members) = nat_le (length members) 128
 is_defined_kind _ = false
 
 abbrev pub are_defined_kinds : List TypeDef → Bool

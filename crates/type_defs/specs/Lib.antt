@@ -1,7 +1,10 @@
 pub mod Defined
 pub mod DefinedNames
+pub mod Derives
 pub mod Docs
+pub mod EnumDef
 pub mod Finds
+pub mod FlagsDef
 pub mod FunctionTypes
 pub mod Levels
 pub mod ListedTypes

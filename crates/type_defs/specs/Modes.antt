@@ -112,6 +112,10 @@ used_definitions ownership info name owned lent =
     else if is_same_mode owned lent || info.owned || is_owning ownership then (owned_name ownership info name, owned) ∷ []
     else (lent_name ownership info name, lent) ∷ []
 
+-- whether a type is defined at all
+abbrev pub is_wanted : TypeOpts → TypeInfo → TypeDefKind → Bool
+is_wanted opts info kind = is_always_defined kind || (is_used info || opts.generate_unused_types)
+
 unfoldable pub definitions : TypeOpts → TypeInfo → TypeDefKind → Name → List (Bytes × Mode)
 definitions opts info kind name =
     if is_always_defined kind then (owned_name opts.ownership info name, mode_of_type opts.ownership info Owned Defined) ∷ []

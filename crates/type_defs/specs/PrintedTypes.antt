@@ -1,4 +1,4 @@
--- Under which names a type and its fields are defined.
+-- Under which names a type, its fields and its members are defined.
 use Rattle.std.specs.Prelude.{List, [], ◌∷◌, map, Option, None, Some, slice_get}
 use Rattle.wit_model.specs.declared.name.Name.{Name}
 use Rattle.wit_model.specs.declared.name.TypeId.{TypeId}
@@ -27,3 +27,9 @@ type_name t = name_or_none t.name
 abbrev pub field_names : TypeDefKind → List Bytes
 field_names (kind.Record fields) = map (λ f. rust_ident f.name) fields
 field_names _ = []
+
+-- the cases of an enum, and the members of a flags type
+abbrev pub member_names : TypeDefKind → List Bytes
+member_names (kind.Enum cases) = map (λ c. c.name.camel) cases
+member_names (kind.Flags members) = map (λ m. m.name.upper) members
+member_names _ = []

@@ -1,5 +1,5 @@
 -- Which types of the table the functions of a world use, and so which the file of the world defines.
-use Rattle.std.specs.Prelude.{◌≡◌, ℕ, ◌==◌, Bool, true, false, ◌||◌, List, ◌++◌, Some, filter, is_some, length, slice_get}
+use Rattle.std.specs.Prelude.{◌≡◌, ℕ, ◌==◌, Bool, true, false, ◌||◌, List, ◌++◌, Option, None, Some, filter, is_some, length, slice_get}
 use Rattle.std.specs.List.{Contains, flat_map, list_any}
 use Rattle.wit_model.specs.declared.function.Function.{Function}
 use Rattle.wit_model.specs.declared.name.TypeId.{TypeId}
@@ -16,6 +16,7 @@ use Rattle.type_defs.specs.Defined.{is_defined_type}
 use Rattle.type_defs.specs.Finds.{finds}
 use Rattle.type_defs.specs.ListedTypes.{listed_types}
 use Rattle.type_defs.specs.Listing.{lists}
+use Rattle.type_defs.specs.Modes.{is_always_defined}
 use Rattle.type_defs.specs.PrintedTypes.{entry_at}
 
 -- the types of the parameters and results of a world's functions
@@ -34,9 +35,19 @@ is_at place _ = false
 abbrev pub uses : Resolve → World → ℕ → Bool
 uses r world place = list_any (finds r.types (is_at place)) (function_types r world)
 
--- the types that a world lists and its file defines: those that a function uses, and all where unused ones are asked for
+-- the entry at a place is of a kind that is defined whether a function uses it or not
+abbrev pub is_always_entry : Option TypeDef → Bool
+is_always_entry None = false
+is_always_entry (Some entry) = is_always_defined entry.kind
+
+-- the entry at a place is defined where the world lists it
+abbrev pub is_wanted_at : TypeOpts → Resolve → World → ℕ → Bool
+is_wanted_at opts r world place = is_always_entry (slice_get r.types place) || (uses r world place || opts.generate_unused_types)
+
+-- the types that a world lists and its file defines: enums and flags types, those that a function uses, and all where unused ones are
+-- asked for
 abbrev pub defined_ids : TypeOpts → Resolve → World → List TypeId
-defined_ids opts r world = filter (λ id. uses r world id.0 || opts.generate_unused_types) (listed_types world)
+defined_ids opts r world = filter (λ id. is_wanted_at opts r world id.0) (listed_types world)
 
 abbrev pub defined_types : TypeOpts → Resolve → World → List TypeDef
 defined_types opts r world = flat_map (entry_at r.types) (defined_ids opts r world)

@@ -2,19 +2,25 @@
 
 mod alias;
 mod derives;
+mod enums;
+mod flags;
 mod param;
 mod part;
 mod record;
 mod tuple;
 
-ghost use Rattle.std.specs.Prelude.{◌≡◌, ◌++◌, ◌||◌, ◌<◌, true, false, length, List, IfOk, OnOk};
+ghost use Rattle.std.specs.Prelude.{◌≡◌, ◌++◌, ◌<◌, true, false, length, List, IfOk, OnOk};
 ghost use Rattle.type_facts.specs.Facts.{IsAnalysis};
-ghost use Rattle.type_defs.specs.Defined.{AreDefinitions, AreDefinitionsOf, are_defined_kinds, entry_definitions, entry_items, is_defined_kind, kind_items};
-ghost use Rattle.type_defs.specs.Modes.{is_owning, is_used};
+ghost use Rattle.type_defs.specs.Defined.{AreDefinitions, AreDefinitionsOf, are_defined_kinds, entry_definitions, entry_items, kind_items};
+ghost use Rattle.type_defs.specs.Modes.{is_always_defined, is_owning, is_used, is_wanted};
 ghost use Rattle.type_defs.specs.DefinedNames.{AreDefinable};
 ghost use Rattle.rust_tree.specs.Ident.{type_ident};
 
 use crate::define::alias::alias_item;
+use crate::define::enums::enum_item;
+pub use crate::define::enums::enum_repr;
+use crate::define::flags::flags_item;
+pub use crate::define::flags::flags_repr;
 pub use crate::define::param::param_type;
 pub use crate::define::part::part_type;
 use crate::define::record::record_item;
@@ -49,16 +55,35 @@ fn push_kind(
         )?,
         TypeDefKind::Alias(ty) => alias_item(alloc, types, entry, name, *ty)?,
         TypeDefKind::Tuple(parts) => tuple_item(alloc, types, entry, name, parts.as_slice())?,
+        TypeDefKind::Enum(cases) => enum_item(alloc, info, entry, name, cases.as_slice())?,
+        TypeDefKind::Flags(members) => flags_item(alloc, entry, name, members.as_slice())?,
         _ => return Ok(()),
     };
     items.push(item)
 }
 
-/// Whether a type is defined: a function uses it, or unused types are asked for.
-pub(crate) fn is_defined(opts: TypeOpts, info: TypeInfo) -> bool
-    ensures { result ≡ (is_used info || opts.generate_unused_types) }
+/// Whether a type of this kind is defined even if no function uses it.
+fn is_always_defined(kind: &TypeDefKind) -> bool
+    ensures { result ≡ is_always_defined kind.now }
 {
-    info.owned || info.borrowed || opts.generate_unused_types
+    matches!(
+        kind,
+        TypeDefKind::Enum(_) | TypeDefKind::Flags(_) | TypeDefKind::Resource
+    )
+}
+
+/// Whether a function uses a type with these facts, which has a name.
+pub fn is_used(info: TypeInfo) -> bool
+    ensures { result ≡ is_used info }
+{
+    info.owned || info.borrowed
+}
+
+/// Whether a type is defined: by its kind, or since a function uses it, or unused types are asked for.
+pub(crate) fn is_defined(opts: TypeOpts, info: TypeInfo, kind: &TypeDefKind) -> bool
+    ensures { result ≡ is_wanted opts info kind.now }
+{
+    is_always_defined(kind) || is_used(info) || opts.generate_unused_types
 }
 
 /// Puts the definitions of an entry of the table behind others.
@@ -72,14 +97,13 @@ fn push_entry(
 ) -> Result<(), OutOfMemory>
     requires owning { is_owning opts.ownership ≡ true }
     requires owned { info.has_borrow_handle ≡ false }
-    requires kind { is_defined_kind entry.now.kind ≡ true }
     ensures { OnOk result
         (items.new ≡ items.old ++ entry_items types.now info entry.now (entry_definitions opts info entry.now.kind entry.now.name)) }
 {
     let Some(name) = &entry.name else {
         return Ok(());
     };
-    if !is_defined(opts, info) {
+    if !is_defined(opts, info, &entry.kind) {
         return Ok(());
     }
     push_kind(alloc, items, types, info, entry, name)

@@ -1,6 +1,6 @@
 ghost use Rattle.std.specs.Prelude.{◌≡◌, IfOk};
 ghost use Rattle.std.specs.Str.Lines.{lines};
-ghost use Rattle.type_defs.specs.Docs.{doc_lines};
+ghost use Rattle.type_defs.specs.Docs.{doc_lines, trimmed_docs};
 
 use std::alloc::Global;
 use wit_model::{Docs, List, OutOfMemory, Text};
@@ -22,5 +22,15 @@ pub fn doc_lines(alloc: Global, docs: &Docs) -> Result<List<Text>, OutOfMemory>
     match &docs.contents {
         None => Ok(List::new(alloc)),
         Some(text) => lines_of(alloc, text.as_str().trim()),
+    }
+}
+
+/// The text of a doc comment, without the white space round it.
+pub(crate) fn trimmed_docs(alloc: Global, docs: &Docs) -> Result<Text, OutOfMemory>
+    ensures { IfOk result (λ text. text ≡ trimmed_docs docs.now) }
+{
+    match &docs.contents {
+        None => Ok(Text::new(alloc)),
+        Some(text) => Text::from_str(alloc, text.as_str().trim()),
     }
 }

@@ -16,7 +16,7 @@ mod type_opts;
 mod unfolded;
 mod used;
 
-pub use define::{definitions_of, param_type, part_type};
+pub use define::{definitions_of, enum_repr, flags_repr, is_used, param_type, part_type};
 pub use docs::doc_lines;
 pub use levels::are_shallow;
 pub use listing::are_listed_well;

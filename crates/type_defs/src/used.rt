@@ -1,9 +1,10 @@
 //! Which types are defined in the file of a world, and under which names.
 
-ghost use Rattle.std.specs.Prelude.{◌≡◌, ◌++◌, [], true, IfOk, OnOk, Some, if◌then◌else◌, map, slice_get};
+ghost use Rattle.std.specs.Prelude.{◌≡◌, ◌++◌, true, IfOk, OnOk, Some, filter, map, slice_get};
 ghost use Rattle.wit_model.specs.WellFormed.{IsWellFormed};
 ghost use Rattle.type_defs.specs.Levels.{are_shallow};
 ghost use Rattle.type_defs.specs.Listing.{are_listed_well};
+ghost use Rattle.type_defs.specs.Modes.{is_wanted};
 ghost use Rattle.type_defs.specs.PrintedTypes.{entry_at, type_name};
 ghost use Rattle.type_defs.specs.Used.{defined_types};
 
@@ -12,32 +13,33 @@ use crate::listed_types::types_in;
 use crate::type_opts::TypeOpts;
 use rust_tree::to_upper_camel_case;
 use std::alloc::Global;
-use type_facts::Types;
+use type_facts::{TypeInfo, Types};
 use wit_model::{OutOfMemory, Resolve, Text, TypeDef, TypeId, World, WorldId};
 
-fn push_where<'a>(
+/// Puts a type behind others, if it is defined by these facts.
+fn push_defined<'a>(
     defined: &mut Vec<&'a TypeDef>,
-    is_defined: bool,
+    opts: TypeOpts,
+    info: TypeInfo,
     resolve: &'a Resolve,
     id: TypeId,
 ) -> Result<(), OutOfMemory>
     ensures { OnOk result
-        (map (λ t. t.now) defined.new.items ≡ map (λ t. t.now) defined.old.items ++ (if is_defined then entry_at resolve.now.types id else [])) }
+        (map (λ t. t.now) defined.new.items ≡ map (λ t. t.now) defined.old.items ++ filter (λ t. is_wanted opts info t.kind) (entry_at resolve.now.types id)) }
 {
-    if !is_defined {
-        return Ok(());
-    }
     match resolve.type_def(id) {
         None => Ok(()),
         Some(entry) => {
-            defined.push(entry)?;
+            if is_defined(opts, info, &entry.kind) {
+                defined.push(entry)?;
+            }
             Ok(())
         }
     }
 }
 
-/// The types that a world lists and that are defined in its file, in its order: those that a function of the world uses,
-/// and all where unused types are asked for. `OutOfMemory` comes where there is no memory for a place for each, or for a mark
+/// The types that a world lists and that are defined in its file, in its order: enums and flags types, those that a
+/// function of the world uses, and all where unused types are asked for. `OutOfMemory` comes where there is no memory for a place for each, or for a mark
 /// for each type.
 pub fn defined_types<'a>(
     alloc: Global,
@@ -57,8 +59,7 @@ pub fn defined_types<'a>(
     let facts = Types::analyze(alloc, resolve, id)?;
     let mut defined = Vec::new(alloc);
     for own in listed.as_slice() {
-        let wanted = is_defined(opts, facts.get(*own));
-        push_where(&mut defined, wanted, resolve, *own)?;
+        push_defined(&mut defined, opts, facts.get(*own), resolve, *own)?;
     }
     Ok(defined)
 }

@@ -23,18 +23,20 @@ use Rattle.rust_tree.specs.declared.item.Item.{Item}
 use Rattle.rust_tree.specs.declared.item.Item.TheVariants as item
 use Rattle.rust_tree.specs.declared.type_expr.TypeExpr.TheVariants as type
 use Rattle.rust_tree.specs.declared.type_item.TypeItem.{TypeItem}
-use Rattle.rust_tree.specs.declared.type_item.TypeItem.TheVariants.{Alias, Struct}
+use Rattle.rust_tree.specs.declared.type_item.TypeItem.TheVariants.{Alias, Enum, Flags, Struct}
 use Rattle.rust_tree.specs.Ident.{type_ident}
 use Rattle.type_facts.specs.declared.info.TypeInfo.{TypeInfo}
 use Rattle.type_defs.specs.declared.type_opts.TypeOpts.{TypeOpts}
 use Rattle.type_defs.specs.Defined.{AreDefinitions, AreDefinitionsOf, alias_item, entry_definitions, entry_items, is_defined_kind, kind_items, record_item}
 use Rattle.type_defs.specs.DefinedNames.{AreDefinable}
+use Rattle.type_defs.specs.EnumDef.{enum_item}
+use Rattle.type_defs.specs.FlagsDef.{flags_item}
 use Rattle.type_defs.specs.Listing.{lists}
 use Rattle.type_defs.specs.ListedTypes.{listed_types}
-use Rattle.type_defs.specs.Modes.{is_used}
+use Rattle.type_defs.specs.Modes.{is_always_defined, is_wanted}
 use Rattle.type_defs.specs.PartType.{part_type}
 use Rattle.type_defs.specs.PrintedTypes.{entry_at, entry_or_none, name_or_none, type_name}
-use Rattle.type_defs.specs.Used.{uses}
+use Rattle.type_defs.specs.Used.{is_always_entry, is_wanted_at, uses}
 use Rattle.type_defs.proofs.DefinedLemmas.{entry-items}
 use Rattle.type_defs.proofs.UsedLemmas.{used_is}
 use Rattle.wrapper_values.specs.Fields.{type_name as item_name, type_named}
@@ -108,11 +110,13 @@ one-item : (types : List TypeDef) (info : TypeInfo) (docs : Docs) (name : Bytes)
 one-item types info docs name (kind.Alias ty) h = (Alias (alias_item docs name (part_type types ty)), refl, refl)
 one-item types info docs name (kind.Record fields) h = (Struct (record_item types info docs name fields), refl, refl)
 one-item types info docs name (kind.Tuple parts) h = (Alias (alias_item docs name (type.Tuple (map (part_type types) parts))), refl, refl)
+one-item types info docs name (kind.Enum cases) h = (Enum (enum_item info docs name cases), refl, refl)
+one-item types info docs name (kind.Flags members) h = (Flags (flags_item docs name members), refl, refl)
 one-item types info docs name _ h = absurd (cc)
 
 module _ (opts : TypeOpts) (r : Resolve) (w : WorldId) (world : World) (d : AreDefinable opts r w world) where
   abbrev wanted : ℕ → Bool
-  wanted id = uses r world id || opts.generate_unused_types
+  wanted id = is_wanted_at opts r world id
 
   record IsOne (i : TypeId) (own : List TypeItem) : Type 0 where
     entry : TypeDef
@@ -144,8 +148,10 @@ module _ (opts : TypeOpts) (r : Resolve) (w : WorldId) (world : World) (d : AreD
           own-kind : is_defined_kind o.entry.kind ≡ true
           own-kind = all_at (λ t. is_defined_kind t.kind) r.types i.0 o.entry d.kinds o.entry_at
 
-          tells : (is_used o.info || opts.generate_unused_types) ≡ wanted i.0
-          tells = ap (λ b. b || opts.generate_unused_types) (used_is r w world i o.info d.shallow d.found (record { entry = o.entry; entry_at = o.entry_at; named = ap (λ n. is_some n) named }) o.facts)
+          tells : is_wanted opts o.info o.entry.kind ≡ wanted i.0
+          tells =
+              ap (λ b. is_always_defined o.entry.kind || (b || opts.generate_unused_types)) (used_is r w world i o.info d.shallow d.found (record { entry = o.entry; entry_at = o.entry_at; named = ap (λ n. is_some n) named }) o.facts)
+              ∙ ap (λ (e : Option TypeDef). is_always_entry e || (uses r world i.0 || opts.generate_unused_types)) (sym o.entry_at)
 
           by : (b : Bool) → wanted i.0 ≡ b → IsOne i own ⊎ IsNone i own
           by true e =
@@ -158,37 +164,37 @@ module _ (opts : TypeOpts) (r : Resolve) (w : WorldId) (world : World) (d : AreD
                 at = o.entry_at;
                 named = named;
                 asked = e;
-                are = o.are ∙ entry-items opts r.types o.info o.entry name true d.owning own-kind named (tells ∙ e) ∙ one.1;
+                are = o.are ∙ entry-items opts r.types o.info o.entry name true d.owning named (tells ∙ e) ∙ one.1;
                 is = one.1;
                 called = one.2;
               })
           by false e = inr (record {
-            are = o.are ∙ entry-items opts r.types o.info o.entry name false d.owning own-kind named (tells ∙ e);
+            are = o.are ∙ entry-items opts r.types o.info o.entry name false d.owning named (tells ∙ e);
             unasked = λ entry name at is. e;
           })
 
   -- 3. The names of the definitions
 
-  abbrev is_wanted : TypeId → Bool
-  is_wanted i = wanted i.0
+  abbrev is_wanted_id : TypeId → Bool
+  is_wanted_id i = wanted i.0
 
   abbrev names_of : List TypeId → List Bytes
-  names_of ids = map type_name (flat_map (entry_at r.types) (filter is_wanted ids))
+  names_of ids = map type_name (flat_map (entry_at r.types) (filter is_wanted_id ids))
 
   names-wanted : (i : TypeId) (ids : List TypeId) (t : TypeDef) → wanted i.0 ≡ true → slice_get r.types i.0 ≡ Some t → names_of (i ∷ ids) ≡ type_name t ∷ names_of ids
   names-wanted i ids t want at =
-      ap (λ b. map type_name (flat_map (entry_at r.types) (cond b (i ∷ filter is_wanted ids) (filter is_wanted ids)))) want
-      ∙ ap (λ o. map type_name (entry_or_none o ++ flat_map (entry_at r.types) (filter is_wanted ids))) at
+      ap (λ b. map type_name (flat_map (entry_at r.types) (cond b (i ∷ filter is_wanted_id ids) (filter is_wanted_id ids)))) want
+      ∙ ap (λ o. map type_name (entry_or_none o ++ flat_map (entry_at r.types) (filter is_wanted_id ids))) at
 
   -- the names of the later ones are distinct too
   distinct-later : (i : TypeId) (ids : List TypeId) → is_distinct (names_of (i ∷ ids)) ≡ true → is_distinct (names_of ids) ≡ true
   distinct-later i ids h = go (wanted i.0) refl (slice_get r.types i.0) refl
     where
       go : (b : Bool) → wanted i.0 ≡ b → (o : Option TypeDef) → slice_get r.types i.0 ≡ o → is_distinct (names_of ids) ≡ true
-      go false e o at = sym (ap (λ b. is_distinct (map type_name (flat_map (entry_at r.types) (cond b (i ∷ filter is_wanted ids) (filter is_wanted ids))))) e) ∙ h
+      go false e o at = sym (ap (λ b. is_distinct (map type_name (flat_map (entry_at r.types) (cond b (i ∷ filter is_wanted_id ids) (filter is_wanted_id ids))))) e) ∙ h
       go true e None at =
-          sym (ap (λ b. is_distinct (map type_name (flat_map (entry_at r.types) (cond b (i ∷ filter is_wanted ids) (filter is_wanted ids))))) e
-          ∙ ap (λ o. is_distinct (map type_name (entry_or_none o ++ flat_map (entry_at r.types) (filter is_wanted ids)))) at) ∙ h
+          sym (ap (λ b. is_distinct (map type_name (flat_map (entry_at r.types) (cond b (i ∷ filter is_wanted_id ids) (filter is_wanted_id ids))))) e
+          ∙ ap (λ o. is_distinct (map type_name (entry_or_none o ++ flat_map (entry_at r.types) (filter is_wanted_id ids)))) at) ∙ h
       go true e (Some t) at =
           (and_parts (not (list_any (λ u. bytes_eq u (type_name t)) (names_of ids))) (is_distinct (names_of ids)) (sym (ap is_distinct (names-wanted i ids t e at)) ∙ h)).1
 
@@ -206,10 +212,10 @@ module _ (opts : TypeOpts) (r : Resolve) (w : WorldId) (world : World) (d : AreD
       go false e l later = by (wanted i.0) refl (slice_get r.types i.0) refl (later (sym (ap (λ b. b || lists ids id) e) ∙ l))
         where
           by : (b : Bool) → wanted i.0 ≡ b → (o : Option TypeDef) → slice_get r.types i.0 ≡ o → list_any (λ u. bytes_eq u name) (names_of ids) ≡ true → list_any (λ u. bytes_eq u name) (names_of (i ∷ ids)) ≡ true
-          by false w o at h = ap (λ b. list_any (λ u. bytes_eq u name) (map type_name (flat_map (entry_at r.types) (cond b (i ∷ filter is_wanted ids) (filter is_wanted ids))))) w ∙ h
+          by false w o at h = ap (λ b. list_any (λ u. bytes_eq u name) (map type_name (flat_map (entry_at r.types) (cond b (i ∷ filter is_wanted_id ids) (filter is_wanted_id ids))))) w ∙ h
           by true w None at h =
-              ap (λ b. list_any (λ u. bytes_eq u name) (map type_name (flat_map (entry_at r.types) (cond b (i ∷ filter is_wanted ids) (filter is_wanted ids))))) w
-              ∙ ap (λ o. list_any (λ u. bytes_eq u name) (map type_name (entry_or_none o ++ flat_map (entry_at r.types) (filter is_wanted ids)))) at ∙ h
+              ap (λ b. list_any (λ u. bytes_eq u name) (map type_name (flat_map (entry_at r.types) (cond b (i ∷ filter is_wanted_id ids) (filter is_wanted_id ids))))) w
+              ∙ ap (λ o. list_any (λ u. bytes_eq u name) (map type_name (entry_or_none o ++ flat_map (entry_at r.types) (filter is_wanted_id ids)))) at ∙ h
           by true w (Some s) at h = ap (list_any (λ u. bytes_eq u name)) (names-wanted i ids s w at) ∙ or_right (bytes_eq (type_name s) name) (list_any (λ u. bytes_eq u name) (names_of ids)) h
 
   -- two definitions do not share a name

@@ -1,4 +1,4 @@
--- A type of a table of aliases, records and tuples is passed directly.
+-- A type of a table of aliases, records, tuples, enums and flags types is passed directly.
 use Rattle.std.proofs.Common.{◌≡◌, ℕ, zero, suc, ◌<◌, ◌≤◌, true, List, [], ◌∷◌, length, map, Some, refl, sym, ap, ◌∙◌, arith}
 use Rattle.std.specs.Prelude.{slice_get}
 use Rattle.std.specs.List.{list_all}
@@ -17,7 +17,8 @@ use Rattle.wit_model.proofs.BelowLemmas.{id_below, type_below_more}
 use Rattle.type_defs.specs.Defined.{are_defined_kinds, have_defined_parts, is_defined_kind, is_defined_part, is_defined_type}
 use Rattle.wrapper_meaning.specs.Shape.{shape_of}
 use Rattle.abi_driver.specs.Instructions.{shapes_of}
-use Rattle.abi_driver.proofs.Records.{alias_shape, record_shape, tuple_shape}
+use Rattle.abi_driver.proofs.Records.{alias_shape, enum_shape, flags_shape, record_shape, tuple_shape}
+use Rattle.wrapper_closing.proofs.PrintedAnswers.{bare_direct}
 use Rattle.wrapper_closing.specs.Direct.{are_direct, is_direct}
 use Rattle.type_sites.proofs.PrintedTypes.{mapped, mapped-fields}
 use Rattle.wit_layout.proofs.AheadTurns.{entry_at}
@@ -48,6 +49,8 @@ module _ (types : List TypeDef) (down : GoesDown types) (kinds : are_defined_kin
         go (kind.Record members) e h =
             ap is_direct (record_shape types down id.0 entry at members e)
             ∙ all-direct (map (λ (f : Field). f.ty) members) (λ nth ty there. part-direct nth ty (ap (λ k. slice_get (parts k) nth) e ∙ mapped-fields members nth ty there))
+        go (kind.Enum members) e h = ap is_direct (enum_shape types down id.0 entry at members e) ∙ bare_direct members
+        go (kind.Flags members) e h = ap is_direct (flags_shape types down id.0 entry at members e)
         go k e h = let wrong : is_defined_kind k ≡ true = sym (ap is_defined_kind e) ∙ h in absurd (cc)
 
   -- each type, up the table

@@ -1,4 +1,4 @@
--- A world with a record in a record, and an alias of a tuple of such: how it is printed, and which records have sites.
+-- A world with a record in a record, and an alias of a tuple of such: how it is printed, and which types have sites.
 use Rattle.std.proofs.Common.{◌≡◌, ℕ, false, List, [], ◌∷◌, map, Option, None, Some, refl, rules}
 use Rattle.std.specs.Prelude.{codes}
 use Rattle.wit_model.specs.Bytes.{Bytes}
@@ -32,8 +32,9 @@ use Rattle.type_defs.specs.PartType.{part_type}
 use Rattle.type_defs.specs.Paths.{local_path}
 use Rattle.wrapper_meaning.specs.Shape.{shape_of, shapes}
 use Rattle.wrapper_closing.specs.PrintedAs.{IsPrintedAs}
-use Rattle.func_gen.specs.declared.record_site.RecordSite.{RecordSite}
-use Rattle.type_sites.specs.Sites.{record_sites}
+use Rattle.func_gen.specs.declared.type_site.TypeSite.{TypeSite}
+use Rattle.func_gen.specs.declared.type_site.TypeSite.TheVariants.{Record}
+use Rattle.type_sites.specs.Sites.{type_sites}
 
 -- 1. The table and the world
 
@@ -71,13 +72,13 @@ world = record { name = same (codes "w"); «package» = record { 0 = 0 }; import
 abbrev tables : Resolve
 tables = record { worlds = world ∷ []; packages = []; interfaces = []; types = types }
 
--- 2. Which records have sites
+-- 2. Which types have sites
 
-abbrev site : Bytes → List Bytes → RecordSite
-site name fields = record { lifted = local_path (type_ident (same name)); lowered = local_path (type_ident (same name)); fields = map (λ f. rust_ident (same f)) fields }
+abbrev site : Bytes → List Bytes → TypeSite
+site name fields = Record (record { lifted = local_path (type_ident (same name)); lowered = local_path (type_ident (same name)); fields = map (λ f. rust_ident (same f)) fields })
 
-pub sites_are : record_sites tables world ≡ Some (site (codes "Point") (codes "x" ∷ codes "label" ∷ [])) ∷ Some (site (codes "Line") (codes "start" ∷ codes "tag" ∷ [])) ∷ None ∷ None ∷ None ∷ []
-unfolding record_sites finds parts
+pub sites_are : type_sites tables world ≡ Some (site (codes "Point") (codes "x" ∷ codes "label" ∷ [])) ∷ Some (site (codes "Line") (codes "start" ∷ codes "tag" ∷ [])) ∷ None ∷ None ∷ None ∷ []
+unfolding type_sites finds parts
 sites_are = refl
 
 -- 3. How the types are printed

@@ -3,6 +3,6 @@ pub mod DirectTypes
 pub mod Instances
 pub mod PartTypes
 pub mod PrintedTypes
-pub mod RecordsDefined
+pub mod SitesDefined
 pub mod SiteLemmas
 pub mod WorldTypes

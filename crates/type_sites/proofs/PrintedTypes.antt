@@ -1,11 +1,13 @@
 -- A type whose named parts have their definitions in a file is printed there as its shape.
-use Rattle.std.proofs.Common.{◌≡◌, ℕ, zero, suc, ◌+◌, ◌<◌, ◌≤◌, true, false, not, ◌||◌, List, [], ◌∷◌, length, map, Option, None, Some, is_some, refl, rules, sym, ap, ◌∙◌, subst, arith}
+use Rattle.std.proofs.Common.{◌≡◌, ℕ, zero, suc, ◌+◌, ◌<◌, ◌≤◌, nat_le, Bool, true, false, cond, not, ◌||◌, List, [], ◌∷◌, length, map, Option, None, Some, is_some, refl, rules, sym, ap, ◌∙◌, subst, arith}
 use Rattle.std.specs.Prelude.{slice_get}
 use Rattle.std.specs.List.{list_all}
+use Rattle.std.proofs.lemmas.List.{length-map}
 use Rattle.wit_model.specs.Bytes.{Bytes}
 use Rattle.wit_model.specs.declared.name.Name.{Name}
 use Rattle.wit_model.specs.declared.name.TypeId.{TypeId}
 use Rattle.wit_model.specs.declared.types.Field.{Field}
+use Rattle.wit_model.specs.declared.types.Member.{Member}
 use Rattle.wit_model.specs.declared.types.TypeDef.{TypeDef}
 use Rattle.wit_model.specs.declared.types.TypeDefKind.{TypeDefKind}
 use Rattle.wit_model.specs.declared.types.TypeDefKind.TheVariants as kind
@@ -18,24 +20,32 @@ use Rattle.wit_model.proofs.AllLemmas.{all_at}
 use Rattle.wit_model.proofs.BelowLemmas.{id_below, type_below_more}
 use Rattle.wit_layout.proofs.FlattenSteps.{rank}
 use Rattle.rust_tree.specs.Ident.{type_ident}
+use Rattle.rust_tree.specs.declared.enum_item.EnumItem.{EnumItem}
+use Rattle.rust_tree.specs.declared.flags_item.FlagsItem.{FlagsItem}
 use Rattle.rust_tree.specs.declared.item.Item.{Item}
+use Rattle.rust_tree.specs.declared.repr.Repr.TheVariants as repr
 use Rattle.rust_tree.specs.declared.type_expr.Primitive.{Primitive}
 use Rattle.rust_tree.specs.declared.type_expr.Primitive.TheVariants as prim
 use Rattle.rust_tree.specs.declared.type_expr.TypeExpr.{TypeExpr, TypeExpr-F, out-TypeExpr, the_lemmas as type_lemmas}
 use Rattle.rust_tree.specs.declared.type_expr.TypeExpr.TheVariants as type
 use Rattle.rust_tree.specs.declared.type_item.StructItem.{StructItem}
 use Rattle.rust_tree.specs.declared.type_item.TypeItem.{TypeItem}
-use Rattle.rust_tree.specs.declared.type_item.TypeItem.TheVariants.{Alias, Struct}
+use Rattle.rust_tree.specs.declared.type_item.TypeItem.TheVariants.{Alias, Enum, Flags, Struct}
 use Rattle.type_defs.specs.Defined.{alias_item, are_defined_kinds, field_item, have_defined_parts, is_defined_kind, is_defined_part, is_defined_type, kind_items, record_item}
+use Rattle.type_defs.specs.EnumDef.{enum_case, enum_item}
+use Rattle.type_defs.specs.FlagsDef.{flags_item, flags_member, flags_repr}
 use Rattle.type_defs.specs.PartType.{entry_type, part_type}
 use Rattle.type_defs.specs.Paths.{local_path}
 use Rattle.type_defs.specs.TypeNames.{are_type_names, needs_name}
-use Rattle.wrapper_meaning.specs.Shape.{Shape, shape_of}
+use Rattle.wrapper_meaning.specs.Numbers.{flags_width}
+use Rattle.wrapper_meaning.specs.Shape.{Shape, bare, shape_of}
 use Rattle.wrapper_meaning.specs.Shape.Shape.{cases, fields, fixed, flags, handle, list, other, pairs, resource, scalar, text, tuple}
 use Rattle.wrapper_values.specs.Typed.{behind, behind_one, definition_in, target_in, target_of, unaliased}
 use Rattle.wrapper_values.specs.Fields.{type_named}
+use Rattle.wrapper_values.specs.Flags.{repr_bits}
 use Rattle.abi_driver.specs.Instructions.{field_shapes, shapes_of}
-use Rattle.abi_driver.proofs.Records.{alias_rank, alias_shape, record_shape, tuple_shape}
+use Rattle.abi_driver.proofs.Records.{alias_rank, alias_shape, enum_shape, flags_shape, record_shape, tuple_shape}
+use Rattle.wrapper_closing.proofs.PrintedAnswers.{bare_mapped}
 use Rattle.wrapper_closing.specs.PrintedAs.{ArePrintedAs, IsPrintedAs, scalar_type}
 use Rattle.type_sites.proofs.Definitions.{IsDefinedIn}
 use Rattle.type_sites.proofs.PartTypes.{printed-entry}
@@ -98,6 +108,17 @@ mapped-fields [] nth ty e = absurd (cc)
 mapped-fields (f ∷ members) zero ty e = let is : f.ty ≡ ty = cc in ap (λ ty. Some (Some ty)) is
 mapped-fields (f ∷ members) (suc nth) ty e = mapped-fields members nth ty e
 
+-- a flags type is held by as many bits as its values have
+flags-held : (n : ℕ) → repr_bits (flags_repr n) ≡ flags_width n
+flags-held n = go (nat_le n 8) (nat_le n 16) (nat_le n 32) (nat_le n 64)
+  where
+    go : (a b c d : Bool) → repr_bits (cond a repr.U8 (cond b repr.U16 (cond c repr.U32 (cond d repr.U64 repr.U128)))) ≡ cond a 8 (cond b 16 (cond c 32 (cond d 64 128)))
+    go true b c d = refl
+    go false true c d = refl
+    go false false true d = refl
+    go false false false true = refl
+    go false false false false = refl
+
 -- 2. What a type ends in
 
 module _ (types : List TypeDef) (items : List Item) (count : ℕ → ℕ) where
@@ -107,6 +128,8 @@ module _ (types : List TypeDef) (items : List Item) (count : ℕ → ℕ) where
   IsEnd text ty = ty ≡ type.String
   IsEnd (tuple ts) ty = (tys : List TypeExpr) × (ty ≡ type.Tuple tys) × ArePrintedAs items ts tys
   IsEnd (fields ts) ty = (s : StructItem) × (definition_in items (out-TypeExpr ty) ≡ Some (Struct s)) × ArePrintedAs items ts (map (λ f. f.ty) s.fields)
+  IsEnd (cases ts) ty = (e : EnumItem) × (definition_in items (out-TypeExpr ty) ≡ Some (Enum e)) × (ts ≡ bare e.cases)
+  IsEnd (flags n) ty = (f : FlagsItem) × (definition_in items (out-TypeExpr ty) ≡ Some (Flags f)) × (length f.members ≡ n) × (repr_bits f.repr ≡ flags_width n)
   IsEnd _ ty = ⊥
 
   -- a type is the same behind its aliases whenever the items suffice for them
@@ -198,12 +221,12 @@ module _ (types : List TypeDef) (items : List Item) (count : ℕ → ℕ) where
         is = tuple-end tys e;
       }
 
-      -- a record has a name
-      unnamed-record : (members : List Field) → entry.kind ≡ kind.Record members → entry.name ≡ None → ⊥
+      -- a record has a name, and so have an enum and a flags type
+      unnamed-none : (k : TypeDefKind) → needs_name k ≡ true → entry.kind ≡ k → entry.name ≡ None → ⊥
       unfolding are_type_names
-      unnamed-record members e named =
+      unnamed-none k needs e named =
           let has : (not (needs_name entry.kind) || is_some entry.name) ≡ true = all_at (λ (t : TypeDef). not (needs_name t.kind) || is_some t.name) types id.0 entry names at in
-          let no : false ≡ true = sym (ap (λ k. not (needs_name k) || is_some entry.name) e ∙ ap (λ n. is_some n) named) ∙ has in
+          let no : false ≡ true = sym (ap (λ k. not (needs_name k) || is_some entry.name) e ∙ ap (λ b. not b || is_some entry.name) needs ∙ ap (λ n. is_some n) named) ∙ has in
           cc
 
       -- under its own name
@@ -273,6 +296,28 @@ module _ (types : List TypeDef) (items : List Item) (count : ℕ → ℕ) where
               is = subst (λ t. IsEnd t path) (sym (record_shape types down id.0 entry at members e)) end;
             }
 
+        named-enum : (members : List Member) → entry.kind ≡ kind.Enum members → Ends (wit.Id id)
+        named-enum members e =
+            let enum : EnumItem = enum_item definition.info entry.docs (type_ident name) members in
+            let is : definition_in items (out-TypeExpr path) ≡ Some (Enum enum) = item-is (kind.Enum members) (Enum enum) e refl in
+            let end : IsEnd (cases (bare members)) path = (enum, is, bare_mapped enum_case members) in
+            record {
+              last = path;
+              reached = λ more enough. ap (behind more items) (printed-path (kind.Enum members) e) ∙ stays items more path (ap target_in is);
+              is = subst (λ t. IsEnd t path) (sym (enum_shape types down id.0 entry at members e)) end;
+            }
+
+        named-flags : (members : List Member) → entry.kind ≡ kind.Flags members → Ends (wit.Id id)
+        named-flags members e =
+            let item : FlagsItem = flags_item entry.docs (type_ident name) members in
+            let is : definition_in items (out-TypeExpr path) ≡ Some (Flags item) = item-is (kind.Flags members) (Flags item) e refl in
+            let end : IsEnd (flags (length members)) path = (item, is, length-map members flags_member, flags-held (length members)) in
+            record {
+              last = path;
+              reached = λ more enough. ap (behind more items) (printed-path (kind.Flags members) e) ∙ stays items more path (ap target_in is);
+              is = subst (λ t. IsEnd t path) (sym (flags_shape types down id.0 entry at members e)) end;
+            }
+
       -- by its kind, with a name or without
       entry-ends : Ends (wit.Id id)
       entry-ends = go entry.kind entry.name refl refl (all_at (λ (t : TypeDef). is_defined_kind t.kind) types id.0 entry kinds at)
@@ -280,10 +325,14 @@ module _ (types : List TypeDef) (items : List Item) (count : ℕ → ℕ) where
           go : (k : TypeDefKind) (n : Option Name) → entry.kind ≡ k → entry.name ≡ n → is_defined_kind entry.kind ≡ true → Ends (wit.Id id)
           go (kind.Alias ty) None e named h = unnamed-alias ty e named
           go (kind.Tuple tys) None e named h = unnamed-tuple tys e named
-          go (kind.Record members) None e named h = absurd (unnamed-record members e named)
+          go (kind.Record members) None e named h = absurd (unnamed-none (kind.Record members) refl e named)
+          go (kind.Enum members) None e named h = absurd (unnamed-none (kind.Enum members) refl e named)
+          go (kind.Flags members) None e named h = absurd (unnamed-none (kind.Flags members) refl e named)
           go (kind.Alias ty) (Some name) e named h = named-alias name named ty e
           go (kind.Tuple tys) (Some name) e named h = named-tuple name named tys e
           go (kind.Record members) (Some name) e named h = named-record name named members e
+          go (kind.Enum members) (Some name) e named h = named-enum name named members e
+          go (kind.Flags members) (Some name) e named h = named-flags name named members e
           go k n e named h = let wrong : is_defined_kind k ≡ true = sym (ap is_defined_kind e) ∙ h in absurd (cc)
 
     -- 4. Every type of the table

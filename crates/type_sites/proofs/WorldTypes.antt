@@ -1,9 +1,9 @@
 -- The types that the functions of a world use are printed by its definitions as their shapes, and passed directly.
-use Rattle.std.proofs.Common.{◌≡◌, ℕ, suc, true, List, [], ◌∷◌, length, map, Option, None, Some, is_some, refl, sym, ap, subst, arith}
+use Rattle.std.proofs.Common.{◌≡◌, ℕ, suc, true, ◌||◌, List, [], ◌∷◌, length, map, Option, None, Some, is_some, refl, sym, ap, subst, arith}
 use Rattle.std.specs.Prelude.{slice_get}
 use Rattle.std.specs.List.{Contains}
 use Rattle.std.specs.Option.{option_map, option_to_list}
-use Rattle.std.proofs.lemmas.Bool.{or_left}
+use Rattle.std.proofs.lemmas.Bool.{or_left, or_right}
 use Rattle.std.proofs.lemmas.List.Elements.{Contains-append_left, Contains-append_right}
 use Rattle.wit_model.specs.declared.function.Function.{Function}
 use Rattle.wit_model.specs.declared.name.Name.{Name}
@@ -27,7 +27,7 @@ use Rattle.type_defs.specs.declared.type_opts.TypeOpts.{TypeOpts}
 use Rattle.type_defs.specs.Defined.{is_defined_type}
 use Rattle.type_defs.specs.DefinedNames.{AreDefinable}
 use Rattle.type_defs.specs.PartType.{part_type, printed_result}
-use Rattle.type_defs.specs.Used.{Covers, function_types, uses}
+use Rattle.type_defs.specs.Used.{Covers, function_types, is_always_entry, uses}
 use Rattle.type_defs.proofs.UsedLemmas.{contained-at, reached_uses}
 use Rattle.wrapper_meaning.specs.Shape.{param_shapes, result_shape, shape_of}
 use Rattle.abi_driver.specs.Instructions.{shapes_of}
@@ -50,7 +50,7 @@ module _ (opts : TypeOpts) (r : Resolve) (id : WorldId) (world : World) (defs : 
   pub covered-defined : (ty : WitType) → Covers r world ty → ((part : TypeId) → Reaches r.types ty (Id part) → uses r world part.0 ≡ true) → (part : TypeId) (entry : TypeDef) (name : Name) → Reaches r.types ty (Id part)
       → slice_get r.types part.0 ≡ Some entry → entry.name ≡ Some name → IsDefinedIn r.types items counts part.0 entry (type_ident name)
   covered-defined ty covers used part entry name reaches at named =
-      definition-of opts r id world s.definable defs s.are rest part.0 entry name (covers part entry reaches at (ap (λ n. is_some n) named)) (or_left (uses r world part.0) opts.generate_unused_types (used part reaches)) at named
+      definition-of opts r id world s.definable defs s.are rest part.0 entry name (covers part entry reaches at (ap (λ n. is_some n) named)) (or_right (is_always_entry (slice_get r.types part.0)) (uses r world part.0 || opts.generate_unused_types) (or_left (uses r world part.0) opts.generate_unused_types (used part reaches))) at named
 
   used-parts : (ty : WitType) → Contains (function_types r world) ty → (part : TypeId) → Reaches r.types ty (Id part) → uses r world part.0 ≡ true
   used-parts ty has part reaches = reached_uses r world part s.definable.shallow (record { root = ty; is_root = has; reached = reaches })

@@ -1,3 +1,3 @@
 pub mod PrintedLaws
-pub mod RecordLaws
+pub mod SiteLaws
 pub mod Sites

@@ -1,4 +1,4 @@
-//! The definitions of a world print its types as their shapes, and define its records.
+//! The definitions of a world print its types as their shapes, and say how each is written.
 
 ghost use Rattle.type_sites.specs.PrintedLaws.{
   ParamsAreDirect,
@@ -8,7 +8,7 @@ ghost use Rattle.type_sites.specs.PrintedLaws.{
   TypesAreDirect,
   TypesArePrinted,
 };
-ghost use Rattle.type_sites.specs.RecordLaws.{RecordsAreDefined, RecordsCanBeDefined};
+ghost use Rattle.type_sites.specs.SiteLaws.{SitesAreDefined, SitesCanBeDefined};
 
 /// A type that a function of a world uses is printed as its shape in each file that begins with the definitions of the world, and so are the
 /// parameters and the result of a function that uses such types.
@@ -25,9 +25,9 @@ pub fn direct_law()
     ensures results { ResultsAreDirect }
 {}
 
-/// Each record that has a site is defined as the site says, in each file that begins with the definitions of the world. So there are
-/// definitions for the records, whatever file they are written into.
-pub fn record_law()
-    ensures defined { RecordsAreDefined }
-    ensures can_be { RecordsCanBeDefined }
+/// Each type that has a site is defined as the site says, in each file that begins with the definitions of the world. So there are
+/// definitions for these types, whatever file they are written into.
+pub fn site_law()
+    ensures defined { SitesAreDefined }
+    ensures can_be { SitesCanBeDefined }
 {}

@@ -5,5 +5,5 @@
 mod laws;
 mod sites;
 
-pub use laws::{direct_law, printed_law, record_law};
-pub use sites::record_sites;
+pub use laws::{direct_law, printed_law, site_law};
+pub use sites::type_sites;

@@ -1,20 +1,20 @@
-//! How the records that the functions of a world use are written.
+//! How the types that the functions of a world use are written.
 
-ghost use Rattle.std.specs.Prelude.{◌≡◌, ◌||◌, None, Some, true, IfOk, if◌then◌else◌, map, slice_get};
+ghost use Rattle.std.specs.Prelude.{◌≡◌, ◌||◌, None, Some, true, IfOk, if◌then◌else◌, length, map, slice_get};
 ghost use Rattle.wit_model.specs.WellFormed.{IsWellFormed};
 ghost use Rattle.wit_model.specs.declared.world.World.{World};
 ghost use Rattle.rust_tree.specs.Ident.{rust_ident, type_ident};
 ghost use Rattle.type_defs.specs.Levels.{are_shallow};
 ghost use Rattle.type_defs.specs.Modes.{is_used};
-ghost use Rattle.type_sites.specs.Sites.{record_sites, site_named, site_of};
+ghost use Rattle.type_sites.specs.Sites.{enum_site, flags_site, record_site, site_by, site_of, type_sites};
 
-use func_gen::RecordSite;
+use func_gen::{EnumSite, FlagsSite, RecordSite, TypeSite};
 use rust_tree::{to_rust_ident, to_upper_camel_case};
 use std::alloc::Global;
-use type_defs::local_path;
+use type_defs::{enum_repr, flags_repr, is_used, local_path};
 use type_facts::{TypeInfo, Types};
 use wit_model::{
-    Field, List, Name, OutOfMemory, Resolve, Text, TypeDef, TypeDefKind, TypeId, WorldId,
+    Field, List, Member, Name, OutOfMemory, Resolve, Text, TypeDef, TypeDefKind, TypeId, WorldId,
 };
 
 fn field_idents(alloc: Global, fields: &[Field]) -> Result<List<Text>, OutOfMemory>
@@ -28,8 +28,8 @@ fn field_idents(alloc: Global, fields: &[Field]) -> Result<List<Text>, OutOfMemo
 }
 
 /// A record of this name.
-fn site_named(alloc: Global, name: &Name, fields: &[Field]) -> Result<RecordSite, OutOfMemory>
-    ensures { IfOk result (λ site. site ≡ site_named (type_ident name.now) fields.now) }
+fn record_site(alloc: Global, name: &Name, fields: &[Field]) -> Result<RecordSite, OutOfMemory>
+    ensures { IfOk result (λ site. site ≡ record_site (type_ident name.now) fields.now) }
 {
     let lifted = to_upper_camel_case(alloc, name)?;
     let lowered = to_upper_camel_case(alloc, name)?;
@@ -40,15 +40,67 @@ fn site_named(alloc: Global, name: &Name, fields: &[Field]) -> Result<RecordSite
     })
 }
 
-fn site_of(alloc: Global, entry: &TypeDef) -> Result<Option<RecordSite>, OutOfMemory>
+/// How many members there are, which fits in 32 bits or is answered by `OutOfMemory`.
+fn member_count(members: &[Member]) -> Result<u32, OutOfMemory>
+    ensures { IfOk result (λ n. n ≡ length members.now) }
+{
+    match u32::try_from(members.len()) {
+        Ok(count) => Ok(count),
+        Err(_) => Err(OutOfMemory),
+    }
+}
+
+/// An enum of this name.
+fn enum_site(alloc: Global, name: &Name, cases: &[Member]) -> Result<EnumSite, OutOfMemory>
+    ensures { IfOk result (λ site. site ≡ enum_site (type_ident name.now) cases.now) }
+{
+    let name = to_upper_camel_case(alloc, name)?;
+    Ok(EnumSite {
+        path: local_path(alloc, name)?,
+        repr: enum_repr(cases.len()),
+        cases: member_count(cases)?,
+    })
+}
+
+/// A flags type of this name.
+fn flags_site(alloc: Global, name: &Name, members: &[Member]) -> Result<FlagsSite, OutOfMemory>
+    ensures { IfOk result (λ site. site ≡ flags_site (type_ident name.now) members.now) }
+{
+    let name = to_upper_camel_case(alloc, name)?;
+    Ok(FlagsSite {
+        path: local_path(alloc, name)?,
+        repr: flags_repr(members.len()),
+        members: member_count(members)?,
+    })
+}
+
+/// A type of this kind and name.
+fn site_by(alloc: Global, kind: &TypeDefKind, name: &Name) -> Result<Option<TypeSite>, OutOfMemory>
+    ensures { IfOk result (λ site. site ≡ site_by kind.now (Some name.now)) }
+{
+    match kind {
+        TypeDefKind::Record(fields) => {
+            let site = record_site(alloc, name, fields.as_slice())?;
+            Ok(Some(TypeSite::Record(site)))
+        }
+        TypeDefKind::Enum(cases) => {
+            let site = enum_site(alloc, name, cases.as_slice())?;
+            Ok(Some(TypeSite::Enum(site)))
+        }
+        TypeDefKind::Flags(members) => {
+            let site = flags_site(alloc, name, members.as_slice())?;
+            Ok(Some(TypeSite::Flags(site)))
+        }
+        _ => Ok(None),
+    }
+}
+
+fn site_of(alloc: Global, entry: &TypeDef) -> Result<Option<TypeSite>, OutOfMemory>
     ensures { IfOk result (λ site. site ≡ site_of entry.now) }
 {
-    let TypeDefKind::Record(fields) = &entry.kind else {
-        return Ok(None);
-    };
     match &entry.name {
         None => Ok(None),
-        Some(name) => Ok(Some(site_named(alloc, name, fields.as_slice())?)),
+        Some(name) => site_by(alloc, &entry.kind, name),
     }
 }
 
@@ -57,34 +109,34 @@ fn site_where(
     alloc: Global,
     info: TypeInfo,
     entry: &TypeDef,
-) -> Result<Option<RecordSite>, OutOfMemory>
+) -> Result<Option<TypeSite>, OutOfMemory>
     ensures { IfOk result (λ site. site ≡ (if is_used info then site_of entry.now else None)) }
 {
-    if info.owned || info.borrowed {
+    if is_used(info) {
         return site_of(alloc, entry);
     }
     Ok(None)
 }
 
-/// By the number of a type, how it is written if it is a record that a function of the world uses. A type that no function uses, or without
-/// a name, is written nowhere. The tables are those that [`wit_model::Resolve::check`] has passed.
+/// By the number of a type, how it is written if a function of the world uses it. A type that no function uses, or without a name, is
+/// written nowhere. The tables are those that [`wit_model::Resolve::check`] has passed.
 ///
 /// It goes over the table a fixed number of times. `OutOfMemory` comes where there is no memory for a site of each entry and a mark for each
 /// type.
-pub fn record_sites(
+pub fn type_sites(
     alloc: Global,
     resolve: &Resolve,
     id: WorldId,
-) -> Result<List<Option<RecordSite>>, OutOfMemory>
+) -> Result<List<Option<TypeSite>>, OutOfMemory>
     requires { IsWellFormed resolve.now }
     ensures { IfOk result
-        (λ records. (world : World) → slice_get resolve.now.worlds id.0 ≡ Some world → are_shallow resolve.now.types ≡ true → records ≡ record_sites resolve.now world) }
+        (λ sites. (world : World) → slice_get resolve.now.worlds id.0 ≡ Some world → are_shallow resolve.now.types ≡ true → sites ≡ type_sites resolve.now world) }
 {
     let facts = Types::analyze(alloc, resolve, id)?;
-    let mut records = List::new(alloc);
+    let mut sites = List::new(alloc);
     for (number, entry) in resolve.types.as_slice().iter().enumerate() {
         let info = facts.get(TypeId(number as u32));
-        records.push(site_where(alloc, info, entry)?)?;
+        sites.push(site_where(alloc, info, entry)?)?;
     }
-    Ok(records)
+    Ok(sites)
 }

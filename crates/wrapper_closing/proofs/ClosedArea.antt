@@ -1,13 +1,14 @@
 -- The area of an import whose code is closed: it is the one that the function is due, and has bytes.
-use Rattle.std.proofs.Common.{◌≡◌, ◌≤◌, ◌<◌, ℕ, zero, suc, ◌+◌, Bool, true, false, cond, List, [], ◌∷◌, ◌++◌, length, map, Option, None, Some, refl, ap, ap₂, subst, arith}
+use Rattle.std.proofs.Common.{◌≡◌, ◌≤◌, ◌<◌, ℕ, zero, suc, ◌+◌, ◌*◌, ◌^◌, max, nat_le, Bool, true, false, cond, List, [], ◌∷◌, ◌++◌, length, map, Option, None, Some, refl, ap, ap₂, subst, arith}
 use Rattle.std.specs.Prelude.{IfSome, option_to_list}
 use Rattle.std.specs.List.{AllByRecursion, fold}
-use Rattle.std.proofs.lemmas.Bool.{and_parts}
+use Rattle.std.proofs.lemmas.Bool.{and_parts, leb-false}
 use Rattle.std.proofs.lemmas.Bool.Decides.{nat_tests}
 use Rattle.std.proofs.lemmas.Nat.{pow_pos}
-use Rattle.wit_layout.specs.Extent.{Extent, end, place}
+use Rattle.wit_layout.specs.Extent.{Extent, discriminant_grain, end, extent, flag_words, flags_extent, greatest, payload_place, place, variant_extent}
 use Rattle.wit_layout.specs.Flat.{flatten_record, flatten_type}
-use Rattle.wit_layout.specs.Sizes.{elem_size, extent_of, extents_of, scalar_grain}
+use Rattle.wit_layout.specs.Sizes.{count, elem_size, extent_of, extents_of, scalar_grain}
+use Rattle.wit_model.proofs.Rounding.{rounded_above}
 use Rattle.wit_model.specs.Size.{alignment_at, bytes_at, greater_alignment, greater_size, paired}
 use Rattle.wit_model.specs.declared.size.Alignment.TheVariants.{Bytes}
 use Rattle.wit_model.specs.declared.size.ArchitectureSize.{ArchitectureSize}
@@ -34,6 +35,20 @@ use Rattle.abi_driver.proofs.AreaSteps.{last_room}
 first_end : (e : Extent) (es : List Extent) → end (e ∷ es) 0 ≡ 0 → e.bytes ≡ 0
 first_end e es h = omega (arith, h, end_behind es (place e 0 + e.bytes))
 
+-- a tag has bytes, and so do flags
+tag_bytes : (n : ℕ) (payload : Extent) → 0 < (variant_extent n payload).bytes
+tag_bytes n payload =
+    let grain = max (discriminant_grain n) payload.grain in
+    omega (arith, rounded_above (2 ^ grain) (payload_place n payload + payload.bytes) (pow_pos grain), rounded_above (2 ^ payload.grain) (2 ^ discriminant_grain n) (pow_pos payload.grain), pow_pos (discriminant_grain n))
+
+flag_bytes : (n : ℕ) → 0 < (flags_extent n).bytes
+flag_bytes n = go (nat_le n 8) (nat_le n 16) refl
+  where
+    go : (eight sixteen : Bool) → nat_le n 16 ≡ sixteen → 0 < (cond eight (extent 0 1) (cond sixteen (extent 1 2) (extent 2 (4 * flag_words n)))).bytes
+    go true sixteen e = omega arith
+    go false true e = omega arith
+    go false false e = let many = leb-false n 16 e in omega (arith, many)
+
 mutual
   no_words : (t : Shape) → is_direct t ≡ true → elem_size 2 (layout t) ≡ 0 → flatten_type (layout t) ≡ []
   no_words (scalar s) d h = absurd (omega (arith, h, pow_pos (scalar_grain s)))
@@ -43,8 +58,8 @@ mutual
   no_words (list t) d h = absurd cc
   no_words (pairs x y) d h = absurd cc
   no_words (fixed t n) d h = absurd cc
-  no_words (cases ts) d h = absurd cc
-  no_words (flags n) d h = absurd cc
+  no_words (cases ts) d h = absurd (omega (arith, h, tag_bytes (count (layouts ts)) (greatest (extents_of 2 (layouts ts)))))
+  no_words (flags n) d h = absurd (omega (arith, h, flag_bytes n))
   no_words (handle o n) d h = absurd cc
   no_words (resource n) d h = absurd cc
   no_words other d h = absurd cc

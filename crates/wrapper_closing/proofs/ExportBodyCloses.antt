@@ -18,7 +18,7 @@ use Rattle.abi_driver.specs.Sends.{Sends}
 use Rattle.abi_driver.specs.Sent.{sends}
 use Rattle.func_gen.specs.Body.{Gives}
 use Rattle.func_gen.specs.Meaning.{Found, GivesAsCalled, func_meaning}
-use Rattle.func_gen.specs.Records.{AreDefined}
+use Rattle.func_gen.specs.TypeSites.{AreDefined}
 use Rattle.func_gen.specs.Sites.{site_names}
 use Rattle.func_gen.specs.declared.body.Body.{Body}
 use Rattle.func_gen.specs.declared.function_bindgen.FunctionBindgen.{FunctionBindgen}
@@ -70,7 +70,7 @@ closes_export types func parts body names results tree nth c =
       plain_call = ap is_plain_call (sym c.head) ∙ k.method;
       plain_rest = ap declares_no_area (sym b.stmts) ∙ k.plain;
       runtime = subst (Found tree.items) b.runtime c.runtime;
-      records = subst (AreDefined tree.items) (sym k.made.of_records) c.records;
+      sites = subst (AreDefined tree.items) (sym k.made.of_sites) c.sites;
       called = subst (λ h. GivesAsCalled tree.items h (Some c.item.call)) home c.called;
       area = c.area;
       passes = subst (λ h. PassesAsItIs func_meaning (export_file tree c.number h) k.old f (param_shapes types f)) home c.passes;

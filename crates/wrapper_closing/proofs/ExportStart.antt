@@ -46,7 +46,7 @@ use Rattle.abi_driver.proofs.HonestAnswers.{free_once}
 use Rattle.abi_driver.proofs.SaysTypes.{parts_typed}
 use Rattle.func_gen.specs.FuncSound.{func_sound}
 use Rattle.func_gen.specs.Meaning.{AreaIs, Denote, File, GivesAsCalled, Serves, account_of, func_meaning, owns_of, static_request}
-use Rattle.func_gen.specs.Records.{AreDefined}
+use Rattle.func_gen.specs.TypeSites.{AreDefined}
 use Rattle.func_gen.specs.Scope.{is_used}
 use Rattle.func_gen.specs.Sites.{site_names}
 use Rattle.func_gen.specs.declared.function_bindgen.FunctionBindgen.{FunctionBindgen}
@@ -137,7 +137,7 @@ module _ (types : List TypeDef) (f : Function) (names : ExportNames) (results : 
   pub file_serves : Serves (export_file tree c.number old.home) new
   file_serves = record {
     runtime = c.runtime;
-    records = subst (AreDefined tree.items) (sym c.still.records) c.records;
+    sites = subst (AreDefined tree.items) (sym c.still.sites) c.sites;
     room = subst (AllByRecursion (HoldsRecord 2 (static_request (area_in tree.items)))) (sym (c.calls.asked ∙ ap (λ xs. xs ++ c.calls.records) c.begun.unasked)) (shared_room results (result_shape types f) tree c.area c.calls.records c.calls.for);
     sized = shared_sized results (result_shape types f) tree c.area;
     static = λ e. refl;

@@ -9,4 +9,4 @@ use Rattle.wrapper_closing.specs.declared.parts.BodyParts.{BodyParts}
 
 pub handed_back : (import : Bool) (parts : BodyParts) (old new : FunctionBindgen) (tables : TypeTables) → IsMadeFrom import parts old → StillOf old new → tables ≡ func.tables_of new → tables ≡ tables_of parts
 handed_back import parts old new tables made still is =
-    is ∙ ap₂ (λ sizes records. record { sizes = sizes; records = records }) (still.sizes ∙ made.of_sizes) (still.records ∙ made.of_records)
+    is ∙ ap₂ (λ sizes sites. record { sizes = sizes; sites = sites }) (still.sizes ∙ made.of_sizes) (still.sites ∙ made.of_sites)

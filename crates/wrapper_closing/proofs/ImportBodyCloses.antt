@@ -18,7 +18,7 @@ use Rattle.abi_driver.specs.Sends.{Sends}
 use Rattle.abi_driver.specs.Sent.{sends}
 use Rattle.func_gen.specs.Body.{Gives, needed}
 use Rattle.func_gen.specs.Meaning.{Found, func_meaning}
-use Rattle.func_gen.specs.Records.{AreDefined}
+use Rattle.func_gen.specs.TypeSites.{AreDefined}
 use Rattle.func_gen.specs.Sites.{site_names}
 use Rattle.func_gen.specs.declared.body.Body.{Body}
 use Rattle.func_gen.specs.declared.function_bindgen.FunctionBindgen.{FunctionBindgen}
@@ -70,7 +70,7 @@ closes_import types func parts body tree nth c =
       names = c.names ∙ ap site_names (sym k.made.of_params);
       body = c.block ∙ block;
       runtime = subst (Found tree.items) b.runtime c.runtime;
-      records = subst (AreDefined tree.items) (sym k.made.of_records) c.records;
+      sites = subst (AreDefined tree.items) (sym k.made.of_sites) c.sites;
       answers = c.answers;
       params = c.params;
       result = c.result;

@@ -31,7 +31,7 @@ use Rattle.abi_driver.specs.Imports.{Given}
 use Rattle.abi_driver.specs.Laws.{args, item_data}
 use Rattle.abi_driver.proofs.Runs.{addresses_both}
 use Rattle.func_gen.specs.Meaning.{Denote, File, FuncState, GivesAsCalled, IsArea, Serves, func_meaning, owns_of, setting_for}
-use Rattle.func_gen.specs.Records.{AreDefined}
+use Rattle.func_gen.specs.TypeSites.{AreDefined}
 use Rattle.func_gen.specs.FuncSound.{func_sound}
 use Rattle.func_gen.specs.declared.function_bindgen.FunctionBindgen.{FunctionBindgen}
 use Rattle.wrapper_closing.specs.ClosedImport.{ClosesImport}
@@ -69,7 +69,7 @@ module _ (types : List TypeDef) (f : Function) (tree : Tree) (nth : ℕ) (old ne
   pub serves : Serves (file) new
   serves = record {
     runtime = c.runtime;
-    records = subst (AreDefined tree.items) (sym c.still.records) c.records;
+    sites = subst (AreDefined tree.items) (sym c.still.sites) c.sites;
     room = area_holds (records_of (param_shapes types f) (result_shape types f)) new.asked asked_for;
     sized = sized;
     static = λ e. absurd (true≢false (sym imports ∙ e));

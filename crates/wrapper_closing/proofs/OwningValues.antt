@@ -1,5 +1,6 @@
 -- A value of a direct shape that owns what it has still does with the flags of an owner, and passes then as it is.
-use Rattle.std.proofs.Common.{◌≡◌, ℕ, zero, suc, Bool, true, List, [], ◌∷◌, length, map, refl, sym, ap, ap₂, ◌∙◌, subst}
+use Rattle.std.proofs.Common.{◌≡◌, ℕ, zero, suc, inl, inr, Bool, true, false, List, [], ◌∷◌, length, map, Option, None, Some, refl, sym, ap, ap₂, ◌∙◌, subst}
+use Rattle.std.specs.Option.{option_map}
 use Rattle.std.proofs.lemmas.Bool.{and_parts}
 use Rattle.wrapper_data.specs.declared.block.Block.{Block}
 use Rattle.wit_layout.specs.Tree.{Scalar}
@@ -9,12 +10,13 @@ use Rattle.wrapper_data.specs.declared.value.RustValue.TheVariants.{rolls-Buffer
 use Rattle.wrapper_meaning.specs.Buffer.{IsBuffer}
 use Rattle.wrapper_meaning.specs.Direction.{give, take}
 use Rattle.wrapper_meaning.specs.InMemory.{TextHolds, text_extent}
-use Rattle.wrapper_meaning.specs.Shape.{Shape, Shapes}
+use Rattle.wrapper_meaning.specs.Shape.{Shape, Shapes, is_nothing}
 use Rattle.wrapper_meaning.specs.Shape.Shape.{cases, fields, fixed, flags, handle, list, other, pairs, resource, scalar, text, tuple}
 use Rattle.wrapper_meaning.specs.Shape.Shapes.{more, none}
-use Rattle.wrapper_meaning.specs.StandsFor.{IsFlag, PartsStand, Stands, rust_scalar}
-use Rattle.wrapper_meaning.specs.Value.{Parts, ScalarValue, Value}
+use Rattle.wrapper_meaning.specs.StandsFor.{CaseStands, IsFlag, PartsStand, PayloadStands, Standing, Stands, rust_scalar}
+use Rattle.wrapper_meaning.specs.Value.{Case, Parts, ScalarValue, Value, case_number}
 use Rattle.func_gen.specs.Meaning.{IsNormal, passing_level}
+use Rattle.func_gen.proofs.Normals.{normal_bits, normal_case, normal_unit, passing_case}
 use Rattle.func_gen.proofs.PartRows.{normal_struct}
 use Rattle.func_gen.proofs.Scalars.{scalar_normal}
 use Rattle.wrapper_closing.specs.Direct.{are_direct, is_direct}
@@ -67,6 +69,21 @@ pub record PartsOwning (ts : Shapes) (v : Parts ts) (rs : List RustValue) (own :
   pub given : PartsStand 2 give ts v (map owning rs) own
   pub normal : map owning (map owning rs) ≡ map owning rs
 
+pub record CaseOwning (ts : Shapes) (c : Case ts) (payload : Option RustValue) (own : List Block) : Type 0 where
+  pub taken : CaseStands 2 take ts c (option_map owning payload) own
+  pub given : CaseStands 2 give ts c (option_map owning payload) own
+  pub normal : option_map owning (option_map owning payload) ≡ option_map owning payload
+
+-- a payload that is left out has no flags
+payload_owns : (empty_case : Bool) (taken given : Standing RustValue) (payload : Option RustValue) (own : List Block) → ((r : RustValue) (own : List Block) → taken r own → taken (owning r) own × given (owning r) own × IsNormal give (owning r))
+    → PayloadStands empty_case taken payload own → PayloadStands empty_case taken (option_map owning payload) own × PayloadStands empty_case given (option_map owning payload) own × (option_map owning (option_map owning payload) ≡ option_map owning payload)
+payload_owns true taken given None own each h = (h, h, refl)
+payload_owns true taken given (Some r) own each h =
+    let same : owning r ≡ value.Unit = ap owning h.0 ∙ normal_unit take in ((same, h.1), (same, h.1), ap (λ r. Some r) (ap owning same ∙ normal_unit take ∙ sym same))
+payload_owns false taken given payload own each (r, is, h) =
+    let same : option_map owning payload ≡ Some (owning r) = ap (option_map owning) is in
+    let one = each r own h in ((owning r, same, one.0), (owning r, same, one.1), ap (option_map owning) same ∙ ap (λ r. Some r) one.2 ∙ sym same)
+
 scalar_owns : (s : Scalar) (v : ScalarValue s) (r : RustValue) (own : List Block) → Stands 2 take (scalar s) v r own → Owning (scalar s) v r own
 scalar_owns s v r own h =
     let same : owning r ≡ rust_scalar s v = ap owning h.0 ∙ scalar_normal take s v in
@@ -99,8 +116,17 @@ mutual
   owns (list t) v r own d h = absurd cc
   owns (pairs x y) v r own d h = absurd cc
   owns (fixed t n) v r own d h = absurd cc
-  owns (cases ts) v r own d h = absurd cc
-  owns (flags n) v r own d h = absurd cc
+  owns (cases ts) v r own d (payload, is, h) =
+      let inside = case_owns ts v payload own d h in
+      let same = ap owning is ∙ passing_case take (case_number ts v) payload in
+      record {
+        taken = (option_map owning payload, same, inside.taken);
+        given = (option_map owning payload, same, inside.given);
+        normal = subst (IsNormal give) (sym same) (normal_case give (case_number ts v) (option_map owning payload) inside.normal);
+      }
+  owns (flags n) v r own d (bits, small, is, means, alone) =
+      let same = ap owning is ∙ normal_bits take bits in
+      record { taken = (bits, small, same, means, alone); given = (bits, small, same, means, alone); normal = subst (IsNormal give) (sym same) (normal_bits give bits) }
   owns (handle o n) v r own d h = absurd cc
   owns (resource n) v r own d h = absurd cc
   owns other v r own d h = absurd cc
@@ -119,3 +145,11 @@ mutual
         given = (owning r, map owning others, first, rest, same, one.given, later.given, all);
         normal = ap (map owning) same ∙ ap₂ (λ x xs. x ∷ xs) one.normal later.normal ∙ sym same;
       }
+
+  pub case_owns : (ts : Shapes) (c : Case ts) (payload : Option RustValue) (own : List Block) → are_direct ts ≡ true → CaseStands 2 take ts c payload own → CaseOwning ts c payload own
+  case_owns none c payload own d h = absurd c
+  case_owns (more t ts) (inl v) payload own d h =
+      let inside = payload_owns (is_nothing t) (Stands 2 take t v) (Stands 2 give t v) payload own (λ r own h. let one = owns t v r own (and_parts (is_direct t) (are_direct ts) d).0 h in (one.taken, one.given, one.normal)) h in
+      record { taken = inside.0; given = inside.1; normal = inside.2 }
+  case_owns (more t ts) (inr c) payload own d h =
+      let inside = case_owns ts c payload own (and_parts (is_direct t) (are_direct ts) d).1 h in record { taken = inside.taken; given = inside.given; normal = inside.normal }

@@ -6,7 +6,7 @@ use Rattle.wit_model.specs.declared.types.TypeDef.{TypeDef}
 use Rattle.abi_driver.specs.Code.{post_return_code}
 use Rattle.func_gen.specs.Body.{Gives}
 use Rattle.func_gen.specs.Meaning.{Found}
-use Rattle.func_gen.specs.Records.{AreDefined}
+use Rattle.func_gen.specs.TypeSites.{AreDefined}
 use Rattle.func_gen.specs.Sites.{site_names}
 use Rattle.func_gen.specs.declared.body.Body.{Body}
 use Rattle.func_gen.proofs.StillSent.{still_sent}
@@ -35,7 +35,7 @@ closes_post_return types f parts body tree nth c =
       headless = sym b.call ∙ k.headless;
       body = c.block ∙ ap₂ block_with b.stmts tail;
       runtime = subst (Found tree.items) b.runtime c.runtime;
-      records = subst (AreDefined tree.items) (sym (still.records ∙ k.made.of_records)) c.records;
+      sites = subst (AreDefined tree.items) (sym (still.sites ∙ k.made.of_sites)) c.sites;
       sized = c.sized;
       result = c.result;
       lists = c.lists;

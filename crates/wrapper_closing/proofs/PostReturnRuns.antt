@@ -65,7 +65,7 @@ module _ (types : List TypeDef) (f : Function) (tree : Tree) (nth : ℕ) (old ne
   serves : Serves file new
   serves = record {
     runtime = c.runtime;
-    records = c.records;
+    sites = c.sites;
     room = subst (AllByRecursion (HoldsRecord 2 (static_request (area_in tree.items)))) (sym (c.frees.adds.asked ∙ c.begun.unasked)) tt;
     sized = c.sized;
     static = λ e. refl;

@@ -10,16 +10,17 @@ use Rattle.rust_tree.specs.declared.item.Item.{Item}
 use Rattle.rust_tree.specs.declared.trait_item.TraitFn.{TraitFn}
 use Rattle.rust_tree.specs.declared.type_expr.TypeExpr.{TypeExpr}
 use Rattle.wrapper_data.specs.declared.block.Block.{Block}
-use Rattle.wrapper_data.specs.declared.value.RustValue.{RustValue, RustValue-F, out-RustValue, the_lemmas}
+use Rattle.wrapper_data.specs.declared.value.RustValue.{RustValue, RustValue-F, out-RustValue, out-roll-RustValue, the_lemmas}
 use Rattle.wrapper_data.specs.declared.value.RustValue.TheVariants as value
+use Rattle.wrapper_data.specs.declared.value.RustValue.TheVariants.{rolls-Case}
 use Rattle.wrapper_data.specs.declared.word.Word.TheVariants as core
 use Rattle.wrapper_meaning.specs.Direction.{take}
 use Rattle.wrapper_meaning.specs.InRange.{AreListed, IsListed, IsScalar}
-use Rattle.wrapper_meaning.specs.Shape.{Shape, Shapes}
+use Rattle.wrapper_meaning.specs.Shape.{Shape, Shapes, bare, nothing}
 use Rattle.wrapper_meaning.specs.Shape.Shape.{cases, fields, fixed, flags, handle, list, other, pairs, resource, scalar, text, tuple}
 use Rattle.wrapper_meaning.specs.Shape.Shapes.{more, none}
 use Rattle.wrapper_meaning.specs.StandsFor.{Stands, rust_scalar}
-use Rattle.wrapper_meaning.specs.Value.{Parts, ScalarValue, Value}
+use Rattle.wrapper_meaning.specs.Value.{Parts, ScalarValue, Value, case_number}
 use Rattle.wrapper_values.specs.declared.state.Val.{Val}
 use Rattle.wrapper_values.specs.declared.state.Val.TheVariants as val
 use Rattle.wrapper_values.specs.Effect.{answer_of, is_of_kind, rust_of}
@@ -67,6 +68,12 @@ buffer_ranged address n o = ap is_ranged (let e : out-RustValue (value.Buffer ad
 struct_ranged : (rs : List RustValue) → is_ranged (out-RustValue (value.Struct rs)) ≡ true
 struct_ranged rs = ap is_ranged (let e : out-RustValue (value.Struct rs) ≡ RustValue-F.Struct rs = search (rules, the_lemmas) in e)
 
+case_ranged : (n : ℕ) (payload : Option RustValue) → is_ranged (out-RustValue (value.Case n payload)) ≡ true
+case_ranged n payload = ap is_ranged (ap out-RustValue (sym (rolls-Case n payload)) ∙ out-roll-RustValue (RustValue-F.Case n payload))
+
+bits_ranged : (bits : ℕ) → is_ranged (out-RustValue (value.Bits bits)) ≡ true
+bits_ranged bits = ap is_ranged (let e : out-RustValue (value.Bits bits) ≡ RustValue-F.Bits bits = search (rules, the_lemmas) in e)
+
 ranged : (t : Shape) (v : Value t) (r : RustValue) (own : List Block) → is_direct t ≡ true → IsListed t v → Stands 2 take t v r own → is_ranged (out-RustValue r) ≡ true
 ranged (scalar s) v r own d g h = ap (λ r. is_ranged (out-RustValue r)) h.0 ∙ scalar_ranged s v g
 ranged text v r own d g h = ap (λ r. is_ranged (out-RustValue r)) h.is ∙ buffer_ranged h.address _ h.owned
@@ -75,8 +82,8 @@ ranged (tuple ts) v r own d g (rs, is, h) = ap (λ r. is_ranged (out-RustValue r
 ranged (list t) v r own d g h = absurd cc
 ranged (pairs x y) v r own d g h = absurd cc
 ranged (fixed t n) v r own d g h = absurd cc
-ranged (cases ts) v r own d g h = absurd cc
-ranged (flags n) v r own d g h = absurd cc
+ranged (cases ts) v r own d g (payload, is, h) = ap (λ r. is_ranged (out-RustValue r)) is ∙ case_ranged (case_number ts v) payload
+ranged (flags n) v r own d g (bits, small, is, means, alone) = ap (λ r. is_ranged (out-RustValue r)) is ∙ bits_ranged bits
 ranged (handle o n) v r own d g h = absurd cc
 ranged (resource n) v r own d g h = absurd cc
 ranged other v r own d g h = absurd cc
@@ -101,6 +108,15 @@ is_item (val.Word (core.Slot o)) r h e = absurd cc
 
 -- 2. Values
 
+-- cases without payload are as many as the members, and direct
+pub bare_mapped : {A B : Type 0} (f : A → B) (members : List A) → bare members ≡ bare (map f members)
+bare_mapped f [] = refl
+bare_mapped f (_ ∷ members) = ap (more nothing) (bare_mapped f members)
+
+pub bare_direct : {A : Type 0} (members : List A) → are_direct (bare members) ≡ true
+bare_direct [] = refl
+bare_direct (_ ∷ members) = bare_direct members
+
 mutual
   printed_direct : (items : List Item) (t : Shape) (ty : TypeExpr) → IsPrintedAs items t ty → is_direct t ≡ true
   printed_direct items (scalar s) ty p = refl
@@ -110,8 +126,8 @@ mutual
   printed_direct items (list t) ty p = absurd p
   printed_direct items (pairs x y) ty p = absurd p
   printed_direct items (fixed t n) ty p = absurd p
-  printed_direct items (cases ts) ty p = absurd p
-  printed_direct items (flags n) ty p = absurd p
+  printed_direct items (cases ts) ty (e, is, p) = ap are_direct p ∙ bare_direct e.cases
+  printed_direct items (flags n) ty p = refl
   printed_direct items (handle o n) ty p = absurd p
   printed_direct items (resource n) ty p = absurd p
   printed_direct items other ty p = absurd p

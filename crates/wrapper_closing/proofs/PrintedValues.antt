@@ -1,34 +1,40 @@
 -- What stands for a value is one of the type that its shape is printed as.
-use Rattle.std.proofs.Common.{◌≡◌, ℕ, ℤ, Bool, true, List, [], ◌∷◌, length, map, None, Some, refl, sym, ap, ap₂, ◌∙◌, subst, rules}
+use Rattle.std.proofs.Common.{◌≡◌, ◌⊎◌, ◌<◌, ℕ, ◌^◌, ℤ, inl, inr, Bool, true, cond, List, [], ◌∷◌, length, map, Option, None, Some, refl, sym, ap, ap₂, ◌∙◌, subst, arith, rules}
 use Rattle.std.specs.Prelude.{option_and_then}
 use Rattle.std.specs.Option.{option_map, option_or}
+use Rattle.std.proofs.lemmas.Bool.{lt-ltb}
 use Rattle.wit_layout.specs.Tree.{Scalar}
 use Rattle.wit_model.specs.declared.types.WitType.{WitType}
 use Rattle.wit_model.specs.declared.types.WitType.TheVariants as wit
+use Rattle.rust_tree.specs.declared.enum_item.EnumItem.{EnumItem}
+use Rattle.rust_tree.specs.declared.flags_item.FlagsItem.{FlagsItem}
 use Rattle.rust_tree.specs.declared.item.Item.{Item}
 use Rattle.rust_tree.specs.declared.type_expr.Primitive.TheVariants as prim
 use Rattle.rust_tree.specs.declared.type_expr.TypeExpr.{TypeExpr, TypeExpr-F, out-TypeExpr, the_lemmas as type_lemmas}
 use Rattle.rust_tree.specs.declared.type_expr.TypeExpr.TheVariants as type
 use Rattle.rust_tree.specs.declared.type_item.StructItem.{StructItem}
-use Rattle.rust_tree.specs.declared.type_item.TypeItem.TheVariants.{Struct}
+use Rattle.rust_tree.specs.declared.type_item.TypeItem.TheVariants.{Enum, Flags, Struct}
 use Rattle.wrapper_data.specs.declared.block.Block.{Block}
 use Rattle.wrapper_data.specs.declared.value.RustValue.{RustValue, RustValue-F, fold-roll-RustValue, map-RustValue, roll-RustValue}
 use Rattle.wrapper_data.specs.declared.value.RustValue.TheVariants as value
-use Rattle.wrapper_data.specs.declared.value.RustValue.TheVariants.{rolls-Bool, rolls-Buffer, rolls-Char, rolls-F32, rolls-F64, rolls-Num, rolls-Struct}
+use Rattle.wrapper_data.specs.declared.value.RustValue.TheVariants.{rolls-Bits, rolls-Bool, rolls-Buffer, rolls-Case, rolls-Char, rolls-F32, rolls-F64, rolls-Num, rolls-Struct, rolls-Unit}
 use Rattle.wrapper_meaning.specs.Direction.{take}
 use Rattle.wrapper_meaning.specs.InRange.{AreListed, IsListed, IsScalar}
-use Rattle.wrapper_meaning.specs.Shape.{Shape, Shapes}
+use Rattle.wrapper_meaning.specs.Shape.{Shape, Shapes, bare}
 use Rattle.wrapper_meaning.specs.Shape.Shape.{cases, fields, fixed, flags, handle, list, other, pairs, resource, scalar, text, tuple}
 use Rattle.wrapper_meaning.specs.Shape.Shapes.{more, none}
-use Rattle.wrapper_meaning.specs.StandsFor.{PartsStand, Stands, rust_scalar}
-use Rattle.wrapper_meaning.specs.Value.{Parts, ScalarValue, Value}
+use Rattle.wrapper_meaning.specs.StandsFor.{CaseStands, PartsStand, Stands, rust_scalar}
+use Rattle.wrapper_meaning.specs.Value.{Case, Parts, ScalarValue, Value, case_number}
 use Rattle.wrapper_values.specs.declared.state.Val.{Val}
 use Rattle.wrapper_values.specs.declared.state.Val.TheVariants as val
 use Rattle.wrapper_values.specs.Effect.{answer_as, answer_of}
+use Rattle.wrapper_values.specs.Enums.{enum_in}
 use Rattle.wrapper_values.specs.Fields.{fields_in}
-use Rattle.wrapper_values.specs.Typed.{Typed, answer_in, definition_in, plain_as, typed, typed_each, typed_level, typed_parts, unaliased}
+use Rattle.wrapper_values.specs.Flags.{flags_in, repr_bits}
+use Rattle.wrapper_values.specs.Typed.{Typed, answer_in, behind, behind_one, definition_in, plain_as, target_in, typed, typed_bare, typed_case, typed_each, typed_enum, typed_flags, typed_level, typed_parts, typed_unit, unaliased}
 use Rattle.wrapper_run.proofs.NumberLemmas.{answered-bool, answered-char, answered-f32-value, answered-f64-value, answered-number}
 use Rattle.wrapper_run.proofs.TakeLemmas.{answered-empty, answered-text}
+use Rattle.func_gen.proofs.Normals.{normal_bits, normal_unit, passing_case}
 use Rattle.func_gen.proofs.Scalars.{scalar_normal}
 use Rattle.wrapper_closing.specs.PrintedAs.{ArePrintedAs, IsPrintedAs, scalar_type}
 use Rattle.wrapper_closing.proofs.OwningValues.{owning, owning_buffer, owning_struct}
@@ -57,6 +63,21 @@ text_answered [] r own h =
 text_answered (b ∷ v) r own h =
     let full : r ≡ value.Buffer h.address (length (b ∷ v)) true = h.is ∙ ap (value.Buffer h.address (length (b ∷ v))) h.flag in
     ap (λ r. answer_of type.String (val.Value r)) full ∙ answered-text h.address (length (b ∷ v)) ∙ ap (λ r. Some (Some r)) (sym (ap owning full ∙ owning_buffer h.address (length (b ∷ v)) true))
+
+-- a case without payload: it is left out, or `()`
+abbrev IsBare : Option RustValue → Type 0
+IsBare payload = (payload ≡ None) ⊎ (payload ≡ Some value.Unit)
+
+bare_number : {A : Type 0} (members : List A) (c : Case (bare members)) → case_number (bare members) c < length members
+bare_number [] c = absurd c
+bare_number (_ ∷ members) (inl v) = omega arith
+bare_number (_ ∷ members) (inr c) = let later = bare_number members c in omega (arith, later)
+
+bare_payload : {A : Type 0} (members : List A) (payload : Option RustValue) (own : List Block) (c : Case (bare members)) → CaseStands 2 take (bare members) c payload own → IsBare payload
+bare_payload [] payload own c h = absurd c
+bare_payload (_ ∷ members) None own (inl v) h = inl refl
+bare_payload (_ ∷ members) (Some r) own (inl v) h = inr (ap (λ r. Some r) h.0)
+bare_payload (_ ∷ members) payload own (inr c) h = bare_payload members payload own c h
 
 -- 2. As one of a type of the file
 
@@ -124,15 +145,75 @@ module _ (items : List Item) where
   record_parts (TypeExpr-F.Optional t) s h = absurd cc
   record_parts (TypeExpr-F.Array t n) s h = absurd cc
 
-  by_parts : (r : RustValue) (rs : List RustValue) (ty : TypeExpr) (types : List TypeExpr) → r ≡ value.Struct rs → IsOfParts (out-TypeExpr (unaliased items ty)) types → typed_each (map (typed items) rs) types ≡ Some (map owning rs) → IsTyped r ty
+  -- what is no plain type is typed as a whole
+  by_whole : (r : RustValue) (ty : TypeExpr) → ((v : Val) → answer_as (out-TypeExpr (unaliased items ty)) v ≡ None) → typed items r ty ≡ Some (owning r) → IsTyped r ty
   unfolding answer_of
+  by_whole r ty unanswered whole = record { typed = whole; answered = ap₂ option_or (unanswered (val.Value r)) (ap (option_map Some) whole) }
+
+  by_parts : (r : RustValue) (rs : List RustValue) (ty : TypeExpr) (types : List TypeExpr) → r ≡ value.Struct rs → IsOfParts (out-TypeExpr (unaliased items ty)) types → typed_each (map (typed items) rs) types ≡ Some (map owning rs) → IsTyped r ty
   by_parts r rs ty types is of h =
-      let whole : typed items r ty ≡ Some (owning r) =
-      ap (λ r. typed items r ty) is ∙ typed_struct rs ty ∙ ap (option_map value.Struct) (of.0 (map (typed items) rs) ∙ h) ∙ ap (λ r. Some r) (sym (ap owning is ∙ owning_struct rs)) in
-      record {
-        typed = whole;
-        answered = ap₂ option_or (of.1 (val.Value r)) (ap (option_map Some) whole);
-      }
+      by_whole r ty of.1
+      (ap (λ r. typed items r ty) is ∙ typed_struct rs ty ∙ ap (option_map value.Struct) (of.0 (map (typed items) rs) ∙ h) ∙ ap (λ r. Some r) (sym (ap owning is ∙ owning_struct rs)))
+
+  -- an enum of the file
+  enum_level : (l : TypeExpr-F TypeExpr) (e : EnumItem) → definition_in items l ≡ Some (Enum e) → ((n : ℕ) (payload : Option Typed) → typed_case items n payload l ≡ typed_enum n payload (Some e)) × ((v : Val) → answer_as l v ≡ None)
+  enum_level (TypeExpr-F.Path p) e h = (λ n payload. ap (λ d. typed_enum n payload (enum_in d)) h, λ v. refl)
+  enum_level TypeExpr-F.Unit e h = absurd cc
+  enum_level (TypeExpr-F.Primitive p) e h = absurd cc
+  enum_level TypeExpr-F.Str e h = absurd cc
+  enum_level TypeExpr-F.String e h = absurd cc
+  enum_level (TypeExpr-F.Ref t) e h = absurd cc
+  enum_level (TypeExpr-F.Tuple ts) e h = absurd cc
+  enum_level (TypeExpr-F.Optional t) e h = absurd cc
+  enum_level (TypeExpr-F.Array t n) e h = absurd cc
+
+  -- `()` is itself as one of its type
+  unit_typed : typed items value.Unit type.Unit ≡ Some value.Unit
+  unit_typed = ap (λ r. typed items r type.Unit) (sym rolls-Unit) ∙ typed_roll RustValue-F.Unit type.Unit ∙ ap (λ t. typed_unit (out-TypeExpr t)) (unit_behind items) ∙ ap typed_unit unit_opened
+    where
+      unit_opened : out-TypeExpr type.Unit ≡ TypeExpr-F.Unit
+      unit_opened = search (rules, type_lemmas)
+
+      unit_behind : (left : List Item) → behind left items type.Unit ≡ type.Unit
+      unit_behind [] = refl
+      unit_behind (_ ∷ left) = ap (λ l. behind_one (behind left items) type.Unit (target_in (definition_in items l))) unit_opened
+
+  -- a case without payload passes as it is
+  bare_typed : (n : ℕ) (payload : Option RustValue) → IsBare payload → typed_bare n (option_map (typed items) payload) ≡ Some (owning (value.Case n payload))
+  bare_typed n payload (inl is) =
+      ap (λ p. typed_bare n (option_map (typed items) p)) is ∙ ap (λ r. Some r) (sym (passing_case take n None)) ∙ ap (λ p. Some (owning (value.Case n p))) (sym is)
+  bare_typed n payload (inr is) =
+      ap (λ p. typed_bare n (option_map (typed items) p)) is ∙ ap (option_map (λ r. value.Case n (Some r))) unit_typed
+      ∙ ap (λ r. Some r) (sym (passing_case take n (Some value.Unit) ∙ ap (λ r. value.Case n (Some r)) (normal_unit take))) ∙ ap (λ p. Some (owning (value.Case n p))) (sym is)
+
+  case_typed : (n : ℕ) (payload : Option RustValue) (ty : TypeExpr) → typed items (value.Case n payload) ty ≡ typed_case items n (option_map (typed items) payload) (out-TypeExpr (unaliased items ty))
+  case_typed n None ty = ap (λ r. typed items r ty) (sym (rolls-Case n None)) ∙ typed_roll (RustValue-F.Case n None) ty
+  case_typed n (Some r) ty = ap (λ r. typed items r ty) (sym (rolls-Case n (Some r))) ∙ typed_roll (RustValue-F.Case n (Some r)) ty
+
+  by_case : (n : ℕ) (r : RustValue) (payload : Option RustValue) (ty : TypeExpr) (e : EnumItem) → r ≡ value.Case n payload → definition_in items (out-TypeExpr (unaliased items ty)) ≡ Some (Enum e) → n < length e.cases → IsBare payload → IsTyped r ty
+  by_case n r payload ty e is p low bare_of =
+      let level = enum_level (out-TypeExpr (unaliased items ty)) e p in
+      by_whole r ty level.1
+      (ap (λ r. typed items r ty) is ∙ case_typed n payload ty ∙ level.0 n (option_map (typed items) payload)
+      ∙ ap (λ b. cond b (typed_bare n (option_map (typed items) payload)) None) (lt-ltb n (length e.cases) low) ∙ bare_typed n payload bare_of ∙ ap (λ r. Some (owning r)) (sym is))
+
+  -- flags of the file
+  flags_level : (l : TypeExpr-F TypeExpr) (f : FlagsItem) → definition_in items l ≡ Some (Flags f) → (v : Val) → answer_as l v ≡ None
+  flags_level (TypeExpr-F.Path p) f h = λ v. refl
+  flags_level TypeExpr-F.Unit f h = absurd cc
+  flags_level (TypeExpr-F.Primitive p) f h = absurd cc
+  flags_level TypeExpr-F.Str f h = absurd cc
+  flags_level TypeExpr-F.String f h = absurd cc
+  flags_level (TypeExpr-F.Ref t) f h = absurd cc
+  flags_level (TypeExpr-F.Tuple ts) f h = absurd cc
+  flags_level (TypeExpr-F.Optional t) f h = absurd cc
+  flags_level (TypeExpr-F.Array t n) f h = absurd cc
+
+  by_flags : (bits : ℕ) (r : RustValue) (ty : TypeExpr) (f : FlagsItem) → r ≡ value.Bits bits → definition_in items (out-TypeExpr (unaliased items ty)) ≡ Some (Flags f) → bits < 2 ^ repr_bits f.repr → IsTyped r ty
+  by_flags bits r ty f is p small =
+      by_whole r ty (flags_level (out-TypeExpr (unaliased items ty)) f p)
+      (ap (λ r. typed items r ty) (is ∙ sym (rolls-Bits bits)) ∙ typed_roll (RustValue-F.Bits bits) ty ∙ ap (λ d. typed_flags bits (flags_in d)) p
+      ∙ ap (λ b. cond b (Some (value.Bits bits)) None) (lt-ltb bits (2 ^ repr_bits f.repr) small) ∙ ap (λ r. Some r) (sym (normal_bits take bits)) ∙ ap (λ r. Some (owning r)) (sym is))
 
   mutual
     pub is_typed : (t : Shape) (v : Value t) (r : RustValue) (own : List Block) (ty : TypeExpr) → IsPrintedAs items t ty → IsListed t v → Stands 2 take t v r own → IsTyped r ty
@@ -146,8 +227,10 @@ module _ (items : List Item) where
     is_typed (list t) v r own ty p g h = absurd p
     is_typed (pairs x y) v r own ty p g h = absurd p
     is_typed (fixed t n) v r own ty p g h = absurd p
-    is_typed (cases ts) v r own ty p g h = absurd p
-    is_typed (flags n) v r own ty p g h = absurd p
+    is_typed (cases ts) v r own ty (e, p, same) g (payload, is, h) =
+        by_case (case_number ts v) r payload ty e is p (subst (λ ts. (c : Case ts) → case_number ts c < length e.cases) (sym same) (bare_number e.cases) v)
+        (subst (λ ts. (c : Case ts) → CaseStands 2 take ts c payload own → IsBare payload) (sym same) (bare_payload e.cases payload own) v h)
+    is_typed (flags n) v r own ty (f, p, many, wide) g (bits, small, is, means, alone) = by_flags bits r ty f is p (subst (λ k. bits < 2 ^ k) (sym wide) small)
     is_typed (handle o n) v r own ty p g h = absurd p
     is_typed (resource n) v r own ty p g h = absurd p
     is_typed other v r own ty p g h = absurd p

@@ -1,5 +1,5 @@
 -- Statements that declare no area make requests only where they place the static area.
-use Rattle.std.proofs.Common.{◌≡◌, true, List, [], ◌∷◌, length, map, Option, None, Some, sym, subst}
+use Rattle.std.proofs.Common.{◌≡◌, ℕ, true, List, [], ◌∷◌, length, map, Option, None, Some, sym, subst}
 use Rattle.std.specs.Prelude.{Result, Ok, Err, option_and_then}
 use Rattle.std.specs.Option.{option_map}
 use Rattle.std.proofs.lemmas.Bool.{and_parts}
@@ -8,6 +8,7 @@ use Rattle.rust_tree.specs.declared.export.CallBlock.{CallBlock}
 use Rattle.rust_tree.specs.declared.expr.Expr.{Expr, Expr-F, fold-roll-Expr, ind-Expr, map-Expr, roll-Expr}
 use Rattle.rust_tree.specs.declared.path.Path.{Path}
 use Rattle.rust_tree.specs.declared.pattern.Pattern.{Pattern}
+use Rattle.rust_tree.specs.declared.repr.Repr.{Repr}
 use Rattle.rust_tree.specs.declared.runtime_item.RuntimeItem.{RuntimeItem}
 use Rattle.rust_tree.specs.declared.runtime_item.RuntimeItem.TheVariants.{CabiDealloc, StringLift}
 use Rattle.rust_tree.specs.declared.stmt.Stmt.{Stmt}
@@ -20,16 +21,18 @@ use Rattle.wrapper_data.specs.declared.word.Word.TheVariants as word
 use Rattle.wrapper_values.specs.declared.owning.View.TheVariants as view_of
 use Rattle.wrapper_values.specs.declared.state.Val.{Val}
 use Rattle.wrapper_values.specs.declared.state.Val.TheVariants as val
-use Rattle.wrapper_values.specs.Act.{Act, ◌>>=◌, ◌>>◌, all, or_stop, pure}
+use Rattle.wrapper_values.specs.Act.{Act, ◌>>=◌, ◌>>◌, all, keyed, or_stop, pure}
 use Rattle.wrapper_values.specs.Effect.{cast_to, converted, lift_of, word_of_bool}
+use Rattle.wrapper_values.specs.Enums.{enum_lift_of, word_of_case}
 use Rattle.wrapper_values.specs.Fields.{arranged}
+use Rattle.wrapper_values.specs.Flags.{flags_from, flags_of_words}
 use Rattle.wrapper_values.specs.Locals.{bind, local_named, use_local, value_of}
 use Rattle.wrapper_values.specs.Owning.{owned}
 use Rattle.wrapper_values.specs.Setting.{Setting, failed, stuck}
 use Rattle.wrapper_values.specs.Whole.{bind_parts, field_act, given_names, parts_of, record_of, take_apart, whole, whole_of}
 use Rattle.wrapper_run.specs.Blocks.{boxed, dealloc, dealloc_words, drop_value, leave_to, release_all, store_small, store_word}
 use Rattle.wrapper_run.specs.ExportRun.{call_inside, call_method, call_with, keep_result, run_call}
-use Rattle.wrapper_run.specs.Run.{alone, apply, apply_item, apply_one, call_callee, call_runtime, Callee, callee, converted_or_lifted, core_forget, eval, eval_step, forget_one, lift_act, load_small, load_word, of_runtime, run_stmt, run_stmts, runtime_item_named, size_word, take_bytes, unknown}
+use Rattle.wrapper_run.specs.Run.{alone, apply, apply_item, apply_one, call_callee, call_runtime, Callee, callee, converted_or_lifted, core_forget, enum_lift, eval, eval_step, forget_one, lift_act, lift_case, load_small, load_word, of_runtime, run_stmt, run_stmts, runtime_item_named, size_word, take_bytes, unknown}
 use Rattle.wrapper_closing.specs.NoArea.{declares_no_area, is_no_area}
 use Rattle.wrapper_closing.proofs.Unasking.{Unasking, unasking_ask, unasking_bind, unasking_box, unasking_dealloc, unasking_declare, unasking_drop, unasking_import, unasking_leave, unasking_lend, unasking_lift, unasking_load, unasking_load_small, unasking_method, unasking_or_stop, unasking_pure, unasking_releases, unasking_static, unasking_stop, unasking_store, unasking_store_small, unasking_take, unasking_then, unasking_use}
 
@@ -70,9 +73,14 @@ module _ (w : Setting) where
   forgets (v ∷ []) = unasking_then (release_all w (owned v)) (λ _. pure (val.Value value.Unit)) (unasking_releases w (owned v)) (λ _. unasking_pure (val.Value value.Unit))
   forgets _ = unasking_stop (stuck w)
 
+  lifts_case : (name : Bytes) (vs : List Val) → Unasking (lift_case w name vs)
+  lifts_case name (v ∷ []) = lifts (enum_lift_of w.items name v)
+  lifts_case name _ = unasking_stop (stuck w)
+
   calls_callee : (k : Callee) (vs : List Val) → Unasking (call_callee w k vs)
   calls_callee (alone name) vs = unasking_import w name vs
   calls_callee (of_runtime name) vs = calls_runtime name vs
+  calls_callee (enum_lift name) vs = lifts_case name vs
   calls_callee core_forget vs = forgets vs
   calls_callee unknown vs = unasking_stop (stuck w)
 
@@ -98,6 +106,9 @@ module _ (w : Setting) where
   records path fields k =
       unasking_then (all (map field_act fields)) (λ vs. or_stop (stuck w) (option_and_then whole_of (arranged w.items path vs))) k (λ vs. unasking_or_stop (stuck w) (option_and_then whole_of (arranged w.items path vs)))
 
+  joins : (path : Path) (repr : Repr) (words : List (ℕ × Act Val)) → Unasking (all (map keyed words)) → Unasking (flags_of_words w path repr words)
+  joins path repr words k = unasking_then (all (map keyed words)) (λ vs. or_stop (stuck w) (flags_from w.items path repr vs)) k (λ vs. unasking_or_stop (stuck w) (flags_from w.items path repr vs))
+
   -- every expression
 
   -- one act before others
@@ -112,13 +123,14 @@ module _ (w : Setting) where
   follows_all X of k [] = unasking_pure []
   follows_all X of k (x ∷ xs) = follows_more (eval w (of x)) (map (eval w) (map of xs)) (k x) (follows_all X of k xs)
 
-  abbrev acts_of : (X : Type 0) → (X → Expr) → List (Bytes × X) → List (Bytes × Act Val)
-  acts_of X of fields = map (λ (f : Bytes × Expr). (f.0, eval w f.1)) (map (λ (f : Bytes × X). (f.0, of f.1)) fields)
+  -- those of fields, or of words behind their shifts
+  abbrev acts_of : (K X : Type 0) → (X → Expr) → List (K × X) → List (K × Act Val)
+  acts_of K X of fields = map (λ (f : K × Expr). (f.0, eval w f.1)) (map (λ (f : K × X). (f.0, of f.1)) fields)
 
-  follows_fields : (X : Type 0) (of : X → Expr) → All X of → (fields : List (Bytes × X)) → Unasking (all (map field_act (acts_of X of fields)))
-  follows_fields X of k [] = unasking_pure []
-  follows_fields X of k (f ∷ fields) =
-      follows_more (field_act (f.0, eval w (of f.1))) (map field_act (acts_of X of fields)) (unasking_then (eval w (of f.1)) (λ v. pure (f.0, v)) (k f.1) (λ v. unasking_pure (f.0, v))) (follows_fields X of k fields)
+  follows_fields : (K X : Type 0) (of : X → Expr) → All X of → (fields : List (K × X)) → Unasking (all (map keyed (acts_of K X of fields)))
+  follows_fields K X of k [] = unasking_pure []
+  follows_fields K X of k (f ∷ fields) =
+      follows_more (keyed (f.0, eval w (of f.1))) (map keyed (acts_of K X of fields)) (unasking_then (eval w (of f.1)) (λ v. pure (f.0, v)) (k f.1) (λ v. unasking_pure (f.0, v))) (follows_fields K X of k fields)
 
   layer : (X : Type 0) (of : X → Expr) → All X of → (l : Expr-F X) → Unasking (eval_step w (map-Expr Expr (Act Val) (eval w) (map-Expr X Expr of l)))
   layer X of k (Expr-F.Local name) = unasking_use (stuck w) name
@@ -138,9 +150,13 @@ module _ (w : Setting) where
   layer X of k (Expr-F.IntoBoxedBytes name) = unasking_then (use_local (stuck w) name) (boxed w) (unasking_use (stuck w) name) (unasking_box w)
   layer X of k Expr-F.StaticPointer = unasking_static w
   layer X of k (Expr-F.Size size) = unasking_or_stop (stuck w) (size_word size)
-  layer X of k (Expr-F.Record path fields) = records path (acts_of X of fields) (follows_fields X of k fields)
+  layer X of k (Expr-F.Record path fields) = records path (acts_of Bytes X of fields) (follows_fields Bytes X of k fields)
   layer X of k (Expr-F.Tuple parts) = wholes (map (eval w) (map of parts)) (follows_all X of k parts)
   layer X of k (Expr-F.Array parts) = wholes (map (eval w) (map of parts)) (follows_all X of k parts)
+  layer X of k (Expr-F.EnumNumber e) =
+      unasking_then (eval w (of e)) (λ v. or_stop (stuck w) (option_map val.Word (word_of_case v))) (k e) (λ v. unasking_or_stop (stuck w) (option_map val.Word (word_of_case v)))
+  layer X of k (Expr-F.FlagsBits name by) = unasking_ask (stuck w) (view_of.FlagsWord by) name
+  layer X of k (Expr-F.FlagsOfWords path repr words) = joins path repr (acts_of ℕ X of words) (follows_fields ℕ X of k words)
 
   pub unasking_eval : (e : Expr) → Unasking (eval w e)
   unasking_eval =

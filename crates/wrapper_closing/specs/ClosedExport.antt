@@ -27,7 +27,7 @@ use Rattle.abi_driver.specs.Imports.{ResultStands}
 use Rattle.abi_driver.specs.WholeCalls.{CallsFunction}
 use Rattle.func_gen.specs.Meaning.{File, Found, GivesAsCalled, func_meaning, static_request}
 use Rattle.func_gen.specs.PartForms.{are_operands}
-use Rattle.func_gen.specs.Records.{AreDefined}
+use Rattle.func_gen.specs.TypeSites.{AreDefined}
 use Rattle.func_gen.specs.Sites.{site_names}
 use Rattle.func_gen.specs.declared.function_bindgen.FunctionBindgen.{FunctionBindgen}
 use Rattle.func_gen.specs.declared.operand.ExprOperand.{ExprOperand}
@@ -87,7 +87,7 @@ pub record ClosesExport (types : List TypeDef) (f : Function) (names : ExportNam
   pub plain_call : declares_no_area item.call.stmts ≡ true
   pub plain_rest : declares_no_area new.code.stmts ≡ true
   pub runtime : Found tree.items new.runtime
-  pub records : AreDefined tree.items old.records
+  pub sites : AreDefined tree.items old.sites
   pub called : GivesAsCalled tree.items old.home (Some item.call)
   pub area : SharesArea results (result_shape types f) tree
   pub passes : PassesAsItIs func_meaning (export_file tree number old.home) old f (param_shapes types f)

@@ -24,7 +24,7 @@ use Rattle.wrapper_values.specs.declared.state.Val.TheVariants as val
 use Rattle.wrapper_run.specs.Run.{import_at}
 use Rattle.abi_driver.specs.WholeCalls.{CallsFunction}
 use Rattle.func_gen.specs.Meaning.{Found, func_meaning}
-use Rattle.func_gen.specs.Records.{AreDefined}
+use Rattle.func_gen.specs.TypeSites.{AreDefined}
 use Rattle.func_gen.specs.PartForms.{are_operands}
 use Rattle.func_gen.specs.Sites.{site_names}
 use Rattle.func_gen.specs.declared.function_bindgen.FunctionBindgen.{FunctionBindgen}
@@ -58,7 +58,7 @@ pub record ClosesImport (types : List TypeDef) (f : Function) (tree : Tree) (nth
   pub names : map (λ p. p.name) item.params ≡ site_names old.params
   pub body : item.body ≡ import_block old.area new given
   pub runtime : Found tree.items new.runtime
-  pub records : AreDefined tree.items old.records
+  pub sites : AreDefined tree.items old.sites
   pub answers : AnswersAs tree.items item.result (result_shape types f)
   pub params : are_direct (param_shapes types f) ≡ true
   pub result : is_direct_result (result_shape types f) ≡ true

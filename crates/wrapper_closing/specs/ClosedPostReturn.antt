@@ -13,7 +13,7 @@ use Rattle.wrapper_run.specs.Places.{area_in}
 use Rattle.wrapper_run.specs.PostReturn.{post_return_at}
 use Rattle.abi_driver.specs.Frees.{PostReturns}
 use Rattle.func_gen.specs.Meaning.{Found, IsArea, func_meaning, static_request}
-use Rattle.func_gen.specs.Records.{AreDefined}
+use Rattle.func_gen.specs.TypeSites.{AreDefined}
 use Rattle.func_gen.specs.Sites.{site_names}
 use Rattle.func_gen.specs.declared.function_bindgen.FunctionBindgen.{FunctionBindgen}
 use Rattle.wrapper_closing.specs.Begun.{IsBegun}
@@ -33,7 +33,7 @@ pub record ClosesPostReturn (types : List TypeDef) (f : Function) (tree : Tree) 
   pub headless : new.code.call ≡ None
   pub body : function.body ≡ record { stmts = new.code.stmts; tail = None }
   pub runtime : Found tree.items new.runtime
-  pub records : AreDefined tree.items new.records
+  pub sites : AreDefined tree.items new.sites
   -- the static area of the file, if it has one, is an area
   pub sized : IfSome (static_request (area_in tree.items)) IsArea
   pub result : is_direct_result (result_shape types f) ≡ true

@@ -1,7 +1,8 @@
--- Which shapes are passed without memory of their own for lists, and without handles: scalars and texts, and records and tuples of such.
+-- Which shapes are passed without memory of their own for lists, and without handles: scalars, texts and flags, and records, tuples and
+-- cases of such.
 use Rattle.std.specs.Prelude.{Bool, true, false, ◌&&◌, Option, None, Some}
 use Rattle.wrapper_meaning.specs.Shape.{Shape, Shapes}
-use Rattle.wrapper_meaning.specs.Shape.Shape.{fields, scalar, text, tuple}
+use Rattle.wrapper_meaning.specs.Shape.Shape.{cases, fields, flags, scalar, text, tuple}
 use Rattle.wrapper_meaning.specs.Shape.Shapes.{more, none}
 
 abbrev mutual
@@ -10,6 +11,8 @@ abbrev mutual
   is_direct text = true
   is_direct (fields ts) = are_direct ts
   is_direct (tuple ts) = are_direct ts
+  is_direct (cases ts) = are_direct ts
+  is_direct (flags n) = true
   is_direct _ = false
 
   pub are_direct : Shapes → Bool

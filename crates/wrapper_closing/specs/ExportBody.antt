@@ -15,7 +15,7 @@ use Rattle.wrapper_faithful.specs.Passed.{passed}
 use Rattle.wrapper_faithful.specs.Returned.{Returns}
 use Rattle.abi_driver.specs.Calls.{PassesAsItIs}
 use Rattle.func_gen.specs.Meaning.{Found, GivesAsCalled, func_meaning}
-use Rattle.func_gen.specs.Records.{AreDefined}
+use Rattle.func_gen.specs.TypeSites.{AreDefined}
 use Rattle.func_gen.specs.Sites.{site_names}
 use Rattle.func_gen.specs.declared.body.Body.{Body}
 use Rattle.wrapper_closing.specs.Bodies.{MakesExport}
@@ -26,7 +26,7 @@ use Rattle.wrapper_closing.specs.declared.parts.BodyParts.{BodyParts}
 
 -- The wrapper of this number is an item with the call block of the body, and behind it the statements and the words that are given. Its
 -- parameters have the names of the parts, and it has the core signature of the function. The file has the items of `_rt` that the body names,
--- defines the records, and has the area that its exported functions need and the trait of the method. It exports the wrapper, and its
+-- defines the types that have a site, and has the area that its exported functions need and the trait of the method. It exports the wrapper, and its
 -- post-return function, where one is due
 pub record ClosesExportBody (types : List TypeDef) (func : Bor Function) (parts : BodyParts) (body : Body) (names : ExportNames) (results : List (Option Shape)) (tree : Tree) (nth : ℕ) : Type 0 where
   pub parted : AreParts types parts
@@ -40,7 +40,7 @@ pub record ClosesExportBody (types : List TypeDef) (func : Bor Function) (parts 
   pub signature : HasCoreSignature (passed types func.now) item
   pub block : item.rest ≡ record { stmts = body.stmts; tail = body.tail }
   pub runtime : Found tree.items body.runtime
-  pub records : AreDefined tree.items parts.records
+  pub sites : AreDefined tree.items parts.sites
   pub called : GivesAsCalled tree.items parts.home (Some item.call)
   pub area : SharesArea results (result_shape types func.now) tree
   pub passes : PassesAsItIs func_meaning (export_file tree number parts.home) makes.old func.now (param_shapes types func.now)

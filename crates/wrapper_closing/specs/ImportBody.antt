@@ -10,7 +10,7 @@ use Rattle.wrapper_data.specs.declared.run.Target.TheVariants as target
 use Rattle.wrapper_meaning.specs.Shape.{param_shapes, result_shape}
 use Rattle.wrapper_run.specs.Run.{import_at}
 use Rattle.func_gen.specs.Meaning.{Found}
-use Rattle.func_gen.specs.Records.{AreDefined}
+use Rattle.func_gen.specs.TypeSites.{AreDefined}
 use Rattle.func_gen.specs.Sites.{site_names}
 use Rattle.func_gen.specs.declared.body.Body.{Body}
 use Rattle.wrapper_closing.specs.Bodies.{MakesImport}
@@ -21,7 +21,7 @@ use Rattle.wrapper_closing.specs.Parts.{AreParts}
 use Rattle.wrapper_closing.specs.declared.parts.BodyParts.{BodyParts}
 
 -- The wrapper of this number is an item whose block is that of the body, with its area first. Its parameters have the names of the parts, the
--- file has the items of `_rt` that the body names and defines the records, and the result is of the printed type
+-- file has the items of `_rt` that the body names and defines the types that have a site, and the result is of the printed type
 pub record ClosesImportBody (types : List TypeDef) (func : Bor Function) (parts : BodyParts) (body : Body) (tree : Tree) (nth : ℕ) : Type 0 where
   pub parted : AreParts types parts
   pub makes : MakesImport types func parts body
@@ -31,7 +31,7 @@ pub record ClosesImportBody (types : List TypeDef) (func : Bor Function) (parts 
   pub names : map (λ p. p.name) item.params ≡ site_names parts.params
   pub block : item.body ≡ block_of parts.area body
   pub runtime : Found tree.items body.runtime
-  pub records : AreDefined tree.items parts.records
+  pub sites : AreDefined tree.items parts.sites
   pub answers : AnswersAs tree.items item.result (result_shape types func.now)
   pub params : are_direct (param_shapes types func.now) ≡ true
   pub result : is_direct_result (result_shape types func.now) ≡ true

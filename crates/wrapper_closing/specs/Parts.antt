@@ -5,24 +5,24 @@ use Rattle.wit_layout.specs.Filled.{IsFilledFor}
 use Rattle.wit_model.specs.Distinct.{is_distinct}
 use Rattle.wit_model.specs.declared.types.TypeDef.{TypeDef}
 use Rattle.func_gen.specs.Made.{IsMadeOf}
-use Rattle.func_gen.specs.Records.{CanBeDefined}
+use Rattle.func_gen.specs.TypeSites.{CanBeDefined}
 use Rattle.func_gen.specs.Sites.{IsSite, site_names}
 use Rattle.func_gen.specs.declared.function_bindgen.FunctionBindgen.{FunctionBindgen}
 use Rattle.func_gen.specs.declared.type_tables.TypeTables.{TypeTables}
 use Rattle.wrapper_closing.specs.declared.parts.BodyParts.{BodyParts}
 
 -- the layouts are those of the types, each parameter is denoted by its name or by a reference to it, no two names are the same, also with
--- the area's, and structs can define the records
+-- the area's, and items can define the types that have a site
 pub record AreParts (types : List TypeDef) (parts : BodyParts) : Type 0 where
   pub filled : IsFilledFor parts.sizes types
   pub sites : AllByRecursion IsSite parts.params
   pub distinct : is_distinct (parts.area ∷ site_names parts.params) ≡ true
-  pub defined : CanBeDefined parts.records
+  pub defined : CanBeDefined parts.sites
 
 -- a bindgen was made of them
 abbrev pub IsMadeFrom : Bool → BodyParts → FunctionBindgen → Type 0
-IsMadeFrom import parts b = IsMadeOf parts.sizes import parts.home parts.area parts.cleanup parts.params parts.records b
+IsMadeFrom import parts b = IsMadeOf parts.sizes import parts.home parts.area parts.cleanup parts.params parts.sites b
 
 -- the tables among them
 abbrev pub tables_of : BodyParts → TypeTables
-tables_of parts = record { sizes = parts.sizes; records = parts.records }
+tables_of parts = record { sizes = parts.sizes; sites = parts.sites }

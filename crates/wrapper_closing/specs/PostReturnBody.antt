@@ -12,7 +12,7 @@ use Rattle.wrapper_meaning.specs.Shape.{result_shape}
 use Rattle.wrapper_run.specs.Places.{area_in}
 use Rattle.wrapper_run.specs.PostReturn.{post_return_at}
 use Rattle.func_gen.specs.Meaning.{Found, IsArea, static_request}
-use Rattle.func_gen.specs.Records.{AreDefined}
+use Rattle.func_gen.specs.TypeSites.{AreDefined}
 use Rattle.func_gen.specs.Sites.{site_names}
 use Rattle.func_gen.specs.declared.body.Body.{Body}
 use Rattle.wrapper_closing.specs.Bodies.{MakesPostReturn}
@@ -22,7 +22,7 @@ use Rattle.wrapper_closing.specs.declared.parts.BodyParts.{BodyParts}
 
 -- The wrapper of this number has a post-return function with the statements of the body, of a function whose result may hold a text. Its
 -- parameters are the words of the function's core result and have the names of the parts, and the file has the items of `_rt` that the body
--- names and defines the records
+-- names and defines the types that have a site
 pub record ClosesPostReturnBody (types : List TypeDef) (f : Function) (parts : BodyParts) (body : Body) (tree : Tree) (nth : ℕ) : Type 0 where
   pub parted : AreParts types parts
   pub makes : MakesPostReturn types f parts body
@@ -33,7 +33,7 @@ pub record ClosesPostReturnBody (types : List TypeDef) (f : Function) (parts : B
   pub pinned : map (λ p. p.ty) function.params ≡ core_results GuestExport (result_words (result_shape types f))
   pub block : function.body ≡ record { stmts = body.stmts; tail = body.tail }
   pub runtime : Found tree.items body.runtime
-  pub records : AreDefined tree.items parts.records
+  pub sites : AreDefined tree.items parts.sites
   -- the static area of the file, if it has one, is an area
   pub sized : IfSome (static_request (area_in tree.items)) IsArea
   pub result : is_direct_result (result_shape types f) ≡ true

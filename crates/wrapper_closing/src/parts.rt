@@ -3,11 +3,11 @@
 ghost use Rattle.std.specs.Prelude.{◌≡◌, ◌∷◌, true, IfOk};
 ghost use Rattle.std.specs.List.{AllByRecursion};
 ghost use Rattle.wit_model.specs.Distinct.{is_distinct};
-ghost use Rattle.func_gen.specs.Records.{CanBeDefined};
+ghost use Rattle.func_gen.specs.TypeSites.{CanBeDefined};
 ghost use Rattle.func_gen.specs.Sites.{IsSite, site_names};
 ghost use Rattle.wrapper_closing.specs.Parts.{IsMadeFrom};
 
-use func_gen::{FunctionBindgen, ParamSite, RecordSite};
+use func_gen::{FunctionBindgen, ParamSite, TypeSite};
 use std::alloc::Global;
 use wit_layout::SizeAlign;
 use wit_model::{List, OutOfMemory, Text};
@@ -25,8 +25,8 @@ pub struct BodyParts {
     pub cleanup: Text,
     /// The wrapper's parameters.
     pub params: List<ParamSite>,
-    /// By the number of a type, how it is written if it is a record.
-    pub records: List<Option<RecordSite>>,
+    /// By the number of a type, how it is written, where it has a site.
+    pub sites: List<Option<TypeSite>>,
 }
 
 /// A bindgen without code, of an import or of an export.
@@ -36,7 +36,7 @@ pub(crate) fn begin(
     parts: BodyParts,
 ) -> Result<FunctionBindgen, OutOfMemory>
     requires sites { AllByRecursion IsSite parts.params }
-    requires defined { CanBeDefined parts.records }
+    requires defined { CanBeDefined parts.sites }
     requires distinct { is_distinct (parts.area ∷ site_names parts.params) ≡ true }
     ensures { IfOk result (IsMadeFrom import parts) }
 {
@@ -46,7 +46,7 @@ pub(crate) fn begin(
         area,
         cleanup,
         params,
-        records,
+        sites,
     } = parts;
-    FunctionBindgen::new(alloc, sizes, import, home, area, cleanup, params, records)
+    FunctionBindgen::new(alloc, sizes, import, home, area, cleanup, params, sites)
 }

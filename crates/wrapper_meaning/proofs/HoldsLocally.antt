@@ -1,14 +1,15 @@
 -- A value depends on its own bytes alone, and what is lent in a heap is lent in each heap that has the same blocks.
-use Rattle.std.proofs.Common.{◌≡◌, ℕ, zero, suc, ◌+◌, ◌*◌, ◌^◌, ◌≤◌, max, Bool, true, false, List, [], ◌∷◌, length, option_map, Contains, ap, ◌∙◌, arith}
+use Rattle.std.proofs.Common.{◌≡◌, ℕ, zero, suc, ◌+◌, ◌*◌, ◌^◌, ◌≤◌, max, nat_le, if◌then◌else◌, Bool, true, false, List, [], ◌∷◌, length, option_map, Contains, refl, ap, ◌∙◌, arith}
 use Rattle.std.specs.List.{AllByRecursion}
+use Rattle.std.proofs.lemmas.Bool.{leb-true}
 use mathlib.Core.Logic.{inl, inr}
 use Rattle.wrapper_data.specs.declared.block.Block.{Block}
-use Rattle.wit_layout.specs.Extent.{Extent, discriminant_grain, end, extent, greatest, payload_place, place, record_extent, variant_extent}
-use Rattle.wit_layout.specs.Sizes.{count, elem_size, extent_of, extents_of, payload_offset}
+use Rattle.wit_layout.specs.Extent.{Extent, discriminant_grain, end, extent, flag_words, flags_extent, greatest, payload_place, place, record_extent, variant_extent}
+use Rattle.wit_layout.specs.Sizes.{alignment, count, elem_size, extent_of, extents_of, payload_offset}
 use Rattle.wrapper_meaning.specs.Buffer.{Contents, IsBuffer, IsPlaced}
 use Rattle.wrapper_meaning.specs.Cells.{HasNumber, bytes_from, little}
 use Rattle.wrapper_meaning.specs.Direction.{Direction, lend}
-use Rattle.wrapper_meaning.specs.InMemory.{CaseHolds, EachHolds, EntryHolds, Holder, Holds, PartsHold, PointerBytes, TextHolds, entry_extent, text_extent, value_place}
+use Rattle.wrapper_meaning.specs.InMemory.{CaseHolds, EachHolds, EntryHolds, HasWords, Holder, Holds, PartsHold, PointerBytes, TextHolds, entry_extent, text_extent, value_place}
 use Rattle.wrapper_meaning.specs.InRange.{AreListed, IsListed, IsListedCase}
 use Rattle.wrapper_meaning.specs.Kinds.{is_plain}
 use Rattle.wrapper_meaning.specs.Layout.{layout, layouts}
@@ -30,6 +31,27 @@ alike_inside from to low high b after l h alike = λ i n at room. alike i n (ome
 
 pub number_locally : (b after : Block) (k n x : ℕ) → AlikeWithin k (k + n) b after → HasNumber b k n x → HasNumber after k n x
 number_locally b after k n x alike h = (h.0, ap (λ o. option_map little o) (alike k n (omega arith) (omega arith)) ∙ h.1)
+
+words_locally : (b after : Block) (k size n x : ℕ) → AlikeWithin k (k + n * size) b after → HasWords b k size n x → HasWords after k size n x
+words_locally b after k size zero x alike h = h
+words_locally b after k size (suc n) x alike (low, high, has, later, e) =
+    let whole = k + suc n * size in (
+      low,
+      high,
+      number_locally b after k size low (alike_inside k whole k (k + size) b after (omega arith) (omega arith) alike) has,
+      words_locally b after (k + size) size n high (alike_inside k whole (k + size) (k + size + n * size) b after (omega arith) (omega arith) alike) later,
+      e,
+    )
+
+-- the words of flags lie within them
+words_within : (n : ℕ) (a b : Bool) → nat_le n 8 ≡ a → nat_le n 16 ≡ b
+    → let e : Extent = if a then extent 0 1 else (if b then extent 1 2 else extent 2 (4 * flag_words n)) in flag_words n * 2 ^ e.grain ≤ e.bytes
+words_within n true b few some = let h = leb-true n 8 few in omega (arith, h)
+words_within n false true few some = let h = leb-true n 16 some in omega (arith, h)
+words_within n false false few some = omega arith
+
+pub flags_within : (n : ℕ) → flag_words n * 2 ^ (flags_extent n).grain ≤ (flags_extent n).bytes
+flags_within n = words_within n (nat_le n 8) (nat_le n 16) refl refl
 
 -- what holds of values that are in range depends on so many bytes
 abbrev Local : {A : Type 0} → ℕ → (A → Type 0) → Holder A → Type 0
@@ -91,7 +113,12 @@ module _ (w : ℕ) (dir : Direction) where
           number_locally b after k (2 ^ discriminant_grain n) _ (alike_inside k whole k (k + 2 ^ discriminant_grain n) b after (omega arith) (omega arith) alike) h.0,
           case_holds_locally ts v b after (k + payload_place n e) blocks listed (alike_inside k whole (k + payload_place n e) (k + payload_place n e + e.bytes) b after (omega arith) (omega arith) alike) h.1,
         )
-    holds_locally (flags n) v b after k blocks listed alike (bits, has, e, empty) = (bits, number_locally b after k _ bits alike has, e, empty)
+    holds_locally (flags n) v b after k blocks listed alike (bits, has, e, empty) = (
+      bits,
+      words_locally b after k (alignment w (layout (flags n))) (flag_words n) bits (alike_inside k (k + (flags_extent n).bytes) k (k + flag_words n * 2 ^ (flags_extent n).grain) b after (omega arith) (omega (arith, flags_within n)) alike) has,
+      e,
+      empty,
+    )
     holds_locally (handle owns number) v b after k blocks listed alike h = (number_locally b after k 4 v alike h.0, h.1)
     holds_locally (resource number) v b after k blocks listed alike h = elim h [ ]
     holds_locally other v b after k blocks listed alike h = elim h [ ]

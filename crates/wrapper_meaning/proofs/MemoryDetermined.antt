@@ -1,14 +1,14 @@
 -- Bytes that hold a value, with its blocks, hold no other.
-use Rattle.std.proofs.Common.{◌≡◌, ◌⊎◌, ℕ, suc, ◌+◌, ◌*◌, ◌%◌, ◌^◌, Bool, true, false, List, [], ◌∷◌, ◌++◌, length, refl, sym, ap, ap₂, subst, arith, ◌∙◌}
+use Rattle.std.proofs.Common.{◌≡◌, ◌⊎◌, ℕ, zero, suc, ◌+◌, ◌*◌, ◌%◌, ◌^◌, Bool, true, false, List, [], ◌∷◌, ◌++◌, length, refl, sym, ap, ap₂, subst, arith, ◌∙◌}
 use Rattle.std.specs.List.{AllByRecursion}
 use mathlib.Core.Logic.{inl, inr}
 use Rattle.wrapper_data.specs.declared.block.Block.{Block}
-use Rattle.wit_layout.specs.Extent.{Extent, place}
-use Rattle.wit_layout.specs.Sizes.{elem_size, extent_of, payload_offset}
+use Rattle.wit_layout.specs.Extent.{Extent, flag_words, place}
+use Rattle.wit_layout.specs.Sizes.{alignment, elem_size, extent_of, payload_offset}
 use Rattle.wrapper_meaning.specs.Buffer.{Contents, IsPlaced}
 use Rattle.wrapper_meaning.specs.Cells.{HasNumber, bytes_from}
 use Rattle.wrapper_meaning.specs.Direction.{Direction, IsHeld}
-use Rattle.wrapper_meaning.specs.InMemory.{CaseHolds, EachHolds, EntryHolds, Holder, Holds, PartsHold, PointerBytes, TextHolds, entry_extent, text_extent, value_place}
+use Rattle.wrapper_meaning.specs.InMemory.{CaseHolds, EachHolds, EntryHolds, HasWords, Holder, Holds, PartsHold, PointerBytes, TextHolds, entry_extent, text_extent, value_place}
 use Rattle.wrapper_meaning.specs.InRange.{AreListed, IsListed, IsListedCase}
 use Rattle.wrapper_meaning.specs.Kinds.{is_plain}
 use Rattle.wrapper_meaning.specs.Laws.{IsWellPlaced, MemoryDetermines}
@@ -24,6 +24,11 @@ use Rattle.wrapper_meaning.proofs.Scalars.{scalar_same}
 
 number_same : (b : Block) (k n x y : ℕ) → HasNumber b k n x → HasNumber b k n y → x ≡ y
 number_same b k n x y hx hy = some_same x y (sym hx.1 ∙ hy.1)
+
+words_same : (b : Block) (k size n x y : ℕ) → HasWords b k size n x → HasWords b k size n y → x ≡ y
+words_same b k size zero x y hx hy = hx ∙ sym hy
+words_same b k size (suc n) x y (low, high, has, later, ex) (low', high', has', later', ey) =
+    ex ∙ ap₂ (λ l h. l + 2 ^ 32 * h) (number_same b k size low low' has has') (words_same b (k + size) size n high high' later later') ∙ sym ey
 
 -- two values of a sort are the same, and so are their blocks and what comes behind these
 pub record Same (A : Type 0) (u v : A) (xs ys r s : List Block) : Type 0 where
@@ -129,7 +134,7 @@ module _ (w : ℕ) (dir : Direction) (well : IsWellPlaced dir) where
     holds_determined (tuple ts) u v b k xs ys r s hu hv e gu gv = parts_determined ts 0 u v b k xs ys r s hu hv e gu gv
     holds_determined (cases ts) u v b k xs ys r s hu hv e gu gv = case_determined ts u v (number_same b k _ _ _ hu.0 hv.0) b (k + payload_offset w (layout (cases ts))) xs ys r s hu.1 hv.1 e gu gv
     holds_determined (flags n) u v b k xs ys r s (bits, hb, hu, xu) (bits', hb', hv, yv) e gu gv =
-        empty_same u v xs ys r s (hu ∙ ap (λ x. x % 2 ^ n) (number_same b k _ bits bits' hb hb') ∙ sym hv) xu yv e
+        empty_same u v xs ys r s (hu ∙ ap (λ x. x % 2 ^ n) (words_same b k (alignment w (layout (flags n))) (flag_words n) bits bits' hb hb') ∙ sym hv) xu yv e
     holds_determined (handle own number) u v b k xs ys r s hu hv e gu gv = empty_same u v xs ys r s (number_same b k 4 u v hu.0 hv.0) hu.1 hv.1 e
     holds_determined (resource number) u v b k xs ys r s hu hv e gu gv = elim hu [ ]
     holds_determined other u v b k xs ys r s hu hv e gu gv = elim hu [ ]

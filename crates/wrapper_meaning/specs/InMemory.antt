@@ -1,9 +1,9 @@
 -- Which bytes hold a value, and which blocks are then the value's: those of its texts, lists and maps, the outer before the inner.
-use Rattle.std.specs.Prelude.{Bool, true, false, ◌≡◌, ℕ, ◌+◌, ◌%◌, ◌^◌, List, [], ◌∷◌, length}
+use Rattle.std.specs.Prelude.{Bool, true, false, ◌≡◌, ℕ, zero, suc, ◌+◌, ◌*◌, ◌%◌, ◌^◌, List, [], ◌∷◌, length}
 use mathlib.Core.Logic.{inl, inr}
 use Rattle.wrapper_data.specs.declared.block.Block.{Block}
-use Rattle.wit_layout.specs.Extent.{Extent, extent, discriminant_grain, place, record_extent}
-use Rattle.wit_layout.specs.Sizes.{count, elem_size, extent_of, payload_offset}
+use Rattle.wit_layout.specs.Extent.{Extent, extent, discriminant_grain, flag_words, place, record_extent}
+use Rattle.wit_layout.specs.Sizes.{alignment, count, elem_size, extent_of, payload_offset}
 use Rattle.wit_layout.specs.Tree.{Scalar}
 use Rattle.wrapper_meaning.specs.Buffer.{Both, Contents, IsBuffer}
 use Rattle.wrapper_meaning.specs.Cells.{HasBytes, HasNumber}
@@ -44,6 +44,11 @@ text_extent = extent 0 1
 abbrev pub TextHolds : Holder (List ℕ)
 TextHolds bytes b offset blocks = HasBytes b offset (length bytes) bytes × (blocks ≡ [])
 
+-- numbers of so many bytes, one after another, are the words of a number, the first word lowest
+abbrev pub HasWords : Block → ℕ → (size count : ℕ) → ℕ → Type 0
+HasWords b offset size zero x = x ≡ 0
+HasWords b offset size (suc n) x = (low : ℕ) × (high : ℕ) × HasNumber b offset size low × HasWords b (offset + size) size n high × (x ≡ low + 2 ^ 32 * high)
+
 -- an entry of a map is a record of its key and its value. A pointer has 2 ^ w bytes
 abbrev pub entry_extent : ℕ → Shape → Shape → Extent
 entry_extent w k x = record_extent (extent_of w (layout k) ∷ extent_of w (layout x) ∷ [])
@@ -74,9 +79,9 @@ module _ (w : ℕ) (dir : Direction) where
     -- the number of its case, and behind it the payload
     Holds (cases ts) v b offset blocks =
         HasNumber b offset (2 ^ discriminant_grain (count (layouts ts))) (case_number ts v) × CaseHolds ts v b (offset + payload_offset w (layout (cases ts))) blocks
-    -- read by the declared bits
+    -- by its words, 32 flags each, one after another, the first lowest; read by the declared bits
     Holds (flags n) v b offset blocks =
-        (bits : ℕ) × HasNumber b offset (elem_size w (layout (flags n))) bits × (v ≡ bits % 2 ^ n) × (blocks ≡ [])
+        (bits : ℕ) × HasWords b offset (alignment w (layout (flags n))) (flag_words n) bits × (v ≡ bits % 2 ^ n) × (blocks ≡ [])
     Holds (handle owns number) v b offset blocks = HasNumber b offset 4 v × (blocks ≡ [])
     Holds (resource number) v b offset blocks = ⊥
     Holds other v b offset blocks = ⊥

@@ -220,7 +220,7 @@ case_is_typed : (n : ℕ) (r : RustValue) → typed [] (value.Case n (Some r)) n
 case_is_typed n r =
     ap (λ v. typed [] v number_option) (sym (rolls-Case n (Some r)))
     ∙ ap (λ (f : Typed). f number_option) (fold-roll-RustValue Typed (λ l ty. typed_level [] l (unaliased [] ty)) (RustValue-F.Case n (Some r)))
-    ∙ ap (typed_case n (Some (typed [] r))) number_opened
+    ∙ ap (typed_case [] n (Some (typed [] r))) number_opened
   where
     number_opened : out-TypeExpr number_option ≡ TypeExpr-F.Optional (type.Primitive prim.I32)
     number_opened = search (rules, type_lemmas)

@@ -1,6 +1,10 @@
 pub mod BesideActs
 pub mod BesideLemmas
+mod EnumExamples
+pub mod EnumSteps
 mod Examples
+mod FlagsExamples
+pub mod FlagsSteps
 pub mod FreeSteps
 pub mod GiveSteps
 pub mod GrowLemmas

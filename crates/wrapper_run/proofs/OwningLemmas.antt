@@ -32,6 +32,17 @@ owned-char c = search (rules, the_lemmas)
 pub owned-unit : owned (val.Value value.Unit) ≡ []
 owned-unit = search (rules, the_lemmas)
 
+-- nor do flags, and a case without payload
+
+pub owned-bits : (bits : ℕ) → owned (val.Value (value.Bits bits)) ≡ []
+owned-bits bits = search (rules, the_lemmas)
+
+pub owned-case : (n : ℕ) → owned (val.Value (value.Case n None)) ≡ []
+owned-case n = search (rules, the_lemmas)
+
+pub owned-case-unit : (n : ℕ) → owned (val.Value (value.Case n (Some value.Unit))) ≡ []
+owned-case-unit n = search (rules, the_lemmas)
+
 -- a number is no text
 
 pub no_buffer-number : (ty : WitType) (z : ℤ) → buffer_of (val.Value (value.Num ty z)) ≡ None

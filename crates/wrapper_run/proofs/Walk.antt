@@ -15,6 +15,7 @@ use Rattle.rust_tree.specs.declared.item.Item.{Item}
 use Rattle.rust_tree.specs.declared.path.Path.{Path}
 use Rattle.rust_tree.specs.declared.pattern.Pattern.{Pattern}
 use Rattle.rust_tree.specs.declared.pattern.Pattern.TheVariants as pattern
+use Rattle.rust_tree.specs.declared.repr.Repr.{Repr}
 use Rattle.rust_tree.specs.declared.runtime_item.RuntimeItem.{RuntimeItem}
 use Rattle.rust_tree.specs.declared.runtime_item.RuntimeItem.TheVariants.{CabiDealloc, StringLift}
 use Rattle.rust_tree.specs.declared.stmt.Block.{Block as Code}
@@ -34,15 +35,17 @@ use Rattle.wrapper_values.specs.declared.owning.View.TheVariants as view_of
 use Rattle.wrapper_values.specs.declared.state.Local.{Local}
 use Rattle.wrapper_values.specs.declared.state.Val.{Val}
 use Rattle.wrapper_values.specs.declared.state.Val.TheVariants as val
-use Rattle.wrapper_values.specs.Act.{Act, ◌>>=◌, all, or_stop, pure, stop}
+use Rattle.wrapper_values.specs.Act.{Act, ◌>>=◌, all, keyed, or_stop, pure, stop}
 use Rattle.wrapper_run.specs.Blocks.{box_buffer, boxed, dealloc, dealloc_words, drop_local, drop_locals, drop_value, free, free_all, lift_text, release, release_all, store_small, store_word}
 use Rattle.wrapper_values.specs.Effect.{cast_to, converted, lift_of, word_of_bool}
+use Rattle.wrapper_values.specs.Enums.{enum_lift_of, word_of_case}
+use Rattle.wrapper_values.specs.Flags.{flags_from, flags_of_words}
 use Rattle.wrapper_values.specs.Fields.{arranged, arranged_by, each_named, field_named, fields_in, in_order, root_name, type_named}
 use Rattle.wrapper_values.specs.Locals.{ask_local, bind, declare, lend_local, local_named, use_local, value_of}
 use Rattle.wrapper_values.specs.Owning.{buffer_of, owned, owned_in}
 use Rattle.wrapper_run.specs.Places.{declare_area, place_area, request_of, static_pointer}
 use Rattle.wrapper_run.specs.Results.{results, results_in, run_results}
-use Rattle.wrapper_run.specs.Run.{alone, apply, apply_item, apply_one, call_callee, call_import, call_runtime, Callee, callee, converted_or_lifted, core_forget, eval, eval_step, forget_one, lift_act, load_small, load_word, of_runtime, run_block, run_stmt, run_stmts, run_tail, runtime_item_named, size_word, take_bytes, unknown}
+use Rattle.wrapper_run.specs.Run.{alone, apply, apply_item, apply_one, call_callee, call_import, call_runtime, Callee, callee, converted_or_lifted, core_forget, enum_lift, eval, eval_step, forget_one, lift_act, lift_case, load_small, load_word, of_runtime, run_block, run_stmt, run_stmts, run_tail, runtime_item_named, size_word, take_bytes, unknown}
 use Rattle.wrapper_values.specs.Setting.{Setting, failed, stuck}
 use Rattle.wrapper_run.specs.UnusedLocals.{are_known, bound_names, is_block_known, is_callee_known, is_expr_known, is_stmt_known, is_tail_known, known_step}
 use Rattle.wrapper_values.specs.Whole.{bind_parts, field_act, given_names, parts_of, record_of, take_apart, whole, whole_of}
@@ -123,16 +126,17 @@ known_all : {X : Type 0} (known : Bytes → Bool) (of : X → Expr) → ((x : X)
 known_all known of k [] = refl
 known_all known of k (x ∷ xs) = and_from (is_expr_known known (of x)) (are_known (map (is_expr_known known) (map of xs))) (k x) (known_all known of k xs)
 
-known_fields : {X : Type 0} (known : Bytes → Bool) (of : X → Expr) → ((x : X) → is_expr_known known (of x) ≡ true) → (fields : List (Bytes × X))
-    → list_all (λ (f : Bytes × Bool). f.1) (map (λ (f : Bytes × Expr). (f.0, is_expr_known known f.1)) (map (λ (f : Bytes × X). (f.0, of f.1)) fields)) ≡ true
+known_fields : {K X : Type 0} (known : Bytes → Bool) (of : X → Expr) → ((x : X) → is_expr_known known (of x) ≡ true) → (fields : List (K × X))
+    → list_all (λ (f : K × Bool). f.1) (map (λ (f : K × Expr). (f.0, is_expr_known known f.1)) (map (λ (f : K × X). (f.0, of f.1)) fields)) ≡ true
 known_fields known of k [] = refl
-known_fields {X = X} known of k (f ∷ fields) =
-    and_from (is_expr_known known (of f.1)) (list_all (λ (f : Bytes × Bool). f.1) (map (λ (f : Bytes × Expr). (f.0, is_expr_known known f.1)) (map (λ (f : Bytes × X). (f.0, of f.1)) fields)))
+known_fields {K = K} {X = X} known of k (f ∷ fields) =
+    and_from (is_expr_known known (of f.1)) (list_all (λ (f : K × Bool). f.1) (map (λ (f : K × Expr). (f.0, is_expr_known known f.1)) (map (λ (f : K × X). (f.0, of f.1)) fields)))
     (k f.1) (known_fields known of k fields)
 
 known_callee : (known : Bytes → Bool) → ((name : Bytes) → known name ≡ true) → (c : Callee) → is_callee_known known c ≡ true
 known_callee known h (alone name) = h name
 known_callee known h (of_runtime name) = refl
+known_callee known h (enum_lift name) = refl
 known_callee known h core_forget = refl
 known_callee known h unknown = refl
 
@@ -157,6 +161,9 @@ known_layer known h of k (Expr-F.Size size) = refl
 known_layer known h of k (Expr-F.Record path fields) = known_fields known of k fields
 known_layer known h of k (Expr-F.Tuple parts) = known_all known of k parts
 known_layer known h of k (Expr-F.Array parts) = known_all known of k parts
+known_layer known h of k (Expr-F.EnumNumber e) = k e
+known_layer known h of k (Expr-F.FlagsBits name by) = h name
+known_layer known h of k (Expr-F.FlagsOfWords path repr words) = known_fields known of k words
 
 pub known_expr : (known : Bytes → Bool) → ((name : Bytes) → known name ≡ true) → (e : Expr) → is_expr_known known e ≡ true
 known_expr known h =
@@ -247,9 +254,15 @@ module _ (w : Setting) (known : Bytes → Bool) (P : (A : Type 0) → Act A → 
   unfolding call_runtime
   calls_runtime name vs = applies (runtime_item_named w.items name) vs
 
+  lifts_case : (name : Bytes) (vs : List Val) → P Val (lift_case w name vs)
+  lifts_case name [] = h.stops Val (stuck w)
+  lifts_case name (v ∷ []) = lifts_act (enum_lift_of w.items name v)
+  lifts_case name (v ∷ u ∷ vs) = h.stops Val (stuck w)
+
   calls_callee : (k : Callee) (vs : List Val) → is_callee_known known k ≡ true → P Val (call_callee w k vs)
   calls_callee (alone name) vs k = h.calls name vs k
   calls_callee (of_runtime name) vs k = calls_runtime name vs
+  calls_callee (enum_lift name) vs k = lifts_case name vs
   calls_callee core_forget vs k = forgets vs
   calls_callee unknown vs k = h.stops Val (stuck w)
 
@@ -284,6 +297,10 @@ module _ (w : Setting) (known : Bytes → Bool) (P : (A : Type 0) → Act A → 
       h.follows (List (Bytes × Val)) Val (all (map field_act fields)) (λ vs. or_stop (stuck w) (option_and_then whole_of (arranged w.items path vs))) k
       (λ vs. or_stops Val (stuck w) (option_and_then whole_of (arranged w.items path vs)))
 
+  joins : (path : Path) (repr : Repr) (words : List (ℕ × Act Val)) → P (List (ℕ × Val)) (all (map keyed words)) → P Val (flags_of_words w path repr words)
+  joins path repr words k =
+      h.follows (List (ℕ × Val)) Val (all (map keyed words)) (λ vs. or_stop (stuck w) (flags_from w.items path repr vs)) k (λ vs. or_stops Val (stuck w) (flags_from w.items path repr vs))
+
   -- every expression
 
   -- the expressions in a layer
@@ -297,20 +314,20 @@ module _ (w : Setting) (known : Bytes → Bool) (P : (A : Type 0) → Act A → 
       h.follows Val (List Val) (eval w (of x)) (λ v. all (map (eval w) (map of xs)) >>= (λ vs. pure (v ∷ vs))) (k x both.0)
       (λ v. h.follows (List Val) (List Val) (all (map (eval w) (map of xs))) (λ vs. pure (v ∷ vs)) (follows_all X of k xs both.1) (λ vs. h.gives (List Val) (v ∷ vs)))
 
-  -- the acts of fields, and the answers for them
-  abbrev acts_of : (X : Type 0) → (X → Expr) → List (Bytes × X) → List (Bytes × Act Val)
-  acts_of X of fields = map (λ (f : Bytes × Expr). (f.0, eval w f.1)) (map (λ (f : Bytes × X). (f.0, of f.1)) fields)
+  -- the acts of fields, or of words behind their shifts, and the answers for them
+  abbrev acts_of : (K X : Type 0) → (X → Expr) → List (K × X) → List (K × Act Val)
+  acts_of K X of fields = map (λ (f : K × Expr). (f.0, eval w f.1)) (map (λ (f : K × X). (f.0, of f.1)) fields)
 
-  abbrev answers_of : (X : Type 0) → (X → Expr) → List (Bytes × X) → List (Bytes × Bool)
-  answers_of X of fields = map (λ (f : Bytes × Expr). (f.0, is_expr_known known f.1)) (map (λ (f : Bytes × X). (f.0, of f.1)) fields)
+  abbrev answers_of : (K X : Type 0) → (X → Expr) → List (K × X) → List (K × Bool)
+  answers_of K X of fields = map (λ (f : K × Expr). (f.0, is_expr_known known f.1)) (map (λ (f : K × X). (f.0, of f.1)) fields)
 
-  follows_fields : (X : Type 0) (of : X → Expr) → All X of → (fields : List (Bytes × X)) → list_all (λ f. f.1) (answers_of X of fields) ≡ true → P (List (Bytes × Val)) (all (map field_act (acts_of X of fields)))
-  follows_fields X of k [] p = h.gives (List (Bytes × Val)) []
-  follows_fields X of k (f ∷ fields) p =
-      let both = and_parts (is_expr_known known (of f.1)) (list_all (λ (f : Bytes × Bool). f.1) (answers_of X of fields)) p in
-      h.follows (Bytes × Val) (List (Bytes × Val)) (field_act (f.0, eval w (of f.1))) (λ v. all (map field_act (acts_of X of fields)) >>= (λ vs. pure (v ∷ vs)))
-      (h.follows Val (Bytes × Val) (eval w (of f.1)) (λ v. pure (f.0, v)) (k f.1 both.0) (λ v. h.gives (Bytes × Val) (f.0, v)))
-      (λ v. h.follows (List (Bytes × Val)) (List (Bytes × Val)) (all (map field_act (acts_of X of fields))) (λ vs. pure (v ∷ vs)) (follows_fields X of k fields both.1) (λ vs. h.gives (List (Bytes × Val)) (v ∷ vs)))
+  follows_fields : (K X : Type 0) (of : X → Expr) → All X of → (fields : List (K × X)) → list_all (λ f. f.1) (answers_of K X of fields) ≡ true → P (List (K × Val)) (all (map keyed (acts_of K X of fields)))
+  follows_fields K X of k [] p = h.gives (List (K × Val)) []
+  follows_fields K X of k (f ∷ fields) p =
+      let both = and_parts (is_expr_known known (of f.1)) (list_all (λ (f : K × Bool). f.1) (answers_of K X of fields)) p in
+      h.follows (K × Val) (List (K × Val)) (keyed (f.0, eval w (of f.1))) (λ v. all (map keyed (acts_of K X of fields)) >>= (λ vs. pure (v ∷ vs)))
+      (h.follows Val (K × Val) (eval w (of f.1)) (λ v. pure (f.0, v)) (k f.1 both.0) (λ v. h.gives (K × Val) (f.0, v)))
+      (λ v. h.follows (List (K × Val)) (List (K × Val)) (all (map keyed (acts_of K X of fields))) (λ vs. pure (v ∷ vs)) (follows_fields K X of k fields both.1) (λ vs. h.gives (List (K × Val)) (v ∷ vs)))
 
   layer : (X : Type 0) (of : X → Expr) → All X of → (l : Expr-F X) → known_step known (map-Expr Expr Bool (is_expr_known known) (map-Expr X Expr of l)) ≡ true
       → P Val (eval_step w (map-Expr Expr (Act Val) (eval w) (map-Expr X Expr of l)))
@@ -334,9 +351,13 @@ module _ (w : Setting) (known : Bytes → Bool) (P : (A : Type 0) → Act A → 
   layer X of k (Expr-F.IntoBoxedBytes name) p = h.follows Val Val (use_local (stuck w) name) (boxed w) (h.uses name p) boxes
   layer X of k Expr-F.StaticPointer p = h.static
   layer X of k (Expr-F.Size size) p = or_stops Val (stuck w) (size_word size)
-  layer X of k (Expr-F.Record path fields) p = records path (acts_of X of fields) (follows_fields X of k fields p)
+  layer X of k (Expr-F.Record path fields) p = records path (acts_of Bytes X of fields) (follows_fields Bytes X of k fields p)
   layer X of k (Expr-F.Tuple parts) p = wholes (map (eval w) (map of parts)) (follows_all X of k parts p)
   layer X of k (Expr-F.Array parts) p = wholes (map (eval w) (map of parts)) (follows_all X of k parts p)
+  layer X of k (Expr-F.EnumNumber e) p =
+      h.follows Val Val (eval w (of e)) (λ v. or_stop (stuck w) (option_map val.Word (word_of_case v))) (k e p) (λ v. or_stops Val (stuck w) (option_map val.Word (word_of_case v)))
+  layer X of k (Expr-F.FlagsBits name by) p = h.asks (view_of.FlagsWord by) name p
+  layer X of k (Expr-F.FlagsOfWords path repr words) p = joins path repr (acts_of ℕ X of words) (follows_fields ℕ X of k words p)
 
   pub walks_expr : (e : Expr) → is_expr_known known e ≡ true → P Val (eval w e)
   walks_expr =

@@ -51,6 +51,8 @@ use Rattle.wrapper_values.specs.Whole.{record_of, take_apart, whole}
 use Rattle.wrapper_values.specs.Owning.{taken_by}
 use Rattle.wrapper_values.specs.Act.{Act, Outcome, Done, Stopped, ◌>>=◌, ◌>>◌, all, or_stop, pure, stop}
 use Rattle.wrapper_values.specs.Effect.{cast_to, converted, is_word_of, lift_of, word_of, word_of_bool}
+use Rattle.wrapper_values.specs.Enums.{enum_lift_of, word_of_case}
+use Rattle.wrapper_values.specs.Flags.{flags_of_words}
 use Rattle.wrapper_values.specs.Typed.{answer_in}
 use Rattle.wrapper_values.specs.Locals.{ask_local, bind, declare, import_named, lend_local, local_named, use_local, value_of}
 use Rattle.wit_model.specs.Bytes.{Bytes}
@@ -69,20 +71,28 @@ abbrev pub runtime_item_named : List Item → Bytes → Option RuntimeItem
 runtime_item_named [] name = None
 runtime_item_named (i ∷ items) name = option_or (found_in i name) (runtime_item_named items name)
 
--- what a path of a call names: a name alone, a function of `_rt`, `::core::mem::forget`, or nothing
+-- what a path of a call names: a name alone, a function of `_rt`, `_lift` of a type of the file, `::core::mem::forget`, or nothing
 pub data Callee : Type 0 where
   alone : Bytes → Callee
   of_runtime : Bytes → Callee
+  enum_lift : Bytes → Callee
   core_forget : Callee
   unknown : Callee
 
 unfoldable pub runtime_module_name : Bytes
 runtime_module_name = codes "_rt"
 
+unfoldable pub lift_name : Bytes
+lift_name = codes "_lift"
+
+-- a function of a type
+abbrev pub type_callee : (first name : Bytes) → Callee
+type_callee first name = if bytes_eq name lift_name then enum_lift first else unknown
+
 abbrev pub names_callee : List Bytes → Callee
 names_callee [] = unknown
 names_callee (name ∷ []) = alone name
-names_callee (first ∷ name ∷ []) = if bytes_eq first runtime_module_name then of_runtime name else unknown
+names_callee (first ∷ name ∷ []) = if bytes_eq first runtime_module_name then of_runtime name else type_callee first name
 names_callee (_ ∷ _ ∷ _ ∷ _) = unknown
 
 unfoldable pub is_core_forget : (first second third : Bytes) → Bool
@@ -174,6 +184,11 @@ apply w i vs = apply_one w i vs
 unfoldable pub call_runtime : Setting → Bytes → List Val → Act Val
 call_runtime w name vs = apply w (runtime_item_named w.items name) vs
 
+-- the case of an enum whose number one value is
+abbrev pub lift_case : Setting → Bytes → List Val → Act Val
+lift_case w name (v ∷ []) = lift_act w (enum_lift_of w.items name v)
+lift_case w name _ = stop (stuck w)
+
 -- one value is forgotten
 abbrev pub forget_one : Setting → List Val → Act Val
 forget_one w (v ∷ []) = forget w v
@@ -182,6 +197,7 @@ forget_one w _ = stop (stuck w)
 abbrev pub call_callee : Setting → Callee → List Val → Act Val
 call_callee w (alone name) vs = call_import w name vs
 call_callee w (of_runtime name) vs = call_runtime w name vs
+call_callee w (enum_lift name) vs = lift_case w name vs
 call_callee w core_forget vs = forget_one w vs
 call_callee w unknown vs = stop (stuck w)
 
@@ -234,6 +250,9 @@ eval_step w (Expr-F.Size size) = or_stop (stuck w) (size_word size)
 eval_step w (Expr-F.Record path fields) = record_of w path fields
 eval_step w (Expr-F.Tuple parts) = whole w parts
 eval_step w (Expr-F.Array parts) = whole w parts
+eval_step w (Expr-F.EnumNumber e) = e >>= (λ v. or_stop (stuck w) (option_map val.Word (word_of_case v)))
+eval_step w (Expr-F.FlagsBits name by) = ask_local (stuck w) (view_of.FlagsWord by) name
+eval_step w (Expr-F.FlagsOfWords path repr words) = flags_of_words w path repr words
 
 abbrev pub eval : Setting → Expr → Act Val
 eval w = fold-Expr (Act Val) (eval_step w)

@@ -46,6 +46,9 @@ known_step known (Expr-F.Size size) = true
 known_step known (Expr-F.Record path fields) = list_all (λ f. f.1) fields
 known_step known (Expr-F.Tuple parts) = are_known parts
 known_step known (Expr-F.Array parts) = are_known parts
+known_step known (Expr-F.EnumNumber e) = e
+known_step known (Expr-F.FlagsBits name by) = known name
+known_step known (Expr-F.FlagsOfWords path repr words) = list_all (λ x. x.1) words
 
 abbrev pub is_expr_known : (Bytes → Bool) → Expr → Bool
 is_expr_known known = fold-Expr Bool (known_step known)

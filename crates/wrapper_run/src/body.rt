@@ -2,7 +2,7 @@
 
 ghost use Rattle.std.specs.Prelude.{◌≡◌, map};
 ghost use Rattle.wrapper_values.specs.Act.{Runs, all};
-ghost use Rattle.wrapper_run.specs.Results.{results, run_inner};
+ghost use Rattle.wrapper_run.specs.Results.{results, run_inner, run_results};
 ghost use Rattle.wrapper_run.specs.Run as spec;
 ghost use Rattle.wrapper_values.specs.Setting.{setting};
 
@@ -98,6 +98,19 @@ fn eval_results(
     }
 }
 
+/// Runs a block, and gives the values of its results.
+fn run_results(
+    alloc: Global,
+    world: &World,
+    state: &mut State,
+    b: &Block,
+) -> Result<List<Val>, Halt>
+    ensures { Runs (run_results (setting world.now) b.now state.old) result state.new }
+{
+    run_stmts(alloc, world, state, b.stmts.as_slice())?;
+    eval_results(alloc, world, state, &b.tail)
+}
+
 /// Runs a block that is no body in a scope of its own, and gives its values: as many as its results are.
 pub(crate) fn run_inner(
     alloc: Global,
@@ -108,8 +121,7 @@ pub(crate) fn run_inner(
     ensures { Runs (run_inner (setting world.now) b.now state.old) result state.new }
 {
     let outer = state.locals.len();
-    run_stmts(alloc, world, state, b.stmts.as_slice())?;
-    let vs = eval_results(alloc, world, state, &b.tail)?;
+    let vs = run_results(alloc, world, state, b)?;
     leave_to(alloc, world, state, outer)?;
     Ok(vs)
 }

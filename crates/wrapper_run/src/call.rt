@@ -17,7 +17,8 @@ use std::mem;
 use wit_model::{List, OutOfMemory, Text, WasmType};
 use wrapper_data::{Answer, Block, CallPoint, Heap, RustValue, Target, TrapKind, Word};
 use wrapper_values::{
-    Halt, State, Val, World, converted, import_named, is_word_of, lift_of, local_named, word_of,
+    Halt, State, Val, World, converted, enum_lift_of, import_named, is_word_of, lift_of,
+    local_named, word_of,
 };
 
 /// Puts the words of the arguments behind others, and tells whether each is of its parameter's type.
@@ -249,6 +250,16 @@ fn call_import(
     }
 }
 
+/// The case of an enum whose number one value is.
+fn lift_case(world: &World, state: &State, name: &Text, vs: &[Val]) -> Result<Val, Halt>
+    ensures { Runs (spec.lift_case (setting world.now) name.now vs.now state.now) result state.now }
+{
+    match vs {
+        [v] => lift_act(world, state, enum_lift_of(world.items, name, v)),
+        _ => Err(Halt::Stopped(world.stuck())),
+    }
+}
+
 /// Forgets one value.
 fn forget_one(alloc: Global, world: &World, state: &mut State, vs: &[Val]) -> Result<Val, Halt>
     ensures { Runs (spec.forget_one (setting world.now) vs.now state.old) result state.new }
@@ -272,6 +283,7 @@ pub(crate) fn call(
     match callee_of(path) {
         Callee::Alone(name) => call_import(alloc, world, state, name, vs),
         Callee::Runtime(name) => call_runtime(alloc, world, state, name, vs),
+        Callee::EnumLift(name) => lift_case(world, state, name, vs),
         Callee::Forget => forget_one(alloc, world, state, vs),
         Callee::Unknown => Err(Halt::Stopped(world.stuck())),
     }

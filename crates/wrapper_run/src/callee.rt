@@ -11,6 +11,8 @@ use wit_model::Text;
 pub(crate) enum Callee<'a> {
     Alone(&'a Text),
     Runtime(&'a Text),
+    /// `P::_lift`, by the name `P`.
+    EnumLift(&'a Text),
     /// `::core::mem::forget`
     Forget,
     Unknown,
@@ -33,7 +35,7 @@ fn absolute_callee(names: &[Text]) -> Callee<'_>
     }
 }
 
-#[tactic(auto, unfolding(crate::specs::Run::callee, crate::specs::Run::runtime_module_name))]
+#[tactic(auto, unfolding(crate::specs::Run::callee, crate::specs::Run::lift_name, crate::specs::Run::runtime_module_name))]
 pub(crate) fn callee_of(path: &Path) -> Callee<'_>
     ensures { spec.callee path.now ≡ seen result }
 {
@@ -46,6 +48,7 @@ pub(crate) fn callee_of(path: &Path) -> Callee<'_>
     match path.names.as_slice() {
         [name] => Callee::Alone(name),
         [first, name] if first.as_str() == "_rt" => Callee::Runtime(name),
+        [first, name] if name.as_str() == "_lift" => Callee::EnumLift(first),
         _ => Callee::Unknown,
     }
 }

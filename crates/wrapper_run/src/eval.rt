@@ -2,9 +2,11 @@
 
 ghost use Rattle.std.specs.Prelude.{◌≡◌, map};
 ghost use Rattle.std.specs.Option.{option_map};
-ghost use Rattle.wrapper_values.specs.Act.{Runs, all, and_then, or_stop};
+ghost use Rattle.wrapper_values.specs.Act.{Runs, all, and_then, keyed, or_stop};
 ghost use Rattle.wrapper_run.specs.Blocks as blocks;
 ghost use Rattle.wrapper_values.specs.Effect as effect;
+ghost use Rattle.wrapper_values.specs.Enums as enums;
+ghost use Rattle.wrapper_values.specs.Flags.{flags_of_words};
 ghost use Rattle.wrapper_values.specs.Locals.{local_named, use_local, value_of};
 ghost use Rattle.wrapper_run.specs.Run as spec;
 ghost use Rattle.wrapper_values.specs.Setting.{setting, stuck};
@@ -13,34 +15,18 @@ ghost use Rattle.wrapper_values.specs.declared.state.Val.TheVariants as val;
 
 use crate::blocks::{boxed, take_over};
 use crate::call::call;
+use crate::casts::{cast, word_of_bool, word_of_case};
 use crate::memory::{at_four, loaded};
 use crate::places::static_pointer;
 use crate::small::load_small;
-use rust_tree::{CastType, Expr, Path};
+use rust_tree::{Expr, Path, Repr, SmallType};
 use std::alloc::Global;
 use wit_model::{ArchitectureSize, List, Text, WasmType};
 use wrapper_data::{TrapKind, Word};
 use wrapper_values::{
-    Halt, State, Val, View, World, ask_local, cast_to, lend_local, use_local, value_named, whole_of,
+    Halt, State, Val, View, World, ask_local, flags_from, lend_local, use_local, value_named,
+    whole_of,
 };
-
-fn word_of_bool(world: &World, state: &State, v: &Val) -> Result<Val, Halt>
-    ensures { Runs (or_stop (stuck (setting world.now)) (option_map val.Word (effect.word_of_bool v.now)) state.now) result state.now }
-{
-    match wrapper_values::word_of_bool(v) {
-        None => Err(Halt::Stopped(world.stuck())),
-        Some(w) => Ok(Val::Word(w)),
-    }
-}
-
-fn cast(world: &World, state: &State, to: CastType, v: &Val) -> Result<Val, Halt>
-    ensures { Runs (or_stop (stuck (setting world.now)) (effect.cast_to to v.now) state.now) result state.now }
-{
-    match cast_to(to, v) {
-        None => Err(Halt::Stopped(world.stuck())),
-        Some(v) => Ok(v),
-    }
-}
 
 /// A core value at an offset from an address.
 fn load_word(
@@ -122,22 +108,17 @@ pub(crate) fn eval(alloc: Global, world: &World, state: &mut State, e: &Expr) ->
         Expr::Call(path, arguments) => {
             eval_call(alloc, world, state, path, arguments.as_slice())
         }
-        Expr::I32FromBool(e) => {
-            let v = eval(alloc, world, state, e.get())?;
-            word_of_bool(world, state, &v)
+        Expr::I32FromBool(e) => eval_bool(alloc, world, state, e.get()),
+        Expr::EnumNumber(e) => eval_case(alloc, world, state, e.get()),
+        Expr::FlagsBits(name, by) => ask_local(world.stuck(), state, View::FlagsWord(*by), name),
+        Expr::FlagsOfWords(path, repr, words) => {
+            eval_flags(alloc, world, state, path, *repr, words.as_slice())
         }
-        Expr::Load(e, offset, ty) => {
-            let v = eval(alloc, world, state, e.get())?;
-            load_word(alloc, world, state, offset, *ty, &v)
-        }
+        Expr::Load(e, offset, ty) => eval_load(alloc, world, state, e.get(), offset, *ty),
         Expr::LoadSmall(e, offset, ty) => {
-            let v = eval(alloc, world, state, e.get())?;
-            load_small(alloc, world, state, offset, *ty, &v)
+            eval_load_small(alloc, world, state, e.get(), offset, *ty)
         }
-        Expr::FromRawParts(e, length) => {
-            let v = eval(alloc, world, state, e.get())?;
-            take_bytes(alloc, world, state, length, &v)
-        }
+        Expr::FromRawParts(e, length) => eval_bytes(alloc, world, state, e.get(), length),
         Expr::IntoBoxedBytes(name) => box_local(alloc, world, state, name),
         Expr::StaticPointer => static_pointer(alloc, world, state),
         Expr::Size(size) => size_word(world, state, size),
@@ -146,6 +127,71 @@ pub(crate) fn eval(alloc: Global, world: &World, state: &mut State, e: &Expr) ->
             eval_whole(alloc, world, state, parts.as_slice())
         }
     }
+}
+
+/// The word of the bool that an expression has.
+#[cycle(eval)]
+fn eval_bool(alloc: Global, world: &World, state: &mut State, e: &Expr) -> Result<Val, Halt>
+    ensures { Runs (and_then (spec.eval (setting world.now) e.now state.old) (λ v. or_stop (stuck (setting world.now)) (option_map val.Word (effect.word_of_bool v)))) result state.new }
+{
+    let v = eval(alloc, world, state, e)?;
+    word_of_bool(world, state, &v)
+}
+
+/// The word of the case that an expression has.
+#[cycle(eval)]
+fn eval_case(alloc: Global, world: &World, state: &mut State, e: &Expr) -> Result<Val, Halt>
+    ensures { Runs (and_then (spec.eval (setting world.now) e.now state.old) (λ v. or_stop (stuck (setting world.now)) (option_map val.Word (enums.word_of_case v)))) result state.new }
+{
+    let v = eval(alloc, world, state, e)?;
+    word_of_case(world, state, &v)
+}
+
+/// The core value at an offset from the address that an expression has.
+#[cycle(eval)]
+fn eval_load(
+    alloc: Global,
+    world: &World,
+    state: &mut State,
+    e: &Expr,
+    offset: &ArchitectureSize,
+    ty: WasmType,
+) -> Result<Val, Halt>
+    ensures { Runs (and_then (spec.eval (setting world.now) e.now state.old) (spec.load_word (setting world.now) offset.now ty)) result state.new }
+{
+    let v = eval(alloc, world, state, e)?;
+    load_word(alloc, world, state, offset, ty, &v)
+}
+
+/// The small number at an offset from the address that an expression has.
+#[cycle(eval)]
+fn eval_load_small(
+    alloc: Global,
+    world: &World,
+    state: &mut State,
+    e: &Expr,
+    offset: &ArchitectureSize,
+    ty: SmallType,
+) -> Result<Val, Halt>
+    ensures { Runs (and_then (spec.eval (setting world.now) e.now state.old) (spec.load_small (setting world.now) offset.now ty)) result state.new }
+{
+    let v = eval(alloc, world, state, e)?;
+    load_small(alloc, world, state, offset, ty, &v)
+}
+
+/// The bytes at the address that an expression has, taken over with the length that a local holds.
+#[cycle(eval)]
+fn eval_bytes(
+    alloc: Global,
+    world: &World,
+    state: &mut State,
+    e: &Expr,
+    length: &Text,
+) -> Result<Val, Halt>
+    ensures { Runs (and_then (spec.eval (setting world.now) e.now state.old) (λ v. λ s. spec.take_bytes (setting world.now) (value_of (local_named length.now s.locals)) v s)) result state.new }
+{
+    let v = eval(alloc, world, state, e)?;
+    take_bytes(alloc, world, state, length, &v)
 }
 
 #[cycle(eval)]
@@ -184,6 +230,40 @@ fn eval_record(
 {
     let vs = eval_fields(alloc, world, state, fields)?;
     wrapper_values::record_of(alloc, world, state, path, vs.as_slice())
+}
+
+/// The flags of words that have these expressions, computed in the order of the tree.
+#[cycle(eval)]
+fn eval_flags(
+    alloc: Global,
+    world: &World,
+    state: &mut State,
+    path: &Path,
+    repr: Repr,
+    words: &[(u32, Expr)],
+) -> Result<Val, Halt>
+    ensures { Runs (flags_of_words (setting world.now) path.now repr (map (λ x. (x.0, spec.eval (setting world.now) x.1)) words.now) state.old) result state.new }
+{
+    let vs = eval_words(alloc, world, state, words)?;
+    flags_from(world, state, path, repr, vs.as_slice())
+}
+
+/// The values of words, each behind its shift, computed in the order of the tree.
+#[cycle(eval)]
+fn eval_words(
+    alloc: Global,
+    world: &World,
+    state: &mut State,
+    words: &[(u32, Expr)],
+) -> Result<List<(u32, Val)>, Halt>
+    ensures { Runs (all (map keyed (map (λ x. (x.0, spec.eval (setting world.now) x.1)) words.now)) state.old) result state.new }
+{
+    let mut vs = List::new(alloc);
+    for word in words {
+        let v = eval(alloc, world, state, &word.1)?;
+        vs.push((word.0, v))?;
+    }
+    Ok(vs)
 }
 
 /// The values of a record's fields, each behind its name, computed in the order of the tree.

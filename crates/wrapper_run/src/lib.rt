@@ -5,6 +5,7 @@ mod blocks;
 mod body;
 mod call;
 mod callee;
+mod casts;
 mod eval;
 mod export;
 mod freeing;

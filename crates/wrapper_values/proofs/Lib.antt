@@ -1,1 +1,2 @@
+pub mod FlagsLemmas
 pub mod MovedLemmas

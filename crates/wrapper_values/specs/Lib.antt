@@ -1,6 +1,8 @@
 pub mod Act
 pub mod Effect
+pub mod Enums
 pub mod Fields
+pub mod Flags
 pub mod Locals
 pub mod Owning
 pub mod Setting

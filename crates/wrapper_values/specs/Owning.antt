@@ -12,6 +12,7 @@ use Rattle.wrapper_values.specs.declared.state.Val.TheVariants as val
 use Rattle.wrapper_values.specs.declared.owning.View.{View}
 use Rattle.wrapper_values.specs.declared.owning.View.TheVariants as view_of
 use Rattle.wrapper_values.specs.Effect.{seen_as}
+use Rattle.wrapper_values.specs.Flags.{bits_of_flags, word_at}
 
 -- the addresses of blocks that values own
 
@@ -105,3 +106,4 @@ view view_of.TextAddress v = option_map (λ b. word.Pointer b.0) (buffer_of v)
 view view_of.TextLength v = option_map (λ b. word.Length b.1) (buffer_of v)
 view view_of.Pointer v = pointer_of v
 view view_of.AreaAddress v = area_pointer v
+view (view_of.FlagsWord by) v = option_map (word_at by) (bits_of_flags v)

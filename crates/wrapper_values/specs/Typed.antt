@@ -1,6 +1,9 @@
--- Which values are those of a printed type, where the type may be one of the file, an alias or a record; or a tuple, an array or an option.
-use Rattle.std.specs.Prelude.{ℕ, zero, suc, List, [], ◌∷◌, Option, None, Some, if◌then◌else◌, length, map, nat_eq, option_and_then}
+-- Which values are those of a printed type, where the type may be one of the file, an alias, a record, an enum or a flags type; or a tuple,
+-- an array or an option.
+use Rattle.std.specs.Prelude.{ℕ, zero, suc, ◌^◌, List, [], ◌∷◌, Option, None, Some, if◌then◌else◌, length, map, nat_eq, nat_lt, option_and_then}
 use Rattle.std.specs.Option.{option_map, option_or}
+use Rattle.rust_tree.specs.declared.enum_item.EnumItem.{EnumItem}
+use Rattle.rust_tree.specs.declared.flags_item.FlagsItem.{FlagsItem}
 use Rattle.rust_tree.specs.declared.item.Item.{Item}
 use Rattle.rust_tree.specs.declared.type_expr.TypeExpr.{TypeExpr, TypeExpr-F, out-TypeExpr}
 use Rattle.rust_tree.specs.declared.type_expr.TypeExpr.TheVariants as type
@@ -11,7 +14,9 @@ use Rattle.wrapper_data.specs.declared.value.RustValue.TheVariants as value
 use Rattle.wrapper_values.specs.declared.state.Val.{Val}
 use Rattle.wrapper_values.specs.declared.state.Val.TheVariants as val
 use Rattle.wrapper_values.specs.Effect.{answer_of}
+use Rattle.wrapper_values.specs.Enums.{enum_in}
 use Rattle.wrapper_values.specs.Fields.{fields_in, root_name, type_named}
+use Rattle.wrapper_values.specs.Flags.{flags_in, repr_bits}
 
 -- types of the file
 
@@ -90,9 +95,24 @@ typed_option zero (Some payload) ty = option_map (λ r. value.Case 0 None) (payl
 typed_option (suc zero) (Some payload) ty = option_map (λ r. value.Case 1 (Some r)) (payload ty)
 typed_option _ _ ty = None
 
-abbrev pub typed_case : ℕ → Option Typed → TypeExpr-F TypeExpr → Option RustValue
-typed_case number payload (TypeExpr-F.Optional ty) = typed_option number payload ty
-typed_case number payload _ = None
+-- a case of this number that has no payload, or `()`
+abbrev pub typed_bare : ℕ → Option Typed → Option RustValue
+typed_bare number None = Some (value.Case number None)
+typed_bare number (Some payload) = option_map (λ r. value.Case number (Some r)) (payload type.Unit)
+
+-- one of an enum's cases
+abbrev pub typed_enum : ℕ → Option Typed → Option EnumItem → Option RustValue
+typed_enum number payload None = None
+typed_enum number payload (Some e) = if nat_lt number (length e.cases) then typed_bare number payload else None
+
+abbrev pub typed_case : List Item → ℕ → Option Typed → TypeExpr-F TypeExpr → Option RustValue
+typed_case items number payload (TypeExpr-F.Optional ty) = typed_option number payload ty
+typed_case items number payload l = typed_enum number payload (enum_in (definition_in items l))
+
+-- flags, with none but the bits that hold them
+abbrev pub typed_flags : ℕ → Option FlagsItem → Option RustValue
+typed_flags bits None = None
+typed_flags bits (Some f) = if nat_lt bits (2 ^ repr_bits f.repr) then Some (value.Bits bits) else None
 
 abbrev pub typed_unit : TypeExpr-F TypeExpr → Option RustValue
 typed_unit TypeExpr-F.Unit = Some value.Unit
@@ -101,7 +121,8 @@ typed_unit _ = None
 -- one level of a value, with its parts, as one of a type that is no alias
 abbrev pub typed_level : List Item → RustValue-F Typed → Typed
 typed_level items (RustValue-F.Struct parts) ty = option_map value.Struct (typed_parts items parts (out-TypeExpr ty))
-typed_level items (RustValue-F.Case number payload) ty = typed_case number payload (out-TypeExpr ty)
+typed_level items (RustValue-F.Case number payload) ty = typed_case items number payload (out-TypeExpr ty)
+typed_level items (RustValue-F.Bits bits) ty = typed_flags bits (flags_in (definition_in items (out-TypeExpr ty)))
 typed_level items RustValue-F.Unit ty = typed_unit (out-TypeExpr ty)
 typed_level items l ty = option_and_then (λ r. plain_as ty (val.Value r)) (leaf_of l)
 

@@ -16,7 +16,8 @@ fn is_narrow(kind: WitType) -> bool
     !matches!(kind, WitType::U64 | WitType::S64)
 }
 
-fn low_i32(z: i128) -> i32
+/// The low 32 bits of a number, as a signed one.
+pub(crate) fn low_i32(z: i128) -> i32
     ensures { result ≡ spec.low_i32 z }
 {
     (z.rem_euclid(1 << 32) as u32).cast_signed()

@@ -15,6 +15,8 @@ fn type_name(t: &TypeItem) -> &Text
     match t {
         TypeItem::Struct(s) => &s.name,
         TypeItem::Alias(a) => &a.name,
+        TypeItem::Enum(e) => &e.name,
+        TypeItem::Flags(f) => &f.name,
     }
 }
 

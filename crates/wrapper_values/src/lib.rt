@@ -4,7 +4,9 @@
 
 mod casts;
 mod conversion;
+mod enums;
 mod fields;
+mod flags;
 mod locals;
 mod owned;
 mod owning;
@@ -16,6 +18,8 @@ mod views;
 
 pub use casts::cast_to;
 pub use conversion::{converted, lift_of, word_of_bool};
+pub use enums::{enum_lift_of, word_of_case};
+pub use flags::flags_from;
 pub use locals::{
     ask_local, bind, declare, import_named, lend_local, local_named, use_local, value_named,
 };

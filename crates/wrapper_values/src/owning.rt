@@ -3,6 +3,7 @@
 ghost use Rattle.std.specs.Prelude.{◌≡◌, IfOk};
 ghost use Rattle.wrapper_values.specs.Owning as spec;
 
+use crate::flags::word_of_flags;
 use crate::owned::{lent_value, push_owned, push_owned_parts};
 use crate::state::Val;
 use std::alloc::Global;
@@ -89,6 +90,8 @@ pub enum View {
     Pointer,
     /// The address of a return area.
     AreaAddress,
+    /// The lowest word of flags, once they are shifted right by so many bits.
+    FlagsWord(u32),
 }
 
 impl View {
@@ -106,6 +109,7 @@ impl View {
                 Val::Area(address, _) => Some(Word::Pointer(*address)),
                 _ => None,
             },
+            View::FlagsWord(by) => word_of_flags(by, v),
         }
     }
 }

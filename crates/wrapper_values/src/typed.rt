@@ -7,7 +7,9 @@ ghost use Rattle.wrapper_data.specs.declared.value.RustValue.TheVariants as valu
 ghost use Rattle.wrapper_values.specs.Fields as fields;
 ghost use Rattle.wrapper_values.specs.Typed as spec;
 
+use crate::enums::{enum_in, has_case};
 use crate::fields::{root_name, type_named};
+use crate::flags::typed_flags;
 use crate::printed::answer_of;
 use crate::state::Val;
 use rust_tree::{Item, Path, StructField, TypeExpr, TypeItem};
@@ -25,15 +27,22 @@ fn type_at<'a>(items: &'a [Item], path: &Path) -> Option<&'a TypeItem>
     }
 }
 
+/// The definition of a type that is named by a path.
+fn definition_in<'a>(items: &'a [Item], ty: &TypeExpr) -> Option<&'a TypeItem>
+    ensures { option_copied result ≡ spec.definition_in items.now (out-TypeExpr ty.now) }
+{
+    match ty {
+        TypeExpr::Path(path) => type_at(items, path),
+        _ => None,
+    }
+}
+
 /// The type that a type is another name of.
 fn target_of<'a>(items: &'a [Item], ty: &TypeExpr) -> Option<&'a TypeExpr>
     ensures { option_copied result ≡ spec.target_of items.now ty.now }
 {
-    match ty {
-        TypeExpr::Path(path) => match type_at(items, path) {
-            Some(TypeItem::Alias(a)) => Some(&a.ty),
-            _ => None,
-        },
+    match definition_in(items, ty) {
+        Some(TypeItem::Alias(a)) => Some(&a.ty),
         _ => None,
     }
 }
@@ -80,6 +89,7 @@ fn typed(
         RustValue::Struct(parts) => typed_parts(parts.as_slice(), alloc, items, ty),
         RustValue::Case(number, payload) => typed_case(payload, alloc, items, *number, ty),
         RustValue::Unit => Ok(typed_unit(ty)),
+        RustValue::Bits(bits) => Ok(typed_flags(*bits, definition_in(items, ty))),
         RustValue::Bool(_) | RustValue::Num(_, _) | RustValue::F32(_) | RustValue::F64(_) => {
             Ok(plain_as(ty, &Val::Value(value.copy(alloc)?)))
         }
@@ -110,11 +120,34 @@ fn typed_case(
     ty: &TypeExpr,
 ) -> Result<Option<RustValue>, OutOfMemory>
     ensures { IfOk result
-        (λ r. r ≡ spec.typed_case number (option_map (spec.typed items.now) payload.now) (out-TypeExpr ty.now)) }
+        (λ r. r ≡ spec.typed_case items.now number (option_map (spec.typed items.now) payload.now) (out-TypeExpr ty.now)) }
 {
     match ty {
         TypeExpr::Optional(ty) => typed_option(payload, alloc, items, number, ty.get()),
-        _ => Ok(None),
+        _ => match enum_in(definition_in(items, ty)) {
+            Some(e) if has_case(e, number) => typed_bare(payload, alloc, items, number),
+            _ => Ok(None),
+        },
+    }
+}
+
+/// A case of this number that has no payload, or `()`.
+#[cycle(typed)]
+fn typed_bare(
+    payload: &Option<Boxed<RustValue>>,
+    alloc: Global,
+    items: &[Item],
+    number: u32,
+) -> Result<Option<RustValue>, OutOfMemory>
+    ensures { IfOk result
+        (λ r. r ≡ spec.typed_bare number (option_map (spec.typed items.now) payload.now)) }
+{
+    match payload {
+        None => Ok(Some(RustValue::Case(number, None))),
+        Some(payload) => match typed(payload.get(), alloc, items, &TypeExpr::Unit)? {
+            None => Ok(None),
+            Some(unit) => Ok(Some(RustValue::Case(number, Some(Boxed::new(alloc, unit)?)))),
+        },
     }
 }
 

@@ -13,6 +13,7 @@ ghost use Rattle.abi_driver.specs.Sends.{Sends};
 
 use crate::bindgen::{Bindgen, Operand};
 use crate::instruction::Instruction;
+use crate::lift::flags::flag_words;
 use crate::lift::leaf::scalar_lifting;
 use crate::parts::field_types;
 use crate::send::{only, send};
@@ -105,6 +106,14 @@ fn free_id<B: Bindgen>(
             let next = free_parts(alloc, resolve, bindgen, words, at, place, tys)?;
             Ok(next)
         }
+        TypeDefKind::Enum(_) => {
+            let next = pass_word(words, at)?;
+            Ok(next)
+        }
+        TypeDefKind::Flags(members) => {
+            let next = pass_words(words, at, flag_words(members.len()))?;
+            Ok(next)
+        }
         _ => Err(OutOfMemory),
     }
 }
@@ -142,6 +151,16 @@ fn pass_word<O: Operand>(words: &[O], at: usize) -> Result<usize, OutOfMemory>
         return Err(OutOfMemory);
     }
     Ok(at + 1)
+}
+
+/// Behind so many words from a place on.
+fn pass_words<O: Operand>(words: &[O], at: usize, count: usize) -> Result<usize, OutOfMemory>
+    ensures { IfOk result (λ next. (used : List O) × (drop at words.now ≡ used ++ drop next words.now) × (length used ≡ count)) }
+{
+    if words.len() < count || at > words.len() - count {
+        return Err(OutOfMemory);
+    }
+    Ok(at + count)
 }
 
 /// The block of the text that the address and the length at a place represent.

@@ -107,6 +107,8 @@ fn free_id<B: Bindgen>(
             free_parts(alloc, resolve, bindgen, address, offset, id, tys)?;
             Ok(())
         }
+        TypeDefKind::Enum(_) => Ok(()),
+        TypeDefKind::Flags(_) => Ok(()),
         _ => Err(OutOfMemory),
     }
 }

@@ -16,6 +16,8 @@ ghost use Rattle.abi_driver.specs.Sends.{Sends};
 use crate::bindgen::{Bindgen, Operand};
 use crate::instruction::Instruction;
 use crate::lift::leaf::scalar_lifting;
+use crate::memory::enums::load_enum;
+use crate::memory::flags::load_flags;
 use crate::memory::place::{NOWHERE, behind_pointer, part_place};
 use crate::memory::word::{load_word, scalar_load};
 use crate::parts::{field_types, part_count};
@@ -26,7 +28,7 @@ use wit_model::{ArchitectureSize, List, OutOfMemory, Resolve, TypeDefKind, TypeI
 /// What denotes the value that stands at the address that an operand denotes, after `lift_from_memory` of wit-bindgen-core. What it owns
 /// is taken over.
 ///
-/// So far it is a scalar or a text, or a record or a tuple of such, also through aliases; of a type that holds any other
+/// So far it is a scalar, a text, an enum or flags, or a record or a tuple of such, also through aliases; of a type that holds any other
 /// the answer is `OutOfMemory`, as where memory is wanting.
 pub fn lift_from_memory<B: Bindgen>(
     alloc: Global,
@@ -107,6 +109,12 @@ fn load_id<B: Bindgen>(
             let parts = load_parts(alloc, resolve, bindgen, address, offset, id, tys)?;
             let operand = send_one(alloc, resolve, bindgen, inst, parts)?;
             Ok(operand)
+        }
+        TypeDefKind::Enum(members) => {
+            load_enum(alloc, resolve, bindgen, address, offset, id, members)
+        }
+        TypeDefKind::Flags(members) => {
+            load_flags(alloc, resolve, bindgen, address, offset, id, members)
         }
         _ => Err(OutOfMemory),
     }

@@ -6,7 +6,7 @@ ghost use Rattle.wit_model.specs.declared.types.TypeDef.{TypeDef};
 ghost use Rattle.wit_layout.specs.Sizes.{field_offsets};
 ghost use Rattle.wit_layout.specs.Told.{IsPairOf, is_alias};
 ghost use Rattle.wit_layout.specs.Tree.{tree_at};
-ghost use Rattle.abi_driver.specs.Code.{beyond, one_pointer};
+ghost use Rattle.abi_driver.specs.Code.{beyond, one_pointer, word_place};
 
 use crate::bindgen::Bindgen;
 use wit_model::{ArchitectureSize, OutOfMemory, TypeId, WitType};
@@ -46,6 +46,20 @@ pub(crate) fn behind_pointer(offset: ArchitectureSize) -> Result<ArchitectureSiz
             pointers: 1,
         },
     )
+}
+
+/// Where a word of flags stands that themselves stand at an offset.
+pub(crate) fn word_offset(
+    offset: ArchitectureSize,
+    nth: usize,
+) -> Result<ArchitectureSize, OutOfMemory>
+    ensures { IfOk result (λ c. c ≡ beyond offset (word_place nth)) }
+{
+    let Some(bytes) = (nth as u64).checked_mul(4) else {
+        return Err(OutOfMemory);
+    };
+    let place = sum(offset, ArchitectureSize { bytes, pointers: 0 })?;
+    Ok(place)
 }
 
 /// Where a part of a record or a tuple of the table stands, which itself stands at an offset.

@@ -17,6 +17,8 @@ ghost use Rattle.abi_driver.specs.Stores.{LowersToMemory, StoresParts};
 use crate::bindgen::{Bindgen, Operand};
 use crate::instruction::Instruction;
 use crate::lower::leaf::{lower_by, scalar_lowering};
+use crate::memory::enums::store_enum;
+use crate::memory::flags::store_flags;
 use crate::memory::place::{NOWHERE, behind_pointer, part_place};
 use crate::memory::word::{scalar_store, store_word};
 use crate::parts::{field_types, part_count};
@@ -25,8 +27,8 @@ use wit_model::{ArchitectureSize, List, OutOfMemory, Resolve, TypeDefKind, TypeI
 
 /// Puts the value that an operand denotes at the address that another denotes, after `lower_to_memory` of wit-bindgen-core.
 ///
-/// Without `realloc` the value is lent, and with it given away. So far it is a scalar or a text, or a record or a tuple of
-/// such, also through aliases; of a type that holds any other the answer is `OutOfMemory`, as where memory is wanting.
+/// Without `realloc` the value is lent, and with it given away. So far it is a scalar, a text, an enum or flags, or a record
+/// or a tuple of such, also through aliases; of a type that holds any other the answer is `OutOfMemory`, as where memory is wanting.
 pub fn lower_to_memory<B: Bindgen>(
     alloc: Global,
     resolve: &Resolve,
@@ -123,6 +125,12 @@ fn store_id<B: Bindgen>(
                 alloc, resolve, bindgen, address, offset, id, tys, &parts, realloc,
             )?;
             Ok(())
+        }
+        TypeDefKind::Enum(members) => {
+            store_enum(alloc, resolve, bindgen, address, offset, value, id, members)
+        }
+        TypeDefKind::Flags(members) => {
+            store_flags(alloc, resolve, bindgen, address, offset, value, id, members)
         }
         _ => Err(OutOfMemory),
     }

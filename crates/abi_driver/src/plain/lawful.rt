@@ -25,7 +25,7 @@ impl Bindgen for PlainBindgen {
 
     ghost sound = { plain_sound };
 
-    /// The steps of arguments, scalars, texts, records and tuples, of words in memory, of blocks that are freed, and of calls. Of any
+    /// The steps of arguments, scalars, texts, records, tuples, enums and flags, of words in memory, of blocks that are freed, and of calls. Of any
     /// other instruction the answer is `OutOfMemory`, and so it is where a block of code is opened.
     fn emit(
         &mut self,
@@ -63,6 +63,10 @@ impl Bindgen for PlainBindgen {
             Instruction::RecordLift(id) => self.join_record(resolve, id, operands, results),
             Instruction::TupleLower(n) => self.split_tuple(resolve, n, operands, results),
             Instruction::TupleLift(n) => self.join_tuple(resolve, n, operands, results),
+            Instruction::EnumLower(id) => self.pass_enum(resolve, id, operands, results),
+            Instruction::EnumLift(id) => self.read_enum(resolve, id, operands, results),
+            Instruction::FlagsLower(id) => self.pass_flags(resolve, id, operands, results),
+            Instruction::FlagsLift(id) => self.read_flags(resolve, id, operands, results),
             Instruction::GuestDeallocateString => self.free_text(resolve, operands, results),
             Instruction::GuestDeallocate(size, align) => self.free_block(
                 resolve, size, align, operands, results,

@@ -15,6 +15,7 @@ use crate::function_bindgen::FunctionBindgen;
 use crate::operand::{ExprOperand, copy_expr, copy_path, is_operand};
 use crate::record_site::RecordSite;
 use crate::scope::{LocalName, Scope};
+use crate::type_site::TypeSite;
 use rust_tree::{Expr, Pattern, Stmt};
 use std::alloc::Global;
 use wit_model::{List, OutOfMemory, Resolve, Text, TypeDefKind, TypeId};
@@ -96,19 +97,19 @@ fn record_pattern(alloc: Global, site: &RecordSite, names: &[Text]) -> Result<Pa
 
 /// How a record of the table is written. Of one without a site, or with other fields in number, there is no memory.
 fn record_site<'a>(
-    records: &'a [Option<RecordSite>],
+    sites: &'a [Option<TypeSite>],
     resolve: &Resolve,
     id: TypeId,
 ) -> Result<&'a RecordSite, OutOfMemory>
-    ensures { IfOk result (λ s. IsSiteOf resolve.now.types records.now id.0 s.now) }
+    ensures { IfOk result (λ s. IsSiteOf resolve.now.types sites.now id.0 s.now) }
 {
     let at = id.0 as usize;
-    if at >= records.len() {
+    if at >= sites.len() {
         return Err(OutOfMemory);
     }
     let count = field_count(resolve, id)?;
-    match &records[at] {
-        Some(site) if site.fields.len() == count => Ok(site),
+    match &sites[at] {
+        Some(TypeSite::Record(site)) if site.fields.len() == count => Ok(site),
         _ => Err(OutOfMemory),
     }
 }
@@ -132,9 +133,9 @@ impl FunctionBindgen {
         id: TypeId,
         operands: &List<ExprOperand>,
     ) -> Result<Expr, OutOfMemory>
-        ensures { IfOk result (λ e. MakesRecord resolve.now.types self.now.records id.0 operands.now e) }
+        ensures { IfOk result (λ e. MakesRecord resolve.now.types self.now.sites id.0 operands.now e) }
     {
-        let site = record_site(self.records.as_slice(), resolve, id)?;
+        let site = record_site(self.sites.as_slice(), resolve, id)?;
         if operands.len() != site.fields.len() {
             return Err(OutOfMemory);
         }
@@ -169,7 +170,7 @@ impl FunctionBindgen {
     ) -> Result<List<Text>, OutOfMemory>
         ensures { IfOk result (λ names. SplitsRecord resolve.now.types id.0 e names self.old self.new) }
     {
-        let site = record_site(self.records.as_slice(), resolve, id)?;
+        let site = record_site(self.sites.as_slice(), resolve, id)?;
         let names = self
             .scope
             .declare_fields(self.alloc, site.fields.as_slice())?;

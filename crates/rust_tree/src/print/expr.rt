@@ -1,15 +1,17 @@
-ghost use Rattle.std.specs.Prelude.{◌≡◌, ◌++◌, OnOk, map};
-ghost use Rattle.rust_tree.specs.CodeText.{arguments_text, array_text, bracket, capacity_text, cast_type_text, expr_fields, expr_spelled, expr_text, fields_text, listed_text, parts_text, path_text, place_text, receiver_text, small_type_text};
-ghost use Rattle.rust_tree.specs.Word.{expr_word, sign};
-ghost use Rattle.rust_tree.specs.declared.print.word.expr.ExprWord.TheVariants.{IntoBoxedBytes};
+ghost use Rattle.std.specs.Prelude.{◌≡◌, ◌++◌, OnOk, decimal, map};
+ghost use Rattle.rust_tree.specs.CodeText.{arguments_text, array_text, bracket, capacity_text, cast_type_text, expr_fields, expr_spelled, expr_text, expr_words, fields_text, flags_bits_text, flags_of_words_text, listed_text, parts_text, path_text, place_text, receiver_text, repr_type_text, small_type_text};
+ghost use Rattle.rust_tree.specs.Word.{expr_word, flags_word, sign};
+ghost use Rattle.rust_tree.specs.declared.print.word.expr.ExprWord.TheVariants.{CaseNumber, IntoBoxedBytes};
+ghost use Rattle.rust_tree.specs.declared.print.word.flags.FlagsWord.TheVariants.{AsWord, FromBits, FromBitsEnd, Or, ShiftedBy};
 ghost use Rattle.rust_tree.specs.declared.print.word.sign.Sign.TheVariants.{As, Close, Colon, Open, Reference};
 
 use crate::expr::{CastType, Expr, SmallType};
 use crate::path::Path;
 use crate::print::path::push_path;
 use crate::print::size::push_term;
-use crate::print::type_name::{core_type_name, push_cast_type, small_type_name};
-use crate::print::word::{ExprWord, Sign};
+use crate::print::type_name::{core_type_name, push_cast_type, push_repr_type, small_type_name};
+use crate::print::word::{ExprWord, FlagsWord, Sign};
+use crate::repr::Repr;
 use wit_model::{ArchitectureSize, OutOfMemory, Text};
 
 fn is_local(e: &Expr) -> bool
@@ -94,6 +96,36 @@ fn push_capacity(out: &mut Text, len: &Text) -> Result<(), OutOfMemory>
     Sign::Close.put(out)
 }
 
+fn push_flags_bits(out: &mut Text, name: &Text, n: u32) -> Result<(), OutOfMemory>
+    ensures { OnOk result (out.new ≡ out.old ++ flags_bits_text name.now n) }
+{
+    Sign::Open.put(out)?;
+    out.push_str(name.as_str())?;
+    FlagsWord::Bits.put(out)?;
+    out.push_number(u64::from(n))?;
+    FlagsWord::AsCoreWord.put(out)
+}
+
+/// What stands before a word that flags are made of.
+fn push_before_word(out: &mut Text, path: &Path) -> Result<(), OutOfMemory>
+    ensures { OnOk result (out.new ≡ out.old ++ (flags_word Or ++ path_text path.now ++ flags_word FromBits)) }
+{
+    FlagsWord::Or.put(out)?;
+    push_path(out, path)?;
+    FlagsWord::FromBits.put(out)
+}
+
+/// What stands behind it: the type to which it is widened, and by how many bits it is shifted.
+fn push_behind_word(out: &mut Text, repr: Repr, n: u32) -> Result<(), OutOfMemory>
+    ensures { OnOk result (out.new ≡ out.old ++ (flags_word AsWord ++ repr_type_text repr ++ flags_word ShiftedBy ++ decimal n ++ flags_word FromBitsEnd)) }
+{
+    FlagsWord::AsWord.put(out)?;
+    push_repr_type(out, repr)?;
+    FlagsWord::ShiftedBy.put(out)?;
+    out.push_number(u64::from(n))?;
+    FlagsWord::FromBitsEnd.put(out)
+}
+
 #[cycle(expr)]
 pub(crate) fn push_expr(out: &mut Text, e: &Expr) -> Result<(), OutOfMemory>
     ensures { OnOk result (out.new ≡ out.old ++ expr_text e.now) }
@@ -133,7 +165,19 @@ pub(crate) fn push_expr(out: &mut Text, e: &Expr) -> Result<(), OutOfMemory>
         Expr::Record(path, fields) => push_record(out, path, fields.as_slice()),
         Expr::Tuple(parts) => push_parts(out, parts.as_slice()),
         Expr::Array(parts) => push_array(out, parts.as_slice()),
+        Expr::EnumNumber(e) => push_case_number(out, e.get()),
+        Expr::FlagsBits(name, n) => push_flags_bits(out, name, *n),
+        Expr::FlagsOfWords(path, repr, words) => push_flags(out, path, *repr, words.as_slice()),
     }
+}
+
+#[cycle(expr)]
+fn push_case_number(out: &mut Text, e: &Expr) -> Result<(), OutOfMemory>
+    ensures { OnOk result (out.new ≡ out.old ++ (sign Open ++ expr_text e.now ++ expr_word CaseNumber)) }
+{
+    Sign::Open.put(out)?;
+    push_expr(out, e)?;
+    ExprWord::CaseNumber.put(out)
 }
 
 /// A word, and behind it an expression on which a method is called.
@@ -214,4 +258,24 @@ fn push_array(out: &mut Text, parts: &[Expr]) -> Result<(), OutOfMemory>
     ExprWord::OpenArray.put(out)?;
     push_listed(out, parts)?;
     ExprWord::CloseArray.put(out)
+}
+
+/// The path of a flags type, and the words that its flags are made of.
+#[cycle(expr)]
+fn push_flags(
+    out: &mut Text,
+    path: &Path,
+    repr: Repr,
+    words: &[(u32, Expr)],
+) -> Result<(), OutOfMemory>
+    ensures { OnOk result (out.new ≡ out.old ++ flags_of_words_text path.now repr (expr_words words.now)) }
+{
+    push_path(out, path)?;
+    FlagsWord::Empty.put(out)?;
+    for word in words {
+        push_before_word(out, path)?;
+        push_expr(out, &word.1)?;
+        push_behind_word(out, repr, word.0)?;
+    }
+    Ok(())
 }

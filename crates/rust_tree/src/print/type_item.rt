@@ -1,15 +1,13 @@
 //! Definitions of types.
 
 ghost use Rattle.std.specs.Prelude.{◌≡◌, ◌++◌, OnOk};
-ghost use Rattle.std.specs.List.{flat_map, join_by};
-ghost use Rattle.rust_tree.specs.CodeText.{path_text};
-ghost use Rattle.rust_tree.specs.DefinitionText.{alias_text, debug_field_text, debug_text, derives_text, field_text, repr_text, struct_head_text, struct_text, type_item_text};
-ghost use Rattle.rust_tree.specs.Word.{sign};
-ghost use Rattle.rust_tree.specs.declared.print.word.sign.Sign.TheVariants.{Comma};
+ghost use Rattle.std.specs.List.{flat_map};
+ghost use Rattle.rust_tree.specs.DefinitionText.{alias_text, debug_field_text, debug_text, field_text, repr_text, struct_head_text, struct_text, type_item_text};
 
-use crate::path::Path;
+use crate::print::derives::push_derives;
+use crate::print::enum_item::push_enum;
+use crate::print::flags_item::push_flags;
 use crate::print::function::push_docs;
-use crate::print::path::push_path;
 use crate::print::type_name::push_type;
 use crate::print::word::{DefinitionWord, Sign};
 use crate::type_item::{AliasItem, StructField, StructItem, TypeItem};
@@ -22,29 +20,6 @@ fn push_repr(out: &mut Text, repr_c: bool) -> Result<(), OutOfMemory>
         DefinitionWord::ReprC.put(out)?;
     }
     Ok(())
-}
-
-fn push_paths(out: &mut Text, paths: &[Path]) -> Result<(), OutOfMemory>
-    ensures { OnOk result (out.new ≡ out.old ++ join_by path_text (sign Comma) paths.now) }
-{
-    for (i, path) in paths.iter().enumerate() {
-        if i > 0 {
-            Sign::Comma.put(out)?;
-        }
-        push_path(out, path)?;
-    }
-    Ok(())
-}
-
-fn push_derives(out: &mut Text, derives: &[Path]) -> Result<(), OutOfMemory>
-    ensures { OnOk result (out.new ≡ out.old ++ derives_text derives.now) }
-{
-    if derives.is_empty() {
-        return Ok(());
-    }
-    DefinitionWord::Derive.put(out)?;
-    push_paths(out, derives)?;
-    DefinitionWord::DeriveEnd.put(out)
 }
 
 fn push_field(out: &mut Text, field: &StructField) -> Result<(), OutOfMemory>
@@ -141,5 +116,7 @@ pub(crate) fn push_type_item(out: &mut Text, item: &TypeItem) -> Result<(), OutO
     match item {
         TypeItem::Struct(item) => push_struct(out, item),
         TypeItem::Alias(item) => push_alias(out, item),
+        TypeItem::Enum(item) => push_enum(out, item),
+        TypeItem::Flags(item) => push_flags(out, item),
     }
 }

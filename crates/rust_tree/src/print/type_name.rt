@@ -1,9 +1,10 @@
 ghost use Rattle.std.specs.Prelude.{◌≡◌, ◌++◌, OnOk, map};
-ghost use Rattle.rust_tree.specs.CodeText.{array_type_text, cast_type_text, core_type_text, option_text, primitive_text, small_type_text, tuple_text, type_text};
+ghost use Rattle.rust_tree.specs.CodeText.{array_type_text, cast_type_text, core_type_text, option_text, primitive_text, repr_type_text, small_type_text, tuple_text, type_text};
 
 use crate::expr::{CastType, SmallType};
 use crate::print::path::push_path;
 use crate::print::word::{DefinitionWord, ExprWord, ItemWord, Sign};
+use crate::repr::Repr;
 use crate::type_expr::{Primitive, TypeExpr};
 use wit_model::{OutOfMemory, Text, WasmType};
 
@@ -36,6 +37,18 @@ fn cast_type_name(ty: CastType) -> &'static str
         CastType::I16 => "i16",
         CastType::U32 => "u32",
         CastType::U64 => "u64",
+    }
+}
+
+fn repr_type_name(repr: Repr) -> &'static str
+    ensures { result.now ≡ repr_type_text repr }
+{
+    match repr {
+        Repr::U8 => "u8",
+        Repr::U16 => "u16",
+        Repr::U32 => "u32",
+        Repr::U64 => "u64",
+        Repr::U128 => "u128",
     }
 }
 
@@ -122,6 +135,12 @@ pub(crate) fn push_cast_type(out: &mut Text, ty: CastType) -> Result<(), OutOfMe
     ensures { OnOk result (out.new ≡ out.old ++ cast_type_text ty) }
 {
     out.push_str(cast_type_name(ty))
+}
+
+pub(crate) fn push_repr_type(out: &mut Text, repr: Repr) -> Result<(), OutOfMemory>
+    ensures { OnOk result (out.new ≡ out.old ++ repr_type_text repr) }
+{
+    out.push_str(repr_type_name(repr))
 }
 
 pub(crate) fn push_core_type(out: &mut Text, ty: WasmType) -> Result<(), OutOfMemory>

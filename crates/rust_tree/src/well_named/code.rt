@@ -2,7 +2,7 @@
 
 ghost use Rattle.std.specs.Prelude.{◌≡◌, map};
 ghost use Rattle.std.specs.List.{list_all};
-ghost use Rattle.rust_tree.specs.WellNamed.{are_fields, is_absent_or, is_named_block, is_named_expr, is_named_import, is_named_pattern, is_named_stmt};
+ghost use Rattle.rust_tree.specs.WellNamed.{are_fields, are_words, is_absent_or, is_named_block, is_named_expr, is_named_import, is_named_pattern, is_named_stmt};
 ghost use Rattle.rust_tree.specs.Ident.{is_ident};
 
 use crate::expr::Expr;
@@ -19,7 +19,7 @@ fn is_named_expr(e: &Expr) -> bool
         Expr::Local(name) | Expr::Ref(name) => is_name(name),
         Expr::AsPtr(name) | Expr::Len(name) | Expr::CastMut(name) => is_name(name),
         Expr::ReturnPointer(name) | Expr::IntoBoxedBytes(name) => is_name(name),
-        Expr::Cast(e, _) | Expr::I32FromBool(e) => is_named_expr(e.get()),
+        Expr::Cast(e, _) | Expr::I32FromBool(e) | Expr::EnumNumber(e) => is_named_expr(e.get()),
         Expr::Call(path, arguments) => are_path_names(path.names.as_slice())
             && are_named_exprs(arguments.as_slice()),
         Expr::Load(address, _, _) => is_named_expr(address.get()),
@@ -31,6 +31,10 @@ fn is_named_expr(e: &Expr) -> bool
         }
         Expr::Tuple(parts) => are_named_exprs(parts.as_slice()),
         Expr::Array(parts) => are_named_exprs(parts.as_slice()),
+        Expr::FlagsBits(name, _) => is_name(name),
+        Expr::FlagsOfWords(path, _, words) => {
+            are_path_names(path.names.as_slice()) && are_named_words(words.as_slice())
+        }
     }
 }
 
@@ -56,6 +60,18 @@ fn are_named_fields(fields: &[(Text, Expr)]) -> bool
         }
     }
     true
+}
+
+#[cycle(named_expr)]
+fn are_named_words(words: &[(u32, Expr)]) -> bool
+    ensures { result ≡ are_words (map (λ w. (w.0, is_named_expr w.1)) words.now) }
+{
+    for word in words {
+        if !is_named_expr(&word.1) {
+            return false;
+        }
+    }
+    !words.is_empty()
 }
 
 fn is_named_import(d: &ImportDecl) -> bool

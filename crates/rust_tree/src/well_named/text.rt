@@ -6,6 +6,7 @@ ghost use Rattle.rust_tree.specs.Ident.{is_ident};
 ghost use Rattle.rust_tree.specs.WellNamed.{are_path_names, is_ident_part, is_line, is_option_line, is_quotable};
 
 use crate::ident::{all_may_follow, is_ident};
+use crate::path::Path;
 use wit_model::Text;
 
 fn is_line(text: &Text) -> bool
@@ -78,4 +79,12 @@ pub(crate) fn are_path_names(names: &[Text]) -> bool
             begins && are_names(others)
         }
     }
+}
+
+pub(crate) fn are_named_paths(paths: &[Path]) -> bool
+    ensures { result ≡ list_all (λ path. are_path_names path.names) paths.now }
+{
+    paths
+        .iter()
+        .all(|path| are_path_names(path.names.as_slice()))
 }

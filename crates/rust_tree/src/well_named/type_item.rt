@@ -2,11 +2,12 @@
 
 ghost use Rattle.std.specs.Prelude.{◌≡◌};
 ghost use Rattle.std.specs.List.{list_all};
-ghost use Rattle.rust_tree.specs.WellNamed.{are_path_names, is_named_alias, is_named_field, is_named_struct, is_named_type_item};
+ghost use Rattle.rust_tree.specs.WellNamed.{is_named_alias, is_named_field, is_named_struct, is_named_type_item};
 
-use crate::path::Path;
 use crate::type_item::{AliasItem, StructField, StructItem, TypeItem};
-use crate::well_named::text::{are_lines, are_path_names, is_name, is_quotable};
+use crate::well_named::enum_item::is_named_enum;
+use crate::well_named::flags_item::is_named_flags;
+use crate::well_named::text::{are_lines, are_named_paths, is_name, is_quotable};
 use crate::well_named::type_expr::is_named_type;
 
 fn is_named_field(field: &StructField) -> bool
@@ -22,14 +23,6 @@ fn are_named_fields(fields: &[StructField]) -> bool
     ensures { result ≡ list_all is_named_field fields.now }
 {
     fields.iter().all(|field| is_named_field(field))
-}
-
-fn are_named_paths(paths: &[Path]) -> bool
-    ensures { result ≡ list_all (λ path. are_path_names path.names) paths.now }
-{
-    paths
-        .iter()
-        .all(|path| are_path_names(path.names.as_slice()))
 }
 
 fn is_named_struct(item: &StructItem) -> bool
@@ -53,5 +46,7 @@ pub(crate) fn is_named_type_item(item: &TypeItem) -> bool
     match item {
         TypeItem::Struct(item) => is_named_struct(item),
         TypeItem::Alias(item) => is_named_alias(item),
+        TypeItem::Enum(item) => is_named_enum(item),
+        TypeItem::Flags(item) => is_named_flags(item),
     }
 }

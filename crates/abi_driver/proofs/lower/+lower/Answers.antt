@@ -8,13 +8,15 @@ use Rattle.wit_model.specs.declared.types.WitType.{WitType}
 use Rattle.wit_model.specs.declared.types.WitType.TheVariants as wit
 use Rattle.wit_layout.proofs.FlattenSteps.{rank}
 use Rattle.wrapper_meaning.specs.Shape.{shape_of}
-use Rattle.abi_driver.specs.declared.instruction.Instruction.TheVariants.{StringLower, TupleLower}
+use Rattle.abi_driver.specs.declared.instruction.Instruction.TheVariants.{EnumLower, FlagsLower, StringLower, TupleLower}
 use Rattle.abi_driver.specs.Code.{each, lower_code}
 use Rattle.abi_driver.specs.Instructions.{shapes_of}
 use Rattle.abi_driver.specs.Sent.{sends}
-use Rattle.abi_driver.proofs.FlatCode.{lower_alias_code, lower_record_code, lower_scalar_code, lower_text_code, lower_tuple_code}
+use Rattle.abi_driver.proofs.EnumSteps.{enum_lowers}
+use Rattle.abi_driver.proofs.FlagSteps.{flags_lowers}
+use Rattle.abi_driver.proofs.FlatCode.{lower_alias_code, lower_enum_code, lower_flags_code, lower_record_code, lower_scalar_code, lower_text_code, lower_tuple_code}
 use Rattle.abi_driver.proofs.LowerSteps.{lowers_all_as, lowers_as, record_lowers, rest_last, rest_next, scalar_lowers, text_lowers, tuple_lowers}
-use Rattle.abi_driver.proofs.Records.{alias_below, alias_rank, alias_shape, count-shapes, drop-same, entry_at, kind_at, part_below_table, part_ranked, record_below, record_shape, tuple_below, tuple_shape}
+use Rattle.abi_driver.proofs.Records.{alias_below, alias_rank, alias_shape, count-shapes, drop-same, entry_at, enum_shape, flags_shape, kind_at, part_below_table, part_ranked, record_below, record_shape, tuple_below, tuple_shape}
 use Rattle.abi_driver.proofs.Runs.{adds_both, side_later}
 use Rattle.abi_driver.proofs.SendSteps.{sends_as, sends_last, sends_next, sends_one, sends_then}
 use Rattle.abi_driver.proofs.lower.+lower.Goals as goal
@@ -112,6 +114,45 @@ lower_id-returns-in_ok-words-in-Tuple g t c =
     record {
       lowers = lowers_as m g.met.B.Bindgen.sound types c.args.realloc _ _ _ _ c.args.value c.in_ok-words-in-Tuple.words (tuple_shape types c.requires.down c.args.id.0 d at tys is) whole;
       sends = sends_as m types _ _ _ _ code (sends_then m types _ _ _ _ _ _ _ c.in_ok-parts-in-Tuple.ensures parts);
+    }
+
+pub lower_id-returns-in_ok-words-in-Enum : goal.lower_id-returns-in_ok-words-in-Enum
+lower_id-returns-in_ok-words-in-Enum g t c =
+    let m = g.B.Bindgen.meaning in
+    let types = c.args.resolve.now.types in
+    let d = c.index-types-at.result in
+    let at = entry_at types c.as_slice-types.result.now c.args.id.0 d c.as_slice-types.ensures c.requires.within c.index-types-at.is in
+    let members = c.in-Enum.field-0 in
+    let is = kind_at c.as_slice-types.result.now c.args.id.0 d (kind.Enum members) c.index-types-at.is c.in-Enum.is in
+    let e = c.in_ok-words-in-Enum.ensures in
+    let flat = enum_lowers m g.met.B.Bindgen.sound types c.args.realloc c.args.id members _ _ c.args.value c.in_ok-words-in-Enum.words (record { entry = d; stands = at; kind = is }) e in
+    record {
+      lowers = lowers_as m g.met.B.Bindgen.sound types c.args.realloc _ _ _ _ c.args.value c.in_ok-words-in-Enum.words (enum_shape types c.requires.down c.args.id.0 d at members is) flat;
+      sends = sends_as m types _ _ _ _ (lower_enum_code types c.requires.down c.args.id d at c.args.realloc members is) (sends_one m types (EnumLower c.args.id) _ _ _ _ e);
+    }
+
+pub lower_id-lower_by-requires-in-Flags : goal.lower_id-lower_by-requires-in-Flags
+lower_id-lower_by-requires-in-Flags g t c =
+    let types = c.args.resolve.now.types in
+    let d = c.index-types-at.result in
+    let at = entry_at types c.as_slice-types.result.now c.args.id.0 d c.as_slice-types.ensures c.requires.within c.index-types-at.is in
+    let members = c.in-Flags.field-0 in
+    let is = kind_at c.as_slice-types.result.now c.args.id.0 d (kind.Flags members) c.index-types-at.is c.in-Flags.is in
+    record { operands = refl; suits = (length members, (members, record { entry = d; stands = at; kind = is }, refl)) }
+
+pub lower_id-returns-in_ok-words-in-Flags : goal.lower_id-returns-in_ok-words-in-Flags
+lower_id-returns-in_ok-words-in-Flags g t c =
+    let m = g.B.Bindgen.meaning in
+    let types = c.args.resolve.now.types in
+    let d = c.index-types-at.result in
+    let at = entry_at types c.as_slice-types.result.now c.args.id.0 d c.as_slice-types.ensures c.requires.within c.index-types-at.is in
+    let members = c.in-Flags.field-0 in
+    let is = kind_at c.as_slice-types.result.now c.args.id.0 d (kind.Flags members) c.index-types-at.is c.in-Flags.is in
+    let e = c.in_ok-words-in-Flags.ensures in
+    let flat = flags_lowers m g.met.B.Bindgen.sound types c.args.realloc c.args.id (length members) _ _ c.args.value c.in_ok-words-in-Flags.words (members, record { entry = d; stands = at; kind = is }, refl) e in
+    record {
+      lowers = lowers_as m g.met.B.Bindgen.sound types c.args.realloc _ _ _ _ c.args.value c.in_ok-words-in-Flags.words (flags_shape types c.requires.down c.args.id.0 d at members is) flat;
+      sends = sends_as m types _ _ _ _ (lower_flags_code types c.requires.down c.args.id d at c.args.realloc members is) (sends_one m types (FlagsLower c.args.id) _ _ _ _ e);
     }
 
 pub lower_parts-lower_type-requires : goal.lower_parts-lower_type-requires

@@ -2,7 +2,7 @@ use Rattle.std.proofs.Common.{ap, length, ◌∙◌}
 use Rattle.std.proofs.lemmas.List.{length-map}
 use Rattle.wrapper_closing.specs.ImportBlock.{block_of}
 use Rattle.rust_gen.specs.Body.{import_site}
-use Rattle.rust_gen.proofs.PartsOfBodies.{given-tables, same-records}
+use Rattle.rust_gen.proofs.PartsOfBodies.{given-tables, same-sites}
 use Rattle.rust_gen.proofs.import.import_code.Goals as goal
 
 pub import_body-requires : goal.import_body-requires
@@ -27,4 +27,4 @@ pub returns-clause-kept : goal.returns-clause-kept
 returns-clause-kept c = given-tables c.args.resolve.now.types c.in_ok-parts.parts c.in_ok-body.taken c.in_ok-parts.ensures.are c.in_ok-body.ensures.tables
 
 pub returns-clause-same : goal.returns-clause-same
-returns-clause-same c = same-records c.args.tables.now c.in_ok-parts.parts c.in_ok-body.taken c.in_ok-parts.ensures.written c.in_ok-body.ensures.tables
+returns-clause-same c = same-sites c.args.tables.now c.in_ok-parts.parts c.in_ok-body.taken c.in_ok-parts.ensures.written c.in_ok-body.ensures.tables

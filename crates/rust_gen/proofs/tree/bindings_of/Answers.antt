@@ -1,6 +1,6 @@
 use Rattle.std.proofs.Common.{◌∙◌, ap, subst, sym}
 use Rattle.rust_tree.specs.WellNamed.{are_well_named}
-use Rattle.type_sites.specs.Sites.{record_sites}
+use Rattle.type_sites.specs.Sites.{type_sites}
 use Rattle.rust_gen.specs.Body.{ArePartsWritten, IsWritten}
 use Rattle.rust_gen.specs.Bound.{AreItems}
 use Rattle.rust_gen.proofs.NamedLemmas.{tree-named}
@@ -16,9 +16,9 @@ new-requires c = record {
 pub returns-clause-bound : goal.returns-clause-bound
 returns-clause-bound c =
     let types = c.args.resolve.now.types in
-    let records = record_sites c.args.resolve.now c.args.world.now in
+    let sites = type_sites c.args.resolve.now c.args.world.now in
     record {
-      items = subst (AreItems (IsWritten types records) (ArePartsWritten types records) c.args.opts.now c.args.resolve.now c.args.id c.args.world.now) (sym (ap (λ t. t.items) c.in_ok-tree.ensures)) c.in_ok-items.ensures;
+      items = subst (AreItems (IsWritten types sites) (ArePartsWritten types sites) c.args.opts.now c.args.resolve.now c.args.id c.args.world.now) (sym (ap (λ t. t.items) c.in_ok-tree.ensures)) c.in_ok-items.ensures;
       places = ap (λ t. t.places) c.in_ok-tree.ensures ∙ c.in_ok-places.ensures;
       options = ap (λ t. t.options) c.in_ok-tree.ensures ∙ c.in_ok-options.ensures;
     }

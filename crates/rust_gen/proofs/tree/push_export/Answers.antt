@@ -12,5 +12,5 @@ returns-clause-made c =
       (wrapper.0, returning.0, c.in_ok-area.area),
       returning.1 ∙ ap (λ is. is ++ return_items returning.0) wrapper.1 ∙ append_assoc c.args.items.now (item.Export wrapper.0 ∷ []) (return_items returning.0),
       c.in_ok-push_needed.ensures,
-      (wrapper.2, subst (λ records. ReturnWritten c.args.resolve.now.types records (needs_return c.args.resolve.now.types c.args.f.now) c.args.f.now returning.0) c.in_ok-area.ensures.same returning.2),
+      (wrapper.2, subst (λ sites. ReturnWritten c.args.resolve.now.types sites (needs_return c.args.resolve.now.types c.args.f.now) c.args.f.now returning.0) c.in_ok-area.ensures.same returning.2),
     )

@@ -1,7 +1,7 @@
 use Rattle.std.proofs.Common.{◌≡◌, true, [], ◌∷◌, ◌++◌, ◌∙◌, arith, subst}
 use Rattle.wit_model.specs.IndexRange.{function_in_range}
 use Rattle.rust_gen.specs.Body.{ArePartsWritten}
-use Rattle.rust_gen.specs.Known.{records_in}
+use Rattle.rust_gen.specs.Known.{sites_in}
 use Rattle.rust_gen.proofs.TreeLemmas.{areas-more, at-loop, items-more, wraps-more}
 use Rattle.rust_gen.proofs.tree.push_exports.Goals as goal
 
@@ -22,5 +22,5 @@ loop-function-preserved c =
       before ++ more.0 ∷ [],
       items-more c.args.items.now before more.0 c.loop-function.items c.push_export.new.items c.loop-function.invariant.3 more.1,
       areas-more before more.0 c.loop-function.areas c.push_export.new.areas c.loop-function.invariant.4 more.2,
-      wraps-more (ArePartsWritten c.args.resolve.now.types (records_in c.args.tables.now)) c.args.functions.now c.loop-function.function-index c.function-item.result before more.0 (omega arith) c.function-item.is c.loop-function.invariant.5 (subst (λ records. ArePartsWritten c.args.resolve.now.types records c.function-item.result.now more.0) same more.3),
+      wraps-more (ArePartsWritten c.args.resolve.now.types (sites_in c.args.tables.now)) c.args.functions.now c.loop-function.function-index c.function-item.result before more.0 (omega arith) c.function-item.is c.loop-function.invariant.5 (subst (λ sites. ArePartsWritten c.args.resolve.now.types sites c.function-item.result.now more.0) same more.3),
     )

@@ -3,10 +3,10 @@ use Rattle.std.specs.Prelude.{option_to_list}
 use Rattle.std.specs.List.{AllZip, flat_map}
 use Rattle.rust_gen.specs.Body.{ArePartsWritten}
 use Rattle.rust_gen.specs.Bound.{Parts, areas_of, export_items}
-use Rattle.rust_gen.specs.Known.{AreAtHand, records_in}
+use Rattle.rust_gen.specs.Known.{AreAtHand, sites_in}
 use Rattle.rust_gen.proofs.tree.push_exports.Given as goal
 
 abbrev pub invariant-loop-function : goal.invariant-loop-function
 invariant-loop-function l =
-    AreAtHand l.resolve.types l.tables × (records_in l.tables ≡ records_in l.initial.tables) × (es : List Parts) × (l.items ≡ l.initial.items ++ flat_map export_items es) × (l.areas ≡ flat_map option_to_list (areas_of es))
-    × AllZip (ArePartsWritten l.resolve.types (records_in l.initial.tables)) (map (λ f. f.now) (take l.function-index l.functions)) es
+    AreAtHand l.resolve.types l.tables × (sites_in l.tables ≡ sites_in l.initial.tables) × (es : List Parts) × (l.items ≡ l.initial.items ++ flat_map export_items es) × (l.areas ≡ flat_map option_to_list (areas_of es))
+    × AllZip (ArePartsWritten l.resolve.types (sites_in l.initial.tables)) (map (λ f. f.now) (take l.function-index l.functions)) es

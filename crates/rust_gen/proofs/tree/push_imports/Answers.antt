@@ -5,7 +5,7 @@ use Rattle.wit_model.specs.IndexRange.{function_in_range}
 use Rattle.rust_tree.specs.declared.item.Item.TheVariants as item
 use Rattle.gen_accept.specs.DeclaredNames.{param_idents}
 use Rattle.rust_gen.specs.Body.{IsWritten}
-use Rattle.rust_gen.specs.Known.{records_in}
+use Rattle.rust_gen.specs.Known.{sites_in}
 use Rattle.rust_gen.proofs.TreeLemmas.{at-loop, wraps-more}
 use Rattle.rust_gen.proofs.tree.push_imports.Goals as goal
 
@@ -29,5 +29,5 @@ loop-function-preserved c =
       c.in_ok-push_import.ensures.same ∙ same,
       before ++ more.0 ∷ [],
       more.1 ∙ ap (λ is. is ++ item.Import more.0 ∷ []) c.loop-function.invariant.3 ∙ append_assoc c.args.items.now _ _ ∙ ap (λ is. c.args.items.now ++ is) (sym (map-append item.Import before (more.0 ∷ []))),
-      wraps-more (IsWritten c.args.resolve.now.types (records_in c.args.tables.now)) c.args.functions.now c.loop-function.function-index c.function-item.result before more.0 (omega arith) c.function-item.is c.loop-function.invariant.4 (subst (λ records. IsWritten c.args.resolve.now.types records c.function-item.result.now more.0) same more.2),
+      wraps-more (IsWritten c.args.resolve.now.types (sites_in c.args.tables.now)) c.args.functions.now c.loop-function.function-index c.function-item.result before more.0 (omega arith) c.function-item.is c.loop-function.invariant.4 (subst (λ sites. IsWritten c.args.resolve.now.types sites c.function-item.result.now more.0) same more.2),
     )

@@ -3,9 +3,9 @@ use Rattle.std.specs.List.{AllZip}
 use Rattle.rust_tree.specs.declared.item.FnItem.{FnItem}
 use Rattle.rust_tree.specs.declared.item.Item.TheVariants as item
 use Rattle.rust_gen.specs.Body.{IsWritten}
-use Rattle.rust_gen.specs.Known.{AreAtHand, records_in}
+use Rattle.rust_gen.specs.Known.{AreAtHand, sites_in}
 use Rattle.rust_gen.proofs.tree.push_imports.Given as goal
 
 abbrev pub invariant-loop-function : goal.invariant-loop-function
 invariant-loop-function l =
-    AreAtHand l.resolve.types l.tables × (records_in l.tables ≡ records_in l.initial.tables) × (ws : List FnItem) × (l.items ≡ l.initial.items ++ map item.Import ws) × AllZip (IsWritten l.resolve.types (records_in l.initial.tables)) (map (λ f. f.now) (take l.function-index l.functions)) ws
+    AreAtHand l.resolve.types l.tables × (sites_in l.tables ≡ sites_in l.initial.tables) × (ws : List FnItem) × (l.items ≡ l.initial.items ++ map item.Import ws) × AllZip (IsWritten l.resolve.types (sites_in l.initial.tables)) (map (λ f. f.now) (take l.function-index l.functions)) ws

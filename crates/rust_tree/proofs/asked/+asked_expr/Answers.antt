@@ -2,7 +2,7 @@ use Rattle.std.proofs.Common.{◌≡◌, [], ◌∷◌, ◌++◌, OnOk, ap, subs
 use Rattle.std.specs.List.{flat_map}
 use Rattle.rust_tree.specs.declared.runtime_item.RuntimeItem.TheVariants.{VecType}
 use Rattle.rust_tree.specs.Asked.{asked_by_expr, asked_by_path}
-use Rattle.rust_tree.proofs.AskedLemmas.{asked-array, asked-behind, asked-call, asked-raw, asked-record, asked-tuple}
+use Rattle.rust_tree.proofs.AskedLemmas.{asked-array, asked-behind, asked-call, asked-raw, asked-record, asked-tuple, asked-words}
 use Rattle.rust_tree.proofs.asked.+asked_expr.Goals as goal
 
 pub ask_by_expr-returns-in_ok-ask_by_path-in-Call : goal.ask_by_expr-returns-in_ok-ask_by_path-in-Call
@@ -35,3 +35,11 @@ pub ask_by_expr-returns-in-Array : goal.ask_by_expr-returns-in-Array
 ask_by_expr-returns-in-Array t c =
     let same = ap asked_by_expr c.in-Array.is ∙ asked-array c.in-Array.parts ∙ ap (flat_map asked_by_expr) (sym c.as_slice-in-Array.ensures) in
     subst (λ items. OnOk c.ask_by_exprs-in-Array.result (c.ask_by_exprs-in-Array.new.asked ≡ c.args.asked.now ++ items)) (sym same) c.ask_by_exprs-in-Array.ensures
+
+pub ask_by_expr-returns-in_ok-ask_by_path-in-FlagsOfWords : goal.ask_by_expr-returns-in_ok-ask_by_path-in-FlagsOfWords
+ask_by_expr-returns-in_ok-ask_by_path-in-FlagsOfWords t c =
+    let path = c.in-FlagsOfWords.path in
+    let rest = flat_map (λ w. asked_by_path path ++ asked_by_expr w.1) c.as_slice-in-FlagsOfWords.result.now in
+    let whole = ap asked_by_expr c.in-FlagsOfWords.is ∙ asked-words path c.in-FlagsOfWords.field-1 c.in-FlagsOfWords.words ∙ ap (λ ws. asked_by_path path ++ flat_map (λ w. asked_by_path path ++ asked_by_expr w.1) ws) (sym c.as_slice-in-FlagsOfWords.ensures) in
+    subst (λ items. OnOk c.ask_by_words.result (c.ask_by_words.new.asked ≡ items))
+    (asked-behind c.args.asked.now c.ask_by_path-in-FlagsOfWords.new.asked (asked_by_path path) rest (asked_by_expr c.args.e.now) c.in_ok-ask_by_path-in-FlagsOfWords.ensures whole) c.ask_by_words.ensures

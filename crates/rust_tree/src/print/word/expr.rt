@@ -26,6 +26,7 @@ pub(crate) enum ExprWord {
     CloseArray,
     LoneComma,
     Widened,
+    CaseNumber,
 }
 
 impl ExprWord {
@@ -54,6 +55,7 @@ impl ExprWord {
             ExprWord::CloseArray => "]",
             ExprWord::LoneComma => ",",
             ExprWord::Widened => "i32::from(*",
+            ExprWord::CaseNumber => ").clone() as i32",
         }
     }
 

@@ -7,11 +7,12 @@ use Rattle.wit_model.specs.declared.types.TypeDefKind.TheVariants as kind
 use Rattle.wit_model.specs.declared.types.WitType.{WitType}
 use Rattle.wit_model.specs.declared.types.WitType.TheVariants as wit
 use Rattle.wit_layout.proofs.FlattenSteps.{rank}
+use Rattle.wit_layout.specs.Extent.{flag_words}
 use Rattle.abi_driver.specs.Code.{each, free_words_code}
 use Rattle.abi_driver.specs.Instructions.{field_shapes, shapes_of}
-use Rattle.abi_driver.proofs.FlatCode.{free_words_alias_code, free_words_record_code, free_words_scalar_code, free_words_tuple_code}
-use Rattle.abi_driver.proofs.FlatFrees.{all_freed_as, fields_freed, freed_as, rest_last, rest_next, scalar_passed, tuple_freed}
-use Rattle.abi_driver.proofs.Records.{alias_below, alias_rank, alias_shape, entry_at, kind_at, part_below_within, part_ranked, record_below, record_shape, tuple_below, tuple_shape}
+use Rattle.abi_driver.proofs.FlatCode.{free_words_alias_code, free_words_enum_code, free_words_flags_code, free_words_record_code, free_words_scalar_code, free_words_tuple_code}
+use Rattle.abi_driver.proofs.FlatFrees.{all_freed_as, enum_passed, fields_freed, flags_passed, freed_as, rest_last, rest_next, scalar_passed, tuple_freed}
+use Rattle.abi_driver.proofs.Records.{alias_below, alias_rank, alias_shape, entry_at, enum_shape, flags_shape, kind_at, part_below_within, part_ranked, record_below, record_shape, tuple_below, tuple_shape}
 use Rattle.abi_driver.proofs.SendSteps.{sends_as, sends_last, sends_next}
 use Rattle.abi_driver.proofs.dealloc.flat.+free.Goals as goal
 
@@ -93,6 +94,33 @@ free_id-returns-in_ok-next-in-Tuple g t c =
 
 pub free_parts-loop-i-init : goal.free_parts-loop-i-init
 free_parts-loop-i-init g t c = record { sent = refl; rest = ([], refl, λ new qs h. h) }
+
+pub free_id-returns-in_ok-next-in-Enum : goal.free_id-returns-in_ok-next-in-Enum
+free_id-returns-in_ok-next-in-Enum g t c =
+    let m = g.B.Bindgen.meaning in
+    let types = c.args.resolve.now.types in
+    let d = c.index-types-place.result in
+    let at = entry_at types c.as_slice-types.result.now c.args.id.0 d c.as_slice-types.ensures c.requires.within c.index-types-place.is in
+    let members = c.in-Enum.field-0 in
+    let is = kind_at c.as_slice-types.result.now c.args.id.0 d (kind.Enum members) c.index-types-place.is c.in-Enum.is in
+    record {
+      frees = freed_as m g.met.B.Bindgen.sound types _ _ _ _ c.args.words.now c.args.at _ (enum_shape types c.requires.down c.args.id.0 d at members is) (enum_passed m g.met.B.Bindgen.sound types members _ c.args.words.now c.args.at c.in_ok-next-in-Enum.next c.in_ok-next-in-Enum.ensures);
+      sends = sends_as m types _ _ _ _ (free_words_enum_code types c.requires.down c.args.id d at members is) refl;
+    }
+
+pub free_id-returns-in_ok-next-in-Flags : goal.free_id-returns-in_ok-next-in-Flags
+free_id-returns-in_ok-next-in-Flags g t c =
+    let m = g.B.Bindgen.meaning in
+    let types = c.args.resolve.now.types in
+    let d = c.index-types-place.result in
+    let at = entry_at types c.as_slice-types.result.now c.args.id.0 d c.as_slice-types.ensures c.requires.within c.index-types-place.is in
+    let members = c.in-Flags.members in
+    let is = kind_at c.as_slice-types.result.now c.args.id.0 d (kind.Flags members) c.index-types-place.is c.in-Flags.is in
+    let h = c.in_ok-next-in-Flags.ensures in
+    record {
+      frees = freed_as m g.met.B.Bindgen.sound types _ _ _ _ c.args.words.now c.args.at _ (flags_shape types c.requires.down c.args.id.0 d at members is) (flags_passed m g.met.B.Bindgen.sound types (length members) _ c.args.words.now c.args.at c.in_ok-next-in-Flags.next (h.0, h.1, h.2 ∙ c.flag_words.ensures ∙ ap flag_words c.len.ensures));
+      sends = sends_as m types _ _ _ _ (free_words_flags_code types c.requires.down c.args.id d at members is) refl;
+    }
 
 pub free_parts-free_type-requires : goal.free_parts-free_type-requires
 free_parts-free_type-requires g t c κs within =

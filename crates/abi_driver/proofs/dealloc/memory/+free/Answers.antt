@@ -15,11 +15,11 @@ use Rattle.abi_driver.specs.Instructions.{field_shapes, shapes_of}
 use Rattle.abi_driver.specs.Places.{HasParts, IsOfParts}
 use Rattle.abi_driver.specs.Sent.{Sent}
 use Rattle.abi_driver.proofs.FreeSteps.{fields_free, frees_as, frees_parts_as, rest_last, rest_next, tuple_free}
-use Rattle.abi_driver.proofs.LeafFrees.{scalar_frees}
-use Rattle.abi_driver.proofs.MemoryCode.{free_alias_code, free_record_code, free_scalar_code, free_tuple_code}
+use Rattle.abi_driver.proofs.LeafFrees.{enum_frees, flags_frees, scalar_frees}
+use Rattle.abi_driver.proofs.MemoryCode.{free_alias_code, free_enum_code, free_flags_code, free_record_code, free_scalar_code, free_tuple_code}
 use Rattle.abi_driver.proofs.PartOffsets.{behind_next, no_alias, part_offset, place_sent}
 use Rattle.abi_driver.proofs.RecordPlaces.{place_told}
-use Rattle.abi_driver.proofs.Records.{alias_below, alias_rank, alias_shape, entry_at, kind_at, part_below_table, part_ranked, record_below, record_shape, tuple_below, tuple_shape}
+use Rattle.abi_driver.proofs.Records.{alias_below, alias_rank, alias_shape, entry_at, enum_shape, flags_shape, kind_at, part_below_table, part_ranked, record_below, record_shape, tuple_below, tuple_shape}
 use Rattle.abi_driver.proofs.Runs.{adds_both, adds_same}
 use Rattle.abi_driver.proofs.SendSteps.{sends_as, sends_last, sends_next}
 use Rattle.abi_driver.proofs.dealloc.memory.+free.Goals as goal
@@ -101,6 +101,32 @@ free_id-returns-in_ok-free_parts-in-Tuple g t c =
     record {
       frees = frees_as m g.met.B.Bindgen.sound types _ _ _ _ c.args.address.now c.args.offset (tuple_shape types c.requires.down c.args.id.0 d at tys is) all;
       sends = sends_as m types _ _ _ _ (free_tuple_code types c.requires.down c.args.id d at c.args.offset tys is ∙ ap (each code 0) (sym c.as_slice-tys-in-Tuple.ensures)) c.in_ok-free_parts-in-Tuple.ensures.sends;
+    }
+
+pub free_id-returns-in-Enum : goal.free_id-returns-in-Enum
+free_id-returns-in-Enum g t c =
+    let m = g.B.Bindgen.meaning in
+    let types = c.args.resolve.now.types in
+    let d = c.index-types-at.result in
+    let at = entry_at types c.as_slice-types.result.now c.args.id.0 d c.as_slice-types.ensures c.requires.within c.index-types-at.is in
+    let members = c.in-Enum.field-0 in
+    let is = kind_at c.as_slice-types.result.now c.args.id.0 d (kind.Enum members) c.index-types-at.is c.in-Enum.is in
+    record {
+      frees = frees_as m g.met.B.Bindgen.sound types _ _ _ _ c.args.address.now c.args.offset (enum_shape types c.requires.down c.args.id.0 d at members is) (enum_frees m g.met.B.Bindgen.sound types members _ c.args.address.now c.args.offset);
+      sends = sends_as m types _ _ _ _ (free_enum_code types c.requires.down c.args.id d at c.args.offset members is) refl;
+    }
+
+pub free_id-returns-in-Flags : goal.free_id-returns-in-Flags
+free_id-returns-in-Flags g t c =
+    let m = g.B.Bindgen.meaning in
+    let types = c.args.resolve.now.types in
+    let d = c.index-types-at.result in
+    let at = entry_at types c.as_slice-types.result.now c.args.id.0 d c.as_slice-types.ensures c.requires.within c.index-types-at.is in
+    let members = c.in-Flags.field-0 in
+    let is = kind_at c.as_slice-types.result.now c.args.id.0 d (kind.Flags members) c.index-types-at.is c.in-Flags.is in
+    record {
+      frees = frees_as m g.met.B.Bindgen.sound types _ _ _ _ c.args.address.now c.args.offset (flags_shape types c.requires.down c.args.id.0 d at members is) (flags_frees m g.met.B.Bindgen.sound types (length members) _ c.args.address.now c.args.offset);
+      sends = sends_as m types _ _ _ _ (free_flags_code types c.requires.down c.args.id d at c.args.offset members is) refl;
     }
 
 pub free_parts-loop-i-init : goal.free_parts-loop-i-init

@@ -21,7 +21,7 @@ returns c =
     let same = c.in_ok-pattern.ensures ∙ ap (λ ns. pattern.Record site.lowered (zip site.fields ns)) c.as_slice-3.ensures in
     record {
       site = site;
-      is_site = subst (λ records. IsSiteOf c.args.resolve.now.types records c.args.id.0 site) c.as_slice.ensures c.in_ok-site.ensures;
+      is_site = subst (λ sites. IsSiteOf c.args.resolve.now.types sites c.args.id.0 site) c.as_slice.ensures c.in_ok-site.ensures;
       declares = subst (λ fs. DeclaresFields old.scope fs names c.declare_fields.new.self) c.as_slice-2.ensures d;
       stmts = record {
         call = refl;
@@ -31,7 +31,7 @@ returns c =
         home = refl;
         area = refl;
         params = refl;
-        records = refl;
+        sites = refl;
         sizes = refl;
         asked = refl;
         returned = refl;

@@ -1,0 +1,212 @@
+-- Enums become words, and words become enums; they are stored and loaded.
+use Rattle.std.proofs.Common.{◌≡◌, ℕ, suc, ◌%◌, ◌^◌, ◌<◌, ◌≤◌, nat_lt, Bool, pos, ℤ, List, [], ◌∷◌, ◌++◌, length, map, None, Contains, refl, sym, ap, ◌∙◌, subst, arith}
+use Rattle.std.proofs.lemmas.Bool.{cond-true, lt-ltb}
+use Rattle.std.specs.Int.{w32, cast_signed}
+use Rattle.wit_model.specs.declared.name.TypeId.{TypeId}
+use Rattle.wit_model.specs.declared.size.ArchitectureSize.{ArchitectureSize}
+use Rattle.wit_model.specs.declared.types.Member.{Member}
+use Rattle.wit_model.specs.declared.types.TypeDef.{TypeDef}
+use Rattle.wit_model.specs.declared.types.TypeDefKind.TheVariants as kind
+use Rattle.wit_layout.specs.Extent.{discriminant_grain}
+use Rattle.wrapper_data.specs.Heap.{is_heap}
+use Rattle.wrapper_data.specs.declared.block.Block.{Block}
+use Rattle.wrapper_data.specs.declared.form.Form.{Form}
+use Rattle.wrapper_data.specs.declared.word.Word.TheVariants as core
+use Rattle.wrapper_meaning.specs.AsWords.{CaseSays, Says}
+use Rattle.wrapper_meaning.specs.Cells.{HasNumber}
+use Rattle.wrapper_meaning.specs.Direction.{take}
+use Rattle.wrapper_meaning.specs.InMemory.{CaseHolds}
+use Rattle.wrapper_meaning.specs.Items.{total}
+use Rattle.wrapper_meaning.specs.Settled.{settled}
+use Rattle.wrapper_meaning.specs.Shape.{bare, nothing, payloads_in, shapes}
+use Rattle.wrapper_meaning.specs.Shape.Shape.{cases}
+use Rattle.wrapper_meaning.specs.Shape.Shapes.{more}
+use Rattle.wrapper_meaning.specs.Value.{Case, case_number}
+use Rattle.wrapper_meaning.specs.Words.{AreWords}
+use Rattle.abi_driver.specs.declared.instruction.Instruction.TheVariants.{EnumLift, EnumLower}
+use Rattle.abi_driver.specs.Account.{Account, Got, Peer, addresses, releasing, stay}
+use Rattle.abi_driver.specs.Cases.{LiftsEnum, LowersEnum, case_shapes, payloads_of, payloads_or, reading_tag, tag_of}
+use Rattle.abi_driver.specs.HasList.{IsKindOf}
+use Rattle.abi_driver.specs.Instructions.{Emits}
+use Rattle.abi_driver.specs.Laws.{Adds, After, At, Does, Facts, Sound, core_data, ofs}
+use Rattle.abi_driver.specs.Leaves.{way}
+use Rattle.abi_driver.specs.Lifts.{LiftsFlat, OneStands, took}
+use Rattle.abi_driver.specs.Loads.{Gets, LiftsFromMemory}
+use Rattle.abi_driver.specs.Lowers.{LowersFlat}
+use Rattle.abi_driver.specs.Meaning.{Meaning, item, of, word}
+use Rattle.abi_driver.specs.NumberTouches.{tag_load, tag_store}
+use Rattle.abi_driver.specs.Parts.{count}
+use Rattle.abi_driver.specs.Places.{IsWritten}
+use Rattle.abi_driver.specs.Stores.{LowersToMemory}
+use Rattle.abi_driver.specs.Touches.{reached}
+use Rattle.abi_driver.proofs.BareCases.{bare_extent, bare_holds, bare_says, bare_settled, case_below, count_bare, no_slots, none_held, none_said, number_ranged, tag_grain_small, tag_is, tag_kept, tag_loaded, tree_count}
+use Rattle.abi_driver.proofs.Done.{does_done, lets_go}
+use Rattle.abi_driver.proofs.LiftSteps.{follows_done}
+use Rattle.abi_driver.proofs.NumberWords.{number_load_adds, number_loaded, number_store_adds, number_stored}
+use Rattle.abi_driver.proofs.Runs.{adds_both}
+use Rattle.abi_driver.proofs.Storing.{stored_in}
+use Rattle.abi_driver.proofs.TakingOver.{took_none}
+use Rattle.wrapper_meaning.proofs.PostReturn.{total-append}
+
+no_payloads : (types : List TypeDef) (members : List Member) → payloads_in (shapes types) (map (λ (c : Member). None) members) ≡ bare members
+no_payloads types [] = refl
+no_payloads types (c ∷ members) = ap (λ ts. more nothing ts) (no_payloads types members)
+
+pub enum_cases : (types : List TypeDef) (id : ℕ) (members : List Member) → IsKindOf types id (kind.Enum members) → case_shapes types id ≡ bare members
+enum_cases types id members is =
+    ap (λ e. payloads_in (shapes types) (payloads_or e)) is.stands ∙ ap (λ k. payloads_in (shapes types) (payloads_of k)) is.kind ∙ no_payloads types members
+
+module _ {Self Operand : Type 0} (m : Meaning Self Operand) (sound : Sound m) (types : List TypeDef) where
+  -- 1. Core words
+
+  module _ (realloc : Bool) where
+    enum_row : {A : Type 0} (members : List A) (a b : Self) (o : Operand) (os : List Operand) → Adds m a b → length os ≡ 1 → LowersEnum m (bare members) (o ∷ []) os a b → LowersFlat m realloc (cases (bare members)) o os a b
+    enum_row members a b o os adds one row = record {
+      adds = adds;
+      fits = one ∙ sym (ap (λ cs. suc (length cs)) (no_slots members));
+      row = λ heap v x own listed st.
+          let dir = way realloc heap in
+          let q = row dir v x own st in
+          let y = core.I32 (pos (case_number (bare members) v)) in
+          let says : Says m.width dir (cases (bare members)) v (y ∷ []) own =
+          ([], refl, subst (λ cs. AreWords m.width cs []) (sym (no_slots members)) refl, subst (CaseSays m.width dir (bare members) v []) (sym q.0) (bare_says m.width dir members v)) in
+          let P : List Block → Type 0 = λ own. Does m (Unit {0}) a b (of o (item x) ∷ []) (λ f. releasing (addresses own)) (λ u fs. fs ≡ ofs m os (word y ∷ [])) (λ u. []) (λ u. addresses own) in
+          (y ∷ [], sym one, says, subst P (sym q.0) q.1);
+    }
+
+    pub enum_lowers : (id : TypeId) (members : List Member) (a b : Self) (o : Operand) (os : List Operand) → IsKindOf types id.0 (kind.Enum members) → Emits m types (EnumLower id) (o ∷ []) os a b
+        → LowersFlat m realloc (cases (bare members)) o os a b
+    enum_lowers id members a b o os is e =
+        enum_row members a b o os e.adds e.results (subst (λ ts. LowersEnum m ts (o ∷ []) os a b) (enum_cases types id.0 members is) e.row)
+
+  reads_tag : {V : Type 0} (f : Form) (k n : ℕ) (z : ℤ) (acc : Account V) → n < k → tag_of k (core.I32 z) ≡ n → reading_tag f k (core.I32 z) acc ≡ stay acc
+  reads_tag f k n z acc l is = cond-true (nat_lt (tag_of k (core.I32 z)) k) _ _ (ap (λ t. nat_lt t k) is ∙ lt-ltb n k l)
+
+  -- a word of which the tag is the number of a case becomes an enum of that case
+  enum_made : {A : Type 0} (members : List A) (a b : Self) (o r : Operand) → LiftsEnum m (bare members) (o ∷ []) (r ∷ []) a b → (v : Case (bare members)) (own : List Block) (z : ℤ) → own ≡ []
+      → tag_of (count (bare members)) (core.I32 z) ≡ case_number (bare members) v → (w : m.World) (f : Peer m.Item) (others : Facts m) (s0 st : m.State) → At m w f a b (of o (word (core.I32 z)) ∷ others) s0 st
+      → Gets m (OneStands m (cases (bare members)) v own) own (r ∷ []) b w f others s0 st
+  enum_made members a b o r row v own z empty is w f others s0 st at =
+      let ts = bare members in
+      let k = count ts in
+      let x = core.I32 z in
+      let below : case_number ts v < k = subst (λ j. case_number ts v < j) (sym (count_bare members)) (case_below members v) in
+      let P : Got m.Item (Unit {0}) → m.State → Type 0 = λ y t. (outs : Facts m) × ((c : m.Item) × (outs ≡ ofs m (r ∷ []) (item c ∷ [])) × ((u : Case ts) → case_number ts u ≡ tag_of k x → m.stands take (cases ts) u c [])) × After m w b (outs ++ others) [] [] st y t in
+      let ran = follows_done m.account (reading_tag f.form k x (m.account st)) (m.does w f (m.code b) s0) P (record { result = tt; account = m.account st }) (reads_tag f.form k (case_number ts v) z (m.account st) below is) (row x w f others s0 st at) in
+      let t = ran.0 in
+      let made = ran.2.1 in
+      let after = ran.2.2 in
+      let stands : m.stands take (cases ts) v made.0 [] = made.2 v (sym is) in (
+        t,
+        made.0 ∷ [],
+        ran.1,
+        (made.0, refl, subst (m.stands take (cases ts) (settled (cases ts) v) made.0) (sym empty) (subst (λ u. m.stands take (cases ts) u made.0 []) (sym (bare_settled members v)) stands)),
+        record {
+          account = after.account ∙ sym (ap (λ bs. took bs (m.account st)) empty ∙ took_none (m.account st));
+          owns = λ g. after.owns g ∙ sym (ap (λ bs. total g (m.owns st ++ addresses bs)) empty);
+          denotes = subst (λ fs. m.denotes w b (fs ++ others) t) made.1 after.denotes;
+        },
+      )
+
+  enum_lifts_row : {A : Type 0} (members : List A) (a b : Self) (o r : Operand) → length members ≤ 2 ^ 31 → Adds m a b → LiftsEnum m (bare members) (o ∷ []) (r ∷ []) a b → LiftsFlat m (cases (bare members)) (o ∷ []) r a b
+  enum_lifts_row members a b o r most adds row = record {
+    adds = adds;
+    fits = sym (ap (λ cs. suc (length cs)) (no_slots members));
+    row = λ v ws own listed says w f others s0 st at may.
+        let ts = bare members in
+        let n = case_number ts v in
+        let many : count ts ≡ length members = count_bare members in
+        let below : n < count ts = subst (λ j. n < j) (sym many) (case_below members v) in
+        let bound : count ts ≤ 2 ^ 31 = subst (λ j. j ≤ 2 ^ 31) (sym many) most in
+        let alone : says.0 ≡ [] = subst (λ cs. AreWords m.width cs says.0) (no_slots members) says.2 in
+        let is_word : ws ≡ core.I32 (pos n) ∷ [] = says.1 ∙ ap (λ zs. core.I32 (pos n) ∷ zs) alone in
+        let at1 : At m w f a b (of o (word (core.I32 (pos n))) ∷ others) s0 st = record { serves = at.serves; done = at.done; holds = subst (λ zs. m.denotes w a (ofs m (o ∷ []) (core_data m zs) ++ others) st) is_word at.holds } in
+        let made = enum_made members a b o r row v own (pos n) (none_said m.width take members v says.0 own says.3) (tag_is (count ts) n below bound) w f others s0 st at1 in
+        (made.0, made.2, made.1, made.3, made.4);
+  }
+
+  pub enum_lifts : (id : TypeId) (members : List Member) (a b : Self) (o r : Operand) → IsKindOf types id.0 (kind.Enum members) → length members ≤ 2 ^ 31 → Emits m types (EnumLift id) (o ∷ []) (r ∷ []) a b
+      → LiftsFlat m (cases (bare members)) (o ∷ []) r a b
+  enum_lifts id members a b o r is most e =
+      enum_lifts_row members a b o r most e.adds (subst (λ ts. LiftsEnum m ts (o ∷ []) (r ∷ []) a b) (enum_cases types id.0 members is) e.row)
+
+  -- 2. Memory
+
+  pub enum_stores : (realloc : Bool) (members : List Member) (a b c : Self) (o r address : Operand) (offset : ArchitectureSize) → length members ≤ 2 ^ 31 → LowersFlat m realloc (cases (bare members)) o (r ∷ []) a b
+      → Emits m types (tag_store (length members) offset) (r ∷ address ∷ []) [] b c → LowersToMemory m realloc (cases (bare members)) o address offset a c
+  enum_stores realloc members a b c o r address offset most flat e = record {
+    adds = adds_both m a b c flat.adds (number_store_adds m sound types (discriminant_grain (length members)) offset (r ∷ address ∷ []) [] b c e);
+    row = λ heap v x own listed stands w f others s0 st q k blk left at room goes.
+        let g = discriminant_grain (length members) in
+        let acc = m.account st in
+        let dir = way realloc heap in
+        let n = case_number (bare members) v in
+        let extent = bare_extent m.width members in
+        let pointer : Facts m = of address (word (core.Pointer q)) ∷ [] in
+        let p = flat.row heap v x own listed stands in
+        let says = p.2 in
+        let empty : own ≡ [] = none_said m.width dir members v says.0 own says.3 in
+        let adds = number_store_adds m sound types g offset (r ∷ address ∷ []) [] b c e in
+        let at1 : At m w f a b ((of o (item x) ∷ []) ++ (pointer ++ others)) s0 st = record { serves = adds.grows.serves w at.serves; done = at.done; holds = at.holds } in
+        let one = does_done m (Unit {0}) a b (of o (item x) ∷ []) (λ f. releasing (addresses own)) (λ u fs. fs ≡ ofs m (r ∷ []) (core_data m p.0)) (λ u. []) (λ u. addresses own) p.3 w f (pointer ++ others) s0 st at1
+        (record { result = tt; account = record acc { taken = left } }) (lets_go (addresses own) left acc goes) in
+        let s1 = one.0 in
+        let after1 = one.2.2 in
+        let alone : says.0 ≡ [] = subst (λ cs. AreWords m.width cs says.0) (no_slots members) says.2 in
+        let is : one.2.0 ≡ of r (word (core.I32 (pos n))) ∷ [] = one.2.1 ∙ ap (λ ws. ofs m (r ∷ []) (core_data m ws)) (says.1 ∙ ap (λ zs. core.I32 (pos n) ∷ zs) alone) in
+        let at2 : At m w f b c (of r (word (core.I32 (pos n))) ∷ of address (word (core.Pointer q)) ∷ others) s0 s1 =
+        record { serves = at.serves; done = one.1; holds = subst (λ fs. m.denotes w b (fs ++ (pointer ++ others)) s1) is after1.denotes } in
+        let same : m.account s1 ≡ record acc { taken = left } = after1.account in
+        let below = case_below members v in
+        let put = number_stored m sound types g offset r address b c (tag_grain_small (length members)) e (core.I32 (pos n)) (number_ranged n (omega (arith, below, most))) w f others s0 s1 q k blk at2
+        (ap (λ (t : Account m.Item). is_heap t.heap) same ∙ room.formed) (subst (λ (t : Account m.Item). Contains t.heap.blocks blk) (sym same) room.there) room.starts
+        (omega (arith, room.fits, ap (λ e. e.bytes) extent)) (subst (λ j. reached m q offset % 2 ^ j ≡ 0) (ap (λ e. e.grain) extent) room.aligned) in
+        let after2 = put.5 in (
+          put.0,
+          put.1,
+          put.2,
+          record {
+            written = subst (λ j. IsWritten k j blk put.1) (sym (ap (λ e. e.bytes) extent)) put.3;
+            holds = (
+              subst (λ j. HasNumber put.1 k (2 ^ discriminant_grain j) n) (sym (tree_count members)) (subst (λ j. HasNumber put.1 k (2 ^ g) j) (tag_kept (length members) n below most) put.4),
+              subst (CaseHolds m.width dir (bare members) v put.1 _) (sym empty) (bare_holds m.width dir members v put.1 _),
+            );
+          },
+          record {
+            account = after2.account ∙ ap (stored_in put.1) same;
+            owns = λ g. omega (arith, after1.owns g, after2.owns g, total-append g (m.owns put.0) (addresses own), total-append g (m.owns put.0) [], total-append g (m.owns s1) (addresses own), total-append g (m.owns s1) [], total-append g (m.owns st) []);
+            denotes = after2.denotes;
+          },
+        );
+  }
+
+  pub enum_loads : (members : List Member) (a b c : Self) (address x r : Operand) (offset : ArchitectureSize) → Emits m types (tag_load (length members) offset) (address ∷ []) (x ∷ []) a b → Adds m b c
+      → LiftsEnum m (bare members) (x ∷ []) (r ∷ []) b c → LiftsFromMemory m (cases (bare members)) address offset r a c
+  enum_loads members a b c address x r offset e adds row = record {
+    adds = adds_both m a b c (number_load_adds m sound types (discriminant_grain (length members)) offset (address ∷ []) (x ∷ []) a b e) adds;
+    row = λ v own listed w f others s0 st q k blk at room holds may.
+        let g = discriminant_grain (length members) in
+        let ts = bare members in
+        let n = case_number ts v in
+        let extent = bare_extent m.width members in
+        let has : HasNumber blk k (2 ^ g) n = subst (λ j. HasNumber blk k (2 ^ discriminant_grain j) n) (tree_count members) holds.0 in
+        let at1 : At m w f a b (of address (word (core.Pointer q)) ∷ others) s0 st = record { serves = adds.grows.serves w at.serves; done = at.done; holds = at.holds } in
+        let one = number_loaded m sound types g offset address x a b (tag_grain_small (length members)) e w f others s0 st q k n blk at1 room.formed room.there room.starts
+        (omega (arith, room.fits, ap (λ e. e.bytes) extent)) (subst (λ j. reached m q offset % 2 ^ j ≡ 0) (ap (λ e. e.grain) extent) room.aligned) has in
+        let s1 = one.0 in
+        let after1 = one.2 in
+        let at2 : At m w f b c (of x (word (core.I32 (cast_signed w32 (n % 2 ^ 32)))) ∷ others) s0 s1 = record { serves = at.serves; done = one.1; holds = after1.denotes } in
+        let is : tag_of (count ts) (core.I32 (cast_signed w32 (n % 2 ^ 32))) ≡ n = ap (λ j. tag_of j (core.I32 (cast_signed w32 (n % 2 ^ 32)))) (count_bare members) ∙ tag_loaded (length members) n has.0 in
+        let two = enum_made members b c x r row v own (cast_signed w32 (n % 2 ^ 32)) (none_held m.width take members v blk _ own holds.1) is w f others s0 s1 at2 in
+        let after2 = two.4 in (
+          two.0,
+          two.1,
+          two.2,
+          two.3,
+          record {
+            account = after2.account ∙ ap (took own) after1.account;
+            owns = λ g. omega (arith, after1.owns g, after2.owns g, total-append g (m.owns two.0) [], total-append g (m.owns s1) [], total-append g (m.owns st) [], total-append g (m.owns s1) (addresses own), total-append g (m.owns st) (addresses own));
+            denotes = after2.denotes;
+          },
+        );
+  }

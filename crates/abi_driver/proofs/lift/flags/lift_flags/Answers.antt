@@ -1,0 +1,36 @@
+use Rattle.std.proofs.Common.{◌≡◌, ◌≤◌, ◌+◌, ◌-◌, List, [], ◌∷◌, ◌++◌, length, take, drop, refl, sym, ap, ◌∙◌, subst, arith, length-drop}
+use Rattle.std.proofs.lemmas.List.{drop-drop, length-take-le, take-append-drop}
+use Rattle.wit_layout.specs.Extent.{flag_words}
+use Rattle.abi_driver.specs.Instructions.{Emits}
+use Rattle.abi_driver.specs.declared.instruction.Instruction.TheVariants.{FlagsLift}
+use Rattle.abi_driver.proofs.FlagSteps.{flags_lifts}
+use Rattle.abi_driver.proofs.FlatCode.{lift_flags_code}
+use Rattle.abi_driver.proofs.LiftSteps.{lifts_as}
+use Rattle.abi_driver.proofs.Records.{flags_shape}
+use Rattle.abi_driver.proofs.SendSteps.{sends_as, sends_one}
+use Rattle.abi_driver.proofs.lift.flags.lift_flags.Goals as goal
+
+pub returns : goal.returns
+returns g c =
+    let m = g.B.Bindgen.meaning in
+    let types = c.args.resolve.now.types in
+    let here = c.requires.here in
+    let members = c.args.members.now in
+    let words = c.args.words.now in
+    let at = c.args.at in
+    let count = c.flag_words-count.result in
+    let n = at + count - at in
+    let same : n ≡ count = omega arith in
+    let used = take n (drop at words) in
+    let is = c.from_vec-used.ensures ∙ c.in_ok-push_copies.ensures ∙ ap (λ (os : List g.row.B-Operand.Denot). os ++ used) c.new-used.ensures.items in
+    let e = subst (λ (os : List g.row.B-Operand.Denot). Emits m types (FlagsLift c.args.id) os (c.in_ok-operand.operand ∷ []) c.args.bindgen.now c.send_one.new.bindgen) is c.in_ok-operand.ensures in
+    let many : count ≡ flag_words (length members) = c.flag_words-count.ensures ∙ ap flag_words c.len.ensures in
+    let room : n ≤ length (drop at words) = omega (arith, same, c.if-at-words.false, c.if-words-count.false, length-drop at words) in
+    let len : length used ≡ flag_words (length members) = length-take-le n (drop at words) room ∙ same ∙ many in
+    let split : drop at words ≡ used ++ drop (at + count) words =
+    sym (take-append-drop n (drop at words)) ∙ ap (λ os. used ++ os) (drop-drop n at words ∙ ap (λ k. drop k words) (omega (arith, same))) in
+    let shape = flags_shape types c.requires.down c.args.id.0 here.entry here.stands members here.kind in
+    record {
+      lifts = lifts_as m g.met.B.Bindgen.sound types _ _ _ _ words at _ _ shape (used, split, flags_lifts m g.met.B.Bindgen.sound types c.args.id (length members) _ _ used c.in_ok-operand.operand (members, here, refl) len e);
+      sends = sends_as m types _ _ _ _ (lift_flags_code types c.requires.down c.args.id here.entry here.stands members here.kind) (sends_one m types (FlagsLift c.args.id) _ _ _ _ e);
+    }

@@ -1,0 +1,78 @@
+use Rattle.std.proofs.Common.{◌≡◌, ℕ, ◌+◌, List, [], ◌∷◌, ◌++◌, length, refl, sym, ap, ap₂, ◌∙◌, subst, arith}
+use Rattle.std.proofs.lemmas.List.{length-append}
+use Rattle.wit_layout.specs.Extent.{flag_words, flags_extent}
+use Rattle.wit_layout.specs.Flat.{words_of_flags}
+use Rattle.abi_driver.specs.FlagSets.{AreFlags}
+use Rattle.abi_driver.specs.Instructions.{Emits}
+use Rattle.abi_driver.specs.NumberTouches.{flags_load, number_load}
+use Rattle.abi_driver.specs.Sent.{Sent, sends}
+use Rattle.abi_driver.specs.declared.instruction.Instruction.{Instruction}
+use Rattle.abi_driver.specs.declared.instruction.Instruction.TheVariants.{FlagsLift}
+use Rattle.abi_driver.proofs.FlagSteps.{each_alike, flags_grain_small, flags_loads, length_words, one_count, place_of}
+use Rattle.abi_driver.proofs.LoadSteps.{loads_as}
+use Rattle.abi_driver.proofs.MemoryCode.{load_flags_code}
+use Rattle.abi_driver.proofs.NumberWords.{LoadedOn, loaded_more, loaded_sends}
+use Rattle.abi_driver.proofs.Records.{flags_shape}
+use Rattle.abi_driver.proofs.SendSteps.{sends_as, sends_both, sends_one}
+use Rattle.abi_driver.proofs.memory.flags.load_flags.Goals as goal
+
+pub loop-nth-init : goal.loop-nth-init
+loop-nth-init g c =
+    let m = g.B.Bindgen.meaning in
+    let P : List g.row.B-Operand.Denot → Type 0 = λ os. LoadedOn m c.args.resolve.now.types (flags_extent (length c.args.members.now)).grain (place_of c.args.offset) c.args.address.now 0 os c.args.bindgen.now c.args.bindgen.now in
+    record { count = ap length c.new-words.ensures; loaded = subst P (sym c.new-words.ensures) refl }
+
+pub loop-nth-preserved : goal.loop-nth-preserved
+loop-nth-preserved g c =
+    let m = g.B.Bindgen.meaning in
+    let types = c.args.resolve.now.types in
+    let words = c.loop-nth.words in
+    let nth = c.loop-nth.nth in
+    let word = c.in_ok-word.word in
+    let address = c.args.address.now in
+    let grain = (flags_extent (length c.args.members.now)).grain in
+    let place = place_of c.args.offset in
+    let is = c.number_load-load.ensures ∙ ap₂ number_load (c.flags_grain-grain.ensures ∙ ap (λ n. (flags_extent n).grain) c.len-flags.ensures) c.in_ok-place.ensures in
+    let one = subst (λ (i : Instruction). Emits m types i (address ∷ []) (word ∷ []) c.loop-nth.bindgen c.load_word.new.bindgen) is c.in_ok-word.ensures in
+    let P : List g.row.B-Operand.Denot → Type 0 = λ os. LoadedOn m types grain place address 0 os c.args.bindgen.now c.load_word.new.bindgen in
+    let more = loaded_more m g.met.B.Bindgen.sound types grain (flags_grain_small (length c.args.members.now)) place address 0 words word nth _ _ _ c.loop-nth.invariant.loaded (omega (arith, c.loop-nth.invariant.count)) one in
+    record {
+      count = ap length c.in_ok-push.ensures.ok ∙ length-append words (word ∷ []) ∙ ap (λ n. n + 1) c.loop-nth.invariant.count;
+      loaded = subst P (sym c.in_ok-push.ensures.ok) more;
+    }
+
+pub send_one-requires-clause-ready : goal.send_one-requires-clause-ready
+send_one-requires-clause-ready g c =
+    let types = c.args.resolve.now.types in
+    let members = c.args.members.now in
+    let are : AreFlags types c.args.id.0 (length members) = (members, c.requires.here, refl) in
+    let done : c.loop-nth.nth ≡ c.flag_words-count.result = omega (arith, c.loop-nth-test.false, c.loop-nth.auto.nth-end) in
+    let many = c.loop-nth.invariant.count ∙ done ∙ c.flag_words-count.ensures ∙ ap flag_words c.len-flags.ensures ∙ sym (length_words (length members)) in
+    record { operands = λ n other. many ∙ ap (λ k. length (words_of_flags k)) (one_count types c.args.id.0 (length members) n are other); suits = (length members, are) }
+
+pub returns : goal.returns
+returns g c =
+    let m = g.B.Bindgen.meaning in
+    let sound = g.met.B.Bindgen.sound in
+    let types = c.args.resolve.now.types in
+    let here = c.requires.here in
+    let members = c.args.members.now in
+    let n = length members in
+    let grain = (flags_extent n).grain in
+    let place = place_of c.args.offset in
+    let address = c.args.address.now in
+    let words = c.loop-nth.words in
+    let operand = c.in_ok-operand.operand in
+    let e = c.in_ok-operand.ensures in
+    let loaded = c.loop-nth.invariant.loaded in
+    let are : AreFlags types c.args.id.0 n = (members, here, refl) in
+    let done : c.loop-nth.nth ≡ c.flag_words-count.result = omega (arith, c.loop-nth-test.false, c.loop-nth.auto.nth-end) in
+    let many : length words ≡ flag_words n = c.loop-nth.invariant.count ∙ done ∙ c.flag_words-count.ensures ∙ ap flag_words c.len-flags.ensures in
+    let shape = flags_shape types c.requires.down c.args.id.0 here.entry here.stands members here.kind in
+    let step : ℕ → List Sent = λ j. sends (flags_load n (place j)) ∷ [] in
+    let alike = each_alike step 0 (words_of_flags n) words (length_words n ∙ sym many) in
+    let steps = sends_both m types _ _ _ _ _ (loaded_sends m sound types grain (flags_grain_small n) place address 0 words _ _ loaded) (sends_one m types (FlagsLift c.args.id) _ _ _ _ e) in
+    record {
+      loads = loads_as m sound types _ _ _ _ address operand c.args.offset shape (flags_loads m sound types n _ _ _ address operand words c.args.offset many loaded e.adds (e.row n are));
+      sends = sends_as m types _ _ _ _ (load_flags_code types c.requires.down c.args.id here.entry here.stands c.args.offset members here.kind ∙ ap (λ steps. steps ++ sends (FlagsLift c.args.id) ∷ []) alike) steps;
+    }

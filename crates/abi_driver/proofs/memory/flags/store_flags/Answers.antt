@@ -1,0 +1,79 @@
+use Rattle.std.proofs.Common.{◌≡◌, ℕ, suc, ◌<◌, ◌+◌, ◌-◌, List, [], ◌∷◌, length, drop, reverse, refl, sym, ap, ap₂, ◌∙◌, subst, arith}
+use Rattle.std.proofs.lemmas.List.{drop_all}
+use Rattle.wit_layout.specs.Extent.{flags_extent}
+use Rattle.wit_layout.specs.Flat.{words_of_flags}
+use Rattle.abi_driver.specs.FlagSets.{AreFlags}
+use Rattle.abi_driver.specs.Instructions.{Emits}
+use Rattle.abi_driver.specs.NumberTouches.{flags_store, number_store}
+use Rattle.abi_driver.specs.Sent.{Sent, sends}
+use Rattle.abi_driver.specs.declared.instruction.Instruction.{Instruction}
+use Rattle.abi_driver.specs.declared.instruction.Instruction.TheVariants.{FlagsLower}
+use Rattle.abi_driver.proofs.FlagSteps.{each_alike, flags_grain_small, flags_lowers, flags_stores, place_of}
+use Rattle.abi_driver.proofs.MemoryCode.{store_flags_code}
+use Rattle.abi_driver.proofs.NumberWords.{StoredBack, stored_sends}
+use Rattle.abi_driver.proofs.Records.{drop-same, flags_shape}
+use Rattle.abi_driver.proofs.SendSteps.{sends_as, sends_then}
+use Rattle.abi_driver.proofs.StoreSteps.{stores_as}
+use Rattle.abi_driver.proofs.memory.flags.store_flags.Goals as goal
+
+pub loop-behind-init : goal.loop-behind-init
+loop-behind-init g c =
+    let m = g.B.Bindgen.meaning in
+    let words = c.as_slice-words.result.now in
+    let n = length words - 0 in
+    let P : List g.row.B-Operand.Denot → Type 0 = λ os. StoredBack m c.args.resolve.now.types (flags_extent (length c.args.members.now)).grain (place_of c.args.offset) c.args.address.now n os c.lower_by.new.bindgen c.lower_by.new.bindgen in
+    subst P (sym (drop_all n words (omega arith))) refl
+
+pub loop-behind-preserved : goal.loop-behind-preserved
+loop-behind-preserved g c =
+    let m = g.B.Bindgen.meaning in
+    let types = c.args.resolve.now.types in
+    let words = c.as_slice-words.result.now in
+    let count = length words in
+    let behind = c.loop-behind.behind in
+    let nth = count - 1 - behind in
+    let grain = (flags_extent (length c.args.members.now)).grain in
+    let place = place_of c.args.offset in
+    let address = c.args.address.now in
+    let word = c.in_ok-word.word in
+    let room : behind < count = omega (arith, c.loop-behind-test.true) in
+    let short : nth < count = omega (arith, room) in
+    let Stored : ℕ → List g.row.B-Operand.Denot → g.row.B.Denot → Type 0 = λ j os b. StoredBack m types grain place address j os c.lower_by.new.bindgen b in
+    let left : count - behind ≡ suc nth = omega (arith, room) in
+    let fewer : nth ≡ count - (behind + 1) = omega (arith, room) in
+    let later : Stored (suc nth) (drop (suc nth) words) c.loop-behind.bindgen = subst (λ j. Stored j (drop j words) c.loop-behind.bindgen) left c.loop-behind.invariant in
+    let is = c.number_store-store.ensures ∙ ap₂ number_store (c.flags_grain-grain.ensures ∙ ap (λ n. (flags_extent n).grain) c.len.ensures) c.in_ok-place.ensures in
+    let one = subst (λ (i : Instruction). Emits m types i (word ∷ address ∷ []) [] c.loop-behind.bindgen c.store_word.new.bindgen) is c.in_ok-store_word.ensures in
+    let next : nth + 1 ≡ suc nth = omega arith in
+    let split : drop nth words ≡ word ∷ drop (suc nth) words = drop-same words words nth word c.index-words-nth.result refl short c.index-words-nth.is c.in_ok-word.ensures ∙ ap (λ j. word ∷ drop j words) next in
+    let here : Stored nth (drop nth words) c.store_word.new.bindgen = subst (λ os. Stored nth os c.store_word.new.bindgen) (sym split) (c.loop-behind.bindgen, later, one) in
+    subst (λ j. Stored j (drop j words) c.store_word.new.bindgen) fewer here
+
+pub returns : goal.returns
+returns g c =
+    let m = g.B.Bindgen.meaning in
+    let sound = g.met.B.Bindgen.sound in
+    let types = c.args.resolve.now.types in
+    let here = c.requires.here in
+    let members = c.args.members.now in
+    let n = length members in
+    let grain = (flags_extent n).grain in
+    let place = place_of c.args.offset in
+    let address = c.args.address.now in
+    let read = c.as_slice-words.result.now in
+    let words = c.in_ok-words.words in
+    let made = c.in_ok-words.ensures in
+    let ended : length read - c.loop-behind.behind ≡ 0 = omega (arith, c.loop-behind-test.false) in
+    let all = subst (λ j. StoredBack m types grain place address j (drop j read) c.lower_by.new.bindgen c.loop-behind.bindgen) ended c.loop-behind.invariant in
+    let stored = subst (λ (os : List g.row.B-Operand.Denot). StoredBack m types grain place address 0 os c.lower_by.new.bindgen c.loop-behind.bindgen) c.as_slice-words.ensures all in
+    let are : AreFlags types c.args.id.0 n = (members, here, refl) in
+    let many : length (words_of_flags n) ≡ length words = sym (made.results n are) in
+    let shape = flags_shape types c.requires.down c.args.id.0 here.entry here.stands members here.kind in
+    let step : ℕ → List Sent = λ j. sends (flags_store n (place j)) ∷ [] in
+    let steps = sends_then m types (FlagsLower c.args.id) (c.args.value ∷ []) words _ _ _ _ made (stored_sends m sound types grain (flags_grain_small n) place address 0 words _ _ stored) in
+    record {
+      stores = λ realloc. stores_as m sound types realloc _ _ _ _ c.args.value address c.args.offset shape
+          (flags_stores m sound types realloc n _ _ _ c.args.value address words c.args.offset (flags_lowers m sound types realloc c.args.id n _ _ c.args.value words are made) stored);
+      sends = λ realloc. sends_as m types _ _ _ _
+          (store_flags_code types c.requires.down c.args.id here.entry here.stands c.args.offset realloc members here.kind ∙ ap (λ steps. sends (FlagsLower c.args.id) ∷ reverse steps) (each_alike step 0 (words_of_flags n) words many)) steps;
+    }

@@ -1,0 +1,49 @@
+//! A tag becomes a value of an enum.
+
+ghost use Rattle.std.specs.Prelude.{◌≡◌, ◌++◌, List, drop, IfOk, OnOk};
+ghost use Rattle.wit_model.specs.TypeOrder.{GoesDown};
+ghost use Rattle.wit_model.specs.declared.types.TypeDefKind.TheVariants as kind;
+ghost use Rattle.wit_model.specs.declared.types.WitType.TheVariants.{Id};
+ghost use Rattle.wrapper_meaning.specs.Shape.{shape_at};
+ghost use Rattle.abi_driver.specs.Code.{lift_code};
+ghost use Rattle.abi_driver.specs.HasList.{IsKindOf};
+ghost use Rattle.abi_driver.specs.Lifts.{LiftsFlat};
+ghost use Rattle.abi_driver.specs.Sends.{Sends};
+
+use crate::bindgen::{Bindgen, Operand};
+use crate::instruction::Instruction;
+use crate::lift::Lifted;
+use crate::send::{only, send_one};
+use std::alloc::Global;
+use wit_model::{List, Member, OutOfMemory, Resolve, TypeId};
+
+/// So many cases at most have numbers that a word of 32 bits keeps, whose highest bit is its sign.
+pub(crate) const MOST_CASES: usize = 0x8000_0000;
+
+/// The value of an enum that the tag at a place represents.
+pub(crate) fn lift_enum<B: Bindgen>(
+    alloc: Global,
+    resolve: &Resolve,
+    bindgen: &mut B,
+    words: &[B::Operand],
+    at: usize,
+    id: TypeId,
+    members: &List<Member>,
+) -> Result<Lifted<B::Operand>, OutOfMemory>
+    requires down { GoesDown resolve.now.types }
+    requires here { IsKindOf resolve.now.types id.0 (kind.Enum members.now) }
+    ensures lifts { IfOk result (λ r. (used : List B.Operand) × (drop at words.now ≡ used ++ drop r.next words.now)
+        × LiftsFlat B.meaning (shape_at resolve.now.types id.0) used r.operand bindgen.old bindgen.new) }
+    ensures sends { OnOk result (Sends B.meaning resolve.now.types (lift_code resolve.now.types (Id id)) bindgen.old bindgen.new) }
+{
+    if at >= words.len() || members.len() > MOST_CASES {
+        return Err(OutOfMemory);
+    }
+    let tag = words[at].copy(alloc)?;
+    let operands = only(alloc, tag)?;
+    let operand = send_one(alloc, resolve, bindgen, Instruction::EnumLift(id), operands)?;
+    Ok(Lifted {
+        operand,
+        next: at + 1,
+    })
+}

@@ -1,0 +1,86 @@
+//! Enums are put into memory, and read from it.
+
+ghost use Rattle.std.specs.Prelude.{◌≡◌, Bool, IfOk, OnOk};
+ghost use Rattle.wit_model.specs.TypeOrder.{GoesDown};
+ghost use Rattle.wit_model.specs.declared.types.TypeDefKind.TheVariants as kind;
+ghost use Rattle.wit_model.specs.declared.types.WitType.TheVariants.{Id};
+ghost use Rattle.wit_layout.specs.Extent.{discriminant_grain};
+ghost use Rattle.wrapper_meaning.specs.Shape.{shape_at};
+ghost use Rattle.abi_driver.specs.Code.{load_code, store_code};
+ghost use Rattle.abi_driver.specs.HasList.{IsKindOf};
+ghost use Rattle.abi_driver.specs.Loads.{LiftsFromMemory};
+ghost use Rattle.abi_driver.specs.Sends.{Sends};
+ghost use Rattle.abi_driver.specs.Stores.{LowersToMemory};
+
+use crate::bindgen::{Bindgen, Operand};
+use crate::instruction::Instruction;
+use crate::lift::enums::MOST_CASES;
+use crate::lower::leaf::lower_by;
+use crate::memory::number::{number_load, number_store};
+use crate::memory::word::{load_word, store_word};
+use crate::send::{only, send_one};
+use std::alloc::Global;
+use wit_model::{ArchitectureSize, List, Member, OutOfMemory, Resolve, TypeId};
+
+/// How many bytes the tag of one of so many cases has, as an exponent of 2.
+fn tag_grain(cases: usize) -> u32
+    ensures { result ≡ discriminant_grain cases }
+{
+    if cases <= 256 {
+        0
+    } else if cases <= 65536 {
+        1
+    } else {
+        2
+    }
+}
+
+/// A value of an enum becomes the number of its case, which is stored.
+pub(super) fn store_enum<B: Bindgen>(
+    alloc: Global,
+    resolve: &Resolve,
+    bindgen: &mut B,
+    address: &B::Operand,
+    offset: ArchitectureSize,
+    value: B::Operand,
+    id: TypeId,
+    members: &List<Member>,
+) -> Result<(), OutOfMemory>
+    requires down { GoesDown resolve.now.types }
+    requires here { IsKindOf resolve.now.types id.0 (kind.Enum members.now) }
+    ensures stores { (realloc : Bool) → OnOk result (LowersToMemory B.meaning realloc (shape_at resolve.now.types id.0) value address.now offset bindgen.old bindgen.new) }
+    ensures sends { (realloc : Bool) → OnOk result (Sends B.meaning resolve.now.types (store_code resolve.now.types realloc (Id id) offset) bindgen.old bindgen.new) }
+{
+    let cases = members.len();
+    if cases > MOST_CASES {
+        return Err(OutOfMemory);
+    }
+    let store = number_store(tag_grain(cases), offset);
+    let words = lower_by(alloc, resolve, bindgen, value, Instruction::EnumLower(id))?;
+    let tag = words.as_slice()[0].copy(alloc)?;
+    store_word(alloc, resolve, bindgen, tag, address, store)?;
+    Ok(())
+}
+
+/// A tag is loaded, and becomes a value of an enum.
+pub(super) fn load_enum<B: Bindgen>(
+    alloc: Global,
+    resolve: &Resolve,
+    bindgen: &mut B,
+    address: &B::Operand,
+    offset: ArchitectureSize,
+    id: TypeId,
+    members: &List<Member>,
+) -> Result<B::Operand, OutOfMemory>
+    requires down { GoesDown resolve.now.types }
+    requires here { IsKindOf resolve.now.types id.0 (kind.Enum members.now) }
+    ensures loads { IfOk result (λ r. LiftsFromMemory B.meaning (shape_at resolve.now.types id.0) address.now offset r bindgen.old bindgen.new) }
+    ensures sends { OnOk result (Sends B.meaning resolve.now.types (load_code resolve.now.types (Id id) offset) bindgen.old bindgen.new) }
+{
+    let cases = members.len();
+    let load = number_load(tag_grain(cases), offset);
+    let tag = load_word(alloc, resolve, bindgen, address, load)?;
+    let operands = only(alloc, tag)?;
+    let operand = send_one(alloc, resolve, bindgen, Instruction::EnumLift(id), operands)?;
+    Ok(operand)
+}

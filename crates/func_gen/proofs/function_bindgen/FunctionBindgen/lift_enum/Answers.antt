@@ -1,0 +1,19 @@
+use Rattle.std.proofs.Common.{[], ◌∷◌, refl, ap, ◌∙◌, subst}
+use Rattle.rust_tree.specs.declared.expr.Expr.TheVariants as expr
+use Rattle.rust_tree.specs.declared.stmt.Stmt.TheVariants as stmt
+use Rattle.abi_driver.specs.declared.instruction.Instruction.TheVariants as instruction
+use Rattle.func_gen.specs.Added.{Appends}
+use Rattle.func_gen.proofs.EnumRows.{case_row}
+use Rattle.func_gen.proofs.Rows.{emits_as, pushed}
+use Rattle.func_gen.proofs.function_bindgen.FunctionBindgen.lift_enum.Goals as goal
+
+pub returns : goal.returns
+returns c =
+    let types = c.args.resolve.now.types in
+    let e = c.in_ok-e.e in
+    let n = c.in_ok-name.name in
+    let k = c.in_ok-case.ensures in
+    let same = k.is ∙ ap (λ path. expr.Call path (expr.Cast e k.to ∷ [])) k.by.is in
+    emits_as types (instruction.EnumLift c.args.id) _ _ _ _ _ _ c.in_ok-e.ensures.only (pushed c.args.results.now _ _ (expr.Local n) c.in_ok-push.ensures.ok c.requires.empty refl)
+    (case_row types c.args.self.now _ n c.args.id e k.site k.is_site k.by.name k.by.root k.by.typed k.to k.cast c.in_ok-e.ensures.operand c.in_ok-name.ensures.fresh
+    (subst (λ x. Appends c.args.self.now c.add_let.new.self (stmt.Let n x ∷ []) []) same c.in_ok-name.ensures.adds) c.in_ok-name.ensures.takes)

@@ -1,0 +1,8 @@
+use Rattle.type_sites.proofs.SitesDefined.{sites-are-defined, sites-can-be-defined}
+use Rattle.type_sites.proofs.laws.site_law.Goals as goal
+
+pub returns-clause-defined : goal.returns-clause-defined
+returns-clause-defined c = sites-are-defined
+
+pub returns-clause-can_be : goal.returns-clause-can_be
+returns-clause-can_be c = sites-can-be-defined
