@@ -26,6 +26,7 @@ WORLDS = {
     "numbers": None,
     "texts": "greeter",
     "people": "people",
+    "doors": "doors",
     "shapes": "t:shapes/drawing",
     "versions": "my:tool/tool",
     "inline": "window",

@@ -20,6 +20,7 @@ use Rattle.wrapper_meaning.specs.Shape.{bare}
 use Rattle.wrapper_meaning.specs.Shape.Shape.{cases}
 use Rattle.wrapper_meaning.specs.Value.{Case, case_number}
 use Rattle.abi_driver.specs.Parts.{count as shape_count}
+use Rattle.abi_driver.proofs.ScalarsInMemory.{low_of_nat}
 
 -- 1. How many bytes a tag has
 
@@ -117,14 +118,11 @@ low_8 n l = grind (arith, ints)
 low_16 : (n : ℕ) → n < 65536 → low_bits 16 (pos n) ≡ n
 low_16 n l = grind (arith, ints)
 
-low_32 : (n : ℕ) → n < 2 ^ 32 → low_bits 32 (pos n) ≡ n
-low_32 n l = grind (arith, ints)
-
 -- so many cases have numbers of so many bits
 tag_bits : (k n : ℕ) (a b : Bool) → nat_le k 256 ≡ a → nat_le k 65536 ≡ b → n < k → k ≤ 2 ^ 31 → low_bits (8 * 2 ^ (if a then 0 else (if b then 1 else 2))) (pos n) ≡ n
 tag_bits k n true b small few l most = let h = leb-true k 256 small in low_8 n (omega (arith, h, l))
 tag_bits k n false true small few l most = let h = leb-true k 65536 few in low_16 n (omega (arith, h, l))
-tag_bits k n false false small few l most = low_32 n (omega (arith, l, most))
+tag_bits k n false false small few l most = low_of_nat n (omega (arith, l, most))
 
 pub tag_is : (k n : ℕ) → n < k → k ≤ 2 ^ 31 → low_bits (8 * 2 ^ discriminant_grain k) (pos n) ≡ n
 tag_is k n l most = tag_bits k n (nat_le k 256) (nat_le k 65536) refl refl l most
@@ -135,9 +133,9 @@ number_ranged n l = grind (arith, ints)
 -- a word keeps a number of so many bytes
 
 kept : (k n : ℕ) (a b : Bool) → nat_le k 256 ≡ a → nat_le k 65536 ≡ b → n < k → k ≤ 2 ^ 31 → low_bits 32 (pos n) % 256 ^ (2 ^ (if a then 0 else (if b then 1 else 2))) ≡ n
-kept k n true b small few l most = let h = leb-true k 256 small in let same = low_32 n (omega (arith, l, most)) in omega (arith, same, h, l)
-kept k n false true small few l most = let h = leb-true k 65536 few in let same = low_32 n (omega (arith, l, most)) in omega (arith, same, h, l)
-kept k n false false small few l most = let same = low_32 n (omega (arith, l, most)) in omega (arith, same, l, most)
+kept k n true b small few l most = let h = leb-true k 256 small in let same = low_of_nat n (omega (arith, l, most)) in omega (arith, same, h, l)
+kept k n false true small few l most = let h = leb-true k 65536 few in let same = low_of_nat n (omega (arith, l, most)) in omega (arith, same, h, l)
+kept k n false false small few l most = let same = low_of_nat n (omega (arith, l, most)) in omega (arith, same, l, most)
 
 pub tag_kept : (k n : ℕ) → n < k → k ≤ 2 ^ 31 → low_bits 32 (pos n) % 256 ^ (2 ^ discriminant_grain k) ≡ n
 tag_kept k n l most = kept k n (nat_le k 256) (nat_le k 65536) refl refl l most

@@ -1,17 +1,10 @@
 -- A block whose code makes no call makes none; and where it is closed, the code from before it is there again.
 use Rattle.std.proofs.Common.{◌≡◌, List, [], ◌∷◌, sym, ap, ◌∙◌}
+use Rattle.wrapper_meaning.proofs.Lists.{first_or, later}
 use Rattle.abi_driver.specs.Account.{Account, account_in}
 use Rattle.abi_driver.specs.Blocks.{Finishes, IsQuiet, Pushes}
 use Rattle.abi_driver.specs.Laws.{Adds, Sound}
 use Rattle.abi_driver.specs.Meaning.{Meaning}
-
-abbrev first_or : {A : Type 0} → A → List A → A
-first_or x [] = x
-first_or x (y ∷ ys) = y
-
-abbrev behind_first : {A : Type 0} → List A → List A
-behind_first [] = []
-behind_first (y ∷ ys) = ys
 
 module _ {Self Operand : Type 0} (m : Meaning Self Operand) (sound : Sound m) (a b c d : Self) (os : List Operand) (opens : Pushes m a b) (adds : Adds m b c) (closes : Finishes m os c d) where
   same_open : (closes.slot, m.code d) ∷ m.opened d ≡ (opens.slot, m.code a) ∷ m.opened a
@@ -24,7 +17,7 @@ module _ {Self Operand : Type 0} (m : Meaning Self Operand) (sound : Sound m) (a
   same_code = ap (λ xs. (first_or {A = m.Slot × m.Code} (closes.slot, m.code d) xs).1) same_open
 
   pub same_opened : m.opened d ≡ m.opened a
-  same_opened = ap (λ xs. behind_first xs) same_open
+  same_opened = ap (λ xs. later xs) same_open
 
   pub one_block_more : m.blocks d ≡ closes.block ∷ m.blocks a
   one_block_more = closes.blocks ∙ ap (λ bs. closes.block ∷ bs) (adds.blocks ∙ opens.blocks)

@@ -73,7 +73,7 @@ bool_stored false = refl
 char_below : (c : ℕ) → is_scalar_value c ≡ true → c < 2 ^ 32
 char_below c h = grind arith
 
-low_of_nat : (c : ℕ) → c < 2 ^ 32 → low_bits 32 (pos c) ≡ c
+pub low_of_nat : (c : ℕ) → c < 2 ^ 32 → low_bits 32 (pos c) ≡ c
 low_of_nat c h = grind (arith, ints)
 
 char_stored : (c : ℕ) → is_scalar_value c ≡ true → low_bits 32 (pos c) % 2 ^ 32 ≡ c

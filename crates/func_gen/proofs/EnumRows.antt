@@ -50,7 +50,7 @@ use Rattle.wrapper_values.specs.Setting.{Setting}
 use Rattle.wrapper_run.specs.Run.{call, call_callee, callee, enum_lift, eval, lift_act, lift_case, lift_name, of_runtime, runtime_module_name, type_callee, unknown}
 use Rattle.wrapper_run.proofs.LocalLemmas.{bytes_eq-same}
 use Rattle.wrapper_run.proofs.NumberLemmas.{low_i32-s32, num_of-number}
-use Rattle.wrapper_run.proofs.StepLemmas.{Quiet, call_gives, eval-call, quiet_one, quiet_then}
+use Rattle.wrapper_run.proofs.StepLemmas.{Quiet, call_gives, eval-call, quiet_lift_act, quiet_one, quiet_then}
 use Rattle.abi_driver.specs.declared.instruction.Instruction.TheVariants.{EnumLift, EnumLower}
 use Rattle.abi_driver.specs.Account.{Peer, failing, stay}
 use Rattle.abi_driver.specs.Cases.{LiftsEnum, LowersEnum, case_shapes, payloads_of, payloads_or, reading_tag, tag_of}
@@ -84,30 +84,13 @@ use Rattle.func_gen.proofs.LowBits.{same_low}
 use Rattle.func_gen.proofs.Moving.{cast_owns}
 use Rattle.func_gen.proofs.Quiet.{quiet_cast_of, quiet_operand}
 use Rattle.func_gen.proofs.Rows.{Agrees, let_adds, lets_served, none_adds, swaps}
-use Rattle.func_gen.proofs.Scalars.{option_some, shown_level, value_is}
-use Rattle.wrapper_meaning.proofs.Lists.{some_same}
+use Rattle.func_gen.proofs.Scalars.{shown_level, value_is}
+use Rattle.wrapper_meaning.proofs.Lists.{some_or, some_same}
+use Rattle.wrapper_meaning.proofs.RustValues.{out-case}
+use Rattle.abi_driver.proofs.BareCases.{case_below, count_bare}
+use Rattle.abi_driver.proofs.EnumSteps.{enum_cases}
 
 -- 1. The cases of an enum have no payload
-
-bare_payloads : (ts : List Shape) (members : List Member) → payloads_in ts (map (λ c. None) members) ≡ bare members
-bare_payloads ts [] = refl
-bare_payloads ts (m ∷ members) = ap (more nothing) (bare_payloads ts members)
-
-enum_shapes : (types : List TypeDef) (id : ℕ) (members : List Member) → IsKindOf types id (kind.Enum members) → case_shapes types id ≡ bare members
-enum_shapes types id members is =
-    ap (λ o. payloads_in (shapes types) (payloads_or o)) is.stands ∙ ap (λ k. payloads_in (shapes types) (payloads_of k)) is.kind ∙ bare_payloads (shapes types) members
-
-count_bare : (members : List Member) → count (bare members) ≡ length members
-count_bare [] = refl
-count_bare (m ∷ members) = ap suc (count_bare members)
-
-number_below : (members : List Member) (c : Case (bare members)) → case_number (bare members) c < length members
-number_below [] c = elim c [ ]
-number_below (m ∷ members) (inl v) = omega arith
-number_below (m ∷ members) (inr c) = omega (arith, number_below members c)
-
-out-case : (n : ℕ) (p : Option RustValue) → out-RustValue (value.Case n p) ≡ RustValue-F.Case n p
-out-case n p = search (rules, the_lemmas)
 
 -- a payload that is none, or `()`
 record IsBare (payload : Option RustValue) : Type 0 where
@@ -161,7 +144,7 @@ number_lowers old new e members small a scope dir c r own ((payload, is, stands)
     let n = case_number (bare members) c in (
       k.0,
       swaps old new [] a scope (of (operand_of e) (item r)) (of (operand_of (expr.EnumNumber e)) (word (core.I32 (pos n))))
-          (λ w found env h. number_says w.items n payload e env (omega (arith, small, number_below members c)) k.1 (h ∙ ap (λ q. Some q) is)),
+          (λ w found env h. number_says w.items n payload e env (omega (arith, small, case_below members c)) k.1 (h ∙ ap (λ q. Some q) is)),
     )
 
 pub enum_number_row : (types : List TypeDef) (old new : FunctionBindgen) (id : TypeId) (e : Expr) (n : ℕ) → HasCaseCount types id.0 n → n < 2147483648 → Appends old new [] [] → new.scope ≡ old.scope
@@ -173,7 +156,7 @@ enum_number_row types old new id e n (members, is, many) small a scope = record 
   asked = a.asked;
   form = form_alone (sends (EnumLower id)) (record { gives = refl; calls = refl }) (operand_of e ∷ []) old new (expr.EnumNumber e) [] refl scope a;
   results = refl;
-  row = subst (λ ts. LowersEnum func_meaning ts (operand_of e ∷ []) (operand_of (expr.EnumNumber e) ∷ []) old new) (sym (enum_shapes types id.0 members is)) (number_lowers old new e members (omega (arith, many, small)) a scope);
+  row = subst (λ ts. LowersEnum func_meaning ts (operand_of e ∷ []) (operand_of (expr.EnumNumber e) ∷ []) old new) (sym (enum_cases types id.0 members is)) (number_lowers old new e members (omega (arith, many, small)) a scope);
 }
 
 -- 3. A word becomes a case
@@ -182,14 +165,9 @@ calls_lift : (name : Bytes) → bytes_eq name runtime_module_name ≡ false → 
 unfolding callee
 calls_lift name h = ap (λ b. cond b (of_runtime lift_name) (type_callee name lift_name)) h ∙ ap (λ b. cond b (enum_lift name) unknown) (bytes_eq-same lift_name)
 
-quiet_case_act : (w : Setting) (o : Option (Result RustValue TrapKind)) → Quiet (lift_act w o)
-quiet_case_act w None = record { quiet = λ s. refl }
-quiet_case_act w (Some (Ok v)) = record { quiet = λ s. refl }
-quiet_case_act w (Some (Err k)) = record { quiet = λ s. refl }
-
 quiet_case : (w : Setting) (name : Bytes) (vs : List Val) → Quiet (lift_case w name vs)
 quiet_case w name [] = record { quiet = λ s. refl }
-quiet_case w name (v ∷ []) = quiet_case_act w (enum_lift_of w.items name v)
+quiet_case w name (v ∷ []) = quiet_lift_act w (enum_lift_of w.items name v)
 quiet_case w name (v ∷ u ∷ vs) = record { quiet = λ s. refl }
 
 quiet_lifted : (w : Setting) (name : Bytes) (to : CastType) (e : Expr) → bytes_eq name runtime_module_name ≡ false → is_operand e ≡ true → Quiet (eval w (case_lifted name to e))
@@ -204,13 +182,13 @@ low_u16 z = grind (arith, ints)
 -- the number that a word is cast to
 held : (repr : Repr) (to : CastType) (z : ℤ) → case_cast repr ≡ Some to → option_and_then (held_in repr) (num_of (val.Value (cast_integer to z))) ≡ Some (low_bits (repr_bits repr) z)
 held repr_of.U8 to z h =
-    ap (λ t. option_and_then (held_in repr_of.U8) (num_of (val.Value (cast_integer t z)))) (sym (ap (option_some cast.U8) h)) ∙ ap (option_and_then (held_in repr_of.U8)) (num_of-number wit.U8 (low 8 z) (low_u8 z))
+    ap (λ t. option_and_then (held_in repr_of.U8) (num_of (val.Value (cast_integer t z)))) (sym (ap (some_or cast.U8) h)) ∙ ap (option_and_then (held_in repr_of.U8)) (num_of-number wit.U8 (low 8 z) (low_u8 z))
     ∙ ap (λ k. held_in repr_of.U8 (wit.U8, k)) (same_low 8 z)
 held repr_of.U16 to z h =
-    ap (λ t. option_and_then (held_in repr_of.U16) (num_of (val.Value (cast_integer t z)))) (sym (ap (option_some cast.U16) h)) ∙ ap (option_and_then (held_in repr_of.U16)) (num_of-number wit.U16 (low 16 z) (low_u16 z))
+    ap (λ t. option_and_then (held_in repr_of.U16) (num_of (val.Value (cast_integer t z)))) (sym (ap (some_or cast.U16) h)) ∙ ap (option_and_then (held_in repr_of.U16)) (num_of-number wit.U16 (low 16 z) (low_u16 z))
     ∙ ap (λ k. held_in repr_of.U16 (wit.U16, k)) (same_low 16 z)
 held repr_of.U32 to z h =
-    ap (λ t. option_and_then (held_in repr_of.U32) (num_of (val.Value (cast_integer t z)))) (sym (ap (option_some cast.U32) h)) ∙ ap (option_and_then (held_in repr_of.U32)) (num_of-number wit.U32 (low 32 z) (low_u32 z))
+    ap (λ t. option_and_then (held_in repr_of.U32) (num_of (val.Value (cast_integer t z)))) (sym (ap (some_or cast.U32) h)) ∙ ap (option_and_then (held_in repr_of.U32)) (num_of-number wit.U32 (low 32 z) (low_u32 z))
     ∙ ap (λ k. held_in repr_of.U32 (wit.U32, k)) (same_low 32 z)
 held repr_of.U64 to z h = absurd cc
 held repr_of.U128 to z h = absurd cc
@@ -296,5 +274,5 @@ module _ (types : List TypeDef) (old new : FunctionBindgen) (n : Bytes) (id : Ty
         asked = a.asked;
         form = form_let (sends (EnumLift id)) (record { gives = refl; calls = refl }) (operand_of e ∷ []) old new (codes "v") n lifted [] told one a;
         results = refl;
-        row = subst (λ ts. LiftsEnum func_meaning ts (operand_of e ∷ []) (operand_of (expr.Local n) ∷ []) old new) (sym (enum_shapes types id.0 members is)) (lifts_case members many a);
+        row = subst (λ ts. LiftsEnum func_meaning ts (operand_of e ∷ []) (operand_of (expr.Local n) ∷ []) old new) (sym (enum_cases types id.0 members is)) (lifts_case members many a);
       }

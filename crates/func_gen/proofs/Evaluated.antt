@@ -25,15 +25,11 @@ use Rattle.wrapper_values.specs.Enums.{word_of_case}
 use Rattle.wrapper_values.specs.Flags.{bits_of_flags, word_at}
 use Rattle.wrapper_values.specs.Setting.{Setting, stuck}
 use Rattle.wrapper_run.specs.Run.{Callee, alone, apply, call, call_callee, call_runtime, callee, converted_or_lifted, core_forget, enum_lift, eval, eval_step, of_runtime, runtime_item_named, unknown}
+use Rattle.wrapper_run.proofs.EnumSteps.{eval-case}
+use Rattle.wrapper_run.proofs.FlagsSteps.{eval-bits}
 use Rattle.wrapper_run.proofs.StepLemmas.{eval-call, eval-cast, eval-cast_mut, eval-local, eval-ref}
 use Rattle.func_gen.specs.Read.{Read, as_case_word, as_flags_word, as_pointer, conversion, converts, env_of, nothing, on_bare, read, read_step}
 use Rattle.func_gen.specs.ReadForms.{at_read, bare_value, lent_of, read-call, read-cast, read-cast_mut, read-enum_number, read-flags_bits, read-local, read-ref}
-
-pub eval-flags_bits : (w : Setting) (name : Bytes) (by : ℕ) → eval w (expr.FlagsBits name by) ≡ ask_local (stuck w) (view_of.FlagsWord by) name
-eval-flags_bits w name by = search (rules, the_lemmas)
-
-pub eval-enum_number : (w : Setting) (e : Expr) → eval w (expr.EnumNumber e) ≡ (eval w e >>= (λ v. or_stop (stuck w) (option_map val.Word (word_of_case v))))
-eval-enum_number w e = ap (eval w) (sym (rolls-EnumNumber e)) ∙ fold-roll-Expr (Act Val) (eval_step w) (Expr-F.EnumNumber e)
 
 module _ (w : Setting) where
   abbrev pub Gives : Expr → Type 0
@@ -75,12 +71,12 @@ module _ (w : Setting) where
       word_again (Some bits) k = k
 
   gives-flags_bits : (name : Bytes) (by : ℕ) → Gives (expr.FlagsBits name by)
-  gives-flags_bits name by s v h o = ap (λ act. act s) (eval-flags_bits w name by) ∙ tells_word name by v s (at_read w.items _ _ (env_of s) v (read-flags_bits w.items name by) h)
+  gives-flags_bits name by s v h o = ap (λ act. act s) (eval-bits w name by) ∙ tells_word name by v s (at_read w.items _ _ (env_of s) v (read-flags_bits w.items name by) h)
 
   gives-enum_number : (e : Expr) → Gives e → Gives (expr.EnumNumber e)
   gives-enum_number e g s v h o =
       let x = bare_value as_case_word ((read w.items e).at (env_of s)) v (at_read w.items _ _ (env_of s) v (read-enum_number w.items e) h) in
-      ap (λ act. act s) (eval-enum_number w e) ∙ ap (λ z. and_then z (λ v. or_stop (stuck w) (option_map val.Word (word_of_case v)))) (g s x.0 x.1 x.2) ∙ ap (λ z. or_stop (stuck w) z s) x.3
+      ap (λ act. act s) (eval-case w e) ∙ ap (λ z. and_then z (λ v. or_stop (stuck w) (option_map val.Word (word_of_case v)))) (g s x.0 x.1 x.2) ∙ ap (λ z. or_stop (stuck w) z s) x.3
 
   gives-cast : (e : Expr) (to : CastType) → Gives e → Gives (expr.Cast e to)
   gives-cast e to g s v h o =

@@ -31,6 +31,9 @@ use Rattle.wrapper_meaning.specs.Items.{total}
 use Rattle.wrapper_meaning.specs.Numbers.{flags_width}
 use Rattle.wrapper_meaning.specs.Shape.Shape.{flags}
 use Rattle.wrapper_meaning.proofs.Lists.{some_same}
+use Rattle.wrapper_meaning.proofs.RustValues.{out-bits}
+use Rattle.abi_driver.proofs.FlagSteps.{one_count}
+use Rattle.func_gen.proofs.Normals.{normal_bits}
 use Rattle.wrapper_meaning.proofs.PostReturn.{total-append}
 use Rattle.wrapper_values.specs.declared.state.State.{State}
 use Rattle.wrapper_values.specs.declared.state.Val.{Val}
@@ -82,28 +85,6 @@ use Rattle.func_gen.proofs.Scalars.{shown_level, value_is}
 use Rattle.func_gen.proofs.Steps.{ran}
 
 -- 1. The flags at a place of the table
-
-members_of : TypeDefKind → ℕ
-members_of (kind.Flags members) = length members
-members_of _ = 0
-
-members_at : Option TypeDef → ℕ
-members_at None = 0
-members_at (Some t) = members_of t.kind
-
--- they are as many as one count says
-told_members : (types : List TypeDef) (id n : ℕ) → (is : AreFlags types id n) → members_at (slice_get types id) ≡ n
-unfolding members_at members_of
-told_members types id n (members, is, many) = ap members_at is.stands ∙ ap members_of is.kind ∙ many
-
-same_members : (types : List TypeDef) (id n k : ℕ) → AreFlags types id n → AreFlags types id k → n ≡ k
-same_members types id n k f g = sym (told_members types id n f) ∙ told_members types id k g
-
-out-bits : (n : ℕ) → out-RustValue (value.Bits n) ≡ RustValue-F.Bits n
-out-bits n = search (rules, the_lemmas)
-
-bits_normal : (n : ℕ) → IsNormal take (value.Bits n)
-bits_normal n = ap (fold-RustValue RustValue (passing_level take)) (sym (rolls-Bits n)) ∙ fold-roll-RustValue RustValue (passing_level take) (RustValue-F.Bits n)
 
 -- there are four words at most
 pub words_fit : {types : List TypeDef} {sites : List (Option TypeSite)} {id n : ℕ} → HasWordCount types sites id n → n ≤ 4
@@ -181,8 +162,8 @@ flags_words_row types old new n id e s is_site ok a fresh one = record {
   asked = a.asked;
   form = form_by (sends (FlagsLower id)) (record { gives = refl; calls = refl }) (operand_of e ∷ []) old new (operands_of (words_of n 0 (flag_words s.members))) (lowers_flags e s) one.number (ap (option_map (lowers_flags e)) is_site.at) one.takes
       (subst (λ x. Appends old new (stmt.Let x e ∷ []) []) one.is a) (ap (λ x. operands_of (words_of x 0 (flag_words s.members))) one.is);
-  results = λ k is. many_words n 0 (flag_words s.members) ∙ ap flag_words (same_members types id.0 s.members k is_site.count is) ∙ sym (length-replicate (flag_words k) wasm.I32);
-  row = λ k is. subst (λ m. LowersFlags func_meaning k (operand_of e ∷ []) (operands_of (words_of n 0 (flag_words m))) old new) (same_members types id.0 k s.members is is_site.count) (words_lowered old new n e ok a fresh k);
+  results = λ k is. many_words n 0 (flag_words s.members) ∙ ap flag_words (one_count types id.0 s.members k is_site.count is) ∙ sym (length-replicate (flag_words k) wasm.I32);
+  row = λ k is. subst (λ m. LowersFlags func_meaning k (operand_of e ∷ []) (operands_of (words_of n 0 (flag_words m))) old new) (one_count types id.0 k s.members is is_site.count) (words_lowered old new n e ok a fresh k);
 }
 
 -- 3. Words become flags
@@ -265,7 +246,7 @@ flags_stand s ws v width within narrow says =
     let bits = joined s.repr (words_from 0 (numbers_in ws)) in
     let are : bits ≡ flag_bits ws % 2 ^ flags_width s.members = joins s.repr ws narrow ∙ ap (λ k. flag_bits ws % 2 ^ k) width in (
       (bits, subst (λ x. x < 2 ^ flags_width s.members) (sym are) (bits_within (flag_bits ws) s.members), refl, says.1 ∙ sym (ap (λ x. x % 2 ^ s.members) are ∙ members_kept (flag_bits ws) s.members within), refl),
-      bits_normal bits,
+      normal_bits take bits,
     )
 
 module _ (types : List TypeDef) (old new : FunctionBindgen) (n : Bytes) (id : TypeId) (os : List ExprOperand) (s : FlagsSite) (is_site : IsFlagsSite types old.sites id.0 s) (many : length os ≡ flag_words s.members) (ok : are_operands os ≡ true)
@@ -304,5 +285,5 @@ module _ (types : List TypeDef) (old new : FunctionBindgen) (n : Bytes) (id : Ty
     asked = a.asked;
     form = form_let (sends (FlagsLift id)) (record { gives = refl; calls = refl }) os old new (codes "flags") n made [] (ap (option_map (lifts_flags (exprs_of os))) is_site.at) one a;
     results = refl;
-    row = λ k is. subst (λ m. LiftsFlags func_meaning m os (operand_of (expr.Local n) ∷ []) old new) (same_members types id.0 s.members k is_site.count is) flags_lifted;
+    row = λ k is. subst (λ m. LiftsFlags func_meaning m os (operand_of (expr.Local n) ∷ []) old new) (one_count types id.0 s.members k is_site.count is) flags_lifted;
   }

@@ -45,7 +45,7 @@ use Rattle.wrapper_run.specs.ExportRun.{call_method, call_with, keep_result, met
 use Rattle.wrapper_run.specs.Memory.{block_from}
 use Rattle.wrapper_run.specs.Run.{record_call, run_stmts}
 use Rattle.wrapper_run.proofs.LocalLemmas.{bytes_eq-same, reads-new}
-use Rattle.wrapper_run.proofs.MethodLemmas.{method_gives, quiet_taken, returned-unit, value_gives}
+use Rattle.wrapper_run.proofs.MethodLemmas.{answered_by, called_with, method_gives, point_of, quiet_taken, returned-unit, value_gives}
 use Rattle.wrapper_run.proofs.OwningLemmas.{ArePlain, drops_plain}
 use Rattle.wrapper_run.proofs.StepLemmas.{Quiet, calls_at, quiet_bind, quiet_drop, quiet_leave, quiet_pure, quiet_then}
 use Rattle.abi_driver.specs.declared.bindgen.Asked.{Asked}
@@ -243,18 +243,9 @@ quiet_keep w (Some n) v = quiet_bind n v
 
 -- a call that no method answers, or that passes no values of its types
 
-abbrev answered_by : Setting → CallPoint × TypeExpr → machine.Act Val
-answered_by w p = record_call p.0 >> take_value w p.1
-
-abbrev called_with : List Item → Bytes → Bytes → Heap → List Val → TraitFn → Option (CallPoint × TypeExpr)
-called_with items named name heap vs t = option_map (λ values. (method_point named name heap values, t.result)) (values_of items t.params vs)
-
 no_method : (w : Setting) (named name : Bytes) (vs : List Val) (s : State) → method_named w.items named name ≡ None → call_method w named name vs s ≡ machine.Stopped (stuck w) s
 unfolding method_call
 no_method w named name vs s none = ap (λ o. and_then (or_stop (stuck w) (option_and_then (called_with w.items named name s.heap vs) o) s) (answered_by w)) none
-
-abbrev point_of : Bytes → Bytes → Heap → TraitFn → List RustValue → CallPoint × TypeExpr
-point_of named name heap t values = (method_point named name heap values, t.result)
 
 no_values : (w : Setting) (named name : Bytes) (m : TraitFn) (vs : List Val) (s : State) → method_named w.items named name ≡ Some m → values_of w.items m.params vs ≡ None → call_method w named name vs s ≡ machine.Stopped (stuck w) s
 unfolding method_call

@@ -21,8 +21,9 @@ use Rattle.wrapper_values.specs.Owning.{lent, view}
 use Rattle.wrapper_values.specs.Setting.{Setting, stuck}
 use Rattle.wrapper_run.specs.Run.{callee, eval, of_runtime, path_callee, runtime_module_name, type_callee}
 use Rattle.wrapper_run.proofs.QuietSteps.{quiet_cast_mut}
+use Rattle.wrapper_run.proofs.EnumSteps.{eval-case}
+use Rattle.wrapper_run.proofs.FlagsSteps.{eval-bits}
 use Rattle.wrapper_run.proofs.StepLemmas.{Quiet, eval-cast, eval-ref, quiet_local, quiet_or_stop, quiet_runtime, quiet_then}
-use Rattle.func_gen.proofs.Evaluated.{eval-enum_number, eval-flags_bits}
 use Rattle.func_gen.specs.Operand.{is_conversion, is_conversion_of, is_converting, is_operand, operand_step}
 
 quiet_lend : (e : Stop) (name : Bytes) → Quiet (lend_local e name)
@@ -49,7 +50,7 @@ calls_conversion path h = conversion_of path.lead path.supers path.names h
 quiet_flags_bits : (w : Setting) (name : Bytes) (by : ℕ) → Quiet (eval w (expr.FlagsBits name by))
 unfolding ask_local
 quiet_flags_bits w name by =
-    subst Quiet (sym (eval-flags_bits w name by))
+    subst Quiet (sym (eval-bits w name by))
     (record { quiet = λ s. (quiet_or_stop (stuck w) (option_map val.Word (option_and_then (view (view_of.FlagsWord by)) (value_of (local_named name s.locals))))).quiet s })
 
 module _ (w : Setting) where
@@ -62,7 +63,7 @@ module _ (w : Setting) where
   by_number : (e : Expr) → QuietOperand e → QuietOperand (expr.EnumNumber e)
   by_number e q h =
       let quiet = q (sym (ap is_operand (sym (rolls-EnumNumber e)) ∙ fold-roll-Expr Bool operand_step (Expr-F.EnumNumber e)) ∙ h) in
-      subst Quiet (sym (eval-enum_number w e)) (quiet_then (eval w e) (λ v. or_stop (stuck w) (option_map val.Word (word_of_case v))) quiet (λ v. quiet_or_stop (stuck w) (option_map val.Word (word_of_case v))))
+      subst Quiet (sym (eval-case w e)) (quiet_then (eval w e) (λ v. or_stop (stuck w) (option_map val.Word (word_of_case v))) quiet (λ v. quiet_or_stop (stuck w) (option_map val.Word (word_of_case v))))
 
   by_call : (path : Path) (e : Expr) → QuietOperand e → QuietOperand (expr.Call path (e ∷ []))
   by_call path e q h =

@@ -51,7 +51,8 @@ use Rattle.abi_driver.specs.Sent.{sends}
 use Rattle.func_gen.proofs.Emissions.{cast_emitted, conversion_emitted, kept_emitted}
 use Rattle.func_gen.proofs.Forming.{form_alone, ordinary_plain}
 use Rattle.func_gen.proofs.Rows.{none_adds, swaps, tests}
-use Rattle.func_gen.proofs.Scalars.{cast_word, conversion_to, converts_scalar, is_number, option_some, stands_scalar, taken_is, taken_word}
+use Rattle.wrapper_meaning.proofs.Lists.{some_or}
+use Rattle.func_gen.proofs.Scalars.{cast_word, conversion_to, converts_scalar, is_number, stands_scalar, taken_is, taken_word}
 use Rattle.abi_driver.proofs.PlainRows.{none_dropped}
 
 -- 1. What is emitted
@@ -199,7 +200,7 @@ pub record Cast (i : Instruction) (to : CastType) : Type 0 where
   pub casts : (x : Word) → is_read scalar x ≡ true → (z : ℤ) × (integer_of (val.Word x) ≡ Some z) × (taken_word scalar x ≡ cast_integer to z)
 
 casts_as : (i : Instruction) (one to : CastType) → (let c : Option CastType = Some one in c ≡ Some to) → Cast i one → Cast i to
-casts_as i one to e c = subst (Cast i) (ap (option_some one) e) c
+casts_as i one to e c = subst (Cast i) (ap (some_or one) e) c
 
 cast_by : (i : Instruction) (to : CastType) → number_cast i ≡ Some to → Cast i to
 cast_by U8FromI32 to e = casts_as U8FromI32 cast.U8 to e (record { scalar = Scalar.u8; none = refl; lifted = refl; number = refl; casts = λ x h. let (z, is) = i32_word x h in (z, ap (λ y. integer_of (val.Word y)) is, ap (taken_word Scalar.u8) is) })

@@ -20,6 +20,7 @@ use Rattle.wrapper_meaning.specs.InRange.{IsScalar}
 use Rattle.wrapper_meaning.specs.Shape.Shape.{scalar}
 use Rattle.wrapper_meaning.specs.StandsFor.{rust_scalar}
 use Rattle.wrapper_meaning.specs.Value.{ScalarValue}
+use Rattle.wrapper_meaning.proofs.Lists.{some_or}
 use Rattle.wrapper_meaning.proofs.RustValues.{f32_same, f64_same, num_same, out-num, out-f32, out-f64, out-bool, out-char}
 use Rattle.wrapper_values.specs.declared.state.Val.{Val}
 use Rattle.wrapper_values.specs.declared.state.Val.TheVariants as val
@@ -137,15 +138,11 @@ is_core Scalar.f32 = true
 is_core Scalar.f64 = true
 is_core _ = false
 
-abbrev pub option_some : {A : Type 0} → A → Option A → A
-option_some a None = a
-option_some a (Some b) = b
-
 value_same : (r q : RustValue) → (let o : Option RustValue = Some r in o ≡ Some q) → r ≡ q
-value_same r q h = ap (option_some r) h
+value_same r q h = ap (some_or r) h
 
 same_shown : (s t : Scalar) (v : ScalarValue t) (r : RustValue) → shown r ≡ Some s → r ≡ rust_scalar t v → s ≡ t
-same_shown s t v r h e = ap (option_some s) (sym h ∙ ap shown e ∙ shown_scalar t v)
+same_shown s t v r h e = ap (some_or s) (sym h ∙ ap shown e ∙ shown_scalar t v)
 
 as_word : (s t : Scalar) (v : ScalarValue t) → s ≡ t → is_core s ≡ true → is_core t ≡ true
 as_word s t v e h = sym (ap is_core e) ∙ h

@@ -34,6 +34,7 @@ use Rattle.wrapper_values.specs.Flags.{flags_in, repr_bits}
 use Rattle.wrapper_values.specs.Typed.{Typed, answer_in, behind, behind_one, definition_in, plain_as, target_in, typed, typed_bare, typed_case, typed_each, typed_enum, typed_flags, typed_level, typed_parts, typed_unit, unaliased}
 use Rattle.wrapper_run.proofs.NumberLemmas.{answered-bool, answered-char, answered-f32-value, answered-f64-value, answered-number}
 use Rattle.wrapper_run.proofs.TakeLemmas.{answered-empty, answered-text}
+use Rattle.abi_driver.proofs.BareCases.{case_below}
 use Rattle.func_gen.proofs.Normals.{normal_bits, normal_unit, passing_case}
 use Rattle.func_gen.proofs.Scalars.{scalar_normal}
 use Rattle.wrapper_closing.specs.PrintedAs.{ArePrintedAs, IsPrintedAs, scalar_type}
@@ -67,11 +68,6 @@ text_answered (b ∷ v) r own h =
 -- a case without payload: it is left out, or `()`
 abbrev IsBare : Option RustValue → Type 0
 IsBare payload = (payload ≡ None) ⊎ (payload ≡ Some value.Unit)
-
-bare_number : {A : Type 0} (members : List A) (c : Case (bare members)) → case_number (bare members) c < length members
-bare_number [] c = absurd c
-bare_number (_ ∷ members) (inl v) = omega arith
-bare_number (_ ∷ members) (inr c) = let later = bare_number members c in omega (arith, later)
 
 bare_payload : {A : Type 0} (members : List A) (payload : Option RustValue) (own : List Block) (c : Case (bare members)) → CaseStands 2 take (bare members) c payload own → IsBare payload
 bare_payload [] payload own c h = absurd c
@@ -228,7 +224,7 @@ module _ (items : List Item) where
     is_typed (pairs x y) v r own ty p g h = absurd p
     is_typed (fixed t n) v r own ty p g h = absurd p
     is_typed (cases ts) v r own ty (e, p, same) g (payload, is, h) =
-        by_case (case_number ts v) r payload ty e is p (subst (λ ts. (c : Case ts) → case_number ts c < length e.cases) (sym same) (bare_number e.cases) v)
+        by_case (case_number ts v) r payload ty e is p (subst (λ ts. (c : Case ts) → case_number ts c < length e.cases) (sym same) (case_below e.cases) v)
         (subst (λ ts. (c : Case ts) → CaseStands 2 take ts c payload own → IsBare payload) (sym same) (bare_payload e.cases payload own) v h)
     is_typed (flags n) v r own ty (f, p, many, wide) g (bits, small, is, means, alone) = by_flags bits r ty f is p (subst (λ k. bits < 2 ^ k) (sym wide) small)
     is_typed (handle o n) v r own ty p g h = absurd p

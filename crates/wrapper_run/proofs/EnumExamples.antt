@@ -1,6 +1,7 @@
 -- The definitions hold of worked rows of enums: the number of a case, what `_lift` gives, and which cases are of the type.
-use Rattle.std.proofs.Common.{◌≡◌, false, List, [], ◌∷◌, None, Some, refl, ap, ◌∙◌, rules}
+use Rattle.std.proofs.Common.{◌≡◌, false, List, [], ◌∷◌, None, Some, refl, sym, ap, ◌∙◌, rules}
 use Rattle.std.specs.Prelude.{ℕ, Err, Ok, codes, pos}
+use Rattle.std.specs.Option.{option_map}
 use Rattle.wit_model.specs.Bytes.{Bytes}
 use Rattle.wit_model.specs.declared.types.WitType.TheVariants as wit
 use Rattle.rust_tree.specs.declared.enum_item.EnumCase.{EnumCase}
@@ -11,14 +12,15 @@ use Rattle.rust_tree.specs.declared.item.Item.{Item}
 use Rattle.rust_tree.specs.declared.item.Item.TheVariants as item
 use Rattle.rust_tree.specs.declared.path.Path.{Path}
 use Rattle.rust_tree.specs.declared.repr.Repr.TheVariants as repr
-use Rattle.rust_tree.specs.declared.type_expr.TypeExpr.{TypeExpr, the_lemmas as type_lemmas}
+use Rattle.rust_tree.specs.declared.type_expr.TypeExpr.{TypeExpr, TypeExpr-F, out-TypeExpr, the_lemmas as type_lemmas}
 use Rattle.rust_tree.specs.declared.type_expr.TypeExpr.TheVariants as type
 use Rattle.rust_tree.specs.declared.type_item.TypeItem.TheVariants.{Enum}
 use Rattle.wrapper_data.specs.declared.form.Form.TheVariants as form
 use Rattle.wrapper_data.specs.declared.run.Stop.TheVariants as stop_of
 use Rattle.wrapper_data.specs.declared.run.TrapKind.TheVariants as trap
-use Rattle.wrapper_data.specs.declared.value.RustValue.{RustValue, the_lemmas}
+use Rattle.wrapper_data.specs.declared.value.RustValue.{RustValue, RustValue-F, fold-roll-RustValue, the_lemmas}
 use Rattle.wrapper_data.specs.declared.value.RustValue.TheVariants as value
+use Rattle.wrapper_data.specs.declared.value.RustValue.TheVariants.{rolls-Case}
 use Rattle.wrapper_data.specs.declared.word.Word.TheVariants as word
 use Rattle.wrapper_values.specs.declared.state.State.{State}
 use Rattle.wrapper_values.specs.declared.state.Val.{Val}
@@ -27,7 +29,7 @@ use Rattle.wrapper_values.specs.Act.{Done, Stopped}
 use Rattle.wrapper_values.specs.Effect.{answer_of}
 use Rattle.wrapper_values.specs.Enums.{enum_lift_of}
 use Rattle.wrapper_values.specs.Setting.{Setting, stuck}
-use Rattle.wrapper_values.specs.Typed.{answer_in}
+use Rattle.wrapper_values.specs.Typed.{Typed, answer_in, typed, typed_case, typed_enum, typed_level, unaliased}
 use Rattle.wrapper_run.specs.Run.{begin, eval, lift_act}
 use Rattle.wrapper_run.proofs.EnumSteps.{callee-lift, case_gives, lift_steps, number-none, number-unit}
 use Rattle.wrapper_run.proofs.OwningLemmas.{owned-case, owned-case-unit, owned-number}
@@ -116,8 +118,11 @@ wide_is_none w = search (rules, the_lemmas)
 abbrev e_items : List Item
 e_items = item.Type (Enum three) ∷ []
 
+abbrev e_path : Path
+e_path = record { lead = false; supers = 0; names = codes "E" ∷ [] }
+
 abbrev e_type : TypeExpr
-e_type = type.Path (record { lead = false; supers = 0; names = codes "E" ∷ [] })
+e_type = type.Path e_path
 
 e_answers : answer_in e_items e_type (val.Value (value.Case 2 None)) ≡ Some (Some (value.Case 2 None))
 unfolding answer_of
@@ -126,3 +131,31 @@ e_answers = search (rules, the_lemmas, type_lemmas)
 e_has_no_fourth : answer_in e_items e_type (val.Value (value.Case 3 None)) ≡ None
 unfolding answer_of
 e_has_no_fourth = search (rules, the_lemmas, type_lemmas)
+
+-- a case with `()` is one of them, as it is; and with another payload it is none
+
+case_is_typed : (n : ℕ) (r : RustValue) → typed e_items (value.Case n (Some r)) e_type ≡ typed_enum n (Some (typed e_items r)) (Some three)
+case_is_typed n r =
+    ap (λ v. typed e_items v e_type) (sym (rolls-Case n (Some r)))
+    ∙ ap (λ (f : Typed). f e_type) (fold-roll-RustValue Typed (λ l ty. typed_level e_items l (unaliased e_items ty)) (RustValue-F.Case n (Some r)))
+    ∙ ap (λ ty. typed_case e_items n (Some (typed e_items r)) (out-TypeExpr ty)) e_is_last ∙ ap (typed_case e_items n (Some (typed e_items r))) e_opened
+  where
+    e_is_last : unaliased e_items e_type ≡ e_type
+    e_is_last = search (rules, type_lemmas)
+
+    e_opened : out-TypeExpr e_type ≡ TypeExpr-F.Path e_path
+    e_opened = search (rules, type_lemmas)
+
+unit_is_typed : typed e_items value.Unit type.Unit ≡ Some value.Unit
+unfolding answer_of
+unit_is_typed = search (rules, the_lemmas, type_lemmas)
+
+e_takes_unit : typed e_items (value.Case 2 (Some value.Unit)) e_type ≡ Some (value.Case 2 (Some value.Unit))
+e_takes_unit = case_is_typed 2 value.Unit ∙ ap (option_map (λ r. value.Case 2 (Some r))) unit_is_typed
+
+byte_is_no_unit : typed e_items (byte 7) type.Unit ≡ None
+unfolding answer_of
+byte_is_no_unit = search (rules, the_lemmas, type_lemmas)
+
+e_takes_no_byte : typed e_items (value.Case 2 (Some (byte 7))) e_type ≡ None
+e_takes_no_byte = case_is_typed 2 (byte 7) ∙ ap (option_map (λ r. value.Case 2 (Some r))) byte_is_no_unit

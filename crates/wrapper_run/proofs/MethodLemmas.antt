@@ -51,13 +51,13 @@ leaves_inner w outer more s e p =
 
 -- the call
 
-abbrev answered_by : Setting → CallPoint × TypeExpr → Act Val
+abbrev pub answered_by : Setting → CallPoint × TypeExpr → Act Val
 answered_by w p = record_call p.0 >> take_value w p.1
 
-abbrev called_with : List Item → Bytes → Bytes → Heap → List Val → TraitFn → Option (CallPoint × TypeExpr)
+abbrev pub called_with : List Item → Bytes → Bytes → Heap → List Val → TraitFn → Option (CallPoint × TypeExpr)
 called_with items named name heap vs f = option_map (λ values. (method_point named name heap values, f.result)) (values_of items f.params vs)
 
-abbrev point_of : Bytes → Bytes → Heap → TraitFn → List RustValue → CallPoint × TypeExpr
+abbrev pub point_of : Bytes → Bytes → Heap → TraitFn → List RustValue → CallPoint × TypeExpr
 point_of named name heap f values = (method_point named name heap values, f.result)
 
 pub method_gives : (w : Setting) (named name : Bytes) (f : TraitFn) (vs : List Val) (values : List RustValue) (s : State) → method_named w.items named name ≡ Some f → values_of w.items f.params vs ≡ Some values

@@ -196,7 +196,7 @@ quiet_local w name = subst Quiet (sym (eval-local w name)) (quiet_use (stuck w) 
 pub quiet_one : {A : Type 0} (act : Act A) → Quiet act → Quiet (all (act ∷ []))
 quiet_one act h = quiet_then act (λ x. pure [] >>= (λ xs. pure (x ∷ xs))) h (λ x. quiet_then (pure []) (λ xs. pure (x ∷ xs)) (quiet_pure []) (λ xs. quiet_pure (x ∷ xs)))
 
-quiet_lift_act : (w : Setting) (o : Option (Result RustValue TrapKind)) → Quiet (lift_act w o)
+pub quiet_lift_act : (w : Setting) (o : Option (Result RustValue TrapKind)) → Quiet (lift_act w o)
 quiet_lift_act w None = record { quiet = λ s. refl }
 quiet_lift_act w (Some (Ok v)) = record { quiet = λ s. refl }
 quiet_lift_act w (Some (Err kind)) = record { quiet = λ s. refl }
