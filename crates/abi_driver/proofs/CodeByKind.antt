@@ -1,8 +1,9 @@
 -- In a table whose types name only lower ids, what is made for an entry is its kind's, of what is made for the types that it names.
-use Rattle.std.proofs.Common.{◌≡◌, ℕ, zero, suc, ◌+◌, ◌<◌, true, List, [], ◌∷◌, ◌++◌, length, map, get_or, Some, refl, sym, ap, ap₂, ◌∙◌, subst, arith, length-append}
+use Rattle.std.proofs.Common.{◌≡◌, ℕ, zero, suc, ◌+◌, ◌<◌, true, List, [], ◌∷◌, ◌++◌, length, map, get_or, ◌&&◌, Option, None, Some, refl, sym, ap, ap₂, ◌∙◌, subst, arith, length-append}
 use Rattle.std.specs.List.{slice_get, list_all}
 use Rattle.std.proofs.lemmas.Bool.{and_parts, ltb-true}
 use Rattle.std.proofs.lemmas.List.{get_or_append_left, get_or_push}
+use Rattle.wit_model.specs.declared.types.Case.{Case}
 use Rattle.wit_model.specs.declared.types.Field.{Field}
 use Rattle.wit_model.specs.declared.types.TypeDef.{TypeDef}
 use Rattle.wit_model.specs.declared.types.TypeDefKind.{TypeDefKind}
@@ -11,9 +12,16 @@ use Rattle.wit_model.specs.declared.name.TypeId.{TypeId}
 use Rattle.wit_model.specs.declared.types.WitType.{WitType}
 use Rattle.wit_model.specs.declared.types.WitType.TheVariants as wit
 use Rattle.wit_model.specs.Parts.{parts}
-use Rattle.wit_model.specs.TypeOrder.{GoesDown, parts_below, type_below}
-use Rattle.abi_driver.specs.Code.{made, made_behind, made_for, made_in, members_of}
+use Rattle.wit_model.specs.TypeOrder.{GoesDown, parts_below, payload_below, type_below}
+use Rattle.abi_driver.specs.Code.{made, made_behind, made_for, made_in, members_of, payloads_there}
 use Rattle.abi_driver.proofs.Records.{all_below, map-twice}
+
+-- of bounded payloads those that there are
+there_below : (bound : ℕ) (payloads : List (Option WitType)) → list_all (λ p. payload_below bound p) payloads ≡ true → list_all (λ ty. type_below bound ty) (payloads_there payloads) ≡ true
+unfolding payload_below
+there_below bound [] h = refl
+there_below bound (None ∷ payloads) h = there_below bound payloads (and_parts true (list_all (λ p. payload_below bound p) payloads) h).1
+there_below bound (Some ty ∷ payloads) h = let b = and_parts (type_below bound ty) (list_all (λ p. payload_below bound p) payloads) h in ap₂ (λ x y. x && y) b.0 (there_below bound payloads b.1)
 
 -- the types that are named are below the bound
 members_below : (bound : ℕ) (k : TypeDefKind) → parts_below bound k ≡ true → list_all (λ ty. type_below bound ty) (members_of k) ≡ true
@@ -21,6 +29,9 @@ unfolding parts_below parts
 members_below bound (kind.Alias ty) h = all_below bound (ty ∷ []) h
 members_below bound (kind.Record members) h = all_below bound (map (λ (f : Field). f.ty) members) (ap (list_all _) (map-twice members) ∙ h)
 members_below bound (kind.Tuple members) h = all_below bound members h
+members_below bound (kind.Variant members) h = there_below bound (map (λ (c : Case). c.ty) members) h
+members_below bound (kind.Option ty) h = all_below bound (ty ∷ []) h
+members_below bound (kind.Result ok err) h = there_below bound (ok ∷ err ∷ []) h
 members_below bound _ h = refl
 
 module _ {A : Type 0} (leaf : WitType → A) (by_kind : ℕ → TypeDefKind → List A → A) where

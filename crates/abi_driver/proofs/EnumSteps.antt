@@ -8,6 +8,8 @@ use Rattle.wit_model.specs.declared.types.Member.{Member}
 use Rattle.wit_model.specs.declared.types.TypeDef.{TypeDef}
 use Rattle.wit_model.specs.declared.types.TypeDefKind.TheVariants as kind
 use Rattle.wit_layout.specs.Extent.{discriminant_grain}
+use Rattle.wit_layout.specs.Flat.{flatten_type}
+use Rattle.wrapper_meaning.specs.Layout.{layout}
 use Rattle.wrapper_data.specs.Heap.{is_heap}
 use Rattle.wrapper_data.specs.declared.block.Block.{Block}
 use Rattle.wrapper_data.specs.declared.form.Form.{Form}
@@ -60,10 +62,13 @@ module _ {Self Operand : Type 0} (m : Meaning Self Operand) (sound : Sound m) (t
   -- 1. Core words
 
   module _ (realloc : Bool) where
-    enum_row : {A : Type 0} (members : List A) (a b : Self) (o : Operand) (os : List Operand) → Adds m a b → length os ≡ 1 → LowersEnum m (bare members) (o ∷ []) os a b → LowersFlat m realloc (cases (bare members)) o os a b
-    enum_row members a b o os adds one row = record {
+    enum_row : {A : Type 0} (members : List A) (a b : Self) (o : Operand) (os : List Operand) → length members ≤ 2 ^ 31 → Adds m a b → length os ≡ 1 → LowersEnum m (bare members) (o ∷ []) os a b → LowersFlat m realloc (cases (bare members)) o os a b
+    enum_row members a b o os most adds one row = record {
       adds = adds;
       fits = one ∙ sym (ap (λ cs. suc (length cs)) (no_slots members));
+      ranged = λ heap v ws own listed says.
+          let n = case_number (bare members) v in
+          subst (AreWords m.width (flatten_type (layout (cases (bare members))))) (sym says.1) (number_ranged n (omega (arith, case_below members v, most)), says.2);
       row = λ heap v x own listed st.
           let dir = way realloc heap in
           let q = row dir v x own st in
@@ -74,10 +79,10 @@ module _ {Self Operand : Type 0} (m : Meaning Self Operand) (sound : Sound m) (t
           (y ∷ [], sym one, says, subst P (sym q.0) q.1);
     }
 
-    pub enum_lowers : (id : TypeId) (members : List Member) (a b : Self) (o : Operand) (os : List Operand) → IsKindOf types id.0 (kind.Enum members) → Emits m types (EnumLower id) (o ∷ []) os a b
+    pub enum_lowers : (id : TypeId) (members : List Member) (a b : Self) (o : Operand) (os : List Operand) → length members ≤ 2 ^ 31 → IsKindOf types id.0 (kind.Enum members) → Emits m types (EnumLower id) (o ∷ []) os a b
         → LowersFlat m realloc (cases (bare members)) o os a b
-    enum_lowers id members a b o os is e =
-        enum_row members a b o os e.adds e.results (subst (λ ts. LowersEnum m ts (o ∷ []) os a b) (enum_cases types id.0 members is) e.row)
+    enum_lowers id members a b o os most is e =
+        enum_row members a b o os most e.adds e.results (subst (λ ts. LowersEnum m ts (o ∷ []) os a b) (enum_cases types id.0 members is) e.row)
 
   reads_tag : {V : Type 0} (f : Form) (k n : ℕ) (z : ℤ) (acc : Account V) → n < k → tag_of k (core.I32 z) ≡ n → reading_tag f k (core.I32 z) acc ≡ stay acc
   reads_tag f k n z acc l is = cond-true (nat_lt (tag_of k (core.I32 z)) k) _ _ (ap (λ t. nat_lt t k) is ∙ lt-ltb n k l)

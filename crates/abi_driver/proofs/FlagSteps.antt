@@ -142,6 +142,7 @@ module _ {Self Operand : Type 0} (m : Meaning Self Operand) (sound : Sound m) (t
   flags_lowers realloc id n a b o os is e = record {
     adds = e.adds;
     fits = e.results n is;
+    ranged = λ heap v ws own listed says. says.0;
     row = λ heap v x own listed st.
         let dir = way realloc heap in
         let q = e.row n is dir v x own st in

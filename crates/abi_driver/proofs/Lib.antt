@@ -57,3 +57,10 @@ pub mod MemoryCode
 pub mod SendSteps
 pub mod Sendable
 pub mod BlockSteps
+pub mod BlockRuns
+pub mod CaseLowers
+pub mod WordBits
+pub mod WordRanges
+pub mod Payloads
+pub mod CastSteps
+pub mod Variants

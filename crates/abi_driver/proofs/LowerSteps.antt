@@ -27,6 +27,8 @@ use Rattle.abi_driver.specs.Lowers.{LowersAll, LowersFlat, Passes}
 use Rattle.abi_driver.specs.Meaning.{Meaning, item, of, word}
 use Rattle.abi_driver.specs.Parts.{LowersParts, count}
 use Rattle.abi_driver.proofs.Ordinary.{adds_of, lowers_ordinary}
+use Rattle.wrapper_meaning.specs.Words.{AreWords}
+use Rattle.abi_driver.proofs.WordRanges.{scalar_ranged, text_ranged, words_both}
 use Rattle.abi_driver.proofs.Runs.{adds_both, adds_same, addresses_both, core_append, does_both, does_none, ofs_append, stays_then}
 
 -- the scalar of an instruction that was chosen by a type
@@ -61,6 +63,7 @@ module _ {Self Operand : Type 0} (m : Meaning Self Operand) (sound : Sound m) (t
   scalar_row s a b o r adds row = record {
     adds = adds;
     fits = refl;
+    ranged = λ heap v ws own listed says. scalar_ranged m.width realloc heap s v ws own listed says;
     row = λ heap v x own listed st.
         let q = row (way realloc heap) v x own listed st in
         let P : List Block → Type 0 = λ own. Does m (Unit {0}) a b (of o (item x) ∷ []) (λ f. releasing (addresses own)) (λ u fs. fs ≡ of r (word (passed_word s v)) ∷ []) (λ u. []) (λ u. addresses own) in
@@ -83,6 +86,7 @@ module _ {Self Operand : Type 0} (m : Meaning Self Operand) (sound : Sound m) (t
   text_lowers a b o os e = record {
     adds = e.adds;
     fits = e.results;
+    ranged = λ heap v ws own listed says. text_ranged m.width sound.wide realloc heap v ws own says;
     row = λ heap v x own listed st.
         let q = e.row heap v x own st in
         (q.0, ap length q.1.pair ∙ sym e.results, q.1, q.2);
@@ -98,6 +102,7 @@ module _ {Self Operand : Type 0} (m : Meaning Self Operand) (sound : Sound m) (t
   none_lowers a = record {
     adds = adds_same m a;
     fits = refl;
+    ranged = λ heap v ws own listed says. says.0;
     row = λ heap v vals own listed st.
         let P : List m.Item → List Block → Type 0 = λ vals own. Passes m (PartsSay m.width (way realloc heap) none v) (ofs m [] (item_data m vals)) own [] a a in
         subst (λ vs. P vs own) (sym st.0) (subst (P []) (sym st.1) ([], refl, (refl, refl), does_none m a));
@@ -107,6 +112,10 @@ module _ {Self Operand : Type 0} (m : Meaning Self Operand) (sound : Sound m) (t
   more_lowers t ts a b c o os parts qs first later = record {
     adds = adds_both m a b c first.adds later.adds;
     fits = length-append os qs ∙ omega (arith, first.fits, later.fits, length-append (flatten_type (layout t)) (flatten_record (layouts ts)));
+    ranged = λ heap v ws own listed says.
+        let front = first.ranged heap v.0 says.0 says.2 listed.0 says.4 in
+        let back = later.ranged heap v.1 says.1 says.3 listed.1 says.5 in
+        subst (AreWords m.width (flatten_type (layout t) ++ flatten_record (layouts ts))) (sym says.6) (words_both m.width (flatten_type (layout t)) (flatten_record (layouts ts)) says.0 says.1 front back);
     row = λ heap v vals own listed st.
         let x = st.0 in
         let rest = st.1 in
@@ -142,6 +151,7 @@ module _ {Self Operand : Type 0} (m : Meaning Self Operand) (sound : Sound m) (t
   record_lowers id members a b c o parts os is e later = record {
     adds = adds_both m a b c e.adds later.adds;
     fits = later.fits;
+    ranged = later.ranged;
     row = parts_row (field_shapes types members) (fields (field_shapes types members)) (λ v. v) a b c o parts os (e.row members is) later;
   }
 
@@ -150,6 +160,7 @@ module _ {Self Operand : Type 0} (m : Meaning Self Operand) (sound : Sound m) (t
   tuple_lowers n ts a b c o parts os is e later = record {
     adds = adds_both m a b c e.adds later.adds;
     fits = later.fits;
+    ranged = later.ranged;
     row = parts_row ts (tuple ts) (λ v. v) a b c o parts os (e.row ts is) later;
   }
 

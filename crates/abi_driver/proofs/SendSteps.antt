@@ -7,7 +7,7 @@ use Rattle.abi_driver.specs.Code.{each}
 use Rattle.abi_driver.specs.Instructions.{Emits}
 use Rattle.abi_driver.specs.Meaning.{Meaning}
 use Rattle.abi_driver.specs.Sends.{Sends}
-use Rattle.abi_driver.specs.Sent.{Sent, asks, sends}
+use Rattle.abi_driver.specs.Sent.{Sent, asks, closes, opens, sends, sends_casts, sends_zeros}
 
 pub each_last : {A : Type 0} (f : ℕ → A → List Sent) (k : ℕ) (xs : List A) (x : A) → each f k (xs ++ x ∷ []) ≡ each f k xs ++ f (k + length xs) x
 each_last f k [] x = append-nil (f k x) ∙ ap (λ n. f n x) (omega arith)
@@ -27,6 +27,10 @@ module _ {Self Operand : Type 0} (m : Meaning Self Operand) (types : List TypeDe
   sends_both [] later a b c h g = subst (λ x. Sends m types later x c) h g
   sends_both (sends i ∷ steps) later a b c h g = (h.0, h.1, h.2, h.3, sends_both steps later h.2 b c h.4 g)
   sends_both (asks x ∷ steps) later a b c h g = (h.0, h.1, h.2, sends_both steps later h.1 b c h.3 g)
+  sends_both (opens ∷ steps) later a b c h g = (h.0, h.1, sends_both steps later h.0 b c h.2 g)
+  sends_both (closes ∷ steps) later a b c h g = (h.0, h.1, h.2, sends_both steps later h.1 b c h.3 g)
+  sends_both (sends_casts casts ∷ steps) later a b c h g = (h.0, h.1, h.2, h.3, h.4, h.5, sends_both steps later h.4 b c h.6 g)
+  sends_both (sends_zeros zeros ∷ steps) later a b c h g = (h.0, h.1, h.2, h.3, h.4, h.5, sends_both steps later h.4 b c h.6 g)
 
   pub sends_then : (i : Instruction) (os rs : List Operand) (steps : List Sent) (a b c : Self) → Emits m types i os rs a b → Sends m types steps b c → Sends m types (sends i ∷ steps) a c
   sends_then i os rs steps a b c e h = (os, rs, b, e, h)

@@ -8,6 +8,7 @@ use Rattle.wrapper_meaning.specs.Items.{SameItems}
 use Rattle.abi_driver.specs.Account.{Done, Outcome, Peer, Stopped, Stuck, account_in}
 use Rattle.abi_driver.specs.Laws.{Data, Facts, Stays, ofs}
 use Rattle.abi_driver.specs.Meaning.{Bound, Datum, Ended, Fact, Meaning, Name, arg, at_place, bound, item, of, the_base, the_element, the_key, the_payload, the_value, with_element, with_entry, with_nothing, with_payload, word}
+use Rattle.abi_driver.specs.Sent.{closes, opens}
 
 abbrev pub IsWord : {V : Type 0} → Datum V → Type 0
 IsWord (word x) = Unit {0}
@@ -82,6 +83,8 @@ module _ {Self Operand : Type 0} (m : Meaning Self Operand) where
     pub owns : (s : m.State) (with : Bound m.Item) → SameItems (m.owns (m.enter slot with s)) (brought with)
     pub enters : (w : m.World) (later : Self) (facts : Facts m) (before s : m.State) (with : Bound m.Item) → AllByRecursion IsOfWord facts → m.denotes w old facts before → m.denotes w later facts s
         → m.denotes w new (names slot with ++ facts) (m.enter slot with s)
+    -- the step became code of its form
+    pub form : m.forms opens [] [] old new
 
   -- 3. It is closed
 
@@ -116,6 +119,8 @@ module _ {Self Operand : Type 0} (m : Meaning Self Operand) where
     pub blocks : m.blocks new ≡ block ∷ m.blocks old
     pub results : m.results_of block ≡ length os
     pub runs : Runs block slot os old new
+    -- the step became code of its form
+    pub form : m.forms closes os [] old new
 
   -- 4. Finished blocks that an instruction uses up
 

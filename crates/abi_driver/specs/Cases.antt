@@ -1,5 +1,5 @@
 -- What the instructions of variants, options, results and enums do.
-use Rattle.std.specs.Prelude.{◌≡◌, ℕ, ◌*◌, ◌^◌, pos, true, nat_lt, if◌then◌else◌, List, [], ◌∷◌, ◌++◌, length, map, reverse, Bool, Option, None, Some, option_to_list, slice_get}
+use Rattle.std.specs.Prelude.{◌≡◌, ℕ, ◌*◌, ◌^◌, pos, true, false, nat_lt, if◌then◌else◌, List, [], ◌∷◌, ◌++◌, length, map, reverse, Bool, Option, None, Some, option_to_list, slice_get}
 use Rattle.std.specs.List.{flat_map}
 use mathlib.Core.Logic.{inl, inr}
 use Rattle.wit_model.specs.declared.types.TypeDef.{TypeDef}
@@ -60,11 +60,11 @@ reading_tag f n (core.I32 z) acc = if nat_lt (tag_of n (core.I32 z)) n then stay
 reading_tag f n x acc = Stuck acc
 
 module _ {Self Operand : Type 0} (m : Meaning Self Operand) where
-  -- an item stands for the payload of a case, where it has one
+  -- an item stands for the payload of a case; where the payload is nothing, there is no item
   abbrev pub PayloadStands : Direction → (ts : Shapes) → Case ts → Option m.Item → List Block → Type 0
   PayloadStands dir none c payload own = ⊥
   PayloadStands dir (more t ts) (inl v) None own = (is_nothing t ≡ true) × (own ≡ [])
-  PayloadStands dir (more t ts) (inl v) (Some a) own = m.stands dir t v a own
+  PayloadStands dir (more t ts) (inl v) (Some a) own = (is_nothing t ≡ false) × m.stands dir t v a own
   PayloadStands dir (more t ts) (inr c) payload own = PayloadStands dir ts c payload own
 
   abbrev pub with_case : Option m.Item → Bound m.Item

@@ -1,6 +1,7 @@
 -- Which instructions are sent for a type and for a function, and in which order. Of types that the driver answers an error on there are none.
 use Rattle.std.specs.Borrow.{Bor}
-use Rattle.std.specs.Prelude.{ℕ, suc, ◌+◌, ◌*◌, Bool, true, false, if◌then◌else◌, List, [], ◌∷◌, ◌++◌, length, map, Option, None, Some, option_to_list, reverse, slice_index, slice_index_or}
+use Rattle.std.specs.Prelude.{ℕ, suc, ◌+◌, ◌*◌, Bool, true, false, if◌then◌else◌, List, [], ◌∷◌, ◌++◌, length, map, Option, None, Some, option_to_list, pos, drop, reverse, slice_index, slice_index_or, take}
+use Rattle.std.specs.List.{flat_map, list_all}
 use Rattle.wit_model.specs.Size.{paired}
 use Rattle.wit_model.specs.declared.function.Function.{Function}
 use Rattle.wit_model.specs.declared.size.ArchitectureSize.{ArchitectureSize}
@@ -9,24 +10,27 @@ use Rattle.wit_model.specs.declared.types.TypeDefKind.{TypeDefKind}
 use Rattle.wit_model.specs.declared.types.TypeDefKind.TheVariants as kind
 use Rattle.wit_model.specs.declared.types.WitType.{WitType}
 use Rattle.wit_model.specs.declared.types.WitType.TheVariants as wit
+use Rattle.wit_model.specs.declared.wasm_type.WasmType.{WasmType}
 use Rattle.wit_layout.specs.declared.signature.AbiVariant.{AbiVariant}
 use Rattle.wit_layout.specs.declared.signature.AbiVariant.TheVariants.{GuestExport, GuestImport}
-use Rattle.wit_layout.specs.Flat.{flatten_type, words_of_flags}
+use Rattle.wit_layout.specs.Flat.{flatten_type, slots, words_of_flags}
 use Rattle.wit_layout.specs.Signature.{core_results}
 use Rattle.wit_layout.specs.Sizes.{elem_size, field_offsets}
 use Rattle.wit_layout.specs.Tree.{Tree, record_of, tree_at, tree_of}
 use Rattle.wrapper_meaning.specs.Areas.{stored_alignment}
-use Rattle.wrapper_meaning.specs.Layout.{layout}
+use Rattle.wrapper_meaning.specs.Layout.{layout, layouts}
 use Rattle.wrapper_meaning.specs.Represents.{are_indirect, is_indirect, result_words}
-use Rattle.wrapper_meaning.specs.Shape.{Shape, result_shape, shape_of}
+use Rattle.wrapper_meaning.specs.Shape.{Shape, payload_in, payloads_in, result_shape, shape_of, shapes}
 use Rattle.wrapper_meaning.specs.Shape.Shape.{fields}
 use Rattle.abi_driver.specs.declared.instruction.Instruction.{Instruction}
-use Rattle.abi_driver.specs.declared.instruction.Instruction.TheVariants.{CallInterface, CallWasm, EnumLift, EnumLower, FlagsLift, FlagsLower, Flush, GetArg, GuestDeallocate, GuestDeallocateString, LengthLoad, LengthStore, PointerLoad, PointerStore, RecordLift, RecordLower, Return, StringLift, StringLower, TupleLift, TupleLower}
+use Rattle.abi_driver.specs.declared.instruction.Instruction.TheVariants.{CallInterface, CallWasm, EnumLift, EnumLower, FlagsLift, FlagsLower, Flush, GetArg, GuestDeallocate, GuestDeallocateString, I32Const, LengthLoad, LengthStore, OptionLift, OptionLower, PointerLoad, PointerStore, RecordLift, RecordLower, ResultLift, ResultLower, Return, StringLift, StringLower, TupleLift, TupleLower, VariantLift, VariantLower, VariantPayloadName}
+use Rattle.abi_driver.specs.Cases.{payloads_of}
 use Rattle.abi_driver.specs.Frees.{nowhere}
 use Rattle.abi_driver.specs.Instructions.{lifting, lowering, shapes_of}
 use Rattle.abi_driver.specs.NumberTouches.{flags_load, flags_store, tag_load, tag_store}
 use Rattle.abi_driver.specs.ScalarTouches.{scalar_load, scalar_store}
-use Rattle.abi_driver.specs.Sent.{Sent, asks, sends}
+use Rattle.abi_driver.specs.Sent.{Sent, asks, closes, opens, sends, sends_casts, sends_zeros}
+use Rattle.abi_driver.specs.SlotCasts.{casts_between, is_no_cast}
 
 -- the instruction for a scalar; none elsewhere
 abbrev pub sent : Option Instruction → List Sent
@@ -39,11 +43,25 @@ each f n (x ∷ xs) = f n x ++ each f (suc n) xs
 
 -- 1. What is made for each type of a table, of what was made for the types that it names
 
+-- the payloads that there are
+abbrev pub payloads_there : {A : Type 0} → List (Option A) → List A
+payloads_there payloads = flat_map option_to_list payloads
+
+-- what was made for each payload that there is, by its case
+abbrev pub by_case : {A B : Type 0} → List (Option A) → List B → List (Option B)
+by_case [] parts = []
+by_case (None ∷ payloads) parts = None ∷ by_case payloads parts
+by_case (Some ty ∷ payloads) [] = None ∷ by_case payloads []
+by_case (Some ty ∷ payloads) (part ∷ parts) = Some part ∷ by_case payloads parts
+
 -- the types of the parts, and the one that an alias names
 abbrev pub members_of : TypeDefKind → List WitType
 members_of (kind.Alias ty) = ty ∷ []
 members_of (kind.Record members) = map (λ f. f.ty) members
 members_of (kind.Tuple members) = members
+members_of (kind.Variant members) = payloads_there (map (λ c. c.ty) members)
+members_of (kind.Option ty) = ty ∷ []
+members_of (kind.Result ok err) = payloads_there (ok ∷ err ∷ [])
 members_of _ = []
 
 -- by what was made for the entries before it
@@ -67,35 +85,87 @@ module _ {A : Type 0} (leaf : WitType → A) (by_kind : ℕ → TypeDefKind → 
 abbrev pub in_turn : List (List Sent) → List Sent
 in_turn parts = each (λ n part. part) 0 parts
 
+-- what is sent for each case, in order, by its number, its payload and what was made for that
+abbrev pub each_case : {A : Type 0} → (ℕ → Option WitType → Option A → List Sent) → ℕ → List (Option WitType) → List (Option A) → List Sent
+each_case f n (payload ∷ payloads) (part ∷ parts) = f n payload part ++ each_case f (suc n) payloads parts
+each_case f n _ _ = []
+
+-- the words of a payload, and the slots that the payloads of all cases share
+abbrev pub payload_words : List TypeDef → Option WitType → List WasmType
+payload_words types payload = flatten_type (layout (payload_in (shapes types) payload))
+
+abbrev pub shared_slots : List TypeDef → List (Option WitType) → List WasmType
+shared_slots types payloads = slots (layouts (payloads_in (shapes types) payloads))
+
+-- words are cast where one of the casts changes anything, and slots that are left over are zero
+abbrev pub cast_code : (froms tos : List WasmType) → List Sent
+cast_code froms tos = if list_all is_no_cast (casts_between froms tos) then [] else sends_casts (casts_between froms tos) ∷ []
+
+abbrev pub zero_code : List WasmType → List Sent
+zero_code [] = []
+zero_code (ty ∷ left) = sends_zeros (ty ∷ left) ∷ []
+
 abbrev pub lower_leaf : Bool → WitType → List Sent
 lower_leaf realloc wit.String = sends (StringLower realloc) ∷ []
 lower_leaf realloc ty = sent (lowering ty)
 
-abbrev pub lower_kind : ℕ → TypeDefKind → List (List Sent) → List Sent
-lower_kind id (kind.Alias ty) parts = in_turn parts
-lower_kind id (kind.Record members) parts = sends (RecordLower (record { 0 = id })) ∷ in_turn parts
-lower_kind id (kind.Tuple members) parts = sends (TupleLower (length members)) ∷ in_turn parts
-lower_kind id (kind.Enum members) parts = sends (EnumLower (record { 0 = id })) ∷ []
-lower_kind id (kind.Flags members) parts = sends (FlagsLower (record { 0 = id })) ∷ []
-lower_kind id _ parts = []
+-- the block of a case gives its number and all slots
+abbrev pub lower_case : List TypeDef → List WasmType → ℕ → Option WitType → Option (List Sent) → List Sent
+lower_case types shared n (Some ty) (Some part) =
+    let words = payload_words types (Some ty) in
+    opens ∷ sends VariantPayloadName ∷ sends (I32Const (pos n)) ∷ part ++ cast_code words (take (length words) shared) ++ zero_code (drop (length words) shared) ++ closes ∷ []
+lower_case types shared n _ _ = opens ∷ sends (I32Const (pos n)) ∷ zero_code shared ++ closes ∷ []
+
+abbrev pub lower_cases : List TypeDef → List (Option WitType) → List (List Sent) → List Sent
+lower_cases types payloads parts = each_case (lower_case types (shared_slots types payloads)) 0 payloads (by_case payloads parts)
+
+-- how many words a value is of a type with such cases
+abbrev pub case_words : List TypeDef → List (Option WitType) → ℕ
+case_words types payloads = suc (length (shared_slots types payloads))
+
+abbrev pub lower_kind : List TypeDef → ℕ → TypeDefKind → List (List Sent) → List Sent
+lower_kind types id (kind.Alias ty) parts = in_turn parts
+lower_kind types id (kind.Record members) parts = sends (RecordLower (record { 0 = id })) ∷ in_turn parts
+lower_kind types id (kind.Tuple members) parts = sends (TupleLower (length members)) ∷ in_turn parts
+lower_kind types id (kind.Enum members) parts = sends (EnumLower (record { 0 = id })) ∷ []
+lower_kind types id (kind.Flags members) parts = sends (FlagsLower (record { 0 = id })) ∷ []
+lower_kind types id (kind.Variant members) parts =
+    let payloads = payloads_of (kind.Variant members) in lower_cases types payloads parts ++ sends (VariantLower (record { 0 = id }) (case_words types payloads)) ∷ []
+lower_kind types id (kind.Option ty) parts =
+    let payloads = payloads_of (kind.Option ty) in lower_cases types payloads parts ++ sends (OptionLower (record { 0 = id }) (case_words types payloads)) ∷ []
+lower_kind types id (kind.Result ok err) parts =
+    let payloads = payloads_of (kind.Result ok err) in lower_cases types payloads parts ++ sends (ResultLower (record { 0 = id }) (case_words types payloads)) ∷ []
+lower_kind types id _ parts = []
 
 unfoldable pub lower_code : List TypeDef → Bool → WitType → List Sent
-lower_code types realloc ty = made_for (lower_leaf realloc) lower_kind types ty
+lower_code types realloc ty = made_for (lower_leaf realloc) (lower_kind types) types ty
 
 abbrev pub lift_leaf : WitType → List Sent
 lift_leaf wit.String = sends StringLift ∷ []
 lift_leaf ty = sent (lifting ty)
 
-abbrev pub lift_kind : ℕ → TypeDefKind → List (List Sent) → List Sent
-lift_kind id (kind.Alias ty) parts = in_turn parts
-lift_kind id (kind.Record members) parts = in_turn parts ++ sends (RecordLift (record { 0 = id })) ∷ []
-lift_kind id (kind.Tuple members) parts = in_turn parts ++ sends (TupleLift (length members)) ∷ []
-lift_kind id (kind.Enum members) parts = sends (EnumLift (record { 0 = id })) ∷ []
-lift_kind id (kind.Flags members) parts = sends (FlagsLift (record { 0 = id })) ∷ []
-lift_kind id _ parts = []
+-- the block of a case gives its payload, where it has one, of the first slots
+abbrev pub lift_case : List TypeDef → List WasmType → ℕ → Option WitType → Option (List Sent) → List Sent
+lift_case types shared n (Some ty) (Some part) =
+    let words = payload_words types (Some ty) in opens ∷ cast_code (take (length words) shared) words ++ part ++ closes ∷ []
+lift_case types shared n _ _ = opens ∷ closes ∷ []
+
+abbrev pub lift_cases : List TypeDef → List (Option WitType) → List (List Sent) → List Sent
+lift_cases types payloads parts = each_case (lift_case types (shared_slots types payloads)) 0 payloads (by_case payloads parts)
+
+abbrev pub lift_kind : List TypeDef → ℕ → TypeDefKind → List (List Sent) → List Sent
+lift_kind types id (kind.Alias ty) parts = in_turn parts
+lift_kind types id (kind.Record members) parts = in_turn parts ++ sends (RecordLift (record { 0 = id })) ∷ []
+lift_kind types id (kind.Tuple members) parts = in_turn parts ++ sends (TupleLift (length members)) ∷ []
+lift_kind types id (kind.Enum members) parts = sends (EnumLift (record { 0 = id })) ∷ []
+lift_kind types id (kind.Flags members) parts = sends (FlagsLift (record { 0 = id })) ∷ []
+lift_kind types id (kind.Variant members) parts = lift_cases types (payloads_of (kind.Variant members)) parts ++ sends (VariantLift (record { 0 = id })) ∷ []
+lift_kind types id (kind.Option ty) parts = lift_cases types (payloads_of (kind.Option ty)) parts ++ sends (OptionLift (record { 0 = id })) ∷ []
+lift_kind types id (kind.Result ok err) parts = lift_cases types (payloads_of (kind.Result ok err)) parts ++ sends (ResultLift (record { 0 = id })) ∷ []
+lift_kind types id _ parts = []
 
 unfoldable pub lift_code : List TypeDef → WitType → List Sent
-lift_code types ty = made_for lift_leaf lift_kind types ty
+lift_code types ty = made_for lift_leaf (lift_kind types) types ty
 
 abbrev pub free_words_leaf : WitType → List Sent
 free_words_leaf wit.String = sends GuestDeallocateString ∷ []

@@ -4,10 +4,12 @@ use Rattle.wit_model.specs.IndexRange.{function_in_range}
 use Rattle.wit_model.specs.MapKey.{is_key}
 use Rattle.wit_model.specs.WellFormed.{IsWellFormed}
 use Rattle.wit_model.specs.declared.resolve.Resolve.{Resolve}
+use Rattle.wit_model.specs.declared.name.TypeId.{TypeId}
 use Rattle.wit_model.specs.declared.types.Case.{Case}
 use Rattle.wit_model.specs.declared.types.Field.{Field}
 use Rattle.wit_model.specs.declared.types.Member.{Member}
 use Rattle.wit_model.specs.declared.types.TypeDef.{TypeDef}
+use Rattle.wit_model.specs.declared.types.TypeDefKind.{TypeDefKind}
 use Rattle.wit_model.specs.declared.types.TypeDefKind.TheVariants as kind
 use Rattle.wit_model.specs.declared.types.WitType.{WitType}
 use Rattle.wit_model.specs.declared.types.WitType.TheVariants as wit
@@ -107,6 +109,25 @@ lifting wit.S64 = Some S64FromI64
 lifting wit.F32 = Some F32FromCoreF32
 lifting wit.F64 = Some F64FromCoreF64
 lifting _ = None
+
+-- a variant, an option or a result
+abbrev pub has_cases : TypeDefKind → Bool
+has_cases (kind.Variant members) = true
+has_cases (kind.Option ty) = true
+has_cases (kind.Result ok err) = true
+has_cases _ = false
+
+-- the instruction by which a value of such a kind becomes so many words
+abbrev pub case_lowering : TypeDefKind → TypeId → ℕ → Instruction
+case_lowering (kind.Option ty) id n = OptionLower id n
+case_lowering (kind.Result ok err) id n = ResultLower id n
+case_lowering _ id n = VariantLower id n
+
+-- and the one by which a number and a payload become a value
+abbrev pub case_lifting : TypeDefKind → TypeId → Instruction
+case_lifting (kind.Option ty) id = OptionLift id
+case_lifting (kind.Result ok err) id = ResultLift id
+case_lifting _ id = VariantLift id
 
 -- 2. Records
 

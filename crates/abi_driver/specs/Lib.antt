@@ -4,6 +4,7 @@ pub mod Arms
 pub mod Blocks
 pub mod Calls
 pub mod Cases
+pub mod CaseBlocks
 pub mod Constants
 pub mod Entries
 pub mod Code
@@ -33,6 +34,7 @@ pub mod Requested
 pub mod ScalarTouches
 pub mod Sends
 pub mod Sent
+pub mod SlotCasts
 pub mod Stores
 pub mod Touches
 pub mod Turns

@@ -4,6 +4,7 @@
 mod after_return;
 mod bindgen;
 mod calls;
+mod casts;
 mod dealloc;
 mod has_list;
 mod instruction;

@@ -176,6 +176,7 @@ fn give_answer<B: Bindgen>(
     ty: Option<WitType>,
     retptr: bool,
 ) -> Result<List<B::Operand>, OutOfMemory>
+    requires well { IsWellFormed resolve.now }
     requires down { GoesDown resolve.now.types }
     requires below { IsTrue (payload_below (length resolve.now.types) ty) }
     requires serves { B.meaning.exports bindgen.old ≡ true }
@@ -200,6 +201,7 @@ fn lower_answer<B: Bindgen>(
     answer: &[B::Operand],
     ty: WitType,
 ) -> Result<List<B::Operand>, OutOfMemory>
+    requires well { IsWellFormed resolve.now }
     requires down { GoesDown resolve.now.types }
     requires below { IsTrue (type_below (length resolve.now.types) ty) }
     requires serves { B.meaning.exports bindgen.old ≡ true }

@@ -91,6 +91,7 @@ fn pass_arguments<B: Bindgen>(
     tys: &[WitType],
     indirect: bool,
 ) -> Result<List<B::Operand>, OutOfMemory>
+    requires well { IsWellFormed resolve.now }
     requires down { GoesDown resolve.now.types }
     requires below { list_all (λ ty. type_below (length resolve.now.types) ty) tys.now ≡ true }
     requires serves { B.meaning.imports bindgen.old ≡ true }
@@ -116,6 +117,7 @@ fn lower_arguments<B: Bindgen>(
     bindgen: &mut B,
     tys: &[WitType],
 ) -> Result<List<B::Operand>, OutOfMemory>
+    requires well { IsWellFormed resolve.now }
     requires down { GoesDown resolve.now.types }
     requires below { list_all (λ ty. type_below (length resolve.now.types) ty) tys.now ≡ true }
     requires serves { B.meaning.imports bindgen.old ≡ true }

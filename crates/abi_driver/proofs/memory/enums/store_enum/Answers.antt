@@ -29,7 +29,7 @@ returns g c =
     let shape = enum_shape types c.requires.down c.args.id.0 here.entry here.stands members here.kind in
     record {
       stores = λ realloc. stores_as m sound types realloc _ _ _ _ c.args.value c.args.address.now c.args.offset shape
-          (enum_stores m sound types realloc members _ _ _ c.args.value tag c.args.address.now c.args.offset most (enum_lowers m sound types realloc c.args.id members _ _ c.args.value (tag ∷ []) here e) store);
+          (enum_stores m sound types realloc members _ _ _ c.args.value tag c.args.address.now c.args.offset most (enum_lowers m sound types realloc c.args.id members _ _ c.args.value (tag ∷ []) most here e) store);
       sends = λ realloc. sends_as m types _ _ _ _ (store_enum_code types c.requires.down c.args.id here.entry here.stands c.args.offset realloc members here.kind)
           (sends_two m types (EnumLower c.args.id) (tag_store (length members) c.args.offset) _ _ _ _ _ _ _ e store);
     }
