@@ -11,6 +11,7 @@ use Rattle.wrapper_meaning.proofs.PostReturn.{total-append}
 use Rattle.abi_driver.specs.Account.{Done, Follows, Got, Outcome, Peer, Stopped, Stops, Stuck, account_in, addresses, releasing}
 use Rattle.abi_driver.specs.Blocks.{AreFinished, Finishes, IsOfWord, Pushes, Runs, StopsAlike, brought, names, owned_datum}
 use Rattle.abi_driver.specs.CaseBlocks.{AddsBlocks, GivesWords}
+use Rattle.abi_driver.specs.Instructions.{AddsCode}
 use Rattle.abi_driver.specs.Laws.{Adds, After, At, Does, Facts, Grows, Quiet, Sound, core_data, ofs}
 use Rattle.abi_driver.specs.Leaves.{way}
 use Rattle.abi_driver.specs.Meaning.{Bound, Ended, Meaning, word}
@@ -98,6 +99,10 @@ module _ {Self Operand : Type 0} (m : Meaning Self Operand) where
     many = length-append xs ys ∙ omega (arith, g.many, h.many, length-append ks ls);
     finished = finished_both c ks ls xs ys g.many (finished_later b c ks xs h.grows.serves g.finished) h.finished;
   }
+
+  pub code_grows : (ks : List ℕ) (a b : Self) → AddsCode m false ks a b → Grows m a b × Quiet m a b
+  code_grows [] a b h = (h.grows, h.quiet)
+  code_grows (k ∷ ks) a b h = h
 
   -- the blocks, and then code that uses them up
   pub blocks_used : (xs : List m.Block) (ks : List ℕ) (a b c : Self) → AddsBlocks m xs ks a b → Grows m b c → Quiet m b c → m.asked c ≡ m.asked b → m.blocks c ≡ drop (length ks) (m.blocks b) → Adds m a c

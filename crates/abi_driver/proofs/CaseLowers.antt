@@ -38,7 +38,7 @@ use Rattle.abi_driver.specs.Parts.{count}
 use Rattle.abi_driver.specs.SlotCasts.{AddsZeros, CastsAll, FitIn, ReadBack}
 use Rattle.abi_driver.specs.Turns.{Arrives, Moved, Went}
 use Rattle.abi_driver.proofs.BareCases.{number_ranged}
-use Rattle.abi_driver.proofs.BlockRuns.{block_passes, blocks_both, blocks_used, get_behind, get_front, no_blocks, one_block, take_front, way_owned, words_own}
+use Rattle.abi_driver.proofs.BlockRuns.{block_passes, blocks_both, blocks_used, code_grows, get_behind, get_front, no_blocks, one_block, take_front, way_owned, words_own}
 use Rattle.abi_driver.proofs.Runs.{adds_both, core_append, does_both, ofs_append, stays_then}
 use Rattle.abi_driver.proofs.WordBits.{cast_length, fit_length, to_slots, written_are, written_left, written_read, zeros_are, zeros_zero}
 
@@ -277,10 +277,6 @@ module _ {Self Operand : Type 0} (m : Meaning Self Operand) (sound : Sound m) (r
     arm_followed (Stopped e acc) q h k = subst (λ z. Follows m.account (RunArm z) (m.does w p (m.code c) s0) Armful) h k
     arm_followed (Stuck acc) q h k = arm_calls q k ∙ h
 
-  code_grows : (ks : List ℕ) (a b : Self) → AddsCode m false ks a b → Grows m a b × Quiet m a b
-  code_grows [] a b h = (h.grows, h.quiet)
-  code_grows (k ∷ ks) a b h = h
-
   module _ (ts : Shapes) (a b c : Self) (o : Operand) (os : List Operand) (ks : List ℕ) (many : length ks ≡ count ts) (few : count ts ≤ 2 ^ 31) (blocks : LowersCases m realloc ts 0 (slots (layouts ts)) a b) (code : AddsCode m false ks b c)
       (used : m.blocks c ≡ drop (length ks) (m.blocks b)) (asked : m.asked c ≡ m.asked b) (results : length os ≡ suc (length (slots (layouts ts)))) (row : LowersCase m ts (o ∷ []) os b c) where
     abbrev block_counts : List ℕ
@@ -288,7 +284,7 @@ module _ {Self Operand : Type 0} (m : Meaning Self Operand) (sound : Sound m) (r
 
     all_adds : Adds m a c
     all_adds =
-        let g = code_grows ks b c code in
+        let g = code_grows m ks b c code in
         let same : length ks ≡ length block_counts = many ∙ sym (length-replicate (count ts) (suc (length (slots (layouts ts))))) in
         blocks_used m blocks.bodies block_counts a b c blocks.adds g.0 g.1 asked (used ∙ ap (λ n. drop n (m.blocks b)) same)
 
@@ -318,7 +314,7 @@ module _ {Self Operand : Type 0} (m : Meaning Self Operand) (sound : Sound m) (r
           (q.2, refl, q.3, q.4),
           λ w p others s0 s at.
               let facts : Facts m = of o (item x) ∷ others in
-              let svb = (code_grows ks b c code).0.serves w at.serves in
+              let svb = (code_grows m ks b c code).0.serves w at.serves in
               let holds : m.denotes w b facts s = blocks.adds.grows.known w facts s at.holds in
               let at2 : At m w p b c facts s0 s = record { serves = at.serves; done = ap (λ code. m.does w p code s0) blocks.adds.code ∙ at.done; holds = holds } in
               let mv = r.2 w p others s0 s at2 in

@@ -11,9 +11,9 @@ use Rattle.wit_model.specs.declared.types.TypeDefKind.TheVariants as kind
 use Rattle.wit_model.specs.declared.types.WitType.{WitType}
 use Rattle.wit_model.specs.declared.types.WitType.TheVariants as wit
 use Rattle.abi_driver.specs.declared.instruction.Instruction.{Instruction}
-use Rattle.abi_driver.specs.declared.instruction.Instruction.TheVariants.{EnumLift, EnumLower, FlagsLift, FlagsLower, GuestDeallocateString, OptionLower, RecordLift, RecordLower, ResultLower, StringLift, StringLower, TupleLift, TupleLower, VariantLower}
-use Rattle.abi_driver.specs.Code.{case_words, each, lower_case, lower_cases, members_of, payloads_there, shared_slots, free_words_code, free_words_kind, free_words_leaf, lift_code, lift_kind, lift_leaf, lower_code, lower_kind, lower_leaf, sent}
-use Rattle.abi_driver.specs.Instructions.{case_lowering, has_cases, lifting, lowering}
+use Rattle.abi_driver.specs.declared.instruction.Instruction.TheVariants.{EnumLift, EnumLower, FlagsLift, FlagsLower, GuestDeallocateString, OptionLift, OptionLower, RecordLift, RecordLower, ResultLift, ResultLower, StringLift, StringLower, TupleLift, TupleLower, VariantLift, VariantLower}
+use Rattle.abi_driver.specs.Code.{case_words, each, lift_case, lift_cases, lower_case, lower_cases, members_of, payloads_there, shared_slots, free_words_code, free_words_kind, free_words_leaf, lift_code, lift_kind, lift_leaf, lower_code, lower_kind, lower_leaf, sent}
+use Rattle.abi_driver.specs.Instructions.{case_lifting, case_lowering, has_cases, lifting, lowering}
 use Rattle.abi_driver.specs.Cases.{payloads_of}
 use Rattle.abi_driver.specs.Sent.{sends}
 use Rattle.abi_driver.proofs.CodeByKind.{made_by_kind}
@@ -116,6 +116,20 @@ module _ (types : List TypeDef) (down : GoesDown types) (id : TypeId) (entry : T
       by_kind (kind.Variant members) h = ap (λ steps. steps ++ sends (VariantLower id (case_words types (payloads_of (kind.Variant members)))) ∷ []) (each_by (payloads_of (kind.Variant members)))
       by_kind (kind.Option ty) h = ap (λ steps. steps ++ sends (OptionLower id (case_words types (payloads_of (kind.Option ty)))) ∷ []) (each_by (payloads_of (kind.Option ty)))
       by_kind (kind.Result ok err) h = ap (λ steps. steps ++ sends (ResultLower id (case_words types (payloads_of (kind.Result ok err)))) ∷ []) (each_by (payloads_of (kind.Result ok err)))
+      by_kind _ h = absurd cc
+
+  pub lift_variant_code : (k : TypeDefKind) → entry.kind ≡ k → has_cases k ≡ true → lift_code types (wit.Id id) ≡ each (λ n payload. lift_case types (shared_slots types (payloads_of k)) n payload (option_map (lift_code types) payload)) 0 (payloads_of k) ++ sends (case_lifting k id) ∷ []
+  unfolding lift_code
+  lift_variant_code k e has = made_by_kind lift_leaf (lift_kind types) types id entry k down at e ∙ by_kind k has
+    where
+      each_by : (payloads : List (Option WitType)) → lift_cases types payloads (map (lift_code types) (payloads_there payloads)) ≡ each (λ n payload. lift_case types (shared_slots types payloads) n payload (option_map (lift_code types) payload)) 0 payloads
+      each_by payloads = each_case_each (lift_case types (shared_slots types payloads)) (lift_code types) 0 payloads
+
+      by_kind : (k : TypeDefKind) → has_cases k ≡ true → lift_kind types id.0 k (map (lift_code types) (members_of k))
+          ≡ each (λ n payload. lift_case types (shared_slots types (payloads_of k)) n payload (option_map (lift_code types) payload)) 0 (payloads_of k) ++ sends (case_lifting k id) ∷ []
+      by_kind (kind.Variant members) h = ap (λ steps. steps ++ sends (VariantLift id) ∷ []) (each_by (payloads_of (kind.Variant members)))
+      by_kind (kind.Option ty) h = ap (λ steps. steps ++ sends (OptionLift id) ∷ []) (each_by (payloads_of (kind.Option ty)))
+      by_kind (kind.Result ok err) h = ap (λ steps. steps ++ sends (ResultLift id) ∷ []) (each_by (payloads_of (kind.Result ok err)))
       by_kind _ h = absurd cc
 
   pub free_words_alias_code : (ty : WitType) → entry.kind ≡ kind.Alias ty → free_words_code types (wit.Id id) ≡ free_words_code types ty

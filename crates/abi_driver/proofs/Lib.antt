@@ -64,3 +64,5 @@ pub mod WordRanges
 pub mod Payloads
 pub mod CastSteps
 pub mod Variants
+pub mod CaseLifts
+pub mod LiftedVariants

@@ -46,9 +46,12 @@ payloads_at types id = payloads_or (slice_get types id)
 abbrev pub case_shapes : List TypeDef → ℕ → Shapes
 case_shapes types id = payloads_in (shapes types) (payloads_at types id)
 
--- how many results each has that are blocks of its cases, the last one first
+-- how many results the block of each case has that gives the payload; and the last one first
+abbrev pub result_counts : List (Option WitType) → List ℕ
+result_counts payloads = map (λ ty. length (option_to_list ty)) payloads
+
 abbrev pub payload_counts : List (Option WitType) → List ℕ
-payload_counts payloads = reverse (map (λ ty. length (option_to_list ty)) payloads)
+payload_counts payloads = reverse (result_counts payloads)
 
 -- an enum's word, cut to the width of its tag, is one of so many cases
 abbrev pub tag_of : ℕ → Word → ℕ

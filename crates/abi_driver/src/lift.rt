@@ -3,26 +3,38 @@
 pub(crate) mod enums;
 pub(crate) mod flags;
 pub(crate) mod leaf;
+pub(crate) mod variants;
 
-ghost use Rattle.std.specs.Prelude.{◌≡◌, ◌<◌, ◌≤◌, ◌++◌, IsTrue, List, true, drop, length, IfOk, OnOk};
+ghost use Rattle.std.specs.Prelude.{◌≡◌, ◌<◌, ◌≤◌, ◌∷◌, ◌++◌, [], ℕ, IsTrue, List, Some, true, drop, length, IfOk, OnOk};
 ghost use Rattle.std.specs.List.{list_all};
-ghost use Rattle.wit_model.specs.TypeOrder.{GoesDown, type_below};
+ghost use Rattle.std.specs.Option.{option_map};
+ghost use Rattle.wit_model.specs.TypeOrder.{GoesDown, payload_below, type_below};
+ghost use Rattle.wit_model.specs.WellFormed.{IsWellFormed};
 ghost use Rattle.wit_model.specs.declared.types.WitType.TheVariants.{Id};
-ghost use Rattle.wrapper_meaning.specs.Shape.{shape_at, shape_of};
-ghost use Rattle.abi_driver.specs.Code.{each, lift_code};
-ghost use Rattle.abi_driver.specs.Instructions.{shapes_of};
+ghost use Rattle.wrapper_meaning.specs.Shape.{payload_in, payloads_in, shape_at, shape_of, shapes};
+ghost use Rattle.wrapper_meaning.specs.Shape.Shapes.{none, more};
+ghost use Rattle.abi_driver.specs.CaseBlocks.{LiftsCases};
+ghost use Rattle.abi_driver.specs.Cases.{result_counts};
+ghost use Rattle.abi_driver.specs.Code.{each, lift_case, lift_code, payload_words, shared_slots};
+ghost use Rattle.abi_driver.specs.HasList.{IsKindOf};
+ghost use Rattle.abi_driver.specs.Instructions.{has_cases, shapes_of};
 ghost use Rattle.abi_driver.specs.Lifts.{LiftsAll, LiftsFlat};
 ghost use Rattle.abi_driver.specs.Sends.{Sends};
+ghost use Rattle.abi_driver.specs.SlotCasts.{FitIn};
 
-use crate::bindgen::Bindgen;
+use crate::bindgen::{Bindgen, Operand};
+use crate::casts::cast_words;
 use crate::instruction::Instruction;
 use crate::lift::enums::lift_enum;
 use crate::lift::flags::lift_flags;
 use crate::lift::leaf::{lift_scalar, lift_text, scalar_lifting};
+use crate::lift::variants::{case_lifting, close_payload, lift_bare};
+use crate::lower::variants::kind_payloads;
 use crate::parts::{field_types, part_count};
-use crate::send::send_one;
+use crate::send::{only, push_copies, send_one};
 use std::alloc::Global;
-use wit_model::{List, OutOfMemory, Resolve, TypeDefKind, TypeId, WitType};
+use wit_layout::flat_types;
+use wit_model::{List, OutOfMemory, Resolve, TypeDefKind, TypeId, WasmType, WitType};
 
 /// An operand that was made of words, and where those behind them begin.
 #[derive(Drop)]
@@ -40,8 +52,9 @@ struct LiftedParts<O> {
 
 /// What denotes the value that some core words represent, one operand for each word. What the words own is taken over.
 ///
-/// So far it is a scalar, a text, an enum or flags, or a record or a tuple of such, also through aliases. Of a type that holds any other, and
-/// of more or fewer words than the type has, the answer is `OutOfMemory`, as where memory is wanting.
+/// So far it is a scalar, a text, an enum or flags, or a record, a tuple, a variant, an option or a result of such, also through aliases.
+/// Of a type that holds any other, of a variant of more than sixteen words, and of more or fewer words than the type has, the answer
+/// is `OutOfMemory`, as where memory is wanting.
 pub fn lift_flat<B: Bindgen>(
     alloc: Global,
     resolve: &Resolve,
@@ -49,6 +62,7 @@ pub fn lift_flat<B: Bindgen>(
     words: &List<B::Operand>,
     ty: &WitType,
 ) -> Result<B::Operand, OutOfMemory>
+    requires well { IsWellFormed resolve.now }
     requires down { GoesDown resolve.now.types }
     requires below { IsTrue (type_below (length resolve.now.types) ty.now) }
     ensures lifts { IfOk result (λ o. LiftsFlat B.meaning (shape_of resolve.now.types ty.now) words.now o bindgen.old bindgen.new) }
@@ -74,6 +88,7 @@ fn lift_type<B: Bindgen>(
     at: usize,
     ty: WitType,
 ) -> Result<Lifted<B::Operand>, OutOfMemory>
+    requires well { IsWellFormed resolve.now }
     requires down { GoesDown resolve.now.types }
     requires below { IsTrue (type_below (length resolve.now.types) ty) }
     ensures lifts { IfOk result (λ r. (used : List B.Operand) × (drop at words.now ≡ used ++ drop r.next words.now)
@@ -104,6 +119,7 @@ fn lift_id<B: Bindgen>(
     at: usize,
     id: TypeId,
 ) -> Result<Lifted<B::Operand>, OutOfMemory>
+    requires well { IsWellFormed resolve.now }
     requires down { GoesDown resolve.now.types }
     requires within { id.0 < length resolve.now.types }
     ensures lifts { IfOk result (λ r. (used : List B.Operand) × (drop at words.now ≡ used ++ drop r.next words.now)
@@ -112,7 +128,8 @@ fn lift_id<B: Bindgen>(
 {
     let types = resolve.types.as_slice();
     let place = id.0 as usize;
-    match &types[place].kind {
+    let kind = &types[place].kind;
+    match kind {
         TypeDefKind::Alias(ty) => {
             let lifted = lift_type(alloc, resolve, bindgen, words, at, *ty)?;
             Ok(lifted)
@@ -137,8 +154,139 @@ fn lift_id<B: Bindgen>(
         TypeDefKind::Flags(members) => {
             lift_flags(alloc, resolve, bindgen, words, at, id, members)
         }
+        TypeDefKind::Variant(_) => lift_variant(alloc, resolve, bindgen, words, at, id, kind),
+        TypeDefKind::Option(_) => lift_variant(alloc, resolve, bindgen, words, at, id, kind),
+        TypeDefKind::Result(_, _) => lift_variant(alloc, resolve, bindgen, words, at, id, kind),
         _ => Err(OutOfMemory),
     }
+}
+
+/// A value of a type with cases: a block for each case, and then the instruction of its kind.
+#[cycle(lift)]
+fn lift_variant<B: Bindgen>(
+    alloc: Global,
+    resolve: &Resolve,
+    bindgen: &mut B,
+    words: &[B::Operand],
+    at: usize,
+    id: TypeId,
+    kind: &TypeDefKind,
+) -> Result<Lifted<B::Operand>, OutOfMemory>
+    requires well { IsWellFormed resolve.now }
+    requires down { GoesDown resolve.now.types }
+    requires here { IsKindOf resolve.now.types id.0 kind.now }
+    requires cases { has_cases kind.now ≡ true }
+    ensures lifts { IfOk result (λ r. (used : List B.Operand) × (drop at words.now ≡ used ++ drop r.next words.now)
+        × LiftsFlat B.meaning (shape_at resolve.now.types id.0) used r.operand bindgen.old bindgen.new) }
+    ensures sends { OnOk result (Sends B.meaning resolve.now.types (lift_code resolve.now.types (Id id)) bindgen.old bindgen.new) }
+{
+    let flat = flat_types(resolve, &WitType::Id(id));
+    let count = flat.count as usize;
+    if flat.more || words.len() < count || at > words.len() - count {
+        return Err(OutOfMemory);
+    }
+    let payloads = kind_payloads(alloc, kind)?;
+    let payloads = payloads.as_slice();
+    let next = at + count;
+    let shared = &words[at + 1..next];
+    let slots = &flat.words[1..count];
+    lift_cases(alloc, resolve, bindgen, shared, id, payloads, slots)?;
+    let tag = words[at].copy(alloc)?;
+    let operands = only(alloc, tag)?;
+    let operand = send_one(alloc, resolve, bindgen, case_lifting(kind, id), operands)?;
+    Ok(Lifted { operand, next })
+}
+
+/// The blocks of the cases of the type at a place of the table, which share these words.
+#[cycle(lift)]
+fn lift_cases<B: Bindgen>(
+    alloc: Global,
+    resolve: &Resolve,
+    bindgen: &mut B,
+    words: &[B::Operand],
+    id: TypeId,
+    payloads: &[Option<WitType>],
+    slots: &[WasmType],
+) -> Result<(), OutOfMemory>
+    requires well { IsWellFormed resolve.now }
+    requires down { GoesDown resolve.now.types }
+    requires within { id.0 < length resolve.now.types }
+    requires below { list_all (λ payload. payload_below id.0 payload) payloads.now ≡ true }
+    requires shared { slots.now ≡ shared_slots resolve.now.types payloads.now }
+    requires enough { length words.now ≡ length slots.now }
+    ensures lifts { OnOk result (LiftsCases B.meaning (payloads_in (shapes resolve.now.types) payloads.now) (result_counts payloads.now) slots.now words.now bindgen.old bindgen.new) }
+    ensures sends { OnOk result (Sends B.meaning resolve.now.types
+        (each (λ n payload. lift_case resolve.now.types (shared_slots resolve.now.types payloads.now) n payload (option_map (lift_code resolve.now.types) payload)) 0 payloads.now) bindgen.old bindgen.new) }
+{
+    for i in 0..payloads.len() {
+        lift_case(alloc, resolve, bindgen, words, payloads[i], slots)?;
+    }
+    Ok(())
+}
+
+/// The block of a case, which gives its payload, where it has one, of the first words.
+#[cycle(lift)]
+#[tactic(auto, unfolding(wit_model::specs::TypeOrder::payload_below))]
+fn lift_case<B: Bindgen>(
+    alloc: Global,
+    resolve: &Resolve,
+    bindgen: &mut B,
+    words: &[B::Operand],
+    payload: Option<WitType>,
+    slots: &[WasmType],
+) -> Result<(), OutOfMemory>
+    requires well { IsWellFormed resolve.now }
+    requires down { GoesDown resolve.now.types }
+    requires below { IsTrue (payload_below (length resolve.now.types) payload) }
+    requires fits { FitIn (payload_words resolve.now.types payload) slots.now }
+    requires enough { length words.now ≡ length slots.now }
+    ensures lifts { OnOk result (LiftsCases B.meaning (more (payload_in (shapes resolve.now.types) payload) none) (result_counts (payload ∷ [])) slots.now words.now bindgen.old bindgen.new) }
+    ensures sends { OnOk result ((n : ℕ) → Sends B.meaning resolve.now.types (lift_case resolve.now.types slots.now n payload (option_map (lift_code resolve.now.types) payload)) bindgen.old bindgen.new) }
+{
+    match payload {
+        None => {
+            lift_bare(alloc, bindgen)?;
+            Ok(())
+        }
+        Some(ty) => {
+            lift_payload(alloc, resolve, bindgen, words, ty, slots)?;
+            Ok(())
+        }
+    }
+}
+
+/// The same, of a case with a payload.
+#[cycle(lift)]
+fn lift_payload<B: Bindgen>(
+    alloc: Global,
+    resolve: &Resolve,
+    bindgen: &mut B,
+    words: &[B::Operand],
+    ty: WitType,
+    slots: &[WasmType],
+) -> Result<(), OutOfMemory>
+    requires well { IsWellFormed resolve.now }
+    requires down { GoesDown resolve.now.types }
+    requires below { IsTrue (type_below (length resolve.now.types) ty) }
+    requires fits { FitIn (payload_words resolve.now.types (Some ty)) slots.now }
+    requires enough { length words.now ≡ length slots.now }
+    ensures lifts { OnOk result (LiftsCases B.meaning (more (shape_of resolve.now.types ty) none) (1 ∷ []) slots.now words.now bindgen.old bindgen.new) }
+    ensures sends { OnOk result ((n : ℕ) → Sends B.meaning resolve.now.types (lift_case resolve.now.types slots.now n (Some ty) (Some (lift_code resolve.now.types ty))) bindgen.old bindgen.new) }
+{
+    let flat = flat_types(resolve, &ty);
+    let count = flat.count as usize;
+    if flat.more || count == 0 {
+        return Err(OutOfMemory);
+    }
+    let types = &flat.words[..count];
+    let mut first = Vec::new(alloc);
+    push_copies(&mut first, alloc, &words[..count])?;
+    let first = List::from_vec(first);
+    bindgen.push_block()?;
+    let used = cast_words(alloc, resolve, bindgen, first, &slots[..count], types)?;
+    let lifted = lift_type(alloc, resolve, bindgen, used.as_slice(), 0, ty)?;
+    close_payload(alloc, bindgen, lifted.operand)?;
+    Ok(())
 }
 
 /// The parts of a value whose type stands at a place of the table, of the words from a place on.
@@ -152,6 +300,7 @@ fn lift_parts<B: Bindgen>(
     place: usize,
     tys: &[WitType],
 ) -> Result<LiftedParts<B::Operand>, OutOfMemory>
+    requires well { IsWellFormed resolve.now }
     requires down { GoesDown resolve.now.types }
     requires within { place ≤ length resolve.now.types }
     requires below { list_all (λ ty. type_below place ty) tys.now ≡ true }

@@ -1,19 +1,37 @@
-use Rattle.std.proofs.Common.{rules, ◌≡◌, ◌<◌, ◌≤◌, ◌+◌, true, List, [], ◌∷◌, ◌++◌, length, map, get_or, sym, ap, ◌∙◌, subst, arith}
+use Rattle.std.proofs.Common.{rules, ◌-◌, drop, take, Option, None, Some, option_map, refl, ◌≡◌, ◌<◌, ◌≤◌, ◌+◌, true, List, [], ◌∷◌, ◌++◌, length, map, get_or, sym, ap, ◌∙◌, subst, arith}
 use Rattle.std.specs.List.{list_all}
-use Rattle.std.proofs.lemmas.List.{drop_more, length-append, length-map}
-use Rattle.wit_model.specs.TypeOrder.{type_below}
+use Rattle.std.proofs.lemmas.Bool.{lt-ltb}
+use Rattle.std.proofs.lemmas.List.{drop-drop, drop_more, length-append, length-drop, length-map, length-take-le, take-append-drop}
+use Rattle.std.proofs.lemmas.Option.{slice_get_within}
+use Rattle.wit_model.specs.TypeOrder.{payload_below, type_below}
 use Rattle.wit_model.specs.declared.types.Field.{Field}
 use Rattle.wit_model.specs.declared.types.TypeDefKind.TheVariants as kind
 use Rattle.wit_model.specs.declared.types.WitType.{WitType}
 use Rattle.wit_model.specs.declared.types.WitType.TheVariants as wit
-use Rattle.wit_layout.proofs.FlattenSteps.{rank}
+use Rattle.wit_layout.proofs.FlattenSteps.{payload_rank, rank}
+use Rattle.wit_model.specs.declared.wasm_type.WasmType.{WasmType}
+use Rattle.wrapper_meaning.specs.Shape.{payload_in, payloads_in, shape_at, shape_of, shapes}
+use Rattle.wrapper_meaning.specs.Shape.Shape.{cases}
+use Rattle.wrapper_meaning.specs.Shape.Shapes.{none, more}
+use Rattle.abi_driver.specs.Blocks.{Finishes}
+use Rattle.abi_driver.specs.CaseBlocks.{LiftsCases}
+use Rattle.abi_driver.specs.Cases.{payloads_of, result_counts}
+use Rattle.abi_driver.specs.declared.instruction.Instruction.{Instruction}
 use Rattle.abi_driver.specs.declared.instruction.Instruction.TheVariants.{RecordLift, TupleLift}
-use Rattle.abi_driver.specs.Code.{each, lift_code}
-use Rattle.abi_driver.specs.Instructions.{IsRecord, shapes_of}
-use Rattle.abi_driver.specs.Sent.{sends}
-use Rattle.abi_driver.proofs.FlatCode.{lift_alias_code, lift_record_code, lift_tuple_code}
+use Rattle.abi_driver.specs.Code.{case_words, cast_code, each, lift_case, lift_code, payload_words, shared_slots}
+use Rattle.abi_driver.specs.Instructions.{Emits, IsRecord, IsSendable, Makes, case_lifting, shapes_of}
+use Rattle.abi_driver.specs.Lifts.{LiftsFlat}
+use Rattle.abi_driver.specs.Sends.{Sends}
+use Rattle.abi_driver.specs.Sent.{closes, sends}
+use Rattle.abi_driver.specs.SlotCasts.{AreOrdered, CastsAll, FitIn}
+use Rattle.abi_driver.proofs.BlockRuns.{grows_alike, grows_none}
+use Rattle.abi_driver.proofs.CaseLifts.{full_lifts}
+use Rattle.abi_driver.proofs.LiftedVariants.{all_used, lifting_makes, lifts_done, lifts_next, variant_liftable, variant_lifts}
+use Rattle.abi_driver.proofs.Payloads.{count_told, payload_count, payload_in_table, payload_ranked, payload_told, slots_told, variant_below, variant_shape, words_some}
+use Rattle.abi_driver.proofs.WordBits.{fit_length, of_slots, payload_fits}
+use Rattle.abi_driver.proofs.FlatCode.{lift_alias_code, lift_record_code, lift_tuple_code, lift_variant_code}
 use Rattle.abi_driver.proofs.LiftSteps.{lifts_all_as, lifts_as, record_lifts, rest_last, rest_next, tuple_lifts}
-use Rattle.abi_driver.proofs.Records.{alias_below, alias_rank, alias_shape, count-shapes, entry_at, kind_at, one_record, part_below_within, part_ranked, record_below, record_shape, tuple_below, tuple_shape}
+use Rattle.abi_driver.proofs.Records.{alias_below, alias_rank, alias_shape, count-shapes, drop-same, entry_at, kind_at, one_record, part_below_within, part_ranked, record_below, record_shape, tuple_below, tuple_shape}
 use Rattle.abi_driver.proofs.SendSteps.{sends_as, sends_both, sends_last, sends_next, sends_one}
 use Rattle.abi_driver.proofs.lift.+lift.Goals as goal
 
@@ -137,3 +155,270 @@ pub lift_parts-returns-clause-sends : goal.lift_parts-returns-clause-sends
 lift_parts-returns-clause-sends g t c =
     let ended : length c.args.tys.now ≤ c.loop-i.i = omega (arith, c.loop-i-test.false) in
     sends_last g.B.Bindgen.meaning c.args.resolve.now.types (λ n ty. lift_code c.args.resolve.now.types ty) c.args.tys.now c.loop-i.i _ _ ended c.loop-i.invariant.sent
+
+pub lift_cases-lift_case-requires : goal.lift_cases-lift_case-requires
+lift_cases-lift_case-requires g t c κs within =
+    let types = c.args.resolve.now.types in
+    let payloads = c.args.payloads.now in
+    let i = c.loop-i.i in
+    let short : i < length payloads = omega (arith, c.loop-i-test.true) in
+    let low : payload_rank (get_or payloads i None) ≤ c.args.id.0 = payload_ranked c.args.id.0 payloads i None c.requires.below short in
+    let below : payload_below (length types) (get_or payloads i None) ≡ true = payload_in_table c.args.id.0 (length types) payloads i None c.requires.within c.requires.below short in
+    let fits : FitIn (payload_words types (get_or payloads i None)) c.args.slots.now = subst (FitIn (payload_words types (get_or payloads i None))) (sym c.requires.shared) (payload_fits types payloads i None short) in
+    search rules
+
+pub lift_cases-loop-i-init : goal.lift_cases-loop-i-init
+lift_cases-loop-i-init g t c = record { grows = grows_none g.B.Bindgen.meaning c.args.bindgen.now; code = refl; sent = refl; rest = λ new h. h }
+
+pub lift_cases-loop-i-preserved : goal.lift_cases-loop-i-preserved
+lift_cases-loop-i-preserved g t c =
+    let m = g.B.Bindgen.meaning in
+    let r = c.args.resolve.now in
+    let types = r.types in
+    let payloads = c.args.payloads.now in
+    let i = c.loop-i.i in
+    let short : i < length payloads = omega (arith, c.loop-i-test.true) in
+    let here = c.in_ok-lift_case.ensures.lifts in
+    let p = get_or payloads i None in
+    let sent = subst (λ (ds : List WasmType). Sends m types (lift_case types ds i p (option_map (lift_code types) p)) c.loop-i.bindgen c.lift_case.new.bindgen) c.requires.shared (c.in_ok-lift_case.ensures.sends i) in
+    record {
+      grows = grows_alike m _ _ _ c.loop-i.invariant.code c.loop-i.invariant.grows here.adds.grows;
+      code = here.adds.code ∙ c.loop-i.invariant.code;
+      sent = sends_next m types (λ n payload. lift_case types (shared_slots types payloads) n payload (option_map (lift_code types) payload)) payloads i None _ _ _ short c.loop-i.invariant.sent sent;
+      rest = lifts_next m g.met.B.Bindgen.sound r c.requires.down c.args.id payloads i None c.args.slots.now c.args.words.now _ _ _ short c.loop-i.invariant.rest here;
+    }
+
+pub lift_cases-returns : goal.lift_cases-returns
+lift_cases-returns g t c =
+    let m = g.B.Bindgen.meaning in
+    let r = c.args.resolve.now in
+    let types = r.types in
+    let payloads = c.args.payloads.now in
+    let ended : length payloads ≤ c.loop-i.i = omega (arith, c.loop-i-test.false) in
+    record {
+      lifts = lifts_done m g.met.B.Bindgen.sound r c.requires.down c.args.id payloads c.loop-i.i c.args.slots.now c.args.words.now _ _ ended c.loop-i.invariant.rest;
+      sends = sends_last m types (λ n payload. lift_case types (shared_slots types payloads) n payload (option_map (lift_code types) payload)) payloads c.loop-i.i _ _ ended c.loop-i.invariant.sent;
+    }
+
+pub lift_payload-slice_bounds-push_copies-end : goal.lift_payload-slice_bounds-push_copies-end
+lift_payload-slice_bounds-push_copies-end g t c =
+    let f = c.flat_types-flat.result in
+    let is = payload_count c.args.resolve.now.types c.args.ty f c.flat_types-flat.ensures c.if-flat.false in
+    let most = fit_length (payload_words c.args.resolve.now.types (Some c.args.ty)) c.args.slots.now c.requires.fits in
+    sym (length-take-le f.count c.args.words.now (omega (arith, is, most, c.requires.enough)))
+
+pub lift_payload-slice_bounds-cast_words-end : goal.lift_payload-slice_bounds-cast_words-end
+lift_payload-slice_bounds-cast_words-end g t c =
+    let f = c.flat_types-flat.result in
+    let is = payload_count c.args.resolve.now.types c.args.ty f c.flat_types-flat.ensures c.if-flat.false in
+    let most = fit_length (payload_words c.args.resolve.now.types (Some c.args.ty)) c.args.slots.now c.requires.fits in
+    sym (length-take-le f.count c.args.slots.now (omega (arith, is, most)))
+
+pub lift_payload-cast_words-requires-clause-ordered : goal.lift_payload-cast_words-requires-clause-ordered
+lift_payload-cast_words-requires-clause-ordered g t c =
+    let types = c.args.resolve.now.types in
+    let f = c.flat_types-flat.result in
+    let words = payload_words types (Some c.args.ty) in
+    let told = payload_told types c.args.ty f c.flat_types-flat.ensures c.if-flat.false in
+    let is = payload_count types c.args.ty f c.flat_types-flat.ensures c.if-flat.false in
+    subst (λ (xs : List WasmType). AreOrdered (take f.count c.args.slots.now) xs) (sym told) (subst (λ n. AreOrdered (take n c.args.slots.now) words) (sym is) (of_slots words c.args.slots.now c.requires.fits))
+
+pub lift_payload-cast_words-requires-clause-enough : goal.lift_payload-cast_words-requires-clause-enough
+lift_payload-cast_words-requires-clause-enough g t c =
+    let f = c.flat_types-flat.result in
+    let is = payload_count c.args.resolve.now.types c.args.ty f c.flat_types-flat.ensures c.if-flat.false in
+    let most = fit_length (payload_words c.args.resolve.now.types (Some c.args.ty)) c.args.slots.now c.requires.fits in
+    let first : c.from_vec-first.result ≡ take f.count c.args.words.now = c.from_vec-first.ensures ∙ c.in_ok-push_copies.ensures ∙ ap (λ (os : List g.row.B-Operand.Denot). os ++ take f.count c.args.words.now) c.new-first.ensures.items in
+    ap length first ∙ length-take-le f.count c.args.words.now (omega (arith, is, most, c.requires.enough)) ∙ sym (length-take-le f.count c.args.slots.now (omega (arith, is, most)))
+
+pub lift_payload-returns : goal.lift_payload-returns
+lift_payload-returns g t c =
+    let m = g.B.Bindgen.meaning in
+    let sound = g.met.B.Bindgen.sound in
+    let types = c.args.resolve.now.types in
+    let ty = c.args.ty in
+    let slots = c.args.slots.now in
+    let shared = c.args.words.now in
+    let f = c.flat_types-flat.result in
+    let words = payload_words types (Some ty) in
+    let told = payload_told types ty f c.flat_types-flat.ensures c.if-flat.false in
+    let is = payload_count types ty f c.flat_types-flat.ensures c.if-flat.false in
+    let most = fit_length words slots c.requires.fits in
+    let a = c.args.bindgen.now in
+    let b = c.push_block.new.self in
+    let casted = c.cast_words.new.bindgen in
+    let lifted = c.lift_type.new.bindgen in
+    let closed = c.close_payload.new.bindgen in
+    let used = c.in_ok-used.used in
+    let x = c.in_ok-lifted.lifted.operand in
+    let opens = c.in_ok-push_block.ensures in
+    let first : c.from_vec-first.result ≡ take f.count shared = c.from_vec-first.ensures ∙ c.in_ok-push_copies.ensures ∙ ap (λ (os : List g.row.B-Operand.Denot). os ++ take f.count shared) c.new-first.ensures.items in
+    let casts = subst (λ n. CastsAll m (take n slots) words (take n shared) used b casted) is
+    (subst (λ (xs : List WasmType). CastsAll m (take f.count slots) xs (take f.count shared) used b casted) told
+    (subst (λ (os : List g.row.B-Operand.Denot). CastsAll m (take f.count slots) (take f.count f.words) os used b casted) first c.in_ok-used.ensures.casts)) in
+    let cast_sent = subst (λ n. Sends m types (cast_code (take n slots) words) b casted) is (subst (λ (xs : List WasmType). Sends m types (cast_code (take f.count slots) xs) b casted) told c.in_ok-used.ensures.sends) in
+    let got = subst (λ (os : List g.row.B-Operand.Denot). (part : List g.row.B-Operand.Denot) × (os ≡ part ++ drop c.in_ok-lifted.lifted.next os) × LiftsFlat m (shape_of types ty) part x casted lifted) c.as_slice.ensures c.in_ok-lifted.ensures.lifts in
+    let many : length got.0 ≡ length used = got.2.fits ∙ sym (casts.fits ∙ length-take-le (length words) slots most) in
+    let whole = subst (λ (os : List g.row.B-Operand.Denot). LiftsFlat m (shape_of types ty) os x casted lifted) (all_used used got.0 (drop c.in_ok-lifted.lifted.next used) got.1 many) got.2 in
+    let some = words_some (shape_of types ty) f.count is (omega (arith, c.if-count-eq0.false)) in
+    let close = c.in_ok-close_payload.ensures in
+    let with_value = sends_both m types (cast_code (take (length words) slots) words) (lift_code types ty) b casted lifted cast_sent c.in_ok-lifted.ensures.sends in
+    let inside = sends_both m types (cast_code (take (length words) slots) words ++ lift_code types ty) (closes ∷ []) b lifted closed with_value (x ∷ [], closed, close, refl) in
+    record {
+      lifts = full_lifts m sound (shape_of types ty) slots a b casted lifted closed shared used x c.requires.fits some c.requires.enough opens casts whole close;
+      sends = λ n. (b, opens, inside);
+    }
+
+pub lift_variant-flat_types-flat-requires-clause-below : goal.lift_variant-flat_types-flat-requires-clause-below
+unfolding type_below
+lift_variant-flat_types-flat-requires-clause-below g t c = lt-ltb c.args.id.0 (length c.args.resolve.now.types) (slice_get_within c.args.resolve.now.types c.args.id.0 c.requires.here.entry c.requires.here.stands)
+
+pub lift_variant-lift_cases-requires : goal.lift_variant-lift_cases-requires
+lift_variant-lift_cases-requires g t c κs within =
+    let types = c.args.resolve.now.types in
+    let kind = c.args.kind.now in
+    let here = c.requires.here in
+    let words = c.args.words.now in
+    let f = c.flat_types-flat.result in
+    let shape = variant_shape types c.requires.down c.args.id.0 kind here c.requires.cases in
+    let told : take (f.count - 1) (drop 1 f.words) ≡ shared_slots types (payloads_of kind) = slots_told types c.args.id (payloads_of kind) shape f c.flat_types-flat.ensures c.if-flat.false in
+    let is : f.count ≡ case_words types (payloads_of kind) = count_told types c.args.id (payloads_of kind) shape f c.flat_types-flat.ensures c.if-flat.false in
+    let same : c.as_slice-payloads.result.now ≡ payloads_of kind = c.as_slice-payloads.ensures ∙ c.in_ok-payloads.ensures in
+    let inside : c.args.id.0 < length types = slice_get_within types c.args.id.0 here.entry here.stands in
+    let below : list_all (λ payload. payload_below c.args.id.0 payload) c.as_slice-payloads.result.now ≡ true =
+    subst (λ (ps : List (Option WitType)). list_all (λ payload. payload_below c.args.id.0 payload) ps ≡ true) (sym same) (variant_below types c.requires.down c.args.id.0 kind here c.requires.cases) in
+    let shared : take (f.count - 1) (drop 1 f.words) ≡ shared_slots types c.as_slice-payloads.result.now = told ∙ ap (shared_slots types) (sym same) in
+    let n = c.args.at + f.count - (c.args.at + 1) in
+    let room : n ≤ length (drop (c.args.at + 1) words) = omega (arith, is, c.if-at-words.false, c.if-words-count.false, length-drop (c.args.at + 1) words) in
+    let enough : length (take n (drop (c.args.at + 1) words)) ≡ length (take (f.count - 1) (drop 1 f.words)) = length-take-le n (drop (c.args.at + 1) words) room ∙ (let e : n ≡ length (shared_slots types (payloads_of kind)) = omega (arith, is) in e) ∙ sym (ap length told) in
+    search rules
+
+pub lift_variant-returns : goal.lift_variant-returns
+lift_variant-returns g t c =
+    let m = g.B.Bindgen.meaning in
+    let r = c.args.resolve.now in
+    let types = r.types in
+    let kind = c.args.kind.now in
+    let here = c.requires.here in
+    let words = c.args.words.now in
+    let at = c.args.at in
+    let f = c.flat_types-flat.result in
+    let tag = c.in_ok-tag.tag in
+    let x = c.in_ok-operand.operand in
+    let shape = variant_shape types c.requires.down c.args.id.0 kind here c.requires.cases in
+    let told : take (f.count - 1) (drop 1 f.words) ≡ shared_slots types (payloads_of kind) = slots_told types c.args.id (payloads_of kind) shape f c.flat_types-flat.ensures c.if-flat.false in
+    let is : f.count ≡ case_words types (payloads_of kind) = count_told types c.args.id (payloads_of kind) shape f c.flat_types-flat.ensures c.if-flat.false in
+    let same : c.as_slice-payloads.result.now ≡ payloads_of kind = c.as_slice-payloads.ensures ∙ c.in_ok-payloads.ensures in
+    let n = at + f.count - (at + 1) in
+    let shared = take n (drop (at + 1) words) in
+    let room : n ≤ length (drop (at + 1) words) = omega (arith, is, c.if-at-words.false, c.if-words-count.false, length-drop (at + 1) words) in
+    let enough : length shared ≡ length (shared_slots types (payloads_of kind)) = length-take-le n (drop (at + 1) words) room ∙ (let e : n ≡ length (shared_slots types (payloads_of kind)) = omega (arith, is) in e) in
+    let short : at < length words = omega (arith, is, c.if-at-words.false, c.if-words-count.false) in
+    let split : drop (at + 1) words ≡ shared ++ drop (at + f.count) words =
+    sym (take-append-drop n (drop (at + 1) words)) ∙ ap (λ os. shared ++ os) (drop-drop n (at + 1) words ∙ (let e : at + 1 + n ≡ at + f.count = omega (arith, is) in ap (λ k. drop k words) e)) in
+    let front : drop at words ≡ tag ∷ drop (at + 1) words = drop-same words words at tag c.index-words-at.result refl short c.index-words-at.is c.in_ok-tag.ensures in
+    let blocks = subst (λ (ds : List WasmType). LiftsCases m (payloads_in (shapes types) (payloads_of kind)) (result_counts (payloads_of kind)) ds shared c.args.bindgen.now c.lift_cases.new.bindgen) told
+    (subst (λ (ps : List (Option WitType)). LiftsCases m (payloads_in (shapes types) ps) (result_counts ps) (take (f.count - 1) (drop 1 f.words)) shared c.args.bindgen.now c.lift_cases.new.bindgen) same c.in_ok-lift_cases.ensures.lifts) in
+    let sent = subst (λ (ps : List (Option WitType)). Sends m types (each (λ n payload. lift_case types (shared_slots types ps) n payload (option_map (lift_code types) payload)) 0 ps) c.args.bindgen.now c.lift_cases.new.bindgen) same c.in_ok-lift_cases.ensures.sends in
+    let e = subst (λ (os : List g.row.B-Operand.Denot). Emits m types (case_lifting kind c.args.id) os (x ∷ []) c.lift_cases.new.bindgen c.send_one.new.bindgen) c.in_ok-operands.ensures
+    (subst (λ (i : Instruction). Emits m types i c.in_ok-operands.operands (x ∷ []) c.lift_cases.new.bindgen c.send_one.new.bindgen) c.case_lifting.ensures c.in_ok-operand.ensures) in
+    record {
+      lifts = (tag ∷ shared, front ∙ ap (λ os. tag ∷ os) split, variant_lifts m g.met.B.Bindgen.sound r c.requires.down c.args.id _ _ shared kind _ tag x here c.requires.cases enough blocks e);
+      sends = sends_as m types _ _ _ _ (lift_variant_code types c.requires.down c.args.id here.entry here.stands kind here.kind c.requires.cases) (sends_both m types _ _ _ _ _ sent (sends_one m types (case_lifting kind c.args.id) _ _ _ _ e));
+    }
+
+pub lift_case-returns-in_ok-lift_payload-in-Some-clause-sends : goal.lift_case-returns-in_ok-lift_payload-in-Some-clause-sends
+lift_case-returns-in_ok-lift_payload-in-Some-clause-sends g t c = λ n.
+    let types = c.args.resolve.now.types in
+    subst (λ (p : Option WitType). Sends g.B.Bindgen.meaning types (lift_case types c.args.slots.now n p (option_map (lift_code types) p)) c.args.bindgen.now c.lift_payload.new.bindgen) (sym c.in-Some.is) (c.in_ok-lift_payload-in-Some.ensures.sends n)
+
+pub lift_variant-overflow_add-shared : goal.lift_variant-overflow_add-shared
+lift_variant-overflow_add-shared g t c =
+    let types = c.args.resolve.now.types in
+    let kind = c.args.kind.now in
+    let f = c.flat_types-flat.result in
+    let shape = variant_shape types c.requires.down c.args.id.0 kind c.requires.here c.requires.cases in
+    let is : f.count ≡ case_words types (payloads_of kind) = count_told types c.args.id (payloads_of kind) shape f c.flat_types-flat.ensures c.if-flat.false in
+    let short : c.args.at < length c.args.words.now = omega (arith, is, c.if-at-words.false, c.if-words-count.false) in
+    search rules
+
+pub lift_variant-offset_bounds-words-at : goal.lift_variant-offset_bounds-words-at
+lift_variant-offset_bounds-words-at g t c =
+    let types = c.args.resolve.now.types in
+    let kind = c.args.kind.now in
+    let f = c.flat_types-flat.result in
+    let shape = variant_shape types c.requires.down c.args.id.0 kind c.requires.here c.requires.cases in
+    let is : f.count ≡ case_words types (payloads_of kind) = count_told types c.args.id (payloads_of kind) shape f c.flat_types-flat.ensures c.if-flat.false in
+    let short : c.args.at < length c.args.words.now = omega (arith, is, c.if-at-words.false, c.if-words-count.false) in
+    omega (arith, short)
+
+pub lift_variant-slice_bounds-shared-count : goal.lift_variant-slice_bounds-shared-count
+lift_variant-slice_bounds-shared-count g t c =
+    let types = c.args.resolve.now.types in
+    let kind = c.args.kind.now in
+    let f = c.flat_types-flat.result in
+    let shape = variant_shape types c.requires.down c.args.id.0 kind c.requires.here c.requires.cases in
+    let is : f.count ≡ case_words types (payloads_of kind) = count_told types c.args.id (payloads_of kind) shape f c.flat_types-flat.ensures c.if-flat.false in
+    let some : 1 ≤ f.count = omega (arith, is) in
+    omega (arith, some)
+
+pub lift_variant-slice_bounds-shared-start : goal.lift_variant-slice_bounds-shared-start
+lift_variant-slice_bounds-shared-start g t c =
+    let types = c.args.resolve.now.types in
+    let kind = c.args.kind.now in
+    let f = c.flat_types-flat.result in
+    let shape = variant_shape types c.requires.down c.args.id.0 kind c.requires.here c.requires.cases in
+    let is : f.count ≡ case_words types (payloads_of kind) = count_told types c.args.id (payloads_of kind) shape f c.flat_types-flat.ensures c.if-flat.false in
+    let some : 1 ≤ f.count = omega (arith, is) in
+    let within : c.args.at + 1 ≤ c.args.at + f.count = omega (arith, some) in
+    within
+
+pub lift_variant-slice_bounds-slots-count : goal.lift_variant-slice_bounds-slots-count
+lift_variant-slice_bounds-slots-count g t c =
+    let types = c.args.resolve.now.types in
+    let kind = c.args.kind.now in
+    let f = c.flat_types-flat.result in
+    let shape = variant_shape types c.requires.down c.args.id.0 kind c.requires.here c.requires.cases in
+    let is : f.count ≡ case_words types (payloads_of kind) = count_told types c.args.id (payloads_of kind) shape f c.flat_types-flat.ensures c.if-flat.false in
+    let some : 1 ≤ f.count = omega (arith, is) in
+    some
+
+pub lift_variant-slice_bounds-slots-start : goal.lift_variant-slice_bounds-slots-start
+lift_variant-slice_bounds-slots-start g t c =
+    let types = c.args.resolve.now.types in
+    let kind = c.args.kind.now in
+    let f = c.flat_types-flat.result in
+    let shape = variant_shape types c.requires.down c.args.id.0 kind c.requires.here c.requires.cases in
+    let is : f.count ≡ case_words types (payloads_of kind) = count_told types c.args.id (payloads_of kind) shape f c.flat_types-flat.ensures c.if-flat.false in
+    let some : 1 ≤ f.count = omega (arith, is) in
+    some
+
+pub lift_variant-bounds-words-at : goal.lift_variant-bounds-words-at
+lift_variant-bounds-words-at g t c =
+    let types = c.args.resolve.now.types in
+    let kind = c.args.kind.now in
+    let f = c.flat_types-flat.result in
+    let shape = variant_shape types c.requires.down c.args.id.0 kind c.requires.here c.requires.cases in
+    let is : f.count ≡ case_words types (payloads_of kind) = count_told types c.args.id (payloads_of kind) shape f c.flat_types-flat.ensures c.if-flat.false in
+    let short : c.args.at < length c.args.words.now = omega (arith, is, c.if-at-words.false, c.if-words-count.false) in
+    short
+
+pub lift_variant-send_one-requires : goal.lift_variant-send_one-requires
+lift_variant-send_one-requires g t c =
+    let m = g.B.Bindgen.meaning in
+    let r = c.args.resolve.now in
+    let types = r.types in
+    let kind = c.args.kind.now in
+    let f = c.flat_types-flat.result in
+    let shape = variant_shape types c.requires.down c.args.id.0 kind c.requires.here c.requires.cases in
+    let told = slots_told types c.args.id (payloads_of kind) shape f c.flat_types-flat.ensures c.if-flat.false in
+    let same : c.as_slice-payloads.result.now ≡ payloads_of kind = c.as_slice-payloads.ensures ∙ c.in_ok-payloads.ensures in
+    let shared = take (c.args.at + f.count - (c.args.at + 1)) (drop (c.args.at + 1) c.args.words.now) in
+    let blocks = subst (λ (ds : List WasmType). LiftsCases m (payloads_in (shapes types) (payloads_of kind)) (result_counts (payloads_of kind)) ds shared c.args.bindgen.now c.lift_cases.new.bindgen) told
+    (subst (λ (ps : List (Option WitType)). LiftsCases m (payloads_in (shapes types) ps) (result_counts ps) (take (f.count - 1) (drop 1 f.words)) shared c.args.bindgen.now c.lift_cases.new.bindgen) same c.in_ok-lift_cases.ensures.lifts) in
+    let ready = variant_liftable m g.met.B.Bindgen.sound r c.requires.down c.args.id _ _ shared kind c.in_ok-tag.tag c.requires.here c.requires.cases blocks in
+    record {
+      ready = subst (λ (i : Instruction). IsSendable m r i c.in_ok-operands.operands c.lift_cases.new.bindgen) (sym c.case_lifting.ensures)
+          (subst (λ (os : List g.row.B-Operand.Denot). IsSendable m r (case_lifting kind c.args.id) os c.lift_cases.new.bindgen) (sym c.in_ok-operands.ensures) ready);
+      makes = λ k h. lifting_makes types kind c.args.id k (subst (λ (i : Instruction). Makes types i k) c.case_lifting.ensures h);
+    }

@@ -1,19 +1,35 @@
-use Rattle.std.proofs.Common.{◌≡◌, ◌++◌, ◌+◌, ◌*◌, List, drop, length, take}
-use Rattle.wit_layout.proofs.FlattenSteps.{rank}
-use Rattle.abi_driver.specs.Code.{each, lift_code}
+use Rattle.std.proofs.Common.{◌≡◌, ◌++◌, ◌+◌, ◌*◌, List, drop, length, option_map, take}
+use Rattle.wrapper_meaning.specs.Shape.{payloads_in, shapes}
+use Rattle.wit_layout.proofs.FlattenSteps.{payload_rank, rank}
+use Rattle.abi_driver.specs.CaseBlocks.{LiftsCases}
+use Rattle.abi_driver.specs.Cases.{result_counts}
+use Rattle.abi_driver.specs.Code.{each, lift_case, lift_code, shared_slots}
+use Rattle.abi_driver.specs.Laws.{Grows}
 use Rattle.abi_driver.specs.Instructions.{shapes_of}
 use Rattle.abi_driver.specs.Lifts.{LiftsAll}
 use Rattle.abi_driver.specs.Sends.{Sends}
 use Rattle.abi_driver.proofs.lift.+lift.Given as goal
 
 abbrev pub decreases-lift_type : goal.decreases-lift_type
-decreases-lift_type g l = 4 * rank l.ty
+decreases-lift_type g l = 8 * rank l.ty
 
 abbrev pub decreases-lift_id : goal.decreases-lift_id
-decreases-lift_id g l = 4 * l.id.0 + 3
+decreases-lift_id g l = 8 * l.id.0 + 7
+
+abbrev pub decreases-lift_variant : goal.decreases-lift_variant
+decreases-lift_variant g l = 8 * l.id.0 + 6
+
+abbrev pub decreases-lift_cases : goal.decreases-lift_cases
+decreases-lift_cases g l = 8 * l.id.0 + 5
+
+abbrev pub decreases-lift_case : goal.decreases-lift_case
+decreases-lift_case g l = 8 * payload_rank l.payload + 2
+
+abbrev pub decreases-lift_payload : goal.decreases-lift_payload
+decreases-lift_payload g l = 8 * rank l.ty + 1
 
 abbrev pub decreases-lift_parts : goal.decreases-lift_parts
-decreases-lift_parts g l = 4 * l.place + 1
+decreases-lift_parts g l = 8 * l.place + 1
 
 -- what lifts the parts that are left, lifts them all
 abbrev pub invariant-lift_parts-loop-i : goal.invariant-lift_parts-loop-i
@@ -25,4 +41,17 @@ invariant-lift_parts-loop-i g l =
       sent : Sends m types (each (λ n ty. lift_code types ty) 0 (take l.i l.tys)) l.initial.bindgen l.bindgen;
       rest : (used : List g.row.B-Operand.Denot) × (drop l.at l.words ≡ used ++ drop l.next l.words)
           × ((new : g.row.B.Denot) (qs later : List g.row.B-Operand.Denot) → LiftsAll m (shapes_of types (drop l.i l.tys)) qs later l.bindgen new → LiftsAll m (shapes_of types l.tys) (used ++ qs) (l.parts ++ later) l.initial.bindgen new);
+    }
+
+-- what lifts the cases that are left, lifts them all; and what was sent is the code of the cases so far
+abbrev pub invariant-lift_cases-loop-i : goal.invariant-lift_cases-loop-i
+invariant-lift_cases-loop-i g l =
+    let m = g.B.Bindgen.meaning in
+    let types = l.resolve.types in
+    record {
+      grows : Grows m l.initial.bindgen l.bindgen;
+      code : m.code l.bindgen ≡ m.code l.initial.bindgen;
+      sent : Sends m types (each (λ n payload. lift_case types (shared_slots types l.payloads) n payload (option_map (lift_code types) payload)) 0 (take l.i l.payloads)) l.initial.bindgen l.bindgen;
+      rest : (new : g.row.B.Denot) → LiftsCases m (payloads_in (shapes types) (drop l.i l.payloads)) (result_counts (drop l.i l.payloads)) l.slots l.words l.bindgen new
+          → LiftsCases m (payloads_in (shapes types) l.payloads) (result_counts l.payloads) l.slots l.words l.initial.bindgen new;
     }
