@@ -1,4 +1,5 @@
 -- Runs of the whole codes of imports, and the instructions of some types and functions in their order.
+pub mod CaseOrders
 pub mod Forms
 pub mod Orders
 pub mod SeventeenParameters
