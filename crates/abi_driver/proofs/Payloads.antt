@@ -4,7 +4,7 @@ use Rattle.std.specs.List.{list_all}
 use Rattle.std.proofs.lemmas.Bool.{and_parts}
 use Rattle.std.proofs.lemmas.Bool.Decides.{nat_tests}
 use Rattle.std.proofs.lemmas.List.{take_all}
-use Rattle.wit_model.specs.TypeOrder.{GoesDown, parts_below, payload_below}
+use Rattle.wit_model.specs.TypeOrder.{GoesDown, parts_below, payload_below, type_below}
 use Rattle.wit_model.specs.Parts.{parts}
 use Rattle.wit_model.specs.declared.types.TypeDef.{TypeDef}
 use Rattle.wit_model.specs.declared.types.TypeDefKind.{TypeDefKind}
@@ -15,12 +15,16 @@ use Rattle.wit_model.specs.declared.name.TypeId.{TypeId}
 use Rattle.wit_model.specs.declared.wasm_type.WasmType.{WasmType}
 use Rattle.wit_model.specs.declared.wasm_type.WasmType.TheVariants as wasm
 use Rattle.wit_layout.specs.Tree.{tree_of}
+use Rattle.wit_model.specs.WellFormed.{IsWellFormed}
+use Rattle.wit_model.specs.declared.resolve.Resolve.{Resolve}
+use Rattle.wit_layout.proofs.AheadEnough.{type_words}
+use Rattle.wit_layout.proofs.CheckedWords.{checked_words}
 use Rattle.wrapper_meaning.proofs.LayoutIsTree.{layout_is_tree}
 use Rattle.wit_layout.specs.Flat.{IsFlatOf, flatten_type}
 use Rattle.wit_layout.specs.declared.flat.Flat.{Flat}
 use Rattle.wit_layout.proofs.FlattenSteps.{payload_rank, payload_rank_below}
 use Rattle.wrapper_meaning.specs.Layout.{layout}
-use Rattle.wrapper_meaning.specs.Shape.{Shape, is_nothing, payloads_in, shape_at, shape_by, shapes}
+use Rattle.wrapper_meaning.specs.Shape.{Shape, is_nothing, payloads_in, shape_at, shape_by, shape_of, shapes}
 use Rattle.wrapper_meaning.specs.Shape.Shape.{cases, fields}
 use Rattle.wrapper_meaning.specs.Shape.Shapes.{none, more}
 use Rattle.wrapper_meaning.proofs.ShapeIsByKind.{shape_is_by_kind}
@@ -85,7 +89,7 @@ all_told f words h few =
     let short : length words ≤ 16 = grind (arith, nat_tests, h.more, few) in
     (h.kept ∙ take_all 16 words short, h.count ∙ omega (arith, short))
 
-pub words_some : (t : Shape) (n : ℕ) → n ≡ length (flatten_type (layout t)) → 0 < n → is_nothing t ≡ false
+words_some : (t : Shape) (n : ℕ) → n ≡ length (flatten_type (layout t)) → 0 < n → is_nothing t ≡ false
 words_some (fields none) n e l = absurd (omega (arith, e, l))
 words_some (fields (more t ts)) n e l = refl
 words_some _ n e l = refl
@@ -117,3 +121,10 @@ module _ (types : List TypeDef) (ty : WitType) (f : Flat) (told : IsFlatOf f (fl
 
   pub payload_count : f.count ≡ length (payload_words types (Some ty))
   payload_count = (all_told f (flatten_type (tree_of types ty)) told few).1 ∙ ap (λ t. length (flatten_type t)) (sym (layout_is_tree types ty))
+
+-- in tables that the check passes a payload has a word
+pub payload_some : (r : Resolve) → IsWellFormed r → (ty : WitType) → type_below (length r.types) ty ≡ true → is_nothing (shape_of r.types ty) ≡ false
+unfolding payload_below
+payload_some r well ty low =
+    let some = type_words r.types (length r.types) (checked_words r well.unbroken) ty low in
+    words_some (shape_of r.types ty) (length (payload_words r.types (Some ty))) refl (omega (arith, some, ap (λ t. length (flatten_type t)) (layout_is_tree r.types ty)))

@@ -275,7 +275,7 @@ fn lift_payload<B: Bindgen>(
 {
     let flat = flat_types(resolve, &ty);
     let count = flat.count as usize;
-    if flat.more || count == 0 {
+    if flat.more {
         return Err(OutOfMemory);
     }
     let types = &flat.words[..count];

@@ -259,7 +259,7 @@ fn lower_payload<B: Bindgen>(
 {
     let flat = flat_types(resolve, &ty);
     let count = flat.count as usize;
-    if flat.more || count == 0 {
+    if flat.more {
         return Err(OutOfMemory);
     }
     let types = &flat.words[..count];

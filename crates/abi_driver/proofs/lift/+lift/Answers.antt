@@ -27,7 +27,7 @@ use Rattle.abi_driver.specs.SlotCasts.{AreOrdered, CastsAll, FitIn}
 use Rattle.abi_driver.proofs.BlockRuns.{grows_alike, grows_none}
 use Rattle.abi_driver.proofs.CaseLifts.{full_lifts}
 use Rattle.abi_driver.proofs.LiftedVariants.{all_used, lifting_makes, lifts_done, lifts_next, variant_liftable, variant_lifts}
-use Rattle.abi_driver.proofs.Payloads.{count_told, payload_count, payload_in_table, payload_ranked, payload_told, slots_told, variant_below, variant_shape, words_some}
+use Rattle.abi_driver.proofs.Payloads.{count_told, payload_count, payload_in_table, payload_ranked, payload_told, slots_told, variant_below, variant_shape, payload_some}
 use Rattle.abi_driver.proofs.WordBits.{fit_length, of_slots, payload_fits}
 use Rattle.abi_driver.proofs.FlatCode.{lift_alias_code, lift_record_code, lift_tuple_code, lift_variant_code}
 use Rattle.abi_driver.proofs.LiftSteps.{lifts_all_as, lifts_as, record_lifts, rest_last, rest_next, tuple_lifts}
@@ -260,7 +260,7 @@ lift_payload-returns g t c =
     let got = subst (λ (os : List g.row.B-Operand.Denot). (part : List g.row.B-Operand.Denot) × (os ≡ part ++ drop c.in_ok-lifted.lifted.next os) × LiftsFlat m (shape_of types ty) part x casted lifted) c.as_slice.ensures c.in_ok-lifted.ensures.lifts in
     let many : length got.0 ≡ length used = got.2.fits ∙ sym (casts.fits ∙ length-take-le (length words) slots most) in
     let whole = subst (λ (os : List g.row.B-Operand.Denot). LiftsFlat m (shape_of types ty) os x casted lifted) (all_used used got.0 (drop c.in_ok-lifted.lifted.next used) got.1 many) got.2 in
-    let some = words_some (shape_of types ty) f.count is (omega (arith, c.if-count-eq0.false)) in
+    let some = payload_some c.args.resolve.now c.requires.well ty c.requires.below in
     let close = c.in_ok-close_payload.ensures in
     let with_value = sends_both m types (cast_code (take (length words) slots) words) (lift_code types ty) b casted lifted cast_sent c.in_ok-lifted.ensures.sends in
     let inside = sends_both m types (cast_code (take (length words) slots) words ++ lift_code types ty) (closes ∷ []) b lifted closed with_value (x ∷ [], closed, close, refl) in

@@ -25,7 +25,7 @@ use Rattle.abi_driver.specs.Sent.{closes, sends}
 use Rattle.abi_driver.specs.SlotCasts.{AddsZeros, AreOrdered, CastsAll, FitIn, ReadBack}
 use Rattle.abi_driver.proofs.BlockRuns.{grows_alike, grows_none}
 use Rattle.abi_driver.proofs.CaseLowers.{full_lowers}
-use Rattle.abi_driver.proofs.Payloads.{count_told, payload_count, payload_in_table, payload_ranked, payload_told, slots_told, variant_below, variant_shape, words_some}
+use Rattle.abi_driver.proofs.Payloads.{count_told, payload_count, payload_in_table, payload_ranked, payload_told, slots_told, variant_below, variant_shape, payload_some}
 use Rattle.abi_driver.proofs.Variants.{cases_done, cases_next, variant_lowers, variant_sendable}
 use Rattle.abi_driver.proofs.WordBits.{fit_length, number_signed, payload_fits, to_slots}
 use Rattle.abi_driver.proofs.EnumSteps.{enum_lowers}
@@ -359,7 +359,7 @@ lower_payload-returns g t c =
     let zero_sent = subst (λ (ds : List WasmType). Sends m types (zero_code ds) c.cast_words.new.bindgen c.zero_words.new.bindgen) left c.in_ok-zeros.ensures.sends in
     let close = subst (λ (zs : List g.row.B-Operand.Denot). Finishes m (tag ∷ c.in_ok-words.words ++ zs) c.zero_words.new.bindgen c.close_case.new.bindgen) c.as_slice-2.ensures
     (subst (λ (ws : List g.row.B-Operand.Denot). Finishes m (tag ∷ ws ++ c.as_slice-2.result.now) c.zero_words.new.bindgen c.close_case.new.bindgen) c.as_slice.ensures c.in_ok-close_case.ensures) in
-    let some = words_some (shape_of types ty) f.count is (omega (arith, c.if-count-eq0.false)) in
+    let some = payload_some c.args.resolve.now c.requires.well ty c.requires.below in
     let lower_sent = lower_code types c.args.realloc ty in
     let cast_steps = cast_code words (take (length words) slots) in
     let zero_steps = zero_code (drop (length words) slots) in
