@@ -66,3 +66,13 @@ pub mod CastSteps
 pub mod Variants
 pub mod CaseLifts
 pub mod LiftedVariants
+pub mod CaseInstructions
+pub mod CaseRooms
+pub mod CaseSteps
+pub mod CaseStores
+pub mod VariantStores
+pub mod CaseLoads
+pub mod ArmSteps
+pub mod VariantLoads
+pub mod CaseFrees
+pub mod VariantFrees

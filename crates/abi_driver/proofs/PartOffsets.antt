@@ -1,5 +1,5 @@
 -- Where the parts of a record or a tuple of the table stand.
-use Rattle.std.proofs.Common.{◌≡◌, ℕ, zero, suc, ◌+◌, ◌-◌, ◌*◌, ◌/◌, ◌<◌, false, List, [], ◌∷◌, ◌++◌, length, map, take, get_or, Some, refl, sym, ap, ap₂, ◌∙◌, arith, add-mul}
+use Rattle.std.proofs.Common.{◌≡◌, ℕ, zero, suc, ◌+◌, ◌-◌, ◌*◌, ◌/◌, ◌<◌, Bool, false, true, List, [], ◌∷◌, ◌++◌, length, map, take, get_or, Some, refl, sym, ap, ap₂, ◌∙◌, arith, add-mul}
 use Rattle.std.proofs.Math.Nat.{mul-div_cancel}
 use Rattle.std.specs.List.{slice_get, slice_index}
 use Rattle.std.proofs.lemmas.List.{take_more}
@@ -13,15 +13,17 @@ use Rattle.wit_model.specs.declared.types.TypeDefKind.TheVariants as kind
 use Rattle.wit_model.specs.declared.types.WitType.{WitType}
 use Rattle.wit_model.specs.declared.types.WitType.TheVariants as wit
 use Rattle.wit_layout.specs.Extent.{Extent, end, place, places}
-use Rattle.wit_layout.specs.Sizes.{elem_size, extent_of, extents_of, field_offsets}
+use Rattle.wit_layout.specs.Sizes.{elem_size, extent_of, extents_of, field_offsets, payload_offset}
 use Rattle.wit_layout.specs.Told.{ArePairsOf, IsPairOf, is_alias}
-use Rattle.wit_layout.specs.Tree.{Tree, tree_at}
+use Rattle.wit_layout.specs.Tree.{Tree, tree_at, tree_of}
 use Rattle.wrapper_meaning.specs.Layout.{layout, layouts}
-use Rattle.wrapper_meaning.specs.Shape.{shape_at, shape_of}
-use Rattle.wrapper_meaning.specs.Shape.Shape.{fields}
+use Rattle.wrapper_meaning.specs.Shape.{Shape, Shapes, is_nothing, nothing, shape_at, shape_of}
+use Rattle.wrapper_meaning.specs.Shape.Shape.{cases, fields}
+use Rattle.wrapper_meaning.specs.Shape.Shapes.{none}
 use Rattle.wrapper_meaning.proofs.LayoutIsTree.{layout_is_tree}
-use Rattle.abi_driver.specs.Code.{beyond, one_pointer, place_in}
+use Rattle.abi_driver.specs.Code.{beyond, one_pointer, payload_place, place_in}
 use Rattle.abi_driver.specs.Instructions.{shapes_of}
+use Rattle.abi_driver.specs.Payloads.{has_payloads}
 use Rattle.abi_driver.specs.Places.{HasParts, IsOfParts}
 use Rattle.abi_driver.proofs.Records.{record_shape, tuple_shape}
 
@@ -85,6 +87,10 @@ module _ (w : ℕ) (types : List TypeDef) where
   pub no_alias : (id : ℕ) (tys : List WitType) → (h : HasParts types id tys) → is_alias h.0.kind ≡ false
   no_alias id tys h = not_alias h.0.kind tys h.2
 
+  pub cases_no_alias : (k : TypeDefKind) → has_payloads k ≡ true → is_alias k ≡ false
+  cases_no_alias (kind.Alias ty) h = sym h
+  cases_no_alias _ h = refl
+
   -- the place of a part
   pub place_of : (tys : List WitType) (i : ℕ) (d : WitType) → i < length tys
       → slice_index (field_offsets w (layout (fields (shapes_of types tys)))) i ≡ place (extent_of w (layout (shape_of types (get_or tys i d)))) (end (extents_of w (layouts (shapes_of types (take i tys)))) 0)
@@ -99,6 +105,10 @@ module _ (w : ℕ) (types : List TypeDef) where
   part_offset id tys i d down h l =
       let tree : tree_at types id.0 ≡ layout (fields (shapes_of types tys)) = sym (layout_is_tree types (wit.Id id)) ∙ kind_layout id.0 h.0 tys h.0.kind down h.1 refl h.2 in
       ap (λ t. slice_index (field_offsets w t) i) tree ∙ place_of tys i d l
+
+  -- where the payloads of a type with cases stand
+  pub payload_offset_of : (id : TypeId) (ts : Shapes) → shape_at types id.0 ≡ cases ts → payload_offset w (tree_at types id.0) ≡ payload_offset w (layout (cases ts))
+  payload_offset_of id ts is = ap (payload_offset w) (sym (layout_is_tree types (wit.Id id)) ∙ ap layout is)
 
 -- 3. An offset that was read
 
@@ -136,3 +146,22 @@ pair_is s f pair =
 -- the place of a part, which was told at both widths
 pub place_sent : (place offset at : ArchitectureSize) (t : Tree) (n : ℕ) → place ≡ beyond offset at → IsPairOf at (λ w. slice_index (field_offsets w t) n) → place ≡ beyond offset (place_in t n)
 place_sent place offset at t n e pair = e ∙ ap (beyond offset) (pair_is at (λ w. slice_index (field_offsets w t) n) pair)
+
+pub payload_sent : (place offset at : ArchitectureSize) (t : Tree) → place ≡ beyond offset at → IsPairOf at (λ w. payload_offset w t) → place ≡ beyond offset (payload_place t)
+payload_sent place offset at t e pair = e ∙ ap (beyond offset) (pair_is at (λ w. payload_offset w t) pair)
+
+-- 4. What takes bytes
+
+empty_layout : (t : Shape) → is_nothing t ≡ true → layout t ≡ layout nothing
+empty_layout (fields none) h = refl
+empty_layout _ h = absurd (let e = h in cc)
+
+-- a type that takes bytes is not nothing
+pub is_something : (types : List TypeDef) (ty : WitType) (size : ArchitectureSize) → IsPairOf size (λ w. elem_size w (tree_of types ty)) → (size.bytes ≡ 0 → size.pointers ≡ 0 → ⊥) → is_nothing (shape_of types ty) ≡ false
+is_something types ty size pair some = by (is_nothing (shape_of types ty)) refl
+  where
+    by : (b : Bool) → is_nothing (shape_of types ty) ≡ b → is_nothing (shape_of types ty) ≡ false
+    by false e = e
+    by true e =
+        let four : bytes_at size 4 ≡ 0 = pair.0 ∙ ap (elem_size 2) (sym (layout_is_tree types ty) ∙ empty_layout (shape_of types ty) e) in
+        absurd (some (omega (arith, four)) (omega (arith, four)))

@@ -1,5 +1,5 @@
 -- Aliases, records, tuples, enums and flags of the table, and the types of their parts.
-use Rattle.std.proofs.Common.{◌≡◌, ℕ, zero, suc, ◌+◌, ◌≤◌, ◌<◌, true, Bool, ◌&&◌, List, [], ◌∷◌, length, map, drop, get_or, Some, refl, sym, ap, ap₂, ◌∙◌, arith}
+use Rattle.std.proofs.Common.{◌≡◌, ℕ, zero, suc, ◌+◌, ◌≤◌, ◌<◌, true, Bool, ◌&&◌, List, [], ◌∷◌, length, map, drop, get_or, Option, Some, refl, sym, ap, ap₂, ◌∙◌, arith}
 use Rattle.std.specs.List.{slice_get, list_all}
 use Rattle.std.proofs.lemmas.Option.{slice_get-get_or}
 use Rattle.std.proofs.lemmas.List.{drop_more}
@@ -18,7 +18,9 @@ use Rattle.wrapper_meaning.specs.Shape.Shape.{cases, fields, flags, tuple}
 use Rattle.wrapper_meaning.proofs.ShapeIsByKind.{shape_is_by_kind}
 use Rattle.wrapper_meaning.proofs.Lists.{some_same}
 use Rattle.abi_driver.specs.Instructions.{IsRecord, field_shapes, shapes_of}
+use Rattle.abi_driver.specs.Cases.{payloads_of}
 use Rattle.abi_driver.specs.Parts.{count}
+use Rattle.abi_driver.specs.Payloads.{has_payloads}
 use Rattle.wit_model.proofs.BelowLemmas.{payload_below_more}
 
 pub count-shapes : (types : List TypeDef) (tys : List WitType) → count (shapes_of types tys) ≡ length tys
@@ -65,6 +67,20 @@ module _ (types : List TypeDef) (down : GoesDown types) (id : ℕ) (entry : Type
   pub tuple_below : (tys : List WitType) → entry.kind ≡ kind.Tuple tys → list_all (λ ty. type_below id ty) tys ≡ true
   unfolding parts_below parts
   tuple_below tys e = all_below id tys (sym (ap (parts_below id) e) ∙ down id entry at)
+
+  -- a variant, an option or a result
+  pub variant_shape : (k : TypeDefKind) → has_payloads k ≡ true → entry.kind ≡ k → shape_at types id ≡ cases (payloads_in (shapes types) (payloads_of k))
+  variant_shape (kind.Variant members) has e = shape_here (kind.Variant members) e
+  variant_shape (kind.Option ty) has e = shape_here (kind.Option ty) e
+  variant_shape (kind.Result ok err) has e = shape_here (kind.Result ok err) e
+  variant_shape _ has e = absurd (let h = has in cc)
+
+  pub payloads_below : (k : TypeDefKind) → has_payloads k ≡ true → entry.kind ≡ k → list_all (λ p. payload_below id p) (payloads_of k) ≡ true
+  unfolding parts_below parts payload_below
+  payloads_below (kind.Variant members) has e = sym (ap (parts_below id) e) ∙ down id entry at
+  payloads_below (kind.Option ty) has e = sym (ap (parts_below id) e) ∙ down id entry at
+  payloads_below (kind.Result ok err) has e = sym (ap (parts_below id) e) ∙ down id entry at
+  payloads_below _ has e = absurd (let h = has in cc)
 
   pub enum_shape : (members : List Member) → entry.kind ≡ kind.Enum members → shape_at types id ≡ cases (bare members)
   enum_shape members e = shape_here (kind.Enum members) e
@@ -114,3 +130,20 @@ drop-more xs i x h e = drop_more xs i x h ∙ ap (λ y. y ∷ drop (i + 1) xs) (
 
 pub drop-same : {A : Type 0} (xs ys : List A) (i : ℕ) (x y : A) → ys ≡ xs → i < length xs → y ≡ get_or ys i y → x ≡ y → drop i xs ≡ x ∷ drop (i + 1) xs
 drop-same xs ys i x y same short at is = drop-more xs i x short (is ∙ at ∙ ap (λ zs. get_or zs i y) same ∙ ap (λ z. get_or xs i z) (sym is))
+
+-- a payload of bounded ones
+module _ (bound : ℕ) (payloads : List (Option WitType)) (below : list_all (λ p. payload_below bound p) payloads ≡ true) (i : ℕ) (d : Option WitType) (short : i < length payloads) where
+  pub payload_low : payload_below bound (get_or payloads i d) ≡ true
+  payload_low = all_get (λ p. payload_below bound p) payloads i d below short
+
+pub payload_type_low : (bound : ℕ) (ty : WitType) → payload_below bound (Some ty) ≡ true → type_below bound ty ≡ true
+unfolding payload_below
+payload_type_low bound ty h = h
+
+pub type_ranked : (bound : ℕ) (ty : WitType) → type_below bound ty ≡ true → rank ty ≤ bound
+unfolding payload_below
+type_ranked bound ty h = payload_rank_below bound (Some ty) h
+
+pub type_below_table : (bound n : ℕ) (ty : WitType) → type_below bound ty ≡ true → bound < n → type_below n ty ≡ true
+unfolding payload_below
+type_below_table bound n ty h l = payload_below_more bound n (Some ty) (omega (arith, l)) h

@@ -3,6 +3,7 @@ use Rattle.std.proofs.Common.{◌≡◌, ℕ, suc, ◌+◌, ◌<◌, ◌≤◌, 
 use Rattle.std.proofs.lemmas.List.{length-take-le, take_all, take_more}
 use Rattle.wit_model.specs.declared.types.TypeDef.{TypeDef}
 use Rattle.abi_driver.specs.declared.instruction.Instruction.{Instruction}
+use Rattle.abi_driver.specs.Blocks.{Finishes, Pushes}
 use Rattle.abi_driver.specs.Code.{each}
 use Rattle.abi_driver.specs.Instructions.{Emits}
 use Rattle.abi_driver.specs.Meaning.{Meaning}
@@ -44,6 +45,10 @@ module _ {Self Operand : Type 0} (m : Meaning Self Operand) (types : List TypeDe
   pub sends_three : (i j k : Instruction) (os rs ps qs us vs : List Operand) (a b c d : Self) → Emits m types i os rs a b → Emits m types j ps qs b c → Emits m types k us vs c d
       → Sends m types (sends i ∷ sends j ∷ sends k ∷ []) a d
   sends_three i j k os rs ps qs us vs a b c d e f g = (os, rs, b, e, sends_two j k ps qs us vs b c d f g)
+
+  -- a block is opened, filled and closed
+  pub sends_block : (steps : List Sent) (os : List Operand) (a b c d : Self) → Pushes m a b → Sends m types steps b c → Finishes m os c d → Sends m types (opens ∷ steps ++ closes ∷ []) a d
+  sends_block steps os a b c d begins h ends = (b, begins, sends_both steps (closes ∷ []) b c d h (os, d, ends, refl))
 
   pub sends_as : (steps others : List Sent) (a b : Self) → others ≡ steps → Sends m types steps a b → Sends m types others a b
   sends_as steps others a b e h = subst (λ xs. Sends m types xs a b) (sym e) h

@@ -15,19 +15,21 @@ use Rattle.wit_layout.specs.declared.signature.AbiVariant.{AbiVariant}
 use Rattle.wit_layout.specs.declared.signature.AbiVariant.TheVariants.{GuestExport, GuestImport}
 use Rattle.wit_layout.specs.Flat.{flatten_type, slots, words_of_flags}
 use Rattle.wit_layout.specs.Signature.{core_results}
-use Rattle.wit_layout.specs.Sizes.{elem_size, field_offsets}
+use Rattle.wit_layout.specs.Sizes.{elem_size, field_offsets, payload_offset}
 use Rattle.wit_layout.specs.Tree.{Tree, record_of, tree_at, tree_of}
 use Rattle.wrapper_meaning.specs.Areas.{stored_alignment}
+use Rattle.wrapper_meaning.specs.Kinds.{has_list}
 use Rattle.wrapper_meaning.specs.Layout.{layout, layouts}
 use Rattle.wrapper_meaning.specs.Represents.{are_indirect, is_indirect, result_words}
-use Rattle.wrapper_meaning.specs.Shape.{Shape, payload_in, payloads_in, result_shape, shape_of, shapes}
+use Rattle.wrapper_meaning.specs.Shape.{Shape, payload_in, payloads_in, result_shape, shape_at, shape_of, shapes}
 use Rattle.wrapper_meaning.specs.Shape.Shape.{fields}
 use Rattle.abi_driver.specs.declared.instruction.Instruction.{Instruction}
-use Rattle.abi_driver.specs.declared.instruction.Instruction.TheVariants.{CallInterface, CallWasm, EnumLift, EnumLower, FlagsLift, FlagsLower, Flush, GetArg, GuestDeallocate, GuestDeallocateString, I32Const, LengthLoad, LengthStore, OptionLift, OptionLower, PointerLoad, PointerStore, RecordLift, RecordLower, ResultLift, ResultLower, Return, StringLift, StringLower, TupleLift, TupleLower, VariantLift, VariantLower, VariantPayloadName}
+use Rattle.abi_driver.specs.declared.instruction.Instruction.TheVariants.{CallInterface, CallWasm, EnumLift, EnumLower, FlagsLift, FlagsLower, Flush, GetArg, GuestDeallocate, GuestDeallocateString, GuestDeallocateVariant, I32Const, LengthLoad, LengthStore, OptionLift, OptionLower, PointerLoad, PointerStore, RecordLift, RecordLower, ResultLift, ResultLower, Return, StringLift, StringLower, TupleLift, TupleLower, VariantLift, VariantLower, VariantPayloadName}
 use Rattle.abi_driver.specs.Cases.{payloads_of}
 use Rattle.abi_driver.specs.Frees.{nowhere}
 use Rattle.abi_driver.specs.Instructions.{lifting, lowering, shapes_of}
 use Rattle.abi_driver.specs.NumberTouches.{flags_load, flags_store, tag_load, tag_store}
+use Rattle.abi_driver.specs.Payloads.{case_lifting, case_lowering}
 use Rattle.abi_driver.specs.ScalarTouches.{scalar_load, scalar_store}
 use Rattle.abi_driver.specs.Sent.{Sent, asks, closes, opens, sends, sends_casts, sends_zeros}
 use Rattle.abi_driver.specs.SlotCasts.{casts_between, is_no_cast}
@@ -172,6 +174,9 @@ free_words_leaf wit.String = sends GuestDeallocateString ∷ []
 free_words_leaf ty = []
 
 abbrev pub free_words_kind : ℕ → TypeDefKind → List (List Sent) → List Sent
+free_words_kind id (kind.Variant members) parts = []
+free_words_kind id (kind.Option ty) parts = []
+free_words_kind id (kind.Result ok err) parts = []
 free_words_kind id k parts = in_turn parts
 
 -- blocks are freed which words name
@@ -205,6 +210,24 @@ word_place n = record { bytes = 4 * n; pointers = 0 }
 abbrev pub at_words : (ArchitectureSize → Instruction) → ℕ → ArchitectureSize → List Sent
 at_words touch flags offset = each (λ n word. sends (touch (beyond offset (word_place n))) ∷ []) 0 (words_of_flags flags)
 
+-- the blocks of cases, in order
+abbrev pub in_blocks : {A : Type 0} → (ℕ → A → List Sent) → ℕ → List A → List Sent
+in_blocks code first xs = each (λ n x. opens ∷ code n x ++ closes ∷ []) first xs
+
+-- where the payloads of a type with cases stand that itself stands at an offset
+abbrev pub payload_place : Tree → ArchitectureSize
+payload_place t = paired (payload_offset 2 t) (payload_offset 3 t)
+
+-- of one of so many cases the payload is named, the tag stored at an offset, and then the payload at its place
+abbrev pub store_case : ℕ → (offset place : ArchitectureSize) → ℕ → Option (ArchitectureSize → List Sent) → List Sent
+store_case cases offset place n None = sends (I32Const (pos n)) ∷ sends (tag_store cases offset) ∷ []
+store_case cases offset place n (Some part) = sends VariantPayloadName ∷ sends (I32Const (pos n)) ∷ sends (tag_store cases offset) ∷ part place
+
+-- such blocks, and the instruction that runs that of a value's case; none where the kind has no payloads
+abbrev pub store_cases : List TypeDef → ℕ → Option Instruction → List (Option (ArchitectureSize → List Sent)) → ArchitectureSize → List Sent
+store_cases types id None parts offset = []
+store_cases types id (Some lower) parts offset = in_blocks (store_case (length parts) offset (beyond offset (payload_place (tree_at types id)))) 0 parts ++ sends lower ∷ []
+
 abbrev pub store_leaf : Bool → WitType → ArchitectureSize → List Sent
 store_leaf realloc wit.String offset = sends (StringLower realloc) ∷ sends (LengthStore (beyond offset one_pointer)) ∷ sends (PointerStore offset) ∷ []
 store_leaf realloc ty offset = sent (lowering ty) ++ sent (scalar_store ty offset)
@@ -216,10 +239,20 @@ store_kind types id (kind.Tuple members) parts offset = sends (TupleLower (lengt
 store_kind types id (kind.Enum members) parts offset = sends (EnumLower (record { 0 = id })) ∷ sends (tag_store (length members) offset) ∷ []
 store_kind types id (kind.Flags members) parts offset =
     sends (FlagsLower (record { 0 = id })) ∷ reverse (at_words (flags_store (length members)) (length members) offset)
-store_kind types id _ parts offset = []
+store_kind types id k parts offset = store_cases types id (case_lowering (record { 0 = id }) 0 k) (by_case (payloads_of k) parts) offset
 
 unfoldable pub store_code : List TypeDef → Bool → WitType → ArchitectureSize → List Sent
 store_code types realloc ty offset = made_for (store_leaf realloc) (store_kind types) types ty offset
+
+-- what is sent for the payload of a case, where it has one, at its place
+abbrev pub at_payload : (place : ArchitectureSize) → Option (ArchitectureSize → List Sent) → List Sent
+at_payload place None = []
+at_payload place (Some part) = part place
+
+-- the tag is loaded, and behind the blocks of the cases comes the instruction that runs that of the tag's case
+abbrev pub load_cases : List TypeDef → ℕ → Option Instruction → List (Option (ArchitectureSize → List Sent)) → ArchitectureSize → List Sent
+load_cases types id None parts offset = []
+load_cases types id (Some lift) parts offset = sends (tag_load (length parts) offset) ∷ in_blocks (λ n part. at_payload (beyond offset (payload_place (tree_at types id))) part) 0 parts ++ sends lift ∷ []
 
 abbrev pub load_leaf : WitType → ArchitectureSize → List Sent
 load_leaf wit.String offset = sends (PointerLoad offset) ∷ sends (LengthLoad (beyond offset one_pointer)) ∷ sends StringLift ∷ []
@@ -232,10 +265,16 @@ load_kind types id (kind.Tuple members) parts offset = at_places types id parts 
 load_kind types id (kind.Enum members) parts offset = sends (tag_load (length members) offset) ∷ sends (EnumLift (record { 0 = id })) ∷ []
 load_kind types id (kind.Flags members) parts offset =
     at_words (flags_load (length members)) (length members) offset ++ sends (FlagsLift (record { 0 = id })) ∷ []
-load_kind types id _ parts offset = []
+load_kind types id k parts offset = load_cases types id (case_lifting (record { 0 = id }) k) (by_case (payloads_of k) parts) offset
 
 unfoldable pub load_code : List TypeDef → WitType → ArchitectureSize → List Sent
 load_code types ty offset = made_for load_leaf (load_kind types) types ty offset
+
+-- where a value has blocks, the tag is loaded, and behind the blocks of code comes the instruction that runs that of the tag's case
+abbrev pub free_cases : List TypeDef → ℕ → List (Option (ArchitectureSize → List Sent)) → ArchitectureSize → List Sent
+free_cases types id parts offset =
+    if has_list (shape_at types id) then sends (tag_load (length parts) offset) ∷ in_blocks (λ n part. at_payload (beyond offset (payload_place (tree_at types id))) part) 0 parts ++ sends (GuestDeallocateVariant (length parts)) ∷ []
+    else []
 
 abbrev pub free_leaf : WitType → ArchitectureSize → List Sent
 free_leaf wit.String offset = sends (PointerLoad offset) ∷ sends (LengthLoad (beyond offset one_pointer)) ∷ sends GuestDeallocateString ∷ []
@@ -243,6 +282,9 @@ free_leaf ty offset = []
 
 abbrev pub free_kind : List TypeDef → ℕ → TypeDefKind → List (ArchitectureSize → List Sent) → ArchitectureSize → List Sent
 free_kind types id (kind.Alias ty) parts offset = all_at parts offset
+free_kind types id (kind.Variant members) parts offset = free_cases types id (by_case (payloads_of (kind.Variant members)) parts) offset
+free_kind types id (kind.Option ty) parts offset = free_cases types id (by_case (payloads_of (kind.Option ty)) parts) offset
+free_kind types id (kind.Result ok err) parts offset = free_cases types id (by_case (payloads_of (kind.Result ok err)) parts) offset
 free_kind types id k parts offset = at_places types id parts offset
 
 unfoldable pub free_code : List TypeDef → WitType → ArchitectureSize → List Sent

@@ -9,8 +9,10 @@ pub mod Constants
 pub mod Entries
 pub mod Code
 pub mod Exports
+pub mod FinishedBlocks
 pub mod FixedLists
 pub mod FlagSets
+pub mod FreedCases
 pub mod Frees
 pub mod Handles
 pub mod HasList
@@ -20,6 +22,7 @@ pub mod Laws
 pub mod Leaves
 pub mod Lifts
 pub mod Lists
+pub mod LoadedCases
 pub mod Loads
 pub mod Lowers
 pub mod Maps
@@ -27,6 +30,7 @@ pub mod Meaning
 pub mod Memory
 pub mod NumberTouches
 pub mod Parts
+pub mod Payloads
 pub mod Places
 pub mod Plain
 pub mod PlainSound
@@ -35,6 +39,7 @@ pub mod ScalarTouches
 pub mod Sends
 pub mod Sent
 pub mod SlotCasts
+pub mod StoredCases
 pub mod Stores
 pub mod Touches
 pub mod Turns

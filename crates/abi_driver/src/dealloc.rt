@@ -3,6 +3,7 @@
 mod flat;
 pub(crate) mod memory;
 pub(crate) mod places;
+mod variants;
 
 ghost use Rattle.std.specs.Prelude.{◌≡◌, true, length, OnOk};
 ghost use Rattle.std.specs.List.{list_all};

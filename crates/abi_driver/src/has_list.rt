@@ -41,7 +41,7 @@ fn type_has_list(resolve: &Resolve, ty: WitType) -> bool
 
 /// The same, of the type at a place of the table.
 #[cycle(has_list)]
-fn id_has_list(resolve: &Resolve, id: TypeId) -> bool
+pub(crate) fn id_has_list(resolve: &Resolve, id: TypeId) -> bool
     requires down { GoesDown resolve.now.types }
     requires within { id.0 < length resolve.now.types }
     ensures { result ≡ has_list (shape_at resolve.now.types id.0) }

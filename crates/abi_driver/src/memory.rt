@@ -6,6 +6,7 @@ pub(crate) mod load;
 pub(crate) mod number;
 pub(crate) mod place;
 pub(crate) mod store;
+pub(crate) mod variants;
 pub(crate) mod word;
 
 pub use load::lift_from_memory;

@@ -69,10 +69,10 @@ each_locally size listed holds one (v ∷ vs) b after k blocks all alike (f, g, 
     )
 
 -- the number of a case and its payload lie within the bytes of the whole
-tag_within : (n : ℕ) (e : Extent) → 2 ^ discriminant_grain n ≤ payload_place n e
+pub tag_within : (n : ℕ) (e : Extent) → 2 ^ discriminant_grain n ≤ payload_place n e
 tag_within n e = place_behind e (2 ^ discriminant_grain n)
 
-payload_within : (n : ℕ) (e : Extent) → payload_place n e + e.bytes ≤ (variant_extent n e).bytes
+pub payload_within : (n : ℕ) (e : Extent) → payload_place n e + e.bytes ≤ (variant_extent n e).bytes
 payload_within n e = place_behind (extent (max (discriminant_grain n) e.grain) 0) (payload_place n e + e.bytes)
 
 -- and the parts of a record within those of the record

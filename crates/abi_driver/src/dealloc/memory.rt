@@ -1,25 +1,30 @@
 //! The blocks of values in memory are freed.
 
-ghost use Rattle.std.specs.Prelude.{◌≡◌, ◌<◌, IsTrue, true, length, OnOk};
+ghost use Rattle.std.specs.Prelude.{◌≡◌, ◌<◌, ◌∷◌, ◌++◌, [], IsTrue, true, length, option_map, OnOk};
 ghost use Rattle.std.specs.List.{list_all};
-ghost use Rattle.wit_model.specs.TypeOrder.{GoesDown, type_below};
+ghost use Rattle.wit_model.specs.TypeOrder.{GoesDown, payload_below, type_below};
 ghost use Rattle.wit_model.specs.declared.types.WitType.TheVariants.{Id, String};
 ghost use Rattle.wit_layout.specs.Tree.{record_of, tree_at};
-ghost use Rattle.wrapper_meaning.specs.Shape.{shape_at, shape_of};
+ghost use Rattle.wrapper_meaning.specs.Shape.{payload_in, payloads_in, shape_at, shape_of, shapes};
 ghost use Rattle.wrapper_meaning.specs.Shape.Shape.{text};
-ghost use Rattle.abi_driver.specs.Code.{beyond, each, free_code, place_in};
+ghost use Rattle.abi_driver.specs.Code.{at_payload, beyond, each, free_code, in_blocks, place_in};
+ghost use Rattle.abi_driver.specs.FreedCases.{FreesCases, FreesPayload};
 ghost use Rattle.abi_driver.specs.Frees.{FreesInMemory, FreesParts, nowhere};
 ghost use Rattle.abi_driver.specs.Instructions.{shapes_of};
 ghost use Rattle.abi_driver.specs.Places.{HasParts};
 ghost use Rattle.abi_driver.specs.Sends.{Sends};
+ghost use Rattle.abi_driver.specs.Sent.{closes, opens};
 
 use crate::bindgen::Bindgen;
 use crate::dealloc::places::record_places;
+use crate::dealloc::variants::run_case;
+use crate::has_list::id_has_list;
 use crate::instruction::Instruction;
 use crate::lift::leaf::scalar_lifting;
 use crate::memory::place::{behind_pointer, part_place};
+use crate::memory::variants::{case_payloads, close, empty_block, load_tag, payload_place};
 use crate::memory::word::load_word;
-use crate::parts::field_types;
+use crate::parts::{field_types, numbered};
 use crate::send::{only, send};
 use std::alloc::Global;
 use wit_model::{ArchitectureSize, OutOfMemory, Resolve, TypeDefKind, TypeId, WitType};
@@ -109,8 +114,123 @@ fn free_id<B: Bindgen>(
         }
         TypeDefKind::Enum(_) => Ok(()),
         TypeDefKind::Flags(_) => Ok(()),
+        TypeDefKind::Variant(_) | TypeDefKind::Option(_) | TypeDefKind::Result(_, _) => {
+            free_variant(alloc, resolve, bindgen, address, offset, id)?;
+            Ok(())
+        }
         _ => Err(OutOfMemory),
     }
+}
+
+/// The tag of a variant, an option or a result of the table, the blocks of all cases, and what runs the one of the tag's case. Where
+/// no value has blocks, nothing is sent.
+#[cycle(free)]
+fn free_variant<B: Bindgen>(
+    alloc: Global,
+    resolve: &Resolve,
+    bindgen: &mut B,
+    address: &B::Operand,
+    offset: ArchitectureSize,
+    id: TypeId,
+) -> Result<(), OutOfMemory>
+    requires down { GoesDown resolve.now.types }
+    requires within { id.0 < length resolve.now.types }
+    requires knows { B.meaning.knows bindgen.old resolve.now.types }
+    ensures frees { OnOk result (FreesInMemory B.meaning (shape_at resolve.now.types id.0) address.now offset bindgen.old bindgen.new) }
+    ensures sends { OnOk result (Sends B.meaning resolve.now.types (free_code resolve.now.types (Id id) offset) bindgen.old bindgen.new) }
+{
+    let types = resolve.types.as_slice();
+    let at = id.0 as usize;
+    let kind = &types[at].kind;
+    let payloads = case_payloads(alloc, kind)?;
+    if !id_has_list(resolve, id) {
+        return Ok(());
+    }
+    let place = payload_place(bindgen, id, offset)?;
+    let tys = payloads.as_slice();
+    let count = numbered(tys.len())?;
+    let tag = load_tag(alloc, resolve, bindgen, address, offset, tys.len())?;
+    free_cases(alloc, resolve, bindgen, address, place, id, tys)?;
+    run_case(alloc, resolve, bindgen, tag, count)?;
+    Ok(())
+}
+
+/// The blocks of cases with these payloads, one after another.
+#[cycle(free)]
+fn free_cases<B: Bindgen>(
+    alloc: Global,
+    resolve: &Resolve,
+    bindgen: &mut B,
+    address: &B::Operand,
+    place: ArchitectureSize,
+    id: TypeId,
+    payloads: &[Option<WitType>],
+) -> Result<(), OutOfMemory>
+    requires down { GoesDown resolve.now.types }
+    requires within { id.0 < length resolve.now.types }
+    requires below { list_all (λ p. payload_below id.0 p) payloads.now ≡ true }
+    requires knows { B.meaning.knows bindgen.old resolve.now.types }
+    ensures frees { OnOk result (FreesCases B.meaning (payloads_in (shapes resolve.now.types) payloads.now) address.now place bindgen.old bindgen.new) }
+    ensures sends { OnOk result (Sends B.meaning resolve.now.types (in_blocks (λ n p. at_payload place (option_map (free_code resolve.now.types) p)) 0 payloads.now) bindgen.old bindgen.new) }
+{
+    for i in 0..payloads.len() {
+        free_case(alloc, resolve, bindgen, address, place, id, payloads[i])?;
+    }
+    Ok(())
+}
+
+/// The block of a case.
+#[cycle(free)]
+fn free_case<B: Bindgen>(
+    alloc: Global,
+    resolve: &Resolve,
+    bindgen: &mut B,
+    address: &B::Operand,
+    place: ArchitectureSize,
+    id: TypeId,
+    payload: Option<WitType>,
+) -> Result<(), OutOfMemory>
+    requires down { GoesDown resolve.now.types }
+    requires within { id.0 < length resolve.now.types }
+    requires below { payload_below id.0 payload ≡ true }
+    requires knows { B.meaning.knows bindgen.old resolve.now.types }
+    ensures frees { OnOk result (FreesPayload B.meaning (payload_in (shapes resolve.now.types) payload) address.now place bindgen.old bindgen.new) }
+    ensures sends { OnOk result (Sends B.meaning resolve.now.types (opens ∷ at_payload place (option_map (free_code resolve.now.types) payload) ++ closes ∷ []) bindgen.old bindgen.new) }
+{
+    match payload {
+        None => {
+            empty_block(alloc, bindgen)?;
+            Ok(())
+        }
+        Some(ty) => {
+            free_payload(alloc, resolve, bindgen, address, place, id, ty)?;
+            Ok(())
+        }
+    }
+}
+
+/// The block of a case frees the blocks of its payload.
+#[cycle(free)]
+fn free_payload<B: Bindgen>(
+    alloc: Global,
+    resolve: &Resolve,
+    bindgen: &mut B,
+    address: &B::Operand,
+    place: ArchitectureSize,
+    id: TypeId,
+    ty: WitType,
+) -> Result<(), OutOfMemory>
+    requires down { GoesDown resolve.now.types }
+    requires within { id.0 < length resolve.now.types }
+    requires below { type_below id.0 ty ≡ true }
+    requires knows { B.meaning.knows bindgen.old resolve.now.types }
+    ensures frees { OnOk result (FreesPayload B.meaning (shape_of resolve.now.types ty) address.now place bindgen.old bindgen.new) }
+    ensures sends { OnOk result (Sends B.meaning resolve.now.types (opens ∷ free_code resolve.now.types ty place ++ closes ∷ []) bindgen.old bindgen.new) }
+{
+    bindgen.push_block()?;
+    free_type(alloc, resolve, bindgen, address, place, ty)?;
+    close(alloc, bindgen)?;
+    Ok(())
 }
 
 /// The blocks of the parts of a value of a record or a tuple of the table.

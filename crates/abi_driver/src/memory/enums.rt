@@ -23,7 +23,7 @@ use std::alloc::Global;
 use wit_model::{ArchitectureSize, List, Member, OutOfMemory, Resolve, TypeId};
 
 /// How many bytes the tag of one of so many cases has, as an exponent of 2.
-fn tag_grain(cases: usize) -> u32
+pub(super) fn tag_grain(cases: usize) -> u32
     ensures { result ≡ discriminant_grain cases }
 {
     if cases <= 256 {

@@ -1,17 +1,19 @@
 //! Values are read from memory.
 
-ghost use Rattle.std.specs.Prelude.{◌≡◌, ◌<◌, IsTrue, true, length, Some, IfOk, OnOk};
+ghost use Rattle.std.specs.Prelude.{◌≡◌, ◌<◌, ◌∷◌, ◌++◌, [], IsTrue, true, length, map, option_map, option_to_list, Some, IfOk, OnOk};
 ghost use Rattle.std.specs.List.{list_all};
-ghost use Rattle.wit_model.specs.TypeOrder.{GoesDown, type_below};
+ghost use Rattle.wit_model.specs.TypeOrder.{GoesDown, payload_below, type_below};
 ghost use Rattle.wit_model.specs.declared.types.WitType.TheVariants.{Id, String};
 ghost use Rattle.wit_layout.specs.Tree.{tree_at};
-ghost use Rattle.wrapper_meaning.specs.Shape.{shape_at, shape_of};
+ghost use Rattle.wrapper_meaning.specs.Shape.{payload_in, payloads_in, shape_at, shape_of, shapes};
 ghost use Rattle.wrapper_meaning.specs.Shape.Shape.{text};
-ghost use Rattle.abi_driver.specs.Code.{beyond, each, load_code, place_in};
+ghost use Rattle.abi_driver.specs.Code.{beyond, each, in_blocks, at_payload, load_code, place_in};
 ghost use Rattle.abi_driver.specs.Instructions.{lifting, shapes_of};
+ghost use Rattle.abi_driver.specs.LoadedCases.{LoadsCase, LoadsCases};
 ghost use Rattle.abi_driver.specs.Loads.{LiftsFromMemory, LoadsParts};
 ghost use Rattle.abi_driver.specs.Places.{HasParts};
 ghost use Rattle.abi_driver.specs.Sends.{Sends};
+ghost use Rattle.abi_driver.specs.Sent.{closes, opens};
 
 use crate::bindgen::{Bindgen, Operand};
 use crate::instruction::Instruction;
@@ -19,6 +21,9 @@ use crate::lift::leaf::scalar_lifting;
 use crate::memory::enums::load_enum;
 use crate::memory::flags::load_flags;
 use crate::memory::place::{NOWHERE, behind_pointer, part_place};
+use crate::memory::variants::{
+    case_lifting, case_payloads, empty_block, has_bytes, load_tag, payload_place,
+};
 use crate::memory::word::{load_word, scalar_load};
 use crate::parts::{field_types, part_count};
 use crate::send::{only, send_one};
@@ -28,8 +33,8 @@ use wit_model::{ArchitectureSize, List, OutOfMemory, Resolve, TypeDefKind, TypeI
 /// What denotes the value that stands at the address that an operand denotes, after `lift_from_memory` of wit-bindgen-core. What it owns
 /// is taken over.
 ///
-/// So far it is a scalar, a text, an enum or flags, or a record or a tuple of such, also through aliases; of a type that holds any other
-/// the answer is `OutOfMemory`, as where memory is wanting.
+/// So far it is a scalar, a text, an enum or flags, or a record, a tuple, a variant, an option or a result of such, also through
+/// aliases; of a type that holds any other the answer is `OutOfMemory`, as where memory is wanting.
 pub fn lift_from_memory<B: Bindgen>(
     alloc: Global,
     resolve: &Resolve,
@@ -116,8 +121,126 @@ fn load_id<B: Bindgen>(
         TypeDefKind::Flags(members) => {
             load_flags(alloc, resolve, bindgen, address, offset, id, members)
         }
+        TypeDefKind::Variant(_) | TypeDefKind::Option(_) | TypeDefKind::Result(_, _) => {
+            let operand = load_variant(alloc, resolve, bindgen, address, offset, id)?;
+            Ok(operand)
+        }
         _ => Err(OutOfMemory),
     }
+}
+
+/// The tag of a variant, an option or a result of the table, the blocks of all cases, and what runs the one of the tag's case.
+#[cycle(load)]
+fn load_variant<B: Bindgen>(
+    alloc: Global,
+    resolve: &Resolve,
+    bindgen: &mut B,
+    address: &B::Operand,
+    offset: ArchitectureSize,
+    id: TypeId,
+) -> Result<B::Operand, OutOfMemory>
+    requires down { GoesDown resolve.now.types }
+    requires within { id.0 < length resolve.now.types }
+    requires knows { B.meaning.knows bindgen.old resolve.now.types }
+    ensures loads { IfOk result (λ r. LiftsFromMemory B.meaning (shape_at resolve.now.types id.0) address.now offset r bindgen.old bindgen.new) }
+    ensures sends { OnOk result (Sends B.meaning resolve.now.types (load_code resolve.now.types (Id id) offset) bindgen.old bindgen.new) }
+{
+    let types = resolve.types.as_slice();
+    let at = id.0 as usize;
+    let kind = &types[at].kind;
+    let payloads = case_payloads(alloc, kind)?;
+    let Some(lift) = case_lifting(kind, id) else {
+        return Err(OutOfMemory);
+    };
+    let place = payload_place(bindgen, id, offset)?;
+    let tys = payloads.as_slice();
+    let tag = load_tag(alloc, resolve, bindgen, address, offset, tys.len())?;
+    load_cases(alloc, resolve, bindgen, address, place, id, tys)?;
+    let operands = only(alloc, tag)?;
+    let operand = send_one(alloc, resolve, bindgen, lift, operands)?;
+    Ok(operand)
+}
+
+/// The blocks of cases with these payloads, one after another.
+#[cycle(load)]
+fn load_cases<B: Bindgen>(
+    alloc: Global,
+    resolve: &Resolve,
+    bindgen: &mut B,
+    address: &B::Operand,
+    place: ArchitectureSize,
+    id: TypeId,
+    payloads: &[Option<WitType>],
+) -> Result<(), OutOfMemory>
+    requires down { GoesDown resolve.now.types }
+    requires within { id.0 < length resolve.now.types }
+    requires below { list_all (λ p. payload_below id.0 p) payloads.now ≡ true }
+    requires knows { B.meaning.knows bindgen.old resolve.now.types }
+    ensures loads { OnOk result (LoadsCases B.meaning (map (λ p. length (option_to_list p)) payloads.now) (payloads_in (shapes resolve.now.types) payloads.now) address.now place bindgen.old bindgen.new) }
+    ensures sends { OnOk result (Sends B.meaning resolve.now.types (in_blocks (λ n p. at_payload place (option_map (load_code resolve.now.types) p)) 0 payloads.now) bindgen.old bindgen.new) }
+{
+    for i in 0..payloads.len() {
+        load_case(alloc, resolve, bindgen, address, place, id, payloads[i])?;
+    }
+    Ok(())
+}
+
+/// The block of a case.
+#[cycle(load)]
+fn load_case<B: Bindgen>(
+    alloc: Global,
+    resolve: &Resolve,
+    bindgen: &mut B,
+    address: &B::Operand,
+    place: ArchitectureSize,
+    id: TypeId,
+    payload: Option<WitType>,
+) -> Result<(), OutOfMemory>
+    requires down { GoesDown resolve.now.types }
+    requires within { id.0 < length resolve.now.types }
+    requires below { payload_below id.0 payload ≡ true }
+    requires knows { B.meaning.knows bindgen.old resolve.now.types }
+    ensures loads { OnOk result (LoadsCase B.meaning (length (option_to_list payload)) (payload_in (shapes resolve.now.types) payload) address.now place bindgen.old bindgen.new) }
+    ensures sends { OnOk result (Sends B.meaning resolve.now.types (opens ∷ at_payload place (option_map (load_code resolve.now.types) payload) ++ closes ∷ []) bindgen.old bindgen.new) }
+{
+    match payload {
+        None => {
+            empty_block(alloc, bindgen)?;
+            Ok(())
+        }
+        Some(ty) => {
+            load_payload(alloc, resolve, bindgen, address, place, id, ty)?;
+            Ok(())
+        }
+    }
+}
+
+/// The block of a case gives its payload.
+#[cycle(load)]
+fn load_payload<B: Bindgen>(
+    alloc: Global,
+    resolve: &Resolve,
+    bindgen: &mut B,
+    address: &B::Operand,
+    place: ArchitectureSize,
+    id: TypeId,
+    ty: WitType,
+) -> Result<(), OutOfMemory>
+    requires down { GoesDown resolve.now.types }
+    requires within { id.0 < length resolve.now.types }
+    requires below { type_below id.0 ty ≡ true }
+    requires knows { B.meaning.knows bindgen.old resolve.now.types }
+    ensures loads { OnOk result (LoadsCase B.meaning 1 (shape_of resolve.now.types ty) address.now place bindgen.old bindgen.new) }
+    ensures sends { OnOk result (Sends B.meaning resolve.now.types (opens ∷ load_code resolve.now.types ty place ++ closes ∷ []) bindgen.old bindgen.new) }
+{
+    if !has_bytes(bindgen, ty) {
+        return Err(OutOfMemory);
+    }
+    bindgen.push_block()?;
+    let value = load_type(alloc, resolve, bindgen, address, place, ty)?;
+    let mut results = only(alloc, value)?;
+    bindgen.finish_block(&mut results)?;
+    Ok(())
 }
 
 /// The parts of a value of a record or a tuple of the table.

@@ -27,7 +27,7 @@ fn added(a: u64, b: u64) -> Result<u64, OutOfMemory>
 }
 
 /// The sum of two offsets.
-fn sum(a: ArchitectureSize, b: ArchitectureSize) -> Result<ArchitectureSize, OutOfMemory>
+pub(super) fn sum(a: ArchitectureSize, b: ArchitectureSize) -> Result<ArchitectureSize, OutOfMemory>
     ensures { IfOk result (λ c. c ≡ beyond a b) }
 {
     let bytes = added(a.bytes, b.bytes)?;

@@ -1,25 +1,32 @@
 //! Values are put into memory.
 
-ghost use Rattle.std.specs.Prelude.{◌≡◌, ◌<◌, Bool, IsTrue, true, length, Some, OnOk};
+ghost use Rattle.std.specs.Prelude.{◌≡◌, ◌<◌, ◌≤◌, ◌^◌, ◌∷◌, ◌++◌, [], Bool, IsTrue, true, length, option_map, Some, OnOk};
 ghost use Rattle.std.specs.List.{list_all};
-ghost use Rattle.wit_model.specs.TypeOrder.{GoesDown, type_below};
+ghost use Rattle.wit_model.specs.TypeOrder.{GoesDown, payload_below, type_below};
 ghost use Rattle.wit_model.specs.declared.types.WitType.TheVariants.{Id, String};
+ghost use Rattle.wit_layout.specs.Extent.{discriminant_grain};
 ghost use Rattle.wit_layout.specs.Tree.{tree_at};
-ghost use Rattle.wrapper_meaning.specs.Shape.{shape_at, shape_of};
+ghost use Rattle.wrapper_meaning.specs.Shape.{payload_in, payloads_in, shape_at, shape_of, shapes};
 ghost use Rattle.wrapper_meaning.specs.Shape.Shape.{text};
-ghost use Rattle.abi_driver.specs.Code.{beyond, each, place_in, store_code};
+ghost use Rattle.abi_driver.specs.Code.{beyond, each, in_blocks, place_in, store_case, store_code};
 ghost use Rattle.abi_driver.specs.Instructions.{IsSide, lowering, shapes_of};
 ghost use Rattle.abi_driver.specs.ScalarTouches.{scalar_store};
 ghost use Rattle.abi_driver.specs.Places.{HasParts};
 ghost use Rattle.abi_driver.specs.Sends.{Sends};
+ghost use Rattle.abi_driver.specs.Sent.{closes, opens};
+ghost use Rattle.abi_driver.specs.StoredCases.{StoresCase, StoresCases};
 ghost use Rattle.abi_driver.specs.Stores.{LowersToMemory, StoresParts};
 
 use crate::bindgen::{Bindgen, Operand};
 use crate::instruction::Instruction;
+use crate::lift::enums::MOST_CASES;
 use crate::lower::leaf::{lower_by, scalar_lowering};
 use crate::memory::enums::store_enum;
 use crate::memory::flags::store_flags;
 use crate::memory::place::{NOWHERE, behind_pointer, part_place};
+use crate::memory::variants::{
+    case_lowering, case_payloads, close, has_bytes, payload, payload_place, store_bare, store_tag,
+};
 use crate::memory::word::{scalar_store, store_word};
 use crate::parts::{field_types, part_count};
 use std::alloc::Global;
@@ -27,8 +34,9 @@ use wit_model::{ArchitectureSize, List, OutOfMemory, Resolve, TypeDefKind, TypeI
 
 /// Puts the value that an operand denotes at the address that another denotes, after `lower_to_memory` of wit-bindgen-core.
 ///
-/// Without `realloc` the value is lent, and with it given away. So far it is a scalar, a text, an enum or flags, or a record
-/// or a tuple of such, also through aliases; of a type that holds any other the answer is `OutOfMemory`, as where memory is wanting.
+/// Without `realloc` the value is lent, and with it given away. So far it is a scalar, a text, an enum or flags, or a record, a tuple, a
+/// variant, an option or a result of such, also through aliases; of a type that holds any other the answer is `OutOfMemory`, as where
+/// memory is wanting.
 pub fn lower_to_memory<B: Bindgen>(
     alloc: Global,
     resolve: &Resolve,
@@ -132,8 +140,165 @@ fn store_id<B: Bindgen>(
         TypeDefKind::Flags(members) => {
             store_flags(alloc, resolve, bindgen, address, offset, value, id, members)
         }
+        TypeDefKind::Variant(_) | TypeDefKind::Option(_) | TypeDefKind::Result(_, _) => {
+            store_variant(alloc, resolve, bindgen, address, offset, value, id, realloc)?;
+            Ok(())
+        }
         _ => Err(OutOfMemory),
     }
+}
+
+/// The blocks of all cases of a variant, an option or a result of the table, and what runs the one of the value's case.
+#[cycle(store)]
+fn store_variant<B: Bindgen>(
+    alloc: Global,
+    resolve: &Resolve,
+    bindgen: &mut B,
+    address: &B::Operand,
+    offset: ArchitectureSize,
+    value: B::Operand,
+    id: TypeId,
+    realloc: bool,
+) -> Result<(), OutOfMemory>
+    requires down { GoesDown resolve.now.types }
+    requires within { id.0 < length resolve.now.types }
+    requires side { IsSide B.meaning realloc bindgen.old }
+    requires knows { B.meaning.knows bindgen.old resolve.now.types }
+    ensures stores { OnOk result (LowersToMemory B.meaning realloc (shape_at resolve.now.types id.0) value address.now offset bindgen.old bindgen.new) }
+    ensures sends { OnOk result (Sends B.meaning resolve.now.types (store_code resolve.now.types realloc (Id id) offset) bindgen.old bindgen.new) }
+{
+    let types = resolve.types.as_slice();
+    let at = id.0 as usize;
+    let kind = &types[at].kind;
+    let payloads = case_payloads(alloc, kind)?;
+    let Some(lower) = case_lowering(kind, id, 0) else {
+        return Err(OutOfMemory);
+    };
+    let place = payload_place(bindgen, id, offset)?;
+    let tys = payloads.as_slice();
+    store_cases(
+        alloc, resolve, bindgen, address, offset, place, id, tys, realloc,
+    )?;
+    let _none = lower_by(alloc, resolve, bindgen, value, lower)?;
+    Ok(())
+}
+
+/// The blocks of cases with these payloads, one after another.
+#[cycle(store)]
+fn store_cases<B: Bindgen>(
+    alloc: Global,
+    resolve: &Resolve,
+    bindgen: &mut B,
+    address: &B::Operand,
+    offset: ArchitectureSize,
+    place: ArchitectureSize,
+    id: TypeId,
+    payloads: &[Option<WitType>],
+    realloc: bool,
+) -> Result<(), OutOfMemory>
+    requires down { GoesDown resolve.now.types }
+    requires within { id.0 < length resolve.now.types }
+    requires below { list_all (λ p. payload_below id.0 p) payloads.now ≡ true }
+    requires side { IsSide B.meaning realloc bindgen.old }
+    requires knows { B.meaning.knows bindgen.old resolve.now.types }
+    ensures stores { OnOk result (StoresCases B.meaning realloc (discriminant_grain (length payloads.now)) 0 (payloads_in (shapes resolve.now.types) payloads.now) address.now offset place bindgen.old bindgen.new) }
+    ensures sends { OnOk result (Sends B.meaning resolve.now.types (in_blocks (λ n p. store_case (length payloads.now) offset place n (option_map (store_code resolve.now.types realloc) p)) 0 payloads.now) bindgen.old bindgen.new) }
+{
+    let count = payloads.len();
+    if count > MOST_CASES {
+        return Err(OutOfMemory);
+    }
+    for i in 0..count {
+        store_case(
+            alloc,
+            resolve,
+            bindgen,
+            address,
+            offset,
+            place,
+            count,
+            i,
+            id,
+            payloads[i],
+            realloc,
+        )?;
+    }
+    Ok(())
+}
+
+/// The block of one of so many cases.
+#[cycle(store)]
+fn store_case<B: Bindgen>(
+    alloc: Global,
+    resolve: &Resolve,
+    bindgen: &mut B,
+    address: &B::Operand,
+    offset: ArchitectureSize,
+    place: ArchitectureSize,
+    count: usize,
+    number: usize,
+    id: TypeId,
+    payload: Option<WitType>,
+    realloc: bool,
+) -> Result<(), OutOfMemory>
+    requires down { GoesDown resolve.now.types }
+    requires within { id.0 < length resolve.now.types }
+    requires below { payload_below id.0 payload ≡ true }
+    requires few { number < count }
+    requires most { count ≤ 2 ^ 31 }
+    requires side { IsSide B.meaning realloc bindgen.old }
+    requires knows { B.meaning.knows bindgen.old resolve.now.types }
+    ensures stores { OnOk result (StoresCase B.meaning realloc (discriminant_grain count) number (payload_in (shapes resolve.now.types) payload) address.now offset place bindgen.old bindgen.new) }
+    ensures sends { OnOk result (Sends B.meaning resolve.now.types (opens ∷ store_case count offset place number (option_map (store_code resolve.now.types realloc) payload) ++ closes ∷ []) bindgen.old bindgen.new) }
+{
+    match payload {
+        None => {
+            store_bare(alloc, resolve, bindgen, address, offset, count, number)?;
+            Ok(())
+        }
+        Some(ty) => {
+            store_payload(
+                alloc, resolve, bindgen, address, offset, place, count, number, id, ty, realloc,
+            )?;
+            Ok(())
+        }
+    }
+}
+
+/// The block of a case stores its tag, and its payload at its place.
+#[cycle(store)]
+fn store_payload<B: Bindgen>(
+    alloc: Global,
+    resolve: &Resolve,
+    bindgen: &mut B,
+    address: &B::Operand,
+    offset: ArchitectureSize,
+    place: ArchitectureSize,
+    count: usize,
+    number: usize,
+    id: TypeId,
+    ty: WitType,
+    realloc: bool,
+) -> Result<(), OutOfMemory>
+    requires down { GoesDown resolve.now.types }
+    requires within { id.0 < length resolve.now.types }
+    requires below { type_below id.0 ty ≡ true }
+    requires few { number < count }
+    requires most { count ≤ 2 ^ 31 }
+    requires side { IsSide B.meaning realloc bindgen.old }
+    requires knows { B.meaning.knows bindgen.old resolve.now.types }
+    ensures stores { OnOk result (StoresCase B.meaning realloc (discriminant_grain count) number (shape_of resolve.now.types ty) address.now offset place bindgen.old bindgen.new) }
+    ensures sends { OnOk result (Sends B.meaning resolve.now.types (opens ∷ store_case count offset place number (Some (store_code resolve.now.types realloc ty)) ++ closes ∷ []) bindgen.old bindgen.new) }
+{
+    if !has_bytes(bindgen, ty) {
+        return Err(OutOfMemory);
+    }
+    bindgen.push_block()?;
+    let value = payload(alloc, resolve, bindgen)?;
+    store_tag(alloc, resolve, bindgen, address, offset, count, number)?;
+    store_type(alloc, resolve, bindgen, address, place, value, ty, realloc)?;
+    close(alloc, bindgen)?;
+    Ok(())
 }
 
 /// Puts the parts of a value of a record or a tuple of the table at their places.

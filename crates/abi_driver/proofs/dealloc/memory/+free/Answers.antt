@@ -1,27 +1,39 @@
-use Rattle.std.proofs.Common.{rules, ◌≡◌, ℕ, ◌<◌, ◌≤◌, ◌+◌, ◌^◌, true, List, [], length, map, get_or, refl, sym, ap, ◌∙◌, subst, arith}
+use Rattle.std.proofs.Common.{rules, ◌≡◌, ℕ, ◌<◌, ◌≤◌, ◌+◌, ◌^◌, true, List, [], ◌∷◌, ◌++◌, length, map, replicate, get_or, option_map, Option, None, refl, sym, ap, ◌∙◌, subst, arith}
 use Rattle.std.specs.List.{list_all, slice_index}
 use Rattle.std.proofs.lemmas.List.{drop_more}
 use Rattle.wit_model.specs.Size.{bytes_at}
-use Rattle.wit_model.specs.TypeOrder.{type_below}
+use Rattle.wit_model.specs.TypeOrder.{payload_below, type_below}
 use Rattle.wit_model.specs.declared.types.Field.{Field}
+use Rattle.wit_model.specs.declared.types.TypeDef.{TypeDef}
 use Rattle.wit_model.specs.declared.types.TypeDefKind.TheVariants as kind
 use Rattle.wit_model.specs.declared.types.WitType.{WitType}
 use Rattle.wit_model.specs.declared.types.WitType.TheVariants as wit
 use Rattle.wit_layout.proofs.FlattenSteps.{rank}
+use Rattle.wit_layout.specs.Extent.{discriminant_grain}
 use Rattle.wit_layout.specs.Sizes.{field_offsets}
+use Rattle.wit_layout.specs.Told.{is_alias}
 use Rattle.wit_layout.specs.Tree.{tree_at}
-use Rattle.abi_driver.specs.Code.{beyond, each, free_code, place_in}
-use Rattle.abi_driver.specs.Instructions.{field_shapes, shapes_of}
+use Rattle.wrapper_meaning.specs.Shape.{payload_in, payloads_in, shape_of, shapes}
+use Rattle.abi_driver.specs.Code.{at_payload, beyond, each, free_code, place_in}
+use Rattle.abi_driver.specs.FreedCases.{FreesPayload}
+use Rattle.abi_driver.specs.Instructions.{HasBlocks, field_shapes, shapes_of}
+use Rattle.abi_driver.specs.Parts.{count}
 use Rattle.abi_driver.specs.Places.{HasParts, IsOfParts}
-use Rattle.abi_driver.specs.Sent.{Sent}
+use Rattle.abi_driver.specs.Sent.{Sent, closes, opens}
+use Rattle.abi_driver.specs.Sends.{Sends}
+use Rattle.abi_driver.proofs.CaseFrees.{bare_frees, payload_frees, rest_last as last_case, rest_next as next_case}
+use Rattle.abi_driver.proofs.CaseRooms.{count_payloads}
+use Rattle.abi_driver.proofs.CaseSteps.{are_finished, resumes_both, resumes_same, same_back}
+use Rattle.abi_driver.proofs.NumberWords.{number_load_adds}
+use Rattle.abi_driver.proofs.VariantFrees.{freed_none, freed_variant}
 use Rattle.abi_driver.proofs.FreeSteps.{fields_free, frees_as, frees_parts_as, rest_last, rest_next, tuple_free}
 use Rattle.abi_driver.proofs.LeafFrees.{enum_frees, flags_frees, scalar_frees}
 use Rattle.abi_driver.proofs.MemoryCode.{free_alias_code, free_enum_code, free_flags_code, free_record_code, free_scalar_code, free_tuple_code}
-use Rattle.abi_driver.proofs.PartOffsets.{behind_next, no_alias, part_offset, place_sent}
+use Rattle.abi_driver.proofs.PartOffsets.{behind_next, cases_no_alias, no_alias, part_offset, place_sent}
 use Rattle.abi_driver.proofs.RecordPlaces.{place_told}
-use Rattle.abi_driver.proofs.Records.{alias_below, alias_rank, alias_shape, entry_at, enum_shape, flags_shape, kind_at, part_below_table, part_ranked, record_below, record_shape, tuple_below, tuple_shape}
+use Rattle.abi_driver.proofs.Records.{alias_below, alias_rank, alias_shape, entry_at, enum_shape, flags_shape, kind_at, part_below_table, part_ranked, payload_low, payload_type_low, payloads_below, record_below, record_shape, tuple_below, tuple_shape, type_below_table, type_ranked}
 use Rattle.abi_driver.proofs.Runs.{adds_both, adds_same}
-use Rattle.abi_driver.proofs.SendSteps.{sends_as, sends_last, sends_next}
+use Rattle.abi_driver.proofs.SendSteps.{sends_as, sends_block, sends_last, sends_next}
 use Rattle.abi_driver.proofs.dealloc.memory.+free.Goals as goal
 
 pub free_id-free_type-requires : goal.free_id-free_type-requires
@@ -184,4 +196,137 @@ free_type-returns-in-Some g t c =
     record {
       frees = scalar_frees m g.met.B.Bindgen.sound types c.args.ty c.in-Some._lift c.args.bindgen.now c.args.address.now c.args.offset is;
       sends = sends_as m types [] _ _ _ (free_scalar_code types c.args.offset c.args.ty c.in-Some._lift is) refl;
+    }
+
+pub free_variant-free_cases-requires : goal.free_variant-free_cases-requires
+free_variant-free_cases-requires g t c κs within =
+    let m = g.B.Bindgen.meaning in
+    let types = c.args.resolve.now.types in
+    let d = c.index-types-at.result in
+    let at = entry_at types c.as_slice-types.result.now c.args.id.0 d c.as_slice-types.ensures c.requires.within c.index-types-at.is in
+    let k = (get_or c.as_slice-types.result.now c.args.id.0 d).kind in
+    let is : d.kind ≡ k = ap (λ (x : TypeDef). x.kind) c.index-types-at.is in
+    let same = c.as_slice-tys.ensures ∙ c.in_ok-payloads.ensures.payloads in
+    let below = subst (λ (ps : List (Option WitType)). list_all (λ p. payload_below c.args.id.0 p) ps ≡ true) (sym same) (payloads_below types c.requires.down c.args.id.0 d at k c.in_ok-payloads.ensures.has is) in
+    let loaded = number_load_adds m g.met.B.Bindgen.sound types (discriminant_grain (length c.as_slice-tys.result.now)) c.args.offset (c.args.address.now ∷ []) (c.in_ok-tag.tag ∷ []) _ _ c.in_ok-tag.ensures.loads in
+    let knows = loaded.grows.knows types c.requires.knows in
+    search rules
+
+pub free_variant-run_case-requires : goal.free_variant-run_case-requires
+free_variant-run_case-requires g t c =
+    let m = g.B.Bindgen.meaning in
+    let types = c.args.resolve.now.types in
+    let tys = c.as_slice-tys.result.now in
+    let ts = payloads_in (shapes types) tys in
+    let frees = c.in_ok-free_cases.ensures.frees in
+    let finished = are_finished m (replicate (count ts) 0) frees.bodies _ _ frees.adds in
+    subst (λ ks. HasBlocks m ks c.free_cases.new.bindgen) (same_back (count ts) 0 ∙ ap (λ n. replicate n 0) (count_payloads (shapes types) tys ∙ sym c.in_ok-count.ensures)) finished
+
+pub free_variant-returns-then-not-id_has_list : goal.free_variant-returns-then-not-id_has_list
+free_variant-returns-then-not-id_has_list g t c =
+    let m = g.B.Bindgen.meaning in
+    let types = c.args.resolve.now.types in
+    let d = c.index-types-at.result in
+    let at = entry_at types c.as_slice-types.result.now c.args.id.0 d c.as_slice-types.ensures c.requires.within c.index-types-at.is in
+    let k = (get_or c.as_slice-types.result.now c.args.id.0 d).kind in
+    let is : d.kind ≡ k = ap (λ (x : TypeDef). x.kind) c.index-types-at.is in
+    freed_none m g.met.B.Bindgen.sound types c.requires.down c.args.id d at k c.in_ok-payloads.ensures.has is (sym c.id_has_list.ensures ∙ c.if-not-id_has_list.true) _ c.args.address.now c.args.offset
+
+pub free_variant-returns : goal.free_variant-returns
+free_variant-returns g t c =
+    let m = g.B.Bindgen.meaning in
+    let types = c.args.resolve.now.types in
+    let d = c.index-types-at.result in
+    let at = entry_at types c.as_slice-types.result.now c.args.id.0 d c.as_slice-types.ensures c.requires.within c.index-types-at.is in
+    let k = (get_or c.as_slice-types.result.now c.args.id.0 d).kind in
+    let is : d.kind ≡ k = ap (λ (x : TypeDef). x.kind) c.index-types-at.is in
+    let same = c.as_slice-tys.ensures ∙ c.in_ok-payloads.ensures.payloads in
+    let has = c.in_ok-payloads.ensures.has in
+    let tys = c.as_slice-tys.result.now in
+    let found = c.in_ok-place.ensures types d c.requires.knows at (ap is_alias is ∙ cases_no_alias m.width types k has) in
+    let some = sym c.id_has_list.ensures ∙ c.if-not-id_has_list.false in
+    freed_variant m g.met.B.Bindgen.sound types c.requires.down c.args.id d at k has is some c.args.address.now c.in_ok-tag.tag c.args.offset c.in_ok-place.place found tys same c.in_ok-count.count c.in_ok-count.ensures c.in_ok-tag.ensures.most _ _ _ _
+    c.in_ok-tag.ensures.loads c.in_ok-free_cases.ensures.frees c.in_ok-free_cases.ensures.sends c.in_ok-run_case.ensures
+
+pub free_cases-loop-i-init : goal.free_cases-loop-i-init
+free_cases-loop-i-init g t c =
+    let m = g.B.Bindgen.meaning in
+    record { resumes = resumes_same m _; sent = refl; rest = λ new h. h }
+
+pub free_cases-free_case-requires : goal.free_cases-free_case-requires
+free_cases-free_case-requires g t c κs within =
+    let short : c.loop-i.i < length c.args.payloads.now = omega (arith, c.loop-i-test.true) in
+    let below = payload_low c.args.id.0 c.args.payloads.now c.requires.below c.loop-i.i None short in
+    let knows = c.loop-i.invariant.resumes.knows c.args.resolve.now.types c.requires.knows in
+    search rules
+
+pub free_cases-loop-i-preserved : goal.free_cases-loop-i-preserved
+free_cases-loop-i-preserved g t c =
+    let m = g.B.Bindgen.meaning in
+    let types = c.args.resolve.now.types in
+    let ps = c.args.payloads.now in
+    let i = c.loop-i.i in
+    let short : i < length ps = omega (arith, c.loop-i-test.true) in
+    let one = c.in_ok-free_case.ensures in
+    let code : ℕ → Option WitType → List Sent = λ n p. opens ∷ at_payload c.args.place (option_map (free_code types) p) ++ closes ∷ [] in
+    record {
+      resumes = resumes_both m _ _ _ c.loop-i.invariant.resumes one.frees.adds.resumes;
+      sent = sends_next m types code ps i None _ _ _ short c.loop-i.invariant.sent one.sends;
+      rest = next_case m g.met.B.Bindgen.sound types ps c.args.address.now c.args.place i _ _ _ (get_or ps i None) (drop_more ps i None short) one.frees c.loop-i.invariant.rest;
+    }
+
+pub free_cases-returns : goal.free_cases-returns
+free_cases-returns g t c =
+    let m = g.B.Bindgen.meaning in
+    let types = c.args.resolve.now.types in
+    let ps = c.args.payloads.now in
+    let ended : length ps ≤ c.loop-i.i = omega (arith, c.loop-i-test.false) in
+    let code : ℕ → Option WitType → List Sent = λ n p. opens ∷ at_payload c.args.place (option_map (free_code types) p) ++ closes ∷ [] in
+    record {
+      frees = last_case m g.met.B.Bindgen.sound types ps c.args.address.now c.args.place c.loop-i.i _ _ ended c.loop-i.invariant.rest;
+      sends = sends_last m types code ps c.loop-i.i _ _ ended c.loop-i.invariant.sent;
+    }
+
+pub free_case-free_payload-requires : goal.free_case-free_payload-requires
+free_case-free_payload-requires g t c κs within =
+    let below = payload_type_low c.args.id.0 c.in-Some.ty (subst (λ (p : Option WitType). payload_below c.args.id.0 p ≡ true) c.in-Some.is c.requires.below) in
+    search rules
+
+pub free_case-returns-in_ok-empty_block-in-None : goal.free_case-returns-in_ok-empty_block-in-None
+free_case-returns-in_ok-empty_block-in-None g t c =
+    let m = g.B.Bindgen.meaning in
+    let block = c.in_ok-empty_block-in-None.ensures in
+    let types = c.args.resolve.now.types in
+    let bare = bare_frees m g.met.B.Bindgen.sound c.args.address.now c.args.place _ _ _ block.1 block.2 in
+    let steps = sends_block m types [] [] _ _ _ _ block.1 refl block.2 in
+    let end = c.empty_block.new.bindgen in
+    record {
+      frees = subst (λ (p : Option WitType). FreesPayload m (payload_in (shapes types) p) c.args.address.now c.args.place c.args.bindgen.now end) (sym c.in-None.is) bare;
+      sends = subst (λ (p : Option WitType). Sends m types (opens ∷ at_payload c.args.place (option_map (free_code types) p) ++ closes ∷ []) c.args.bindgen.now end) (sym c.in-None.is) steps;
+    }
+
+pub free_payload-free_type-requires : goal.free_payload-free_type-requires
+free_payload-free_type-requires g t c κs within =
+    let types = c.args.resolve.now.types in
+    let low : rank c.args.ty ≤ c.args.id.0 = type_ranked c.args.id.0 c.args.ty c.requires.below in
+    let below = type_below_table c.args.id.0 (length types) c.args.ty c.requires.below c.requires.within in
+    let knows = c.in_ok-push_block.ensures.lasts.knows types c.requires.knows in
+    search rules
+
+pub free_payload-close-requires : goal.free_payload-close-requires
+free_payload-close-requires g t c =
+    let m = g.B.Bindgen.meaning in
+    let begins = c.in_ok-push_block.ensures in
+    record { slot = begins.slot; suspended = m.code c.args.bindgen.now; outer = m.opened c.args.bindgen.now; opened = c.in_ok-free_type.ensures.frees.adds.grows.opened ∙ begins.opened }
+
+pub free_payload-returns : goal.free_payload-returns
+free_payload-returns g t c =
+    let m = g.B.Bindgen.meaning in
+    let types = c.args.resolve.now.types in
+    let begins = c.in_ok-push_block.ensures in
+    let part = c.in_ok-free_type.ensures in
+    let ends = c.in_ok-close.ensures in
+    record {
+      frees = payload_frees m g.met.B.Bindgen.sound (shape_of types c.args.ty) c.args.address.now c.args.place _ _ _ _ begins part.frees ends;
+      sends = sends_block m types (free_code types c.args.ty c.args.place) [] _ _ _ _ begins part.sends ends;
     }

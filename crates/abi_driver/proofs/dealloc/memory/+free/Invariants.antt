@@ -1,20 +1,34 @@
-use Rattle.std.proofs.Common.{◌+◌, ◌*◌, take}
+use Rattle.std.proofs.Common.{◌+◌, ◌*◌, option_map, take}
 use Rattle.wit_layout.proofs.FlattenSteps.{rank}
 use Rattle.wit_layout.specs.Tree.{tree_at}
-use Rattle.abi_driver.specs.Code.{beyond, each, free_code, place_in}
+use Rattle.abi_driver.specs.Code.{at_payload, beyond, each, free_code, in_blocks, place_in}
+use Rattle.abi_driver.specs.FinishedBlocks.{Resumes}
 use Rattle.abi_driver.specs.Laws.{Adds}
 use Rattle.abi_driver.specs.Sends.{Sends}
+use Rattle.abi_driver.proofs.CaseFrees.{Rest as RestCases}
 use Rattle.abi_driver.proofs.FreeSteps.{Rest}
 use Rattle.abi_driver.proofs.dealloc.memory.+free.Given as goal
 
 abbrev pub decreases-free_type : goal.decreases-free_type
-decreases-free_type g l = 4 * rank l.ty
+decreases-free_type g l = 8 * rank l.ty
 
 abbrev pub decreases-free_id : goal.decreases-free_id
-decreases-free_id g l = 4 * l.id.0 + 3
+decreases-free_id g l = 8 * l.id.0 + 7
 
 abbrev pub decreases-free_parts : goal.decreases-free_parts
-decreases-free_parts g l = 4 * l.id.0 + 1
+decreases-free_parts g l = 8 * l.id.0 + 1
+
+abbrev pub decreases-free_variant : goal.decreases-free_variant
+decreases-free_variant g l = 8 * l.id.0 + 6
+
+abbrev pub decreases-free_cases : goal.decreases-free_cases
+decreases-free_cases g l = 8 * l.id.0 + 5
+
+abbrev pub decreases-free_payload : goal.decreases-free_payload
+decreases-free_payload g l = 8 * l.id.0 + 3
+
+abbrev pub decreases-free_case : goal.decreases-free_case
+decreases-free_case g l = 8 * l.id.0 + 4
 
 -- what frees the parts that are left, frees them all; and what was sent is the code of the parts so far
 abbrev pub invariant-free_parts-loop-i : goal.invariant-free_parts-loop-i
@@ -24,4 +38,15 @@ invariant-free_parts-loop-i g l =
       adds : Adds m l.initial.bindgen l.bindgen;
       sent : Sends m l.resolve.types (each (λ n ty. free_code l.resolve.types ty (beyond l.offset (place_in (tree_at l.resolve.types l.id.0) n))) 0 (take l.i l.tys)) l.initial.bindgen l.bindgen;
       rest : Rest m l.resolve.types l.tys l.address l.offset l.i l.initial.bindgen l.bindgen;
+    }
+
+-- what frees the cases that are left, frees them all; and what was sent is the code of the cases so far
+abbrev pub invariant-free_cases-loop-i : goal.invariant-free_cases-loop-i
+invariant-free_cases-loop-i g l =
+    let m = g.B.Bindgen.meaning in
+    let types = l.resolve.types in
+    record {
+      resumes : Resumes m l.initial.bindgen l.bindgen;
+      sent : Sends m types (in_blocks (λ n p. at_payload l.place (option_map (free_code types) p)) 0 (take l.i l.payloads)) l.initial.bindgen l.bindgen;
+      rest : RestCases m types l.payloads l.address l.place l.i l.initial.bindgen l.bindgen;
     }

@@ -1,28 +1,41 @@
-use Rattle.std.proofs.Common.{rules, ◌≡◌, ℕ, ◌<◌, ◌≤◌, ◌+◌, ◌^◌, true, List, [], ◌∷◌, ◌++◌, length, map, get_or, refl, sym, ap, ◌∙◌, subst, arith}
+use Rattle.std.proofs.Common.{rules, ◌≡◌, ℕ, ◌<◌, ◌≤◌, ◌+◌, ◌^◌, true, List, [], ◌∷◌, ◌++◌, length, map, reverse, get_or, option_map, option_to_list, Option, None, refl, sym, ap, ◌∙◌, subst, arith}
 use Rattle.std.specs.List.{list_all, slice_index}
 use Rattle.std.proofs.lemmas.List.{drop_more, length-append, length-map}
 use Rattle.wit_model.specs.Size.{bytes_at}
-use Rattle.wit_model.specs.TypeOrder.{type_below}
+use Rattle.wit_model.specs.TypeOrder.{payload_below, type_below}
 use Rattle.wit_model.specs.declared.types.Field.{Field}
+use Rattle.wit_model.specs.declared.types.TypeDef.{TypeDef}
 use Rattle.wit_model.specs.declared.types.TypeDefKind.TheVariants as kind
 use Rattle.wit_model.specs.declared.types.WitType.{WitType}
 use Rattle.wit_model.specs.declared.types.WitType.TheVariants as wit
 use Rattle.wit_layout.proofs.FlattenSteps.{rank}
+use Rattle.wit_layout.specs.Extent.{discriminant_grain}
 use Rattle.wit_layout.specs.Sizes.{field_offsets}
+use Rattle.wit_layout.specs.Told.{is_alias}
 use Rattle.wit_layout.specs.Tree.{tree_at}
+use Rattle.wrapper_meaning.specs.Shape.{payload_in, shape_of, shapes}
 use Rattle.abi_driver.specs.declared.instruction.Instruction.TheVariants.{RecordLift, TupleLift}
-use Rattle.abi_driver.specs.Code.{beyond, each, load_code, place_in}
-use Rattle.abi_driver.specs.Instructions.{IsRecord, shapes_of}
+use Rattle.abi_driver.specs.Code.{at_payload, beyond, each, load_code, place_in}
+use Rattle.abi_driver.specs.Instructions.{Emits, HasBlocks, IsRecord, IsSendable, shapes_of}
+use Rattle.abi_driver.specs.NumberTouches.{tag_load}
+use Rattle.abi_driver.specs.Blocks.{Finishes, IsOpen}
+use Rattle.abi_driver.specs.LoadedCases.{LoadsCase}
+use Rattle.abi_driver.specs.Sends.{Sends}
 use Rattle.abi_driver.specs.Loads.{LoadsParts}
 use Rattle.abi_driver.specs.Places.{HasParts, IsOfParts}
-use Rattle.abi_driver.specs.Sent.{Sent, sends}
+use Rattle.abi_driver.specs.Sent.{Sent, closes, opens, sends}
+use Rattle.abi_driver.proofs.CaseInstructions.{lifting_makes, lifting_sendable}
+use Rattle.abi_driver.proofs.CaseLoads.{bare_loads, counts, payload_loads, rest_last as last_case, rest_next as next_case}
+use Rattle.abi_driver.proofs.CaseSteps.{are_finished, resumes_both, resumes_same}
+use Rattle.abi_driver.proofs.NumberWords.{number_load_adds}
+use Rattle.abi_driver.proofs.VariantLoads.{loaded_variant}
 use Rattle.abi_driver.proofs.LoadSteps.{loads_as, loads_parts_as, record_loads, rest_last, rest_next, tuple_loads}
 use Rattle.abi_driver.proofs.MemoryCode.{load_alias_code, load_record_code, load_tuple_code}
-use Rattle.abi_driver.proofs.PartOffsets.{behind_next, no_alias, part_offset, place_sent}
+use Rattle.abi_driver.proofs.PartOffsets.{behind_next, cases_no_alias, no_alias, part_offset, place_sent}
 use Rattle.abi_driver.proofs.RecordPlaces.{place_told}
-use Rattle.abi_driver.proofs.Records.{alias_below, alias_rank, alias_shape, count-shapes, entry_at, kind_at, one_record, part_below_table, part_ranked, record_below, record_shape, tuple_below, tuple_shape}
+use Rattle.abi_driver.proofs.Records.{alias_below, alias_rank, alias_shape, count-shapes, entry_at, kind_at, one_record, part_below_table, part_ranked, payload_low, payload_type_low, payloads_below, record_below, record_shape, tuple_below, tuple_shape, type_below_table, type_ranked}
 use Rattle.abi_driver.proofs.Runs.{adds_both, adds_same}
-use Rattle.abi_driver.proofs.SendSteps.{sends_as, sends_both, sends_last, sends_next, sends_one}
+use Rattle.abi_driver.proofs.SendSteps.{sends_as, sends_block, sends_both, sends_last, sends_next, sends_one}
 use Rattle.abi_driver.proofs.memory.load.+load.Goals as goal
 
 pub load_id-load_type-requires : goal.load_id-load_type-requires
@@ -176,3 +189,136 @@ load_parts-returns-clause-sends g t c =
     let ended : length c.args.tys.now ≤ c.loop-i.i = omega (arith, c.loop-i-test.false) in
     let code : ℕ → WitType → List Sent = λ n ty. load_code types ty (beyond c.args.offset (place_in (tree_at types c.args.id.0) n)) in
     sends_last g.B.Bindgen.meaning types code c.args.tys.now c.loop-i.i _ _ ended c.loop-i.invariant.sent
+
+pub load_variant-load_cases-requires : goal.load_variant-load_cases-requires
+load_variant-load_cases-requires g t c κs within =
+    let m = g.B.Bindgen.meaning in
+    let types = c.args.resolve.now.types in
+    let d = c.index-types-at.result in
+    let at = entry_at types c.as_slice-types.result.now c.args.id.0 d c.as_slice-types.ensures c.requires.within c.index-types-at.is in
+    let k = (get_or c.as_slice-types.result.now c.args.id.0 d).kind in
+    let is : d.kind ≡ k = ap (λ (x : TypeDef). x.kind) c.index-types-at.is in
+    let same = c.as_slice-tys.ensures ∙ c.in_ok-payloads.ensures.payloads in
+    let below = subst (λ (ps : List (Option WitType)). list_all (λ p. payload_below c.args.id.0 p) ps ≡ true) (sym same) (payloads_below types c.requires.down c.args.id.0 d at k c.in_ok-payloads.ensures.has is) in
+    let loaded = number_load_adds m g.met.B.Bindgen.sound types (discriminant_grain (length c.as_slice-tys.result.now)) c.args.offset (c.args.address.now ∷ []) (c.in_ok-tag.tag ∷ []) _ _ c.in_ok-tag.ensures.loads in
+    let knows = loaded.grows.knows types c.requires.knows in
+    search rules
+
+pub load_variant-send_one-requires-clause-ready : goal.load_variant-send_one-requires-clause-ready
+load_variant-send_one-requires-clause-ready g t c =
+    let m = g.B.Bindgen.meaning in
+    let types = c.args.resolve.now.types in
+    let d = c.index-types-at.result in
+    let at = entry_at types c.as_slice-types.result.now c.args.id.0 d c.as_slice-types.ensures c.requires.within c.index-types-at.is in
+    let k = (get_or c.as_slice-types.result.now c.args.id.0 d).kind in
+    let is : d.kind ≡ k = ap (λ (x : TypeDef). x.kind) c.index-types-at.is in
+    let same = c.as_slice-tys.ensures ∙ c.in_ok-payloads.ensures.payloads in
+    let tys = c.as_slice-tys.result.now in
+    let loads = c.in_ok-load_cases.ensures.loads in
+    let finished = are_finished m (counts tys) loads.bodies _ _ loads.adds in
+    let has = subst (λ (ps : List (Option WitType)). HasBlocks m (reverse (counts ps)) c.load_cases.new.bindgen) same finished in
+    let ready = lifting_sendable m c.args.resolve.now c.args.id k c.in-Some.lift c.in_ok-tag.tag _ (record { entry = d; stands = at; kind = is }) (sym c.case_lifting.ensures ∙ c.in-Some.is) has in
+    subst (λ (os : List g.row.B-Operand.Denot). IsSendable m c.args.resolve.now c.in-Some.lift os c.load_cases.new.bindgen) (sym c.in_ok-operands.ensures) ready
+
+pub load_variant-send_one-requires-clause-makes : goal.load_variant-send_one-requires-clause-makes
+load_variant-send_one-requires-clause-makes g t c =
+    let d = c.index-types-at.result in
+    let k = (get_or c.as_slice-types.result.now c.args.id.0 d).kind in
+    lifting_makes g.B.Bindgen.meaning c.args.resolve.now.types c.args.id k c.in-Some.lift (sym c.case_lifting.ensures ∙ c.in-Some.is)
+
+pub load_variant-returns : goal.load_variant-returns
+load_variant-returns g t c =
+    let m = g.B.Bindgen.meaning in
+    let types = c.args.resolve.now.types in
+    let d = c.index-types-at.result in
+    let at = entry_at types c.as_slice-types.result.now c.args.id.0 d c.as_slice-types.ensures c.requires.within c.index-types-at.is in
+    let k = (get_or c.as_slice-types.result.now c.args.id.0 d).kind in
+    let is : d.kind ≡ k = ap (λ (x : TypeDef). x.kind) c.index-types-at.is in
+    let same = c.as_slice-tys.ensures ∙ c.in_ok-payloads.ensures.payloads in
+    let has = c.in_ok-payloads.ensures.has in
+    let lift = c.in-Some.lift in
+    let tys = c.as_slice-tys.result.now in
+    let tag = c.in_ok-tag.tag in
+    let found = c.in_ok-place.ensures types d c.requires.knows at (ap is_alias is ∙ cases_no_alias m.width types k has) in
+    let e = subst (λ (os : List g.row.B-Operand.Denot). Emits m types lift os (c.in_ok-operand.operand ∷ []) c.load_cases.new.bindgen c.send_one.new.bindgen) c.in_ok-operands.ensures c.in_ok-operand.ensures in
+    loaded_variant m g.met.B.Bindgen.sound types c.requires.down c.args.id d at k has is lift (sym c.case_lifting.ensures ∙ c.in-Some.is) c.args.address.now tag c.in_ok-operand.operand c.args.offset c.in_ok-place.place found tys same c.in_ok-tag.ensures.most _ _ _ _ c.in_ok-tag.ensures.loads
+    c.in_ok-load_cases.ensures.loads c.in_ok-load_cases.ensures.sends e
+
+pub load_cases-loop-i-init : goal.load_cases-loop-i-init
+load_cases-loop-i-init g t c =
+    let m = g.B.Bindgen.meaning in
+    record { resumes = resumes_same m _; sent = refl; rest = λ new h. h }
+
+pub load_cases-load_case-requires : goal.load_cases-load_case-requires
+load_cases-load_case-requires g t c κs within =
+    let short : c.loop-i.i < length c.args.payloads.now = omega (arith, c.loop-i-test.true) in
+    let below = payload_low c.args.id.0 c.args.payloads.now c.requires.below c.loop-i.i None short in
+    let knows = c.loop-i.invariant.resumes.knows c.args.resolve.now.types c.requires.knows in
+    search rules
+
+pub load_cases-loop-i-preserved : goal.load_cases-loop-i-preserved
+load_cases-loop-i-preserved g t c =
+    let m = g.B.Bindgen.meaning in
+    let types = c.args.resolve.now.types in
+    let ps = c.args.payloads.now in
+    let i = c.loop-i.i in
+    let short : i < length ps = omega (arith, c.loop-i-test.true) in
+    let one = c.in_ok-load_case.ensures in
+    let code : ℕ → Option WitType → List Sent = λ n p. opens ∷ at_payload c.args.place (option_map (load_code types) p) ++ closes ∷ [] in
+    record {
+      resumes = resumes_both m _ _ _ c.loop-i.invariant.resumes one.loads.adds.resumes;
+      sent = sends_next m types code ps i None _ _ _ short c.loop-i.invariant.sent one.sends;
+      rest = next_case m g.met.B.Bindgen.sound types ps c.args.address.now c.args.place i _ _ _ (get_or ps i None) (drop_more ps i None short) one.loads c.loop-i.invariant.rest;
+    }
+
+pub load_cases-returns : goal.load_cases-returns
+load_cases-returns g t c =
+    let m = g.B.Bindgen.meaning in
+    let types = c.args.resolve.now.types in
+    let ps = c.args.payloads.now in
+    let ended : length ps ≤ c.loop-i.i = omega (arith, c.loop-i-test.false) in
+    let code : ℕ → Option WitType → List Sent = λ n p. opens ∷ at_payload c.args.place (option_map (load_code types) p) ++ closes ∷ [] in
+    record {
+      loads = last_case m g.met.B.Bindgen.sound types ps c.args.address.now c.args.place c.loop-i.i _ _ ended c.loop-i.invariant.rest;
+      sends = sends_last m types code ps c.loop-i.i _ _ ended c.loop-i.invariant.sent;
+    }
+
+pub load_case-load_payload-requires : goal.load_case-load_payload-requires
+load_case-load_payload-requires g t c κs within =
+    let below = payload_type_low c.args.id.0 c.in-Some.ty (subst (λ (p : Option WitType). payload_below c.args.id.0 p ≡ true) c.in-Some.is c.requires.below) in
+    search rules
+
+pub load_case-returns-in_ok-empty_block-in-None : goal.load_case-returns-in_ok-empty_block-in-None
+load_case-returns-in_ok-empty_block-in-None g t c =
+    let m = g.B.Bindgen.meaning in
+    let block = c.in_ok-empty_block-in-None.ensures in
+    let types = c.args.resolve.now.types in
+    let bare = bare_loads m g.met.B.Bindgen.sound c.args.address.now c.args.place _ _ _ block.1 block.2 in
+    let steps = sends_block m types [] [] _ _ _ _ block.1 refl block.2 in
+    let end = c.empty_block.new.bindgen in
+    record {
+      loads = subst (λ (p : Option WitType). LoadsCase m (length (option_to_list p)) (payload_in (shapes types) p) c.args.address.now c.args.place c.args.bindgen.now end) (sym c.in-None.is) bare;
+      sends = subst (λ (p : Option WitType). Sends m types (opens ∷ at_payload c.args.place (option_map (load_code types) p) ++ closes ∷ []) c.args.bindgen.now end) (sym c.in-None.is) steps;
+    }
+
+pub load_payload-load_type-requires : goal.load_payload-load_type-requires
+load_payload-load_type-requires g t c κs within =
+    let types = c.args.resolve.now.types in
+    let low : rank c.args.ty ≤ c.args.id.0 = type_ranked c.args.id.0 c.args.ty c.requires.below in
+    let below = type_below_table c.args.id.0 (length types) c.args.ty c.requires.below c.requires.within in
+    let knows = c.in_ok-push_block.ensures.lasts.knows types c.requires.knows in
+    search rules
+
+pub load_payload-returns : goal.load_payload-returns
+load_payload-returns g t c =
+    let m = g.B.Bindgen.meaning in
+    let types = c.args.resolve.now.types in
+    let begins = c.in_ok-push_block.ensures in
+    let part = c.in_ok-value.ensures in
+    let some = c.if-not-has_bytes.ensures refl types c.requires.knows in
+    let still : IsOpen m c.load_type.new.bindgen = record { slot = begins.slot; suspended = m.code c.args.bindgen.now; outer = m.opened c.args.bindgen.now; opened = part.loads.adds.grows.opened ∙ begins.opened } in
+    let ends = subst (λ (os : List g.row.B-Operand.Denot). Finishes m os c.load_type.new.bindgen c.finish_block.new.self) c.in_ok-results.ensures (c.in_ok-finish_block.ensures still) in
+    record {
+      loads = payload_loads m g.met.B.Bindgen.sound (shape_of types c.args.ty) some c.args.address.now c.in_ok-value.value c.args.place _ _ _ _ begins part.loads ends;
+      sends = sends_block m types (load_code types c.args.ty c.args.place) (c.in_ok-value.value ∷ []) _ _ _ _ begins part.sends ends;
+    }

@@ -1,27 +1,42 @@
-use Rattle.std.proofs.Common.{rules, ◌≡◌, ℕ, ◌<◌, ◌≤◌, ◌+◌, ◌^◌, true, List, ◌∷◌, length, map, get_or, refl, sym, ap, ◌∙◌, subst, arith}
+use Rattle.std.proofs.Common.{rules, ◌≡◌, ℕ, ◌<◌, ◌≤◌, ◌+◌, ◌^◌, true, List, [], ◌∷◌, ◌++◌, length, map, replicate, pos, get_or, option_map, Option, None, Some, refl, sym, ap, ◌∙◌, subst, arith}
 use Rattle.std.specs.List.{list_all, slice_index}
 use Rattle.std.proofs.lemmas.List.{drop_more, length-map}
 use Rattle.wit_model.specs.Size.{bytes_at}
-use Rattle.wit_model.specs.TypeOrder.{type_below}
+use Rattle.wit_model.specs.TypeOrder.{payload_below, type_below}
 use Rattle.wit_model.specs.declared.types.Field.{Field}
+use Rattle.wit_model.specs.declared.types.TypeDef.{TypeDef}
 use Rattle.wit_model.specs.declared.types.TypeDefKind.TheVariants as kind
 use Rattle.wit_model.specs.declared.types.WitType.{WitType}
 use Rattle.wit_model.specs.declared.types.WitType.TheVariants as wit
 use Rattle.wit_layout.proofs.FlattenSteps.{rank}
+use Rattle.wit_layout.specs.Extent.{discriminant_grain}
 use Rattle.wit_layout.specs.Sizes.{field_offsets}
+use Rattle.wit_layout.specs.Told.{is_alias}
 use Rattle.wit_layout.specs.Tree.{tree_at}
-use Rattle.abi_driver.specs.declared.instruction.Instruction.TheVariants.{TupleLower}
-use Rattle.abi_driver.specs.Code.{beyond, each, place_in, store_code}
-use Rattle.abi_driver.specs.Instructions.{shapes_of}
+use Rattle.abi_driver.specs.declared.instruction.Instruction.TheVariants.{I32Const, TupleLower, VariantPayloadName}
+use Rattle.wrapper_meaning.specs.Shape.{payloads_in, shape_of, shapes}
+use Rattle.abi_driver.specs.Cases.{payloads_of}
+use Rattle.abi_driver.specs.Code.{beyond, each, place_in, store_case, store_code}
+use Rattle.abi_driver.specs.Instructions.{HasBlocks, shapes_of}
+use Rattle.abi_driver.specs.NumberTouches.{tag_store}
+use Rattle.abi_driver.specs.Parts.{count}
 use Rattle.abi_driver.specs.Places.{HasParts, IsOfParts}
-use Rattle.abi_driver.specs.Sent.{Sent, sends}
+use Rattle.abi_driver.specs.Sends.{Sends}
+use Rattle.abi_driver.specs.Sent.{Sent, closes, opens, sends}
+use Rattle.abi_driver.proofs.CaseInstructions.{lowering_sendable}
+use Rattle.abi_driver.proofs.BareCases.{tag_grain_small, tag_kept}
+use Rattle.abi_driver.proofs.CaseRooms.{count_payloads}
+use Rattle.abi_driver.proofs.NumberWords.{number_store_adds}
+use Rattle.abi_driver.proofs.CaseSteps.{are_finished, resumes_both, resumes_same, same_back, side_opened, side_resumed}
+use Rattle.abi_driver.proofs.CaseStores.{payload_case, rest_last as last_case, rest_next as next_case}
+use Rattle.abi_driver.proofs.VariantStores.{stored_variant}
 use Rattle.abi_driver.proofs.MemoryCode.{store_alias_code, store_record_code, store_tuple_code}
-use Rattle.abi_driver.proofs.PartOffsets.{behind_next, no_alias, part_offset, place_sent}
+use Rattle.abi_driver.proofs.PartOffsets.{behind_next, cases_no_alias, no_alias, part_offset, place_sent}
 use Rattle.abi_driver.proofs.RecordPlaces.{place_told}
 use Rattle.abi_driver.proofs.StoreSteps.{record_stores, rest_last, rest_next, stores_as, stores_parts_as, tuple_stores}
-use Rattle.abi_driver.proofs.Records.{alias_below, alias_rank, alias_shape, count-shapes, drop-same, entry_at, kind_at, part_below_table, part_ranked, record_below, record_shape, tuple_below, tuple_shape}
+use Rattle.abi_driver.proofs.Records.{alias_below, alias_rank, alias_shape, count-shapes, drop-same, entry_at, kind_at, part_below_table, part_ranked, payload_low, payload_type_low, payloads_below, record_below, record_shape, tuple_below, tuple_shape, type_below_table, type_ranked}
 use Rattle.abi_driver.proofs.Runs.{adds_both, adds_same, side_later}
-use Rattle.abi_driver.proofs.SendSteps.{sends_as, sends_last, sends_next, sends_then}
+use Rattle.abi_driver.proofs.SendSteps.{sends_as, sends_block, sends_last, sends_next, sends_then}
 use Rattle.abi_driver.proofs.memory.store.+store.Goals as goal
 
 pub store_id-store_type-requires : goal.store_id-store_type-requires
@@ -175,4 +190,141 @@ store_parts-returns g t c =
     record {
       stores = rest_last m g.met.B.Bindgen.sound types c.args.realloc c.args.tys.now c.args.parts.now _ c.args.offset c.loop-i.i _ _ ended done c.loop-i.invariant.rest;
       sends = sends_last m types code c.args.tys.now c.loop-i.i _ _ ended c.loop-i.invariant.sent;
+    }
+
+pub store_variant-store_cases-requires : goal.store_variant-store_cases-requires
+store_variant-store_cases-requires g t c κs within =
+    let types = c.args.resolve.now.types in
+    let d = c.index-types-at.result in
+    let at = entry_at types c.as_slice-types.result.now c.args.id.0 d c.as_slice-types.ensures c.requires.within c.index-types-at.is in
+    let k = (get_or c.as_slice-types.result.now c.args.id.0 d).kind in
+    let is : d.kind ≡ k = ap (λ (x : TypeDef). x.kind) c.index-types-at.is in
+    let same = c.as_slice-tys.ensures ∙ c.in_ok-payloads.ensures.payloads in
+    let below = subst (λ (ps : List (Option WitType)). list_all (λ p. payload_below c.args.id.0 p) ps ≡ true) (sym same) (payloads_below types c.requires.down c.args.id.0 d at k c.in_ok-payloads.ensures.has is) in
+    search rules
+
+pub store_variant-lower_by-requires : goal.store_variant-lower_by-requires
+store_variant-lower_by-requires g t c =
+    let m = g.B.Bindgen.meaning in
+    let types = c.args.resolve.now.types in
+    let d = c.index-types-at.result in
+    let at = entry_at types c.as_slice-types.result.now c.args.id.0 d c.as_slice-types.ensures c.requires.within c.index-types-at.is in
+    let k = (get_or c.as_slice-types.result.now c.args.id.0 d).kind in
+    let is : d.kind ≡ k = ap (λ (x : TypeDef). x.kind) c.index-types-at.is in
+    let tys = c.as_slice-tys.result.now in
+    let ts = payloads_in (shapes types) tys in
+    let stores = c.in_ok-store_cases.ensures.stores in
+    let many : count ts ≡ length (payloads_of k) = count_payloads (shapes types) tys ∙ ap length (c.as_slice-tys.ensures ∙ c.in_ok-payloads.ensures.payloads) in
+    let finished = are_finished m (replicate (count ts) 0) stores.bodies _ _ stores.adds in
+    let has = subst (λ ks. HasBlocks m ks c.store_cases.new.bindgen) (same_back (count ts) 0 ∙ ap (λ n. replicate n 0) many) finished in
+    lowering_sendable m c.args.resolve.now c.args.id k 0 c.in-Some.lower c.args.value _ (record { entry = d; stands = at; kind = is }) (sym c.case_lowering.ensures ∙ c.in-Some.is) has
+
+pub store_variant-returns : goal.store_variant-returns
+store_variant-returns g t c =
+    let m = g.B.Bindgen.meaning in
+    let sound = g.met.B.Bindgen.sound in
+    let types = c.args.resolve.now.types in
+    let d = c.index-types-at.result in
+    let at = entry_at types c.as_slice-types.result.now c.args.id.0 d c.as_slice-types.ensures c.requires.within c.index-types-at.is in
+    let k = (get_or c.as_slice-types.result.now c.args.id.0 d).kind in
+    let kind_is : d.kind ≡ k = ap (λ (x : TypeDef). x.kind) c.index-types-at.is in
+    let has = c.in_ok-payloads.ensures.has in
+    let is = sym c.case_lowering.ensures ∙ c.in-Some.is in
+    let e = c.in_ok-_none.ensures in
+    let found = c.in_ok-place.ensures types d c.requires.knows at (ap is_alias kind_is ∙ cases_no_alias m.width types k has) in
+    stored_variant m sound types c.requires.down c.args.id d at k has kind_is c.args.realloc c.in-Some.lower is c.args.value c.args.address.now c.args.offset c.in_ok-place.place found c.as_slice-tys.result.now (c.as_slice-tys.ensures ∙ c.in_ok-payloads.ensures.payloads)
+    c.in_ok-_none._none _ _ _ c.in_ok-store_cases.ensures.stores c.in_ok-store_cases.ensures.sends e
+
+pub store_cases-loop-i-init : goal.store_cases-loop-i-init
+store_cases-loop-i-init g t c =
+    let m = g.B.Bindgen.meaning in
+    record { resumes = resumes_same m _; sent = refl; rest = λ new h. h }
+
+pub store_cases-store_case-requires : goal.store_cases-store_case-requires
+store_cases-store_case-requires g t c κs within =
+    let m = g.B.Bindgen.meaning in
+    let types = c.args.resolve.now.types in
+    let short : c.loop-i.i < length c.args.payloads.now = omega (arith, c.loop-i-test.true) in
+    let below = payload_low c.args.id.0 c.args.payloads.now c.requires.below c.loop-i.i None short in
+    let most : length c.args.payloads.now ≤ 2 ^ 31 = omega (arith, c.if-count-gt-MOST_CASES.false) in
+    let side = side_resumed m _ _ c.args.realloc c.loop-i.invariant.resumes c.requires.side in
+    let knows = c.loop-i.invariant.resumes.knows types c.requires.knows in
+    search rules
+
+pub store_cases-loop-i-preserved : goal.store_cases-loop-i-preserved
+store_cases-loop-i-preserved g t c =
+    let m = g.B.Bindgen.meaning in
+    let types = c.args.resolve.now.types in
+    let ps = c.args.payloads.now in
+    let i = c.loop-i.i in
+    let short : i < length ps = omega (arith, c.loop-i-test.true) in
+    let one = c.in_ok-store_case.ensures in
+    let code : ℕ → Option WitType → List Sent = λ n p. opens ∷ store_case (length ps) c.args.offset c.args.place n (option_map (store_code types c.args.realloc) p) ++ closes ∷ [] in
+    record {
+      resumes = resumes_both m _ _ _ c.loop-i.invariant.resumes one.stores.adds.resumes;
+      sent = sends_next m types code ps i None _ _ _ short c.loop-i.invariant.sent one.sends;
+      rest = next_case m g.met.B.Bindgen.sound types c.args.realloc (discriminant_grain (length ps)) ps c.args.address.now c.args.offset c.args.place i _ _ _ (get_or ps i None) (drop_more ps i None short) one.stores c.loop-i.invariant.rest;
+    }
+
+pub store_cases-returns : goal.store_cases-returns
+store_cases-returns g t c =
+    let m = g.B.Bindgen.meaning in
+    let types = c.args.resolve.now.types in
+    let ps = c.args.payloads.now in
+    let ended : length ps ≤ c.loop-i.i = omega (arith, c.loop-i-test.false) in
+    let code : ℕ → Option WitType → List Sent = λ n p. opens ∷ store_case (length ps) c.args.offset c.args.place n (option_map (store_code types c.args.realloc) p) ++ closes ∷ [] in
+    record {
+      stores = last_case m g.met.B.Bindgen.sound types c.args.realloc (discriminant_grain (length ps)) ps c.args.address.now c.args.offset c.args.place c.loop-i.i _ _ ended c.loop-i.invariant.rest;
+      sends = sends_last m types code ps c.loop-i.i _ _ ended c.loop-i.invariant.sent;
+    }
+
+pub store_case-returns-in_ok-store_bare-in-None-clause-sends : goal.store_case-returns-in_ok-store_bare-in-None-clause-sends
+store_case-returns-in_ok-store_bare-in-None-clause-sends g t c =
+    let m = g.B.Bindgen.meaning in
+    let types = c.args.resolve.now.types in
+    let code : Option WitType → List Sent = λ p. opens ∷ store_case c.args.count c.args.offset c.args.place c.args.number (option_map (store_code types c.args.realloc) p) ++ closes ∷ [] in
+    subst (λ (p : Option WitType). Sends m types (code p) c.args.bindgen.now c.store_bare.new.bindgen) (sym c.in-None.is) (c.in_ok-store_bare-in-None.ensures.sends c.args.place)
+
+pub store_case-store_payload-requires : goal.store_case-store_payload-requires
+store_case-store_payload-requires g t c κs within =
+    let below = payload_type_low c.args.id.0 c.in-Some.ty (subst (λ (p : Option WitType). payload_below c.args.id.0 p ≡ true) c.in-Some.is c.requires.below) in
+    search rules
+
+pub store_payload-store_type-requires : goal.store_payload-store_type-requires
+store_payload-store_type-requires g t c κs within =
+    let m = g.B.Bindgen.meaning in
+    let sound = g.met.B.Bindgen.sound in
+    let types = c.args.resolve.now.types in
+    let opens = c.in_ok-push_block.ensures in
+    let tag = c.in_ok-store_tag.ensures in
+    let name = c.in_ok-value.ensures in
+    let stored = number_store_adds m sound types (discriminant_grain c.args.count) c.args.offset (tag.1 ∷ c.args.address.now ∷ []) [] _ _ tag.3 in
+    let low : rank c.args.ty ≤ c.args.id.0 = type_ranked c.args.id.0 c.args.ty c.requires.below in
+    let below = type_below_table c.args.id.0 (length types) c.args.ty c.requires.below c.requires.within in
+    let side = side_later m _ _ c.args.realloc stored.grows (side_later m _ _ c.args.realloc tag.2.adds.grows (side_later m _ _ c.args.realloc name.adds.grows (side_opened m _ _ c.args.realloc opens c.requires.side))) in
+    let knows = stored.grows.knows types (tag.2.adds.grows.knows types (name.adds.grows.knows types (opens.lasts.knows types c.requires.knows))) in
+    search rules
+
+pub store_payload-returns : goal.store_payload-returns
+store_payload-returns g t c =
+    let m = g.B.Bindgen.meaning in
+    let sound = g.met.B.Bindgen.sound in
+    let types = c.args.resolve.now.types in
+    let n = c.args.number in
+    let count = c.args.count in
+    let opens = c.in_ok-push_block.ensures in
+    let tag = c.in_ok-store_tag.ensures in
+    let name = c.in_ok-value.ensures in
+    let part = c.in_ok-store_type.ensures in
+    let closes = c.in_ok-close.ensures in
+    let low : n < 2 ^ 31 = omega (arith, c.requires.few, c.requires.most) in
+    let some = c.if-not-has_bytes.ensures refl types c.requires.knows in
+    let code = store_code types c.args.realloc c.args.ty c.args.place in
+    let end = c.store_type.new.bindgen in
+    let tagged = sends_then m types (tag_store count c.args.offset) _ _ code _ _ end tag.3 part.sends in
+    let numbered = sends_then m types (I32Const (pos n)) _ _ (sends (tag_store count c.args.offset) ∷ code) _ _ end tag.2 tagged in
+    let steps = sends_then m types VariantPayloadName _ _ (sends (I32Const (pos n)) ∷ sends (tag_store count c.args.offset) ∷ code) _ _ end name numbered in
+    record {
+      stores = payload_case m sound types c.args.realloc (discriminant_grain count) n (tag_grain_small count) low (tag_kept count n c.requires.few c.requires.most) c.args.address.now tag.1 c.args.offset c.args.place (shape_of types c.args.ty) some _ _ _ _ _ _ _ c.in_ok-value.value opens name tag.2 tag.3 part.stores closes;
+      sends = sends_block m types (sends VariantPayloadName ∷ sends (I32Const (pos n)) ∷ sends (tag_store count c.args.offset) ∷ code) [] _ _ _ _ opens steps closes;
     }

@@ -1,0 +1,52 @@
+-- The arm that serves the number of a case is run, and what it then gives.
+use Rattle.std.proofs.Common.{◌≡◌, ℕ, suc, ◌<◌, ◌≤◌, ◌%◌, ◌^◌, nat_lt, Bool, true, pos, ℤ, List, [], ◌∷◌, if◌then◌else◌, Option, None, Some, refl, ap, ◌∙◌, arith}
+use Rattle.std.specs.Int.{w32, cast_signed}
+use Rattle.std.specs.List.{slice_get}
+use Rattle.std.proofs.lemmas.Bool.{cond-true, lt-ltb}
+use Rattle.std.proofs.lemmas.Int.{ints}
+use mathlib.Core.Logic.{inl, inr}
+use Rattle.wrapper_data.specs.declared.word.Word.TheVariants as core
+use Rattle.wrapper_meaning.specs.Settled.{settled_case}
+use Rattle.wrapper_meaning.specs.Shape.{Shapes}
+use Rattle.wrapper_meaning.specs.Shape.Shapes.{none, more}
+use Rattle.wrapper_meaning.specs.Value.{Case, case_number}
+use Rattle.abi_driver.specs.Account.{Act, Done, Got, Outcome, Peer, Stuck, gives, then_do}
+use Rattle.abi_driver.specs.Arms.{Armed, arm, arms, choosing, matching, other_case}
+use Rattle.abi_driver.specs.Blocks.{Gives}
+use Rattle.abi_driver.specs.Laws.{Data}
+use Rattle.abi_driver.specs.Meaning.{Ended, Meaning, with_nothing}
+use Rattle.abi_driver.specs.Parts.{count}
+use Rattle.abi_driver.specs.Turns.{Went}
+
+-- 1. The number of a case
+
+pub number_below : (ts : Shapes) (c : Case ts) → case_number ts c < count ts
+number_below none c = elim c [ ]
+number_below (more t ts) (inl v) = omega arith
+number_below (more t ts) (inr c) = let later = number_below ts c in omega (arith, later)
+
+pub number_settled : (ts : Shapes) (c : Case ts) → case_number ts (settled_case ts c) ≡ case_number ts c
+number_settled none c = elim c [ ]
+number_settled (more t ts) (inl v) = refl
+number_settled (more t ts) (inr c) = ap suc (number_settled ts c)
+
+-- a number whose highest bit is none is read as it is
+pub read_number : (n : ℕ) → n < 2 ^ 31 → cast_signed w32 (n % 2 ^ 32) ≡ pos n
+read_number n l = grind (arith, ints)
+
+-- 2. Its arm
+
+module _ {Self Operand : Type 0} (m : Meaning Self Operand) where
+  -- what is left behind the arm of a case
+  abbrev pub went : ℕ → Data m → m.State → Went m (Armed m)
+  went i ds s = record { result = record { number = i; results = ds }; state = s; account = m.account s }
+
+  pub arm_runs : (fits : Data m → Bool) (w : m.World) (f : Peer m.Item) (last_serves : Bool) (n : ℕ) (blocks : List m.Block) (i : ℕ) (s u : m.State) (body : m.Block) (ds : Data m) → i < n → slice_get (arms m n blocks) i ≡ Some body
+      → (h : Gives m w f body with_nothing s u ds) → fits ds ≡ true → matching m fits w f last_serves n blocks (core.I32 (pos i)) s ≡ Done (went i ds h.state)
+  arm_runs fits w f last_serves n blocks i s u body ds below here h fit =
+      let Result : Type 0 = Went m (Armed m) in
+      let run : m.Block → m.State → Outcome m.Item (Ended m.Item m.State) = λ z. m.runs w f z with_nothing in
+      let next : Got m.Item ℕ → Outcome m.Item Result = λ j. arm m fits run j.result s (slice_get (arms m n blocks) j.result) in
+      let go : Ended m.Item m.State → Outcome m.Item Result = λ z. if fits z.results then Done (went i z.results z.state) else Stuck (m.account z.state) in
+      let chosen : choosing f.form last_serves n (core.I32 (pos i)) (m.account s) ≡ Done (record { result = i; account = m.account s }) = cond-true (nat_lt i n) _ _ (lt-ltb i n below) in
+      ap (λ o. then_do o next) chosen ∙ ap (arm m fits run i s) here ∙ ap (λ o. then_do o go) h.runs ∙ cond-true (fits ds) _ _ fit

@@ -1,0 +1,139 @@
+-- A value with cases is stored by the blocks of its cases.
+use Rattle.std.proofs.Common.{◌≡◌, ℕ, ◌+◌, ◌%◌, ◌^◌, ◌≤◌, Bool, List, [], ◌∷◌, ◌++◌, if◌then◌else◌, true, length, replicate, option_map, Option, Some, refl, sym, ap, ap₂, ◌∙◌, subst, arith, append-nil}
+use Rattle.std.specs.List.{flat_map, slice_get}
+use Rattle.std.proofs.lemmas.List.{length-replicate}
+use Rattle.wit_model.specs.Size.{bytes_at}
+use Rattle.wit_model.specs.declared.size.ArchitectureSize.{ArchitectureSize}
+use Rattle.wit_model.specs.TypeOrder.{GoesDown}
+use Rattle.wit_model.specs.declared.name.TypeId.{TypeId}
+use Rattle.wit_model.specs.declared.types.TypeDef.{TypeDef}
+use Rattle.wit_model.specs.declared.types.TypeDefKind.{TypeDefKind}
+use Rattle.wit_model.specs.declared.types.WitType.{WitType}
+use Rattle.wit_model.specs.declared.types.WitType.TheVariants as wit
+use Rattle.wit_layout.specs.Told.{IsPairOf}
+use Rattle.wit_layout.specs.Tree.{tree_at}
+use Rattle.wit_layout.specs.Extent.{discriminant_grain, greatest}
+use Rattle.wit_layout.specs.Sizes.{count as tree_count, elem_size, extents_of, payload_offset}
+use Rattle.wrapper_data.specs.declared.block.Block.{Block}
+use Rattle.wrapper_data.specs.declared.word.Word.TheVariants as core
+use Rattle.wrapper_meaning.specs.Cells.{HasNumber}
+use Rattle.wrapper_meaning.specs.Layout.{layout, layouts}
+use Rattle.wrapper_meaning.specs.Shape.{Shapes, payloads_in, shape_at, shapes}
+use Rattle.wrapper_meaning.specs.Shape.Shape.{cases}
+use Rattle.wrapper_meaning.specs.Value.{case_number}
+use Rattle.wrapper_meaning.proofs.HoldsLocally.{payload_within}
+use Rattle.wrapper_meaning.proofs.PostReturn.{total-append}
+use Rattle.abi_driver.specs.Account.{Account, Done, Outcome, Stuck, addresses, then_do}
+use Rattle.abi_driver.specs.Arms.{Armed, arm, arms, gives_any}
+use Rattle.abi_driver.specs.Blocks.{owned_datum}
+use Rattle.abi_driver.specs.FinishedBlocks.{HasCaseRoom}
+use Rattle.abi_driver.specs.Cases.{payloads_of, with_case}
+use Rattle.abi_driver.specs.Code.{beyond, in_blocks, store_case, store_code}
+use Rattle.abi_driver.specs.Instructions.{Emits}
+use Rattle.abi_driver.specs.Payloads.{case_lowering, has_payloads}
+use Rattle.abi_driver.specs.Sends.{Sends}
+use Rattle.abi_driver.specs.Sent.{Sent, sends}
+use Rattle.abi_driver.specs.declared.instruction.Instruction.{Instruction}
+use Rattle.abi_driver.specs.Laws.{At, Facts, Sound, ofs}
+use Rattle.abi_driver.specs.Leaves.{way}
+use Rattle.abi_driver.specs.Meaning.{Ended, Meaning, item, of, word}
+use Rattle.abi_driver.specs.Parts.{count}
+use Rattle.abi_driver.specs.StoredCases.{StoresCases}
+use Rattle.abi_driver.specs.Stores.{LowersToMemory, Releases, by_storing}
+use Rattle.abi_driver.specs.Touches.{reached}
+use Rattle.abi_driver.specs.Turns.{Arrives, Went}
+use Rattle.abi_driver.proofs.CaseInstructions.{LowersBy, lowers_by, lowers_count}
+use Rattle.abi_driver.proofs.CaseRooms.{case_room, count_layouts, count_payloads}
+use Rattle.abi_driver.proofs.CaseStores.{owns_blocks}
+use Rattle.abi_driver.proofs.CaseSteps.{arms_are, arms_gone, front_only, resumes_then}
+use Rattle.abi_driver.proofs.LiftSteps.{follows_done}
+use Rattle.abi_driver.proofs.MemoryCode.{cases_place, store_variant_code}
+use Rattle.abi_driver.proofs.PartOffsets.{payload_offset_of, payload_sent}
+use Rattle.abi_driver.proofs.RecordPlaces.{place_told}
+use Rattle.abi_driver.proofs.Records.{variant_shape}
+use Rattle.abi_driver.proofs.SendSteps.{sends_as, sends_both, sends_one}
+use Rattle.abi_driver.proofs.Storing.{written_in}
+
+no_items : {A : Type 0} (xs : List A) → length xs ≡ 0 → xs ≡ []
+no_items [] e = refl
+no_items (x ∷ xs) e = absurd (omega (arith, e))
+
+module _ {Self Operand : Type 0} (m : Meaning Self Operand) (sound : Sound m) where
+  -- the blocks of all cases, and then the instruction that runs the one of the value's case
+  pub variant_stores : (realloc : Bool) (ts : Shapes) (a b c : Self) (value address : Operand) (offset place : ArchitectureSize) → bytes_at place (2 ^ m.width) ≡ bytes_at offset (2 ^ m.width) + payload_offset m.width (layout (cases ts))
+      → StoresCases m realloc (discriminant_grain (tree_count (layouts ts))) 0 ts address offset place a b → LowersBy m ts value [] b c → LowersToMemory m realloc (cases ts) value address offset a c
+  variant_stores realloc ts a b c value address offset place behind stores lowers = record {
+    adds = resumes_then m a b c stores.adds.resumes lowers.grows lowers.quiet lowers.asked (lowers.blocks ∙ arms_gone m (replicate (count ts) 0) stores.bodies a b (count ts) stores.adds (length-replicate (count ts) 0));
+    row = λ heap v x own listed stands w f others s0 s q k blk left at room goes.
+        let dir = way realloc heap in
+        let n = case_number ts v in
+        let d = payload_offset m.width (layout (cases ts)) in
+        let e = greatest (extents_of m.width (layouts ts)) in
+        let pointer : Facts m = of address (word (core.Pointer q)) ∷ [] in
+        let serves_b = lowers.grows.serves w at.serves in
+        let found = stores.row v in
+        let body = found.0 in
+        let here : slice_get (arms m (count ts) (m.blocks b)) n ≡ Some body = ap (λ bs. slice_get bs n) (arms_are m (replicate (count ts) 0) stores.bodies a b (count ts) stores.adds (length-replicate (count ts) 0)) ∙ found.1 in
+        let lowered = lowers.row dir v x own body stands here in
+        let payload = lowered.0 in
+        let at1 : At m w f b c ((of value (item x) ∷ []) ++ (pointer ++ others)) s0 s =
+        record { serves = at.serves; done = ap (λ code. m.does w f code s0) stores.adds.resumes.code ∙ at.done; holds = stores.adds.resumes.known w ((of value (item x) ∷ []) ++ (pointer ++ others)) s at.holds } in
+        let ran = lowered.2 w f (pointer ++ others) s0 s at1 in
+        let begin = ran.0 in
+        let moved = ran.1 in
+        let known : m.denotes w a pointer s = front_only m sound w a pointer others s (sound.fewer w a (of value (item x) ∷ []) (pointer ++ others) s at.holds) in
+        let held_all : m.denotes w b (pointer ++ others) begin = moved.denotes (pointer ++ others) at1.holds in
+        let reach : reached m q place ≡ reached m q offset + d = ap (λ j. q + j) behind ∙ omega arith in
+        let room1 = case_room m.width ts (reached m q offset) (reached m q place) blk k (m.account s).heap room reach in
+        let room2 = subst (λ (z : Account m.Item). HasCaseRoom (discriminant_grain (tree_count (layouts ts))) e (reached m q offset) (reached m q place) blk k d z.heap) (sym moved.account) room1 in
+        let goes2 = subst (λ (z : Account m.Item). Releases (addresses own) z.taken left) (sym moved.account) goes in
+        let put = found.2 heap payload own listed lowered.1 w f b s begin q k d blk left serves_b known (front_only m sound w b pointer others begin held_all) room2 goes2 in
+        let after = put.1 in
+        let gives = put.2 in
+        let ended = gives.state in
+        let Result : Type 0 = Went m (Armed m) in
+        let went : Result = record { result = record { number = n; results = [] }; state = ended; account = m.account ended } in
+        let run = arm m (gives_any m) (λ z. m.runs w f z (with_case m payload)) n begin (Some body) in
+        let go : Ended m.Item m.State → Outcome m.Item Result = λ z. if gives_any m z.results then Done (record { result = record { number = n; results = z.results }; state = z.state; account = m.account z.state }) else Stuck (m.account z.state) in
+        let armed : run ≡ Done went = ap (λ o. then_do o go) gives.runs in
+        let last = follows_done m.account run (m.does w f (m.code c) s0) (Arrives m w b c (pointer ++ others) (λ l fs. fs ≡ ofs m [] l.results) (λ l. flat_map (owned_datum m) l.results)) went armed ran.2 in
+        let t = last.0 in
+        let arrives = last.2 in
+        let outs = arrives.denotes (gives.denotes b (pointer ++ others) held_all) in
+        let size : d + e.bytes ≤ elem_size m.width (layout (cases ts)) = payload_within (tree_count (layouts ts)) e in (
+          t,
+          after,
+          last.1,
+          record {
+            written = written_in blk after k (d + e.bytes) k (elem_size m.width (layout (cases ts))) put.3.written (omega arith) (omega (arith, size));
+            holds = (subst (λ j. HasNumber after k (2 ^ discriminant_grain (tree_count (layouts ts))) j) (omega arith) put.3.holds.0, put.3.holds.1);
+          },
+          record {
+            account = arrives.account ∙ gives.account ∙ put.4 ∙ ap (λ (z : Account m.Item). (by_storing after left z).account) moved.account;
+            owns = λ g. omega (arith, arrives.owns g, gives.owns g, moved.owns g, owns_blocks m sound realloc heap (cases ts) v x own stands g, total-append g (m.owns t) (addresses own), total-append g (m.owns ended) [], total-append g (m.owns begin) (m.owned x), total-append g (m.owns s) []);
+            denotes = sound.fewer w c pointer others t (subst (λ fs. m.denotes w c (fs ++ (pointer ++ others)) t) outs.1 outs.2);
+          },
+        );
+  }
+
+module _ {Self Operand : Type 0} (m : Meaning Self Operand) (sound : Sound m) (types : List TypeDef) (down : GoesDown types) (id : TypeId) (entry : TypeDef) (at : slice_get types id.0 ≡ Some entry) (k : TypeDefKind) (has : has_payloads k ≡ true) (kind_is : entry.kind ≡ k) where
+  -- a type of the table with cases is stored, and as its code says
+  pub stored_variant : (realloc : Bool) (lower : Instruction) → case_lowering id 0 k ≡ Some lower → (value address : Operand) (offset place : ArchitectureSize) → ((part : ArchitectureSize) × (place ≡ beyond offset part) × IsPairOf part (λ w. payload_offset w (tree_at types id.0)))
+      → (payloads : List (Option WitType)) → payloads ≡ payloads_of k → (rs : List Operand) (a b c : Self) → StoresCases m realloc (discriminant_grain (length payloads)) 0 (payloads_in (shapes types) payloads) address offset place a b
+      → Sends m types (in_blocks (λ n p. store_case (length payloads) offset place n (option_map (store_code types realloc) p)) 0 payloads) a b → Emits m types lower (value ∷ []) rs b c
+      → record { stores : LowersToMemory m realloc (shape_at types id.0) value address offset a c; sends : Sends m types (store_code types realloc (wit.Id id) offset) a c }
+  stored_variant realloc lower is value address offset place found payloads same rs a b c stores sent e =
+      let ts = payloads_in (shapes types) (payloads_of k) in
+      let shape = variant_shape types down id.0 entry at k has kind_is in
+      let grain : discriminant_grain (length (payloads_of k)) ≡ discriminant_grain (tree_count (layouts ts)) = ap discriminant_grain (sym (count_layouts ts ∙ count_payloads (shapes types) (payloads_of k))) in
+      let stores1 = subst (λ (ps : List (Option WitType)). StoresCases m realloc (discriminant_grain (length ps)) 0 (payloads_in (shapes types) ps) address offset place a b) same stores in
+      let stores2 = subst (λ g. StoresCases m realloc g 0 ts address offset place a b) grain stores1 in
+      let none : rs ≡ [] = no_items rs (lowers_count m types id k 0 lower value rs b c is e) in
+      let lowers = subst (λ os. LowersBy m ts value os b c) none (lowers_by m types id k 0 lower value rs b c (record { entry = entry; stands = at; kind = kind_is }) is e) in
+      let behind = place_told m.width place offset found.0 (λ w. payload_offset w (tree_at types id.0)) sound.wide found.1 found.2 ∙ ap (λ n. bytes_at offset (2 ^ m.width) + n) (payload_offset_of m.width types id ts shape) in
+      let code : List (Option WitType) → ArchitectureSize → List Sent = λ ps p. in_blocks (λ n q. store_case (length ps) offset p n (option_map (store_code types realloc) q)) 0 ps in
+      let sent1 = sends_as m types (code payloads place) (code (payloads_of k) (cases_place types down id entry at offset)) a b (ap₂ code (sym same) (sym (payload_sent place offset found.0 (tree_at types id.0) found.1 found.2))) sent in
+      record {
+        stores = subst (λ s. LowersToMemory m realloc s value address offset a c) (sym shape) (variant_stores m sound realloc ts a b c value address offset place behind stores2 lowers);
+        sends = sends_as m types _ _ a c (store_variant_code types down id entry at offset realloc k lower kind_is has is) (sends_both m types _ (sends lower ∷ []) a b c sent1 (sends_one m types lower (value ∷ []) rs b c e));
+      }

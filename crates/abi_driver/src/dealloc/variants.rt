@@ -1,0 +1,28 @@
+//! The instruction that frees by the block of a case is sent.
+
+ghost use Rattle.std.specs.Prelude.{◌≡◌, ◌∷◌, [], replicate, OnOk};
+ghost use Rattle.abi_driver.specs.declared.instruction.Instruction.TheVariants as instruction;
+ghost use Rattle.abi_driver.specs.Instructions.{Emits, HasBlocks};
+
+use crate::bindgen::Bindgen;
+use crate::instruction::Instruction;
+use crate::send::{only, send};
+use std::alloc::Global;
+use wit_model::{OutOfMemory, Resolve};
+
+/// Of so many finished blocks the one of the tag's case is run.
+pub(super) fn run_case<B: Bindgen>(
+    alloc: Global,
+    resolve: &Resolve,
+    bindgen: &mut B,
+    tag: B::Operand,
+    cases: u32,
+) -> Result<(), OutOfMemory>
+    requires { HasBlocks B.meaning (replicate cases 0) bindgen.old }
+    ensures { OnOk result (Emits B.meaning resolve.now.types (instruction.GuestDeallocateVariant cases) (tag ∷ []) [] bindgen.old bindgen.new) }
+{
+    let operands = only(alloc, tag)?;
+    let inst = Instruction::GuestDeallocateVariant(cases);
+    let _none = send(alloc, resolve, bindgen, inst, operands)?;
+    Ok(())
+}

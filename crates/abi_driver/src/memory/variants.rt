@@ -1,0 +1,236 @@
+//! Values with cases are put into memory, and read from it: payloads and tags, and the blocks in which each is treated.
+
+ghost use Rattle.std.specs.Prelude.{◌≡◌, ◌<◌, ◌≤◌, ◌^◌, ◌++◌, Bool, IsTrue, List, [], ◌∷◌, false, true, length, map, pos, slice_get, IfOk, IfSome, OnOk, Some};
+ghost use Rattle.wit_model.specs.declared.size.ArchitectureSize.{ArchitectureSize};
+ghost use Rattle.wit_model.specs.declared.types.TypeDef.{TypeDef};
+ghost use Rattle.wit_layout.specs.Extent.{discriminant_grain};
+ghost use Rattle.wit_layout.specs.Sizes.{payload_offset};
+ghost use Rattle.wit_layout.specs.Told.{IsPairOf, is_alias};
+ghost use Rattle.wit_layout.specs.Tree.{tree_at};
+ghost use Rattle.wrapper_meaning.specs.Shape.{is_nothing, nothing, shape_of};
+ghost use Rattle.abi_driver.specs.declared.instruction.Instruction.TheVariants as instruction;
+ghost use Rattle.abi_driver.specs.Blocks.{Finishes, IsOpen, Pushes};
+ghost use Rattle.abi_driver.specs.Cases.{payloads_of};
+ghost use Rattle.abi_driver.specs.Code.{beyond, store_case};
+ghost use Rattle.abi_driver.specs.Instructions.{Emits};
+ghost use Rattle.abi_driver.specs.NumberTouches.{tag_load, tag_store};
+ghost use Rattle.abi_driver.specs.Payloads.{case_lifting, case_lowering, has_payloads};
+ghost use Rattle.abi_driver.specs.Sends.{Sends};
+ghost use Rattle.abi_driver.specs.Sent.{closes, opens};
+ghost use Rattle.abi_driver.specs.StoredCases.{StoresCase};
+
+use crate::bindgen::{Bindgen, Operand};
+use crate::instruction::Instruction;
+use crate::lift::enums::MOST_CASES;
+use crate::memory::enums::tag_grain;
+use crate::memory::number::{number_load, number_store};
+use crate::memory::place::sum;
+use crate::memory::word::{load_word, store_word};
+use crate::send::send_one;
+use std::alloc::Global;
+use wit_model::{ArchitectureSize, Case, List, OutOfMemory, Resolve, TypeDefKind, TypeId, WitType};
+
+/// The payloads of the cases of a variant, an option or a result; of any other kind the answer is `OutOfMemory`.
+pub(crate) fn case_payloads(
+    alloc: Global,
+    kind: &TypeDefKind,
+) -> Result<List<Option<WitType>>, OutOfMemory>
+    ensures has { OnOk result (has_payloads kind.now ≡ true) }
+    ensures payloads { IfOk result (λ payloads. payloads ≡ payloads_of kind.now) }
+{
+    match kind {
+        TypeDefKind::Variant(members) => {
+            let payloads = member_payloads(alloc, members.as_slice())?;
+            Ok(payloads)
+        }
+        TypeDefKind::Option(ty) => {
+            let payloads = two_payloads(alloc, None, Some(*ty))?;
+            Ok(payloads)
+        }
+        TypeDefKind::Result(ok, err) => {
+            let payloads = two_payloads(alloc, *ok, *err)?;
+            Ok(payloads)
+        }
+        _ => Err(OutOfMemory),
+    }
+}
+
+fn member_payloads(alloc: Global, members: &[Case]) -> Result<List<Option<WitType>>, OutOfMemory>
+    ensures { IfOk result (λ payloads. payloads ≡ map (λ c. c.ty) members.now) }
+{
+    let mut payloads = List::new(alloc);
+    for member in members {
+        payloads.push(member.ty)?;
+    }
+    Ok(payloads)
+}
+
+fn two_payloads(
+    alloc: Global,
+    first: Option<WitType>,
+    second: Option<WitType>,
+) -> Result<List<Option<WitType>>, OutOfMemory>
+    ensures { IfOk result (λ payloads. payloads ≡ first ∷ second ∷ []) }
+{
+    let mut payloads = List::new(alloc);
+    payloads.push(first)?;
+    payloads.push(second)?;
+    Ok(payloads)
+}
+
+/// The instruction that gives a value of a variant, an option or a result to the block of its case.
+pub(crate) fn case_lowering(
+    kind: &TypeDefKind,
+    id: TypeId,
+    words: u32,
+) -> Option<Instruction<'static>>
+    ensures { result ≡ case_lowering id words kind.now }
+{
+    match kind {
+        TypeDefKind::Variant(_) => Some(Instruction::VariantLower(id, words)),
+        TypeDefKind::Option(_) => Some(Instruction::OptionLower(id, words)),
+        TypeDefKind::Result(_, _) => Some(Instruction::ResultLower(id, words)),
+        _ => None,
+    }
+}
+
+/// The instruction by which the block of a word's case gives a value of a variant, an option or a result.
+pub(crate) fn case_lifting(kind: &TypeDefKind, id: TypeId) -> Option<Instruction<'static>>
+    ensures { result ≡ case_lifting id kind.now }
+{
+    match kind {
+        TypeDefKind::Variant(_) => Some(Instruction::VariantLift(id)),
+        TypeDefKind::Option(_) => Some(Instruction::OptionLift(id)),
+        TypeDefKind::Result(_, _) => Some(Instruction::ResultLift(id)),
+        _ => None,
+    }
+}
+
+/// Where the payloads of a type of the table stand, which itself stands at an offset.
+pub(crate) fn payload_place<B: Bindgen>(
+    bindgen: &B,
+    id: TypeId,
+    offset: ArchitectureSize,
+) -> Result<ArchitectureSize, OutOfMemory>
+    ensures { IfOk result (λ place. (types : List TypeDef) (entry : TypeDef) → B.meaning.knows bindgen.now types → slice_get types id.0 ≡ Some entry → is_alias entry.kind ≡ false
+        → (at : ArchitectureSize) × (place ≡ beyond offset at) × IsPairOf at (λ w. payload_offset w (tree_at types id.0))) }
+{
+    let sizes = bindgen.sizes();
+    if !sizes.has_size(&WitType::Id(id)) {
+        return Err(OutOfMemory);
+    }
+    let whole = sum(offset, sizes.payload_offset(id))?;
+    Ok(whole)
+}
+
+/// Whether a type takes bytes, as each type of a well-formed table does.
+pub(crate) fn has_bytes<B: Bindgen>(bindgen: &B, ty: WitType) -> bool
+    ensures { IsTrue result → (types : List TypeDef) → B.meaning.knows bindgen.now types → is_nothing (shape_of types ty) ≡ false }
+{
+    let sizes = bindgen.sizes();
+    if !sizes.has_size(&ty) {
+        return false;
+    }
+    let size = sizes.size(&ty);
+    size.bytes != 0 || size.pointers != 0
+}
+
+/// What denotes the payload of the innermost open block.
+pub(crate) fn payload<B: Bindgen>(
+    alloc: Global,
+    resolve: &Resolve,
+    bindgen: &mut B,
+) -> Result<B::Operand, OutOfMemory>
+    requires { IsOpen B.meaning bindgen.old }
+    ensures { IfOk result (λ o. Emits B.meaning resolve.now.types instruction.VariantPayloadName [] (o ∷ []) bindgen.old bindgen.new) }
+{
+    let operand = send_one(
+        alloc,
+        resolve,
+        bindgen,
+        Instruction::VariantPayloadName,
+        List::new(alloc),
+    )?;
+    Ok(operand)
+}
+
+/// Closes the innermost open block, which gives nothing.
+pub(crate) fn close<B: Bindgen>(alloc: Global, bindgen: &mut B) -> Result<(), OutOfMemory>
+    requires { IsOpen B.meaning bindgen.old }
+    ensures { OnOk result (Finishes B.meaning [] bindgen.old bindgen.new) }
+{
+    let mut none = List::new(alloc);
+    bindgen.finish_block(&mut none)?;
+    Ok(())
+}
+
+/// The block of a case without payload, which gives nothing.
+pub(crate) fn empty_block<B: Bindgen>(alloc: Global, bindgen: &mut B) -> Result<(), OutOfMemory>
+    ensures { OnOk result ((mid : B) × Pushes B.meaning bindgen.old mid × Finishes B.meaning [] mid bindgen.new) }
+{
+    bindgen.push_block()?;
+    close(alloc, bindgen)?;
+    Ok(())
+}
+
+/// The number of one of so many cases becomes a word, which is stored as its tag.
+pub(super) fn store_tag<B: Bindgen>(
+    alloc: Global,
+    resolve: &Resolve,
+    bindgen: &mut B,
+    address: &B::Operand,
+    offset: ArchitectureSize,
+    cases: usize,
+    number: usize,
+) -> Result<(), OutOfMemory>
+    requires { number < 2 ^ 31 }
+    ensures { OnOk result ((mid : B) × (tag : B.Operand) × Emits B.meaning resolve.now.types (instruction.I32Const (pos number)) [] (tag ∷ []) bindgen.old mid
+        × Emits B.meaning resolve.now.types (tag_store cases offset) (tag ∷ address.now ∷ []) [] mid bindgen.new) }
+{
+    let inst = Instruction::I32Const(number as i32);
+    let tag = send_one(alloc, resolve, bindgen, inst, List::new(alloc))?;
+    let store = number_store(tag_grain(cases), offset);
+    store_word(alloc, resolve, bindgen, tag, address, store)?;
+    Ok(())
+}
+
+/// The tag of one of so many cases. Of more than a word can number the answer is `OutOfMemory`.
+pub(crate) fn load_tag<B: Bindgen>(
+    alloc: Global,
+    resolve: &Resolve,
+    bindgen: &mut B,
+    address: &B::Operand,
+    offset: ArchitectureSize,
+    cases: usize,
+) -> Result<B::Operand, OutOfMemory>
+    ensures loads { IfOk result (λ tag. Emits B.meaning resolve.now.types (tag_load cases offset) (address.now ∷ []) (tag ∷ []) bindgen.old bindgen.new) }
+    ensures most { OnOk result (cases ≤ 2 ^ 31) }
+{
+    if cases > MOST_CASES {
+        return Err(OutOfMemory);
+    }
+    let load = number_load(tag_grain(cases), offset);
+    let tag = load_word(alloc, resolve, bindgen, address, load)?;
+    Ok(tag)
+}
+
+/// The block of a case without payload stores its tag.
+pub(super) fn store_bare<B: Bindgen>(
+    alloc: Global,
+    resolve: &Resolve,
+    bindgen: &mut B,
+    address: &B::Operand,
+    offset: ArchitectureSize,
+    cases: usize,
+    number: usize,
+) -> Result<(), OutOfMemory>
+    requires below { number < cases }
+    requires most { cases ≤ 2 ^ 31 }
+    ensures stores { (realloc : Bool) (place : ArchitectureSize) → OnOk result (StoresCase B.meaning realloc (discriminant_grain cases) number nothing address.now offset place bindgen.old bindgen.new) }
+    ensures sends { (place : ArchitectureSize) → OnOk result (Sends B.meaning resolve.now.types (opens ∷ store_case cases offset place number None ++ closes ∷ []) bindgen.old bindgen.new) }
+{
+    bindgen.push_block()?;
+    store_tag(alloc, resolve, bindgen, address, offset, cases, number)?;
+    close(alloc, bindgen)?;
+    Ok(())
+}
