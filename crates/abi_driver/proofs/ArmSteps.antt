@@ -1,5 +1,5 @@
 -- The arm that serves the number of a case is run, and what it then gives.
-use Rattle.std.proofs.Common.{◌≡◌, ℕ, suc, ◌<◌, ◌≤◌, ◌%◌, ◌^◌, nat_lt, Bool, true, pos, ℤ, List, [], ◌∷◌, if◌then◌else◌, Option, None, Some, refl, ap, ◌∙◌, arith}
+use Rattle.std.proofs.Common.{◌≡◌, ℕ, suc, ◌<◌, ◌%◌, ◌^◌, nat_lt, Bool, true, pos, List, if◌then◌else◌, Some, refl, ap, ◌∙◌, arith}
 use Rattle.std.specs.Int.{w32, cast_signed}
 use Rattle.std.specs.List.{slice_get}
 use Rattle.std.proofs.lemmas.Bool.{cond-true, lt-ltb}
@@ -10,8 +10,8 @@ use Rattle.wrapper_meaning.specs.Settled.{settled_case}
 use Rattle.wrapper_meaning.specs.Shape.{Shapes}
 use Rattle.wrapper_meaning.specs.Shape.Shapes.{none, more}
 use Rattle.wrapper_meaning.specs.Value.{Case, case_number}
-use Rattle.abi_driver.specs.Account.{Act, Done, Got, Outcome, Peer, Stuck, gives, then_do}
-use Rattle.abi_driver.specs.Arms.{Armed, arm, arms, choosing, matching, other_case}
+use Rattle.abi_driver.specs.Account.{Done, Got, Outcome, Peer, Stuck, then_do}
+use Rattle.abi_driver.specs.Arms.{Armed, arm, arms, choosing, matching}
 use Rattle.abi_driver.specs.Blocks.{Gives}
 use Rattle.abi_driver.specs.Laws.{Data}
 use Rattle.abi_driver.specs.Meaning.{Ended, Meaning, with_nothing}

@@ -1,5 +1,5 @@
 -- The block of a case frees the blocks of its payload; and so all blocks together.
-use Rattle.std.proofs.Common.{◌≡◌, ℕ, suc, ◌≤◌, ◌+◌, length, drop, Option, List, [], ◌∷◌, ◌++◌, replicate, Some, refl, sym, ap, ◌∙◌, subst, arith}
+use Rattle.std.proofs.Common.{◌≡◌, ℕ, ◌≤◌, ◌+◌, length, drop, Option, List, [], ◌∷◌, replicate, Some, refl, sym, ap, ◌∙◌, subst, arith}
 use Rattle.std.proofs.lemmas.List.{drop_all}
 use Rattle.std.specs.List.{slice_get}
 use mathlib.Core.Logic.{inl, inr}
@@ -7,7 +7,6 @@ use Rattle.wit_model.specs.declared.size.ArchitectureSize.{ArchitectureSize}
 use Rattle.wit_model.specs.declared.types.TypeDef.{TypeDef}
 use Rattle.wit_model.specs.declared.types.WitType.{WitType}
 use Rattle.wit_layout.specs.Sizes.{extent_of, extents_of}
-use Rattle.wrapper_data.specs.declared.block.Block.{Block}
 use Rattle.wrapper_data.specs.declared.word.Word.TheVariants as core
 use Rattle.wrapper_meaning.specs.Items.{SameItems}
 use Rattle.wrapper_meaning.specs.Layout.{layout, layouts}
@@ -17,7 +16,6 @@ use Rattle.wrapper_meaning.specs.Value.{Case, case_number}
 use Rattle.wrapper_meaning.proofs.PostReturn.{total-append}
 use Rattle.abi_driver.specs.Account.{Account}
 use Rattle.abi_driver.specs.Blocks.{Finishes, Pushes}
-use Rattle.abi_driver.specs.FinishedBlocks.{HasPayloadRoom}
 use Rattle.abi_driver.specs.FreedCases.{EmptiesCase, FreesCases, FreesPayload}
 use Rattle.abi_driver.specs.Frees.{FreesInMemory, MayFree, by_freeing}
 use Rattle.abi_driver.specs.Laws.{Facts, Sound}

@@ -1,5 +1,5 @@
 -- The block of a case loads its payload, where it has one; and so all blocks together.
-use Rattle.std.proofs.Common.{◌≡◌, ℕ, suc, ◌≤◌, ◌+◌, false, length, drop, map, option_to_list, List, [], ◌∷◌, ◌++◌, Contains, Option, None, Some, refl, sym, ap, ◌∙◌, subst, arith}
+use Rattle.std.proofs.Common.{◌≡◌, ℕ, ◌≤◌, ◌+◌, false, length, drop, map, option_to_list, List, [], ◌∷◌, ◌++◌, Option, None, Some, refl, sym, ap, ◌∙◌, subst, arith}
 use Rattle.std.proofs.lemmas.List.{drop_all}
 use Rattle.std.specs.List.{flat_map, slice_get}
 use mathlib.Core.Logic.{inl, inr}
@@ -10,7 +10,7 @@ use Rattle.wit_layout.specs.Sizes.{extent_of, extents_of}
 use Rattle.wrapper_data.specs.declared.block.Block.{Block}
 use Rattle.wrapper_data.specs.declared.word.Word.TheVariants as core
 use Rattle.wrapper_meaning.specs.Direction.{Direction, take}
-use Rattle.wrapper_meaning.specs.Items.{SameItems, total}
+use Rattle.wrapper_meaning.specs.Items.{SameItems}
 use Rattle.wrapper_meaning.specs.Layout.{layout, layouts}
 use Rattle.wrapper_meaning.specs.Settled.{settled}
 use Rattle.wrapper_meaning.specs.Shape.{Shape, Shapes, is_nothing, nothing, payload_in, payloads_in, shapes}
@@ -19,9 +19,9 @@ use Rattle.wrapper_meaning.specs.Value.{Case, Value, case_number}
 use Rattle.wrapper_meaning.proofs.PostReturn.{total-append}
 use Rattle.abi_driver.specs.Account.{Account, addresses}
 use Rattle.abi_driver.specs.Blocks.{Finishes, Pushes, owned_datum}
-use Rattle.abi_driver.specs.FinishedBlocks.{Brought, HasPayloadRoom}
+use Rattle.abi_driver.specs.FinishedBlocks.{Brought}
 use Rattle.abi_driver.specs.Cases.{PayloadStands}
-use Rattle.abi_driver.specs.Laws.{At, Facts, Sound, item_data, ofs}
+use Rattle.abi_driver.specs.Laws.{Facts, Sound, item_data, ofs}
 use Rattle.abi_driver.specs.Lifts.{MayTake, took}
 use Rattle.abi_driver.specs.LoadedCases.{GetsCase, LoadsCase, LoadsCases}
 use Rattle.abi_driver.specs.Loads.{LiftsFromMemory}

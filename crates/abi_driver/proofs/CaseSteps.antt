@@ -1,12 +1,11 @@
 -- Finished blocks of cases: how they are added one after another, how each begins and ends, and what an instruction that uses them up leaves.
-use Rattle.std.proofs.Common.{◌≡◌, ℕ, zero, suc, ◌+◌, ◌<◌, ◌≤◌, Bool, false, true, List, [], ◌∷◌, ◌++◌, length, map, drop, take, replicate, reverse, Option, None, Some, refl, sym, ap, ◌∙◌, subst, arith, append-nil, append_assoc}
-use Rattle.std.specs.List.{AllByRecursion, flat_map, slice_get}
-use Rattle.std.proofs.lemmas.List.{length-append, length-reverse, replicate_more, reverse-append, reverse-reverse}
-use Rattle.wrapper_data.specs.declared.word.Word.{Word}
+use Rattle.std.proofs.Common.{◌≡◌, ℕ, zero, suc, ◌+◌, Bool, false, true, List, [], ◌∷◌, ◌++◌, length, drop, take, replicate, reverse, refl, sym, ap, ◌∙◌, subst, arith, append-nil, append_assoc}
+use Rattle.std.specs.List.{AllByRecursion, flat_map}
+use Rattle.std.proofs.lemmas.List.{length-reverse, replicate_more, reverse-append, reverse-reverse}
 use Rattle.wrapper_meaning.specs.Items.{SameItems, total}
 use Rattle.abi_driver.specs.Account.{Done, Peer, Stops, account_in}
 use Rattle.abi_driver.specs.Arms.{arms}
-use Rattle.abi_driver.specs.Blocks.{AreFinished, Finishes, Gives, IsOfWord, IsOpen, IsQuiet, Pushes, brought, names, owned_datum}
+use Rattle.abi_driver.specs.Blocks.{AreFinished, Finishes, Gives, IsOfWord, IsOpen, IsQuiet, Pushes, names, owned_datum}
 use Rattle.abi_driver.specs.FinishedBlocks.{AddsBlock, AddsBlocks, AreQuiet, Resumes}
 use Rattle.abi_driver.specs.Instructions.{AddsCode, IsSide}
 use Rattle.abi_driver.specs.Laws.{Adds, At, Data, Facts, Grows, Quiet, Sound, ofs}

@@ -1,13 +1,13 @@
 -- The block of a case stores the number of the case, and its payload where it has one; and so all blocks together.
-use Rattle.std.proofs.Common.{◌≡◌, ℕ, suc, ◌+◌, ◌%◌, ◌^◌, ◌<◌, ◌≤◌, Bool, true, false, pos, length, drop, List, [], ◌∷◌, ◌++◌, Contains, replicate, Option, None, Some, refl, sym, ap, ap₂, ◌∙◌, subst, arith}
+use Rattle.std.proofs.Common.{◌≡◌, ℕ, suc, ◌+◌, ◌%◌, ◌^◌, ◌<◌, ◌≤◌, Bool, true, false, pos, length, drop, List, [], ◌∷◌, ◌++◌, Contains, replicate, Option, None, Some, refl, sym, ap, ◌∙◌, subst, arith}
 use Rattle.std.proofs.lemmas.List.{drop_all}
 use Rattle.std.specs.List.{slice_get}
 use mathlib.Core.Logic.{inl, inr}
 use Rattle.wit_model.specs.declared.size.ArchitectureSize.{ArchitectureSize}
 use Rattle.wit_model.specs.declared.types.WitType.{WitType}
 use Rattle.wit_model.specs.declared.types.TypeDef.{TypeDef}
-use Rattle.wit_layout.specs.Extent.{discriminant_grain, greatest}
-use Rattle.wit_layout.specs.Sizes.{alignment, elem_size, extent_of, extents_of}
+use Rattle.wit_layout.specs.Extent.{greatest}
+use Rattle.wit_layout.specs.Sizes.{elem_size, extent_of, extents_of}
 use Rattle.wrapper_data.specs.Heap.{is_heap}
 use Rattle.wrapper_data.specs.declared.block.Block.{Block}
 use Rattle.wrapper_data.specs.declared.word.Word.TheVariants as core
@@ -26,16 +26,16 @@ use Rattle.wrapper_meaning.proofs.PartPlaces.{bytes_of_first, bytes_of_rest}
 use Rattle.wrapper_meaning.proofs.PostReturn.{total-append}
 use Rattle.abi_driver.specs.declared.instruction.Instruction.TheVariants.{I32Const, VariantPayloadName}
 use Rattle.abi_driver.specs.Account.{Account, Done, Peer, addresses}
-use Rattle.abi_driver.specs.Blocks.{Finishes, Gives, Pushes, brought, names}
+use Rattle.abi_driver.specs.Blocks.{Finishes, Pushes, brought, names}
 use Rattle.abi_driver.specs.FinishedBlocks.{Brought, HasCaseRoom}
 use Rattle.abi_driver.specs.Cases.{PayloadStands, with_case}
 use Rattle.abi_driver.specs.Instructions.{Emits}
-use Rattle.abi_driver.specs.Laws.{Adds, After, At, Facts, Sound}
+use Rattle.abi_driver.specs.Laws.{Adds, At, Facts, Sound}
 use Rattle.abi_driver.specs.Leaves.{way}
 use Rattle.abi_driver.specs.Meaning.{Bound, Meaning, bound, item, of, the_payload, word}
 use Rattle.abi_driver.specs.NumberTouches.{number_store}
 use Rattle.abi_driver.specs.Parts.{count}
-use Rattle.abi_driver.specs.Places.{HasRoom, IsWritten, replaced}
+use Rattle.abi_driver.specs.Places.{HasRoom, replaced}
 use Rattle.abi_driver.specs.StoredCases.{BlockPuts, PutsCase, StoresCase, StoresCases, Tagged}
 use Rattle.abi_driver.specs.Stores.{LowersToMemory, Releases, Stored, by_storing}
 use Rattle.abi_driver.specs.Touches.{reached}

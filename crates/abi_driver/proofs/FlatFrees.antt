@@ -35,11 +35,6 @@ use Rattle.abi_driver.proofs.SaysLength.{says_length}
 use Rattle.abi_driver.proofs.TakingOver.{may_first}
 use Rattle.wrapper_meaning.proofs.PostReturn.{total-append}
 
-pub drop_some : {A : Type 0} (xs : List A) (i : ℕ) → i < length xs → (x : A) × (drop i xs ≡ x ∷ drop (suc i) xs)
-drop_some [] i l = absurd (omega (arith, l))
-drop_some (x ∷ xs) zero l = (x, refl)
-drop_some (x ∷ xs) (suc i) l = drop_some xs i (omega (arith, l))
-
 module _ {Self Operand : Type 0} (m : Meaning Self Operand) (sound : Sound m) (types : List TypeDef) where
   -- values without blocks are freed by no code
   alone_words : (t : Shape) → ((v : Value t) (ws : List Word) (own : List Block) → Says m.width give t v ws own → own ≡ []) → (a : Self) (os : List Operand) → length os ≡ length (flatten_type (layout t)) → FreesFlat m t os a a
@@ -57,23 +52,21 @@ module _ {Self Operand : Type 0} (m : Meaning Self Operand) (sound : Sound m) (t
     );
   }
 
-  scalar_word : (s : Scalar) (a : Self) (o : Operand) → FreesFlat m (scalar s) (o ∷ []) a a
-  scalar_word s a o = alone_words (scalar s) (λ v ws own says. says.3) a (o ∷ []) refl
+  -- so many words from a place on were passed over
+  abbrev pub Passed : (words : List Operand) → (at next count : ℕ) → Type 0
+  Passed words at next count = (used : List Operand) × (drop at words ≡ used ++ drop next words) × (length used ≡ count)
 
-  pub scalar_passed : (ty : WitType) (i : Instruction) (a : Self) (words : List Operand) (at next : ℕ) → lifting ty ≡ Some i → (o : Operand) × (drop at words ≡ o ∷ drop next words)
-      → (used : List Operand) × (drop at words ≡ used ++ drop next words) × FreesFlat m (shape_of types ty) used a a
+  pub scalar_passed : (ty : WitType) (i : Instruction) (a : Self) (words : List Operand) (at next : ℕ) → lifting ty ≡ Some i → Passed words at next 1 → (used : List Operand) × (drop at words ≡ used ++ drop next words) × FreesFlat m (shape_of types ty) used a a
   scalar_passed ty i a words at next is h =
       let s = lifted_type ty i is in
-      (h.0 ∷ [], h.1, subst (λ t. FreesFlat m t (h.0 ∷ []) a a) (sym (s.shape types)) (scalar_word s.scalar_is a h.0))
+      (h.0, h.1, subst (λ t. FreesFlat m t h.0 a a) (sym (s.shape types)) (alone_words (scalar s.scalar_is) (λ v ws own says. says.3) a h.0 h.2))
 
-  pub enum_passed : {A : Type 0} (members : List A) (a : Self) (words : List Operand) (at next : ℕ) → (o : Operand) × (drop at words ≡ o ∷ drop next words)
-      → (used : List Operand) × (drop at words ≡ used ++ drop next words) × FreesFlat m (cases (bare members)) used a a
+  pub enum_passed : {A : Type 0} (members : List A) (a : Self) (words : List Operand) (at next : ℕ) → Passed words at next 1 → (used : List Operand) × (drop at words ≡ used ++ drop next words) × FreesFlat m (cases (bare members)) used a a
   enum_passed members a words at next h =
       let many : 1 ≡ length (flatten_type (layout (cases (bare members)))) = sym (ap (λ cs. suc (length cs)) (no_slots members)) in
-      (h.0 ∷ [], h.1, alone_words (cases (bare members)) (λ v ws own says. none_said m.width give members v says.0 own says.3) a (h.0 ∷ []) many)
+      (h.0, h.1, alone_words (cases (bare members)) (λ v ws own says. none_said m.width give members v says.0 own says.3) a h.0 (h.2 ∙ many))
 
-  pub flags_passed : (n : ℕ) (a : Self) (words : List Operand) (at next : ℕ) → (used : List Operand) × (drop at words ≡ used ++ drop next words) × (length used ≡ flag_words n)
-      → (used : List Operand) × (drop at words ≡ used ++ drop next words) × FreesFlat m (flags n) used a a
+  pub flags_passed : (n : ℕ) (a : Self) (words : List Operand) (at next : ℕ) → Passed words at next (flag_words n) → (used : List Operand) × (drop at words ≡ used ++ drop next words) × FreesFlat m (flags n) used a a
   flags_passed n a words at next h = (h.0, h.1, alone_words (flags n) (λ v ws own says. says.2) a h.0 (h.2 ∙ sym (length_words n)))
 
   pub text_freed : (a b : Self) (o p : Operand) (rs : List Operand) → Emits m types GuestDeallocateString (o ∷ p ∷ []) rs a b → FreesFlat m text (o ∷ p ∷ []) a b

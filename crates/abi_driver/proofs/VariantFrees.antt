@@ -1,5 +1,5 @@
 -- The blocks of a value with cases are freed by the blocks of its cases.
-use Rattle.std.proofs.Common.{◌≡◌, ℕ, ◌+◌, ◌%◌, ◌^◌, ◌<◌, ◌≤◌, Bool, true, false, pos, List, [], ◌∷◌, ◌++◌, length, drop, replicate, option_map, Option, Some, refl, sym, ap, ap₂, ◌∙◌, subst, arith}
+use Rattle.std.proofs.Common.{◌≡◌, ℕ, ◌+◌, ◌^◌, ◌<◌, ◌≤◌, true, false, pos, List, [], ◌∷◌, ◌++◌, length, drop, replicate, option_map, Option, Some, refl, sym, ap, ap₂, ◌∙◌, subst, arith}
 use Rattle.std.specs.List.{slice_get}
 use Rattle.std.proofs.lemmas.List.{length-replicate}
 use Rattle.wit_model.specs.Size.{bytes_at}
@@ -30,7 +30,6 @@ use Rattle.wrapper_meaning.specs.Layout.{layout, layouts}
 use Rattle.wrapper_meaning.specs.Shape.{Shapes, payloads_in, shape_at, shapes}
 use Rattle.wrapper_meaning.specs.Shape.Shape.{cases}
 use Rattle.wrapper_meaning.specs.Value.{Case, case_number}
-use Rattle.wrapper_meaning.proofs.PostReturn.{total-append}
 use Rattle.abi_driver.specs.declared.instruction.Instruction.TheVariants.{GuestDeallocateVariant}
 use Rattle.abi_driver.specs.Account.{Account, Done, Peer}
 use Rattle.abi_driver.specs.Arms.{arms, gives_nothing, matching}

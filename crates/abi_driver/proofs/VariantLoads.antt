@@ -1,5 +1,5 @@
 -- A value with cases is loaded by the blocks of its cases.
-use Rattle.std.proofs.Common.{◌≡◌, ℕ, ◌+◌, ◌%◌, ◌^◌, ◌<◌, ◌≤◌, max, Bool, true, pos, List, [], ◌∷◌, ◌++◌, length, option_map, option_to_list, Option, None, Some, refl, sym, ap, ap₂, ◌∙◌, subst, arith}
+use Rattle.std.proofs.Common.{◌≡◌, ℕ, ◌+◌, ◌^◌, ◌<◌, ◌≤◌, Bool, true, pos, List, [], ◌∷◌, ◌++◌, length, option_map, option_to_list, Option, None, Some, refl, sym, ap, ap₂, ◌∙◌, subst, arith}
 use Rattle.std.specs.List.{flat_map, slice_get}
 use Rattle.std.proofs.lemmas.List.{length-map}
 use mathlib.Core.Logic.{inl, inr}
@@ -24,7 +24,7 @@ use Rattle.wrapper_meaning.specs.InRange.{IsListedCase}
 use Rattle.wrapper_meaning.specs.Items.{SameItems, total}
 use Rattle.wrapper_meaning.specs.Layout.{layout, layouts}
 use Rattle.wrapper_meaning.specs.Settled.{settled_case}
-use Rattle.wrapper_meaning.specs.Shape.{Shape, Shapes, payloads_in, shape_at, shapes}
+use Rattle.wrapper_meaning.specs.Shape.{Shapes, payloads_in, shape_at, shapes}
 use Rattle.wrapper_meaning.specs.Shape.Shape.{cases}
 use Rattle.wrapper_meaning.specs.Shape.Shapes.{none, more}
 use Rattle.wrapper_meaning.specs.Value.{Case, case_number}
@@ -48,7 +48,6 @@ use Rattle.abi_driver.specs.Meaning.{Meaning, item, of, word}
 use Rattle.abi_driver.specs.NumberTouches.{number_load, tag_load}
 use Rattle.abi_driver.specs.Parts.{count}
 use Rattle.abi_driver.specs.Touches.{reached}
-use Rattle.abi_driver.specs.Turns.{Arrives}
 use Rattle.abi_driver.proofs.ArmSteps.{arm_runs, number_below, number_settled, read_number, went}
 use Rattle.abi_driver.proofs.BareCases.{tag_grain_small}
 use Rattle.abi_driver.proofs.CaseInstructions.{LiftsBy, case_serves, lifts_by}

@@ -1,5 +1,5 @@
 -- A value with cases is stored by the blocks of its cases.
-use Rattle.std.proofs.Common.{◌≡◌, ℕ, ◌+◌, ◌%◌, ◌^◌, ◌≤◌, Bool, List, [], ◌∷◌, ◌++◌, if◌then◌else◌, true, length, replicate, option_map, Option, Some, refl, sym, ap, ap₂, ◌∙◌, subst, arith, append-nil}
+use Rattle.std.proofs.Common.{◌≡◌, ◌+◌, ◌^◌, ◌≤◌, Bool, List, [], ◌∷◌, ◌++◌, if◌then◌else◌, true, length, replicate, option_map, Option, Some, refl, sym, ap, ap₂, ◌∙◌, subst, arith}
 use Rattle.std.specs.List.{flat_map, slice_get}
 use Rattle.std.proofs.lemmas.List.{length-replicate}
 use Rattle.wit_model.specs.Size.{bytes_at}
@@ -14,7 +14,6 @@ use Rattle.wit_layout.specs.Told.{IsPairOf}
 use Rattle.wit_layout.specs.Tree.{tree_at}
 use Rattle.wit_layout.specs.Extent.{discriminant_grain, greatest}
 use Rattle.wit_layout.specs.Sizes.{count as tree_count, elem_size, extents_of, payload_offset}
-use Rattle.wrapper_data.specs.declared.block.Block.{Block}
 use Rattle.wrapper_data.specs.declared.word.Word.TheVariants as core
 use Rattle.wrapper_meaning.specs.Cells.{HasNumber}
 use Rattle.wrapper_meaning.specs.Layout.{layout, layouts}

@@ -1,5 +1,5 @@
 -- What the finished blocks of the cases of a type are to the code: one for each case, in order, and nothing else is new.
-use Rattle.std.specs.Prelude.{◌≡◌, ◌<◌, ◌≤◌, ℕ, ◌+◌, ◌%◌, ◌^◌, false, true, List, [], ◌∷◌, ◌++◌, Contains, Option, None, Some, reverse}
+use Rattle.std.specs.Prelude.{◌≡◌, ◌≤◌, ℕ, ◌+◌, ◌%◌, ◌^◌, false, true, List, [], ◌∷◌, ◌++◌, Contains, Option, None, Some, reverse}
 use Rattle.wit_model.specs.declared.function.Function.{Function}
 use Rattle.wit_model.specs.declared.types.TypeDef.{TypeDef}
 use Rattle.wit_layout.specs.Extent.{Extent}

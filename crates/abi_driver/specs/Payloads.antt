@@ -1,5 +1,5 @@
 -- Which kinds of types have cases with payloads, and by which instructions their values are passed.
-use Rattle.std.specs.Prelude.{◌≡◌, ℕ, Bool, true, false, Option, None, Some}
+use Rattle.std.specs.Prelude.{ℕ, Bool, true, false, Option, None, Some}
 use Rattle.wit_model.specs.declared.name.TypeId.{TypeId}
 use Rattle.wit_model.specs.declared.types.TypeDefKind.{TypeDefKind}
 use Rattle.wit_model.specs.declared.types.TypeDefKind.TheVariants as kind

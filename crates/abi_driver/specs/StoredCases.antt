@@ -1,7 +1,7 @@
 -- What the finished blocks of cases do by which a value is put into memory.
-use Rattle.std.specs.Prelude.{◌≡◌, ◌-◌, ◌+◌, ◌^◌, ℕ, suc, Bool, true, List, [], ◌∷◌, ◌++◌, Option, None, Some, replicate, slice_get}
+use Rattle.std.specs.Prelude.{◌≡◌, ◌+◌, ◌^◌, ℕ, Bool, List, [], ◌∷◌, Option, Some, replicate, slice_get}
 use Rattle.wit_model.specs.declared.size.ArchitectureSize.{ArchitectureSize}
-use Rattle.wit_layout.specs.Extent.{discriminant_grain, greatest}
+use Rattle.wit_layout.specs.Extent.{greatest}
 use Rattle.wit_layout.specs.Sizes.{elem_size, extent_of, extents_of}
 use Rattle.wrapper_data.specs.declared.block.Block.{Block}
 use Rattle.wrapper_data.specs.declared.word.Word.TheVariants as core
@@ -12,7 +12,7 @@ use Rattle.wrapper_meaning.specs.InRange.{IsListed, IsListedCase}
 use Rattle.wrapper_meaning.specs.Layout.{layout, layouts}
 use Rattle.wrapper_meaning.specs.Shape.{Shape, Shapes}
 use Rattle.wrapper_meaning.specs.Value.{Case, Value, case_number}
-use Rattle.abi_driver.specs.Account.{Account, Peer, addresses}
+use Rattle.abi_driver.specs.Account.{Peer, addresses}
 use Rattle.abi_driver.specs.Blocks.{Gives}
 use Rattle.abi_driver.specs.FinishedBlocks.{AddsBlock, AddsBlocks, Brought, HasCaseRoom}
 use Rattle.abi_driver.specs.Cases.{PayloadStands, with_case}

@@ -59,7 +59,7 @@ fn free_type<B: Bindgen>(
     ensures sends { OnOk result (Sends B.meaning resolve.now.types (free_words_code resolve.now.types ty) bindgen.old bindgen.new) }
 {
     if let Some(_lift) = scalar_lifting(ty) {
-        let next = pass_word(words, at)?;
+        let next = pass_words(words, at, 1)?;
         return Ok(next);
     }
     match ty {
@@ -107,7 +107,7 @@ fn free_id<B: Bindgen>(
             Ok(next)
         }
         TypeDefKind::Enum(_) => {
-            let next = pass_word(words, at)?;
+            let next = pass_words(words, at, 1)?;
             Ok(next)
         }
         TypeDefKind::Flags(members) => {
@@ -141,16 +141,6 @@ fn free_parts<B: Bindgen>(
         next = free_type(alloc, resolve, bindgen, words, next, tys[i])?;
     }
     Ok(next)
-}
-
-/// Behind the word at a place.
-fn pass_word<O: Operand>(words: &[O], at: usize) -> Result<usize, OutOfMemory>
-    ensures { IfOk result (λ next. (word : O) × (drop at words.now ≡ word ∷ drop next words.now)) }
-{
-    if at >= words.len() {
-        return Err(OutOfMemory);
-    }
-    Ok(at + 1)
 }
 
 /// Behind so many words from a place on.

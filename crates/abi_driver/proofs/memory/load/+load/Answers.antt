@@ -17,7 +17,6 @@ use Rattle.wrapper_meaning.specs.Shape.{payload_in, shape_of, shapes}
 use Rattle.abi_driver.specs.declared.instruction.Instruction.TheVariants.{RecordLift, TupleLift}
 use Rattle.abi_driver.specs.Code.{at_payload, beyond, each, load_code, place_in}
 use Rattle.abi_driver.specs.Instructions.{Emits, HasBlocks, IsRecord, IsSendable, shapes_of}
-use Rattle.abi_driver.specs.NumberTouches.{tag_load}
 use Rattle.abi_driver.specs.Blocks.{Finishes, IsOpen}
 use Rattle.abi_driver.specs.LoadedCases.{LoadsCase}
 use Rattle.abi_driver.specs.Sends.{Sends}
