@@ -20,11 +20,6 @@ use Rattle.abi_driver.specs.Turns.{Went}
 
 -- 1. The number of a case
 
-pub number_below : (ts : Shapes) (c : Case ts) → case_number ts c < count ts
-number_below none c = elim c [ ]
-number_below (more t ts) (inl v) = omega arith
-number_below (more t ts) (inr c) = let later = number_below ts c in omega (arith, later)
-
 pub number_settled : (ts : Shapes) (c : Case ts) → case_number ts (settled_case ts c) ≡ case_number ts c
 number_settled none c = elim c [ ]
 number_settled (more t ts) (inl v) = refl

@@ -20,7 +20,7 @@ use Rattle.wrapper_meaning.proofs.PostReturn.{total-append}
 use Rattle.abi_driver.specs.Account.{Account, addresses}
 use Rattle.abi_driver.specs.Blocks.{Finishes, Pushes, owned_datum}
 use Rattle.abi_driver.specs.FinishedBlocks.{Brought}
-use Rattle.abi_driver.specs.Cases.{PayloadStands}
+use Rattle.abi_driver.specs.Cases.{PayloadStands, result_counts}
 use Rattle.abi_driver.specs.Laws.{Facts, Sound, item_data, ofs}
 use Rattle.abi_driver.specs.Lifts.{MayTake, took}
 use Rattle.abi_driver.specs.LoadedCases.{GetsCase, LoadsCase, LoadsCases}
@@ -33,15 +33,11 @@ use Rattle.abi_driver.proofs.CaseSteps.{block_added, block_begins, block_gives, 
 use Rattle.abi_driver.proofs.Runs.{adds_same}
 use Rattle.abi_driver.proofs.TakingOver.{took_none}
 
--- how many results the blocks of these payloads have
-abbrev pub counts : List (Option WitType) → List ℕ
-counts payloads = map (λ p. length (option_to_list p)) payloads
-
 module _ {Self Operand : Type 0} (m : Meaning Self Operand) (types : List TypeDef) where
   -- what loads the cases from one on, loads all
   abbrev pub Rest : (payloads : List (Option WitType)) (address : Operand) (place : ArchitectureSize) → ℕ → (a b : Self) → Type 0
   Rest payloads address place i a b =
-      (new : Self) → LoadsCases m (counts (drop i payloads)) (payloads_in (shapes types) (drop i payloads)) address place b new → LoadsCases m (counts payloads) (payloads_in (shapes types) payloads) address place a new
+      (new : Self) → LoadsCases m (result_counts (drop i payloads)) (payloads_in (shapes types) (drop i payloads)) address place b new → LoadsCases m (result_counts payloads) (payloads_in (shapes types) payloads) address place a new
 
 module _ {Self Operand : Type 0} (m : Meaning Self Operand) (sound : Sound m) where
   -- 1. One block
@@ -123,8 +119,8 @@ module _ {Self Operand : Type 0} (m : Meaning Self Operand) (sound : Sound m) wh
     pub rest_next : (i : ℕ) (a b c : Self) (p : Option WitType) → drop i payloads ≡ p ∷ drop (i + 1) payloads → LoadsCase m (length (option_to_list p)) (payload_in (shapes types) p) address place b c → Rest m types payloads address place i a b → Rest m types payloads address place (i + 1) a c
     rest_next i a b c p e one rest new h =
         let later = drop (i + 1) payloads in
-        rest new (subst (λ ps. LoadsCases m (counts ps) (payloads_in (shapes types) ps) address place b new) (sym e)
-        (more_load address place (length (option_to_list p)) (counts later) (payload_in (shapes types) p) (payloads_in (shapes types) later) b c new one h))
+        rest new (subst (λ ps. LoadsCases m (result_counts ps) (payloads_in (shapes types) ps) address place b new) (sym e)
+        (more_load address place (length (option_to_list p)) (result_counts later) (payload_in (shapes types) p) (payloads_in (shapes types) later) b c new one h))
 
-    pub rest_last : (i : ℕ) (a b : Self) → length payloads ≤ i → Rest m types payloads address place i a b → LoadsCases m (counts payloads) (payloads_in (shapes types) payloads) address place a b
-    rest_last i a b ended rest = rest b (subst (λ ps. LoadsCases m (counts ps) (payloads_in (shapes types) ps) address place b b) (sym (drop_all i payloads ended)) (none_load address place b))
+    pub rest_last : (i : ℕ) (a b : Self) → length payloads ≤ i → Rest m types payloads address place i a b → LoadsCases m (result_counts payloads) (payloads_in (shapes types) payloads) address place a b
+    rest_last i a b ended rest = rest b (subst (λ ps. LoadsCases m (result_counts ps) (payloads_in (shapes types) ps) address place b b) (sym (drop_all i payloads ended)) (none_load address place b))

@@ -1,12 +1,11 @@
 -- The room that cases have, each for its own payload.
 use Rattle.std.proofs.Common.{◌≡◌, ℕ, suc, ◌+◌, ◌%◌, ◌^◌, ◌≤◌, max, List, [], ◌∷◌, Option, length, refl, sym, ap, subst, arith}
-use Rattle.wit_model.specs.declared.types.WitType.{WitType}
 use Rattle.wit_layout.specs.Extent.{Extent, discriminant_grain, greatest, payload_place}
 use Rattle.wit_layout.specs.Sizes.{count, extents_of, payload_offset}
 use Rattle.wrapper_data.specs.declared.block.Block.{Block}
 use Rattle.wrapper_data.specs.declared.heap.Heap.{Heap}
 use Rattle.wrapper_meaning.specs.Layout.{layout, layouts}
-use Rattle.wrapper_meaning.specs.Shape.{Shape, Shapes, payloads_in}
+use Rattle.wrapper_meaning.specs.Shape.{Shapes}
 use Rattle.wrapper_meaning.specs.Shape.Shape.{cases}
 use Rattle.wrapper_meaning.specs.Shape.Shapes.{none, more}
 use Rattle.wrapper_meaning.proofs.HoldsLocally.{payload_within, tag_within}
@@ -20,10 +19,6 @@ use Rattle.abi_driver.specs.Places.{HasRoom}
 pub count_layouts : (ts : Shapes) → count (layouts ts) ≡ shape_count ts
 count_layouts none = refl
 count_layouts (more t ts) = ap suc (count_layouts ts)
-
-pub count_payloads : (ss : List Shape) (payloads : List (Option WitType)) → shape_count (payloads_in ss payloads) ≡ length payloads
-count_payloads ss [] = refl
-count_payloads ss (p ∷ payloads) = ap suc (count_payloads ss payloads)
 
 -- 2. Their room
 

@@ -20,9 +20,8 @@ use Rattle.abi_driver.specs.declared.instruction.Instruction.{Instruction}
 use Rattle.abi_driver.specs.declared.instruction.Instruction.TheVariants.{EnumLift, EnumLower, FlagsLift, FlagsLower, GuestDeallocateString, GuestDeallocateVariant, LengthLoad, LengthStore, PointerLoad, PointerStore, RecordLift, RecordLower, StringLift, StringLower, TupleLift, TupleLower}
 use Rattle.abi_driver.specs.Cases.{payloads_of}
 use Rattle.abi_driver.specs.Code.{at_words, beyond, by_case, each, free_cases, free_code, free_kind, free_leaf, in_blocks, at_payload, load_cases, load_code, load_kind, load_leaf, members_of, one_pointer, payload_place, payloads_there, place_in, sent, store_case, store_cases, store_code, store_kind, store_leaf}
-use Rattle.abi_driver.specs.Instructions.{lifting, lowering}
+use Rattle.abi_driver.specs.Instructions.{case_lifting, case_lowering, has_cases, lifting, lowering}
 use Rattle.abi_driver.specs.NumberTouches.{flags_load, flags_store, tag_load, tag_store}
-use Rattle.abi_driver.specs.Payloads.{case_lifting, case_lowering, has_payloads}
 use Rattle.abi_driver.specs.ScalarTouches.{scalar_load, scalar_store}
 use Rattle.abi_driver.specs.Sent.{Sent, closes, opens, sends}
 use Rattle.abi_driver.proofs.CodeByKind.{made_by_kind}
@@ -70,13 +69,13 @@ by_case_made f (None ∷ payloads) = ap (λ ps. None ∷ ps) (by_case_made f pay
 by_case_made f (Some x ∷ payloads) = ap (λ ps. Some (f x) ∷ ps) (by_case_made f payloads)
 
 -- the types that a kind with payloads names
-named_payloads : (k : TypeDefKind) → has_payloads k ≡ true → members_of k ≡ payloads_there (payloads_of k)
+named_payloads : (k : TypeDefKind) → has_cases k ≡ true → members_of k ≡ payloads_there (payloads_of k)
 named_payloads (kind.Variant members) h = refl
 named_payloads (kind.Option ty) h = refl
 named_payloads (kind.Result ok err) h = refl
 named_payloads _ h = absurd (let e = h in cc)
 
-made_parts : {B : Type 0} (f : WitType → B) (k : TypeDefKind) → has_payloads k ≡ true → by_case (payloads_of k) (map f (members_of k)) ≡ map (option_map f) (payloads_of k)
+made_parts : {B : Type 0} (f : WitType → B) (k : TypeDefKind) → has_cases k ≡ true → by_case (payloads_of k) (map f (members_of k)) ≡ map (option_map f) (payloads_of k)
 made_parts f k has = ap (λ tys. by_case (payloads_of k) (map f tys)) (named_payloads k has) ∙ by_case_made f (payloads_of k)
 
 -- 3. An entry of the table
@@ -107,37 +106,37 @@ module _ (types : List TypeDef) (down : GoesDown types) (id : TypeId) (entry : T
       ap (λ f. f offset) (made_by_kind (store_leaf realloc) (store_kind types) types id entry (kind.Tuple tys) down at e)
       ∙ ap (λ steps. sends (TupleLower (length tys)) ∷ steps) (each_map (λ n part. part (part_at n)) (store_code types realloc) 0 tys)
 
-  stored_by_cases : (k : TypeDefKind) (parts : List (ArchitectureSize → List Sent)) → has_payloads k ≡ true → store_kind types id.0 k parts offset ≡ store_cases types id.0 (case_lowering id 0 k) (by_case (payloads_of k) parts) offset
+  stored_by_cases : (k : TypeDefKind) (parts : List (ArchitectureSize → List Sent)) → has_cases k ≡ true → store_kind types id.0 k parts offset ≡ store_cases types id.0 k (by_case (payloads_of k) parts) offset
   stored_by_cases (kind.Variant members) parts h = refl
   stored_by_cases (kind.Option ty) parts h = refl
   stored_by_cases (kind.Result ok err) parts h = refl
   stored_by_cases _ parts h = absurd (let e = h in cc)
 
   -- a variant, an option or a result
-  pub store_variant_code : (realloc : Bool) (k : TypeDefKind) (lower : Instruction) → entry.kind ≡ k → has_payloads k ≡ true → case_lowering id 0 k ≡ Some lower
-      → store_code types realloc (wit.Id id) offset ≡ in_blocks (λ n p. store_case (length (payloads_of k)) offset cases_place n (option_map (store_code types realloc) p)) 0 (payloads_of k) ++ sends lower ∷ []
+  pub store_variant_code : (realloc : Bool) (k : TypeDefKind) → entry.kind ≡ k → has_cases k ≡ true
+      → store_code types realloc (wit.Id id) offset ≡ in_blocks (λ n p. store_case (length (payloads_of k)) offset cases_place n (option_map (store_code types realloc) p)) 0 (payloads_of k) ++ sends (case_lowering k id 0) ∷ []
   unfolding store_code
-  store_variant_code realloc k lower e has is =
+  store_variant_code realloc k e has =
       let code : WitType → ArchitectureSize → List Sent = store_code types realloc in
       ap (λ f. f offset) (made_by_kind (store_leaf realloc) (store_kind types) types id entry k down at e) ∙ stored_by_cases k (map code (members_of k)) has
-      ∙ ap₂ (λ (i : Option Instruction) (parts : List (Option (ArchitectureSize → List Sent))). store_cases types id.0 i parts offset) is (made_parts code k has)
-      ∙ ap (λ n. in_blocks (store_case n offset cases_place) 0 (map (option_map code) (payloads_of k)) ++ sends lower ∷ []) (length-map (payloads_of k) (option_map code))
-      ∙ ap (λ steps. steps ++ sends lower ∷ []) (each_map (λ n p. opens ∷ store_case (length (payloads_of k)) offset cases_place n p ++ closes ∷ []) (option_map code) 0 (payloads_of k))
+      ∙ ap (λ (parts : List (Option (ArchitectureSize → List Sent))). store_cases types id.0 k parts offset) (made_parts code k has)
+      ∙ ap (λ n. in_blocks (store_case n offset cases_place) 0 (map (option_map code) (payloads_of k)) ++ sends (case_lowering k id 0) ∷ []) (length-map (payloads_of k) (option_map code))
+      ∙ ap (λ steps. steps ++ sends (case_lowering k id 0) ∷ []) (each_map (λ n p. opens ∷ store_case (length (payloads_of k)) offset cases_place n p ++ closes ∷ []) (option_map code) 0 (payloads_of k))
 
-  loaded_by_cases : (k : TypeDefKind) (parts : List (ArchitectureSize → List Sent)) → has_payloads k ≡ true → load_kind types id.0 k parts offset ≡ load_cases types id.0 (case_lifting id k) (by_case (payloads_of k) parts) offset
+  loaded_by_cases : (k : TypeDefKind) (parts : List (ArchitectureSize → List Sent)) → has_cases k ≡ true → load_kind types id.0 k parts offset ≡ load_cases types id.0 k (by_case (payloads_of k) parts) offset
   loaded_by_cases (kind.Variant members) parts h = refl
   loaded_by_cases (kind.Option ty) parts h = refl
   loaded_by_cases (kind.Result ok err) parts h = refl
   loaded_by_cases _ parts h = absurd (let e = h in cc)
 
-  pub load_variant_code : (k : TypeDefKind) (lift : Instruction) → entry.kind ≡ k → has_payloads k ≡ true → case_lifting id k ≡ Some lift
-      → load_code types (wit.Id id) offset ≡ sends (tag_load (length (payloads_of k)) offset) ∷ in_blocks (λ n p. at_payload cases_place (option_map (load_code types) p)) 0 (payloads_of k) ++ sends lift ∷ []
+  pub load_variant_code : (k : TypeDefKind) → entry.kind ≡ k → has_cases k ≡ true
+      → load_code types (wit.Id id) offset ≡ sends (tag_load (length (payloads_of k)) offset) ∷ in_blocks (λ n p. at_payload cases_place (option_map (load_code types) p)) 0 (payloads_of k) ++ sends (case_lifting k id) ∷ []
   unfolding load_code
-  load_variant_code k lift e has is =
+  load_variant_code k e has =
       let code : WitType → ArchitectureSize → List Sent = load_code types in
       ap (λ f. f offset) (made_by_kind load_leaf (load_kind types) types id entry k down at e) ∙ loaded_by_cases k (map code (members_of k)) has
-      ∙ ap₂ (λ (i : Option Instruction) (parts : List (Option (ArchitectureSize → List Sent))). load_cases types id.0 i parts offset) is (made_parts code k has)
-      ∙ ap₂ (λ (n : ℕ) (steps : List Sent). sends (tag_load n offset) ∷ steps ++ sends lift ∷ []) (length-map (payloads_of k) (option_map code))
+      ∙ ap (λ (parts : List (Option (ArchitectureSize → List Sent))). load_cases types id.0 k parts offset) (made_parts code k has)
+      ∙ ap₂ (λ (n : ℕ) (steps : List Sent). sends (tag_load n offset) ∷ steps ++ sends (case_lifting k id) ∷ []) (length-map (payloads_of k) (option_map code))
       (each_map (λ n p. opens ∷ at_payload cases_place p ++ closes ∷ []) (option_map code) 0 (payloads_of k))
 
   pub load_alias_code : (ty : WitType) → entry.kind ≡ kind.Alias ty → load_code types (wit.Id id) offset ≡ load_code types ty offset
@@ -176,23 +175,23 @@ module _ (types : List TypeDef) (down : GoesDown types) (id : TypeId) (entry : T
   unfolding load_code
   load_flags_code members e = ap (λ f. f offset) (made_by_kind load_leaf (load_kind types) types id entry (kind.Flags members) down at e)
 
-  freed_by_cases : (k : TypeDefKind) (parts : List (ArchitectureSize → List Sent)) → has_payloads k ≡ true → free_kind types id.0 k parts offset ≡ free_cases types id.0 (by_case (payloads_of k) parts) offset
+  freed_by_cases : (k : TypeDefKind) (parts : List (ArchitectureSize → List Sent)) → has_cases k ≡ true → free_kind types id.0 k parts offset ≡ free_cases types id.0 (by_case (payloads_of k) parts) offset
   freed_by_cases (kind.Variant members) parts h = refl
   freed_by_cases (kind.Option ty) parts h = refl
   freed_by_cases (kind.Result ok err) parts h = refl
   freed_by_cases _ parts h = absurd (let e = h in cc)
 
-  freed_parts : (k : TypeDefKind) → entry.kind ≡ k → has_payloads k ≡ true → free_code types (wit.Id id) offset ≡ free_cases types id.0 (map (option_map (free_code types)) (payloads_of k)) offset
+  freed_parts : (k : TypeDefKind) → entry.kind ≡ k → has_cases k ≡ true → free_code types (wit.Id id) offset ≡ free_cases types id.0 (map (option_map (free_code types)) (payloads_of k)) offset
   unfolding free_code
   freed_parts k e has =
       ap (λ f. f offset) (made_by_kind free_leaf (free_kind types) types id entry k down at e) ∙ freed_by_cases k (map (free_code types) (members_of k)) has
       ∙ ap (λ (parts : List (Option (ArchitectureSize → List Sent))). free_cases types id.0 parts offset) (made_parts (free_code types) k has)
 
   -- a variant, an option or a result without blocks, and one with some
-  pub free_none_code : (k : TypeDefKind) → entry.kind ≡ k → has_payloads k ≡ true → has_list (shape_at types id.0) ≡ false → free_code types (wit.Id id) offset ≡ []
+  pub free_none_code : (k : TypeDefKind) → entry.kind ≡ k → has_cases k ≡ true → has_list (shape_at types id.0) ≡ false → free_code types (wit.Id id) offset ≡ []
   free_none_code k e has none = freed_parts k e has ∙ cond-false (has_list (shape_at types id.0)) _ _ none
 
-  pub free_variant_code : (k : TypeDefKind) → entry.kind ≡ k → has_payloads k ≡ true → has_list (shape_at types id.0) ≡ true
+  pub free_variant_code : (k : TypeDefKind) → entry.kind ≡ k → has_cases k ≡ true → has_list (shape_at types id.0) ≡ true
       → free_code types (wit.Id id) offset ≡ sends (tag_load (length (payloads_of k)) offset) ∷ in_blocks (λ n p. at_payload cases_place (option_map (free_code types) p)) 0 (payloads_of k) ++ sends (GuestDeallocateVariant (length (payloads_of k))) ∷ []
   free_variant_code k e has some =
       freed_parts k e has ∙ cond-true (has_list (shape_at types id.0)) _ _ some

@@ -22,8 +22,7 @@ use Rattle.wrapper_meaning.specs.Shape.Shape.{cases, fields}
 use Rattle.wrapper_meaning.specs.Shape.Shapes.{none}
 use Rattle.wrapper_meaning.proofs.LayoutIsTree.{layout_is_tree}
 use Rattle.abi_driver.specs.Code.{beyond, one_pointer, payload_place, place_in}
-use Rattle.abi_driver.specs.Instructions.{shapes_of}
-use Rattle.abi_driver.specs.Payloads.{has_payloads}
+use Rattle.abi_driver.specs.Instructions.{has_cases, shapes_of}
 use Rattle.abi_driver.specs.Places.{HasParts, IsOfParts}
 use Rattle.abi_driver.proofs.Records.{record_shape, tuple_shape}
 
@@ -87,7 +86,7 @@ module _ (w : ℕ) (types : List TypeDef) where
   pub no_alias : (id : ℕ) (tys : List WitType) → (h : HasParts types id tys) → is_alias h.0.kind ≡ false
   no_alias id tys h = not_alias h.0.kind tys h.2
 
-  pub cases_no_alias : (k : TypeDefKind) → has_payloads k ≡ true → is_alias k ≡ false
+  pub cases_no_alias : (k : TypeDefKind) → has_cases k ≡ true → is_alias k ≡ false
   cases_no_alias (kind.Alias ty) h = sym h
   cases_no_alias _ h = refl
 

@@ -18,9 +18,7 @@ use Rattle.wrapper_meaning.specs.Shape.Shape.{cases, fields, flags, tuple}
 use Rattle.wrapper_meaning.proofs.ShapeIsByKind.{shape_is_by_kind}
 use Rattle.wrapper_meaning.proofs.Lists.{some_same}
 use Rattle.abi_driver.specs.Instructions.{IsRecord, field_shapes, shapes_of}
-use Rattle.abi_driver.specs.Cases.{payloads_of}
 use Rattle.abi_driver.specs.Parts.{count}
-use Rattle.abi_driver.specs.Payloads.{has_payloads}
 use Rattle.wit_model.proofs.BelowLemmas.{payload_below_more}
 
 pub count-shapes : (types : List TypeDef) (tys : List WitType) → count (shapes_of types tys) ≡ length tys
@@ -67,20 +65,6 @@ module _ (types : List TypeDef) (down : GoesDown types) (id : ℕ) (entry : Type
   pub tuple_below : (tys : List WitType) → entry.kind ≡ kind.Tuple tys → list_all (λ ty. type_below id ty) tys ≡ true
   unfolding parts_below parts
   tuple_below tys e = all_below id tys (sym (ap (parts_below id) e) ∙ down id entry at)
-
-  -- a variant, an option or a result
-  pub variant_shape : (k : TypeDefKind) → has_payloads k ≡ true → entry.kind ≡ k → shape_at types id ≡ cases (payloads_in (shapes types) (payloads_of k))
-  variant_shape (kind.Variant members) has e = shape_here (kind.Variant members) e
-  variant_shape (kind.Option ty) has e = shape_here (kind.Option ty) e
-  variant_shape (kind.Result ok err) has e = shape_here (kind.Result ok err) e
-  variant_shape _ has e = absurd (let h = has in cc)
-
-  pub payloads_below : (k : TypeDefKind) → has_payloads k ≡ true → entry.kind ≡ k → list_all (λ p. payload_below id p) (payloads_of k) ≡ true
-  unfolding parts_below parts payload_below
-  payloads_below (kind.Variant members) has e = sym (ap (parts_below id) e) ∙ down id entry at
-  payloads_below (kind.Option ty) has e = sym (ap (parts_below id) e) ∙ down id entry at
-  payloads_below (kind.Result ok err) has e = sym (ap (parts_below id) e) ∙ down id entry at
-  payloads_below _ has e = absurd (let h = has in cc)
 
   pub enum_shape : (members : List Member) → entry.kind ≡ kind.Enum members → shape_at types id ≡ cases (bare members)
   enum_shape members e = shape_here (kind.Enum members) e

@@ -20,7 +20,6 @@ use Rattle.wrapper_meaning.specs.Kinds.{has_list}
 use Rattle.wrapper_meaning.proofs.NoLists.{memory_has_no_blocks}
 use Rattle.abi_driver.specs.Cases.{payloads_of}
 use Rattle.abi_driver.specs.Code.{at_payload, beyond, free_code, in_blocks}
-use Rattle.abi_driver.specs.Payloads.{has_payloads}
 use Rattle.abi_driver.specs.Sends.{Sends}
 use Rattle.abi_driver.specs.Sent.{Sent, sends}
 use Rattle.wit_layout.specs.Extent.{discriminant_grain, greatest}
@@ -36,22 +35,23 @@ use Rattle.abi_driver.specs.Arms.{arms, gives_nothing, matching}
 use Rattle.abi_driver.specs.FinishedBlocks.{HasPayloadRoom}
 use Rattle.abi_driver.specs.FreedCases.{FreesCases}
 use Rattle.abi_driver.specs.Frees.{Frees, FreesInMemory, MayFree, by_freeing}
-use Rattle.abi_driver.specs.Instructions.{Emits}
+use Rattle.abi_driver.specs.Instructions.{Emits, has_cases}
 use Rattle.abi_driver.specs.Laws.{At, Facts, Grows, Quiet, Sound}
 use Rattle.abi_driver.specs.Meaning.{Meaning, of, word}
 use Rattle.abi_driver.specs.NumberTouches.{number_load, tag_load}
 use Rattle.abi_driver.specs.Parts.{count}
 use Rattle.abi_driver.specs.Touches.{reached}
-use Rattle.abi_driver.proofs.ArmSteps.{arm_runs, number_below, read_number, went}
+use Rattle.abi_driver.proofs.ArmSteps.{arm_runs, read_number, went}
 use Rattle.abi_driver.proofs.BareCases.{tag_grain_small}
-use Rattle.abi_driver.proofs.CaseRooms.{case_room, count_layouts, count_payloads, payload_room}
+use Rattle.abi_driver.proofs.CaseLowers.{number_below}
+use Rattle.abi_driver.proofs.CaseRooms.{case_room, count_layouts, payload_room}
 use Rattle.abi_driver.proofs.CaseSteps.{arms_are, arms_gone, front_only, plain_total, resumes_then, uses_blocks}
 use Rattle.abi_driver.proofs.LiftSteps.{follows_done}
 use Rattle.abi_driver.proofs.LeafFrees.{alone_at}
 use Rattle.abi_driver.proofs.MemoryCode.{cases_place, free_none_code, free_variant_code}
 use Rattle.abi_driver.proofs.PartOffsets.{payload_offset_of, payload_sent}
 use Rattle.abi_driver.proofs.RecordPlaces.{place_told}
-use Rattle.abi_driver.proofs.Records.{variant_shape}
+use Rattle.abi_driver.proofs.Payloads.{count_payloads, variant_shape}
 use Rattle.abi_driver.proofs.SendSteps.{sends_as, sends_both, sends_one, sends_then}
 use Rattle.abi_driver.proofs.NumberWords.{number_load_adds, number_loaded}
 use Rattle.abi_driver.proofs.Runs.{adds_both}
@@ -131,7 +131,7 @@ module _ {Self Operand : Type 0} (m : Meaning Self Operand) (sound : Sound m) (t
             (two.0, two.1, record { account = after2.account ∙ ap (λ (z : Account m.Item). (by_freeing own z).account) same; owns = λ h. after2.owns h ∙ after1.owns h; denotes = after2.denotes });
       }
 
-module _ {Self Operand : Type 0} (m : Meaning Self Operand) (sound : Sound m) (types : List TypeDef) (down : GoesDown types) (id : TypeId) (entry : TypeDef) (at : slice_get types id.0 ≡ Some entry) (k : TypeDefKind) (has : has_payloads k ≡ true) (kind_is : entry.kind ≡ k) where
+module _ {Self Operand : Type 0} (m : Meaning Self Operand) (sound : Sound m) (types : List TypeDef) (down : GoesDown types) (id : TypeId) (entry : TypeDef) (at : slice_get types id.0 ≡ Some entry) (k : TypeDefKind) (has : has_cases k ≡ true) (kind_is : entry.kind ≡ k) where
   -- a type of the table with cases is freed, and as its code says: where no value has blocks, by no code
   pub freed_none : has_list (shape_at types id.0) ≡ false → (a : Self) (address : Operand) (offset : ArchitectureSize) → record { frees : FreesInMemory m (shape_at types id.0) address offset a a; sends : Sends m types (free_code types (wit.Id id) offset) a a }
   freed_none none a address offset = record {
@@ -146,7 +146,7 @@ module _ {Self Operand : Type 0} (m : Meaning Self Operand) (sound : Sound m) (t
   freed_variant some address x offset place found payloads same n counted most a b c d tag frees sent arm =
       let all = payloads_of k in
       let ts = payloads_in (shapes types) all in
-      let shape = variant_shape types down id.0 entry at k has kind_is in
+      let shape = variant_shape types down id.0 k (record { entry = entry; stands = at; kind = kind_is }) has in
       let many : count ts ≡ length all = count_payloads (shapes types) all in
       let length_same : length payloads ≡ length all = ap length same in
       let number : n ≡ length all = counted ∙ length_same in

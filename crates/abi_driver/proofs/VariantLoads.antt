@@ -33,13 +33,12 @@ use Rattle.abi_driver.specs.Account.{Account, Done, Peer, addresses}
 use Rattle.abi_driver.specs.Arms.{arms, gives_payload, matching}
 use Rattle.abi_driver.specs.Blocks.{owned_datum}
 use Rattle.abi_driver.specs.FinishedBlocks.{HasPayloadRoom}
-use Rattle.abi_driver.specs.Cases.{IsPayload, PayloadStands, payloads_of}
+use Rattle.abi_driver.specs.Cases.{IsPayload, PayloadStands, payloads_of, result_counts}
 use Rattle.abi_driver.specs.Code.{at_payload, beyond, in_blocks, load_code}
-use Rattle.abi_driver.specs.Payloads.{case_lifting, has_payloads}
 use Rattle.abi_driver.specs.Sends.{Sends}
 use Rattle.abi_driver.specs.Sent.{Sent, sends}
 use Rattle.abi_driver.specs.declared.instruction.Instruction.{Instruction}
-use Rattle.abi_driver.specs.Instructions.{Emits}
+use Rattle.abi_driver.specs.Instructions.{Emits, case_lifting, has_cases}
 use Rattle.abi_driver.specs.Laws.{At, Facts, Sound, ofs}
 use Rattle.abi_driver.specs.Lifts.{MayTake, OneStands, took}
 use Rattle.abi_driver.specs.LoadedCases.{LoadsCases, payload_data}
@@ -48,17 +47,17 @@ use Rattle.abi_driver.specs.Meaning.{Meaning, item, of, word}
 use Rattle.abi_driver.specs.NumberTouches.{number_load, tag_load}
 use Rattle.abi_driver.specs.Parts.{count}
 use Rattle.abi_driver.specs.Touches.{reached}
-use Rattle.abi_driver.proofs.ArmSteps.{arm_runs, number_below, number_settled, read_number, went}
+use Rattle.abi_driver.proofs.ArmSteps.{arm_runs, number_settled, read_number, went}
 use Rattle.abi_driver.proofs.BareCases.{tag_grain_small}
+use Rattle.abi_driver.proofs.CaseLowers.{number_below}
 use Rattle.abi_driver.proofs.CaseInstructions.{LiftsBy, case_serves, lifts_by}
-use Rattle.abi_driver.proofs.CaseLoads.{counts}
-use Rattle.abi_driver.proofs.CaseRooms.{case_room, count_layouts, count_payloads, payload_room}
+use Rattle.abi_driver.proofs.CaseRooms.{case_room, count_layouts, payload_room}
 use Rattle.abi_driver.proofs.CaseSteps.{arms_are, arms_gone, front_only, plain_total, resumes_then}
 use Rattle.abi_driver.proofs.LiftSteps.{follows_done}
 use Rattle.abi_driver.proofs.MemoryCode.{cases_place, load_variant_code}
 use Rattle.abi_driver.proofs.PartOffsets.{payload_offset_of, payload_sent}
 use Rattle.abi_driver.proofs.RecordPlaces.{place_told}
-use Rattle.abi_driver.proofs.Records.{variant_shape}
+use Rattle.abi_driver.proofs.Payloads.{count_payloads, variant_shape}
 use Rattle.abi_driver.proofs.SendSteps.{sends_as, sends_both, sends_one, sends_then}
 use Rattle.abi_driver.proofs.NumberWords.{number_load_adds, number_loaded}
 use Rattle.abi_driver.proofs.Runs.{adds_both}
@@ -170,30 +169,30 @@ module _ {Self Operand : Type 0} (m : Meaning Self Operand) (sound : Sound m) wh
             );
       }
 
-module _ {Self Operand : Type 0} (m : Meaning Self Operand) (sound : Sound m) (types : List TypeDef) (down : GoesDown types) (id : TypeId) (entry : TypeDef) (at : slice_get types id.0 ≡ Some entry) (k : TypeDefKind) (has : has_payloads k ≡ true) (kind_is : entry.kind ≡ k) where
+module _ {Self Operand : Type 0} (m : Meaning Self Operand) (sound : Sound m) (types : List TypeDef) (down : GoesDown types) (id : TypeId) (entry : TypeDef) (at : slice_get types id.0 ≡ Some entry) (k : TypeDefKind) (has : has_cases k ≡ true) (kind_is : entry.kind ≡ k) where
   -- a type of the table with cases is loaded, and as its code says
-  pub loaded_variant : (lift : Instruction) → case_lifting id k ≡ Some lift → (address x r : Operand) (offset place : ArchitectureSize) → ((part : ArchitectureSize) × (place ≡ beyond offset part) × IsPairOf part (λ w. payload_offset w (tree_at types id.0)))
+  pub loaded_variant : (address x r : Operand) (offset place : ArchitectureSize) → ((part : ArchitectureSize) × (place ≡ beyond offset part) × IsPairOf part (λ w. payload_offset w (tree_at types id.0)))
       → (payloads : List (Option WitType)) → payloads ≡ payloads_of k → length payloads ≤ 2 ^ 31 → (a b c d : Self) → Emits m types (tag_load (length payloads) offset) (address ∷ []) (x ∷ []) a b
-      → LoadsCases m (counts payloads) (payloads_in (shapes types) payloads) address place b c → Sends m types (in_blocks (λ n p. at_payload place (option_map (load_code types) p)) 0 payloads) b c → Emits m types lift (x ∷ []) (r ∷ []) c d
+      → LoadsCases m (result_counts payloads) (payloads_in (shapes types) payloads) address place b c → Sends m types (in_blocks (λ n p. at_payload place (option_map (load_code types) p)) 0 payloads) b c → Emits m types (case_lifting k id) (x ∷ []) (r ∷ []) c d
       → record { loads : LiftsFromMemory m (shape_at types id.0) address offset r a d; sends : Sends m types (load_code types (wit.Id id) offset) a d }
-  loaded_variant lift is address x r offset place found payloads same most a b c d tag loads sent e =
+  loaded_variant address x r offset place found payloads same most a b c d tag loads sent e =
       let all = payloads_of k in
       let ts = payloads_in (shapes types) all in
-      let shape = variant_shape types down id.0 entry at k has kind_is in
+      let shape = variant_shape types down id.0 k (record { entry = entry; stands = at; kind = kind_is }) has in
       let many : count ts ≡ length all = count_payloads (shapes types) all in
       let grain : discriminant_grain (length payloads) ≡ discriminant_grain (tree_count (layouts ts)) = ap (λ (ps : List (Option WitType)). discriminant_grain (length ps)) same ∙ ap discriminant_grain (sym (count_layouts ts ∙ many)) in
       let tag1 = subst (λ g. Emits m types (number_load g offset) (address ∷ []) (x ∷ []) a b) grain tag in
-      let loads1 = subst (λ (ps : List (Option WitType)). LoadsCases m (counts ps) (payloads_in (shapes types) ps) address place b c) same loads in
+      let loads1 = subst (λ (ps : List (Option WitType)). LoadsCases m (result_counts ps) (payloads_in (shapes types) ps) address place b c) same loads in
       let few : count ts ≤ 2 ^ 31 = omega (arith, most, many, ap length same) in
-      let results : length (counts all) ≡ count ts = length-map all (λ p. length (option_to_list p)) ∙ sym many in
-      let lifts = lifts_by m types id k lift x r c d (record { entry = entry; stands = at; kind = kind_is }) is e in
+      let results : length (result_counts all) ≡ count ts = length-map all (λ p. length (option_to_list p)) ∙ sym many in
+      let lifts = lifts_by m types down id k x r c d (record { entry = entry; stands = at; kind = kind_is }) has e in
       let behind = place_told m.width place offset found.0 (λ w. payload_offset w (tree_at types id.0)) sound.wide found.1 found.2 ∙ ap (λ n. bytes_at offset (2 ^ m.width) + n) (payload_offset_of m.width types id ts shape) in
       let code : List (Option WitType) → ArchitectureSize → List Sent = λ ps p. in_blocks (λ n q. at_payload p (option_map (load_code types) q)) 0 ps in
       let blocks = code all (cases_place types down id entry at offset) in
       let sent1 = sends_as m types (code payloads place) blocks b c (ap₂ code (sym same) (sym (payload_sent place offset found.0 (tree_at types id.0) found.1 found.2))) sent in
       let tag2 = subst (λ (ps : List (Option WitType)). Emits m types (tag_load (length ps) offset) (address ∷ []) (x ∷ []) a b) same tag in
-      let steps = sends_then m types (tag_load (length all) offset) _ _ (blocks ++ sends lift ∷ []) a b d tag2 (sends_both m types blocks (sends lift ∷ []) b c d sent1 (sends_one m types lift (x ∷ []) (r ∷ []) c d e)) in
+      let steps = sends_then m types (tag_load (length all) offset) _ _ (blocks ++ sends (case_lifting k id) ∷ []) a b d tag2 (sends_both m types blocks (sends (case_lifting k id) ∷ []) b c d sent1 (sends_one m types (case_lifting k id) (x ∷ []) (r ∷ []) c d e)) in
       record {
-        loads = subst (λ s. LiftsFromMemory m s address offset r a d) (sym shape) (variant_loads m sound (case_serves k) (counts all) ts b c d address x r place results loads1 lifts types a offset few behind tag1);
-        sends = sends_as m types _ _ a d (load_variant_code types down id entry at offset k lift kind_is has is) steps;
+        loads = subst (λ s. LiftsFromMemory m s address offset r a d) (sym shape) (variant_loads m sound (case_serves k) (result_counts all) ts b c d address x r place results loads1 lifts types a offset few behind tag1);
+        sends = sends_as m types _ _ a d (load_variant_code types down id entry at offset k kind_is has) steps;
       }

@@ -28,8 +28,7 @@ use Rattle.abi_driver.specs.Blocks.{owned_datum}
 use Rattle.abi_driver.specs.FinishedBlocks.{HasCaseRoom}
 use Rattle.abi_driver.specs.Cases.{payloads_of, with_case}
 use Rattle.abi_driver.specs.Code.{beyond, in_blocks, store_case, store_code}
-use Rattle.abi_driver.specs.Instructions.{Emits}
-use Rattle.abi_driver.specs.Payloads.{case_lowering, has_payloads}
+use Rattle.abi_driver.specs.Instructions.{Emits, case_lowering, has_cases}
 use Rattle.abi_driver.specs.Sends.{Sends}
 use Rattle.abi_driver.specs.Sent.{Sent, sends}
 use Rattle.abi_driver.specs.declared.instruction.Instruction.{Instruction}
@@ -42,14 +41,14 @@ use Rattle.abi_driver.specs.Stores.{LowersToMemory, Releases, by_storing}
 use Rattle.abi_driver.specs.Touches.{reached}
 use Rattle.abi_driver.specs.Turns.{Arrives, Went}
 use Rattle.abi_driver.proofs.CaseInstructions.{LowersBy, lowers_by, lowers_count}
-use Rattle.abi_driver.proofs.CaseRooms.{case_room, count_layouts, count_payloads}
+use Rattle.abi_driver.proofs.CaseRooms.{case_room, count_layouts}
 use Rattle.abi_driver.proofs.CaseStores.{owns_blocks}
 use Rattle.abi_driver.proofs.CaseSteps.{arms_are, arms_gone, front_only, resumes_then}
 use Rattle.abi_driver.proofs.LiftSteps.{follows_done}
 use Rattle.abi_driver.proofs.MemoryCode.{cases_place, store_variant_code}
 use Rattle.abi_driver.proofs.PartOffsets.{payload_offset_of, payload_sent}
 use Rattle.abi_driver.proofs.RecordPlaces.{place_told}
-use Rattle.abi_driver.proofs.Records.{variant_shape}
+use Rattle.abi_driver.proofs.Payloads.{count_payloads, variant_shape}
 use Rattle.abi_driver.proofs.SendSteps.{sends_as, sends_both, sends_one}
 use Rattle.abi_driver.proofs.Storing.{written_in}
 
@@ -115,24 +114,24 @@ module _ {Self Operand : Type 0} (m : Meaning Self Operand) (sound : Sound m) wh
         );
   }
 
-module _ {Self Operand : Type 0} (m : Meaning Self Operand) (sound : Sound m) (types : List TypeDef) (down : GoesDown types) (id : TypeId) (entry : TypeDef) (at : slice_get types id.0 ≡ Some entry) (k : TypeDefKind) (has : has_payloads k ≡ true) (kind_is : entry.kind ≡ k) where
+module _ {Self Operand : Type 0} (m : Meaning Self Operand) (sound : Sound m) (types : List TypeDef) (down : GoesDown types) (id : TypeId) (entry : TypeDef) (at : slice_get types id.0 ≡ Some entry) (k : TypeDefKind) (has : has_cases k ≡ true) (kind_is : entry.kind ≡ k) where
   -- a type of the table with cases is stored, and as its code says
-  pub stored_variant : (realloc : Bool) (lower : Instruction) → case_lowering id 0 k ≡ Some lower → (value address : Operand) (offset place : ArchitectureSize) → ((part : ArchitectureSize) × (place ≡ beyond offset part) × IsPairOf part (λ w. payload_offset w (tree_at types id.0)))
+  pub stored_variant : (realloc : Bool) (value address : Operand) (offset place : ArchitectureSize) → ((part : ArchitectureSize) × (place ≡ beyond offset part) × IsPairOf part (λ w. payload_offset w (tree_at types id.0)))
       → (payloads : List (Option WitType)) → payloads ≡ payloads_of k → (rs : List Operand) (a b c : Self) → StoresCases m realloc (discriminant_grain (length payloads)) 0 (payloads_in (shapes types) payloads) address offset place a b
-      → Sends m types (in_blocks (λ n p. store_case (length payloads) offset place n (option_map (store_code types realloc) p)) 0 payloads) a b → Emits m types lower (value ∷ []) rs b c
+      → Sends m types (in_blocks (λ n p. store_case (length payloads) offset place n (option_map (store_code types realloc) p)) 0 payloads) a b → Emits m types (case_lowering k id 0) (value ∷ []) rs b c
       → record { stores : LowersToMemory m realloc (shape_at types id.0) value address offset a c; sends : Sends m types (store_code types realloc (wit.Id id) offset) a c }
-  stored_variant realloc lower is value address offset place found payloads same rs a b c stores sent e =
+  stored_variant realloc value address offset place found payloads same rs a b c stores sent e =
       let ts = payloads_in (shapes types) (payloads_of k) in
-      let shape = variant_shape types down id.0 entry at k has kind_is in
+      let shape = variant_shape types down id.0 k (record { entry = entry; stands = at; kind = kind_is }) has in
       let grain : discriminant_grain (length (payloads_of k)) ≡ discriminant_grain (tree_count (layouts ts)) = ap discriminant_grain (sym (count_layouts ts ∙ count_payloads (shapes types) (payloads_of k))) in
       let stores1 = subst (λ (ps : List (Option WitType)). StoresCases m realloc (discriminant_grain (length ps)) 0 (payloads_in (shapes types) ps) address offset place a b) same stores in
       let stores2 = subst (λ g. StoresCases m realloc g 0 ts address offset place a b) grain stores1 in
-      let none : rs ≡ [] = no_items rs (lowers_count m types id k 0 lower value rs b c is e) in
-      let lowers = subst (λ os. LowersBy m ts value os b c) none (lowers_by m types id k 0 lower value rs b c (record { entry = entry; stands = at; kind = kind_is }) is e) in
+      let none : rs ≡ [] = no_items rs (lowers_count m types down id k 0 value rs b c has e) in
+      let lowers = subst (λ os. LowersBy m ts value os b c) none (lowers_by m types down id k 0 value rs b c (record { entry = entry; stands = at; kind = kind_is }) has e) in
       let behind = place_told m.width place offset found.0 (λ w. payload_offset w (tree_at types id.0)) sound.wide found.1 found.2 ∙ ap (λ n. bytes_at offset (2 ^ m.width) + n) (payload_offset_of m.width types id ts shape) in
       let code : List (Option WitType) → ArchitectureSize → List Sent = λ ps p. in_blocks (λ n q. store_case (length ps) offset p n (option_map (store_code types realloc) q)) 0 ps in
       let sent1 = sends_as m types (code payloads place) (code (payloads_of k) (cases_place types down id entry at offset)) a b (ap₂ code (sym same) (sym (payload_sent place offset found.0 (tree_at types id.0) found.1 found.2))) sent in
       record {
         stores = subst (λ s. LowersToMemory m realloc s value address offset a c) (sym shape) (variant_stores m sound realloc ts a b c value address offset place behind stores2 lowers);
-        sends = sends_as m types _ _ a c (store_variant_code types down id entry at offset realloc k lower kind_is has is) (sends_both m types _ (sends lower ∷ []) a b c sent1 (sends_one m types lower (value ∷ []) rs b c e));
+        sends = sends_as m types _ _ a c (store_variant_code types down id entry at offset realloc k kind_is has) (sends_both m types _ (sends (case_lowering k id 0) ∷ []) a b c sent1 (sends_one m types (case_lowering k id 0) (value ∷ []) rs b c e));
       }

@@ -27,9 +27,8 @@ use Rattle.abi_driver.specs.declared.instruction.Instruction.{Instruction}
 use Rattle.abi_driver.specs.declared.instruction.Instruction.TheVariants.{CallInterface, CallWasm, EnumLift, EnumLower, FlagsLift, FlagsLower, Flush, GetArg, GuestDeallocate, GuestDeallocateString, GuestDeallocateVariant, I32Const, LengthLoad, LengthStore, OptionLift, OptionLower, PointerLoad, PointerStore, RecordLift, RecordLower, ResultLift, ResultLower, Return, StringLift, StringLower, TupleLift, TupleLower, VariantLift, VariantLower, VariantPayloadName}
 use Rattle.abi_driver.specs.Cases.{payloads_of}
 use Rattle.abi_driver.specs.Frees.{nowhere}
-use Rattle.abi_driver.specs.Instructions.{lifting, lowering, shapes_of}
+use Rattle.abi_driver.specs.Instructions.{case_lifting, case_lowering, has_cases, lifting, lowering, shapes_of}
 use Rattle.abi_driver.specs.NumberTouches.{flags_load, flags_store, tag_load, tag_store}
-use Rattle.abi_driver.specs.Payloads.{case_lifting, case_lowering}
 use Rattle.abi_driver.specs.ScalarTouches.{scalar_load, scalar_store}
 use Rattle.abi_driver.specs.Sent.{Sent, asks, closes, opens, sends, sends_casts, sends_zeros}
 use Rattle.abi_driver.specs.SlotCasts.{casts_between, is_no_cast}
@@ -223,10 +222,9 @@ abbrev pub store_case : ℕ → (offset place : ArchitectureSize) → ℕ → Op
 store_case cases offset place n None = sends (I32Const (pos n)) ∷ sends (tag_store cases offset) ∷ []
 store_case cases offset place n (Some part) = sends VariantPayloadName ∷ sends (I32Const (pos n)) ∷ sends (tag_store cases offset) ∷ part place
 
--- such blocks, and the instruction that runs that of a value's case; none where the kind has no payloads
-abbrev pub store_cases : List TypeDef → ℕ → Option Instruction → List (Option (ArchitectureSize → List Sent)) → ArchitectureSize → List Sent
-store_cases types id None parts offset = []
-store_cases types id (Some lower) parts offset = in_blocks (store_case (length parts) offset (beyond offset (payload_place (tree_at types id)))) 0 parts ++ sends lower ∷ []
+-- such blocks, and the instruction that runs that of a value's case
+abbrev pub store_cases : List TypeDef → ℕ → TypeDefKind → List (Option (ArchitectureSize → List Sent)) → ArchitectureSize → List Sent
+store_cases types id k parts offset = in_blocks (store_case (length parts) offset (beyond offset (payload_place (tree_at types id)))) 0 parts ++ sends (case_lowering k (record { 0 = id }) 0) ∷ []
 
 abbrev pub store_leaf : Bool → WitType → ArchitectureSize → List Sent
 store_leaf realloc wit.String offset = sends (StringLower realloc) ∷ sends (LengthStore (beyond offset one_pointer)) ∷ sends (PointerStore offset) ∷ []
@@ -239,7 +237,7 @@ store_kind types id (kind.Tuple members) parts offset = sends (TupleLower (lengt
 store_kind types id (kind.Enum members) parts offset = sends (EnumLower (record { 0 = id })) ∷ sends (tag_store (length members) offset) ∷ []
 store_kind types id (kind.Flags members) parts offset =
     sends (FlagsLower (record { 0 = id })) ∷ reverse (at_words (flags_store (length members)) (length members) offset)
-store_kind types id k parts offset = store_cases types id (case_lowering (record { 0 = id }) 0 k) (by_case (payloads_of k) parts) offset
+store_kind types id k parts offset = if has_cases k then store_cases types id k (by_case (payloads_of k) parts) offset else []
 
 unfoldable pub store_code : List TypeDef → Bool → WitType → ArchitectureSize → List Sent
 store_code types realloc ty offset = made_for (store_leaf realloc) (store_kind types) types ty offset
@@ -250,9 +248,9 @@ at_payload place None = []
 at_payload place (Some part) = part place
 
 -- the tag is loaded, and behind the blocks of the cases comes the instruction that runs that of the tag's case
-abbrev pub load_cases : List TypeDef → ℕ → Option Instruction → List (Option (ArchitectureSize → List Sent)) → ArchitectureSize → List Sent
-load_cases types id None parts offset = []
-load_cases types id (Some lift) parts offset = sends (tag_load (length parts) offset) ∷ in_blocks (λ n part. at_payload (beyond offset (payload_place (tree_at types id))) part) 0 parts ++ sends lift ∷ []
+abbrev pub load_cases : List TypeDef → ℕ → TypeDefKind → List (Option (ArchitectureSize → List Sent)) → ArchitectureSize → List Sent
+load_cases types id k parts offset =
+    sends (tag_load (length parts) offset) ∷ in_blocks (λ n part. at_payload (beyond offset (payload_place (tree_at types id))) part) 0 parts ++ sends (case_lifting k (record { 0 = id })) ∷ []
 
 abbrev pub load_leaf : WitType → ArchitectureSize → List Sent
 load_leaf wit.String offset = sends (PointerLoad offset) ∷ sends (LengthLoad (beyond offset one_pointer)) ∷ sends StringLift ∷ []
@@ -265,7 +263,7 @@ load_kind types id (kind.Tuple members) parts offset = at_places types id parts 
 load_kind types id (kind.Enum members) parts offset = sends (tag_load (length members) offset) ∷ sends (EnumLift (record { 0 = id })) ∷ []
 load_kind types id (kind.Flags members) parts offset =
     at_words (flags_load (length members)) (length members) offset ++ sends (FlagsLift (record { 0 = id })) ∷ []
-load_kind types id k parts offset = load_cases types id (case_lifting (record { 0 = id }) k) (by_case (payloads_of k) parts) offset
+load_kind types id k parts offset = if has_cases k then load_cases types id k (by_case (payloads_of k) parts) offset else []
 
 unfoldable pub load_code : List TypeDef → WitType → ArchitectureSize → List Sent
 load_code types ty offset = made_for load_leaf (load_kind types) types ty offset

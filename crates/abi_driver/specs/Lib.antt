@@ -30,7 +30,6 @@ pub mod Meaning
 pub mod Memory
 pub mod NumberTouches
 pub mod Parts
-pub mod Payloads
 pub mod Places
 pub mod Plain
 pub mod PlainSound

@@ -18,12 +18,11 @@ ghost use Rattle.abi_driver.specs.Sent.{closes, opens};
 use crate::bindgen::{Bindgen, Operand};
 use crate::instruction::Instruction;
 use crate::lift::leaf::scalar_lifting;
+use crate::lift::variants::case_lifting;
 use crate::memory::enums::load_enum;
 use crate::memory::flags::load_flags;
 use crate::memory::place::{NOWHERE, behind_pointer, part_place};
-use crate::memory::variants::{
-    case_lifting, case_payloads, empty_block, has_bytes, load_tag, payload_place,
-};
+use crate::memory::variants::{case_payloads, empty_block, has_bytes, load_tag, payload_place};
 use crate::memory::word::{load_word, scalar_load};
 use crate::parts::{field_types, part_count};
 use crate::send::{only, send_one};
@@ -149,9 +148,7 @@ fn load_variant<B: Bindgen>(
     let at = id.0 as usize;
     let kind = &types[at].kind;
     let payloads = case_payloads(alloc, kind)?;
-    let Some(lift) = case_lifting(kind, id) else {
-        return Err(OutOfMemory);
-    };
+    let lift = case_lifting(kind, id);
     let place = payload_place(bindgen, id, offset)?;
     let tys = payloads.as_slice();
     let tag = load_tag(alloc, resolve, bindgen, address, offset, tys.len())?;

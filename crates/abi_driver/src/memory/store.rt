@@ -21,11 +21,12 @@ use crate::bindgen::{Bindgen, Operand};
 use crate::instruction::Instruction;
 use crate::lift::enums::MOST_CASES;
 use crate::lower::leaf::{lower_by, scalar_lowering};
+use crate::lower::variants::case_lowering;
 use crate::memory::enums::store_enum;
 use crate::memory::flags::store_flags;
 use crate::memory::place::{NOWHERE, behind_pointer, part_place};
 use crate::memory::variants::{
-    case_lowering, case_payloads, close, has_bytes, payload, payload_place, store_bare, store_tag,
+    case_payloads, close, has_bytes, payload, payload_place, store_bare, store_tag,
 };
 use crate::memory::word::{scalar_store, store_word};
 use crate::parts::{field_types, part_count};
@@ -171,9 +172,7 @@ fn store_variant<B: Bindgen>(
     let at = id.0 as usize;
     let kind = &types[at].kind;
     let payloads = case_payloads(alloc, kind)?;
-    let Some(lower) = case_lowering(kind, id, 0) else {
-        return Err(OutOfMemory);
-    };
+    let lower = case_lowering(kind, id, 0);
     let place = payload_place(bindgen, id, offset)?;
     let tys = payloads.as_slice();
     store_cases(

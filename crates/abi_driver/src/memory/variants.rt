@@ -12,9 +12,8 @@ ghost use Rattle.abi_driver.specs.declared.instruction.Instruction.TheVariants a
 ghost use Rattle.abi_driver.specs.Blocks.{Finishes, IsOpen, Pushes};
 ghost use Rattle.abi_driver.specs.Cases.{payloads_of};
 ghost use Rattle.abi_driver.specs.Code.{beyond, store_case};
-ghost use Rattle.abi_driver.specs.Instructions.{Emits};
+ghost use Rattle.abi_driver.specs.Instructions.{Emits, has_cases};
 ghost use Rattle.abi_driver.specs.NumberTouches.{tag_load, tag_store};
-ghost use Rattle.abi_driver.specs.Payloads.{case_lifting, case_lowering, has_payloads};
 ghost use Rattle.abi_driver.specs.Sends.{Sends};
 ghost use Rattle.abi_driver.specs.Sent.{closes, opens};
 ghost use Rattle.abi_driver.specs.StoredCases.{StoresCase};
@@ -22,87 +21,29 @@ ghost use Rattle.abi_driver.specs.StoredCases.{StoresCase};
 use crate::bindgen::{Bindgen, Operand};
 use crate::instruction::Instruction;
 use crate::lift::enums::MOST_CASES;
+use crate::lower::variants::kind_payloads;
 use crate::memory::enums::tag_grain;
 use crate::memory::number::{number_load, number_store};
 use crate::memory::place::sum;
 use crate::memory::word::{load_word, store_word};
 use crate::send::send_one;
 use std::alloc::Global;
-use wit_model::{ArchitectureSize, Case, List, OutOfMemory, Resolve, TypeDefKind, TypeId, WitType};
+use wit_model::{ArchitectureSize, List, OutOfMemory, Resolve, TypeDefKind, TypeId, WitType};
 
 /// The payloads of the cases of a variant, an option or a result; of any other kind the answer is `OutOfMemory`.
 pub(crate) fn case_payloads(
     alloc: Global,
     kind: &TypeDefKind,
 ) -> Result<List<Option<WitType>>, OutOfMemory>
-    ensures has { OnOk result (has_payloads kind.now ≡ true) }
+    ensures has { OnOk result (has_cases kind.now ≡ true) }
     ensures payloads { IfOk result (λ payloads. payloads ≡ payloads_of kind.now) }
 {
     match kind {
-        TypeDefKind::Variant(members) => {
-            let payloads = member_payloads(alloc, members.as_slice())?;
-            Ok(payloads)
-        }
-        TypeDefKind::Option(ty) => {
-            let payloads = two_payloads(alloc, None, Some(*ty))?;
-            Ok(payloads)
-        }
-        TypeDefKind::Result(ok, err) => {
-            let payloads = two_payloads(alloc, *ok, *err)?;
+        TypeDefKind::Variant(_) | TypeDefKind::Option(_) | TypeDefKind::Result(_, _) => {
+            let payloads = kind_payloads(alloc, kind)?;
             Ok(payloads)
         }
         _ => Err(OutOfMemory),
-    }
-}
-
-fn member_payloads(alloc: Global, members: &[Case]) -> Result<List<Option<WitType>>, OutOfMemory>
-    ensures { IfOk result (λ payloads. payloads ≡ map (λ c. c.ty) members.now) }
-{
-    let mut payloads = List::new(alloc);
-    for member in members {
-        payloads.push(member.ty)?;
-    }
-    Ok(payloads)
-}
-
-fn two_payloads(
-    alloc: Global,
-    first: Option<WitType>,
-    second: Option<WitType>,
-) -> Result<List<Option<WitType>>, OutOfMemory>
-    ensures { IfOk result (λ payloads. payloads ≡ first ∷ second ∷ []) }
-{
-    let mut payloads = List::new(alloc);
-    payloads.push(first)?;
-    payloads.push(second)?;
-    Ok(payloads)
-}
-
-/// The instruction that gives a value of a variant, an option or a result to the block of its case.
-pub(crate) fn case_lowering(
-    kind: &TypeDefKind,
-    id: TypeId,
-    words: u32,
-) -> Option<Instruction<'static>>
-    ensures { result ≡ case_lowering id words kind.now }
-{
-    match kind {
-        TypeDefKind::Variant(_) => Some(Instruction::VariantLower(id, words)),
-        TypeDefKind::Option(_) => Some(Instruction::OptionLower(id, words)),
-        TypeDefKind::Result(_, _) => Some(Instruction::ResultLower(id, words)),
-        _ => None,
-    }
-}
-
-/// The instruction by which the block of a word's case gives a value of a variant, an option or a result.
-pub(crate) fn case_lifting(kind: &TypeDefKind, id: TypeId) -> Option<Instruction<'static>>
-    ensures { result ≡ case_lifting id kind.now }
-{
-    match kind {
-        TypeDefKind::Variant(_) => Some(Instruction::VariantLift(id)),
-        TypeDefKind::Option(_) => Some(Instruction::OptionLift(id)),
-        TypeDefKind::Result(_, _) => Some(Instruction::ResultLift(id)),
-        _ => None,
     }
 }
 

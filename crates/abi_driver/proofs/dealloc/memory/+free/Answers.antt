@@ -22,7 +22,7 @@ use Rattle.abi_driver.specs.Places.{HasParts, IsOfParts}
 use Rattle.abi_driver.specs.Sent.{Sent, closes, opens}
 use Rattle.abi_driver.specs.Sends.{Sends}
 use Rattle.abi_driver.proofs.CaseFrees.{bare_frees, payload_frees, rest_last as last_case, rest_next as next_case}
-use Rattle.abi_driver.proofs.CaseRooms.{count_payloads}
+use Rattle.abi_driver.proofs.Payloads.{count_payloads, variant_below}
 use Rattle.abi_driver.proofs.CaseSteps.{are_finished, resumes_both, resumes_same, same_back}
 use Rattle.abi_driver.proofs.NumberWords.{number_load_adds}
 use Rattle.abi_driver.proofs.VariantFrees.{freed_none, freed_variant}
@@ -31,7 +31,7 @@ use Rattle.abi_driver.proofs.LeafFrees.{enum_frees, flags_frees, scalar_frees}
 use Rattle.abi_driver.proofs.MemoryCode.{free_alias_code, free_enum_code, free_flags_code, free_record_code, free_scalar_code, free_tuple_code}
 use Rattle.abi_driver.proofs.PartOffsets.{behind_next, cases_no_alias, no_alias, part_offset, place_sent}
 use Rattle.abi_driver.proofs.RecordPlaces.{place_told}
-use Rattle.abi_driver.proofs.Records.{alias_below, alias_rank, alias_shape, entry_at, enum_shape, flags_shape, kind_at, part_below_table, part_ranked, payload_low, payload_type_low, payloads_below, record_below, record_shape, tuple_below, tuple_shape, type_below_table, type_ranked}
+use Rattle.abi_driver.proofs.Records.{alias_below, alias_rank, alias_shape, entry_at, enum_shape, flags_shape, kind_at, part_below_table, part_ranked, payload_low, payload_type_low, record_below, record_shape, tuple_below, tuple_shape, type_below_table, type_ranked}
 use Rattle.abi_driver.proofs.Runs.{adds_both, adds_same}
 use Rattle.abi_driver.proofs.SendSteps.{sends_as, sends_block, sends_last, sends_next}
 use Rattle.abi_driver.proofs.dealloc.memory.+free.Goals as goal
@@ -207,7 +207,7 @@ free_variant-free_cases-requires g t c κs within =
     let k = (get_or c.as_slice-types.result.now c.args.id.0 d).kind in
     let is : d.kind ≡ k = ap (λ (x : TypeDef). x.kind) c.index-types-at.is in
     let same = c.as_slice-tys.ensures ∙ c.in_ok-payloads.ensures.payloads in
-    let below = subst (λ (ps : List (Option WitType)). list_all (λ p. payload_below c.args.id.0 p) ps ≡ true) (sym same) (payloads_below types c.requires.down c.args.id.0 d at k c.in_ok-payloads.ensures.has is) in
+    let below = subst (λ (ps : List (Option WitType)). list_all (λ p. payload_below c.args.id.0 p) ps ≡ true) (sym same) (variant_below types c.requires.down c.args.id.0 k (record { entry = d; stands = at; kind = is }) c.in_ok-payloads.ensures.has) in
     let loaded = number_load_adds m g.met.B.Bindgen.sound types (discriminant_grain (length c.as_slice-tys.result.now)) c.args.offset (c.args.address.now ∷ []) (c.in_ok-tag.tag ∷ []) _ _ c.in_ok-tag.ensures.loads in
     let knows = loaded.grows.knows types c.requires.knows in
     search rules

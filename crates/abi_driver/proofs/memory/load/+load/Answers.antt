@@ -14,25 +14,29 @@ use Rattle.wit_layout.specs.Sizes.{field_offsets}
 use Rattle.wit_layout.specs.Told.{is_alias}
 use Rattle.wit_layout.specs.Tree.{tree_at}
 use Rattle.wrapper_meaning.specs.Shape.{payload_in, shape_of, shapes}
+use Rattle.abi_driver.specs.declared.instruction.Instruction.{Instruction}
 use Rattle.abi_driver.specs.declared.instruction.Instruction.TheVariants.{RecordLift, TupleLift}
+use Rattle.abi_driver.specs.Cases.{result_counts}
 use Rattle.abi_driver.specs.Code.{at_payload, beyond, each, load_code, place_in}
-use Rattle.abi_driver.specs.Instructions.{Emits, HasBlocks, IsRecord, IsSendable, shapes_of}
+use Rattle.abi_driver.specs.Instructions.{Emits, HasBlocks, IsRecord, IsSendable, Makes, case_lifting, shapes_of}
 use Rattle.abi_driver.specs.Blocks.{Finishes, IsOpen}
 use Rattle.abi_driver.specs.LoadedCases.{LoadsCase}
 use Rattle.abi_driver.specs.Sends.{Sends}
 use Rattle.abi_driver.specs.Loads.{LoadsParts}
 use Rattle.abi_driver.specs.Places.{HasParts, IsOfParts}
 use Rattle.abi_driver.specs.Sent.{Sent, closes, opens, sends}
-use Rattle.abi_driver.proofs.CaseInstructions.{lifting_makes, lifting_sendable}
-use Rattle.abi_driver.proofs.CaseLoads.{bare_loads, counts, payload_loads, rest_last as last_case, rest_next as next_case}
+use Rattle.abi_driver.proofs.CaseInstructions.{lifting_sendable}
+use Rattle.abi_driver.proofs.LiftedVariants.{lifting_makes}
+use Rattle.abi_driver.proofs.CaseLoads.{bare_loads, payload_loads, rest_last as last_case, rest_next as next_case}
 use Rattle.abi_driver.proofs.CaseSteps.{are_finished, resumes_both, resumes_same}
+use Rattle.abi_driver.proofs.Payloads.{variant_below}
 use Rattle.abi_driver.proofs.NumberWords.{number_load_adds}
 use Rattle.abi_driver.proofs.VariantLoads.{loaded_variant}
 use Rattle.abi_driver.proofs.LoadSteps.{loads_as, loads_parts_as, record_loads, rest_last, rest_next, tuple_loads}
 use Rattle.abi_driver.proofs.MemoryCode.{load_alias_code, load_record_code, load_tuple_code}
 use Rattle.abi_driver.proofs.PartOffsets.{behind_next, cases_no_alias, no_alias, part_offset, place_sent}
 use Rattle.abi_driver.proofs.RecordPlaces.{place_told}
-use Rattle.abi_driver.proofs.Records.{alias_below, alias_rank, alias_shape, count-shapes, entry_at, kind_at, one_record, part_below_table, part_ranked, payload_low, payload_type_low, payloads_below, record_below, record_shape, tuple_below, tuple_shape, type_below_table, type_ranked}
+use Rattle.abi_driver.proofs.Records.{alias_below, alias_rank, alias_shape, count-shapes, entry_at, kind_at, one_record, part_below_table, part_ranked, payload_low, payload_type_low, record_below, record_shape, tuple_below, tuple_shape, type_below_table, type_ranked}
 use Rattle.abi_driver.proofs.Runs.{adds_both, adds_same}
 use Rattle.abi_driver.proofs.SendSteps.{sends_as, sends_block, sends_both, sends_last, sends_next, sends_one}
 use Rattle.abi_driver.proofs.memory.load.+load.Goals as goal
@@ -198,7 +202,7 @@ load_variant-load_cases-requires g t c κs within =
     let k = (get_or c.as_slice-types.result.now c.args.id.0 d).kind in
     let is : d.kind ≡ k = ap (λ (x : TypeDef). x.kind) c.index-types-at.is in
     let same = c.as_slice-tys.ensures ∙ c.in_ok-payloads.ensures.payloads in
-    let below = subst (λ (ps : List (Option WitType)). list_all (λ p. payload_below c.args.id.0 p) ps ≡ true) (sym same) (payloads_below types c.requires.down c.args.id.0 d at k c.in_ok-payloads.ensures.has is) in
+    let below = subst (λ (ps : List (Option WitType)). list_all (λ p. payload_below c.args.id.0 p) ps ≡ true) (sym same) (variant_below types c.requires.down c.args.id.0 k (record { entry = d; stands = at; kind = is }) c.in_ok-payloads.ensures.has) in
     let loaded = number_load_adds m g.met.B.Bindgen.sound types (discriminant_grain (length c.as_slice-tys.result.now)) c.args.offset (c.args.address.now ∷ []) (c.in_ok-tag.tag ∷ []) _ _ c.in_ok-tag.ensures.loads in
     let knows = loaded.grows.knows types c.requires.knows in
     search rules
@@ -214,16 +218,17 @@ load_variant-send_one-requires-clause-ready g t c =
     let same = c.as_slice-tys.ensures ∙ c.in_ok-payloads.ensures.payloads in
     let tys = c.as_slice-tys.result.now in
     let loads = c.in_ok-load_cases.ensures.loads in
-    let finished = are_finished m (counts tys) loads.bodies _ _ loads.adds in
-    let has = subst (λ (ps : List (Option WitType)). HasBlocks m (reverse (counts ps)) c.load_cases.new.bindgen) same finished in
-    let ready = lifting_sendable m c.args.resolve.now c.args.id k c.in-Some.lift c.in_ok-tag.tag _ (record { entry = d; stands = at; kind = is }) (sym c.case_lifting.ensures ∙ c.in-Some.is) has in
-    subst (λ (os : List g.row.B-Operand.Denot). IsSendable m c.args.resolve.now c.in-Some.lift os c.load_cases.new.bindgen) (sym c.in_ok-operands.ensures) ready
+    let finished = are_finished m (result_counts tys) loads.bodies _ _ loads.adds in
+    let has = subst (λ (ps : List (Option WitType)). HasBlocks m (reverse (result_counts ps)) c.load_cases.new.bindgen) same finished in
+    let ready = subst (λ (i : Instruction). IsSendable m c.args.resolve.now i (c.in_ok-tag.tag ∷ []) c.load_cases.new.bindgen) (sym c.case_lifting-lift.ensures)
+    (lifting_sendable m c.args.resolve.now c.requires.down c.args.id c.in_ok-tag.tag _ k (record { entry = d; stands = at; kind = is }) c.in_ok-payloads.ensures.has has) in
+    subst (λ (os : List g.row.B-Operand.Denot). IsSendable m c.args.resolve.now c.case_lifting-lift.result os c.load_cases.new.bindgen) (sym c.in_ok-operands.ensures) ready
 
 pub load_variant-send_one-requires-clause-makes : goal.load_variant-send_one-requires-clause-makes
 load_variant-send_one-requires-clause-makes g t c =
     let d = c.index-types-at.result in
     let k = (get_or c.as_slice-types.result.now c.args.id.0 d).kind in
-    lifting_makes g.B.Bindgen.meaning c.args.resolve.now.types c.args.id k c.in-Some.lift (sym c.case_lifting.ensures ∙ c.in-Some.is)
+    λ n h. lifting_makes c.args.resolve.now.types k c.args.id n (subst (λ (i : Instruction). Makes c.args.resolve.now.types i n) c.case_lifting-lift.ensures h)
 
 pub load_variant-returns : goal.load_variant-returns
 load_variant-returns g t c =
@@ -235,12 +240,13 @@ load_variant-returns g t c =
     let is : d.kind ≡ k = ap (λ (x : TypeDef). x.kind) c.index-types-at.is in
     let same = c.as_slice-tys.ensures ∙ c.in_ok-payloads.ensures.payloads in
     let has = c.in_ok-payloads.ensures.has in
-    let lift = c.in-Some.lift in
+    let lift = case_lifting k c.args.id in
     let tys = c.as_slice-tys.result.now in
     let tag = c.in_ok-tag.tag in
     let found = c.in_ok-place.ensures types d c.requires.knows at (ap is_alias is ∙ cases_no_alias m.width types k has) in
-    let e = subst (λ (os : List g.row.B-Operand.Denot). Emits m types lift os (c.in_ok-operand.operand ∷ []) c.load_cases.new.bindgen c.send_one.new.bindgen) c.in_ok-operands.ensures c.in_ok-operand.ensures in
-    loaded_variant m g.met.B.Bindgen.sound types c.requires.down c.args.id d at k has is lift (sym c.case_lifting.ensures ∙ c.in-Some.is) c.args.address.now tag c.in_ok-operand.operand c.args.offset c.in_ok-place.place found tys same c.in_ok-tag.ensures.most _ _ _ _ c.in_ok-tag.ensures.loads
+    let sent = subst (λ (i : Instruction). Emits m types i c.in_ok-operands.operands (c.in_ok-operand.operand ∷ []) c.load_cases.new.bindgen c.send_one.new.bindgen) c.case_lifting-lift.ensures c.in_ok-operand.ensures in
+    let e = subst (λ (os : List g.row.B-Operand.Denot). Emits m types lift os (c.in_ok-operand.operand ∷ []) c.load_cases.new.bindgen c.send_one.new.bindgen) c.in_ok-operands.ensures sent in
+    loaded_variant m g.met.B.Bindgen.sound types c.requires.down c.args.id d at k has is c.args.address.now tag c.in_ok-operand.operand c.args.offset c.in_ok-place.place found tys same c.in_ok-tag.ensures.most _ _ _ _ c.in_ok-tag.ensures.loads
     c.in_ok-load_cases.ensures.loads c.in_ok-load_cases.ensures.sends e
 
 pub load_cases-loop-i-init : goal.load_cases-loop-i-init

@@ -13,11 +13,12 @@ use Rattle.wit_layout.specs.Extent.{discriminant_grain}
 use Rattle.wit_layout.specs.Sizes.{field_offsets}
 use Rattle.wit_layout.specs.Told.{is_alias}
 use Rattle.wit_layout.specs.Tree.{tree_at}
+use Rattle.abi_driver.specs.declared.instruction.Instruction.{Instruction}
 use Rattle.abi_driver.specs.declared.instruction.Instruction.TheVariants.{I32Const, TupleLower, VariantPayloadName}
 use Rattle.wrapper_meaning.specs.Shape.{payloads_in, shape_of, shapes}
 use Rattle.abi_driver.specs.Cases.{payloads_of}
 use Rattle.abi_driver.specs.Code.{beyond, each, place_in, store_case, store_code}
-use Rattle.abi_driver.specs.Instructions.{HasBlocks, shapes_of}
+use Rattle.abi_driver.specs.Instructions.{Emits, HasBlocks, IsSendable, shapes_of}
 use Rattle.abi_driver.specs.NumberTouches.{tag_store}
 use Rattle.abi_driver.specs.Parts.{count}
 use Rattle.abi_driver.specs.Places.{HasParts, IsOfParts}
@@ -25,7 +26,7 @@ use Rattle.abi_driver.specs.Sends.{Sends}
 use Rattle.abi_driver.specs.Sent.{Sent, closes, opens, sends}
 use Rattle.abi_driver.proofs.CaseInstructions.{lowering_sendable}
 use Rattle.abi_driver.proofs.BareCases.{tag_grain_small, tag_kept}
-use Rattle.abi_driver.proofs.CaseRooms.{count_payloads}
+use Rattle.abi_driver.proofs.Payloads.{count_payloads, variant_below}
 use Rattle.abi_driver.proofs.NumberWords.{number_store_adds}
 use Rattle.abi_driver.proofs.CaseSteps.{are_finished, resumes_both, resumes_same, same_back, side_opened, side_resumed}
 use Rattle.abi_driver.proofs.CaseStores.{payload_case, rest_last as last_case, rest_next as next_case}
@@ -34,7 +35,7 @@ use Rattle.abi_driver.proofs.MemoryCode.{store_alias_code, store_record_code, st
 use Rattle.abi_driver.proofs.PartOffsets.{behind_next, cases_no_alias, no_alias, part_offset, place_sent}
 use Rattle.abi_driver.proofs.RecordPlaces.{place_told}
 use Rattle.abi_driver.proofs.StoreSteps.{record_stores, rest_last, rest_next, stores_as, stores_parts_as, tuple_stores}
-use Rattle.abi_driver.proofs.Records.{alias_below, alias_rank, alias_shape, count-shapes, drop-same, entry_at, kind_at, part_below_table, part_ranked, payload_low, payload_type_low, payloads_below, record_below, record_shape, tuple_below, tuple_shape, type_below_table, type_ranked}
+use Rattle.abi_driver.proofs.Records.{alias_below, alias_rank, alias_shape, count-shapes, drop-same, entry_at, kind_at, part_below_table, part_ranked, payload_low, payload_type_low, record_below, record_shape, tuple_below, tuple_shape, type_below_table, type_ranked}
 use Rattle.abi_driver.proofs.Runs.{adds_both, adds_same, side_later}
 use Rattle.abi_driver.proofs.SendSteps.{sends_as, sends_block, sends_last, sends_next, sends_then}
 use Rattle.abi_driver.proofs.memory.store.+store.Goals as goal
@@ -200,7 +201,7 @@ store_variant-store_cases-requires g t c κs within =
     let k = (get_or c.as_slice-types.result.now c.args.id.0 d).kind in
     let is : d.kind ≡ k = ap (λ (x : TypeDef). x.kind) c.index-types-at.is in
     let same = c.as_slice-tys.ensures ∙ c.in_ok-payloads.ensures.payloads in
-    let below = subst (λ (ps : List (Option WitType)). list_all (λ p. payload_below c.args.id.0 p) ps ≡ true) (sym same) (payloads_below types c.requires.down c.args.id.0 d at k c.in_ok-payloads.ensures.has is) in
+    let below = subst (λ (ps : List (Option WitType)). list_all (λ p. payload_below c.args.id.0 p) ps ≡ true) (sym same) (variant_below types c.requires.down c.args.id.0 k (record { entry = d; stands = at; kind = is }) c.in_ok-payloads.ensures.has) in
     search rules
 
 pub store_variant-lower_by-requires : goal.store_variant-lower_by-requires
@@ -217,7 +218,8 @@ store_variant-lower_by-requires g t c =
     let many : count ts ≡ length (payloads_of k) = count_payloads (shapes types) tys ∙ ap length (c.as_slice-tys.ensures ∙ c.in_ok-payloads.ensures.payloads) in
     let finished = are_finished m (replicate (count ts) 0) stores.bodies _ _ stores.adds in
     let has = subst (λ ks. HasBlocks m ks c.store_cases.new.bindgen) (same_back (count ts) 0 ∙ ap (λ n. replicate n 0) many) finished in
-    lowering_sendable m c.args.resolve.now c.args.id k 0 c.in-Some.lower c.args.value _ (record { entry = d; stands = at; kind = is }) (sym c.case_lowering.ensures ∙ c.in-Some.is) has
+    subst (λ (i : Instruction). IsSendable m c.args.resolve.now i (c.args.value ∷ []) c.store_cases.new.bindgen) (sym c.case_lowering-lower.ensures)
+    (lowering_sendable m c.args.resolve.now c.requires.down c.args.id c.args.value _ k 0 (record { entry = d; stands = at; kind = is }) c.in_ok-payloads.ensures.has has)
 
 pub store_variant-returns : goal.store_variant-returns
 store_variant-returns g t c =
@@ -229,10 +231,9 @@ store_variant-returns g t c =
     let k = (get_or c.as_slice-types.result.now c.args.id.0 d).kind in
     let kind_is : d.kind ≡ k = ap (λ (x : TypeDef). x.kind) c.index-types-at.is in
     let has = c.in_ok-payloads.ensures.has in
-    let is = sym c.case_lowering.ensures ∙ c.in-Some.is in
-    let e = c.in_ok-_none.ensures in
+    let e = subst (λ (i : Instruction). Emits m types i (c.args.value ∷ []) c.in_ok-_none._none c.store_cases.new.bindgen c.lower_by.new.bindgen) c.case_lowering-lower.ensures c.in_ok-_none.ensures in
     let found = c.in_ok-place.ensures types d c.requires.knows at (ap is_alias kind_is ∙ cases_no_alias m.width types k has) in
-    stored_variant m sound types c.requires.down c.args.id d at k has kind_is c.args.realloc c.in-Some.lower is c.args.value c.args.address.now c.args.offset c.in_ok-place.place found c.as_slice-tys.result.now (c.as_slice-tys.ensures ∙ c.in_ok-payloads.ensures.payloads)
+    stored_variant m sound types c.requires.down c.args.id d at k has kind_is c.args.realloc c.args.value c.args.address.now c.args.offset c.in_ok-place.place found c.as_slice-tys.result.now (c.as_slice-tys.ensures ∙ c.in_ok-payloads.ensures.payloads)
     c.in_ok-_none._none _ _ _ c.in_ok-store_cases.ensures.stores c.in_ok-store_cases.ensures.sends e
 
 pub store_cases-loop-i-init : goal.store_cases-loop-i-init
