@@ -15,7 +15,6 @@ use Rattle.abi_driver.specs.Arms.{Armed, arm, arms, choosing, matching}
 use Rattle.abi_driver.specs.Blocks.{Gives}
 use Rattle.abi_driver.specs.Laws.{Data}
 use Rattle.abi_driver.specs.Meaning.{Ended, Meaning, with_nothing}
-use Rattle.abi_driver.specs.Parts.{count}
 use Rattle.abi_driver.specs.Turns.{Went}
 
 -- 1. The number of a case

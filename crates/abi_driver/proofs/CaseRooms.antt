@@ -1,5 +1,5 @@
 -- The room that cases have, each for its own payload.
-use Rattle.std.proofs.Common.{◌≡◌, ℕ, suc, ◌+◌, ◌%◌, ◌^◌, ◌≤◌, max, List, [], ◌∷◌, Option, length, refl, sym, ap, subst, arith}
+use Rattle.std.proofs.Common.{◌≡◌, ℕ, suc, ◌+◌, ◌%◌, ◌^◌, ◌≤◌, max, List, ◌∷◌, refl, sym, ap, subst, arith}
 use Rattle.wit_layout.specs.Extent.{Extent, discriminant_grain, greatest, payload_place}
 use Rattle.wit_layout.specs.Sizes.{count, extents_of, payload_offset}
 use Rattle.wrapper_data.specs.declared.block.Block.{Block}

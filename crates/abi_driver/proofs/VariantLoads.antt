@@ -37,7 +37,6 @@ use Rattle.abi_driver.specs.Cases.{IsPayload, PayloadStands, payloads_of, result
 use Rattle.abi_driver.specs.Code.{at_payload, beyond, in_blocks, load_code}
 use Rattle.abi_driver.specs.Sends.{Sends}
 use Rattle.abi_driver.specs.Sent.{Sent, sends}
-use Rattle.abi_driver.specs.declared.instruction.Instruction.{Instruction}
 use Rattle.abi_driver.specs.Instructions.{Emits, case_lifting, has_cases}
 use Rattle.abi_driver.specs.Laws.{At, Facts, Sound, ofs}
 use Rattle.abi_driver.specs.Lifts.{MayTake, OneStands, took}

@@ -31,7 +31,6 @@ use Rattle.abi_driver.specs.Code.{beyond, in_blocks, store_case, store_code}
 use Rattle.abi_driver.specs.Instructions.{Emits, case_lowering, has_cases}
 use Rattle.abi_driver.specs.Sends.{Sends}
 use Rattle.abi_driver.specs.Sent.{Sent, sends}
-use Rattle.abi_driver.specs.declared.instruction.Instruction.{Instruction}
 use Rattle.abi_driver.specs.Laws.{At, Facts, Sound, ofs}
 use Rattle.abi_driver.specs.Leaves.{way}
 use Rattle.abi_driver.specs.Meaning.{Ended, Meaning, item, of, word}

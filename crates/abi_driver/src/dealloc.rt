@@ -22,8 +22,9 @@ use wit_model::{List, OutOfMemory, Resolve, WitType};
 /// Frees the blocks of values of some types, after `deallocate_lists_in_types` of wit-bindgen-core.
 ///
 /// Where they were passed indirectly, one operand denotes the address of a record of them; else there is one for each of their
-/// words. So far they are scalars, texts, enums and flags, and records and tuples of such, also through aliases. Of a type that holds any
-/// other, of a record that is too large, and of more or fewer operands, the answer is `OutOfMemory`, as where memory is wanting.
+/// words. So far they are scalars, texts, enums and flags, and records and tuples of such, also through aliases; in a record of them also
+/// variants, options and results. Of a type that holds any other, of a record that is too large, and of more or fewer operands, the
+/// answer is `OutOfMemory`, as where memory is wanting.
 pub fn deallocate_lists_in_types<B: Bindgen>(
     alloc: Global,
     resolve: &Resolve,

@@ -1,7 +1,6 @@
 -- The code of an option of a text and of a result with one payload in memory, instruction by instruction, as the order of wit-bindgen-core
 -- has it.
 use Rattle.std.proofs.Common.{◌≡◌, ℕ, pos, true, List, [], ◌∷◌, ◌++◌, None, Some, refl}
-use Rattle.wit_model.specs.declared.name.Docs.{Docs}
 use Rattle.wit_model.specs.declared.name.TypeId.{TypeId}
 use Rattle.wit_model.specs.declared.size.ArchitectureSize.{ArchitectureSize}
 use Rattle.wit_model.specs.declared.types.TypeDef.{TypeDef}
