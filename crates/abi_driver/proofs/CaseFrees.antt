@@ -64,6 +64,7 @@ module _ {Self Operand : Type 0} (m : Meaning Self Operand) (sound : Sound m) wh
     none_free a = record { bodies = []; adds = no_blocks m a; row = λ c. elim c [ ] }
 
     module _ (t : Shape) (ts : Shapes) (a b c : Self) (one : FreesPayload m t address place a b) (rest : FreesCases m ts address place b c) where
+      -- the block of a case, among the first and the others
       chosen : (u : Case (more t ts)) → (body : m.Block) × (slice_get (one.body ∷ rest.bodies) (case_number (more t ts) u) ≡ Some body) × EmptiesCase m (more t ts) u address place a c body
       chosen (inl v) = (
         one.body,

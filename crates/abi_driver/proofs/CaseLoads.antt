@@ -90,6 +90,7 @@ module _ {Self Operand : Type 0} (m : Meaning Self Operand) (sound : Sound m) wh
     stands_first dir t ts v (Some i) own h = h
 
     module _ (results : ℕ) (more_results : List ℕ) (t : Shape) (ts : Shapes) (a b c : Self) (one : LoadsCase m results t address place a b) (rest : LoadsCases m more_results ts address place b c) where
+      -- the block of a case, among the first and the others
       chosen : (u : Case (more t ts)) → (body : m.Block) × (slice_get (one.body ∷ rest.bodies) (case_number (more t ts) u) ≡ Some body) × GetsCase m (more t ts) u address place a c body
       chosen (inl v) = (
         one.body,

@@ -232,6 +232,7 @@ module _ {Self Operand : Type 0} (m : Meaning Self Operand) (sound : Sound m) (t
         (put.0, put.1, put.2, record { written = written_in b put.1 k size k more_size put.3.written (omega arith) (omega (arith, l)); holds = same put.1 put.3.holds }, put.4)
 
     module _ (first : ℕ) (t : Shape) (ts : Shapes) (a b c : Self) (one : StoresCase m realloc g first t address offset place a b) (rest : StoresCases m realloc g (suc first) ts address offset place b c) where
+      -- the block of a case, among the first and the others
       chosen : (u : Case (more t ts)) → (body : m.Block) × (slice_get (one.body ∷ rest.bodies) (case_number (more t ts) u) ≡ Some body) × PutsCase m realloc g first (more t ts) u address offset place a c body
       chosen (inl v) = (
         one.body,

@@ -21,8 +21,8 @@ pub record HasPayloadRoom (payload : Extent) (address : ℕ) (b : Block) (offset
   pub fits : offset + payload.bytes ≤ b.size
   pub aligned : address % 2 ^ payload.grain ≡ 0
 
--- where a value with cases stands or will stand: its tag so far behind the beginning of a block, and its payload of at most this extent
--- so many bytes behind the tag. The tag has 2 ^ grain bytes
+-- where a value with cases stands or will stand. Its tag has 2 ^ grain bytes and stands at an offset in a block. Its payload, of at most
+-- this extent, stands so many bytes behind the tag
 pub record HasCaseRoom (grain : ℕ) (payload : Extent) (tag_address payload_address : ℕ) (b : Block) (offset distance : ℕ) (heap : Heap) : Type 0 where
   pub formed : is_heap heap ≡ true
   pub there : Contains heap.blocks b
