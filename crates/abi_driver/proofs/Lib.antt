@@ -9,6 +9,7 @@ pub mod LowerSteps
 pub mod Ordinary
 pub mod PlainArea
 pub mod PlainCalls
+pub mod PlainConstants
 pub mod PlainOperands
 pub mod PlainPlaces
 pub mod PlainRows

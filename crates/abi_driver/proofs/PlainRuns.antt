@@ -4,6 +4,7 @@ use Rattle.std.specs.List.{AllByRecursion}
 use Rattle.std.specs.Str.{is_utf8}
 use Rattle.wit_model.specs.Size.{bytes_at}
 use Rattle.wit_model.specs.declared.size.ArchitectureSize.{ArchitectureSize}
+use Rattle.wit_layout.specs.declared.bitcast.Bitcast.{Bitcast}
 use Rattle.wit_layout.specs.Filled.{IsFilledFor}
 use Rattle.wit_layout.specs.Flat.{core_type}
 use Rattle.wit_layout.specs.Tree.{Scalar}
@@ -35,7 +36,7 @@ use Rattle.abi_driver.specs.Laws.{Adds, After, At, Does, Facts, Grows, ofs}
 use Rattle.abi_driver.specs.Meaning.{Datum, item, word}
 use Rattle.abi_driver.specs.Memory.{Access, access, bytes_on, freed, freeing, is_aligned, is_inside, is_ranged, is_reached, little_bytes, loaded, storing}
 use Rattle.abi_driver.specs.Memory as memory
-use Rattle.abi_driver.specs.Plain.{AddsStep, IsRight, PlainItem, PlainState, all_words, as_flags, free_block, free_text, inputs, kept, leaf, load_word, normal, passing, performed, performs, places_from, pointed, plain_meaning, put, read_as, read_tag, runs, scalar_of, splitting, store_word, take_text, whole, writes}
+use Rattle.abi_driver.specs.Plain.{AddsStep, IsRight, PlainItem, PlainState, all_words, as_flags, casting, free_block, free_text, inputs, kept, leaf, load_word, normal, passing, performed, performs, places_from, pointed, plain_meaning, put, read_as, read_tag, runs, scalar_of, splitting, store_word, take_text, whole, writes}
 use Rattle.abi_driver.specs.PlainSound.{all_both, all_left, all_right}
 use Rattle.abi_driver.proofs.PlainPlaces.{put_below, put_right, still_right}
 use Rattle.abi_driver.proofs.Runs.{follows_more}
@@ -120,6 +121,10 @@ flags_quiet : (ws : Option (List Word)) (acc : Account PlainItem) → Quietly ac
 flags_quiet None acc = refl
 flags_quiet (Some ws) acc = refl
 
+casting_quiet : (casts : List Bitcast) (ws : Option (List Word)) (acc : Account PlainItem) → Quietly acc (casting casts ws acc)
+casting_quiet casts None acc = refl
+casting_quiet casts (Some ws) acc = refl
+
 take_quiet : (f : Form) (ds : List (Datum PlainItem)) (acc : Account PlainItem) → Quietly acc (take_text f ds acc)
 take_quiet f (word (core.Pointer q) ∷ word (core.Length n) ∷ []) acc = then_quiet acc (taking f q n acc) (λ x. item (leaf (core.Pointer q ∷ core.Length n ∷ []) x.blocks) ∷ []) (taking_quiet f q n acc)
 take_quiet f _ acc = refl
@@ -182,6 +187,9 @@ pointed_quiet area _ acc = refl
 
 performs_quiet : (area : Option Request) (st : Step) (p : Peer PlainItem) (ds : List (Datum PlainItem)) (acc : Account PlainItem) → makes_call st ≡ false → Quietly acc (performs area st p ds acc)
 performs_quiet area (step.Argument n to) p ds acc e = refl
+performs_quiet area (step.Number z to) p ds acc e = refl
+performs_quiet area (step.Zeros types to) p ds acc e = refl
+performs_quiet area (step.Cast casts from to) p ds acc e = casting_quiet casts (all_words ds) acc
 performs_quiet area (step.Pass from to) p ds acc e = passing_quiet ds acc
 performs_quiet area (step.Read ty from to) p ds acc e = read_quiet (scalar_of ty) p.form ds acc
 performs_quiet area (step.ReadTag n from to) p ds acc e = read_tag_quiet n p.form ds acc

@@ -8,6 +8,10 @@ use Rattle.wit_model.specs.declared.size.ArchitectureSize.{ArchitectureSize}
 use Rattle.wit_model.specs.declared.types.WitType.{WitType}
 use Rattle.wit_model.specs.declared.types.WitType.TheVariants as wit
 use Rattle.wit_model.specs.declared.wasm_type.WasmType.{WasmType}
+use Rattle.wit_model.specs.declared.wasm_type.WasmType.TheVariants as wasm
+use Rattle.wit_layout.specs.declared.bitcast.Bitcast.{Bitcast}
+use Rattle.wit_layout.specs.declared.bitcast.Bitcast.TheVariants as bitcast
+use Rattle.wit_layout.specs.CastBits.{after_cast}
 use Rattle.wit_layout.specs.Filled.{IsFilledFor}
 use Rattle.wit_layout.specs.Flat.{words_of_flags}
 use Rattle.wit_layout.specs.Tree.{Scalar}
@@ -26,7 +30,7 @@ use Rattle.wrapper_meaning.specs.Shape.Shape.{scalar, text, list, pairs, fixed, 
 use Rattle.wrapper_meaning.specs.Shape.Shapes.{none, more}
 use Rattle.wrapper_meaning.specs.StandsFor.{BothStand}
 use Rattle.wrapper_meaning.specs.Value.{Parts, Value, case_number}
-use Rattle.wrapper_meaning.specs.Words.{AreWords}
+use Rattle.wrapper_meaning.specs.Words.{AreWords, bits_of, word_of_bits}
 use Rattle.abi_driver.specs.declared.instruction.Instruction.{Instruction}
 use Rattle.abi_driver.specs.declared.instruction.Instruction.TheVariants as instruction
 use Rattle.abi_driver.specs.declared.plain.Place.{Place}
@@ -171,7 +175,48 @@ abbrev pub word_touch : Touch → WordTouch
 word_touch (stores part ty o) = touched.Store ty (part_grain 2 part ty) o
 word_touch (loads part signed ty o) = touched.Load ty (part_grain 2 part ty) signed o
 
--- 3. Steps
+-- 3. Casts
+
+abbrev pub type_of : Word → WasmType
+type_of (core.I32 z) = wasm.I32
+type_of (core.I64 z) = wasm.I64
+type_of (core.F32 x) = wasm.F32
+type_of (core.F64 x) = wasm.F64
+type_of (core.Pointer address) = wasm.Pointer
+type_of (core.Length n) = wasm.Length
+type_of (core.Slot x) = wasm.PointerOrI64
+
+-- the type of the word that a cast makes of a word of some type
+abbrev pub cast_target : Bitcast → WasmType → WasmType
+cast_target bitcast.None from = from
+cast_target bitcast.I32ToI64 from = wasm.I64
+cast_target bitcast.F32ToI32 from = wasm.I32
+cast_target bitcast.F64ToI64 from = wasm.I64
+cast_target bitcast.I64ToI32 from = wasm.I32
+cast_target bitcast.I32ToF32 from = wasm.F32
+cast_target bitcast.I64ToF32 from = wasm.F32
+cast_target bitcast.I64ToF64 from = wasm.F64
+cast_target bitcast.F32ToI64 from = wasm.I64
+cast_target bitcast.I64ToP64 from = wasm.PointerOrI64
+cast_target bitcast.P64ToI64 from = wasm.I64
+cast_target bitcast.PToP64 from = wasm.PointerOrI64
+cast_target bitcast.P64ToP from = wasm.Pointer
+cast_target bitcast.I32ToP from = wasm.Pointer
+cast_target bitcast.LToP from = wasm.Pointer
+cast_target bitcast.PToI32 from = wasm.I32
+cast_target bitcast.LToI32 from = wasm.I32
+cast_target bitcast.I32ToL from = wasm.Length
+cast_target bitcast.I64ToL from = wasm.Length
+cast_target bitcast.PToL from = wasm.Length
+cast_target bitcast.LToI64 from = wasm.I64
+cast_target (bitcast.Sequence first through to) from = to
+
+-- the words that casts make of words, where a pointer has four bytes
+abbrev pub cast_all : List Bitcast → List Word → List Word
+cast_all (c ∷ casts) (x ∷ ws) = word_of_bits 2 (cast_target c (type_of x)) (after_cast 2 c (bits_of x)) ∷ cast_all casts ws
+cast_all _ _ = []
+
+-- 4. Steps
 
 pub record PlainState : Type 0 where
   pub account : Account PlainItem
@@ -234,6 +279,10 @@ abbrev pub as_flags : Option (List Word) → PlainAct
 as_flags None acc = Stuck acc
 as_flags (Some ws) acc = gives (item (leaf ws []) ∷ []) acc
 
+abbrev pub casting : List Bitcast → Option (List Word) → PlainAct
+casting casts None acc = Stuck acc
+casting casts (Some ws) acc = gives (map (λ w. word w) (cast_all casts ws)) acc
+
 abbrev pub called : Target → List WasmType → Reply PlainItem → Option (List Word) → PlainAct
 called target types reply None acc = Stuck acc
 called target types reply (Some ws) acc = then_do (calling target ws types reply acc) (λ x. gives (map (λ w. word w) x.result) x.account)
@@ -264,6 +313,9 @@ pointed area _ acc = Stuck acc
 -- what a step makes of the data that it reads, where this area is asked for
 abbrev pub performs : Option Request → Step → Peer PlainItem → List (Datum PlainItem) → PlainAct
 performs area (step.Argument number to) p ds acc = gives ds acc
+performs area (step.Number z to) p ds acc = gives (word (core.I32 z) ∷ []) acc
+performs area (step.Zeros types to) p ds acc = gives (map (λ w. word w) (map (λ ty. word_of_bits 2 ty 0) types)) acc
+performs area (step.Cast casts from to) p ds acc = casting casts (all_words ds) acc
 performs area (step.Pass from to) p ds acc = passing ds acc
 performs area (step.Read ty from to) p ds acc = read_as (scalar_of ty) p.form ds acc
 performs area (step.ReadTag n from to) p ds acc = read_tag n p.form ds acc
@@ -296,6 +348,9 @@ all_at values (n ∷ places) = and_all (values n) (all_at values places)
 -- what a step reads
 abbrev pub inputs : Step → PlainState → Option (List (Datum PlainItem))
 inputs (step.Argument number to) s = all_at s.arguments (number ∷ [])
+inputs (step.Number z to) s = Some []
+inputs (step.Zeros types to) s = Some []
+inputs (step.Cast casts from to) s = all_at s.values (map (λ (p : Place). p.number) from)
 inputs (step.Pass from to) s = all_at s.values (from ∷ [])
 inputs (step.Read ty from to) s = all_at s.values (from ∷ [])
 inputs (step.ReadTag n from to) s = all_at s.values (from ∷ [])
@@ -314,6 +369,9 @@ inputs (step.Area to) s = Some (area_data s.area)
 -- the first place that it writes, where it writes any
 abbrev pub writes : Step → ℕ
 writes (step.Argument number to) = to
+writes (step.Number z to) = to
+writes (step.Zeros types to) = to
+writes (step.Cast casts from to) = to
 writes (step.Pass from to) = to
 writes (step.Read ty from to) = to
 writes (step.ReadTag n from to) = to
@@ -345,7 +403,7 @@ abbrev pub runs : Option Request → Peer PlainItem → List Step → PlainState
 runs area p [] s = Done s
 runs area p (st ∷ steps) s = then_do (performed area st p (inputs st s) s) (λ t. runs area p steps t)
 
--- 4. The meaning. It has no blocks
+-- 5. The meaning. It has no blocks
 
 -- an operand denotes what stands in its place, which was written
 abbrev pub IsRight : PlainBindgen → PlainState → Fact Place (Unit {0}) PlainItem → Type 0
@@ -393,7 +451,7 @@ plain_meaning = record {
   forms = λ step os rs old new. Unit {0};
 }
 
--- 5. A step is added
+-- 6. A step is added
 
 -- so many places, from one on
 abbrev pub places_from : ℕ → ℕ → List Place

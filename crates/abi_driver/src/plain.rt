@@ -2,6 +2,7 @@
 
 mod area;
 mod calls;
+mod constants;
 mod emit;
 mod enums;
 mod flags;
@@ -18,7 +19,7 @@ ghost use Rattle.abi_driver.specs.Plain.{plain_meaning};
 
 use crate::bindgen::Asked;
 use std::alloc::Global;
-use wit_layout::SizeAlign;
+use wit_layout::{Bitcast, SizeAlign};
 use wit_model::{ArchitectureSize, List, Text, WasmType, WitType};
 
 /// A place in memory.
@@ -33,6 +34,22 @@ pub enum Step {
     /// An argument of the code.
     Argument {
         number: u32,
+        to: u32,
+    },
+    /// A number of 32 bits.
+    Number {
+        value: i32,
+        to: u32,
+    },
+    /// A zero of each type.
+    Zeros {
+        types: List<WasmType>,
+        to: u32,
+    },
+    /// The words that casts make of words.
+    Cast {
+        casts: List<Bitcast>,
+        from: List<Place>,
         to: u32,
     },
     /// The words of a scalar, a text, an enum or flags. It owns nothing any more.

@@ -25,8 +25,8 @@ impl Bindgen for PlainBindgen {
 
     ghost sound = { plain_sound };
 
-    /// The steps of arguments, scalars, texts, records, tuples, enums and flags, of words in memory, of blocks that are freed, and of calls. Of any
-    /// other instruction the answer is `OutOfMemory`, and so it is where a block of code is opened.
+    /// The steps of arguments, constants, casts, scalars, texts, records, tuples, enums and flags, of words in memory, of blocks that are freed,
+    /// and of calls. Of any other instruction the answer is `OutOfMemory`, and so it is where a block of code is opened.
     fn emit(
         &mut self,
         resolve: &Resolve,
@@ -51,6 +51,9 @@ impl Bindgen for PlainBindgen {
         }
         match *inst {
             Instruction::GetArg(n) => self.argument(resolve, n, results),
+            Instruction::I32Const(value) => self.number(resolve, value, results),
+            Instruction::ConstZero(zeros) => self.zeros(resolve, zeros, results),
+            Instruction::Bitcasts(casts) => self.cast_words(resolve, casts, operands, results),
             Instruction::CallWasm(func) => self.call(resolve, func, operands, results),
             Instruction::CallInterface(func) => self.call_method(resolve, func, operands, results),
             Instruction::Flush(n) => self.flush(resolve, n, operands, results),
