@@ -8,6 +8,7 @@ pub mod LiftedArguments
 pub mod LowerSteps
 pub mod Ordinary
 pub mod PlainArea
+pub mod PlainBlocks
 pub mod PlainCalls
 pub mod PlainConstants
 pub mod PlainOperands

@@ -8,7 +8,8 @@ use Rattle.wrapper_data.specs.declared.choice.Choice.TheVariants as choice
 use Rattle.wrapper_data.specs.declared.choice.Request.{Request}
 use Rattle.wrapper_data.specs.declared.word.Word.TheVariants as core
 use Rattle.wrapper_meaning.specs.Ends.{fits}
-use Rattle.wrapper_meaning.specs.Items.{SameItems, total}
+use Rattle.wrapper_meaning.specs.Items.{total}
+use Rattle.wrapper_meaning.proofs.PostReturn.{total-append}
 use Rattle.abi_driver.specs.declared.bindgen.Asked.{Asked}
 use Rattle.abi_driver.specs.declared.plain.Place.{Place}
 use Rattle.abi_driver.specs.declared.plain.PlainBindgen.{PlainBindgen}
@@ -18,10 +19,10 @@ use Rattle.abi_driver.specs.Account.{Account, Act, Done, Got, Outcome, Peer, Sto
 use Rattle.abi_driver.specs.Area.{HasRoomFor, HoldsRecord, newly, placed, pointing}
 use Rattle.abi_driver.specs.Laws.{After, At, Facts, Grows, PointsTo, Quiet, ofs}
 use Rattle.abi_driver.specs.Meaning.{Datum, of, word}
-use Rattle.abi_driver.specs.Plain.{AddsStep, PlainItem, PlainState, area_data, inputs, kept, performed, performs, places_from, plain_meaning, pointed, runs, writes}
+use Rattle.abi_driver.specs.Plain.{AddsStep, PlainItem, PlainState, area_data, data_own, inputs, kept, own_area, performed, performs, places_from, plain_meaning, pointed, runs}
 use Rattle.abi_driver.specs.PlainSound.{all_both, all_left}
-use Rattle.abi_driver.proofs.PlainPlaces.{still_right}
-use Rattle.abi_driver.proofs.PlainRuns.{Followed, plain_adds, plain_follows}
+use Rattle.abi_driver.proofs.PlainPlaces.{still_hold}
+use Rattle.abi_driver.proofs.PlainRuns.{Followed, plain_adds, plain_blocks, plain_follows}
 use Rattle.abi_driver.proofs.Runs.{follows_more, grows_both, quiet_both, stops_same}
 
 -- 1. Room for one more record
@@ -77,7 +78,7 @@ noted_grows a old mid is = subst (Grows plain_meaning old) (sym is) (record {
   target = λ f. refl;
   crosses = λ w f. refl;
   opened = refl;
-  known = λ w facts s h. still_right old (record old { asked = old.asked ++ a ∷ [] }) s s facts (omega arith) (λ n l. refl) (λ n. refl) h;
+  known = λ w facts s h. still_hold old (record old { asked = old.asked ++ a ∷ [] }) s facts (omega arith) (omega arith) h;
 })
 
 noted_quiet : (a : Asked) (old mid : PlainBindgen) → mid ≡ record old { asked = old.asked ++ a ∷ [] } → Quiet plain_meaning old mid
@@ -93,28 +94,14 @@ points area (Some address) acc = refl
 points (Some area) None acc = refl
 points None None acc = refl
 
+area_owns : (at : Option ℕ) → [] ≡ data_own (area_data at)
+area_owns None = refl
+area_owns (Some address) = refl
+
 -- an area that is placed has an owner then
-abbrev Owns : Account PlainItem → Option ℕ → Outcome PlainItem (Got PlainItem ℕ) → Type 0
-Owns acc at (Done x) = SameItems (x.account.taken ++ []) (acc.taken ++ newly at x.result)
-Owns acc at (Stopped e end) = Unit {0}
-Owns acc at (Stuck end) = Unit {0}
-
-if_owns : (acc : Account PlainItem) (at : Option ℕ) (b : Bool) (o q : Outcome PlainItem (Got PlainItem ℕ)) → Owns acc at o → Owns acc at q → Owns acc at (if b then o else q)
-if_owns acc at true o q h k = h
-if_owns acc at false o q h k = k
-
-placed_owns : (area : Request) (choices : List Choice) (acc : Account PlainItem) → Owns acc None (placed area choices acc)
-placed_owns area [] acc = tt
-placed_owns area (choice.Refuse ∷ later) acc = tt
-placed_owns area (choice.At address ∷ later) acc = if_owns acc None (fits area address acc.heap.blocks) _ _ (λ g. ap (total g) (append-nil (acc.taken ++ address ∷ []))) tt
-
-pointing_owns : (area : Option Request) (at : Option ℕ) (acc : Account PlainItem) → Owns acc at (pointing area at acc)
-pointing_owns area (Some address) acc = λ g. refl
-pointing_owns (Some area) None acc = if_owns acc None (nat_eq area.size 0 || nat_eq area.align 0) _ _ tt (placed_owns area acc.choices (record acc { requests = acc.requests ++ area ∷ [] }))
-pointing_owns None None acc = tt
-
-owns_is : (acc : Account PlainItem) (at : Option ℕ) (o : Outcome PlainItem (Got PlainItem ℕ)) (x : Got PlainItem ℕ) → Owns acc at o → o ≡ Done x → SameItems (x.account.taken ++ []) (acc.taken ++ newly at x.result)
-owns_is acc at o x h e = subst (Owns acc at) e h
+area_new : (n : ℕ) (at : Option ℕ) (x : ℕ) → own_area (step.Area n) (area_data at) (place_data x) ≡ newly at x
+area_new n None x = refl
+area_new n (Some address) x = refl
 
 -- no step moves the area
 abbrev Keeps : PlainState → Outcome PlainItem PlainState → Type 0
@@ -132,14 +119,14 @@ then_keeps s (Done t) next h k = keeps_from s t (next t) h (k t)
 then_keeps s (Stopped e acc) next h k = tt
 then_keeps s (Stuck acc) next h k = tt
 
-kept_keeps : (n : ℕ) (s : PlainState) (o : Outcome PlainItem (Got PlainItem (List (Datum PlainItem)))) → Keeps s (then_do o (λ x. Done (kept n x s)))
-kept_keeps n s (Done x) = refl
-kept_keeps n s (Stopped e acc) = tt
-kept_keeps n s (Stuck acc) = tt
+kept_keeps : (st : Step) (ds : List (Datum PlainItem)) (s : PlainState) (o : Outcome PlainItem (Got PlainItem (List (Datum PlainItem)))) → Keeps s (then_do o (λ x. Done (kept st ds x s)))
+kept_keeps st ds s (Done x) = refl
+kept_keeps st ds s (Stopped e acc) = tt
+kept_keeps st ds s (Stuck acc) = tt
 
 performed_keeps : (w : Option Request) (st : Step) (f : Peer PlainItem) (ds : Option (List (Datum PlainItem))) (s : PlainState) → Keeps s (performed w st f ds s)
 performed_keeps w st f None s = tt
-performed_keeps w st f (Some ds) s = kept_keeps (writes st) s (performs w st f ds s.account)
+performed_keeps w st f (Some ds) s = kept_keeps st ds s (performs w st f ds s.account)
 
 runs_keep : (w : Option Request) (f : Peer PlainItem) (steps : List Step) (s : PlainState) → Keeps s (runs w f steps s)
 runs_keep w f [] s = refl
@@ -153,7 +140,7 @@ module _ (a : Asked) (old mid new : PlainBindgen) (is : mid ≡ record old { ask
   old_at_mid w f others s0 s at = record {
     serves = at.serves;
     done = ap (λ (b : PlainBindgen). runs w f b.steps s0) is ∙ at.done;
-    holds = subst (λ (b : PlainBindgen). plain_meaning.denotes w b others s) (sym is) (still_right old (record old { asked = old.asked ++ a ∷ [] }) s s others (omega arith) (λ n l. refl) (λ n. refl) at.holds);
+    holds = subst (λ (b : PlainBindgen). plain_meaning.denotes w b others s) (sym is) (still_hold old (record old { asked = old.asked ++ a ∷ [] }) s others (omega arith) (omega arith) at.holds);
   }
 
   pub plain_points : PointsTo plain_meaning a (record { number = mid.count }) old new
@@ -162,19 +149,19 @@ module _ (a : Asked) (old mid new : PlainBindgen) (is : mid ≡ record old { ask
     quiet = let step_adds = plain_adds (step.Area mid.count) 1 mid new adds refl in quiet_both plain_meaning old mid new (noted_quiet a old mid is) step_adds.grows step_adds.quiet;
     returned = adds.returned ∙ ap (λ (b : PlainBindgen). b.returned) is;
     asked = adds.asked ∙ ap (λ (b : PlainBindgen). b.asked) is;
-    blocks = refl;
+    blocks = plain_blocks (step.Area mid.count) 1 mid new adds ∙ ap (λ (b : PlainBindgen). plain_meaning.blocks b) is;
     form = tt;
     row = λ w f others s0 s at stands here first.
         let o : Place = record { number = mid.count } in
         let Outs : ℕ → Facts plain_meaning → Type 0 = λ x fs. fs ≡ ofs plain_meaning (places_from mid.count 1) (place_data x) in
         let act : Peer PlainItem → Act PlainItem ℕ = λ g. pointing w at in
         let reads : inputs (step.Area mid.count) s ≡ Some (area_data at) = ap (λ p. Some (area_data p)) (same_area w f old.steps s0 s stands.done ∙ here) in
-        follows_more (λ (t : PlainState). t.account) (pointing w at s.account) (runs w f new.steps s0) (Followed (step.Area mid.count) 1 mid new adds ℕ act Outs w f others s)
+        follows_more (λ (t : PlainState). t.account) (pointing w at s.account) (runs w f new.steps s0) (Followed (step.Area mid.count) 1 mid new adds ℕ (area_data at) place_data act Outs f others s)
         (λ x t. After plain_meaning w new (of o (word (core.Pointer x.result)) ∷ others) (newly at x.result) [] s x t)
-        (plain_follows (step.Area mid.count) 1 mid new adds w ℕ [] (area_data at) act place_data Outs (λ x values n. refl) (λ g acc. points w at acc) (λ g acc x e. refl) (λ x. refl) f others s0 s reads (old_at_mid w f others s0 s stands))
+        (plain_follows (step.Area mid.count) 1 mid new adds w ℕ [] (area_data at) act place_data Outs (λ x values n. refl) (area_owns at) (λ g acc. points w at acc) (λ g acc x e. refl) (λ x. refl) f others s0 s reads (old_at_mid w f others s0 s stands))
         (λ x t h. record {
           account = h.account;
-          owns = λ g. ap (λ (acc : Account PlainItem). total g (acc.taken ++ [])) h.account ∙ owns_is s.account at (pointing w at s.account) x (pointing_owns w at s.account) h.done g;
+          owns = λ g. omega (arith, h.owns g, ap (total g) (area_owns at), ap (total g) (area_new mid.count at x.result), total-append g t.owns [], total-append g s.owns (newly at x.result));
           denotes = subst (λ fs. plain_meaning.denotes w new (fs ++ others) t) h.tells h.denotes;
         });
   }

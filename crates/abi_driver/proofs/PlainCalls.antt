@@ -20,11 +20,11 @@ use Rattle.abi_driver.specs.Calls.{HandsOver, PassesAsItIs, answered_by, are_liv
 use Rattle.abi_driver.specs.Instructions.{Emits}
 use Rattle.abi_driver.specs.Laws.{Does, Facts, core_data, item_data, ofs}
 use Rattle.abi_driver.specs.Meaning.{item, word}
-use Rattle.abi_driver.specs.Plain.{AddsStep, IsRight, PlainItem, PlainState, all_items, all_words, and_item, and_word, called, handed, owned_by, places_from, plainly, plain_meaning, plain_target, runs}
-use Rattle.abi_driver.specs.PlainSound.{all_left}
-use Rattle.abi_driver.proofs.PlainPlaces.{places_count, still_right}
-use Rattle.abi_driver.proofs.PlainRows.{many_at, same_owns}
-use Rattle.abi_driver.proofs.PlainRuns.{plain_does, plain_follows, plain_grows}
+use Rattle.abi_driver.specs.Plain.{AddsStep, Hold, IsRight, PlainItem, PlainState, all_items, all_words, and_item, and_word, called, handed, owned_by, places_from, plainly, plain_meaning, plain_target, runs}
+use Rattle.abi_driver.specs.PlainSound.{all_left, own_both}
+use Rattle.abi_driver.proofs.PlainPlaces.{items_own, ofs_own, places_count, still_hold, words_own}
+use Rattle.abi_driver.proofs.PlainRows.{many_at}
+use Rattle.abi_driver.proofs.PlainRuns.{plain_blocks, plain_does, plain_follows, plain_grows}
 use Rattle.abi_driver.proofs.Runs.{adds_same, follows_more, stops_same}
 
 pub types_length : (types : List WasmType) (ws : List Word) → have_types types ws ≡ true → length ws ≡ length types
@@ -127,13 +127,13 @@ module _ (types : List TypeDef) (old new : PlainBindgen) where
       let answered_is : (p : Peer PlainItem) (acc : Account PlainItem) (x : Got PlainItem (List Word)) → calling goal ws answer p.reply acc ≡ Done x → IsAnswer answer acc x = λ p acc x e.
       let at = answer_is answer _ _ x (answers answer p.reply _) e in record { typed = at.typed; owners = at.owners } in
       plain_does st k old new adds (List Word) (ofs plain_meaning os (core_data plain_meaning ws)) (core_data plain_meaning ws) (λ p. calling goal ws answer p.reply) (λ back. core_data plain_meaning back) (λ back fs. fs ≡ ofs plain_meaning (places_from old.count k) (core_data plain_meaning back))
-      (λ x values n. refl) (λ s h. many_at old s os (core_data plain_meaning ws) given h) (λ area p acc. ap (λ ys. called goal (option_to_list result) p.reply ys acc) (words_all ws) ∙ ap (λ tys. then_do (calling goal ws tys p.reply acc) (λ x. gives (core_data plain_meaning x.result) x.account)) is) (λ p acc x e. length-map x.result (λ w. word w) ∙ types_length answer x.result (answered_is p acc x e).typed ∙ sym (ap length is) ∙ sym many) (λ back. refl)
-      (λ back. []) (λ back. []) (λ p acc x e. same_owns x.account.taken acc.taken (answered_is p acc x e).owners) in
+      (λ x values n. refl) (ofs_own os (core_data plain_meaning ws) given) (λ s h. many_at old s os (core_data plain_meaning ws) given h) (λ area p acc. ap (λ ys. called goal (option_to_list result) p.reply ys acc) (words_all ws) ∙ ap (λ tys. then_do (calling goal ws tys p.reply acc) (λ x. gives (core_data plain_meaning x.result) x.account)) is) (λ p acc x e. length-map x.result (λ w. word w) ∙ types_length answer x.result (answered_is p acc x e).typed ∙ sym (ap length is) ∙ sym many) (λ back. refl)
+      (λ back. []) (λ back. []) (λ back. refl) (λ back g. omega (arith, ap (total g) (words_own back), ap (total g) (words_own ws))) in
       record {
         adds = plain_grows st k old new adds;
         returned = adds.returned;
         asked = adds.asked;
-        blocks = refl;
+        blocks = plain_blocks st k old new adds;
         form = tt;
         results = ap length places ∙ places_count old.count k ∙ many ∙ ap length is;
         row = λ ws fit. subst (λ t. Does plain_meaning (List Word) old new (ofs plain_meaning os (core_data plain_meaning ws)) (λ p. calling t ws answer p.reply) (λ back fs. fs ≡ ofs plain_meaning rs (core_data plain_meaning back)) (λ back. []) (λ back. []))
@@ -150,19 +150,19 @@ module _ (types : List TypeDef) (old new : PlainBindgen) where
       let act : Peer PlainItem → Act PlainItem (List PlainItem) = λ q. handing owned_by plainly goal vals k q.reply in
       let Outs : List PlainItem → Facts plain_meaning → Type 0 = λ back fs. fs ≡ ofs plain_meaning (places_from old.count k) (item_data plain_meaning back) in
       let R : Got PlainItem (List PlainItem) → PlainState → Type 0 = λ x t.
-      (t.account ≡ x.account) × SameItems t.account.taken (flat_map owned_by x.result) × plain_meaning.denotes w new (ofs plain_meaning (places_from old.count k) (item_data plain_meaning x.result)) t in
+      (t.account ≡ x.account) × SameItems t.owns (flat_map owned_by x.result) × plain_meaning.denotes w new (ofs plain_meaning (places_from old.count k) (item_data plain_meaning x.result)) t in
       let given : length os ≡ length ds = sym many ∙ sym (length-map vals (λ a. item a)) in
       let replied : (q : Peer PlainItem) (acc : Account PlainItem) (x : Got PlainItem (List PlainItem)) → act q acc ≡ Done x → IsReply k x = λ q acc x e. reply_is k _ x (replies k q.reply _) e in
       let followed = plain_follows (step.CallMethod old.home f.name.snake os k old.count) k old new adds w (List PlainItem) (ofs plain_meaning os ds) ds act (λ back. item_data plain_meaning back) Outs
-      (λ x values n. refl) (λ q acc. ap (λ xs. handed goal k q.reply xs acc) (items_all vals))
-      (λ q acc x e. length-map x.result (λ a. item a) ∙ (replied q acc x e).many) (λ back. refl) p others s0 s (many_at old s os ds given (all_left (IsRight old s) (ofs plain_meaning os ds) others at.holds)) at in
+      (λ x values n. refl) (ofs_own os ds given) (λ q acc. ap (λ xs. handed goal k q.reply xs acc) (items_all vals))
+      (λ q acc x e. length-map x.result (λ a. item a) ∙ (replied q acc x e).many) (λ back. refl) p others s0 s (many_at old s os ds given (all_left (IsRight old s) (ofs plain_meaning os ds) others at.holds.each)) at in
       subst (λ n. Follows account (handing owned_by plainly (plain_target old f) vals n p.reply s.account) (runs w p new.steps s0) R) due
       (subst (λ t. Follows account (handing owned_by plainly t vals k p.reply s.account) (runs w p new.steps s0) R) (sym (method_target old f export))
       (follows_more account (act p s.account) (runs w p new.steps s0) _ R followed
       (λ x t h. (
         h.account,
-        λ g. ap (λ (acc : Account PlainItem). total g acc.taken) h.account ∙ ap (total g) (replied p s.account x h.done).owners,
-        subst (λ fs. AllByRecursion (IsRight new t) fs) h.tells (all_left (IsRight new t) h.facts others h.denotes),
+        λ g. omega (arith, h.owns g, own g, ap (total g) (items_own vals), ap (total g) (items_own x.result)),
+        subst (λ fs. Hold new fs t) h.tells (record { each = all_left (IsRight new t) h.facts others h.denotes.each; owned = λ g. omega (arith, h.denotes.owned g, own_both g h.facts others) }),
       ))))
 
   pub calls_method : (fn : Bor Function) (os rs : List Place) (k : ℕ) → k ≡ result_count fn.now → not old.import ≡ true → length os ≡ length fn.now.params
@@ -171,7 +171,7 @@ module _ (types : List TypeDef) (old new : PlainBindgen) where
     adds = plain_grows (step.CallMethod old.home fn.now.name.snake os k old.count) k old new adds;
     returned = adds.returned;
     asked = adds.asked;
-    blocks = refl;
+    blocks = plain_blocks (step.CallMethod old.home fn.now.name.snake os k old.count) k old new adds;
     form = tt;
     results = ap length places ∙ places_count old.count k ∙ due;
     row = subst (λ ps. HandsOver plain_meaning fn.now os ps old new) (sym places) (method_row fn.now os k due export adds);
@@ -193,7 +193,7 @@ module _ (types : List TypeDef) (old new : PlainBindgen) where
   pub gives_back : (n : ℕ) (os : List Place) → new ≡ record old { returned = Some os } → Emits plain_meaning types (instruction.Return n) os [] old new
   gives_back n os is = subst (λ b. Emits plain_meaning types (instruction.Return n) os [] old b) (sym is) (record {
     adds = record {
-      grows = record { serves = λ w h. h; more = λ w h. (w, h); stops = λ w f s h. stops_same (λ (t : PlainState). t.account) (plain_meaning.does w f old.steps s); imports = refl; exports = refl; arguments = refl; knows = λ types h. h; target = λ f. refl; crosses = λ w f. refl; opened = refl; known = λ w facts s h. still_right old (record old { returned = Some os }) s s facts (omega arith) (λ n l. refl) (λ n. refl) h };
+      grows = record { serves = λ w h. h; more = λ w h. (w, h); stops = λ w f s h. stops_same (λ (t : PlainState). t.account) (plain_meaning.does w f old.steps s); imports = refl; exports = refl; arguments = refl; knows = λ types h. h; target = λ f. refl; crosses = λ w f. refl; opened = refl; known = λ w facts s h. still_hold old (record old { returned = Some os }) s facts (omega arith) (omega arith) h };
       quiet = λ w f s h. refl;
       asked = refl;
       blocks = refl;
@@ -206,6 +206,6 @@ module _ (types : List TypeDef) (old new : PlainBindgen) where
     row = λ ds w f others s0 s at. (
       s,
       at.done,
-      (ofs plain_meaning os ds, refl, record { account = refl; owns = λ g. refl; denotes = still_right old (record old { returned = Some os }) s s (ofs plain_meaning os ds ++ others) (omega arith) (λ n l. refl) (λ n. refl) at.holds }),
+      (ofs plain_meaning os ds, refl, record { account = refl; owns = λ g. refl; denotes = still_hold old (record old { returned = Some os }) s (ofs plain_meaning os ds ++ others) (omega arith) (omega arith) at.holds }),
     );
   })

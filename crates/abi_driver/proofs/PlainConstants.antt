@@ -12,6 +12,7 @@ use Rattle.wit_layout.specs.declared.bitcast.Bitcast.{Bitcast}
 use Rattle.wrapper_data.specs.declared.choice.Request.{Request}
 use Rattle.wrapper_data.specs.declared.word.Word.{Word}
 use Rattle.wrapper_data.specs.declared.word.Word.TheVariants as core
+use Rattle.wrapper_meaning.specs.Items.{total}
 use Rattle.wrapper_meaning.specs.Words.{AreWords, IsWord, bits_of, word_of_bits}
 use Rattle.abi_driver.specs.declared.instruction.Instruction.TheVariants as instruction
 use Rattle.abi_driver.specs.declared.plain.Place.{Place}
@@ -23,11 +24,11 @@ use Rattle.abi_driver.specs.Constants.{AreCasts, CastsWords, MakesWords, cast_wo
 use Rattle.abi_driver.specs.Instructions.{Emits}
 use Rattle.abi_driver.specs.Laws.{core_data, ofs}
 use Rattle.abi_driver.specs.Meaning.{Datum, word}
-use Rattle.abi_driver.specs.Plain.{AddsStep, PlainItem, PlainState, cast_all, cast_target, casting, inputs, performs, places_from, plain_meaning, put, type_of, writes}
+use Rattle.abi_driver.specs.Plain.{AddsStep, PlainItem, PlainState, cast_all, cast_target, casting, inputs, own_area, performs, places_from, plain_meaning, put, type_of, writes}
 use Rattle.abi_driver.proofs.PlainCalls.{words_all}
-use Rattle.abi_driver.proofs.PlainPlaces.{places_count}
-use Rattle.abi_driver.proofs.PlainRows.{many_at, stay_owns}
-use Rattle.abi_driver.proofs.PlainRuns.{plain_adds, plain_does}
+use Rattle.abi_driver.proofs.PlainPlaces.{ofs_own, places_count, words_own}
+use Rattle.abi_driver.proofs.PlainRows.{many_at}
+use Rattle.abi_driver.proofs.PlainRuns.{plain_adds, plain_blocks, plain_does}
 
 -- 1. Casts
 
@@ -103,12 +104,12 @@ made_many (c ∷ casts) (x ∷ ws) e = ap suc (made_many casts ws (omega (arith,
 module _ (types : List TypeDef) (old new : PlainBindgen) where
   -- a step that reads nothing and makes words
   makes_words : (st : Step) (k : ℕ) (ws : List Word) → AddsStep st k old new → ((values : ℕ → Option (Datum PlainItem)) (n : ℕ) → put (writes st) (core_data plain_meaning ws) values n ≡ put old.count (core_data plain_meaning ws) values n)
-      → ((s : PlainState) → inputs st s ≡ Some []) → ((area : Option Request) (p : Peer PlainItem) (acc : Account PlainItem) → performs area st p [] acc ≡ gives (core_data plain_meaning ws) acc) → length ws ≡ k
+      → ((s : PlainState) → inputs st s ≡ Some []) → ((area : Option Request) (p : Peer PlainItem) (acc : Account PlainItem) → performs area st p [] acc ≡ gives (core_data plain_meaning ws) acc) → length ws ≡ k → own_area st [] (core_data plain_meaning ws) ≡ []
       → MakesWords plain_meaning ws (places_from old.count k) old new
-  makes_words st k ws adds here reads does many =
+  makes_words st k ws adds here reads does many unplaced =
       plain_does st k old new adds (Unit {0}) [] [] (λ p. stay) (λ u. core_data plain_meaning ws) (λ u fs. fs ≡ ofs plain_meaning (places_from old.count k) (core_data plain_meaning ws))
-      (λ x values n. here values n) (λ s h. reads s) (λ area p acc. does area p acc) (λ p acc x e. length-map ws (λ w. word w) ∙ many) (λ u. refl)
-      (λ u. []) (λ u. []) (λ p acc x e. stay_owns acc x e)
+      (λ x values n. here values n) refl (λ s h. reads s) (λ area p acc. does area p acc) (λ p acc x e. length-map ws (λ w. word w) ∙ many) (λ u. refl)
+      (λ u. []) (λ u. []) (λ u. unplaced) (λ u g. omega (arith, ap (total g) (words_own ws)))
 
   pub makes_number : (z : ℤ) (rs : List Place) → AddsStep (step.Number z old.count) 1 old new → rs ≡ places_from old.count 1 → Emits plain_meaning types (instruction.I32Const z) [] rs old new
   makes_number z rs adds places =
@@ -118,10 +119,10 @@ module _ (types : List TypeDef) (old new : PlainBindgen) where
         adds = plain_adds st 1 old new adds refl;
         returned = adds.returned;
         asked = adds.asked;
-        blocks = refl;
+        blocks = plain_blocks st 1 old new adds;
         form = tt;
         results = ap length places;
-        row = subst (λ ps. MakesWords plain_meaning ws ps old new) (sym places) (makes_words st 1 ws adds (λ values n. refl) (λ s. refl) (λ area p acc. refl) refl);
+        row = subst (λ ps. MakesWords plain_meaning ws ps old new) (sym places) (makes_words st 1 ws adds (λ values n. refl) (λ s. refl) (λ area p acc. refl) refl refl);
       }
 
   pub makes_zeros : (zeros : Bor (List WasmType)) (k : ℕ) (rs : List Place) → k ≡ length zeros.now → AddsStep (step.Zeros zeros.now old.count) k old new → rs ≡ places_from old.count k → Emits plain_meaning types (instruction.ConstZero zeros) [] rs old new
@@ -132,11 +133,11 @@ module _ (types : List TypeDef) (old new : PlainBindgen) where
         adds = plain_adds st k old new adds refl;
         returned = adds.returned;
         asked = adds.asked;
-        blocks = refl;
+        blocks = plain_blocks st k old new adds;
         form = tt;
         results = ap length places ∙ places_count old.count k ∙ many;
         row = subst (λ ps. MakesWords plain_meaning ws ps old new) (sym places)
-            (makes_words st k ws adds (λ values n. refl) (λ s. refl) (λ area p acc. refl) (length-map zeros.now (λ ty. word_of_bits 2 ty 0) ∙ sym many));
+            (makes_words st k ws adds (λ values n. refl) (λ s. refl) (λ area p acc. refl) (length-map zeros.now (λ ty. word_of_bits 2 ty 0) ∙ sym many) refl);
       }
 
   pub makes_casts : (casts : Bor (List Bitcast)) (k : ℕ) (os rs : List Place) → k ≡ length casts.now → length os ≡ length casts.now → AddsStep (step.Cast casts.now os old.count) k old new → rs ≡ places_from old.count k
@@ -151,13 +152,13 @@ module _ (types : List TypeDef) (old new : PlainBindgen) where
       let both : length os ≡ length ds = given ∙ sym all ∙ sym (length-map ws (λ w. word w)) in
       let fits : length (core_data plain_meaning made) ≡ k = length-map made (λ w. word w) ∙ ap length (sym same) ∙ made_many casts.now ws all ∙ sym many in
       plain_does st k old new adds (Unit {0}) (ofs plain_meaning os ds) ds (λ p. stay) (λ u. core_data plain_meaning made) (λ u fs. fs ≡ ofs plain_meaning (places_from old.count k) (core_data plain_meaning made))
-      (λ x values n. refl) (λ s h. many_at old s os ds both h) (λ area p acc. ap (λ xs. casting casts.now xs acc) (words_all ws) ∙ ap (λ (zs : List Word). gives (core_data plain_meaning zs) acc) same) (λ p acc x e. fits) (λ u. refl)
-      (λ u. []) (λ u. []) (λ p acc x e. stay_owns acc x e) in
+      (λ x values n. refl) (ofs_own os ds both) (λ s h. many_at old s os ds both h) (λ area p acc. ap (λ xs. casting casts.now xs acc) (words_all ws) ∙ ap (λ (zs : List Word). gives (core_data plain_meaning zs) acc) same) (λ p acc x e. fits) (λ u. refl)
+      (λ u. []) (λ u. []) (λ u. refl) (λ u g. omega (arith, ap (total g) (words_own made), ap (total g) (words_own ws))) in
       record {
         adds = plain_adds st k old new adds refl;
         returned = adds.returned;
         asked = adds.asked;
-        blocks = refl;
+        blocks = plain_blocks st k old new adds;
         form = tt;
         results = ap length places ∙ places_count old.count k ∙ many;
         row = subst (λ ps. CastsWords plain_meaning casts.now os ps old new) (sym places) row;

@@ -1,5 +1,5 @@
 -- The steps of enums and flags do what the laws ask of their instructions.
-use Rattle.std.proofs.Common.{◌≡◌, ℕ, nat_lt, true, ◌&&◌, pos, List, [], ◌∷◌, length, get_or, refl, sym, ap, ◌∙◌, subst}
+use Rattle.std.proofs.Common.{◌≡◌, ℕ, true, ◌&&◌, pos, List, [], ◌∷◌, length, get_or, refl, sym, ap, ◌∙◌, subst, arith}
 use Rattle.std.proofs.lemmas.List.{length-map}
 use Rattle.wit_model.specs.declared.name.TypeId.{TypeId}
 use Rattle.wit_model.specs.declared.types.Member.{Member}
@@ -7,12 +7,11 @@ use Rattle.wit_model.specs.declared.types.TypeDef.{TypeDef}
 use Rattle.wit_model.specs.declared.types.TypeDefKind.TheVariants as kind
 use Rattle.wit_layout.specs.Extent.{flag_words}
 use Rattle.wit_layout.specs.Flat.{words_of_flags}
-use Rattle.wrapper_data.specs.declared.form.Form.{Form}
-use Rattle.wrapper_data.specs.declared.run.TrapKind.TheVariants as trap
 use Rattle.wrapper_data.specs.declared.word.Word.{Word}
 use Rattle.wrapper_data.specs.declared.word.Word.TheVariants as core
 use Rattle.wrapper_meaning.specs.AsWords.{Says}
 use Rattle.wrapper_meaning.specs.Direction.{take}
+use Rattle.wrapper_meaning.specs.Items.{total}
 use Rattle.wrapper_meaning.specs.Shape.{bare}
 use Rattle.wrapper_meaning.specs.Shape.Shape.{cases, flags}
 use Rattle.wrapper_meaning.specs.Value.{Case, case_number}
@@ -21,7 +20,7 @@ use Rattle.abi_driver.specs.declared.instruction.Instruction.TheVariants as inst
 use Rattle.abi_driver.specs.declared.plain.Place.{Place}
 use Rattle.abi_driver.specs.declared.plain.PlainBindgen.{PlainBindgen}
 use Rattle.abi_driver.specs.declared.plain.Step.TheVariants as step
-use Rattle.abi_driver.specs.Account.{Account, Stuck, failing, stay}
+use Rattle.abi_driver.specs.Account.{stay}
 use Rattle.abi_driver.specs.Cases.{LiftsEnum, LowersEnum, case_shapes, reading_tag, tag_of}
 use Rattle.abi_driver.specs.FlagSets.{AreFlags, LiftsFlags, LowersFlags}
 use Rattle.abi_driver.specs.HasList.{IsKindOf}
@@ -35,16 +34,11 @@ use Rattle.abi_driver.proofs.EnumSteps.{enum_cases}
 use Rattle.abi_driver.proofs.FlagSteps.{length_words, one_count}
 use Rattle.abi_driver.proofs.PlainCalls.{types_length, words_all}
 use Rattle.abi_driver.proofs.PlainOperands.{one_of}
-use Rattle.abi_driver.proofs.PlainPlaces.{places_count}
-use Rattle.abi_driver.proofs.PlainRows.{OnDone, done_is, fails, if_done, many_at, one_at, same_owns, stay_owns}
-use Rattle.abi_driver.proofs.PlainRuns.{plain_adds, plain_does}
+use Rattle.abi_driver.proofs.PlainPlaces.{ofs_own, places_count, words_own}
+use Rattle.abi_driver.proofs.PlainRows.{leaf_owns, many_at, one_at}
+use Rattle.abi_driver.proofs.PlainRuns.{plain_adds, plain_blocks, plain_does}
 
 -- 1. Enums
-
-tag_stays : (f : Form) (n : ℕ) (x : Word) (acc : Account PlainItem) → OnDone (reading_tag f n x acc) (λ y. y.account ≡ acc)
-tag_stays f n (core.I32 z) acc =
-    if_done (nat_lt (tag_of n (core.I32 z)) n) (stay acc) (failing f trap.Discriminant acc) (λ y. y.account ≡ acc) (λ e. refl) (λ e. fails f trap.Discriminant acc (λ y. y.account ≡ acc))
-tag_stays f n _ acc = tt
 
 bare_is : {A : Type 0} (members : List A) → is_bare (bare members) ≡ true
 bare_is [] = refl
@@ -59,10 +53,10 @@ module _ (types : List TypeDef) (old new : PlainBindgen) where
       let x = core.I32 (pos (case_number ts c)) in (
         st0.2,
         plain_does st 1 old new adds (Unit {0}) (of o (item a) ∷ []) (item a ∷ []) (λ f. stay) (λ u. word x ∷ []) (λ u fs. fs ≡ ofs plain_meaning (places_from old.count 1) (word x ∷ []))
-            (λ x values n. refl) (λ t h. one_at old t o (item a) h) (λ area f acc. ap (λ (b : PlainItem). performs area st f (item b ∷ []) acc) st0.1) (λ p acc x e. refl) (λ u. refl)
-            (λ u. []) (λ u. []) (λ f acc x e. stay_owns acc x e),
+            (λ x values n. refl) refl (λ t h. one_at old t o (item a) h) (λ area f acc. ap (λ (b : PlainItem). performs area st f (item b ∷ []) acc) st0.1) (λ p acc x e. refl) (λ u. refl)
+            (λ u. []) (λ u. []) (λ u. refl) (λ u g. omega (arith, leaf_owns a (x ∷ []) [] st0.1 g)),
       ) in
-      record { adds = plain_adds st 1 old new adds refl; returned = adds.returned; asked = adds.asked; blocks = refl; form = tt; results = ap length places; row = subst (λ ps. LowersEnum plain_meaning ts (o ∷ []) ps old new) (sym places) row }
+      record { adds = plain_adds st 1 old new adds refl; returned = adds.returned; asked = adds.asked; blocks = plain_blocks st 1 old new adds; form = tt; results = ap length places; row = subst (λ ps. LowersEnum plain_meaning ts (o ∷ []) ps old new) (sym places) row }
 
   reads_enum : (id : TypeId) (o : Place) (rs : List Place) → is_bare (case_shapes types id.0) ≡ true → AddsStep (step.ReadTag (count (case_shapes types id.0)) o.number old.count) 1 old new → rs ≡ places_from old.count 1
       → Emits plain_meaning types (instruction.EnumLift id) (o ∷ []) rs old new
@@ -73,9 +67,9 @@ module _ (types : List TypeDef) (old new : PlainBindgen) where
       let row : LiftsEnum plain_meaning ts (o ∷ []) (places_from old.count 1) old new = λ x.
       let a : PlainItem = leaf (core.I32 (pos (tag_of k x)) ∷ []) [] in
       plain_does st 1 old new adds (Unit {0}) (of o (word x) ∷ []) (word x ∷ []) (λ f. reading_tag f.form k x) (λ u. item a ∷ []) (λ u fs. (b : PlainItem) × (fs ≡ ofs plain_meaning (places_from old.count 1) (item b ∷ [])) × ((c : Case ts) → case_number ts c ≡ tag_of k x → PlainStands take (cases ts) c b []))
-      (λ x values n. refl) (λ t h. one_at old t o (word x) h) (λ area f acc. refl) (λ p acc x e. refl) (λ u. (a, refl, λ c e. (alone, ap (λ n. leaf (core.I32 (pos n) ∷ []) []) (sym e), refl)))
-      (λ u. []) (λ u. []) (λ f acc y e. same_owns y.account.taken acc.taken (ap (λ (c : Account PlainItem). c.taken) (done_is (reading_tag f.form k x acc) (λ y. y.account ≡ acc) y (tag_stays f.form k x acc) e))) in
-      record { adds = plain_adds st 1 old new adds refl; returned = adds.returned; asked = adds.asked; blocks = refl; form = tt; results = ap length places; row = subst (λ ps. LiftsEnum plain_meaning ts (o ∷ []) ps old new) (sym places) row }
+      (λ x values n. refl) refl (λ t h. one_at old t o (word x) h) (λ area f acc. refl) (λ p acc x e. refl) (λ u. (a, refl, λ c e. (alone, ap (λ n. leaf (core.I32 (pos n) ∷ []) []) (sym e), refl)))
+      (λ u. []) (λ u. []) (λ u. refl) (λ u g. refl) in
+      record { adds = plain_adds st 1 old new adds refl; returned = adds.returned; asked = adds.asked; blocks = plain_blocks st 1 old new adds; form = tt; results = ap length places; row = subst (λ ps. LiftsEnum plain_meaning ts (o ∷ []) ps old new) (sym places) row }
 
   pub passed_enum : (id : TypeId) (os read rs : List Place) (d : Place) → length os ≡ 1 → read ≡ os → AddsStep (step.Pass (get_or read 0 d).number old.count) 1 old new → rs ≡ places_from old.count 1
       → Emits plain_meaning types (instruction.EnumLower id) os rs old new
@@ -106,14 +100,14 @@ module _ (types : List TypeDef) (old new : PlainBindgen) where
         ws,
         (st0.1, st0.2, refl),
         plain_does st many old new adds (Unit {0}) (of o (item a) ∷ []) (item a ∷ []) (λ f. stay) (λ u. core_data plain_meaning ws) (λ u fs. fs ≡ ofs plain_meaning (places_from old.count many) (core_data plain_meaning ws))
-            (λ x values n. refl) (λ t h. one_at old t o (item a) h) (λ area f acc. ap (λ (b : PlainItem). performs area st f (item b ∷ []) acc) st0.3) (λ p acc x e. len) (λ u. refl)
-            (λ u. []) (λ u. []) (λ f acc x e. stay_owns acc x e),
+            (λ x values n. refl) refl (λ t h. one_at old t o (item a) h) (λ area f acc. ap (λ (b : PlainItem). performs area st f (item b ∷ []) acc) st0.3) (λ p acc x e. len) (λ u. refl)
+            (λ u. []) (λ u. []) (λ u. refl) (λ u g. omega (arith, ap (total g) (words_own ws), leaf_owns a ws [] st0.3 g)),
       ) in
       record {
         adds = plain_adds st many old new adds refl;
         returned = adds.returned;
         asked = adds.asked;
-        blocks = refl;
+        blocks = plain_blocks st many old new adds;
         form = tt;
         results = λ k other. ap length places ∙ places_count old.count many ∙ sym (length_words n) ∙ ap (λ j. length (words_of_flags j)) (one_count types id.0 n k are other);
         row = λ k other. subst (λ j. LowersFlags plain_meaning j (o ∷ []) rs old new) (one_count types id.0 n k are other) (subst (λ ps. LowersFlags plain_meaning n (o ∷ []) ps old new) (sym places) row);
@@ -135,6 +129,6 @@ module _ (types : List TypeDef) (old new : PlainBindgen) where
       let ds = core_data plain_meaning ws in
       let both : length os ≡ length ds = len n are ∙ sym (types_length (words_of_flags n) ws typed) ∙ sym (length-map ws (λ w. word w)) in
       plain_does st 1 old new adds (Unit {0}) (ofs plain_meaning os ds) ds (λ f. stay) (λ u. item a ∷ []) (λ u fs. (b : PlainItem) × (fs ≡ ofs plain_meaning (places_from old.count 1) (item b ∷ [])) × ((v : ℕ) → Says 2 take (flags n) v ws [] → PlainStands take (flags n) v b []))
-      (λ x values n. refl) (λ t h. many_at old t os ds both h) (λ area f acc. ap (λ xs. as_flags xs acc) (words_all ws)) (λ p acc x e. refl) (λ u. (a, refl, λ v h. (ws, h.0, h.1, refl, refl)))
-      (λ u. []) (λ u. []) (λ f acc x e. stay_owns acc x e) in
-      record { adds = plain_adds st 1 old new adds refl; returned = adds.returned; asked = adds.asked; blocks = refl; form = tt; results = ap length places; row = λ n are. subst (λ ps. LiftsFlags plain_meaning n os ps old new) (sym places) (row n are) }
+      (λ x values n. refl) (ofs_own os ds both) (λ t h. many_at old t os ds both h) (λ area f acc. ap (λ xs. as_flags xs acc) (words_all ws)) (λ p acc x e. refl) (λ u. (a, refl, λ v h. (ws, h.0, h.1, refl, refl)))
+      (λ u. []) (λ u. []) (λ u. refl) (λ u g. omega (arith, ap (total g) (words_own ws))) in
+      record { adds = plain_adds st 1 old new adds refl; returned = adds.returned; asked = adds.asked; blocks = plain_blocks st 1 old new adds; form = tt; results = ap length places; row = λ n are. subst (λ ps. LiftsFlags plain_meaning n os ps old new) (sym places) (row n are) }

@@ -29,7 +29,7 @@ use Rattle.wrapper_meaning.specs.AsWords.{IsTaken, Says, passed_word}
 use Rattle.wrapper_meaning.specs.Cells.{bytes_from, little}
 use Rattle.wrapper_meaning.specs.Direction.{Direction, take}
 use Rattle.wrapper_meaning.specs.InRange.{IsScalar}
-use Rattle.wrapper_meaning.specs.Items.{SameItems, total}
+use Rattle.wrapper_meaning.specs.Items.{total}
 use Rattle.wrapper_meaning.specs.Numbers.{is_scalar_value, is_signed, is_unsigned, low_bits}
 use Rattle.wrapper_meaning.specs.Shape.{Shape, Shapes}
 use Rattle.wrapper_meaning.specs.Shape.Shape.{scalar, text, fields, tuple}
@@ -39,107 +39,38 @@ use Rattle.wrapper_meaning.specs.Words.{bits_of}
 use Rattle.wrapper_meaning.proofs.Lists.{some_same}
 use Rattle.abi_driver.specs.declared.instruction.Instruction.{Instruction}
 use Rattle.abi_driver.specs.declared.instruction.Instruction.TheVariants as instruction
+use Rattle.abi_driver.specs.declared.plain.Body.{Body}
 use Rattle.abi_driver.specs.declared.plain.Place.{Place}
 use Rattle.abi_driver.specs.declared.plain.PlainBindgen.{PlainBindgen}
 use Rattle.abi_driver.specs.declared.plain.Step.TheVariants as step
 use Rattle.abi_driver.specs.declared.plain.words.WordTouch.{WordTouch}
 use Rattle.abi_driver.specs.declared.plain.words.WordTouch.TheVariants as touched
-use Rattle.abi_driver.specs.Account.{Account, Done, Got, Outcome, Stopped, Stuck, Taken, addresses, checking, failing, found, gives, has_type, is_at, is_taken, reading, releasing, stay, taking, tested, without}
+use Rattle.abi_driver.specs.Account.{addresses, gives, reading, releasing, stay, taking, Account, Peer, Taken}
 use Rattle.abi_driver.specs.Instructions.{Emits, IsRecord, MakesBy, MakesTouch, RowBy, RowTouch, block_results, field_shapes, lifted_scalar, lowered_scalar}
 use Rattle.abi_driver.specs.Laws.{Adds, Stays, core_data, item_data, ofs}
 use Rattle.abi_driver.specs.Leaves.{LiftsScalar, LiftsText, LowersScalar, LowersText}
 use Rattle.abi_driver.specs.Meaning.{Datum, arg, item, of, word}
-use Rattle.abi_driver.specs.Memory.{Access, access, bytes_on, freed, freeing, is_aligned, is_inside, is_ranged, is_reached, little_bytes, loaded, loading, storing}
-use Rattle.abi_driver.specs.Memory as memory
+use Rattle.abi_driver.specs.Memory.{Access, access, freeing, loading, storing}
 use Rattle.abi_driver.specs.Parts.{LiftsParts, LowersParts, PartsStand, count}
-use Rattle.abi_driver.specs.Plain.{AddsStep, IsPlainText, IsRight, PlainItem, PlainItems, PlainPartsStand, PlainStands, PlainState, all_at, and_all, gathered, leaf, lifted_type, listed, lowered_type, normal, performs, places_from, plain_meaning, scalar_of, whole, word_touch}
+use Rattle.abi_driver.specs.Plain.{AddsStep, IsPlainText, IsRight, PlainItem, PlainItems, PlainPartsStand, PlainStands, PlainState, all_at, and_all, data_own, gathered, leaf, lifted_type, listed, lowered_type, normal, owned_by_all, performs, places_from, plain_meaning, scalar_of, whole, word_touch}
 use Rattle.abi_driver.specs.Touches.{LoadsWord, RowOfTouch, StoresWord, Touch, loads, reached, stores, touch, touch_makes}
-use Rattle.abi_driver.proofs.Done.{without_one}
-use Rattle.abi_driver.proofs.Ordinary.{code_of, lifts_ordinary, lowers_ordinary, still_returned, touches_ordinary}
-use Rattle.abi_driver.proofs.PlainPlaces.{places_count}
-use Rattle.abi_driver.proofs.PlainRuns.{plain_adds, plain_does}
+use Rattle.abi_driver.specs.PlainSound.{owned_listed}
+use Rattle.abi_driver.proofs.Ordinary.{IsOrdinary, code_of, lifts_ordinary, lowers_ordinary, still_returned, touches_ordinary}
+use Rattle.abi_driver.proofs.PlainPlaces.{items_own, ofs_own, places_count}
+use Rattle.abi_driver.proofs.PlainRuns.{plain_adds, plain_blocks, plain_does}
 use Rattle.abi_driver.proofs.Records.{count-shapes, one_record}
-use Rattle.wrapper_meaning.proofs.PostReturn.{total-append}
 
-abbrev no_blocks : List ⊥
-no_blocks = []
+-- 1. Finished blocks, and what data own
 
-pub none_dropped : (n : ℕ) → no_blocks ≡ drop n no_blocks
-none_dropped zero = refl
-none_dropped (suc n) = refl
+-- an ordinary instruction leaves the finished blocks
+pub still_there : (i : Instruction) (is : IsOrdinary i) (types : List TypeDef) (after before : List Body) → after ≡ before → after ≡ drop (length (block_results types i)) before
+still_there i is types after before e = subst (λ used. after ≡ drop (length used) before) (sym (is.whole types)) e
 
--- 1. What actions leave of the owners
+pub leaf_owns : (a : PlainItem) (ws : List Word) (own : List Block) → a ≡ leaf ws own → (g : ℕ → ℕ) → total g (data_own (item a ∷ [])) ≡ total g (addresses own)
+leaf_owns a ws own e g = ap (λ (b : PlainItem). total g (data_own (item b ∷ []))) e ∙ ap (total g) (append-nil (addresses own))
 
-abbrev pub OnDone : {V A : Type 0} → Outcome V (Got V A) → (Got V A → Type 0) → Type 0
-OnDone (Done x) P = P x
-OnDone (Stopped e acc) P = Unit {0}
-OnDone (Stuck acc) P = Unit {0}
-
-pub done_is : {V A : Type 0} (o : Outcome V (Got V A)) (P : Got V A → Type 0) (x : Got V A) → OnDone o P → o ≡ Done x → P x
-done_is o P x h e = subst (λ q. OnDone q P) e h
-
-pub if_done : {V A : Type 0} (b : Bool) (o q : Outcome V (Got V A)) (P : Got V A → Type 0) → (b ≡ true → OnDone o P) → (b ≡ false → OnDone q P) → OnDone (if b then o else q) P
-if_done true o q P h k = h refl
-if_done false o q P h k = k refl
-
-pub fails : {V A : Type 0} (f : Form) (kind : TrapKind) (acc : Account V) (P : Got V A → Type 0) → OnDone (failing f kind acc) P
-fails form.Debug kind acc P = tt
-fails form.Release kind acc P = tt
-
-done_map : {V A : Type 0} (o : Outcome V (Got V A)) (P Q : Got V A → Type 0) → OnDone o P → ((x : Got V A) → P x → Q x) → OnDone o Q
-done_map (Done x) P Q h go = go x h
-done_map (Stopped e acc) P Q h go = tt
-done_map (Stuck acc) P Q h go = tt
-
-releasing_owns : (places : List ℕ) (acc : Account PlainItem) → OnDone (releasing places acc) (λ x. SameItems (x.account.taken ++ places) (acc.taken ++ []))
-releasing_owns [] acc = λ g. refl
-releasing_owns (a ∷ places) acc =
-    let next : Account PlainItem = record acc { taken = without a acc.taken } in
-    if_done (is_taken a acc.taken) (releasing places next) (Stuck acc) (λ x. SameItems (x.account.taken ++ a ∷ places) (acc.taken ++ []))
-    (λ here. done_map (releasing places next) (λ x. SameItems (x.account.taken ++ places) (without a acc.taken ++ [])) (λ x. SameItems (x.account.taken ++ a ∷ places) (acc.taken ++ [])) (releasing_owns places next)
-    (λ x h g. omega (arith, h g, without_one g a acc.taken here, total-append g x.account.taken (a ∷ places), total-append g x.account.taken places, total-append g acc.taken [], total-append g (without a acc.taken) [])))
-    (λ e. tt)
-
-checking_stays : (s : Scalar) (f : Form) (x : Word) (acc : Account PlainItem) → OnDone (checking s f x acc) (λ y. y.account ≡ acc)
-checking_stays Scalar.bool f (core.I32 z) acc = if_done (nat_lt (low_bits 8 z) 2) (stay acc) (failing f trap.Bool acc) (λ y. y.account ≡ acc) (λ e. refl) (λ e. fails f trap.Bool acc (λ y. y.account ≡ acc))
-checking_stays Scalar.char f (core.I32 z) acc = if_done (is_scalar_value (low_bits 32 z)) (stay acc) (failing f trap.Char acc) (λ y. y.account ≡ acc) (λ e. refl) (λ e. fails f trap.Char acc (λ y. y.account ≡ acc))
-checking_stays Scalar.s32 f (core.I32 z) acc = if_done (is_signed 31 z) (stay acc) (Stuck acc) (λ y. y.account ≡ acc) (λ e. refl) (λ e. tt)
-checking_stays Scalar.s64 f (core.I64 z) acc = if_done (is_signed 63 z) (stay acc) (Stuck acc) (λ y. y.account ≡ acc) (λ e. refl) (λ e. tt)
-checking_stays _ f x acc = refl
-
-reading_stays : (s : Scalar) (f : Form) (x : Word) (acc : Account PlainItem) → OnDone (reading s f x acc) (λ y. y.account ≡ acc)
-reading_stays s f x acc = if_done (has_type (core_type s) x) (checking s f x acc) (Stuck acc) (λ y. y.account ≡ acc) (λ e. checking_stays s f x acc) (λ e. tt)
-
-abbrev TakesOver : Account PlainItem → Got PlainItem Taken → Type 0
-TakesOver acc y = y.account.taken ≡ acc.taken ++ addresses y.result.blocks
-
-tested_owns : (f : Form) (b : Block) (bytes : Option (List ℕ)) (acc : Account PlainItem) → OnDone (tested f b bytes acc) (TakesOver acc)
-tested_owns f b None acc = fails f trap.Pointer acc (TakesOver acc)
-tested_owns f b (Some bytes) acc =
-    let owned : Account PlainItem = record acc { taken = acc.taken ++ b.address ∷ [] } in
-    if_done (is_utf8 bytes) (gives (record { bytes = bytes; blocks = b ∷ [] }) owned) (failing f trap.Utf8 owned) (TakesOver acc) (λ e. refl) (λ e. fails f trap.Utf8 owned (TakesOver acc))
-
-found_owns : (f : Form) (n : ℕ) (b : Option Block) (acc : Account PlainItem) → OnDone (found f n b acc) (TakesOver acc)
-found_owns f n None acc = fails f trap.Block acc (TakesOver acc)
-found_owns f n (Some b) acc = tested_owns f b (bytes_from b.cells 0 n) acc
-
-taking_owns : (f : Form) (address n : ℕ) (acc : Account PlainItem) → OnDone (taking f address n acc) (TakesOver acc)
-taking_owns f address n acc =
-    let P = TakesOver acc in
-    let o4 = found f n (find (is_at address n) acc.heap.blocks) acc in
-    let o3 = if is_taken address acc.taken then failing f trap.Block acc else o4 in
-    let o2 = if nat_eq n 0 then gives (record { bytes = []; blocks = [] }) acc else o3 in
-    let o1 = if nat_eq address 0 then failing f trap.Pointer acc else o2 in
-    if_done (nat_lt (2 ^ 31 - 1) n) (failing f trap.Size acc) o1 P (λ e. fails f trap.Size acc P)
-    (λ e. if_done (nat_eq address 0) (failing f trap.Pointer acc) o2 P (λ e. fails f trap.Pointer acc P)
-    (λ e. if_done (nat_eq n 0) (gives (record { bytes = []; blocks = [] }) acc) o3 P (λ e. sym (append-nil acc.taken))
-    (λ e. if_done (is_taken address acc.taken) (failing f trap.Block acc) o4 P (λ e. fails f trap.Block acc P) (λ e. found_owns f n (find (is_at address n) acc.heap.blocks) acc))))
-
-pub same_owns : (xs ys : List ℕ) → xs ≡ ys → SameItems (xs ++ []) (ys ++ [])
-same_owns xs ys e g = ap (λ zs. total g (zs ++ [])) e
-
-pub stay_owns : (acc : Account PlainItem) (x : Got PlainItem (Unit {0})) → stay acc ≡ Done x → SameItems (x.account.taken ++ []) (acc.taken ++ [])
-stay_owns acc x e = same_owns x.account.taken acc.taken (done_is (stay acc) (λ y. y.account.taken ≡ acc.taken) x refl e)
+pub whole_owns : (items : PlainItems) (g : ℕ → ℕ) → total g (data_own (item (whole items) ∷ [])) ≡ total g (data_own (item_data plain_meaning (listed items)))
+whole_owns items g = ap (total g) (append-nil (owned_by_all items) ∙ owned_listed items ∙ sym (items_own (listed items)))
 
 -- 2. Data that are read
 
@@ -241,29 +172,6 @@ touched_is (instruction.PointerLoad o) t e = (refl, refl)
 touched_is (instruction.LengthLoad o) t e = (refl, refl)
 touched_is _ t e = absurd (let h = e in cc)
 
-storing_owns : (a : Access) (address : ℕ) (x : Word) (acc : Account PlainItem) → OnDone (storing 2 a address x acc) (λ y. y.account.taken ≡ acc.taken)
-storing_owns a address x acc =
-    let after = record acc { heap = record { blocks = with_writes acc.heap.blocks (bytes_on address (little_bytes (2 ^ a.grain) (bits_of x))) } } in
-    if_done (has_type a.word x && is_ranged x && is_reached 2 a address && is_some (find (is_inside address (2 ^ a.grain)) acc.heap.blocks)) (stay after) (Stuck acc) (λ y. y.account.taken ≡ acc.taken) (λ e. refl) (λ e. tt)
-
-loaded_owns : (f : Form) (a : Access) (x : Option ℕ) (acc : Account PlainItem) → OnDone (loaded 2 f a x acc) (λ y. y.account.taken ≡ acc.taken)
-loaded_owns f a None acc = fails f trap.Pointer acc (λ y. y.account.taken ≡ acc.taken)
-loaded_owns f a (Some x) acc = if_done (nat_lt x (256 ^ 2 ^ a.grain)) (gives (memory.word_read 2 a x) acc) (Stuck acc) (λ y. y.account.taken ≡ acc.taken) (λ e. refl) (λ e. tt)
-
-loading_owns : (f : Form) (a : Access) (address : ℕ) (acc : Account PlainItem) → OnDone (loading 2 f a address acc) (λ y. y.account.taken ≡ acc.taken)
-loading_owns f a address acc =
-    loaded_owns f a (if is_aligned a address then option_map little (memory.bytes_at address (2 ^ a.grain) acc.heap.blocks) else None) acc
-
-freed_owns : (f : Form) (address size : ℕ) (b : Option Block) (acc : Account PlainItem) → OnDone (freed f address size b acc) (λ y. y.account.taken ≡ acc.taken)
-freed_owns f address size None acc = fails f trap.Block acc (λ y. y.account.taken ≡ acc.taken)
-freed_owns f address size (Some b) acc = refl
-
-freeing_owns : (f : Form) (address size : ℕ) (acc : Account PlainItem) → OnDone (freeing f address size acc) (λ y. y.account.taken ≡ acc.taken)
-freeing_owns f address zero acc = refl
-freeing_owns f address (suc n) acc =
-    let b : Option Block = if is_taken address acc.taken then None else find (is_at address (suc n)) acc.heap.blocks in
-    if_done (nat_lt (2 ^ 31 - 1) (suc n)) (failing f trap.Size acc) (freed f address (suc n) b acc) (λ y. y.account.taken ≡ acc.taken) (λ e. fails f trap.Size acc (λ y. y.account.taken ≡ acc.taken)) (λ e. freed_owns f address (suc n) b acc)
-
 abbrev makes_of : WordTouch → ℕ
 makes_of (touched.Store ty grain o) = 0
 makes_of (touched.Load ty grain signed o) = 1
@@ -294,7 +202,7 @@ module _ (os rs : List Place) (old new : PlainBindgen) where
             adds = code_of plain_meaning i (touches_ordinary i x here) types old new adds;
             returned = still_returned plain_meaning i (touches_ordinary i x here) os old.returned new.returned still;
             asked = same_asked;
-            blocks = none_dropped (length (block_results types i));
+            blocks = still_there i (touches_ordinary i x here) types _ _ adds.blocks;
             form = tt;
             results = subst (λ p. MakesBy types i p (lifted_scalar i) (length rs)) (sym no.0) (subst (λ p. MakesBy types i None p (length rs)) (sym no.1)
                 (subst (λ p. MakesTouch types i p (length rs)) (sym here) (len ∙ ap makes_of (sym same) ∙ makes_same x)));
@@ -355,14 +263,14 @@ module _ (types : List TypeDef) (old new : PlainBindgen) where
       let row : LowersScalar plain_meaning s (o ∷ []) (places_from old.count 1) old new = λ dir v a own listed st0. (
         st0.1,
         plain_does st 1 old new adds (Unit {0}) (of o (item a) ∷ []) (item a ∷ []) (λ f. stay) (λ u. word (passed_word s v) ∷ []) (λ u fs. fs ≡ ofs plain_meaning (places_from old.count 1) (word (passed_word s v) ∷ []))
-            (λ x values n. refl) (λ t h. one_at old t o (item a) h) (λ area f acc. ap (λ (b : PlainItem). performs area st f (item b ∷ []) acc) st0.0) (λ p acc x e. refl) (λ u. refl)
-            (λ u. []) (λ u. []) (λ f acc x e. stay_owns acc x e),
+            (λ x values n. refl) refl (λ t h. one_at old t o (item a) h) (λ area f acc. ap (λ (b : PlainItem). performs area st f (item b ∷ []) acc) st0.0) (λ p acc x e. refl) (λ u. refl)
+            (λ u. []) (λ u. []) (λ u. refl) (λ u g. omega (arith, leaf_owns a (passed_word s v ∷ []) [] st0.0 g)),
       ) in
       record {
         adds = code_of plain_meaning i (lowers_ordinary i _ (lowered_is i ty is)) types old new (plain_adds st 1 old new adds refl);
         returned = still_returned plain_meaning i (lowers_ordinary i _ (lowered_is i ty is)) (o ∷ []) old.returned new.returned adds.returned;
         asked = adds.asked;
-        blocks = none_dropped (length (block_results types i));
+        blocks = still_there i (lowers_ordinary i _ (lowered_is i ty is)) types _ _ (plain_blocks st 1 old new adds);
         form = tt;
         results = subst (λ x. MakesBy types i x (lifted_scalar i) (length rs)) (sym (lowered_is i ty is)) (ap length places);
         row = subst (λ x. RowBy plain_meaning types i x (lifted_scalar i) (o ∷ []) rs old new) (sym (lowered_is i ty is)) (subst (λ ps. LowersScalar plain_meaning s (o ∷ []) ps old new) (sym places) row);
@@ -376,13 +284,13 @@ module _ (types : List TypeDef) (old new : PlainBindgen) where
       let row : LiftsScalar plain_meaning s (o ∷ []) (places_from old.count 1) old new = λ x.
       let a : PlainItem = leaf (normal s x ∷ []) [] in
       plain_does st 1 old new adds (Unit {0}) (of o (word x) ∷ []) (word x ∷ []) (λ f. reading s f.form x) (λ u. item a ∷ []) (λ u fs. (c : PlainItem) × (fs ≡ ofs plain_meaning (places_from old.count 1) (item c ∷ [])) × ((v : ScalarValue s) → IsScalar s v → IsTaken s v x → PlainStands take (scalar s) v c []))
-      (λ x values n. refl) (λ t h. one_at old t o (word x) h) (λ area f acc. refl) (λ p acc x e. refl) (λ u. (a, refl, λ v hv h. (ap (λ w. leaf (w ∷ []) []) (normal_is s v x hv h), refl)))
-      (λ u. []) (λ u. []) (λ f acc y e. same_owns y.account.taken acc.taken (ap (λ (c : Account PlainItem). c.taken) (done_is (reading s f.form x acc) (λ y. y.account ≡ acc) y (reading_stays s f.form x acc) e))) in
+      (λ x values n. refl) refl (λ t h. one_at old t o (word x) h) (λ area f acc. refl) (λ p acc x e. refl) (λ u. (a, refl, λ v hv h. (ap (λ w. leaf (w ∷ []) []) (normal_is s v x hv h), refl)))
+      (λ u. []) (λ u. []) (λ u. refl) (λ u g. refl) in
       record {
         adds = code_of plain_meaning i (lifts_ordinary i _ both.1) types old new (plain_adds st 1 old new adds refl);
         returned = still_returned plain_meaning i (lifts_ordinary i _ both.1) (o ∷ []) old.returned new.returned adds.returned;
         asked = adds.asked;
-        blocks = none_dropped (length (block_results types i));
+        blocks = still_there i (lifts_ordinary i _ both.1) types _ _ (plain_blocks st 1 old new adds);
         form = tt;
         results = subst (λ p. MakesBy types i p (lifted_scalar i) (length rs)) (sym both.0) (subst (λ p. MakesBy types i None p (length rs)) (sym both.1) (ap length places));
         row = subst (λ p. RowBy plain_meaning types i p (lifted_scalar i) (o ∷ []) rs old new) (sym both.0)
@@ -397,8 +305,8 @@ module _ (types : List TypeDef) (old new : PlainBindgen) where
       let row : StoresWord plain_meaning a o (p ∷ q ∷ []) rs old new = λ x address.
       let at = reached plain_meaning address o in
       plain_does st 0 old new adds (Unit {0}) (of p (word x) ∷ of q (word (core.Pointer address)) ∷ []) (word x ∷ word (core.Pointer address) ∷ []) (λ f. storing 2 a at x) (λ u. []) (λ u fs. fs ≡ [])
-      (λ u values n. refl) (λ t h. two_at old t p q (word x) (word (core.Pointer address)) h) (λ area f acc. refl) (λ p acc x e. refl) (λ u. refl)
-      (λ u. []) (λ u. []) (λ f acc y e. same_owns y.account.taken acc.taken (done_is (storing 2 a at x acc) (λ y. y.account.taken ≡ acc.taken) y (storing_owns a at x acc) e)) in
+      (λ u values n. refl) refl (λ t h. two_at old t p q (word x) (word (core.Pointer address)) h) (λ area f acc. refl) (λ p acc x e. refl) (λ u. refl)
+      (λ u. []) (λ u. []) (λ u. refl) (λ u g. refl) in
       touches (p ∷ q ∷ []) rs old new types i (touched.Store ty grain o) is (plain_adds st 0 old new adds refl) adds.returned adds.asked (ap length places) row
 
   pub loads_word : (i : Instruction) (ty : WasmType) (grain : ℕ) (signed : Bool) (o : ArchitectureSize) (p : Place) (rs : List Place) → option_map word_touch (touch i) ≡ Some (touched.Load ty grain signed o)
@@ -409,8 +317,8 @@ module _ (types : List TypeDef) (old new : PlainBindgen) where
       let row : LoadsWord plain_meaning a o (p ∷ []) (places_from old.count 1) old new = λ address.
       let at = reached plain_meaning address o in
       plain_does st 1 old new adds Word (of p (word (core.Pointer address)) ∷ []) (word (core.Pointer address) ∷ []) (λ f. loading 2 f.form a at) (λ x. word x ∷ []) (λ x fs. fs ≡ ofs plain_meaning (places_from old.count 1) (word x ∷ []))
-      (λ x values n. refl) (λ t h. one_at old t p (word (core.Pointer address)) h) (λ area f acc. refl) (λ p acc y e. refl) (λ x. refl)
-      (λ x. []) (λ x. []) (λ f acc y e. same_owns y.account.taken acc.taken (done_is (loading 2 f.form a at acc) (λ y. y.account.taken ≡ acc.taken) y (loading_owns f.form a at acc) e)) in
+      (λ x values n. refl) refl (λ t h. one_at old t p (word (core.Pointer address)) h) (λ area f acc. refl) (λ p acc y e. refl) (λ x. refl)
+      (λ x. []) (λ x. []) (λ x. refl) (λ x g. refl) in
       touches (p ∷ []) rs old new types i (touched.Load ty grain signed o) is (plain_adds st 1 old new adds refl) adds.returned adds.asked (ap length places) (subst (λ ps. LoadsWord plain_meaning a o (p ∷ []) ps old new) (sym places) row)
 
   pub frees_text : (o p : Place) (rs : List Place) → AddsStep (step.Free o.number p.number) 0 old new → rs ≡ places_from old.count 0 → Emits plain_meaning types instruction.GuestDeallocateString (o ∷ p ∷ []) rs old new
@@ -420,13 +328,13 @@ module _ (types : List TypeDef) (old new : PlainBindgen) where
         adds = plain_adds st 0 old new adds refl;
         returned = adds.returned;
         asked = adds.asked;
-        blocks = refl;
+        blocks = plain_blocks st 0 old new adds;
         form = tt;
         results = ap length places;
         row = λ address n.
             plain_does st 0 old new adds (Unit {0}) (of o (word (core.Pointer address)) ∷ of p (word (core.Length n)) ∷ []) (word (core.Pointer address) ∷ word (core.Length n) ∷ []) (λ f. freeing f.form address n) (λ u. []) (λ u fs. fs ≡ [])
-            (λ u values n. refl) (λ t h. two_at old t o p (word (core.Pointer address)) (word (core.Length n)) h) (λ area f acc. refl) (λ p acc x e. refl) (λ u. refl)
-            (λ u. []) (λ u. []) (λ f acc y e. same_owns y.account.taken acc.taken (done_is (freeing f.form address n acc) (λ y. y.account.taken ≡ acc.taken) y (freeing_owns f.form address n acc) e));
+            (λ u values n. refl) refl (λ t h. two_at old t o p (word (core.Pointer address)) (word (core.Length n)) h) (λ area f acc. refl) (λ p acc x e. refl) (λ u. refl)
+            (λ u. []) (λ u. []) (λ u. refl) (λ u g. refl);
       }
 
   pub frees_block : (size : ArchitectureSize) (align : Alignment) (o : Place) (rs : List Place) → AddsStep (step.FreeSized size o.number) 0 old new → rs ≡ places_from old.count 0
@@ -438,13 +346,13 @@ module _ (types : List TypeDef) (old new : PlainBindgen) where
         adds = plain_adds st 0 old new adds refl;
         returned = adds.returned;
         asked = adds.asked;
-        blocks = refl;
+        blocks = plain_blocks st 0 old new adds;
         form = tt;
         results = ap length places;
         row = λ address.
             plain_does st 0 old new adds (Unit {0}) (of o (word (core.Pointer address)) ∷ []) (word (core.Pointer address) ∷ []) (λ f. freeing f.form address n) (λ u. []) (λ u fs. fs ≡ [])
-            (λ u values n. refl) (λ t h. one_at old t o (word (core.Pointer address)) h) (λ area f acc. refl) (λ p acc x e. refl) (λ u. refl)
-            (λ u. []) (λ u. []) (λ f acc y e. same_owns y.account.taken acc.taken (done_is (freeing f.form address n acc) (λ y. y.account.taken ≡ acc.taken) y (freeing_owns f.form address n acc) e));
+            (λ u values n. refl) refl (λ t h. one_at old t o (word (core.Pointer address)) h) (λ area f acc. refl) (λ p acc x e. refl) (λ u. refl)
+            (λ u. []) (λ u. []) (λ u. refl) (λ u g. refl);
       }
 
   pub passes_text : (realloc : Bool) (o : Place) (rs : List Place) → AddsStep (step.Pass o.number old.count) 2 old new → rs ≡ places_from old.count 2 → Emits plain_meaning types (instruction.StringLower realloc) (o ∷ []) rs old new
@@ -455,10 +363,10 @@ module _ (types : List TypeDef) (old new : PlainBindgen) where
         ws,
         st0.3,
         plain_does st 2 old new adds (Unit {0}) (of o (item a) ∷ []) (item a ∷ []) (λ f. releasing (addresses own)) (λ u. core_data plain_meaning ws) (λ u fs. fs ≡ ofs plain_meaning (places_from old.count 2) (core_data plain_meaning ws))
-            (λ x values n. refl) (λ t h. one_at old t o (item a) h) (λ area f acc. ap (λ (b : PlainItem). performs area st f (item b ∷ []) acc) st0.2) (λ p acc x e. refl) (λ u. refl)
-            (λ u. []) (λ u. addresses own) (λ f acc x e. done_is (releasing (addresses own) acc) (λ x. SameItems (x.account.taken ++ addresses own) (acc.taken ++ [])) x (releasing_owns (addresses own) acc) e),
+            (λ x values n. refl) refl (λ t h. one_at old t o (item a) h) (λ area f acc. ap (λ (b : PlainItem). performs area st f (item b ∷ []) acc) st0.2) (λ p acc x e. refl) (λ u. refl)
+            (λ u. []) (λ u. addresses own) (λ u. refl) (λ u g. omega (arith, leaf_owns a ws own st0.2 g)),
       ) in
-      record { adds = plain_adds st 2 old new adds refl; returned = adds.returned; asked = adds.asked; blocks = refl; form = tt; results = ap length places; row = subst (λ ps. LowersText plain_meaning realloc (o ∷ []) ps old new) (sym places) row }
+      record { adds = plain_adds st 2 old new adds refl; returned = adds.returned; asked = adds.asked; blocks = plain_blocks st 2 old new adds; form = tt; results = ap length places; row = subst (λ ps. LowersText plain_meaning realloc (o ∷ []) ps old new) (sym places) row }
 
   pub takes_text : (o p : Place) (rs : List Place) → AddsStep (step.Take o.number p.number old.count) 1 old new → rs ≡ places_from old.count 1 → Emits plain_meaning types instruction.StringLift (o ∷ p ∷ []) rs old new
   takes_text o p rs adds places =
@@ -466,9 +374,9 @@ module _ (types : List TypeDef) (old new : PlainBindgen) where
       let row : LiftsText plain_meaning (o ∷ p ∷ []) (places_from old.count 1) old new = λ address n.
       let ws : List Word = core.Pointer address ∷ core.Length n ∷ [] in
       plain_does st 1 old new adds Taken (of o (word (core.Pointer address)) ∷ of p (word (core.Length n)) ∷ []) (core_data plain_meaning ws) (λ f. taking f.form address n) (λ x. item (leaf ws x.blocks) ∷ []) (λ x fs. (a : PlainItem) × (fs ≡ ofs plain_meaning (places_from old.count 1) (item a ∷ [])) × (Says 2 take text x.bytes ws x.blocks → PlainStands take text x.bytes a x.blocks))
-      (λ x values n. refl) (λ t h. two_at old t o p (word (core.Pointer address)) (word (core.Length n)) h) (λ area f acc. refl) (λ p acc y e. refl) (λ x. (leaf ws x.blocks, refl, λ h. says_text x.bytes address n x.blocks h))
-      (λ x. addresses x.blocks) (λ x. []) (λ f acc x e. let t = done_is (taking f.form address n acc) (TakesOver acc) x (taking_owns f.form address n acc) e in λ g. ap (λ xs. total g (xs ++ [])) t ∙ ap (total g) (append-nil (acc.taken ++ addresses x.result.blocks))) in
-      record { adds = plain_adds st 1 old new adds refl; returned = adds.returned; asked = adds.asked; blocks = refl; form = tt; results = ap length places; row = subst (λ ps. LiftsText plain_meaning (o ∷ p ∷ []) ps old new) (sym places) row }
+      (λ x values n. refl) refl (λ t h. two_at old t o p (word (core.Pointer address)) (word (core.Length n)) h) (λ area f acc. refl) (λ p acc y e. refl) (λ x. (leaf ws x.blocks, refl, λ h. says_text x.bytes address n x.blocks h))
+      (λ x. addresses x.blocks) (λ x. []) (λ x. refl) (λ x g. omega (arith, ap (total g) (append-nil (addresses x.blocks)))) in
+      record { adds = plain_adds st 1 old new adds refl; returned = adds.returned; asked = adds.asked; blocks = plain_blocks st 1 old new adds; form = tt; results = ap length places; row = subst (λ ps. LiftsText plain_meaning (o ∷ p ∷ []) ps old new) (sym places) row }
 
   pub reads_argument : (n : ℕ) (rs : List Place) → AddsStep (step.Argument n old.count) 1 old new → rs ≡ places_from old.count 1 → Emits plain_meaning types (instruction.GetArg n) [] rs old new
   reads_argument n rs adds places =
@@ -477,13 +385,13 @@ module _ (types : List TypeDef) (old new : PlainBindgen) where
         adds = plain_adds st 1 old new adds refl;
         returned = adds.returned;
         asked = adds.asked;
-        blocks = refl;
+        blocks = plain_blocks st 1 old new adds;
         form = tt;
         results = ap length places;
         row = λ d. subst (λ ps. Stays plain_meaning old new (arg n d ∷ []) (λ fs. fs ≡ ofs plain_meaning ps (d ∷ []))) (sym places)
             (plain_does st 1 old new adds (Unit {0}) (arg n d ∷ []) (d ∷ []) (λ f. stay) (λ u. d ∷ []) (λ u fs. fs ≡ ofs plain_meaning (places_from old.count 1) (d ∷ []))
-            (λ x values n. refl) (λ t h. ap (λ x. and_all x (Some [])) h.0) (λ area f acc. refl) (λ p acc x e. refl) (λ u. refl)
-            (λ u. []) (λ u. []) (λ f acc x e. stay_owns acc x e));
+            (λ x values n. refl) refl (λ t h. ap (λ x. and_all x (Some [])) h.0) (λ area f acc. refl) (λ p acc x e. refl) (λ u. refl)
+            (λ u. []) (λ u. []) (λ u. refl) (λ u g. refl));
       }
 
   splits : (ts : Shapes) (t : Shape) (made : Parts ts → Value t) (n : ℕ) (o : Place) → count ts ≡ n
@@ -498,8 +406,8 @@ module _ (types : List TypeDef) (old new : PlainBindgen) where
         vals,
         ps,
         plain_does st n old new adds (Unit {0}) (of o (item a) ∷ []) (item a ∷ []) (λ f. stay) (λ u. item_data plain_meaning vals) (λ u fs. fs ≡ ofs plain_meaning (places_from old.count n) (item_data plain_meaning vals))
-            (λ x values n. refl) (λ t h. one_at old t o (item a) h) (λ area f acc. ap (λ (b : PlainItem). performs area st f (item b ∷ []) acc) h.1) (λ p acc x e. len) (λ u. refl)
-            (λ u. []) (λ u. []) (λ f acc x e. stay_owns acc x e),
+            (λ x values n. refl) refl (λ t h. one_at old t o (item a) h) (λ area f acc. ap (λ (b : PlainItem). performs area st f (item b ∷ []) acc) h.1) (λ p acc x e. len) (λ u. refl)
+            (λ u. []) (λ u. []) (λ u. refl) (λ u g. omega (arith, ap (λ (b : PlainItem). total g (data_own (item b ∷ []))) h.1, whole_owns h.0 g)),
       )
 
   joins : (ts : Shapes) (t : Shape) (made : Parts ts → Value t) (os : List Place) → length os ≡ count ts
@@ -511,8 +419,8 @@ module _ (types : List TypeDef) (old new : PlainBindgen) where
       let a : PlainItem = whole (gathered ds) in
       let both : length os ≡ length ds = fits ∙ sym len ∙ sym (length-map vals (λ b. item b)) in
       plain_does st 1 old new adds (Unit {0}) (ofs plain_meaning os ds) ds (λ f. stay) (λ u. item a ∷ []) (λ u fs. (c : PlainItem) × (fs ≡ ofs plain_meaning (places_from old.count 1) (item c ∷ [])) × ((v : Parts ts) (own : List Block) → PartsStand plain_meaning take ts v vals own → PlainStands take t (made v) c own))
-      (λ x values n. refl) (λ t h. many_at old t os ds both h) (λ area f acc. refl) (λ p acc x e. refl) (λ u. (a, refl, λ v own h. is v (gathered ds) own (subst (λ xs. PlainPartsStand take ts v xs own) (sym (gathered_is vals)) (plain_parts take ts v vals own h))))
-      (λ u. []) (λ u. []) (λ f acc x e. stay_owns acc x e)
+      (λ x values n. refl) (ofs_own os ds both) (λ t h. many_at old t os ds both h) (λ area f acc. refl) (λ p acc x e. refl) (λ u. (a, refl, λ v own h. is v (gathered ds) own (subst (λ xs. PlainPartsStand take ts v xs own) (sym (gathered_is vals)) (plain_parts take ts v vals own h))))
+      (λ u. []) (λ u. []) (λ u. refl) (λ u g. omega (arith, whole_owns (gathered ds) g, ap (λ xs. total g (data_own (item_data plain_meaning xs))) (gathered_is vals)))
 
   pub splits_record : (id : TypeId) (members : List Field) (o : Place) (rs : List Place) → IsRecord types id.0 members → AddsStep (step.Split o.number old.count) (length members) old new → rs ≡ places_from old.count (length members)
       → Emits plain_meaning types (instruction.RecordLower id) (o ∷ []) rs old new
@@ -520,7 +428,7 @@ module _ (types : List TypeDef) (old new : PlainBindgen) where
     adds = plain_adds (step.Split o.number old.count) (length members) old new adds refl;
     returned = adds.returned;
     asked = adds.asked;
-    blocks = refl;
+    blocks = plain_blocks (step.Split o.number old.count) (length members) old new adds;
     form = tt;
     results = λ others other. ap length places ∙ places_count old.count (length members) ∙ ap length (one_record types id.0 members others is other);
     row = λ others other.
@@ -535,7 +443,7 @@ module _ (types : List TypeDef) (old new : PlainBindgen) where
     adds = plain_adds (step.Join os old.count) 1 old new adds refl;
     returned = adds.returned;
     asked = adds.asked;
-    blocks = refl;
+    blocks = plain_blocks (step.Join os old.count) 1 old new adds;
     form = tt;
     results = ap length places;
     row = λ others other.
@@ -549,7 +457,7 @@ module _ (types : List TypeDef) (old new : PlainBindgen) where
     adds = plain_adds (step.Split o.number old.count) n old new adds refl;
     returned = adds.returned;
     asked = adds.asked;
-    blocks = refl;
+    blocks = plain_blocks (step.Split o.number old.count) n old new adds;
     form = tt;
     results = ap length places ∙ places_count old.count n;
     row = λ ts fits. subst (λ ps. LowersParts plain_meaning ts (tuple ts) (λ v. v) (o ∷ []) ps old new) (sym places) (splits ts (tuple ts) (λ v. v) n o fits (λ dir v a own h. h) adds);
@@ -560,7 +468,7 @@ module _ (types : List TypeDef) (old new : PlainBindgen) where
     adds = plain_adds (step.Join os old.count) 1 old new adds refl;
     returned = adds.returned;
     asked = adds.asked;
-    blocks = refl;
+    blocks = plain_blocks (step.Join os old.count) 1 old new adds;
     form = tt;
     results = ap length places;
     row = λ ts fits. subst (λ ps. LiftsParts plain_meaning ts (tuple ts) (λ v. v) os ps old new) (sym places) (joins ts (tuple ts) (λ v. v) os (len ∙ sym fits) (λ v items own h. (items, refl, h)) adds);

@@ -1,6 +1,8 @@
 -- What the steps of a `PlainBindgen` do: a run of more steps, the calls that they leave alone, and the action of a step.
-use Rattle.std.proofs.Common.{◌≡◌, ℕ, zero, suc, ◌+◌, ◌-◌, ◌^◌, ◌≤◌, pos, Bool, true, false, ◌&&◌, ◌||◌, not, nat_eq, nat_lt, if◌then◌else◌, List, [], ◌∷◌, ◌++◌, length, map, find, Option, None, Some, is_some, option_map, refl, sym, ap, ap₂, ◌∙◌, subst, arith}
-use Rattle.std.specs.List.{AllByRecursion}
+use Rattle.std.proofs.Common.{◌≡◌, ℕ, zero, suc, ◌+◌, ◌-◌, ◌^◌, ◌≤◌, pos, Bool, true, false, ◌&&◌, ◌||◌, not, nat_eq, nat_lt, if◌then◌else◌, List, [], ◌∷◌, ◌++◌, length, map, reverse, find, Option, None, Some, is_some, option_map, refl, sym, ap, ap₂, ◌∙◌, subst, arith}
+use Rattle.std.specs.List.{AllByRecursion, flat_map}
+use Rattle.std.specs.declared.alloc.Global.{Global}
+use Rattle.std.specs.declared.vec.Vec.{Vec}
 use Rattle.std.specs.Str.{is_utf8}
 use Rattle.wit_model.specs.Size.{bytes_at}
 use Rattle.wit_model.specs.declared.size.ArchitectureSize.{ArchitectureSize}
@@ -26,6 +28,9 @@ use Rattle.wrapper_meaning.specs.Cells.{bytes_from, little}
 use Rattle.wrapper_meaning.specs.Items.{SameItems, total}
 use Rattle.wrapper_meaning.specs.Numbers.{is_scalar_value, is_signed, low_bits}
 use Rattle.wrapper_meaning.specs.Words.{bits_of}
+use Rattle.wrapper_meaning.proofs.PostReturn.{total-append}
+use Rattle.abi_driver.specs.declared.plain.Body.{Body}
+use Rattle.abi_driver.specs.declared.plain.OpenBlock.{OpenBlock}
 use Rattle.abi_driver.specs.declared.plain.PlainBindgen.{PlainBindgen}
 use Rattle.abi_driver.specs.declared.plain.Step.{Step}
 use Rattle.abi_driver.specs.declared.plain.Step.TheVariants as step
@@ -36,9 +41,9 @@ use Rattle.abi_driver.specs.Laws.{Adds, After, At, Does, Facts, Grows, ofs}
 use Rattle.abi_driver.specs.Meaning.{Datum, item, word}
 use Rattle.abi_driver.specs.Memory.{Access, access, bytes_on, freed, freeing, is_aligned, is_inside, is_ranged, is_reached, little_bytes, loaded, storing}
 use Rattle.abi_driver.specs.Memory as memory
-use Rattle.abi_driver.specs.Plain.{AddsStep, IsRight, PlainItem, PlainState, all_words, as_flags, casting, free_block, free_text, inputs, kept, leaf, load_word, normal, passing, performed, performs, places_from, pointed, plain_meaning, put, read_as, read_tag, runs, scalar_of, splitting, store_word, take_text, whole, writes}
-use Rattle.abi_driver.specs.PlainSound.{all_both, all_left, all_right}
-use Rattle.abi_driver.proofs.PlainPlaces.{put_below, put_right, still_right}
+use Rattle.abi_driver.specs.Plain.{AddsStep, Hold, IsRight, PlainItem, PlainState, all_words, as_flags, casting, data_own, fact_owns, free_block, free_text, inputs, kept, leaf, load_word, normal, own_area, passing, performed, performs, places_from, pointed, plain_meaning, put, read_as, read_tag, removed, runs, scalar_of, splitting, store_word, take_text, whole, writes}
+use Rattle.abi_driver.specs.PlainSound.{all_both, all_left, all_right, own_both}
+use Rattle.abi_driver.proofs.PlainPlaces.{ofs_own, places_count, put_below, put_right, removed_total, still_hold, still_right}
 use Rattle.abi_driver.proofs.Runs.{follows_more}
 
 -- 1. Calls are left alone
@@ -190,6 +195,7 @@ performs_quiet area (step.Argument n to) p ds acc e = refl
 performs_quiet area (step.Number z to) p ds acc e = refl
 performs_quiet area (step.Zeros types to) p ds acc e = refl
 performs_quiet area (step.Cast casts from to) p ds acc e = casting_quiet casts (all_words ds) acc
+performs_quiet area (step.Payload slot to) p ds acc e = refl
 performs_quiet area (step.Pass from to) p ds acc e = passing_quiet ds acc
 performs_quiet area (step.Read ty from to) p ds acc e = read_quiet (scalar_of ty) p.form ds acc
 performs_quiet area (step.ReadTag n from to) p ds acc e = read_tag_quiet n p.form ds acc
@@ -226,21 +232,24 @@ calls_then account (Done s) next h = h s
 calls_then account (Stopped e acc) next h = refl
 calls_then account (Stuck acc) next h = refl
 
-keeps_calls : (st : Step) (s : PlainState) (o : Outcome PlainItem (Got PlainItem (List (Datum PlainItem)))) → Quietly s.account o
-    → (account_in (λ (t : PlainState). t.account) (then_do (then_do o (λ x. Done (kept (writes st) x s))) (λ u. Done u))).calls ≡ s.account.calls
-keeps_calls st s (Done x) h = h
-keeps_calls st s (Stopped e acc) h = h
-keeps_calls st s (Stuck acc) h = h
+keeps_calls : (st : Step) (ds : List (Datum PlainItem)) (s : PlainState) (o : Outcome PlainItem (Got PlainItem (List (Datum PlainItem)))) → Quietly s.account o
+    → (account_in (λ (t : PlainState). t.account) (then_do (then_do o (λ x. Done (kept st ds x s))) (λ u. Done u))).calls ≡ s.account.calls
+keeps_calls st ds s (Done x) h = h
+keeps_calls st ds s (Stopped e acc) h = h
+keeps_calls st ds s (Stuck acc) h = h
 
 step_calls : (area : Option Request) (st : Step) (p : Peer PlainItem) (ds : Option (List (Datum PlainItem))) (s : PlainState) → makes_call st ≡ false → (account_in (λ (t : PlainState). t.account) (then_do (performed area st p ds s) (λ u. Done u))).calls ≡ s.account.calls
 step_calls area st p None s e = refl
-step_calls area st p (Some ds) s e = keeps_calls st s (performs area st p ds s.account) (performs_quiet area st p ds s.account e)
+step_calls area st p (Some ds) s e = keeps_calls st ds s (performs area st p ds s.account) (performs_quiet area st p ds s.account e)
 
 module _ (st : Step) (k : ℕ) (old new : PlainBindgen) (adds : AddsStep st k old new) where
   longer : (area : Option Request) (f : Peer PlainItem) (s : PlainState) → runs area f new.steps s ≡ then_do (runs area f old.steps s) (λ t. runs area f (st ∷ []) t)
   longer area f s = ap (λ xs. runs area f xs s) adds.steps ∙ runs_both area f old.steps (st ∷ []) s
 
   -- 3. A step is added
+
+  pub plain_blocks : plain_meaning.blocks new ≡ plain_meaning.blocks old
+  plain_blocks = ap (λ (v : Vec Body Global). reverse v.items) adds.blocks
 
   pub plain_grows : Grows plain_meaning old new
   plain_grows = record {
@@ -253,31 +262,33 @@ module _ (st : Step) (k : ℕ) (old new : PlainBindgen) (adds : AddsStep st k ol
     knows = λ types h. subst (λ sizes. IsFilledFor sizes types) (sym adds.sizes) h;
     target = λ f. ap₂ (λ import home. if import then target.Core home f.name.wit else target.Method home f.name.snake) adds.import adds.home;
     crosses = λ w f. refl;
-    opened = refl;
-    known = λ w facts s h. still_right old new s s facts (omega (arith, adds.count)) (λ n l. refl) (λ n. refl) h;
+    opened = ap (λ (v : Vec OpenBlock Global). map (λ (o : OpenBlock). (o.slot, o.suspended)) (reverse v.items)) adds.opened;
+    known = λ w facts s h. still_hold old new s facts (omega (arith, adds.count)) (omega (arith, adds.slots)) h;
   }
 
   pub plain_adds : makes_call st ≡ false → Adds plain_meaning old new
   plain_adds e = record {
     grows = plain_grows;
     asked = adds.asked;
-    blocks = refl;
+    blocks = plain_blocks;
     quiet = λ w f s h.
         ap (λ o. (account_in (λ (t : PlainState). t.account) o).calls) (longer w f s)
         ∙ calls_then (λ (t : PlainState). t.account) (runs w f old.steps s) (λ t. runs w f (st ∷ []) t) (λ t. step_calls w st f (inputs st t) t e);
   }
 
-  -- the results of an action on the account, whatever it does to the owners
-  pub record Followed (A : Type 0) (act : Peer PlainItem → Act PlainItem A) (Outs : A → Facts plain_meaning → Type 0) (w : Option Request) (f : Peer PlainItem) (others : Facts plain_meaning) (s : PlainState) (x : Got PlainItem A) (t : PlainState) : Type 0 where
+  -- the results of an action on the account, where the step reads these data, and gives results by what the action gives
+  pub record Followed (A : Type 0) (ds : List (Datum PlainItem)) (res : A → List (Datum PlainItem)) (act : Peer PlainItem → Act PlainItem A) (Outs : A → Facts plain_meaning → Type 0) (f : Peer PlainItem) (others : Facts plain_meaning) (s : PlainState) (x : Got PlainItem A) (t : PlainState) : Type 0 where
     pub done : act f s.account ≡ Done x
     pub account : t.account ≡ x.account
+    pub owns : (g : ℕ → ℕ) → total g t.owns + total g (data_own ds) ≡ total g s.owns + total g (data_own (res x.result)) + total g (own_area st ds (res x.result))
     pub facts : Facts plain_meaning
     pub tells : Outs x.result facts
-    pub denotes : plain_meaning.denotes w new (facts ++ others) t
+    pub denotes : Hold new (facts ++ others) t
 
   -- a step that does an action on the account, and gives results by what the action gives, where this area is asked for
   module _ (w : Option Request) (A : Type 0) (ins : Facts plain_meaning) (ds : List (Datum PlainItem)) (act : Peer PlainItem → Act PlainItem A) (res : A → List (Datum PlainItem)) (Outs : A → Facts plain_meaning → Type 0)
       (here : (x : A) (values : ℕ → Option (Datum PlainItem)) (n : ℕ) → put (writes st) (res x) values n ≡ put old.count (res x) values n)
+      (same : flat_map fact_owns ins ≡ data_own ds)
       (does : (f : Peer PlainItem) (acc : Account PlainItem) → performs w st f ds acc ≡ then_do (act f acc) (λ x. gives (res x.result) x.account))
       (fits : (f : Peer PlainItem) (acc : Account PlainItem) (x : Got PlainItem A) → act f acc ≡ Done x → length (res x.result) ≡ k)
       (outs : (x : A) → Outs x (ofs plain_meaning (places_from old.count k) (res x))) where
@@ -287,52 +298,77 @@ module _ (st : Step) (k : ℕ) (old new : PlainBindgen) (adds : AddsStep st k ol
     follows_step (Stopped s acc) q g P e h = e
     follows_step (Stuck acc) q g P e h = ap (λ o. (account_in (λ (t : PlainState). t.account) o).calls) e
 
-    given_on : (o : Outcome PlainItem (Got PlainItem A)) (s : PlainState) →
-        then_do (then_do (then_do o (λ x. gives (res x.result) x.account)) (λ x. Done (kept (writes st) x s))) (λ u. Done u) ≡ then_do o (λ x. Done (kept (writes st) (record { result = res x.result; account = x.account }) s))
+    abbrev after : PlainState → Got PlainItem A → PlainState
+    after s x = kept st ds (record { result = res x.result; account = x.account }) s
+
+    given_on : (o : Outcome PlainItem (Got PlainItem A)) (s : PlainState) → then_do (then_do (then_do o (λ x. gives (res x.result) x.account)) (λ x. Done (kept st ds x s))) (λ u. Done u) ≡ then_do o (λ x. Done (after s x))
     given_on (Done x) s = refl
     given_on (Stopped e acc) s = refl
     given_on (Stuck acc) s = refl
 
+    -- what the step reads is owned before
+    owned_before : (others : Facts plain_meaning) (s : PlainState) → Hold old (ins ++ others) s → (g : ℕ → ℕ) → total g (data_own ds) + total g (flat_map fact_owns others) ≤ total g s.owns
+    owned_before others s h g = omega (arith, h.owned g, own_both g ins others, ap (total g) same)
+
+    owned_after : (others : Facts plain_meaning) (s : PlainState) (x : Got PlainItem A) → Hold old (ins ++ others) s
+        → (g : ℕ → ℕ) → total g (after s x).owns + total g (data_own ds) ≡ total g s.owns + total g (data_own (res x.result)) + total g (own_area st ds (res x.result))
+    owned_after others s x h g =
+        let left = removed (data_own ds) s.owns in
+        let made = data_own (res x.result) in
+        let area = own_area st ds (res x.result) in
+        omega (arith, removed_total (data_own ds) s.owns (λ k. omega (arith, owned_before others s h k)) g, total-append g (left ++ made) area, total-append g left made)
+
     pub plain_follows : (f : Peer PlainItem) (others : Facts plain_meaning) (s0 s : PlainState) → inputs st s ≡ Some ds → At plain_meaning w f old new (ins ++ others) s0 s
-        → Follows (λ (t : PlainState). t.account) (act f s.account) (runs w f new.steps s0) (Followed A act Outs w f others s)
+        → Follows (λ (t : PlainState). t.account) (act f s.account) (runs w f new.steps s0) (Followed A ds res act Outs f others s)
     plain_follows f others s0 s reads at =
-        let after : Got PlainItem A → PlainState = λ x. kept (writes st) (record { result = res x.result; account = x.account }) s in
-        let ran : runs w f new.steps s0 ≡ then_do (act f s.account) (λ x. Done (after x)) =
+        let ran : runs w f new.steps s0 ≡ then_do (act f s.account) (λ x. Done (after s x)) =
         longer w f s0 ∙ ap (λ o. then_do o (λ t. runs w f (st ∷ []) t)) at.done ∙ ap (λ i. then_do (performed w st f i s) (λ u. Done u)) reads
-        ∙ ap (λ o. then_do (then_do o (λ x. Done (kept (writes st) x s))) (λ u. Done u)) (does f s.account) ∙ given_on (act f s.account) s in
+        ∙ ap (λ o. then_do (then_do o (λ x. Done (kept st ds x s))) (λ u. Done u)) (does f s.account) ∙ given_on (act f s.account) s in
         let more : old.count ≤ new.count = omega (arith, adds.count) in
-        follows_step (act f s.account) (runs w f new.steps s0) after
-        (Followed A act Outs w f others s) ran
+        let slots : old.slots ≤ new.slots = omega (arith, adds.slots) in
+        follows_step (act f s.account) (runs w f new.steps s0) (after s) (Followed A ds res act Outs f others s) ran
         (λ x done.
-        let t = after x in
+        let t = after s x in
+        let made = places_from old.count k in
         let values : (n : ℕ) → t.values n ≡ put old.count (res x.result) s.values n = λ n. here x.result s.values n in
-        let room : old.count + length (res x.result) ≤ new.count = omega (arith, adds.count, fits f s.account x done) in
+        let many = fits f s.account x done in
+        let room : old.count + length (res x.result) ≤ new.count = omega (arith, adds.count, many) in
         let news = put_right new t old.count (res x.result) s.values room values in
-        let olds = still_right old new s t others more (λ n l. values n ∙ put_below old.count (res x.result) s.values n l) (λ n. refl) (all_right (IsRight old s) ins others at.holds) in
+        let olds = still_right old new s t others more slots (λ n l. values n ∙ put_below old.count (res x.result) s.values n l) refl refl (all_right (IsRight old s) ins others at.holds.each) in
+        let own = owned_after others s x at.holds in
+        let new_own = ofs_own made (res x.result) (places_count old.count k ∙ sym many) in
         record {
           done = done;
           account = refl;
-          facts = ofs plain_meaning (places_from old.count k) (res x.result);
+          owns = own;
+          facts = ofs plain_meaning made (res x.result);
           tells = outs x.result;
-          denotes = all_both (IsRight new t) (ofs plain_meaning (places_from old.count k) (res x.result)) others
-              (subst (λ n. AllByRecursion (IsRight new t) (ofs plain_meaning (places_from old.count n) (res x.result))) (fits f s.account x done) news) olds;
+          denotes = record {
+            each = all_both (IsRight new t) (ofs plain_meaning made (res x.result)) others (subst (λ n. AllByRecursion (IsRight new t) (ofs plain_meaning (places_from old.count n) (res x.result))) many news) olds;
+            owned = λ g. omega (arith, own g, owned_before others s at.holds g, own_both g (ofs plain_meaning made (res x.result)) others, ap (total g) new_own);
+          };
         })
 
-  -- the same whatever area is asked for, where it makes owners and lets go of others by what it gives
+  -- the same whatever area is asked for, where what the action makes owned, and lets go, is what the data own
   pub plain_does : (A : Type 0) (ins : Facts plain_meaning) (ds : List (Datum PlainItem)) (act : Peer PlainItem → Act PlainItem A) (res : A → List (Datum PlainItem)) (Outs : A → Facts plain_meaning → Type 0)
       → ((x : A) (values : ℕ → Option (Datum PlainItem)) (n : ℕ) → put (writes st) (res x) values n ≡ put old.count (res x) values n)
+      → flat_map fact_owns ins ≡ data_own ds
       → ((s : PlainState) → AllByRecursion (IsRight old s) ins → inputs st s ≡ Some ds)
       → ((area : Option Request) (f : Peer PlainItem) (acc : Account PlainItem) → performs area st f ds acc ≡ then_do (act f acc) (λ x. gives (res x.result) x.account))
       → ((f : Peer PlainItem) (acc : Account PlainItem) (x : Got PlainItem A) → act f acc ≡ Done x → length (res x.result) ≡ k)
       → ((x : A) → Outs x (ofs plain_meaning (places_from old.count k) (res x)))
-      → (made gone : A → List ℕ) → ((f : Peer PlainItem) (acc : Account PlainItem) (x : Got PlainItem A) → act f acc ≡ Done x → SameItems (x.account.taken ++ gone x.result) (acc.taken ++ made x.result))
+      → (made gone : A → List ℕ) → ((x : A) → own_area st ds (res x) ≡ []) → ((x : A) (g : ℕ → ℕ) → total g (data_own (res x)) + total g (gone x) ≡ total g (data_own ds) + total g (made x))
       → Does plain_meaning A old new ins act Outs made gone
-  plain_does A ins ds act res Outs here reads does fits outs made gone owns w f others s0 s at =
-      follows_more (λ (t : PlainState). t.account) (act f s.account) (runs w f new.steps s0) (Followed A act Outs w f others s)
+  plain_does A ins ds act res Outs here same reads does fits outs made gone unplaced owns w f others s0 s at =
+      follows_more (λ (t : PlainState). t.account) (act f s.account) (runs w f new.steps s0) (Followed A ds res act Outs f others s)
       (λ x t. (fs : Facts plain_meaning) × Outs x.result fs × After plain_meaning w new (fs ++ others) (made x.result) (gone x.result) s x t)
-      (plain_follows w A ins ds act res Outs here (does w) fits outs f others s0 s (reads s (all_left (IsRight old s) ins others at.holds)) at)
+      (plain_follows w A ins ds act res Outs here same (does w) fits outs f others s0 s (reads s (all_left (IsRight old s) ins others at.holds.each)) at)
       (λ x t h. (
         h.facts,
         h.tells,
-        record { account = h.account; owns = λ g. ap (λ (acc : Account PlainItem). total g (acc.taken ++ gone x.result)) h.account ∙ owns f s.account x h.done g; denotes = h.denotes },
+        record {
+          account = h.account;
+          owns = λ g. omega (arith, h.owns g, ap (total g) (unplaced x.result), owns x.result g, total-append g t.owns (gone x.result), total-append g s.owns (made x.result));
+          denotes = h.denotes;
+        },
       ))

@@ -1,7 +1,7 @@
 -- What the code of a `PlainBindgen` means: a list of steps, over values that are held in memory by numbered places.
-use Rattle.std.specs.Prelude.{◌≡◌, ◌<◌, ◌+◌, ◌%◌, ◌^◌, ◌&&◌, ℕ, zero, suc, not, Bool, true, false, nat_eq, if◌then◌else◌, option_to_list, pos, List, [], ◌∷◌, ◌++◌, length, map, Option, None, Some}
+use Rattle.std.specs.Prelude.{◌≡◌, ◌<◌, ◌+◌, ◌%◌, ◌^◌, ◌&&◌, ℕ, zero, suc, not, Bool, true, false, nat_eq, if◌then◌else◌, option_to_list, pos, List, [], ◌∷◌, ◌++◌, length, map, reverse, Option, None, Some}
 use Rattle.std.specs.Int.{w8, w16, w32, w64, cast_signed}
-use Rattle.std.specs.List.{AllByRecursion}
+use Rattle.std.specs.List.{AllByRecursion, flat_map}
 use Rattle.wit_model.specs.Size.{bytes_at}
 use Rattle.wit_model.specs.declared.function.Function.{Function}
 use Rattle.wit_model.specs.declared.size.ArchitectureSize.{ArchitectureSize}
@@ -24,6 +24,7 @@ use Rattle.wrapper_data.specs.declared.word.Word.{Word}
 use Rattle.wrapper_data.specs.declared.word.Word.TheVariants as core
 use Rattle.wrapper_meaning.specs.AsWords.{Says, flag_bits, passed_word}
 use Rattle.wrapper_meaning.specs.Direction.{Direction}
+use Rattle.wrapper_meaning.specs.Items.{AtMost}
 use Rattle.wrapper_meaning.specs.Numbers.{low_bits}
 use Rattle.wrapper_meaning.specs.Shape.{Shape, Shapes, is_nothing}
 use Rattle.wrapper_meaning.specs.Shape.Shape.{scalar, text, list, pairs, fixed, fields, tuple, cases, flags, handle, resource, other}
@@ -33,17 +34,19 @@ use Rattle.wrapper_meaning.specs.Value.{Parts, Value, case_number}
 use Rattle.wrapper_meaning.specs.Words.{AreWords, bits_of, word_of_bits}
 use Rattle.abi_driver.specs.declared.instruction.Instruction.{Instruction}
 use Rattle.abi_driver.specs.declared.instruction.Instruction.TheVariants as instruction
+use Rattle.abi_driver.specs.declared.plain.Body.{Body}
+use Rattle.abi_driver.specs.declared.plain.OpenBlock.{OpenBlock}
 use Rattle.abi_driver.specs.declared.plain.Place.{Place}
 use Rattle.abi_driver.specs.declared.plain.PlainBindgen.{PlainBindgen}
 use Rattle.abi_driver.specs.declared.plain.Step.{Step}
 use Rattle.abi_driver.specs.declared.plain.Step.TheVariants as step
 use Rattle.abi_driver.specs.declared.plain.words.WordTouch.{WordTouch}
 use Rattle.abi_driver.specs.declared.plain.words.WordTouch.TheVariants as touched
-use Rattle.abi_driver.specs.Account.{Account, Act, Crossing, Done, Got, Outcome, Peer, Reply, Stuck, addresses, gives, reading, releasing, taking, then_do}
+use Rattle.abi_driver.specs.Account.{Account, Act, Crossing, Done, Got, Outcome, Peer, Reply, Stuck, addresses, gives, reading, releasing, taking, then_do, without}
 use Rattle.abi_driver.specs.Area.{HoldsRecord, placing}
 use Rattle.abi_driver.specs.Calls.{calling, handing}
 use Rattle.abi_driver.specs.Cases.{reading_tag, tag_of}
-use Rattle.abi_driver.specs.Meaning.{Datum, Fact, Meaning, arg, bound, item, of, word}
+use Rattle.abi_driver.specs.Meaning.{Bound, Datum, Ended, Fact, Meaning, Name, arg, at_place, bound, item, of, the_base, the_element, the_key, the_payload, the_value, with_element, with_entry, with_nothing, with_payload, word}
 use Rattle.abi_driver.specs.Memory.{Access, freeing, loading, storing}
 use Rattle.abi_driver.specs.Touches.{Touch, loads, part_grain, stores}
 
@@ -72,6 +75,13 @@ abbrev mutual
   pub owned_by_all : PlainItems → List ℕ
   owned_by_all no_items = []
   owned_by_all (item_and a items) = owned_by a ++ owned_by_all items
+
+abbrev pub datum_owns : Datum PlainItem → List ℕ
+datum_owns (word x) = []
+datum_owns (item a) = owned_by a
+
+abbrev pub data_own : List (Datum PlainItem) → List ℕ
+data_own ds = flat_map datum_owns ds
 
 -- the items among some data
 abbrev pub gathered : List (Datum PlainItem) → PlainItems
@@ -225,6 +235,10 @@ pub record PlainState : Type 0 where
   pub area : Option ℕ
   -- what stands in each place
   pub values : ℕ → Option (Datum PlainItem)
+  -- what the names of each block are bound to
+  pub names : ℕ → Name → Option (Datum PlainItem)
+  -- the addresses of the blocks that the items of the innermost block own
+  pub owns : List ℕ
 
 abbrev pub PlainAct : Type 0
 PlainAct = Act PlainItem (List (Datum PlainItem))
@@ -316,6 +330,7 @@ performs area (step.Argument number to) p ds acc = gives ds acc
 performs area (step.Number z to) p ds acc = gives (word (core.I32 z) ∷ []) acc
 performs area (step.Zeros types to) p ds acc = gives (map (λ w. word w) (map (λ ty. word_of_bits 2 ty 0) types)) acc
 performs area (step.Cast casts from to) p ds acc = casting casts (all_words ds) acc
+performs area (step.Payload slot to) p ds acc = gives ds acc
 performs area (step.Pass from to) p ds acc = passing ds acc
 performs area (step.Read ty from to) p ds acc = read_as (scalar_of ty) p.form ds acc
 performs area (step.ReadTag n from to) p ds acc = read_tag n p.form ds acc
@@ -351,6 +366,7 @@ inputs (step.Argument number to) s = all_at s.arguments (number ∷ [])
 inputs (step.Number z to) s = Some []
 inputs (step.Zeros types to) s = Some []
 inputs (step.Cast casts from to) s = all_at s.values (map (λ (p : Place). p.number) from)
+inputs (step.Payload slot to) s = and_all (s.names slot the_payload) (Some [])
 inputs (step.Pass from to) s = all_at s.values (from ∷ [])
 inputs (step.Read ty from to) s = all_at s.values (from ∷ [])
 inputs (step.ReadTag n from to) s = all_at s.values (from ∷ [])
@@ -372,6 +388,7 @@ writes (step.Argument number to) = to
 writes (step.Number z to) = to
 writes (step.Zeros types to) = to
 writes (step.Cast casts from to) = to
+writes (step.Payload slot to) = to
 writes (step.Pass from to) = to
 writes (step.Read ty from to) = to
 writes (step.ReadTag n from to) = to
@@ -392,24 +409,87 @@ abbrev pub put : ℕ → List (Datum PlainItem) → (ℕ → Option (Datum Plain
 put to [] values = values
 put to (d ∷ ds) values = put (suc to) ds (λ n. if nat_eq n to then Some d else values n)
 
-abbrev pub kept : ℕ → Got PlainItem (List (Datum PlainItem)) → PlainState → PlainState
-kept to x s = record { account = x.account; arguments = s.arguments; area = s.area; values = put to x.result s.values }
+-- without these
+abbrev pub removed : List ℕ → List ℕ → List ℕ
+removed [] owns = owns
+removed (a ∷ places) owns = removed places (without a owns)
+
+-- the area has an owner from when it is placed
+abbrev pub own_area : Step → (reads makes : List (Datum PlainItem)) → List ℕ
+own_area (step.Area to) [] (word (core.Pointer address) ∷ []) = address ∷ []
+own_area _ _ _ = []
+
+-- items that were read own nothing any more, and those that were made own their blocks
+abbrev pub kept : Step → List (Datum PlainItem) → Got PlainItem (List (Datum PlainItem)) → PlainState → PlainState
+kept st ds x s = record s { account = x.account; values = put (writes st) x.result s.values; owns = removed (data_own ds) s.owns ++ data_own x.result ++ own_area st ds x.result }
 
 abbrev pub performed : Option Request → Step → Peer PlainItem → Option (List (Datum PlainItem)) → PlainState → Outcome PlainItem PlainState
 performed area st p None s = Stuck s.account
-performed area st p (Some ds) s = then_do (performs area st p ds s.account) (λ x. Done (kept (writes st) x s))
+performed area st p (Some ds) s = then_do (performs area st p ds s.account) (λ x. Done (kept st ds x s))
 
 abbrev pub runs : Option Request → Peer PlainItem → List Step → PlainState → Outcome PlainItem PlainState
 runs area p [] s = Done s
 runs area p (st ∷ steps) s = then_do (performed area st p (inputs st s) s) (λ t. runs area p steps t)
 
--- 5. The meaning. It has no blocks
+-- 5. Blocks
 
--- an operand denotes what stands in its place, which was written
-abbrev pub IsRight : PlainBindgen → PlainState → Fact Place (Unit {0}) PlainItem → Type 0
+abbrev pub bound_to : Bound PlainItem → Name → Option (Datum PlainItem)
+bound_to (with_payload a) the_payload = Some (item a)
+bound_to (at_place q) the_base = Some (word (core.Pointer q))
+bound_to (with_element a q) the_element = Some (item a)
+bound_to (with_element a q) the_base = Some (word (core.Pointer q))
+bound_to (with_entry k x q) the_key = Some (item k)
+bound_to (with_entry k x q) the_value = Some (item x)
+bound_to (with_entry k x q) the_base = Some (word (core.Pointer q))
+bound_to _ _ = None
+
+abbrev pub brings : Bound PlainItem → List ℕ
+brings with_nothing = []
+brings (with_payload a) = owned_by a
+brings (at_place q) = []
+brings (with_element a q) = owned_by a
+brings (with_entry k x q) = owned_by k ++ owned_by x
+
+abbrev pub only_word : Option (Datum PlainItem) → Option (Datum PlainItem)
+only_word (Some (word x)) = Some (word x)
+only_word _ = None
+
+-- the names of a block are bound, and nothing but words is seen of what stands outside
+abbrev pub entered : ℕ → Bound PlainItem → PlainState → PlainState
+entered slot with s = record {
+  account = s.account;
+  arguments = λ n. only_word (s.arguments n);
+  area = s.area;
+  values = λ n. only_word (s.values n);
+  names = λ k name. if nat_eq k slot then bound_to with name else only_word (s.names k name);
+  owns = brings with;
+}
+
+-- the data in the places of the results are given, and outside nothing is changed but the account
+abbrev pub ended : PlainState → PlainState → Option (List (Datum PlainItem)) → Outcome PlainItem (Ended PlainItem PlainState)
+ended s u None = Stuck u.account
+ended s u (Some ds) = Done (record { results = ds; state = record s { account = u.account } })
+
+abbrev pub runs_body : Option Request → Peer PlainItem → Body → Bound PlainItem → PlainState → Outcome PlainItem (Ended PlainItem PlainState)
+runs_body area p body with s = then_do (runs area p body.steps (entered body.slot with s)) (λ u. ended s u (all_at u.values (map (λ (o : Place). o.number) body.results)))
+
+-- 6. The meaning
+
+-- an operand denotes what stands in its place, which was written, and a name what it is bound to
+abbrev pub IsRight : PlainBindgen → PlainState → Fact Place ℕ PlainItem → Type 0
 IsRight b s (of o d) = (o.number < b.count) × (s.values o.number ≡ Some d)
 IsRight b s (arg n d) = s.arguments n ≡ Some d
-IsRight b s (bound slot name d) = ⊥
+IsRight b s (bound slot name d) = (slot < b.slots) × (s.names slot name ≡ Some d)
+
+abbrev pub fact_owns : Fact Place ℕ PlainItem → List ℕ
+fact_owns (of o d) = datum_owns d
+fact_owns (arg n d) = datum_owns d
+fact_owns (bound slot name d) = datum_owns d
+
+-- each of them is right, and together they own no more than is owned there
+pub record Hold (b : PlainBindgen) (facts : List (Fact Place ℕ PlainItem)) (s : PlainState) : Type 0 where
+  pub each : AllByRecursion (IsRight b s) facts
+  pub owned : AtMost (flat_map fact_owns facts) s.owns
 
 -- a call goes to the core import of the function's name, or to the method
 abbrev pub plain_target : PlainBindgen → Function → Target
@@ -420,8 +500,8 @@ plain_meaning = record {
   World = Option Request;
   State = PlainState;
   Code = List Step;
-  Block = ⊥;
-  Slot = Unit {0};
+  Block = Body;
+  Slot = ℕ;
   Item = PlainItem;
   width = 2;
   serves = λ w b. AllByRecursion (HoldsRecord 2 w) b.asked;
@@ -429,17 +509,17 @@ plain_meaning = record {
   area_at = λ s. s.area;
   stands = PlainStands;
   account = λ s. s.account;
-  owns = λ s. s.account.taken;
+  owns = λ s. s.owns;
   owned = owned_by;
   nothing = [];
   does = λ w p. runs w p;
-  runs = λ w p block with s. absurd block;
-  enter = λ slot with s. s;
-  results_of = λ block. absurd block;
-  denotes = λ w b facts s. AllByRecursion (IsRight b s) facts;
+  runs = runs_body;
+  enter = entered;
+  results_of = λ body. length body.results;
+  denotes = λ w b facts s. Hold b facts s;
   code = λ b. b.steps;
-  opened = λ b. [];
-  blocks = λ b. [];
+  opened = λ b. map (λ (o : OpenBlock). (o.slot, o.suspended)) (reverse b.opened.items);
+  blocks = λ b. reverse b.blocks.items;
   imports = λ b. b.import;
   exports = λ b. not b.import;
   knows = λ b types. IsFilledFor b.sizes types;
@@ -451,7 +531,7 @@ plain_meaning = record {
   forms = λ step os rs old new. Unit {0};
 }
 
--- 6. A step is added
+-- 7. A step is added
 
 -- so many places, from one on
 abbrev pub places_from : ℕ → ℕ → List Place
@@ -467,3 +547,6 @@ pub record AddsStep (st : Step) (k : ℕ) (old new : PlainBindgen) : Type 0 wher
   pub returned : new.returned ≡ old.returned
   pub asked : new.asked ≡ old.asked
   pub sizes : new.sizes ≡ old.sizes
+  pub slots : new.slots ≡ old.slots
+  pub opened : new.opened ≡ old.opened
+  pub blocks : new.blocks ≡ old.blocks

@@ -1,9 +1,10 @@
 -- That the meaning of a `PlainBindgen` is one: it keeps the laws on facts, operands and items.
 use mathlib.Core.Logic.{inl, inr}
-use Rattle.std.proofs.Common.{◌≡◌, ℕ, zero, suc, ◌%◌, ◌^◌, ◌<◌, true, pos, unsigned_abs, List, [], ◌∷◌, ◌++◌, length, refl, sym, ap, ap₂, ◌∙◌, subst, arith}
+use Rattle.std.proofs.Common.{◌≡◌, ℕ, zero, suc, ◌+◌, ◌%◌, ◌^◌, ◌<◌, true, pos, unsigned_abs, List, [], ◌∷◌, ◌++◌, length, refl, sym, ap, ap₂, ◌∙◌, subst, arith}
 use Rattle.std.specs.List.{AllByRecursion, flat_map}
 use Rattle.std.proofs.lemmas.Bool.{and_parts}
 use Rattle.std.proofs.lemmas.List.{map-append}
+use Rattle.std.proofs.lemmas.List.Concat.{flat_map-append}
 use Rattle.wrapper_data.specs.declared.block.Block.{Block}
 use Rattle.wrapper_data.specs.declared.word.Word.{Word}
 use Rattle.wrapper_data.specs.declared.word.Word.TheVariants as core
@@ -18,12 +19,14 @@ use Rattle.wrapper_meaning.specs.Shape.Shape.{scalar, text, list, pairs, fixed, 
 use Rattle.wrapper_meaning.specs.Shape.Shapes.{none, more}
 use Rattle.wrapper_meaning.specs.Value.{Case, Parts, Value, case_number}
 use Rattle.wrapper_meaning.proofs.Lists.{some_same}
+use Rattle.wrapper_meaning.proofs.PostReturn.{total-append}
 use Rattle.wrapper_meaning.proofs.WordScalars.{word_same}
 use Rattle.wrapper_meaning.proofs.WordsDetermined.{words_determine}
+use Rattle.abi_driver.specs.declared.plain.Place.{Place}
 use Rattle.abi_driver.specs.Account.{addresses}
-use Rattle.abi_driver.specs.Meaning.{Datum, item, word}
+use Rattle.abi_driver.specs.Meaning.{Datum, Fact, item, word}
 use Rattle.abi_driver.specs.Laws.{Sound}
-use Rattle.abi_driver.specs.Plain.{IsPlainText, IsRight, PlainItem, PlainItems, PlainPartsStand, PlainStands, is_bare, item_and, leaf, listed, no_items, owned_by, owned_by_all, plain_meaning, whole}
+use Rattle.abi_driver.specs.Plain.{IsPlainText, IsRight, PlainItem, PlainItems, PlainPartsStand, PlainStands, fact_owns, is_bare, item_and, leaf, listed, no_items, owned_by, owned_by_all, plain_meaning, whole}
 
 -- 1. Lists of facts
 
@@ -38,6 +41,10 @@ all_left P (x ∷ xs) ys h = (h.0, all_left P xs ys h.1)
 pub all_right : {A : Type 0} (P : A → Type 0) (xs ys : List A) → AllByRecursion P (xs ++ ys) → AllByRecursion P ys
 all_right P [] ys h = h
 all_right P (x ∷ xs) ys h = all_right P xs ys h.1
+
+-- what facts own, and other facts
+pub own_both : (g : ℕ → ℕ) (xs ys : List (Fact Place ℕ PlainItem)) → total g (flat_map fact_owns (xs ++ ys)) ≡ total g (flat_map fact_owns xs) + total g (flat_map fact_owns ys)
+own_both g xs ys = ap (total g) (flat_map-append fact_owns xs ys) ∙ total-append g (flat_map fact_owns xs) (flat_map fact_owns ys)
 
 -- 2. What a value of it is
 
@@ -274,7 +281,7 @@ mutual
 
 -- 5. What an item owns
 
-owned_listed : (items : PlainItems) → owned_by_all items ≡ flat_map owned_by (listed items)
+pub owned_listed : (items : PlainItems) → owned_by_all items ≡ flat_map owned_by (listed items)
 owned_listed no_items = refl
 owned_listed (item_and a items) = ap (λ xs. owned_by a ++ xs) (owned_listed items)
 
@@ -314,15 +321,18 @@ plain_sound = record {
   wide = inl refl;
   swap = λ w b one two others s h.
       let P = IsRight b s in
-      let later = all_right P one (two ++ others) h in
-      all_both P two (one ++ others) (all_left P two others later) (all_both P one others (all_left P one (two ++ others) h) (all_right P two others later));
-  fewer = λ w b some others s h. all_right (IsRight b s) some others h;
+      let later = all_right P one (two ++ others) h.each in
+      record {
+        each = all_both P two (one ++ others) (all_left P two others later) (all_both P one others (all_left P one (two ++ others) h.each) (all_right P two others later));
+        owned = λ g. omega (arith, h.owned g, own_both g one (two ++ others), own_both g two others, own_both g two (one ++ others), own_both g one others);
+      };
+  fewer = λ w b some others s h. record { each = all_right (IsRight b s) some others h.each; owned = λ g. omega (arith, h.owned g, own_both g some others) };
   room = λ w b h. h;
-  one_word = λ w b o x y s h g. ap (word_or x) (some_same (word x) (word y) (sym h.0.1 ∙ g.0.1));
-  one_item = λ w b o x y s h g. ap (item_or x) (some_same (item x) (item y) (sym h.0.1 ∙ g.0.1));
-  again = λ w b o x facts s h. (h.0, h);
-  arg_again = λ w b n x facts s h. (h.0, h);
-  bound_again = λ w b slot name x facts s h. (h.0, h);
+  one_word = λ w b o x y s h g. ap (word_or x) (some_same (word x) (word y) (sym h.each.0.1 ∙ g.each.0.1));
+  one_item = λ w b o x y s h g. ap (item_or x) (some_same (item x) (item y) (sym h.each.0.1 ∙ g.each.0.1));
+  again = λ w b o x facts s h. record { each = (h.each.0, h.each); owned = h.owned };
+  arg_again = λ w b n x facts s h. record { each = (h.each.0, h.each); owned = h.owned };
+  bound_again = λ w b slot name x facts s h. record { each = (h.each.0, h.each); owned = h.owned };
   nothing = λ w f s. refl;
   determined = λ t v u a own hv hu h g. (stands_same t v u a a own own refl hv hu h g).0;
   given = given_on;

@@ -1,6 +1,7 @@
 //! A `Bindgen` whose code is a list of steps over values that are held in memory, in numbered places.
 
 mod area;
+mod blocks;
 mod calls;
 mod constants;
 mod emit;
@@ -50,6 +51,11 @@ pub enum Step {
     Cast {
         casts: List<Bitcast>,
         from: List<Place>,
+        to: u32,
+    },
+    /// The payload with which an open block is run.
+    Payload {
+        slot: u32,
         to: u32,
     },
     /// The words of a scalar, a text, an enum or flags. It owns nothing any more.
@@ -140,6 +146,21 @@ pub enum Step {
     },
 }
 
+/// An open block: what tells it from others, and the steps that it suspends.
+#[derive(Drop)]
+pub(crate) struct OpenBlock {
+    slot: u32,
+    suspended: List<Step>,
+}
+
+/// A finished block: what tells it from others, its steps, and where its results stand.
+#[derive(Drop)]
+pub struct Body {
+    pub slot: u32,
+    pub steps: List<Step>,
+    pub results: List<Place>,
+}
+
 /// A `Bindgen` in memory, which shows that its laws can be met.
 #[derive(Drop)]
 pub struct PlainBindgen {
@@ -156,6 +177,12 @@ pub struct PlainBindgen {
     pub(crate) asked: List<Asked>,
     /// Where that stands which the code gives, once it was told.
     pub(crate) returned: Option<List<Place>>,
+    /// How many blocks were opened.
+    pub(crate) slots: u32,
+    /// The open blocks, the innermost last.
+    pub(crate) opened: Vec<OpenBlock>,
+    /// The finished blocks that no step has, the last one last.
+    pub(crate) blocks: Vec<Body>,
 }
 
 impl PlainBindgen {
@@ -176,6 +203,9 @@ impl PlainBindgen {
             count: 0,
             asked: List::new(alloc),
             returned: None,
+            slots: 0,
+            opened: Vec::new(alloc),
+            blocks: Vec::new(alloc),
         }
     }
 

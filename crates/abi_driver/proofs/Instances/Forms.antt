@@ -1,5 +1,5 @@
 -- How instances are written: numbers as arguments, an area, a peer that answers the text `ok` in it, and what code is to make of that.
-use Rattle.std.proofs.Common.{◌≡◌, ◌+◌, ℕ, false, pos, nat_lt, if◌then◌else◌, List, [], ◌∷◌, ◌++◌, Option, Some, None, codes, refl, ap, arith}
+use Rattle.std.proofs.Common.{◌≡◌, ◌+◌, ◌-◌, ℕ, false, pos, nat_lt, if◌then◌else◌, List, [], ◌∷◌, ◌++◌, map, Option, Some, None, codes, refl, ap, arith}
 use Rattle.wit_model.specs.declared.wasm_type.WasmType.TheVariants as wasm
 use Rattle.wrapper_data.specs.declared.choice.Request.{Request}
 use Rattle.wrapper_data.specs.declared.form.Form.{Form}
@@ -15,7 +15,7 @@ use Rattle.abi_driver.specs.declared.plain.Place.{Place}
 use Rattle.abi_driver.specs.declared.plain.Step.{Step}
 use Rattle.abi_driver.specs.declared.plain.Step.TheVariants as step
 use Rattle.abi_driver.specs.Account.{Account, Call, Done, Got, Outcome, Peer, Stopped, Stuck, Taken, failing, gives, tested, then_do, words}
-use Rattle.abi_driver.specs.Meaning.{Datum, item}
+use Rattle.abi_driver.specs.Meaning.{Datum, item, word}
 use Rattle.abi_driver.specs.Plain.{PlainItem, PlainStands, PlainState, kept, leaf, runs}
 
 -- 1. Where code begins
@@ -31,6 +31,8 @@ start size many = record {
   arguments = numbers many;
   area = Some 4096;
   values = λ n. None;
+  names = λ k name. None;
+  owns = 4096 ∷ [];
 }
 
 abbrev pub area_request : ℕ → Option Request
@@ -76,12 +78,18 @@ ok_is_text f acc =
     ap (λ b. if b then gives (record { bytes = codes "ok"; blocks = ok ∷ [] }) owned else failing f trap.Utf8 owned) (ascii (codes "ok") refl)
 
 -- the state in which it was taken over
+abbrev pub take_ok : ℕ → Step
+take_ok to = step.Take (to - 2) (to - 1) to
+
+abbrev pub ok_pair : List (Datum PlainItem)
+ok_pair = map (λ x. word x) (pair_words 8192 2)
+
 abbrev pub with_ok : (to : ℕ) → PlainState → PlainState
-with_ok to s = kept to (record { result = item ok_item ∷ []; account = record s.account { taken = s.account.taken ++ 8192 ∷ [] } }) s
+with_ok to s = kept (take_ok to) ok_pair (record { result = item ok_item ∷ []; account = record s.account { taken = s.account.taken ++ 8192 ∷ [] } }) s
 
 -- how the last step goes on with what was taken over
 abbrev pub then_taken : (to : ℕ) → PlainState → Outcome PlainItem (Got PlainItem Taken) → Outcome PlainItem PlainState
-then_taken to s o = then_do (then_do (then_do o (λ x. gives (item (leaf (pair_words 8192 2) x.result.blocks) ∷ []) x.account)) (λ x. Done (kept to x s))) (λ t. Done t)
+then_taken to s o = then_do (then_do (then_do o (λ x. gives (item (leaf (pair_words 8192 2) x.result.blocks) ∷ []) x.account)) (λ x. Done (kept (take_ok to) ok_pair x s))) (λ t. Done t)
 
 pub takes_ok : (f : Form) (to : ℕ) (s : PlainState) → then_taken to s (tested f ok (Some (codes "ok")) s.account) ≡ Done (with_ok to s)
 takes_ok f to s = ap (then_taken to s) (ok_is_text f s.account)

@@ -26,7 +26,7 @@ impl Bindgen for PlainBindgen {
     ghost sound = { plain_sound };
 
     /// The steps of arguments, constants, casts, scalars, texts, records, tuples, enums and flags, of words in memory, of blocks that are freed,
-    /// and of calls. Of any other instruction the answer is `OutOfMemory`, and so it is where a block of code is opened.
+    /// of calls, and of the payload of a block. Of any other instruction the answer is `OutOfMemory`.
     fn emit(
         &mut self,
         resolve: &Resolve,
@@ -70,6 +70,7 @@ impl Bindgen for PlainBindgen {
             Instruction::EnumLift(id) => self.read_enum(resolve, id, operands, results),
             Instruction::FlagsLower(id) => self.pass_flags(resolve, id, operands, results),
             Instruction::FlagsLift(id) => self.read_flags(resolve, id, operands, results),
+            Instruction::VariantPayloadName => self.payload(resolve, results),
             Instruction::GuestDeallocateString => self.free_text(resolve, operands, results),
             Instruction::GuestDeallocate(size, align) => self.free_block(
                 resolve, size, align, operands, results,
@@ -79,11 +80,11 @@ impl Bindgen for PlainBindgen {
     }
 
     fn push_block(&mut self) -> Result<(), OutOfMemory> {
-        Err(OutOfMemory)
+        self.open()
     }
 
-    fn finish_block(&mut self, _operands: &mut List<Place>) -> Result<(), OutOfMemory> {
-        Err(OutOfMemory)
+    fn finish_block(&mut self, operands: &mut List<Place>) -> Result<(), OutOfMemory> {
+        self.close(operands)
     }
 
     fn return_pointer(
