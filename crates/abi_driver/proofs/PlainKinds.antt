@@ -1,5 +1,6 @@
 -- The steps of enums and flags do what the laws ask of their instructions.
-use Rattle.std.proofs.Common.{◌≡◌, ℕ, true, ◌&&◌, pos, List, [], ◌∷◌, length, get_or, refl, sym, ap, ◌∙◌, subst, arith}
+use mathlib.Core.Logic.{inl, inr}
+use Rattle.std.proofs.Common.{◌≡◌, ℕ, pos, List, [], ◌∷◌, ◌++◌, length, get_or, refl, sym, ap, ◌∙◌, subst, arith}
 use Rattle.std.proofs.lemmas.List.{length-map}
 use Rattle.wit_model.specs.declared.name.TypeId.{TypeId}
 use Rattle.wit_model.specs.declared.types.Member.{Member}
@@ -7,10 +8,11 @@ use Rattle.wit_model.specs.declared.types.TypeDef.{TypeDef}
 use Rattle.wit_model.specs.declared.types.TypeDefKind.TheVariants as kind
 use Rattle.wit_layout.specs.Extent.{flag_words}
 use Rattle.wit_layout.specs.Flat.{words_of_flags}
+use Rattle.wrapper_data.specs.declared.block.Block.{Block}
 use Rattle.wrapper_data.specs.declared.word.Word.{Word}
 use Rattle.wrapper_data.specs.declared.word.Word.TheVariants as core
 use Rattle.wrapper_meaning.specs.AsWords.{Says}
-use Rattle.wrapper_meaning.specs.Direction.{take}
+use Rattle.wrapper_meaning.specs.Direction.{Direction, take}
 use Rattle.wrapper_meaning.specs.Items.{total}
 use Rattle.wrapper_meaning.specs.Shape.{bare}
 use Rattle.wrapper_meaning.specs.Shape.Shape.{cases, flags}
@@ -20,7 +22,7 @@ use Rattle.abi_driver.specs.declared.instruction.Instruction.TheVariants as inst
 use Rattle.abi_driver.specs.declared.plain.Place.{Place}
 use Rattle.abi_driver.specs.declared.plain.PlainBindgen.{PlainBindgen}
 use Rattle.abi_driver.specs.declared.plain.Step.TheVariants as step
-use Rattle.abi_driver.specs.Account.{stay}
+use Rattle.abi_driver.specs.Account.{Account, addresses, gives, releasing, stay, then_do}
 use Rattle.abi_driver.specs.Cases.{LiftsEnum, LowersEnum, case_shapes, reading_tag, tag_of}
 use Rattle.abi_driver.specs.FlagSets.{AreFlags, LiftsFlags, LowersFlags}
 use Rattle.abi_driver.specs.HasList.{IsKindOf}
@@ -28,7 +30,8 @@ use Rattle.abi_driver.specs.Instructions.{Emits}
 use Rattle.abi_driver.specs.Laws.{core_data, ofs}
 use Rattle.abi_driver.specs.Meaning.{item, of, word}
 use Rattle.abi_driver.specs.Parts.{count}
-use Rattle.abi_driver.specs.Plain.{AddsStep, PlainItem, PlainStands, as_flags, is_bare, leaf, performs, places_from, plain_meaning}
+use Rattle.abi_driver.specs.Plain.{AddsStep, PlainCaseStands, PlainItem, PlainPayload, PlainStands, as_flags, chosen, data_own, leaf, no_payload, owned_by_payload, passing, payload_of, performs, places_from, plain_meaning}
+use Rattle.abi_driver.specs.PlainSound.{owned_case}
 use Rattle.abi_driver.proofs.BareCases.{count_bare}
 use Rattle.abi_driver.proofs.EnumSteps.{enum_cases}
 use Rattle.abi_driver.proofs.FlagSteps.{length_words, one_count}
@@ -40,51 +43,87 @@ use Rattle.abi_driver.proofs.PlainRuns.{plain_adds, plain_blocks, plain_does}
 
 -- 1. Enums
 
-bare_is : {A : Type 0} (members : List A) → is_bare (bare members) ≡ true
-bare_is [] = refl
-bare_is (x ∷ members) = bare_is members
+-- a case of an enum has no payload that owns anything
+bare_none : {A : Type 0} (dir : Direction) (members : List A) (c : Case (bare members)) (payload : PlainPayload) (own : List Block) → PlainCaseStands dir (bare members) c payload own → own ≡ []
+bare_none dir [] c payload own h = absurd h
+bare_none dir (m ∷ members) (inl v) no_payload own h = h.1
+bare_none dir (m ∷ members) (inl v) (payload_of a) own h = h.2.1
+bare_none dir (m ∷ members) (inr c) payload own h = bare_none dir members c payload own h
+
+bare_stands : {A : Type 0} (dir : Direction) (members : List A) (c : Case (bare members)) → PlainCaseStands dir (bare members) c no_payload []
+bare_stands dir [] c = elim c [ ]
+bare_stands dir (m ∷ members) (inl v) = (refl, refl)
+bare_stands dir (m ∷ members) (inr c) = bare_stands dir members c
+
+-- a case whose payload owns nothing is passed by its number
+passes_case : (a : PlainItem) (n : ℕ) (payload : PlainPayload) (acc : Account PlainItem) → a ≡ chosen n payload → owned_by_payload payload ≡ [] → passing (item a ∷ []) acc ≡ gives (word (core.I32 (pos n)) ∷ []) acc
+passes_case a n no_payload acc e h = ap (λ (b : PlainItem). passing (item b ∷ []) acc) e
+passes_case a n (payload_of b) acc e h =
+    ap (λ (c : PlainItem). passing (item c ∷ []) acc) e ∙ ap (λ places. then_do (releasing {V = PlainItem} places acc) (λ u. gives (word (core.I32 (pos n)) ∷ []) u.account)) h
 
 module _ (types : List TypeDef) (old new : PlainBindgen) where
-  passes_enum : (id : TypeId) (o : Place) (rs : List Place) → AddsStep (step.Pass o.number old.count) 1 old new → rs ≡ places_from old.count 1 → Emits plain_meaning types (instruction.EnumLower id) (o ∷ []) rs old new
-  passes_enum id o rs adds places =
+  enum_passed : {A : Type 0} (members : List A) (o : Place) → AddsStep (step.Pass o.number old.count) 1 old new → LowersEnum plain_meaning (bare members) (o ∷ []) (places_from old.count 1) old new
+  enum_passed members o adds dir c a own h =
       let st = step.Pass o.number old.count in
-      let ts = case_shapes types id.0 in
-      let row : LowersEnum plain_meaning ts (o ∷ []) (places_from old.count 1) old new = λ dir c a own st0.
-      let x = core.I32 (pos (case_number ts c)) in (
-        st0.2,
+      let x = core.I32 (pos (case_number (bare members) c)) in
+      let none_own = bare_none dir members c h.0 own h.2 in
+      let bare_payload : owned_by_payload h.0 ≡ [] = owned_case dir (bare members) c h.0 own h.2 ∙ ap addresses none_own in (
+        none_own,
         plain_does st 1 old new adds (Unit {0}) (of o (item a) ∷ []) (item a ∷ []) (λ f. stay) (λ u. word x ∷ []) (λ u fs. fs ≡ ofs plain_meaning (places_from old.count 1) (word x ∷ []))
-            (λ x values n. refl) refl (λ t h. one_at old t o (item a) h) (λ area f acc. ap (λ (b : PlainItem). performs area st f (item b ∷ []) acc) st0.1) (λ p acc x e. refl) (λ u. refl)
-            (λ u. []) (λ u. []) (λ u. refl) (λ u g. omega (arith, leaf_owns a (x ∷ []) [] st0.1 g)),
-      ) in
-      record { adds = plain_adds st 1 old new adds refl; returned = adds.returned; asked = adds.asked; blocks = plain_blocks st 1 old new adds; form = tt; results = ap length places; row = subst (λ ps. LowersEnum plain_meaning ts (o ∷ []) ps old new) (sym places) row }
+            (λ x values n. refl) refl (λ t h. one_at old t o (item a) h) (λ area f acc. passes_case a (case_number (bare members) c) h.0 acc h.1 bare_payload) (λ p acc x e. refl) (λ u. refl)
+            (λ u. []) (λ u. []) (λ u. refl) (λ u g. omega (arith, ap (λ (b : PlainItem). total g (data_own (item b ∷ []))) h.1, ap (λ xs. total g (xs ++ [])) bare_payload)),
+      )
 
-  reads_enum : (id : TypeId) (o : Place) (rs : List Place) → is_bare (case_shapes types id.0) ≡ true → AddsStep (step.ReadTag (count (case_shapes types id.0)) o.number old.count) 1 old new → rs ≡ places_from old.count 1
-      → Emits plain_meaning types (instruction.EnumLift id) (o ∷ []) rs old new
-  reads_enum id o rs alone adds places =
-      let ts = case_shapes types id.0 in
+  passes_enum : (id : TypeId) (members : List Member) (o : Place) (rs : List Place) → IsKindOf types id.0 (kind.Enum members) → AddsStep (step.Pass o.number old.count) 1 old new → rs ≡ places_from old.count 1
+      → Emits plain_meaning types (instruction.EnumLower id) (o ∷ []) rs old new
+  passes_enum id members o rs is adds places =
+      let st = step.Pass o.number old.count in
+      record {
+        adds = plain_adds st 1 old new adds refl;
+        returned = adds.returned;
+        asked = adds.asked;
+        blocks = plain_blocks st 1 old new adds;
+        form = tt;
+        results = ap length places;
+        row = subst (λ ts. LowersEnum plain_meaning ts (o ∷ []) rs old new) (sym (enum_cases types id.0 members is)) (subst (λ ps. LowersEnum plain_meaning (bare members) (o ∷ []) ps old new) (sym places) (enum_passed members o adds));
+      }
+
+  enum_read : {A : Type 0} (members : List A) (o : Place) → AddsStep (step.ReadTag (count (bare members)) o.number old.count) 1 old new → LiftsEnum plain_meaning (bare members) (o ∷ []) (places_from old.count 1) old new
+  enum_read members o adds x =
+      let ts = bare members in
       let k = count ts in
       let st = step.ReadTag k o.number old.count in
-      let row : LiftsEnum plain_meaning ts (o ∷ []) (places_from old.count 1) old new = λ x.
-      let a : PlainItem = leaf (core.I32 (pos (tag_of k x)) ∷ []) [] in
+      let a : PlainItem = chosen (tag_of k x) no_payload in
       plain_does st 1 old new adds (Unit {0}) (of o (word x) ∷ []) (word x ∷ []) (λ f. reading_tag f.form k x) (λ u. item a ∷ []) (λ u fs. (b : PlainItem) × (fs ≡ ofs plain_meaning (places_from old.count 1) (item b ∷ [])) × ((c : Case ts) → case_number ts c ≡ tag_of k x → PlainStands take (cases ts) c b []))
-      (λ x values n. refl) refl (λ t h. one_at old t o (word x) h) (λ area f acc. refl) (λ p acc x e. refl) (λ u. (a, refl, λ c e. (alone, ap (λ n. leaf (core.I32 (pos n) ∷ []) []) (sym e), refl)))
-      (λ u. []) (λ u. []) (λ u. refl) (λ u g. refl) in
-      record { adds = plain_adds st 1 old new adds refl; returned = adds.returned; asked = adds.asked; blocks = plain_blocks st 1 old new adds; form = tt; results = ap length places; row = subst (λ ps. LiftsEnum plain_meaning ts (o ∷ []) ps old new) (sym places) row }
+      (λ x values n. refl) refl (λ t h. one_at old t o (word x) h) (λ area f acc. refl) (λ p acc x e. refl) (λ u. (a, refl, λ c e. (no_payload, ap (λ n. chosen n no_payload) (sym e), bare_stands take members c)))
+      (λ u. []) (λ u. []) (λ u. refl) (λ u g. refl)
 
-  pub passed_enum : (id : TypeId) (os read rs : List Place) (d : Place) → length os ≡ 1 → read ≡ os → AddsStep (step.Pass (get_or read 0 d).number old.count) 1 old new → rs ≡ places_from old.count 1
+  reads_enum : (id : TypeId) (members : List Member) (o : Place) (rs : List Place) → IsKindOf types id.0 (kind.Enum members) → AddsStep (step.ReadTag (count (bare members)) o.number old.count) 1 old new → rs ≡ places_from old.count 1
+      → Emits plain_meaning types (instruction.EnumLift id) (o ∷ []) rs old new
+  reads_enum id members o rs is adds places =
+      let st = step.ReadTag (count (bare members)) o.number old.count in
+      record {
+        adds = plain_adds st 1 old new adds refl;
+        returned = adds.returned;
+        asked = adds.asked;
+        blocks = plain_blocks st 1 old new adds;
+        form = tt;
+        results = ap length places;
+        row = subst (λ ts. LiftsEnum plain_meaning ts (o ∷ []) rs old new) (sym (enum_cases types id.0 members is)) (subst (λ ps. LiftsEnum plain_meaning (bare members) (o ∷ []) ps old new) (sym places) (enum_read members o adds));
+      }
+
+  pub passed_enum : (id : TypeId) (members : List Member) (os read rs : List Place) (d : Place) → IsKindOf types id.0 (kind.Enum members) → length os ≡ 1 → read ≡ os → AddsStep (step.Pass (get_or read 0 d).number old.count) 1 old new → rs ≡ places_from old.count 1
       → Emits plain_meaning types (instruction.EnumLower id) os rs old new
-  passed_enum id os read rs d len same adds places =
-      one_of (λ os. AddsStep (step.Pass (get_or os 0 d).number old.count) 1 old new → Emits plain_meaning types (instruction.EnumLower id) os rs old new) (λ o a. passes_enum id o rs a places) os len
+  passed_enum id members os read rs d is len same adds places =
+      one_of (λ os. AddsStep (step.Pass (get_or os 0 d).number old.count) 1 old new → Emits plain_meaning types (instruction.EnumLower id) os rs old new) (λ o a. passes_enum id members o rs is a places) os len
       (subst (λ xs. AddsStep (step.Pass (get_or xs 0 d).number old.count) 1 old new) same adds)
 
   pub read_enum : (id : TypeId) (members : List Member) (n : ℕ) (os read rs : List Place) (d : Place) → IsKindOf types id.0 (kind.Enum members) → n ≡ length members → length os ≡ 1 → read ≡ os
       → AddsStep (step.ReadTag n (get_or read 0 d).number old.count) 1 old new → rs ≡ places_from old.count 1 → Emits plain_meaning types (instruction.EnumLift id) os rs old new
   read_enum id members n os read rs d is many len same adds places =
-      let shapes = enum_cases types id.0 members is in
-      let all : n ≡ count (case_shapes types id.0) = many ∙ sym (count_bare members) ∙ ap count (sym shapes) in
-      let alone : is_bare (case_shapes types id.0) ≡ true = ap is_bare shapes ∙ bare_is members in
-      one_of (λ os. AddsStep (step.ReadTag (count (case_shapes types id.0)) (get_or os 0 d).number old.count) 1 old new → Emits plain_meaning types (instruction.EnumLift id) os rs old new) (λ o a. reads_enum id o rs alone a places) os len
-      (subst (λ xs. AddsStep (step.ReadTag (count (case_shapes types id.0)) (get_or xs 0 d).number old.count) 1 old new) same (subst (λ k. AddsStep (step.ReadTag k (get_or read 0 d).number old.count) 1 old new) all adds))
+      let all : n ≡ count (bare members) = many ∙ sym (count_bare members) in
+      one_of (λ os. AddsStep (step.ReadTag (count (bare members)) (get_or os 0 d).number old.count) 1 old new → Emits plain_meaning types (instruction.EnumLift id) os rs old new) (λ o a. reads_enum id members o rs is a places) os len
+      (subst (λ xs. AddsStep (step.ReadTag (count (bare members)) (get_or xs 0 d).number old.count) 1 old new) same (subst (λ k. AddsStep (step.ReadTag k (get_or read 0 d).number old.count) 1 old new) all adds))
 
   -- 2. Flags
 

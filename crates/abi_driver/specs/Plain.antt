@@ -1,4 +1,5 @@
 -- What the code of a `PlainBindgen` means: a list of steps, over values that are held in memory by numbered places.
+use mathlib.Core.Logic.{inl, inr}
 use Rattle.std.specs.Prelude.{◌≡◌, ◌<◌, ◌+◌, ◌%◌, ◌^◌, ◌&&◌, ℕ, zero, suc, not, Bool, true, false, nat_eq, if◌then◌else◌, option_to_list, pos, List, [], ◌∷◌, ◌++◌, length, map, reverse, Option, None, Some}
 use Rattle.std.specs.Int.{w8, w16, w32, w64, cast_signed}
 use Rattle.std.specs.List.{AllByRecursion, flat_map}
@@ -30,7 +31,7 @@ use Rattle.wrapper_meaning.specs.Shape.{Shape, Shapes, is_nothing}
 use Rattle.wrapper_meaning.specs.Shape.Shape.{scalar, text, list, pairs, fixed, fields, tuple, cases, flags, handle, resource, other}
 use Rattle.wrapper_meaning.specs.Shape.Shapes.{none, more}
 use Rattle.wrapper_meaning.specs.StandsFor.{BothStand}
-use Rattle.wrapper_meaning.specs.Value.{Parts, Value, case_number}
+use Rattle.wrapper_meaning.specs.Value.{Case, Parts, Value, case_number}
 use Rattle.wrapper_meaning.specs.Words.{AreWords, bits_of, word_of_bits}
 use Rattle.abi_driver.specs.declared.instruction.Instruction.{Instruction}
 use Rattle.abi_driver.specs.declared.instruction.Instruction.TheVariants as instruction
@@ -52,15 +53,20 @@ use Rattle.abi_driver.specs.Touches.{Touch, loads, part_grain, stores}
 
 -- 1. Values
 
--- a scalar, a text, an enum or flags, by the words that say it and the blocks that it owns; or parts
+-- a scalar, a text or flags, by the words that say it and the blocks that it owns; parts; or a case by its number, with its payload
 mutual
   pub data PlainItem : Type 0 where
     leaf : List Word → List Block → PlainItem
     whole : PlainItems → PlainItem
+    chosen : ℕ → PlainPayload → PlainItem
 
   pub data PlainItems : Type 0 where
     no_items : PlainItems
     item_and : PlainItem → PlainItems → PlainItems
+
+  pub data PlainPayload : Type 0 where
+    no_payload : PlainPayload
+    payload_of : PlainItem → PlainPayload
 
 abbrev pub listed : PlainItems → List PlainItem
 listed no_items = []
@@ -71,10 +77,15 @@ abbrev mutual
   pub owned_by : PlainItem → List ℕ
   owned_by (leaf ws own) = addresses own
   owned_by (whole items) = owned_by_all items
+  owned_by (chosen n payload) = owned_by_payload payload
 
   pub owned_by_all : PlainItems → List ℕ
   owned_by_all no_items = []
   owned_by_all (item_and a items) = owned_by a ++ owned_by_all items
+
+  pub owned_by_payload : PlainPayload → List ℕ
+  owned_by_payload no_payload = []
+  owned_by_payload (payload_of a) = owned_by a
 
 abbrev pub datum_owns : Datum PlainItem → List ℕ
 datum_owns (word x) = []
@@ -94,11 +105,6 @@ abbrev pub IsPlainText : Direction → List ℕ → PlainItem → List Block →
 IsPlainText dir bytes a own =
     (address : ℕ) × (length bytes ≡ 0 → 0 < address) × (a ≡ leaf (core.Pointer address ∷ core.Length (length bytes) ∷ []) own) × Says 2 dir text bytes (core.Pointer address ∷ core.Length (length bytes) ∷ []) own
 
--- cases without payload
-abbrev pub is_bare : Shapes → Bool
-is_bare none = true
-is_bare (more t ts) = is_nothing t && is_bare ts
-
 -- a pointer has four bytes
 abbrev mutual
   pub PlainStands : Direction → (t : Shape) → Value t → PlainItem → List Block → Type 0
@@ -109,7 +115,7 @@ abbrev mutual
   PlainStands dir (list t) v a own = ⊥
   PlainStands dir (pairs k x) v a own = ⊥
   PlainStands dir (fixed t n) v a own = ⊥
-  PlainStands dir (cases ts) v a own = (is_bare ts ≡ true) × (a ≡ leaf (core.I32 (pos (case_number ts v)) ∷ []) []) × (own ≡ [])
+  PlainStands dir (cases ts) c a own = (payload : PlainPayload) × (a ≡ chosen (case_number ts c) payload) × PlainCaseStands dir ts c payload own
   PlainStands dir (flags n) v a own = (ws : List Word) × AreWords 2 (words_of_flags n) ws × (v ≡ flag_bits ws % 2 ^ n) × (a ≡ leaf ws []) × (own ≡ [])
   PlainStands dir (handle owns n) v a own = ⊥
   PlainStands dir (resource n) v a own = ⊥
@@ -118,6 +124,13 @@ abbrev mutual
   pub PlainPartsStand : Direction → (ts : Shapes) → Parts ts → List PlainItem → List Block → Type 0
   PlainPartsStand dir none v items own = (items ≡ []) × (own ≡ [])
   PlainPartsStand dir (more t ts) v items own = BothStand (PlainStands dir t v.0) (PlainPartsStand dir ts v.1) items own
+
+  -- of a case without payload there need not be an item
+  pub PlainCaseStands : Direction → (ts : Shapes) → Case ts → PlainPayload → List Block → Type 0
+  PlainCaseStands dir none c payload own = ⊥
+  PlainCaseStands dir (more t ts) (inl v) no_payload own = (is_nothing t ≡ true) × (own ≡ [])
+  PlainCaseStands dir (more t ts) (inl v) (payload_of a) own = PlainStands dir t v a own
+  PlainCaseStands dir (more t ts) (inr c) payload own = PlainCaseStands dir ts c payload own
 
 -- 2. Scalars, by their types
 
@@ -245,6 +258,8 @@ PlainAct = Act PlainItem (List (Datum PlainItem))
 
 abbrev pub passing : List (Datum PlainItem) → PlainAct
 passing (item (leaf ws own) ∷ []) acc = then_do (releasing (addresses own) acc) (λ u. gives (map (λ w. word w) ws) u.account)
+passing (item (chosen n no_payload) ∷ []) acc = gives (word (core.I32 (pos n)) ∷ []) acc
+passing (item (chosen n (payload_of a)) ∷ []) acc = then_do (releasing (owned_by a) acc) (λ u. gives (word (core.I32 (pos n)) ∷ []) u.account)
 passing _ acc = Stuck acc
 
 abbrev pub read_as : Scalar → Form → List (Datum PlainItem) → PlainAct
@@ -252,7 +267,7 @@ read_as s f (word x ∷ []) acc = then_do (reading s f x acc) (λ u. gives (item
 read_as s f _ acc = Stuck acc
 
 abbrev pub read_tag : ℕ → Form → List (Datum PlainItem) → PlainAct
-read_tag n f (word x ∷ []) acc = then_do (reading_tag f n x acc) (λ u. gives (item (leaf (core.I32 (pos (tag_of n x)) ∷ []) []) ∷ []) u.account)
+read_tag n f (word x ∷ []) acc = then_do (reading_tag f n x acc) (λ u. gives (item (chosen (tag_of n x) no_payload) ∷ []) u.account)
 read_tag n f _ acc = Stuck acc
 
 abbrev pub take_text : Form → List (Datum PlainItem) → PlainAct

@@ -1,8 +1,7 @@
 -- That the meaning of a `PlainBindgen` is one: it keeps the laws on facts, operands and items.
 use mathlib.Core.Logic.{inl, inr}
-use Rattle.std.proofs.Common.{◌≡◌, ℕ, zero, suc, ◌+◌, ◌%◌, ◌^◌, ◌<◌, true, pos, unsigned_abs, List, [], ◌∷◌, ◌++◌, length, refl, sym, ap, ap₂, ◌∙◌, subst, arith}
+use Rattle.std.proofs.Common.{◌≡◌, ℕ, zero, suc, ◌+◌, ◌%◌, ◌^◌, ◌<◌, true, List, [], ◌∷◌, ◌++◌, length, refl, sym, ap, ap₂, ◌∙◌, subst, arith}
 use Rattle.std.specs.List.{AllByRecursion, flat_map}
-use Rattle.std.proofs.lemmas.Bool.{and_parts}
 use Rattle.std.proofs.lemmas.List.{map-append}
 use Rattle.std.proofs.lemmas.List.Concat.{flat_map-append}
 use Rattle.wrapper_data.specs.declared.block.Block.{Block}
@@ -12,7 +11,7 @@ use Rattle.wrapper_meaning.specs.AsWords.{Says, flag_bits, passed_word}
 use Rattle.wrapper_meaning.specs.Buffer.{Contents, IsPlaced}
 use Rattle.wrapper_meaning.specs.Direction.{Direction, give, lend, take}
 use Rattle.wrapper_meaning.specs.InMemory.{TextHolds}
-use Rattle.wrapper_meaning.specs.InRange.{AreListed, IsListed}
+use Rattle.wrapper_meaning.specs.InRange.{AreListed, IsListed, IsListedCase}
 use Rattle.wrapper_meaning.specs.Items.{total}
 use Rattle.wrapper_meaning.specs.Shape.{Shape, Shapes, is_nothing}
 use Rattle.wrapper_meaning.specs.Shape.Shape.{scalar, text, list, pairs, fixed, fields, tuple, cases, flags, handle, resource, other}
@@ -26,7 +25,7 @@ use Rattle.abi_driver.specs.declared.plain.Place.{Place}
 use Rattle.abi_driver.specs.Account.{addresses}
 use Rattle.abi_driver.specs.Meaning.{Datum, Fact, item, word}
 use Rattle.abi_driver.specs.Laws.{Sound}
-use Rattle.abi_driver.specs.Plain.{IsPlainText, IsRight, PlainItem, PlainItems, PlainPartsStand, PlainStands, fact_owns, is_bare, item_and, leaf, listed, no_items, owned_by, owned_by_all, plain_meaning, whole}
+use Rattle.abi_driver.specs.Plain.{IsPlainText, IsRight, PlainCaseStands, PlainItem, PlainItems, PlainPartsStand, PlainPayload, PlainStands, chosen, fact_owns, item_and, leaf, listed, no_items, no_payload, owned_by, owned_by_all, owned_by_payload, payload_of, plain_meaning, whole}
 
 -- 1. Lists of facts
 
@@ -51,14 +50,25 @@ own_both g xs ys = ap (total g) (flat_map-append fact_owns xs ys) ∙ total-appe
 words_in : PlainItem → List Word
 words_in (leaf ws own) = ws
 words_in (whole items) = []
+words_in (chosen n payload) = []
 
 blocks_in : PlainItem → List Block
 blocks_in (leaf ws own) = own
 blocks_in (whole items) = []
+blocks_in (chosen n payload) = []
 
 items_in : PlainItem → PlainItems
 items_in (leaf ws own) = no_items
 items_in (whole items) = items
+items_in (chosen n payload) = no_items
+
+number_in : PlainItem → ℕ
+number_in (chosen n payload) = n
+number_in _ = 0
+
+payload_in : PlainItem → PlainPayload
+payload_in (chosen n payload) = payload
+payload_in _ = no_payload
 
 first_or : Word → List Word → Word
 first_or x [] = x
@@ -83,6 +93,22 @@ same_blocks ws zs xs ys e = ap blocks_in e
 same_items : (xs ys : PlainItems) → whole xs ≡ whole ys → listed xs ≡ listed ys
 unfolding items_in
 same_items xs ys e = ap (λ a. listed (items_in a)) e
+
+same_number : (n k : ℕ) (p q : PlainPayload) → chosen n p ≡ chosen k q → n ≡ k
+unfolding number_in
+same_number n k p q e = ap number_in e
+
+same_payload : (n k : ℕ) (p q : PlainPayload) → chosen n p ≡ chosen k q → p ≡ q
+unfolding payload_in
+same_payload n k p q e = ap payload_in e
+
+only_item : PlainItem → PlainPayload → PlainItem
+only_item d no_payload = d
+only_item d (payload_of a) = a
+
+same_only : (a b : PlainItem) → payload_of a ≡ payload_of b → a ≡ b
+unfolding only_item
+same_only a b e = ap (only_item a) e
 
 same_first : (a b : PlainItem) (xs ys : List PlainItem) → a ∷ xs ≡ b ∷ ys → a ≡ b
 unfolding item_first
@@ -109,14 +135,6 @@ text_same u v a xs ys hu hv h g =
     let words = same_words _ _ xs ys e in
     (words_determine 2 take text u v _ xs tt hu hv h.3 (subst (λ ws. Says 2 take text v ws xs) (sym words) (subst (Says 2 take text v _) (sym blocks) g.3)), blocks)
 
-number_in : Word → ℕ
-number_in (core.I32 z) = unsigned_abs z
-number_in _ = 0
-
-same_number : (n k : ℕ) → core.I32 (pos n) ≡ core.I32 (pos k) → n ≡ k
-unfolding number_in
-same_number n k e = ap number_in e
-
 nothing_same : (t : Shape) → is_nothing t ≡ true → (u v : Value t) → u ≡ v
 nothing_same (fields none) e u v = refl
 nothing_same (fields (more t ts)) e u v = absurd (let h = e in cc)
@@ -132,14 +150,6 @@ nothing_same (handle owns n) e u v = absurd (let h = e in cc)
 nothing_same (resource n) e u v = elim u [ ]
 nothing_same other e u v = elim u [ ]
 
--- a case without payload is told by its number
-one_case : (ts : Shapes) (u v : Case ts) → is_bare ts ≡ true → case_number ts u ≡ case_number ts v → u ≡ v
-one_case none u v b e = elim u [ ]
-one_case (more t ts) (inl u) (inl v) b e = ap (λ x. inl x) (nothing_same t (and_parts (is_nothing t) (is_bare ts) b).0 u v)
-one_case (more t ts) (inl u) (inr v) b e = absurd (omega (arith, e))
-one_case (more t ts) (inr u) (inl v) b e = absurd (omega (arith, e))
-one_case (more t ts) (inr u) (inr v) b e = ap (λ x. inr x) (one_case ts u v (and_parts (is_nothing t) (is_bare ts) b).1 (omega (arith, e)))
-
 mutual
   stands_same : (t : Shape) (u v : Value t) (a b : PlainItem) (xs ys : List Block) → a ≡ b → IsListed t u → IsListed t v → PlainStands take t u a xs → PlainStands take t v b ys → Same (Value t) u v xs ys
   stands_same (scalar s) u v a b xs ys ab hu hv h g =
@@ -151,7 +161,8 @@ mutual
   stands_same (pairs k x) u v a b xs ys ab hu hv h g = absurd h
   stands_same (fixed t n) u v a b xs ys ab hu hv h g = absurd h
   stands_same (cases ts) u v a b xs ys ab hu hv h g =
-      (one_case ts u v h.0 (same_number _ _ (same_word _ _ (same_words _ _ [] [] (sym h.1 ∙ ab ∙ g.1)))), h.2 ∙ sym g.2)
+      let e = sym h.1 ∙ ab ∙ g.1 in
+      case_same ts u v h.0 g.0 xs ys (same_payload _ _ h.0 g.0 e) (same_number _ _ h.0 g.0 e) hu hv h.2 g.2
   stands_same (flags n) u v a b xs ys ab hu hv h g =
       (h.2 ∙ ap (λ ws. flag_bits ws % 2 ^ n) (same_words _ _ [] [] (sym h.3 ∙ ab ∙ g.3)) ∙ sym g.2, h.4 ∙ sym g.4)
   stands_same (handle owns n) u v a b xs ys ab hu hv h g = absurd h
@@ -165,6 +176,21 @@ mutual
       let one = stands_same t u.0 v.0 h.0 g.0 h.2 g.2 (same_first _ _ _ _ e) hu.0 hv.0 h.5 g.5 in
       let two = parts_same ts u.1 v.1 h.1 g.1 h.3 g.3 (same_later _ _ _ _ e) hu.1 hv.1 h.6 g.6 in
       (ap₂ (λ x y. (x, y)) one.0 two.0, h.7 ∙ ap₂ (λ x y. x ++ y) one.1 two.1 ∙ sym g.7)
+
+  -- a case is told by its number, and its payload by the item
+  case_same : (ts : Shapes) (u v : Case ts) (p q : PlainPayload) (xs ys : List Block) → p ≡ q → case_number ts u ≡ case_number ts v → IsListedCase ts u → IsListedCase ts v → PlainCaseStands take ts u p xs → PlainCaseStands take ts v q ys → Same (Case ts) u v xs ys
+  case_same none u v p q xs ys pq e hu hv h g = elim u [ ]
+  case_same (more t ts) (inl u) (inl v) no_payload no_payload xs ys pq e hu hv h g = (ap (λ x. inl x) (nothing_same t h.0 u v), h.1 ∙ sym g.1)
+  case_same (more t ts) (inl u) (inl v) no_payload (payload_of b) xs ys pq e hu hv h g = absurd (let k = pq in cc)
+  case_same (more t ts) (inl u) (inl v) (payload_of a) no_payload xs ys pq e hu hv h g = absurd (let k = pq in cc)
+  case_same (more t ts) (inl u) (inl v) (payload_of a) (payload_of b) xs ys pq e hu hv h g =
+      let same = stands_same t u v a b xs ys (same_only a b pq) hu hv h g in
+      (ap (λ x. inl x) same.0, same.1)
+  case_same (more t ts) (inl u) (inr v) p q xs ys pq e hu hv h g = absurd (omega (arith, e))
+  case_same (more t ts) (inr u) (inl v) p q xs ys pq e hu hv h g = absurd (omega (arith, e))
+  case_same (more t ts) (inr u) (inr v) p q xs ys pq e hu hv h g =
+      let same = case_same ts u v p q xs ys pq (omega (arith, e)) hu hv h g in
+      (ap (λ x. inr x) same.0, same.1)
 
 -- 4. Directions
 
@@ -227,7 +253,7 @@ mutual
   given_on (list t) v a own h = h
   given_on (pairs k x) v a own h = h
   given_on (fixed t n) v a own h = h
-  given_on (cases ts) v a own h = h
+  given_on (cases ts) c a own h = (h.0, h.1, case_given ts c h.0 own h.2)
   given_on (flags n) v a own h = h
   given_on (handle owns n) v a own h = h
   given_on (resource n) v a own h = h
@@ -236,6 +262,12 @@ mutual
   parts_given : (ts : Shapes) (v : Parts ts) (items : List PlainItem) (own : List Block) → PlainPartsStand take ts v items own → PlainPartsStand give ts v items own
   parts_given none v items own h = h
   parts_given (more t ts) v items own h = (h.0, h.1, h.2, h.3, h.4, given_on t v.0 h.0 h.2 h.5, parts_given ts v.1 h.1 h.3 h.6, h.7)
+
+  case_given : (ts : Shapes) (c : Case ts) (payload : PlainPayload) (own : List Block) → PlainCaseStands take ts c payload own → PlainCaseStands give ts c payload own
+  case_given none c payload own h = h
+  case_given (more t ts) (inl v) no_payload own h = h
+  case_given (more t ts) (inl v) (payload_of a) own h = given_on t v a own h
+  case_given (more t ts) (inr c) payload own h = case_given ts c payload own h
 
 mutual
   taken_on : (t : Shape) (v : Value t) (a : PlainItem) (own : List Block) → PlainStands give t v a own → PlainStands take t v a own
@@ -246,7 +278,7 @@ mutual
   taken_on (list t) v a own h = h
   taken_on (pairs k x) v a own h = h
   taken_on (fixed t n) v a own h = h
-  taken_on (cases ts) v a own h = h
+  taken_on (cases ts) c a own h = (h.0, h.1, case_taken ts c h.0 own h.2)
   taken_on (flags n) v a own h = h
   taken_on (handle owns n) v a own h = h
   taken_on (resource n) v a own h = h
@@ -255,6 +287,12 @@ mutual
   parts_taken : (ts : Shapes) (v : Parts ts) (items : List PlainItem) (own : List Block) → PlainPartsStand give ts v items own → PlainPartsStand take ts v items own
   parts_taken none v items own h = h
   parts_taken (more t ts) v items own h = (h.0, h.1, h.2, h.3, h.4, taken_on t v.0 h.0 h.2 h.5, parts_taken ts v.1 h.1 h.3 h.6, h.7)
+
+  case_taken : (ts : Shapes) (c : Case ts) (payload : PlainPayload) (own : List Block) → PlainCaseStands give ts c payload own → PlainCaseStands take ts c payload own
+  case_taken none c payload own h = h
+  case_taken (more t ts) (inl v) no_payload own h = h
+  case_taken (more t ts) (inl v) (payload_of a) own h = taken_on t v a own h
+  case_taken (more t ts) (inr c) payload own h = case_taken ts c payload own h
 
 placed_bare : (heap : List Block) (address n : ℕ) (v : List ℕ) (own : List Block) → IsPlaced (lend heap) true address n 1 (TextHolds v) own → own ≡ []
 placed_bare heap address zero v own h = h.1
@@ -269,7 +307,7 @@ mutual
   bare_on heap (list t) v a own h = absurd h
   bare_on heap (pairs k x) v a own h = absurd h
   bare_on heap (fixed t n) v a own h = absurd h
-  bare_on heap (cases ts) v a own h = h.2
+  bare_on heap (cases ts) c a own h = case_bare heap ts c h.0 own h.2
   bare_on heap (flags n) v a own h = h.4
   bare_on heap (handle owns n) v a own h = absurd h
   bare_on heap (resource n) v a own h = absurd h
@@ -278,6 +316,12 @@ mutual
   parts_bare : (heap : List Block) (ts : Shapes) (v : Parts ts) (items : List PlainItem) (own : List Block) → PlainPartsStand (lend heap) ts v items own → own ≡ []
   parts_bare heap none v items own h = h.1
   parts_bare heap (more t ts) v items own h = h.7 ∙ ap₂ (λ xs ys. xs ++ ys) (bare_on heap t v.0 h.0 h.2 h.5) (parts_bare heap ts v.1 h.1 h.3 h.6)
+
+  case_bare : (heap : List Block) (ts : Shapes) (c : Case ts) (payload : PlainPayload) (own : List Block) → PlainCaseStands (lend heap) ts c payload own → own ≡ []
+  case_bare heap none c payload own h = absurd h
+  case_bare heap (more t ts) (inl v) no_payload own h = h.1
+  case_bare heap (more t ts) (inl v) (payload_of a) own h = bare_on heap t v a own h
+  case_bare heap (more t ts) (inr c) payload own h = case_bare heap ts c payload own h
 
 -- 5. What an item owns
 
@@ -295,7 +339,7 @@ mutual
   owned_is dir (list t) v a own h = absurd h
   owned_is dir (pairs k x) v a own h = absurd h
   owned_is dir (fixed t n) v a own h = absurd h
-  owned_is dir (cases ts) v a own h = ap owned_by h.1 ∙ ap addresses (sym h.2)
+  owned_is dir (cases ts) c a own h = ap owned_by h.1 ∙ owned_case dir ts c h.0 own h.2
   owned_is dir (flags n) v a own h = ap owned_by h.3 ∙ ap addresses (sym h.4)
   owned_is dir (handle owns n) v a own h = absurd h
   owned_is dir (resource n) v a own h = absurd h
@@ -305,6 +349,12 @@ mutual
   owned_parts dir none v items own h = ap (flat_map owned_by) h.0 ∙ ap addresses (sym h.1)
   owned_parts dir (more t ts) v items own h =
       ap (flat_map owned_by) h.4 ∙ ap₂ (λ xs ys. xs ++ ys) (owned_is dir t v.0 h.0 h.2 h.5) (owned_parts dir ts v.1 h.1 h.3 h.6) ∙ sym (map-append (λ (b : Block). b.address) h.2 h.3) ∙ ap addresses (sym h.7)
+
+  pub owned_case : (dir : Direction) (ts : Shapes) (c : Case ts) (payload : PlainPayload) (own : List Block) → PlainCaseStands dir ts c payload own → owned_by_payload payload ≡ addresses own
+  owned_case dir none c payload own h = absurd h
+  owned_case dir (more t ts) (inl v) no_payload own h = ap addresses (sym h.1)
+  owned_case dir (more t ts) (inl v) (payload_of a) own h = owned_is dir t v a own h
+  owned_case dir (more t ts) (inr c) payload own h = owned_case dir ts c payload own h
 
 -- 6. The laws
 

@@ -20,6 +20,7 @@ impl PlainBindgen {
         operands: &List<Place>,
         results: &mut List<Place>,
     ) -> Result<(), OutOfMemory>
+        requires enumeration { (members : List Member) × IsKindOf resolve.now.types id.0 (kind.Enum members) }
         requires one { length operands.now ≡ 1 }
         requires empty { results.old ≡ [] }
         ensures { OnOk result (Emits plain_meaning resolve.now.types (Instruction.EnumLower id) operands.now results.new self.old self.new) }
