@@ -10,6 +10,7 @@ pub mod Ordinary
 pub mod PlainArea
 pub mod PlainBlocks
 pub mod PlainCalls
+pub mod PlainChoices
 pub mod PlainConstants
 pub mod PlainOperands
 pub mod PlainPlaces

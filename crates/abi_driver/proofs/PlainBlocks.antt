@@ -1,10 +1,11 @@
 -- The blocks of a `PlainBindgen` are opened, closed and run as the laws ask, and their payload is read.
-use Rattle.std.proofs.Common.{◌≡◌, ℕ, suc, ◌+◌, ◌-◌, ◌<◌, ◌≤◌, Bool, not, nat_eq, if◌then◌else◌, List, [], ◌∷◌, ◌++◌, length, map, reverse, slice_get, Option, None, Some, refl, sym, ap, ap₂, ◌∙◌, subst, arith, append-nil}
+use Rattle.std.proofs.Common.{◌≡◌, ℕ, suc, ◌+◌, ◌-◌, ◌<◌, ◌≤◌, Bool, not, nat_eq, if◌then◌else◌, List, [], ◌∷◌, ◌++◌, length, map, reverse, slice_get, Option, None, Some, option_map, refl, sym, ap, ap₂, ◌∙◌, subst, arith, append-nil}
 use Rattle.std.specs.List.{AllByRecursion, flat_map}
 use Rattle.std.specs.declared.alloc.Global.{Global}
 use Rattle.std.specs.declared.vec.Vec.{Vec}
 use Rattle.std.proofs.lemmas.Bool.{ne_eqb}
-use Rattle.std.proofs.lemmas.List.{reverse-append}
+use Rattle.std.proofs.lemmas.List.{map-append, reverse-append}
+use Rattle.std.proofs.lemmas.Option.{slice_get-map}
 use Rattle.wit_model.specs.declared.types.TypeDef.{TypeDef}
 use Rattle.wit_layout.specs.Filled.{IsFilledFor}
 use Rattle.wrapper_data.specs.declared.choice.Request.{Request}
@@ -12,11 +13,11 @@ use Rattle.wrapper_data.specs.declared.run.Target.TheVariants as target
 use Rattle.wrapper_meaning.specs.Items.{SameItems, total}
 use Rattle.wrapper_meaning.proofs.Lists.{first_or, some_same}
 use Rattle.abi_driver.specs.declared.instruction.Instruction.TheVariants as instruction
-use Rattle.abi_driver.specs.declared.plain.Body.{Body}
+use Rattle.abi_driver.specs.declared.plain.Body.{Body, fold_out-Body, map-Body, out-Body}
+use Rattle.abi_driver.specs.declared.plain.Line.{Line}
 use Rattle.abi_driver.specs.declared.plain.OpenBlock.{OpenBlock}
 use Rattle.abi_driver.specs.declared.plain.Place.{Place}
 use Rattle.abi_driver.specs.declared.plain.PlainBindgen.{PlainBindgen}
-use Rattle.abi_driver.specs.declared.plain.Step.{Step}
 use Rattle.abi_driver.specs.declared.plain.Step.TheVariants as step
 use Rattle.abi_driver.specs.Account.{Done, Outcome, Peer, Stopped, Stuck, account_in, stay, then_do}
 use Rattle.abi_driver.specs.Area.{HoldsRecord}
@@ -24,7 +25,7 @@ use Rattle.abi_driver.specs.Blocks.{Finishes, Gives, IsOfWord, IsOpen, Lasts, Pu
 use Rattle.abi_driver.specs.Instructions.{Emits}
 use Rattle.abi_driver.specs.Laws.{Facts, Stays, ofs}
 use Rattle.abi_driver.specs.Meaning.{Bound, Datum, Ended, Name, arg, at_place, bound, item, of, the_base, the_element, the_key, the_payload, the_value, with_element, with_entry, with_nothing, with_payload, word}
-use Rattle.abi_driver.specs.Plain.{AddsStep, Hold, IsRight, PlainItem, PlainState, all_at, and_all, bound_to, brings, ended, entered, fact_owns, only_word, owned_by, places_from, plain_meaning, runs, runs_body}
+use Rattle.abi_driver.specs.Plain.{AddsStep, BodyRun, Hold, IsBody, IsRight, LineRun, PlainItem, PlainState, all_at, and_all, body_step, bound_to, brings, does_line, ended, entered, fact_owns, line_step, only_word, owned_by, places_from, plain_meaning, runs, runs_body}
 use Rattle.abi_driver.specs.PlainSound.{all_both, own_both}
 use Rattle.abi_driver.proofs.PlainPlaces.{same_is, still_hold, still_right}
 use Rattle.abi_driver.proofs.PlainRows.{many_at}
@@ -56,16 +57,16 @@ lasts old new same slots = record {
   returned = same.returned;
 }
 
-abbrev pub opened_as : OpenBlock → ℕ × List Step
+abbrev pub opened_as : OpenBlock → ℕ × List Line
 opened_as o = (o.slot, o.suspended)
 
 -- 2. A block is opened
 
 pub record IsOpened (old new : PlainBindgen) : Type 0 where
   pub same : IsSame old new
-  pub steps : new.steps ≡ []
+  pub lines : new.lines ≡ []
   pub slots : new.slots ≡ old.slots + 1
-  pub opened : new.opened.items ≡ old.opened.items ++ record { slot = old.slots; suspended = old.steps } ∷ []
+  pub opened : new.opened.items ≡ old.opened.items ++ record { slot = old.slots; suspended = old.lines } ∷ []
   pub blocks : new.blocks ≡ old.blocks
 
 brings_same : (with : Bound PlainItem) → SameItems (brings with) (brought plain_meaning with)
@@ -119,12 +120,12 @@ pub plain_opens : (old new : PlainBindgen) → IsOpened old new → Pushes plain
 plain_opens old new h =
     let more : old.slots ≤ new.slots = omega (arith, h.slots) in
     let below : old.slots < new.slots = omega (arith, h.slots) in
-    let o : OpenBlock = record { slot = old.slots; suspended = old.steps } in
+    let o : OpenBlock = record { slot = old.slots; suspended = old.lines } in
     record {
       lasts = lasts old new h.same more;
       slot = old.slots;
       opened = ap (λ (os : List OpenBlock). map opened_as (reverse os)) h.opened ∙ ap (λ (os : List OpenBlock). map opened_as os) (reverse-append old.opened.items (o ∷ []));
-      code = h.steps;
+      code = h.lines;
       blocks = ap (λ (v : Vec Body Global). reverse v.items) h.blocks;
       account = λ s with. refl;
       owns = λ s with. brings_same with;
@@ -140,10 +141,12 @@ plain_opens old new h =
 
 pub record IsClosed (os : List Place) (o : OpenBlock) (old new : PlainBindgen) : Type 0 where
   pub same : IsSame old new
-  pub steps : new.steps ≡ o.suspended
+  pub lines : new.lines ≡ o.suspended
   pub slots : new.slots ≡ old.slots
   pub opened : old.opened.items ≡ new.opened.items ++ o ∷ []
-  pub blocks : new.blocks.items ≡ old.blocks.items ++ record { slot = o.slot; steps = old.steps; results = os } ∷ []
+  pub body : Body
+  pub is : IsBody body o.slot old.lines os
+  pub blocks : new.blocks.items ≡ old.blocks.items ++ body ∷ []
 
 stops_alike : (o : Outcome PlainItem PlainState) (next : PlainState → Outcome PlainItem (Ended PlainItem PlainState)) → StopsAlike plain_meaning o (then_do o next)
 stops_alike (Done u) next = tt
@@ -160,17 +163,28 @@ calls_alike s (Done u) results = calls_ended s u (results u)
 calls_alike s (Stopped e acc) results = refl
 calls_alike s (Stuck acc) results = refl
 
--- a body does what its steps do
-body_runs : (slot : ℕ) (os : List Place) (old new : PlainBindgen) → Runs plain_meaning (record { slot = slot; steps = old.steps; results = os }) slot os old new
-body_runs slot os old new =
+-- what a block does, by its level
+pub does_body : (b : Body) → runs_body b ≡ body_step (map-Body Line Body LineRun BodyRun does_line runs_body (out-Body b))
+does_body b = fold_out-Body LineRun BodyRun line_step body_step b
+
+abbrev pub body_runs : ℕ → List Line → List Place → BodyRun
+body_runs slot lines os w p with s = then_do (runs w p lines (entered slot with s)) (λ u. ended s u (all_at u.values (map (λ (o : Place). o.number) os)))
+
+pub does_lines : (b : Body) (slot : ℕ) (lines : List Line) (os : List Place) → IsBody b slot lines os → runs_body b ≡ body_runs slot lines os
+does_lines b slot lines os is = does_body b ∙ ap (λ n. body_runs n (out-Body b).lines (out-Body b).results) is.slot ∙ ap (λ ls. body_runs slot ls (out-Body b).results) is.lines ∙ ap (λ ps. body_runs slot lines ps) is.results
+
+-- it does what its lines do
+lines_run : (b : Body) (slot : ℕ) (os : List Place) (old new : PlainBindgen) → IsBody b slot old.lines os → Runs plain_meaning b slot os old new
+lines_run b slot os old new is =
     let results : PlainState → Option (List (Datum PlainItem)) = λ u. all_at u.values (map (λ (o : Place). o.number) os) in
+    let same = does_lines b slot old.lines os is in
     record {
-      stops = λ w p with s sv. stops_alike (runs w p old.steps (entered slot with s)) (λ u. ended s u (results u));
-      calls = λ w p with s sv. calls_alike s (runs w p old.steps (entered slot with s)) results;
+      stops = λ w p with s sv. subst (λ (run : BodyRun). StopsAlike plain_meaning (runs w p old.lines (entered slot with s)) (run w p with s)) (sym same) (stops_alike (runs w p old.lines (entered slot with s)) (λ u. ended s u (results u)));
+      calls = λ w p with s sv. ap (λ (run : BodyRun). (account_in (λ (e : Ended PlainItem PlainState). e.state.account) (run w p with s)).calls) same ∙ calls_alike s (runs w p old.lines (entered slot with s)) results;
       ends = λ w p with s u ds sv done many here own.
           record {
             state = record s { account = u.account };
-            runs = ap (λ q. then_do q (λ t. ended s t (results t))) done ∙ ap (λ x. ended s u x) (many_at old u os ds (sym many) here.each);
+            runs = ap (λ (run : BodyRun). run w p with s) same ∙ ap (λ q. then_do q (λ t. ended s t (results t))) done ∙ ap (λ x. ended s u x) (many_at old u os ds (sym many) here.each);
             account = refl;
             owns = λ g. refl;
             denotes = λ b facts h. record { each = still_right b b s (record s { account = u.account }) facts (omega arith) (omega arith) (λ n l. refl) refl refl h.each; owned = h.owned };
@@ -178,19 +192,26 @@ body_runs slot os old new =
     }
 
 pub plain_closes : (os : List Place) (o : OpenBlock) (old new : PlainBindgen) → IsClosed os o old new → Finishes plain_meaning os old new
-plain_closes os o old new h =
-    let body : Body = record { slot = o.slot; steps = old.steps; results = os } in
-    record {
-      lasts = lasts old new h.same (omega (arith, h.slots));
-      slot = o.slot;
-      block = body;
-      resumes = ap (λ (os : List OpenBlock). map opened_as (reverse os)) h.opened ∙ ap (λ (os : List OpenBlock). map opened_as os) (reverse-append new.opened.items (o ∷ []))
-          ∙ ap (λ (steps : List Step). (o.slot, steps) ∷ map opened_as (reverse new.opened.items)) (sym h.steps);
-      blocks = ap (λ (bs : List Body). reverse bs) h.blocks ∙ reverse-append old.blocks.items (body ∷ []);
-      results = refl;
-      runs = body_runs o.slot os old new;
-      form = tt;
-    }
+plain_closes os o old new h = record {
+  lasts = lasts old new h.same (omega (arith, h.slots));
+  slot = o.slot;
+  block = h.body;
+  resumes = ap (λ (os : List OpenBlock). map opened_as (reverse os)) h.opened ∙ ap (λ (os : List OpenBlock). map opened_as os) (reverse-append new.opened.items (o ∷ []))
+      ∙ ap (λ (lines : List Line). (o.slot, lines) ∷ map opened_as (reverse new.opened.items)) (sym h.lines);
+  blocks = ap (λ (bs : List Body). reverse bs) h.blocks ∙ reverse-append old.blocks.items (h.body ∷ []);
+  results = ap (λ (ps : List Place). length ps) h.is.results;
+  runs = lines_run h.body o.slot os old new h.is;
+  form = tt;
+}
+
+map-reversed : {A B : Type 0} (f : A → B) (xs : List A) → reverse (map f xs) ≡ map f (reverse xs)
+map-reversed f [] = refl
+map-reversed f (x ∷ xs) =
+    reverse-append (f x ∷ []) (map f xs) ∙ ap (λ ys. ys ++ f x ∷ []) (map-reversed f xs) ∙ sym (map-append f (reverse xs) (x ∷ [])) ∙ ap (map f) (sym (reverse-append (x ∷ []) xs))
+
+-- the arm at a place, by what it does
+pub arm_at : (arms : List Body) (i : ℕ) → slice_get (reverse (map runs_body arms)) i ≡ option_map runs_body (slice_get (reverse arms) i)
+arm_at arms i = ap (λ rs. slice_get rs i) (map-reversed runs_body arms) ∙ slice_get-map runs_body (reverse arms) i
 
 -- 4. Its payload
 
@@ -210,7 +231,7 @@ innermost b o e is =
     let last = last_is b.opened.items o e in
     let at : map opened_as (reverse b.opened.items) ≡ opened_as o ∷ map opened_as (reverse last.0) =
     ap (λ (os : List OpenBlock). map opened_as (reverse os)) last.1 ∙ ap (λ (os : List OpenBlock). map opened_as os) (reverse-append last.0 (o ∷ [])) in
-    ap (λ xs. (first_or {A = ℕ × List Step} (opened_as o) xs).0) (sym is.opened ∙ at)
+    ap (λ xs. (first_or {A = ℕ × List Line} (opened_as o) xs).0) (sym is.opened ∙ at)
 
 pub reads_payload : (types : List TypeDef) (old new : PlainBindgen) (slot : ℕ) (rs : List Place) → ((is : IsOpen plain_meaning old) → is.slot ≡ slot) → AddsStep (step.Payload slot old.count) 1 old new → rs ≡ places_from old.count 1
     → Emits plain_meaning types instruction.VariantPayloadName [] rs old new

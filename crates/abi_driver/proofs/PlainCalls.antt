@@ -156,9 +156,9 @@ module _ (types : List TypeDef) (old new : PlainBindgen) where
       let followed = plain_follows (step.CallMethod old.home f.name.snake os k old.count) k old new adds w (List PlainItem) (ofs plain_meaning os ds) ds act (λ back. item_data plain_meaning back) Outs
       (λ x values n. refl) (ofs_own os ds given) (λ q acc. ap (λ xs. handed goal k q.reply xs acc) (items_all vals))
       (λ q acc x e. length-map x.result (λ a. item a) ∙ (replied q acc x e).many) (λ back. refl) p others s0 s (many_at old s os ds given (all_left (IsRight old s) (ofs plain_meaning os ds) others at.holds.each)) at in
-      subst (λ n. Follows account (handing owned_by plainly (plain_target old f) vals n p.reply s.account) (runs w p new.steps s0) R) due
-      (subst (λ t. Follows account (handing owned_by plainly t vals k p.reply s.account) (runs w p new.steps s0) R) (sym (method_target old f export))
-      (follows_more account (act p s.account) (runs w p new.steps s0) _ R followed
+      subst (λ n. Follows account (handing owned_by plainly (plain_target old f) vals n p.reply s.account) (runs w p new.lines s0) R) due
+      (subst (λ t. Follows account (handing owned_by plainly t vals k p.reply s.account) (runs w p new.lines s0) R) (sym (method_target old f export))
+      (follows_more account (act p s.account) (runs w p new.lines s0) _ R followed
       (λ x t h. (
         h.account,
         λ g. omega (arith, h.owns g, own g, ap (total g) (items_own vals), ap (total g) (items_own x.result)),
@@ -193,7 +193,7 @@ module _ (types : List TypeDef) (old new : PlainBindgen) where
   pub gives_back : (n : ℕ) (os : List Place) → new ≡ record old { returned = Some os } → Emits plain_meaning types (instruction.Return n) os [] old new
   gives_back n os is = subst (λ b. Emits plain_meaning types (instruction.Return n) os [] old b) (sym is) (record {
     adds = record {
-      grows = record { serves = λ w h. h; more = λ w h. (w, h); stops = λ w f s h. stops_same (λ (t : PlainState). t.account) (plain_meaning.does w f old.steps s); imports = refl; exports = refl; arguments = refl; knows = λ types h. h; target = λ f. refl; crosses = λ w f. refl; opened = refl; known = λ w facts s h. still_hold old (record old { returned = Some os }) s facts (omega arith) (omega arith) h };
+      grows = record { serves = λ w h. h; more = λ w h. (w, h); stops = λ w f s h. stops_same (λ (t : PlainState). t.account) (plain_meaning.does w f old.lines s); imports = refl; exports = refl; arguments = refl; knows = λ types h. h; target = λ f. refl; crosses = λ w f. refl; opened = refl; known = λ w facts s h. still_hold old (record old { returned = Some os }) s facts (omega arith) (omega arith) h };
       quiet = λ w f s h. refl;
       asked = refl;
       blocks = refl;

@@ -28,7 +28,7 @@ args_own k [] h = refl
 args_own k (word x ∷ ds) h = args_own (suc k) ds h
 args_own k (item a ∷ ds) h = ap₂ (λ xs ys. xs ++ ys) (plain_sound.lent h.1 h.2 a h.0 [] h.3) (args_own (suc k) ds h.4)
 
-pub plain_new : (b : PlainBindgen) → b.steps ≡ [] → b.returned ≡ None → b.asked ≡ [] → b.opened.items ≡ [] → b.blocks.items ≡ [] → IsNew plain_meaning b
+pub plain_new : (b : PlainBindgen) → b.lines ≡ [] → b.returned ≡ None → b.asked ≡ [] → b.opened.items ≡ [] → b.blocks.items ≡ [] → IsNew plain_meaning b
 plain_new b e f unasked closed unfinished = record {
   empty = e;
   endless = f;

@@ -1,9 +1,10 @@
--- What the steps of a `PlainBindgen` do: a run of more steps, the calls that they leave alone, and the action of a step.
+-- What the lines of a `PlainBindgen` do: a run of more lines, the calls that they leave alone, and the action of a step.
 use Rattle.std.proofs.Common.{◌≡◌, ℕ, zero, suc, ◌+◌, ◌-◌, ◌^◌, ◌≤◌, pos, Bool, true, false, ◌&&◌, ◌||◌, not, nat_eq, nat_lt, if◌then◌else◌, List, [], ◌∷◌, ◌++◌, length, map, reverse, find, Option, None, Some, is_some, option_map, refl, sym, ap, ap₂, ◌∙◌, subst, arith}
 use Rattle.std.specs.List.{AllByRecursion, flat_map}
 use Rattle.std.specs.declared.alloc.Global.{Global}
 use Rattle.std.specs.declared.vec.Vec.{Vec}
 use Rattle.std.specs.Str.{is_utf8}
+use Rattle.std.proofs.lemmas.List.{map-append}
 use Rattle.wit_model.specs.Size.{bytes_at}
 use Rattle.wit_model.specs.declared.size.ArchitectureSize.{ArchitectureSize}
 use Rattle.wit_layout.specs.declared.bitcast.Bitcast.{Bitcast}
@@ -31,17 +32,20 @@ use Rattle.wrapper_meaning.specs.Words.{bits_of}
 use Rattle.wrapper_meaning.proofs.PostReturn.{total-append}
 use Rattle.abi_driver.specs.declared.plain.Body.{Body}
 use Rattle.abi_driver.specs.declared.plain.OpenBlock.{OpenBlock}
+use Rattle.abi_driver.specs.declared.plain.Line.{Line, Line-F, fold-roll-Line}
+use Rattle.abi_driver.specs.declared.plain.Line.TheVariants as line
+use Rattle.abi_driver.specs.declared.plain.Line.TheVariants.{rolls-Step}
 use Rattle.abi_driver.specs.declared.plain.PlainBindgen.{PlainBindgen}
 use Rattle.abi_driver.specs.declared.plain.Step.{Step}
 use Rattle.abi_driver.specs.declared.plain.Step.TheVariants as step
 use Rattle.abi_driver.specs.Account.{Account, Act, Done, Follows, Got, Outcome, Peer, Stopped, Stops, Stuck, account_in, addresses, checking, failing, found, has_type, gives, is_at, is_taken, reading, releasing, stay, taking, tested, then_do, without}
 use Rattle.abi_driver.specs.Cases.{reading_tag, tag_of}
 use Rattle.abi_driver.specs.Area.{HoldsRecord, placed, placing, with_area}
-use Rattle.abi_driver.specs.Laws.{Adds, After, At, Does, Facts, Grows, ofs}
+use Rattle.abi_driver.specs.Laws.{Adds, After, At, Does, Facts, Grows, Quiet, ofs}
 use Rattle.abi_driver.specs.Meaning.{Datum, item, word}
 use Rattle.abi_driver.specs.Memory.{Access, access, bytes_on, freed, freeing, is_aligned, is_inside, is_ranged, is_reached, little_bytes, loaded, storing}
 use Rattle.abi_driver.specs.Memory as memory
-use Rattle.abi_driver.specs.Plain.{AddsStep, Hold, IsRight, PlainItem, PlainState, all_words, as_flags, casting, chosen, data_own, fact_owns, free_block, free_text, inputs, kept, leaf, load_word, no_payload, normal, own_area, owned_by, passing, payload_of, performed, performs, places_from, pointed, plain_meaning, put, read_as, read_tag, removed, runs, scalar_of, splitting, store_word, take_text, whole, writes}
+use Rattle.abi_driver.specs.Plain.{AddsLine, AddsStep, BodyRun, Hold, IsRight, LineRun, PlainItem, PlainState, all_of, all_words, as_flags, body_step, casting, chosen, data_own, does_line, fact_owns, free_block, free_text, inputs, kept, leaf, line_step, load_word, no_payload, normal, own_area, owned_by, passing, payload_of, performed, performs, places_from, pointed, plain_meaning, put, read_as, read_tag, removed, runs, scalar_of, splitting, store_word, take_text, whole, writes}
 use Rattle.abi_driver.specs.PlainSound.{all_both, all_left, all_right, own_both}
 use Rattle.abi_driver.proofs.PlainPlaces.{ofs_own, places_count, put_below, put_right, removed_total, still_hold, still_right}
 use Rattle.abi_driver.proofs.Runs.{follows_more}
@@ -53,14 +57,14 @@ makes_call (step.Call core_module name from result to) = true
 makes_call (step.CallMethod trait_path name from results to) = true
 makes_call _ = false
 
-failing_quiet : {V : Type 0} (A : Type 0) (f : Form) (kind : TrapKind) (acc : Account V) → (account_in (λ (x : Got V A). x.account) (failing f kind acc)).calls ≡ acc.calls
+pub failing_quiet : {V : Type 0} (A : Type 0) (f : Form) (kind : TrapKind) (acc : Account V) → (account_in (λ (x : Got V A). x.account) (failing f kind acc)).calls ≡ acc.calls
 failing_quiet A form.Debug kind acc = refl
 failing_quiet A form.Release kind acc = refl
 
 abbrev Quietly : {V A : Type 0} → Account V → Outcome V (Got V A) → Type 0
 Quietly acc o = (account_in (λ x. x.account) o).calls ≡ acc.calls
 
-if_quiet : {V A : Type 0} (acc : Account V) (b : Bool) (o q : Outcome V (Got V A)) → Quietly acc o → Quietly acc q → Quietly acc (if b then o else q)
+pub if_quiet : {V A : Type 0} (acc : Account V) (b : Bool) (o q : Outcome V (Got V A)) → Quietly acc o → Quietly acc q → Quietly acc (if b then o else q)
 if_quiet acc true o q h k = h
 if_quiet acc false o q h k = k
 
@@ -213,16 +217,23 @@ performs_quiet area (step.Call core_module name from result to) p ds acc e = abs
 performs_quiet area (step.CallMethod trait_path name from results to) p ds acc e = absurd (let h = e in cc)
 performs_quiet area (step.Area to) p ds acc e = pointed_quiet area ds acc
 
--- 2. Runs of more steps
+-- 2. Runs of more lines
 
 then_runs : {V A B C : Type 0} (o : Outcome V A) (g : A → Outcome V C) (h : A → Outcome V B) (k : B → Outcome V C) → ((t : A) → g t ≡ then_do (h t) k) → then_do o g ≡ then_do (then_do o h) k
 then_runs (Done t) g h k e = e t
 then_runs (Stopped s acc) g h k e = refl
 then_runs (Stuck acc) g h k e = refl
 
-pub runs_both : (area : Option Request) (f : Peer PlainItem) (xs ys : List Step) (s : PlainState) → runs area f (xs ++ ys) s ≡ then_do (runs area f xs s) (λ t. runs area f ys t)
-runs_both area f [] ys s = refl
-runs_both area f (x ∷ xs) ys s = then_runs (performed area x f (inputs x s) s) (λ t. runs area f (xs ++ ys) t) (λ t. runs area f xs t) (λ t. runs area f ys t) (λ t. runs_both area f xs ys t)
+all_both_of : (area : Option Request) (f : Peer PlainItem) (xs ys : List LineRun) (s : PlainState) → all_of (xs ++ ys) area f s ≡ then_do (all_of xs area f s) (λ t. all_of ys area f t)
+all_both_of area f [] ys s = refl
+all_both_of area f (x ∷ xs) ys s = then_runs (x area f s) (λ t. all_of (xs ++ ys) area f t) (λ t. all_of xs area f t) (λ t. all_of ys area f t) (λ t. all_both_of area f xs ys t)
+
+pub runs_both : (area : Option Request) (f : Peer PlainItem) (xs ys : List Line) (s : PlainState) → runs area f (xs ++ ys) s ≡ then_do (runs area f xs s) (λ t. runs area f ys t)
+runs_both area f xs ys s = ap (λ runs. all_of runs area f s) (map-append does_line xs ys) ∙ all_both_of area f (map does_line xs) (map does_line ys) s
+
+-- what a line that is a step does
+pub does_step : (st : Step) → does_line (line.Step st) ≡ line_step (Line-F.Step st)
+does_step st = ap does_line (sym (rolls-Step st)) ∙ fold-roll-Line LineRun BodyRun line_step body_step (Line-F.Step st)
 
 stops_then : {V S : Type 0} (account : S → Account V) (o : Outcome V S) (next : S → Outcome V S) → Stops account o (then_do o next)
 stops_then account (Done s) next = tt
@@ -244,20 +255,21 @@ step_calls : (area : Option Request) (st : Step) (p : Peer PlainItem) (ds : Opti
 step_calls area st p None s e = refl
 step_calls area st p (Some ds) s e = keeps_calls st ds s (performs area st p ds s.account) (performs_quiet area st p ds s.account e)
 
-module _ (st : Step) (k : ℕ) (old new : PlainBindgen) (adds : AddsStep st k old new) where
-  longer : (area : Option Request) (f : Peer PlainItem) (s : PlainState) → runs area f new.steps s ≡ then_do (runs area f old.steps s) (λ t. runs area f (st ∷ []) t)
-  longer area f s = ap (λ xs. runs area f xs s) adds.steps ∙ runs_both area f old.steps (st ∷ []) s
+-- 3. A line is added
 
-  -- 3. A step is added
+module _ (ln : Line) (k : ℕ) (old new : PlainBindgen) (adds : AddsLine ln k old new) where
+  longer : (area : Option Request) (f : Peer PlainItem) (s : PlainState) → runs area f new.lines s ≡ then_do (runs area f old.lines s) (λ t. runs area f (ln ∷ []) t)
+  longer area f s = ap (λ xs. runs area f xs s) adds.lines ∙ runs_both area f old.lines (ln ∷ []) s
 
-  pub plain_blocks : plain_meaning.blocks new ≡ plain_meaning.blocks old
-  plain_blocks = ap (λ (v : Vec Body Global). reverse v.items) adds.blocks
+  -- behind code that is done it does what the line does
+  pub line_ran : (area : Option Request) (f : Peer PlainItem) (s0 s : PlainState) → runs area f old.lines s0 ≡ Done s → runs area f new.lines s0 ≡ then_do (does_line ln area f s) (λ u. Done u)
+  line_ran area f s0 s done = longer area f s0 ∙ ap (λ o. then_do o (λ t. runs area f (ln ∷ []) t)) done
 
-  pub plain_grows : Grows plain_meaning old new
-  plain_grows = record {
+  pub line_grows : Grows plain_meaning old new
+  line_grows = record {
     serves = λ w h. subst (AllByRecursion (HoldsRecord 2 w)) adds.asked h;
     more = λ w h. (w, subst (AllByRecursion (HoldsRecord 2 w)) (sym adds.asked) h);
-    stops = λ w f s h. subst (Stops (λ (t : PlainState). t.account) (runs w f old.steps s)) (sym (longer w f s)) (stops_then (λ (t : PlainState). t.account) (runs w f old.steps s) (λ t. runs w f (st ∷ []) t));
+    stops = λ w f s h. subst (Stops (λ (t : PlainState). t.account) (runs w f old.lines s)) (sym (longer w f s)) (stops_then (λ (t : PlainState). t.account) (runs w f old.lines s) (λ t. runs w f (ln ∷ []) t));
     imports = adds.import;
     exports = ap not adds.import;
     arguments = refl;
@@ -268,14 +280,28 @@ module _ (st : Step) (k : ℕ) (old new : PlainBindgen) (adds : AddsStep st k ol
     known = λ w facts s h. still_hold old new s facts (omega (arith, adds.count)) (omega (arith, adds.slots)) h;
   }
 
+  -- a line that makes no call
+  pub line_quiet : ((w : Option Request) (f : Peer PlainItem) (t : PlainState) → plain_meaning.serves w new → (account_in (λ (t : PlainState). t.account) (then_do (does_line ln w f t) (λ u. Done u))).calls ≡ t.account.calls) → Quiet plain_meaning old new
+  line_quiet h w f s sv =
+      ap (λ o. (account_in (λ (t : PlainState). t.account) o).calls) (longer w f s) ∙ calls_then (λ (t : PlainState). t.account) (runs w f old.lines s) (λ t. runs w f (ln ∷ []) t) (λ t. h w f t sv)
+
+module _ (st : Step) (k : ℕ) (old new : PlainBindgen) (adds : AddsStep st k old new) where
+  pub added_line : AddsLine (line.Step st) k old new
+  added_line = record { lines = adds.lines; count = adds.count; import = adds.import; home = adds.home; returned = adds.returned; asked = adds.asked; sizes = adds.sizes; slots = adds.slots; opened = adds.opened }
+
+  pub plain_blocks : plain_meaning.blocks new ≡ plain_meaning.blocks old
+  plain_blocks = ap (λ (v : Vec Body Global). reverse v.items) adds.blocks
+
+  pub plain_grows : Grows plain_meaning old new
+  plain_grows = line_grows (line.Step st) k old new added_line
+
   pub plain_adds : makes_call st ≡ false → Adds plain_meaning old new
   plain_adds e = record {
     grows = plain_grows;
     asked = adds.asked;
     blocks = plain_blocks;
-    quiet = λ w f s h.
-        ap (λ o. (account_in (λ (t : PlainState). t.account) o).calls) (longer w f s)
-        ∙ calls_then (λ (t : PlainState). t.account) (runs w f old.steps s) (λ t. runs w f (st ∷ []) t) (λ t. step_calls w st f (inputs st t) t e);
+    quiet = line_quiet (line.Step st) k old new added_line
+        (λ w f t sv. ap (λ (run : LineRun). (account_in (λ (t : PlainState). t.account) (then_do (run w f t) (λ u. Done u))).calls) (does_step st) ∙ step_calls w st f (inputs st t) t e);
   }
 
   -- the results of an action on the account, where the step reads these data, and gives results by what the action gives
@@ -321,14 +347,14 @@ module _ (st : Step) (k : ℕ) (old new : PlainBindgen) (adds : AddsStep st k ol
         omega (arith, removed_total (data_own ds) s.owns (λ k. omega (arith, owned_before others s h k)) g, total-append g (left ++ made) area, total-append g left made)
 
     pub plain_follows : (f : Peer PlainItem) (others : Facts plain_meaning) (s0 s : PlainState) → inputs st s ≡ Some ds → At plain_meaning w f old new (ins ++ others) s0 s
-        → Follows (λ (t : PlainState). t.account) (act f s.account) (runs w f new.steps s0) (Followed A ds res act Outs f others s)
+        → Follows (λ (t : PlainState). t.account) (act f s.account) (runs w f new.lines s0) (Followed A ds res act Outs f others s)
     plain_follows f others s0 s reads at =
-        let ran : runs w f new.steps s0 ≡ then_do (act f s.account) (λ x. Done (after s x)) =
-        longer w f s0 ∙ ap (λ o. then_do o (λ t. runs w f (st ∷ []) t)) at.done ∙ ap (λ i. then_do (performed w st f i s) (λ u. Done u)) reads
+        let ran : runs w f new.lines s0 ≡ then_do (act f s.account) (λ x. Done (after s x)) =
+        line_ran (line.Step st) k old new added_line w f s0 s at.done ∙ ap (λ (run : LineRun). then_do (run w f s) (λ u. Done u)) (does_step st) ∙ ap (λ i. then_do (performed w st f i s) (λ u. Done u)) reads
         ∙ ap (λ o. then_do (then_do o (λ x. Done (kept st ds x s))) (λ u. Done u)) (does f s.account) ∙ given_on (act f s.account) s in
         let more : old.count ≤ new.count = omega (arith, adds.count) in
         let slots : old.slots ≤ new.slots = omega (arith, adds.slots) in
-        follows_step (act f s.account) (runs w f new.steps s0) (after s) (Followed A ds res act Outs f others s) ran
+        follows_step (act f s.account) (runs w f new.lines s0) (after s) (Followed A ds res act Outs f others s) ran
         (λ x done.
         let t = after s x in
         let made = places_from old.count k in
@@ -362,7 +388,7 @@ module _ (st : Step) (k : ℕ) (old new : PlainBindgen) (adds : AddsStep st k ol
       → (made gone : A → List ℕ) → ((x : A) → own_area st ds (res x) ≡ []) → ((x : A) (g : ℕ → ℕ) → total g (data_own (res x)) + total g (gone x) ≡ total g (data_own ds) + total g (made x))
       → Does plain_meaning A old new ins act Outs made gone
   plain_does A ins ds act res Outs here same reads does fits outs made gone unplaced owns w f others s0 s at =
-      follows_more (λ (t : PlainState). t.account) (act f s.account) (runs w f new.steps s0) (Followed A ds res act Outs f others s)
+      follows_more (λ (t : PlainState). t.account) (act f s.account) (runs w f new.lines s0) (Followed A ds res act Outs f others s)
       (λ x t. (fs : Facts plain_meaning) × Outs x.result fs × After plain_meaning w new (fs ++ others) (made x.result) (gone x.result) s x t)
       (plain_follows w A ins ds act res Outs here same (does w) fits outs f others s0 s (reads s (all_left (IsRight old s) ins others at.holds.each)) at)
       (λ x t h. (

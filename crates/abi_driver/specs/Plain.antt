@@ -1,6 +1,6 @@
--- What the code of a `PlainBindgen` means: a list of steps, over values that are held in memory by numbered places.
+-- What the code of a `PlainBindgen` means: a list of lines, over values that are held in memory by numbered places.
 use mathlib.Core.Logic.{inl, inr}
-use Rattle.std.specs.Prelude.{◌≡◌, ◌<◌, ◌+◌, ◌%◌, ◌^◌, ◌&&◌, ℕ, zero, suc, not, Bool, true, false, nat_eq, if◌then◌else◌, option_to_list, pos, List, [], ◌∷◌, ◌++◌, length, map, reverse, Option, None, Some}
+use Rattle.std.specs.Prelude.{◌≡◌, ◌<◌, ◌+◌, ◌%◌, ◌^◌, ◌&&◌, ℕ, zero, suc, not, Bool, true, false, nat_eq, if◌then◌else◌, option_to_list, pos, List, [], ◌∷◌, ◌++◌, length, map, reverse, slice_get, Option, None, Some}
 use Rattle.std.specs.Int.{w8, w16, w32, w64, cast_signed}
 use Rattle.std.specs.List.{AllByRecursion, flat_map}
 use Rattle.wit_model.specs.Size.{bytes_at}
@@ -35,7 +35,9 @@ use Rattle.wrapper_meaning.specs.Value.{Case, Parts, Value, case_number}
 use Rattle.wrapper_meaning.specs.Words.{AreWords, bits_of, word_of_bits}
 use Rattle.abi_driver.specs.declared.instruction.Instruction.{Instruction}
 use Rattle.abi_driver.specs.declared.instruction.Instruction.TheVariants as instruction
-use Rattle.abi_driver.specs.declared.plain.Body.{Body}
+use Rattle.abi_driver.specs.declared.plain.Body.{Body, Body-F, fold-Body, out-Body}
+use Rattle.abi_driver.specs.declared.plain.Line.{Line, Line-F, fold-Line}
+use Rattle.abi_driver.specs.declared.plain.Line.TheVariants as line
 use Rattle.abi_driver.specs.declared.plain.OpenBlock.{OpenBlock}
 use Rattle.abi_driver.specs.declared.plain.Place.{Place}
 use Rattle.abi_driver.specs.declared.plain.PlainBindgen.{PlainBindgen}
@@ -45,6 +47,7 @@ use Rattle.abi_driver.specs.declared.plain.words.WordTouch.{WordTouch}
 use Rattle.abi_driver.specs.declared.plain.words.WordTouch.TheVariants as touched
 use Rattle.abi_driver.specs.Account.{Account, Act, Crossing, Done, Got, Outcome, Peer, Reply, Stuck, addresses, gives, reading, releasing, taking, then_do, without}
 use Rattle.abi_driver.specs.Area.{HoldsRecord, placing}
+use Rattle.abi_driver.specs.Arms.{choosing, serves_others}
 use Rattle.abi_driver.specs.Calls.{calling, handing}
 use Rattle.abi_driver.specs.Cases.{reading_tag, tag_of}
 use Rattle.abi_driver.specs.Meaning.{Bound, Datum, Ended, Fact, Meaning, Name, arg, at_place, bound, item, of, the_base, the_element, the_key, the_payload, the_value, with_element, with_entry, with_nothing, with_payload, word}
@@ -442,11 +445,7 @@ abbrev pub performed : Option Request → Step → Peer PlainItem → Option (Li
 performed area st p None s = Stuck s.account
 performed area st p (Some ds) s = then_do (performs area st p ds s.account) (λ x. Done (kept st ds x s))
 
-abbrev pub runs : Option Request → Peer PlainItem → List Step → PlainState → Outcome PlainItem PlainState
-runs area p [] s = Done s
-runs area p (st ∷ steps) s = then_do (performed area st p (inputs st s) s) (λ t. runs area p steps t)
-
--- 5. Blocks
+-- 5. Lines and blocks
 
 abbrev pub bound_to : Bound PlainItem → Name → Option (Datum PlainItem)
 bound_to (with_payload a) the_payload = Some (item a)
@@ -485,8 +484,81 @@ abbrev pub ended : PlainState → PlainState → Option (List (Datum PlainItem))
 ended s u None = Stuck u.account
 ended s u (Some ds) = Done (record { results = ds; state = record s { account = u.account } })
 
-abbrev pub runs_body : Option Request → Peer PlainItem → Body → Bound PlainItem → PlainState → Outcome PlainItem (Ended PlainItem PlainState)
-runs_body area p body with s = then_do (runs area p body.steps (entered body.slot with s)) (λ u. ended s u (all_at u.values (map (λ (o : Place). o.number) body.results)))
+-- what a line does, and what a block does that is run with something
+abbrev pub LineRun : Type 0
+LineRun = Option Request → Peer PlainItem → PlainState → Outcome PlainItem PlainState
+
+abbrev pub BodyRun : Type 0
+BodyRun = Option Request → Peer PlainItem → Bound PlainItem → PlainState → Outcome PlainItem (Ended PlainItem PlainState)
+
+-- one after another
+abbrev pub all_of : List LineRun → LineRun
+all_of [] area p s = Done s
+all_of (run ∷ runs) area p s = then_do (run area p s) (λ t. all_of runs area p t)
+
+-- data are put into places from one on, behind a block
+abbrev pub given_to : ℕ → List (Datum PlainItem) → PlainState → PlainState
+given_to to ds s = record s { values = put to ds s.values; owns = s.owns ++ data_own ds }
+
+abbrev pub run_with : PlainPayload → Bound PlainItem
+run_with no_payload = with_nothing
+run_with (payload_of a) = with_payload a
+
+abbrev pub run_arm : Option Request → Peer PlainItem → Bound PlainItem → PlainState → Option BodyRun → Outcome PlainItem (Ended PlainItem PlainState)
+run_arm area p with s None = Stuck s.account
+run_arm area p with s (Some run) = run area p with s
+
+-- the block of the case of a value
+abbrev pub lowering : ℕ → List BodyRun → Option (List (Datum PlainItem)) → LineRun
+lowering to arms (Some (item (chosen n payload) ∷ [])) area p s =
+    then_do (run_arm area p (run_with payload) (record s { owns = removed (owned_by_payload payload) s.owns }) (slice_get (reverse arms) n)) (λ e. Done (given_to to e.results e.state))
+lowering to arms _ area p s = Stuck s.account
+
+-- the block that serves a word, which has a number, and what comes of it
+abbrev pub matching_arm : Bool → List BodyRun → Word → (ℕ → Ended PlainItem PlainState → Outcome PlainItem PlainState) → LineRun
+matching_arm last_serves arms x next area p s =
+    then_do (choosing p.form last_serves (length arms) x s.account) (λ i. then_do (run_arm area p with_nothing s (slice_get (reverse arms) i.result)) (next i.result))
+
+abbrev pub last_of : Bool → Form → Bool
+last_of true f = serves_others f
+last_of false f = false
+
+abbrev pub made_case : ℕ → ℕ → Ended PlainItem PlainState → List (Datum PlainItem) → Outcome PlainItem PlainState
+made_case to n e [] = Done (given_to to (item (chosen n no_payload) ∷ []) e.state)
+made_case to n e (item a ∷ []) = Done (given_to to (item (chosen n (payload_of a)) ∷ []) e.state)
+made_case to n e _ = Stuck e.state.account
+
+abbrev pub lifting : ℕ → Bool → List BodyRun → Option (List (Datum PlainItem)) → LineRun
+lifting to last_serves arms (Some (word x ∷ [])) area p s = matching_arm (last_of last_serves p.form) arms x (λ n e. made_case to n e e.results) area p s
+lifting to last_serves arms _ area p s = Stuck s.account
+
+abbrev pub freed_case : Ended PlainItem PlainState → List (Datum PlainItem) → Outcome PlainItem PlainState
+freed_case e [] = Done e.state
+freed_case e _ = Stuck e.state.account
+
+abbrev pub freeing_case : List BodyRun → Option (List (Datum PlainItem)) → LineRun
+freeing_case arms (Some (word x ∷ [])) area p s = matching_arm true arms x (λ n e. freed_case e e.results) area p s
+freeing_case arms _ area p s = Stuck s.account
+
+-- one level of a line, with what the blocks in it do
+abbrev pub line_step : Line-F LineRun BodyRun → LineRun
+line_step (Line-F.Step st) area p s = performed area st p (inputs st s) s
+line_step (Line-F.Lower from arms to) area p s = lowering to arms (all_at s.values (from ∷ [])) area p s
+line_step (Line-F.Lift from last_serves arms to) area p s = lifting to last_serves arms (all_at s.values (from ∷ [])) area p s
+line_step (Line-F.Free from arms) area p s = freeing_case arms (all_at s.values (from ∷ [])) area p s
+
+-- and of a block, with what its lines do
+abbrev pub body_step : Body-F LineRun BodyRun → BodyRun
+body_step b area p with s = then_do (all_of b.lines area p (entered b.slot with s)) (λ u. ended s u (all_at u.values (map (λ (o : Place). o.number) b.results)))
+
+abbrev pub does_line : Line → LineRun
+does_line = fold-Line LineRun BodyRun line_step body_step
+
+abbrev pub runs_body : Body → BodyRun
+runs_body = fold-Body LineRun BodyRun line_step body_step
+
+abbrev pub runs : Option Request → Peer PlainItem → List Line → PlainState → Outcome PlainItem PlainState
+runs area p lines s = all_of (map does_line lines) area p s
 
 -- 6. The meaning
 
@@ -514,7 +586,7 @@ abbrev pub plain_meaning : Meaning PlainBindgen Place
 plain_meaning = record {
   World = Option Request;
   State = PlainState;
-  Code = List Step;
+  Code = List Line;
   Block = Body;
   Slot = ℕ;
   Item = PlainItem;
@@ -528,11 +600,11 @@ plain_meaning = record {
   owned = owned_by;
   nothing = [];
   does = λ w p. runs w p;
-  runs = runs_body;
+  runs = λ w p body with s. runs_body body w p with s;
   enter = entered;
-  results_of = λ body. length body.results;
+  results_of = λ body. length (out-Body body).results;
   denotes = λ w b facts s. Hold b facts s;
-  code = λ b. b.steps;
+  code = λ b. b.lines;
   opened = λ b. map (λ (o : OpenBlock). (o.slot, o.suspended)) (reverse b.opened.items);
   blocks = λ b. reverse b.blocks.items;
   imports = λ b. b.import;
@@ -546,16 +618,43 @@ plain_meaning = record {
   forms = λ step os rs old new. Unit {0};
 }
 
--- 7. A step is added
+-- 7. A block is finished
+
+-- a block has these parts
+pub record IsBody (b : Body) (n : ℕ) (code : List Line) (os : List Place) : Type 0 where
+  pub slot : (out-Body b).slot ≡ n
+  pub lines : (out-Body b).lines ≡ code
+  pub results : (out-Body b).results ≡ os
+
+-- 8. A line is added
 
 -- so many places, from one on
 abbrev pub places_from : ℕ → ℕ → List Place
 places_from n zero = []
 places_from n (suc k) = record { number = n } ∷ places_from (suc n) k
 
+-- a line with so many results was added. What became of the finished blocks is not said
+pub record AddsLine (ln : Line) (k : ℕ) (old new : PlainBindgen) : Type 0 where
+  pub lines : new.lines ≡ old.lines ++ ln ∷ []
+  pub count : new.count ≡ old.count + k
+  pub import : new.import ≡ old.import
+  pub home : new.home ≡ old.home
+  pub returned : new.returned ≡ old.returned
+  pub asked : new.asked ≡ old.asked
+  pub sizes : new.sizes ≡ old.sizes
+  pub slots : new.slots ≡ old.slots
+  pub opened : new.opened ≡ old.opened
+
+-- the choice among so many blocks was added, which were the last ones
+pub record AddsChoice (ln : List Body → Line) (n k : ℕ) (old new : PlainBindgen) : Type 0 where
+  pub arms : List Body
+  pub added : AddsLine (ln arms) k old new
+  pub taken : reverse old.blocks.items ≡ arms ++ reverse new.blocks.items
+  pub many : length arms ≡ n
+
 -- a step with so many results was added
 pub record AddsStep (st : Step) (k : ℕ) (old new : PlainBindgen) : Type 0 where
-  pub steps : new.steps ≡ old.steps ++ st ∷ []
+  pub lines : new.lines ≡ old.lines ++ line.Step st ∷ []
   pub count : new.count ≡ old.count + k
   pub import : new.import ≡ old.import
   pub home : new.home ≡ old.home

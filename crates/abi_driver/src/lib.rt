@@ -24,4 +24,4 @@ pub use instruction::Instruction;
 pub use lift::lift_flat;
 pub use lower::lower_flat;
 pub use memory::{lift_from_memory, lower_to_memory};
-pub use plain::{Place, PlainBindgen, Step};
+pub use plain::{Body, Line, Place, PlainBindgen, Step};

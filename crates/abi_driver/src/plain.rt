@@ -3,6 +3,7 @@
 mod area;
 mod blocks;
 mod calls;
+mod cases;
 mod constants;
 mod emit;
 mod enums;
@@ -146,19 +147,47 @@ pub enum Step {
     },
 }
 
-/// An open block: what tells it from others, and the steps that it suspends.
+/// A line of code: a step, or the choice of a finished block. Such blocks are listed with that of the last case first.
+#[cycle(code)]
 #[derive(Drop)]
-pub(crate) struct OpenBlock {
-    slot: u32,
-    suspended: List<Step>,
+pub enum Line {
+    /// A step.
+    Step(Step),
+    /// The block of a value's case is run with its payload, and gives the results, which are written into places from `to` on.
+    Lower {
+        from: u32,
+        arms: List<Body>,
+        to: u32,
+    },
+    /// The block of a word's case is run, and gives the payload of the case, which is written into `to`. In the release form the last
+    /// block may serve every word that is no case.
+    Lift {
+        from: u32,
+        last_serves: bool,
+        arms: List<Body>,
+        to: u32,
+    },
+    /// The block of a word's case is run, and the last one for every word that is no case. It has no result.
+    Free {
+        from: u32,
+        arms: List<Body>,
+    },
 }
 
-/// A finished block: what tells it from others, its steps, and where its results stand.
+/// A finished block: what tells it from others, its lines, and where its results stand.
+#[cycle(code)]
 #[derive(Drop)]
 pub struct Body {
     pub slot: u32,
-    pub steps: List<Step>,
+    pub lines: List<Line>,
     pub results: List<Place>,
+}
+
+/// An open block: what tells it from others, and the lines that it suspends.
+#[derive(Drop)]
+pub(crate) struct OpenBlock {
+    slot: u32,
+    suspended: List<Line>,
 }
 
 /// A `Bindgen` in memory, which shows that its laws can be met.
@@ -170,7 +199,7 @@ pub struct PlainBindgen {
     pub(crate) import: bool,
     /// Where calls go: the module of the core imports, or the path of the trait whose methods are called.
     pub(crate) home: Text,
-    pub(crate) steps: List<Step>,
+    pub(crate) lines: List<Line>,
     /// How many places were written.
     pub(crate) count: u32,
     /// The records for which the return area was asked for.
@@ -181,7 +210,7 @@ pub struct PlainBindgen {
     pub(crate) slots: u32,
     /// The open blocks, the innermost last.
     pub(crate) opened: Vec<OpenBlock>,
-    /// The finished blocks that no step has, the last one last.
+    /// The finished blocks that no line has, the last one last.
     pub(crate) blocks: Vec<Body>,
 }
 
@@ -199,7 +228,7 @@ impl PlainBindgen {
             sizes,
             import,
             home,
-            steps: List::new(alloc),
+            lines: List::new(alloc),
             count: 0,
             asked: List::new(alloc),
             returned: None,
@@ -223,10 +252,10 @@ impl PlainBindgen {
         self.asked.as_slice()
     }
 
-    /// The steps so far.
-    pub fn steps(&self) -> &[Step]
-        ensures { result.now ≡ self.now.steps }
+    /// The lines so far.
+    pub fn lines(&self) -> &[Line]
+        ensures { result.now ≡ self.now.lines }
     {
-        self.steps.as_slice()
+        self.lines.as_slice()
     }
 }

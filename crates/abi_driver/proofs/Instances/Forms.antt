@@ -1,5 +1,5 @@
 -- How instances are written: numbers as arguments, an area, a peer that answers the text `ok` in it, and what code is to make of that.
-use Rattle.std.proofs.Common.{◌≡◌, ◌+◌, ◌-◌, ℕ, false, pos, nat_lt, if◌then◌else◌, List, [], ◌∷◌, ◌++◌, map, Option, Some, None, codes, refl, ap, arith}
+use Rattle.std.proofs.Common.{◌≡◌, ◌+◌, ◌-◌, ℕ, false, pos, nat_lt, if◌then◌else◌, List, [], ◌∷◌, ◌++◌, map, Option, Some, None, codes, refl, ap, ◌∙◌, arith}
 use Rattle.wit_model.specs.declared.wasm_type.WasmType.TheVariants as wasm
 use Rattle.wrapper_data.specs.declared.choice.Request.{Request}
 use Rattle.wrapper_data.specs.declared.form.Form.{Form}
@@ -11,12 +11,15 @@ use Rattle.wrapper_meaning.specs.Direction.{take}
 use Rattle.wrapper_meaning.specs.Shape.Shape.{text}
 use Rattle.wrapper_meaning.proofs.Instances.Forms.{ascii, pair_words}
 use Rattle.wrapper_meaning.proofs.Instances.OkAnswer.{area_of, names_ok, ok, ok_taken, written}
+use Rattle.abi_driver.specs.declared.plain.Line.{Line}
+use Rattle.abi_driver.specs.declared.plain.Line.TheVariants as line
 use Rattle.abi_driver.specs.declared.plain.Place.{Place}
 use Rattle.abi_driver.specs.declared.plain.Step.{Step}
 use Rattle.abi_driver.specs.declared.plain.Step.TheVariants as step
 use Rattle.abi_driver.specs.Account.{Account, Call, Done, Got, Outcome, Peer, Stopped, Stuck, Taken, failing, gives, tested, then_do, words}
 use Rattle.abi_driver.specs.Meaning.{Datum, item, word}
-use Rattle.abi_driver.specs.Plain.{PlainItem, PlainStands, PlainState, kept, leaf, runs}
+use Rattle.abi_driver.specs.Plain.{LineRun, PlainItem, PlainStands, PlainState, inputs, kept, leaf, performed, runs}
+use Rattle.abi_driver.proofs.PlainRuns.{does_step}
 
 -- 1. Where code begins
 
@@ -53,6 +56,25 @@ call_f from to = step.Call (codes "$root") (codes "f") from None to
 abbrev pub load_text : (address to : ℕ) → List Step
 load_text address to =
     step.Load wasm.Pointer 2 false (record { bytes = 0; pointers = 0 }) address to ∷ step.Load wasm.Length 2 false (record { bytes = 0; pointers = 1 }) address (to + 1) ∷ []
+
+-- a run of steps alone
+abbrev pub run_steps : Option Request → Peer PlainItem → List Step → PlainState → Outcome PlainItem PlainState
+run_steps area p [] s = Done s
+run_steps area p (st ∷ steps) s = then_do (performed area st p (inputs st s) s) (λ t. run_steps area p steps t)
+
+abbrev pub lines_of : List Step → List Line
+lines_of steps = map (λ st. line.Step st) steps
+
+then_same : (o : Outcome PlainItem PlainState) (f g : PlainState → Outcome PlainItem PlainState) → ((t : PlainState) → f t ≡ g t) → then_do o f ≡ then_do o g
+then_same (Done t) f g h = h t
+then_same (Stopped e acc) f g h = refl
+then_same (Stuck acc) f g h = refl
+
+pub steps_run : (area : Option Request) (p : Peer PlainItem) (steps : List Step) (s : PlainState) → runs area p (lines_of steps) s ≡ run_steps area p steps s
+steps_run area p [] s = refl
+steps_run area p (st ∷ steps) s =
+    ap (λ (run : LineRun). then_do (run area p s) (λ t. runs area p (lines_of steps) t)) (does_step st)
+    ∙ then_same (performed area st p (inputs st s) s) (λ t. runs area p (lines_of steps) t) (λ t. run_steps area p steps t) (λ t. steps_run area p steps t)
 
 -- 3. What is answered, and what becomes of it
 
@@ -98,7 +120,7 @@ takes_ok f to s = ap (then_taken to s) (ok_is_text f s.account)
 -- and owns its block
 pub record GivesOk (size many : ℕ) (f : Form) (steps : List Step) (call : Call PlainItem) (place : ℕ) : Type 0 where
   pub end : PlainState
-  pub done : runs (area_request size) (peer f) steps (start size many) ≡ Done end
+  pub done : runs (area_request size) (peer f) (lines_of steps) (start size many) ≡ Done end
   pub once : end.account.calls ≡ call ∷ []
   pub nothing_asked : end.account.requests ≡ []
   pub given : PlainItem

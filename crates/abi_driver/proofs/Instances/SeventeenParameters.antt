@@ -1,5 +1,5 @@
 -- Seventeen numbers as the parameters of an import, and a text as its result: both pass by one area of 68 bytes.
-use Rattle.std.proofs.Common.{◌≡◌, ◌+◌, ◌*◌, ℕ, zero, suc, List, [], ◌∷◌, ◌++◌, length, refl, ap, arith}
+use Rattle.std.proofs.Common.{◌≡◌, ◌+◌, ◌*◌, ℕ, zero, suc, List, [], ◌∷◌, ◌++◌, length, refl, ap, arith, ◌∙◌, sym}
 use Rattle.wit_model.specs.declared.wasm_type.WasmType.TheVariants as wasm
 use Rattle.wrapper_data.specs.Answered.{with_block, written_block}
 use Rattle.wrapper_data.specs.declared.block.Block.{Block}
@@ -11,8 +11,8 @@ use Rattle.wrapper_meaning.proofs.Instances.OkAnswer.{area_of}
 use Rattle.abi_driver.specs.declared.plain.Step.{Step}
 use Rattle.abi_driver.specs.declared.plain.Step.TheVariants as step
 use Rattle.abi_driver.specs.Account.{Call, Done, Outcome, Stopped, Stuck}
-use Rattle.abi_driver.specs.Plain.{PlainItem, PlainState, runs}
-use Rattle.abi_driver.proofs.Instances.Forms.{GivesOk, area_request, at, call_f, import_f, load_text, ok_item, peer, stands_for_ok, start, state_in, takes_ok, with_ok}
+use Rattle.abi_driver.specs.Plain.{PlainItem, PlainState}
+use Rattle.abi_driver.proofs.Instances.Forms.{GivesOk, area_request, at, call_f, import_f, load_text, ok_item, peer, run_steps, stands_for_ok, start, state_in, steps_run, takes_ok, with_ok}
 
 -- each number, so many from one on, is read, becomes its word, and is stored at its place in the record
 abbrev stores : (first n : ℕ) → List Step
@@ -43,11 +43,11 @@ abbrev call : Call PlainItem
 call = record { target = import_f; words = core.Pointer 4096 ∷ core.Pointer 4096 ∷ []; values = []; heap = record { blocks = record_of_numbers ∷ [] } }
 
 abbrev loaded : Form → PlainState
-loaded f = state_in (start 68 17) (runs (area_request 68) (peer f) to_loads (start 68 17))
+loaded f = state_in (start 68 17) (run_steps (area_request 68) (peer f) to_loads (start 68 17))
 
 gives_ok : (f : Form) → GivesOk 68 17 f steps call 38
 unfolding with_block written_block
-gives_ok f = record { end = with_ok 38 (loaded f); done = takes_ok f 38 (loaded f); once = refl; nothing_asked = refl; given = ok_item; there = refl; stands = stands_for_ok; owners = refl }
+gives_ok f = record { end = with_ok 38 (loaded f); done = steps_run (area_request 68) (peer f) steps (start 68 17) ∙ takes_ok f 38 (loaded f); once = refl; nothing_asked = refl; given = ok_item; there = refl; stands = stands_for_ok; owners = refl }
 
 -- in an area with room for sixteen numbers alone the last one can't be stored
 
@@ -58,4 +58,4 @@ ends (Stuck acc) = 0
 
 too_small : (f : Form) → GivesOk 64 17 f steps call 38 → ⊥
 unfolding written_block ends
-too_small f wrong = omega (ap ends wrong.done, arith)
+too_small f wrong = omega (ap ends (sym (steps_run (area_request 64) (peer f) steps (start 64 17)) ∙ wrong.done), arith)

@@ -1,5 +1,5 @@
 -- Sixteen numbers as the parameters of an import, and a text as its result, which passes by an area of 8 bytes.
-use Rattle.std.proofs.Common.{◌+◌, ◌*◌, ℕ, zero, suc, pos, List, [], ◌∷◌, ◌++◌, refl}
+use Rattle.std.proofs.Common.{◌+◌, ◌*◌, ℕ, zero, suc, pos, List, [], ◌∷◌, ◌++◌, refl, ◌∙◌}
 use Rattle.wrapper_data.specs.Answered.{with_block, written_block}
 use Rattle.wrapper_data.specs.declared.form.Form.{Form}
 use Rattle.wrapper_data.specs.declared.word.Word.{Word}
@@ -8,8 +8,8 @@ use Rattle.abi_driver.specs.declared.plain.Place.{Place}
 use Rattle.abi_driver.specs.declared.plain.Step.{Step}
 use Rattle.abi_driver.specs.declared.plain.Step.TheVariants as step
 use Rattle.abi_driver.specs.Account.{Call}
-use Rattle.abi_driver.specs.Plain.{PlainItem, PlainState, runs}
-use Rattle.abi_driver.proofs.Instances.Forms.{GivesOk, area_request, at, call_f, import_f, load_text, ok_item, peer, stands_for_ok, start, state_in, takes_ok, with_ok}
+use Rattle.abi_driver.specs.Plain.{PlainItem, PlainState}
+use Rattle.abi_driver.proofs.Instances.Forms.{GivesOk, area_request, at, call_f, import_f, load_text, ok_item, peer, run_steps, stands_for_ok, start, state_in, steps_run, takes_ok, with_ok}
 
 -- each number, so many from one on, is read and becomes its word
 abbrev passes : (first n : ℕ) → List Step
@@ -37,8 +37,8 @@ abbrev call : Call PlainItem
 call = record { target = import_f; words = words_of 0 16 ++ core.Pointer 4096 ∷ []; values = []; heap = (start 8 16).account.heap }
 
 abbrev loaded : Form → PlainState
-loaded f = state_in (start 8 16) (runs (area_request 8) (peer f) to_loads (start 8 16))
+loaded f = state_in (start 8 16) (run_steps (area_request 8) (peer f) to_loads (start 8 16))
 
 gives_ok : (f : Form) → GivesOk 8 16 f steps call 35
 unfolding with_block written_block
-gives_ok f = record { end = with_ok 35 (loaded f); done = takes_ok f 35 (loaded f); once = refl; nothing_asked = refl; given = ok_item; there = refl; stands = stands_for_ok; owners = refl }
+gives_ok f = record { end = with_ok 35 (loaded f); done = steps_run (area_request 8) (peer f) steps (start 8 16) ∙ takes_ok f 35 (loaded f); once = refl; nothing_asked = refl; given = ok_item; there = refl; stands = stands_for_ok; owners = refl }

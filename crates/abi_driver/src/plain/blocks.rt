@@ -4,9 +4,9 @@ ghost use Rattle.std.specs.Prelude.{◌≡◌, [], OnOk};
 ghost use Rattle.abi_driver.specs.declared.instruction.Instruction.TheVariants as instruction;
 ghost use Rattle.abi_driver.specs.Blocks.{Finishes, Pushes};
 ghost use Rattle.abi_driver.specs.Instructions.{Emits};
-ghost use Rattle.abi_driver.specs.Plain.{plain_meaning};
+ghost use Rattle.abi_driver.specs.Plain.{IsBody, plain_meaning};
 
-use crate::plain::{Body, OpenBlock, Place, PlainBindgen, Step};
+use crate::plain::{Body, Line, OpenBlock, Place, PlainBindgen, Step};
 use wit_model::{List, OutOfMemory, Resolve};
 
 impl PlainBindgen {
@@ -17,7 +17,7 @@ impl PlainBindgen {
         let Some(next) = slot.checked_add(1) else {
             return Err(OutOfMemory);
         };
-        let suspended = std::mem::replace(&mut self.steps, List::new(self.alloc));
+        let suspended = std::mem::replace(&mut self.lines, List::new(self.alloc));
         self.opened.push(OpenBlock { slot, suspended })?;
         self.slots = next;
         Ok(())
@@ -30,13 +30,10 @@ impl PlainBindgen {
             return Err(OutOfMemory);
         };
         let OpenBlock { slot, suspended } = open;
-        let steps = std::mem::replace(&mut self.steps, suspended);
+        let lines = std::mem::replace(&mut self.lines, suspended);
         let results = std::mem::replace(operands, List::new(self.alloc));
-        self.blocks.push(Body {
-            slot,
-            steps,
-            results,
-        })?;
+        let body = finished(slot, lines, results);
+        self.blocks.push(body)?;
         Ok(())
     }
 
@@ -55,5 +52,16 @@ impl PlainBindgen {
         let to = self.count;
         self.add(Step::Payload { slot, to }, 1, results)?;
         Ok(())
+    }
+}
+
+/// A finished block.
+fn finished(slot: u32, lines: List<Line>, results: List<Place>) -> Body
+    ensures { IsBody result slot lines results }
+{
+    Body {
+        slot,
+        lines,
+        results,
     }
 }

@@ -3,10 +3,10 @@
 ghost use Rattle.std.specs.Prelude.{◌≡◌, List, [], Some, length, IfOk, OnOk};
 ghost use Rattle.wit_model.specs.declared.types.Field.{Field};
 ghost use Rattle.abi_driver.specs.Instructions.{Emits, IsRecord};
-ghost use Rattle.abi_driver.specs.Plain.{AddsStep, lifted_type, lowered_type, places_from, plain_meaning};
+ghost use Rattle.abi_driver.specs.Plain.{AddsLine, AddsStep, lifted_type, lowered_type, places_from, plain_meaning};
 
 use crate::instruction::Instruction;
-use crate::plain::{Place, PlainBindgen, Step};
+use crate::plain::{Line, Place, PlainBindgen, Step};
 use wit_model::{List, OutOfMemory, Resolve, TypeDefKind, TypeId, WitType};
 
 impl PlainBindgen {
@@ -21,11 +21,27 @@ impl PlainBindgen {
         ensures adds { OnOk result (AddsStep step count self.old self.new) }
         ensures places { OnOk result (results.new ≡ places_from self.old.count count) }
     {
+        self.add_line(Line::Step(step), count, results)?;
+        Ok(())
+    }
+
+    /// Adds a line with so many results.
+    pub(super) fn add_line(
+        &mut self,
+        line: Line,
+        count: u32,
+        results: &mut List<Place>,
+    ) -> Result<(), OutOfMemory>
+        requires empty { results.old ≡ [] }
+        ensures adds { OnOk result (AddsLine line count self.old self.new) }
+        ensures blocks { OnOk result (self.new.blocks ≡ self.old.blocks) }
+        ensures places { OnOk result (results.new ≡ places_from self.old.count count) }
+    {
         let first = self.count;
         let Some(next) = first.checked_add(count) else {
             return Err(OutOfMemory);
         };
-        self.steps.push(step)?;
+        self.lines.push(line)?;
         for number in first..next {
             results.push(Place { number })?;
         }

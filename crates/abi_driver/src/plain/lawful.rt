@@ -26,7 +26,7 @@ impl Bindgen for PlainBindgen {
     ghost sound = { plain_sound };
 
     /// The steps of arguments, constants, casts, scalars, texts, records, tuples, enums and flags, of words in memory, of blocks that are freed,
-    /// of calls, and of the payload of a block. Of any other instruction the answer is `OutOfMemory`.
+    /// of calls, of the payload of a block, and of variants, options and results. Of any other instruction the answer is `OutOfMemory`.
     fn emit(
         &mut self,
         resolve: &Resolve,
@@ -71,6 +71,15 @@ impl Bindgen for PlainBindgen {
             Instruction::FlagsLower(id) => self.pass_flags(resolve, id, operands, results),
             Instruction::FlagsLift(id) => self.read_flags(resolve, id, operands, results),
             Instruction::VariantPayloadName => self.payload(resolve, results),
+            Instruction::VariantLower(id, n) => self.lower_variant(
+                resolve, id, n, operands, results,
+            ),
+            Instruction::OptionLower(id, n) => self.lower_option(resolve, id, n, operands, results),
+            Instruction::ResultLower(id, n) => self.lower_result(resolve, id, n, operands, results),
+            Instruction::VariantLift(id) => self.lift_variant(resolve, id, operands, results),
+            Instruction::OptionLift(id) => self.lift_option(resolve, id, operands, results),
+            Instruction::ResultLift(id) => self.lift_result(resolve, id, operands, results),
+            Instruction::GuestDeallocateVariant(n) => self.free_case(resolve, n, operands, results),
             Instruction::GuestDeallocateString => self.free_text(resolve, operands, results),
             Instruction::GuestDeallocate(size, align) => self.free_block(
                 resolve, size, align, operands, results,

@@ -1,7 +1,7 @@
 use Rattle.std.proofs.Common.{◌≡◌, ◌+◌, ◌-◌, [], ◌∷◌, ◌++◌, sym, ap, ◌∙◌, arith, append_assoc, append-nil}
 use Rattle.abi_driver.specs.Plain.{places_from}
 use Rattle.abi_driver.proofs.PlainPlaces.{places_next, places_none}
-use Rattle.abi_driver.proofs.plain.PlainBindgen.add.Goals as goal
+use Rattle.abi_driver.proofs.plain.PlainBindgen.add_line.Goals as goal
 
 pub loop-number-preserved : goal.loop-number-preserved
 loop-number-preserved c =
