@@ -57,7 +57,7 @@ fn an_import_is_called(rt: HostRuntime) -> Result<(), Fail> {
     let variant = AbiVariant::GuestImport;
     let dir = LiftLower::LowerArgsLiftResults;
     call(alloc, &resolve, variant, dir, &func, &mut code)?;
-    assert_eq!(rt; difference(code.steps(), &CALLED), None);
+    assert_eq!(rt; difference(code.lines(), &CALLED), None);
     match code.returned() {
         Some(given) => assert!(rt; are(given.as_slice(), &[6])),
         None => panic!(rt; "the code has no end"),
@@ -85,7 +85,7 @@ fn a_method_is_called(rt: HostRuntime) -> Result<(), Fail> {
     let variant = AbiVariant::GuestExport;
     let dir = LiftLower::LiftArgsLowerResults;
     call(alloc, &resolve, variant, dir, &func, &mut code)?;
-    assert_eq!(rt; difference(code.steps(), &HANDED), None);
+    assert_eq!(rt; difference(code.lines(), &HANDED), None);
     match code.returned() {
         Some(given) => assert!(rt; are(given.as_slice(), &[6])),
         None => panic!(rt; "the code has no end"),

@@ -26,7 +26,7 @@ fn a_record_becomes_words(rt: HostRuntime) -> Result<(), Fail> {
     let value = Place { number: 100 };
     let ty = WitType::Id(TypeId(1));
     let words = lower_flat(alloc, &resolve, &mut code, value, &ty, false)?;
-    assert_eq!(rt; difference(code.steps(), &LOWERED), None);
+    assert_eq!(rt; difference(code.lines(), &LOWERED), None);
     assert!(rt; are(words.as_slice(), &[3, 4, 5, 8, 9]));
     Ok(())
 }
@@ -54,7 +54,7 @@ fn words_become_a_record(rt: HostRuntime) -> Result<(), Fail> {
     }
     let ty = WitType::Id(TypeId(1));
     let value = lift_flat(alloc, &resolve, &mut code, &words, &ty)?;
-    assert_eq!(rt; difference(code.steps(), &LIFTED), None);
+    assert_eq!(rt; difference(code.lines(), &LIFTED), None);
     assert_eq!(rt; value.number, 5);
     Ok(())
 }

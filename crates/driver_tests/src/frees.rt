@@ -25,6 +25,6 @@ fn the_text_in_a_record_is_freed(rt: HostRuntime) -> Result<(), Fail> {
     operands.push(Place { number: 100 })?;
     let types = [WitType::U8, WitType::Id(TypeId(1))];
     deallocate_lists_in_types(alloc, &resolve, &types, &operands, true, &mut code)?;
-    assert_eq!(rt; difference(code.steps(), &FREED), None);
+    assert_eq!(rt; difference(code.lines(), &FREED), None);
     Ok(())
 }

@@ -30,7 +30,7 @@ fn stored(
     let address = Place { number: 101 };
     let ty = WitType::Id(TypeId(number));
     lower_to_memory(alloc, resolve, &mut code, address, value, &ty, true)?;
-    Ok(difference(code.steps(), rows))
+    Ok(difference(code.lines(), rows))
 }
 
 /// The same of loading.
@@ -51,7 +51,7 @@ fn loaded(
     let address = Place { number: 100 };
     let ty = WitType::Id(TypeId(number));
     lift_from_memory(alloc, resolve, &mut code, address, &ty)?;
-    Ok(difference(code.steps(), rows))
+    Ok(difference(code.lines(), rows))
 }
 
 /// The tag of up to 256 cases has one byte.

@@ -33,7 +33,7 @@ fn a_record_is_stored(rt: HostRuntime) -> Result<(), Fail> {
     let address = Place { number: 101 };
     let ty = WitType::Id(TypeId(1));
     lower_to_memory(alloc, &resolve, &mut code, address, value, &ty, true)?;
-    assert_eq!(rt; difference(code.steps(), &STORED), None);
+    assert_eq!(rt; difference(code.lines(), &STORED), None);
     Ok(())
 }
 
@@ -62,7 +62,7 @@ fn a_record_is_loaded(rt: HostRuntime) -> Result<(), Fail> {
     let address = Place { number: 100 };
     let ty = WitType::Id(TypeId(1));
     let value = lift_from_memory(alloc, &resolve, &mut code, address, &ty)?;
-    assert_eq!(rt; difference(code.steps(), &LOADED), None);
+    assert_eq!(rt; difference(code.lines(), &LOADED), None);
     assert_eq!(rt; value.number, 10);
     Ok(())
 }

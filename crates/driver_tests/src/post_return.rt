@@ -61,7 +61,7 @@ fn the_text_in_a_result_is_freed(rt: HostRuntime) -> Result<(), Fail> {
         docs: docs(),
     };
     post_return(alloc, &resolve, &func, &mut code)?;
-    assert_eq!(rt; difference(code.steps(), &FREED), None);
+    assert_eq!(rt; difference(code.lines(), &FREED), None);
     match code.returned() {
         Some(given) => assert!(rt; given.is_empty()),
         None => panic!(rt; "the code has no end"),

@@ -1,13 +1,17 @@
-//! What the tests compare of steps.
+//! What the tests compare of lines.
 
-use abi_driver::{Place, Step};
+use abi_driver::{Line, Place, Step};
 use wit_model::{ArchitectureSize, WasmType, WitType};
 
-/// A step: what it reads, and last the first place that it writes. A word in memory is told by its type, its bytes as an
+/// A step: what it reads, and last the first place that it writes. Of a choice among blocks also how many they are. A word in memory is told by its type, its bytes as an
 /// exponent of 2 and its offset at pointers of four bytes, and behind its address.
 #[derive(Clone, Copy, Debug, PartialEq)]
 pub(crate) enum Told {
     Argument(u32, u32),
+    Number(i32, u32),
+    Zeros(usize, u32),
+    Cast(usize, [u32; 3], u32),
+    Payload(u32, u32),
     Pass(u32, u32),
     Read(WitType, u32, u32),
     ReadTag(u32, u32, u32),
@@ -22,6 +26,9 @@ pub(crate) enum Told {
     Call(usize, [u32; 3], Option<WasmType>, u32),
     CallMethod(usize, [u32; 3], u32, u32),
     Area(u32),
+    Lower(u32, usize, u32),
+    Lift(u32, bool, usize, u32),
+    FreeCase(u32, usize),
 }
 
 /// The numbers of up to three places.
@@ -46,6 +53,10 @@ fn flags_read(from: &[Place], to: u32) -> Told {
 fn seen(step: &Step) -> Told {
     match step {
         Step::Argument { number, to } => Told::Argument(*number, *to),
+        Step::Number { value, to } => Told::Number(*value, *to),
+        Step::Zeros { types, to } => Told::Zeros(types.len(), *to),
+        Step::Cast { casts: _, from, to } => Told::Cast(from.len(), numbers(from.as_slice()), *to),
+        Step::Payload { slot, to } => Told::Payload(*slot, *to),
         Step::Pass { from, to } => Told::Pass(*from, *to),
         Step::Read { ty, from, to } => Told::Read(*ty, *from, *to),
         Step::ReadTag { cases, from, to } => Told::ReadTag(*cases, *from, *to),
@@ -86,14 +97,28 @@ fn seen(step: &Step) -> Told {
     }
 }
 
-/// The first step that is not as it is told, if any.
-pub(crate) fn difference(steps: &[Step], rows: &[Told]) -> Option<usize> {
+fn line_seen(line: &Line) -> Told {
+    match line {
+        Line::Step(step) => seen(step),
+        Line::Lower { from, arms, to } => Told::Lower(*from, arms.len(), *to),
+        Line::Lift {
+            from,
+            last_serves,
+            arms,
+            to,
+        } => Told::Lift(*from, *last_serves, arms.len(), *to),
+        Line::Free { from, arms } => Told::FreeCase(*from, arms.len()),
+    }
+}
+
+/// The first line that is not as it is told, if any.
+pub(crate) fn difference(lines: &[Line], rows: &[Told]) -> Option<usize> {
     for i in 0..rows.len() {
-        if i >= steps.len() || seen(&steps[i]) != rows[i] {
+        if i >= lines.len() || line_seen(&lines[i]) != rows[i] {
             return Some(i);
         }
     }
-    if steps.len() > rows.len() {
+    if lines.len() > rows.len() {
         return Some(rows.len());
     }
     None
