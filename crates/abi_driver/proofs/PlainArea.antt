@@ -23,7 +23,10 @@ use Rattle.abi_driver.specs.Arms.{choosing}
 use Rattle.abi_driver.specs.Area.{HasRoomFor, HoldsRecord, newly, placed, pointing}
 use Rattle.abi_driver.specs.Laws.{After, At, Facts, Grows, PointsTo, Quiet, ofs}
 use Rattle.abi_driver.specs.Meaning.{Bound, Datum, Ended, item, of, with_nothing, word}
-use Rattle.abi_driver.specs.Plain.{AddsStep, BodyRun, LineRun, PlainItem, PlainState, all_at, area_data, body_step, chosen, data_own, does_line, ended, entered, freed_case, freeing_case, given_to, inputs, kept, last_of, lifting, line_step, lowering, made_case, matching_arm, own_area, owned_by_payload, performed, performs, places_from, plain_meaning, pointed, removed, run_arm, run_with, runs, runs_body}
+use Rattle.abi_driver.specs.Plain.{AddsStep, places_from, plain_meaning}
+use Rattle.abi_driver.specs.PlainLines.{BodyRun, LineRun, body_step, does_line, ended, entered, freed_case, freeing_case, given_to, last_of, lifting, line_step, lowering, made_case, matching_arm, run_arm, run_with, runs, runs_body}
+use Rattle.abi_driver.specs.PlainSteps.{PlainState, all_at, area_data, inputs, kept, own_area, performed, performs, pointed, removed}
+use Rattle.abi_driver.specs.PlainValues.{PlainItem, chosen, data_own, owned_by_payload}
 use Rattle.abi_driver.specs.PlainSound.{all_both, all_left}
 use Rattle.abi_driver.proofs.PlainPlaces.{still_hold}
 use Rattle.abi_driver.proofs.PlainBlocks.{arm_at, does_body}

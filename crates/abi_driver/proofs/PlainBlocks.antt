@@ -25,7 +25,10 @@ use Rattle.abi_driver.specs.Blocks.{Finishes, Gives, IsOfWord, IsOpen, Lasts, Pu
 use Rattle.abi_driver.specs.Instructions.{Emits}
 use Rattle.abi_driver.specs.Laws.{Facts, Stays, ofs}
 use Rattle.abi_driver.specs.Meaning.{Bound, Datum, Ended, Name, arg, at_place, bound, item, of, the_base, the_element, the_key, the_payload, the_value, with_element, with_entry, with_nothing, with_payload, word}
-use Rattle.abi_driver.specs.Plain.{AddsStep, BodyRun, Hold, IsBody, IsRight, LineRun, PlainItem, PlainState, all_at, and_all, body_step, bound_to, brings, does_line, ended, entered, fact_owns, line_step, only_word, owned_by, places_from, plain_meaning, runs, runs_body}
+use Rattle.abi_driver.specs.Plain.{AddsStep, Hold, IsBody, IsRight, fact_owns, places_from, plain_meaning}
+use Rattle.abi_driver.specs.PlainLines.{BodyRun, LineRun, body_step, bound_to, brings, does_line, ended, entered, line_step, only_word, runs, runs_body}
+use Rattle.abi_driver.specs.PlainSteps.{PlainState, all_at, and_all}
+use Rattle.abi_driver.specs.PlainValues.{PlainItem, owned_by}
 use Rattle.abi_driver.specs.PlainSound.{all_both, own_both}
 use Rattle.abi_driver.proofs.PlainPlaces.{same_is, still_hold, still_right}
 use Rattle.abi_driver.proofs.PlainRows.{many_at}

@@ -20,7 +20,10 @@ use Rattle.abi_driver.specs.Calls.{HandsOver, PassesAsItIs, answered_by, are_liv
 use Rattle.abi_driver.specs.Instructions.{Emits}
 use Rattle.abi_driver.specs.Laws.{Does, Facts, core_data, item_data, ofs}
 use Rattle.abi_driver.specs.Meaning.{item, word}
-use Rattle.abi_driver.specs.Plain.{AddsStep, Hold, IsRight, PlainItem, PlainState, all_items, all_words, and_item, and_word, called, handed, owned_by, places_from, plainly, plain_meaning, plain_target, runs}
+use Rattle.abi_driver.specs.Plain.{AddsStep, Hold, IsRight, places_from, plain_meaning, plain_target}
+use Rattle.abi_driver.specs.PlainLines.{runs}
+use Rattle.abi_driver.specs.PlainSteps.{PlainState, all_items, all_words, and_item, and_word, called, handed, plainly}
+use Rattle.abi_driver.specs.PlainValues.{PlainItem, owned_by}
 use Rattle.abi_driver.specs.PlainSound.{all_left, own_both}
 use Rattle.abi_driver.proofs.PlainPlaces.{items_own, ofs_own, places_count, still_hold, words_own}
 use Rattle.abi_driver.proofs.PlainRows.{many_at}

@@ -39,7 +39,10 @@ use Rattle.abi_driver.specs.Instructions.{AddsCode, Emits, HasBlocks, block_resu
 use Rattle.abi_driver.specs.Laws.{At, Data, Facts, Grows, Quiet, ofs}
 use Rattle.abi_driver.specs.Meaning.{Bound, Datum, Ended, item, of, with_nothing, word}
 use Rattle.abi_driver.specs.Parts.{count}
-use Rattle.abi_driver.specs.Plain.{AddsChoice, BodyRun, Hold, IsRight, LineRun, PlainCaseStands, PlainItem, PlainPayload, PlainStands, PlainState, all_at, and_all, body_step, chosen, data_own, does_line, ended, entered, fact_owns, freed_case, freeing_case, given_to, last_of, lifting, line_step, lowering, made_case, matching_arm, no_payload, owned_by, owned_by_payload, payload_of, places_from, plain_meaning, removed, run_arm, run_with, runs, runs_body}
+use Rattle.abi_driver.specs.Plain.{AddsChoice, Hold, IsRight, fact_owns, places_from, plain_meaning}
+use Rattle.abi_driver.specs.PlainLines.{BodyRun, LineRun, body_step, does_line, ended, entered, freed_case, freeing_case, given_to, last_of, lifting, line_step, lowering, made_case, matching_arm, run_arm, run_with, runs, runs_body}
+use Rattle.abi_driver.specs.PlainSteps.{PlainState, all_at, and_all, removed}
+use Rattle.abi_driver.specs.PlainValues.{PlainCaseStands, PlainItem, PlainPayload, PlainStands, chosen, data_own, no_payload, owned_by, owned_by_payload, payload_of}
 use Rattle.abi_driver.specs.PlainSound.{all_both, own_both}
 use Rattle.abi_driver.specs.Turns.{Arrives, Moved, Went}
 use Rattle.abi_driver.proofs.PlainBlocks.{arm_at, does_body}
@@ -265,10 +268,10 @@ data_owned (item a ∷ ds) = ap (λ xs. owned_by a ++ xs) (data_owned ds)
 
 -- 6. Rows
 
-does_lower : (from : ℕ) (arms : List Body) (to : ℕ) → does_line (line.Lower from arms to) ≡ line_step (Line-F.Lower from (map runs_body arms) to)
+pub does_lower : (from : ℕ) (arms : List Body) (to : ℕ) → does_line (line.Lower from arms to) ≡ line_step (Line-F.Lower from (map runs_body arms) to)
 does_lower from arms to = ap does_line (sym (rolls-Lower from arms to)) ∙ fold-roll-Line LineRun BodyRun line_step body_step (Line-F.Lower from arms to)
 
-does_lift : (from : ℕ) (last : Bool) (arms : List Body) (to : ℕ) → does_line (line.Lift from last arms to) ≡ line_step (Line-F.Lift from last (map runs_body arms) to)
+pub does_lift : (from : ℕ) (last : Bool) (arms : List Body) (to : ℕ) → does_line (line.Lift from last arms to) ≡ line_step (Line-F.Lift from last (map runs_body arms) to)
 does_lift from last arms to = ap does_line (sym (rolls-Lift from last arms to)) ∙ fold-roll-Line LineRun BodyRun line_step body_step (Line-F.Lift from last arms to)
 
 does_free : (from : ℕ) (arms : List Body) → does_line (line.Free from arms) ≡ line_step (Line-F.Free from (map runs_body arms))

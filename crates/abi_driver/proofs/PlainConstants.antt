@@ -24,7 +24,9 @@ use Rattle.abi_driver.specs.Constants.{AreCasts, CastsWords, MakesWords, cast_wo
 use Rattle.abi_driver.specs.Instructions.{Emits}
 use Rattle.abi_driver.specs.Laws.{core_data, ofs}
 use Rattle.abi_driver.specs.Meaning.{Datum, word}
-use Rattle.abi_driver.specs.Plain.{AddsStep, PlainItem, PlainState, cast_all, cast_target, casting, inputs, own_area, performs, places_from, plain_meaning, put, type_of, writes}
+use Rattle.abi_driver.specs.Plain.{AddsStep, places_from, plain_meaning}
+use Rattle.abi_driver.specs.PlainSteps.{PlainState, cast_all, cast_target, casting, inputs, own_area, performs, put, type_of, writes}
+use Rattle.abi_driver.specs.PlainValues.{PlainItem}
 use Rattle.abi_driver.proofs.PlainCalls.{words_all}
 use Rattle.abi_driver.proofs.PlainPlaces.{ofs_own, places_count, words_own}
 use Rattle.abi_driver.proofs.PlainRows.{many_at}

@@ -30,7 +30,9 @@ use Rattle.abi_driver.specs.Instructions.{Emits}
 use Rattle.abi_driver.specs.Laws.{core_data, ofs}
 use Rattle.abi_driver.specs.Meaning.{item, of, word}
 use Rattle.abi_driver.specs.Parts.{count}
-use Rattle.abi_driver.specs.Plain.{AddsStep, PlainCaseStands, PlainItem, PlainPayload, PlainStands, as_flags, chosen, data_own, leaf, no_payload, owned_by_payload, passing, payload_of, performs, places_from, plain_meaning}
+use Rattle.abi_driver.specs.Plain.{AddsStep, places_from, plain_meaning}
+use Rattle.abi_driver.specs.PlainSteps.{as_flags, passing, performs}
+use Rattle.abi_driver.specs.PlainValues.{PlainCaseStands, PlainItem, PlainPayload, PlainStands, chosen, data_own, leaf, no_payload, owned_by_payload, payload_of}
 use Rattle.abi_driver.specs.PlainSound.{owned_case}
 use Rattle.abi_driver.proofs.BareCases.{count_bare}
 use Rattle.abi_driver.proofs.EnumSteps.{enum_cases}

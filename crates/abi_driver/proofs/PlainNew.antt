@@ -8,7 +8,9 @@ use Rattle.abi_driver.specs.declared.plain.PlainBindgen.{PlainBindgen}
 use Rattle.abi_driver.specs.Area.{HoldsRecord}
 use Rattle.abi_driver.specs.Laws.{AreLent, Data, IsNew, args}
 use Rattle.abi_driver.specs.Meaning.{Datum, item, word}
-use Rattle.abi_driver.specs.Plain.{IsRight, PlainItem, PlainState, fact_owns, plain_meaning}
+use Rattle.abi_driver.specs.Plain.{IsRight, fact_owns, plain_meaning}
+use Rattle.abi_driver.specs.PlainSteps.{PlainState}
+use Rattle.abi_driver.specs.PlainValues.{PlainItem}
 use Rattle.abi_driver.specs.PlainSound.{plain_sound}
 
 abbrev nth : Data plain_meaning → ℕ → Option (Datum PlainItem)

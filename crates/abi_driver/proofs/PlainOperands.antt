@@ -14,7 +14,8 @@ use Rattle.abi_driver.specs.declared.plain.PlainBindgen.{PlainBindgen}
 use Rattle.abi_driver.specs.declared.plain.Step.TheVariants as step
 use Rattle.abi_driver.specs.declared.plain.words.WordTouch.TheVariants as touched
 use Rattle.abi_driver.specs.Instructions.{Emits, IsRecord}
-use Rattle.abi_driver.specs.Plain.{AddsStep, lifted_type, lowered_type, places_from, plain_meaning, word_touch}
+use Rattle.abi_driver.specs.Plain.{AddsStep, places_from, plain_meaning}
+use Rattle.abi_driver.specs.PlainSteps.{lifted_type, lowered_type, word_touch}
 use Rattle.abi_driver.specs.Touches.{touch}
 use Rattle.abi_driver.proofs.PlainRows.{frees_block, frees_text, loads_word, passes_scalar, passes_text, reads_scalar, splits_record, splits_tuple, stores_word, takes_text}
 

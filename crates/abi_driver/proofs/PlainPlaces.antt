@@ -10,7 +10,9 @@ use Rattle.abi_driver.specs.declared.plain.PlainBindgen.{PlainBindgen}
 use Rattle.abi_driver.specs.Account.{is_taken, without}
 use Rattle.abi_driver.specs.Laws.{Facts, core_data, item_data, ofs}
 use Rattle.abi_driver.specs.Meaning.{Datum, Name, arg, bound, of}
-use Rattle.abi_driver.specs.Plain.{Hold, IsRight, PlainItem, PlainState, data_own, datum_owns, fact_owns, owned_by, places_from, plain_meaning, put, removed}
+use Rattle.abi_driver.specs.Plain.{Hold, IsRight, fact_owns, places_from, plain_meaning}
+use Rattle.abi_driver.specs.PlainSteps.{PlainState, put, removed}
+use Rattle.abi_driver.specs.PlainValues.{PlainItem, data_own, datum_owns, owned_by}
 use Rattle.abi_driver.proofs.Done.{is_it, is_there, without_one}
 use Rattle.abi_driver.proofs.Done as done
 

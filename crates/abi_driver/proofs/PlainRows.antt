@@ -52,7 +52,9 @@ use Rattle.abi_driver.specs.Leaves.{LiftsScalar, LiftsText, LowersScalar, Lowers
 use Rattle.abi_driver.specs.Meaning.{Datum, arg, item, of, word}
 use Rattle.abi_driver.specs.Memory.{Access, access, freeing, loading, storing}
 use Rattle.abi_driver.specs.Parts.{LiftsParts, LowersParts, PartsStand, count}
-use Rattle.abi_driver.specs.Plain.{AddsStep, IsPlainText, IsRight, PlainItem, PlainItems, PlainPartsStand, PlainStands, PlainState, all_at, and_all, data_own, gathered, leaf, lifted_type, listed, lowered_type, normal, owned_by_all, performs, places_from, plain_meaning, scalar_of, whole, word_touch}
+use Rattle.abi_driver.specs.Plain.{AddsStep, IsRight, places_from, plain_meaning}
+use Rattle.abi_driver.specs.PlainSteps.{PlainState, all_at, and_all, lifted_type, lowered_type, normal, performs, scalar_of, word_touch}
+use Rattle.abi_driver.specs.PlainValues.{IsPlainText, PlainItem, PlainItems, PlainPartsStand, PlainStands, data_own, gathered, leaf, listed, owned_by_all, whole}
 use Rattle.abi_driver.specs.Touches.{LoadsWord, RowOfTouch, StoresWord, Touch, loads, reached, stores, touch, touch_makes}
 use Rattle.abi_driver.specs.PlainSound.{owned_listed}
 use Rattle.abi_driver.proofs.Ordinary.{IsOrdinary, code_of, lifts_ordinary, lowers_ordinary, still_returned, touches_ordinary}

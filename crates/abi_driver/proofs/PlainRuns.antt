@@ -45,7 +45,10 @@ use Rattle.abi_driver.specs.Laws.{Adds, After, At, Does, Facts, Grows, Quiet, of
 use Rattle.abi_driver.specs.Meaning.{Datum, item, word}
 use Rattle.abi_driver.specs.Memory.{Access, access, bytes_on, freed, freeing, is_aligned, is_inside, is_ranged, is_reached, little_bytes, loaded, storing}
 use Rattle.abi_driver.specs.Memory as memory
-use Rattle.abi_driver.specs.Plain.{AddsLine, AddsStep, BodyRun, Hold, IsRight, LineRun, PlainItem, PlainState, all_of, all_words, as_flags, body_step, casting, chosen, data_own, does_line, fact_owns, free_block, free_text, inputs, kept, leaf, line_step, load_word, no_payload, normal, own_area, owned_by, passing, payload_of, performed, performs, places_from, pointed, plain_meaning, put, read_as, read_tag, removed, runs, scalar_of, splitting, store_word, take_text, whole, writes}
+use Rattle.abi_driver.specs.Plain.{AddsLine, AddsStep, Hold, IsRight, fact_owns, places_from, plain_meaning}
+use Rattle.abi_driver.specs.PlainLines.{BodyRun, LineRun, all_of, body_step, does_line, line_step, runs}
+use Rattle.abi_driver.specs.PlainSteps.{PlainState, all_words, as_flags, casting, free_block, free_text, inputs, kept, load_word, normal, own_area, passing, performed, performs, pointed, put, read_as, read_tag, removed, scalar_of, splitting, store_word, take_text, writes}
+use Rattle.abi_driver.specs.PlainValues.{PlainItem, chosen, data_own, leaf, no_payload, owned_by, payload_of, whole}
 use Rattle.abi_driver.specs.PlainSound.{all_both, all_left, all_right, own_both}
 use Rattle.abi_driver.proofs.PlainPlaces.{ofs_own, places_count, put_below, put_right, removed_total, still_hold, still_right}
 use Rattle.abi_driver.proofs.Runs.{follows_more}

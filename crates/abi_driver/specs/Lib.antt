@@ -32,7 +32,10 @@ pub mod NumberTouches
 pub mod Parts
 pub mod Places
 pub mod Plain
+pub mod PlainLines
 pub mod PlainSound
+pub mod PlainSteps
+pub mod PlainValues
 pub mod Requested
 pub mod ScalarTouches
 pub mod Sends

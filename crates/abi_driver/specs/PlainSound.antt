@@ -25,7 +25,8 @@ use Rattle.abi_driver.specs.declared.plain.Place.{Place}
 use Rattle.abi_driver.specs.Account.{addresses}
 use Rattle.abi_driver.specs.Meaning.{Datum, Fact, item, word}
 use Rattle.abi_driver.specs.Laws.{Sound}
-use Rattle.abi_driver.specs.Plain.{IsPlainText, IsRight, PlainCaseStands, PlainItem, PlainItems, PlainPartsStand, PlainPayload, PlainStands, chosen, fact_owns, item_and, leaf, listed, no_items, no_payload, owned_by, owned_by_all, owned_by_payload, payload_of, plain_meaning, whole}
+use Rattle.abi_driver.specs.Plain.{IsRight, fact_owns, plain_meaning}
+use Rattle.abi_driver.specs.PlainValues.{IsPlainText, PlainCaseStands, PlainItem, PlainItems, PlainPartsStand, PlainPayload, PlainStands, chosen, item_and, leaf, listed, no_items, no_payload, owned_by, owned_by_all, owned_by_payload, payload_of, whole}
 
 -- 1. Lists of facts
 

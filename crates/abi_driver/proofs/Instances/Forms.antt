@@ -18,7 +18,9 @@ use Rattle.abi_driver.specs.declared.plain.Step.{Step}
 use Rattle.abi_driver.specs.declared.plain.Step.TheVariants as step
 use Rattle.abi_driver.specs.Account.{Account, Call, Done, Got, Outcome, Peer, Stopped, Stuck, Taken, failing, gives, tested, then_do, words}
 use Rattle.abi_driver.specs.Meaning.{Datum, item, word}
-use Rattle.abi_driver.specs.Plain.{LineRun, PlainItem, PlainStands, PlainState, inputs, kept, leaf, performed, runs}
+use Rattle.abi_driver.specs.PlainLines.{LineRun, runs}
+use Rattle.abi_driver.specs.PlainSteps.{PlainState, inputs, kept, performed}
+use Rattle.abi_driver.specs.PlainValues.{PlainItem, PlainStands, leaf}
 use Rattle.abi_driver.proofs.PlainRuns.{does_step}
 
 -- 1. Where code begins

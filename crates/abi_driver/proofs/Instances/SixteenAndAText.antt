@@ -8,7 +8,8 @@ use Rattle.abi_driver.specs.declared.plain.Place.{Place}
 use Rattle.abi_driver.specs.declared.plain.Step.{Step}
 use Rattle.abi_driver.specs.declared.plain.Step.TheVariants as step
 use Rattle.abi_driver.specs.Account.{Call}
-use Rattle.abi_driver.specs.Plain.{PlainItem, PlainState}
+use Rattle.abi_driver.specs.PlainSteps.{PlainState}
+use Rattle.abi_driver.specs.PlainValues.{PlainItem}
 use Rattle.abi_driver.proofs.Instances.Forms.{GivesOk, area_request, at, call_f, import_f, load_text, ok_item, peer, run_steps, stands_for_ok, start, state_in, steps_run, takes_ok, with_ok}
 
 -- each number, so many from one on, is read and becomes its word

@@ -3,7 +3,8 @@
 ghost use Rattle.std.specs.Prelude.{◌≡◌, List, [], Some, length, IfOk, OnOk};
 ghost use Rattle.wit_model.specs.declared.types.Field.{Field};
 ghost use Rattle.abi_driver.specs.Instructions.{Emits, IsRecord};
-ghost use Rattle.abi_driver.specs.Plain.{AddsLine, AddsStep, lifted_type, lowered_type, places_from, plain_meaning};
+ghost use Rattle.abi_driver.specs.Plain.{AddsLine, AddsStep, places_from, plain_meaning};
+ghost use Rattle.abi_driver.specs.PlainSteps.{lifted_type, lowered_type};
 
 use crate::instruction::Instruction;
 use crate::plain::{Line, Place, PlainBindgen, Step};

@@ -1,7 +1,7 @@
 //! Which scalar an instruction is of.
 
 ghost use Rattle.std.specs.Prelude.{◌≡◌};
-ghost use Rattle.abi_driver.specs.Plain.{lifted_type, lowered_type};
+ghost use Rattle.abi_driver.specs.PlainSteps.{lifted_type, lowered_type};
 
 use crate::instruction::Instruction;
 use wit_model::WitType;

@@ -2,7 +2,8 @@
 
 ghost use Rattle.std.specs.Prelude.{◌≡◌, [], Some, length, option_map, OnOk};
 ghost use Rattle.abi_driver.specs.Instructions.{Emits};
-ghost use Rattle.abi_driver.specs.Plain.{plain_meaning, word_touch};
+ghost use Rattle.abi_driver.specs.Plain.{plain_meaning};
+ghost use Rattle.abi_driver.specs.PlainSteps.{word_touch};
 ghost use Rattle.abi_driver.specs.Touches.{touch};
 ghost use Rattle.abi_driver.specs.declared.plain.words.WordTouch.TheVariants as touched;
 
