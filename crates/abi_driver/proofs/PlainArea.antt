@@ -1,14 +1,11 @@
 -- The return area of a `PlainBindgen`: what serves it can be made to have room for one more record, and its step points to it.
-use Rattle.std.proofs.Common.{◌≡◌, ℕ, ◌+◌, ◌*◌, ◌/◌, ◌%◌, ◌||◌, Bool, true, false, nat_eq, if◌then◌else◌, List, [], ◌∷◌, ◌++◌, length, map, reverse, slice_get, Option, None, Some, option_map, refl, sym, ap, ◌∙◌, subst, arith, append-nil}
+use Rattle.std.proofs.Common.{◌≡◌, ℕ, ◌+◌, ◌*◌, ◌/◌, ◌%◌, Bool, true, List, [], ◌∷◌, ◌++◌, length, map, reverse, slice_get, Option, None, Some, option_map, refl, sym, ap, ◌∙◌, subst, arith}
 use Rattle.std.specs.List.{AllByRecursion}
 use Rattle.std.proofs.Math.Nat.{mod-add-div', mul-mod_left}
 use Rattle.wit_model.specs.Size.{alignment_at, bytes_at}
-use Rattle.wrapper_data.specs.declared.choice.Choice.{Choice}
-use Rattle.wrapper_data.specs.declared.choice.Choice.TheVariants as choice
 use Rattle.wrapper_data.specs.declared.choice.Request.{Request}
 use Rattle.wrapper_data.specs.declared.word.Word.{Word}
 use Rattle.wrapper_data.specs.declared.word.Word.TheVariants as core
-use Rattle.wrapper_meaning.specs.Ends.{fits}
 use Rattle.wrapper_meaning.specs.Items.{total}
 use Rattle.wrapper_meaning.proofs.PostReturn.{total-append}
 use Rattle.abi_driver.specs.declared.bindgen.Asked.{Asked}
@@ -20,7 +17,7 @@ use Rattle.abi_driver.specs.declared.plain.Step.{Step}
 use Rattle.abi_driver.specs.declared.plain.Step.TheVariants as step
 use Rattle.abi_driver.specs.Account.{Account, Act, Done, Got, Outcome, Peer, Stopped, Stuck, gives, then_do}
 use Rattle.abi_driver.specs.Arms.{choosing}
-use Rattle.abi_driver.specs.Area.{HasRoomFor, HoldsRecord, newly, placed, pointing}
+use Rattle.abi_driver.specs.Area.{HasRoomFor, HoldsRecord, newly, pointing}
 use Rattle.abi_driver.specs.Laws.{After, At, Facts, Grows, PointsTo, Quiet, ofs}
 use Rattle.abi_driver.specs.Meaning.{Bound, Datum, Ended, item, of, with_nothing, word}
 use Rattle.abi_driver.specs.Plain.{AddsStep, places_from, plain_meaning}

@@ -1,5 +1,5 @@
 -- The blocks of a `PlainBindgen` are opened, closed and run as the laws ask, and their payload is read.
-use Rattle.std.proofs.Common.{◌≡◌, ℕ, suc, ◌+◌, ◌-◌, ◌<◌, ◌≤◌, Bool, not, nat_eq, if◌then◌else◌, List, [], ◌∷◌, ◌++◌, length, map, reverse, slice_get, Option, None, Some, option_map, refl, sym, ap, ap₂, ◌∙◌, subst, arith, append-nil}
+use Rattle.std.proofs.Common.{◌≡◌, ℕ, suc, ◌+◌, ◌-◌, ◌<◌, ◌≤◌, not, if◌then◌else◌, List, [], ◌∷◌, ◌++◌, length, map, reverse, slice_get, Option, None, Some, option_map, refl, sym, ap, ap₂, ◌∙◌, subst, arith, append-nil}
 use Rattle.std.specs.List.{AllByRecursion, flat_map}
 use Rattle.std.specs.declared.alloc.Global.{Global}
 use Rattle.std.specs.declared.vec.Vec.{Vec}
@@ -8,7 +8,6 @@ use Rattle.std.proofs.lemmas.List.{map-append, reverse-append}
 use Rattle.std.proofs.lemmas.Option.{slice_get-map}
 use Rattle.wit_model.specs.declared.types.TypeDef.{TypeDef}
 use Rattle.wit_layout.specs.Filled.{IsFilledFor}
-use Rattle.wrapper_data.specs.declared.choice.Request.{Request}
 use Rattle.wrapper_data.specs.declared.run.Target.TheVariants as target
 use Rattle.wrapper_meaning.specs.Items.{SameItems, total}
 use Rattle.wrapper_meaning.proofs.Lists.{first_or, some_same}
@@ -19,13 +18,13 @@ use Rattle.abi_driver.specs.declared.plain.OpenBlock.{OpenBlock}
 use Rattle.abi_driver.specs.declared.plain.Place.{Place}
 use Rattle.abi_driver.specs.declared.plain.PlainBindgen.{PlainBindgen}
 use Rattle.abi_driver.specs.declared.plain.Step.TheVariants as step
-use Rattle.abi_driver.specs.Account.{Done, Outcome, Peer, Stopped, Stuck, account_in, stay, then_do}
+use Rattle.abi_driver.specs.Account.{Done, Outcome, Stopped, Stuck, account_in, stay, then_do}
 use Rattle.abi_driver.specs.Area.{HoldsRecord}
-use Rattle.abi_driver.specs.Blocks.{Finishes, Gives, IsOfWord, IsOpen, Lasts, Pushes, ReadsName, Runs, StopsAlike, brought, names}
+use Rattle.abi_driver.specs.Blocks.{Finishes, IsOfWord, IsOpen, Lasts, Pushes, ReadsName, Runs, StopsAlike, brought, names}
 use Rattle.abi_driver.specs.Instructions.{Emits}
-use Rattle.abi_driver.specs.Laws.{Facts, Stays, ofs}
+use Rattle.abi_driver.specs.Laws.{Facts, ofs}
 use Rattle.abi_driver.specs.Meaning.{Bound, Datum, Ended, Name, arg, at_place, bound, item, of, the_base, the_element, the_key, the_payload, the_value, with_element, with_entry, with_nothing, with_payload, word}
-use Rattle.abi_driver.specs.Plain.{AddsStep, Hold, IsBody, IsRight, fact_owns, places_from, plain_meaning}
+use Rattle.abi_driver.specs.Plain.{AddsStep, IsBody, IsRight, fact_owns, places_from, plain_meaning}
 use Rattle.abi_driver.specs.PlainLines.{BodyRun, LineRun, body_step, bound_to, brings, does_line, ended, entered, line_step, only_word, runs, runs_body}
 use Rattle.abi_driver.specs.PlainSteps.{PlainState, all_at, and_all}
 use Rattle.abi_driver.specs.PlainValues.{PlainItem, owned_by}

@@ -1,6 +1,6 @@
 -- The steps of a `PlainBindgen` that call a core import or a method, and the end of its code, do what the laws ask of them.
 use Rattle.std.proofs.Common.{◌≡◌, Bor, ℕ, suc, Bool, true, false, not, nat_eq, if◌then◌else◌, List, [], ◌∷◌, ◌++◌, length, Option, None, Some, option_to_list, refl, sym, ap, ◌∙◌, subst, arith}
-use Rattle.std.specs.List.{AllByRecursion, flat_map}
+use Rattle.std.specs.List.{flat_map}
 use Rattle.std.proofs.lemmas.Bool.{and_parts, eqb-true}
 use Rattle.std.proofs.lemmas.List.{length-map}
 use Rattle.wit_model.specs.declared.function.Function.{Function}
@@ -10,7 +10,7 @@ use Rattle.wrapper_data.specs.declared.choice.Request.{Request}
 use Rattle.wrapper_data.specs.declared.run.Target.TheVariants as target
 use Rattle.wrapper_data.specs.declared.word.Word.{Word}
 use Rattle.wrapper_meaning.specs.Items.{SameItems, total}
-use Rattle.wrapper_meaning.specs.Shape.{Shape, Shapes}
+use Rattle.wrapper_meaning.specs.Shape.{Shapes}
 use Rattle.abi_driver.specs.declared.instruction.Instruction.TheVariants as instruction
 use Rattle.abi_driver.specs.declared.plain.Place.{Place}
 use Rattle.abi_driver.specs.declared.plain.PlainBindgen.{PlainBindgen}

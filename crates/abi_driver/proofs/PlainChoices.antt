@@ -1,6 +1,6 @@
 -- The lines that choose among blocks do what the laws ask of variants, options and results.
 use mathlib.Core.Logic.{inl, inr}
-use Rattle.std.proofs.Common.{◌≡◌, ℕ, zero, suc, ◌+◌, ◌≤◌, pos, nat_lt, Bool, true, false, if◌then◌else◌, List, [], ◌∷◌, ◌++◌, drop, take, length, map, replicate, reverse, slice_get, get_or, Option, None, Some, option_map, option_to_list, refl, sym, ap, ap₂, ◌∙◌, subst, arith, append_assoc, append-nil}
+use Rattle.std.proofs.Common.{◌≡◌, ℕ, zero, suc, ◌+◌, pos, nat_lt, Bool, true, false, if◌then◌else◌, List, [], ◌∷◌, ◌++◌, drop, take, length, map, replicate, reverse, slice_get, get_or, Option, None, Some, option_map, option_to_list, refl, sym, ap, ◌∙◌, subst, arith, append-nil}
 use Rattle.std.specs.List.{AllByRecursion, flat_map}
 use Rattle.std.proofs.lemmas.List.{length-map, length-replicate, length-reverse, reverse-append}
 use Rattle.wit_model.specs.declared.name.TypeId.{TypeId}
@@ -36,7 +36,7 @@ use Rattle.abi_driver.specs.Blocks.{AreFinished, IsQuiet, owned_datum}
 use Rattle.abi_driver.specs.Cases.{IsPayload, LiftsCase, LowersCase, PayloadStands, case_shapes, payload_counts, payloads_at, payloads_of, payloads_or, with_case}
 use Rattle.abi_driver.specs.HasList.{IsKindOf}
 use Rattle.abi_driver.specs.Instructions.{AddsCode, Emits, HasBlocks, block_results}
-use Rattle.abi_driver.specs.Laws.{At, Data, Facts, Grows, Quiet, ofs}
+use Rattle.abi_driver.specs.Laws.{Data, Facts, Grows, Quiet, ofs}
 use Rattle.abi_driver.specs.Meaning.{Bound, Datum, Ended, item, of, with_nothing, word}
 use Rattle.abi_driver.specs.Parts.{count}
 use Rattle.abi_driver.specs.Plain.{AddsChoice, Hold, IsRight, fact_owns, places_from, plain_meaning}
@@ -60,10 +60,6 @@ front_taken (x ∷ xs) ys = ap (λ zs. x ∷ zs) (front_taken xs ys)
 front_dropped : {A : Type 0} (xs ys : List A) → drop (length xs) (xs ++ ys) ≡ ys
 front_dropped [] ys = refl
 front_dropped (x ∷ xs) ys = front_dropped xs ys
-
-pub one_taken : (start arms before after : List Body) (body : Body) → start ≡ arms ++ reverse before → before ≡ after ++ body ∷ [] → start ≡ (arms ++ body ∷ []) ++ reverse after
-one_taken start arms before after body h e =
-    h ∙ ap (λ (bs : List Body). arms ++ reverse bs) e ∙ ap (λ (bs : List Body). arms ++ bs) (reverse-append after (body ∷ [])) ∙ sym (append_assoc arms (body ∷ []) (reverse after))
 
 all_reversed : {A : Type 0} (P : A → Type 0) (xs : List A) → AllByRecursion P xs → AllByRecursion P (reverse xs)
 all_reversed P [] h = tt

@@ -9,7 +9,6 @@ use Rattle.wit_model.specs.declared.types.TypeDefKind.TheVariants as kind
 use Rattle.wit_layout.specs.Extent.{flag_words}
 use Rattle.wit_layout.specs.Flat.{words_of_flags}
 use Rattle.wrapper_data.specs.declared.block.Block.{Block}
-use Rattle.wrapper_data.specs.declared.word.Word.{Word}
 use Rattle.wrapper_data.specs.declared.word.Word.TheVariants as core
 use Rattle.wrapper_meaning.specs.AsWords.{Says}
 use Rattle.wrapper_meaning.specs.Direction.{Direction, take}
@@ -23,7 +22,7 @@ use Rattle.abi_driver.specs.declared.plain.Place.{Place}
 use Rattle.abi_driver.specs.declared.plain.PlainBindgen.{PlainBindgen}
 use Rattle.abi_driver.specs.declared.plain.Step.TheVariants as step
 use Rattle.abi_driver.specs.Account.{Account, addresses, gives, releasing, stay, then_do}
-use Rattle.abi_driver.specs.Cases.{LiftsEnum, LowersEnum, case_shapes, reading_tag, tag_of}
+use Rattle.abi_driver.specs.Cases.{LiftsEnum, LowersEnum, reading_tag, tag_of}
 use Rattle.abi_driver.specs.FlagSets.{AreFlags, LiftsFlags, LowersFlags}
 use Rattle.abi_driver.specs.HasList.{IsKindOf}
 use Rattle.abi_driver.specs.Instructions.{Emits}

@@ -1,8 +1,7 @@
 -- The steps of a `PlainBindgen` do what the laws ask of their instructions.
-use Rattle.std.proofs.Common.{◌≡◌, ℕ, zero, suc, ◌-◌, ◌^◌, ◌<◌, Bool, true, false, ◌&&◌, nat_eq, nat_lt, if◌then◌else◌, ℤ, pos, List, [], ◌∷◌, ◌++◌, drop, length, map, find, Option, None, Some, is_some, option_map, refl, sym, ap, ap₂, ◌∙◌, subst, arith, append-nil}
+use Rattle.std.proofs.Common.{◌≡◌, ℕ, zero, suc, ◌<◌, Bool, true, ℤ, pos, List, [], ◌∷◌, drop, length, map, Option, None, Some, option_map, refl, sym, ap, ap₂, ◌∙◌, subst, arith, append-nil}
 use Rattle.std.specs.Int.{w8, w16, w32, w64, cast_signed}
 use Rattle.std.specs.List.{AllByRecursion}
-use Rattle.std.specs.Str.{is_utf8}
 use Rattle.std.proofs.lemmas.Int.{ints}
 use Rattle.std.proofs.lemmas.List.{length-map}
 use Rattle.wit_model.specs.declared.name.TypeId.{TypeId}
@@ -13,29 +12,21 @@ use Rattle.wit_model.specs.declared.types.Field.{Field}
 use Rattle.wit_model.specs.declared.types.TypeDef.{TypeDef}
 use Rattle.wit_model.specs.declared.types.WitType.{WitType}
 use Rattle.wit_model.specs.declared.wasm_type.WasmType.{WasmType}
-use Rattle.wit_layout.specs.Flat.{core_type}
 use Rattle.wit_layout.specs.Tree.{Scalar}
-use Rattle.wrapper_data.specs.Answered.{with_writes}
 use Rattle.wrapper_data.specs.declared.block.Block.{Block}
-use Rattle.wrapper_data.specs.declared.form.Form.{Form}
-use Rattle.wrapper_data.specs.declared.form.Form.TheVariants as form
-use Rattle.wrapper_data.specs.declared.run.TrapKind.{TrapKind}
-use Rattle.wrapper_data.specs.declared.run.TrapKind.TheVariants as trap
 use Rattle.wrapper_data.specs.declared.word.Word.{Word}
 use Rattle.wrapper_data.specs.declared.word.Word.TheVariants as core
 use Rattle.wrapper_meaning.specs.Buffer.{Contents, IsPlaced}
 use Rattle.wrapper_meaning.specs.InMemory.{TextHolds}
 use Rattle.wrapper_meaning.specs.AsWords.{IsTaken, Says, passed_word}
-use Rattle.wrapper_meaning.specs.Cells.{bytes_from, little}
 use Rattle.wrapper_meaning.specs.Direction.{Direction, take}
 use Rattle.wrapper_meaning.specs.InRange.{IsScalar}
 use Rattle.wrapper_meaning.specs.Items.{total}
-use Rattle.wrapper_meaning.specs.Numbers.{is_scalar_value, is_signed, is_unsigned, low_bits}
+use Rattle.wrapper_meaning.specs.Numbers.{is_signed, is_unsigned, low_bits}
 use Rattle.wrapper_meaning.specs.Shape.{Shape, Shapes}
 use Rattle.wrapper_meaning.specs.Shape.Shape.{scalar, text, fields, tuple}
 use Rattle.wrapper_meaning.specs.Shape.Shapes.{none, more}
 use Rattle.wrapper_meaning.specs.Value.{Parts, ScalarValue, Value}
-use Rattle.wrapper_meaning.specs.Words.{bits_of}
 use Rattle.wrapper_meaning.proofs.Lists.{some_same}
 use Rattle.abi_driver.specs.declared.instruction.Instruction.{Instruction}
 use Rattle.abi_driver.specs.declared.instruction.Instruction.TheVariants as instruction
@@ -45,7 +36,7 @@ use Rattle.abi_driver.specs.declared.plain.PlainBindgen.{PlainBindgen}
 use Rattle.abi_driver.specs.declared.plain.Step.TheVariants as step
 use Rattle.abi_driver.specs.declared.plain.words.WordTouch.{WordTouch}
 use Rattle.abi_driver.specs.declared.plain.words.WordTouch.TheVariants as touched
-use Rattle.abi_driver.specs.Account.{addresses, gives, reading, releasing, stay, taking, Account, Peer, Taken}
+use Rattle.abi_driver.specs.Account.{addresses, reading, releasing, stay, taking, Taken}
 use Rattle.abi_driver.specs.Instructions.{Emits, IsRecord, MakesBy, MakesTouch, RowBy, RowTouch, block_results, field_shapes, lifted_scalar, lowered_scalar}
 use Rattle.abi_driver.specs.Laws.{Adds, Stays, core_data, item_data, ofs}
 use Rattle.abi_driver.specs.Leaves.{LiftsScalar, LiftsText, LowersScalar, LowersText}

@@ -26,7 +26,7 @@ use Rattle.wrapper_data.specs.declared.word.Word.{Word}
 use Rattle.wrapper_data.specs.declared.word.Word.TheVariants as core
 use Rattle.wrapper_meaning.specs.Ends.{fits}
 use Rattle.wrapper_meaning.specs.Cells.{bytes_from, little}
-use Rattle.wrapper_meaning.specs.Items.{SameItems, total}
+use Rattle.wrapper_meaning.specs.Items.{total}
 use Rattle.wrapper_meaning.specs.Numbers.{is_scalar_value, is_signed, low_bits}
 use Rattle.wrapper_meaning.specs.Words.{bits_of}
 use Rattle.wrapper_meaning.proofs.PostReturn.{total-append}

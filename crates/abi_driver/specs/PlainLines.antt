@@ -13,6 +13,9 @@ use Rattle.abi_driver.specs.Meaning.{Bound, Datum, Ended, Name, at_place, item, 
 use Rattle.abi_driver.specs.PlainValues.{PlainItem, PlainPayload, chosen, data_own, no_payload, owned_by, owned_by_payload, payload_of}
 use Rattle.abi_driver.specs.PlainSteps.{PlainState, all_at, inputs, performed, put, removed}
 
+-- 1. Blocks
+
+-- what the names of a block are bound to that is run with something
 abbrev pub bound_to : Bound PlainItem → Name → Option (Datum PlainItem)
 bound_to (with_payload a) the_payload = Some (item a)
 bound_to (at_place q) the_base = Some (word (core.Pointer q))
@@ -23,6 +26,7 @@ bound_to (with_entry k x q) the_value = Some (item x)
 bound_to (with_entry k x q) the_base = Some (word (core.Pointer q))
 bound_to _ _ = None
 
+-- what the items among that own
 abbrev pub brings : Bound PlainItem → List ℕ
 brings with_nothing = []
 brings (with_payload a) = owned_by a
@@ -50,6 +54,8 @@ abbrev pub ended : PlainState → PlainState → Option (List (Datum PlainItem))
 ended s u None = Stuck u.account
 ended s u (Some ds) = Done (record { results = ds; state = record s { account = u.account } })
 
+-- 2. Choices
+
 -- what a line does, and what a block does that is run with something
 abbrev pub LineRun : Type 0
 LineRun = Option Request → Peer PlainItem → PlainState → Outcome PlainItem PlainState
@@ -66,6 +72,7 @@ all_of (run ∷ runs) area p s = then_do (run area p s) (λ t. all_of runs area 
 abbrev pub given_to : ℕ → List (Datum PlainItem) → PlainState → PlainState
 given_to to ds s = record s { values = put to ds s.values; owns = s.owns ++ data_own ds }
 
+-- what the block of a case is run with
 abbrev pub run_with : PlainPayload → Bound PlainItem
 run_with no_payload = with_nothing
 run_with (payload_of a) = with_payload a
@@ -74,7 +81,7 @@ abbrev pub run_arm : Option Request → Peer PlainItem → Bound PlainItem → P
 run_arm area p with s None = Stuck s.account
 run_arm area p with s (Some run) = run area p with s
 
--- the block of the case of a value
+-- the block of a value's case is run with its payload, and the results are put into places
 abbrev pub lowering : ℕ → List BodyRun → Option (List (Datum PlainItem)) → LineRun
 lowering to arms (Some (item (chosen n payload) ∷ [])) area p s =
     then_do (run_arm area p (run_with payload) (record s { owns = removed (owned_by_payload payload) s.owns }) (slice_get (reverse arms) n)) (λ e. Done (given_to to e.results e.state))
@@ -85,10 +92,12 @@ abbrev pub matching_arm : Bool → List BodyRun → Word → (ℕ → Ended Plai
 matching_arm last_serves arms x next area p s =
     then_do (choosing p.form last_serves (length arms) x s.account) (λ i. then_do (run_arm area p with_nothing s (slice_get (reverse arms) i.result)) (next i.result))
 
+-- whether the last block serves every number that is no case
 abbrev pub last_of : Bool → Form → Bool
 last_of true f = serves_others f
 last_of false f = false
 
+-- the case of this number is put into a place, with what its block gave as payload
 abbrev pub made_case : ℕ → ℕ → Ended PlainItem PlainState → List (Datum PlainItem) → Outcome PlainItem PlainState
 made_case to n e [] = Done (given_to to (item (chosen n no_payload) ∷ []) e.state)
 made_case to n e (item a ∷ []) = Done (given_to to (item (chosen n (payload_of a)) ∷ []) e.state)
@@ -98,6 +107,7 @@ abbrev pub lifting : ℕ → Bool → List BodyRun → Option (List (Datum Plain
 lifting to last_serves arms (Some (word x ∷ [])) area p s = matching_arm (last_of last_serves p.form) arms x (λ n e. made_case to n e e.results) area p s
 lifting to last_serves arms _ area p s = Stuck s.account
 
+-- a block that frees gives nothing
 abbrev pub freed_case : Ended PlainItem PlainState → List (Datum PlainItem) → Outcome PlainItem PlainState
 freed_case e [] = Done e.state
 freed_case e _ = Stuck e.state.account
@@ -105,6 +115,8 @@ freed_case e _ = Stuck e.state.account
 abbrev pub freeing_case : List BodyRun → Option (List (Datum PlainItem)) → LineRun
 freeing_case arms (Some (word x ∷ [])) area p s = matching_arm true arms x (λ n e. freed_case e e.results) area p s
 freeing_case arms _ area p s = Stuck s.account
+
+-- 3. Lines
 
 -- one level of a line, with what the blocks in it do
 abbrev pub line_step : Line-F LineRun BodyRun → LineRun

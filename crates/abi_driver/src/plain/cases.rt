@@ -7,15 +7,43 @@ ghost use Rattle.abi_driver.specs.declared.instruction.Instruction.TheVariants a
 ghost use Rattle.abi_driver.specs.declared.plain.Line.TheVariants as line;
 ghost use Rattle.abi_driver.specs.Cases.{payload_counts, payloads_at};
 ghost use Rattle.abi_driver.specs.HasList.{IsKindOf};
-ghost use Rattle.abi_driver.specs.Instructions.{Emits, HasBlocks, block_results};
+ghost use Rattle.abi_driver.specs.Instructions.{Emits, HasBlocks, IsSendable, block_results};
 ghost use Rattle.abi_driver.specs.Plain.{AddsChoice, places_from, plain_meaning};
 
+use crate::instruction::Instruction;
 use crate::parts::numbered;
 use crate::plain::{Body, Line, Place, PlainBindgen};
 use std::alloc::Global;
 use wit_model::{List, OutOfMemory, Resolve, TypeDefKind, TypeId};
 
 impl PlainBindgen {
+    /// The lines of the instructions that run blocks, or are sent inside of them.
+    pub(super) fn run_blocks(
+        &mut self,
+        resolve: &Resolve,
+        inst: &Instruction,
+        operands: &mut List<Place>,
+        results: &mut List<Place>,
+    ) -> Result<(), OutOfMemory>
+        requires sendable { IsSendable plain_meaning resolve.now inst.now operands.old self.old }
+        requires empty { results.old ≡ [] }
+        ensures { OnOk result (Emits plain_meaning resolve.now.types inst.now operands.old results.new self.old self.new) }
+    {
+        match *inst {
+            Instruction::VariantPayloadName => self.payload(resolve, results),
+            Instruction::VariantLower(id, n) => self.lower_variant(
+                resolve, id, n, operands, results,
+            ),
+            Instruction::OptionLower(id, n) => self.lower_option(resolve, id, n, operands, results),
+            Instruction::ResultLower(id, n) => self.lower_result(resolve, id, n, operands, results),
+            Instruction::VariantLift(id) => self.lift_variant(resolve, id, operands, results),
+            Instruction::OptionLift(id) => self.lift_option(resolve, id, operands, results),
+            Instruction::ResultLift(id) => self.lift_result(resolve, id, operands, results),
+            Instruction::GuestDeallocateVariant(n) => self.free_case(resolve, n, operands, results),
+            _ => Err(OutOfMemory),
+        }
+    }
+
     pub(super) fn lower_variant(
         &mut self,
         resolve: &Resolve,

@@ -70,21 +70,11 @@ impl Bindgen for PlainBindgen {
             Instruction::EnumLift(id) => self.read_enum(resolve, id, operands, results),
             Instruction::FlagsLower(id) => self.pass_flags(resolve, id, operands, results),
             Instruction::FlagsLift(id) => self.read_flags(resolve, id, operands, results),
-            Instruction::VariantPayloadName => self.payload(resolve, results),
-            Instruction::VariantLower(id, n) => self.lower_variant(
-                resolve, id, n, operands, results,
-            ),
-            Instruction::OptionLower(id, n) => self.lower_option(resolve, id, n, operands, results),
-            Instruction::ResultLower(id, n) => self.lower_result(resolve, id, n, operands, results),
-            Instruction::VariantLift(id) => self.lift_variant(resolve, id, operands, results),
-            Instruction::OptionLift(id) => self.lift_option(resolve, id, operands, results),
-            Instruction::ResultLift(id) => self.lift_result(resolve, id, operands, results),
-            Instruction::GuestDeallocateVariant(n) => self.free_case(resolve, n, operands, results),
             Instruction::GuestDeallocateString => self.free_text(resolve, operands, results),
             Instruction::GuestDeallocate(size, align) => self.free_block(
                 resolve, size, align, operands, results,
             ),
-            _ => Err(OutOfMemory),
+            _ => self.run_blocks(resolve, inst, operands, results),
         }
     }
 

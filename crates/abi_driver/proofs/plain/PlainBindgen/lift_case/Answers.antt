@@ -1,4 +1,4 @@
-use Rattle.std.proofs.Common.{List, ◌++◌, reverse, sym, ap, ◌∙◌}
+use Rattle.std.proofs.Common.{◌++◌, reverse, sym, ap, ◌∙◌}
 use Rattle.std.specs.declared.alloc.Global.{Global}
 use Rattle.std.specs.declared.vec.Vec.{Vec}
 use Rattle.abi_driver.specs.declared.plain.Body.{Body}
