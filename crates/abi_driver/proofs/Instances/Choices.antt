@@ -1,4 +1,4 @@
--- An option of a number is lowered by a block for each case and lifted by two others; and a number that is no case.
+-- An option of a number is lowered by a block for each case and lifted by two others; a number that is no case; and what a block sees.
 use Rattle.std.proofs.Common.{◌≡◌, ℕ, false, pos, nat_eq, if◌then◌else◌, List, [], ◌∷◌, map, Option, None, Some, refl, ap, ap₂, ◌∙◌}
 use Rattle.wit_model.specs.declared.types.WitType.TheVariants as wit
 use Rattle.wit_model.specs.declared.wasm_type.WasmType.TheVariants as wasm
@@ -15,7 +15,7 @@ use Rattle.abi_driver.specs.declared.plain.Place.{Place}
 use Rattle.abi_driver.specs.declared.plain.Step.{Step}
 use Rattle.abi_driver.specs.declared.plain.Step.TheVariants as step
 use Rattle.abi_driver.specs.Account.{Account, Done, Outcome, Peer, Stopped, Stuck, then_do, words}
-use Rattle.abi_driver.specs.Meaning.{Datum, item, word}
+use Rattle.abi_driver.specs.Meaning.{Datum, item, with_nothing, with_payload, word}
 use Rattle.abi_driver.specs.PlainLines.{BodyRun, LineRun, all_of, does_line, ended, entered, line_step, runs, runs_body}
 use Rattle.abi_driver.specs.PlainSteps.{PlainState, all_at, inputs, performed}
 use Rattle.abi_driver.specs.PlainValues.{PlainItem, chosen, leaf, no_payload, payload_of}
@@ -143,3 +143,24 @@ no_case = lifts_alone form.Debug
 
 no_meaning : runs None (peer form.Release) (lifts ∷ []) of_two ≡ Stuck nothing_done
 no_meaning = lifts_alone form.Release
+
+-- 3. What a block sees
+
+-- an item that stands outside is out of its reach
+outer_item : (f : Form) → runs_body (body 4 (step.Pass 0 1 ∷ []) (at 1 ∷ [])) None (peer f) with_nothing (from seven) ≡ Stuck nothing_done
+outer_item f = ap (λ (run : BodyRun). run None (peer f) with_nothing (from seven)) (body_is 4 (step.Pass 0 1 ∷ []) (at 1 ∷ []))
+
+-- what a payload owns is let go inside, and the state outside owns what it did
+owns_one : PlainItem
+owns_one = leaf (core.Pointer 8 ∷ core.Length 1 ∷ []) (record { address = 8; size = 1; cells = [] } ∷ [])
+
+abbrev taken_in : List ℕ → PlainState
+taken_in owners = record of_two { account = record nothing_done { taken = owners }; owns = 16 ∷ [] }
+
+abbrev passes_payload : List Step
+passes_payload = step.Payload 5 1 ∷ step.Pass 1 2 ∷ []
+
+payload_passed : (f : Form) → runs_body (body 5 passes_payload (at 2 ∷ at 3 ∷ [])) None (peer f) (with_payload owns_one) (taken_in (16 ∷ 8 ∷ []))
+    ≡ Done (record { results = word (core.Pointer 8) ∷ word (core.Length 1) ∷ []; state = taken_in (16 ∷ []) })
+unfolding owns_one
+payload_passed f = ap (λ (run : BodyRun). run None (peer f) (with_payload owns_one) (taken_in (16 ∷ 8 ∷ []))) (body_is 5 passes_payload (at 2 ∷ at 3 ∷ []))
