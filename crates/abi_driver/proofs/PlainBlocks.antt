@@ -118,6 +118,7 @@ words_right old later new with before s (bound slot name (word x) ∷ facts) sam
     ((omega (arith, h.0.0, l), elsewhere old.slots with s slot name h.0.0 ∙ ap only_word k.0.1), words_right old later new with before s facts same l w.1 h.1 k.1)
 words_right old later new with before s (bound slot name (item a) ∷ facts) same l w h k = absurd w.0
 
+-- code is suspended, and the block begins without any
 pub plain_opens : (old new : PlainBindgen) → IsOpened old new → Pushes plain_meaning old new
 plain_opens old new h =
     let more : old.slots ≤ new.slots = omega (arith, h.slots) in
@@ -193,6 +194,7 @@ lines_run b slot os old new is =
           };
     }
 
+-- the block has the lines since it was opened, and the code before it is gone on with
 pub plain_closes : (os : List Place) (o : OpenBlock) (old new : PlainBindgen) → IsClosed os o old new → Finishes plain_meaning os old new
 plain_closes os o old new h = record {
   lasts = lasts old new h.same (omega (arith, h.slots));
@@ -235,6 +237,7 @@ innermost b o e is =
     ap (λ (os : List OpenBlock). map opened_as (reverse os)) last.1 ∙ ap (λ (os : List OpenBlock). map opened_as os) (reverse-append last.0 (o ∷ [])) in
     ap (λ xs. (first_or {A = ℕ × List Line} (opened_as o) xs).0) (sym is.opened ∙ at)
 
+-- what the payload's name is bound to is put into a place
 pub reads_payload : (types : List TypeDef) (old new : PlainBindgen) (slot : ℕ) (rs : List Place) → ((is : IsOpen plain_meaning old) → is.slot ≡ slot) → AddsStep (step.Payload slot old.count) 1 old new → rs ≡ places_from old.count 1
     → Emits plain_meaning types instruction.VariantPayloadName [] rs old new
 reads_payload types old new slot rs inner adds places =

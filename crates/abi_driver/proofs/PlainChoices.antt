@@ -337,6 +337,7 @@ module _ (old new : PlainBindgen) (many n : ℕ) (o : Place) (adds : AddsChoice 
     denotes = λ h. (ofs plain_meaning (places_from old.count n) ds, refl, given_hold old new n others ds s adds.added.count adds.added.slots len h);
   }
 
+  -- the payload is let go, the block of its case runs with it, and its results are put into places
   lowers_row : (ts : Shapes) → count ts ≡ many → AllByRecursion (λ (body : Body). length (out-Body body).results ≡ n) adds.arms → LowersCase plain_meaning ts (o ∷ []) (places_from old.count n) old new
   lowers_row ts same each dir c a own body (payload, is, stands) at_arm =
       let i = case_number ts c in
@@ -458,6 +459,7 @@ module _ (types : List TypeDef) (old new : PlainBindgen) where
     pub results : length rs ≡ n
     pub row : LowersCase plain_meaning (case_shapes types id.0) os rs old new
 
+  -- the arms are the last blocks, which make no call, and have so many results each
   lowers_by : (id : TypeId) (n : ℕ) (used : List ℕ) (o : Place) (rs : List Place) → used ≡ replicate (length (payloads_at types id.0)) n → HasBlocks plain_meaning used old
       → AddsChoice (λ arms. line.Lower o.number arms old.count) (length (payloads_at types id.0)) n old new → rs ≡ places_from old.count n → LowersBy id n used (o ∷ []) rs
   lowers_by id n used o rs alike has adds places =
@@ -514,6 +516,7 @@ module _ (types : List TypeDef) (old new : PlainBindgen) where
     pub results : length rs ≡ 1
     pub row : LiftsCase plain_meaning (λ f. last_of last f) (case_shapes types id.0) os rs old new
 
+  -- the arms are the last blocks, which make no call
   lifts_by : (last : Bool) (id : TypeId) (o : Place) (rs : List Place) → HasBlocks plain_meaning (payload_counts (payloads_at types id.0)) old
       → AddsChoice (λ arms. line.Lift o.number last arms old.count) (length (payloads_at types id.0)) 1 old new → rs ≡ places_from old.count 1 → LiftsBy last id (o ∷ []) rs
   lifts_by last id o rs has adds places =
@@ -542,6 +545,7 @@ module _ (types : List TypeDef) (old new : PlainBindgen) where
       one_of (λ os. AddsChoice (λ arms. line.Lift (get_or os 0 d).number last arms old.count) (length (payloads_at types id.0)) 1 old new → LiftsBy last id os rs) (λ o a. lifts_by last id o rs has a places) os len
       (subst (λ xs. AddsChoice (λ arms. line.Lift (get_or xs 0 d).number last arms old.count) (length (payloads_at types id.0)) 1 old new) same adds)
 
+  -- the same, of blocks without results
   frees_case : (n : ℕ) (o : Place) (rs : List Place) → HasBlocks plain_meaning (replicate n 0) old → AddsChoice (λ arms. line.Free o.number arms) n 0 old new → rs ≡ places_from old.count 0 → Emits plain_meaning types (instruction.GuestDeallocateVariant n) (o ∷ []) rs old new
   frees_case n o rs has adds places =
       let ln : List Body → Line = λ arms. line.Free o.number arms in

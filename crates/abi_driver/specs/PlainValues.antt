@@ -17,7 +17,7 @@ use Rattle.wrapper_meaning.specs.Words.{AreWords}
 use Rattle.abi_driver.specs.Account.{addresses}
 use Rattle.abi_driver.specs.Meaning.{Datum, item, word}
 
--- a scalar, a text or flags, by the words that say it and the blocks that it owns; parts; or a case by its number, with its payload
+-- a scalar, a text or flags, by the words that say it and the blocks that it owns. Or parts; or a case, by its number and payload
 mutual
   pub data PlainItem : Type 0 where
     leaf : List Word → List Block → PlainItem

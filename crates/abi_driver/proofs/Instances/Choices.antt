@@ -1,4 +1,4 @@
--- An option of a number is lowered by a block for each case and lifted by two others; a number that is no case; and what a block sees.
+-- An option of a number is lowered by a block for each case, and lifted by two others. A number that is no case, and what a block sees.
 use Rattle.std.proofs.Common.{◌≡◌, ℕ, false, pos, nat_eq, if◌then◌else◌, List, [], ◌∷◌, map, Option, None, Some, refl, ap, ap₂, ◌∙◌}
 use Rattle.wit_model.specs.declared.types.WitType.TheVariants as wit
 use Rattle.wit_model.specs.declared.wasm_type.WasmType.TheVariants as wasm
