@@ -48,7 +48,7 @@ use Rattle.abi_driver.proofs.PlainRuns.{plain_adds, plain_blocks, plain_does}
 bare_none : {A : Type 0} (dir : Direction) (members : List A) (c : Case (bare members)) (payload : PlainPayload) (own : List Block) → PlainCaseStands dir (bare members) c payload own → own ≡ []
 bare_none dir [] c payload own h = absurd h
 bare_none dir (m ∷ members) (inl v) no_payload own h = h.1
-bare_none dir (m ∷ members) (inl v) (payload_of a) own h = h.2.1
+bare_none dir (m ∷ members) (inl v) (payload_of a) own h = absurd (let k = h.0 in cc)
 bare_none dir (m ∷ members) (inr c) payload own h = bare_none dir members c payload own h
 
 bare_stands : {A : Type 0} (dir : Direction) (members : List A) (c : Case (bare members)) → PlainCaseStands dir (bare members) c no_payload []

@@ -185,7 +185,7 @@ mutual
   case_same (more t ts) (inl u) (inl v) no_payload (payload_of b) xs ys pq e hu hv h g = absurd (let k = pq in cc)
   case_same (more t ts) (inl u) (inl v) (payload_of a) no_payload xs ys pq e hu hv h g = absurd (let k = pq in cc)
   case_same (more t ts) (inl u) (inl v) (payload_of a) (payload_of b) xs ys pq e hu hv h g =
-      let same = stands_same t u v a b xs ys (same_only a b pq) hu hv h g in
+      let same = stands_same t u v a b xs ys (same_only a b pq) hu hv h.1 g.1 in
       (ap (λ x. inl x) same.0, same.1)
   case_same (more t ts) (inl u) (inr v) p q xs ys pq e hu hv h g = absurd (omega (arith, e))
   case_same (more t ts) (inr u) (inl v) p q xs ys pq e hu hv h g = absurd (omega (arith, e))
@@ -267,7 +267,7 @@ mutual
   case_given : (ts : Shapes) (c : Case ts) (payload : PlainPayload) (own : List Block) → PlainCaseStands take ts c payload own → PlainCaseStands give ts c payload own
   case_given none c payload own h = h
   case_given (more t ts) (inl v) no_payload own h = h
-  case_given (more t ts) (inl v) (payload_of a) own h = given_on t v a own h
+  case_given (more t ts) (inl v) (payload_of a) own h = (h.0, given_on t v a own h.1)
   case_given (more t ts) (inr c) payload own h = case_given ts c payload own h
 
 mutual
@@ -292,7 +292,7 @@ mutual
   case_taken : (ts : Shapes) (c : Case ts) (payload : PlainPayload) (own : List Block) → PlainCaseStands give ts c payload own → PlainCaseStands take ts c payload own
   case_taken none c payload own h = h
   case_taken (more t ts) (inl v) no_payload own h = h
-  case_taken (more t ts) (inl v) (payload_of a) own h = taken_on t v a own h
+  case_taken (more t ts) (inl v) (payload_of a) own h = (h.0, taken_on t v a own h.1)
   case_taken (more t ts) (inr c) payload own h = case_taken ts c payload own h
 
 placed_bare : (heap : List Block) (address n : ℕ) (v : List ℕ) (own : List Block) → IsPlaced (lend heap) true address n 1 (TextHolds v) own → own ≡ []
@@ -321,7 +321,7 @@ mutual
   case_bare : (heap : List Block) (ts : Shapes) (c : Case ts) (payload : PlainPayload) (own : List Block) → PlainCaseStands (lend heap) ts c payload own → own ≡ []
   case_bare heap none c payload own h = absurd h
   case_bare heap (more t ts) (inl v) no_payload own h = h.1
-  case_bare heap (more t ts) (inl v) (payload_of a) own h = bare_on heap t v a own h
+  case_bare heap (more t ts) (inl v) (payload_of a) own h = bare_on heap t v a own h.1
   case_bare heap (more t ts) (inr c) payload own h = case_bare heap ts c payload own h
 
 -- 5. What an item owns
@@ -354,7 +354,7 @@ mutual
   pub owned_case : (dir : Direction) (ts : Shapes) (c : Case ts) (payload : PlainPayload) (own : List Block) → PlainCaseStands dir ts c payload own → owned_by_payload payload ≡ addresses own
   owned_case dir none c payload own h = absurd h
   owned_case dir (more t ts) (inl v) no_payload own h = ap addresses (sym h.1)
-  owned_case dir (more t ts) (inl v) (payload_of a) own h = owned_is dir t v a own h
+  owned_case dir (more t ts) (inl v) (payload_of a) own h = owned_is dir t v a own h.1
   owned_case dir (more t ts) (inr c) payload own h = owned_case dir ts c payload own h
 
 -- 6. The laws

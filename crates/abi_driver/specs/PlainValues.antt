@@ -1,6 +1,6 @@
 -- Which values are held in the places of a `PlainBindgen`, what they own, and which values of types they stand for.
 use mathlib.Core.Logic.{inl, inr}
-use Rattle.std.specs.Prelude.{◌≡◌, ◌<◌, ◌%◌, ◌^◌, ℕ, true, List, [], ◌∷◌, ◌++◌, length}
+use Rattle.std.specs.Prelude.{◌≡◌, ◌<◌, ◌%◌, ◌^◌, ℕ, true, false, List, [], ◌∷◌, ◌++◌, length}
 use Rattle.std.specs.List.{flat_map}
 use Rattle.wit_layout.specs.Flat.{words_of_flags}
 use Rattle.wrapper_data.specs.declared.block.Block.{Block}
@@ -93,5 +93,5 @@ abbrev mutual
   pub PlainCaseStands : Direction → (ts : Shapes) → Case ts → PlainPayload → List Block → Type 0
   PlainCaseStands dir none c payload own = ⊥
   PlainCaseStands dir (more t ts) (inl v) no_payload own = (is_nothing t ≡ true) × (own ≡ [])
-  PlainCaseStands dir (more t ts) (inl v) (payload_of a) own = PlainStands dir t v a own
+  PlainCaseStands dir (more t ts) (inl v) (payload_of a) own = (is_nothing t ≡ false) × PlainStands dir t v a own
   PlainCaseStands dir (more t ts) (inr c) payload own = PlainCaseStands dir ts c payload own
