@@ -1,5 +1,8 @@
+pub mod Apart
+pub mod AskLemmas
 pub mod BesideActs
 pub mod BesideLemmas
+pub mod BlockEnds
 mod EnumExamples
 pub mod EnumSteps
 mod Examples
@@ -9,6 +12,8 @@ pub mod FreeSteps
 pub mod GiveSteps
 pub mod GrowLemmas
 pub mod HeapLemmas
+pub mod HiddenLemmas
+pub mod InwardWalk
 pub mod LocalLemmas
 pub mod MemoryLemmas
 pub mod MethodLemmas

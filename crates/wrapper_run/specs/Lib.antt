@@ -2,6 +2,8 @@ pub mod Entries
 pub mod ExportRun
 pub mod Growth
 pub mod Blocks
+pub mod HiddenLocals
+pub mod Inward
 pub mod Memory
 pub mod OtherBlocks
 pub mod Places

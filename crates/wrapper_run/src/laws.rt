@@ -1,6 +1,8 @@
 //! Laws of the machine, each of any code: a proof above may cite them. The functions do nothing.
 
 ghost use Rattle.wrapper_run.specs.Growth.{BlocksGrow, ExportsGrow, ImportsGrow, InnerBlocksGrow};
+ghost use Rattle.wrapper_run.specs.HiddenLocals.{BlocksKeepHidden, InnerBlocksKeepHidden};
+ghost use Rattle.wrapper_run.specs.Inward.{BlocksAskNothing, InnerBlocksAskNothing};
 ghost use Rattle.wrapper_run.specs.OtherBlocks.{IgnoresBlocks, InnerIgnoresBlocks};
 ghost use Rattle.wrapper_run.specs.UnusedLocals.{IgnoresUnused, InnerIgnoresUnused};
 
@@ -23,4 +25,17 @@ pub fn unused_law()
 pub fn beside_law()
     ensures bodies { IgnoresBlocks }
     ensures inner { InnerIgnoresBlocks }
+{}
+
+/// Inward code makes no call and no request, from whatever state and however it ends.
+pub fn inward_law()
+    ensures bodies { BlocksAskNothing }
+    ensures inner { InnerBlocksAskNothing }
+{}
+
+/// Inward code that is not stuck without the values of some locals, and without the place of the static area, ends with
+/// them as it does without, and leaves them as they are.
+pub fn hidden_law()
+    ensures bodies { BlocksKeepHidden }
+    ensures inner { InnerBlocksKeepHidden }
 {}
