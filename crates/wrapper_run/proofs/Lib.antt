@@ -2,7 +2,6 @@ pub mod Apart
 pub mod AskLemmas
 pub mod BesideActs
 pub mod BesideLemmas
-pub mod BlockEnds
 mod EnumExamples
 pub mod EnumSteps
 mod Examples
@@ -12,12 +11,12 @@ pub mod FreeSteps
 pub mod GiveSteps
 pub mod GrowLemmas
 pub mod HeapLemmas
-pub mod HiddenLemmas
 pub mod InwardWalk
 pub mod LocalLemmas
 pub mod MemoryLemmas
 pub mod MethodLemmas
 pub mod NumberLemmas
+pub mod OuterLemmas
 pub mod OwningLemmas
 pub mod PartSteps
 pub mod QuietSteps

@@ -10,6 +10,7 @@ use Rattle.wrapper_values.specs.Act.{Outcome, Done, Stopped, and_then, pure}
 use Rattle.wrapper_run.specs.Blocks.{drop_local, drop_locals, free, free_all}
 use Rattle.wrapper_values.specs.Owning.{buffer_of, buffer_of_level, owned, owned_in, owned_level}
 use Rattle.wrapper_values.specs.Setting.{Setting}
+use Rattle.wrapper_run.specs.OuterLocals.{OwnNothing}
 use Rattle.wrapper_data.proofs.Opened.{out-buffer}
 
 -- a scalar and `()` own nothing
@@ -76,8 +77,7 @@ owned-lent p (suc n) = owned-buffer p (suc n) false
 -- locals that own nothing
 
 abbrev pub ArePlain : List Local → Type 0
-ArePlain [] = Unit {0}
-ArePlain (l ∷ locals) = (owned_in l.value ≡ []) × ArePlain locals
+ArePlain locals = OwnNothing locals
 
 pub drops_plain : (w : Setting) (locals : List Local) (s : State) → ArePlain locals → drop_locals w locals s ≡ Done tt s
 drops_plain w [] s p = refl

@@ -2,10 +2,10 @@ pub mod Entries
 pub mod ExportRun
 pub mod Growth
 pub mod Blocks
-pub mod HiddenLocals
 pub mod Inward
 pub mod Memory
 pub mod OtherBlocks
+pub mod OuterLocals
 pub mod Places
 pub mod PostReturn
 pub mod Results

@@ -1,9 +1,9 @@
 //! Laws of the machine, each of any code: a proof above may cite them. The functions do nothing.
 
 ghost use Rattle.wrapper_run.specs.Growth.{BlocksGrow, ExportsGrow, ImportsGrow, InnerBlocksGrow};
-ghost use Rattle.wrapper_run.specs.HiddenLocals.{BlocksKeepHidden, InnerBlocksKeepHidden};
 ghost use Rattle.wrapper_run.specs.Inward.{BlocksAskNothing, InnerBlocksAskNothing};
 ghost use Rattle.wrapper_run.specs.OtherBlocks.{IgnoresBlocks, InnerIgnoresBlocks};
+ghost use Rattle.wrapper_run.specs.OuterLocals.{BlocksRunBehind, InnerBlocksRunBehind};
 ghost use Rattle.wrapper_run.specs.UnusedLocals.{IgnoresUnused, InnerIgnoresUnused};
 
 /// Along a run calls and requests only grow: those that a state has are the first of those that it comes to.
@@ -33,9 +33,9 @@ pub fn inward_law()
     ensures inner { InnerBlocksAskNothing }
 {}
 
-/// Inward code that is not stuck without the values of some locals, and without the place of the static area, ends with
-/// them as it does without, and leaves them as they are.
-pub fn hidden_law()
-    ensures bodies { BlocksKeepHidden }
-    ensures inner { InnerBlocksKeepHidden }
+/// Inward code that is not stuck behind the locals in its reach, none of which owns anything, ends behind all locals as it does behind those, and leaves
+/// them as they are.
+pub fn outer_law()
+    ensures bodies { BlocksRunBehind }
+    ensures inner { InnerBlocksRunBehind }
 {}

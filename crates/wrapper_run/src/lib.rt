@@ -19,7 +19,7 @@ mod small;
 mod store;
 
 pub use export::{are_words_of, export_at, run_export};
-pub use laws::{beside_law, growth_law, hidden_law, inward_law, unused_law};
+pub use laws::{beside_law, growth_law, inward_law, outer_law, unused_law};
 pub use post_return::{has_post_return, run_post_return};
 pub use run::{import_at, run_import};
 pub use wrapper_data::{
