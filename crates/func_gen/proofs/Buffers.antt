@@ -38,6 +38,7 @@ use Rattle.func_gen.specs.Meaning.{account_of, owns_of, passing_level}
 use Rattle.func_gen.specs.Read.{Read, Under, as_pointer, env_of}
 use Rattle.func_gen.specs.ReadForms.{read-cast_mut, read-local}
 use Rattle.func_gen.specs.TextForms.{buffer_stmts, len_name, ptr_name, vec_name}
+use Rattle.func_gen.specs.Slot.{Slot}
 use Rattle.func_gen.proofs.Declared.{Three, fresh_name, keeps, with_name, with_three, with_two}
 use Rattle.func_gen.proofs.Lasting.{add_plain, bound_under, owns_with, with_local}
 use Rattle.func_gen.proofs.Moving.{uses}
@@ -60,7 +61,7 @@ abbrev pub buffer_val : ℕ → ℕ → Bool → Val
 buffer_val p n o = val.Value (value.Buffer p n o)
 
 -- the use of an operand that denotes a buffer
-pub record UsedBuffer (w : Setting) (b : FunctionBindgen) (e : Expr) (p n : ℕ) (o : Bool) (others : List (Fact ExprOperand (Unit {0}) RustValue)) (s : State) : Type 0 where
+pub record UsedBuffer (w : Setting) (b : FunctionBindgen) (e : Expr) (p n : ℕ) (o : Bool) (others : List (Fact ExprOperand Slot RustValue)) (s : State) : Type 0 where
   pub then : State
   pub evaluated : eval w e s ≡ machine.Done (buffer_val p n o) then
   pub account : account_of then ≡ account_of s
@@ -69,7 +70,7 @@ pub record UsedBuffer (w : Setting) (b : FunctionBindgen) (e : Expr) (p n : ℕ)
   pub holds : Hold w.items b others then
   pub areas : (k : Bytes) (address size : ℕ) → env_of s k ≡ Some (val.Area address size) → env_of then k ≡ Some (val.Area address size)
 
-pub uses_buffer : (w : Setting) (b : FunctionBindgen) (e : Expr) (p n : ℕ) (o : Bool) (others : List (Fact ExprOperand (Unit {0}) RustValue)) (s : State) → Hold w.items b (of (operand_of e) (item (value.Buffer p n o)) ∷ others) s → UsedBuffer w b e p n o others s
+pub uses_buffer : (w : Setting) (b : FunctionBindgen) (e : Expr) (p n : ℕ) (o : Bool) (others : List (Fact ExprOperand Slot RustValue)) (s : State) → Hold w.items b (of (operand_of e) (item (value.Buffer p n o)) ∷ others) s → UsedBuffer w b e p n o others s
 uses_buffer w b e p n o others s h =
     let u = uses w b e (value.Buffer p n o) others s h in
     let same = buffer_is u.given p n o u.is in
@@ -130,11 +131,11 @@ quiet_buffer w t e more h k =
     quiet_let w (vec_name t) e (stmt.Let (ptr_name t) (expr.AsPtr (vec_name t)) ∷ stmt.Let (len_name t) (expr.Len (vec_name t)) ∷ more) h
     (quiet_let w (ptr_name t) (expr.AsPtr (vec_name t)) (stmt.Let (len_name t) (expr.Len (vec_name t)) ∷ more) (quiet_as_ptr w (vec_name t)) (quiet_let w (len_name t) (expr.Len (vec_name t)) more (quiet_len w (vec_name t)) k))
 
-abbrev pub buffer_facts : ℕ → ℕ → ℕ → List (Fact ExprOperand (Unit {0}) RustValue)
+abbrev pub buffer_facts : ℕ → ℕ → ℕ → List (Fact ExprOperand Slot RustValue)
 buffer_facts t p n = of (operand_of (expr.CastMut (ptr_name t))) (word (core.Pointer p)) ∷ of (operand_of (expr.Local (len_name t))) (word (core.Length n)) ∷ []
 
-module _ (items : List Item) (old : FunctionBindgen) (t : ℕ) (free : Three old (vec_name t) (ptr_name t) (len_name t)) (p n : ℕ) (o : Bool) (facts : List (Fact ExprOperand (Unit {0}) RustValue)) (s : State) (h : Hold items old facts s) where
-  abbrev pub vec_fact : Fact ExprOperand (Unit {0}) RustValue
+module _ (items : List Item) (old : FunctionBindgen) (t : ℕ) (free : Three old (vec_name t) (ptr_name t) (len_name t)) (p n : ℕ) (o : Bool) (facts : List (Fact ExprOperand Slot RustValue)) (s : State) (h : Hold items old facts s) where
+  abbrev pub vec_fact : Fact ExprOperand Slot RustValue
   vec_fact = of (operand_of (expr.Local (vec_name t))) (item (value.Buffer p n o))
 
   abbrev pub state1 : State
@@ -161,7 +162,7 @@ module _ (items : List Item) (old : FunctionBindgen) (t : ℕ) (free : Three old
       let lv : Val = val.Word (core.Length n) in
       let b = with_three old (vec_name t) (ptr_name t) (len_name t) in
       let s3 = with_buffer s t p n o in
-      let len_fact : Fact ExprOperand (Unit {0}) RustValue = of (operand_of (expr.Local (len_name t))) (word (core.Length n)) in
+      let len_fact : Fact ExprOperand Slot RustValue = of (operand_of (expr.Local (len_name t))) (word (core.Length n)) in
       let hold3 = keeps items (with_two old (vec_name t) (ptr_name t)) (len_name t) lv (vec_fact ∷ facts) state2 free.third hold2 in
       let one = add_plain items b (vec_fact ∷ facts) s3 (operand_of (expr.Local (len_name t))) (word (core.Length n)) (len_name t) lv
       (λ env at. ap (λ (r : Read). r.at env) (read-local items (len_name t)) ∙ ap (option_and_then usable) at) (reads-new (len_name t) (Some lv) state2.locals) refl hold3 in

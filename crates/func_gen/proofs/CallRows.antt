@@ -59,6 +59,7 @@ use Rattle.func_gen.specs.Scope.{Declares, declared_in, is_used, names_at}
 use Rattle.func_gen.specs.StandLemmas.{owned-unit}
 use Rattle.func_gen.specs.CodeOf.{calls_core}
 use Rattle.func_gen.specs.Added.{Appends}
+use Rattle.func_gen.specs.Slot.{Slot}
 use Rattle.func_gen.proofs.CallWords.{same_test, words_are}
 use Rattle.func_gen.proofs.Evaluated.{gives}
 use Rattle.func_gen.proofs.Lasting.{Beside, SameArea, add_plain, area_lasts, bound_under, denotes_on, lasts, owns_with, part, with_local}
@@ -107,7 +108,7 @@ owned_still blocks new writes (a ∷ taken) h = (h.0, there_writes a (with_block
 -- 2. The call
 
 -- operands that denote words are evaluated to them
-pub words_give : (w : Setting) (b : FunctionBindgen) (os : List ExprOperand) (ws : List Word) (others : List (Fact ExprOperand (Unit {0}) RustValue)) (s : State) → length os ≡ length ws
+pub words_give : (w : Setting) (b : FunctionBindgen) (os : List ExprOperand) (ws : List Word) (others : List (Fact ExprOperand Slot RustValue)) (s : State) → length os ≡ length ws
     → Hold w.items b (ofs func_meaning os (core_data func_meaning ws) ++ others) s → Give w s (exprs os) (map val.Word ws)
 words_give w b [] [] others s len h = tt
 words_give w b [] (x ∷ ws) others s len h = absurd (omega (arith, len))

@@ -17,6 +17,7 @@ use Rattle.func_gen.specs.Added.{Fresh}
 use Rattle.func_gen.specs.CallForms.{FreshAll}
 use Rattle.func_gen.specs.Facts.{Hold}
 use Rattle.func_gen.specs.Scope.{is_used}
+use Rattle.func_gen.specs.Slot.{Slot}
 use Rattle.func_gen.proofs.Lasting.{bound_under, lasts, with_local, within_with}
 
 -- 1. One more name is used
@@ -41,11 +42,11 @@ pub fresh_after : (a b c : FunctionBindgen) (names : List Bytes) → b.scope ≡
 fresh_after a b c names e f = record { free = λ n is. ap (λ (s : Scope). is_used s.used n) (sym e) ∙ f.free n is; used = f.used ∙ ap (λ (s : Scope). s.used ++ names) e }
 
 -- facts rest on the parameters and on the names that are used
-pub hold_as : (items : List Item) (old new : FunctionBindgen) (facts : List (Fact ExprOperand (Unit {0}) RustValue)) (s : State) → new.params ≡ old.params → new.scope.used ≡ old.scope.used → Hold items old facts s → Hold items new facts s
+pub hold_as : (items : List Item) (old new : FunctionBindgen) (facts : List (Fact ExprOperand Slot RustValue)) (s : State) → new.params ≡ old.params → new.scope.used ≡ old.scope.used → Hold items old facts s → Hold items new facts s
 hold_as items old new facts s params used h = lasts items old new facts s s params (λ n v e. e) (λ n free. h.within n (ap (λ us. is_used us n) (sym used) ∙ free)) h
 
 -- a local more, of a free name
-pub keeps : (items : List Item) (b : FunctionBindgen) (n : Bytes) (v : Val) (facts : List (Fact ExprOperand (Unit {0}) RustValue)) (s : State) → is_used b.scope.used n ≡ false → Hold items b facts s → Hold items (with_name b n) facts (with_local s n v)
+pub keeps : (items : List Item) (b : FunctionBindgen) (n : Bytes) (v : Val) (facts : List (Fact ExprOperand Slot RustValue)) (s : State) → is_used b.scope.used n ≡ false → Hold items b facts s → Hold items (with_name b n) facts (with_local s n v)
 keeps items b n v facts s free h = lasts items b (with_name b n) facts s (with_local s n v) refl (bound_under s n v (h.within n free)) (within_with b (with_name b n) n s v (fresh_name b n free) h.within) h
 
 -- 2. Three names, each other than those before it

@@ -42,6 +42,7 @@ use Rattle.func_gen.specs.PartForms.{are_operands, exprs_of, locals_of, names_fr
 use Rattle.func_gen.specs.Read.{env_of}
 use Rattle.func_gen.specs.Scope.{is_used, Takes}
 use Rattle.func_gen.specs.CodeOf.{flushes}
+use Rattle.func_gen.specs.Slot.{Slot}
 use Rattle.func_gen.proofs.CallRows.{split_used}
 use Rattle.func_gen.proofs.Evaluated.{gives}
 use Rattle.func_gen.proofs.Forming.{form_by, locals_are}
@@ -115,7 +116,7 @@ renamed w b (n ∷ ns) [] ds others s free many len h = absurd (omega (arith, ma
 renamed w b (n ∷ ns) (o ∷ os) [] others s free many len h = absurd (omega (arith, len))
 renamed w b (n ∷ ns) (o ∷ os) (d ∷ ds) others s free many len h =
     let next : FunctionBindgen = record b { scope = record b.scope { used = b.scope.used ++ n ∷ [] } } in
-    let first : Fact ExprOperand (Unit {0}) RustValue = of (operand_of (expr.Local n)) d in
+    let first : Fact ExprOperand Slot RustValue = of (operand_of (expr.Local n)) d in
     let rest = ofs func_meaning os ds in
     let after = ofs func_meaning (locals_of ns) ds in
     let one = is_given w b o.expr d (rest ++ others) s h in

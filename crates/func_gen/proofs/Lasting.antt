@@ -30,6 +30,7 @@ use Rattle.func_gen.specs.Meaning.{AreaIs, Denote, File, FuncState, owns_of}
 use Rattle.func_gen.specs.Read.{Env, Under, env_of, less, read}
 use Rattle.func_gen.specs.Scope.{is_used}
 use Rattle.func_gen.specs.FactLemmas.{Says, less_under, said, total_mono}
+use Rattle.func_gen.specs.Slot.{Slot}
 use Rattle.wrapper_meaning.proofs.PostReturn.{total-append}
 
 -- 1. A local more
@@ -75,7 +76,7 @@ within_with old new n s v f within k free =
 -- 3. Facts
 
 module _ (items : List Item) where
-  pub part : (b : FunctionBindgen) (facts all : List (Fact ExprOperand (Unit {0}) RustValue)) (s : State) → AtMost facts all → Hold items b all s → Hold items b facts s
+  pub part : (b : FunctionBindgen) (facts all : List (Fact ExprOperand Slot RustValue)) (s : State) → AtMost facts all → Hold items b all s → Hold items b facts s
   part b facts all s le d = record {
     right = omega (arith, le (wrong items b.params (env_of s)), d.right);
     apart = λ n o. omega (arith, le (wrong items b.params (less (env_of s) n)), d.apart n o);
@@ -92,7 +93,7 @@ module _ (items : List Item) where
       go false e = u k v h
 
   -- where more names are known, and none that is free
-  pub lasts : (old new : FunctionBindgen) (facts : List (Fact ExprOperand (Unit {0}) RustValue)) (s t : State) → new.params ≡ old.params → Under (env_of s) (env_of t)
+  pub lasts : (old new : FunctionBindgen) (facts : List (Fact ExprOperand Slot RustValue)) (s t : State) → new.params ≡ old.params → Under (env_of s) (env_of t)
       → ((n : Bytes) → is_used new.scope.used n ≡ false → local_named n t.locals ≡ None) → Hold items old facts s → Hold items new facts t
   lasts old new facts s t params under within d = record {
     right = let e = ap (λ ps. total (wrong items ps (env_of t)) facts) params in omega (arith, e, d.right, total_mono items old.params (env_of s) (env_of t) under facts);
@@ -108,7 +109,7 @@ module _ (items : List Item) where
           omega (arith, x, total_mono items old.params (less (env_of s) n) (less (env_of t) n) (less_under (env_of s) (env_of t) n under) facts)
 
   -- a fact that rests on one local, which owns nothing
-  pub add_plain : (b : FunctionBindgen) (facts : List (Fact ExprOperand (Unit {0}) RustValue)) (s : State) (o : ExprOperand) (d : Datum RustValue) (n : Bytes) (v : Val)
+  pub add_plain : (b : FunctionBindgen) (facts : List (Fact ExprOperand Slot RustValue)) (s : State) (o : ExprOperand) (d : Datum RustValue) (n : Bytes) (v : Val)
       → ((env : Env) → env n ≡ Some v → Says d ((read items o.expr).at env)) → env_of s n ≡ Some v → owned v ≡ [] → Hold items b facts s → Hold items b (of o d ∷ facts) s
   add_plain b facts s o d n v says at none h = record {
     right = omega (arith, said items b.params (env_of s) (of o d) (says (env_of s) at), h.right);
@@ -151,7 +152,7 @@ pub record Beside (s t : State) : Type 0 where
   pub place : t.place ≡ s.place
   pub under : Under (env_of s) (env_of t)
 
-pub denotes_on : (w : File) (old new : FunctionBindgen) (before facts : List (Fact ExprOperand (Unit {0}) RustValue)) (s : FuncState) (t : State) → SameArea old new → Beside s.machine t → Denote w old before s → Hold w.items new facts t
+pub denotes_on : (w : File) (old new : FunctionBindgen) (before facts : List (Fact ExprOperand Slot RustValue)) (s : FuncState) (t : State) → SameArea old new → Beside s.machine t → Denote w old before s → Hold w.items new facts t
     → Denote w new facts (record { machine = t; area = s.area })
 denotes_on w old new before facts s t e beside d h = record {
   hold = h;

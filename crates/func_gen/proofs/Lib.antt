@@ -29,6 +29,7 @@ pub mod MethodRows
 pub mod MethodValues
 pub mod Moves
 pub mod Moving
+pub mod Narrowed
 pub mod Normals
 pub mod PartNames
 pub mod PartRows

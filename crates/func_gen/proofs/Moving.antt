@@ -43,6 +43,7 @@ use Rattle.func_gen.specs.Read.{Env, Read, Under, as_case_word, as_flags_word, a
 use Rattle.func_gen.specs.ReadForms.{at_read, bare_value, read-call, read-cast, read-cast_mut, read-enum_number, read-flags_bits, read-local, read-ref, ref_bare, usable_is}
 use Rattle.func_gen.specs.Scope.{is_used}
 use Rattle.func_gen.specs.StandLemmas.{scalar_owns}
+use Rattle.func_gen.specs.Slot.{Slot}
 use Rattle.func_gen.proofs.Evaluated.{gives}
 use Rattle.func_gen.proofs.Lasting.{part}
 use Rattle.func_gen.proofs.Moves.{less_stays, other_named, owns_without, without}
@@ -137,7 +138,7 @@ module _ (items : List Item) where
 
 -- 2. The use of an operand
 
-pub record Used (w : Setting) (b : FunctionBindgen) (e : Expr) (r : RustValue) (others : List (Fact ExprOperand (Unit {0}) RustValue)) (s : State) : Type 0 where
+pub record Used (w : Setting) (b : FunctionBindgen) (e : Expr) (r : RustValue) (others : List (Fact ExprOperand Slot RustValue)) (s : State) : Type 0 where
   pub given : Val
   pub then : State
   pub evaluated : eval w e s ≡ machine.Done given then
@@ -174,7 +175,7 @@ less_same s n k v h = go (bytes_eq k n) refl h
     go false e x = less_stays s n k v (ap (λ c. cond c None (env_of s k)) e ∙ x)
 
 -- other facts last, where a local that owns a block is moved
-moved_lasts : (items : List Item) (b : FunctionBindgen) (n : Bytes) (r : RustValue) (v : Val) (others : List (Fact ExprOperand (Unit {0}) RustValue)) (s : State) → env_of s n ≡ Some v → Owns (env_of s n) → Hold items b (of (operand_of (expr.Local n)) (item r) ∷ others) s → Hold items b others (without s n)
+moved_lasts : (items : List Item) (b : FunctionBindgen) (n : Bytes) (r : RustValue) (v : Val) (others : List (Fact ExprOperand Slot RustValue)) (s : State) → env_of s n ≡ Some v → Owns (env_of s n) → Hold items b (of (operand_of (expr.Local n)) (item r) ∷ others) s → Hold items b others (without s n)
 moved_lasts items b n r v others s at owning h =
     let params = b.params in
     let env = env_of s in
@@ -214,7 +215,7 @@ read_some : (o : Option Val) (r : RustValue) → option_and_then item_of o ≡ S
 read_some None r h = absurd cc
 read_some (Some v) r h = (v, refl, h)
 
-pub uses : (w : Setting) (b : FunctionBindgen) (e : Expr) (r : RustValue) (others : List (Fact ExprOperand (Unit {0}) RustValue)) (s : State) → Hold w.items b (of (operand_of e) (item r) ∷ others) s → Used w b e r others s
+pub uses : (w : Setting) (b : FunctionBindgen) (e : Expr) (r : RustValue) (others : List (Fact ExprOperand Slot RustValue)) (s : State) → Hold w.items b (of (operand_of e) (item r) ∷ others) s → Used w b e r others s
 uses w b e r others s h =
     let (v, reads, is) = read_some ((read w.items e).at (env_of s)) r (is_said w.items b.params (env_of s) (of (operand_of e) (item r)) (omega (arith, h.right))) in
     go v reads is (owned v) refl

@@ -60,6 +60,7 @@ use Rattle.func_gen.specs.Operand.{is_operand}
 use Rattle.func_gen.specs.PartForms.{locals_of}
 use Rattle.func_gen.specs.Read.{Under, env_of}
 use Rattle.func_gen.specs.Scope.{is_used}
+use Rattle.func_gen.specs.Slot.{Slot}
 use Rattle.func_gen.proofs.CallRows.{split_used}
 use Rattle.func_gen.proofs.Lasting.{area_same, bound_under, lasts, part, with_local}
 use Rattle.func_gen.proofs.Moving.{uses}
@@ -95,14 +96,14 @@ AllFree used (n ∷ ns) = (is_used used n ≡ false) × AllFree (used ++ n ∷ [
 abbrev with_parts : State → List Bytes → List RustValue → State
 with_parts s names rs = record s { locals = s.locals ++ part_locals names rs }
 
-add_locals : (items : List Item) (b : FunctionBindgen) (names : List Bytes) (rs : List RustValue) (facts : List (Fact ExprOperand (Unit {0}) RustValue)) (s : State) → AllFree b.scope.used names → AsMany names rs → Hold items b facts s
+add_locals : (items : List Item) (b : FunctionBindgen) (names : List Bytes) (rs : List RustValue) (facts : List (Fact ExprOperand Slot RustValue)) (s : State) → AllFree b.scope.used names → AsMany names rs → Hold items b facts s
     → Hold items (using b names) (ofs func_meaning (locals_of names) (item_data func_meaning rs) ++ facts) (with_parts s names rs)
 add_locals items b [] [] facts s f many h = subst (λ ls. Hold items b facts (record s { locals = ls })) (sym (append-nil s.locals)) h
 add_locals items b [] (r ∷ rs) facts s f many h = absurd many
 add_locals items b (n ∷ ns) [] facts s f many h = absurd many
 add_locals items b (n ∷ ns) (r ∷ rs) facts s f many h =
     let next : FunctionBindgen = record b { scope = record b.scope { used = b.scope.used ++ n ∷ [] } } in
-    let first : Fact ExprOperand (Unit {0}) RustValue = of (operand_of (expr.Local n)) (item r) in
+    let first : Fact ExprOperand Slot RustValue = of (operand_of (expr.Local n)) (item r) in
     let others = ofs func_meaning (locals_of ns) (item_data func_meaning rs) in
     let l : Local = record { name = n; value = Some (val.Value r) } in
     let one = add_local items b next facts s n (val.Value r) (item r) refl (record { free = f.0; used = refl }) refl h in

@@ -39,6 +39,7 @@ use Rattle.func_gen.specs.Read.{Env, Read, env_of, less}
 use Rattle.func_gen.specs.Scope.{is_used}
 use Rattle.func_gen.specs.ReadForms.{read-local}
 use Rattle.func_gen.specs.FactLemmas.{Says, follows}
+use Rattle.func_gen.specs.Slot.{Slot}
 use Rattle.func_gen.proofs.Lasting.{Beside, SameArea, add_plain, bound_under, denotes_on, lasts, owns_with, part, with_local, within_with, still_free}
 use Rattle.func_gen.proofs.RuntimeItems.{found_right}
 use Rattle.func_gen.proofs.Steps.{func_adds, ran, seen_calls}
@@ -46,7 +47,7 @@ use Rattle.wrapper_meaning.proofs.PostReturn.{total-append}
 
 -- 1. A fact in place of another
 
-pub instead : (items : List Item) (old new : FunctionBindgen) (f g : Fact ExprOperand (Unit {0}) RustValue) (others : List (Fact ExprOperand (Unit {0}) RustValue)) (s : State) → new.params ≡ old.params → new.scope ≡ old.scope
+pub instead : (items : List Item) (old new : FunctionBindgen) (f g : Fact ExprOperand Slot RustValue) (others : List (Fact ExprOperand Slot RustValue)) (s : State) → new.params ≡ old.params → new.scope ≡ old.scope
     → ((env : Env) → Says (fact_datum f) (fact_value items old.params env f) → Says (fact_datum g) (fact_value items old.params env g)) → Hold items old (f ∷ others) s → Hold items new (g ∷ others) s
 instead items old new f g others s params scope from d = record {
   right = let e = ap (λ ps. total (wrong items ps (env_of s)) (g ∷ others)) params in omega (arith, e, d.right, follows items old.params (env_of s) f g (from (env_of s)));
@@ -69,7 +70,7 @@ module _ (old new : FunctionBindgen) (items : List RuntimeItem) (a : Appends old
   none_adds = func_adds old new [] items a (λ n free. ap (λ (s : Scope). is_used s.used n) (sym scope) ∙ free) quiet_none
 
   -- such code does nothing, and a fact that follows from another stands in its place
-  pub swapped : (f g : Fact ExprOperand (Unit {0}) RustValue) (w : File) (p : Peer RustValue) (others : Facts func_meaning) (s0 s : FuncState) → At func_meaning w p old new (f ∷ others) s0 s
+  pub swapped : (f g : Fact ExprOperand Slot RustValue) (w : File) (p : Peer RustValue) (others : Facts func_meaning) (s0 s : FuncState) → At func_meaning w p old new (f ∷ others) s0 s
       → ((env : Env) → Says (fact_datum f) (fact_value w.items old.params env f) → Says (fact_datum g) (fact_value w.items old.params env g)) → After func_meaning w new (g ∷ others) [] [] s (record { result = tt {0}; account = account_of s.machine }) s
   swapped f g w p others s0 s at from = record {
     account = refl;
@@ -80,12 +81,12 @@ module _ (old new : FunctionBindgen) (items : List RuntimeItem) (a : Appends old
   pub found_items : (w : File) (p : Peer RustValue) (facts : Facts func_meaning) (s0 s : FuncState) → At func_meaning w p old new facts s0 s → Found w.items items
   found_items w p facts s0 s at = found_right w.items old.runtime items (subst (Found w.items) a.runtime at.serves.runtime)
 
-  pub swaps : (f g : Fact ExprOperand (Unit {0}) RustValue) → ((w : File) → Found w.items items → (env : Env) → Says (fact_datum f) (fact_value w.items old.params env f) → Says (fact_datum g) (fact_value w.items old.params env g))
+  pub swaps : (f g : Fact ExprOperand Slot RustValue) → ((w : File) → Found w.items items → (env : Env) → Says (fact_datum f) (fact_value w.items old.params env f) → Says (fact_datum g) (fact_value w.items old.params env g))
       → Stays func_meaning old new (f ∷ []) (λ fs. fs ≡ g ∷ [])
   swaps f g from w p others s0 s at = (s, ran old new [] items a w p (f ∷ others) s0 s at, (g ∷ [], refl, swapped f g w p others s0 s at (from w (found_items w p (f ∷ others) s0 s at))))
 
   -- the same where the action is a test that is passed, or has no meaning
-  pub tests : (test : Bool) (f g : Fact ExprOperand (Unit {0}) RustValue) (Outs : Facts func_meaning → Type 0) → (test ≡ true → Outs (g ∷ []))
+  pub tests : (test : Bool) (f g : Fact ExprOperand Slot RustValue) (Outs : Facts func_meaning → Type 0) → (test ≡ true → Outs (g ∷ []))
       → (test ≡ true → (w : File) → Found w.items items → (env : Env) → Says (fact_datum f) (fact_value w.items old.params env f) → Says (fact_datum g) (fact_value w.items old.params env g))
       → Does func_meaning (Unit {0}) old new (f ∷ []) (λ p acc. if test then stay acc else Stuck acc) (λ u fs. Outs fs) (λ u. []) (λ u. [])
   tests true f g Outs outs from w p others s0 s at = (s, ran old new [] items a w p (f ∷ others) s0 s at, (g ∷ [], outs refl, swapped f g w p others s0 s at (from refl w (found_items w p (f ∷ others) s0 s at))))

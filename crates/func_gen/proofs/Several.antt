@@ -31,6 +31,7 @@ use Rattle.func_gen.specs.Forms.{operand_of}
 use Rattle.func_gen.specs.Meaning.{account_of, func_meaning, owns_of}
 use Rattle.func_gen.specs.Read.{Env, Read, Under, env_of, less, read}
 use Rattle.func_gen.specs.ReadForms.{read-local}
+use Rattle.func_gen.specs.Slot.{Slot}
 use Rattle.func_gen.proofs.Lasting.{bound_under, lasts, under_less, with_local, within_with}
 use Rattle.func_gen.proofs.Moving.{uses}
 use Rattle.wrapper_meaning.proofs.PostReturn.{total-append}
@@ -49,7 +50,7 @@ AreItems [] rs = rs ≡ []
 AreItems (v ∷ vs) [] = ⊥
 AreItems (v ∷ vs) (r ∷ rs) = (item_of v ≡ Some r) × AreItems vs rs
 
-pub record UsedAll (w : Setting) (b : FunctionBindgen) (os : List ExprOperand) (rs : List RustValue) (others : List (Fact ExprOperand (Unit {0}) RustValue)) (s : State) : Type 0 where
+pub record UsedAll (w : Setting) (b : FunctionBindgen) (os : List ExprOperand) (rs : List RustValue) (others : List (Fact ExprOperand Slot RustValue)) (s : State) : Type 0 where
   pub given : List Val
   pub then : State
   pub evaluated : all (map (λ (o : ExprOperand). eval w o.expr) os) s ≡ machine.Done given then
@@ -65,7 +66,7 @@ pub record UsedAll (w : Setting) (b : FunctionBindgen) (os : List ExprOperand) (
 one_more : (a : Act Val) (more : List (Act Val)) (v : Val) (vs : List Val) (s t u : State) → a s ≡ machine.Done v t → all more t ≡ machine.Done vs u → all (a ∷ more) s ≡ machine.Done (v ∷ vs) u
 one_more a more v vs s t u h k = ap (λ o. and_then o (λ x. all more >>= (λ xs. pure (x ∷ xs)))) h ∙ ap (λ o. and_then o (λ xs. pure (v ∷ xs))) k
 
-pub uses_all : (w : Setting) (b : FunctionBindgen) (os : List ExprOperand) (rs : List RustValue) (others : List (Fact ExprOperand (Unit {0}) RustValue)) (s : State) → length os ≡ length rs → Hold w.items b (ofs func_meaning os (item_data func_meaning rs) ++ others) s → UsedAll w b os rs others s
+pub uses_all : (w : Setting) (b : FunctionBindgen) (os : List ExprOperand) (rs : List RustValue) (others : List (Fact ExprOperand Slot RustValue)) (s : State) → length os ≡ length rs → Hold w.items b (ofs func_meaning os (item_data func_meaning rs) ++ others) s → UsedAll w b os rs others s
 uses_all w b [] [] others s len h = record { given = []; then = s; evaluated = refl; is = refl; items = refl; account = refl; place = refl; owns = λ f. omega arith; holds = h; areas = λ k a n is. is }
 uses_all w b [] (r ∷ rs) others s len h = absurd (omega (arith, len))
 uses_all w b (o ∷ os) [] others s len h = absurd (omega (arith, len))
@@ -87,7 +88,7 @@ uses_all w b (o ∷ os) (r ∷ rs) others s len h =
 
 -- 2. A new local, which may own blocks
 
-pub add_local : (items : List Item) (old new : FunctionBindgen) (facts : List (Fact ExprOperand (Unit {0}) RustValue)) (s : State) (n : Bytes) (v : Val) (d : Datum RustValue) → new.params ≡ old.params → Fresh old new n → Says d (option_and_then usable (Some v))
+pub add_local : (items : List Item) (old new : FunctionBindgen) (facts : List (Fact ExprOperand Slot RustValue)) (s : State) (n : Bytes) (v : Val) (d : Datum RustValue) → new.params ≡ old.params → Fresh old new n → Says d (option_and_then usable (Some v))
     → Hold items old facts s → Hold items new (of (operand_of (expr.Local n)) d ∷ facts) (with_local s n v)
 add_local items old new facts s n v d params fresh is h =
     let t = with_local s n v in
@@ -101,7 +102,7 @@ add_local items old new facts s n v d params fresh is h =
       within = last.within;
     }
   where
-    f : Fact ExprOperand (Unit {0}) RustValue
+    f : Fact ExprOperand Slot RustValue
     f = of (operand_of (expr.Local n)) d
 
     says : (env : Env) → env n ≡ Some v → Says d ((read items (expr.Local n)).at env)

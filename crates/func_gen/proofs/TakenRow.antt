@@ -65,6 +65,7 @@ use Rattle.func_gen.specs.Read.{env_of}
 use Rattle.func_gen.specs.TextForms.{bytes_name, len_name, taken_names, taken_stmts, taking_items, text_name}
 use Rattle.func_gen.specs.Scope.{Takes}
 use Rattle.func_gen.specs.CodeOf.{takes_text}
+use Rattle.func_gen.specs.Slot.{Slot}
 use Rattle.func_gen.proofs.Buffers.{buffer_val, normal_buffer, uses_buffer}
 use Rattle.func_gen.proofs.Declared.{Three, fresh_name, hold_as, keeps, three, three_used, unused_before, with_name, with_three, with_two}
 use Rattle.func_gen.proofs.Evaluated.{gives}
@@ -196,7 +197,7 @@ module _ (w : File) (q : Peer RustValue) (old new : FunctionBindgen) (a n : Expr
   abbrev base : ℕ → State
   base k = with_local s.machine (len_name t) (val.Word (core.Length k))
 
-  abbrev text_fact : ℕ → Fact ExprOperand (Unit {0}) RustValue
+  abbrev text_fact : ℕ → Fact ExprOperand Slot RustValue
   text_fact k = of (operand_of (expr.Local (text_name t))) (item (value.Buffer p k true))
 
   abbrev Ends : ℕ → Got RustValue Taken → FuncState → Type 0
@@ -350,8 +351,8 @@ module _ (types : List TypeDef) (old new : FunctionBindgen) (a e : Expr) (t : �
         let free = three old new (len_name t) (bytes_name t) (text_name t) fresh (len_bytes t) (len_text t) (bytes_text t) in
         let set = setting_for w q in
         let lv : Val = val.Word (core.Length k) in
-        let address : Fact ExprOperand (Unit {0}) RustValue = of (operand_of a) (word (core.Pointer p)) in
-        let number : Fact ExprOperand (Unit {0}) RustValue = of (operand_of e) (word (core.Length k)) in
+        let address : Fact ExprOperand Slot RustValue = of (operand_of a) (word (core.Pointer p)) in
+        let number : Fact ExprOperand Slot RustValue = of (operand_of e) (word (core.Length k)) in
         let h = at.holds.hold in
         let h1 = keeps w.items old (len_name t) lv (address ∷ number ∷ others) s.machine free.first h in
         let given_e = gives set e s.machine lv (is_said w.items old.params (env_of s.machine) number (omega (arith, h.right))) refl in

@@ -44,6 +44,7 @@ use Rattle.func_gen.specs.StandLemmas.{lent_alone, taken_on, taken_owns}
 use Rattle.func_gen.specs.TextForms.{buffer_names, buffer_stmts, buffer_words, forgotten, given_stmts, len_name, ptr_name, vec_name}
 use Rattle.func_gen.specs.Scope.{Takes}
 use Rattle.func_gen.specs.CodeOf.{hands_text, lends_text}
+use Rattle.func_gen.specs.Slot.{Slot}
 use Rattle.func_gen.proofs.Buffers.{buffer_facts, buffer_holds, buffer_runs, buffer_under, buffer_val, normal_buffer, owns_buffer, ptr_len, quiet_buffer, uses_buffer, vec_len, vec_ptr, with_buffer}
 use Rattle.func_gen.proofs.Declared.{Three, hold_as, three, three_used, unused_before, with_three}
 use Rattle.func_gen.proofs.Emissions.{local_is}
@@ -135,7 +136,7 @@ module _ (types : List TypeDef) (old new : FunctionBindgen) (name : Bytes) (t : 
   named = with_three old (vec_name t) (ptr_name t) (len_name t)
 
   -- the text is moved into the box, and the box into what is forgotten
-  record Moved (set : Setting) (p n : ℕ) (others : List (Fact ExprOperand (Unit {0}) RustValue)) (s : State) : Type 0 where
+  record Moved (set : Setting) (p n : ℕ) (others : List (Fact ExprOperand Slot RustValue)) (s : State) : Type 0 where
     pub then : State
     pub runs : run_stmts set (given_stmts t name) s ≡ release_all set (owned (buffer_val p n true)) then
     pub account : account_of then ≡ account_of s
@@ -145,9 +146,9 @@ module _ (types : List TypeDef) (old new : FunctionBindgen) (name : Bytes) (t : 
     pub areas : (k : Bytes) (address size : ℕ) → env_of s k ≡ Some (val.Area address size) → env_of then k ≡ Some (val.Area address size)
 
   -- each local that had it has it no more, and the words stay
-  moves : (set : Setting) (p n : ℕ) (others : List (Fact ExprOperand (Unit {0}) RustValue)) (s : State) → Hold set.items old (of (operand_of (expr.Local name)) (item (value.Buffer p n true)) ∷ others) s → Moved set p n others s
+  moves : (set : Setting) (p n : ℕ) (others : List (Fact ExprOperand Slot RustValue)) (s : State) → Hold set.items old (of (operand_of (expr.Local name)) (item (value.Buffer p n true)) ∷ others) s → Moved set p n others s
   moves set p n others s h =
-      let vec : Fact ExprOperand (Unit {0}) RustValue = of (operand_of (expr.Local (vec_name t))) (item (value.Buffer p n true)) in
+      let vec : Fact ExprOperand Slot RustValue = of (operand_of (expr.Local (vec_name t))) (item (value.Buffer p n true)) in
       let x = uses_buffer set old (expr.Local name) p n true others s h in
       let s3 = with_buffer x.then t p n true in
       let held = buffer_holds set.items old t given_names p n true others x.then x.holds in

@@ -24,6 +24,7 @@ use Rattle.func_gen.specs.declared.function_bindgen.ParamSite.{ParamSite}
 use Rattle.func_gen.specs.declared.operand.ExprOperand.{ExprOperand}
 use Rattle.func_gen.specs.Facts.{fact_datum, fact_value, gv_eq, item_of, matches, same, wrong}
 use Rattle.func_gen.specs.Read.{Env, Under, less, less_is_under, read}
+use Rattle.func_gen.specs.Slot.{Slot, slot_read}
 
 -- 1. The test of codes
 
@@ -103,14 +104,14 @@ less_wrong true c h = let e = wrong_none c (h refl) in omega arith
 less_wrong false c h = one_at_most c
 
 module _ (items : List Item) (params : List ParamSite) where
-  pub is_said : (env : Env) (f : Fact ExprOperand (Unit {0}) RustValue) → wrong items params env f ≡ 0 → Says (fact_datum f) (fact_value items params env f)
+  pub is_said : (env : Env) (f : Fact ExprOperand Slot RustValue) → wrong items params env f ≡ 0 → Says (fact_datum f) (fact_value items params env f)
   is_said env f h = matches_says (fact_datum f) (fact_value items params env f) (none_wrong (matches (fact_datum f) (fact_value items params env f)) h)
 
-  pub said : (env : Env) (f : Fact ExprOperand (Unit {0}) RustValue) → Says (fact_datum f) (fact_value items params env f) → wrong items params env f ≡ 0
+  pub said : (env : Env) (f : Fact ExprOperand Slot RustValue) → Says (fact_datum f) (fact_value items params env f) → wrong items params env f ≡ 0
   said env f h = wrong_none (matches (fact_datum f) (fact_value items params env f)) (says_matches (fact_datum f) (fact_value items params env f) h)
 
   -- a fact that follows from another is wrong no more often
-  pub follows : (env : Env) (f g : Fact ExprOperand (Unit {0}) RustValue) → (Says (fact_datum f) (fact_value items params env f) → Says (fact_datum g) (fact_value items params env g)) → wrong items params env g ≤ wrong items params env f
+  pub follows : (env : Env) (f g : Fact ExprOperand Slot RustValue) → (Says (fact_datum f) (fact_value items params env f) → Says (fact_datum g) (fact_value items params env g)) → wrong items params env g ≤ wrong items params env f
   follows env f g from =
       less_wrong (matches (fact_datum f) (fact_value items params env f)) (matches (fact_datum g) (fact_value items params env g))
       (λ h. says_matches (fact_datum g) (fact_value items params env g) (from (matches_says (fact_datum f) (fact_value items params env f) h)))
@@ -118,9 +119,9 @@ module _ (items : List Item) (params : List ParamSite) where
   -- 3. More names
 
   -- what is read is read where more names are known
-  value_mono : (a b : Env) → Under a b → (f : Fact ExprOperand (Unit {0}) RustValue) (v : Val) → fact_value items params a f ≡ Some v → fact_value items params b f ≡ Some v
+  value_mono : (a b : Env) → Under a b → (f : Fact ExprOperand Slot RustValue) (v : Val) → fact_value items params a f ≡ Some v → fact_value items params b f ≡ Some v
   value_mono a b u (of e d) v h = (read items e.expr).mono a b u v h
-  value_mono a b u (bound slot name d) v h = h
+  value_mono a b u (bound slot name d) v h = (slot_read slot name).mono a b u v h
   value_mono a b u (arg n d) v h = go (slice_get params n) h
     where
       go : (o : Option ParamSite) → option_and_then (λ p. (read items p.operand.expr).at a) o ≡ Some v → option_and_then (λ p. (read items p.operand.expr).at b) o ≡ Some v
@@ -132,21 +133,21 @@ module _ (items : List Item) (params : List ParamSite) where
   says_mono (item r) None p h k = absurd cc
   says_mono (item r) (Some v) p h k = ap (option_and_then item_of) (h v refl) ∙ k
 
-  wrong_mono : (a b : Env) → Under a b → (f : Fact ExprOperand (Unit {0}) RustValue) → wrong items params b f ≤ wrong items params a f
+  wrong_mono : (a b : Env) → Under a b → (f : Fact ExprOperand Slot RustValue) → wrong items params b f ≤ wrong items params a f
   wrong_mono a b u f =
       less_wrong (matches (fact_datum f) (fact_value items params a f)) (matches (fact_datum f) (fact_value items params b f))
       (λ h. says_matches (fact_datum f) (fact_value items params b f) (says_mono (fact_datum f) (fact_value items params a f) (fact_value items params b f) (value_mono a b u f) (matches_says (fact_datum f) (fact_value items params a f) h)))
 
-  pub total_mono : (a b : Env) → Under a b → (fs : List (Fact ExprOperand (Unit {0}) RustValue)) → total (wrong items params b) fs ≤ total (wrong items params a) fs
+  pub total_mono : (a b : Env) → Under a b → (fs : List (Fact ExprOperand Slot RustValue)) → total (wrong items params b) fs ≤ total (wrong items params a) fs
   total_mono a b u [] = omega arith
   total_mono a b u (f ∷ fs) = omega (arith, wrong_mono a b u f, total_mono a b u fs)
 
   -- 4. Fewer names
 
   -- what holds without one name, and without another, holds without both
-  value_meet : (env : Env) (n k : Bytes) (f : Fact ExprOperand (Unit {0}) RustValue) (v : Val) → fact_value items params (less env n) f ≡ Some v → fact_value items params (less env k) f ≡ Some v → fact_value items params (less (less env n) k) f ≡ Some v
+  value_meet : (env : Env) (n k : Bytes) (f : Fact ExprOperand Slot RustValue) (v : Val) → fact_value items params (less env n) f ≡ Some v → fact_value items params (less env k) f ≡ Some v → fact_value items params (less (less env n) k) f ≡ Some v
   value_meet env n k (of e d) v g h = (read items e.expr).meet env n k v g h
-  value_meet env n k (bound slot name d) v g h = g
+  value_meet env n k (bound slot name d) v g h = (slot_read slot name).meet env n k v g h
   value_meet env n k (arg i d) v g h = go (slice_get params i) g h
     where
       go : (o : Option ParamSite) → option_and_then (λ p. (read items p.operand.expr).at (less env n)) o ≡ Some v → option_and_then (λ p. (read items p.operand.expr).at (less env k)) o ≡ Some v
@@ -154,7 +155,7 @@ module _ (items : List Item) (params : List ParamSite) where
       go None x y = absurd cc
       go (Some p) x y = (read items p.operand.expr).meet env n k v x y
 
-  says_meet : (env : Env) (n k : Bytes) (f : Fact ExprOperand (Unit {0}) RustValue) → Says (fact_datum f) (fact_value items params (less env n) f) → Says (fact_datum f) (fact_value items params (less env k) f) → Says (fact_datum f) (fact_value items params (less (less env n) k) f)
+  says_meet : (env : Env) (n k : Bytes) (f : Fact ExprOperand Slot RustValue) → Says (fact_datum f) (fact_value items params (less env n) f) → Says (fact_datum f) (fact_value items params (less env k) f) → Says (fact_datum f) (fact_value items params (less (less env n) k) f)
   says_meet env n k f = by (fact_datum f)
     where
       by : (d : Datum RustValue) → Says d (fact_value items params (less env n) f) → Says d (fact_value items params (less env k) f) → Says d (fact_value items params (less (less env n) k) f)
@@ -171,7 +172,7 @@ module _ (items : List Item) (params : List ParamSite) where
               let bv : fact_value items params (less env k) f ≡ Some v = cc in
               ap (option_and_then item_of) (value_meet env n k f v a bv) ∙ x
 
-  pub total_meet : (env : Env) (n k : Bytes) (fs : List (Fact ExprOperand (Unit {0}) RustValue)) → total (wrong items params (less env n)) fs ≡ 0 → total (wrong items params (less (less env n) k)) fs ≤ total (wrong items params (less env k)) fs
+  pub total_meet : (env : Env) (n k : Bytes) (fs : List (Fact ExprOperand Slot RustValue)) → total (wrong items params (less env n)) fs ≡ 0 → total (wrong items params (less (less env n) k)) fs ≤ total (wrong items params (less env k)) fs
   total_meet env n k [] h = omega arith
   total_meet env n k (f ∷ fs) h =
       let here = is_said (less env n) f (omega (arith, h)) in

@@ -27,6 +27,7 @@ use Rattle.func_gen.specs.declared.function_bindgen.ParamSite.{ParamSite}
 use Rattle.func_gen.specs.declared.operand.ExprOperand.{ExprOperand}
 use Rattle.func_gen.specs.Read.{Env, env_of, less, read}
 use Rattle.func_gen.specs.Scope.{is_used}
+use Rattle.func_gen.specs.Slot.{Slot, slot_read}
 
 -- 1. Equality that computes, by codes
 
@@ -64,19 +65,19 @@ abbrev pub matches : Datum RustValue → Option Val → Bool
 matches (word x) o = same (coded_option vals.the_row.coded) o (Some (val.Word x))
 matches (item r) o = same (coded_option rust.the_row.coded) (option_and_then item_of o) (Some r)
 
--- what names let read, of an operand, and of an argument. There is no block so far
-abbrev pub fact_value : List Item → List ParamSite → Env → Fact ExprOperand (Unit {0}) RustValue → Option Val
+-- what names let read, of an operand, of an argument, and of a name of a block
+abbrev pub fact_value : List Item → List ParamSite → Env → Fact ExprOperand Slot RustValue → Option Val
 fact_value items params env (of e d) = (read items e.expr).at env
 fact_value items params env (arg n d) = option_and_then (λ p. (read items p.operand.expr).at env) (slice_get params n)
-fact_value items params env (bound slot name d) = None
+fact_value items params env (bound slot name d) = (slot_read slot name).at env
 
-abbrev pub fact_datum : Fact ExprOperand (Unit {0}) RustValue → Datum RustValue
+abbrev pub fact_datum : Fact ExprOperand Slot RustValue → Datum RustValue
 fact_datum (of e d) = d
 fact_datum (arg n d) = d
 fact_datum (bound slot name d) = d
 
 -- 1 where these names do not let the fact be
-abbrev pub wrong : List Item → List ParamSite → Env → Fact ExprOperand (Unit {0}) RustValue → ℕ
+abbrev pub wrong : List Item → List ParamSite → Env → Fact ExprOperand Slot RustValue → ℕ
 wrong items params env f = if matches (fact_datum f) (fact_value items params env f) then 0 else 1
 
 -- 3. Facts together
@@ -86,7 +87,7 @@ Owns None = ⊥
 Owns (Some v) = owned v ≡ [] → ⊥
 
 -- all hold, by weights; and a local that owns a block is needed by one of them at most
-pub record Hold (items : List Item) (b : FunctionBindgen) (facts : List (Fact ExprOperand (Unit {0}) RustValue)) (s : State) : Type 0 where
+pub record Hold (items : List Item) (b : FunctionBindgen) (facts : List (Fact ExprOperand Slot RustValue)) (s : State) : Type 0 where
   pub right : total (wrong items b.params (env_of s)) facts ≡ 0
   pub apart : (n : Bytes) → Owns (env_of s n) → total (wrong items b.params (less (env_of s) n)) facts ≤ 1
   -- no local has a name that is free

@@ -3,6 +3,7 @@ use mathlib.Core.Logic.{inl}
 use Rattle.std.proofs.Common.{◌≡◌, ℕ, ◌+◌, ◌≤◌, List, [], ◌∷◌, ◌++◌, Option, None, Some, refl, sym, ap, ◌∙◌, arith}
 use Rattle.std.specs.Prelude.{option_and_then, slice_get}
 use Rattle.wit_model.specs.Bytes.{Bytes}
+use Rattle.rust_tree.specs.declared.expr.Expr.TheVariants as expr
 use Rattle.wrapper_data.specs.declared.value.RustValue.{RustValue}
 use Rattle.wrapper_data.specs.declared.word.Word.{Word}
 use Rattle.wrapper_meaning.specs.Direction.{take}
@@ -19,13 +20,14 @@ use Rattle.func_gen.specs.declared.operand.ExprOperand.{ExprOperand}
 use Rattle.func_gen.specs.FactLemmas.{Says, is_said, said}
 use Rattle.func_gen.specs.Facts.{Owns, wrong}
 use Rattle.func_gen.specs.Meaning.{Denote, File, FuncState, func_meaning}
-use Rattle.func_gen.specs.Read.{env_of, less, read}
-use Rattle.func_gen.specs.ReadForms.{stable}
+use Rattle.func_gen.specs.Read.{Env, Read, env_of, less, read}
+use Rattle.func_gen.specs.ReadForms.{read-local, stable}
 use Rattle.func_gen.specs.StandLemmas.{given_on, lent_alone, taken_on, taken_owns}
+use Rattle.func_gen.specs.Slot.{Slot, slot_name}
 use Rattle.wrapper_meaning.proofs.PostReturn.{total-append}
 
 -- facts that weigh no more hold too
-module _ (w : File) (b : FunctionBindgen) (facts others : Facts func_meaning) (less_weight : (g : Fact ExprOperand (Unit {0}) RustValue → ℕ) → total g others ≤ total g facts) where
+module _ (w : File) (b : FunctionBindgen) (facts others : Facts func_meaning) (less_weight : (g : Fact ExprOperand Slot RustValue → ℕ) → total g others ≤ total g facts) where
   lighter : (s : FuncState) → Denote w b facts s → Denote w b others s
   lighter s d = record {
     hold = record {
@@ -43,7 +45,7 @@ moved_on w b one two others =
     (λ g. omega (arith, total-append g one (two ++ others), total-append g two others, total-append g two (one ++ others), total-append g one others))
 
 -- a word is read without any local that owns, so the fact may stand twice
-twice : (w : File) (b : FunctionBindgen) (f : Fact ExprOperand (Unit {0}) RustValue) (facts : Facts func_meaning) (s : FuncState) → ((n : Bytes) → Owns (env_of s.machine n) → wrong w.items b.params (less (env_of s.machine) n) f ≡ 0)
+twice : (w : File) (b : FunctionBindgen) (f : Fact ExprOperand Slot RustValue) (facts : Facts func_meaning) (s : FuncState) → ((n : Bytes) → Owns (env_of s.machine n) → wrong w.items b.params (less (env_of s.machine) n) f ≡ 0)
     → Denote w b (f ∷ facts) s → Denote w b (f ∷ f ∷ facts) s
 twice w b f facts s needs d = record {
   hold = record {
@@ -70,11 +72,15 @@ arg_word_again w b k x facts s d =
     go None h n owns = absurd cc
     go (Some p) h n owns = stable w.items p.operand.expr (env_of s.machine) (val.Word x) h refl n owns
 
--- there is no block, so nothing is bound
-no_bound : {A : Type 0} (w : File) (b : FunctionBindgen) (slot : Unit {0}) (name : Name) (x : Word) (facts : Facts func_meaning) (s : FuncState) → Denote w b (bound slot name (word x) ∷ facts) s → A
-no_bound w b slot name x facts s h =
-    let none : (let o : Option Val = None in o ≡ Some (val.Word x)) = is_said w.items b.params (env_of s.machine) (bound slot name (word x)) (omega (arith, h.hold.right)) in
-    absurd cc
+-- a name of a block is read as its local is
+bound_word_again : (w : File) (b : FunctionBindgen) (slot : Slot) (name : Name) (x : Word) (facts : Facts func_meaning) (s : FuncState) → Denote w b (bound slot name (word x) ∷ facts) s → Denote w b (bound slot name (word x) ∷ bound slot name (word x) ∷ facts) s
+bound_word_again w b slot name x facts s d =
+    let k : Bytes = slot_name name slot.number in
+    let env : Env = env_of s.machine in
+    let here = is_said w.items b.params env (bound slot name (word x)) (omega (arith, d.hold.right)) in
+    let reads : (read w.items (expr.Local k)).at env ≡ Some (val.Word x) = ap (λ (r : Read). r.at env) (read-local w.items k) ∙ here in
+    twice w b (bound slot name (word x)) facts s
+    (λ n owns. said w.items b.params (less env n) (bound slot name (word x)) (sym (ap (λ (r : Read). r.at (less env n)) (read-local w.items k)) ∙ stable w.items (expr.Local k) env (val.Word x) reads refl n owns)) d
 
 says_of : (w : File) (b : FunctionBindgen) (o : ExprOperand) (d : Datum RustValue) (s : FuncState) → Denote w b (of o d ∷ []) s → Says d ((read w.items o.expr).at (env_of s.machine))
 says_of w b o d s h = is_said w.items b.params (env_of s.machine) (of o d) (omega (arith, h.hold.right))
@@ -97,7 +103,7 @@ func_sound = record {
   one_item = λ w b o a c s h g. some_same a c (sym (says_of w b o (item a) s h) ∙ says_of w b o (item c) s g);
   again = word_again;
   arg_again = arg_word_again;
-  bound_again = λ w b slot name x facts s h. no_bound w b slot name x facts s h;
+  bound_again = bound_word_again;
   nothing = λ w f s. refl;
   determined = λ t v u a own hv hu h g. rust_value_determines 2 take t v u a own tt hv hu h.0 g.0;
   given = λ t v a own h. (given_on t v a own h.0, h.1);

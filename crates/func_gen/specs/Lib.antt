@@ -23,6 +23,7 @@ pub mod ReadForms
 pub mod RecordForms
 pub mod Scope
 pub mod Sites
+pub mod Slot
 pub mod StandLemmas
 pub mod Still
 pub mod TextForms

@@ -47,6 +47,7 @@ use Rattle.func_gen.specs.Facts.{AreOwned, Hold}
 use Rattle.func_gen.specs.Read.{env_of}
 use Rattle.func_gen.specs.TypeSites.{AreDefined}
 use Rattle.func_gen.specs.Formed.{Formed}
+use Rattle.func_gen.specs.Slot.{Slot}
 
 -- 1. What is known of the whole
 
@@ -110,7 +111,7 @@ AreaIs true _ _ asked name s = ⊥
 AreaIs false area None asked name s = asked ≡ [] → s.place ≡ None
 AreaIs false area (Some address) asked name s = ⊥
 
-pub record Denote (w : File) (b : FunctionBindgen) (facts : List (Fact ExprOperand (Unit {0}) RustValue)) (s : FuncState) : Type 0 where
+pub record Denote (w : File) (b : FunctionBindgen) (facts : List (Fact ExprOperand Slot RustValue)) (s : FuncState) : Type 0 where
   pub hold : Hold w.items b facts s.machine
   pub owners : AreOwned s.machine.heap.blocks s.machine.taken
   pub area : AreaIs b.import w.area s.area b.asked b.area s.machine
@@ -191,7 +192,7 @@ func_meaning = record {
   State = FuncState;
   Code = Code;
   Block = ⊥;
-  Slot = Unit {0};
+  Slot = Slot;
   Item = RustValue;
   width = 2;
   serves = Serves;

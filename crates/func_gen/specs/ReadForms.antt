@@ -100,13 +100,13 @@ module _ (items : List Item) where
   usable_is (Some (val.Value r)) v h = h
   usable_is (Some (val.Area a n)) v h = absurd cc
 
-  pointer_bare : (o : Option Val) (v : Val) → option_and_then as_pointer o ≡ Some v → (x : Val) × (o ≡ Some x) × (owned x ≡ [])
+  pub pointer_bare : (o : Option Val) (v : Val) → option_and_then as_pointer o ≡ Some v → (x : Val) × (o ≡ Some x) × (owned x ≡ [])
   pointer_bare None v h = absurd cc
   pointer_bare (Some (val.Word x)) v h = (val.Word x, refl, refl)
   pointer_bare (Some (val.Value r)) v h = absurd cc
   pointer_bare (Some (val.Area a n)) v h = absurd cc
 
-  flags_bare : (by : ℕ) (o : Option Val) (v : Val) → option_and_then (on_bare (as_flags_word by)) o ≡ Some v → (x : Val) × (o ≡ Some x) × (owned x ≡ [])
+  pub flags_bare : (by : ℕ) (o : Option Val) (v : Val) → option_and_then (on_bare (as_flags_word by)) o ≡ Some v → (x : Val) × (o ≡ Some x) × (owned x ≡ [])
   flags_bare by o v h = let (x, is, none, word) = bare_value (as_flags_word by) o v h in (x, is, none)
 
   -- one step on what is read by a name
