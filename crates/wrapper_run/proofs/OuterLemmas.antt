@@ -35,7 +35,7 @@ is_named name l = bytes_eq l.name name
 
 -- 1. What is read by a name
 
-named-append : (name : Bytes) (xs ys : List Local) → local_named name (xs ++ ys) ≡ option_or (local_named name ys) (local_named name xs)
+pub named-append : (name : Bytes) (xs ys : List Local) → local_named name (xs ++ ys) ≡ option_or (local_named name ys) (local_named name xs)
 named-append name [] ys = sym (option_or-None (local_named name ys))
 named-append name (x ∷ xs) ys =
     ap (λ o. option_or o (cond (is_named name x) (Some x) None)) (named-append name xs ys) ∙ option_or-assoc (local_named name ys) (local_named name xs) (cond (is_named name x) (Some x) None)
@@ -50,7 +50,7 @@ read_behind name reached outer later r v e =
 
 -- what owns nothing is not moved, and what does is not one of the first
 
-plain_value : (name : Bytes) (v : Val) (ls : List Local) → OwnNothing ls → value_of (local_named name ls) ≡ Some v → owned v ≡ []
+pub plain_value : (name : Bytes) (v : Val) (ls : List Local) → OwnNothing ls → value_of (local_named name ls) ≡ Some v → owned v ≡ []
 plain_value name v [] plain e = absurd (cc)
 plain_value name v (l ∷ ls) (bare, plain) e = go (plain_value name v ls plain) (local_named name ls) refl (is_named name l) e
   where
