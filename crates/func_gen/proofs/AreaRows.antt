@@ -1,12 +1,12 @@
 -- The law of the return area: it stands in a local, or is placed when its pointer is first taken.
-use Rattle.std.proofs.Common.{◌≡◌, ℕ, ◌<◌, Bool, true, false, if◌then◌else◌, not, ◌&&◌, ◌||◌, nat_eq, ◌%◌, List, [], ◌∷◌, ◌++◌, Option, None, Some, refl, sym, ap, ◌∙◌, subst, arith, rules}
+use Rattle.std.proofs.Common.{◌≡◌, ℕ, ◌<◌, Bool, true, false, if◌then◌else◌, not, ◌&&◌, ◌||◌, nat_eq, ◌%◌, List, [], ◌∷◌, ◌++◌, Option, None, Some, refl, sym, ap, ◌∙◌, subst, arith}
 use Rattle.std.specs.Prelude.{IfSome, option_and_then, option_map, option_to_list, codes}
 use Rattle.std.specs.List.{flat_map}
 use Rattle.std.proofs.lemmas.Bool.{and_parts, not-true}
 use Rattle.wit_model.specs.Bytes.{Bytes}
 use Rattle.wit_model.specs.Size.{alignment_at}
 use Rattle.rust_tree.specs.declared.area.StaticArea.{StaticArea}
-use Rattle.rust_tree.specs.declared.expr.Expr.{Expr, the_lemmas}
+use Rattle.rust_tree.specs.declared.expr.Expr.{Expr}
 use Rattle.rust_tree.specs.declared.expr.Expr.TheVariants as expr
 use Rattle.rust_tree.specs.declared.stmt.Stmt.TheVariants as stmt
 use Rattle.wrapper_data.specs.Heap.{is_block, overlaps_any}
@@ -47,12 +47,13 @@ use Rattle.func_gen.specs.declared.function_bindgen.FunctionBindgen.{FunctionBin
 use Rattle.func_gen.specs.Added.{Appends, Fresh}
 use Rattle.func_gen.specs.Area.{area_pointer, asking}
 use Rattle.func_gen.specs.Forms.{operand_of}
+use Rattle.func_gen.specs.Opened.{in_view}
 use Rattle.func_gen.specs.Meaning.{AreaIs, Denote, File, FuncState, IsArea, account_of, func_meaning, owns_of, run_code, seen, setting_for, static_request}
 use Rattle.func_gen.specs.Emission.{one_local}
 use Rattle.func_gen.specs.Scope.{TakesOne}
 use Rattle.func_gen.proofs.AreaRoom.{more_room}
 use Rattle.func_gen.proofs.Forming.{written}
-use Rattle.func_gen.proofs.Lasting.{owns_with, with_local}
+use Rattle.func_gen.proofs.Lasting.{area_viewed, owns_with, with_local}
 use Rattle.func_gen.proofs.Placed.{owned_placed}
 use Rattle.func_gen.proofs.Rows.{binds, bound, let_adds}
 use Rattle.func_gen.proofs.Steps.{ran, seen_done}
@@ -73,7 +74,7 @@ known : (a : Asked) (b : FunctionBindgen) (w : File) (facts : Facts func_meaning
 known a b w facts s d = record {
   hold = record { right = d.hold.right; apart = d.hold.apart; within = d.hold.within };
   owners = d.owners;
-  area = asked_more b.import w.area s.area b.asked a b.area s.machine d.area;
+  area = asked_more b.import (in_view b.opened w.area) (in_view b.opened s.area) b.asked a b.area s.machine d.area;
 }
 
 noted_grows : (a : Asked) (b : FunctionBindgen) → IsAlignment a.align → Grows func_meaning b (asking a b)
@@ -220,7 +221,8 @@ module _ (a : Asked) (old mid : FunctionBindgen) (n : Bytes) (added : Appends ol
         record {
           hold = record { right = (denotes address).hold.right; apart = (denotes address).hold.apart; within = (denotes address).hold.within };
           owners = owned_placed (area_block address (request_of sa.size sa.align)) some s.machine.heap.blocks s.machine.taken alone stands.holds.owners;
-          area = subst (λ i. AreaIs i w.area None (mid.asked ++ a ∷ []) mid.area (placed_at address later).machine) (sym (added.import ∙ export)) (λ e. absurd (not_asked_no_more mid.asked e));
+          area = area_viewed mid.opened mid.import w.area None (mid.asked ++ a ∷ []) mid.area (placed_at address later).machine
+              (subst (λ i. AreaIs i w.area None (mid.asked ++ a ∷ []) mid.area (placed_at address later).machine) (sym (added.import ∙ export)) (λ e. absurd (not_asked_no_more mid.asked e)));
         },
       )
         where
@@ -270,8 +272,8 @@ module _ (a : Asked) (old mid : FunctionBindgen) (n : Bytes) (added : Appends ol
     points false e (Some address) f first h = absurd h
 
   -- the statement, and then the note
-  pub points_to : TakesOne old.scope (codes "ptr") n mid.scope → PointsTo func_meaning a (operand_of (expr.Local n)) old (asking a mid)
-  points_to one =
+  pub points_to : old.opened ≡ [] → TakesOne old.scope (codes "ptr") n mid.scope → PointsTo func_meaning a (operand_of (expr.Local n)) old (asking a mid)
+  points_to closed one =
       let writes = written old mid (operand_of (expr.Local n) ∷ []) (one_local (codes "ptr") (area_pointer old) []) one.number one.takes (subst (λ x. Appends old mid (stmt.Let x (area_pointer old) ∷ []) []) one.is added) (ap (λ x. operand_of (expr.Local x) ∷ []) one.is) in
       let adds = let_adds old mid n (area_pointer old) [] added fresh (quiet_pointer old) in
       let noted = noted_grows a mid aligned in
@@ -283,11 +285,12 @@ module _ (a : Asked) (old mid : FunctionBindgen) (n : Bytes) (added : Appends ol
         asked = ap (λ asked. asked ++ a ∷ []) added.asked;
         blocks = refl;
         form = record {
-          code = record { code = one_local (codes "ptr") (area_pointer old) []; is = refl; writes = record { number = writes.number; takes = writes.takes; call = writes.call; stmts = writes.stmts; runtime = writes.runtime; results = writes.results } };
+          code = record { code = one_local (codes "ptr") (area_pointer old) []; is = refl; writes = record { number = writes.number; takes = writes.takes; call = writes.call; stmts = writes.stmts; runtime = writes.runtime; results = writes.results; opened = writes.opened } };
           still = record { import = added.import; home = added.home; area = added.area; params = added.params; sites = added.sites; sizes = added.sizes };
           given = tt;
         };
         row = λ w p others s0 s at stands here first.
             let outside = (seen_done s0.area (run_code (setting_for w p) w.bound old.code s0.machine) s stands.done).1 ∙ here in
-            points w p others s0 s stands old.import refl at outside first (subst (λ x. AreaIs old.import w.area x old.asked old.area s.machine) outside stands.holds.area);
+            let here = subst (λ os. AreaIs old.import (in_view os w.area) (in_view os s.area) old.asked old.area s.machine) closed stands.holds.area in
+            points w p others s0 s stands old.import refl at outside first (subst (λ x. AreaIs old.import w.area x old.asked old.area s.machine) outside here);
       }

@@ -50,6 +50,7 @@ use Rattle.func_gen.specs.FactLemmas.{is_said}
 use Rattle.func_gen.specs.Facts.{AreOwned, Hold, IsThere}
 use Rattle.func_gen.specs.Formed.{CallsSome}
 use Rattle.func_gen.specs.Forms.{operand_of}
+use Rattle.func_gen.specs.Opened.{in_view}
 use Rattle.func_gen.specs.Meaning.{Denote, File, FuncState, account_of, answer_of, call_of, func_meaning, owns_of, seen, setting_for, target_of}
 use Rattle.func_gen.specs.Read.{Read, env_of}
 use Rattle.func_gen.specs.ReadForms.{read-local}
@@ -150,7 +151,7 @@ answered_denotes : (file : File) (old new : FunctionBindgen) (before facts : Fac
     → t.heap ≡ answered blocks writes s.machine.heap → Denote file old before s → Hold file.items new facts t → Denote file new facts (record { machine = t; area = s.area })
 answered_denotes file old new before facts s t writes blocks same beside is h hold =
     let d = denotes_on file old new before facts s (record t { heap = s.machine.heap }) same beside h (record { right = hold.right; apart = hold.apart; within = hold.within }) in
-    record { hold = hold; owners = subst (λ hp. AreOwned hp.blocks t.taken) (sym is) (owned_still s.machine.heap.blocks blocks writes t.taken d.owners); area = area_lasts new.import file.area s.area new.asked new.area (record t { heap = s.machine.heap }) t (λ n v e. e) refl d.area }
+    record { hold = hold; owners = subst (λ hp. AreOwned hp.blocks t.taken) (sym is) (owned_still s.machine.heap.blocks blocks writes t.taken d.owners); area = area_lasts new.import (in_view new.opened file.area) (in_view new.opened s.area) new.asked new.area (record t { heap = s.machine.heap }) t (λ n v e. e) refl d.area }
 
 module _ (old new : FunctionBindgen) (file : File) (p : Peer RustValue) (d : ImportDecl) (s : FuncState) (ws : List Word) (others : Facts func_meaning) where
   abbrev goal : Target

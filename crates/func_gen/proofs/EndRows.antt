@@ -68,7 +68,7 @@ module _ (os : List ExprOperand) (b : FunctionBindgen) where
     form = record {
       still = record { import = refl; home = refl; area = refl; params = refl; sites = refl; sizes = refl };
       given = many;
-      code = record { code = λ t. nothing; is = refl; writes = record { number = b.scope.next; takes = takes_none b.scope b.scope refl; call = refl; stmts = sym (append-nil b.code.stmts); runtime = sym (append-nil b.runtime); results = refl } };
+      code = record { code = λ t. nothing; is = refl; writes = record { number = b.scope.next; takes = takes_none b.scope b.scope refl; call = refl; stmts = sym (append-nil b.code.stmts); runtime = sym (append-nil b.runtime); results = refl; opened = refl } };
     };
     row = λ ds w p others s0 s at. (s, at.done, (ofs func_meaning os ds, refl, record { account = refl; owns = λ x. refl; denotes = known_giving w (ofs func_meaning os ds ++ others) s at.holds }));
   }

@@ -36,6 +36,7 @@ use Rattle.func_gen.specs.FactLemmas.{Says, is_said}
 use Rattle.func_gen.specs.Facts.{AreOwned, Hold, item_of}
 use Rattle.func_gen.specs.FlushForms.{flush_prefix, lets_of}
 use Rattle.func_gen.specs.Forms.{operand_of}
+use Rattle.func_gen.specs.Opened.{in_view}
 use Rattle.func_gen.specs.Meaning.{account_of, func_meaning, owns_of, seen, setting_for}
 use Rattle.func_gen.specs.Operand.{is_operand}
 use Rattle.func_gen.specs.PartForms.{are_operands, exprs_of, locals_of, names_from}
@@ -165,7 +166,7 @@ module _ (old new : FunctionBindgen) (names : List Bytes) (os : List ExprOperand
               hold = lasts w.items (using old names) new (facts ++ others) r.then r.then (a.params ∙ sym (using_params old names)) (λ n v h. h)
                   (λ n fr. r.holds.within n (sym (ap (λ us. is_used us n) (fresh.used ∙ sym (using_used old names))) ∙ fr)) r.holds;
               owners = subst (λ (acc : Account RustValue). AreOwned acc.heap.blocks acc.taken) (sym r.account) at.holds.owners;
-              area = areas_last new.import w.area s.area new.asked new.area s.machine r.then r.areas r.place (area_same w old new s.area s.machine (same_area old new stmts [] a) at.holds.area);
+              area = areas_last new.import (in_view new.opened w.area) (in_view new.opened s.area) new.asked new.area s.machine r.then r.areas r.place (area_same w old new s.area s.machine (same_area old new stmts [] a) at.holds.area);
             };
           },
         ),

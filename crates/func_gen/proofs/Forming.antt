@@ -71,7 +71,7 @@ still_of old new added items a = record { import = a.import; home = a.home; area
 
 pub written : (old new : FunctionBindgen) (rs : List ExprOperand) (code : ℕ → Emission) (t : ℕ) → Takes old.scope (λ k. (code k).names) t new.scope → Appends old new (code t).stmts (code t).items
     → rs ≡ map operand_of (code t).results → Writes code rs old new
-written old new rs code t takes a same = record { number = t; takes = takes; call = a.call; stmts = a.stmts; runtime = a.runtime; results = same }
+written old new rs code t takes a same = record { number = t; takes = takes; call = a.call; stmts = a.stmts; runtime = a.runtime; results = same; opened = a.opened }
 
 module _ (step : Sent) (plain : IsPlain step) (os : List ExprOperand) (old new : FunctionBindgen) where
   pub form_of : (rs : List ExprOperand) (code : ℕ → Emission) → emitted old step (exprs_of os) ≡ Some code → StillOf old new → Writes code rs old new → Formed step os rs old new

@@ -29,8 +29,10 @@ pub mod MethodRows
 pub mod MethodValues
 pub mod Moves
 pub mod Moving
+pub mod NameRows
 pub mod Narrowed
 pub mod Normals
+pub mod Opening
 pub mod PartNames
 pub mod PartRows
 pub mod PartsTaken

@@ -24,7 +24,6 @@ use Rattle.rust_tree.specs.declared.type_expr.TypeExpr.TheVariants as type
 use Rattle.wrapper_data.specs.declared.block.Block.{Block}
 use Rattle.wrapper_data.specs.declared.choice.Request.{Request}
 use Rattle.wrapper_data.specs.declared.heap.Heap.{Heap}
-use Rattle.wrapper_data.specs.declared.run.CallPoint.{CallPoint}
 use Rattle.wrapper_data.specs.declared.run.Stop.TheVariants as stop_of
 use Rattle.wrapper_data.specs.declared.run.Target.TheVariants as target
 use Rattle.wrapper_data.specs.declared.value.RustValue.{RustValue}
@@ -43,7 +42,7 @@ use Rattle.wrapper_values.specs.Setting.{Setting, stuck}
 use Rattle.wrapper_run.specs.Blocks.{free_all, keep_locals, leave_to}
 use Rattle.wrapper_run.specs.ExportRun.{call_method, call_with, keep_result, method_call, method_in, method_named, method_point, passed_as, returned_of, take_value, values_of}
 use Rattle.wrapper_run.specs.Memory.{block_from}
-use Rattle.wrapper_run.specs.Run.{record_call, run_stmts}
+use Rattle.wrapper_run.specs.Run.{run_stmts}
 use Rattle.wrapper_run.proofs.LocalLemmas.{bytes_eq-same, reads-new}
 use Rattle.wrapper_run.proofs.MethodLemmas.{answered_by, called_with, method_gives, point_of, quiet_taken, returned-unit, value_gives}
 use Rattle.wrapper_run.proofs.OwningLemmas.{ArePlain, drops_plain}
@@ -66,6 +65,7 @@ use Rattle.func_gen.specs.CallForms.{exprs}
 use Rattle.func_gen.specs.FactLemmas.{Says, one_at_most, said}
 use Rattle.func_gen.specs.Facts.{AreOwned, IsThere, item_of, matches}
 use Rattle.func_gen.specs.Forms.{operand_of}
+use Rattle.func_gen.specs.Opened.{in_view, open_blocks}
 use Rattle.func_gen.specs.Meaning.{AreaIs, Denote, File, Found, FuncState, GivesAsCalled, account_of, answer_of, call_of, func_meaning, owns_of, run_code, run_head, seen, setting_for, target_of}
 use Rattle.func_gen.specs.MethodForms.{CallsIn, call_block, is_uncalled}
 use Rattle.func_gen.specs.Read.{Env, Read, env_of, less, read}
@@ -128,7 +128,7 @@ module _ (f : Function) (os : List ExprOperand) (held : Option Bytes) (old new :
   module _ (names : (n : Bytes) → is_used new.scope.used n ≡ false → is_used old.scope.used n ≡ false) where
     known : (w : File) (facts : Facts func_meaning) (s : FuncState) → Denote w old facts s → Denote w new facts s
     known w facts s h =
-        denotes_on w old new facts facts s s.machine (record { import = a.import; asked = a.asked; name = a.area }) (unmoved s.machine) h
+        denotes_on w old new facts facts s s.machine (record { import = a.import; asked = a.asked; name = a.area; opened = a.opened }) (unmoved s.machine) h
         (lasts w.items old new facts s.machine s.machine a.params (λ n v e. e) (λ n free. h.hold.within n (names n free)) h.hold)
 
     -- where the old code stops, the block does: its statements come first
@@ -166,7 +166,7 @@ module _ (f : Function) (os : List ExprOperand) (held : Option Bytes) (old new :
       knows = λ types h. subst (λ sizes. IsFilledFor sizes types) (sym a.sizes) h;
       target = λ g. ap₂ (λ import home. if import then target.Core home g.name.wit else target.Method home (rust_ident g.name)) a.import a.home;
       crosses = λ w g. refl;
-      opened = refl;
+      opened = ap open_blocks a.opened;
       known = known;
     }
 
@@ -322,7 +322,7 @@ module _ (f : Function) (os : List ExprOperand) (held : Option Bytes) (old new :
         all_plain u.then.locals (both_empty (option_to_list u.then.place) (locals_own u.then.locals) none)
 
     unplaced : u.then.place ≡ None
-    unplaced = u.place ∙ not_placed old.import export w.area s.area old.asked unasked old.area s.machine at.holds.area
+    unplaced = u.place ∙ not_placed old.import export (in_view old.opened w.area) (in_view old.opened s.area) old.asked unasked old.area s.machine at.holds.area
 
     ended : (v : Val) (t : State) → ArePlain t.locals → ending held set kept (machine.Done v t) ≡ and_then (keep_result set held v (record t { locals = take kept t.locals })) (λ u. pure tt)
     ended v t h = ap (λ o. and_then (and_then (and_then o (λ u. pure v)) (keep_result set held)) (λ u. pure tt)) (leaves set kept t h)
@@ -331,14 +331,15 @@ module _ (f : Function) (os : List ExprOperand) (held : Option Bytes) (old new :
     within : (n : Bytes) → is_used old.scope.used n ≡ false → local_named n (take kept u.then.locals) ≡ None
     within n free = take_none (λ (l : Local). bytes_eq l.name n) kept u.then.locals (u.holds.within n free)
 
-    area_there : (t : State) → t.place ≡ u.then.place → AreaIs new.import w.area s0.area new.asked new.area t
+    area_there : (t : State) → t.place ≡ u.then.place → AreaIs new.import (in_view new.opened w.area) (in_view new.opened s0.area) new.asked new.area t
     area_there t same =
         let before = seen_done s0.area (run_code set w.bound old.code s0.machine) s at.done in
-        let here = area_same w old new s.area s.machine (record { import = a.import; asked = a.asked; name = a.area }) at.holds.area in
+        let here = area_same w old new s.area s.machine (record { import = a.import; asked = a.asked; name = a.area; opened = a.opened }) at.holds.area in
         let is_false : new.import ≡ false = a.import ∙ export in
-        subst (λ i. AreaIs i w.area s0.area new.asked new.area t) (sym is_false)
-        (area_of_export w.area s0.area new.asked new.area s.machine t (same ∙ u.place)
-        (subst (λ at. AreaIs false w.area at new.asked new.area s.machine) before.1 (subst (λ i. AreaIs i w.area s.area new.asked new.area s.machine) is_false here)))
+        subst (λ i. AreaIs i (in_view new.opened w.area) (in_view new.opened s0.area) new.asked new.area t) (sym is_false)
+        (area_of_export (in_view new.opened w.area) (in_view new.opened s0.area) new.asked new.area s.machine t (same ∙ u.place)
+        (subst (λ at. AreaIs false (in_view new.opened w.area) (in_view new.opened at) new.asked new.area s.machine) before.1
+        (subst (λ i. AreaIs i (in_view new.opened w.area) (in_view new.opened s.area) new.asked new.area s.machine) is_false here)))
 
     abbrev Handed : Option Bytes → Got RustValue (List RustValue) → FuncState → Type 0
     Handed h x t = (account_of t.machine ≡ x.account) × ((g : ℕ → ℕ) → total g (owns_of t.machine) ≡ total g (flat_map owned_by x.result)) × Denote w new (ofs func_meaning (results h) (item_data func_meaning x.result)) t
@@ -509,7 +510,7 @@ NamedBy (Some n) old new = TakesOne old.scope (codes "result") n new.scope
 
 becomes : (f : Function) (os : List ExprOperand) (due : Option WitType) (held : Option Bytes) (old new : FunctionBindgen) → CallsIn f (exprs os) held old new → old.code.call ≡ None → length (option_to_list due) ≡ length (option_to_list held) → NamedBy held old new
     → CallsMethod due f os (results held) old new
-becomes f os None None old new a first same named = record { number = old.scope.next; takes = takes_none old.scope new.scope named; first = first; code = a.code; runtime = a.runtime; results = refl }
+becomes f os None None old new a first same named = record { number = old.scope.next; takes = takes_none old.scope new.scope named; first = first; code = a.code; runtime = a.runtime; results = refl; opened = a.opened }
 becomes f os None (Some n) old new a first same named = absurd cc
 becomes f os (Some ty) None old new a first same named = absurd cc
 becomes f os (Some ty) (Some n) old new a first same named = record {
@@ -519,6 +520,7 @@ becomes f os (Some ty) (Some n) old new a first same named = record {
   code = (subst (λ x. CallsIn f (exprs os) (Some x) old new) named.is a).code;
   runtime = a.runtime;
   results = ap (λ x. operand_of (expr.Local x) ∷ []) named.is;
+  opened = a.opened;
 }
 
 pub method_row : (types : List TypeDef) (f : Bor Function) (os : List ExprOperand) (held : Option Bytes) (old new : FunctionBindgen) → CallsIn f.now (exprs os) held old new → is_uncalled old.code.call old.asked ≡ true → old.import ≡ false

@@ -10,7 +10,6 @@ use Rattle.rust_tree.specs.declared.expr.Expr.TheVariants.{rolls-Call, rolls-Cas
 use Rattle.rust_tree.specs.declared.item.Item.{Item}
 use Rattle.rust_tree.specs.declared.path.Path.{Path}
 use Rattle.wrapper_data.specs.declared.value.RustValue.{RustValue}
-use Rattle.wrapper_data.specs.declared.word.Word.{Word}
 use Rattle.wrapper_meaning.specs.Items.{total}
 use Rattle.wrapper_values.specs.declared.state.Val.{Val}
 use Rattle.wrapper_values.specs.declared.state.Val.TheVariants as val
@@ -93,19 +92,19 @@ module _ (items : List Item) (a b c : Env) (kept : (n : Bytes) (y z : Val) → a
   narrows = ind-Expr Narrows (λ l y is. step (λ e. e.0) (λ e. e.1) l y is)
 
   -- facts of words
-  module _ (params : List ParamSite) where
-    word_narrowed : (f : Fact ExprOperand Slot RustValue) → IsOfWord f → wrong items params a f ≡ 0 → wrong items params b f ≡ 0 → wrong items params c f ≡ 0
+  module _ (pa pb pc : List ParamSite) where
+    word_narrowed : (f : Fact ExprOperand Slot RustValue) → IsOfWord f → wrong items pa a f ≡ 0 → wrong items pb b f ≡ 0 → wrong items pc c f ≡ 0
     word_narrowed (of o (word x)) t ha hb =
-        said items params c (of o (word x)) (narrows o.expr (val.Word x) (val.Word x) (is_said items params a (of o (word x)) ha) (is_said items params b (of o (word x)) hb) refl)
+        said items pc c (of o (word x)) (narrows o.expr (val.Word x) (val.Word x) (is_said items pa a (of o (word x)) ha) (is_said items pb b (of o (word x)) hb) refl)
     word_narrowed (of o (item r)) t ha hb = absurd t
     word_narrowed (arg n d) t ha hb = absurd t
     word_narrowed (bound slot name (item r)) t ha hb = absurd t
-    word_narrowed (bound slot name (word x)) t ha hb = said items params c (bound slot name (word x)) (reads _ (is_said items params a (bound slot name (word x)) ha) (is_said items params b (bound slot name (word x)) hb))
+    word_narrowed (bound slot name (word x)) t ha hb = said items pc c (bound slot name (word x)) (reads _ (is_said items pa a (bound slot name (word x)) ha) (is_said items pb b (bound slot name (word x)) hb))
       where
         reads : (k : Bytes) → option_and_then usable (a k) ≡ Some (val.Word x) → option_and_then usable (b k) ≡ Some (val.Word x) → option_and_then usable (c k) ≡ Some (val.Word x)
         reads k ha hb = ap (option_and_then usable) (kept k (val.Word x) (val.Word x) (usable_is items (a k) (val.Word x) ha) (usable_is items (b k) (val.Word x) hb) refl)
 
-    pub words_narrowed : (facts : List (Fact ExprOperand Slot RustValue)) → AllByRecursion IsOfWord facts → total (wrong items params a) facts ≡ 0 → total (wrong items params b) facts ≡ 0 → total (wrong items params c) facts ≡ 0
+    pub words_narrowed : (facts : List (Fact ExprOperand Slot RustValue)) → AllByRecursion IsOfWord facts → total (wrong items pa a) facts ≡ 0 → total (wrong items pb b) facts ≡ 0 → total (wrong items pc c) facts ≡ 0
     words_narrowed [] t ha hb = refl
     words_narrowed (f ∷ facts) t ha hb =
         omega (arith, word_narrowed f t.0 (omega (arith, ha)) (omega (arith, hb)), words_narrowed facts t.1 (omega (arith, ha)) (omega (arith, hb)))

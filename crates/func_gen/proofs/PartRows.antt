@@ -50,6 +50,7 @@ use Rattle.func_gen.specs.declared.operand.ExprOperand.{ExprOperand}
 use Rattle.func_gen.specs.Added.{Appends, Fresh}
 use Rattle.func_gen.specs.Facts.{AreOwned}
 use Rattle.func_gen.specs.Forms.{operand_of}
+use Rattle.func_gen.specs.Opened.{in_view}
 use Rattle.func_gen.specs.Meaning.{AreaIs, File, IsNormal, Serves, func_meaning, owns_of, passing_level, seen, setting_for}
 use Rattle.func_gen.specs.Operand.{is_operand}
 use Rattle.func_gen.specs.PartForms.{are_operands, exprs_of}
@@ -187,7 +188,7 @@ module _ (old new : FunctionBindgen) (n : Bytes) (os : List ExprOperand) (e : Ex
             denotes = record {
               hold = add_local w.items old new others u.then n v (item (value.Struct rs)) a.params fresh refl u.holds;
               owners = subst (λ (acc : Account RustValue). AreOwned acc.heap.blocks acc.taken) (sym u.account) at.holds.owners;
-              area = areas_last new.import w.area s.area new.asked new.area s.machine t (λ k x z is. under k (val.Area x z) (u.areas k x z is)) u.place
+              area = areas_last new.import (in_view new.opened w.area) (in_view new.opened s.area) new.asked new.area s.machine t (λ k x z is. under k (val.Area x z) (u.areas k x z is)) u.place
                   (area_same w old new s.area s.machine (same_area old new (stmt.Let n e ∷ []) [] a) at.holds.area);
             };
           },

@@ -54,6 +54,7 @@ use Rattle.func_gen.specs.CallForms.{FreshAll}
 use Rattle.func_gen.specs.Facts.{AreOwned, Hold}
 use Rattle.func_gen.specs.Forms.{operand_of}
 use Rattle.func_gen.specs.StandLemmas.{owned-struct}
+use Rattle.func_gen.specs.Opened.{in_view}
 use Rattle.func_gen.specs.Meaning.{File, IsNormal, Serves, func_meaning, owns_of, passing_level, seen, setting_for}
 use Rattle.func_gen.specs.Added.{Appends}
 use Rattle.func_gen.specs.Operand.{is_operand}
@@ -274,7 +275,7 @@ module _ (old new : FunctionBindgen) (pat : Pattern) (names : List Bytes) (e : E
               hold = lasts w.items (using old names) new (facts ++ others) t t (a.params ∙ sym (using_params old names)) (λ n v h. h)
                   (λ n fr. added.within n (sym (ap (λ us. is_used us n) (fresh.used ∙ sym (using_used old names))) ∙ fr)) added;
               owners = subst (λ (acc : Account RustValue). AreOwned acc.heap.blocks acc.taken) (sym u.account) at.holds.owners;
-              area = areas_last new.import w.area s.area new.asked new.area s.machine t (λ k x z h. under k (val.Area x z) (u.areas k x z h)) u.place (area_same w old new s.area s.machine (same_area old new stmts [] a) at.holds.area);
+              area = areas_last new.import (in_view new.opened w.area) (in_view new.opened s.area) new.asked new.area s.machine t (λ k x z h. under k (val.Area x z) (u.areas k x z h)) u.place (area_same w old new s.area s.machine (same_area old new stmts [] a) at.holds.area);
             };
           },
         ),

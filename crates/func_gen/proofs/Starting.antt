@@ -33,6 +33,8 @@ use Rattle.func_gen.specs.declared.function_bindgen.FunctionBindgen.{FunctionBin
 use Rattle.func_gen.specs.declared.function_bindgen.ParamSite.{ParamSite}
 use Rattle.func_gen.specs.FactLemmas.{Says, said}
 use Rattle.func_gen.specs.Facts.{AreOwned, IsThere, Owns, wrong}
+use Rattle.func_gen.specs.Opened.{open_blocks}
+use Rattle.func_gen.proofs.Lasting.{area_viewed}
 use Rattle.func_gen.specs.Meaning.{AreaIs, Denote, File, Found, FuncState, GivesAsCalled, IsArea, Serves, account_of, call_of, func_meaning, owns_of, static_request}
 use Rattle.func_gen.specs.Read.{Env, Read, bare, bare_or, env_of, lent_bare, less, on_bare, read}
 use Rattle.func_gen.specs.ReadForms.{read-local, read-ref, still_there}
@@ -183,7 +185,7 @@ module _ (b : FunctionBindgen) (unasked : b.asked ≡ []) (used : (n : Bytes) �
           within = within;
         };
         owners = owners;
-        area = area;
+        area = area_viewed b.opened b.import w.area s.area b.asked b.area s.machine area;
       }
 
   -- without an area that stands
@@ -234,9 +236,9 @@ module _ (b : FunctionBindgen) (unasked : b.asked ≡ []) (used : (n : Bytes) �
   start w ds acc (Some address) sv len l taken g false i area a h = absurd h
 
   -- a file of no more than definitions of types serves it
-  pub func_new : b.code ≡ record { call = None; stmts = [] } → b.returned ≡ None → b.runtime ≡ [] → CanBeDefined b.sites → IsNew func_meaning b
-  func_new empty endless runtime (defs, defined) = record {
-    closed = refl;
+  pub func_new : b.code ≡ record { call = None; stmts = [] } → b.returned ≡ None → b.runtime ≡ [] → b.opened ≡ [] → CanBeDefined b.sites → IsNew func_meaning b
+  func_new empty endless runtime closed (defs, defined) = record {
+    closed = ap open_blocks closed;
     unfinished = refl;
     empty = empty;
     endless = endless;

@@ -22,6 +22,7 @@ use Rattle.abi_driver.specs.Laws.{Adds, At, Facts, Grows}
 use Rattle.func_gen.specs.declared.function_bindgen.Code.{Code}
 use Rattle.func_gen.specs.declared.function_bindgen.FunctionBindgen.{FunctionBindgen}
 use Rattle.func_gen.specs.Added.{Appends}
+use Rattle.func_gen.specs.Opened.{open_blocks}
 use Rattle.func_gen.specs.Meaning.{Denote, File, Found, FuncState, GivesAsCalled, Serves, call_of, func_meaning, run_code, run_head, seen, setting_for, static_request}
 use Rattle.func_gen.specs.TypeSites.{AreDefined}
 use Rattle.func_gen.specs.Scope.{is_used}
@@ -122,12 +123,12 @@ module _ (old new : FunctionBindgen) (added : List Stmt) (items : List RuntimeIt
   -- what was known of a state is known of it, where no name became free
   known : ((n : Bytes) → is_used new.scope.used n ≡ false → is_used old.scope.used n ≡ false) → (w : File) (facts : Facts func_meaning) (s : FuncState) → Denote w old facts s → Denote w new facts s
   known names w facts s h =
-      denotes_on w old new facts facts s s.machine (record { import = a.import; asked = a.asked; name = a.area }) (record { heap = refl; taken = refl; place = refl; under = λ n v e. e }) h
+      denotes_on w old new facts facts s s.machine (record { import = a.import; asked = a.asked; name = a.area; opened = a.opened }) (record { heap = refl; taken = refl; place = refl; under = λ n v e. e }) h
       (lasts w.items old new facts s.machine s.machine a.params (λ n v e. e) (λ n free. h.hold.within n (names n free)) h.hold)
 
   pub func_grows : ((n : Bytes) → is_used new.scope.used n ≡ false → is_used old.scope.used n ≡ false) → Grows func_meaning old new
   func_grows names = record {
-    opened = refl;
+    opened = ap open_blocks a.opened;
     known = known names;
     serves = serves_old;
     more = serves_more;

@@ -59,6 +59,7 @@ use Rattle.func_gen.specs.CallForms.{FreshAll}
 use Rattle.func_gen.specs.FactLemmas.{is_said}
 use Rattle.func_gen.specs.Facts.{AreOwned, Hold, IsThere}
 use Rattle.func_gen.specs.Forms.{operand_of, runtime_call, runtime_path}
+use Rattle.func_gen.specs.Opened.{in_view}
 use Rattle.func_gen.specs.Meaning.{Denote, File, Found, FuncState, StandsAsItIs, account_of, func_meaning, owns_of, seen, setting_for}
 use Rattle.func_gen.specs.Operand.{is_operand}
 use Rattle.func_gen.specs.Read.{env_of}
@@ -266,7 +267,7 @@ module _ (w : File) (q : Peer RustValue) (old new : FunctionBindgen) (a n : Expr
             denotes = record {
               hold = hold_as w.items named new (text_fact k ∷ others) u adds.params (three_used old new (len_name t) (bytes_name t) (text_name t) fresh) x.holds;
               owners = subst (λ (z : Account RustValue). AreOwned z.heap.blocks z.taken) (sym x.account) owners;
-              area = areas_last new.import w.area s.area new.asked new.area s.machine u x.areas x.place (area_same w old new s.area s.machine (same_area old new (taken_stmts t a n) taking_items adds) d.area);
+              area = areas_last new.import (in_view new.opened w.area) (in_view new.opened s.area) new.asked new.area s.machine u x.areas x.place (area_same w old new s.area s.machine (same_area old new (taken_stmts t a n) taking_items adds) d.area);
             };
           },
         ),

@@ -37,6 +37,7 @@ use Rattle.func_gen.specs.Added.{Appends}
 use Rattle.func_gen.specs.CallForms.{FreshAll}
 use Rattle.func_gen.specs.Facts.{AreOwned, Hold}
 use Rattle.func_gen.specs.Forms.{operand_of}
+use Rattle.func_gen.specs.Opened.{in_view}
 use Rattle.func_gen.specs.Meaning.{account_of, call_of, func_meaning, owns_of, passing_level, seen, setting_for}
 use Rattle.func_gen.specs.Operand.{is_operand}
 use Rattle.func_gen.specs.Read.{env_of}
@@ -88,7 +89,7 @@ module _ (types : List TypeDef) (old new : FunctionBindgen) (e : Expr) (t : ℕ)
             denotes = record {
               hold = hold_as w.items (with_three old (vec_name t) (ptr_name t) (len_name t)) new facts u a.params (three_used old new (vec_name t) (ptr_name t) (len_name t) f) few;
               owners = subst (λ (acc : Account RustValue). AreOwned acc.heap.blocks acc.taken) (sym x.account) at.holds.owners;
-              area = areas_last new.import w.area s.area new.asked new.area s.machine u (λ k y z is. buffer_under w.items old t lent_names p n false others x.then x.holds k (val.Area y z) (x.areas k y z is)) x.place
+              area = areas_last new.import (in_view new.opened w.area) (in_view new.opened s.area) new.asked new.area s.machine u (λ k y z is. buffer_under w.items old t lent_names p n false others x.then x.holds k (val.Area y z) (x.areas k y z is)) x.place
                   (area_same w old new s.area s.machine (same_area old new (buffer_stmts t e) [] a) at.holds.area);
             };
           },
@@ -194,7 +195,7 @@ module _ (types : List TypeDef) (old new : FunctionBindgen) (name : Bytes) (t : 
                 denotes = record {
                   hold = record { right = held.right; apart = held.apart; within = held.within };
                   owners = owners;
-                  area = areas_last new.import w.area s.area new.asked new.area s.machine u m.areas m.place (area_same w old new s.area s.machine (same_area old new (given_stmts t name) [] a) at.holds.area);
+                  area = areas_last new.import (in_view new.opened w.area) (in_view new.opened s.area) new.asked new.area s.machine u m.areas m.place (area_same w old new s.area s.machine (same_area old new (given_stmts t name) [] a) at.holds.area);
                 };
               },
             ),

@@ -19,6 +19,7 @@ pub record Appends (old new : FunctionBindgen) (added : List Stmt) (items : List
   pub sizes : new.sizes ≡ old.sizes
   pub asked : new.asked ≡ old.asked
   pub returned : new.returned ≡ old.returned
+  pub opened : new.opened ≡ old.opened
 
 -- a name was free, and is used then
 pub record Fresh (old new : FunctionBindgen) (n : Bytes) : Type 0 where

@@ -11,7 +11,8 @@ use Rattle.rust_tree.specs.declared.expr.SmallType.TheVariants as small
 use Rattle.rust_tree.specs.declared.pattern.Pattern.TheVariants as pattern
 use Rattle.rust_tree.specs.declared.runtime_item.RuntimeItem.TheVariants.{AsF32, AsF64, AsI32, AsI64, BoolLift, CabiDealloc, CharLift}
 use Rattle.rust_tree.specs.declared.stmt.Stmt.TheVariants as stmt
-use Rattle.abi_driver.specs.declared.instruction.Instruction.TheVariants.{BoolFromI32, CharFromI32, CoreF32FromF32, CoreF64FromF64, EnumLift, EnumLower, F32FromCoreF32, F32Load, F32Store, F64FromCoreF64, F64Load, F64Store, FlagsLift, FlagsLower, Flush, GetArg, GuestDeallocate, GuestDeallocateString, I32FromBool, I32FromChar, I32FromS16, I32FromS32, I32FromS8, I32FromU16, I32FromU32, I32FromU8, I32Load, I32Load16S, I32Load16U, I32Load8S, I32Load8U, I32Store, I32Store16, I32Store8, I64FromS64, I64FromU64, I64Load, I64Store, LengthLoad, LengthStore, PointerLoad, PointerStore, RecordLift, RecordLower, Return, S16FromI32, S32FromI32, S64FromI64, S8FromI32, StringLift, StringLower, TupleLift, TupleLower, U16FromI32, U32FromI32, U64FromI64, U8FromI32}
+use Rattle.abi_driver.specs.declared.instruction.Instruction.TheVariants.{BoolFromI32, CharFromI32, CoreF32FromF32, CoreF64FromF64, EnumLift, EnumLower, F32FromCoreF32, F32Load, F32Store, F64FromCoreF64, F64Load, F64Store, FlagsLift, FlagsLower, Flush, GetArg, GuestDeallocate, GuestDeallocateString, I32FromBool, I32FromChar, I32FromS16, I32FromS32, I32FromS8, I32FromU16, I32FromU32, I32FromU8, I32Load, I32Load16S, I32Load16U, I32Load8S, I32Load8U, I32Store, I32Store16, I32Store8, I64FromS64, I64FromU64, I64Load, I64Store, IterBasePointer, IterElem, IterMapKey, IterMapValue, LengthLoad, LengthStore, PointerLoad, PointerStore, RecordLift, RecordLower, Return, S16FromI32, S32FromI32, S64FromI64, S8FromI32, StringLift, StringLower, TupleLift, TupleLower, U16FromI32, U32FromI32, U64FromI64, U8FromI32, VariantPayloadName}
+use Rattle.abi_driver.specs.Meaning.{Name, the_base, the_element, the_key, the_payload, the_value}
 use Rattle.abi_driver.specs.Sent.{Sent, asks, sends}
 use Rattle.func_gen.specs.declared.function_bindgen.FunctionBindgen.{FunctionBindgen}
 use Rattle.func_gen.specs.declared.function_bindgen.ParamSite.{ParamSite}
@@ -24,8 +25,10 @@ use Rattle.func_gen.specs.FlagsForms.{flags_at, lifts_flags, lowers_flags}
 use Rattle.func_gen.specs.FlushForms.{flush_prefix, lets_of}
 use Rattle.func_gen.specs.Forms.{runtime_call}
 use Rattle.func_gen.specs.MemoryForms.{block_freed, text_freed}
+use Rattle.func_gen.specs.Opened.{innermost}
 use Rattle.func_gen.specs.PartForms.{names_from, part_prefix}
 use Rattle.func_gen.specs.RecordForms.{locals_for, record_at}
+use Rattle.func_gen.specs.Slot.{slot_name}
 use Rattle.func_gen.specs.TextForms.{buffer_names, buffer_stmts, given_stmts, len_name, ptr_name, taken_names, taken_stmts, taking_items, text_name}
 
 -- 1. Forms of several statements
@@ -73,6 +76,10 @@ calls_core b f params (Some ty) es t = record {
   results = expr.Local (ret_name t) ∷ [];
   items = [];
 }
+
+-- the local of a name of the innermost open block
+abbrev pub names_local : FunctionBindgen → Name → Option (ℕ → Emission)
+names_local b name = option_map (λ (k : ℕ). λ t. alone (expr.Local (slot_name name k))) (innermost b.opened)
 
 -- 2. Each step, by the expressions of its operands. Of calls there is none here: which core words are passed, a step doesn't tell
 
@@ -136,4 +143,9 @@ emitted b (sends (PointerStore o)) (a ∷ at ∷ []) = Some (λ t. effect (stmt.
 emitted b (sends (LengthStore o)) (a ∷ at ∷ []) = Some (λ t. effect (stmt.Store at o wasm.Length a) [])
 emitted b (sends (GuestDeallocate size align)) (a ∷ []) = Some (λ t. effect (stmt.Expr (block_freed a size align)) (CabiDealloc ∷ []))
 emitted b (sends GuestDeallocateString) (a ∷ n ∷ []) = Some (λ t. effect (stmt.Expr (text_freed a n)) (CabiDealloc ∷ []))
+emitted b (sends VariantPayloadName) [] = names_local b the_payload
+emitted b (sends IterElem) [] = names_local b the_element
+emitted b (sends IterMapKey) [] = names_local b the_key
+emitted b (sends IterMapValue) [] = names_local b the_value
+emitted b (sends IterBasePointer) [] = names_local b the_base
 emitted b _ es = None

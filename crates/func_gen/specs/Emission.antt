@@ -49,3 +49,4 @@ pub record Writes (code : ℕ → Emission) (rs : List ExprOperand) (old new : F
   pub stmts : new.code.stmts ≡ old.code.stmts ++ (code number).stmts
   pub runtime : new.runtime ≡ old.runtime ++ (code number).items
   pub results : rs ≡ map operand_of (code number).results
+  pub opened : new.opened ≡ old.opened

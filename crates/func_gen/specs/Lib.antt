@@ -4,6 +4,7 @@ pub mod Body
 pub mod CallForms
 pub mod CodeOf
 pub mod Emission
+pub mod Entered
 pub mod EnumForms
 pub mod FactLemmas
 pub mod Facts
@@ -16,6 +17,7 @@ pub mod Made
 pub mod Meaning
 pub mod MemoryForms
 pub mod MethodForms
+pub mod Opened
 pub mod Operand
 pub mod PartForms
 pub mod Read
@@ -26,5 +28,6 @@ pub mod Sites
 pub mod Slot
 pub mod StandLemmas
 pub mod Still
+pub mod Suspends
 pub mod TextForms
 pub mod TypeSites

@@ -43,7 +43,9 @@ use Rattle.abi_driver.specs.Meaning.{Fact, Meaning}
 use Rattle.func_gen.specs.declared.function_bindgen.Code.{Code}
 use Rattle.func_gen.specs.declared.function_bindgen.FunctionBindgen.{FunctionBindgen}
 use Rattle.func_gen.specs.declared.operand.ExprOperand.{ExprOperand}
+use Rattle.func_gen.specs.Entered.{entered}
 use Rattle.func_gen.specs.Facts.{AreOwned, Hold}
+use Rattle.func_gen.specs.Opened.{in_view, open_blocks}
 use Rattle.func_gen.specs.Read.{env_of}
 use Rattle.func_gen.specs.TypeSites.{AreDefined}
 use Rattle.func_gen.specs.Formed.{Formed}
@@ -114,7 +116,7 @@ AreaIs false area (Some address) asked name s = ⊥
 pub record Denote (w : File) (b : FunctionBindgen) (facts : List (Fact ExprOperand Slot RustValue)) (s : FuncState) : Type 0 where
   pub hold : Hold w.items b facts s.machine
   pub owners : AreOwned s.machine.heap.blocks s.machine.taken
-  pub area : AreaIs b.import w.area s.area b.asked b.area s.machine
+  pub area : AreaIs b.import (in_view b.opened w.area) (in_view b.opened s.area) b.asked b.area s.machine
 
 -- 3. Runs
 
@@ -205,11 +207,11 @@ func_meaning = record {
   nothing = record { call = None; stmts = [] };
   does = λ w p code s. seen s.area (run_code (setting_for w p) w.bound code s.machine);
   runs = λ w p block with s. absurd block;
-  enter = λ slot with s. s;
+  enter = λ slot with s. record { machine = entered slot with s.machine; area = None };
   results_of = λ block. absurd block;
   denotes = Denote;
   code = λ b. b.code;
-  opened = λ b. [];
+  opened = λ b. open_blocks b.opened;
   blocks = λ b. [];
   imports = λ b. b.import;
   exports = λ b. not b.import;

@@ -35,6 +35,7 @@ pub record CallsIn (f : Function) (arguments : List Expr) (value : Option Bytes)
   pub sites : new.sites ≡ old.sites
   pub asked : new.asked ≡ old.asked
   pub returned : new.returned ≡ old.returned
+  pub opened : new.opened ≡ old.opened
 
 -- and that name is new
 pub record CallsFor (f : Function) (arguments : List Expr) (name : Bytes) (old new : FunctionBindgen) : Type 0 where

@@ -36,6 +36,17 @@ pub struct Code {
     pub stmts: List<Stmt>,
 }
 
+/// An open block.
+#[derive(Drop)]
+pub struct OpenBlock {
+    /// The number of its names.
+    pub number: u32,
+    /// The names that were used when it was opened.
+    pub names: List<Text>,
+    /// The code that it suspends.
+    pub code: Code,
+}
+
 /// Makes statements of instructions, for the wrapper of an import or of an export.
 #[derive(Drop)]
 pub struct FunctionBindgen {
@@ -52,6 +63,8 @@ pub struct FunctionBindgen {
     pub(crate) sites: List<Option<TypeSite>>,
     pub(crate) scope: Scope,
     pub(crate) code: Code,
+    /// The open blocks, the innermost last.
+    pub(crate) opened: List<OpenBlock>,
     /// The items of `_rt` that the code names.
     pub(crate) runtime: List<RuntimeItem>,
     /// The records for which the return area was asked for.
@@ -114,6 +127,7 @@ impl FunctionBindgen {
                 call: None,
                 stmts: List::new(alloc),
             },
+            opened: List::new(alloc),
             runtime: List::new(alloc),
             asked: List::new(alloc),
             returned: None,

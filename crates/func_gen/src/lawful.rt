@@ -18,8 +18,8 @@ impl Bindgen for FunctionBindgen {
     ghost sound = { func_sound };
 
     /// The statements of arguments and scalars, of texts, tuples and records, of enums and flags, of stores, loads and frees, of operands that get locals of
-    /// their own and of the call of a core import, the block that calls a method of no resource, and what the code gives. Of any other
-    /// instruction so far, and of an expression that is no operand, the answer is `OutOfMemory`.
+    /// their own and of the call of a core import, the block that calls a method of no resource, the names of an open block, and what the code gives.
+    /// Of any other instruction so far, and of an expression that is no operand, the answer is `OutOfMemory`.
     fn emit(
         &mut self,
         resolve: &Resolve,
@@ -60,12 +60,17 @@ impl Bindgen for FunctionBindgen {
             Instruction::GuestDeallocateString => self.free_text(resolve, operands, results),
             Instruction::CallWasm(func) => self.call_core(resolve, func, operands, results),
             Instruction::CallInterface(func) => self.call_method(resolve, func, operands, results),
+            Instruction::VariantPayloadName => self.read_name(resolve, inst, "e", results),
+            Instruction::IterElem => self.read_name(resolve, inst, "e", results),
+            Instruction::IterMapKey => self.read_name(resolve, inst, "map_key", results),
+            Instruction::IterMapValue => self.read_name(resolve, inst, "map_value", results),
+            Instruction::IterBasePointer => self.read_name(resolve, inst, "base", results),
             _ => self.touch(resolve, inst, operands, results),
         }
     }
 
     fn push_block(&mut self) -> Result<(), OutOfMemory> {
-        Err(OutOfMemory)
+        self.open_block()
     }
 
     fn finish_block(&mut self, _operands: &mut List<ExprOperand>) -> Result<(), OutOfMemory> {

@@ -3,6 +3,7 @@
 
 mod added;
 mod area;
+mod blocks;
 mod body;
 mod core_words;
 mod emit;

@@ -35,6 +35,7 @@ returns c =
         sizes = refl;
         asked = refl;
         returned = refl;
+        opened = refl;
       };
       fresh = declared_as old _ d.locals d.declares.number names d.declares.declares d.declares.are;
     }

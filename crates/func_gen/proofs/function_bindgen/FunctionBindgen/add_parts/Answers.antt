@@ -21,6 +21,7 @@ returns-clause-adds c =
       sizes = refl;
       asked = refl;
       returned = refl;
+      opened = refl;
     }
 
 pub returns-clause-fresh : goal.returns-clause-fresh

@@ -21,6 +21,7 @@ returns c =
         sizes = refl;
         asked = refl;
         returned = refl;
+        opened = refl;
       };
       number = c.in_ok-t.t;
       is = c.in_ok-name.ensures;

@@ -1,0 +1,122 @@
+//! Blocks of code are opened, and their names are read.
+
+ghost use Rattle.std.specs.Prelude.{◌≡◌, [], Some, IfOk, OnOk};
+ghost use Rattle.abi_driver.specs.Blocks.{Pushes};
+ghost use Rattle.abi_driver.specs.Instructions.{Emits};
+ghost use Rattle.func_gen.specs.Meaning.{func_meaning};
+ghost use Rattle.func_gen.specs.Opened.{innermost, is_closed, stem_read};
+ghost use Rattle.func_gen.specs.Scope.{Takes};
+ghost use Rattle.func_gen.specs.Slot.{block_names};
+ghost use Rattle.func_gen.specs.Suspends.{Suspends};
+
+use crate::function_bindgen::{Code, FunctionBindgen, OpenBlock};
+use crate::operand::{ExprOperand, copy_names};
+use crate::scope::{LocalName, Scope, numbered};
+use abi_driver::Instruction;
+use rust_tree::Expr;
+use std::alloc::Global;
+use wit_model::{List, OutOfMemory, Resolve};
+
+impl Scope {
+    /// The number of the names of a block.
+    fn declare_block(&mut self, alloc: Global) -> Result<u32, OutOfMemory>
+        ensures { IfOk result (λ k. Takes self.old block_names k self.new) }
+    {
+        let element = LocalName {
+            prefix: "e",
+            part: None,
+        };
+        let base = LocalName {
+            prefix: "base",
+            part: None,
+        };
+        let turn = LocalName {
+            prefix: "i",
+            part: None,
+        };
+        let key = LocalName {
+            prefix: "map_key",
+            part: None,
+        };
+        let value = LocalName {
+            prefix: "map_value",
+            part: None,
+        };
+        let number = self.declare(alloc, &[element, base, turn, key, value])?;
+        Ok(number)
+    }
+}
+
+impl FunctionBindgen {
+    /// The code so far is suspended, and the names of the block get one number. Behind the call of a method there is no memory for it.
+    fn suspend(&mut self) -> Result<(), OutOfMemory>
+        ensures { OnOk result (Suspends self.old self.new) }
+    {
+        if self.code.call.is_some() {
+            return Err(OutOfMemory);
+        }
+        let names = copy_names(self.scope.used.as_slice(), self.alloc)?;
+        let number = self.scope.declare_block(self.alloc)?;
+        let empty = Code {
+            call: None,
+            stmts: List::new(self.alloc),
+        };
+        let code = std::mem::replace(&mut self.code, empty);
+        self.opened.push(OpenBlock {
+            number,
+            names,
+            code,
+        })?;
+        Ok(())
+    }
+
+    /// Opens a block.
+    pub(crate) fn open_block(&mut self) -> Result<(), OutOfMemory>
+        ensures { OnOk result (Pushes func_meaning self.old self.new) }
+    {
+        self.suspend()?;
+        Ok(())
+    }
+
+    /// Whether no block is open.
+    pub(crate) fn is_closed(&self) -> bool
+        ensures { result ≡ is_closed self.now.opened }
+    {
+        match self.opened.as_slice() {
+            [] => true,
+            _ => false,
+        }
+    }
+
+    /// The number of the innermost open block. Where none is open there is no memory.
+    fn innermost(&self) -> Result<u32, OutOfMemory>
+        ensures { IfOk result (λ k. innermost self.now.opened ≡ Some k) }
+    {
+        let Some(block) = self.opened.as_slice().last() else {
+            return Err(OutOfMemory);
+        };
+        Ok(block.number)
+    }
+
+    /// The local of a name of the innermost open block, by what stands before its number.
+    pub(crate) fn read_name(
+        &mut self,
+        resolve: &Resolve,
+        inst: &Instruction,
+        stem: &str,
+        results: &mut List<ExprOperand>,
+    ) -> Result<(), OutOfMemory>
+        requires stem { stem_read inst.now ≡ Some stem.now }
+        requires empty { results.old ≡ [] }
+        ensures { OnOk result (Emits func_meaning resolve.now.types inst.now [] results.new self.old self.new) }
+    {
+        let number = self.innermost()?;
+        let name = LocalName {
+            prefix: stem,
+            part: None,
+        };
+        let expr = Expr::Local(numbered(self.alloc, name, number)?);
+        results.push(ExprOperand { expr })?;
+        Ok(())
+    }
+}
