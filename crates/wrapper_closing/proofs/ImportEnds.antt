@@ -52,6 +52,7 @@ use Rattle.abi_driver.proofs.HonestAnswers.{in_words}
 use Rattle.abi_driver.proofs.ImportSteps.{answer_in_area, same_addresses}
 use Rattle.func_gen.specs.FuncSound.{func_sound}
 use Rattle.func_gen.specs.Facts.{Hold}
+use Rattle.func_gen.specs.Opened.{in_view}
 use Rattle.func_gen.specs.Meaning.{AreaIs, FuncState, account_of, answer_of, call_of, func_meaning, owns_of, setting_for}
 use Rattle.func_gen.specs.declared.function_bindgen.FunctionBindgen.{FunctionBindgen}
 use Rattle.func_gen.specs.declared.operand.ExprOperand.{ExprOperand}
@@ -191,7 +192,8 @@ module _ (types : List TypeDef) (f : Function) (tree : Tree) (nth : ℕ) (old ne
         owns = λ g. sym (ap (total g) (append-nil (owns_of back.state.machine))) ∙ back.after.owns g ∙ ap (λ xs. total g (xs ++ addresses back.own)) owns_is;
         taken = ap (λ (x : Account RustValue). x.taken) back.after.account ∙ ap (λ xs. xs ++ addresses back.own) (ready.taken ∙ sym areas);
         requests = ap (λ (x : Account RustValue). x.requests) back.after.account ∙ ready.requests;
-        place = unplaced (wanted new.asked) back.state.area new.asked new.area back.state.machine (subst (λ i. AreaIs i (wanted new.asked) back.state.area new.asked new.area back.state.machine) (c.still.import ∙ c.import) back.after.denotes.area);
+        place = unplaced (in_view new.opened (wanted new.asked)) (in_view new.opened back.state.area) new.asked new.area back.state.machine
+            (subst (λ i. AreaIs i (in_view new.opened (wanted new.asked)) (in_view new.opened back.state.area) new.asked new.area back.state.machine) (c.still.import ∙ c.import) back.after.denotes.area);
       }
 
   -- 4. What is given
