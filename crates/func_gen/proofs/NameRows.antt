@@ -49,6 +49,7 @@ module _ (b : FunctionBindgen) (k : ℕ) (number : innermost b.opened ≡ Some k
       (λ w found env says.
       subst (Says d) (sym (ap (λ (r : Read). r.at env) (read-local w.items n))) (subst (λ j. Says d (option_and_then usable (env (slot_name name j)))) (its_number is) says))
 
+  -- by the name that is read
   pub name_row : (types : List TypeDef) (i : Instruction) (name : Name) → name_read i ≡ Some name → Emits func_meaning types i [] (operand_of (expr.Local (slot_name name k)) ∷ []) b b
   name_row types VariantPayloadName name e = subst (λ q. Emits func_meaning types VariantPayloadName [] (operand_of (expr.Local (slot_name q k)) ∷ []) b b) (some_same the_payload name e) (record {
     adds = none_adds b b [] (unchanged b) refl;

@@ -24,7 +24,7 @@ use Rattle.wrapper_values.specs.declared.state.Val.{Val}
 use Rattle.wrapper_values.specs.declared.state.Val.TheVariants as val
 use Rattle.wrapper_values.specs.Locals.{emptied, local_named, usable, value_of}
 use Rattle.wrapper_values.specs.Owning.{owned, owned_by, owned_in}
-use Rattle.wrapper_run.specs.OuterLocals.{OwnNothing}
+use Rattle.wrapper_run.specs.OuterLocals.{IsInReach, OwnNothing}
 use Rattle.wrapper_run.proofs.LocalLemmas.{bytes_eq-same}
 use Rattle.wrapper_run.proofs.OuterLemmas.{named-append}
 use Rattle.abi_driver.specs.declared.bindgen.Asked.{Asked}
@@ -134,6 +134,22 @@ reached_none used n u (l ∷ ls) = go (is_used used l.name) refl (reached_none u
         ap₂ (λ o (m : Bytes). option_or o (cond (bytes_eq m n) (Some (without_owner l)) None)) ih (named_kept l)
         ∙ ap (λ c. let o : Option Local = cond c (Some (without_owner l)) None in o) (other_name used l n true e u)
     go false e ih = ih
+
+-- so they are in reach, among those that are there
+pub reached_in : (used : List Bytes) (ls : List Local) → IsInReach (reached used ls) ls
+reached_in used ls = record { plain = reached_plain used ls; same = λ n v e. go n v (is_used used n) refl e }
+  where
+    whole : (l : Local) (v : Val) (b : Bool) → (let m : Local = cond b l (emptied l) in m.value) ≡ Some v → l.value ≡ Some v
+    whole l v true e = e
+    whole l v false e = absurd cc
+
+    value_whole : (o : Option Local) (v : Val) → value_of (option_map without_owner o) ≡ Some v → value_of o ≡ Some v
+    value_whole None v e = e
+    value_whole (Some l) v e = whole l v (is_nothing (owned_in l.value)) e
+
+    go : (n : Bytes) (v : Val) (b : Bool) → is_used used n ≡ b → value_of (local_named n (reached used ls)) ≡ Some v → value_of (local_named n ls) ≡ Some v
+    go n v true u e = value_whole (local_named n ls) v (sym (ap value_of (reached_same used n u ls)) ∙ e)
+    go n v false u e = absurd (let none : (let o : Option Val = None in o ≡ Some v) = sym (ap value_of (reached_none used n u ls)) ∙ e in cc)
 
 plain_flat : (ls : List Local) → OwnNothing ls → flat_map (λ (l : Local). owned_in l.value) ls ≡ []
 plain_flat [] p = refl
@@ -316,6 +332,7 @@ module _ (w : File) (old new : FunctionBindgen) (k : ℕ) (fresh : FreshAll old 
       go n v None e = absurd cc
       go n v (Some l) e = e
 
+  -- so what the names are bound to holds there, and what was known of words
   holds_then : Hold w.items new (names func_meaning here with ++ facts) then
   holds_then = record {
     right = omega (

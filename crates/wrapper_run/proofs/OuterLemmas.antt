@@ -124,6 +124,7 @@ behind_ask w of name = behind_read w name (λ o. or_stop (stuck w) (option_map v
 behind_take : (w : Setting) (name : Bytes) (v : Val) → RunsBehind (λ s. take_bytes w (value_of (local_named name s.locals)) v s)
 behind_take w name v = behind_read w name (λ o. take_bytes w o v) (λ s. refl) (λ u. behind_apart (take_bytes w (Some u) v) (apart_take w (Some u) v))
 
+-- a value is used: what owns something is moved out of a local that stands behind them
 behind_use : (w : Setting) (name : Bytes) → RunsBehind (use_local (stuck w) name)
 unfolding use_local
 behind_use w name = record { alike = λ reached outer later place s r b. go reached outer later place s r b (value_of (local_named name s.locals)) refl }
@@ -229,6 +230,7 @@ module _ {A : Type 0} (w : Setting) (reached outer later : List Local) (place : 
   abbrev leaving : List Local → A → Outcome (Unit {0}) → Outcome A
   leaving ls a o = and_then (and_then o (λ _. keep_locals ls)) (λ _. pure a)
 
+  -- those behind them that a scope added are dropped
   left_behind : (a : A) (t : State) (now : List Local) → IsBehind reached now t
       → EndsBehind reached outer place ((leave_to w (length (reached ++ later)) >> pure a) t) ((leave_to w (length (outer ++ later)) >> pure a) (behind_all outer now place t))
   left_behind a t now b =
