@@ -3,7 +3,7 @@ use Rattle.std.proofs.Common.{◌≡◌, ℕ, List, [], ◌∷◌, ◌++◌, len
 use Rattle.wit_model.specs.declared.types.TypeDef.{TypeDef}
 use Rattle.abi_driver.specs.declared.instruction.Instruction.TheVariants.{Return}
 use Rattle.abi_driver.specs.Sends.{Sends}
-use Rattle.abi_driver.specs.Sent.{Sent, asks, closes, opens, sends}
+use Rattle.abi_driver.specs.Sent.{Sent, asks, closes, opens, sends, sends_casts, sends_zeros}
 use Rattle.func_gen.specs.declared.function_bindgen.FunctionBindgen.{FunctionBindgen}
 use Rattle.func_gen.specs.declared.operand.ExprOperand.{ExprOperand}
 use Rattle.func_gen.specs.Meaning.{func_meaning}
@@ -28,6 +28,8 @@ still_sent types (sends i ∷ steps) old new (os, rs, next, e, more) = still_the
 still_sent types (asks a ∷ steps) old new (o, next, p, more) = still_then old next new p.form.still (still_sent types steps next new more)
 still_sent types (opens ∷ steps) old new (next, p, more) = still_then old next new p.form.still (still_sent types steps next new more)
 still_sent types (closes ∷ steps) old new (os, next, p, more) = still_then old next new p.form.still (still_sent types steps next new more)
+still_sent types (sends_casts casts ∷ steps) old new (held, same, os, rs, next, e, more) = still_then old next new e.form.still (still_sent types steps next new more)
+still_sent types (sends_zeros zeros ∷ steps) old new (held, same, os, rs, next, e, more) = still_then old next new e.form.still (still_sent types steps next new more)
 
 -- code that ends with a `Return` gives its operands, as many as it says
 pub last_given : (types : List TypeDef) (steps : List Sent) (n : ℕ) (old new : FunctionBindgen) → Sends func_meaning types (steps ++ sends (Return n) ∷ []) old new → (os : List ExprOperand) × (length os ≡ n) × (new.returned ≡ Some os)
@@ -36,3 +38,5 @@ last_given types (sends i ∷ steps) n old new (os, rs, next, e, more) = last_gi
 last_given types (asks a ∷ steps) n old new (o, next, p, more) = last_given types steps n next new more
 last_given types (opens ∷ steps) n old new (next, p, more) = last_given types steps n next new more
 last_given types (closes ∷ steps) n old new (os, next, p, more) = last_given types steps n next new more
+last_given types (sends_casts casts ∷ steps) n old new (held, same, os, rs, next, e, more) = last_given types steps n next new more
+last_given types (sends_zeros zeros ∷ steps) n old new (held, same, os, rs, next, e, more) = last_given types steps n next new more
