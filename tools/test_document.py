@@ -3,7 +3,7 @@
 
     python3 tools/test_document.py
 
-Each sample is a world in WIT, the tables that wasm-tools prints for it, and its document.
+Each sample is a world in WIT, its tables in the form that wasm-tools prints, and its document.
 """
 
 import copy
@@ -47,7 +47,7 @@ def read(sample, ending):
 
 
 def tables_of(sample):
-    """What wasm-tools prints for a sample."""
+    """The tables of a sample, in the form that wasm-tools prints."""
     return read(sample, "wasm-tools.json")
 
 
