@@ -54,9 +54,9 @@ pub no_slots : {A : Type 0} (members : List A) → slots (layouts (bare members)
 no_slots [] = refl
 no_slots (x ∷ members) = no_slots members
 
-no_payload : {A : Type 0} (w : ℕ) (members : List A) → greatest (extents_of w (layouts (bare members))) ≡ extent 0 0
-no_payload w [] = refl
-no_payload w (x ∷ members) = ap (greater (extent 0 0)) (no_payload w members)
+absent : {A : Type 0} (w : ℕ) (members : List A) → greatest (extents_of w (layouts (bare members))) ≡ extent 0 0
+absent w [] = refl
+absent w (x ∷ members) = ap (greater (extent 0 0)) (absent w members)
 
 -- a tag alone, of a grain
 abbrev tag_alone : ℕ → Extent
@@ -69,7 +69,7 @@ alone_is g (inr (inr e)) = subst (λ n. tag_alone n ≡ extent n (2 ^ n)) (sym e
 
 pub bare_extent : {A : Type 0} (w : ℕ) (members : List A) → extent_of w (layout (cases (bare members))) ≡ extent (discriminant_grain (length members)) (2 ^ discriminant_grain (length members))
 bare_extent w members =
-    ap₂ (λ (n : ℕ) (e : Extent). record_of_grain (max (discriminant_grain n) e.grain) (rounded_up (2 ^ e.grain) (2 ^ discriminant_grain n) + e.bytes)) (tree_count members) (no_payload w members)
+    ap₂ (λ (n : ℕ) (e : Extent). record_of_grain (max (discriminant_grain n) e.grain) (rounded_up (2 ^ e.grain) (2 ^ discriminant_grain n) + e.bytes)) (tree_count members) (absent w members)
     ∙ alone_is (discriminant_grain (length members)) (tag_grains (length members))
 
 -- 3. Nothing stands behind the tag

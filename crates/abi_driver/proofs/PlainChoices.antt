@@ -42,7 +42,7 @@ use Rattle.abi_driver.specs.Parts.{count}
 use Rattle.abi_driver.specs.Plain.{AddsChoice, Hold, IsRight, fact_owns, places_from, plain_meaning}
 use Rattle.abi_driver.specs.PlainLines.{BodyRun, LineRun, body_step, does_line, ended, entered, freed_case, freeing_case, given_to, last_of, lifting, line_step, lowering, made_case, matching_arm, run_arm, run_with, runs, runs_body}
 use Rattle.abi_driver.specs.PlainSteps.{PlainState, all_at, and_all, removed}
-use Rattle.abi_driver.specs.PlainValues.{PlainCaseStands, PlainItem, PlainPayload, PlainStands, chosen, data_own, no_payload, owned_by, owned_by_payload, payload_of}
+use Rattle.abi_driver.specs.PlainValues.{PlainCaseStands, PlainItem, PlainPayload, PlainStands, chosen, data_own, absent, owned_by, owned_by_payload, present}
 use Rattle.abi_driver.specs.PlainSound.{all_both, own_both}
 use Rattle.abi_driver.specs.Turns.{Arrives, Moved, Went}
 use Rattle.abi_driver.proofs.PlainBlocks.{arm_at, does_body}
@@ -238,23 +238,23 @@ module _ (old : PlainBindgen) (w : Option Request) (p : Peer PlainItem) (arms : 
 -- 5. What stands for a payload
 
 abbrev payload_item : PlainPayload → Option PlainItem
-payload_item no_payload = None
-payload_item (payload_of a) = Some a
+payload_item absent = None
+payload_item (present a) = Some a
 
 with_same : (payload : PlainPayload) → with_case plain_meaning (payload_item payload) ≡ run_with payload
-with_same no_payload = refl
-with_same (payload_of a) = refl
+with_same absent = refl
+with_same (present a) = refl
 
 payload_stands : (dir : Direction) (ts : Shapes) (c : Case ts) (payload : PlainPayload) (own : List Block) → PlainCaseStands dir ts c payload own → PayloadStands plain_meaning dir ts c (payload_item payload) own
 payload_stands dir none c payload own h = h
-payload_stands dir (more t ts) (inl v) no_payload own h = h
-payload_stands dir (more t ts) (inl v) (payload_of a) own h = h
+payload_stands dir (more t ts) (inl v) absent own h = h
+payload_stands dir (more t ts) (inl v) (present a) own h = h
 payload_stands dir (more t ts) (inr c) payload own h = payload_stands dir ts c payload own h
 
 case_stands : (dir : Direction) (ts : Shapes) (c : Case ts) (payload : PlainPayload) (own : List Block) → PayloadStands plain_meaning dir ts c (payload_item payload) own → PlainCaseStands dir ts c payload own
 case_stands dir none c payload own h = h
-case_stands dir (more t ts) (inl v) no_payload own h = h
-case_stands dir (more t ts) (inl v) (payload_of a) own h = h
+case_stands dir (more t ts) (inl v) absent own h = h
+case_stands dir (more t ts) (inl v) (present a) own h = h
 case_stands dir (more t ts) (inr c) payload own h = case_stands dir ts c payload own h
 
 data_owned : (ds : List (Datum PlainItem)) → data_own ds ≡ flat_map (owned_datum plain_meaning) ds
@@ -379,15 +379,15 @@ module _ (old new : PlainBindgen) (many n : ℕ) (o : Place) (adds : AddsChoice 
       )
 
 -- a case is lifted by a word
-bare_made : (ts : Shapes) (i : ℕ) (c : Case ts) (payload : Option PlainItem) (own : List Block) → case_number ts c ≡ i → IsPayload plain_meaning [] payload → PayloadStands plain_meaning taken_over ts c payload own → PlainStands taken_over (cases ts) c (chosen i no_payload) own
-bare_made ts i c None own e is h = (no_payload, ap (λ n. chosen n no_payload) (sym e), case_stands taken_over ts c no_payload own h)
+bare_made : (ts : Shapes) (i : ℕ) (c : Case ts) (payload : Option PlainItem) (own : List Block) → case_number ts c ≡ i → IsPayload plain_meaning [] payload → PayloadStands plain_meaning taken_over ts c payload own → PlainStands taken_over (cases ts) c (chosen i absent) own
+bare_made ts i c None own e is h = (absent, ap (λ n. chosen n absent) (sym e), case_stands taken_over ts c absent own h)
 bare_made ts i c (Some b) own e is h = absurd is
 
 item_made : (ts : Shapes) (i : ℕ) (a : PlainItem) (c : Case ts) (payload : Option PlainItem) (own : List Block) → case_number ts c ≡ i → IsPayload plain_meaning (item a ∷ []) payload → PayloadStands plain_meaning taken_over ts c payload own
-    → PlainStands taken_over (cases ts) c (chosen i (payload_of a)) own
+    → PlainStands taken_over (cases ts) c (chosen i (present a)) own
 item_made ts i a c None own e is h = absurd is
 item_made ts i a c (Some b) own e is h =
-    (payload_of a, ap (λ n. chosen n (payload_of a)) (sym e), case_stands taken_over ts c (payload_of a) own (subst (λ x. PayloadStands plain_meaning taken_over ts c (Some x) own) (sym is) h))
+    (present a, ap (λ n. chosen n (present a)) (sym e), case_stands taken_over ts c (present a) own (subst (λ x. PayloadStands plain_meaning taken_over ts c (Some x) own) (sym is) h))
 
 module _ (old new : PlainBindgen) (many : ℕ) (o : Place) (last : Bool) (adds : AddsChoice (λ arms. line.Lift o.number last arms old.count) many 1 old new) (ts : Shapes) (same : count ts ≡ many) where
   abbrev LiftedAs : Armed plain_meaning → Facts plain_meaning → Type 0
@@ -408,9 +408,9 @@ module _ (old new : PlainBindgen) (many : ℕ) (o : Place) (last : Bool) (adds :
 
   lift_fits : (w : Option Request) (others : Facts plain_meaning) (i : ℕ) (e : Ended PlainItem PlainState) (ds : List (Datum PlainItem))
       → Follows account (if gives_payload plain_meaning ds then Done (went i ds e.state) else Stuck e.state.account) (then_do (made_case old.count i e ds) (λ u. Done u)) (Lifted w others)
-  lift_fits w others i e [] = (given_to old.count (item (chosen i no_payload) ∷ []) e.state, refl, lift_arrives w others i [] e.state (chosen i no_payload) refl (λ c payload own k is h. bare_made ts i c payload own k is h))
+  lift_fits w others i e [] = (given_to old.count (item (chosen i absent) ∷ []) e.state, refl, lift_arrives w others i [] e.state (chosen i absent) refl (λ c payload own k is h. bare_made ts i c payload own k is h))
   lift_fits w others i e (item a ∷ []) =
-      (given_to old.count (item (chosen i (payload_of a)) ∷ []) e.state, refl, lift_arrives w others i (item a ∷ []) e.state (chosen i (payload_of a)) refl (λ c payload own k is h. item_made ts i a c payload own k is h))
+      (given_to old.count (item (chosen i (present a)) ∷ []) e.state, refl, lift_arrives w others i (item a ∷ []) e.state (chosen i (present a)) refl (λ c payload own k is h. item_made ts i a c payload own k is h))
   lift_fits w others i e (item a ∷ d ∷ ds) = refl
   lift_fits w others i e (word x ∷ ds) = refl
 

@@ -31,7 +31,7 @@ use Rattle.abi_driver.specs.Meaning.{item, of, word}
 use Rattle.abi_driver.specs.Parts.{count}
 use Rattle.abi_driver.specs.Plain.{AddsStep, places_from, plain_meaning}
 use Rattle.abi_driver.specs.PlainSteps.{as_flags, passing, performs}
-use Rattle.abi_driver.specs.PlainValues.{PlainCaseStands, PlainItem, PlainPayload, PlainStands, chosen, data_own, leaf, no_payload, owned_by_payload, payload_of}
+use Rattle.abi_driver.specs.PlainValues.{PlainCaseStands, PlainItem, PlainPayload, PlainStands, chosen, data_own, leaf, absent, owned_by_payload, present}
 use Rattle.abi_driver.specs.PlainSound.{owned_case}
 use Rattle.abi_driver.proofs.BareCases.{count_bare}
 use Rattle.abi_driver.proofs.EnumSteps.{enum_cases}
@@ -47,19 +47,19 @@ use Rattle.abi_driver.proofs.PlainRuns.{plain_adds, plain_blocks, plain_does}
 -- a case of an enum has no payload that owns anything
 bare_none : {A : Type 0} (dir : Direction) (members : List A) (c : Case (bare members)) (payload : PlainPayload) (own : List Block) → PlainCaseStands dir (bare members) c payload own → own ≡ []
 bare_none dir [] c payload own h = absurd h
-bare_none dir (m ∷ members) (inl v) no_payload own h = h.1
-bare_none dir (m ∷ members) (inl v) (payload_of a) own h = absurd (let k = h.0 in cc)
+bare_none dir (m ∷ members) (inl v) absent own h = h.1
+bare_none dir (m ∷ members) (inl v) (present a) own h = absurd (let k = h.0 in cc)
 bare_none dir (m ∷ members) (inr c) payload own h = bare_none dir members c payload own h
 
-bare_stands : {A : Type 0} (dir : Direction) (members : List A) (c : Case (bare members)) → PlainCaseStands dir (bare members) c no_payload []
+bare_stands : {A : Type 0} (dir : Direction) (members : List A) (c : Case (bare members)) → PlainCaseStands dir (bare members) c absent []
 bare_stands dir [] c = elim c [ ]
 bare_stands dir (m ∷ members) (inl v) = (refl, refl)
 bare_stands dir (m ∷ members) (inr c) = bare_stands dir members c
 
 -- a case whose payload owns nothing is passed by its number
 passes_case : (a : PlainItem) (n : ℕ) (payload : PlainPayload) (acc : Account PlainItem) → a ≡ chosen n payload → owned_by_payload payload ≡ [] → passing (item a ∷ []) acc ≡ gives (word (core.I32 (pos n)) ∷ []) acc
-passes_case a n no_payload acc e h = ap (λ (b : PlainItem). passing (item b ∷ []) acc) e
-passes_case a n (payload_of b) acc e h =
+passes_case a n absent acc e h = ap (λ (b : PlainItem). passing (item b ∷ []) acc) e
+passes_case a n (present b) acc e h =
     ap (λ (c : PlainItem). passing (item c ∷ []) acc) e ∙ ap (λ places. then_do (releasing {V = PlainItem} places acc) (λ u. gives (word (core.I32 (pos n)) ∷ []) u.account)) h
 
 module _ (types : List TypeDef) (old new : PlainBindgen) where
@@ -94,9 +94,9 @@ module _ (types : List TypeDef) (old new : PlainBindgen) where
       let ts = bare members in
       let k = count ts in
       let st = step.ReadTag k o.number old.count in
-      let a : PlainItem = chosen (tag_of k x) no_payload in
+      let a : PlainItem = chosen (tag_of k x) absent in
       plain_does st 1 old new adds (Unit {0}) (of o (word x) ∷ []) (word x ∷ []) (λ f. reading_tag f.form k x) (λ u. item a ∷ []) (λ u fs. (b : PlainItem) × (fs ≡ ofs plain_meaning (places_from old.count 1) (item b ∷ [])) × ((c : Case ts) → case_number ts c ≡ tag_of k x → PlainStands take (cases ts) c b []))
-      (λ x values n. refl) refl (λ t h. one_at old t o (word x) h) (λ area f acc. refl) (λ p acc x e. refl) (λ u. (a, refl, λ c e. (no_payload, ap (λ n. chosen n no_payload) (sym e), bare_stands take members c)))
+      (λ x values n. refl) refl (λ t h. one_at old t o (word x) h) (λ area f acc. refl) (λ p acc x e. refl) (λ u. (a, refl, λ c e. (absent, ap (λ n. chosen n absent) (sym e), bare_stands take members c)))
       (λ u. []) (λ u. []) (λ u. refl) (λ u g. refl)
 
   reads_enum : (id : TypeId) (members : List Member) (o : Place) (rs : List Place) → IsKindOf types id.0 (kind.Enum members) → AddsStep (step.ReadTag (count (bare members)) o.number old.count) 1 old new → rs ≡ places_from old.count 1

@@ -48,7 +48,7 @@ use Rattle.abi_driver.specs.Memory as memory
 use Rattle.abi_driver.specs.Plain.{AddsLine, AddsStep, Hold, IsRight, fact_owns, places_from, plain_meaning}
 use Rattle.abi_driver.specs.PlainLines.{BodyRun, LineRun, all_of, body_step, does_line, line_step, runs}
 use Rattle.abi_driver.specs.PlainSteps.{PlainState, all_words, as_flags, casting, free_block, free_text, inputs, kept, load_word, normal, own_area, passing, performed, performs, pointed, put, read_as, read_tag, removed, scalar_of, splitting, store_word, take_text, writes}
-use Rattle.abi_driver.specs.PlainValues.{PlainItem, chosen, data_own, leaf, no_payload, owned_by, payload_of, whole}
+use Rattle.abi_driver.specs.PlainValues.{PlainItem, chosen, data_own, leaf, absent, owned_by, present, whole}
 use Rattle.abi_driver.specs.PlainSound.{all_both, all_left, all_right, own_both}
 use Rattle.abi_driver.proofs.PlainPlaces.{ofs_own, places_count, put_below, put_right, removed_total, still_hold, still_right}
 use Rattle.abi_driver.proofs.Runs.{follows_more}
@@ -115,8 +115,8 @@ then_quiet acc (Stuck a) g h = h
 
 passing_quiet : (ds : List (Datum PlainItem)) (acc : Account PlainItem) → Quietly acc (passing ds acc)
 passing_quiet (item (leaf ws own) ∷ []) acc = then_quiet acc (releasing (addresses own) acc) (λ u. map (λ w. word w) ws) (releasing_quiet (addresses own) acc)
-passing_quiet (item (chosen n no_payload) ∷ []) acc = refl
-passing_quiet (item (chosen n (payload_of a)) ∷ []) acc = then_quiet acc (releasing (owned_by a) acc) (λ u. word (core.I32 (pos n)) ∷ []) (releasing_quiet (owned_by a) acc)
+passing_quiet (item (chosen n absent) ∷ []) acc = refl
+passing_quiet (item (chosen n (present a)) ∷ []) acc = then_quiet acc (releasing (owned_by a) acc) (λ u. word (core.I32 (pos n)) ∷ []) (releasing_quiet (owned_by a) acc)
 passing_quiet _ acc = refl
 
 read_quiet : (s : Scalar) (f : Form) (ds : List (Datum PlainItem)) (acc : Account PlainItem) → Quietly acc (read_as s f ds acc)
@@ -128,7 +128,7 @@ tag_quiet n f (core.I32 z) acc = if_quiet acc (nat_lt (tag_of n (core.I32 z)) n)
 tag_quiet n f _ acc = refl
 
 read_tag_quiet : (n : ℕ) (f : Form) (ds : List (Datum PlainItem)) (acc : Account PlainItem) → Quietly acc (read_tag n f ds acc)
-read_tag_quiet n f (word x ∷ []) acc = then_quiet acc (reading_tag f n x acc) (λ u. item (chosen (tag_of n x) no_payload) ∷ []) (tag_quiet n f x acc)
+read_tag_quiet n f (word x ∷ []) acc = then_quiet acc (reading_tag f n x acc) (λ u. item (chosen (tag_of n x) absent) ∷ []) (tag_quiet n f x acc)
 read_tag_quiet n f _ acc = refl
 
 flags_quiet : (ws : Option (List Word)) (acc : Account PlainItem) → Quietly acc (as_flags ws acc)

@@ -10,7 +10,7 @@ use Rattle.abi_driver.specs.declared.plain.Place.{Place}
 use Rattle.abi_driver.specs.Account.{Done, Outcome, Peer, Stuck, then_do}
 use Rattle.abi_driver.specs.Arms.{choosing, serves_others}
 use Rattle.abi_driver.specs.Meaning.{Bound, Datum, Ended, Name, at_place, item, the_base, the_element, the_key, the_payload, the_value, with_element, with_entry, with_nothing, with_payload, word}
-use Rattle.abi_driver.specs.PlainValues.{PlainItem, PlainPayload, chosen, data_own, no_payload, owned_by, owned_by_payload, payload_of}
+use Rattle.abi_driver.specs.PlainValues.{PlainItem, PlainPayload, chosen, data_own, absent, owned_by, owned_by_payload, present}
 use Rattle.abi_driver.specs.PlainSteps.{PlainState, all_at, inputs, performed, put, removed}
 
 -- 1. Blocks
@@ -74,8 +74,8 @@ given_to to ds s = record s { values = put to ds s.values; owns = s.owns ++ data
 
 -- what the block of a case is run with
 abbrev pub run_with : PlainPayload → Bound PlainItem
-run_with no_payload = with_nothing
-run_with (payload_of a) = with_payload a
+run_with absent = with_nothing
+run_with (present a) = with_payload a
 
 abbrev pub run_arm : Option Request → Peer PlainItem → Bound PlainItem → PlainState → Option BodyRun → Outcome PlainItem (Ended PlainItem PlainState)
 run_arm area p with s None = Stuck s.account
@@ -99,8 +99,8 @@ last_of false f = false
 
 -- the case of this number is put into a place, with what its block gave as payload
 abbrev pub made_case : ℕ → ℕ → Ended PlainItem PlainState → List (Datum PlainItem) → Outcome PlainItem PlainState
-made_case to n e [] = Done (given_to to (item (chosen n no_payload) ∷ []) e.state)
-made_case to n e (item a ∷ []) = Done (given_to to (item (chosen n (payload_of a)) ∷ []) e.state)
+made_case to n e [] = Done (given_to to (item (chosen n absent) ∷ []) e.state)
+made_case to n e (item a ∷ []) = Done (given_to to (item (chosen n (present a)) ∷ []) e.state)
 made_case to n e _ = Stuck e.state.account
 
 abbrev pub lifting : ℕ → Bool → List BodyRun → Option (List (Datum PlainItem)) → LineRun

@@ -26,7 +26,7 @@ use Rattle.abi_driver.specs.Account.{addresses}
 use Rattle.abi_driver.specs.Meaning.{Datum, Fact, item, word}
 use Rattle.abi_driver.specs.Laws.{Sound}
 use Rattle.abi_driver.specs.Plain.{IsRight, fact_owns, plain_meaning}
-use Rattle.abi_driver.specs.PlainValues.{IsPlainText, PlainCaseStands, PlainItem, PlainItems, PlainPartsStand, PlainPayload, PlainStands, chosen, item_and, leaf, listed, no_items, no_payload, owned_by, owned_by_all, owned_by_payload, payload_of, whole}
+use Rattle.abi_driver.specs.PlainValues.{IsPlainText, PlainCaseStands, PlainItem, PlainItems, PlainPartsStand, PlainPayload, PlainStands, chosen, item_and, leaf, listed, no_items, absent, owned_by, owned_by_all, owned_by_payload, present, whole}
 
 -- 1. Lists of facts
 
@@ -69,7 +69,7 @@ number_in _ = 0
 
 payload_in : PlainItem → PlainPayload
 payload_in (chosen n payload) = payload
-payload_in _ = no_payload
+payload_in _ = absent
 
 first_or : Word → List Word → Word
 first_or x [] = x
@@ -104,10 +104,10 @@ unfolding payload_in
 same_payload n k p q e = ap payload_in e
 
 only_item : PlainItem → PlainPayload → PlainItem
-only_item d no_payload = d
-only_item d (payload_of a) = a
+only_item d absent = d
+only_item d (present a) = a
 
-same_only : (a b : PlainItem) → payload_of a ≡ payload_of b → a ≡ b
+same_only : (a b : PlainItem) → present a ≡ present b → a ≡ b
 unfolding only_item
 same_only a b e = ap (only_item a) e
 
@@ -181,10 +181,10 @@ mutual
   -- a case is told by its number, and its payload by the item
   case_same : (ts : Shapes) (u v : Case ts) (p q : PlainPayload) (xs ys : List Block) → p ≡ q → case_number ts u ≡ case_number ts v → IsListedCase ts u → IsListedCase ts v → PlainCaseStands take ts u p xs → PlainCaseStands take ts v q ys → Same (Case ts) u v xs ys
   case_same none u v p q xs ys pq e hu hv h g = elim u [ ]
-  case_same (more t ts) (inl u) (inl v) no_payload no_payload xs ys pq e hu hv h g = (ap (λ x. inl x) (nothing_same t h.0 u v), h.1 ∙ sym g.1)
-  case_same (more t ts) (inl u) (inl v) no_payload (payload_of b) xs ys pq e hu hv h g = absurd (let k = pq in cc)
-  case_same (more t ts) (inl u) (inl v) (payload_of a) no_payload xs ys pq e hu hv h g = absurd (let k = pq in cc)
-  case_same (more t ts) (inl u) (inl v) (payload_of a) (payload_of b) xs ys pq e hu hv h g =
+  case_same (more t ts) (inl u) (inl v) absent absent xs ys pq e hu hv h g = (ap (λ x. inl x) (nothing_same t h.0 u v), h.1 ∙ sym g.1)
+  case_same (more t ts) (inl u) (inl v) absent (present b) xs ys pq e hu hv h g = absurd (let k = pq in cc)
+  case_same (more t ts) (inl u) (inl v) (present a) absent xs ys pq e hu hv h g = absurd (let k = pq in cc)
+  case_same (more t ts) (inl u) (inl v) (present a) (present b) xs ys pq e hu hv h g =
       let same = stands_same t u v a b xs ys (same_only a b pq) hu hv h.1 g.1 in
       (ap (λ x. inl x) same.0, same.1)
   case_same (more t ts) (inl u) (inr v) p q xs ys pq e hu hv h g = absurd (omega (arith, e))
@@ -266,8 +266,8 @@ mutual
 
   case_given : (ts : Shapes) (c : Case ts) (payload : PlainPayload) (own : List Block) → PlainCaseStands take ts c payload own → PlainCaseStands give ts c payload own
   case_given none c payload own h = h
-  case_given (more t ts) (inl v) no_payload own h = h
-  case_given (more t ts) (inl v) (payload_of a) own h = (h.0, given_on t v a own h.1)
+  case_given (more t ts) (inl v) absent own h = h
+  case_given (more t ts) (inl v) (present a) own h = (h.0, given_on t v a own h.1)
   case_given (more t ts) (inr c) payload own h = case_given ts c payload own h
 
 mutual
@@ -291,8 +291,8 @@ mutual
 
   case_taken : (ts : Shapes) (c : Case ts) (payload : PlainPayload) (own : List Block) → PlainCaseStands give ts c payload own → PlainCaseStands take ts c payload own
   case_taken none c payload own h = h
-  case_taken (more t ts) (inl v) no_payload own h = h
-  case_taken (more t ts) (inl v) (payload_of a) own h = (h.0, taken_on t v a own h.1)
+  case_taken (more t ts) (inl v) absent own h = h
+  case_taken (more t ts) (inl v) (present a) own h = (h.0, taken_on t v a own h.1)
   case_taken (more t ts) (inr c) payload own h = case_taken ts c payload own h
 
 placed_bare : (heap : List Block) (address n : ℕ) (v : List ℕ) (own : List Block) → IsPlaced (lend heap) true address n 1 (TextHolds v) own → own ≡ []
@@ -320,8 +320,8 @@ mutual
 
   case_bare : (heap : List Block) (ts : Shapes) (c : Case ts) (payload : PlainPayload) (own : List Block) → PlainCaseStands (lend heap) ts c payload own → own ≡ []
   case_bare heap none c payload own h = absurd h
-  case_bare heap (more t ts) (inl v) no_payload own h = h.1
-  case_bare heap (more t ts) (inl v) (payload_of a) own h = bare_on heap t v a own h.1
+  case_bare heap (more t ts) (inl v) absent own h = h.1
+  case_bare heap (more t ts) (inl v) (present a) own h = bare_on heap t v a own h.1
   case_bare heap (more t ts) (inr c) payload own h = case_bare heap ts c payload own h
 
 -- 5. What an item owns
@@ -353,8 +353,8 @@ mutual
 
   pub owned_case : (dir : Direction) (ts : Shapes) (c : Case ts) (payload : PlainPayload) (own : List Block) → PlainCaseStands dir ts c payload own → owned_by_payload payload ≡ addresses own
   owned_case dir none c payload own h = absurd h
-  owned_case dir (more t ts) (inl v) no_payload own h = ap addresses (sym h.1)
-  owned_case dir (more t ts) (inl v) (payload_of a) own h = owned_is dir t v a own h.1
+  owned_case dir (more t ts) (inl v) absent own h = ap addresses (sym h.1)
+  owned_case dir (more t ts) (inl v) (present a) own h = owned_is dir t v a own h.1
   owned_case dir (more t ts) (inr c) payload own h = owned_case dir ts c payload own h
 
 -- 6. The laws

@@ -33,7 +33,7 @@ use Rattle.abi_driver.specs.Cases.{reading_tag, tag_of}
 use Rattle.abi_driver.specs.Meaning.{Datum, Name, item, the_payload, word}
 use Rattle.abi_driver.specs.Memory.{Access, freeing, loading, storing}
 use Rattle.abi_driver.specs.Touches.{Touch, loads, part_grain, stores}
-use Rattle.abi_driver.specs.PlainValues.{PlainItem, chosen, data_own, gathered, leaf, listed, no_payload, owned_by, payload_of, whole}
+use Rattle.abi_driver.specs.PlainValues.{PlainItem, chosen, data_own, gathered, leaf, listed, absent, owned_by, present, whole}
 
 -- 1. Scalars, by their types
 
@@ -161,8 +161,8 @@ PlainAct = Act PlainItem (List (Datum PlainItem))
 
 abbrev pub passing : List (Datum PlainItem) → PlainAct
 passing (item (leaf ws own) ∷ []) acc = then_do (releasing (addresses own) acc) (λ u. gives (map (λ w. word w) ws) u.account)
-passing (item (chosen n no_payload) ∷ []) acc = gives (word (core.I32 (pos n)) ∷ []) acc
-passing (item (chosen n (payload_of a)) ∷ []) acc = then_do (releasing (owned_by a) acc) (λ u. gives (word (core.I32 (pos n)) ∷ []) u.account)
+passing (item (chosen n absent) ∷ []) acc = gives (word (core.I32 (pos n)) ∷ []) acc
+passing (item (chosen n (present a)) ∷ []) acc = then_do (releasing (owned_by a) acc) (λ u. gives (word (core.I32 (pos n)) ∷ []) u.account)
 passing _ acc = Stuck acc
 
 abbrev pub read_as : Scalar → Form → List (Datum PlainItem) → PlainAct
@@ -170,7 +170,7 @@ read_as s f (word x ∷ []) acc = then_do (reading s f x acc) (λ u. gives (item
 read_as s f _ acc = Stuck acc
 
 abbrev pub read_tag : ℕ → Form → List (Datum PlainItem) → PlainAct
-read_tag n f (word x ∷ []) acc = then_do (reading_tag f n x acc) (λ u. gives (item (chosen (tag_of n x) no_payload) ∷ []) u.account)
+read_tag n f (word x ∷ []) acc = then_do (reading_tag f n x acc) (λ u. gives (item (chosen (tag_of n x) absent) ∷ []) u.account)
 read_tag n f _ acc = Stuck acc
 
 abbrev pub take_text : Form → List (Datum PlainItem) → PlainAct

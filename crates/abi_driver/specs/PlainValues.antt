@@ -29,8 +29,8 @@ mutual
     item_and : PlainItem → PlainItems → PlainItems
 
   pub data PlainPayload : Type 0 where
-    no_payload : PlainPayload
-    payload_of : PlainItem → PlainPayload
+    absent : PlainPayload
+    present : PlainItem → PlainPayload
 
 abbrev pub listed : PlainItems → List PlainItem
 listed no_items = []
@@ -48,8 +48,8 @@ abbrev mutual
   owned_by_all (item_and a items) = owned_by a ++ owned_by_all items
 
   pub owned_by_payload : PlainPayload → List ℕ
-  owned_by_payload no_payload = []
-  owned_by_payload (payload_of a) = owned_by a
+  owned_by_payload absent = []
+  owned_by_payload (present a) = owned_by a
 
 abbrev pub datum_owns : Datum PlainItem → List ℕ
 datum_owns (word x) = []
@@ -92,6 +92,6 @@ abbrev mutual
   -- of a case without payload there need not be an item
   pub PlainCaseStands : Direction → (ts : Shapes) → Case ts → PlainPayload → List Block → Type 0
   PlainCaseStands dir none c payload own = ⊥
-  PlainCaseStands dir (more t ts) (inl v) no_payload own = (is_nothing t ≡ true) × (own ≡ [])
-  PlainCaseStands dir (more t ts) (inl v) (payload_of a) own = (is_nothing t ≡ false) × PlainStands dir t v a own
+  PlainCaseStands dir (more t ts) (inl v) absent own = (is_nothing t ≡ true) × (own ≡ [])
+  PlainCaseStands dir (more t ts) (inl v) (present a) own = (is_nothing t ≡ false) × PlainStands dir t v a own
   PlainCaseStands dir (more t ts) (inr c) payload own = PlainCaseStands dir ts c payload own

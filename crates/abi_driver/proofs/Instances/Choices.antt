@@ -18,7 +18,7 @@ use Rattle.abi_driver.specs.Account.{Account, Done, Outcome, Peer, Stopped, Stuc
 use Rattle.abi_driver.specs.Meaning.{Datum, item, with_nothing, with_payload, word}
 use Rattle.abi_driver.specs.PlainLines.{BodyRun, LineRun, all_of, does_line, ended, entered, line_step, runs, runs_body}
 use Rattle.abi_driver.specs.PlainSteps.{PlainState, all_at, inputs, performed}
-use Rattle.abi_driver.specs.PlainValues.{PlainItem, chosen, leaf, no_payload, payload_of}
+use Rattle.abi_driver.specs.PlainValues.{PlainItem, chosen, leaf, absent, present}
 use Rattle.abi_driver.proofs.PlainBlocks.{does_lines}
 use Rattle.abi_driver.proofs.PlainChoices.{does_lift, does_lower}
 use Rattle.abi_driver.proofs.PlainRuns.{does_step}
@@ -121,14 +121,14 @@ record Leaves (f : Form) (a : PlainItem) (tag payload : Word) (back : PlainItem)
   payload_there : end.values 7 ≡ Some (word payload)
   comes_back : end.values 9 ≡ Some (item back)
 
-some_comes_back : (f : Form) → Leaves f (chosen 1 (payload_of seven)) (core.I32 (pos 1)) (core.I32 (pos 7)) (chosen 1 (payload_of seven))
+some_comes_back : (f : Form) → Leaves f (chosen 1 (present seven)) (core.I32 (pos 1)) (core.I32 (pos 7)) (chosen 1 (present seven))
 some_comes_back f =
-    let a = chosen 1 (payload_of seven) in
+    let a = chosen 1 (present seven) in
     record { end = state_in (from a) (both_run f (from a)); done = both_is f (from a); tag_there = refl; payload_there = refl; comes_back = refl }
 
-none_comes_back : (f : Form) → Leaves f (chosen 0 no_payload) (core.I32 (pos 0)) (core.I32 (pos 0)) (chosen 0 no_payload)
+none_comes_back : (f : Form) → Leaves f (chosen 0 absent) (core.I32 (pos 0)) (core.I32 (pos 0)) (chosen 0 absent)
 none_comes_back f =
-    let a = chosen 0 no_payload in
+    let a = chosen 0 absent in
     record { end = state_in (from a) (both_run f (from a)); done = both_is f (from a); tag_there = refl; payload_there = refl; comes_back = refl }
 
 -- a number that is no case is a trap in the debug form, and has no meaning in the other
