@@ -1,5 +1,5 @@
 -- The rows of instructions that add no statement, and of those that bind one local.
-use Rattle.std.proofs.Common.{◌≡◌, ℕ, Bool, true, false, if◌then◌else◌, List, [], ◌∷◌, ◌++◌, map, Option, None, Some, refl, sym, ap, ◌∙◌, subst, arith, append-nil, append_assoc}
+use Rattle.std.proofs.Common.{◌≡◌, ℕ, zero, suc, drop, Bool, true, false, if◌then◌else◌, List, [], ◌∷◌, ◌++◌, map, Option, None, Some, refl, sym, ap, ◌∙◌, subst, arith, append-nil, append_assoc}
 use Rattle.std.specs.Prelude.{option_and_then}
 use Rattle.wit_model.specs.Bytes.{Bytes}
 use Rattle.wit_model.specs.declared.types.TypeDef.{TypeDef}
@@ -63,6 +63,14 @@ unmoved s = record { heap = refl; taken = refl; place = refl; under = λ n v h. 
 
 pub quiet_none : (w : Setting) → Quiet (run_stmts w [])
 quiet_none w = quiet_pure tt
+
+-- of no finished blocks none is used up
+abbrev no_blocks : List ⊥
+no_blocks = []
+
+pub none_dropped : (n : ℕ) → no_blocks ≡ drop n no_blocks
+none_dropped zero = refl
+none_dropped (suc n) = refl
 
 -- no statement was added
 module _ (old new : FunctionBindgen) (items : List RuntimeItem) (a : Appends old new [] items) (scope : new.scope ≡ old.scope) where

@@ -50,10 +50,9 @@ use Rattle.func_gen.specs.Formed.{Formed}
 use Rattle.abi_driver.specs.Sent.{sends}
 use Rattle.func_gen.proofs.Emissions.{cast_emitted, conversion_emitted, kept_emitted}
 use Rattle.func_gen.proofs.Forming.{form_alone, ordinary_plain}
-use Rattle.func_gen.proofs.Rows.{none_adds, swaps, tests}
+use Rattle.func_gen.proofs.Rows.{none_adds, swaps, tests, none_dropped}
 use Rattle.wrapper_meaning.proofs.Lists.{some_or}
 use Rattle.func_gen.proofs.Scalars.{cast_word, conversion_to, converts_scalar, is_number, stands_scalar, taken_is, taken_word}
-use Rattle.abi_driver.proofs.PlainRows.{none_dropped}
 
 -- 1. What is emitted
 

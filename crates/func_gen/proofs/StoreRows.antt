@@ -54,7 +54,7 @@ use Rattle.func_gen.proofs.Forming.{form_effect, ordinary_plain}
 use Rattle.func_gen.proofs.MemoryTies.{by_blocks, byte_stored, f32_stored, f64_stored, half_stored, i32_stored, i64_stored, length_stored, pointer_stored, ranged_blocks, stored_low, stored_word}
 use Rattle.func_gen.proofs.Quiet.{quiet_operand}
 use Rattle.func_gen.proofs.Writing.{Keeps, Writes, finish, finishes, one_adds, there_written, writes}
-use Rattle.abi_driver.proofs.PlainRows.{none_dropped}
+use Rattle.func_gen.proofs.Rows.{none_dropped}
 
 -- 1. What is emitted
 
