@@ -34,6 +34,7 @@ use Rattle.wrapper_run.specs.Run.{eval, run_stmts}
 use Rattle.wrapper_run.proofs.GiveSteps.{eval-static}
 use Rattle.wrapper_run.proofs.QuietSteps.{quiet_static}
 use Rattle.wrapper_run.proofs.StepLemmas.{Quiet, quiet_or_stop}
+use Rattle.wrapper_run.proofs.StmtSteps.{runs-let}
 use Rattle.wrapper_run.proofs.TakeLemmas.{area_gives, eval-return_pointer}
 use Rattle.abi_driver.specs.declared.bindgen.Asked.{Asked}
 use Rattle.abi_driver.specs.Account.{Done, Follows, Got, Outcome, Peer, Stopped, Stuck}
@@ -248,7 +249,7 @@ module _ (a : Asked) (old mid : FunctionBindgen) (n : Bytes) (added : Appends ol
           let evaluated = static_steps (setting_for w p) s.machine sa unplaced there in
           let runs = steps expr.StaticPointer pointer
           ∙ ap (λ x. seen x (run_stmts (setting_for w p) (stmt.Let n expr.StaticPointer ∷ []) s.machine)) outside
-          ∙ ap (λ o. seen None (and_then (and_then o (bind n)) (λ u. pure tt))) evaluated in
+          ∙ ap (seen None) (runs-let (setting_for w p) n expr.StaticPointer [] s.machine) ∙ ap (λ o. seen None (and_then (and_then o (bind n)) (λ u. pure tt))) evaluated in
           let acc = account_of s.machine in
           let r = request_of sa.size sa.align in
           subst (λ o. Follows func_meaning.account (areas.placing r acc) o (λ x t. After func_meaning w (asking a mid) (of (operand_of (expr.Local n)) (word (core.Pointer x.result)) ∷ others) (newly None x.result) [] s x t)) (sym runs)

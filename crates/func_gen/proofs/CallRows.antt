@@ -34,9 +34,10 @@ use Rattle.wrapper_values.specs.Locals.{bind, declare, import_named, local_named
 use Rattle.wrapper_values.specs.Setting.{Setting, stuck}
 use Rattle.wrapper_run.specs.Blocks.{drop_value, free_all}
 use Rattle.wrapper_run.specs.Memory.{begins_at, block_from}
-use Rattle.wrapper_run.specs.Run.{alone, answer_act, call_point, called_with, callee, eval, point_of, take_answer, unhidden}
+use Rattle.wrapper_run.specs.Run.{alone, answer_act, call_point, called_with, callee, eval, point_of, run_stmts, take_answer, unhidden}
 use Rattle.wrapper_run.proofs.LocalLemmas.{bytes_eq-same, last-append, reads-new}
 use Rattle.wrapper_run.proofs.StepLemmas.{Give, call_gives, import_gives}
+use Rattle.wrapper_run.proofs.StmtSteps.{run-import, runs-expr, runs-first, runs-let}
 use Rattle.abi_driver.specs.declared.instruction.Instruction.TheVariants as instruction
 use Rattle.abi_driver.specs.Account.{Account, Done, Follows, Got, Outcome, Peer, Reply, Stuck, has_type, have_types, value as value_reply, words}
 use Rattle.abi_driver.specs.Calls.{CallsCore, answered_by, calling, call_point as core_point, import_params, import_results, recorded}
@@ -123,6 +124,10 @@ words_give w b (o ∷ os) (x ∷ ws) others s len h =
 calls_alone : (name : Bytes) → callee (local_path name) ≡ alone name
 unfolding callee
 calls_alone name = refl
+
+declared_runs : (w : Setting) (d : ImportDecl) (more : List Stmt) (s : State) → run_stmts w (stmt.Import d ∷ more) s ≡ run_stmts w more (record s { imports = s.imports ++ d ∷ [] })
+unfolding declare
+declared_runs w d more s = runs-first w (stmt.Import d) (declare d) more s (run-import w d)
 
 module _ (w : Setting) (d : ImportDecl) (s : State) (ws : List Word) where
   abbrev declared : State
@@ -254,7 +259,8 @@ module _ (types : List TypeDef) (f : Function) (os : List ExprOperand) (old new 
       let free = h.within adds.import (adds.names.free adds.import (ap (λ b. b || false) (bytes_eq-same adds.import))) in
       let give = words_give w old os ws others (declared w d s.machine ws) (len ∙ sym (types_length (import_params types f) ws fit)) (record { right = at.holds.hold.right; apart = at.holds.hold.apart; within = at.holds.hold.within }) in
       let run : func_meaning.does file p new.code s0 ≡ finished old new file p d s ws others None (drop_value w) p.reply =
-      ran old new stmts [] adds.stmts file p (ins ++ others) s0 s at ∙ ap (λ o. seen s.area (and_then (and_then o (drop_value w)) (λ u. pure tt))) (called_gives w d s.machine ws (exprs os) free fit give) in
+      ran old new stmts [] adds.stmts file p (ins ++ others) s0 s at ∙ ap (seen s.area) (declared_runs w d (stmt.Expr (expr.Call (local_path adds.import) (exprs os)) ∷ []) s.machine ∙ runs-expr w (expr.Call (local_path adds.import) (exprs os)) [] (declared w d s.machine ws))
+      ∙ ap (λ o. seen s.area (and_then (and_then o (drop_value w)) (λ u. pure tt))) (called_gives w d s.machine ws (exprs os) free fit give) in
       let last = lasts file.items old new others s.machine s.machine adds.stmts.params (λ n v e. e) (λ n fr. h.within n (split_used old new (adds.import ∷ []) adds.names n fr).0) h in
       subst (λ q. Follows func_meaning.account (calling q ws (import_results types f) p.reply (account_of s.machine)) (func_meaning.does file p new.code s0) (Ended old new file p d s ws others [])) (sym (core_target old f imports))
       (subst (λ q. Follows func_meaning.account (answered_by (import_results types f) p.reply (account1 old new file p d s ws others)) q (Ended old new file p d s ws others [])) (sym run)
@@ -277,7 +283,8 @@ module _ (types : List TypeDef) (f : Function) (os : List ExprOperand) (old new 
       let free_ret = h.within ret (adds.names.free ret (used_last adds.import ret)) in
       let give = words_give w old os ws others (declared w d s.machine ws) (len ∙ sym (types_length (import_params types f) ws fit)) (record { right = at.holds.hold.right; apart = at.holds.hold.apart; within = at.holds.hold.within }) in
       let run : func_meaning.does file p new.code s0 ≡ finished old new file p d s ws others (Some ty) (bind ret) p.reply =
-      ran old new stmts [] adds.stmts file p (ins ++ others) s0 s at ∙ ap (λ o. seen s.area (and_then (and_then o (bind ret)) (λ u. pure tt))) (called_gives w d s.machine ws (exprs os) free fit give) in
+      ran old new stmts [] adds.stmts file p (ins ++ others) s0 s at ∙ ap (seen s.area) (declared_runs w d (stmt.Let ret (expr.Call (local_path adds.import) (exprs os)) ∷ []) s.machine ∙ runs-let w ret (expr.Call (local_path adds.import) (exprs os)) [] (declared w d s.machine ws))
+      ∙ ap (λ o. seen s.area (and_then (and_then o (bind ret)) (λ u. pure tt))) (called_gives w d s.machine ws (exprs os) free fit give) in
       let den : (x : Word) (writes : List (ℕ × ℕ)) (blocks : List Block) → Denote file new (of (operand_of (expr.Local ret)) (word x) ∷ others) (record { machine = behind old new file p d s ws others ret x writes blocks; area = s.area }) = λ x writes blocks.
       let t = behind old new file p d s ws others ret x writes blocks in
       let under = bound_under (left old new file p d s ws others writes blocks) ret (val.Word x) free_ret in

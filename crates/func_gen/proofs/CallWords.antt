@@ -9,7 +9,7 @@ use Rattle.wit_model.specs.declared.wasm_type.WasmType.TheVariants as wasm
 use Rattle.wit_layout.specs.declared.flat.Flat.{Flat}
 use Rattle.wit_layout.specs.declared.signature.AbiVariant.TheVariants.{GuestImport}
 use Rattle.wit_layout.specs.Flat.{IsFlatOf}
-use Rattle.wit_layout.specs.Signature.{are_many, core_params, direct_words, needs_pointer}
+use Rattle.wit_layout.specs.Signature.{core_params, direct_words, needs_pointer}
 use Rattle.wrapper_data.specs.declared.word.Word.{Word}
 use Rattle.wrapper_data.specs.declared.word.Word.TheVariants as core
 use Rattle.wrapper_values.specs.declared.state.Val.TheVariants as val

@@ -4,7 +4,7 @@ use Rattle.std.specs.Prelude.{codes, decimal, option_and_then, option_map}
 use Rattle.wit_model.specs.Bytes.{Bytes}
 use Rattle.wit_model.specs.declared.name.TypeId.{TypeId}
 use Rattle.wit_model.specs.declared.size.ArchitectureSize.{ArchitectureSize}
-use Rattle.rust_tree.specs.CodeText.{Spelled, expr_spelled, expr_step, expr_text, flags_of_words_text, stmt_text, term_text}
+use Rattle.rust_tree.specs.CodeText.{Spelled, arm_step, block_step, expr_spelled, expr_step, expr_text, flags_of_words_text, stmt_step, stmt_text, term_text}
 use Rattle.rust_tree.specs.Runtime.{item_name}
 use Rattle.rust_tree.specs.Word.{expr_word, flags_word, sign}
 use Rattle.rust_tree.specs.declared.expr.CastType.{CastType}
@@ -18,6 +18,9 @@ use Rattle.rust_tree.specs.declared.path.Path.{Path}
 use Rattle.rust_tree.specs.declared.repr.Repr.{Repr}
 use Rattle.rust_tree.specs.declared.repr.Repr.TheVariants as repr_of
 use Rattle.rust_tree.specs.declared.runtime_item.RuntimeItem.TheVariants as runtime
+use Rattle.rust_tree.specs.declared.stmt.Stmt.{Stmt-F, fold-roll-Stmt}
+use Rattle.rust_tree.specs.declared.stmt.Stmt.TheVariants as stmt
+use Rattle.rust_tree.specs.declared.stmt.Stmt.TheVariants.{rolls-Expr, rolls-Let, rolls-StoreSmall}
 use Rattle.wrapper_run.specs.Run.{lift_name}
 use Rattle.abi_driver.specs.declared.instruction.Instruction.{Instruction}
 use Rattle.abi_driver.specs.declared.instruction.Instruction.TheVariants.{BoolFromI32, EnumLift, EnumLower, FlagsLift, FlagsLower, I32FromBool, I32Load8U, I32Store8, StringLift, StringLower}
@@ -74,7 +77,18 @@ spelled-small e o ty = ap expr_spelled (sym (rolls-LoadSmall e o ty)) ∙ fold-r
 spelled-boxed : (n : Bytes) → expr_spelled (expr.IntoBoxedBytes n) ≡ expr_step (Expr-F.IntoBoxedBytes n)
 spelled-boxed n = ap expr_spelled (sym (rolls-IntoBoxedBytes n)) ∙ fold-roll-Expr Spelled expr_step (Expr-F.IntoBoxedBytes n)
 
--- 2. Instructions
+-- 2. Statements
+
+printed-let : (n : Bytes) (e : Expr) → stmt_text (stmt.Let n e) ≡ stmt_step (Stmt-F.Let n e)
+printed-let n e = ap stmt_text (sym (rolls-Let n e)) ∙ fold-roll-Stmt Bytes Bytes Bytes stmt_step arm_step block_step (Stmt-F.Let n e)
+
+printed-expr : (e : Expr) → stmt_text (stmt.Expr e) ≡ stmt_step (Stmt-F.Expr e)
+printed-expr e = ap stmt_text (sym (rolls-Expr e)) ∙ fold-roll-Stmt Bytes Bytes Bytes stmt_step arm_step block_step (Stmt-F.Expr e)
+
+printed-store_small : (address : Expr) (o : ArchitectureSize) (ty : SmallType) (e : Expr) → stmt_text (stmt.StoreSmall address o ty e) ≡ stmt_step (Stmt-F.StoreSmall address o ty e)
+printed-store_small address o ty e = ap stmt_text (sym (rolls-StoreSmall address o ty e)) ∙ fold-roll-Stmt Bytes Bytes Bytes stmt_step arm_step block_step (Stmt-F.StoreSmall address o ty e)
+
+-- 3. Instructions
 
 abbrev printed : Emission → List Bytes × List Bytes
 printed e = (map stmt_text e.stmts, map expr_text e.results)
@@ -98,20 +112,20 @@ let_is prefix t e = prefix ++ n t ++ codes " = " ++ e ++ codes ";\n"
 
 lower_bool : (b : FunctionBindgen) (t : ℕ) → shown b I32FromBool (a ∷ []) t ≡ Some (let_is (codes "let b") t (codes "match a { true => 1i32, false => 0i32 }") ∷ [], (codes "b" ++ n t) ∷ [])
 unfolding sign expr_word
-lower_bool b t = rw (spelled-bool a, spelled-local (codes "a"), spelled-local (codes "b" ++ n t), expr_text) refl
+lower_bool b t = rw (printed-let, spelled-bool a, spelled-local (codes "a"), spelled-local (codes "b" ++ n t), expr_text) refl
 
 lift_bool : (b : FunctionBindgen) (t : ℕ) → shown b BoolFromI32 (a ∷ []) t ≡ Some (let_is (codes "let b") t (codes "_rt::bool_lift(a as u8)") ∷ [], (codes "b" ++ n t) ∷ [])
 unfolding sign expr_word runtime_name item_name
-lift_bool b t = rw (spelled-call (runtime_path runtime.BoolLift) (expr.Cast a cast.U8 ∷ []), spelled-cast a cast.U8, spelled-local (codes "a"), spelled-local (codes "b" ++ n t), expr_text) refl
+lift_bool b t = rw (printed-let, spelled-call (runtime_path runtime.BoolLift) (expr.Cast a cast.U8 ∷ []), spelled-cast a cast.U8, spelled-local (codes "a"), spelled-local (codes "b" ++ n t), expr_text) refl
 
 load_byte : (b : FunctionBindgen) (o : ArchitectureSize) (t : ℕ) → shown b (I32Load8U o) (a ∷ []) t
     ≡ Some (let_is (codes "let l") t (codes "i32::from(*a" ++ (codes ".add(" ++ term_text o ++ codes ").cast::<" ++ codes "u8" ++ codes ">()") ++ codes ")") ∷ [], (codes "l" ++ n t) ∷ [])
 unfolding sign expr_word
-load_byte b o t = rw (spelled-small a o small.U8, spelled-local (codes "a"), spelled-local (codes "l" ++ n t), expr_text) refl
+load_byte b o t = rw (printed-let, spelled-small a o small.U8, spelled-local (codes "a"), spelled-local (codes "l" ++ n t), expr_text) refl
 
 store_byte : (b : FunctionBindgen) (o : ArchitectureSize) (t : ℕ) → shown b (I32Store8 o) (a ∷ c ∷ []) t ≡ Some ((codes "*c" ++ (codes ".add(" ++ term_text o ++ codes ").cast::<" ++ codes "u8" ++ codes ">()") ++ codes " = " ++ codes "(a) as u8" ++ codes ";\n") ∷ [], [])
 unfolding sign expr_word
-store_byte b o t = rw (spelled-local (codes "c"), spelled-local (codes "a"), expr_text) refl
+store_byte b o t = rw (printed-store_small, spelled-local (codes "c"), spelled-local (codes "a"), expr_text) refl
 
 lend_text : (b : FunctionBindgen) (t : ℕ) → shown b (StringLower false) (a ∷ []) t
     ≡ Some (
@@ -119,7 +133,7 @@ lend_text : (b : FunctionBindgen) (t : ℕ) → shown b (StringLower false) (a �
       (codes "ptr" ++ n t ++ codes ".cast_mut()") ∷ (codes "len" ++ n t) ∷ [],
     )
 unfolding sign expr_word
-lend_text b t = rw (spelled-local (codes "a"), spelled-pointer (vec_name t), spelled-len (vec_name t), spelled-mut (ptr_name t), spelled-local (len_name t), expr_text) refl
+lend_text b t = rw (printed-let, printed-let, printed-let, spelled-local (codes "a"), spelled-pointer (vec_name t), spelled-len (vec_name t), spelled-mut (ptr_name t), spelled-local (len_name t), expr_text) refl
 
 give_text : (b : FunctionBindgen) (t : ℕ) → shown b (StringLower true) (a ∷ []) t
     ≡ Some (
@@ -129,7 +143,7 @@ give_text : (b : FunctionBindgen) (t : ℕ) → shown b (StringLower true) (a �
     )
 unfolding sign expr_word forget_names
 give_text b t =
-    rw (local_is (codes "a"), spelled-boxed (codes "a"), spelled-pointer (vec_name t), spelled-len (vec_name t), spelled-call forget_path (expr.Local (vec_name t) ∷ []), spelled-local (vec_name t), spelled-mut (ptr_name t), spelled-local (len_name t), expr_text) refl
+    rw (local_is (codes "a"), printed-let, printed-let, printed-let, printed-expr, spelled-boxed (codes "a"), spelled-pointer (vec_name t), spelled-len (vec_name t), spelled-call forget_path (expr.Local (vec_name t) ∷ []), spelled-local (vec_name t), spelled-mut (ptr_name t), spelled-local (len_name t), expr_text) refl
 
 take_text : (b : FunctionBindgen) (t : ℕ) → shown b StringLift (a ∷ c ∷ []) t
     ≡ Some (
@@ -139,7 +153,7 @@ take_text : (b : FunctionBindgen) (t : ℕ) → shown b StringLift (a ∷ c ∷ 
     )
 unfolding sign expr_word runtime_name item_name
 take_text b t =
-    rw (spelled-local (codes "c"), spelled-raw a (len_name t), spelled-local (codes "a"), spelled-call (runtime_path runtime.StringLift) (expr.Local (bytes_name t) ∷ []), spelled-local (bytes_name t), spelled-local (text_name t), expr_text) refl
+    rw (printed-let, printed-let, printed-let, spelled-local (codes "c"), spelled-raw a (len_name t), spelled-local (codes "a"), spelled-call (runtime_path runtime.StringLift) (expr.Local (bytes_name t) ∷ []), spelled-local (bytes_name t), spelled-local (text_name t), expr_text) refl
 
 lower_enum : (b : FunctionBindgen) (id : TypeId) (t : ℕ) → shown b (EnumLower id) (a ∷ []) t ≡ Some ([], codes "(a).clone() as i32" ∷ [])
 unfolding sign expr_word
@@ -153,7 +167,7 @@ lift_enum : (b : FunctionBindgen) (id : TypeId) (t : ℕ) → enum_at b.sites id
 unfolding sign expr_word lift_name
 lift_enum b id t h =
     ap (λ o. option_map (λ (code : ℕ → Emission). printed (code t)) (option_and_then (lifts_enum a) o)) h
-    ∙ rw (spelled-call (lift_path (codes "Color")) (expr.Cast a cast.U8 ∷ []), spelled-cast a cast.U8, spelled-local (codes "a"), spelled-local (codes "v" ++ n t), expr_text) refl
+    ∙ rw (printed-let, spelled-call (lift_path (codes "Color")) (expr.Cast a cast.U8 ∷ []), spelled-cast a cast.U8, spelled-local (codes "a"), spelled-local (codes "v" ++ n t), expr_text) refl
 
 -- flags of two words
 abbrev perms : FlagsSite
@@ -167,7 +181,7 @@ lower_flags : (b : FunctionBindgen) (id : TypeId) (t : ℕ) → flags_at b.sites
     ≡ Some (let_is (codes "let flags") t (codes "a") ∷ [], (codes "(flags" ++ n t ++ codes ".bits() >> " ++ decimal 0 ++ codes ") as i32") ∷ (codes "(flags" ++ n t ++ codes ".bits() >> " ++ decimal 32 ++ codes ") as i32") ∷ [])
 unfolding sign expr_word flags_word
 lower_flags b id t h =
-    ap (λ o. option_map (λ (code : ℕ → Emission). printed (code t)) (option_map (lowers_flags a) o)) h ∙ rw (spelled-local (codes "a"), spelled-bits (flags_local t) 0, spelled-bits (flags_local t) 32, expr_text) refl
+    ap (λ o. option_map (λ (code : ℕ → Emission). printed (code t)) (option_map (lowers_flags a) o)) h ∙ rw (printed-let, spelled-local (codes "a"), spelled-bits (flags_local t) 0, spelled-bits (flags_local t) 32, expr_text) refl
 
 -- `Perms::empty() | Perms::from_bits_retain(((a as u32 as u64) << 0) as _) | Perms::from_bits_retain(((c as u32 as u64) << 32) as _)`
 lift_flags : (b : FunctionBindgen) (id : TypeId) (t : ℕ) → flags_at b.sites id.0 ≡ Some perms → shown b (FlagsLift id) (a ∷ c ∷ []) t
@@ -175,4 +189,4 @@ lift_flags : (b : FunctionBindgen) (id : TypeId) (t : ℕ) → flags_at b.sites 
 unfolding sign expr_word flags_word
 lift_flags b id t h =
     ap (λ o. option_map (λ (code : ℕ → Emission). printed (code t)) (option_map (lifts_flags (a ∷ c ∷ [])) o)) h
-    ∙ rw (spelled-flags perms.path repr_of.U64 ((0, a) ∷ (32, c) ∷ []), spelled-local (codes "a"), spelled-local (codes "c"), spelled-local (flags_local t), expr_text) refl
+    ∙ rw (printed-let, spelled-flags perms.path repr_of.U64 ((0, a) ∷ (32, c) ∷ []), spelled-local (codes "a"), spelled-local (codes "c"), spelled-local (flags_local t), expr_text) refl

@@ -1,7 +1,7 @@
 -- The rows of enums: the number of a case, and the case of a word.
 use mathlib.Core.Logic.{inl, inr}
-use Rattle.std.proofs.Common.{rules, ◌≡◌, ◌++◌, ℕ, suc, ℤ, pos, Bool, true, false, cond, nat_lt, if◌then◌else◌, List, [], ◌∷◌, length, map, Option, None, Some, refl, sym, ap, ap₂, ◌∙◌, subst, ◌<◌, arith}
-use Rattle.std.specs.Prelude.{option_and_then, Result, Ok, Err, codes}
+use Rattle.std.proofs.Common.{rules, ◌≡◌, ◌++◌, ℕ, ℤ, pos, Bool, true, false, cond, nat_lt, if◌then◌else◌, List, [], ◌∷◌, length, Option, None, Some, refl, sym, ap, ap₂, ◌∙◌, subst, ◌<◌, arith}
+use Rattle.std.specs.Prelude.{option_and_then, Ok, Err, codes}
 use Rattle.std.specs.Option.{option_map}
 use Rattle.std.specs.Str.{bytes_eq}
 use Rattle.std.proofs.lemmas.Int.{ints}
@@ -9,7 +9,6 @@ use Rattle.wit_model.specs.Bytes.{Bytes}
 use Rattle.wit_model.specs.declared.name.TypeId.{TypeId}
 use Rattle.wit_model.specs.declared.types.Member.{Member}
 use Rattle.wit_model.specs.declared.types.TypeDef.{TypeDef}
-use Rattle.wit_model.specs.declared.types.TypeDefKind.TheVariants as kind
 use Rattle.wit_model.specs.declared.types.WitType.TheVariants as wit
 use Rattle.rust_tree.specs.declared.enum_item.EnumItem.{EnumItem}
 use Rattle.rust_tree.specs.declared.expr.CastType.{CastType}
@@ -23,7 +22,6 @@ use Rattle.rust_tree.specs.declared.stmt.Stmt.TheVariants as stmt
 use Rattle.wrapper_data.specs.declared.block.Block.{Block}
 use Rattle.wrapper_data.specs.declared.form.Form.{Form}
 use Rattle.wrapper_data.specs.declared.form.Form.TheVariants as form
-use Rattle.wrapper_data.specs.declared.run.TrapKind.{TrapKind}
 use Rattle.wrapper_data.specs.declared.run.TrapKind.TheVariants as trap
 use Rattle.wrapper_data.specs.declared.value.RustValue.{RustValue, RustValue-F, fold-RustValue, fold-roll-RustValue, out-RustValue, the_lemmas}
 use Rattle.wrapper_data.specs.declared.value.RustValue.TheVariants as value
@@ -32,9 +30,8 @@ use Rattle.wrapper_data.specs.declared.word.Word.{Word}
 use Rattle.wrapper_data.specs.declared.word.Word.TheVariants as core
 use Rattle.wrapper_meaning.specs.Direction.{Direction, take}
 use Rattle.wrapper_meaning.specs.Numbers.{low_bits}
-use Rattle.wrapper_meaning.specs.Shape.{Shape, bare, nothing, payloads_in, shapes}
+use Rattle.wrapper_meaning.specs.Shape.{bare}
 use Rattle.wrapper_meaning.specs.Shape.Shape.{cases}
-use Rattle.wrapper_meaning.specs.Shape.Shapes.{more}
 use Rattle.wrapper_meaning.specs.StandsFor.{CaseStands}
 use Rattle.wrapper_meaning.specs.Value.{Case, case_number}
 use Rattle.wrapper_values.specs.declared.state.State.{State}
@@ -47,18 +44,16 @@ use Rattle.wrapper_values.specs.Fields.{root_name, type_named}
 use Rattle.wrapper_values.specs.Flags.{repr_bits}
 use Rattle.wrapper_values.specs.Owning.{owned_by}
 use Rattle.wrapper_values.specs.Setting.{Setting}
-use Rattle.wrapper_run.specs.Run.{call, call_callee, callee, enum_lift, eval, lift_act, lift_case, lift_name, of_runtime, runtime_module_name, type_callee, unknown}
+use Rattle.wrapper_run.specs.Run.{call, call_callee, callee, enum_lift, eval, lift_act, lift_case, lift_name, member_callee, of_runtime, runtime_module_name, type_callee}
 use Rattle.wrapper_run.proofs.LocalLemmas.{bytes_eq-same}
 use Rattle.wrapper_run.proofs.NumberLemmas.{low_i32-s32, num_of-number}
 use Rattle.wrapper_run.proofs.StepLemmas.{Quiet, call_gives, eval-call, quiet_lift_act, quiet_one, quiet_then}
 use Rattle.abi_driver.specs.declared.instruction.Instruction.TheVariants.{EnumLift, EnumLower}
 use Rattle.abi_driver.specs.Account.{Peer, failing, stay}
-use Rattle.abi_driver.specs.Cases.{LiftsEnum, LowersEnum, case_shapes, payloads_of, payloads_or, reading_tag, tag_of}
-use Rattle.abi_driver.specs.HasList.{IsKindOf}
+use Rattle.abi_driver.specs.Cases.{LiftsEnum, LowersEnum, reading_tag, tag_of}
 use Rattle.abi_driver.specs.Instructions.{Emits}
 use Rattle.abi_driver.specs.Laws.{Does, Facts}
 use Rattle.abi_driver.specs.Meaning.{item, of, word}
-use Rattle.abi_driver.specs.Parts.{count}
 use Rattle.abi_driver.specs.Sent.{sends}
 use Rattle.func_gen.specs.declared.enum_site.EnumSite.{EnumSite}
 use Rattle.func_gen.specs.declared.function_bindgen.FunctionBindgen.{FunctionBindgen}
@@ -163,7 +158,7 @@ enum_number_row types old new id e n (members, is, many) small a scope = record 
 
 calls_lift : (name : Bytes) → bytes_eq name runtime_module_name ≡ false → callee (lift_path name) ≡ enum_lift name
 unfolding callee
-calls_lift name h = ap (λ b. cond b (of_runtime lift_name) (type_callee name lift_name)) h ∙ ap (λ b. cond b (enum_lift name) unknown) (bytes_eq-same lift_name)
+calls_lift name h = ap (λ b. cond b (of_runtime lift_name) (type_callee name lift_name)) h ∙ ap (λ b. cond b (enum_lift name) (member_callee name lift_name)) (bytes_eq-same lift_name)
 
 quiet_case : (w : Setting) (name : Bytes) (vs : List Val) → Quiet (lift_case w name vs)
 quiet_case w name [] = record { quiet = λ s. refl }
@@ -180,35 +175,35 @@ low_u16 : (z : ℤ) → is_of_kind wit.U16 (low 16 z) ≡ true
 low_u16 z = grind (arith, ints)
 
 -- the number that a word is cast to
-held : (repr : Repr) (to : CastType) (z : ℤ) → case_cast repr ≡ Some to → option_and_then (held_in repr) (num_of (val.Value (cast_integer to z))) ≡ Some (low_bits (repr_bits repr) z)
+held : (repr : Repr) (to : CastType) (z : ℤ) → case_cast repr ≡ Some to → option_and_then (held_in repr) (num_of (cast_integer to z)) ≡ Some (low_bits (repr_bits repr) z)
 held repr_of.U8 to z h =
-    ap (λ t. option_and_then (held_in repr_of.U8) (num_of (val.Value (cast_integer t z)))) (sym (ap (some_or cast.U8) h)) ∙ ap (option_and_then (held_in repr_of.U8)) (num_of-number wit.U8 (low 8 z) (low_u8 z))
+    ap (λ t. option_and_then (held_in repr_of.U8) (num_of (cast_integer t z))) (sym (ap (some_or cast.U8) h)) ∙ ap (option_and_then (held_in repr_of.U8)) (num_of-number wit.U8 (low 8 z) (low_u8 z))
     ∙ ap (λ k. held_in repr_of.U8 (wit.U8, k)) (same_low 8 z)
 held repr_of.U16 to z h =
-    ap (λ t. option_and_then (held_in repr_of.U16) (num_of (val.Value (cast_integer t z)))) (sym (ap (some_or cast.U16) h)) ∙ ap (option_and_then (held_in repr_of.U16)) (num_of-number wit.U16 (low 16 z) (low_u16 z))
+    ap (λ t. option_and_then (held_in repr_of.U16) (num_of (cast_integer t z))) (sym (ap (some_or cast.U16) h)) ∙ ap (option_and_then (held_in repr_of.U16)) (num_of-number wit.U16 (low 16 z) (low_u16 z))
     ∙ ap (λ k. held_in repr_of.U16 (wit.U16, k)) (same_low 16 z)
 held repr_of.U32 to z h =
-    ap (λ t. option_and_then (held_in repr_of.U32) (num_of (val.Value (cast_integer t z)))) (sym (ap (some_or cast.U32) h)) ∙ ap (option_and_then (held_in repr_of.U32)) (num_of-number wit.U32 (low 32 z) (low_u32 z))
+    ap (λ t. option_and_then (held_in repr_of.U32) (num_of (cast_integer t z))) (sym (ap (some_or cast.U32) h)) ∙ ap (option_and_then (held_in repr_of.U32)) (num_of-number wit.U32 (low 32 z) (low_u32 z))
     ∙ ap (λ k. held_in repr_of.U32 (wit.U32, k)) (same_low 32 z)
 held repr_of.U64 to z h = absurd cc
 held repr_of.U128 to z h = absurd cc
 
 enum_lifts : (items : List Item) (name : Bytes) (repr : Repr) (n : ℕ) (to : CastType) (z : ℤ) → case_cast repr ≡ Some to → HasCases items (repr, n) (Some name)
-    → enum_lift_of items name (val.Value (cast_integer to z)) ≡ Some (case_of_number n (low_bits (repr_bits repr) z))
+    → enum_lift_of items name (cast_integer to z) ≡ Some (case_of_number n (low_bits (repr_bits repr) z))
 unfolding enum_lift_of
 enum_lifts items name repr n to z casts has = go (enum_in (type_named items name)) has
   where
-    go : (o : Option EnumItem) → option_map held_cases o ≡ Some (repr, n) → option_and_then (case_of (val.Value (cast_integer to z))) o ≡ Some (case_of_number n (low_bits (repr_bits repr) z))
+    go : (o : Option EnumItem) → option_map held_cases o ≡ Some (repr, n) → option_and_then (case_of (cast_integer to z)) o ≡ Some (case_of_number n (low_bits (repr_bits repr) z))
     go None h = absurd cc
     go (Some e) h =
         let same : held_cases e ≡ (repr, n) = some_same (held_cases e) (repr, n) h in
-        ap₂ (λ (q : Repr) (k : ℕ). option_map (case_of_number k) (option_and_then (held_in q) (num_of (val.Value (cast_integer to z))))) (ap (λ (x : Repr × ℕ). x.0) same) (ap (λ (x : Repr × ℕ). x.1) same)
+        ap₂ (λ (q : Repr) (k : ℕ). option_map (case_of_number k) (option_and_then (held_in q) (num_of (cast_integer to z)))) (ap (λ (x : Repr × ℕ). x.0) same) (ap (λ (x : Repr × ℕ). x.1) same)
         ∙ ap (option_map (case_of_number n)) (held repr to z casts)
 
 enum_evaluates : (w : Setting) (name : Bytes) (repr : Repr) (n : ℕ) (to : CastType) (e : Expr) (z : ℤ) (s : State) → bytes_eq name runtime_module_name ≡ false → case_cast repr ≡ Some to → HasCases w.items (repr, n) (Some name)
     → (read w.items e).at (env_of s) ≡ Some (val.Word (core.I32 z)) → eval w (case_lifted name to e) s ≡ lift_act w (Some (case_of_number n (low_bits (repr_bits repr) z))) s
 enum_evaluates w name repr n to e z s typed casts has h =
-    let v = val.Value (cast_integer to z) in
+    let v = cast_integer to z in
     call_gives w (lift_path name) (expr.Cast e to ∷ []) (v ∷ []) s (cast_given w e to z s (cast_owns to z) h, tt) ∙ ap (λ c. call_callee w c (v ∷ []) s) (calls_lift name typed)
     ∙ ap (λ o. lift_act w o s) (enum_lifts w.items name repr n to z casts has)
 

@@ -1,35 +1,41 @@
 -- What an operand reads is what it evaluates to, where that owns no block.
 use Rattle.std.proofs.Common.{rules, ◌≡◌, ℕ, [], ◌∷◌, map, Option, None, Some, refl, sym, ap, ◌∙◌, subst}
-use Rattle.std.specs.Prelude.{option_and_then, Result}
+use Rattle.std.specs.Prelude.{ℤ, option_and_then, Result}
 use Rattle.std.specs.Option.{option_map}
 use Rattle.wit_model.specs.Bytes.{Bytes}
 use Rattle.rust_tree.specs.declared.expr.CastType.{CastType}
-use Rattle.rust_tree.specs.declared.expr.Expr.{Expr, Expr-F, fold-roll-Expr, ind-Expr, map-Expr, roll-Expr, the_lemmas}
+use Rattle.rust_tree.specs.declared.expr.Expr.{Expr, Expr-F, fold-roll-Expr, ind-Expr, map-Expr, roll-Expr}
 use Rattle.rust_tree.specs.declared.expr.Expr.TheVariants as expr
-use Rattle.rust_tree.specs.declared.expr.Expr.TheVariants.{rolls-Call, rolls-Cast, rolls-CastMut, rolls-EnumNumber, rolls-FlagsBits, rolls-Local, rolls-Ref}
+use Rattle.rust_tree.specs.declared.expr.Expr.TheVariants.{rolls-Call, rolls-Cast, rolls-CastMut, rolls-EnumNumber, rolls-FlagsBits, rolls-I32Const, rolls-Local, rolls-Method, rolls-Ref, rolls-Zero}
+use Rattle.rust_tree.specs.declared.expr.Method.{Method}
+use Rattle.rust_tree.specs.declared.expr.ZeroType.{ZeroType}
 use Rattle.rust_tree.specs.declared.path.Path.{Path}
 use Rattle.rust_tree.specs.declared.runtime_item.RuntimeItem.{RuntimeItem}
-use Rattle.rust_tree.specs.declared.runtime_item.RuntimeItem.TheVariants.{CabiDealloc, StringLift}
+use Rattle.rust_tree.specs.declared.runtime_item.RuntimeItem.TheVariants.{CabiDealloc, InvalidEnumDiscriminant, StringLift}
 use Rattle.wrapper_data.specs.declared.run.TrapKind.{TrapKind}
 use Rattle.wrapper_data.specs.declared.value.RustValue.{RustValue}
 use Rattle.wrapper_data.specs.declared.word.Word.{Word}
+use Rattle.wrapper_data.specs.declared.word.Word.TheVariants as word
+use Rattle.wrapper_meaning.proofs.Lists.{some_same}
 use Rattle.wrapper_values.specs.declared.owning.View.TheVariants as view_of
 use Rattle.wrapper_values.specs.declared.state.State.{State}
 use Rattle.wrapper_values.specs.declared.state.Val.{Val}
 use Rattle.wrapper_values.specs.declared.state.Val.TheVariants as val
 use Rattle.wrapper_values.specs.Act.{Act, Done, ◌>>=◌, all, and_then, or_stop, pure}
+use Rattle.wrapper_values.specs.CoreWords.{called_on, core_word, zero_word}
 use Rattle.wrapper_values.specs.Effect.{cast_to, converted, lift_of}
 use Rattle.wrapper_values.specs.Locals.{ask_local, lend_local, local_named, usable, use_local, used, value_of}
 use Rattle.wrapper_values.specs.Owning.{lent, owned, view}
 use Rattle.wrapper_values.specs.Enums.{word_of_case}
 use Rattle.wrapper_values.specs.Flags.{bits_of_flags, word_at}
 use Rattle.wrapper_values.specs.Setting.{Setting, stuck}
-use Rattle.wrapper_run.specs.Run.{Callee, alone, apply, call, call_callee, call_runtime, callee, converted_or_lifted, core_forget, enum_lift, eval, eval_step, of_runtime, runtime_item_named, unknown}
+use Rattle.wrapper_run.specs.Run.{Callee, alone, apply, call, call_callee, call_runtime, callee, converted_or_lifted, core_case, core_forget, core_function, enum_lift, eval, of_runtime, root_case, runtime_item_named, unknown}
 use Rattle.wrapper_run.proofs.EnumSteps.{eval-case}
 use Rattle.wrapper_run.proofs.FlagsSteps.{eval-bits}
 use Rattle.wrapper_run.proofs.StepLemmas.{eval-call, eval-cast, eval-cast_mut, eval-local, eval-ref}
+use Rattle.wrapper_run.proofs.VariantSteps.{eval-i32, eval-zero, method_gives}
 use Rattle.func_gen.specs.Read.{Read, as_case_word, as_flags_word, as_pointer, conversion, converts, env_of, nothing, on_bare, read, read_step}
-use Rattle.func_gen.specs.ReadForms.{at_read, bare_value, lent_of, read-call, read-cast, read-cast_mut, read-enum_number, read-flags_bits, read-local, read-ref}
+use Rattle.func_gen.specs.ReadForms.{at_read, bare_value, lent_of, read-call, read-cast, read-cast_mut, read-enum_number, read-flags_bits, read-i32_const, read-local, read-method, read-ref, read-zero}
 
 module _ (w : Setting) where
   abbrev pub Gives : Expr → Type 0
@@ -83,6 +89,17 @@ module _ (w : Setting) where
       let x = bare_value (cast_to to) ((read w.items e).at (env_of s)) v (at_read w.items _ _ (env_of s) v (read-cast w.items e to) h) in
       ap (λ act. act s) (eval-cast w e to) ∙ ap (λ z. and_then z (λ v. or_stop (stuck w) (cast_to to v))) (g s x.0 x.1 x.2) ∙ ap (λ z. or_stop (stuck w) z s) x.3
 
+  gives-method : (e : Expr) (method : Method) → Gives e → Gives (expr.Method e method)
+  gives-method e method g s v h o =
+      let x = bare_value (called_on method) ((read w.items e).at (env_of s)) v (at_read w.items _ _ (env_of s) v (read-method w.items e method) h) in
+      method_gives w e method x.0 v s s (g s x.0 x.1 x.2) x.3
+
+  gives-i32_const : (n : ℤ) → Gives (expr.I32Const n)
+  gives-i32_const n s v h o = ap (λ act. act s) (eval-i32 w n) ∙ ap (λ x. Done x s) (some_same (val.Word (word.I32 n)) v (at_read w.items _ _ (env_of s) v (read-i32_const w.items n) h))
+
+  gives-zero : (ty : ZeroType) → Gives (expr.Zero ty)
+  gives-zero ty s v h o = ap (λ act. act s) (eval-zero w ty) ∙ ap (λ x. Done x s) (some_same (val.Word (zero_word ty)) v (at_read w.items _ _ (env_of s) v (read-zero w.items ty) h))
+
   covers : (v : Val) (s : State) (o : Option Word) (l : Option (Result RustValue TrapKind)) → option_map val.Word o ≡ Some v → converted_or_lifted w o l s ≡ Done v s
   covers v s None l h = absurd cc
   covers v s (Some y) l h = let e : val.Word y ≡ v = cc in ap (λ z. Done z s) e
@@ -90,6 +107,7 @@ module _ (w : Setting) where
   converted_is : (i : RuntimeItem) (x v : Val) (s : State) → option_map val.Word (converted i x) ≡ Some v → apply w (Some i) (x ∷ []) s ≡ Done v s
   unfolding converted
   converted_is CabiDealloc x v s h = absurd cc
+  converted_is InvalidEnumDiscriminant x v s h = absurd cc
   converted_is StringLift x v s h = absurd cc
   converted_is i x v s h = covers v s (converted i x) (lift_of w.form i x) h
 
@@ -102,6 +120,9 @@ module _ (w : Setting) where
       go (Some i) k = converted_is i x v s k
   callee_is (alone name) x v s h = absurd cc
   callee_is (enum_lift name) x v s h = absurd cc
+  callee_is (root_case ty name) x v s h = absurd cc
+  callee_is (core_case number) x v s h = absurd cc
+  callee_is (core_function f) x v s h = ap (λ o. or_stop (stuck w) o s) h
   callee_is core_forget x v s h = absurd cc
   callee_is unknown x v s h = absurd cc
 
@@ -122,6 +143,9 @@ module _ (w : Setting) where
   step fst snd l (Expr-F.FlagsBits name by) is = subst (λ z. Gives (roll-Expr z)) is (subst Gives (sym (rolls-FlagsBits name by)) (gives-flags_bits name by))
   step fst snd l (Expr-F.EnumNumber x) is = subst (λ z. Gives (roll-Expr z)) is (subst Gives (sym (rolls-EnumNumber (fst x))) (gives-enum_number (fst x) (snd x)))
   step fst snd l (Expr-F.Cast x to) is = subst (λ z. Gives (roll-Expr z)) is (subst Gives (sym (rolls-Cast (fst x) to)) (gives-cast (fst x) to (snd x)))
+  step fst snd l (Expr-F.I32Const n) is = subst (λ z. Gives (roll-Expr z)) is (subst Gives (sym (rolls-I32Const n)) (gives-i32_const n))
+  step fst snd l (Expr-F.Zero ty) is = subst (λ z. Gives (roll-Expr z)) is (subst Gives (sym (rolls-Zero ty)) (gives-zero ty))
+  step fst snd l (Expr-F.Method x method) is = subst (λ z. Gives (roll-Expr z)) is (subst Gives (sym (rolls-Method (fst x) method)) (gives-method (fst x) method (snd x)))
   step fst snd l (Expr-F.Call path []) is = subst (λ z. Gives (roll-Expr z)) is (nothing_read (Expr-F.Call path []) refl)
   step fst snd l (Expr-F.Call path (x ∷ [])) is = subst (λ z. Gives (roll-Expr z)) is (subst Gives (sym (rolls-Call path (fst x ∷ []))) (gives-call path (fst x) (snd x)))
   step fst snd l (Expr-F.Call path (x ∷ x2 ∷ xs)) is = subst (λ z. Gives (roll-Expr z)) is (nothing_read (Expr-F.Call path (fst x ∷ fst x2 ∷ map fst xs)) refl)

@@ -1,6 +1,6 @@
 -- The rows of flags: the words of their bits, and flags of words.
-use Rattle.std.proofs.Common.{rules, append-nil, ◌≡◌, ℕ, zero, suc, ◌+◌, ◌%◌, ◌^◌, ◌<◌, ◌≤◌, true, cond, List, [], ◌∷◌, ◌++◌, length, map, Option, None, Some, refl, sym, ap, ◌∙◌, subst, arith}
-use Rattle.std.specs.Prelude.{option_and_then, codes, slice_get}
+use Rattle.std.proofs.Common.{append-nil, ◌≡◌, ℕ, zero, suc, ◌+◌, ◌%◌, ◌^◌, ◌<◌, ◌≤◌, true, cond, List, [], ◌∷◌, ◌++◌, length, map, Option, None, Some, refl, sym, ap, ◌∙◌, subst, arith}
+use Rattle.std.specs.Prelude.{option_and_then, codes}
 use Rattle.std.specs.Option.{option_map}
 use Rattle.std.proofs.lemmas.Bool.{and_parts, eq-eqb}
 use Rattle.std.proofs.lemmas.List.{length-replicate}
@@ -9,8 +9,6 @@ use Rattle.wit_layout.specs.Flat.{words_of_flags}
 use Rattle.wit_model.specs.Bytes.{Bytes}
 use Rattle.wit_model.specs.declared.name.TypeId.{TypeId}
 use Rattle.wit_model.specs.declared.types.TypeDef.{TypeDef}
-use Rattle.wit_model.specs.declared.types.TypeDefKind.{TypeDefKind}
-use Rattle.wit_model.specs.declared.types.TypeDefKind.TheVariants as kind
 use Rattle.wit_model.specs.declared.wasm_type.WasmType.TheVariants as wasm
 use Rattle.rust_tree.specs.declared.expr.Expr.{Expr, Expr-F, fold-roll-Expr}
 use Rattle.rust_tree.specs.declared.expr.Expr.TheVariants as expr
@@ -20,7 +18,7 @@ use Rattle.rust_tree.specs.declared.item.Item.{Item}
 use Rattle.rust_tree.specs.declared.path.Path.{Path}
 use Rattle.rust_tree.specs.declared.repr.Repr.{Repr}
 use Rattle.rust_tree.specs.declared.stmt.Stmt.TheVariants as stmt
-use Rattle.wrapper_data.specs.declared.value.RustValue.{RustValue, RustValue-F, fold-RustValue, fold-roll-RustValue, out-RustValue, the_lemmas}
+use Rattle.wrapper_data.specs.declared.value.RustValue.{RustValue}
 use Rattle.wrapper_data.specs.declared.value.RustValue.TheVariants as value
 use Rattle.wrapper_data.specs.declared.value.RustValue.TheVariants.{rolls-Bits}
 use Rattle.wrapper_data.specs.declared.word.Word.{Word}
@@ -49,7 +47,7 @@ use Rattle.wrapper_run.proofs.LocalLemmas.{reads-new}
 use Rattle.wrapper_run.proofs.StepLemmas.{Give, Quiet, quiet_or_stop, quiet_pure, quiet_then}
 use Rattle.abi_driver.specs.declared.instruction.Instruction.TheVariants.{FlagsLift, FlagsLower}
 use Rattle.abi_driver.specs.Account.{stay}
-use Rattle.abi_driver.specs.FlagSets.{AreFlags, LiftsFlags, LowersFlags}
+use Rattle.abi_driver.specs.FlagSets.{LiftsFlags, LowersFlags}
 use Rattle.abi_driver.specs.Instructions.{Emits}
 use Rattle.abi_driver.specs.Laws.{Facts, Stays, core_data, ofs}
 use Rattle.abi_driver.specs.Meaning.{item, of, word}
@@ -64,7 +62,7 @@ use Rattle.func_gen.specs.Added.{Appends, Fresh}
 use Rattle.func_gen.specs.Facts.{Hold, item_of}
 use Rattle.func_gen.specs.FlagsForms.{HasWordCount, IsFlagsSite, flags_made, flags_site_in, lifts_flags, lowers_flags, operands_of, shifted_from, words_of}
 use Rattle.func_gen.specs.Forms.{operand_of}
-use Rattle.func_gen.specs.Meaning.{File, IsNormal, Serves, StandsAsItIs, func_meaning, owns_of, passing_level, seen, setting_for}
+use Rattle.func_gen.specs.Meaning.{File, Serves, StandsAsItIs, func_meaning, owns_of, seen, setting_for}
 use Rattle.func_gen.specs.Operand.{is_operand}
 use Rattle.func_gen.specs.PartForms.{are_operands, exprs_of}
 use Rattle.func_gen.specs.Read.{Env, Read, as_flags_word, bare_or, env_of, on_bare, read}

@@ -20,7 +20,9 @@ use Rattle.wrapper_values.specs.Locals.{bind, usable}
 use Rattle.wrapper_values.specs.Owning.{owned}
 use Rattle.wrapper_values.specs.Setting.{Setting}
 use Rattle.wrapper_run.specs.Run.{eval, run_stmt, run_stmts}
+use Rattle.wrapper_run.proofs.GiveSteps.{let_runs}
 use Rattle.wrapper_run.proofs.StepLemmas.{Quiet, quiet_bind, quiet_pure, quiet_then}
+use Rattle.wrapper_run.proofs.StmtSteps.{run-let}
 use Rattle.abi_driver.specs.declared.instruction.Instruction.TheVariants.{Flush}
 use Rattle.abi_driver.specs.Account.{Account}
 use Rattle.abi_driver.specs.Calls.{Renames}
@@ -94,18 +96,17 @@ is_given w b e (item r) others s h =
 
 -- 2. One after the other
 
-record Renamed (w : Setting) (b : FunctionBindgen) (names : List Bytes) (stmts : List Stmt) (facts : Facts func_meaning) (s : State) : Type 0 where
-  then : State
-  runs : run_stmts w stmts s ≡ machine.Done tt then
-  account : account_of then ≡ account_of s
-  place : then.place ≡ s.place
-  owns : (f : ℕ → ℕ) → total f (owns_of then) ≡ total f (owns_of s)
-  holds : Hold w.items (using b names) facts then
-  areas : (k : Bytes) (address size : ℕ) → env_of s k ≡ Some (val.Area address size) → env_of then k ≡ Some (val.Area address size)
+pub record Renamed (w : Setting) (b : FunctionBindgen) (names : List Bytes) (stmts : List Stmt) (facts : Facts func_meaning) (s : State) : Type 0 where
+  pub then : State
+  pub runs : run_stmts w stmts s ≡ machine.Done tt then
+  pub account : account_of then ≡ account_of s
+  pub place : then.place ≡ s.place
+  pub owns : (f : ℕ → ℕ) → total f (owns_of then) ≡ total f (owns_of s)
+  pub holds : Hold w.items (using b names) facts then
+  pub areas : (k : Bytes) (address size : ℕ) → env_of s k ≡ Some (val.Area address size) → env_of then k ≡ Some (val.Area address size)
 
 binds_one : (w : Setting) (n : Bytes) (e : Expr) (more : List Stmt) (v : Val) (s t : State) → eval w e s ≡ machine.Done v t → run_stmts w (stmt.Let n e ∷ more) s ≡ run_stmts w more (with_local t n v)
-unfolding bind
-binds_one w n e more v s t h = ap (λ o. and_then (and_then o (bind n)) (λ u. run_stmts w more)) h
+binds_one w n e more v s t h = let_runs w n e more v s t h
 
 -- what operands denote, new locals do, and all other facts last
 renamed : (w : Setting) (b : FunctionBindgen) (names : List Bytes) (os : List ExprOperand) (ds : Data func_meaning) (others : Facts func_meaning) (s : State) → AllFree b.scope.used names → length names ≡ length os → length ds ≡ length os → Hold w.items b (ofs func_meaning os ds ++ others) s
@@ -140,7 +141,7 @@ quiet_lets w [] os h = quiet_pure tt
 quiet_lets w (n ∷ ns) [] h = quiet_pure tt
 quiet_lets w (n ∷ ns) (o ∷ os) h =
     let two = and_parts (is_operand o.expr) (are_operands os) h in
-    quiet_then (run_stmt w (stmt.Let n o.expr)) (λ u. run_stmts w (lets_of ns (exprs_of os))) (quiet_then (eval w o.expr) (bind n) (quiet_operand w o.expr two.0) (λ v. quiet_bind n v)) (λ u. quiet_lets w ns os two.1)
+    quiet_then (run_stmt w (stmt.Let n o.expr)) (λ u. run_stmts w (lets_of ns (exprs_of os))) (subst Quiet (sym (run-let w n o.expr)) (quiet_then (eval w o.expr) (bind n) (quiet_operand w o.expr two.0) (λ v. quiet_bind n v))) (λ u. quiet_lets w ns os two.1)
 
 -- 3. The row
 

@@ -26,12 +26,13 @@ use Rattle.wrapper_values.specs.Act as machine
 use Rattle.wrapper_values.specs.Act.{Act, ◌>>=◌, all, and_then, or_stop, pure, stop}
 use Rattle.wrapper_values.specs.Owning.{is_taken}
 use Rattle.wrapper_values.specs.Setting.{Setting, failed, stuck}
-use Rattle.wrapper_run.specs.Blocks.{dealloc, dealloc_words, drop_value, free_all, free_bytes, free_untaken, untaken}
+use Rattle.wrapper_run.specs.Blocks.{dealloc, drop_value, free_all, free_bytes, free_untaken}
 use Rattle.wrapper_run.specs.Memory.{begins_at, block_at, block_from, is_at, without}
 use Rattle.wrapper_run.specs.Run.{apply, call, call_callee, call_runtime, eval, run_stmts, runtime_item_named}
 use Rattle.wrapper_run.proofs.OwningLemmas.{owned-unit}
 use Rattle.wrapper_run.proofs.QuietSteps.{quiet_expr}
-use Rattle.wrapper_run.proofs.StepLemmas.{Quiet, calls_at, call_gives, eval-call, quiet_pure, quiet_then, quiet_free_bytes, quiet_dealloc, quiet_dealloc_words}
+use Rattle.wrapper_run.proofs.StmtSteps.{runs-expr}
+use Rattle.wrapper_run.proofs.StepLemmas.{Quiet, calls_at, call_gives, eval-call, quiet_pure, quiet_then, quiet_dealloc_words}
 use Rattle.wrapper_run.proofs.FreeSteps.{eval-size, one_byte}
 use Rattle.abi_driver.specs.declared.instruction.Instruction.TheVariants.{GuestDeallocate, GuestDeallocateString}
 use Rattle.abi_driver.specs.Account.{failing}
@@ -115,7 +116,8 @@ free_run : (w : Setting) (e f : Expr) (align : ArchitectureSize) (address n : �
 free_run w e f align address n s aligned found at many =
     let a = bytes_at align 4 in
     let vs = val.Word (core.Pointer address) ∷ val.Word (core.Length n) ∷ val.Word (core.Length a) ∷ [] in
-    ap (λ o. and_then (and_then o (drop_value w)) (λ u. pure tt))
+    runs-expr w (bytes_freed e f align) [] s
+    ∙ ap (λ o. and_then (and_then o (drop_value w)) (λ u. pure tt))
     (call_gives w (runtime_path CabiDealloc) (e ∷ f ∷ expr.Size align ∷ []) vs s (at, (many, (ap (λ act. act s) (size_is w align aligned), tt))) ∙ words_freed w address n a s found)
     ∙ dropped w (dealloc w address n s)
 

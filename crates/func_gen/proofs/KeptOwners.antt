@@ -1,6 +1,6 @@
 -- A value that comes in as one of a type owns what it did.
 use Rattle.std.proofs.Common.{◌≡◌, ℕ, ℤ, zero, suc, ◌^◌, Bool, true, false, if◌then◌else◌, nat_eq, nat_lt, List, [], ◌∷◌, ◌++◌, length, map, Option, None, Some, refl, sym, ap, ap₂, ◌∙◌, subst, rules}
-use Rattle.std.specs.Prelude.{option_and_then}
+use Rattle.std.specs.Prelude.{option_and_then, slice_get}
 use Rattle.std.specs.Option.{option_map, option_or}
 use Rattle.wit_model.specs.declared.types.WitType.{WitType}
 use Rattle.rust_tree.specs.declared.enum_item.EnumItem.{EnumItem}
@@ -11,6 +11,9 @@ use Rattle.rust_tree.specs.declared.type_expr.Primitive.TheVariants as prim
 use Rattle.rust_tree.specs.declared.type_expr.TypeExpr.{TypeExpr, TypeExpr-F, out-TypeExpr}
 use Rattle.rust_tree.specs.declared.type_expr.TypeExpr as expr_lemmas
 use Rattle.rust_tree.specs.declared.type_expr.TypeExpr.TheVariants as type
+use Rattle.rust_tree.specs.declared.type_item.TypeItem.{TypeItem}
+use Rattle.rust_tree.specs.declared.type_item.TypeItem.TheVariants.{Variant}
+use Rattle.rust_tree.specs.declared.variant_item.VariantCase.{VariantCase}
 use Rattle.wrapper_data.specs.declared.value.RustValue.{RustValue, RustValue-F, fold-roll-RustValue, ind-RustValue, map-RustValue, out-RustValue, roll-RustValue, roll-out-RustValue}
 use Rattle.wrapper_data.specs.declared.value.RustValue.TheVariants as value
 use Rattle.wrapper_data.specs.declared.value.RustValue.TheVariants.{rolls-Bits, rolls-Bool, rolls-Buffer, rolls-Case, rolls-Char, rolls-F32, rolls-F64, rolls-Num, rolls-Unit}
@@ -19,7 +22,7 @@ use Rattle.wrapper_values.specs.Effect.{answer_as, answer_of, is_of_kind, is_pri
 use Rattle.wrapper_values.specs.Enums.{enum_in}
 use Rattle.wrapper_values.specs.Flags.{flags_in, repr_bits}
 use Rattle.wrapper_values.specs.Owning.{owned_by, owned_level, taken_by}
-use Rattle.wrapper_values.specs.Typed.{Typed, behind, behind_one, definition_in, part_types_in, plain_as, target_in, typed, typed_alike, typed_bare, typed_case, typed_each, typed_enum, typed_flags, typed_level, typed_option, typed_parts, typed_unit, unaliased}
+use Rattle.wrapper_values.specs.Typed.{Typed, behind, behind_one, definition_in, part_types_in, plain_as, target_in, typed, typed_absent, typed_alike, typed_bare, typed_by, typed_case, typed_defined, typed_each, typed_enum, typed_flags, typed_level, typed_option, typed_parts, typed_payload, typed_result, typed_unit, typed_variant, unaliased}
 use Rattle.wrapper_run.specs.ExportRun.{passed_as, returned_of}
 use Rattle.func_gen.specs.StandLemmas.{owned-struct}
 use Rattle.func_gen.proofs.MethodValues.{as_level, value_level}
@@ -210,6 +213,7 @@ module _ (items : List Item) where
         go false k = absurd cc
     parts_kept xs (TypeExpr-F.Tuple types) rs h = each_kept xs types rs h
     parts_kept xs (TypeExpr-F.Path path) rs h = by_types xs (part_types_in items (TypeExpr-F.Path path)) rs h
+    parts_kept xs (TypeExpr-F.Result ok err) rs h = absurd cc
     parts_kept xs TypeExpr-F.Unit rs h = absurd cc
     parts_kept xs TypeExpr-F.Str rs h = absurd cc
     parts_kept xs TypeExpr-F.String rs h = absurd cc
@@ -276,21 +280,62 @@ module _ (items : List Item) where
         go true h = k c h
         go false h = absurd cc
 
-    -- a case is of an option, or of an enum
-    of_case : (n : ℕ) (payload : Option Typed) (own : List ℕ) → ((ty : TypeExpr) (c : RustValue) → typed_option n payload ty ≡ Some c → owned_by c ≡ own) → ((c : RustValue) → typed_bare n payload ≡ Some c → owned_by c ≡ own)
+    -- a payload may be left out where it is `()`
+    absent_kept : (n : ℕ) (l : TypeExpr-F TypeExpr) (c : RustValue) → typed_absent n l ≡ Some c → owned_by c ≡ level_owns (RustValue-F.Case n None)
+    absent_kept n TypeExpr-F.Unit c h = let same : value.Case n None ≡ c = cc in ap owned_by (sym same) ∙ case_owned n None
+    absent_kept n _ c h = absurd cc
+
+    payload_none : (n : ℕ) (ty : TypeExpr) (c : RustValue) → typed_payload n None ty ≡ Some c → owned_by c ≡ level_owns (RustValue-F.Case n None)
+    payload_none n ty c h = absent_kept n (out-TypeExpr ty) c h
+
+    payload_some : (n : ℕ) (x : X) (ty : TypeExpr) (c : RustValue) → typed_payload n (Some (typed items (fst x))) ty ≡ Some c → owned_by c ≡ level_owns (RustValue-F.Case n (Some (fst x)))
+    payload_some n x ty c h = go (typed items (fst x) ty) refl h
+      where
+        go : (q : Option RustValue) → typed items (fst x) ty ≡ q → option_map (λ r. value.Case n (Some r)) q ≡ Some c → owned_by c ≡ level_owns (RustValue-F.Case n (Some (fst x)))
+        go None e k = absurd cc
+        go (Some r) e k =
+            let same : value.Case n (Some r) ≡ c = cc in
+            ap owned_by (sym same) ∙ case_owned n (Some r) ∙ ap (λ xs. xs ++ []) ((snd x).owners ty r e)
+
+    abbrev PayloadKept : ℕ → Option Typed → List ℕ → Type 0
+    PayloadKept n payload own = (ty : TypeExpr) (c : RustValue) → typed_payload n payload ty ≡ Some c → owned_by c ≡ own
+
+    abbrev BareKept : ℕ → Option Typed → List ℕ → Type 0
+    BareKept n payload own = (c : RustValue) → typed_bare n payload ≡ Some c → owned_by c ≡ own
+
+    of_result : (n : ℕ) (payload : Option Typed) (own : List ℕ) → PayloadKept n payload own → (ok err : TypeExpr) (c : RustValue) → typed_result n payload ok err ≡ Some c → owned_by c ≡ own
+    of_result zero payload own p ok err c h = p ok c h
+    of_result (suc zero) payload own p ok err c h = p err c h
+    of_result (suc (suc n)) payload own p ok err c h = absurd cc
+
+    of_variant : (n : ℕ) (payload : Option Typed) (own : List ℕ) → PayloadKept n payload own → BareKept n payload own → (o : Option VariantCase) (c : RustValue) → typed_variant n payload o ≡ Some c → owned_by c ≡ own
+    of_variant n payload own p b None c h = absurd cc
+    of_variant n payload own p b (Some x) c h = go x.ty h
+      where
+        go : (ty : Option TypeExpr) → typed_by n payload ty ≡ Some c → owned_by c ≡ own
+        go None k = b c k
+        go (Some ty) k = p ty c k
+
+    of_defined : (n : ℕ) (payload : Option Typed) (own : List ℕ) → PayloadKept n payload own → BareKept n payload own → (t : Option TypeItem) (c : RustValue) → typed_defined n payload t ≡ Some c → owned_by c ≡ own
+    of_defined n payload own p b (Some (Variant v)) c h = of_variant n payload own p b (slice_get v.cases n) c h
+    of_defined n payload own p b t c h = of_enum n payload own b (enum_in t) c h
+
+    -- a case is of an option or a result, or of a variant or an enum
+    of_case : (n : ℕ) (payload : Option Typed) (own : List ℕ) → ((ty : TypeExpr) (c : RustValue) → typed_option n payload ty ≡ Some c → owned_by c ≡ own) → PayloadKept n payload own → BareKept n payload own
         → (l : TypeExpr-F TypeExpr) (c : RustValue) → typed_case items n payload l ≡ Some c → owned_by c ≡ own
-    of_case n payload own k b (TypeExpr-F.Optional ty) c h = k ty c h
-    of_case n payload own k b l c h = of_enum n payload own b (enum_in (definition_in items l)) c h
+    of_case n payload own k p b (TypeExpr-F.Optional ty) c h = k ty c h
+    of_case n payload own k p b (TypeExpr-F.Result ok err) c h = of_result n payload own p ok err c h
+    of_case n payload own k p b l c h = of_defined n payload own p b (definition_in items l) c h
 
     no_case : {A : Type 0} (n : ℕ) (payload : Option Typed) (c : RustValue) → typed_case items n payload (out-TypeExpr type.Unit) ≡ Some c → A
     no_case n payload c h = absurd (let e : (let q : Option RustValue = None in q ≡ Some c) = sym (ap (typed_case items n payload) out_unit) ∙ h in cc)
 
     case_none : (n : ℕ) → Kept (roll-RustValue (RustValue-F.Case n None))
-    case_none n = kept_level (RustValue-F.Case n None) (λ ty c h. of_case n None (level_owns (RustValue-F.Case n None)) (none_kept n) (bare_none n) (out-TypeExpr ty) c h) (λ c h. no_case n None c h)
+    case_none n = kept_level (RustValue-F.Case n None) (λ ty c h. of_case n None (level_owns (RustValue-F.Case n None)) (none_kept n) (payload_none n) (bare_none n) (out-TypeExpr ty) c h) (λ c h. no_case n None c h)
 
     case_some : (n : ℕ) (x : X) → Kept (roll-RustValue (RustValue-F.Case n (Some (fst x))))
     case_some n x =
-        kept_level (RustValue-F.Case n (Some (fst x))) (λ ty c h. of_case n (Some (typed items (fst x))) (level_owns (RustValue-F.Case n (Some (fst x)))) (some_kept n x) (bare_some n x) (out-TypeExpr ty) c h)
+        kept_level (RustValue-F.Case n (Some (fst x))) (λ ty c h. of_case n (Some (typed items (fst x))) (level_owns (RustValue-F.Case n (Some (fst x)))) (some_kept n x) (payload_some n x) (bare_some n x) (out-TypeExpr ty) c h)
         (λ c h. no_case n (Some (typed items (fst x))) c h)
 
     -- flags own nothing

@@ -4,7 +4,10 @@ pub mod Buffers
 pub mod BodyArea
 pub mod CallRows
 pub mod CallWords
+pub mod CastRows
+pub mod CastWords
 pub mod CodeTexts
+pub mod ConstantRows
 pub mod Declared
 pub mod Emissions
 pub mod EndRows

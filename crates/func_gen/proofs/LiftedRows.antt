@@ -1,5 +1,5 @@
 -- The rows of bools and of chars that are lifted: a statement binds what the expression gives.
-use Rattle.std.proofs.Common.{◌≡◌, ℕ, zero, suc, ℤ, pos, negsuc, Bool, true, false, nat_eq, nat_lt, if◌then◌else◌, List, [], ◌∷◌, Option, None, Some, refl, sym, ap, ◌∙◌, subst, arith}
+use Rattle.std.proofs.Common.{◌≡◌, ℕ, zero, suc, ℤ, pos, Bool, true, false, nat_eq, nat_lt, if◌then◌else◌, List, [], ◌∷◌, Option, None, Some, refl, sym, ap, ◌∙◌, subst, arith}
 use Rattle.std.specs.Prelude.{option_and_then, Result, Ok, Err, codes}
 use Rattle.std.proofs.lemmas.Bool.Decides.{nat_tests}
 use Rattle.std.proofs.lemmas.Int.{ints}
@@ -128,19 +128,19 @@ char_applied w z s h =
     let v = val.Value (value.Num wit.U32 z) in
     ap (λ o. converted_or_lifted w o (lift_of w.form CharLift v) s) (not-converted v).1 ∙ ap (λ o. lift_act w (option_and_then (lift_of_number w.form CharLift) o) s) (num_of-number wit.U32 z h)
 
-pub cast_given : (w : Setting) (e : Expr) (to : CastType) (z : ℤ) (s : State) → owned (val.Value (cast_integer to z)) ≡ [] → (read w.items e).at (env_of s) ≡ Some (val.Word (core.I32 z)) → eval w (expr.Cast e to) s ≡ machine.Done (val.Value (cast_integer to z)) s
-cast_given w e to z s none h = gives w (expr.Cast e to) s (val.Value (cast_integer to z)) (cast_says w.items e to (core.I32 z) z (env_of s) refl h) none
+pub cast_given : (w : Setting) (e : Expr) (to : CastType) (z : ℤ) (s : State) → owned (cast_integer to z) ≡ [] → (read w.items e).at (env_of s) ≡ Some (val.Word (core.I32 z)) → eval w (expr.Cast e to) s ≡ machine.Done (cast_integer to z) s
+cast_given w e to z s none h = gives w (expr.Cast e to) s (cast_integer to z) (cast_says w.items e to (core.I32 z) z (env_of s) refl h) none
 
 bool_evaluates : (w : Setting) (e : Expr) (z : ℤ) (s : State) → runtime_item_named w.items (item_name BoolLift) ≡ Some BoolLift → (read w.items e).at (env_of s) ≡ Some (val.Word (core.I32 z))
     → eval w (runtime_call BoolLift (expr.Cast e cast.U8)) s ≡ lift_act w (Some (bool_of_number w.form (pos (low_bits 8 z)))) s
 bool_evaluates w e z s found h =
-    lifted_act w BoolLift (expr.Cast e cast.U8) (val.Value (cast_integer cast.U8 z)) s (bool_of_number w.form (low 8 z)) found (cast_given w e cast.U8 z s (scalar_owns Scalar.u8 (low 8 z)) h) (bool_applied w (low 8 z) s (low_u8 z))
+    lifted_act w BoolLift (expr.Cast e cast.U8) (cast_integer cast.U8 z) s (bool_of_number w.form (low 8 z)) found (cast_given w e cast.U8 z s (scalar_owns Scalar.u8 (low 8 z)) h) (bool_applied w (low 8 z) s (low_u8 z))
     ∙ ap (λ k. lift_act w (Some (bool_of_number w.form k)) s) (same_low 8 z)
 
 char_evaluates : (w : Setting) (e : Expr) (z : ℤ) (s : State) → runtime_item_named w.items (item_name CharLift) ≡ Some CharLift → (read w.items e).at (env_of s) ≡ Some (val.Word (core.I32 z))
     → eval w (runtime_call CharLift (expr.Cast e cast.U32)) s ≡ lift_act w (Some (char_of_number (pos (low_bits 32 z)))) s
 char_evaluates w e z s found h =
-    lifted_act w CharLift (expr.Cast e cast.U32) (val.Value (cast_integer cast.U32 z)) s (char_of_number (low 32 z)) found (cast_given w e cast.U32 z s (scalar_owns Scalar.u32 (low 32 z)) h) (char_applied w (low 32 z) s (low_u32 z))
+    lifted_act w CharLift (expr.Cast e cast.U32) (cast_integer cast.U32 z) s (char_of_number (low 32 z)) found (cast_given w e cast.U32 z s (scalar_owns Scalar.u32 (low 32 z)) h) (char_applied w (low 32 z) s (low_u32 z))
     ∙ ap (λ k. lift_act w (Some (char_of_number k)) s) (same_low 32 z)
 
 -- 3. It agrees with what the laws test

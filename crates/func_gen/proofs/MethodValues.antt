@@ -189,6 +189,7 @@ answer_level x r h (TypeExpr-F.Path p) = refl
 answer_level x r h (TypeExpr-F.Tuple ts) = refl
 answer_level x r h (TypeExpr-F.Optional t) = refl
 answer_level x r h (TypeExpr-F.Array t n) = refl
+answer_level x r h (TypeExpr-F.Result ok err) = refl
 
 answered_alike : (x : Word) (r : RustValue) → IsNumber x r → (ty : TypeExpr) → answer_of ty (val.Word x) ≡ answer_of ty (val.Value r)
 unfolding answer_of

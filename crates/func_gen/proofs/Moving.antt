@@ -1,7 +1,7 @@
 -- An operand is used: a value that owns a block is moved out of its local, and all other facts last.
 use Rattle.std.proofs.Common.{◌≡◌, ℕ, ℤ, ◌+◌, ◌≤◌, Bool, true, false, cond, List, [], ◌∷◌, map, Option, None, Some, refl, sym, ap, ◌∙◌, subst, arith}
-use Rattle.std.specs.Prelude.{option_and_then}
-use Rattle.std.specs.Option.{option_map}
+use Rattle.std.specs.Prelude.{option_and_then, pos}
+use Rattle.std.specs.Option.{option_map, option_or}
 use Rattle.std.specs.Str.{bytes_eq}
 use Rattle.std.proofs.lemmas.Slice.Eq.{bytes_eq-Decides}
 use Rattle.wit_model.specs.Bytes.{Bytes}
@@ -10,25 +10,30 @@ use Rattle.rust_tree.specs.declared.expr.CastType.{CastType}
 use Rattle.rust_tree.specs.declared.expr.CastType.TheVariants as cast
 use Rattle.rust_tree.specs.declared.expr.Expr.{Expr, Expr-F, fold-roll-Expr, ind-Expr, map-Expr, roll-Expr}
 use Rattle.rust_tree.specs.declared.expr.Expr.TheVariants as expr
-use Rattle.rust_tree.specs.declared.expr.Expr.TheVariants.{rolls-Call, rolls-Cast, rolls-CastMut, rolls-EnumNumber, rolls-FlagsBits, rolls-Local, rolls-Ref}
+use Rattle.rust_tree.specs.declared.expr.Expr.TheVariants.{rolls-Call, rolls-Cast, rolls-CastMut, rolls-EnumNumber, rolls-FlagsBits, rolls-I32Const, rolls-Local, rolls-Method, rolls-Ref, rolls-Zero}
+use Rattle.rust_tree.specs.declared.expr.Method.{Method}
+use Rattle.rust_tree.specs.declared.expr.Method.TheVariants as method_of
+use Rattle.rust_tree.specs.declared.expr.ZeroType.{ZeroType}
 use Rattle.rust_tree.specs.declared.item.Item.{Item}
 use Rattle.rust_tree.specs.declared.path.Path.{Path}
 use Rattle.rust_tree.specs.declared.runtime_item.RuntimeItem.{RuntimeItem}
 use Rattle.wrapper_data.specs.declared.value.RustValue.{RustValue}
 use Rattle.wrapper_data.specs.declared.word.Word.{Word}
+use Rattle.wrapper_data.specs.declared.word.Word.TheVariants as word
 use Rattle.wrapper_meaning.specs.Items.{total}
 use Rattle.wrapper_values.specs.declared.state.State.{State}
 use Rattle.wrapper_values.specs.declared.state.Val.{Val}
 use Rattle.wrapper_values.specs.declared.state.Val.TheVariants as val
 use Rattle.wrapper_values.specs.Act as machine
 use Rattle.wrapper_values.specs.Act.{and_then, or_stop}
-use Rattle.wrapper_values.specs.Effect.{cast_integer, cast_to, converted, integer_of, rust_of}
+use Rattle.wrapper_values.specs.CoreWords.{called_on, core_word, slot_bits, slot_pointer, u32_value, u64_value, zero_word}
+use Rattle.wrapper_values.specs.Effect.{cast_integer, cast_to, converted, f32_of, f64_of, integer_of, rust_of}
 use Rattle.wrapper_values.specs.Enums.{word_of_case}
 use Rattle.wrapper_values.specs.Flags.{bits_of_flags, word_at}
 use Rattle.wrapper_values.specs.Locals.{local_named, moved, usable, use_local, used, value_of}
 use Rattle.wrapper_values.specs.Owning.{owned, pointer_of}
 use Rattle.wrapper_values.specs.Setting.{Setting, stuck}
-use Rattle.wrapper_run.specs.Run.{Callee, alone, callee, core_forget, enum_lift, eval, of_runtime, runtime_item_named, unknown}
+use Rattle.wrapper_run.specs.Run.{Callee, alone, callee, core_case, core_forget, core_function, enum_lift, eval, of_runtime, root_case, runtime_item_named, unknown}
 use Rattle.wrapper_run.proofs.LocalLemmas.{bytes_eq-same}
 use Rattle.wrapper_run.proofs.StepLemmas.{eval-local}
 use Rattle.abi_driver.specs.Meaning.{Fact, item, of}
@@ -40,7 +45,7 @@ use Rattle.func_gen.specs.Facts.{Hold, Owns, item_of, matches, wrong}
 use Rattle.func_gen.specs.Forms.{operand_of}
 use Rattle.func_gen.specs.Meaning.{account_of, owns_of}
 use Rattle.func_gen.specs.Read.{Env, Read, Under, as_case_word, as_flags_word, as_pointer, conversion, converts, env_of, less, nothing, read, read_step}
-use Rattle.func_gen.specs.ReadForms.{at_read, bare_value, read-call, read-cast, read-cast_mut, read-enum_number, read-flags_bits, read-local, read-ref, ref_bare, usable_is}
+use Rattle.func_gen.specs.ReadForms.{at_read, bare_value, read-call, read-cast, read-cast_mut, read-enum_number, read-flags_bits, read-i32_const, read-local, read-method, read-ref, read-zero, ref_bare, usable_is}
 use Rattle.func_gen.specs.Scope.{is_used}
 use Rattle.func_gen.specs.StandLemmas.{scalar_owns}
 use Rattle.func_gen.specs.Slot.{Slot}
@@ -50,17 +55,41 @@ use Rattle.func_gen.proofs.Moves.{less_stays, other_named, owns_without, without
 
 -- 1. Only a local by itself gives a value that owns a block
 
-pub cast_owns : (to : CastType) (z : ℤ) → owned (val.Value (cast_integer to z)) ≡ []
+pub cast_owns : (to : CastType) (z : ℤ) → owned (cast_integer to z) ≡ []
 cast_owns cast.U8 z = scalar_owns Scalar.u8 _
 cast_owns cast.I8 z = scalar_owns Scalar.s8 _
 cast_owns cast.U16 z = scalar_owns Scalar.u16 _
 cast_owns cast.I16 z = scalar_owns Scalar.s16 _
 cast_owns cast.U32 z = scalar_owns Scalar.u32 _
 cast_owns cast.U64 z = scalar_owns Scalar.u64 _
+cast_owns cast.I32 z = refl
+cast_owns cast.I64 z = refl
+cast_owns cast.Usize z = refl
+cast_owns cast.Pointer z = refl
 
 word_owns : (o : Option Word) (v : Val) → option_map val.Word o ≡ Some v → owned v ≡ []
 word_owns None v h = absurd cc
 word_owns (Some x) v h = let e : val.Word x ≡ v = cc in ap owned (sym e)
+
+-- nor does what a method gives
+called_owns : (method : Method) (x v : Val) → called_on method x ≡ Some v → owned v ≡ []
+unfolding called_on
+called_owns method_of.ToBits x v h = go (f32_of x) (f64_of x) h
+  where
+    go : (o p : Option ℕ) → option_or (option_map u32_value o) (option_map u64_value p) ≡ Some v → owned v ≡ []
+    go (Some n) p k = let e : u32_value n ≡ v = cc in ap owned (sym e) ∙ scalar_owns Scalar.u32 (pos n)
+    go None (Some n) k = let e : u64_value n ≡ v = cc in ap owned (sym e) ∙ scalar_owns Scalar.u64 (pos n)
+    go None None k = absurd cc
+called_owns method_of.AssumeInit x v h = go (slot_bits x) h
+  where
+    go : (o : Option ℕ) → option_map u64_value o ≡ Some v → owned v ≡ []
+    go (Some n) k = let e : u64_value n ≡ v = cc in ap owned (sym e) ∙ scalar_owns Scalar.u64 (pos n)
+    go None k = absurd cc
+called_owns method_of.ReadPointer x v h = go (slot_bits x) h
+  where
+    go : (o : Option ℕ) → option_map slot_pointer o ≡ Some v → owned v ≡ []
+    go (Some n) k = let e : slot_pointer n ≡ v = cc in ap owned (sym e)
+    go None k = absurd cc
 
 module _ (items : List Item) where
   abbrev pub Owner : Expr → Type 0
@@ -75,9 +104,9 @@ module _ (items : List Item) where
       let x = bare_value (cast_to to) ((read items e).at env) v (at_read items _ _ env v (read-cast items e to) h) in
       absurd (owns (go (integer_of x.0) x.3))
     where
-      go : (o : Option ℤ) → option_map (λ z. val.Value (cast_integer to z)) o ≡ Some v → owned v ≡ []
+      go : (o : Option ℤ) → option_map (cast_integer to) o ≡ Some v → owned v ≡ []
       go None k = absurd cc
-      go (Some z) k = let e : val.Value (cast_integer to z) ≡ v = cc in ap owned (sym e) ∙ cast_owns to z
+      go (Some z) k = let e : cast_integer to z ≡ v = cc in ap owned (sym e) ∙ cast_owns to z
 
   owner-enum_number : (e : Expr) → Owner (expr.EnumNumber e)
   owner-enum_number e env v h owns =
@@ -106,6 +135,9 @@ module _ (items : List Item) where
       go (of_runtime name) x k = item_owns (runtime_item_named items name) x k
       go (alone name) x k = absurd cc
       go (enum_lift name) x k = absurd cc
+      go (root_case ty name) x k = absurd cc
+      go (core_case number) x k = absurd cc
+      go (core_function f) x k = word_owns (core_word f x) v k
       go core_forget x k = absurd cc
       go unknown x k = absurd cc
 
@@ -115,6 +147,17 @@ module _ (items : List Item) where
       go : (o : Option Val) → option_and_then as_pointer o ≡ Some v → owned v ≡ []
       go None k = absurd cc
       go (Some x) k = word_owns (pointer_of x) v k
+
+  owner-method : (e : Expr) (method : Method) → Owner (expr.Method e method)
+  owner-method e method env v h owns =
+      let x = bare_value (called_on method) ((read items e).at env) v (at_read items _ _ env v (read-method items e method) h) in
+      absurd (owns (called_owns method x.0 v x.3))
+
+  owner-i32_const : (n : ℤ) → Owner (expr.I32Const n)
+  owner-i32_const n env v h owns = absurd (owns (word_owns (Some (word.I32 n)) v (at_read items _ _ env v (read-i32_const items n) h)))
+
+  owner-zero : (ty : ZeroType) → Owner (expr.Zero ty)
+  owner-zero ty env v h owns = absurd (owns (word_owns (Some (zero_word ty)) v (at_read items _ _ env v (read-zero items ty) h)))
 
   nothing_owned : (l : Expr-F Expr) → read_step items (map-Expr Expr Read (read items) l) ≡ nothing → Owner (roll-Expr l)
   nothing_owned l none env v h owns =
@@ -128,6 +171,9 @@ module _ (items : List Item) where
   step fst l (Expr-F.FlagsBits name by) is = subst (λ z. Owner (roll-Expr z)) is (subst Owner (sym (rolls-FlagsBits name by)) (owner-flags_bits name by))
   step fst l (Expr-F.EnumNumber x) is = subst (λ z. Owner (roll-Expr z)) is (subst Owner (sym (rolls-EnumNumber (fst x))) (owner-enum_number (fst x)))
   step fst l (Expr-F.Cast x to) is = subst (λ z. Owner (roll-Expr z)) is (subst Owner (sym (rolls-Cast (fst x) to)) (owner-cast (fst x) to))
+  step fst l (Expr-F.I32Const n) is = subst (λ z. Owner (roll-Expr z)) is (subst Owner (sym (rolls-I32Const n)) (owner-i32_const n))
+  step fst l (Expr-F.Zero ty) is = subst (λ z. Owner (roll-Expr z)) is (subst Owner (sym (rolls-Zero ty)) (owner-zero ty))
+  step fst l (Expr-F.Method x method) is = subst (λ z. Owner (roll-Expr z)) is (subst Owner (sym (rolls-Method (fst x) method)) (owner-method (fst x) method))
   step fst l (Expr-F.Call path []) is = subst (λ z. Owner (roll-Expr z)) is (nothing_owned (Expr-F.Call path []) refl)
   step fst l (Expr-F.Call path (x ∷ [])) is = subst (λ z. Owner (roll-Expr z)) is (subst Owner (sym (rolls-Call path (fst x ∷ []))) (owner-call path (fst x)))
   step fst l (Expr-F.Call path (x ∷ x2 ∷ xs)) is = subst (λ z. Owner (roll-Expr z)) is (nothing_owned (Expr-F.Call path (fst x ∷ fst x2 ∷ map fst xs)) refl)

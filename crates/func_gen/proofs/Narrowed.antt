@@ -5,8 +5,13 @@ use Rattle.std.specs.List.{AllByRecursion}
 use Rattle.wit_model.specs.Bytes.{Bytes}
 use Rattle.rust_tree.specs.declared.expr.CastType.{CastType}
 use Rattle.rust_tree.specs.declared.expr.Expr.{Expr, Expr-F, fold-roll-Expr, ind-Expr, map-Expr, roll-Expr}
+use Rattle.rust_tree.specs.declared.expr.Method.{Method}
+use Rattle.rust_tree.specs.declared.expr.ZeroType.{ZeroType}
+use Rattle.wrapper_data.specs.declared.word.Word.TheVariants as word
+use Rattle.wrapper_values.specs.CoreWords.{called_on, zero_word}
+use Rattle.std.specs.Prelude.{ℤ}
 use Rattle.rust_tree.specs.declared.expr.Expr.TheVariants as expr
-use Rattle.rust_tree.specs.declared.expr.Expr.TheVariants.{rolls-Call, rolls-Cast, rolls-CastMut, rolls-EnumNumber, rolls-FlagsBits, rolls-Local, rolls-Ref}
+use Rattle.rust_tree.specs.declared.expr.Expr.TheVariants.{rolls-Call, rolls-Cast, rolls-CastMut, rolls-EnumNumber, rolls-FlagsBits, rolls-I32Const, rolls-Local, rolls-Method, rolls-Ref, rolls-Zero}
 use Rattle.rust_tree.specs.declared.item.Item.{Item}
 use Rattle.rust_tree.specs.declared.path.Path.{Path}
 use Rattle.wrapper_data.specs.declared.value.RustValue.{RustValue}
@@ -23,8 +28,8 @@ use Rattle.func_gen.specs.declared.function_bindgen.ParamSite.{ParamSite}
 use Rattle.func_gen.specs.declared.operand.ExprOperand.{ExprOperand}
 use Rattle.func_gen.specs.FactLemmas.{is_said, said}
 use Rattle.func_gen.specs.Facts.{wrong}
-use Rattle.func_gen.specs.Read.{Env, Read, as_case_word, as_flags_word, as_pointer, conversion, lent_bare, nothing, on_bare, read, read_step}
-use Rattle.func_gen.specs.ReadForms.{at_read, bare_value, flags_bare, lent_of, pointer_bare, read-call, read-cast, read-cast_mut, read-enum_number, read-flags_bits, read-local, read-ref, usable_is}
+use Rattle.func_gen.specs.Read.{Env, Read, always, as_case_word, as_flags_word, as_pointer, conversion, lent_bare, nothing, on_bare, read, read_step}
+use Rattle.func_gen.specs.ReadForms.{at_read, bare_value, flags_bare, lent_of, pointer_bare, read-call, read-cast, read-cast_mut, read-enum_number, read-flags_bits, read-i32_const, read-local, read-method, read-ref, read-zero, usable_is}
 use Rattle.func_gen.specs.Slot.{Slot}
 
 some_of : (f : Val → Option Val) (o : Option Val) (v : Val) → option_and_then f o ≡ Some v → (x : Val) × (o ≡ Some x)
@@ -71,6 +76,19 @@ module _ (items : List Item) (a b c : Env) (kept : (n : Bytes) (y z : Val) → a
   narrows-call : (path : Path) (e : Expr) → Narrows e → Narrows (expr.Call path (e ∷ []))
   narrows-call path e = by_operand (conversion items (callee path)) e (expr.Call path (e ∷ [])) (λ env. ap (λ (r : Read). r.at env) (read-call items path (e ∷ [])))
 
+  narrows-method : (e : Expr) (method : Method) → Narrows e → Narrows (expr.Method e method)
+  narrows-method e method = by_operand (called_on method) e (expr.Method e method) (λ env. ap (λ (r : Read). r.at env) (read-method items e method))
+
+  -- a constant is read whatever names there are
+  by_constant : (x : Val) (whole : Expr) → ((env : Env) → (read items whole).at env ≡ Some x) → Narrows whole
+  by_constant x whole reads y z ha hb bare = reads c ∙ sym (reads b) ∙ hb
+
+  narrows-i32_const : (n : ℤ) → Narrows (expr.I32Const n)
+  narrows-i32_const n = by_constant (val.Word (word.I32 n)) (expr.I32Const n) (λ env. ap (λ (r : Read). r.at env) (read-i32_const items n))
+
+  narrows-zero : (ty : ZeroType) → Narrows (expr.Zero ty)
+  narrows-zero ty = by_constant (val.Word (zero_word ty)) (expr.Zero ty) (λ env. ap (λ (r : Read). r.at env) (read-zero items ty))
+
   nothing_narrows : (l : Expr-F Expr) → read_step items (map-Expr Expr Read (read items) l) ≡ nothing → Narrows (roll-Expr l)
   nothing_narrows l none y z ha hb bare =
       let e : nothing.at b ≡ Some z = at_read items _ _ b z (fold-roll-Expr Read (read_step items) l ∙ none) hb in
@@ -83,6 +101,9 @@ module _ (items : List Item) (a b c : Env) (kept : (n : Bytes) (y z : Val) → a
   step fst snd l (Expr-F.FlagsBits name by) is = subst (λ z. Narrows (roll-Expr z)) is (subst Narrows (sym (rolls-FlagsBits name by)) (narrows-flags_bits name by))
   step fst snd l (Expr-F.EnumNumber x) is = subst (λ z. Narrows (roll-Expr z)) is (subst Narrows (sym (rolls-EnumNumber (fst x))) (narrows-enum_number (fst x) (snd x)))
   step fst snd l (Expr-F.Cast x to) is = subst (λ z. Narrows (roll-Expr z)) is (subst Narrows (sym (rolls-Cast (fst x) to)) (narrows-cast (fst x) to (snd x)))
+  step fst snd l (Expr-F.I32Const n) is = subst (λ z. Narrows (roll-Expr z)) is (subst Narrows (sym (rolls-I32Const n)) (narrows-i32_const n))
+  step fst snd l (Expr-F.Zero ty) is = subst (λ z. Narrows (roll-Expr z)) is (subst Narrows (sym (rolls-Zero ty)) (narrows-zero ty))
+  step fst snd l (Expr-F.Method x method) is = subst (λ z. Narrows (roll-Expr z)) is (subst Narrows (sym (rolls-Method (fst x) method)) (narrows-method (fst x) method (snd x)))
   step fst snd l (Expr-F.Call path []) is = subst (λ z. Narrows (roll-Expr z)) is (nothing_narrows (Expr-F.Call path []) refl)
   step fst snd l (Expr-F.Call path (x ∷ [])) is = subst (λ z. Narrows (roll-Expr z)) is (subst Narrows (sym (rolls-Call path (fst x ∷ []))) (narrows-call path (fst x) (snd x)))
   step fst snd l (Expr-F.Call path (x ∷ x2 ∷ xs)) is = subst (λ z. Narrows (roll-Expr z)) is (nothing_narrows (Expr-F.Call path (fst x ∷ fst x2 ∷ map fst xs)) refl)

@@ -24,7 +24,7 @@ pub names_many : (prefix : Bytes) (t part k : ℕ) → length (names_from prefix
 names_many prefix t part zero = refl
 names_many prefix t part (suc k) = ap suc (names_many prefix t (part + 1) k)
 
-other_part : (prefix : Bytes) (t m n : ℕ) → m < 2 ^ 64 → n < m → bytes_eq (part_name prefix t m) (part_name prefix t n) ≡ false
+pub other_part : (prefix : Bytes) (t m n : ℕ) → m < 2 ^ 64 → n < m → bytes_eq (part_name prefix t m) (part_name prefix t n) ≡ false
 unfolding part_mark
 other_part prefix t m n small below = go (bytes_eq (part_name prefix t m) (part_name prefix t n)) refl
   where

@@ -30,11 +30,11 @@ use Rattle.wrapper_values.specs.declared.state.Val.TheVariants as val
 use Rattle.wrapper_values.specs.Act as machine
 use Rattle.wrapper_values.specs.Act.{◌>>=◌, all, and_then, or_stop, pure}
 use Rattle.wrapper_values.specs.Effect.{rust_of, rust_of_word}
-use Rattle.wrapper_values.specs.Locals.{bind}
 use Rattle.wrapper_values.specs.Owning.{owned, owned_by, taken_by}
 use Rattle.wrapper_values.specs.Setting.{Setting, stuck}
 use Rattle.wrapper_values.specs.Whole.{rust_values, whole_of}
 use Rattle.wrapper_run.specs.Run.{eval, run_stmts}
+use Rattle.wrapper_run.proofs.GiveSteps.{let_runs}
 use Rattle.wrapper_run.proofs.PartSteps.{eval-tuple}
 use Rattle.wrapper_run.proofs.StepLemmas.{Quiet, quiet_or_stop, quiet_pure, quiet_then}
 use Rattle.abi_driver.specs.declared.bindgen.Asked.{Asked}
@@ -147,8 +147,7 @@ tuple_gives w os vs rs s t h is =
     ∙ ap (λ o. and_then o (λ vs. or_stop (stuck w) (whole_of vs))) h ∙ ap (λ o. or_stop (stuck w) (option_map (λ rs. val.Value (value.Struct rs)) o) t) (all_rust vs rs is)
 
 binds_to : (w : Setting) (n : Bytes) (e : Expr) (v : Val) (s t : State) → eval w e s ≡ machine.Done v t → run_stmts w (stmt.Let n e ∷ []) s ≡ machine.Done tt (with_local t n v)
-unfolding bind
-binds_to w n e v s t h = ap (λ o. and_then (and_then o (bind n)) (λ u. pure tt)) h
+binds_to w n e v s t h = let_runs w n e [] v s t h
 
 pub areas_last : (import : Bool) (area : Option Request) (at : Option ℕ) (asked : List Asked) (name : Bytes) (s t : State) → ((k : Bytes) (a z : ℕ) → env_of s k ≡ Some (val.Area a z) → env_of t k ≡ Some (val.Area a z)) → t.place ≡ s.place
     → AreaIs import area at asked name s → AreaIs import area at asked name t

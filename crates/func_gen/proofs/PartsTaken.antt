@@ -42,9 +42,10 @@ use Rattle.wrapper_values.specs.Locals.{bind, local_named}
 use Rattle.wrapper_values.specs.Owning.{owned, owned_by, owned_in, taken_by}
 use Rattle.wrapper_values.specs.Setting.{Setting, stuck}
 use Rattle.wrapper_values.specs.Whole.{bind_parts, given_names, parts_of, parts_of_level, take_apart}
-use Rattle.wrapper_run.specs.Run.{eval, run_stmts}
+use Rattle.wrapper_run.specs.Run.{eval, run_stmt, run_stmts}
 use Rattle.wrapper_run.proofs.PartSteps.{AsMany, part_locals, parts-whole, takes_apart}
 use Rattle.wrapper_run.proofs.StepLemmas.{Quiet, quiet_bind, quiet_or_stop, quiet_pure, quiet_then}
+use Rattle.wrapper_run.proofs.StmtSteps.{run-parts}
 use Rattle.abi_driver.specs.Laws.{Adds, Stays, item_data, ofs}
 use Rattle.abi_driver.specs.Meaning.{Fact, item, of}
 use Rattle.abi_driver.specs.Parts.{PartsStand, count}
@@ -159,10 +160,11 @@ quiet_parts w (n ∷ ns) (r ∷ rs) = quiet_then (bind n (val.Value r)) (λ u. b
 
 quiet_apart : (w : Setting) (p : Pattern) (e : Expr) → Quiet (eval w e) → Quiet (run_stmts w (stmt.LetParts p e ∷ []))
 quiet_apart w p e h =
-    quiet_then (λ s. and_then (eval w e s) (take_apart w p)) (λ u. pure tt)
+    quiet_then (run_stmt w (stmt.LetParts p e)) (λ u. pure tt)
+    (subst Quiet (sym (run-parts w p e))
     (quiet_then (eval w e) (take_apart w p) h
     (λ v. quiet_then (or_stop (stuck w) (parts_of v)) (λ rs. or_stop (stuck w) (given_names w.items p) >>= (λ names. bind_parts w names rs)) (quiet_or_stop (stuck w) (parts_of v))
-    (λ rs. quiet_then (or_stop (stuck w) (given_names w.items p)) (λ names. bind_parts w names rs) (quiet_or_stop (stuck w) (given_names w.items p)) (λ names. quiet_parts w names rs))))
+    (λ rs. quiet_then (or_stop (stuck w) (given_names w.items p)) (λ names. bind_parts w names rs) (quiet_or_stop (stuck w) (given_names w.items p)) (λ names. quiet_parts w names rs)))))
     (λ u. quiet_pure tt)
 
 -- 4. It is the value with these parts

@@ -3,7 +3,6 @@ use Rattle.std.proofs.Common.{◌≡◌, ℕ, true, List, [], ◌∷◌, length,
 use Rattle.std.specs.Prelude.{option_and_then, zip, codes}
 use Rattle.std.specs.Option.{option_map}
 use Rattle.std.proofs.lemmas.Bool.{and_parts}
-use Rattle.std.proofs.lemmas.List.{length-map}
 use Rattle.wit_model.specs.Bytes.{Bytes}
 use Rattle.wit_model.specs.Distinct.{is_distinct}
 use Rattle.wit_model.specs.declared.name.TypeId.{TypeId}
@@ -28,8 +27,7 @@ use Rattle.wrapper_run.proofs.PartSteps.{eval-record}
 use Rattle.wrapper_run.proofs.StepLemmas.{Quiet, quiet_or_stop, quiet_pure, quiet_then}
 use Rattle.abi_driver.specs.declared.instruction.Instruction.TheVariants.{RecordLift, RecordLower}
 use Rattle.abi_driver.specs.Instructions.{Emits, IsRecord, field_shapes}
-use Rattle.abi_driver.specs.Parts.{count}
-use Rattle.abi_driver.proofs.Records.{count-shapes, one_record}
+use Rattle.abi_driver.proofs.Records.{one_record}
 use Rattle.abi_driver.specs.Sent.{sends}
 use Rattle.func_gen.specs.declared.function_bindgen.FunctionBindgen.{FunctionBindgen}
 use Rattle.func_gen.specs.declared.operand.ExprOperand.{ExprOperand}

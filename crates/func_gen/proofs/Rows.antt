@@ -1,5 +1,5 @@
 -- The rows of instructions that add no statement, and of those that bind one local.
-use Rattle.std.proofs.Common.{◌≡◌, ℕ, zero, suc, drop, Bool, true, false, if◌then◌else◌, List, [], ◌∷◌, ◌++◌, map, Option, None, Some, refl, sym, ap, ◌∙◌, subst, arith, append-nil, append_assoc}
+use Rattle.std.proofs.Common.{◌≡◌, ℕ, Bool, true, false, if◌then◌else◌, List, [], ◌∷◌, ◌++◌, map, Option, None, Some, refl, sym, ap, ◌∙◌, subst, arith, append-nil, append_assoc}
 use Rattle.std.specs.Prelude.{option_and_then}
 use Rattle.wit_model.specs.Bytes.{Bytes}
 use Rattle.wit_model.specs.declared.types.TypeDef.{TypeDef}
@@ -22,7 +22,10 @@ use Rattle.wrapper_values.specs.Owning.{owned}
 use Rattle.wrapper_values.specs.Setting.{Setting}
 use Rattle.wrapper_run.specs.Run.{eval, run_stmts}
 use Rattle.wrapper_run.proofs.LocalLemmas.{reads-new}
-use Rattle.wrapper_run.proofs.StepLemmas.{Quiet, quiet_bind, quiet_pure, quiet_then}
+use Rattle.wrapper_run.proofs.GiveSteps.{let_runs}
+use Rattle.wrapper_run.proofs.QuietSteps.{quiet_let as quiet_stmt}
+use Rattle.wrapper_run.proofs.StepLemmas.{Quiet, quiet_pure}
+use Rattle.wrapper_run.proofs.StmtSteps.{runs-let}
 use Rattle.abi_driver.specs.Account.{Account, Act, Done, Follows, Got, Outcome, Peer, Stopped, Stuck, account_in, stay}
 use Rattle.abi_driver.specs.declared.instruction.Instruction.{Instruction}
 use Rattle.abi_driver.specs.Instructions.{Emits}
@@ -64,14 +67,6 @@ unmoved s = record { heap = refl; taken = refl; place = refl; under = λ n v h. 
 pub quiet_none : (w : Setting) → Quiet (run_stmts w [])
 quiet_none w = quiet_pure tt
 
--- of no finished blocks none is used up
-abbrev no_blocks : List ⊥
-no_blocks = []
-
-pub none_dropped : (n : ℕ) → no_blocks ≡ drop n no_blocks
-none_dropped zero = refl
-none_dropped (suc n) = refl
-
 -- no statement was added
 module _ (old new : FunctionBindgen) (items : List RuntimeItem) (a : Appends old new [] items) (scope : new.scope ≡ old.scope) where
   pub none_adds : Adds func_meaning old new
@@ -112,11 +107,10 @@ abbrev pub Agrees : (acc : Account RustValue) → Outcome RustValue (Got RustVal
 Agrees acc o q s d = AgreesBy (Unit {0}) acc o q s (λ u. d)
 
 pub quiet_let : (n : Bytes) (e : Expr) → ((w : Setting) → Quiet (eval w e)) → (w : Setting) → Quiet (run_stmts w (stmt.Let n e ∷ []))
-quiet_let n e q w = quiet_then (λ s. and_then (eval w e s) (bind n)) (λ u. pure tt) (quiet_then (eval w e) (bind n) (q w) (λ v. quiet_bind n v)) (λ u. quiet_pure tt)
+quiet_let n e q w = quiet_stmt w n e [] (q w) (quiet_pure tt)
 
 pub binds : (w : Setting) (n : Bytes) (e : Expr) (v : Val) (s : State) → eval w e s ≡ machine.Done v s → run_stmts w (stmt.Let n e ∷ []) s ≡ machine.Done tt (with_local s n v)
-unfolding bind
-binds w n e v s h = ap (λ o. and_then (and_then o (bind n)) (λ u. pure tt)) h
+binds w n e v s h = let_runs w n e [] v s s h
 
 stops_early : (at : Option ℕ) (q : machine.Outcome Val) (n : Bytes) (e : Stop) (left : Account RustValue) → seen None (and_then q (λ v. pure tt)) ≡ Stopped e left → seen at (and_then (and_then q (bind n)) (λ u. pure tt)) ≡ Stopped e left
 stops_early at (machine.Done v t) n e left h = absurd cc
@@ -168,7 +162,7 @@ module _ (old new : FunctionBindgen) (n : Bytes) (e : Expr) (items : List Runtim
               },
             ),
           )
-      go (Stopped x left) h = ran old new (stmt.Let n e ∷ []) items a w p (ins ++ others) s0 s at ∙ stops_early s.area (eval (setting_for w p) e s.machine) n x left h
+      go (Stopped x left) h = ran old new (stmt.Let n e ∷ []) items a w p (ins ++ others) s0 s at ∙ ap (seen s.area) (runs-let (setting_for w p) n e [] s.machine) ∙ stops_early s.area (eval (setting_for w p) e s.machine) n x left h
       go (Stuck left) h =
           ap (λ o. (account_in func_meaning.account o).calls) (ran old new (stmt.Let n e ∷ []) items a w p (ins ++ others) s0 s at)
           ∙ seen_calls s.area (run_stmts (setting_for w p) (stmt.Let n e ∷ []) s.machine) ∙ ap (map call_of) ((quiet_let n e quiet (setting_for w p)).quiet s.machine) ∙ sym h

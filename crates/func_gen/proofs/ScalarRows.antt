@@ -1,6 +1,7 @@
 -- The rows of scalars.
-use Rattle.std.proofs.Common.{◌≡◌, ℕ, ℤ, Bool, true, if◌then◌else◌, List, [], ◌∷◌, ◌++◌, Option, None, Some, refl, sym, ap, ◌∙◌, subst, drop, length, zero, suc}
+use Rattle.std.proofs.Common.{◌≡◌, ℕ, ℤ, Bool, true, if◌then◌else◌, List, [], ◌∷◌, ◌++◌, Option, None, Some, refl, sym, ap, ◌∙◌, subst, length}
 use Rattle.std.specs.Prelude.{option_and_then}
+use Rattle.std.proofs.Math.Seq.{drop-nil}
 use Rattle.wit_layout.specs.Flat.{core_type}
 use Rattle.wit_layout.specs.Tree.{Scalar}
 use Rattle.wit_model.specs.declared.types.TypeDef.{TypeDef}
@@ -50,14 +51,11 @@ use Rattle.func_gen.specs.Formed.{Formed}
 use Rattle.abi_driver.specs.Sent.{sends}
 use Rattle.func_gen.proofs.Emissions.{cast_emitted, conversion_emitted, kept_emitted}
 use Rattle.func_gen.proofs.Forming.{form_alone, ordinary_plain}
-use Rattle.func_gen.proofs.Rows.{none_adds, swaps, tests, none_dropped}
+use Rattle.func_gen.proofs.Rows.{none_adds, swaps, tests}
 use Rattle.wrapper_meaning.proofs.Lists.{some_or}
 use Rattle.func_gen.proofs.Scalars.{cast_word, conversion_to, converts_scalar, is_number, stands_scalar, taken_is, taken_word}
 
 -- 1. What is emitted
-
-abbrev no_blocks : List ⊥
-no_blocks = []
 
 pub calls_runtime : (i : RuntimeItem) → callee (runtime_path i) ≡ of_runtime (item_name i)
 unfolding callee runtime_name runtime_module_name
@@ -67,7 +65,7 @@ module _ (types : List TypeDef) (old new : FunctionBindgen) (i : Instruction) (s
   pub emits_lowered : lowered_scalar i ≡ Some s → Adds func_meaning old new → new.returned ≡ old.returned → Formed (sends i) (o ∷ []) (r ∷ []) old new → LowersScalar func_meaning s (o ∷ []) (r ∷ []) old new → Emits func_meaning types i (o ∷ []) (r ∷ []) old new
   emits_lowered is adds returned form row = record {
     adds = code_of func_meaning i (lowers_ordinary i s is) types old new adds;
-    blocks = none_dropped (length (block_results types i));
+    blocks = sym (drop-nil {A = ⊥} (length (block_results types i)));
     returned = still_returned func_meaning i (lowers_ordinary i s is) (o ∷ []) old.returned new.returned returned;
     asked = adds.asked;
     form = form;
@@ -78,7 +76,7 @@ module _ (types : List TypeDef) (old new : FunctionBindgen) (i : Instruction) (s
   pub emits_lifted : lowered_scalar i ≡ None → lifted_scalar i ≡ Some s → Adds func_meaning old new → new.returned ≡ old.returned → Formed (sends i) (o ∷ []) (r ∷ []) old new → LiftsScalar func_meaning s (o ∷ []) (r ∷ []) old new → Emits func_meaning types i (o ∷ []) (r ∷ []) old new
   emits_lifted none is adds returned form row = record {
     adds = code_of func_meaning i (lifts_ordinary i s is) types old new adds;
-    blocks = none_dropped (length (block_results types i));
+    blocks = sym (drop-nil {A = ⊥} (length (block_results types i)));
     returned = still_returned func_meaning i (lifts_ordinary i s is) (o ∷ []) old.returned new.returned returned;
     asked = adds.asked;
     form = form;
@@ -196,21 +194,21 @@ pub record Cast (i : Instruction) (to : CastType) : Type 0 where
   pub none : lowered_scalar i ≡ None
   pub lifted : lifted_scalar i ≡ Some scalar
   pub number : is_number scalar ≡ true
-  pub casts : (x : Word) → is_read scalar x ≡ true → (z : ℤ) × (integer_of (val.Word x) ≡ Some z) × (taken_word scalar x ≡ cast_integer to z)
+  pub casts : (x : Word) → is_read scalar x ≡ true → (z : ℤ) × (integer_of (val.Word x) ≡ Some z) × (val.Value (taken_word scalar x) ≡ cast_integer to z)
 
 casts_as : (i : Instruction) (one to : CastType) → (let c : Option CastType = Some one in c ≡ Some to) → Cast i one → Cast i to
 casts_as i one to e c = subst (Cast i) (ap (some_or one) e) c
 
 cast_by : (i : Instruction) (to : CastType) → number_cast i ≡ Some to → Cast i to
-cast_by U8FromI32 to e = casts_as U8FromI32 cast.U8 to e (record { scalar = Scalar.u8; none = refl; lifted = refl; number = refl; casts = λ x h. let (z, is) = i32_word x h in (z, ap (λ y. integer_of (val.Word y)) is, ap (taken_word Scalar.u8) is) })
-cast_by S8FromI32 to e = casts_as S8FromI32 cast.I8 to e (record { scalar = Scalar.s8; none = refl; lifted = refl; number = refl; casts = λ x h. let (z, is) = i32_word x h in (z, ap (λ y. integer_of (val.Word y)) is, ap (taken_word Scalar.s8) is) })
-cast_by U16FromI32 to e = casts_as U16FromI32 cast.U16 to e (record { scalar = Scalar.u16; none = refl; lifted = refl; number = refl; casts = λ x h. let (z, is) = i32_word x h in (z, ap (λ y. integer_of (val.Word y)) is, ap (taken_word Scalar.u16) is) })
-cast_by S16FromI32 to e = casts_as S16FromI32 cast.I16 to e (record { scalar = Scalar.s16; none = refl; lifted = refl; number = refl; casts = λ x h. let (z, is) = i32_word x h in (z, ap (λ y. integer_of (val.Word y)) is, ap (taken_word Scalar.s16) is) })
-cast_by U32FromI32 to e = casts_as U32FromI32 cast.U32 to e (record { scalar = Scalar.u32; none = refl; lifted = refl; number = refl; casts = λ x h. let (z, is) = i32_word x h in (z, ap (λ y. integer_of (val.Word y)) is, ap (taken_word Scalar.u32) is) })
-cast_by U64FromI64 to e = casts_as U64FromI64 cast.U64 to e (record { scalar = Scalar.u64; none = refl; lifted = refl; number = refl; casts = λ x h. let (z, is) = i64_word x h in (z, ap (λ y. integer_of (val.Word y)) is, ap (taken_word Scalar.u64) is) })
+cast_by U8FromI32 to e = casts_as U8FromI32 cast.U8 to e (record { scalar = Scalar.u8; none = refl; lifted = refl; number = refl; casts = λ x h. let (z, is) = i32_word x h in (z, ap (λ y. integer_of (val.Word y)) is, ap (λ y. val.Value (taken_word Scalar.u8 y)) is) })
+cast_by S8FromI32 to e = casts_as S8FromI32 cast.I8 to e (record { scalar = Scalar.s8; none = refl; lifted = refl; number = refl; casts = λ x h. let (z, is) = i32_word x h in (z, ap (λ y. integer_of (val.Word y)) is, ap (λ y. val.Value (taken_word Scalar.s8 y)) is) })
+cast_by U16FromI32 to e = casts_as U16FromI32 cast.U16 to e (record { scalar = Scalar.u16; none = refl; lifted = refl; number = refl; casts = λ x h. let (z, is) = i32_word x h in (z, ap (λ y. integer_of (val.Word y)) is, ap (λ y. val.Value (taken_word Scalar.u16 y)) is) })
+cast_by S16FromI32 to e = casts_as S16FromI32 cast.I16 to e (record { scalar = Scalar.s16; none = refl; lifted = refl; number = refl; casts = λ x h. let (z, is) = i32_word x h in (z, ap (λ y. integer_of (val.Word y)) is, ap (λ y. val.Value (taken_word Scalar.s16 y)) is) })
+cast_by U32FromI32 to e = casts_as U32FromI32 cast.U32 to e (record { scalar = Scalar.u32; none = refl; lifted = refl; number = refl; casts = λ x h. let (z, is) = i32_word x h in (z, ap (λ y. integer_of (val.Word y)) is, ap (λ y. val.Value (taken_word Scalar.u32 y)) is) })
+cast_by U64FromI64 to e = casts_as U64FromI64 cast.U64 to e (record { scalar = Scalar.u64; none = refl; lifted = refl; number = refl; casts = λ x h. let (z, is) = i64_word x h in (z, ap (λ y. integer_of (val.Word y)) is, ap (λ y. val.Value (taken_word Scalar.u64 y)) is) })
 cast_by _ to e = absurd (let h = e in cc)
 
-pub cast_says : (items : List Item) (e : Expr) (to : CastType) (x : Word) (z : ℤ) (env : Env) → integer_of (val.Word x) ≡ Some z → (read items e).at env ≡ Some (val.Word x) → (read items (expr.Cast e to)).at env ≡ Some (val.Value (cast_integer to z))
+pub cast_says : (items : List Item) (e : Expr) (to : CastType) (x : Word) (z : ℤ) (env : Env) → integer_of (val.Word x) ≡ Some z → (read items e).at env ≡ Some (val.Word x) → (read items (expr.Cast e to)).at env ≡ Some (cast_integer to z)
 cast_says items e to x z env i h = ap (λ (r : Read). r.at env) (read-cast items e to) ∙ cast_word to z x ((read items e).at env) i h
 
 pub cast_row : (types : List TypeDef) (old new : FunctionBindgen) (i : Instruction) (to : CastType) (e : Expr) → number_cast i ≡ Some to → Appends old new [] [] → new.scope ≡ old.scope
@@ -219,7 +217,7 @@ cast_row types old new i to e is a scope =
     let c = cast_by i to is in
     emits_lifted types old new i c.scalar (operand_of e) (operand_of (expr.Cast e to)) c.none c.lifted (none_adds old new [] a scope) a.returned (form_alone (sends i) (ordinary_plain i (lifts_ordinary i c.scalar c.lifted)) (operand_of e ∷ []) old new (expr.Cast e to) [] (cast_emitted old i to e is) scope a)
     (lifts_number old new c.scalar (operand_of e) (operand_of (expr.Cast e to)) c.number a scope
-    (λ x typed items env h. let (z, i, same) = c.casts x typed in ap (option_and_then item_of) (cast_says items e to x z env i h) ∙ ap (λ r. Some r) (sym same)))
+    (λ x typed items env h. let (z, i, same) = c.casts x typed in ap (option_and_then item_of) (cast_says items e to x z env i h) ∙ ap item_of (sym same)))
 
 pub record Kept (i : Instruction) : Type 0 where
   pub scalar : Scalar

@@ -1,15 +1,15 @@
 -- What the forms of scalars give: core words of numbers and chars, and numbers of core words.
-use Rattle.std.proofs.Common.{rules, ◌≡◌, ℕ, ℤ, Bool, true, false, [], Option, None, Some, refl, sym, ap, ◌∙◌, subst}
-use Rattle.std.specs.Prelude.{option_and_then}
+use Rattle.std.proofs.Common.{◌≡◌, ℕ, ℤ, Bool, true, false, [], Option, None, Some, refl, sym, ap, ◌∙◌, subst}
+use Rattle.std.specs.Prelude.{option_and_then, unsigned_abs}
+use Rattle.std.specs.Int.{w8, w16, cast_signed}
 use Rattle.std.specs.Option.{option_map}
 use Rattle.wit_layout.specs.Tree.{Scalar}
 use Rattle.wit_model.specs.declared.types.WitType.{WitType}
 use Rattle.wit_model.specs.declared.types.WitType.TheVariants as wit
 use Rattle.rust_tree.specs.declared.expr.CastType.{CastType}
-use Rattle.rust_tree.specs.declared.expr.CastType.TheVariants as cast
 use Rattle.rust_tree.specs.declared.runtime_item.RuntimeItem.{RuntimeItem}
 use Rattle.rust_tree.specs.declared.runtime_item.RuntimeItem.TheVariants.{AsI32, AsI64, AsF32, AsF64}
-use Rattle.wrapper_data.specs.declared.value.RustValue.{RustValue, RustValue-F, fold-RustValue, fold-roll-RustValue, out-RustValue, the_lemmas}
+use Rattle.wrapper_data.specs.declared.value.RustValue.{RustValue, RustValue-F, fold-RustValue, fold-roll-RustValue, out-RustValue}
 use Rattle.wrapper_data.specs.declared.value.RustValue.TheVariants as value
 use Rattle.wrapper_data.specs.declared.value.RustValue.TheVariants.{rolls-Bool, rolls-Char, rolls-F32, rolls-F64, rolls-Num}
 use Rattle.wrapper_data.specs.declared.word.Word.{Word}
@@ -24,7 +24,7 @@ use Rattle.wrapper_meaning.proofs.Lists.{some_or}
 use Rattle.wrapper_meaning.proofs.RustValues.{f32_same, f64_same, num_same, out-num, out-f32, out-f64, out-bool, out-char}
 use Rattle.wrapper_values.specs.declared.state.Val.{Val}
 use Rattle.wrapper_values.specs.declared.state.Val.TheVariants as val
-use Rattle.wrapper_values.specs.Effect.{cast_integer, cast_to, converted, integer_of, rust_of, rust_of_word}
+use Rattle.wrapper_values.specs.Effect.{cast_integer, cast_to, converted, integer_of, low, rust_of, rust_of_word}
 use Rattle.wrapper_values.specs.Owning.{owned}
 use Rattle.wrapper_run.proofs.NumberLemmas.{converted-char, converted-f32, converted-f64, converted-narrow, converted-wide, low_i32-s16, low_i32-s32, low_i32-s8, low_i32-u16, low_i32-u8, low_i64-s64}
 use Rattle.func_gen.specs.Meaning.{IsNormal, StandsAsItIs, passing_level}
@@ -263,13 +263,13 @@ bool_is b (val.Area a n) h = absurd cc
 
 -- the number that a word is read as
 abbrev pub taken_word : Scalar → Word → RustValue
-taken_word Scalar.u8 (core.I32 z) = cast_integer cast.U8 z
-taken_word Scalar.s8 (core.I32 z) = cast_integer cast.I8 z
-taken_word Scalar.u16 (core.I32 z) = cast_integer cast.U16 z
-taken_word Scalar.s16 (core.I32 z) = cast_integer cast.I16 z
-taken_word Scalar.u32 (core.I32 z) = cast_integer cast.U32 z
+taken_word Scalar.u8 (core.I32 z) = value.Num wit.U8 (low 8 z)
+taken_word Scalar.s8 (core.I32 z) = value.Num wit.S8 (cast_signed w8 (unsigned_abs (low 8 z)))
+taken_word Scalar.u16 (core.I32 z) = value.Num wit.U16 (low 16 z)
+taken_word Scalar.s16 (core.I32 z) = value.Num wit.S16 (cast_signed w16 (unsigned_abs (low 16 z)))
+taken_word Scalar.u32 (core.I32 z) = value.Num wit.U32 (low 32 z)
 taken_word Scalar.s32 (core.I32 z) = value.Num wit.S32 z
-taken_word Scalar.u64 (core.I64 z) = cast_integer cast.U64 z
+taken_word Scalar.u64 (core.I64 z) = value.Num wit.U64 (low 64 z)
 taken_word Scalar.s64 (core.I64 z) = value.Num wit.S64 z
 taken_word Scalar.f32 (core.F32 x) = value.F32 x
 taken_word Scalar.f64 (core.F64 x) = value.F64 x
@@ -297,6 +297,6 @@ taken_is Scalar.char v x n h t = absurd cc
 taken_is Scalar.handle v x n h t = elim v [ ]
 
 -- a cast of a word
-pub cast_word : (to : CastType) (z : ℤ) (x : Word) (o : Option Val) → integer_of (val.Word x) ≡ Some z → o ≡ Some (val.Word x) → option_and_then (on_bare (cast_to to)) o ≡ Some (val.Value (cast_integer to z))
+pub cast_word : (to : CastType) (z : ℤ) (x : Word) (o : Option Val) → integer_of (val.Word x) ≡ Some z → o ≡ Some (val.Word x) → option_and_then (on_bare (cast_to to)) o ≡ Some (cast_integer to z)
 unfolding cast_to
-cast_word to z x o i h = ap (option_and_then (on_bare (cast_to to))) h ∙ ap (option_map (λ z. val.Value (cast_integer to z))) i
+cast_word to z x o i h = ap (option_and_then (on_bare (cast_to to))) h ∙ ap (option_map (cast_integer to)) i

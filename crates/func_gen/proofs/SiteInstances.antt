@@ -1,5 +1,5 @@
 -- Enums and flags that a file may define; and that the number of cases is kept, and the number that holds members.
-use Rattle.std.proofs.Common.{◌≡◌, ℕ, nat_eq, Bool, true, false, List, [], ◌∷◌, Option, None, Some, refl, ap}
+use Rattle.std.proofs.Common.{◌≡◌, ℕ, nat_eq, Bool, true, false, [], ◌∷◌, Option, None, Some, refl, ap}
 use Rattle.std.specs.Prelude.{codes}
 use Rattle.wit_model.specs.Bytes.{Bytes}
 use Rattle.rust_tree.specs.declared.enum_item.EnumCase.{EnumCase}

@@ -1,5 +1,6 @@
 -- The rows of stores.
 use Rattle.std.proofs.Common.{◌≡◌, ℕ, ◌+◌, ◌%◌, ◌&&◌, nat_eq, ℤ, Bool, true, false, if◌then◌else◌, List, [], ◌∷◌, length, Option, None, Some, refl, sym, ap, ◌∙◌, subst, arith}
+use Rattle.std.proofs.Math.Seq.{drop-nil}
 use Rattle.wit_model.specs.Size.{bytes_at}
 use Rattle.wit_model.specs.declared.size.ArchitectureSize.{ArchitectureSize}
 use Rattle.wit_model.specs.declared.types.TypeDef.{TypeDef}
@@ -27,6 +28,7 @@ use Rattle.wrapper_run.specs.Memory.{block_from, bytes_of, bytes_of_small, bytes
 use Rattle.wrapper_run.specs.Run.{eval, run_stmt, run_stmts}
 use Rattle.wrapper_run.proofs.QuietSteps.{quiet_store}
 use Rattle.wrapper_run.proofs.StepLemmas.{Quiet, quiet_pure, quiet_then}
+use Rattle.wrapper_run.proofs.StmtSteps.{run-store, run-store_small, runs-first}
 use Rattle.abi_driver.specs.declared.instruction.Instruction.{Instruction}
 use Rattle.abi_driver.specs.declared.instruction.Instruction.TheVariants.{F32Store, F64Store, I32Store, I32Store8, I32Store16, I64Store, LengthStore, PointerStore}
 use Rattle.abi_driver.specs.Account.{Account, Peer}
@@ -54,7 +56,6 @@ use Rattle.func_gen.proofs.Forming.{form_effect, ordinary_plain}
 use Rattle.func_gen.proofs.MemoryTies.{by_blocks, byte_stored, f32_stored, f64_stored, half_stored, i32_stored, i64_stored, length_stored, pointer_stored, ranged_blocks, stored_low, stored_word}
 use Rattle.func_gen.proofs.Quiet.{quiet_operand}
 use Rattle.func_gen.proofs.Writing.{Keeps, Writes, finish, finishes, one_adds, there_written, writes}
-use Rattle.func_gen.proofs.Rows.{none_dropped}
 
 -- 1. What is emitted
 
@@ -62,7 +63,7 @@ pub emits_touch : (types : List TypeDef) (old new : FunctionBindgen) (i : Instru
     → Adds func_meaning old new → new.returned ≡ old.returned → Formed (sends i) os rs old new → RowOfTouch func_meaning t os rs old new → Emits func_meaning types i os rs old new
 emits_touch types old new i t os rs no_lower no_lift is count adds returned form row = record {
   adds = code_of func_meaning i (touches_ordinary i t is) types old new adds;
-  blocks = none_dropped (length (block_results types i));
+  blocks = sym (drop-nil {A = ⊥} (length (block_results types i)));
   returned = still_returned func_meaning i (touches_ordinary i t is) os old.returned new.returned returned;
   asked = adds.asked;
   form = form;
@@ -127,7 +128,8 @@ module _ (old new : FunctionBindgen) (e at : Expr) (ok : is_operand e ≡ true) 
         → run_stmts w (stmt.Store at o ty e ∷ []) s ≡ finish w (stored_word ty (address + bytes_at o 4) x s.heap.blocks) s
     store_run w x address s h =
         let given = two_given w old e at x (core.Pointer address) s h in
-        ap (λ q. and_then (and_then q (λ v. eval w at >>= store_word w o ty v)) (λ u. pure tt)) given.0
+        runs-first w (stmt.Store at o ty e) (eval w e >>= (λ v. eval w at >>= store_word w o ty v)) [] s (run-store w at o ty e)
+        ∙ ap (λ q. and_then (and_then q (λ v. eval w at >>= store_word w o ty v)) (λ u. pure tt)) given.0
         ∙ ap (λ q. and_then (and_then q (store_word w o ty (val.Word x))) (λ u. pure tt)) given.1
         ∙ wrote w ty (address + bytes_at o 4) x s (is_word_of ty x)
 
@@ -157,8 +159,9 @@ module _ (old new : FunctionBindgen) (e at : Expr) (ok : is_operand e ≡ true) 
     low_quietly : (w : Setting) → Quiet (run_stmts w (stmt.StoreSmall at o ty e ∷ []))
     low_quietly w =
         quiet_then (run_stmt w (stmt.StoreSmall at o ty e)) (λ u. pure tt)
+        (subst Quiet (sym (run-store_small w at o ty e))
         (quiet_then (eval w e) (λ v. eval w at >>= store_small w o ty v) (quiet_operand w e ok)
-        (λ v. quiet_then (eval w at) (store_small w o ty v) (quiet_operand w at ok_at) (quiet_store_low w v)))
+        (λ v. quiet_then (eval w at) (store_small w o ty v) (quiet_operand w at ok_at) (quiet_store_low w v))))
         (λ u. quiet_pure tt)
 
     pub low_adds : Adds func_meaning old new
@@ -168,7 +171,8 @@ module _ (old new : FunctionBindgen) (e at : Expr) (ok : is_operand e ≡ true) 
         → run_stmts w (stmt.StoreSmall at o ty e ∷ []) s ≡ finish w (stored_small ty (address + bytes_at o 4) z s.heap.blocks) s
     low_run w z address s h =
         let given = two_given w old e at (core.I32 z) (core.Pointer address) s h in
-        ap (λ q. and_then (and_then q (λ v. eval w at >>= store_small w o ty v)) (λ u. pure tt)) given.0
+        runs-first w (stmt.StoreSmall at o ty e) (eval w e >>= (λ v. eval w at >>= store_small w o ty v)) [] s (run-store_small w at o ty e)
+        ∙ ap (λ q. and_then (and_then q (λ v. eval w at >>= store_small w o ty v)) (λ u. pure tt)) given.0
         ∙ ap (λ q. and_then (and_then q (store_small w o ty (val.Word (core.I32 z)))) (λ u. pure tt)) given.1
         ∙ wrote_low w (address + bytes_at o 4) s (stored_small ty (address + bytes_at o 4) z s.heap.blocks)
 

@@ -45,6 +45,7 @@ use Rattle.wrapper_run.proofs.LocalLemmas.{reads-new}
 use Rattle.wrapper_run.proofs.OwningLemmas.{buffer-text, owned-block, owned-empty}
 use Rattle.wrapper_run.proofs.QuietSteps.{quiet_let}
 use Rattle.wrapper_run.proofs.StepLemmas.{Quiet, quiet_local, quiet_pure, quiet_runtime}
+use Rattle.wrapper_run.proofs.StmtSteps.{runs-let}
 use Rattle.wrapper_run.proofs.TakeLemmas.{quiet_raw, raw_gives}
 use Rattle.abi_driver.specs.Account.{Account, Follows, Got, Outcome, Peer, Stopped, Taken, addresses, failing, gives as lawful, found as law_found, taking, tested as law_tested}
 use Rattle.abi_driver.specs.declared.instruction.Instruction.TheVariants as instruction
@@ -139,7 +140,7 @@ module _ (set : Setting) (t : ℕ) where
   taken_runs a e p k s h g =
       let lv : Val = val.Word (core.Length k) in
       let_runs set (len_name t) e (stmt.Let (bytes_name t) (expr.FromRawParts a (len_name t)) ∷ lifting ∷ []) lv s s h
-      ∙ ap behind (raw_gives set a (len_name t) p k (with_local s (len_name t) lv) g (reads-new (len_name t) (Some lv) s.locals))
+      ∙ runs-let set (bytes_name t) (expr.FromRawParts a (len_name t)) (lifting ∷ []) (with_local s (len_name t) lv) ∙ ap behind (raw_gives set a (len_name t) p k (with_local s (len_name t) lv) g (reads-new (len_name t) (Some lv) s.locals))
 
   abbrev tests : Bool → Val → State → machine.Outcome (Unit {0})
   tests c v s = and_then (and_then ((if c then pure v else stop (failed set trap.Utf8)) s) (bind (text_name t))) (λ u. pure tt)
@@ -150,7 +151,8 @@ module _ (set : Setting) (t : ℕ) where
   unfolding bind call_runtime lift_text
   lifted_runs p k bytes s u found h has =
       let v = buffer_val p k true in
-      ap (λ o. and_then (and_then o (bind (text_name t))) (λ u. pure tt))
+      runs-let set (text_name t) (runtime_call StringLift (expr.Local (bytes_name t))) [] (with_local s (bytes_name t) v)
+      ∙ ap (λ o. and_then (and_then o (bind (text_name t))) (λ u. pure tt))
       (one_called set (runtime_path StringLift) (expr.Local (bytes_name t)) v (with_local s (bytes_name t) v) u h ∙ ap (λ c. call_callee set c (v ∷ []) u) (calls_runtime StringLift) ∙ ap (λ i. apply set i (v ∷ []) u) found
       ∙ ap (λ o. lift_buffer set v o u) (buffer-text p k true) ∙ ap (λ o. tested set v o u) has)
 

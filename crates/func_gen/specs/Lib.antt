@@ -2,6 +2,7 @@ pub mod Added
 pub mod Area
 pub mod Body
 pub mod CallForms
+pub mod CastForms
 pub mod CodeOf
 pub mod Emission
 pub mod Entered

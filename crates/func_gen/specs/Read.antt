@@ -6,15 +6,17 @@ use Rattle.rust_tree.specs.declared.expr.Expr.{Expr, Expr-F, fold-Expr}
 use Rattle.rust_tree.specs.declared.item.Item.{Item}
 use Rattle.rust_tree.specs.declared.runtime_item.RuntimeItem.{RuntimeItem}
 use Rattle.wit_model.specs.Bytes.{Bytes}
+use Rattle.wrapper_data.specs.declared.word.Word.TheVariants as word
 use Rattle.wrapper_values.specs.declared.state.State.{State}
 use Rattle.wrapper_values.specs.declared.state.Val.{Val}
 use Rattle.wrapper_values.specs.declared.state.Val.TheVariants as val
+use Rattle.wrapper_values.specs.CoreWords.{called_on, core_word, zero_word}
 use Rattle.wrapper_values.specs.Effect.{cast_to, converted}
 use Rattle.wrapper_values.specs.Enums.{word_of_case}
 use Rattle.wrapper_values.specs.Flags.{bits_of_flags, word_at}
 use Rattle.wrapper_values.specs.Locals.{local_named, usable, value_of}
 use Rattle.wrapper_values.specs.Owning.{lent, owned, pointer_of}
-use Rattle.wrapper_run.specs.Run.{Callee, alone, callee, core_forget, enum_lift, of_runtime, runtime_item_named, unknown}
+use Rattle.wrapper_run.specs.Run.{Callee, alone, callee, core_case, core_forget, core_function, enum_lift, of_runtime, root_case, runtime_item_named, unknown}
 
 -- 1. Environments
 
@@ -96,6 +98,10 @@ no_value v e = e
 abbrev pub nothing : Read
 nothing = record { at = λ env. None; mono = λ a b u v e. no_value v e; meet = λ env n k v g h. no_value v g }
 
+-- the same value, whatever the names stand for
+abbrev pub always : Val → Read
+always x = record { at = λ env. Some x; mono = λ a b u v e. e; meet = λ env n k v g h. g }
+
 -- 3. What the forms read
 
 -- a value that owns no block
@@ -125,7 +131,7 @@ as_flags_word by v = option_map (λ bits. val.Word (word_at by bits)) (bits_of_f
 abbrev pub as_case_word : Val → Option Val
 as_case_word v = option_map val.Word (word_of_case v)
 
--- a conversion of `_rt`
+-- a conversion of `_rt`, or a function of the core library
 abbrev pub converts : Option RuntimeItem → Val → Option Val
 converts None v = None
 converts (Some i) v = option_map val.Word (converted i v)
@@ -134,6 +140,9 @@ abbrev pub conversion : List Item → Callee → Val → Option Val
 conversion items (of_runtime name) v = converts (runtime_item_named items name) v
 conversion items (alone name) v = None
 conversion items (enum_lift name) v = None
+conversion items (root_case ty name) v = None
+conversion items (core_case number) v = None
+conversion items (core_function f) v = option_map val.Word (core_word f v)
 conversion items core_forget v = None
 conversion items unknown v = None
 
@@ -150,6 +159,9 @@ read_step items (Expr-F.Call path arguments) = call_reads items (callee path) ar
 read_step items (Expr-F.CastMut name) = through as_pointer (of_local name)
 read_step items (Expr-F.EnumNumber e) = through (on_bare as_case_word) e
 read_step items (Expr-F.FlagsBits name by) = through (on_bare (as_flags_word by)) (of_local name)
+read_step items (Expr-F.I32Const n) = always (val.Word (word.I32 n))
+read_step items (Expr-F.Zero ty) = always (val.Word (zero_word ty))
+read_step items (Expr-F.Method e method) = through (on_bare (called_on method)) e
 read_step items _ = nothing
 
 -- in a file of these items

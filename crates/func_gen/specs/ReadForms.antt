@@ -1,17 +1,21 @@
 -- What each form of an operand reads, and that no more than a local by itself reads a value that owns a block.
 use Rattle.std.proofs.Common.{rules, ◌≡◌, ℕ, Bool, true, false, cond, List, [], ◌∷◌, map, Option, None, Some, refl, sym, ap, ◌∙◌, subst}
-use Rattle.std.specs.Prelude.{option_and_then}
+use Rattle.std.specs.Prelude.{ℤ, option_and_then}
 use Rattle.std.specs.Str.{bytes_eq}
 use Rattle.std.proofs.lemmas.Slice.Eq.{bytes_eq-Decides}
 use Rattle.wit_model.specs.Bytes.{Bytes}
 use Rattle.rust_tree.specs.declared.expr.CastType.{CastType}
 use Rattle.rust_tree.specs.declared.expr.Expr.{Expr, Expr-F, fold-roll-Expr, ind-Expr, map-Expr, roll-Expr, the_lemmas}
 use Rattle.rust_tree.specs.declared.expr.Expr.TheVariants as expr
-use Rattle.rust_tree.specs.declared.expr.Expr.TheVariants.{rolls-Call, rolls-Cast, rolls-CastMut, rolls-EnumNumber, rolls-FlagsBits, rolls-Local, rolls-Ref}
+use Rattle.rust_tree.specs.declared.expr.Expr.TheVariants.{rolls-Call, rolls-Cast, rolls-CastMut, rolls-EnumNumber, rolls-FlagsBits, rolls-I32Const, rolls-Local, rolls-Method, rolls-Ref, rolls-Zero}
+use Rattle.rust_tree.specs.declared.expr.Method.{Method}
+use Rattle.rust_tree.specs.declared.expr.ZeroType.{ZeroType}
 use Rattle.rust_tree.specs.declared.item.Item.{Item}
 use Rattle.rust_tree.specs.declared.path.Path.{Path}
+use Rattle.wrapper_data.specs.declared.word.Word.TheVariants as word
 use Rattle.wrapper_values.specs.declared.state.Val.{Val}
 use Rattle.wrapper_values.specs.declared.state.Val.TheVariants as val
+use Rattle.wrapper_values.specs.CoreWords.{called_on, zero_word}
 use Rattle.wrapper_values.specs.Effect.{cast_to}
 use Rattle.wrapper_values.specs.Locals.{usable}
 use Rattle.wrapper_values.specs.Owning.{lent, owned}
@@ -42,6 +46,15 @@ module _ (items : List Item) where
 
   pub read-call : (path : Path) (es : List Expr) → read items (expr.Call path es) ≡ read_step items (Expr-F.Call path (map (read items) es))
   read-call path es = ap (read items) (sym (rolls-Call path es)) ∙ fold-roll-Expr Read (read_step items) (Expr-F.Call path es)
+
+  pub read-i32_const : (n : ℤ) → read items (expr.I32Const n) ≡ read_step items (Expr-F.I32Const n)
+  read-i32_const n = ap (read items) (sym (rolls-I32Const n)) ∙ fold-roll-Expr Read (read_step items) (Expr-F.I32Const n)
+
+  pub read-zero : (ty : ZeroType) → read items (expr.Zero ty) ≡ read_step items (Expr-F.Zero ty)
+  read-zero ty = ap (read items) (sym (rolls-Zero ty)) ∙ fold-roll-Expr Read (read_step items) (Expr-F.Zero ty)
+
+  pub read-method : (e : Expr) (method : Method) → read items (expr.Method e method) ≡ read_step items (Expr-F.Method (read items e) method)
+  read-method e method = ap (read items) (sym (rolls-Method e method)) ∙ fold-roll-Expr Read (read_step items) (Expr-F.Method e method)
 
   -- as one reader reads
   pub at_read : (a b : Read) (env : Env) (v : Val) → a ≡ b → a.at env ≡ Some v → b.at env ≡ Some v
@@ -142,6 +155,19 @@ module _ (items : List Item) where
   stable-call : (path : Path) (e : Expr) → Stable e → Stable (expr.Call path (e ∷ []))
   stable-call path e = by_operand (conversion items (callee path)) e (expr.Call path (e ∷ [])) (λ env. ap (λ (r : Read). r.at env) (read-call items path (e ∷ [])))
 
+  stable-method : (e : Expr) (method : Method) → Stable e → Stable (expr.Method e method)
+  stable-method e method = by_operand (called_on method) e (expr.Method e method) (λ env. ap (λ (r : Read). r.at env) (read-method items e method))
+
+  -- what is read whatever the names stand for
+  constant : (e : Expr) (x : Val) → ((env : Env) → (read items e).at env ≡ Some x) → Stable e
+  constant e x reads env v h none n owns = reads (less env n) ∙ sym (reads env) ∙ h
+
+  stable-i32_const : (n : ℤ) → Stable (expr.I32Const n)
+  stable-i32_const n = constant (expr.I32Const n) (val.Word (word.I32 n)) (λ env. ap (λ (r : Read). r.at env) (read-i32_const items n))
+
+  stable-zero : (ty : ZeroType) → Stable (expr.Zero ty)
+  stable-zero ty = constant (expr.Zero ty) (val.Word (zero_word ty)) (λ env. ap (λ (r : Read). r.at env) (read-zero items ty))
+
   nothing_stable : (l : Expr-F Expr) → read_step items (map-Expr Expr Read (read items) l) ≡ nothing → Stable (roll-Expr l)
   nothing_stable l none env v h bare n owns =
       let e : nothing.at env ≡ Some v = at_read items _ _ env v (fold-roll-Expr Read (read_step items) l ∙ none) h in
@@ -154,6 +180,9 @@ module _ (items : List Item) where
   step fst snd l (Expr-F.FlagsBits name by) is = subst (λ z. Stable (roll-Expr z)) is (subst Stable (sym (rolls-FlagsBits name by)) (stable-flags_bits name by))
   step fst snd l (Expr-F.EnumNumber x) is = subst (λ z. Stable (roll-Expr z)) is (subst Stable (sym (rolls-EnumNumber (fst x))) (stable-enum_number (fst x) (snd x)))
   step fst snd l (Expr-F.Cast x to) is = subst (λ z. Stable (roll-Expr z)) is (subst Stable (sym (rolls-Cast (fst x) to)) (stable-cast (fst x) to (snd x)))
+  step fst snd l (Expr-F.I32Const n) is = subst (λ z. Stable (roll-Expr z)) is (subst Stable (sym (rolls-I32Const n)) (stable-i32_const n))
+  step fst snd l (Expr-F.Zero ty) is = subst (λ z. Stable (roll-Expr z)) is (subst Stable (sym (rolls-Zero ty)) (stable-zero ty))
+  step fst snd l (Expr-F.Method x method) is = subst (λ z. Stable (roll-Expr z)) is (subst Stable (sym (rolls-Method (fst x) method)) (stable-method (fst x) method (snd x)))
   step fst snd l (Expr-F.Call path []) is = subst (λ z. Stable (roll-Expr z)) is (nothing_stable (Expr-F.Call path []) refl)
   step fst snd l (Expr-F.Call path (x ∷ [])) is = subst (λ z. Stable (roll-Expr z)) is (subst Stable (sym (rolls-Call path (fst x ∷ []))) (stable-call path (fst x) (snd x)))
   step fst snd l (Expr-F.Call path (x ∷ x2 ∷ xs)) is = subst (λ z. Stable (roll-Expr z)) is (nothing_stable (Expr-F.Call path (fst x ∷ fst x2 ∷ map fst xs)) refl)

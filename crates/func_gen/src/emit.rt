@@ -1,6 +1,8 @@
 //! The code of each instruction.
 
 mod calls;
+mod casts;
+mod constants;
 mod enums;
 mod flags;
 mod flush;

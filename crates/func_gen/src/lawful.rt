@@ -17,9 +17,10 @@ impl Bindgen for FunctionBindgen {
 
     ghost sound = { func_sound };
 
-    /// The statements of arguments and scalars, of texts, tuples and records, of enums and flags, of stores, loads and frees, of operands that get locals of
-    /// their own and of the call of a core import, the block that calls a method of no resource, the names of an open block, and what the code gives.
-    /// Of any other instruction so far, and of an expression that is no operand, the answer is `OutOfMemory`.
+    /// The statements of arguments, constants, casts of core words and scalars, of texts, tuples and records, of enums and flags, of stores,
+    /// loads and frees, of operands that get locals of their own and of the call of a core import, the block that calls a method of no
+    /// resource, the names of an open block, and what the code gives. Of any other instruction so far, and of an expression that is no
+    /// operand, the answer is `OutOfMemory`.
     fn emit(
         &mut self,
         resolve: &Resolve,
@@ -40,6 +41,9 @@ impl Bindgen for FunctionBindgen {
             Instruction::GetArg(n) => self.get_arg(resolve, n, results),
             Instruction::Flush(n) => self.flush(resolve, n, operands, results),
             Instruction::Return(n) => self.give(resolve, n, operands, results),
+            Instruction::I32Const(n) => self.make_number(resolve, n, results),
+            Instruction::ConstZero(types) => self.make_zeros(resolve, types, results),
+            Instruction::Bitcasts(casts) => self.cast_words(resolve, casts, operands, results),
             Instruction::I32FromBool => self.lower_bool(resolve, operands, results),
             Instruction::BoolFromI32 => self.lift_bool(resolve, operands, results),
             Instruction::CharFromI32 => self.lift_char(resolve, operands, results),

@@ -1,15 +1,16 @@
 //! Operands: expressions that may be used where code is made of instructions.
 
-ghost use Rattle.std.specs.Prelude.{◌≡◌, IfOk};
-ghost use Rattle.func_gen.specs.Operand.{is_conversion, is_converting, is_operand};
+ghost use Rattle.std.specs.Prelude.{◌≡◌, ◌||◌, IfOk};
+ghost use Rattle.func_gen.specs.Operand.{is_conversion, is_converting, is_core_function, is_operand};
+ghost use Rattle.wrapper_run.specs.Run.{is_f32_from_bits, is_f64_from_bits, is_i64_from, is_new_slot};
 
 use abi_driver::Operand;
 use rust_tree::{Expr, Path};
 use std::alloc::Global;
 use wit_model::{Boxed, List, OutOfMemory, Text};
 
-/// An operand: a local, by itself or by a reference, a pointer to write through, or a word of the flags in a local; or the cast, the core value
-/// or the case number of such.
+/// An operand: a local, by itself or by a reference, a pointer to write through, a word of the flags in a local, or a constant; or the cast, the
+/// core value or the case number of such, and what a method gives that is called on it.
 #[derive(Drop)]
 pub struct ExprOperand {
     pub expr: Expr,
@@ -31,10 +32,16 @@ pub(crate) fn copy_expr(e: &Expr, alloc: Global) -> Result<Expr, OutOfMemory>
         Expr::Ref(name) => Ok(Expr::Ref(name.copy(alloc)?)),
         Expr::CastMut(name) => Ok(Expr::CastMut(name.copy(alloc)?)),
         Expr::FlagsBits(name, by) => Ok(Expr::FlagsBits(name.copy(alloc)?, *by)),
+        Expr::I32Const(n) => Ok(Expr::I32Const(*n)),
+        Expr::Zero(ty) => Ok(Expr::Zero(*ty)),
         Expr::EnumNumber(inner) => Ok(Expr::EnumNumber(Boxed::new(
             alloc,
             copy_expr(inner.get(), alloc)?,
         )?)),
+        Expr::Method(inner, method) => Ok(Expr::Method(
+            Boxed::new(alloc, copy_expr(inner.get(), alloc)?)?,
+            *method,
+        )),
         Expr::Cast(inner, to) => Ok(Expr::Cast(
             Boxed::new(alloc, copy_expr(inner.get(), alloc)?)?,
             *to,
@@ -95,16 +102,55 @@ fn is_conversion(path: &Path) -> bool
     }
 }
 
-/// Whether an expression may be an operand: a local, by itself or by a reference, a pointer to write through, or a word of the flags in a local;
-/// or the cast, the core value or the case number of an operand.
+/// Whether two names are those of a function that takes a number to an `i64` or a float.
+#[tactic(auto, unfolding(wrapper_run::specs::Run::is_i64_from, wrapper_run::specs::Run::is_f32_from_bits, wrapper_run::specs::Run::is_f64_from_bits))]
+fn is_number_function(first: &Text, name: &Text) -> bool
+    ensures { result ≡ (is_i64_from first.now name.now || (is_f32_from_bits first.now name.now || is_f64_from_bits first.now name.now)) }
+{
+    let is_from = first.as_str() == "i64" && name.as_str() == "from";
+    let is_f32 = first.as_str() == "f32" && name.as_str() == "from_bits";
+    let is_f64 = first.as_str() == "f64" && name.as_str() == "from_bits";
+    is_from || is_f32 || is_f64
+}
+
+/// Whether four names are those of the function that makes a slot.
+#[tactic(auto, unfolding(wrapper_run::specs::Run::is_new_slot))]
+fn is_new_slot(first: &Text, second: &Text, third: &Text, fourth: &Text) -> bool
+    ensures { result ≡ is_new_slot first.now second.now third.now fourth.now }
+{
+    first.as_str() == "core"
+        && second.as_str() == "mem"
+        && third.as_str() == "MaybeUninit"
+        && fourth.as_str() == "new"
+}
+
+/// Whether a path names a function of the core library that takes a number to a core value.
+#[tactic(auto, unfolding(crate::specs::Operand::is_core_function))]
+fn is_core_function(path: &Path) -> bool
+    ensures { result ≡ is_core_function path.now }
+{
+    if path.supers != 0 {
+        return false;
+    }
+    match (path.lead, path.names.as_slice()) {
+        (false, [first, name]) => is_number_function(first, name),
+        (true, [first, second, third, fourth]) => is_new_slot(first, second, third, fourth),
+        _ => false,
+    }
+}
+
+/// Whether an expression may be an operand: a local, by itself or by a reference, a pointer to write through, a word of the flags in a local, or a
+/// constant; or the cast, the core value or the case number of an operand, and what a method gives that is called on one.
 pub(crate) fn is_operand(e: &Expr) -> bool
     ensures { result ≡ is_operand e.now }
 {
     match e {
         Expr::Local(_) | Expr::Ref(_) | Expr::CastMut(_) | Expr::FlagsBits(_, _) => true,
+        Expr::I32Const(_) | Expr::Zero(_) => true,
         Expr::Cast(inner, _) | Expr::EnumNumber(inner) => is_operand(inner.get()),
+        Expr::Method(inner, _) => is_operand(inner.get()),
         Expr::Call(path, arguments) => match arguments.as_slice() {
-            [argument] => is_conversion(path) && is_operand(argument),
+            [argument] => (is_conversion(path) || is_core_function(path)) && is_operand(argument),
             _ => false,
         },
         _ => false,

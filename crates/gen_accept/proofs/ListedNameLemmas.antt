@@ -68,6 +68,7 @@ both-all p q (x ∷ xs) h g =
 
 pub named-parts : (k : TypeDefKind) → list_all is_ident (field_names k) ≡ true → list_all is_ident (member_names k) ≡ true → are_written_members k ≡ true → are_named_parts k ≡ true
 named-parts (kind.Record fields) h m g = both-all (λ f. is_ident (rust_ident f.name)) (λ f. is_wit_form f.name.wit) fields (sym (list_all-map is_ident (λ f. rust_ident f.name) fields) ∙ h) g
+named-parts (kind.Variant cases) h m g = sym (list_all-map is_ident (λ c. c.name.camel) cases) ∙ m
 named-parts (kind.Enum cases) h m g = both-all (λ c. is_ident c.name.camel) (λ c. is_wit_form c.name.wit) cases (sym (list_all-map is_ident (λ c. c.name.camel) cases) ∙ m) g
 named-parts (kind.Flags members) h m g = sym (list_all-map is_ident (λ m. m.name.upper) members) ∙ m
 named-parts _ h m g = refl

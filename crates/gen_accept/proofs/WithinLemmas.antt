@@ -8,7 +8,7 @@ use Rattle.wit_model.specs.declared.world.World.{World}
 use Rattle.wit_model.specs.declared.world.WorldItem.TheVariants as entry
 use Rattle.wit_model.specs.IndexRange.{item_in_range, key_in_range, listed_in_range, world_in_range, first_out_of_range}
 use Rattle.wit_model.specs.WellFormed.{IsWellFormed, first_fault}
-use Rattle.wit_model.proofs.InRange.{neither, passes_at, unmapped, none_out_of_range}
+use Rattle.wit_model.proofs.InRange.{neither, passes_at, none_out_of_range}
 use Rattle.type_defs.specs.ListedTypes.{Entries, listed_types, types_in}
 
 pub world-in : (r : Resolve) (k : ℕ) (world : World) → first_fault r ≡ None → slice_get r.worlds k ≡ Some world → world_in_range r world ≡ true

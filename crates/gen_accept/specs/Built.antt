@@ -13,7 +13,7 @@ use Rattle.wit_model.specs.declared.world.WorldItem.TheVariants as item
 use Rattle.wit_model.specs.declared.world.World.{World}
 use Rattle.wit_model.specs.declared.resolve.Resolve.{Resolve}
 use Rattle.gen_accept.specs.declared.opts.Opts.{Opts}
-use Rattle.type_defs.specs.Defined.{is_defined_type}
+use Rattle.type_defs.specs.Defined.{is_defined_part, is_defined_type}
 use Rattle.type_defs.specs.FunctionTypes.{function_passes}
 use Rattle.type_defs.specs.Modes.{is_owning}
 
@@ -50,11 +50,15 @@ is_built_world world =
     list_all (λ entry. is_built_item entry.1) world.imports && list_all (λ entry. is_built_item entry.1) world.exports
     && list_all (λ entry. is_under_itself entry.0 entry.1) world.imports && list_all (λ entry. is_no_type entry.1) world.exports
 
--- a type that the table may have: an alias, a record, a tuple, an enum, or flags of which there are 128 at most
+-- a type that the table may have: an alias, a record, a tuple, an option, a result, a variant, an enum, or flags of which there are 128
+-- at most
 abbrev pub is_built_kind : TypeDefKind → Bool
 is_built_kind (sort.Alias ty) = is_defined_type ty
 is_built_kind (sort.Tuple members) = list_all is_defined_type members
 is_built_kind (sort.Record fields) = list_all (λ f. is_defined_type f.ty) fields
+is_built_kind (sort.Option ty) = is_defined_type ty
+is_built_kind (sort.Result ok err) = is_defined_part ok && is_defined_part err
+is_built_kind (sort.Variant cases) = list_all (λ c. is_defined_part c.ty) cases
 is_built_kind (sort.Enum _) = true
 is_built_kind (sort.Flags members) = nat_le (length members) 128
 is_built_kind _ = false

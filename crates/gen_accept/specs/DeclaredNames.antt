@@ -117,7 +117,7 @@ module_scope types world defined imports exports = record {
 abbrev pub field_scope : TypeDef → NameScope
 field_scope t = record { name = type_name t; names = all_declared Value (field_names t.kind) }
 
--- the cases of an enum, or the members of a flags type
+-- the cases of a variant or an enum, or the members of a flags type
 abbrev pub member_scope : TypeDef → NameScope
 member_scope t = record { name = type_name t; names = all_declared Value (member_names t.kind) }
 

@@ -3,15 +3,15 @@
 ghost use Rattle.std.specs.Prelude.{◌≡◌};
 ghost use Rattle.std.specs.List.{list_all};
 ghost use Rattle.gen_accept.specs.Built.{is_built_kind, is_freestanding, is_built_function, is_built_item, is_empty, is_no_type, is_under_itself, is_built_world, are_built_tables, are_flags_off, are_lists_empty, are_values_absent, are_built_options};
-ghost use Rattle.type_defs.specs.Defined.{is_defined_type};
-ghost use Rattle.type_defs.specs.FunctionTypes.{function_passes, passes_or_none};
+ghost use Rattle.type_defs.specs.Defined.{is_defined_part, is_defined_type};
+ghost use Rattle.type_defs.specs.FunctionTypes.{function_passes};
 ghost use Rattle.type_defs.specs.Modes.{is_owning};
 
 use crate::opts::Opts;
 use type_defs::Ownership;
 use wit_model::{
-    Field, Function, FunctionKind, List, Param, Resolve, TypeDef, TypeDefKind, WitType, World,
-    WorldItem, WorldKey,
+    Case, Field, Function, FunctionKind, List, Param, Resolve, TypeDef, TypeDefKind, WitType,
+    World, WorldItem, WorldKey,
 };
 
 fn is_defined_type(ty: WitType) -> bool
@@ -20,10 +20,11 @@ fn is_defined_type(ty: WitType) -> bool
     !matches!(ty, WitType::ErrorContext)
 }
 
-fn is_defined_result(answer: &Option<WitType>) -> bool
-    ensures { result ≡ passes_or_none is_defined_type answer.now }
+/// A result, or a payload, if there is one.
+fn is_defined_part(part: &Option<WitType>) -> bool
+    ensures { result ≡ is_defined_part part.now }
 {
-    match answer {
+    match part {
         None => true,
         Some(ty) => is_defined_type(*ty),
     }
@@ -44,7 +45,7 @@ fn are_defined_params(params: &[Param]) -> bool
 fn has_defined_types(f: &Function) -> bool
     ensures { result ≡ function_passes is_defined_type f.now }
 {
-    are_defined_params(f.params.as_slice()) && is_defined_result(&f.result)
+    are_defined_params(f.params.as_slice()) && is_defined_part(&f.result)
 }
 
 fn is_built_function(f: &Function) -> bool
@@ -134,6 +135,12 @@ fn are_built_fields(fields: &[Field]) -> bool
     fields.iter().all(|field| is_defined_type(field.ty))
 }
 
+fn are_built_cases(cases: &[Case]) -> bool
+    ensures { result ≡ list_all (λ c. is_defined_part c.ty) cases.now }
+{
+    cases.iter().all(|case| is_defined_part(&case.ty))
+}
+
 fn is_built_kind(kind: &TypeDefKind) -> bool
     ensures { result ≡ is_built_kind kind.now }
 {
@@ -141,6 +148,9 @@ fn is_built_kind(kind: &TypeDefKind) -> bool
         TypeDefKind::Alias(ty) => is_defined_type(*ty),
         TypeDefKind::Tuple(members) => are_built_parts(members.as_slice()),
         TypeDefKind::Record(fields) => are_built_fields(fields.as_slice()),
+        TypeDefKind::Option(ty) => is_defined_type(*ty),
+        TypeDefKind::Result(ok, err) => is_defined_part(ok) && is_defined_part(err),
+        TypeDefKind::Variant(cases) => are_built_cases(cases.as_slice()),
         TypeDefKind::Enum(_) => true,
         TypeDefKind::Flags(members) => members.len() <= 128,
         _ => false,
@@ -153,8 +163,8 @@ fn are_built_kinds(types: &[TypeDef]) -> bool
     types.iter().all(|entry| is_built_kind(&entry.kind))
 }
 
-/// Whether the tables hold only worlds of functions, and of types which a world may import: aliases, records, tuples, enums, and
-/// flags types of 128 members at most.
+/// Whether the tables hold only worlds of functions, and of types which a world may import: aliases, records, tuples, options,
+/// results, variants, enums, and flags types of 128 members at most.
 #[tactic(auto, unfolding(crate::specs::Built::are_built_tables))]
 pub(crate) fn are_built_tables(resolve: &Resolve) -> bool
     ensures { result ≡ are_built_tables resolve.now }

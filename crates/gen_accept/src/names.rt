@@ -476,7 +476,7 @@ fn scopes_of(
 }
 
 /// The names that the file of a world declares, scope by scope: the root's, the fields of each record, the members of
-/// each enum and flags type, the trait's, and the parameters of each function.
+/// each variant, enum and flags type, the trait's, and the parameters of each function.
 pub(crate) fn declared_names(
     alloc: Global,
     opts: &Opts,

@@ -10,7 +10,7 @@ use crate::declared::{Declared, NameScope, Sort};
 use rust_tree::to_rust_ident;
 use std::alloc::Global;
 use type_defs::type_name;
-use wit_model::{Field, List, Member, OutOfMemory, TypeDef, TypeDefKind};
+use wit_model::{Case, Field, List, Member, OutOfMemory, TypeDef, TypeDefKind};
 
 fn declare_fields(
     alloc: Global,
@@ -68,6 +68,23 @@ pub(crate) fn push_field_scopes(
     Ok(())
 }
 
+fn declare_variant_cases(
+    alloc: Global,
+    names: &mut List<Declared>,
+    cases: &[Case],
+) -> Result<(), OutOfMemory>
+    ensures { OnOk result
+        (names.new ≡ names.old ++ all_declared Value (map (λ c. c.name.camel) cases.now)) }
+{
+    for case in cases {
+        names.push(Declared {
+            sort: Sort::Value,
+            name: case.name.camel.copy(alloc)?,
+        })?;
+    }
+    Ok(())
+}
+
 fn declare_cases(
     alloc: Global,
     names: &mut List<Declared>,
@@ -110,6 +127,7 @@ fn declare_member_names(
     ensures { OnOk result (names.new ≡ names.old ++ all_declared Value (member_names kind.now)) }
 {
     match kind {
+        TypeDefKind::Variant(cases) => declare_variant_cases(alloc, names, cases.as_slice()),
         TypeDefKind::Enum(cases) => declare_cases(alloc, names, cases.as_slice()),
         TypeDefKind::Flags(members) => declare_flags(alloc, names, members.as_slice()),
         _ => Ok(()),
@@ -127,7 +145,7 @@ fn member_scope(alloc: Global, entry: &TypeDef) -> Result<NameScope, OutOfMemory
     })
 }
 
-/// Puts the cases of each enum and the members of each flags type behind other scopes.
+/// Puts the cases of each variant and enum, and the members of each flags type, behind other scopes.
 pub(crate) fn push_member_scopes(
     alloc: Global,
     scopes: &mut List<NameScope>,

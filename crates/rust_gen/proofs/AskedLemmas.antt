@@ -9,7 +9,7 @@ use Rattle.std.proofs.lemmas.List.Folds.{list_any-append}
 use Rattle.std.proofs.lemmas.Grind.{flat_map-append}
 use Rattle.rust_tree.specs.declared.item.Item.{Item}
 use Rattle.rust_tree.specs.declared.runtime_item.RuntimeItem.{RuntimeItem}
-use Rattle.rust_tree.specs.declared.runtime_item.RuntimeItem.TheVariants.{AsI32, AsI64, AsF32, AsF64, AllocCrate, StringType, VecType, BoolLift, CharLift, StringLift, StdAllocModule, CabiDealloc}
+use Rattle.rust_tree.specs.declared.runtime_item.RuntimeItem.TheVariants.{AsI32, AsI64, AsF32, AsF64, AllocCrate, StringType, VecType, BoolLift, CharLift, StringLift, StdAllocModule, CabiDealloc, InvalidEnumDiscriminant}
 use Rattle.rust_tree.specs.Runtime.{item_name, needed_items}
 use Rattle.wrapper_run.specs.Run.{runtime_item_named}
 use Rattle.rust_tree.specs.WellNamed.{are_well_named}
@@ -37,6 +37,7 @@ same-refl CharLift = refl
 same-refl StringLift = refl
 same-refl StdAllocModule = refl
 same-refl CabiDealloc = refl
+same-refl InvalidEnumDiscriminant = refl
 
 -- each has a name of its own
 pub same-function : (i x : RuntimeItem) → bytes_eq (item_name i) (item_name x) ≡ is_same_item i x
@@ -53,6 +54,7 @@ same-function CharLift CharLift = refl
 same-function StringLift StringLift = refl
 same-function StdAllocModule StdAllocModule = refl
 same-function CabiDealloc CabiDealloc = refl
+same-function InvalidEnumDiscriminant InvalidEnumDiscriminant = refl
 same-function _ _ = refl
 
 pub is-same : (i x : RuntimeItem) → is_same_item i x ≡ true → i ≡ x
@@ -68,6 +70,7 @@ is-same CharLift CharLift e = refl
 is-same StringLift StringLift e = refl
 is-same StdAllocModule StdAllocModule e = refl
 is-same CabiDealloc CabiDealloc e = refl
+is-same InvalidEnumDiscriminant InvalidEnumDiscriminant e = refl
 is-same _ _ e = absurd (cc)
 
 -- in a module

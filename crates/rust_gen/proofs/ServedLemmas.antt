@@ -19,7 +19,7 @@ use Rattle.rust_tree.specs.declared.item.FnItem.{FnItem}
 use Rattle.rust_tree.specs.declared.item.Item.{Item}
 use Rattle.rust_tree.specs.declared.item.Item.TheVariants as item
 use Rattle.rust_tree.specs.declared.runtime_item.RuntimeItem.{RuntimeItem}
-use Rattle.rust_tree.specs.declared.runtime_item.RuntimeItem.TheVariants.{AsI32, AsI64, AsF32, AsF64, AllocCrate, StringType, VecType, BoolLift, CharLift, StringLift, StdAllocModule, CabiDealloc}
+use Rattle.rust_tree.specs.declared.runtime_item.RuntimeItem.TheVariants.{AsI32, AsI64, AsF32, AsF64, AllocCrate, StringType, VecType, BoolLift, CharLift, StringLift, StdAllocModule, CabiDealloc, InvalidEnumDiscriminant}
 use Rattle.rust_tree.specs.declared.type_item.TypeItem.{TypeItem}
 use Rattle.rust_tree.specs.Asked.{asked_by_item, asked_in}
 use Rattle.rust_tree.specs.Runtime.{item_name, needed_items}
@@ -156,6 +156,7 @@ lower AsF64 j h = absurd (cc)
 lower AllocCrate j h = absurd (cc)
 lower BoolLift j h = absurd (cc)
 lower CharLift j h = absurd (cc)
+lower InvalidEnumDiscriminant j h = absurd (cc)
 
 highest : (i : RuntimeItem) → level i ≤ 2
 unfolding level

@@ -25,6 +25,7 @@ use Rattle.rust_tree.specs.WellNamed.{are_well_named}
 use Rattle.gen_accept.specs.Area.{needs_return}
 use Rattle.gen_accept.specs.DeclaredNames.{guest_name, param_idents}
 use Rattle.type_defs.specs.Docs.{doc_lines}
+use Rattle.wrapper_run.specs.Code.{code_of}
 use Rattle.wrapper_faithful.specs.Passed.{passed}
 use Rattle.abi_driver.specs.declared.bindgen.Asked.{Asked}
 use Rattle.func_gen.specs.declared.body.Body.{Body}
@@ -41,6 +42,7 @@ use Rattle.type_defs.specs.PartType.{printed_result}
 use Rattle.rust_gen.specs.Wrapper.{DeclaresOne, export_result, printed_param, root_module}
 use Rattle.rust_gen.specs.declared.export.ExportCode.{ExportCode}
 use Rattle.rust_gen.specs.declared.export.ExportMade.{ExportMade}
+use Rattle.rust_gen.specs.declared.import.ImportHead.{ImportHead}
 
 -- 1. Of what bodies are made
 
@@ -91,7 +93,14 @@ pub record IsImportCode (types : List TypeDef) (sites : List (Option TypeSite)) 
   pub is : block ≡ block_of parts.area body
   pub asks : runtime ≡ body.runtime
 
--- the wrapper of an import with this body, as it looks from outside
+-- the wrapper of an import as it looks from outside, without its body
+pub record IsImportHead (types : List TypeDef) (f : Function) (head : ImportHead) : Type 0 where
+  pub docs : head.docs ≡ doc_lines f.docs
+  pub name : head.name ≡ rust_ident f.name
+  pub params : head.params ≡ map (printed_param types) f.params
+  pub answer : head.result ≡ printed_result types f.result
+
+-- with this body
 pub record IsImportOutside (types : List TypeDef) (f : Function) (body : Block) (wrapper : FnItem) : Type 0 where
   pub docs : wrapper.docs ≡ doc_lines f.docs
   pub name : wrapper.name ≡ rust_ident f.name
@@ -114,7 +123,7 @@ pub record IsWritten (types : List TypeDef) (sites : List (Option TypeSite)) (f 
 -- the call block of a body, what stands behind it, the area that they need, and what they ask for of `_rt`
 pub record IsCodeOf (body : Body) (code : ExportCode) : Type 0 where
   pub call : body.call ≡ Some code.call
-  pub rest : code.rest ≡ record { stmts = body.stmts; tail = body.tail }
+  pub rest : code.rest ≡ code_of body.stmts body.tail
   pub area : code.area ≡ body.area
   pub asks : code.runtime ≡ body.runtime
 
@@ -157,7 +166,7 @@ pub record IsReturnCode (types : List TypeDef) (sites : List (Option TypeSite)) 
   pub made_of : AreExportParts types sites (return_args (passed types f)) parts
   pub body : Body
   pub makes : MakesPostReturn types f parts body
-  pub is : block ≡ record { stmts = body.stmts; tail = body.tail }
+  pub is : block ≡ code_of body.stmts body.tail
   pub asks : runtime ≡ body.runtime
 
 pub record IsReturnOutside (types : List TypeDef) (f : Function) (body : Block) (function : PostReturnFn) : Type 0 where

@@ -5,7 +5,7 @@ use Rattle.std.specs.List.{list_any, flat_map}
 use Rattle.rust_tree.specs.declared.item.Item.{Item}
 use Rattle.rust_tree.specs.declared.item.Item.TheVariants as item
 use Rattle.rust_tree.specs.declared.runtime_item.RuntimeItem.{RuntimeItem}
-use Rattle.rust_tree.specs.declared.runtime_item.RuntimeItem.TheVariants.{AsI32, AsI64, AsF32, AsF64, AllocCrate, StringType, VecType, BoolLift, CharLift, StringLift, StdAllocModule, CabiDealloc}
+use Rattle.rust_tree.specs.declared.runtime_item.RuntimeItem.TheVariants.{AsI32, AsI64, AsF32, AsF64, AllocCrate, StringType, VecType, BoolLift, CharLift, StringLift, StdAllocModule, CabiDealloc, InvalidEnumDiscriminant}
 use Rattle.rust_tree.specs.Asked.{asked_in}
 use Rattle.rust_tree.specs.Runtime.{needed_items}
 
@@ -22,6 +22,7 @@ is_same_item CharLift CharLift = true
 is_same_item StringLift StringLift = true
 is_same_item StdAllocModule StdAllocModule = true
 is_same_item CabiDealloc CabiDealloc = true
+is_same_item InvalidEnumDiscriminant InvalidEnumDiscriminant = true
 is_same_item _ _ = false
 
 -- the items, and one more that is asked for

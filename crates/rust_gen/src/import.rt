@@ -6,7 +6,7 @@ ghost use Rattle.wit_model.specs.IndexRange.{function_in_range};
 ghost use Rattle.wit_model.specs.WellFormed.{IsWellFormed};
 ghost use Rattle.gen_accept.specs.DeclaredNames.{param_idents};
 ghost use Rattle.type_defs.specs.ParamType.{HasFacts};
-ghost use Rattle.rust_gen.specs.Body.{AreImportParts, IsImportCode, IsImportMade, IsImportOutside};
+ghost use Rattle.rust_gen.specs.Body.{AreImportParts, IsImportCode, IsImportHead, IsImportMade, IsImportOutside};
 ghost use Rattle.rust_gen.specs.FixedName.{IsFixedName};
 ghost use Rattle.rust_gen.specs.Known.{AreAtHand, sites_in};
 ghost use Rattle.rust_gen.specs.Wrapper.{DeclaresOne, root_module};
@@ -18,12 +18,21 @@ use crate::sites::import_sites;
 use crate::tables::take_tables;
 use func_gen::TypeTables;
 use gen_accept::param_idents;
-use rust_tree::{Block, FnItem, RuntimeItem, to_rust_ident};
+use rust_tree::{Block, FnItem, FnParam, RuntimeItem, TypeExpr, to_rust_ident};
 use std::alloc::Global;
 use type_defs::doc_lines;
 use type_facts::Types;
 use wit_model::{Function, List, OutOfMemory, Resolve, Text};
 use wrapper_closing::{BodyParts, import_block, import_body};
+
+/// The wrapper of an import as it looks from outside, without its body.
+#[derive(Drop)]
+pub(crate) struct ImportHead {
+    docs: List<Text>,
+    name: Text,
+    params: List<FnParam>,
+    result: TypeExpr,
+}
 
 /// The module of the core imports.
 #[tactic(auto, unfolding(crate::specs::Wrapper::root_module))]
@@ -87,6 +96,24 @@ fn import_code(
     Ok(made)
 }
 
+fn import_head(
+    alloc: Global,
+    resolve: &Resolve,
+    facts: &Types,
+    f: &Function,
+) -> Result<ImportHead, OutOfMemory>
+    requires facts { HasFacts resolve.now facts.now }
+    requires within { function_in_range resolve.now f.now ≡ true }
+    ensures { IfOk result (IsImportHead resolve.now.types f.now) }
+{
+    Ok(ImportHead {
+        docs: doc_lines(alloc, &f.docs)?,
+        name: to_rust_ident(alloc, &f.name)?,
+        params: printed_params(alloc, resolve, facts, f.params.as_slice())?,
+        result: printed_result(alloc, resolve, &f.result)?,
+    })
+}
+
 fn import_fn(
     alloc: Global,
     resolve: &Resolve,
@@ -98,11 +125,17 @@ fn import_fn(
     requires within { function_in_range resolve.now f.now ≡ true }
     ensures { IfOk result (IsImportOutside resolve.now.types f.now body) }
 {
+    let ImportHead {
+        docs,
+        name,
+        params,
+        result,
+    } = import_head(alloc, resolve, facts, f)?;
     Ok(FnItem {
-        docs: doc_lines(alloc, &f.docs)?,
-        name: to_rust_ident(alloc, &f.name)?,
-        params: printed_params(alloc, resolve, facts, f.params.as_slice())?,
-        result: printed_result(alloc, resolve, &f.result)?,
+        docs,
+        name,
+        params,
+        result,
         body,
     })
 }

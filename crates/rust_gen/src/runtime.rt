@@ -26,6 +26,7 @@ fn is_same_item(a: RuntimeItem, b: RuntimeItem) -> bool
         (RuntimeItem::StringLift, RuntimeItem::StringLift) => true,
         (RuntimeItem::StdAllocModule, RuntimeItem::StdAllocModule) => true,
         (RuntimeItem::CabiDealloc, RuntimeItem::CabiDealloc) => true,
+        (RuntimeItem::InvalidEnumDiscriminant, RuntimeItem::InvalidEnumDiscriminant) => true,
         _ => false,
     }
 }

@@ -1,5 +1,5 @@
 -- One level of what types and expressions name of `_rt`.
-use Rattle.std.proofs.Common.{◌≡◌, ℕ, List, ◌∷◌, ◌++◌, sym, ap, ◌∙◌, append_assoc}
+use Rattle.std.proofs.Common.{◌≡◌, ℕ, List, ◌∷◌, ◌++◌, sym, ap, ◌∙◌}
 use Rattle.std.specs.List.{flat_map}
 use Rattle.std.proofs.lemmas.List.Folds.{flat_map-map}
 use Rattle.wit_model.specs.Bytes.{Bytes}
@@ -43,7 +43,3 @@ pub asked-words : (path : Path) (repr : Repr) (words : List (ℕ × Expr))
 asked-words path repr words =
     ap asked_by_expr (sym (rolls-FlagsOfWords path repr words)) ∙ fold-roll-Expr (List RuntimeItem) asked_step (Expr-F.FlagsOfWords path repr words)
     ∙ ap (λ items. asked_by_path path ++ items) (flat_map-map (λ w. asked_by_path path ++ w.1) (λ (w : ℕ × Expr). (w.0, asked_by_expr w.1)) words)
-
--- two parts that are named behind one another
-pub asked-behind : (before between first rest whole : List RuntimeItem) → between ≡ before ++ first → whole ≡ first ++ rest → between ++ rest ≡ before ++ whole
-asked-behind before between first rest whole e f = ap (λ items. items ++ rest) e ∙ append_assoc before first rest ∙ ap (λ items. before ++ items) (sym f)

@@ -3,3 +3,4 @@ pub mod Escapes
 pub mod Joins
 pub mod NamedLemmas
 pub mod NamedTypeLemmas
+pub mod StmtLemmas

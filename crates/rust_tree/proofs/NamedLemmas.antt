@@ -1,5 +1,5 @@
 -- One level of an expression's names.
-use Rattle.std.proofs.Common.{◌≡◌, ℕ, Bool, true, ◌&&◌, List, map, sym, ap, ◌∙◌, rules}
+use Rattle.std.proofs.Common.{◌≡◌, ℕ, ℤ, Bool, true, ◌&&◌, List, map, sym, ap, ◌∙◌, rules}
 use Rattle.std.specs.List.{list_all}
 use Rattle.std.proofs.lemmas.List.Folds.{list_all-map}
 use Rattle.wit_model.specs.Bytes.{Bytes}
@@ -9,12 +9,14 @@ use Rattle.wit_model.specs.declared.wasm_type.WasmType.{WasmType}
 use Rattle.rust_tree.specs.declared.expr.CastType.{CastType}
 use Rattle.rust_tree.specs.declared.expr.Expr.{Expr, Expr-F, fold-roll-Expr, the_lemmas}
 use Rattle.rust_tree.specs.declared.expr.Expr.TheVariants as expr
-use Rattle.rust_tree.specs.declared.expr.Expr.TheVariants.{rolls-Array, rolls-Call, rolls-Cast, rolls-EnumNumber, rolls-FlagsOfWords, rolls-FromRawParts, rolls-I32FromBool, rolls-Load, rolls-LoadSmall, rolls-Tuple}
+use Rattle.rust_tree.specs.declared.expr.Expr.TheVariants.{rolls-Array, rolls-Call, rolls-Cast, rolls-EnumNumber, rolls-FlagsOfWords, rolls-FromRawParts, rolls-I32FromBool, rolls-Load, rolls-LoadSmall, rolls-Method, rolls-Tuple}
+use Rattle.rust_tree.specs.declared.expr.Method.{Method}
 use Rattle.rust_tree.specs.declared.expr.SmallType.{SmallType}
+use Rattle.rust_tree.specs.declared.expr.ZeroType.{ZeroType}
 use Rattle.rust_tree.specs.declared.path.Path.{Path}
 use Rattle.rust_tree.specs.declared.repr.Repr.{Repr}
 use Rattle.rust_tree.specs.Ident.{is_ident}
-use Rattle.rust_tree.specs.WellNamed.{are_path_names, are_words, is_named_expr, named_step}
+use Rattle.rust_tree.specs.WellNamed.{are_path_names, are_words, is_case_path, is_named_expr, named_step}
 
 pub is_named-local : (name : Bytes) → is_named_expr (expr.Local name) ≡ is_ident name
 is_named-local name = search (rules, the_lemmas)
@@ -78,3 +80,18 @@ is_named-bits name n = search (rules, the_lemmas)
 pub is_named-words : (path : Path) (repr : Repr) (words : List (ℕ × Expr))
     → is_named_expr (expr.FlagsOfWords path repr words) ≡ (are_path_names path.names && are_words (map (λ w. (w.0, is_named_expr w.1)) words))
 is_named-words path repr words = ap is_named_expr (sym (rolls-FlagsOfWords path repr words)) ∙ fold-roll-Expr Bool named_step (Expr-F.FlagsOfWords path repr words)
+
+pub is_named-i32 : (n : ℤ) → is_named_expr (expr.I32Const n) ≡ true
+is_named-i32 n = search (rules, the_lemmas)
+
+pub is_named-zero : (ty : ZeroType) → is_named_expr (expr.Zero ty) ≡ true
+is_named-zero ty = search (rules, the_lemmas)
+
+pub is_named-unit : is_named_expr expr.Unit ≡ true
+is_named-unit = search (rules, the_lemmas)
+
+pub is_named-case : (path : Path) → is_named_expr (expr.Case path) ≡ is_case_path path
+is_named-case path = search (rules, the_lemmas)
+
+pub is_named-method : (e : Expr) (method : Method) → is_named_expr (expr.Method e method) ≡ is_named_expr e
+is_named-method e method = ap is_named_expr (sym (rolls-Method e method)) ∙ fold-roll-Expr Bool named_step (Expr-F.Method e method)

@@ -11,13 +11,15 @@ use Rattle.rust_tree.specs.declared.item.FnParam.{FnParam}
 use Rattle.rust_tree.specs.declared.item.Item.{Item}
 use Rattle.rust_tree.specs.declared.item.Item.TheVariants as item
 use Rattle.rust_tree.specs.declared.path.Path.{Path}
+use Rattle.rust_tree.specs.declared.pattern.ArmPattern.{ArmPattern}
+use Rattle.rust_tree.specs.declared.pattern.ArmPattern.TheVariants as arm
 use Rattle.rust_tree.specs.declared.pattern.Pattern.{Pattern}
 use Rattle.rust_tree.specs.declared.pattern.Pattern.TheVariants as pattern
 use Rattle.rust_tree.specs.declared.runtime_item.RuntimeItem.{RuntimeItem}
 use Rattle.rust_tree.specs.declared.runtime_item.RuntimeItem.TheVariants.{StringType, VecType}
-use Rattle.rust_tree.specs.declared.stmt.Block.{Block}
-use Rattle.rust_tree.specs.declared.stmt.Stmt.{Stmt}
-use Rattle.rust_tree.specs.declared.stmt.Stmt.TheVariants as stmt
+use Rattle.rust_tree.specs.declared.stmt.Arm.{Arm, Arm-F, fold-Arm}
+use Rattle.rust_tree.specs.declared.stmt.Block.{Block, Block-F, fold-Block}
+use Rattle.rust_tree.specs.declared.stmt.Stmt.{Stmt, Stmt-F, fold-Stmt}
 use Rattle.rust_tree.specs.declared.trait_item.TraitFn.{TraitFn}
 use Rattle.rust_tree.specs.declared.type_expr.TypeExpr.{TypeExpr, TypeExpr-F, fold-TypeExpr}
 use Rattle.rust_tree.specs.declared.type_item.TypeItem.{TypeItem}
@@ -52,6 +54,7 @@ asked_type_step (TypeExpr-F.Path path) = asked_by_path path
 asked_type_step (TypeExpr-F.Tuple parts) = flat_map (λ part. part) parts
 asked_type_step (TypeExpr-F.Optional ty) = ty
 asked_type_step (TypeExpr-F.Array ty n) = ty
+asked_type_step (TypeExpr-F.Result ok err) = ok ++ err
 
 abbrev pub asked_by_type : TypeExpr → List RuntimeItem
 asked_by_type = fold-TypeExpr (List RuntimeItem) asked_type_step
@@ -77,10 +80,15 @@ asked_step Expr-F.StaticPointer = []
 asked_step (Expr-F.Size size) = []
 asked_step (Expr-F.Record path fields) = asked_by_path path ++ flat_map (λ f. f.1) fields
 asked_step (Expr-F.Tuple parts) = flat_map (λ e. e) parts
+asked_step Expr-F.Unit = []
 asked_step (Expr-F.Array parts) = flat_map (λ e. e) parts
 asked_step (Expr-F.EnumNumber e) = e
 asked_step (Expr-F.FlagsBits name n) = []
 asked_step (Expr-F.FlagsOfWords path repr words) = asked_by_path path ++ flat_map (λ w. asked_by_path path ++ w.1) words
+asked_step (Expr-F.I32Const n) = []
+asked_step (Expr-F.Zero ty) = []
+asked_step (Expr-F.Case path) = asked_by_path path
+asked_step (Expr-F.Method e method) = e
 
 abbrev pub asked_by_expr : Expr → List RuntimeItem
 asked_by_expr = fold-Expr (List RuntimeItem) asked_step
@@ -90,21 +98,48 @@ asked_by_pattern (pattern.Record path fields) = asked_by_path path
 asked_by_pattern (pattern.Tuple names) = []
 asked_by_pattern (pattern.Array names) = []
 
-abbrev pub asked_by_stmt : Stmt → List RuntimeItem
-asked_by_stmt (stmt.Import d) = []
-asked_by_stmt (stmt.Let name e) = asked_by_expr e
-asked_by_stmt (stmt.Expr e) = asked_by_expr e
-asked_by_stmt (stmt.Area a) = []
-asked_by_stmt (stmt.Store address offset ty e) = asked_by_expr address ++ asked_by_expr e
-asked_by_stmt (stmt.StoreSmall address offset ty e) = asked_by_expr address ++ asked_by_expr e
-asked_by_stmt (stmt.LetParts p e) = asked_by_pattern p ++ asked_by_expr e
+abbrev pub asked_by_arm_pattern : ArmPattern → List RuntimeItem
+asked_by_arm_pattern (arm.Case path) = asked_by_path path
+asked_by_arm_pattern (arm.Payload path name) = asked_by_path path
+asked_by_arm_pattern (arm.LeftOut path) = asked_by_path path
+asked_by_arm_pattern (arm.Number n) = []
+asked_by_arm_pattern (arm.Name name) = []
+asked_by_arm_pattern arm.AnyOther = []
 
 abbrev pub asked_by_tail : Option Expr → List RuntimeItem
 asked_by_tail None = []
 asked_by_tail (Some e) = asked_by_expr e
 
+-- one level of a statement, with what the arms in it name
+abbrev pub asked_stmt_step : Stmt-F (List RuntimeItem) (List RuntimeItem) (List RuntimeItem) → List RuntimeItem
+asked_stmt_step (Stmt-F.Import d) = []
+asked_stmt_step (Stmt-F.Let name e) = asked_by_expr e
+asked_stmt_step (Stmt-F.Expr e) = asked_by_expr e
+asked_stmt_step (Stmt-F.Area a) = []
+asked_stmt_step (Stmt-F.Store address offset ty e) = asked_by_expr address ++ asked_by_expr e
+asked_stmt_step (Stmt-F.StoreSmall address offset ty e) = asked_by_expr address ++ asked_by_expr e
+asked_stmt_step (Stmt-F.LetParts p e) = asked_by_pattern p ++ asked_by_expr e
+asked_stmt_step (Stmt-F.Match bound e arms) = asked_by_expr e ++ flat_map (λ a. a) arms
+asked_stmt_step (Stmt-F.AssertLast name n) = []
+asked_stmt_step (Stmt-F.LetSlot name) = []
+asked_stmt_step (Stmt-F.WriteSlot name e) = asked_by_expr e
+
+-- one level of an arm, with what its block names
+abbrev pub asked_arm_step : Arm-F (List RuntimeItem) (List RuntimeItem) (List RuntimeItem) → List RuntimeItem
+asked_arm_step a = asked_by_arm_pattern a.pattern ++ a.body
+
+-- one level of a block, with what its statements name
+abbrev pub asked_block_step : Block-F (List RuntimeItem) (List RuntimeItem) (List RuntimeItem) → List RuntimeItem
+asked_block_step b = flat_map (λ s. s) b.stmts ++ asked_by_tail b.tail
+
+abbrev pub asked_by_stmt : Stmt → List RuntimeItem
+asked_by_stmt = fold-Stmt (List RuntimeItem) (List RuntimeItem) (List RuntimeItem) asked_stmt_step asked_arm_step asked_block_step
+
+abbrev pub asked_by_arm : Arm → List RuntimeItem
+asked_by_arm = fold-Arm (List RuntimeItem) (List RuntimeItem) (List RuntimeItem) asked_stmt_step asked_arm_step asked_block_step
+
 abbrev pub asked_by_block : Block → List RuntimeItem
-asked_by_block b = flat_map asked_by_stmt b.stmts ++ asked_by_tail b.tail
+asked_by_block = fold-Block (List RuntimeItem) (List RuntimeItem) (List RuntimeItem) asked_stmt_step asked_arm_step asked_block_step
 
 -- items
 
@@ -125,11 +160,17 @@ asked_by_export f = asked_by_call f.call ++ asked_by_block f.rest
 abbrev pub asked_by_method : TraitFn → List RuntimeItem
 asked_by_method f = asked_by_signature f.params f.result
 
+-- by the payload of a case, if there is one
+abbrev pub asked_by_payload : Option TypeExpr → List RuntimeItem
+asked_by_payload None = []
+asked_by_payload (Some ty) = asked_by_type ty
+
 abbrev pub asked_by_definition : TypeItem → List RuntimeItem
 asked_by_definition (type_item.Struct s) = flat_map asked_by_path s.derives ++ flat_map (λ f. asked_by_type f.ty) s.fields
 asked_by_definition (type_item.Alias a) = asked_by_type a.ty
 asked_by_definition (type_item.Enum e) = flat_map asked_by_path e.derives
 asked_by_definition (type_item.Flags f) = asked_by_path f.bitflags
+asked_by_definition (type_item.Variant v) = flat_map asked_by_path v.derives ++ flat_map (λ c. asked_by_payload c.ty) v.cases
 
 -- what stands in `_rt` is needed by what stands there, and not asked for
 abbrev pub asked_by_item : Item → List RuntimeItem

@@ -1,5 +1,5 @@
 -- The text of doc lines, paths, types, expressions and statements.
-use Rattle.std.specs.Prelude.{ℕ, zero, suc, Bool, true, false, List, [], ◌∷◌, ◌++◌, Option, Some, None, if◌then◌else◌, codes, decimal, map}
+use Rattle.std.specs.Prelude.{ℕ, zero, suc, ℤ, pos, Bool, true, false, List, [], ◌∷◌, ◌++◌, Option, Some, None, if◌then◌else◌, codes, decimal, int_lt, map, unsigned_abs}
 use Rattle.std.specs.List.{flat_map, join_by}
 use Rattle.wit_model.specs.declared.size.Alignment.{Alignment}
 use Rattle.wit_model.specs.declared.size.Alignment.TheVariants as align
@@ -11,30 +11,40 @@ use Rattle.rust_tree.specs.declared.area.ReturnArea.{ReturnArea}
 use Rattle.rust_tree.specs.declared.expr.CastType.{CastType}
 use Rattle.rust_tree.specs.declared.expr.CastType.TheVariants as cast
 use Rattle.rust_tree.specs.declared.expr.Expr.{Expr, Expr-F, fold-Expr}
+use Rattle.rust_tree.specs.declared.expr.Method.{Method}
+use Rattle.rust_tree.specs.declared.expr.Method.TheVariants as method
 use Rattle.rust_tree.specs.declared.expr.SmallType.{SmallType}
 use Rattle.rust_tree.specs.declared.expr.SmallType.TheVariants as small
+use Rattle.rust_tree.specs.declared.expr.ZeroType.{ZeroType}
+use Rattle.rust_tree.specs.declared.expr.ZeroType.TheVariants as zero_of
 use Rattle.rust_tree.specs.declared.path.Path.{Path}
+use Rattle.rust_tree.specs.declared.pattern.ArmPattern.{ArmPattern}
+use Rattle.rust_tree.specs.declared.pattern.ArmPattern.TheVariants as arm
 use Rattle.rust_tree.specs.declared.pattern.Pattern.{Pattern}
 use Rattle.rust_tree.specs.declared.pattern.Pattern.TheVariants as pattern
 use Rattle.rust_tree.specs.declared.repr.Repr.{Repr}
 use Rattle.rust_tree.specs.declared.repr.Repr.TheVariants as repr
-use Rattle.rust_tree.specs.declared.stmt.Block.{Block}
+use Rattle.rust_tree.specs.declared.stmt.Arm.{Arm, Arm-F, fold-Arm}
+use Rattle.rust_tree.specs.declared.stmt.Block.{Block, Block-F, fold-Block}
 use Rattle.rust_tree.specs.declared.stmt.ImportDecl.{ImportDecl}
-use Rattle.rust_tree.specs.declared.stmt.Stmt.{Stmt}
-use Rattle.rust_tree.specs.declared.stmt.Stmt.TheVariants as stmt
+use Rattle.rust_tree.specs.declared.stmt.MatchNames.{MatchNames}
+use Rattle.rust_tree.specs.declared.stmt.MatchNames.TheVariants as names
+use Rattle.rust_tree.specs.declared.stmt.Stmt.{Stmt, Stmt-F, fold-Stmt}
 use Rattle.rust_tree.specs.declared.type_expr.Primitive.{Primitive}
 use Rattle.rust_tree.specs.declared.type_expr.Primitive.TheVariants as primitive
 use Rattle.rust_tree.specs.declared.type_expr.TypeExpr.{TypeExpr, TypeExpr-F, fold-TypeExpr}
 use Rattle.rust_tree.specs.declared.print.word.area.AreaWord.TheVariants.{PointerAlign, Align, AlignEnd, AreaType, AreaValue, AreaEnd}
-use Rattle.rust_tree.specs.declared.print.word.definition.DefinitionWord.TheVariants.{TupleEnd, OptionType, OptionEnd, ArrayLength}
+use Rattle.rust_tree.specs.declared.print.word.definition.DefinitionWord.TheVariants.{TupleEnd, OptionType, ResultType, TypeEnd, ArrayLength}
 use Rattle.rust_tree.specs.declared.print.word.expr.ExprWord.TheVariants.{Match, BoolArms, AsPtr, Len, CastMut, AreaPointer, Dereference, Add, CastTo, CastEnd, FromRawParts, PointerCast, IntoBoxedBytes, StaticPointer, OpenFields, CloseFields, OpenArray, CloseArray, LoneComma, Widened, CaseNumber}
 use Rattle.rust_tree.specs.declared.print.word.flags.FlagsWord.TheVariants.{Bits, AsCoreWord, Empty, Or, FromBits, AsWord, ShiftedBy, FromBitsEnd}
 use Rattle.rust_tree.specs.declared.print.word.import.ImportWord.TheVariants.{WasmLink, ExternBlock, LinkedFn, OtherFn, Unreachable, UnnamedParam}
 use Rattle.rust_tree.specs.declared.print.word.item.ItemWord.TheVariants.{EmptyDoc, Doc, UnitType, StrType, StringName}
+use Rattle.rust_tree.specs.declared.print.word.matches.MatchWord.TheVariants.{OpenArm, CloseArm, CloseBound, LeftOut, AnyOther, Assert, AssertEnd}
+use Rattle.rust_tree.specs.declared.print.word.slot.SlotWord.TheVariants.{Uninit, Write, WriteEnd}
 use Rattle.rust_tree.specs.declared.print.word.sign.Sign.{Sign}
-use Rattle.rust_tree.specs.declared.print.word.sign.Sign.TheVariants.{LineEnd, StatementEnd, CloseBlock, Open, Close, Comma, Colon, Arrow, PathMark, Super, Reference, As, Let, Equals, LetMut}
+use Rattle.rust_tree.specs.declared.print.word.sign.Sign.TheVariants.{LineEnd, StatementEnd, OpenBlock, CloseBlock, Open, Close, Comma, Colon, Arrow, PathMark, Super, Reference, As, Let, Equals, LetMut, Minus}
 use Rattle.wit_model.specs.Bytes.{Bytes}
-use Rattle.rust_tree.specs.Word.{area_word, definition_word, expr_word, flags_word, import_word, item_word, sign}
+use Rattle.rust_tree.specs.Word.{area_word, definition_word, expr_word, flags_word, import_word, item_word, match_word, sign, slot_word}
 
 -- doc lines
 
@@ -81,7 +91,11 @@ tuple_text parts = sign Open ++ join_by (λ part. part) (sign Comma) parts ++ de
 
 -- `::core::option::Option<T>`
 abbrev pub option_text : Bytes → Bytes
-option_text ty = definition_word OptionType ++ ty ++ definition_word OptionEnd
+option_text ty = definition_word OptionType ++ ty ++ definition_word TypeEnd
+
+-- `::core::result::Result<T, E>`
+abbrev pub result_text : (ok err : Bytes) → Bytes
+result_text ok err = definition_word ResultType ++ ok ++ sign Comma ++ err ++ definition_word TypeEnd
 
 -- `[T; n]`
 abbrev pub array_type_text : Bytes → ℕ → Bytes
@@ -98,6 +112,7 @@ type_step (TypeExpr-F.Path path) = path_text path
 type_step (TypeExpr-F.Tuple parts) = tuple_text parts
 type_step (TypeExpr-F.Optional ty) = option_text ty
 type_step (TypeExpr-F.Array ty n) = array_type_text ty n
+type_step (TypeExpr-F.Result ok err) = result_text ok err
 
 abbrev pub type_text : TypeExpr → Bytes
 type_text = fold-TypeExpr Bytes type_step
@@ -109,6 +124,10 @@ cast_type_text cast.U16 = codes "u16"
 cast_type_text cast.I16 = codes "i16"
 cast_type_text cast.U32 = codes "u32"
 cast_type_text cast.U64 = codes "u64"
+cast_type_text cast.I32 = codes "i32"
+cast_type_text cast.I64 = codes "i64"
+cast_type_text cast.Usize = codes "usize"
+cast_type_text cast.Pointer = codes "*mut u8"
 
 abbrev pub small_type_text : SmallType → Bytes
 small_type_text small.U8 = codes "u8"
@@ -214,6 +233,30 @@ flags_of_words_text path r words = path_text path ++ flags_word Empty ++ flat_ma
 abbrev pub flags_bits_text : Bytes → ℕ → Bytes
 flags_bits_text name n = sign Open ++ name ++ flags_word Bits ++ decimal n ++ flags_word AsCoreWord
 
+-- `-`, or nothing
+abbrev pub minus_text : Bool → Bytes
+minus_text true = sign Minus
+minus_text false = []
+
+-- `5i32`
+abbrev pub i32_text : ℤ → Bytes
+i32_text z = minus_text (int_lt z (pos 0)) ++ decimal (unsigned_abs z) ++ core_type_text core.I32
+
+-- the zero of a core type other than `i32`
+abbrev pub zero_text : ZeroType → Bytes
+zero_text zero_of.I64 = codes "0i64"
+zero_text zero_of.F32 = codes "0.0f32"
+zero_text zero_of.F64 = codes "0.0f64"
+zero_text zero_of.Pointer = codes "::core::ptr::null_mut::<u8>()"
+zero_text zero_of.PointerOrI64 = codes "::core::mem::MaybeUninit::<u64>::zeroed()"
+zero_text zero_of.Length = codes "0usize"
+
+-- the call of a method, behind the bracket round what it is called on
+abbrev pub method_text : Method → Bytes
+method_text method.ToBits = codes ".to_bits()"
+method_text method.AssumeInit = codes ".assume_init()"
+method_text method.ReadPointer = codes ".as_ptr().cast::<*mut u8>().read()"
+
 -- one level of an expression, with the expressions in it as they are spelled
 abbrev pub expr_step : Expr-F Spelled → Spelled
 expr_step (Expr-F.Local name) = record { text = name; is_local = true }
@@ -233,10 +276,15 @@ expr_step Expr-F.StaticPointer = compound (expr_word StaticPointer)
 expr_step (Expr-F.Size size) = compound (term_text size)
 expr_step (Expr-F.Record path fields) = compound (path_text path ++ fields_text (spelled_fields fields))
 expr_step (Expr-F.Tuple parts) = compound (parts_text parts)
+expr_step Expr-F.Unit = compound (sign Open ++ sign Close)
 expr_step (Expr-F.Array parts) = compound (array_text parts)
 expr_step (Expr-F.EnumNumber e) = compound (sign Open ++ e.text ++ expr_word CaseNumber)
 expr_step (Expr-F.FlagsBits name n) = compound (flags_bits_text name n)
 expr_step (Expr-F.FlagsOfWords path r words) = compound (flags_of_words_text path r (spelled_words words))
+expr_step (Expr-F.I32Const n) = compound (i32_text n)
+expr_step (Expr-F.Zero ty) = compound (zero_text ty)
+expr_step (Expr-F.Case path) = compound (path_text path)
+expr_step (Expr-F.Method e m) = compound (sign Open ++ e.text ++ sign Close ++ method_text m)
 
 abbrev pub expr_spelled : Expr → Spelled
 expr_spelled = fold-Expr Spelled expr_step
@@ -293,6 +341,15 @@ pattern_text (pattern.Record path fields) = path_text path ++ fields_text fields
 pattern_text (pattern.Tuple names) = sign Open ++ commas_text names ++ sign Close
 pattern_text (pattern.Array names) = expr_word OpenArray ++ commas_text names ++ expr_word CloseArray
 
+-- `P::C`, `P::C(x)`, `P::C(_)`, `0`, `n`, `_`
+abbrev pub arm_pattern_text : ArmPattern → Bytes
+arm_pattern_text (arm.Case path) = path_text path
+arm_pattern_text (arm.Payload path name) = path_text path ++ sign Open ++ name ++ sign Close
+arm_pattern_text (arm.LeftOut path) = path_text path ++ match_word LeftOut
+arm_pattern_text (arm.Number n) = decimal n
+arm_pattern_text (arm.Name name) = name
+arm_pattern_text arm.AnyOther = match_word AnyOther
+
 -- `let P { f: x } = e;`
 abbrev pub let_parts_text : Pattern → Expr → Bytes
 let_parts_text p e = sign Let ++ pattern_text p ++ sign Equals ++ expr_text e ++ sign StatementEnd
@@ -327,19 +384,70 @@ area_value_text size = area_word AreaValue ++ term_text size ++ area_word AreaEn
 abbrev pub area_text : ReturnArea → Bytes
 area_text a = area_type_text a.size a.align ++ sign LetMut ++ a.name ++ sign Equals ++ area_value_text a.size
 
-abbrev pub stmt_text : Stmt → Bytes
-stmt_text (stmt.Import d) = linked_text d ++ unlinked_text d
-stmt_text (stmt.Let name e) = let_text name e
-stmt_text (stmt.Expr e) = expr_text e ++ sign StatementEnd
-stmt_text (stmt.Area a) = area_text a
-stmt_text (stmt.Store address offset ty e) = store_text address offset ty e
-stmt_text (stmt.StoreSmall address offset ty e) = small_store_text address offset ty e
-stmt_text (stmt.LetParts p e) = let_parts_text p e
-
 -- the last expression, as a line of its own, or nothing
 abbrev pub tail_text : Option Expr → Bytes
 tail_text None = []
 tail_text (Some e) = expr_text e ++ sign LineEnd
 
+-- `let x = `, `let (x, y, ) = `, or nothing
+abbrev pub match_names_text : MatchNames → Bytes
+match_names_text names.Nothing = []
+match_names_text (names.One name) = sign Let ++ name ++ sign Equals
+match_names_text (names.Parts parts) = sign Let ++ sign Open ++ commas_text parts ++ sign Close ++ sign Equals
+
+-- `let x = match e {`
+abbrev pub match_open_text : MatchNames → Expr → Bytes
+match_open_text bound e = match_names_text bound ++ expr_word Match ++ expr_text e ++ sign OpenBlock
+
+-- `};`, or `}` where nothing is bound
+abbrev pub match_close_text : MatchNames → Bytes
+match_close_text names.Nothing = sign CloseBlock
+match_close_text (names.One name) = match_word CloseBound
+match_close_text (names.Parts parts) = match_word CloseBound
+
+-- `P::C(x) => {`
+abbrev pub arm_open_text : ArmPattern → Bytes
+arm_open_text p = arm_pattern_text p ++ match_word OpenArm
+
+-- `debug_assert_eq!(n, 5, "invalid enum discriminant");`
+abbrev pub assert_last_text : Bytes → ℕ → Bytes
+assert_last_text name n = match_word Assert ++ name ++ sign Comma ++ decimal n ++ match_word AssertEnd
+
+-- `let mut x = ::core::mem::MaybeUninit::<u64>::uninit();`
+abbrev pub let_slot_text : Bytes → Bytes
+let_slot_text name = sign LetMut ++ name ++ slot_word Uninit
+
+-- `x.as_mut_ptr().cast::<*mut u8>().write(e);`
+abbrev pub write_slot_text : Bytes → Expr → Bytes
+write_slot_text name e = name ++ slot_word Write ++ expr_text e ++ slot_word WriteEnd
+
+-- one level of a statement, with the texts of the arms in it
+abbrev pub stmt_step : Stmt-F Bytes Bytes Bytes → Bytes
+stmt_step (Stmt-F.Import d) = linked_text d ++ unlinked_text d
+stmt_step (Stmt-F.Let name e) = let_text name e
+stmt_step (Stmt-F.Expr e) = expr_text e ++ sign StatementEnd
+stmt_step (Stmt-F.Area a) = area_text a
+stmt_step (Stmt-F.Store address offset ty e) = store_text address offset ty e
+stmt_step (Stmt-F.StoreSmall address offset ty e) = small_store_text address offset ty e
+stmt_step (Stmt-F.LetParts p e) = let_parts_text p e
+stmt_step (Stmt-F.Match bound e arms) = match_open_text bound e ++ flat_map (λ a. a) arms ++ match_close_text bound
+stmt_step (Stmt-F.AssertLast name n) = assert_last_text name n
+stmt_step (Stmt-F.LetSlot name) = let_slot_text name
+stmt_step (Stmt-F.WriteSlot name e) = write_slot_text name e
+
+-- one level of an arm, with the text of its block
+abbrev pub arm_step : Arm-F Bytes Bytes Bytes → Bytes
+arm_step a = arm_open_text a.pattern ++ a.body ++ match_word CloseArm
+
+-- one level of a block, with the texts of its statements
+abbrev pub block_step : Block-F Bytes Bytes Bytes → Bytes
+block_step b = flat_map (λ s. s) b.stmts ++ tail_text b.tail
+
+abbrev pub stmt_text : Stmt → Bytes
+stmt_text = fold-Stmt Bytes Bytes Bytes stmt_step arm_step block_step
+
+abbrev pub arm_text : Arm → Bytes
+arm_text = fold-Arm Bytes Bytes Bytes stmt_step arm_step block_step
+
 abbrev pub block_text : Block → Bytes
-block_text b = flat_map stmt_text b.stmts ++ tail_text b.tail
+block_text = fold-Block Bytes Bytes Bytes stmt_step arm_step block_step

@@ -5,13 +5,14 @@ use Rattle.rust_tree.specs.declared.type_item.AliasItem.{AliasItem}
 use Rattle.rust_tree.specs.declared.type_item.StructField.{StructField}
 use Rattle.rust_tree.specs.declared.type_item.StructItem.{StructItem}
 use Rattle.rust_tree.specs.declared.type_item.TypeItem.{TypeItem}
-use Rattle.rust_tree.specs.declared.type_item.TypeItem.TheVariants.{Struct, Alias, Enum, Flags}
+use Rattle.rust_tree.specs.declared.type_item.TypeItem.TheVariants.{Struct, Alias, Enum, Flags, Variant}
 use Rattle.rust_tree.specs.declared.print.word.definition.DefinitionWord.TheVariants.{ReprC, PublicStruct, PublicField, FieldEnd, DebugImpl, DebugFn, DebugStruct, DebugName, DebugField, DebugValue, Finish, PublicType}
 use Rattle.rust_tree.specs.declared.print.word.sign.Sign.TheVariants.{StatementEnd, OpenBlock, CloseBlock, Close, Colon, Equals}
 use Rattle.rust_tree.specs.CodeText.{doc_text, type_text}
 use Rattle.rust_tree.specs.Derives.{derives_text}
 use Rattle.rust_tree.specs.EnumText.{enum_text}
 use Rattle.rust_tree.specs.FlagsText.{flags_text}
+use Rattle.rust_tree.specs.VariantText.{variant_text}
 use Rattle.wit_model.specs.Bytes.{Bytes}
 use Rattle.rust_tree.specs.Word.{definition_word, sign}
 
@@ -51,3 +52,4 @@ type_item_text (Struct s) = struct_text s
 type_item_text (Alias a) = alias_text a
 type_item_text (Enum e) = enum_text e
 type_item_text (Flags f) = flags_text f
+type_item_text (Variant v) = variant_text v

@@ -5,7 +5,9 @@ use Rattle.rust_tree.specs.declared.enum_item.EnumCase.{EnumCase}
 use Rattle.rust_tree.specs.declared.enum_item.EnumItem.{EnumItem}
 use Rattle.rust_tree.specs.declared.enum_item.ErrorCase.{ErrorCase}
 use Rattle.rust_tree.specs.declared.enum_item.ErrorEnum.{ErrorEnum}
+use Rattle.rust_tree.specs.declared.path.Path.{Path}
 use Rattle.rust_tree.specs.declared.print.word.definition.DefinitionWord.TheVariants.{DebugImpl, DebugFn, DebugStruct}
+use Rattle.rust_tree.specs.declared.print.word.enums.EnumWord.{EnumWord}
 use Rattle.rust_tree.specs.declared.print.word.enums.EnumWord.TheVariants.{OpenRepr, CloseRepr, PublicEnum, CaseEnd, Impl, MatchSelf, CaseTuple, CaseFinish, NameFn, MessageFn, CaseText, CaseTextEnd, ErrorFields, DisplayImpl, WriteError, StdFeature, ErrorImpl, EmptyBlock, LiftFn, LiftResult, LiftBody, Arm, NoCase, EscapedQuote, EscapedBackslash, EscapedLineFeed, EscapedReturn}
 use Rattle.rust_tree.specs.declared.print.word.sign.Sign.TheVariants.{OpenBlock, CloseBlock, PathMark}
 use Rattle.rust_tree.specs.CodeText.{doc_text, repr_type_text}
@@ -25,13 +27,19 @@ case_text c = flat_map doc_text c.docs ++ c.name ++ enum_word CaseEnd
 
 -- `Debug` of an enum that is no error type
 
--- `N::C => f.debug_tuple("N::C").finish(),`
-abbrev pub debug_case_text : Bytes → EnumCase → Bytes
-debug_case_text name c = case_path_text name c.name ++ enum_word CaseTuple ++ case_path_text name c.name ++ enum_word CaseFinish
+-- what stands before the lines of its cases, and behind them
+unfoldable pub debug_open_text : Bytes → Bytes
+debug_open_text name = definition_word DebugImpl ++ name ++ sign OpenBlock ++ definition_word DebugFn ++ enum_word MatchSelf
 
-unfoldable pub enum_debug_text : EnumItem → Bytes
-enum_debug_text e =
-    definition_word DebugImpl ++ e.name ++ sign OpenBlock ++ definition_word DebugFn ++ enum_word MatchSelf ++ flat_map (debug_case_text e.name) e.cases ++ sign CloseBlock ++ sign CloseBlock ++ sign CloseBlock
+unfoldable pub debug_close_text : Bytes
+debug_close_text = sign CloseBlock ++ sign CloseBlock ++ sign CloseBlock
+
+-- `N::C => f.debug_tuple("N::C").finish(),`
+abbrev pub debug_case_text : (name c : Bytes) → Bytes
+debug_case_text name c = case_path_text name c ++ enum_word CaseTuple ++ case_path_text name c ++ enum_word CaseFinish
+
+abbrev pub enum_debug_text : EnumItem → Bytes
+enum_debug_text e = debug_open_text e.name ++ flat_map (λ c. debug_case_text e.name c.name) e.cases ++ debug_close_text
 
 -- an error enum
 
@@ -62,20 +70,23 @@ unfoldable pub error_debug_text : Bytes → Bytes
 error_debug_text name =
     definition_word DebugImpl ++ name ++ sign OpenBlock ++ definition_word DebugFn ++ definition_word DebugStruct ++ name ++ enum_word ErrorFields ++ sign CloseBlock ++ sign CloseBlock
 
--- `Display`, which writes its name and its number
-unfoldable pub error_display_text : Bytes → Bytes
-error_display_text name =
-    enum_word DisplayImpl ++ name ++ sign OpenBlock ++ definition_word DebugFn ++ enum_word WriteError ++ sign CloseBlock ++ sign CloseBlock
+-- `Display`, with the line that writes
+unfoldable pub display_text : EnumWord → Bytes → Bytes
+display_text line name =
+    enum_word DisplayImpl ++ name ++ sign OpenBlock ++ definition_word DebugFn ++ enum_word line ++ sign CloseBlock ++ sign CloseBlock
 
 -- `#[cfg(feature = "std")]`, or nothing
 abbrev pub std_feature_text : Bool → Bytes
 std_feature_text true = enum_word StdFeature
 std_feature_text false = []
 
--- what an error enum of this name has
+-- `Error`, of a type by its name
+abbrev pub error_impl_text : Bytes → Bool → Bytes
+error_impl_text name std_feature = std_feature_text std_feature ++ enum_word ErrorImpl ++ name ++ enum_word EmptyBlock
+
+-- what an error enum of this name has; its `Display` writes the case's name and its number
 abbrev pub error_text : Bytes → ErrorEnum → Bytes
-error_text name e =
-    error_fns_text name e.cases ++ error_debug_text name ++ error_display_text name ++ std_feature_text e.std_feature ++ enum_word ErrorImpl ++ name ++ enum_word EmptyBlock
+error_text name e = error_fns_text name e.cases ++ error_debug_text name ++ display_text WriteError name ++ error_impl_text name e.std_feature
 
 -- `_lift`
 
@@ -94,10 +105,14 @@ enum_lift_text e =
 
 -- the whole
 
+-- the line of derives, and `pub enum N {`
+abbrev pub enum_open_text : List Path → Bytes → Bytes
+enum_open_text derives name = derives_text derives ++ enum_word PublicEnum ++ name ++ sign OpenBlock
+
 -- the doc lines and attributes, and `pub enum N {`
 unfoldable pub enum_head_text : EnumItem → Bytes
 enum_head_text e =
-    flat_map doc_text e.docs ++ enum_word OpenRepr ++ repr_type_text e.repr ++ enum_word CloseRepr ++ derives_text e.derives ++ enum_word PublicEnum ++ e.name ++ sign OpenBlock
+    flat_map doc_text e.docs ++ enum_word OpenRepr ++ repr_type_text e.repr ++ enum_word CloseRepr ++ enum_open_text e.derives e.name
 
 -- `Debug`, and what else there is of an error type
 abbrev pub enum_shown_text : EnumItem → Option ErrorEnum → Bytes

@@ -10,5 +10,6 @@ pub mod Runtime
 pub mod RuntimeText
 pub mod Text
 pub mod Tree
+pub mod VariantText
 pub mod WellNamed
 pub mod Word

@@ -2,10 +2,10 @@
 use Rattle.std.specs.Prelude.{List, [], ◌∷◌, ◌++◌, codes}
 use Rattle.std.specs.List.{flat_map}
 use Rattle.rust_tree.specs.declared.runtime_item.RuntimeItem.{RuntimeItem}
-use Rattle.rust_tree.specs.declared.runtime_item.RuntimeItem.TheVariants.{AsI32, AsI64, AsF32, AsF64, AllocCrate, StringType, VecType, BoolLift, CharLift, StringLift, StdAllocModule, CabiDealloc}
+use Rattle.rust_tree.specs.declared.runtime_item.RuntimeItem.TheVariants.{AsI32, AsI64, AsF32, AsF64, AllocCrate, StringType, VecType, BoolLift, CharLift, StringLift, StdAllocModule, CabiDealloc, InvalidEnumDiscriminant}
 use Rattle.rust_tree.specs.declared.print.word.conversion.ConversionWord.TheVariants.{ConversionFn, ConversionBound, ConversionParam, ConvertParam, ReferenceBound, ReferenceTrait, ForReference, ConvertTarget, CallEnd, ConversionImpl, ImplFor, Inline, TakesSelf, CastSelf}
 use Rattle.rust_tree.specs.declared.print.word.item.ItemWord.TheVariants.{PublicTrait, Method}
-use Rattle.rust_tree.specs.declared.print.word.lift.LiftWord.TheVariants.{IfDebug, Otherwise, LiftEnd, BoolLiftType, CheckedBool, UncheckedBool, CharLiftType, CheckedChar, UncheckedChar, StringLiftType, CheckedString, UncheckedString}
+use Rattle.rust_tree.specs.declared.print.word.lift.LiftWord.TheVariants.{IfDebug, Otherwise, LiftEnd, BoolLiftType, CheckedBool, UncheckedBool, CharLiftType, CheckedChar, UncheckedChar, StringLiftType, CheckedString, UncheckedString, NoCaseType, CheckedNoCase, UncheckedNoCase}
 use Rattle.rust_tree.specs.declared.print.word.runtime.RuntimeWord.TheVariants.{ExternCrate, PublicUse, UnsafeFn, DeallocParams, MakeLayout, Dealloc}
 use Rattle.rust_tree.specs.declared.print.word.sign.Sign.TheVariants.{LineEnd, StatementEnd, OpenBlock, CloseBlock, PathMark}
 use Rattle.rust_tree.specs.Runtime.{item_name}
@@ -45,7 +45,7 @@ conversion_text item bound ty sources =
 unfoldable pub alloc_use_text : RuntimeItem → Bytes → Bytes
 alloc_use_text item path = runtime_word PublicUse ++ item_name AllocCrate ++ sign PathMark ++ path ++ item_name item ++ sign StatementEnd
 
--- the function of this signature that gives the value of a core value: the debug form looks whether there is one
+-- the function of this signature that gives the value of a core value: the debug form looks whether there is one, the other trusts that there is
 unfoldable pub lift_text : RuntimeItem → (signature checked unchecked : Bytes) → Bytes
 lift_text item signature checked unchecked =
     runtime_word UnsafeFn ++ item_name item ++ signature ++ lift_word IfDebug ++ checked ++ lift_word Otherwise ++ unchecked ++ lift_word LiftEnd
@@ -69,3 +69,4 @@ runtime_item_text CharLift = lift_text CharLift (lift_word CharLiftType) (lift_w
 runtime_item_text StringLift = lift_text StringLift (lift_word StringLiftType) (lift_word CheckedString) (lift_word UncheckedString)
 runtime_item_text StdAllocModule = alloc_use_text StdAllocModule []
 runtime_item_text CabiDealloc = dealloc_text
+runtime_item_text InvalidEnumDiscriminant = lift_text InvalidEnumDiscriminant (lift_word NoCaseType) (lift_word CheckedNoCase) (lift_word UncheckedNoCase)

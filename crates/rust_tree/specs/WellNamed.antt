@@ -21,12 +21,16 @@ use Rattle.rust_tree.specs.declared.item.Item.TheVariants as item
 use Rattle.rust_tree.specs.declared.macros.ExportEntry.{ExportEntry}
 use Rattle.rust_tree.specs.declared.macros.ModuleMacro.{ModuleMacro}
 use Rattle.rust_tree.specs.declared.macros.RootMacro.{RootMacro}
+use Rattle.rust_tree.specs.declared.pattern.ArmPattern.{ArmPattern}
+use Rattle.rust_tree.specs.declared.pattern.ArmPattern.TheVariants as arm
 use Rattle.rust_tree.specs.declared.pattern.Pattern.{Pattern}
 use Rattle.rust_tree.specs.declared.pattern.Pattern.TheVariants as pattern
-use Rattle.rust_tree.specs.declared.stmt.Block.{Block}
+use Rattle.rust_tree.specs.declared.stmt.Arm.{Arm, Arm-F, fold-Arm}
+use Rattle.rust_tree.specs.declared.stmt.Block.{Block, Block-F, fold-Block}
 use Rattle.rust_tree.specs.declared.stmt.ImportDecl.{ImportDecl}
-use Rattle.rust_tree.specs.declared.stmt.Stmt.{Stmt}
-use Rattle.rust_tree.specs.declared.stmt.Stmt.TheVariants as stmt
+use Rattle.rust_tree.specs.declared.stmt.MatchNames.{MatchNames}
+use Rattle.rust_tree.specs.declared.stmt.MatchNames.TheVariants as names
+use Rattle.rust_tree.specs.declared.stmt.Stmt.{Stmt, Stmt-F, fold-Stmt}
 use Rattle.rust_tree.specs.declared.trait_item.TraitFn.{TraitFn}
 use Rattle.rust_tree.specs.declared.trait_item.TraitItem.{TraitItem}
 use Rattle.rust_tree.specs.declared.path.Path.{Path}
@@ -35,7 +39,9 @@ use Rattle.rust_tree.specs.declared.type_item.AliasItem.{AliasItem}
 use Rattle.rust_tree.specs.declared.type_item.StructField.{StructField}
 use Rattle.rust_tree.specs.declared.type_item.StructItem.{StructItem}
 use Rattle.rust_tree.specs.declared.type_item.TypeItem.{TypeItem}
-use Rattle.rust_tree.specs.declared.type_item.TypeItem.TheVariants.{Struct, Alias, Enum, Flags}
+use Rattle.rust_tree.specs.declared.type_item.TypeItem.TheVariants.{Struct, Alias, Enum, Flags, Variant}
+use Rattle.rust_tree.specs.declared.variant_item.VariantCase.{VariantCase}
+use Rattle.rust_tree.specs.declared.variant_item.VariantItem.{VariantItem}
 use Rattle.rust_tree.specs.Ident.{is_ident, is_primitive_name, may_follow}
 
 -- texts
@@ -92,6 +98,7 @@ named_type_step (TypeExpr-F.Path path) = is_type_path path
 named_type_step (TypeExpr-F.Tuple parts) = is_nonempty parts && list_all (λ part. part) parts
 named_type_step (TypeExpr-F.Optional ty) = ty
 named_type_step (TypeExpr-F.Array ty n) = ty
+named_type_step (TypeExpr-F.Result ok err) = ok && err
 
 abbrev pub is_named_type : TypeExpr → Bool
 is_named_type = fold-TypeExpr Bool named_type_step
@@ -105,6 +112,15 @@ are_fields fields = list_all (λ f. is_ident f.0 && f.1) fields
 -- words of flags, of which there is one at least, with the answers for the expressions that they are
 abbrev pub are_words : List (ℕ × Bool) → Bool
 are_words words = is_nonempty words && list_all (λ w. w.1) words
+
+-- two names at least
+abbrev pub has_two : List Bytes → Bool
+has_two (_ ∷ _ ∷ _) = true
+has_two _ = false
+
+-- a type's path, and the name of a case behind it; so it is no local
+abbrev pub is_case_path : Path → Bool
+is_case_path p = are_path_names p.names && has_two p.names
 
 -- one level of an expression, with the answers for the expressions in it
 abbrev pub named_step : Expr-F Bool → Bool
@@ -125,10 +141,15 @@ named_step Expr-F.StaticPointer = true
 named_step (Expr-F.Size size) = true
 named_step (Expr-F.Record path fields) = are_path_names path.names && are_fields fields
 named_step (Expr-F.Tuple parts) = list_all (λ e. e) parts
+named_step Expr-F.Unit = true
 named_step (Expr-F.Array parts) = list_all (λ e. e) parts
 named_step (Expr-F.EnumNumber e) = e
 named_step (Expr-F.FlagsBits name n) = is_ident name
 named_step (Expr-F.FlagsOfWords path repr words) = are_path_names path.names && are_words words
+named_step (Expr-F.I32Const n) = true
+named_step (Expr-F.Zero ty) = true
+named_step (Expr-F.Case path) = is_case_path path
+named_step (Expr-F.Method e method) = e
 
 abbrev pub is_named_expr : Expr → Bool
 is_named_expr = fold-Expr Bool named_step
@@ -141,17 +162,49 @@ is_named_pattern (pattern.Record path fields) = are_path_names path.names && are
 is_named_pattern (pattern.Tuple names) = list_all is_ident names
 is_named_pattern (pattern.Array names) = list_all is_ident names
 
+abbrev pub is_named_arm_pattern : ArmPattern → Bool
+is_named_arm_pattern (arm.Case path) = is_case_path path
+is_named_arm_pattern (arm.Payload path name) = is_case_path path && is_ident name
+is_named_arm_pattern (arm.LeftOut path) = is_case_path path
+is_named_arm_pattern (arm.Number n) = true
+is_named_arm_pattern (arm.Name name) = is_ident name
+is_named_arm_pattern arm.AnyOther = true
+
+abbrev pub are_match_names : MatchNames → Bool
+are_match_names names.Nothing = true
+are_match_names (names.One name) = is_ident name
+are_match_names (names.Parts parts) = list_all is_ident parts
+
+-- one level of a statement, with the answers for the arms in it
+abbrev pub named_stmt_step : Stmt-F Bool Bool Bool → Bool
+named_stmt_step (Stmt-F.Import d) = is_named_import d
+named_stmt_step (Stmt-F.Let name e) = is_ident name && is_named_expr e
+named_stmt_step (Stmt-F.Expr e) = is_named_expr e
+named_stmt_step (Stmt-F.Area a) = is_ident a.name
+named_stmt_step (Stmt-F.Store address offset ty e) = is_named_expr address && is_named_expr e
+named_stmt_step (Stmt-F.StoreSmall address offset ty e) = is_named_expr address && is_named_expr e
+named_stmt_step (Stmt-F.LetParts p e) = is_named_pattern p && is_named_expr e
+named_stmt_step (Stmt-F.Match bound e arms) = are_match_names bound && is_named_expr e && list_all (λ a. a) arms
+named_stmt_step (Stmt-F.AssertLast name n) = is_ident name
+named_stmt_step (Stmt-F.LetSlot name) = is_ident name
+named_stmt_step (Stmt-F.WriteSlot name e) = is_ident name && is_named_expr e
+
+-- one level of an arm, with the answer for its block
+abbrev pub named_arm_step : Arm-F Bool Bool Bool → Bool
+named_arm_step a = is_named_arm_pattern a.pattern && a.body
+
+-- one level of a block, with the answers for its statements
+abbrev pub named_block_step : Block-F Bool Bool Bool → Bool
+named_block_step b = list_all (λ s. s) b.stmts && is_absent_or is_named_expr b.tail
+
 abbrev pub is_named_stmt : Stmt → Bool
-is_named_stmt (stmt.Import d) = is_named_import d
-is_named_stmt (stmt.Let name e) = is_ident name && is_named_expr e
-is_named_stmt (stmt.Expr e) = is_named_expr e
-is_named_stmt (stmt.Area a) = is_ident a.name
-is_named_stmt (stmt.Store address offset ty e) = is_named_expr address && is_named_expr e
-is_named_stmt (stmt.StoreSmall address offset ty e) = is_named_expr address && is_named_expr e
-is_named_stmt (stmt.LetParts p e) = is_named_pattern p && is_named_expr e
+is_named_stmt = fold-Stmt Bool Bool Bool named_stmt_step named_arm_step named_block_step
+
+abbrev pub is_named_arm : Arm → Bool
+is_named_arm = fold-Arm Bool Bool Bool named_stmt_step named_arm_step named_block_step
 
 abbrev pub is_named_block : Block → Bool
-is_named_block b = list_all is_named_stmt b.stmts && is_absent_or is_named_expr b.tail
+is_named_block = fold-Block Bool Bool Bool named_stmt_step named_arm_step named_block_step
 
 -- functions and traits
 
@@ -198,11 +251,18 @@ is_named_member m = list_all is_line m.docs && is_ident m.name
 abbrev pub is_named_flags : FlagsItem → Bool
 is_named_flags f = are_path_names f.bitflags.names && list_all is_line f.docs && is_ident f.name && list_all is_named_member f.members
 
+abbrev pub is_named_variant_case : VariantCase → Bool
+is_named_variant_case c = list_all is_line c.docs && is_ident c.name && is_absent_or is_named_type c.ty
+
+abbrev pub is_named_variant : VariantItem → Bool
+is_named_variant v = list_all is_line v.docs && list_all (λ path. are_path_names path.names) v.derives && is_ident v.name && list_all is_named_variant_case v.cases
+
 abbrev pub is_named_type_item : TypeItem → Bool
 is_named_type_item (Struct s) = is_named_struct s
 is_named_type_item (Alias a) = is_named_alias a
 is_named_type_item (Enum e) = is_named_enum e
 is_named_type_item (Flags f) = is_named_flags f
+is_named_type_item (Variant v) = is_named_variant v
 
 -- what is exported
 

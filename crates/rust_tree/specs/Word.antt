@@ -2,7 +2,7 @@
 use Rattle.std.specs.Prelude.{codes}
 use Rattle.wit_model.specs.Bytes.{Bytes}
 use Rattle.rust_tree.specs.declared.print.word.sign.Sign.{Sign}
-use Rattle.rust_tree.specs.declared.print.word.sign.Sign.TheVariants.{LineEnd, StatementEnd, OpenBlock, CloseBlock, Open, Close, Comma, Colon, Arrow, PathMark, Super, Reference, As, Let, LetMut, Equals}
+use Rattle.rust_tree.specs.declared.print.word.sign.Sign.TheVariants.{LineEnd, StatementEnd, OpenBlock, CloseBlock, Open, Close, Comma, Colon, Arrow, PathMark, Super, Reference, As, Let, LetMut, Equals, Minus}
 use Rattle.rust_tree.specs.declared.print.word.item.ItemWord.{ItemWord}
 use Rattle.rust_tree.specs.declared.print.word.item.ItemWord.TheVariants.{Preamble, EmptyDoc, Doc, PublicFn, OpenUnsafe, PublicTrait, Method, UnitType, StrType, StringName}
 use Rattle.rust_tree.specs.declared.print.word.import.ImportWord.{ImportWord}
@@ -20,13 +20,17 @@ use Rattle.rust_tree.specs.declared.print.word.runtime.RuntimeWord.TheVariants.{
 use Rattle.rust_tree.specs.declared.print.word.conversion.ConversionWord.{ConversionWord}
 use Rattle.rust_tree.specs.declared.print.word.conversion.ConversionWord.TheVariants.{ConversionFn, ConversionBound, ConversionParam, ConvertParam, ReferenceBound, ReferenceTrait, ForReference, ConvertTarget, CallEnd, ConversionImpl, ImplFor, Inline, TakesSelf, CastSelf}
 use Rattle.rust_tree.specs.declared.print.word.definition.DefinitionWord.{DefinitionWord}
-use Rattle.rust_tree.specs.declared.print.word.definition.DefinitionWord.TheVariants.{ReprC, Derive, DeriveEnd, PublicStruct, PublicField, FieldEnd, DebugImpl, DebugFn, DebugStruct, DebugName, DebugField, DebugValue, Finish, PublicType, TupleEnd, OptionType, OptionEnd, ArrayLength}
+use Rattle.rust_tree.specs.declared.print.word.definition.DefinitionWord.TheVariants.{ReprC, Derive, DeriveEnd, PublicStruct, PublicField, FieldEnd, DebugImpl, DebugFn, DebugStruct, DebugName, DebugField, DebugValue, Finish, PublicType, TupleEnd, OptionType, ResultType, TypeEnd, ArrayLength}
 use Rattle.rust_tree.specs.declared.print.word.lift.LiftWord.{LiftWord}
-use Rattle.rust_tree.specs.declared.print.word.lift.LiftWord.TheVariants.{IfDebug, Otherwise, LiftEnd, BoolLiftType, CheckedBool, UncheckedBool, CharLiftType, CheckedChar, UncheckedChar, StringLiftType, CheckedString, UncheckedString}
+use Rattle.rust_tree.specs.declared.print.word.lift.LiftWord.TheVariants.{IfDebug, Otherwise, LiftEnd, BoolLiftType, CheckedBool, UncheckedBool, CharLiftType, CheckedChar, UncheckedChar, StringLiftType, CheckedString, UncheckedString, NoCaseType, CheckedNoCase, UncheckedNoCase}
 use Rattle.rust_tree.specs.declared.print.word.enums.EnumWord.{EnumWord}
-use Rattle.rust_tree.specs.declared.print.word.enums.EnumWord.TheVariants.{OpenRepr, CloseRepr, PublicEnum, CaseEnd, Impl, MatchSelf, CaseTuple, CaseFinish, NameFn, MessageFn, CaseText, CaseTextEnd, ErrorFields, DisplayImpl, WriteError, StdFeature, ErrorImpl, EmptyBlock, LiftFn, LiftResult, LiftBody, Arm, NoCase, EscapedQuote, EscapedBackslash, EscapedLineFeed, EscapedReturn}
+use Rattle.rust_tree.specs.declared.print.word.enums.EnumWord.TheVariants.{OpenRepr, CloseRepr, PublicEnum, CaseEnd, Impl, MatchSelf, CaseTuple, CaseFinish, PayloadTuple, PayloadFinish, NameFn, MessageFn, CaseText, CaseTextEnd, ErrorFields, DisplayImpl, WriteError, WriteDebug, StdFeature, ErrorImpl, EmptyBlock, LiftFn, LiftResult, LiftBody, Arm, NoCase, EscapedQuote, EscapedBackslash, EscapedLineFeed, EscapedReturn}
 use Rattle.rust_tree.specs.declared.print.word.flags.FlagsWord.{FlagsWord}
 use Rattle.rust_tree.specs.declared.print.word.flags.FlagsWord.TheVariants.{OpenMacro, PublicFlags, Const, Bit, Bits, AsCoreWord, Empty, Or, FromBits, AsWord, ShiftedBy, FromBitsEnd}
+use Rattle.rust_tree.specs.declared.print.word.matches.MatchWord.{MatchWord}
+use Rattle.rust_tree.specs.declared.print.word.matches.MatchWord.TheVariants.{OpenArm, CloseArm, CloseBound, LeftOut, AnyOther, Assert, AssertEnd}
+use Rattle.rust_tree.specs.declared.print.word.slot.SlotWord.{SlotWord}
+use Rattle.rust_tree.specs.declared.print.word.slot.SlotWord.TheVariants.{Uninit, Write, WriteEnd}
 
 -- marks and small words
 unfoldable pub sign : Sign → Bytes
@@ -46,6 +50,7 @@ sign As = codes " as "
 sign Let = codes "let "
 sign LetMut = codes "let mut "
 sign Equals = codes " = "
+sign Minus = codes "-"
 
 -- the file's head, functions, traits and types
 unfoldable pub item_word : ItemWord → Bytes
@@ -163,7 +168,7 @@ conversion_word Inline = codes "#[inline]\n"
 conversion_word TakesSelf = codes "(self) -> "
 conversion_word CastSelf = codes "self as "
 
--- the runtime items that give the value of a core value
+-- the runtime items that give the value of a core value, or find that it is none
 unfoldable pub lift_word : LiftWord → Bytes
 lift_word IfDebug = codes " {\nif cfg!(debug_assertions) {\n"
 lift_word Otherwise = codes "} else {\n"
@@ -177,8 +182,11 @@ lift_word UncheckedChar = codes "unsafe { ::core::char::from_u32_unchecked(val) 
 lift_word StringLiftType = codes "(bytes: Vec<u8>) -> String"
 lift_word CheckedString = codes "String::from_utf8(bytes).unwrap()\n"
 lift_word UncheckedString = codes "unsafe { String::from_utf8_unchecked(bytes) }\n"
+lift_word NoCaseType = codes "<T>() -> T"
+lift_word CheckedNoCase = codes "panic!(\"invalid enum discriminant\")\n"
+lift_word UncheckedNoCase = codes "unsafe { ::core::hint::unreachable_unchecked() }\n"
 
--- the definition of a struct, its `Debug`, the definition of another name; the end of a tuple, and words of options and arrays
+-- the definition of a struct, its `Debug`, the definition of another name; the end of a tuple, and words of options, results and arrays
 unfoldable pub definition_word : DefinitionWord → Bytes
 definition_word ReprC = codes "#[repr(C)]\n"
 definition_word Derive = codes "#[derive("
@@ -196,10 +204,11 @@ definition_word Finish = codes ".finish()\n"
 definition_word PublicType = codes "pub type "
 definition_word TupleEnd = codes ",)"
 definition_word OptionType = codes "::core::option::Option<"
-definition_word OptionEnd = codes ">"
+definition_word ResultType = codes "::core::result::Result<"
+definition_word TypeEnd = codes ">"
 definition_word ArrayLength = codes "; "
 
--- the definition of an enum, its `Debug`, what an error enum has, and `_lift`
+-- the definition of an enum or a variant, its `Debug`, what an error type has, and `_lift`
 unfoldable pub enum_word : EnumWord → Bytes
 enum_word OpenRepr = codes "#[repr("
 enum_word CloseRepr = codes ")]\n"
@@ -209,6 +218,8 @@ enum_word Impl = codes "impl "
 enum_word MatchSelf = codes "match self {\n"
 enum_word CaseTuple = codes " => f.debug_tuple(\""
 enum_word CaseFinish = codes "\").finish(),\n"
+enum_word PayloadTuple = codes "(e) => f.debug_tuple(\""
+enum_word PayloadFinish = codes "\").field(e).finish(),\n"
 enum_word NameFn = codes "pub fn name(&self) -> &'static str {\n"
 enum_word MessageFn = codes "pub fn message(&self) -> &'static str {\n"
 enum_word CaseText = codes " => \""
@@ -216,6 +227,7 @@ enum_word CaseTextEnd = codes "\",\n"
 enum_word ErrorFields = codes "\").field(\"code\", &(*self as i32)).field(\"name\", &self.name()).field(\"message\", &self.message()).finish()\n"
 enum_word DisplayImpl = codes "impl ::core::fmt::Display for "
 enum_word WriteError = codes "::core::write!(f, \"{} (error {})\", self.name(), *self as i32)\n"
+enum_word WriteDebug = codes "::core::write!(f, \"{:?}\", self)\n"
 enum_word StdFeature = codes "#[cfg(feature = \"std\")]\n"
 enum_word ErrorImpl = codes "impl ::core::error::Error for "
 enum_word EmptyBlock = codes " {}\n"
@@ -243,3 +255,19 @@ flags_word FromBits = codes "::from_bits_retain((("
 flags_word AsWord = codes " as u32 as "
 flags_word ShiftedBy = codes ") << "
 flags_word FromBitsEnd = codes ") as _)"
+
+-- statements that are a `match`, and the test of a last case's number
+unfoldable pub match_word : MatchWord → Bytes
+match_word OpenArm = codes " => {\n"
+match_word CloseArm = codes "},\n"
+match_word CloseBound = codes "};\n"
+match_word LeftOut = codes "(_)"
+match_word AnyOther = codes "_"
+match_word Assert = codes "debug_assert_eq!("
+match_word AssertEnd = codes ", \"invalid enum discriminant\");\n"
+
+-- a local for a number or a pointer
+unfoldable pub slot_word : SlotWord → Bytes
+slot_word Uninit = codes " = ::core::mem::MaybeUninit::<u64>::uninit();\n"
+slot_word Write = codes ".as_mut_ptr().cast::<*mut u8>().write("
+slot_word WriteEnd = codes ");\n"

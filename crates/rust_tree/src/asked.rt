@@ -2,19 +2,20 @@
 
 ghost use Rattle.std.specs.Prelude.{◌≡◌, ◌++◌, IfOk, OnOk};
 ghost use Rattle.std.specs.List.{flat_map};
-ghost use Rattle.rust_tree.specs.Asked.{asked_by_block, asked_by_call, asked_by_definition, asked_by_export, asked_by_expr, asked_by_fn, asked_by_item, asked_by_method, asked_by_path, asked_by_pattern, asked_by_signature, asked_by_stmt, asked_by_tail, asked_by_type, asked_in, asked_of};
+ghost use Rattle.rust_tree.specs.Asked.{asked_by_arm, asked_by_arm_pattern, asked_by_block, asked_by_call, asked_by_definition, asked_by_export, asked_by_expr, asked_by_fn, asked_by_item, asked_by_method, asked_by_path, asked_by_pattern, asked_by_payload, asked_by_signature, asked_by_stmt, asked_by_tail, asked_by_type, asked_in, asked_of};
 ghost use Rattle.rust_tree.specs.Runtime.{item_of_name};
 
 use crate::export::{CallBlock, ExportFn};
 use crate::expr::Expr;
 use crate::item::{FnItem, FnParam, Item};
 use crate::path::Path;
-use crate::pattern::Pattern;
+use crate::pattern::{ArmPattern, Pattern};
 use crate::runtime_item::RuntimeItem;
-use crate::stmt::{Block, Stmt};
+use crate::stmt::{Arm, Block, Stmt};
 use crate::trait_item::TraitFn;
 use crate::type_expr::TypeExpr;
 use crate::type_item::{StructField, TypeItem};
+use crate::variant_item::VariantCase;
 use std::alloc::Global;
 use wit_model::{List, OutOfMemory, Text};
 
@@ -60,6 +61,10 @@ fn ask_by_type(asked: &mut List<RuntimeItem>, ty: &TypeExpr) -> Result<(), OutOf
         TypeExpr::Array(ty, _) => ask_by_type(asked, ty.get()),
         TypeExpr::Path(path) => ask_by_path(asked, path),
         TypeExpr::Tuple(parts) => ask_by_types(asked, parts.as_slice()),
+        TypeExpr::Result(ok, err) => {
+            ask_by_type(asked, ok.get())?;
+            ask_by_type(asked, err.get())
+        }
     }
 }
 
@@ -105,6 +110,9 @@ fn ask_by_expr(asked: &mut List<RuntimeItem>, e: &Expr) -> Result<(), OutOfMemor
             ask_by_path(asked, path)?;
             ask_by_words(asked, path, words.as_slice())
         }
+        Expr::I32Const(_) | Expr::Zero(_) | Expr::Unit => Ok(()),
+        Expr::Case(path) => ask_by_path(asked, path),
+        Expr::Method(e, _) => ask_by_expr(asked, e.get()),
     }
 }
 
@@ -144,6 +152,14 @@ fn ask_by_words(
     Ok(())
 }
 
+/// What an address and what is stored there name.
+fn ask_by_both(asked: &mut List<RuntimeItem>, address: &Expr, e: &Expr) -> Result<(), OutOfMemory>
+    ensures { OnOk result (asked.new ≡ asked.old ++ (asked_by_expr address.now ++ asked_by_expr e.now)) }
+{
+    ask_by_expr(asked, address)?;
+    ask_by_expr(asked, e)
+}
+
 fn ask_by_pattern(asked: &mut List<RuntimeItem>, pattern: &Pattern) -> Result<(), OutOfMemory>
     ensures { OnOk result (asked.new ≡ asked.old ++ asked_by_pattern pattern.now) }
 {
@@ -153,23 +169,66 @@ fn ask_by_pattern(asked: &mut List<RuntimeItem>, pattern: &Pattern) -> Result<()
     }
 }
 
+fn ask_by_arm_pattern(
+    asked: &mut List<RuntimeItem>,
+    pattern: &ArmPattern,
+) -> Result<(), OutOfMemory>
+    ensures { OnOk result (asked.new ≡ asked.old ++ asked_by_arm_pattern pattern.now) }
+{
+    match pattern {
+        ArmPattern::Case(path) | ArmPattern::LeftOut(path) => ask_by_path(asked, path),
+        ArmPattern::Payload(path, _) => ask_by_path(asked, path),
+        ArmPattern::Number(_) | ArmPattern::Name(_) | ArmPattern::AnyOther => Ok(()),
+    }
+}
+
+#[cycle(asked_stmt)]
 fn ask_by_stmt(asked: &mut List<RuntimeItem>, stmt: &Stmt) -> Result<(), OutOfMemory>
     ensures { OnOk result (asked.new ≡ asked.old ++ asked_by_stmt stmt.now) }
 {
     match stmt {
-        Stmt::Import(_) | Stmt::Area(_) => Ok(()),
-        Stmt::Let(_, e) | Stmt::Expr(e) => ask_by_expr(asked, e),
-        Stmt::Store(address, _, _, e) | Stmt::StoreSmall(address, _, _, e) => {
-            ask_by_expr(asked, address)?;
-            ask_by_expr(asked, e)
-        }
+        Stmt::Import(_) | Stmt::Area(_) | Stmt::AssertLast(_, _) | Stmt::LetSlot(_) => Ok(()),
+        Stmt::Let(_, e) | Stmt::Expr(e) | Stmt::WriteSlot(_, e) => ask_by_expr(asked, e),
+        Stmt::Store(address, _, _, e) => ask_by_both(asked, address, e),
+        Stmt::StoreSmall(address, _, _, e) => ask_by_both(asked, address, e),
         Stmt::LetParts(pattern, e) => {
             ask_by_pattern(asked, pattern)?;
             ask_by_expr(asked, e)
         }
+        Stmt::Match(_, e, arms) => {
+            ask_by_expr(asked, e)?;
+            ask_by_arms(asked, arms.as_slice())
+        }
     }
 }
 
+#[cycle(asked_stmt)]
+fn ask_by_arms(asked: &mut List<RuntimeItem>, arms: &[Arm]) -> Result<(), OutOfMemory>
+    ensures { OnOk result (asked.new ≡ asked.old ++ flat_map asked_by_arm arms.now) }
+{
+    for arm in arms {
+        ask_by_arm(asked, arm)?;
+    }
+    Ok(())
+}
+
+#[cycle(asked_stmt)]
+fn ask_by_arm(asked: &mut List<RuntimeItem>, arm: &Arm) -> Result<(), OutOfMemory>
+    ensures { OnOk result (asked.new ≡ asked.old ++ asked_by_arm arm.now) }
+{
+    ask_by_arm_pattern(asked, &arm.pattern)?;
+    ask_by_block(asked, &arm.body)
+}
+
+#[cycle(asked_stmt)]
+fn ask_by_block(asked: &mut List<RuntimeItem>, block: &Block) -> Result<(), OutOfMemory>
+    ensures { OnOk result (asked.new ≡ asked.old ++ asked_by_block block.now) }
+{
+    ask_by_stmts(asked, block.stmts.as_slice())?;
+    ask_by_tail(asked, &block.tail)
+}
+
+#[cycle(asked_stmt)]
 fn ask_by_stmts(asked: &mut List<RuntimeItem>, stmts: &[Stmt]) -> Result<(), OutOfMemory>
     ensures { OnOk result (asked.new ≡ asked.old ++ flat_map asked_by_stmt stmts.now) }
 {
@@ -186,13 +245,6 @@ fn ask_by_tail(asked: &mut List<RuntimeItem>, tail: &Option<Expr>) -> Result<(),
         None => Ok(()),
         Some(e) => ask_by_expr(asked, e),
     }
-}
-
-fn ask_by_block(asked: &mut List<RuntimeItem>, block: &Block) -> Result<(), OutOfMemory>
-    ensures { OnOk result (asked.new ≡ asked.old ++ asked_by_block block.now) }
-{
-    ask_by_stmts(asked, block.stmts.as_slice())?;
-    ask_by_tail(asked, &block.tail)
 }
 
 fn ask_by_params(asked: &mut List<RuntimeItem>, params: &[FnParam]) -> Result<(), OutOfMemory>
@@ -263,6 +315,27 @@ fn ask_by_struct_fields(
     Ok(())
 }
 
+fn ask_by_payload(asked: &mut List<RuntimeItem>, ty: &Option<TypeExpr>) -> Result<(), OutOfMemory>
+    ensures { OnOk result (asked.new ≡ asked.old ++ asked_by_payload ty.now) }
+{
+    match ty {
+        None => Ok(()),
+        Some(ty) => ask_by_type(asked, ty),
+    }
+}
+
+fn ask_by_variant_cases(
+    asked: &mut List<RuntimeItem>,
+    cases: &[VariantCase],
+) -> Result<(), OutOfMemory>
+    ensures { OnOk result (asked.new ≡ asked.old ++ flat_map (λ c. asked_by_payload c.ty) cases.now) }
+{
+    for case in cases {
+        ask_by_payload(asked, &case.ty)?;
+    }
+    Ok(())
+}
+
 fn ask_by_definition(asked: &mut List<RuntimeItem>, item: &TypeItem) -> Result<(), OutOfMemory>
     ensures { OnOk result (asked.new ≡ asked.old ++ asked_by_definition item.now) }
 {
@@ -274,6 +347,10 @@ fn ask_by_definition(asked: &mut List<RuntimeItem>, item: &TypeItem) -> Result<(
         TypeItem::Alias(item) => ask_by_type(asked, &item.ty),
         TypeItem::Enum(item) => ask_by_paths(asked, item.derives.as_slice()),
         TypeItem::Flags(item) => ask_by_path(asked, &item.bitflags),
+        TypeItem::Variant(item) => {
+            ask_by_paths(asked, item.derives.as_slice())?;
+            ask_by_variant_cases(asked, item.cases.as_slice())
+        }
     }
 }
 

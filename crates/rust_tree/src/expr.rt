@@ -11,6 +11,11 @@ pub enum CastType {
     I16,
     U32,
     U64,
+    I32,
+    I64,
+    Usize,
+    /// `*mut u8`
+    Pointer,
 }
 
 /// A number of one or two bytes in memory.
@@ -20,6 +25,34 @@ pub enum SmallType {
     I8,
     U16,
     I16,
+}
+
+/// A core type whose zero is no number with `i32` behind it.
+#[derive(Clone, Copy, Debug, PartialEq, Eq)]
+pub enum ZeroType {
+    /// `0i64`
+    I64,
+    /// `0.0f32`
+    F32,
+    /// `0.0f64`
+    F64,
+    /// `::core::ptr::null_mut::<u8>()`
+    Pointer,
+    /// `::core::mem::MaybeUninit::<u64>::zeroed()`
+    PointerOrI64,
+    /// `0usize`
+    Length,
+}
+
+/// A method without arguments that takes one core value to another.
+#[derive(Clone, Copy, Debug, PartialEq, Eq)]
+pub enum Method {
+    /// The bits of a float: `.to_bits()`.
+    ToBits,
+    /// The number in what holds a number or a pointer: `.assume_init()`.
+    AssumeInit,
+    /// The pointer in it: `.as_ptr().cast::<*mut u8>().read()`.
+    ReadPointer,
 }
 
 /// An expression. Where a method is called on another expression, that one stands in brackets unless it is a local.
@@ -59,6 +92,8 @@ pub enum Expr {
     Record(Path, List<(Text, Expr)>),
     /// A tuple: `(x,)` or `(x, y)`.
     Tuple(List<Expr>),
+    /// The tuple of no parts, as a payload that is nothing: `()`.
+    Unit,
     /// An array: `[x, y]`.
     Array(List<Expr>),
     /// The number of an enum's case, as a word: `(e).clone() as i32`.
@@ -68,4 +103,12 @@ pub enum Expr {
     /// The flags of a type by its path, of words that are each shifted by so many bits; there is a word:
     /// `P::empty() | P::from_bits_retain(((e as u32 as u64) << 32) as _)`.
     FlagsOfWords(Path, Repr, List<(u32, Expr)>),
+    /// A number: `5i32`.
+    I32Const(i32),
+    /// The zero of another core type: `0i64`.
+    Zero(ZeroType),
+    /// A case of a type, by the type's path and the case's name: `P::C`. With a payload it is a call, `P::C(e)`.
+    Case(Path),
+    /// A method called on an expression, which always stands in brackets: `(e).to_bits()`.
+    Method(Boxed<Expr>, Method),
 }

@@ -1,6 +1,7 @@
 //! The exact text of a tree.
 
 mod area;
+mod constant;
 mod conversion;
 mod core_import;
 mod derives;
@@ -12,15 +13,18 @@ mod expr;
 mod flags_item;
 mod function;
 mod macros;
+mod match_stmt;
 mod named_param;
 mod path;
 mod pattern;
 mod runtime;
 mod size;
+mod slot;
 mod stmt;
 mod trait_item;
 mod type_item;
 mod type_name;
+mod variant_item;
 mod word;
 
 ghost use Rattle.std.specs.Prelude.{◌≡◌, ◌++◌, IfOk, OnOk};

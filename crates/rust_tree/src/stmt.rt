@@ -1,6 +1,6 @@
 use crate::area::ReturnArea;
 use crate::expr::{Expr, SmallType};
-use crate::pattern::Pattern;
+use crate::pattern::{ArmPattern, Pattern};
 use wit_model::{ArchitectureSize, List, Text, WasmType};
 
 /// The declaration of a core import, in its form for WebAssembly and in its form for every other target.
@@ -18,7 +18,19 @@ pub struct ImportDecl {
     pub result: Option<WasmType>,
 }
 
+/// The names of what the arms of a `match` give.
+#[derive(Debug, PartialEq, Drop)]
+pub enum MatchNames {
+    /// None, where they give nothing.
+    Nothing,
+    /// One name: `let x = `.
+    One(Text),
+    /// A name for each part of a tuple: `let (x, y, ) = `.
+    Parts(List<Text>),
+}
+
 /// A statement.
+#[cycle(stmt)]
 #[derive(Debug, PartialEq, Drop)]
 pub enum Stmt {
     /// The declaration of a core import.
@@ -37,9 +49,26 @@ pub enum Stmt {
     StoreSmall(Expr, ArchitectureSize, SmallType, Expr),
     /// The parts of a value, each with a name: `let P { f: x } = e;`, `let (x, ) = e;` or `let [x, ] = e;`.
     LetParts(Pattern, Expr),
+    /// `let x = match e {`, the arms and `};`. Where nothing is bound it is `match e {`, the arms and `}`.
+    Match(MatchNames, Expr, List<Arm>),
+    /// A test of a last case's number: `debug_assert_eq!(n, 5, "invalid enum discriminant");`
+    AssertLast(Text, u32),
+    /// A local for a number or a pointer, with nothing in it yet: `let mut x = ::core::mem::MaybeUninit::<u64>::uninit();`
+    LetSlot(Text),
+    /// A pointer put into such a local: `x.as_mut_ptr().cast::<*mut u8>().write(e);`
+    WriteSlot(Text, Expr),
+}
+
+/// An arm of a `match`: `P::C => {`, the block and `},`.
+#[cycle(stmt)]
+#[derive(Debug, PartialEq, Drop)]
+pub struct Arm {
+    pub pattern: ArmPattern,
+    pub body: Block,
 }
 
 /// Statements, and the expression behind them that is the block's value.
+#[cycle(stmt)]
 #[derive(Debug, PartialEq, Drop)]
 pub struct Block {
     pub stmts: List<Stmt>,

@@ -4,6 +4,7 @@ use crate::enum_item::EnumItem;
 use crate::flags_item::FlagsItem;
 use crate::path::Path;
 use crate::type_expr::TypeExpr;
+use crate::variant_item::VariantItem;
 use wit_model::{List, Text};
 
 /// A public field of a struct, with its doc lines.
@@ -46,4 +47,5 @@ pub enum TypeItem {
     Alias(AliasItem),
     Enum(EnumItem),
     Flags(FlagsItem),
+    Variant(VariantItem),
 }

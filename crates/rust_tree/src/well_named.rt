@@ -8,6 +8,7 @@ mod function;
 mod text;
 mod type_expr;
 mod type_item;
+mod variant_item;
 
 ghost use Rattle.std.specs.Prelude.{◌≡◌};
 ghost use Rattle.std.specs.List.{list_all};
@@ -44,9 +45,9 @@ fn are_named_items(items: &[Item]) -> bool
 
 /// Whether option lines and items may make up a tree: each name in them is an identifier, and a path has one name at
 /// least, the first of which may also be `crate` or `self`; a type that is a path alone is no primitive type's name and not
-/// `_rt::String`, and a tuple type has a part; base names, and the names of worlds and macros, hold letters,
-/// digits and `_`; a text that is printed between double quotes holds no `"`, no `\` and no line feed; and a doc line or
-/// an option line holds no line feed, and the latter begins with `//   * `.
+/// `_rt::String`, and a tuple type has a part; a case's path has two names at least; base names, and the names of worlds
+/// and macros, hold letters, digits and `_`; a text that is printed between double quotes holds no `"`, no `\` and no line
+/// feed; and a doc line or an option line holds no line feed, and the latter begins with `//   * `.
 pub fn are_well_named(options: &[Text], items: &[Item]) -> bool
     ensures { result ≡ are_well_named options.now items.now }
 {

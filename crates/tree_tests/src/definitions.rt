@@ -1,7 +1,10 @@
 //! Definitions of types: forms that no world has so far, and which types may stand in them.
 
-use crate::made::{file, path, text};
-use rust_tree::{AliasItem, Item, StructItem, TypeExpr, TypeItem, are_well_named, text_of};
+use crate::made::{file, path, text, texts};
+use rust_tree::{
+    AliasItem, ErrorVariant, Item, StructItem, TypeExpr, TypeItem, VariantCase, VariantItem,
+    are_well_named, text_of,
+};
 use std::alloc::Global;
 use std::test::Fail;
 use wit_model::{Boxed, List, OutOfMemory};
@@ -17,6 +20,29 @@ f.debug_struct(\"Bare\").finish()
 }
 }
 pub type Maybe = ::core::option::Option<[other::T; 4]>;
+pub type Outcome = ::core::result::Result<(), other::T>;
+/// one of two
+#[derive(Clone)]
+pub enum Fault {
+/// without more
+Plain,
+Told(_rt::String),
+}
+impl ::core::fmt::Debug for Fault {
+fn fmt(&self, f: &mut ::core::fmt::Formatter<'_>) -> ::core::fmt::Result {
+match self {
+Fault::Plain => f.debug_tuple(\"Fault::Plain\").finish(),
+Fault::Told(e) => f.debug_tuple(\"Fault::Told\").field(e).finish(),
+}
+}
+}
+impl ::core::fmt::Display for Fault {
+fn fmt(&self, f: &mut ::core::fmt::Formatter<'_>) -> ::core::fmt::Result {
+::core::write!(f, \"{:?}\", self)
+}
+}
+#[cfg(feature = \"std\")]
+impl ::core::error::Error for Fault {}
 ";
 
 /// A struct without fields, with a derive of two names.
@@ -48,12 +74,45 @@ fn maybe(alloc: Global, names: &[&str], n: u32) -> Result<TypeExpr, OutOfMemory>
     Ok(TypeExpr::Optional(Boxed::new(alloc, array)?))
 }
 
+/// `::core::result::Result<(), T>`, of a type by its path.
+fn outcome(alloc: Global, names: &[&str]) -> Result<TypeExpr, OutOfMemory> {
+    let ok = Boxed::new(alloc, TypeExpr::Unit)?;
+    let err = Boxed::new(alloc, TypeExpr::Path(path(alloc, names)?))?;
+    Ok(TypeExpr::Result(ok, err))
+}
+
+/// A variant that is an error type, with a case without a payload and one with.
+fn fault(alloc: Global) -> Result<TypeItem, OutOfMemory> {
+    let mut cases = List::new(alloc);
+    cases.push(VariantCase {
+        docs: texts(alloc, &["without more"])?,
+        name: text(alloc, "Plain")?,
+        ty: None,
+    })?;
+    cases.push(VariantCase {
+        docs: List::new(alloc),
+        name: text(alloc, "Told")?,
+        ty: Some(TypeExpr::String),
+    })?;
+    let mut derives = List::new(alloc);
+    derives.push(path(alloc, &["Clone"])?)?;
+    Ok(TypeItem::Variant(VariantItem {
+        docs: texts(alloc, &["one of two"])?,
+        derives,
+        name: text(alloc, "Fault")?,
+        cases,
+        error: Some(ErrorVariant { std_feature: true }),
+    }))
+}
+
 #[test]
 fn definitions_of_types(rt: HostRuntime) -> Result<(), Fail> {
     let alloc = rt.alloc();
     let mut items = List::new(alloc);
     items.push(Item::Type(bare(alloc)?))?;
     items.push(Item::Type(alias(alloc, "Maybe", maybe(alloc, &["other", "T"], 4)?)?))?;
+    items.push(Item::Type(alias(alloc, "Outcome", outcome(alloc, &["other", "T"])?)?))?;
+    items.push(Item::Type(fault(alloc)?))?;
     let tree = file(alloc, items, List::new(alloc))?;
     assert_eq!(rt; text_of(alloc, &tree)?.as_str(), WANT);
     Ok(())

@@ -8,6 +8,8 @@ mod forms;
 #[cfg(test)]
 mod made;
 #[cfg(test)]
+mod matches;
+#[cfg(test)]
 mod names;
 #[cfg(test)]
 mod well_named;

@@ -4,7 +4,7 @@ ghost use Rattle.std.specs.Prelude.{◌≡◌, IfOk, length};
 ghost use Rattle.rust_tree.specs.Tree.{wrapper_count};
 
 use rust_tree::{
-    Bindings, Block, CallBlock, ExportFn, FnItem, FuncPlace, Item, Path, Stmt, TypeExpr,
+    Bindings, Block, CallBlock, ExportFn, Expr, FnItem, FuncPlace, Item, Path, Stmt, TypeExpr,
     are_well_named,
 };
 use std::alloc::Global;
@@ -30,6 +30,10 @@ pub(crate) fn path(alloc: Global, names: &[&str]) -> Result<Path, OutOfMemory> {
         supers: 0,
         names: texts(alloc, names)?,
     })
+}
+
+pub(crate) fn local(alloc: Global, name: &str) -> Result<Expr, OutOfMemory> {
+    Ok(Expr::Local(text(alloc, name)?))
 }
 
 /// An import's wrapper of this name without parameters and a result, whose body is these statements.

@@ -1,7 +1,7 @@
 -- A list that is cut at one of its elements.
 use Rattle.std.proofs.Common.{◌≡◌, ℕ, suc, ◌+◌, ◌<◌, ◌∙◌, Bool, ◌&&◌, List, [], ◌∷◌, ◌++◌, drop, get_or, length, take, Some, sym, ap, arith}
 use Rattle.std.specs.List.{list_all, slice_get}
-use Rattle.std.proofs.Math.Seq.{drop-cons, take-suc}
+use Rattle.std.proofs.Math.Seq.{take-suc}
 use Rattle.std.proofs.lemmas.Option.{slice_get_within, get_or_from_slice_get}
 use Rattle.wit_model.proofs.ListLemmas.{drop_at}
 

@@ -77,6 +77,9 @@ no-borrow : (kind : TypeDefKind) → is_defined_kind kind ≡ true → is_borrow
 no-borrow (kind.Alias ty) e = refl
 no-borrow (kind.Record fields) e = refl
 no-borrow (kind.Tuple parts) e = refl
+no-borrow (kind.Option ty) e = refl
+no-borrow (kind.Result ok err) e = refl
+no-borrow (kind.Variant cases) e = refl
 no-borrow (kind.Enum cases) e = refl
 no-borrow (kind.Flags members) e = refl
 no-borrow _ e = absurd (cc)

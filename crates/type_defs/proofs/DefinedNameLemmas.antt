@@ -2,6 +2,7 @@
 use Rattle.std.proofs.Common.{◌≡◌, ℕ, suc, Bool, true, false, not, ◌&&◌, List, [], ◌∷◌, Option, None, Some, map, refl, sym, ap, subst, ◌∙◌, append-nil, arith}
 use Rattle.std.specs.Prelude.{if◌then◌else◌, slice_get}
 use Rattle.std.specs.List.{AllZip, Contains, flat_map, list_all}
+use Rattle.std.specs.Option.{option_map}
 use Rattle.std.proofs.lemmas.Bool.{and_from, and_parts}
 use Rattle.std.proofs.lemmas.List.Folds.{list_all-append, list_all-map}
 use Rattle.wit_model.specs.Bytes.{Bytes}
@@ -10,6 +11,7 @@ use Rattle.wit_model.specs.declared.name.Name.{Name}
 use Rattle.wit_model.specs.declared.name.TypeId.{TypeId}
 use Rattle.wit_model.specs.declared.name.WorldId.{WorldId}
 use Rattle.wit_model.specs.declared.resolve.Resolve.{Resolve}
+use Rattle.wit_model.specs.declared.types.Case.{Case}
 use Rattle.wit_model.specs.declared.types.Field.{Field}
 use Rattle.wit_model.specs.declared.types.Member.{Member}
 use Rattle.wit_model.specs.declared.types.TypeDef.{TypeDef}
@@ -30,7 +32,7 @@ use Rattle.rust_tree.specs.declared.type_expr.TypeExpr.TheVariants as type
 use Rattle.rust_tree.specs.declared.type_item.TypeItem.{TypeItem}
 use Rattle.rust_tree.specs.declared.type_item.TypeItem.TheVariants as item
 use Rattle.rust_tree.specs.Ident.{escaped_words, is_ident, is_primitive_name, rust_ident, type_ident}
-use Rattle.rust_tree.specs.WellNamed.{are_path_names, is_absent_or, is_line, is_named_alias, is_named_case, is_named_enum, is_named_error, is_named_error_case, is_named_field, is_named_flags, is_named_member, is_named_struct, is_named_type, is_named_type_item, is_quotable}
+use Rattle.rust_tree.specs.WellNamed.{are_path_names, is_absent_or, is_line, is_named_alias, is_named_case, is_named_enum, is_named_error, is_named_error_case, is_named_field, is_named_flags, is_named_member, is_named_struct, is_named_type, is_named_type_item, is_named_variant, is_named_variant_case, is_quotable}
 use Rattle.type_facts.specs.declared.info.TypeInfo.{TypeInfo}
 use Rattle.type_defs.specs.declared.type_opts.TypeOpts.{TypeOpts}
 use Rattle.type_defs.specs.Paths.{bitflags_path, bitflags_rest, local_path, runtime_crate}
@@ -43,11 +45,12 @@ use Rattle.type_defs.specs.Docs.{doc_lines}
 use Rattle.type_defs.specs.ListedTypes.{listed_types}
 use Rattle.type_defs.specs.Modes.{is_wanted}
 use Rattle.type_defs.specs.WitForm.{is_wit_form}
-use Rattle.type_defs.specs.PartType.{part_type}
+use Rattle.type_defs.specs.PartType.{part_type, result_type}
+use Rattle.type_defs.specs.VariantDef.{variant_case, variant_item}
 use Rattle.type_defs.proofs.DefinedLemmas.{definitions-owned, own_definitions}
 use Rattle.type_defs.proofs.FunctionTypeLemmas.{all-more}
 use Rattle.type_defs.proofs.NamedTextLemmas.{docs-named, wit-quotable}
-use Rattle.type_defs.proofs.PartNameLemmas.{alias-part, all_from, field-part, part-named, tuple-members, tuple-named, tuple-part}
+use Rattle.type_defs.proofs.PartNameLemmas.{alias-part, all_from, case-part, err-part, field-part, ok-part, option-named, option-part, part-named, result-named, tuple-members, tuple-named, tuple-part}
 
 -- names
 
@@ -152,6 +155,23 @@ module _ (r : Resolve) (checked : IsWellFormed r) (id : TypeId) (named : IsNamed
           (and_from (list_all is_line (doc_lines entry.docs) && derived && is_ident name) (list_all is_named_field (map (field_item r.types) fields))
           (and_from (list_all is_line (doc_lines entry.docs) && derived) (is_ident name) (and_from (list_all is_line (doc_lines entry.docs)) derived docs (derives-named info)) ident) all) refl
 
+      payload-named : (cases : List Case) → entry.kind ≡ kind.Variant cases → (k : ℕ) (c : Case) → slice_get cases k ≡ Some c → (o : Option WitType) → c.ty ≡ o → is_absent_or is_named_type (option_map (part_type r.types) o) ≡ true
+      payload-named cases is k c at None none = refl
+      payload-named cases is k c at (Some ty) some = printed-named ty (on (kind.Variant cases) k ty is (case-part cases k c at ∙ ap Some some))
+
+      variant : (cases : List Case) → entry.kind ≡ kind.Variant cases → list_all is_named_type_item (item.Variant (variant_item r.types info entry.docs name cases) ∷ []) ≡ true
+      variant cases is =
+          let known : are_named_parts (kind.Variant cases) ≡ true = ap are_named_parts (sym is) ∙ named.parts entry e in
+          let one : (k : ℕ) (c : Case) → slice_get cases k ≡ Some c → is_named_variant_case (variant_case r.types c) ≡ true =
+          λ k c at. and_from (list_all is_line (doc_lines c.docs) && is_ident c.name.camel) (is_absent_or is_named_type (option_map (part_type r.types) c.ty))
+          (and_from (list_all is_line (doc_lines c.docs)) (is_ident c.name.camel) (docs-named c.docs) (all_at (λ c. is_ident c.name.camel) cases k c known at)) (payload-named cases is k c at c.ty refl) in
+          let all : list_all is_named_variant_case (map (variant_case r.types) cases) ≡ true =
+          list_all-map is_named_variant_case (variant_case r.types) cases ∙ all_from (λ c. is_named_variant_case (variant_case r.types c)) cases one in
+          let derived : Bool = list_all (λ path. are_path_names path.names) (derives_of info) in
+          and_from (is_named_variant (variant_item r.types info entry.docs name cases)) true
+          (and_from (list_all is_line (doc_lines entry.docs) && derived && is_ident name) (list_all is_named_variant_case (map (variant_case r.types) cases))
+          (and_from (list_all is_line (doc_lines entry.docs) && derived) (is_ident name) (and_from (list_all is_line (doc_lines entry.docs)) derived docs (derives-named info)) ident) all) refl
+
       go : (k : TypeDefKind) → entry.kind ≡ k → list_all is_named_type_item (kind_items r.types info entry.docs name k) ≡ true
       go (kind.Record fields) is = struct fields is
       go (kind.Alias ty) is = alias (part_type r.types ty) (printed-named ty (on (kind.Alias ty) 0 ty is (alias-part ty)))
@@ -159,6 +179,13 @@ module _ (r : Resolve) (checked : IsWellFormed r) (id : TypeId) (named : IsNamed
           alias (type.Tuple (map (part_type r.types) ms))
           (tuple-named (part_type r.types) ms (tuple-members ms (subst (λ k. has_members k ≡ true) is (has_members_at r id.0 entry checked.unbroken e)))
           (λ k ty at. printed-named ty (on (kind.Tuple ms) k ty is (tuple-part ms k ty at))))
+      go (kind.Option ty) is = alias (type.Optional (part_type r.types ty)) (option-named (part_type r.types ty) (printed-named ty (on (kind.Option ty) 0 ty is (option-part ty))))
+      go (kind.Result ok err) is =
+          alias (result_type (part_type r.types) ok err)
+          (result-named (part_type r.types) ok err
+          (λ ty at. printed-named ty (on (kind.Result (Some ty) err) 0 ty (is ∙ ap (λ o. kind.Result o err) at) (ok-part ty err)))
+          (λ ty at. printed-named ty (on (kind.Result ok (Some ty)) 1 ty (is ∙ ap (λ o. kind.Result ok o) at) (err-part ok ty))))
+      go (kind.Variant cases) is = variant cases is
       go (kind.Enum cases) is = and_from (is_named_enum (enum_item info entry.docs name cases)) true (enum-named info entry.docs name cases ident (ap are_named_parts (sym is) ∙ named.parts entry e)) refl
       go (kind.Flags members) is = and_from (is_named_flags (flags_item entry.docs name members)) true (flags-named entry.docs name members ident (ap are_named_parts (sym is) ∙ named.parts entry e)) refl
       go _ is = refl

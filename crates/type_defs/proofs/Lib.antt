@@ -11,8 +11,10 @@ pub mod ParamInstances
 pub mod ParamLemmas
 pub mod PartLemmas
 pub mod PartNameLemmas
+pub mod PassingLemmas
 pub mod PrintedLemmas
 pub mod UsedLemmas
 pub mod UsedNameLemmas
 pub mod UsedTypeLemmas
+mod VariantInstances
 pub mod ZipLemmas

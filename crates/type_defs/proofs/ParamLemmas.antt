@@ -1,9 +1,8 @@
 -- What is asked of a type when it is printed as a parameter.
-use Rattle.std.proofs.Common.{◌≡◌, ℕ, zero, suc, ◌-◌, ◌∙◌, ◌<◌, ◌≤◌, length, Bool, true, false, Option, None, Some, List, [], ◌∷◌, refl, sym, ap, arith}
+use Rattle.std.proofs.Common.{◌≡◌, ℕ, zero, suc, ◌-◌, ◌∙◌, ◌<◌, ◌≤◌, length, Bool, true, false, ◌&&◌, Option, Some, List, [], ◌∷◌, refl, sym, ap, arith}
 use Rattle.std.specs.Prelude.{slice_get}
 use Rattle.std.specs.List.{list_all}
 use Rattle.std.proofs.lemmas.Bool.{and_from, and_parts}
-use Rattle.std.proofs.lemmas.Grind.{common_steps}
 use Rattle.std.proofs.lemmas.List.Folds.{list_all-map}
 use Rattle.std.proofs.lemmas.Option.{slice_get_within}
 use Rattle.wit_model.specs.declared.name.TypeId.{TypeId}
@@ -15,7 +14,7 @@ use Rattle.wit_model.specs.declared.types.WitType.{WitType}
 use Rattle.wit_model.specs.declared.types.WitType.TheVariants as wit
 use Rattle.wit_model.specs.Parts.{parts}
 use Rattle.wit_model.specs.TypeOrder.{GoesDown, parts_below, payload_below, type_below}
-use Rattle.wit_model.proofs.BelowLemmas.{id_below, type_below_more, payload_below_more}
+use Rattle.wit_model.proofs.BelowLemmas.{payload_below_more}
 use Rattle.rust_tree.specs.declared.type_expr.TypeExpr.TheVariants as type
 use Rattle.type_facts.specs.declared.info.TypeInfo.{TypeInfo}
 use Rattle.type_facts.specs.Facts.{IsInfoOf}
@@ -78,3 +77,17 @@ target-below bound ty h = (and_parts (type_below bound ty) true h).0
 pub members-below : (bound : ℕ) (members : List WitType) → parts_below bound (kind.Tuple members) ≡ true → list_all (type_below bound) members ≡ true
 unfolding parts_below payload_below parts
 members-below bound members h = sym (list_all-map (λ p. payload_below bound p) (λ ty. Some ty) members) ∙ h
+
+pub option-below : (bound : ℕ) (ty : WitType) → parts_below bound (kind.Option ty) ≡ true → type_below bound ty ≡ true
+unfolding parts_below payload_below parts
+option-below bound ty h = (and_parts (type_below bound ty) true h).0
+
+pub result-below : (bound : ℕ) (ok err : Option WitType) → parts_below bound (kind.Result ok err) ≡ true → (payload_below bound ok ≡ true) × (payload_below bound err ≡ true)
+unfolding parts_below parts
+result-below bound ok err h =
+    let both = and_parts (payload_below bound ok) (payload_below bound err && true) h in
+    (both.0, (and_parts (payload_below bound err) true both.1).0)
+
+pub some-below : (bound : ℕ) (ty : WitType) → payload_below bound (Some ty) ≡ true → type_below bound ty ≡ true
+unfolding payload_below
+some-below bound ty h = h

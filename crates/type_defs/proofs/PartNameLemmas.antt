@@ -11,6 +11,7 @@ use Rattle.wit_model.specs.Bytes.{Bytes}
 use Rattle.wit_model.specs.declared.name.Name.{Name}
 use Rattle.wit_model.specs.declared.name.TypeId.{TypeId}
 use Rattle.wit_model.specs.declared.resolve.Resolve.{Resolve}
+use Rattle.wit_model.specs.declared.types.Case.{Case}
 use Rattle.wit_model.specs.declared.types.Field.{Field}
 use Rattle.wit_model.specs.declared.types.TypeDef.{TypeDef}
 use Rattle.wit_model.specs.declared.types.TypeDefKind.{TypeDefKind}
@@ -27,10 +28,10 @@ use Rattle.rust_tree.specs.declared.type_expr.TypeExpr.{TypeExpr}
 use Rattle.rust_tree.specs.declared.type_expr.TypeExpr.TheVariants as type
 use Rattle.rust_tree.specs.Ident.{is_ident, is_primitive_name, is_type_name, type_ident}
 use Rattle.rust_tree.specs.WellNamed.{are_path_names, is_named_type, is_nonempty}
-use Rattle.rust_tree.proofs.NamedTypeLemmas.{is_named-lent, is_named-path, is_named-str, is_named-tuple, is_named-unit}
+use Rattle.rust_tree.proofs.NamedTypeLemmas.{is_named-lent, is_named-option, is_named-path, is_named-result, is_named-str, is_named-tuple, is_named-unit}
 use Rattle.type_defs.specs.NamedParts.{HasNamedParts}
 use Rattle.type_defs.specs.ParamType.{has_list, is_text, lent_by, lent_entry, lent_found, lent_type, lent_unnamed, lent_within, param_type, text_or}
-use Rattle.type_defs.specs.PartType.{entry_type, found_type, levels_of, part_type, type_within, unnamed_type}
+use Rattle.type_defs.specs.PartType.{entry_type, found_type, levels_of, part_type, payload_type, result_type, type_within, unnamed_type}
 use Rattle.type_defs.specs.Paths.{local_path}
 use Rattle.type_defs.specs.Printed.{printed_type}
 use Rattle.type_defs.proofs.NamedTextLemmas.{local_path-named}
@@ -60,6 +61,22 @@ pub alias-part : (ty : WitType) → slice_get (parts (kind.Alias ty)) 0 ≡ Some
 unfolding parts
 alias-part ty = refl
 
+pub option-part : (ty : WitType) → slice_get (parts (kind.Option ty)) 0 ≡ Some (Some ty)
+unfolding parts
+option-part ty = refl
+
+pub ok-part : (ty : WitType) (err : Option WitType) → slice_get (parts (kind.Result (Some ty) err)) 0 ≡ Some (Some ty)
+unfolding parts
+ok-part ty err = refl
+
+pub err-part : (ok : Option WitType) (ty : WitType) → slice_get (parts (kind.Result ok (Some ty))) 1 ≡ Some (Some ty)
+unfolding parts
+err-part ok ty = refl
+
+pub case-part : (cases : List Case) (k : ℕ) (c : Case) → slice_get cases k ≡ Some c → slice_get (parts (kind.Variant cases)) k ≡ Some c.ty
+unfolding parts
+case-part cases k c e = slice_get-map (λ c. c.ty) cases k ∙ ap (option_map (λ c. c.ty)) e
+
 pub tuple-members : (members : List WitType) → has_members (kind.Tuple members) ≡ true → has_one members ≡ true
 unfolding has_members
 tuple-members members h = h
@@ -77,6 +94,20 @@ tuple-named printed members some each =
     is_named-tuple (map printed members)
     ∙ and_from (is_nonempty (map printed members)) (list_all is_named_type (map printed members)) (nonempty-map printed members some)
     (list_all-map is_named_type printed members ∙ all_from (λ ty. is_named_type (printed ty)) members each)
+
+pub option-named : (ty : TypeExpr) → is_named_type ty ≡ true → is_named_type (type.Optional ty) ≡ true
+option-named ty h = is_named-option ty ∙ h
+
+-- a payload that is printed, if there is one
+pub payload-named : (printed : WitType → TypeExpr) (payload : Option WitType) → ((ty : WitType) → payload ≡ Some ty → is_named_type (printed ty) ≡ true) → is_named_type (payload_type printed payload) ≡ true
+payload-named printed None h = is_named-unit
+payload-named printed (Some ty) h = h ty refl
+
+pub result-named : (printed : WitType → TypeExpr) (ok err : Option WitType) → ((ty : WitType) → ok ≡ Some ty → is_named_type (printed ty) ≡ true) → ((ty : WitType) → err ≡ Some ty → is_named_type (printed ty) ≡ true)
+    → is_named_type (result_type printed ok err) ≡ true
+result-named printed ok err first second =
+    is_named-result (payload_type printed ok) (payload_type printed err)
+    ∙ and_from (is_named_type (payload_type printed ok)) (is_named_type (payload_type printed err)) (payload-named printed ok first) (payload-named printed err second)
 
 -- the types that one type reaches
 
@@ -101,12 +132,23 @@ module _ (r : Resolve) (checked : IsWellFormed r) (root : WitType) (named : HasN
         tuple-named printed ms (tuple-members ms (subst (λ k. has_members k ≡ true) is (has_members_at r part.0 entry checked.unbroken e)))
         (λ k ty at. below ty (on (kind.Tuple ms) k ty is (tuple-part ms k ty at)))
 
+    payload : (ty : WitType) → entry.kind ≡ kind.Option ty → Reached ty
+    payload ty is = on (kind.Option ty) 0 ty is (option-part ty)
+
+    results-named : (printed : WitType → TypeExpr) → AllNamed printed → (ok err : Option WitType) → entry.kind ≡ kind.Result ok err → is_named_type (result_type printed ok err) ≡ true
+    results-named printed below ok err is =
+        result-named printed ok err
+        (λ ty at. below ty (on (kind.Result (Some ty) err) 0 ty (is ∙ ap (λ o. kind.Result o err) at) (ok-part ty err)))
+        (λ ty at. below ty (on (kind.Result ok (Some ty)) 1 ty (is ∙ ap (λ o. kind.Result ok o) at) (err-part ok ty)))
+
     entry-named : (printed : WitType → TypeExpr) → AllNamed printed → is_named_type (entry_type printed entry.kind entry.name) ≡ true
     entry-named printed below = by_name entry.name refl
       where
         unnamed : (k : TypeDefKind) → entry.kind ≡ k → is_named_type (unnamed_type printed k) ≡ true
         unnamed (kind.Alias ty) is = below ty (target ty is)
         unnamed (kind.Tuple ms) is = members-named printed below ms is
+        unnamed (kind.Option ty) is = option-named (printed ty) (below ty (payload ty is))
+        unnamed (kind.Result ok err) is = results-named printed below ok err is
         unnamed _ is = is_named-unit
 
         by_name : (o : Option Name) → entry.name ≡ o → is_named_type (entry_type printed entry.kind o) ≡ true
@@ -119,6 +161,8 @@ module _ (r : Resolve) (checked : IsWellFormed r) (root : WitType) (named : HasN
         unnamed : (k : TypeDefKind) → entry.kind ≡ k → is_named_type (lent_unnamed r.types lent k) ≡ true
         unnamed (kind.Alias ty) is = cond_both (has_list r.types ty) (lent ty) (part_type r.types ty) (λ p. is_named_type p ≡ true) (λ _. below ty (target ty is)) (λ _. owned ty (target ty is))
         unnamed (kind.Tuple ms) is = members-named lent below ms is
+        unnamed (kind.Option ty) is = option-named (lent ty) (below ty (payload ty is))
+        unnamed (kind.Result ok err) is = results-named lent below ok err is
         unnamed _ is = is_named-unit
 
         by_name : (o : Option Name) → entry.name ≡ o → is_named_type (lent_entry r.types lent entry.kind o) ≡ true

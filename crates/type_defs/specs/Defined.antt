@@ -1,5 +1,5 @@
 -- The definitions of a world's types, each from its entry in the table, its facts and the options. So far these are aliases,
--- records, tuples, enums and flags types, in the owned mode.
+-- records, tuples, options, results, variants, enums and flags types, in the owned mode.
 use Rattle.std.specs.Prelude.{◌≡◌, Bool, true, false, nat_le, List, [], ◌∷◌, length, Option, None, Some, map, slice_get}
 use Rattle.std.specs.List.{AllZip, flat_map, list_all}
 use Rattle.wit_model.specs.declared.name.Docs.{Docs}
@@ -30,9 +30,11 @@ use Rattle.type_defs.specs.Derives.{derives_of, is_copied}
 use Rattle.type_defs.specs.Docs.{doc_lines}
 use Rattle.type_defs.specs.EnumDef.{enum_item}
 use Rattle.type_defs.specs.FlagsDef.{flags_item}
+use Rattle.type_defs.specs.FunctionTypes.{passes_or_none}
 use Rattle.type_defs.specs.ListedTypes.{listed_types}
 use Rattle.type_defs.specs.Modes.{Mode, definitions, is_same_mode, owned_mode}
-use Rattle.type_defs.specs.PartType.{part_type}
+use Rattle.type_defs.specs.PartType.{part_type, result_type}
+use Rattle.type_defs.specs.VariantDef.{variant_item}
 use Rattle.wit_model.specs.Bytes.{Bytes}
 
 -- by kind
@@ -51,6 +53,9 @@ abbrev pub kind_items : List TypeDef → TypeInfo → Docs → Bytes → TypeDef
 kind_items types info docs name (kind.Record fields) = item.Struct (record_item types info docs name fields) ∷ []
 kind_items types info docs name (kind.Alias ty) = item.Alias (alias_item docs name (part_type types ty)) ∷ []
 kind_items types info docs name (kind.Tuple parts) = item.Alias (alias_item docs name (type.Tuple (map (part_type types) parts))) ∷ []
+kind_items types info docs name (kind.Option ty) = item.Alias (alias_item docs name (type.Optional (part_type types ty))) ∷ []
+kind_items types info docs name (kind.Result ok err) = item.Alias (alias_item docs name (result_type (part_type types) ok err)) ∷ []
+kind_items types info docs name (kind.Variant cases) = item.Variant (variant_item types info docs name cases) ∷ []
 kind_items types info docs name (kind.Enum cases) = item.Enum (enum_item info docs name cases) ∷ []
 kind_items types info docs name (kind.Flags members) = item.Flags (flags_item docs name members) ∷ []
 kind_items types info docs name _ = []
@@ -88,6 +93,9 @@ abbrev pub is_defined_kind : TypeDefKind → Bool
 is_defined_kind (kind.Alias _) = true
 is_defined_kind (kind.Record _) = true
 is_defined_kind (kind.Tuple _) = true
+is_defined_kind (kind.Option _) = true
+is_defined_kind (kind.Result _ _) = true
+is_defined_kind (kind.Variant _) = true
 is_defined_kind (kind.Enum _) = true
 is_defined_kind (kind.Flags members) = nat_le (length members) 128
 is_defined_kind _ = false
@@ -101,8 +109,7 @@ is_defined_type ErrorContext = false
 is_defined_type _ = true
 
 abbrev pub is_defined_part : Option WitType → Bool
-is_defined_part None = true
-is_defined_part (Some ty) = is_defined_type ty
+is_defined_part part = passes_or_none is_defined_type part
 
 abbrev pub have_defined_parts : List TypeDef → Bool
 have_defined_parts types = list_all (λ entry. list_all is_defined_part (parts entry.kind)) types

@@ -25,9 +25,10 @@ use Rattle.type_defs.specs.PrintedTypes.{field_names, member_names, type_name}
 use Rattle.type_defs.specs.Used.{Covers, defined_types, function_types}
 use Rattle.type_defs.specs.WitForm.{is_wit_form}
 
--- the fields of a record, the cases of an enum, the members of a flags type
+-- the fields of a record, the cases of a variant or an enum, the members of a flags type
 abbrev pub are_named_parts : TypeDefKind → Bool
 are_named_parts (kind.Record fields) = list_all (λ f. is_ident (rust_ident f.name) && is_wit_form f.name.wit) fields
+are_named_parts (kind.Variant cases) = list_all (λ c. is_ident c.name.camel) cases
 are_named_parts (kind.Enum cases) = list_all (λ c. is_ident c.name.camel && is_wit_form c.name.wit) cases
 are_named_parts (kind.Flags members) = list_all (λ m. is_ident m.name.upper) members
 are_named_parts _ = true

@@ -15,10 +15,12 @@ pub mod Nodes
 pub mod OwnershipText
 pub mod ParamType
 pub mod PartType
+pub mod Passing
 pub mod Paths
 pub mod Printed
 pub mod PrintedTypes
 pub mod TypeNames
 pub mod Unfolded
 pub mod Used
+pub mod VariantDef
 pub mod WitForm

@@ -17,7 +17,7 @@ use Rattle.type_facts.specs.Facts.{IsAnalyzed}
 use Rattle.type_facts.specs.Own.{is_string, own}
 use Rattle.type_defs.specs.Finds.{finds}
 use Rattle.type_defs.specs.Levels.{are_shallow}
-use Rattle.type_defs.specs.PartType.{levels_of, part_type}
+use Rattle.type_defs.specs.PartType.{levels_of, part_type, result_type}
 use Rattle.type_defs.specs.Paths.{local_path}
 use Rattle.type_defs.specs.Printed.{printed_type}
 
@@ -43,10 +43,12 @@ is_text types ty = is_string ty
 abbrev pub param_by : List TypeDef → (WitType → TypeExpr) → WitType → TypeExpr
 param_by types lent ty = if has_list types ty then lent ty else part_type types ty
 
--- an unnamed tuple is lent part by part; what an unnamed alias stands for is printed as a parameter would be
+-- an unnamed tuple, option or result is lent part by part; what an unnamed alias stands for is printed as a parameter would be
 abbrev pub lent_unnamed : List TypeDef → (WitType → TypeExpr) → TypeDefKind → TypeExpr
 lent_unnamed types lent (kind.Alias ty) = param_by types lent ty
 lent_unnamed types lent (kind.Tuple parts) = type.Tuple (map lent parts)
+lent_unnamed types lent (kind.Option ty) = type.Optional (lent ty)
+lent_unnamed types lent (kind.Result ok err) = result_type lent ok err
 lent_unnamed types lent _ = type.Unit
 
 -- a named type is lent whole, whatever it reaches

@@ -12,10 +12,21 @@ use Rattle.rust_tree.specs.Ident.{type_ident}
 use Rattle.type_defs.specs.Paths.{local_path}
 use Rattle.type_defs.specs.Printed.{printed_type}
 
+-- a payload; one that is left out is printed as `()`
+abbrev pub payload_type : (WitType → TypeExpr) → Option WitType → TypeExpr
+payload_type printed None = type.Unit
+payload_type printed (Some ty) = printed ty
+
+-- `::core::result::Result<T, E>`, of its payloads
+abbrev pub result_type : (WitType → TypeExpr) → (ok err : Option WitType) → TypeExpr
+result_type printed ok err = type.Result (payload_type printed ok) (payload_type printed err)
+
 -- an unnamed type is printed by its kind; other kinds have no unnamed types so far
 abbrev pub unnamed_type : (WitType → TypeExpr) → TypeDefKind → TypeExpr
 unnamed_type printed (kind.Alias ty) = printed ty
 unnamed_type printed (kind.Tuple parts) = type.Tuple (map printed parts)
+unnamed_type printed (kind.Option ty) = type.Optional (printed ty)
+unnamed_type printed (kind.Result ok err) = result_type printed ok err
 unnamed_type printed _ = type.Unit
 
 -- a named type is printed by its path from the module that holds the definition; so far that is the root, for all
@@ -43,5 +54,4 @@ part_type types ty = type_within types (levels_of ty) ty
 
 -- of a function's result; without one it answers `()`
 abbrev pub printed_result : List TypeDef → Option WitType → TypeExpr
-printed_result types None = type.Unit
-printed_result types (Some ty) = part_type types ty
+printed_result types answer = payload_type (part_type types) answer

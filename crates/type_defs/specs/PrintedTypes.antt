@@ -28,8 +28,9 @@ abbrev pub field_names : TypeDefKind → List Bytes
 field_names (kind.Record fields) = map (λ f. rust_ident f.name) fields
 field_names _ = []
 
--- the cases of an enum, and the members of a flags type
+-- the cases of a variant or an enum, and the members of a flags type
 abbrev pub member_names : TypeDefKind → List Bytes
+member_names (kind.Variant cases) = map (λ c. c.name.camel) cases
 member_names (kind.Enum cases) = map (λ c. c.name.camel) cases
 member_names (kind.Flags members) = map (λ m. m.name.upper) members
 member_names _ = []

@@ -4,10 +4,13 @@ mod alias;
 mod derives;
 mod enums;
 mod flags;
+mod options;
 mod param;
 mod part;
 mod record;
+mod results;
 mod tuple;
+mod variants;
 
 ghost use Rattle.std.specs.Prelude.{◌≡◌, ◌++◌, ◌<◌, true, false, length, List, IfOk, OnOk};
 ghost use Rattle.type_facts.specs.Facts.{IsAnalysis};
@@ -21,10 +24,13 @@ use crate::define::enums::enum_item;
 pub use crate::define::enums::enum_repr;
 use crate::define::flags::flags_item;
 pub use crate::define::flags::flags_repr;
+use crate::define::options::option_item;
 pub use crate::define::param::param_type;
 pub use crate::define::part::part_type;
 use crate::define::record::record_item;
+use crate::define::results::result_item;
 use crate::define::tuple::tuple_item;
+use crate::define::variants::variant_item;
 use crate::listed_types::types_in;
 use crate::type_opts::TypeOpts;
 use rust_tree::TypeItem;
@@ -55,6 +61,16 @@ fn push_kind(
         )?,
         TypeDefKind::Alias(ty) => alias_item(alloc, types, entry, name, *ty)?,
         TypeDefKind::Tuple(parts) => tuple_item(alloc, types, entry, name, parts.as_slice())?,
+        TypeDefKind::Option(ty) => option_item(alloc, types, entry, name, *ty)?,
+        TypeDefKind::Result(ok, err) => result_item(alloc, types, entry, name, *ok, *err)?,
+        TypeDefKind::Variant(cases) => variant_item(
+            alloc,
+            types,
+            info,
+            entry,
+            name,
+            cases.as_slice(),
+        )?,
         TypeDefKind::Enum(cases) => enum_item(alloc, info, entry, name, cases.as_slice())?,
         TypeDefKind::Flags(members) => flags_item(alloc, entry, name, members.as_slice())?,
         _ => return Ok(()),

@@ -23,7 +23,7 @@ use Rattle.rust_tree.specs.declared.item.Item.{Item}
 use Rattle.rust_tree.specs.declared.item.Item.TheVariants as item
 use Rattle.rust_tree.specs.declared.type_expr.TypeExpr.TheVariants as type
 use Rattle.rust_tree.specs.declared.type_item.TypeItem.{TypeItem}
-use Rattle.rust_tree.specs.declared.type_item.TypeItem.TheVariants.{Alias, Enum, Flags, Struct}
+use Rattle.rust_tree.specs.declared.type_item.TypeItem.TheVariants.{Alias, Enum, Flags, Struct, Variant}
 use Rattle.rust_tree.specs.Ident.{type_ident}
 use Rattle.type_facts.specs.declared.info.TypeInfo.{TypeInfo}
 use Rattle.type_defs.specs.declared.type_opts.TypeOpts.{TypeOpts}
@@ -34,9 +34,10 @@ use Rattle.type_defs.specs.FlagsDef.{flags_item}
 use Rattle.type_defs.specs.Listing.{lists}
 use Rattle.type_defs.specs.ListedTypes.{listed_types}
 use Rattle.type_defs.specs.Modes.{is_always_defined, is_wanted}
-use Rattle.type_defs.specs.PartType.{part_type}
+use Rattle.type_defs.specs.PartType.{part_type, result_type}
 use Rattle.type_defs.specs.PrintedTypes.{entry_at, entry_or_none, name_or_none, type_name}
 use Rattle.type_defs.specs.Used.{is_always_entry, is_wanted_at, uses}
+use Rattle.type_defs.specs.VariantDef.{variant_item}
 use Rattle.type_defs.proofs.DefinedLemmas.{entry-items}
 use Rattle.type_defs.proofs.UsedLemmas.{used_is}
 use Rattle.wrapper_values.specs.Fields.{type_name as item_name, type_named}
@@ -110,6 +111,9 @@ one-item : (types : List TypeDef) (info : TypeInfo) (docs : Docs) (name : Bytes)
 one-item types info docs name (kind.Alias ty) h = (Alias (alias_item docs name (part_type types ty)), refl, refl)
 one-item types info docs name (kind.Record fields) h = (Struct (record_item types info docs name fields), refl, refl)
 one-item types info docs name (kind.Tuple parts) h = (Alias (alias_item docs name (type.Tuple (map (part_type types) parts))), refl, refl)
+one-item types info docs name (kind.Option ty) h = (Alias (alias_item docs name (type.Optional (part_type types ty))), refl, refl)
+one-item types info docs name (kind.Result ok err) h = (Alias (alias_item docs name (result_type (part_type types) ok err)), refl, refl)
+one-item types info docs name (kind.Variant cases) h = (Variant (variant_item types info docs name cases), refl, refl)
 one-item types info docs name (kind.Enum cases) h = (Enum (enum_item info docs name cases), refl, refl)
 one-item types info docs name (kind.Flags members) h = (Flags (flags_item docs name members), refl, refl)
 one-item types info docs name _ h = absurd (cc)

@@ -1,5 +1,5 @@
 -- How a type is printed does not depend on the levels that are left, where these reach.
-use Rattle.std.proofs.Common.{◌≡◌, ℕ, zero, suc, ◌<◌, ◌≤◌, true, List, [], ◌∷◌, map, Option, None, Some, refl, sym, ap, ap₂, ◌∙◌, arith}
+use Rattle.std.proofs.Common.{◌≡◌, ℕ, zero, suc, ◌<◌, true, List, [], ◌∷◌, map, Option, None, Some, refl, sym, ap, ap₂, ◌∙◌, arith}
 use Rattle.std.specs.Prelude.{slice_get}
 use Rattle.std.specs.List.{list_all}
 use Rattle.std.proofs.lemmas.Bool.{and_parts, lt-ltb}
@@ -15,7 +15,8 @@ use Rattle.wit_model.specs.TypeOrder.{GoesDown, parts_below, payload_below, type
 use Rattle.wit_model.proofs.BelowLemmas.{id_below, type_below_more}
 use Rattle.rust_tree.specs.declared.type_expr.TypeExpr.{TypeExpr}
 use Rattle.rust_tree.specs.declared.type_expr.TypeExpr.TheVariants as type
-use Rattle.type_defs.specs.PartType.{entry_type, found_type, levels_of, part_type, type_within}
+use Rattle.type_defs.specs.PartType.{entry_type, found_type, levels_of, part_type, payload_type, type_within}
+use Rattle.type_defs.proofs.ParamLemmas.{result-below}
 
 pub below-itself : (ty : WitType) → type_below (levels_of ty) ty ≡ true
 unfolding type_below
@@ -31,11 +32,20 @@ module _ (bound : ℕ) (p q : WitType → TypeExpr) (same : (ty : WitType) → t
       let both = and_parts (type_below bound ty) (list_all (λ part. payload_below bound part) (map (λ ty. Some ty) tys)) h in
       ap₂ (λ e es. e ∷ es) (same ty both.0) (parts-alike tys both.1)
 
+  payload-alike : (payload : Option WitType) → payload_below bound payload ≡ true → payload_type p payload ≡ payload_type q payload
+  unfolding payload_below
+  payload-alike None h = refl
+  payload-alike (Some ty) h = same ty h
+
   entry-alike : (k : TypeDefKind) (name : Option Name) → parts_below bound k ≡ true → entry_type p k name ≡ entry_type q k name
   unfolding parts_below parts payload_below
   entry-alike k (Some name) h = refl
   entry-alike (kind.Alias ty) None h = same ty (and_parts (type_below bound ty) true h).0
   entry-alike (kind.Tuple tys) None h = ap type.Tuple (parts-alike tys h)
+  entry-alike (kind.Option ty) None h = ap type.Optional (same ty (and_parts (type_below bound ty) true h).0)
+  entry-alike (kind.Result ok err) None h =
+      let both = result-below bound ok err h in
+      ap₂ type.Result (payload-alike ok both.0) (payload-alike err both.1)
   entry-alike _ None h = refl
 
 pub within-same : (types : List TypeDef) → GoesDown types → (n m : ℕ) (ty : WitType) → type_below n ty ≡ true → type_below m ty ≡ true → type_within types n ty ≡ type_within types m ty

@@ -35,6 +35,7 @@ use Rattle.type_defs.specs.Defined.{alias_item, are_defined_kinds, field_item, h
 use Rattle.type_defs.specs.EnumDef.{enum_case, enum_item}
 use Rattle.type_defs.specs.FlagsDef.{flags_item, flags_member, flags_repr}
 use Rattle.type_defs.specs.PartType.{entry_type, part_type}
+use Rattle.type_defs.specs.Passing.{is_unpassed_kind}
 use Rattle.type_defs.specs.Paths.{local_path}
 use Rattle.type_defs.specs.TypeNames.{are_type_names, needs_name}
 use Rattle.wrapper_meaning.specs.Numbers.{flags_width}
@@ -108,6 +109,10 @@ mapped-fields [] nth ty e = absurd (cc)
 mapped-fields (f ∷ members) zero ty e = let is : f.ty ≡ ty = cc in ap (λ ty. Some (Some ty)) is
 mapped-fields (f ∷ members) (suc nth) ty e = mapped-fields members nth ty e
 
+-- each entry that a type reaches is of a kind that is passed
+abbrev pub AreReachedPassed : List TypeDef → WitType → Type 0
+AreReachedPassed types ty = (part : TypeId) (entry : TypeDef) → Reaches types ty (wit.Id part) → slice_get types part.0 ≡ Some entry → is_unpassed_kind entry.kind ≡ false
+
 -- a flags type is held by as many bits as its values have
 flags-held : (n : ℕ) → repr_bits (flags_repr n) ≡ flags_width n
 flags-held n = go (nat_le n 8) (nat_le n 16) (nat_le n 32) (nat_le n 64)
@@ -174,8 +179,8 @@ module _ (types : List TypeDef) (items : List Item) (count : ℕ → ℕ) where
     abbrev pub AreReachedDefined : WitType → Type 0
     AreReachedDefined ty = (part : TypeId) (entry : TypeDef) (name : Name) → Reaches types ty (wit.Id part) → slice_get types part.0 ≡ Some entry → entry.name ≡ Some name → IsDefinedIn types items count part.0 entry (type_ident name)
 
-    module _ (id : TypeId) (entry : TypeDef) (at : slice_get types id.0 ≡ Some entry) (all : AreReachedDefined (wit.Id id))
-        (further : (ty : WitType) → type_below id.0 ty ≡ true → is_defined_type ty ≡ true → AreReachedDefined ty → Ends ty) where
+    module _ (id : TypeId) (entry : TypeDef) (at : slice_get types id.0 ≡ Some entry) (all : AreReachedDefined (wit.Id id)) (passed : AreReachedPassed types (wit.Id id))
+        (further : (ty : WitType) → type_below id.0 ty ≡ true → is_defined_type ty ≡ true → AreReachedDefined ty → AreReachedPassed types ty → Ends ty) where
       -- of each part of its kind
       part-ends : (nth : ℕ) (ty : WitType) → slice_get (parts entry.kind) nth ≡ Some (Some ty) → Ends ty
       unfolding parts_below payload_below
@@ -184,7 +189,7 @@ module _ (types : List TypeDef) (items : List Item) (count : ℕ → ℕ) where
           let below : payload_below id.0 (Some ty) ≡ true = all_at (λ part. payload_below id.0 part) (parts entry.kind) nth (Some ty) (down id.0 entry at) part in
           let defined : is_defined_part (Some ty) ≡ true =
           all_at is_defined_part (parts entry.kind) nth (Some ty) (all_at (λ (entry : TypeDef). list_all is_defined_part (parts entry.kind)) types id.0 entry sound at) part in
-          further ty below defined (λ part entry name reaches at named. all part entry name (reaches_by names reaches) at named)
+          further ty below defined (λ part entry name reaches at named. all part entry name (reaches_by names reaches) at named) (λ part entry reaches at. passed part entry (reaches_by names reaches) at)
 
       -- a tuple, under its own name or none
       tuple-printed : (tys : List WitType) → entry.kind ≡ kind.Tuple tys → ArePrintedAs items (shapes_of types tys) (map (part_type types) tys)
@@ -320,45 +325,48 @@ module _ (types : List TypeDef) (items : List Item) (count : ℕ → ℕ) where
 
       -- by its kind, with a name or without
       entry-ends : Ends (wit.Id id)
-      entry-ends = go entry.kind entry.name refl refl (all_at (λ (t : TypeDef). is_defined_kind t.kind) types id.0 entry kinds at)
+      entry-ends = go entry.kind entry.name refl refl (all_at (λ (t : TypeDef). is_defined_kind t.kind) types id.0 entry kinds at) (passed id entry reaches_itself at)
         where
-          go : (k : TypeDefKind) (n : Option Name) → entry.kind ≡ k → entry.name ≡ n → is_defined_kind entry.kind ≡ true → Ends (wit.Id id)
-          go (kind.Alias ty) None e named h = unnamed-alias ty e named
-          go (kind.Tuple tys) None e named h = unnamed-tuple tys e named
-          go (kind.Record members) None e named h = absurd (unnamed-none (kind.Record members) refl e named)
-          go (kind.Enum members) None e named h = absurd (unnamed-none (kind.Enum members) refl e named)
-          go (kind.Flags members) None e named h = absurd (unnamed-none (kind.Flags members) refl e named)
-          go (kind.Alias ty) (Some name) e named h = named-alias name named ty e
-          go (kind.Tuple tys) (Some name) e named h = named-tuple name named tys e
-          go (kind.Record members) (Some name) e named h = named-record name named members e
-          go (kind.Enum members) (Some name) e named h = named-enum name named members e
-          go (kind.Flags members) (Some name) e named h = named-flags name named members e
-          go k n e named h = let wrong : is_defined_kind k ≡ true = sym (ap is_defined_kind e) ∙ h in absurd (cc)
+          go : (k : TypeDefKind) (n : Option Name) → entry.kind ≡ k → entry.name ≡ n → is_defined_kind entry.kind ≡ true → is_unpassed_kind entry.kind ≡ false → Ends (wit.Id id)
+          go (kind.Alias ty) None e named h p = unnamed-alias ty e named
+          go (kind.Tuple tys) None e named h p = unnamed-tuple tys e named
+          go (kind.Record members) None e named h p = absurd (unnamed-none (kind.Record members) refl e named)
+          go (kind.Enum members) None e named h p = absurd (unnamed-none (kind.Enum members) refl e named)
+          go (kind.Flags members) None e named h p = absurd (unnamed-none (kind.Flags members) refl e named)
+          go (kind.Alias ty) (Some name) e named h p = named-alias name named ty e
+          go (kind.Tuple tys) (Some name) e named h p = named-tuple name named tys e
+          go (kind.Record members) (Some name) e named h p = named-record name named members e
+          go (kind.Enum members) (Some name) e named h p = named-enum name named members e
+          go (kind.Flags members) (Some name) e named h p = named-flags name named members e
+          go k n e named h p =
+              let defined : is_defined_kind k ≡ true = sym (ap is_defined_kind e) ∙ h in
+              let passes : is_unpassed_kind k ≡ false = sym (ap is_unpassed_kind e) ∙ p in
+              absurd (cc)
 
     -- 4. Every type of the table
 
     -- up the table
-    ends-below : (n : ℕ) (ty : WitType) → n ≤ length types → type_below n ty ≡ true → is_defined_type ty ≡ true → AreReachedDefined ty → Ends ty
+    ends-below : (n : ℕ) (ty : WitType) → n ≤ length types → type_below n ty ≡ true → is_defined_type ty ≡ true → AreReachedDefined ty → AreReachedPassed types ty → Ends ty
     unfolding part_type
-    ends-below n wit.Bool within below h all = primitive wit.Bool prim.Bool refl refl
-    ends-below n wit.U8 within below h all = primitive wit.U8 prim.U8 refl refl
-    ends-below n wit.U16 within below h all = primitive wit.U16 prim.U16 refl refl
-    ends-below n wit.U32 within below h all = primitive wit.U32 prim.U32 refl refl
-    ends-below n wit.U64 within below h all = primitive wit.U64 prim.U64 refl refl
-    ends-below n wit.S8 within below h all = primitive wit.S8 prim.I8 refl refl
-    ends-below n wit.S16 within below h all = primitive wit.S16 prim.I16 refl refl
-    ends-below n wit.S32 within below h all = primitive wit.S32 prim.I32 refl refl
-    ends-below n wit.S64 within below h all = primitive wit.S64 prim.I64 refl refl
-    ends-below n wit.F32 within below h all = primitive wit.F32 prim.F32 refl refl
-    ends-below n wit.F64 within below h all = primitive wit.F64 prim.F64 refl refl
-    ends-below n wit.Char within below h all = primitive wit.Char prim.Char refl refl
-    ends-below n wit.String within below h all = string
-    ends-below n wit.ErrorContext within below h all = absurd (cc)
-    ends-below zero (wit.Id id) within below h all = let no : id.0 < 0 = id_below 0 id below in absurd (omega arith)
-    ends-below (suc n) (wit.Id id) within below h all =
+    ends-below n wit.Bool within below h all passed = primitive wit.Bool prim.Bool refl refl
+    ends-below n wit.U8 within below h all passed = primitive wit.U8 prim.U8 refl refl
+    ends-below n wit.U16 within below h all passed = primitive wit.U16 prim.U16 refl refl
+    ends-below n wit.U32 within below h all passed = primitive wit.U32 prim.U32 refl refl
+    ends-below n wit.U64 within below h all passed = primitive wit.U64 prim.U64 refl refl
+    ends-below n wit.S8 within below h all passed = primitive wit.S8 prim.I8 refl refl
+    ends-below n wit.S16 within below h all passed = primitive wit.S16 prim.I16 refl refl
+    ends-below n wit.S32 within below h all passed = primitive wit.S32 prim.I32 refl refl
+    ends-below n wit.S64 within below h all passed = primitive wit.S64 prim.I64 refl refl
+    ends-below n wit.F32 within below h all passed = primitive wit.F32 prim.F32 refl refl
+    ends-below n wit.F64 within below h all passed = primitive wit.F64 prim.F64 refl refl
+    ends-below n wit.Char within below h all passed = primitive wit.Char prim.Char refl refl
+    ends-below n wit.String within below h all passed = string
+    ends-below n wit.ErrorContext within below h all passed = absurd (cc)
+    ends-below zero (wit.Id id) within below h all passed = let no : id.0 < 0 = id_below 0 id below in absurd (omega arith)
+    ends-below (suc n) (wit.Id id) within below h all passed =
         let low = id_below (suc n) id below in
         let there = entry_at types id.0 (omega arith) in
-        entry-ends id there.0 there.1 all (λ ty part defined parts. ends-below n ty (omega arith) (type_below_more id.0 n ty (omega arith) part) defined parts)
+        entry-ends id there.0 there.1 all passed (λ ty part defined parts reached. ends-below n ty (omega arith) (type_below_more id.0 n ty (omega arith) part) defined parts reached)
 
-    pub type-printed : (ty : WitType) → type_below (length types) ty ≡ true → is_defined_type ty ≡ true → AreReachedDefined ty → IsPrintedAs items (shape_of types ty) (part_type types ty)
-    type-printed ty below h all = printed most ty (ends-below (length types) ty (omega arith) below h all)
+    pub type-printed : (ty : WitType) → type_below (length types) ty ≡ true → is_defined_type ty ≡ true → AreReachedDefined ty → AreReachedPassed types ty → IsPrintedAs items (shape_of types ty) (part_type types ty)
+    type-printed ty below h all passed = printed most ty (ends-below (length types) ty (omega arith) below h all passed)

@@ -3,7 +3,8 @@ use Rattle.std.proofs.Common.{◌≡◌, inr, ℕ, true, if◌then◌else◌, Li
 use Rattle.std.proofs.lemmas.Bool.{and_parts}
 use Rattle.rust_tree.specs.Ident.{rust_ident}
 use Rattle.rust_tree.specs.declared.expr.Expr.{Expr}
-use Rattle.rust_tree.specs.declared.stmt.Block.{Block as Code}
+use Rattle.rust_tree.specs.declared.stmt.Arm.{Arm}
+use Rattle.rust_tree.specs.declared.stmt.Block.{Block as Code, Block-F}
 use Rattle.rust_tree.specs.declared.stmt.Stmt.{Stmt}
 use Rattle.rust_tree.specs.Tree.{Tree}
 use Rattle.wit_model.specs.declared.function.Function.{Function}
@@ -32,6 +33,7 @@ use Rattle.wrapper_run.specs.Entries.{ExportNames}
 use Rattle.wrapper_run.specs.ExportRun.{core_answer, keep_result, run_call, run_export_fn, run_to_words}
 use Rattle.wrapper_run.specs.Run.{give_and_leave, run_stmts, run_tail}
 use Rattle.wrapper_run.proofs.StepLemmas.{Quiet, calls_at, quiet_give, quiet_pure}
+use Rattle.wrapper_run.proofs.StmtSteps.{code-opened}
 use Rattle.abi_driver.specs.Account.{Call, Peer}
 use Rattle.abi_driver.specs.Exports.{HandsOn}
 use Rattle.func_gen.specs.Meaning.{FuncState, call_of, func_meaning, run_code, run_head, setting_for}
@@ -81,6 +83,8 @@ module _ (types : List TypeDef) (f : Function) (names : ExportNames) (results : 
         let expected = words_expected types f names results tree nth old new c us ws heap choices caller in
         ap (λ b. machine.and_then (machine.and_then (machine.and_then (if b then machine.Done tt s else machine.Stopped (stuck w) s) (λ u. run_call w c.item.bound c.item.call)) (keep_result w c.item.call.result)) (λ u. run_to_words w c.item.result c.item.rest)) expected
         ∙ ap₂ (λ bound (b : Code). machine.and_then (machine.and_then (run_call w bound c.item.call s) (keep_result w c.item.call.result)) (λ u. run_to_words w c.item.result b)) c.bound c.body
+        ∙ ap (λ (l : Block-F Stmt Arm Code). machine.and_then (machine.and_then (run_call w old.home c.item.call s) (keep_result w c.item.call.result)) (λ u t. machine.and_then (machine.and_then (run_stmts w l.stmts t) (λ v. run_tail w l.tail)) (λ v. give_and_leave w (core_answer c.item.result v))))
+        (code-opened new.code.stmts (tail_of c.given))
         ∙ in_turn w c.item.result (tail_of c.given) new.code.stmts (machine.and_then (run_call w old.home c.item.call s) (keep_result w c.item.call.result))
         ∙ ap (λ call. finish w c.item.result (tail_of c.given) (machine.and_then (run_head w old.home call s) (λ u. run_stmts w new.code.stmts))) (sym c.head)
 

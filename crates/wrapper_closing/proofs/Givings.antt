@@ -1,4 +1,5 @@
 -- What a bindgen was begun with that was made of parts, and what a body gives.
+use Rattle.wrapper_run.specs.Code.{code_of}
 use Rattle.std.proofs.Common.{◌≡◌, Bool, true, List, [], ◌∷◌, Option, Some, refl, sym, ap, ap₂, ◌∙◌, subst}
 use Rattle.std.specs.Prelude.{◌&&◌, IfSome}
 use Rattle.std.specs.List.{AllByRecursion}
@@ -42,4 +43,4 @@ tail_given (o ∷ []) tail h = h
 tail_given (o ∷ _ ∷ _) tail h = absurd h
 
 abbrev pub block_with : List Stmt → Option Expr → Block
-block_with stmts tail = record { stmts = stmts; tail = tail }
+block_with stmts tail = code_of stmts tail

@@ -4,7 +4,6 @@ use Rattle.std.proofs.lemmas.Bool.{and_parts}
 use Rattle.rust_tree.specs.Ident.{rust_ident}
 use Rattle.rust_tree.specs.declared.expr.Expr.{Expr}
 use Rattle.rust_tree.specs.declared.item.FnItem.{FnItem}
-use Rattle.rust_tree.specs.declared.stmt.Block.{Block as Code}
 use Rattle.rust_tree.specs.Tree.{Tree}
 use Rattle.wit_model.specs.declared.function.Function.{Function}
 use Rattle.wit_model.specs.declared.types.TypeDef.{TypeDef}
@@ -30,6 +29,7 @@ use Rattle.wrapper_values.specs.Act as machine
 use Rattle.wrapper_values.specs.Setting.{Setting}
 use Rattle.wrapper_run.specs.Run.{answer_and_leave, run_fn, run_stmts, run_tail}
 use Rattle.wrapper_run.proofs.StepLemmas.{Quiet, calls_at, quiet_answers, quiet_pure}
+use Rattle.wrapper_run.proofs.StmtSteps.{runs-code}
 use Rattle.abi_driver.specs.Account.{Call, Peer, account_in}
 use Rattle.abi_driver.specs.Area.{SameArea}
 use Rattle.abi_driver.specs.Imports.{Carries}
@@ -107,7 +107,7 @@ module _ (types : List TypeDef) (f : Function) (tree : Tree) (nth : ℕ) (old ne
 
     body_runs : (s : State) → run_fn w c.item s ≡ finish w c.item (tail_of c.given) (machine.and_then (run_stmts w (area_stmts old.area new.asked) s) (λ u. run_stmts w new.code.stmts))
     body_runs s =
-        ap (λ (b : Code). machine.and_then (machine.and_then (run_stmts w b.stmts s) (λ u. run_tail w b.tail)) (answer_and_leave w c.item.result)) c.body
+        ap (λ o. machine.and_then o (answer_and_leave w c.item.result)) (runs-code w c.item.body (area_stmts old.area new.asked ++ new.code.stmts) (tail_of c.given) s c.body)
         ∙ ap (finish w c.item (tail_of c.given)) (run_append w (area_stmts old.area new.asked) new.code.stmts s)
 
     pub ready_runs : (ready : Ready types f tree nth old new c p vs rs heap choices) → run_fn w c.item (at_first old rs heap choices) ≡ rest p ready.state.machine

@@ -22,6 +22,7 @@ pub mod ImportLeaves
 pub mod ImportStart
 pub mod Leaving
 pub mod LocalSites
+pub mod NoAreaLemmas
 pub mod OwningValues
 pub mod Placing
 pub mod PostReturnBodyCloses

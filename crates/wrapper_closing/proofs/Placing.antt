@@ -14,6 +14,7 @@ use Rattle.wrapper_values.specs.Act.{Done, Outcome, Stopped, and_then}
 use Rattle.wrapper_values.specs.Locals.{bind}
 use Rattle.wrapper_values.specs.Setting.{Setting, stuck}
 use Rattle.wrapper_run.specs.Places.{area_block, is_fitting, place_area, place_at, request_of}
+use Rattle.wrapper_run.proofs.StmtSteps.{run-area}
 use Rattle.wrapper_run.specs.Run.{run_stmt}
 
 abbrev pub asking : Request → State → State
@@ -61,7 +62,8 @@ places w a s some aligned = go s.choices refl
 
     asks : run_stmt w (stmt.Area a) s ≡ given (place_at r s.choices (asking r s))
     asks =
-        ap (λ c. given (cond (c || nat_eq r.align 0) (Stopped (stuck w) s) (place_at r s.choices (asking r s)))) (no_zero r.size some)
+        ap (λ act. act s) (run-area w a)
+        ∙ ap (λ c. given (cond (c || nat_eq r.align 0) (Stopped (stuck w) s) (place_at r s.choices (asking r s)))) (no_zero r.size some)
         ∙ ap (λ c. given (cond c (Stopped (stuck w) s) (place_at r s.choices (asking r s)))) (no_zero r.align aligned)
 
     go : (cs : List Choice) → s.choices ≡ cs → Places w a s ⊎ Misses w a s

@@ -28,10 +28,9 @@ use Rattle.wrapper_meaning.specs.Value.{Case, Parts, ScalarValue, Value, case_nu
 use Rattle.wrapper_values.specs.declared.state.Val.{Val}
 use Rattle.wrapper_values.specs.declared.state.Val.TheVariants as val
 use Rattle.wrapper_values.specs.Effect.{answer_as, answer_of}
-use Rattle.wrapper_values.specs.Enums.{enum_in}
 use Rattle.wrapper_values.specs.Fields.{fields_in}
 use Rattle.wrapper_values.specs.Flags.{flags_in, repr_bits}
-use Rattle.wrapper_values.specs.Typed.{Typed, answer_in, behind, behind_one, definition_in, plain_as, target_in, typed, typed_bare, typed_case, typed_each, typed_enum, typed_flags, typed_level, typed_parts, typed_unit, unaliased}
+use Rattle.wrapper_values.specs.Typed.{Typed, answer_in, behind, behind_one, definition_in, plain_as, target_in, typed, typed_bare, typed_case, typed_defined, typed_each, typed_enum, typed_flags, typed_level, typed_parts, typed_unit, unaliased}
 use Rattle.wrapper_run.proofs.NumberLemmas.{answered-bool, answered-char, answered-f32-value, answered-f64-value, answered-number}
 use Rattle.wrapper_run.proofs.TakeLemmas.{answered-empty, answered-text}
 use Rattle.abi_driver.proofs.BareCases.{case_below}
@@ -140,6 +139,7 @@ module _ (items : List Item) where
   record_parts (TypeExpr-F.Tuple ts) s h = absurd cc
   record_parts (TypeExpr-F.Optional t) s h = absurd cc
   record_parts (TypeExpr-F.Array t n) s h = absurd cc
+  record_parts (TypeExpr-F.Result ok err) s h = absurd cc
 
   -- what is no plain type is typed as a whole
   by_whole : (r : RustValue) (ty : TypeExpr) → ((v : Val) → answer_as (out-TypeExpr (unaliased items ty)) v ≡ None) → typed items r ty ≡ Some (owning r) → IsTyped r ty
@@ -153,7 +153,7 @@ module _ (items : List Item) where
 
   -- an enum of the file
   enum_level : (l : TypeExpr-F TypeExpr) (e : EnumItem) → definition_in items l ≡ Some (Enum e) → ((n : ℕ) (payload : Option Typed) → typed_case items n payload l ≡ typed_enum n payload (Some e)) × ((v : Val) → answer_as l v ≡ None)
-  enum_level (TypeExpr-F.Path p) e h = (λ n payload. ap (λ d. typed_enum n payload (enum_in d)) h, λ v. refl)
+  enum_level (TypeExpr-F.Path p) e h = (λ n payload. ap (typed_defined n payload) h, λ v. refl)
   enum_level TypeExpr-F.Unit e h = absurd cc
   enum_level (TypeExpr-F.Primitive p) e h = absurd cc
   enum_level TypeExpr-F.Str e h = absurd cc
@@ -162,6 +162,7 @@ module _ (items : List Item) where
   enum_level (TypeExpr-F.Tuple ts) e h = absurd cc
   enum_level (TypeExpr-F.Optional t) e h = absurd cc
   enum_level (TypeExpr-F.Array t n) e h = absurd cc
+  enum_level (TypeExpr-F.Result ok err) e h = absurd cc
 
   -- `()` is itself as one of its type
   unit_typed : typed items value.Unit type.Unit ≡ Some value.Unit
@@ -204,6 +205,7 @@ module _ (items : List Item) where
   flags_level (TypeExpr-F.Tuple ts) f h = absurd cc
   flags_level (TypeExpr-F.Optional t) f h = absurd cc
   flags_level (TypeExpr-F.Array t n) f h = absurd cc
+  flags_level (TypeExpr-F.Result ok err) f h = absurd cc
 
   by_flags : (bits : ℕ) (r : RustValue) (ty : TypeExpr) (f : FlagsItem) → r ≡ value.Bits bits → definition_in items (out-TypeExpr (unaliased items ty)) ≡ Some (Flags f) → bits < 2 ^ repr_bits f.repr → IsTyped r ty
   by_flags bits r ty f is p small =

@@ -7,7 +7,6 @@ use Rattle.wit_model.specs.declared.wasm_type.WasmType.TheVariants as wasm
 use Rattle.rust_tree.specs.Tree.{Tree}
 use Rattle.rust_tree.specs.declared.export.CoreParam.{CoreParam}
 use Rattle.rust_tree.specs.declared.export.PostReturnFn.{PostReturnFn}
-use Rattle.rust_tree.specs.declared.stmt.Block.{Block as Code}
 use Rattle.wrapper_data.specs.declared.run.CallPoint.{CallPoint}
 use Rattle.wrapper_data.specs.declared.run.Run.{Run}
 use Rattle.wrapper_data.specs.declared.form.Form.{Form}
@@ -30,6 +29,7 @@ use Rattle.wrapper_run.specs.ExportRun.{are_words_of, core_answer, ended_export,
 use Rattle.wrapper_run.specs.PostReturn.{post_return_setting, run_post_return_fn, run_post_return_item, start_post_return}
 use Rattle.wrapper_run.specs.Run.{begin, bound, give_and_leave}
 use Rattle.wrapper_run.proofs.FreeSteps.{unit_words}
+use Rattle.wrapper_run.proofs.StmtSteps.{runs-code}
 use Rattle.wrapper_faithful.proofs.KeptHeaps.{post_return_keeps_heap}
 use Rattle.func_gen.specs.Meaning.{call_of, setting_for}
 use Rattle.func_gen.specs.declared.function_bindgen.FunctionBindgen.{FunctionBindgen}
@@ -65,7 +65,7 @@ module _ (types : List TypeDef) (f : Function) (tree : Tree) (nth : ℕ) (old ne
 
   body_runs : run_to_words w None c.function.body here ≡ machine.Done [] (record freed.state { locals = [] })
   body_runs =
-      ap (λ (b : Code). run_to_words w None b here) c.body
+      ap (λ o. machine.and_then o (λ v. give_and_leave w (core_answer None v))) (runs-code w c.function.body new.code.stmts None here c.body)
       ∙ ap (λ o. machine.and_then (machine.and_then o (λ u. machine.pure (val.Value value.Unit))) (λ v. give_and_leave w (core_answer None v))) freed.done
       ∙ ap (λ given. give_and_leave w given freed.state) unit_words
       ∙ ap (λ o. machine.and_then o (λ u. machine.pure {A = List Word} [])) (leaves_nothing w freed.state freed.owns)

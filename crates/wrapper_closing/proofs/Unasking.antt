@@ -32,7 +32,7 @@ use Rattle.wrapper_values.specs.declared.state.Val.{Val}
 use Rattle.wrapper_values.specs.declared.state.Val.TheVariants as val
 use Rattle.wrapper_values.specs.Act.{Act, Outcome, Done, Stopped, ◌>>=◌, ◌>>◌, and_then, or_stop, pure, stop}
 use Rattle.wrapper_values.specs.Effect.{integer_of, word_of}
-use Rattle.wrapper_values.specs.Locals.{ask_local, bind, declare, lend_local, local_named, usable, use_local, used, value_of}
+use Rattle.wrapper_values.specs.Locals.{ask_local, bind, declare, lend_local, local_named, usable, use_local, used, value_of, give_local, slot_with, write_slot}
 use Rattle.wrapper_values.specs.Owning.{buffer_of, lent, listed, owned, owned_in, taken_by, view}
 use Rattle.wrapper_values.specs.Setting.{Setting, failed, stuck}
 use Rattle.wrapper_run.specs.Blocks.{box_buffer, boxed, dealloc, drop_local, drop_locals, drop_value, free, free_all, free_bytes, free_found, free_untaken, keep_blocks, keep_locals, leave_to, lift_buffer, lift_text, own, own_block, owned_block, owned_bytes, owner_of, release, release_all, release_found, store_small, store_word, take_over, tested, untaken, write_small, write_word}
@@ -129,6 +129,11 @@ unasking_ask e of name = unasking_asked e (λ s. option_map val.Word (option_and
 pub unasking_bind : (name : Bytes) (v : Val) → Unasking (bind name v)
 unfolding bind
 unasking_bind name v = record { unasking = λ s. same s _ refl refl }
+
+pub unasking_write : (e : Stop) (name : Bytes) (v : Val) → Unasking (write_slot e name v)
+unfolding write_slot
+unasking_write e name v =
+    record { unasking = λ s. (unasking_then (or_stop e (option_and_then (slot_with v) (value_of (local_named name s.locals)))) (give_local name) (unasking_or_stop e _) (λ x. record { unasking = λ s. same s _ refl refl })).unasking s }
 
 pub unasking_declare : (d : ImportDecl) → Unasking (declare d)
 unfolding declare

@@ -13,6 +13,7 @@ use Rattle.wrapper_data.specs.declared.run.Target.TheVariants as target
 use Rattle.wrapper_meaning.specs.Areas.{result_record}
 use Rattle.wrapper_meaning.specs.Represents.{result_words}
 use Rattle.wrapper_meaning.specs.Shape.{Shape, param_shapes, result_shape}
+use Rattle.wrapper_run.specs.Code.{code_of}
 use Rattle.wrapper_run.specs.Entries.{ExportNames, IsExported}
 use Rattle.wrapper_run.specs.ExportRun.{export_at}
 use Rattle.wrapper_run.specs.Places.{area_in}
@@ -83,7 +84,7 @@ pub record ClosesExport (types : List TypeDef) (f : Function) (names : ExportNam
   pub count : length given ≡ length (core_results GuestExport (result_words (result_shape types f)))
   pub params : map (λ p. p.name) item.params ≡ site_names old.params
   pub signature : HasCoreSignature (passed types f) item
-  pub body : item.rest ≡ record { stmts = new.code.stmts; tail = tail_of given }
+  pub body : item.rest ≡ code_of new.code.stmts (tail_of given)
   pub plain_call : declares_no_area item.call.stmts ≡ true
   pub plain_rest : declares_no_area new.code.stmts ≡ true
   pub runtime : Found tree.items new.runtime

@@ -9,6 +9,7 @@ use Rattle.wit_layout.specs.Signature.{core_results}
 use Rattle.wrapper_meaning.specs.Kinds.{result_has_list}
 use Rattle.wrapper_meaning.specs.Represents.{result_words}
 use Rattle.wrapper_meaning.specs.Shape.{result_shape}
+use Rattle.wrapper_run.specs.Code.{code_of}
 use Rattle.wrapper_run.specs.Places.{area_in}
 use Rattle.wrapper_run.specs.PostReturn.{post_return_at}
 use Rattle.abi_driver.specs.Frees.{PostReturns}
@@ -31,7 +32,7 @@ pub record ClosesPostReturn (types : List TypeDef) (f : Function) (tree : Tree) 
   pub names : map (λ p. p.name) function.params ≡ site_names old.params
   pub pinned : map (λ p. p.ty) function.params ≡ core_results GuestExport (result_words (result_shape types f))
   pub headless : new.code.call ≡ None
-  pub body : function.body ≡ record { stmts = new.code.stmts; tail = None }
+  pub body : function.body ≡ code_of new.code.stmts None
   pub runtime : Found tree.items new.runtime
   pub sites : AreDefined tree.items new.sites
   -- the static area of the file, if it has one, is an area

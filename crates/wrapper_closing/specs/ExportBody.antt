@@ -8,6 +8,7 @@ use Rattle.rust_tree.specs.Tree.{Tree}
 use Rattle.rust_tree.specs.declared.export.ExportFn.{ExportFn}
 use Rattle.wrapper_data.specs.declared.run.Target.TheVariants as target
 use Rattle.wrapper_meaning.specs.Shape.{Shape, param_shapes, result_shape}
+use Rattle.wrapper_run.specs.Code.{code_of}
 use Rattle.wrapper_run.specs.Entries.{ExportNames, IsExported}
 use Rattle.wrapper_run.specs.ExportRun.{export_at}
 use Rattle.wrapper_faithful.specs.Export.{HasCoreSignature}
@@ -38,7 +39,7 @@ pub record ClosesExportBody (types : List TypeDef) (func : Bor Function) (parts 
   pub bound : item.bound ≡ parts.home
   pub params : map (λ p. p.name) item.params ≡ site_names parts.params
   pub signature : HasCoreSignature (passed types func.now) item
-  pub block : item.rest ≡ record { stmts = body.stmts; tail = body.tail }
+  pub block : item.rest ≡ code_of body.stmts body.tail
   pub runtime : Found tree.items body.runtime
   pub sites : AreDefined tree.items parts.sites
   pub called : GivesAsCalled tree.items parts.home (Some item.call)

@@ -6,6 +6,7 @@ use Rattle.rust_tree.specs.declared.stmt.Stmt.{Stmt}
 use Rattle.rust_tree.specs.declared.stmt.Stmt.TheVariants as stmt
 use Rattle.wit_model.specs.Bytes.{Bytes}
 use Rattle.wrapper_data.specs.declared.choice.Request.{Request}
+use Rattle.wrapper_run.specs.Code.{code_of}
 use Rattle.wrapper_run.specs.Places.{request_of}
 use Rattle.abi_driver.specs.declared.bindgen.Asked.{Asked}
 use Rattle.func_gen.specs.Body.{asked_alignment, asked_size}
@@ -29,7 +30,7 @@ tail_of [] = None
 tail_of (o ∷ os) = Some o.expr
 
 abbrev pub import_block : Bytes → FunctionBindgen → List ExprOperand → Block
-import_block area b given = record { stmts = area_stmts area b.asked ++ b.code.stmts; tail = tail_of given }
+import_block area b given = code_of (area_stmts area b.asked ++ b.code.stmts) (tail_of given)
 
 -- the same of a body: its area, if it needs one, its statements, and what it gives
 abbrev pub local_area : Bytes → Option Asked → List Stmt
@@ -37,4 +38,4 @@ local_area name None = []
 local_area name (Some a) = stmt.Area (record { name = name; size = a.size; align = a.align }) ∷ []
 
 abbrev pub block_of : Bytes → Body → Block
-block_of area body = record { stmts = local_area area body.area ++ body.stmts; tail = body.tail }
+block_of area body = code_of (local_area area body.area ++ body.stmts) body.tail

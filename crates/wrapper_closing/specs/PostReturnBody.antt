@@ -9,6 +9,7 @@ use Rattle.wit_layout.specs.Signature.{core_results}
 use Rattle.wrapper_meaning.specs.Kinds.{result_has_list}
 use Rattle.wrapper_meaning.specs.Represents.{result_words}
 use Rattle.wrapper_meaning.specs.Shape.{result_shape}
+use Rattle.wrapper_run.specs.Code.{code_of}
 use Rattle.wrapper_run.specs.Places.{area_in}
 use Rattle.wrapper_run.specs.PostReturn.{post_return_at}
 use Rattle.func_gen.specs.Meaning.{Found, IsArea, static_request}
@@ -31,7 +32,7 @@ pub record ClosesPostReturnBody (types : List TypeDef) (f : Function) (parts : B
   pub there : post_return_at tree nth ≡ Some (number, function)
   pub names : map (λ p. p.name) function.params ≡ site_names parts.params
   pub pinned : map (λ p. p.ty) function.params ≡ core_results GuestExport (result_words (result_shape types f))
-  pub block : function.body ≡ record { stmts = body.stmts; tail = body.tail }
+  pub block : function.body ≡ code_of body.stmts body.tail
   pub runtime : Found tree.items body.runtime
   pub sites : AreDefined tree.items parts.sites
   -- the static area of the file, if it has one, is an area

@@ -38,10 +38,10 @@ use Rattle.wrapper_values.specs.declared.state.State.{State}
 use Rattle.wrapper_values.specs.declared.state.Val.{Val}
 use Rattle.wrapper_values.specs.declared.state.Val.TheVariants as val
 use Rattle.wrapper_values.specs.Act.{Act, Outcome, Done, Stopped, ◌>>=◌, ◌>>◌, all, and_then, or_stop, pure, stop}
-use Rattle.wrapper_run.specs.Blocks.{dealloc, drop_local, drop_locals, drop_value, free, free_all, free_bytes, free_found, free_untaken, keep_blocks, keep_locals, leave_to, lift_buffer, lift_text, own, own_block, owned_block, owned_bytes, owner_of, release, release_found, store_small, store_word, take_over, tested, untaken, write_small, write_word}
+use Rattle.wrapper_run.specs.Blocks.{dealloc, drop_local, drop_locals, drop_value, free, free_all, free_bytes, free_found, free_untaken, keep_blocks, keep_locals, leave_to, lift_buffer, lift_text, own, own_block, owned_block, owned_bytes, owner_of, release, release_found, store_small, store_word, take_over, tested, untaken, write_small, write_word, in_scope}
 use Rattle.wrapper_values.specs.Effect.{integer_of, word_of}
 use Rattle.wrapper_run.specs.ExportRun.{call_inside, call_method, call_with, core_answer, expect_words, keep_result, method_answer, method_call, returned_of, run_call, run_export_fn, run_to_words, take_value, are_words_of}
-use Rattle.wrapper_values.specs.Locals.{ask_local, bind, declare, lend_local, local_named, usable, use_local, used, value_of}
+use Rattle.wrapper_values.specs.Locals.{ask_local, bind, declare, lend_local, local_named, usable, use_local, used, value_of, give_local, slot_with, write_slot}
 use Rattle.wrapper_run.specs.Growth.{state_of}
 use Rattle.wrapper_run.specs.Memory.{bytes_from, bytes_of_small, loaded, loaded_small, low_bytes, stored, stored_small}
 use Rattle.wrapper_values.specs.Owning.{buffer_of, lent, listed, owned, owned_in, taken_by}
@@ -119,6 +119,11 @@ module _ (R : State → State → Type 0) (Fits : Answer → Type 0) (m : Moves 
   along_bind : (name : Bytes) (v : Val) → Along (bind name v)
   unfolding bind
   along_bind name v = record { along = λ s. m.same s _ refl refl refl }
+
+  along_write : (e : Stop) (name : Bytes) (v : Val) → Along (write_slot e name v)
+  unfolding write_slot
+  along_write e name v =
+      record { along = λ s. (along_then (or_stop e (option_and_then (slot_with v) (value_of (local_named name s.locals)))) (give_local name) (along_or_stop e _) (λ x. record { along = λ s. m.same s _ refl refl refl })).along s }
 
   along_declare : (d : ImportDecl) → Along (declare d)
   unfolding declare
@@ -329,6 +334,12 @@ module _ (R : State → State → Type 0) (Fits : Answer → Type 0) (m : Moves 
   unfolding lift_text
   along_lift_text w v = along_lift w v (buffer_of v)
 
+  along_scope : {A : Type 0} (w : Setting) (act : Act A) → Along act → Along (in_scope w act)
+  along_scope w act h = record {
+    along = λ s. (along_then act (λ a. leave_to w (length s.locals) >> pure a) h
+        (λ a. along_then (leave_to w (length s.locals)) (λ _. pure a) (along_leave w (length s.locals)) (λ _. along_pure a))).along s;
+  }
+
   along_everywhere : (w : Setting) (known : Bytes → Bool) → Everywhere w known (λ A act. Along act)
   unfolding ask_local
   along_everywhere w known = record {
@@ -352,6 +363,8 @@ module _ (R : State → State → Type 0) (Fits : Answer → Type 0) (m : Moves 
     places = along_place w;
     static = along_static w;
     calls = λ name vs _. along_import w name vs;
+    writes = λ name v _. along_write (stuck w) name v;
+    scopes = λ A act. along_scope w act;
   }
 
   along_eval : (w : Setting) (e : Expr) → Along (eval w e)

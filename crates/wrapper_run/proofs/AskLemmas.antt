@@ -7,6 +7,7 @@ use Rattle.wit_model.specs.Bytes.{Bytes}
 use Rattle.wit_model.specs.Size.{bytes_at}
 use Rattle.wit_model.specs.declared.size.ArchitectureSize.{ArchitectureSize}
 use Rattle.wit_model.specs.declared.wasm_type.WasmType.{WasmType}
+use Rattle.rust_tree.specs.declared.expr.Expr.{Expr}
 use Rattle.rust_tree.specs.declared.expr.SmallType.{SmallType}
 use Rattle.rust_tree.specs.declared.stmt.Block.{Block as Code}
 use Rattle.rust_tree.specs.declared.stmt.ImportDecl.{ImportDecl}
@@ -23,12 +24,13 @@ use Rattle.wrapper_values.specs.declared.state.Val.{Val}
 use Rattle.wrapper_values.specs.declared.state.Val.TheVariants as val
 use Rattle.wrapper_values.specs.Act.{Act, Outcome, Done, Stopped, ◌>>=◌, ◌>>◌, and_then, or_stop, pure, stop}
 use Rattle.wrapper_run.specs.Blocks.{dealloc, drop_local, drop_locals, drop_value, free, free_all, free_bytes, free_found, free_untaken, in_scope, keep_blocks, keep_locals, leave_to, lift_buffer, lift_text, own, own_block, owned_block, owned_bytes, owner_of, release, release_found, store_small, store_word, take_over, tested, untaken, write_small, write_word}
+use Rattle.wrapper_values.specs.CoreWords.{empty_slot}
 use Rattle.wrapper_values.specs.Effect.{integer_of, word_of}
-use Rattle.wrapper_values.specs.Locals.{ask_local, bind, declare, lend_local, local_named, usable, use_local, used, value_of}
+use Rattle.wrapper_values.specs.Locals.{ask_local, bind, declare, lend_local, give_local, local_named, slot_with, usable, use_local, used, value_of, write_slot}
 use Rattle.wrapper_run.specs.Memory.{bytes_from, loaded, loaded_small, stored, stored_small}
 use Rattle.wrapper_values.specs.Owning.{buffer_of, lent, owned, owned_in, view}
 use Rattle.wrapper_run.specs.Results.{run_inner, run_results}
-use Rattle.wrapper_run.specs.Run.{load_small, load_word, run_block, take_bytes}
+use Rattle.wrapper_run.specs.Run.{eval, load_small, load_word, run_block, take_bytes}
 use Rattle.wrapper_values.specs.Setting.{Setting, failed, stuck}
 use Rattle.wrapper_run.specs.Growth.{state_of}
 use Rattle.wrapper_run.specs.Inward.{AskedAlike, AsksNothing, is_inward}
@@ -78,6 +80,14 @@ asks_ask e of name = record { nothing = λ s. (asks_or_stop e (option_map val.Wo
 pub asks_bind : (name : Bytes) (v : Val) → AsksNothing (bind name v)
 unfolding bind
 asks_bind name v = record { nothing = λ s. record { calls = refl; requests = refl } }
+
+pub asks_write : (e : Stop) (name : Bytes) (v : Val) → AsksNothing (write_slot e name v)
+unfolding write_slot
+asks_write e name v =
+    record {
+      nothing = λ s.
+          (asks_then (or_stop e (option_and_then (slot_with v) (value_of (local_named name s.locals)))) (give_local name) (asks_or_stop e _) (λ x. record { nothing = λ t. record { calls = refl; requests = refl } })).nothing s;
+    }
 
 pub asks_declare : (d : ImportDecl) → AsksNothing (declare d)
 unfolding declare
@@ -206,6 +216,18 @@ asks_store_small w offset ty v _ = asks_stop (stuck w)
 
 -- all inward code
 
+pub asks_scope : {A : Type 0} (w : Setting) (act : Act A) → AsksNothing act → AsksNothing (in_scope w act)
+asks_scope w act h = record {
+  nothing = λ s. (asks_then act (λ a. leave_to w (length s.locals) >> pure a) h
+      (λ a. asks_then (leave_to w (length s.locals)) (λ _. pure a) (asks_leave w (length s.locals)) (λ _. asks_pure a))).nothing s;
+}
+
+-- a slot is declared and written, and then the act
+asks_writing : (w : Setting) (name : Bytes) (e : Expr) (act : Act (Unit {0})) → AsksNothing (eval w e) → AsksNothing act → AsksNothing (bind name empty_slot >> ((eval w e >>= write_slot (stuck w) name) >> act))
+asks_writing w name e act h k =
+    asks_then (bind name empty_slot) (λ _. (eval w e >>= write_slot (stuck w) name) >> act) (asks_bind name empty_slot)
+    (λ _. asks_then (eval w e >>= write_slot (stuck w) name) (λ _. act) (asks_then (eval w e) (write_slot (stuck w) name) h (asks_write (stuck w) name)) (λ _. k))
+
 pub asks_within : (w : Setting) → Within w (λ A act. AsksNothing act)
 asks_within w = record {
   gives = λ A a. asks_pure a;
@@ -225,12 +247,8 @@ asks_within w = record {
   loads_small = asks_load_small w;
   stores = asks_store w;
   stores_small = asks_store_small w;
-}
-
-pub asks_scope : {A : Type 0} (w : Setting) (act : Act A) → AsksNothing act → AsksNothing (in_scope w act)
-asks_scope w act h = record {
-  nothing = λ s. (asks_then act (λ a. leave_to w (length s.locals) >> pure a) h
-      (λ a. asks_then (leave_to w (length s.locals)) (λ _. pure a) (asks_leave w (length s.locals)) (λ _. asks_pure a))).nothing s;
+  scopes = λ A act. asks_scope w act;
+  writes = λ name e act h k. asks_writing w name e act h k;
 }
 
 pub asks_code : (w : Setting) (b : Code) → is_inward b ≡ true → AsksNothing (run_block w b)

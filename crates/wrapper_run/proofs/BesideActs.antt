@@ -32,20 +32,20 @@ use Rattle.wrapper_values.specs.declared.state.State.{State}
 use Rattle.wrapper_values.specs.declared.state.Val.{Val}
 use Rattle.wrapper_values.specs.declared.state.Val.TheVariants as val
 use Rattle.wrapper_values.specs.Act.{Act, Outcome, Done, Stopped, ◌>>=◌, ◌>>◌, and_then, or_stop, pure, stop}
-use Rattle.wrapper_run.specs.Blocks.{dealloc, drop_locals, free, free_bytes, free_found, free_untaken, in_scope, keep_blocks, keep_locals, leave_to, lift_buffer, lift_text, own, own_block, owned_block, owned_bytes, owner_of, release, release_found, store_small, store_word, take_over, tested, untaken, write_small, write_word}
+use Rattle.wrapper_run.specs.Blocks.{dealloc, drop_local, drop_locals, free, free_all, free_bytes, free_found, free_untaken, in_scope, keep_blocks, keep_locals, leave_to, lift_buffer, lift_text, own, own_block, owned_block, owned_bytes, owner_of, release, release_found, store_small, store_word, take_over, tested, untaken, write_small, write_word}
 use Rattle.wrapper_values.specs.Effect.{integer_of, is_word_of}
 use Rattle.wrapper_run.specs.Growth.{Grows, Longer, state_of}
-use Rattle.wrapper_values.specs.Locals.{ask_local, bind, declare, lend_local, local_named, usable, use_local, used, value_of}
+use Rattle.wrapper_values.specs.Locals.{ask_local, bind, declare, give_local, lend_local, local_named, slot_with, usable, use_local, used, value_of, write_slot}
 use Rattle.wrapper_run.specs.Memory.{begins_at, block_at, block_from, bytes_at, bytes_from, bytes_of, bytes_of_small, bytes_of_type, holds, is_at, is_inside, loaded, loaded_small, low_bytes, number_from, stored, stored_small, without, word_from, writes_from}
 use Rattle.wrapper_run.specs.OtherBlocks.{Beside, Between, EndsBeside, are_clear, are_held, widened}
-use Rattle.wrapper_values.specs.Owning.{buffer_of, is_taken, lent, owned, view}
+use Rattle.wrapper_values.specs.Owning.{buffer_of, is_taken, lent, owned, owned_in, view}
 use Rattle.wrapper_run.specs.Places.{area_block, area_in, is_fitting, place_area, place_at, place_static, request_of, static_place, static_pointer, with_area}
 use Rattle.wrapper_run.specs.Run.{call_import, call_point, load_small, load_word, record_call, take_answer, take_bytes}
 use Rattle.wrapper_values.specs.Setting.{Setting, failed, stuck}
 use Rattle.wrapper_run.proofs.BesideLemmas.{any_by, apart_others, at_begins, begun_size, between-any, between-behind, between-find, between-given, between-without, bytes-positive, clear_by, found_any, held_misses, meet_at, meet_beginning, meet_holding, misses, none_by, passes_found, placed_clear, sized_begins, small-positive, without_apart, written_beside}
-use Rattle.wrapper_run.proofs.GrowLemmas.{all_known, grows_answer, grows_ask, grows_bind, grows_dealloc, grows_declare, grows_free, grows_import, grows_leave, grows_lend, grows_lift_text, grows_load, grows_load_small, grows_place, grows_pure, grows_release, grows_scope, grows_static, grows_static_place, grows_stop, grows_store, grows_store_small, grows_take, grows_then, grows_use, longer-same}
+use Rattle.wrapper_run.proofs.GrowLemmas.{grows_answer, grows_ask, grows_bind, grows_dealloc, grows_declare, grows_free, grows_import, grows_leave, grows_lend, grows_lift_text, grows_load, grows_load_small, grows_place, grows_pure, grows_release, grows_scope, grows_static, grows_static_place, grows_stop, grows_store, grows_store_small, grows_take, grows_then, grows_use, grows_write, longer-same}
 use Rattle.wrapper_run.proofs.StoreLemmas.{length_bytes_of, length_low_bytes}
-use Rattle.wrapper_run.proofs.Walk.{Everywhere, drops_locals}
+use Rattle.wrapper_run.proofs.Walk.{Everywhere}
 
 -- lists that grow to what they were
 
@@ -499,6 +499,14 @@ module _ (others : List Block) (held : List ℕ) (owned_by_others : are_held oth
   unfolding bind
   alike_bind name v = alike_blind (bind name v) (λ s blocks taken. refl)
 
+  alike_write : (e : Stop) (name : Bytes) (v : Val) → Alike others held (write_slot e name v)
+  unfolding write_slot
+  alike_write e name v = alike_blind (write_slot e name v) (λ s blocks taken. go s blocks taken (option_and_then (slot_with v) (value_of (local_named name s.locals))))
+    where
+      go : (s : State) (blocks : List Block) (taken : List ℕ) (o : Option Val) → and_then (or_stop e o (widened blocks taken s)) (give_local name) ≡ widened_end blocks taken (and_then (or_stop e o s) (give_local name))
+      go s blocks taken None = refl
+      go s blocks taken (Some x) = refl
+
   alike_declare : (d : ImportDecl) → Alike others held (declare d)
   unfolding declare
   alike_declare d = alike_blind (declare d) (λ s blocks taken. refl)
@@ -507,11 +515,46 @@ module _ (others : List Block) (held : List ℕ) (owned_by_others : are_held oth
   abbrev pub Frames : (A : Type 0) → Act A → Type 0
   Frames A act = Grows act × Alike others held act
 
+  -- a scope, whose locals go at its end
+
+  frames_then : {A B : Type 0} (act : Act A) (f : A → Act B) → Frames A act → ((a : A) → Frames B (f a)) → Frames B (act >>= f)
+  frames_then act f h k = (grows_then act f h.0 (λ a. (k a).0), alike_then act f h.0 (λ a. (k a).0) h.1 (λ a. (k a).1))
+
+  frames_frees : (w : Setting) (addresses : List ℕ) → Frames (Unit {0}) (free_all w addresses)
+  frames_frees w [] = (grows_pure tt, alike_pure tt)
+  frames_frees w (a ∷ more) = frames_then (free w a) (λ _. free_all w more) (grows_free w a, alike_free w a) (λ _. frames_frees w more)
+
+  frames_drops : (w : Setting) (locals : List Local) → Frames (Unit {0}) (drop_locals w locals)
+  frames_drops w [] = (grows_pure tt, alike_pure tt)
+  frames_drops w (l ∷ locals) = frames_then (drop_locals w locals) (λ _. drop_local w l.value) (frames_drops w locals) (λ _. frames_frees w (owned_in l.value))
+
+  alike_leave : (w : Setting) (kept : ℕ) → Alike others held (leave_to w kept)
+  unfolding leave_to
+  alike_leave w kept = record {
+    alike = λ s blocks taken b c.
+        let bare : State = record s { locals = [] } in
+        (gone (drop kept s.locals) (take kept s.locals)).1.alike bare blocks taken (moved_beside s bare blocks taken b refl refl) c;
+  }
+    where
+      gone : (locals rest : List Local) → Frames (Unit {0}) (drop_locals w locals >> keep_locals rest)
+      gone locals rest =
+          frames_then (drop_locals w locals) (λ _. keep_locals rest) (frames_drops w locals)
+          (λ _. (record { grows = λ s. longer-same s _ refl refl }, alike_blind (keep_locals rest) (λ s blocks taken. refl)))
+
+  pub frames_scope : {A : Type 0} (w : Setting) (act : Act A) → Frames A act → Frames A (in_scope w act)
+  frames_scope w act f = (grows_scope w act f.0, record { alike = λ s. (alike_then act (λ a. leave_to w (length s.locals) >> pure a) f.0 (λ a. grows_leaving s a) f.1 (λ a. alike_leaving s a)).alike s })
+    where
+      grows_leaving : {A : Type 0} (s : State) (a : A) → Grows (leave_to w (length s.locals) >> pure a)
+      grows_leaving s a = grows_then (leave_to w (length s.locals)) (λ _. pure a) (grows_leave w (length s.locals)) (λ _. grows_pure a)
+
+      alike_leaving : {A : Type 0} (s : State) (a : A) → Alike others held (leave_to w (length s.locals) >> pure a)
+      alike_leaving s a = alike_then (leave_to w (length s.locals)) (λ _. pure a) (grows_leave w (length s.locals)) (λ _. grows_pure a) (alike_leave w (length s.locals)) (λ _. alike_pure a)
+
   pub frames_everywhere : (w : Setting) (known : Bytes → Bool) → Everywhere w known Frames
   frames_everywhere w known = record {
     gives = λ A a. (grows_pure a, alike_pure a);
     stops = λ A e. (grows_stop e, alike_stop e);
-    follows = λ A B act f h k. (grows_then act f h.0 (λ a. (k a).0), alike_then act f h.0 (λ a. (k a).0) h.1 (λ a. (k a).1));
+    follows = λ A B act f. frames_then act f;
     uses = λ name _. (grows_use (stuck w) name, alike_use (stuck w) name);
     lends = λ name _. (grows_lend (stuck w) name, alike_lend (stuck w) name);
     asks = λ of name _. (grows_ask (stuck w) of name, alike_ask (stuck w) of name);
@@ -529,28 +572,6 @@ module _ (others : List Block) (held : List ℕ) (owned_by_others : are_held oth
     places = λ r. (grows_place w r, alike_place w r);
     static = (grows_static w, alike_static w);
     calls = λ name vs _. (grows_import w name vs, alike_import w name vs);
+    writes = λ name v _. (grows_write (stuck w) name v, alike_write (stuck w) name v);
+    scopes = λ A act. frames_scope w act;
   }
-
-  -- a scope, whose locals go at its end
-
-  alike_leave : (w : Setting) (kept : ℕ) → Alike others held (leave_to w kept)
-  unfolding leave_to
-  alike_leave w kept = record {
-    alike = λ s blocks taken b c.
-        let bare : State = record s { locals = [] } in
-        (gone (drop kept s.locals) (take kept s.locals)).1.alike bare blocks taken (moved_beside s bare blocks taken b refl refl) c;
-  }
-    where
-      gone : (locals rest : List Local) → Frames (Unit {0}) (drop_locals w locals >> keep_locals rest)
-      gone locals rest =
-          (frames_everywhere w all_known).follows (Unit {0}) (Unit {0}) (drop_locals w locals) (λ _. keep_locals rest) (drops_locals w all_known Frames (frames_everywhere w all_known) locals)
-          (λ _. (record { grows = λ s. longer-same s _ refl refl }, alike_blind (keep_locals rest) (λ s blocks taken. refl)))
-
-  pub frames_scope : {A : Type 0} (w : Setting) (act : Act A) → Frames A act → Frames A (in_scope w act)
-  frames_scope w act f = (grows_scope w act f.0, record { alike = λ s. (alike_then act (λ a. leave_to w (length s.locals) >> pure a) f.0 (λ a. grows_leaving s a) f.1 (λ a. alike_leaving s a)).alike s })
-    where
-      grows_leaving : {A : Type 0} (s : State) (a : A) → Grows (leave_to w (length s.locals) >> pure a)
-      grows_leaving s a = grows_then (leave_to w (length s.locals)) (λ _. pure a) (grows_leave w (length s.locals)) (λ _. grows_pure a)
-
-      alike_leaving : {A : Type 0} (s : State) (a : A) → Alike others held (leave_to w (length s.locals) >> pure a)
-      alike_leaving s a = alike_then (leave_to w (length s.locals)) (λ _. pure a) (grows_leave w (length s.locals)) (λ _. grows_pure a) (alike_leave w (length s.locals)) (λ _. alike_pure a)

@@ -14,6 +14,9 @@ use Rattle.rust_tree.specs.declared.item.Item.TheVariants as item
 use Rattle.rust_tree.specs.declared.path.Path.{Path}
 use Rattle.rust_tree.specs.declared.pattern.Pattern.{Pattern}
 use Rattle.rust_tree.specs.declared.pattern.Pattern.TheVariants as pattern
+use Rattle.rust_tree.specs.declared.stmt.Arm.{Arm}
+use Rattle.rust_tree.specs.declared.stmt.Block.{Block as Code, Block-F}
+use Rattle.rust_tree.specs.declared.stmt.Stmt.{Stmt}
 use Rattle.rust_tree.specs.declared.stmt.Stmt.TheVariants as stmt
 use Rattle.rust_tree.specs.declared.type_expr.Primitive.TheVariants as prim
 use Rattle.rust_tree.specs.declared.type_expr.TypeExpr.{TypeExpr, TypeExpr-F, out-TypeExpr, the_lemmas as type_lemmas}
@@ -39,14 +42,17 @@ use Rattle.wrapper_values.specs.Fields.{arranged}
 use Rattle.wrapper_values.specs.Locals.{lend_local, use_local}
 use Rattle.wrapper_run.specs.Memory.{loaded_small, stored_small}
 use Rattle.wrapper_values.specs.Owning.{lent, owned}
-use Rattle.wrapper_run.specs.Results.{results, run_inner}
-use Rattle.wrapper_run.specs.Run.{begin, bound_args, call, eval, result_of, run_stmt}
+use Rattle.wrapper_run.specs.Code.{code_of}
+use Rattle.wrapper_run.specs.LastParts.{results}
+use Rattle.wrapper_run.specs.Results.{run_inner}
+use Rattle.wrapper_run.specs.Run.{begin, bound_args, call, eval, result_of, run_stmt, run_stmts}
 use Rattle.wrapper_values.specs.Setting.{Setting, stuck}
 use Rattle.wrapper_values.specs.Typed.{Typed, answer_in, typed, typed_case, typed_level, typed_option, unaliased}
 use Rattle.wrapper_values.specs.Whole.{whole_of}
 use Rattle.wrapper_run.proofs.OwningLemmas.{owned-block, owned-number}
 use Rattle.wrapper_run.proofs.PartSteps.{eval-record, takes_apart}
 use Rattle.wrapper_run.proofs.StepLemmas.{eval-call, eval-local, eval-ref, local_gives}
+use Rattle.wrapper_run.proofs.StmtSteps.{code-opened}
 use Rattle.wrapper_run.proofs.TakeLemmas.{leaves_one, text_gives, text_local, used_local}
 
 -- a record with a text in it, and one in a list in it
@@ -170,12 +176,13 @@ c_pointer = record { name = codes "c"; value = Some (val.Word (word.Pointer 4096
 abbrev two_words : State
 two_words = begin (seven ∷ c_pointer ∷ []) [] (record { blocks = [] }) (record { list = [] })
 
-words_given : (w : Setting) → run_inner w (record { stmts = []; tail = Some (expr.Tuple (expr.Local b_name ∷ expr.Local (codes "c") ∷ [])) }) two_words
+words_given : (w : Setting) → run_inner w (code_of [] (Some (expr.Tuple (expr.Local b_name ∷ expr.Local (codes "c") ∷ [])))) two_words
     ≡ Done (val.Word (word.I32 (pos 7)) ∷ val.Word (word.Pointer 4096) ∷ []) two_words
 unfolding leave_to
 words_given w =
     let end : List Val → Act (List Val) = λ vs. leave_to w 2 >> pure vs in
-    ap (λ es. and_then (all (map (eval w) es) two_words) end) (two_results (expr.Local b_name) (expr.Local (codes "c")))
+    ap (λ (l : Block-F Stmt Arm Code). and_then ((run_stmts w l.stmts >> all (map (eval w) (results l.tail))) two_words) end) (code-opened [] (Some (expr.Tuple (expr.Local b_name ∷ expr.Local (codes "c") ∷ []))))
+    ∙ ap (λ es. and_then (all (map (eval w) es) two_words) end) (two_results (expr.Local b_name) (expr.Local (codes "c")))
     ∙ ap (λ o. and_then (and_then o (λ x. eval w (expr.Local (codes "c")) >>= (λ y. pure [] >>= (λ ys. pure (y ∷ ys))) >>= (λ ys. pure (x ∷ ys)))) end) (local_gives w b_name (val.Word (word.I32 (pos 7))) two_words refl refl)
     ∙ ap (λ o. and_then (and_then (and_then o (λ y. pure [] >>= (λ ys. pure (y ∷ ys)))) (λ ys. pure (val.Word (word.I32 (pos 7)) ∷ ys))) end) (local_gives w (codes "c") (val.Word (word.Pointer 4096)) two_words refl refl)
 

@@ -41,7 +41,7 @@ use Rattle.wrapper_values.specs.Act.{Act, Outcome, Done, Stopped, ◌>>=◌, ◌
 use Rattle.wrapper_run.specs.Blocks.{dealloc, drop_local, drop_locals, drop_value, free, free_all, free_bytes, free_found, free_untaken, in_scope, keep_blocks, keep_locals, leave_to, lift_buffer, lift_text, own, own_block, owned_block, owned_bytes, owner_of, release, release_found, store_small, store_word, take_over, tested, untaken, write_small, write_word}
 use Rattle.wrapper_values.specs.Effect.{integer_of, word_of}
 use Rattle.wrapper_run.specs.ExportRun.{call_inside, call_method, call_with, core_answer, expect_words, keep_result, method_answer, method_call, returned_of, run_call, run_export_fn, run_to_words, take_value, are_words_of}
-use Rattle.wrapper_values.specs.Locals.{ask_local, bind, declare, lend_local, local_named, usable, use_local, used, value_of}
+use Rattle.wrapper_values.specs.Locals.{ask_local, bind, declare, give_local, lend_local, local_named, slot_with, usable, use_local, used, value_of, write_slot}
 use Rattle.wrapper_run.specs.Memory.{bytes_from, loaded, loaded_small, stored, stored_small}
 use Rattle.wrapper_values.specs.Owning.{buffer_of, lent, listed, owned, owned_in, taken_by, view}
 use Rattle.wrapper_run.specs.Places.{area_in, is_fitting, place_area, place_at, place_static, request_of, static_place, static_pointer, with_area}
@@ -106,6 +106,11 @@ grows_ask e of name = record { grows = λ s. (grows_or_stop e (option_map val.Wo
 pub grows_bind : (name : Bytes) (v : Val) → Grows (bind name v)
 unfolding bind
 grows_bind name v = record { grows = λ s. longer-same s _ refl refl }
+
+pub grows_write : (e : Stop) (name : Bytes) (v : Val) → Grows (write_slot e name v)
+unfolding write_slot
+grows_write e name v =
+    record { grows = λ s. (grows_then (or_stop e (option_and_then (slot_with v) (value_of (local_named name s.locals)))) (give_local name) (grows_or_stop e _) (λ x. record { grows = λ s. longer-same s _ refl refl })).grows s }
 
 pub grows_declare : (d : ImportDecl) → Grows (declare d)
 unfolding declare
@@ -286,7 +291,13 @@ pub grows_store_small : (w : Setting) (offset : ArchitectureSize) (ty : SmallTyp
 grows_store_small w offset ty v (val.Word (word.Pointer address)) = grows_small_written w ty (address + bytes_at offset 4) (integer_of v)
 grows_store_small w offset ty v _ = grows_stop (stuck w)
 
--- all code
+-- scopes, and all code
+
+pub grows_scope : {A : Type 0} (w : Setting) (act : Act A) → Grows act → Grows (in_scope w act)
+grows_scope w act h = record {
+  grows = λ s. (grows_then act (λ a. leave_to w (length s.locals) >> pure a) h
+      (λ a. grows_then (leave_to w (length s.locals)) (λ _. pure a) (grows_leave w (length s.locals)) (λ _. grows_pure a))).grows s;
+}
 
 grows_everywhere : (w : Setting) (known : Bytes → Bool) → Everywhere w known (λ A act. Grows act)
 grows_everywhere w known = record {
@@ -310,6 +321,8 @@ grows_everywhere w known = record {
   places = grows_place w;
   static = grows_static w;
   calls = λ name vs _. grows_import w name vs;
+  writes = λ name v _. grows_write (stuck w) name v;
+  scopes = λ A act. grows_scope w act;
 }
 
 -- every name is known
@@ -321,12 +334,6 @@ grows_eval w e = walks_expr w all_known (λ A act. Grows act) (grows_everywhere 
 
 grows_stmts : (w : Setting) (stmts : List Stmt) → Grows (run_stmts w stmts)
 grows_stmts w stmts = walks_stmts w all_known (λ A act. Grows act) (grows_everywhere w all_known) stmts (known_stmts all_known (λ name. refl) stmts)
-
-pub grows_scope : {A : Type 0} (w : Setting) (act : Act A) → Grows act → Grows (in_scope w act)
-grows_scope w act h = record {
-  grows = λ s. (grows_then act (λ a. leave_to w (length s.locals) >> pure a) h
-      (λ a. grows_then (leave_to w (length s.locals)) (λ _. pure a) (grows_leave w (length s.locals)) (λ _. grows_pure a))).grows s;
-}
 
 pub grows_code : (w : Setting) (b : Code) → Grows (run_block w b)
 grows_code w b = walks_block w all_known (λ A act. Grows act) (grows_everywhere w all_known) b (known_block all_known (λ name. refl) b)

@@ -11,6 +11,7 @@ pub mod FreeSteps
 pub mod GiveSteps
 pub mod GrowLemmas
 pub mod HeapLemmas
+mod InwardExamples
 pub mod InwardWalk
 pub mod LocalLemmas
 pub mod MemoryLemmas
@@ -22,9 +23,12 @@ pub mod PartSteps
 pub mod QuietSteps
 pub mod ScopeLemmas
 pub mod StepLemmas
+pub mod StmtSteps
 pub mod StoreLemmas
 pub mod TakeLemmas
 pub mod TextLemmas
 pub mod TypedLemmas
 pub mod UnusedLemmas
+mod VariantExamples
+pub mod VariantSteps
 pub mod Walk

@@ -1,5 +1,5 @@
 -- Inward code runs behind the locals in its reach as it does behind all that are there: each of its acts does, and a block that ends.
-use Rattle.std.proofs.Common.{◌≡◌, ℕ, ◌+◌, Bool, true, false, cond, ◌||◌, List, [], ◌∷◌, ◌++◌, length, Option, None, Some, refl, sym, ap, ◌∙◌, subst, drop, take, append_assoc, append-nil}
+use Rattle.std.proofs.Common.{◌≡◌, ℕ, Bool, true, false, cond, ◌||◌, List, [], ◌∷◌, ◌++◌, length, Option, None, Some, refl, sym, ap, ◌∙◌, subst, drop, take, append_assoc, append-nil}
 use Rattle.std.specs.Prelude.{◌≢◌, option_and_then}
 use Rattle.std.specs.List.{list_any}
 use Rattle.std.specs.Option.{option_map, option_or}
@@ -7,6 +7,7 @@ use Rattle.std.specs.Str.{bytes_eq}
 use Rattle.std.proofs.lemmas.List.Folds.{list_any-append}
 use Rattle.std.proofs.Math.Bool.{or-true}
 use Rattle.wit_model.specs.Bytes.{Bytes}
+use Rattle.rust_tree.specs.declared.expr.Expr.{Expr}
 use Rattle.rust_tree.specs.declared.stmt.Block.{Block as Code}
 use Rattle.wrapper_data.specs.declared.run.Stop.{Stop}
 use Rattle.wrapper_data.specs.declared.run.Stop.TheVariants as stop_of
@@ -16,7 +17,8 @@ use Rattle.wrapper_values.specs.declared.state.State.{State}
 use Rattle.wrapper_values.specs.declared.state.Val.{Val}
 use Rattle.wrapper_values.specs.declared.state.Val.TheVariants as val
 use Rattle.wrapper_values.specs.Act.{Act, Outcome, Done, Stopped, ◌>>=◌, ◌>>◌, and_then, or_stop, pure, stop}
-use Rattle.wrapper_values.specs.Locals.{ask_local, bind, declare, emptied, lend_local, local_named, moved, usable, use_local, used, value_of}
+use Rattle.wrapper_values.specs.CoreWords.{empty_slot}
+use Rattle.wrapper_values.specs.Locals.{ask_local, bind, changed, declare, give_local, holding, lend_local, local_named, moved, slot_with, usable, use_local, used, value_of, write_slot}
 use Rattle.wrapper_values.specs.Owning.{lent, owned, owned_in, view}
 use Rattle.wrapper_values.specs.Setting.{Setting, stuck}
 use Rattle.wrapper_run.specs.Blocks.{dealloc, drop_local, drop_locals, free, free_all, in_scope, keep_locals, leave_to, lift_text, release, store_small, store_word}
@@ -24,11 +26,12 @@ use Rattle.wrapper_run.specs.Growth.{state_of}
 use Rattle.wrapper_run.specs.Inward.{is_inward}
 use Rattle.wrapper_run.specs.OuterLocals.{EndsBehind, IsBehind, IsInReach, OwnNothing, RunsBehind, behind_all}
 use Rattle.wrapper_run.specs.Results.{run_inner, run_results}
-use Rattle.wrapper_run.specs.Run.{load_small, load_word, run_block, take_bytes}
+use Rattle.wrapper_run.specs.Run.{eval, load_small, load_word, run_block, take_bytes}
 use Rattle.wrapper_run.proofs.Apart.{Apart, apart_dealloc, apart_declare, apart_free, apart_lift_text, apart_load, apart_load_small, apart_pure, apart_release, apart_stop, apart_store, apart_store_small, apart_take, apart_then, with_both}
 use Rattle.wrapper_run.proofs.InwardWalk.{Within, walks_block, walks_given}
-use Rattle.wrapper_run.proofs.LocalLemmas.{option_or-None, option_or-assoc}
+use Rattle.wrapper_run.proofs.LocalLemmas.{bytes_eq-same, option_or-None, option_or-assoc}
 use Rattle.wrapper_run.proofs.OwningLemmas.{drops_plain}
+use Rattle.wrapper_run.proofs.ScopeLemmas.{names, names_kept}
 
 abbrev is_named : Bytes → Local → Bool
 is_named name l = bytes_eq l.name name
@@ -68,12 +71,26 @@ some_any name (x ∷ ls) l e = go (some_any name ls) (local_named name ls) refl 
     go ih None is false e = absurd (cc)
     go ih (Some m) is b e = ap (λ c. b || c) (ih m is) ∙ or-true b
 
-moved_behind : (name : Bytes) (xs later : List Local) → list_any (is_named name) later ≡ true → moved name (xs ++ later) ≡ xs ++ moved name later
-moved_behind name [] later has = refl
-moved_behind name (x ∷ xs) later has =
-    ap (λ b. cond b (x ∷ moved name (xs ++ later)) (cond (is_named name x) (emptied x) x ∷ xs ++ later))
+changed_behind : (o : Option Val) (name : Bytes) (xs later : List Local) → list_any (is_named name) later ≡ true → changed o name (xs ++ later) ≡ xs ++ changed o name later
+changed_behind o name [] later has = refl
+changed_behind o name (x ∷ xs) later has =
+    ap (λ b. cond b (x ∷ changed o name (xs ++ later)) (cond (is_named name x) (holding o x) x ∷ xs ++ later))
     (list_any-append (is_named name) xs later ∙ ap (λ b. list_any (is_named name) xs || b) has ∙ or-true (list_any (is_named name) xs))
-    ∙ ap (λ ls. x ∷ ls) (moved_behind name xs later has)
+    ∙ ap (λ ls. x ∷ ls) (changed_behind o name xs later has)
+
+-- a local that stands behind the first ones still does, where names are added alone
+
+any-names : (name : Bytes) (ls : List Local) → list_any (is_named name) ls ≡ list_any (λ n. bytes_eq n name) (names ls)
+any-names name [] = refl
+any-names name (l ∷ ls) = ap (λ b. bytes_eq l.name name || b) (any-names name ls)
+
+named_last : (name : Bytes) (later : List Local) (l : Local) (more : List Bytes) → l.name ≡ name → list_any (λ n. bytes_eq n name) (names (later ++ l ∷ []) ++ more) ≡ true
+named_last name [] l more is = ap (λ b. b || list_any (λ n. bytes_eq n name) more) (ap (λ n. bytes_eq n name) is ∙ bytes_eq-same name)
+named_last name (x ∷ later) l more is = ap (λ b. bytes_eq x.name name || b) (named_last name later l more is) ∙ or-true (bytes_eq x.name name)
+
+named_behind : (name : Bytes) (front later now : List Local) (l : Local) (more : List Bytes) → l.name ≡ name → names (front ++ now) ≡ names (front ++ (later ++ l ∷ [])) ++ more → list_any (is_named name) now ≡ true
+named_behind name [] later now l more is e = any-names name now ∙ ap (list_any (λ n. bytes_eq n name)) e ∙ named_last name later l more is
+named_behind name (x ∷ front) later now l more is e = let rest : names (front ++ now) ≡ names (front ++ (later ++ l ∷ [])) ++ more = cc in named_behind name front later now l more is rest
 
 -- 2. Acts
 
@@ -89,12 +106,13 @@ behind_apart {A = A} act h = record {
         (later, record { locals = locals ∙ b.locals; place = at ∙ b.place }, is)
     go reached outer later place s b (Stopped e t) end same is = λ ns. (outer ++ later, is)
 
+behind_next : {A B : Type 0} (f : A → Act B) → ((a : A) → RunsBehind (f a)) → (reached outer : List Local) (place : Option ℕ) → IsInReach reached outer → (o end : Outcome A) → EndsBehind reached outer place o end
+    → EndsBehind reached outer place (and_then o f) (and_then end f)
+behind_next f k reached outer place r (Done a t) end (later, b, is) = subst (λ z. EndsBehind reached outer place (f a t) (and_then z f)) (sym is) ((k a).alike reached outer later place t r b)
+behind_next f k reached outer place r (Stopped e t) end ends = λ ns. ((ends ns).0, ap (λ z. and_then z f) (ends ns).1)
+
 behind_then : {A B : Type 0} (act : Act A) (f : A → Act B) → RunsBehind act → ((a : A) → RunsBehind (f a)) → RunsBehind (act >>= f)
-behind_then {A = A} {B = B} act f h k = record { alike = λ reached outer later place s r b. go reached outer place r (act s) (act (behind_all outer later place s)) (h.alike reached outer later place s r b) }
-  where
-    go : (reached outer : List Local) (place : Option ℕ) → IsInReach reached outer → (o end : Outcome A) → EndsBehind reached outer place o end → EndsBehind reached outer place (and_then o f) (and_then end f)
-    go reached outer place r (Done a t) end (later, b, is) = subst (λ z. EndsBehind reached outer place (f a t) (and_then z f)) (sym is) ((k a).alike reached outer later place t r b)
-    go reached outer place r (Stopped e t) end ends = λ ns. ((ends ns).0, ap (λ z. and_then z f) (ends ns).1)
+behind_then act f h k = record { alike = λ reached outer later place s r b. behind_next f k reached outer place r (act s) (act (behind_all outer later place s)) (h.alike reached outer later place s r b) }
 
 -- an act by what is read by a name, which is stuck where nothing is
 behind_read : {A : Type 0} (w : Setting) (name : Bytes) (f : Option Val → Act A) → ((s : State) → f None s ≡ Stopped (stuck w) s) → ((v : Val) → RunsBehind (f (Some v))) → RunsBehind (λ s. f (value_of (local_named name s.locals)) s)
@@ -151,8 +169,8 @@ behind_use w name = record { alike = λ reached outer later place s r b. go reac
     moving reached outer later place s r b v e (x ∷ owners) own =
         let has = its_local reached later v r.plain (sym (ap (λ ls. value_of (local_named name ls)) b.locals) ∙ e) (λ none. absurd (cc)) in (
           moved name later,
-          record { locals = ap (moved name) b.locals ∙ moved_behind name reached later has; place = b.place },
-          ap (λ ls. Done v (record s { locals = ls; place = place })) (moved_behind name outer later has),
+          record { locals = ap (moved name) b.locals ∙ changed_behind None name reached later has; place = b.place },
+          ap (λ ls. Done v (record s { locals = ls; place = place })) (changed_behind None name outer later has),
         )
 
     go : (reached outer later : List Local) (place : Option ℕ) (s : State) → IsInReach reached outer → IsBehind reached later s → (o : Option Val) → value_of (local_named name s.locals) ≡ o
@@ -178,26 +196,57 @@ behind_bind name v =
       );
     }
 
-pub behind_within : (w : Setting) → Within w (λ A act. RunsBehind act)
-behind_within w = record {
-  gives = λ A a. behind_apart (pure a) (apart_pure a);
-  stops = λ A e. behind_apart (stop e) (apart_stop e);
-  follows = λ A B act f. behind_then act f;
-  uses = behind_use w;
-  lends = behind_lend w;
-  asks = behind_ask w;
-  binds = behind_bind;
-  declares = λ d. behind_apart (declare d) (apart_declare d);
-  frees = λ address. behind_apart (free w address) (apart_free w address);
-  releases = λ address. behind_apart (release w address) (apart_release w address);
-  deallocates = λ address size. behind_apart (dealloc w address size) (apart_dealloc w address size);
-  takes = behind_take w;
-  lifts = λ v. behind_apart (lift_text w v) (apart_lift_text w v);
-  loads = λ offset ty v. behind_apart (load_word w offset ty v) (apart_load w offset ty v);
-  loads_small = λ offset ty v. behind_apart (load_small w offset ty v) (apart_load_small w offset ty v);
-  stores = λ offset ty v at. behind_apart (store_word w offset ty v at) (apart_store w offset ty v at);
-  stores_small = λ offset ty v at. behind_apart (store_small w offset ty v at) (apart_store_small w offset ty v at);
+-- a slot that stands behind those in reach is written
+written_behind : (w : Setting) (name : Bytes) (v : Val) (reached outer now : List Local) (place : Option ℕ) (t : State) → IsInReach reached outer → IsBehind reached now t → list_any (is_named name) now ≡ true
+    → EndsBehind reached outer place (write_slot (stuck w) name v t) (write_slot (stuck w) name v (behind_all outer now place t))
+unfolding write_slot
+written_behind w name v reached outer now place t r b has = go (value_of (local_named name t.locals)) refl
+  where
+    writing : Option Val → Act (Unit {0})
+    writing o = or_stop (stuck w) (option_and_then (slot_with v) o) >>= give_local name
+
+    at : (o : Option Val) → EndsBehind reached outer place ((or_stop (stuck w) o >>= give_local name) t) ((or_stop (stuck w) o >>= give_local name) (behind_all outer now place t))
+    at None = λ ns. absurd (ns w.item refl)
+    at (Some x) = (
+      changed (Some x) name now,
+      record { locals = ap (changed (Some x) name) b.locals ∙ changed_behind (Some x) name reached now has; place = b.place },
+      ap (λ ls. Done tt (record t { locals = ls; place = place })) (changed_behind (Some x) name outer now has),
+    )
+
+    go : (o : Option Val) → value_of (local_named name t.locals) ≡ o → EndsBehind reached outer place (writing o t) (writing (value_of (local_named name (outer ++ now))) (behind_all outer now place t))
+    go None e = λ ns. absurd (ns w.item refl)
+    go (Some u) e =
+        let reads = read_behind name reached outer now r u (sym (ap (λ ls. value_of (local_named name ls)) b.locals) ∙ e) in
+        subst (λ o. EndsBehind reached outer place (writing (Some u) t) (writing o (behind_all outer now place t))) (sym reads) (at (slot_with v u))
+
+-- a slot is declared and written, and then the act: what gives the value keeps the slot behind those in reach
+behind_writing : (w : Setting) (name : Bytes) (e : Expr) (act : Act (Unit {0})) → RunsBehind (eval w e) → RunsBehind act → RunsBehind (bind name empty_slot >> ((eval w e >>= write_slot (stuck w) name) >> act))
+unfolding bind
+behind_writing w name e act h k = record {
+  alike = λ reached outer later place s r b.
+      let now : State = record s { locals = s.locals ++ slot ∷ [] } in
+      let behind : IsBehind reached (later ++ slot ∷ []) now = record { locals = ap (λ ls. ls ++ slot ∷ []) b.locals ∙ append_assoc reached later (slot ∷ []); place = b.place } in
+      subst (λ ls. EndsBehind reached outer place ((writes >> act) now) ((writes >> act) (record s { locals = ls; place = place }))) (sym (append_assoc outer later (slot ∷ [])))
+      (behind_next (λ _. act) (λ _. k) reached outer place r (writes now) (writes (behind_all outer (later ++ slot ∷ []) place now)) (ends reached outer later place now r behind));
 }
+  where
+    slot : Local
+    slot = record { name = name; value = Some empty_slot }
+
+    writes : Act (Unit {0})
+    writes = eval w e >>= write_slot (stuck w) name
+
+    ends : (reached outer later : List Local) (place : Option ℕ) (s : State) → IsInReach reached outer → IsBehind reached (later ++ slot ∷ []) s
+        → EndsBehind reached outer place (writes s) (writes (behind_all outer (later ++ slot ∷ []) place s))
+    ends reached outer later place s r b = from (eval w e s) (names_kept w e s) (eval w e (behind_all outer (later ++ slot ∷ []) place s)) (h.alike reached outer (later ++ slot ∷ []) place s r b)
+      where
+        from : (o : Outcome Val) → ((t : State) (v : Val) → o ≡ Done v t → (more : List Bytes) × (names t.locals ≡ names s.locals ++ more)) → (end : Outcome Val) → EndsBehind reached outer place o end
+            → EndsBehind reached outer place (and_then o (write_slot (stuck w) name)) (and_then end (write_slot (stuck w) name))
+        from (Done v t) kept end (now, behind, is) =
+            let (more, named) = kept t v refl in
+            let has = named_behind name reached later now slot more refl (sym (ap names behind.locals) ∙ named ∙ ap (λ ls. names ls ++ more) b.locals) in
+            subst (λ z. EndsBehind reached outer place (write_slot (stuck w) name v t) (and_then z (write_slot (stuck w) name))) (sym is) (written_behind w name v reached outer now place t r behind has)
+        from (Stopped x t) kept end ends = λ ns. ((ends ns).0, ap (λ z. and_then z (write_slot (stuck w) name)) (ends ns).1)
 
 -- 3. The end of a scope
 
@@ -262,6 +311,29 @@ behind_scope {A = A} w act h = record {
     go reached outer later place (Stopped e t) end ends = λ ns. ((ends ns).0, ap (λ z. and_then z (λ a. leave_to w (length (outer ++ later)) >> pure a)) (ends ns).1)
 
 -- 4. All inward code
+
+pub behind_within : (w : Setting) → Within w (λ A act. RunsBehind act)
+behind_within w = record {
+  gives = λ A a. behind_apart (pure a) (apart_pure a);
+  stops = λ A e. behind_apart (stop e) (apart_stop e);
+  follows = λ A B act f. behind_then act f;
+  uses = behind_use w;
+  lends = behind_lend w;
+  asks = behind_ask w;
+  binds = behind_bind;
+  declares = λ d. behind_apart (declare d) (apart_declare d);
+  frees = λ address. behind_apart (free w address) (apart_free w address);
+  releases = λ address. behind_apart (release w address) (apart_release w address);
+  deallocates = λ address size. behind_apart (dealloc w address size) (apart_dealloc w address size);
+  takes = behind_take w;
+  lifts = λ v. behind_apart (lift_text w v) (apart_lift_text w v);
+  loads = λ offset ty v. behind_apart (load_word w offset ty v) (apart_load w offset ty v);
+  loads_small = λ offset ty v. behind_apart (load_small w offset ty v) (apart_load_small w offset ty v);
+  stores = λ offset ty v at. behind_apart (store_word w offset ty v at) (apart_store w offset ty v at);
+  stores_small = λ offset ty v at. behind_apart (store_small w offset ty v at) (apart_store_small w offset ty v at);
+  scopes = λ A act. behind_scope w act;
+  writes = behind_writing w;
+}
 
 pub behind_code : (w : Setting) (b : Code) → is_inward b ≡ true → RunsBehind (run_block w b)
 behind_code w = walks_block w (λ A act. RunsBehind act) (behind_within w)

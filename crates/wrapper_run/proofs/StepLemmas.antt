@@ -10,7 +10,7 @@ use Rattle.rust_tree.specs.declared.expr.Expr.TheVariants as expr
 use Rattle.rust_tree.specs.declared.expr.Expr.TheVariants.{rolls-Call, rolls-Cast, rolls-I32FromBool}
 use Rattle.rust_tree.specs.declared.path.Path.{Path}
 use Rattle.rust_tree.specs.declared.runtime_item.RuntimeItem.{RuntimeItem}
-use Rattle.rust_tree.specs.declared.runtime_item.RuntimeItem.TheVariants.{CabiDealloc, StringLift}
+use Rattle.rust_tree.specs.declared.runtime_item.RuntimeItem.TheVariants.{CabiDealloc, InvalidEnumDiscriminant, StringLift}
 use Rattle.std.specs.Str.{is_utf8}
 use Rattle.std.proofs.Common.{Bool, false}
 use Rattle.wrapper_data.specs.declared.run.TrapKind.TheVariants as trap
@@ -50,7 +50,7 @@ use Rattle.wrapper_values.specs.Setting.{Setting, failed, stuck}
 use Rattle.wrapper_values.specs.Typed.{answer_in}
 use Rattle.wrapper_run.proofs.TypedLemmas.{answered_in}
 use Rattle.wrapper_run.specs.Blocks.{dealloc, dealloc_words, drop_local, drop_locals, free, free_all, free_bytes, free_found, free_untaken, keep_locals, leave_to, lift_buffer, lift_text, owned_block, owned_bytes, tested, untaken}
-use Rattle.wrapper_run.specs.Run.{alone, of_runtime, call, call_callee, call_point, call_runtime, callee, answer_act, apply, apply_one, converted_or_lifted, lift_act, ended, eval, eval_step, record_call, result_of, runtime_item_named, take_answer, apply_item}
+use Rattle.wrapper_run.specs.Run.{alone, of_runtime, call, call_callee, call_point, call_runtime, callee, answer_act, apply, apply_one, converted_or_lifted, lift_act, ended, eval, eval_step, no_case, record_call, result_of, runtime_item_named, take_answer, apply_item}
 
 -- values
 
@@ -250,8 +250,13 @@ quiet_dealloc_words w (val.Word (word.Pointer address) ∷ val.Word (word.Length
     quiet_then (dealloc w address size) (λ _. pure (val.Value value.Unit)) (quiet_dealloc w address size) (λ _. quiet_pure (val.Value value.Unit))
 quiet_dealloc_words w _ = record { quiet = λ s. refl }
 
+quiet_no_case : (w : Setting) (vs : List Val) → Quiet (no_case w vs)
+quiet_no_case w [] = record { quiet = λ s. refl }
+quiet_no_case w (v ∷ vs) = record { quiet = λ s. refl }
+
 quiet_applied : (w : Setting) (i : Option RuntimeItem) (vs : List Val) → Quiet (apply w i vs)
 quiet_applied w (Some CabiDealloc) vs = quiet_dealloc_words w vs
+quiet_applied w (Some InvalidEnumDiscriminant) vs = quiet_no_case w vs
 quiet_applied w i vs = quiet_apply_one w i vs
 
 -- a call of a function of `_rt` is no call of a core import

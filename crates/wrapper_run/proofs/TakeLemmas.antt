@@ -23,7 +23,7 @@ use Rattle.wrapper_values.specs.Owning.{owned}
 use Rattle.wrapper_run.specs.Run.{eval, eval_step, take_bytes}
 use Rattle.wrapper_values.specs.Setting.{Setting, failed, stuck}
 use Rattle.wrapper_run.proofs.LocalLemmas.{bytes_eq-same, reads-new, reads_front}
-use Rattle.wrapper_values.proofs.MovedLemmas.{moved_front, moved_last}
+use Rattle.wrapper_values.proofs.ChangedLemmas.{changed_front, changed_last}
 use Rattle.std.specs.List.{list_any}
 use Rattle.std.specs.Str.{bytes_eq}
 use Rattle.wrapper_run.proofs.OwningLemmas.{owned-block, owned-empty}
@@ -79,12 +79,12 @@ uses_text w name p (suc n) s h =
 
 pub use_last : (name : Bytes) (p n : ℕ) (locals : List Local) → after_use n name (locals ++ text_local name p n ∷ []) ≡ locals ++ used_local name p n ∷ []
 use_last name p zero locals = refl
-use_last name p (suc n) locals = moved_last name locals (text_local name p (suc n)) (bytes_eq-same name)
+use_last name p (suc n) locals = changed_last None name locals (text_local name p (suc n)) (bytes_eq-same name)
 
 -- locals of other names behind it stay
 pub use_front : (name : Bytes) (n : ℕ) (front behind : List Local) → list_any (λ l. bytes_eq l.name name) behind ≡ false → after_use n name (front ++ behind) ≡ after_use n name front ++ behind
 use_front name zero front behind e = refl
-use_front name (suc n) front behind e = moved_front name front behind e
+use_front name (suc n) front behind e = changed_front None name front behind e
 
 -- the value of its local, wherever it stands
 pub text_gives : (w : Setting) (name : Bytes) (p n : ℕ) (front behind : List Local) (s : State) → s.locals ≡ (front ++ text_local name p n ∷ []) ++ behind → list_any (λ l. bytes_eq l.name name) behind ≡ false

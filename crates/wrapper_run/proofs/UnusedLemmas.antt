@@ -4,7 +4,6 @@ use Rattle.std.specs.Prelude.{ℤ, nat_eq, nat_lt, option_and_then}
 use Rattle.std.specs.List.{list_any}
 use Rattle.std.specs.Option.{option_map, option_or}
 use Rattle.std.specs.Str.{bytes_eq, is_utf8}
-use Rattle.std.proofs.lemmas.Bool.{or_parts}
 use Rattle.std.proofs.lemmas.List.Elements.{filter-append}
 use Rattle.std.proofs.lemmas.Slice.Eq.{bytes_eq-Decides}
 use Rattle.wit_model.specs.Bytes.{Bytes}
@@ -37,14 +36,19 @@ use Rattle.wrapper_values.specs.Act.{Act, Outcome, Done, Stopped, ◌>>=◌, ◌
 use Rattle.wrapper_run.specs.Blocks.{dealloc, free, free_bytes, free_found, free_untaken, keep_blocks, lift_buffer, lift_text, own, own_block, owned_block, owned_bytes, owner_of, release, release_found, store_small, store_word, take_over, tested, untaken, write_small, write_word}
 use Rattle.wrapper_values.specs.Effect.{integer_of, word_of}
 use Rattle.wrapper_run.specs.Growth.{state_of}
-use Rattle.wrapper_values.specs.Locals.{ask_local, bind, declare, emptied, import_named, lend_local, local_named, moved, usable, use_local, used, value_of}
+use Rattle.wrapper_values.specs.Locals.{ask_local, bind, changed, declare, give_local, holding, import_named, lend_local, local_named, slot_with, usable, use_local, used, value_of, write_slot}
 use Rattle.wrapper_run.specs.Memory.{bytes_from, loaded, loaded_small, stored, stored_small}
 use Rattle.wrapper_values.specs.Owning.{buffer_of, lent, owned, view}
 use Rattle.wrapper_run.specs.Places.{area_in, is_fitting, place_area, place_at, place_static, request_of, static_place, static_pointer, with_area}
 use Rattle.wrapper_run.specs.Run.{answer_act, call_import, call_point, called_with, load_small, load_word, record_call, result_of, take_answer, take_bytes, unhidden}
 use Rattle.wrapper_values.specs.Setting.{Setting, failed, stuck}
-use Rattle.wrapper_run.specs.UnusedLocals.{IgnoresOthers, known_locals, narrowed, narrowed_end, other_locals}
-use Rattle.wrapper_run.proofs.Walk.{Everywhere}
+use Rattle.wrapper_values.proofs.ChangedLemmas.{changed_none}
+use Rattle.wrapper_run.specs.UnusedLocals.{known_locals, narrowed, narrowed_end, other_locals}
+
+-- however it ends, the act ends as it does without the others, and leaves these as they are
+pub record IgnoresOthers {A : Type 0} (known : Bytes → Bool) (act : Act A) : Type 0 where
+  pub same : (s : State) → act (narrowed known s) ≡ narrowed_end known (act s)
+  pub kept : (s : State) → other_locals known (state_of (act s)).locals ≡ other_locals known s.locals
 
 -- acts that do not look at locals, and change none
 
@@ -66,7 +70,7 @@ narrowed-set known ls (Stopped x s) e = ap (λ ls. Stopped x (record s { locals 
 pub unchanged : {A : Type 0} (act : Act A) → Aside act → (s : State) → (state_of (act s)).locals ≡ s.locals
 unchanged act h s = ap (λ o. (state_of o).locals) (h.aside s s.locals) ∙ locals-set s.locals (act s)
 
-ignores_aside : {A : Type 0} (known : Bytes → Bool) (act : Act A) → Aside act → IgnoresOthers known act
+pub ignores_aside : {A : Type 0} (known : Bytes → Bool) (act : Act A) → Aside act → IgnoresOthers known act
 ignores_aside known act h = record {
   same = λ s. h.aside s (known_locals known s.locals) ∙ narrowed-set known s.locals (act s) (unchanged act h s);
   kept = λ s. ap (other_locals known) (unchanged act h s);
@@ -281,60 +285,53 @@ known-any known name k (l ∷ ls) = go (known l.name) refl (known-any known name
     go true e more = ap (λ b. is_named name l || b) more
     go false e more = more ∙ ap (λ b. b || list_any (is_named name) ls) (sym (known-named known name l k e))
 
--- a local that is moved stays in its place
+-- a local whose value changes, or is moved, stays in its place
 
--- where no local has the name, none is moved
-moved_none : (name : Bytes) (ms : List Local) → list_any (is_named name) ms ≡ false → moved name ms ≡ ms
-moved_none name [] e = refl
-moved_none name (m ∷ ms) e =
-    let parts = or_parts (is_named name m) (list_any (is_named name) ms) e in
-    ap (λ b. cond b (m ∷ moved name ms) (cond (is_named name m) (emptied m) m ∷ ms)) parts.1 ∙ ap (λ b. cond b (emptied m) m ∷ ms) parts.0
+abbrev Changes : Option Val → (Bytes → Bool) → Bytes → Local → List Local → Bool → Bool → Bool → Type 0
+Changes v known name l ls b any here = known_locals known (cond any (l ∷ changed v name ls) (cond here (holding v l) l ∷ ls)) ≡ changed v name (cond b (l ∷ known_locals known ls) (known_locals known ls))
 
-abbrev Moves : (Bytes → Bool) → Bytes → Local → List Local → Bool → Bool → Bool → Type 0
-Moves known name l ls b any here = known_locals known (cond any (l ∷ moved name ls) (cond here (emptied l) l ∷ ls)) ≡ moved name (cond b (l ∷ known_locals known ls) (known_locals known ls))
-
-moved_known : (known : Bytes → Bool) (name : Bytes) → known name ≡ true → (ls : List Local) → known_locals known (moved name ls) ≡ moved name (known_locals known ls)
-moved_known known name k [] = refl
-moved_known known name k (l ∷ ls) = go (known l.name) (list_any (is_named name) ls) (bytes_eq l.name name) refl refl refl (moved_known known name k ls)
+changed_known : (v : Option Val) (known : Bytes → Bool) (name : Bytes) → known name ≡ true → (ls : List Local) → known_locals known (changed v name ls) ≡ changed v name (known_locals known ls)
+changed_known v known name k [] = refl
+changed_known v known name k (l ∷ ls) = go (known l.name) (list_any (is_named name) ls) (bytes_eq l.name name) refl refl refl (changed_known v known name k ls)
   where
-    go : (b any here : Bool) → known l.name ≡ b → list_any (is_named name) ls ≡ any → bytes_eq l.name name ≡ here → known_locals known (moved name ls) ≡ moved name (known_locals known ls)
-        → Moves known name l ls b any here
+    go : (b any here : Bool) → known l.name ≡ b → list_any (is_named name) ls ≡ any → bytes_eq l.name name ≡ here → known_locals known (changed v name ls) ≡ changed v name (known_locals known ls)
+        → Changes v known name l ls b any here
     go true true here e f g more =
-        ap (λ b. cond b (l ∷ known_locals known (moved name ls)) (known_locals known (moved name ls))) e ∙ ap (λ more. l ∷ more) more
-        ∙ ap (λ b. cond b (l ∷ moved name (known_locals known ls)) (cond (is_named name l) (emptied l) l ∷ known_locals known ls)) (sym (known-any known name k ls ∙ f))
+        ap (λ b. cond b (l ∷ known_locals known (changed v name ls)) (known_locals known (changed v name ls))) e ∙ ap (λ more. l ∷ more) more
+        ∙ ap (λ b. cond b (l ∷ changed v name (known_locals known ls)) (cond (is_named name l) (holding v l) l ∷ known_locals known ls)) (sym (known-any known name k ls ∙ f))
     go true false true e f g more =
-        ap (λ b. cond b (emptied l ∷ known_locals known ls) (known_locals known ls)) e
-        ∙ ap (λ b. cond b (emptied l) l ∷ known_locals known ls) (sym g)
-        ∙ ap (λ b. cond b (l ∷ moved name (known_locals known ls)) (cond (is_named name l) (emptied l) l ∷ known_locals known ls)) (sym (known-any known name k ls ∙ f))
+        ap (λ b. cond b (holding v l ∷ known_locals known ls) (known_locals known ls)) e
+        ∙ ap (λ b. cond b (holding v l) l ∷ known_locals known ls) (sym g)
+        ∙ ap (λ b. cond b (l ∷ changed v name (known_locals known ls)) (cond (is_named name l) (holding v l) l ∷ known_locals known ls)) (sym (known-any known name k ls ∙ f))
     go true false false e f g more =
         ap (λ b. cond b (l ∷ known_locals known ls) (known_locals known ls)) e
-        ∙ ap (λ b. cond b (emptied l) l ∷ known_locals known ls) (sym g)
-        ∙ ap (λ b. cond b (l ∷ moved name (known_locals known ls)) (cond (is_named name l) (emptied l) l ∷ known_locals known ls)) (sym (known-any known name k ls ∙ f))
-    go false true here e f g more = ap (λ b. cond b (l ∷ known_locals known (moved name ls)) (known_locals known (moved name ls))) e ∙ more
+        ∙ ap (λ b. cond b (holding v l) l ∷ known_locals known ls) (sym g)
+        ∙ ap (λ b. cond b (l ∷ changed v name (known_locals known ls)) (cond (is_named name l) (holding v l) l ∷ known_locals known ls)) (sym (known-any known name k ls ∙ f))
+    go false true here e f g more = ap (λ b. cond b (l ∷ known_locals known (changed v name ls)) (known_locals known (changed v name ls))) e ∙ more
     go false false true e f g more = let other = known-named known name l k e in absurd (cc)
     go false false false e f g more =
-        ap (λ b. cond b (l ∷ known_locals known ls) (known_locals known ls)) e ∙ sym (moved_none name (known_locals known ls) (known-any known name k ls ∙ f))
+        ap (λ b. cond b (l ∷ known_locals known ls) (known_locals known ls)) e ∙ sym (changed_none v name (known_locals known ls) (known-any known name k ls ∙ f))
 
-moved_other : (known : Bytes → Bool) (name : Bytes) → known name ≡ true → (ls : List Local) → other_locals known (moved name ls) ≡ other_locals known ls
-moved_other known name k [] = refl
-moved_other known name k (l ∷ ls) = go (list_any (is_named name) ls) (bytes_eq l.name name) refl (moved_other known name k ls)
+changed_other : (v : Option Val) (known : Bytes → Bool) (name : Bytes) → known name ≡ true → (ls : List Local) → other_locals known (changed v name ls) ≡ other_locals known ls
+changed_other v known name k [] = refl
+changed_other v known name k (l ∷ ls) = go (list_any (is_named name) ls) (bytes_eq l.name name) refl (changed_other v known name k ls)
   where
-    go : (any here : Bool) → bytes_eq l.name name ≡ here → other_locals known (moved name ls) ≡ other_locals known ls
-        → other_locals known (cond any (l ∷ moved name ls) (cond here (emptied l) l ∷ ls)) ≡ other_locals known (l ∷ ls)
+    go : (any here : Bool) → bytes_eq l.name name ≡ here → other_locals known (changed v name ls) ≡ other_locals known ls
+        → other_locals known (cond any (l ∷ changed v name ls) (cond here (holding v l) l ∷ ls)) ≡ other_locals known (l ∷ ls)
     go true here g more = ap (λ more. cond (not (known l.name)) (l ∷ more) more) more
     go false false g more = refl
     go false true g more =
         let is : l.name ≡ name = (bytes_eq-Decides l.name name).0 g in
         let here : known l.name ≡ true = ap known is ∙ k in
-        ap (λ b. cond (not b) (emptied l ∷ other_locals known ls) (other_locals known ls)) here ∙ ap (λ b. cond (not b) (l ∷ other_locals known ls) (other_locals known ls)) (sym here)
+        ap (λ b. cond (not b) (holding v l ∷ other_locals known ls) (other_locals known ls)) here ∙ ap (λ b. cond (not b) (l ∷ other_locals known ls) (other_locals known ls)) (sym here)
 
 -- acts on locals
 
 ignores_used : (known : Bytes → Bool) (name : Bytes) (v : Val) (addresses : List ℕ) → known name ≡ true → IgnoresOthers known (used name v addresses)
 ignores_used known name v [] k = ignores_aside known (pure v) (aside_pure v)
 ignores_used known name v (a ∷ more) k = record {
-  same = λ s. ap (λ ls. Done v (record s { locals = ls })) (sym (moved_known known name k s.locals));
-  kept = λ s. moved_other known name k s.locals;
+  same = λ s. ap (λ ls. Done v (record s { locals = ls })) (sym (changed_known None known name k s.locals));
+  kept = λ s. changed_other None known name k s.locals;
 }
 
 ignores_then : {A B : Type 0} (known : Bytes → Bool) (act : Act A) (f : A → Act B) → IgnoresOthers known act → ((a : A) → IgnoresOthers known (f a)) → IgnoresOthers known (act >>= f)
@@ -358,26 +355,26 @@ ignores_named known name f k h = record {
   kept = λ s. (h (local_named name s.locals)).kept s;
 }
 
-ignores_use : (known : Bytes → Bool) (e : Stop) (name : Bytes) → known name ≡ true → IgnoresOthers known (use_local e name)
+pub ignores_use : (known : Bytes → Bool) (e : Stop) (name : Bytes) → known name ≡ true → IgnoresOthers known (use_local e name)
 unfolding use_local
 ignores_use known e name k =
     ignores_named known name (λ o. or_stop e (option_and_then usable (value_of o)) >>= (λ v. used name v (owned v))) k
     (λ o. ignores_then known (or_stop e (option_and_then usable (value_of o))) (λ v. used name v (owned v))
     (ignores_aside known (or_stop e (option_and_then usable (value_of o))) (aside_or_stop e (option_and_then usable (value_of o)))) (λ v. ignores_used known name v (owned v) k))
 
-ignores_lend : (known : Bytes → Bool) (e : Stop) (name : Bytes) → known name ≡ true → IgnoresOthers known (lend_local e name)
+pub ignores_lend : (known : Bytes → Bool) (e : Stop) (name : Bytes) → known name ≡ true → IgnoresOthers known (lend_local e name)
 unfolding lend_local
 ignores_lend known e name k =
     ignores_named known name (λ o. or_stop e (option_and_then lent (value_of o))) k
     (λ o. ignores_aside known (or_stop e (option_and_then lent (value_of o))) (aside_or_stop e (option_and_then lent (value_of o))))
 
-ignores_ask : (known : Bytes → Bool) (e : Stop) (of : View) (name : Bytes) → known name ≡ true → IgnoresOthers known (ask_local e of name)
+pub ignores_ask : (known : Bytes → Bool) (e : Stop) (of : View) (name : Bytes) → known name ≡ true → IgnoresOthers known (ask_local e of name)
 unfolding ask_local
 ignores_ask known e of name k =
     ignores_named known name (λ o. or_stop e (option_map val.Word (option_and_then (view of) (value_of o)))) k
     (λ o. ignores_aside known (or_stop e (option_map val.Word (option_and_then (view of) (value_of o)))) (aside_or_stop e (option_map val.Word (option_and_then (view of) (value_of o)))))
 
-ignores_bind : (known : Bytes → Bool) (name : Bytes) (v : Val) → known name ≡ true → IgnoresOthers known (bind name v)
+pub ignores_bind : (known : Bytes → Bool) (name : Bytes) (v : Val) → known name ≡ true → IgnoresOthers known (bind name v)
 unfolding bind
 ignores_bind known name v k =
     let l : Local = record { name = name; value = Some v } in
@@ -387,33 +384,22 @@ ignores_bind known name v k =
       kept = λ s. filter-append (λ (l : Local). not (known l.name)) s.locals (l ∷ []) ∙ ap (λ b. other_locals known s.locals ++ cond (not b) (l ∷ []) []) k ∙ append-nil (other_locals known s.locals);
     }
 
-ignores_take : (w : Setting) (known : Bytes → Bool) (name : Bytes) (v : Val) → known name ≡ true → IgnoresOthers known (λ s. take_bytes w (value_of (local_named name s.locals)) v s)
+pub ignores_take : (w : Setting) (known : Bytes → Bool) (name : Bytes) (v : Val) → known name ≡ true → IgnoresOthers known (λ s. take_bytes w (value_of (local_named name s.locals)) v s)
 ignores_take w known name v k = ignores_named known name (λ o. take_bytes w (value_of o) v) k (λ o. ignores_aside known (take_bytes w (value_of o) v) (aside_take w (value_of o) v))
 
-ignores_import : (w : Setting) (known : Bytes → Bool) (name : Bytes) (vs : List Val) → known name ≡ true → IgnoresOthers known (call_import w name vs)
+pub ignores_import : (w : Setting) (known : Bytes → Bool) (name : Bytes) (vs : List Val) → known name ≡ true → IgnoresOthers known (call_import w name vs)
 unfolding call_point
 ignores_import w known name vs k = ignores_named known name (λ l. call_with w l name vs) k (λ l. ignores_aside known (call_with w l name vs) (aside_call w l name vs))
 
-pub ignores_everywhere : (w : Setting) (known : Bytes → Bool) → Everywhere w known (λ A act. IgnoresOthers known act)
-ignores_everywhere w known = record {
-  gives = λ A a. ignores_aside known (pure a) (aside_pure a);
-  stops = λ A e. ignores_aside known (stop e) (aside_stop e);
-  follows = λ A B act f. ignores_then known act f;
-  uses = ignores_use known (stuck w);
-  lends = ignores_lend known (stuck w);
-  asks = ignores_ask known (stuck w);
-  binds = ignores_bind known;
-  declares = λ d. ignores_aside known (declare d) (aside_declare d);
-  frees = λ address. ignores_aside known (free w address) (aside_free w address);
-  releases = λ address. ignores_aside known (release w address) (aside_release w address);
-  deallocates = λ address size. ignores_aside known (dealloc w address size) (aside_dealloc w address size);
-  takes = ignores_take w known;
-  lifts = λ v. ignores_aside known (lift_text w v) (aside_lift_text w v);
-  loads = λ offset ty v. ignores_aside known (load_word w offset ty v) (aside_load w offset ty v);
-  loads_small = λ offset ty v. ignores_aside known (load_small w offset ty v) (aside_load_small w offset ty v);
-  stores = λ offset ty v at. ignores_aside known (store_word w offset ty v at) (aside_store w offset ty v at);
-  stores_small = λ offset ty v at. ignores_aside known (store_small w offset ty v at) (aside_store_small w offset ty v at);
-  places = λ r. ignores_aside known (place_area w r) (aside_place w r);
-  static = ignores_aside known (static_pointer w) (aside_static w);
-  calls = ignores_import w known;
-}
+pub ignores_write : (known : Bytes → Bool) (e : Stop) (name : Bytes) (v : Val) → known name ≡ true → IgnoresOthers known (write_slot e name v)
+unfolding write_slot
+ignores_write known e name v k =
+    ignores_named known name (λ o. or_stop e (option_and_then (slot_with v) (value_of o)) >>= give_local name) k
+    (λ o. ignores_then known (or_stop e (option_and_then (slot_with v) (value_of o))) (give_local name)
+    (ignores_aside known (or_stop e (option_and_then (slot_with v) (value_of o))) (aside_or_stop e (option_and_then (slot_with v) (value_of o)))) gives)
+  where
+    gives : (x : Val) → IgnoresOthers known (give_local name x)
+    gives x = record {
+      same = λ s. ap (λ ls. Done tt (record s { locals = ls })) (sym (changed_known (Some x) known name k s.locals));
+      kept = λ s. changed_other (Some x) known name k s.locals;
+    }

@@ -13,11 +13,11 @@ use Rattle.rust_tree.specs.declared.item.Item.{Item}
 use Rattle.rust_tree.specs.declared.item.Item.TheVariants as item
 use Rattle.rust_tree.specs.declared.path.Path.{Path}
 use Rattle.rust_tree.specs.declared.runtime_item.RuntimeItem.{RuntimeItem}
-use Rattle.rust_tree.specs.declared.runtime_item.RuntimeItem.TheVariants.{CabiDealloc, StringLift}
-use Rattle.rust_tree.specs.declared.stmt.Block.{Block}
+use Rattle.rust_tree.specs.declared.runtime_item.RuntimeItem.TheVariants.{CabiDealloc, InvalidEnumDiscriminant, StringLift}
+use Rattle.rust_tree.specs.declared.stmt.Arm.{Arm, Arm-F, fold-Arm}
+use Rattle.rust_tree.specs.declared.stmt.Block.{Block, Block-F, fold-Block, out-Block}
 use Rattle.rust_tree.specs.declared.stmt.ImportDecl.{ImportDecl}
-use Rattle.rust_tree.specs.declared.stmt.Stmt.{Stmt}
-use Rattle.rust_tree.specs.declared.stmt.Stmt.TheVariants as stmt
+use Rattle.rust_tree.specs.declared.stmt.Stmt.{Stmt, Stmt-F, fold-Stmt}
 use Rattle.rust_tree.specs.declared.type_expr.TypeExpr.{TypeExpr}
 use Rattle.rust_tree.specs.Runtime.{item_name}
 use Rattle.rust_tree.specs.Tree.{Tree, wrappers_of}
@@ -38,6 +38,8 @@ use Rattle.wrapper_data.specs.declared.value.RustValue.TheVariants as value
 use Rattle.wrapper_data.specs.declared.word.Word.{Word}
 use Rattle.wrapper_data.specs.declared.word.Word.TheVariants as word
 use Rattle.wrapper_data.specs.declared.run.TrapKind.TheVariants as trap
+use Rattle.wrapper_values.specs.declared.core_words.CoreFn.{CoreFn}
+use Rattle.wrapper_values.specs.declared.core_words.CoreFn.TheVariants as core_fn
 use Rattle.wrapper_values.specs.declared.state.Local.{Local}
 use Rattle.wrapper_values.specs.declared.state.State.{State}
 use Rattle.wrapper_values.specs.declared.owning.View.TheVariants as view_of
@@ -45,16 +47,21 @@ use Rattle.wrapper_values.specs.declared.state.Val.{Val}
 use Rattle.wrapper_values.specs.declared.state.Val.TheVariants as val
 use Rattle.wrapper_values.specs.Setting.{Setting, failed, stuck}
 use Rattle.wrapper_run.specs.Blocks.{boxed, dealloc_words, drop_value, forget, leave_to, lift_text, store_small, store_word, take_over}
+use Rattle.wrapper_run.specs.Arms.{ArmAct, run_match}
+use Rattle.wrapper_run.specs.LastParts.{results}
 use Rattle.wrapper_run.specs.Places.{declare_area, static_pointer}
 use Rattle.wrapper_run.specs.Memory.{loaded, loaded_small}
 use Rattle.wrapper_values.specs.Whole.{record_of, take_apart, whole}
 use Rattle.wrapper_values.specs.Owning.{taken_by}
 use Rattle.wrapper_values.specs.Act.{Act, Outcome, Done, Stopped, ◌>>=◌, ◌>>◌, all, or_stop, pure, stop}
 use Rattle.wrapper_values.specs.Effect.{cast_to, converted, is_word_of, lift_of, word_of, word_of_bool}
+use Rattle.wrapper_values.specs.CoreWords.{called_on, core_word, empty_slot, zero_word}
 use Rattle.wrapper_values.specs.Enums.{enum_lift_of, word_of_case}
 use Rattle.wrapper_values.specs.Flags.{flags_of_words}
 use Rattle.wrapper_values.specs.Typed.{answer_in}
-use Rattle.wrapper_values.specs.Locals.{ask_local, bind, declare, import_named, lend_local, local_named, use_local, value_of}
+use Rattle.wrapper_values.specs.Locals.{ask_local, bind, declare, import_named, lend_local, local_named, use_local, value_of, write_slot}
+use Rattle.wrapper_values.specs.Matches.{assert_last}
+use Rattle.wrapper_values.specs.Variants.{bare_case, full_case, number_at_root, number_in_core}
 use Rattle.wit_model.specs.Bytes.{Bytes}
 
 -- names
@@ -71,11 +78,15 @@ abbrev pub runtime_item_named : List Item → Bytes → Option RuntimeItem
 runtime_item_named [] name = None
 runtime_item_named (i ∷ items) name = option_or (found_in i name) (runtime_item_named items name)
 
--- what a path of a call names: a name alone, a function of `_rt`, `_lift` of a type of the file, `::core::mem::forget`, or nothing
+-- what a path of a call names: a name alone, a function of `_rt`, `_lift` of a type of the file, a case of one, a case of `Option` or
+-- `Result`, a function of the core library on core values, `::core::mem::forget`, or nothing
 pub data Callee : Type 0 where
   alone : Bytes → Callee
   of_runtime : Bytes → Callee
   enum_lift : Bytes → Callee
+  root_case : (ty name : Bytes) → Callee
+  core_case : ℕ → Callee
+  core_function : CoreFn → Callee
   core_forget : Callee
   unknown : Callee
 
@@ -85,9 +96,25 @@ runtime_module_name = codes "_rt"
 unfoldable pub lift_name : Bytes
 lift_name = codes "_lift"
 
--- a function of a type
+unfoldable pub is_i64_from : (first name : Bytes) → Bool
+is_i64_from first name = bytes_eq first (codes "i64") && bytes_eq name (codes "from")
+
+unfoldable pub is_f32_from_bits : (first name : Bytes) → Bool
+is_f32_from_bits first name = bytes_eq first (codes "f32") && bytes_eq name (codes "from_bits")
+
+unfoldable pub is_f64_from_bits : (first name : Bytes) → Bool
+is_f64_from_bits first name = bytes_eq first (codes "f64") && bytes_eq name (codes "from_bits")
+
+-- a function of a number type, or a case of a type of the file
+abbrev pub member_callee : (first name : Bytes) → Callee
+member_callee first name =
+    if is_i64_from first name then core_function core_fn.I64From
+    else (if is_f32_from_bits first name then core_function core_fn.F32FromBits
+    else (if is_f64_from_bits first name then core_function core_fn.F64FromBits else root_case first name))
+
+-- what stands behind the name of a type
 abbrev pub type_callee : (first name : Bytes) → Callee
-type_callee first name = if bytes_eq name lift_name then enum_lift first else unknown
+type_callee first name = if bytes_eq name lift_name then enum_lift first else member_callee first name
 
 abbrev pub names_callee : List Bytes → Callee
 names_callee [] = unknown
@@ -98,9 +125,19 @@ names_callee (_ ∷ _ ∷ _ ∷ _) = unknown
 unfoldable pub is_core_forget : (first second third : Bytes) → Bool
 is_core_forget first second third = bytes_eq first (codes "core") && (bytes_eq second (codes "mem") && bytes_eq third (codes "forget"))
 
+unfoldable pub is_new_slot : (first second third fourth : Bytes) → Bool
+is_new_slot first second third fourth =
+    bytes_eq first (codes "core") && (bytes_eq second (codes "mem") && (bytes_eq third (codes "MaybeUninit") && bytes_eq fourth (codes "new")))
+
+abbrev pub case_callee : Option ℕ → Callee
+case_callee None = unknown
+case_callee (Some number) = core_case number
+
 -- by the names behind a leading `::`
 abbrev pub absolute_callee : List Bytes → Callee
 absolute_callee (first ∷ second ∷ third ∷ []) = if is_core_forget first second third then core_forget else unknown
+absolute_callee (first ∷ second ∷ third ∷ fourth ∷ []) =
+    if is_new_slot first second third fourth then core_function core_fn.NewSlot else case_callee (number_in_core (first ∷ second ∷ third ∷ fourth ∷ []))
 absolute_callee _ = unknown
 
 abbrev pub path_callee : Bool → ℕ → List Bytes → Callee
@@ -177,8 +214,14 @@ abbrev pub apply_one : Setting → Option RuntimeItem → List Val → Act Val
 apply_one w (Some i) (v ∷ []) = apply_item w i v
 apply_one w _ _ = stop (stuck w)
 
+-- what is called, without arguments, where a number is that of no case
+abbrev pub no_case : Setting → List Val → Act Val
+no_case w [] = stop (failed w trap.Discriminant)
+no_case w (_ ∷ _) = stop (stuck w)
+
 abbrev pub apply : Setting → Option RuntimeItem → List Val → Act Val
 apply w (Some CabiDealloc) vs = dealloc_words w vs
+apply w (Some InvalidEnumDiscriminant) vs = no_case w vs
 apply w i vs = apply_one w i vs
 
 unfoldable pub call_runtime : Setting → Bytes → List Val → Act Val
@@ -189,6 +232,16 @@ abbrev pub lift_case : Setting → Bytes → List Val → Act Val
 lift_case w name (v ∷ []) = lift_act w (enum_lift_of w.items name v)
 lift_case w name _ = stop (stuck w)
 
+-- a case with one value as its payload
+abbrev pub make_case : Setting → Option ℕ → List Val → Act Val
+make_case w number (v ∷ []) = or_stop (stuck w) (full_case number v)
+make_case w number _ = stop (stuck w)
+
+-- a function of the core library takes one value
+abbrev pub call_core : Setting → CoreFn → List Val → Act Val
+call_core w f (v ∷ []) = or_stop (stuck w) (option_map val.Word (core_word f v))
+call_core w f _ = stop (stuck w)
+
 -- one value is forgotten
 abbrev pub forget_one : Setting → List Val → Act Val
 forget_one w (v ∷ []) = forget w v
@@ -198,6 +251,9 @@ abbrev pub call_callee : Setting → Callee → List Val → Act Val
 call_callee w (alone name) vs = call_import w name vs
 call_callee w (of_runtime name) vs = call_runtime w name vs
 call_callee w (enum_lift name) vs = lift_case w name vs
+call_callee w (root_case ty name) vs = make_case w (number_at_root w.items ty name) vs
+call_callee w (core_case number) vs = make_case w (Some number) vs
+call_callee w (core_function f) vs = call_core w f vs
 call_callee w core_forget vs = forget_one w vs
 call_callee w unknown vs = stop (stuck w)
 
@@ -249,26 +305,55 @@ eval_step w Expr-F.StaticPointer = static_pointer w
 eval_step w (Expr-F.Size size) = or_stop (stuck w) (size_word size)
 eval_step w (Expr-F.Record path fields) = record_of w path fields
 eval_step w (Expr-F.Tuple parts) = whole w parts
+eval_step w Expr-F.Unit = pure (val.Value value.Unit)
 eval_step w (Expr-F.Array parts) = whole w parts
 eval_step w (Expr-F.EnumNumber e) = e >>= (λ v. or_stop (stuck w) (option_map val.Word (word_of_case v)))
 eval_step w (Expr-F.FlagsBits name by) = ask_local (stuck w) (view_of.FlagsWord by) name
 eval_step w (Expr-F.FlagsOfWords path repr words) = flags_of_words w path repr words
+eval_step w (Expr-F.I32Const n) = pure (val.Word (word.I32 n))
+eval_step w (Expr-F.Zero ty) = pure (val.Word (zero_word ty))
+eval_step w (Expr-F.Case path) = or_stop (stuck w) (bare_case w.items path)
+eval_step w (Expr-F.Method e method) = e >>= (λ v. or_stop (stuck w) (called_on method v))
 
 abbrev pub eval : Setting → Expr → Act Val
 eval w = fold-Expr (Act Val) (eval_step w)
 
+-- one act after the other
+abbrev pub each : List (Act (Unit {0})) → Act (Unit {0})
+each [] = pure tt
+each (act ∷ acts) = act >> each acts
+
+-- one level of a statement, with the acts of the statements, the arms and the blocks in it; a block in it gives its results
+abbrev pub stmt_step : Setting → Stmt-F (Act (Unit {0})) ArmAct (Act (List Val)) → Act (Unit {0})
+stmt_step w (Stmt-F.Import d) = declare d
+stmt_step w (Stmt-F.Let name e) = eval w e >>= bind name
+stmt_step w (Stmt-F.Expr e) = eval w e >>= drop_value w
+stmt_step w (Stmt-F.Area a) = declare_area w a
+stmt_step w (Stmt-F.LetParts p e) = eval w e >>= take_apart w p
+stmt_step w (Stmt-F.Store address offset ty value) = eval w value >>= (λ v. eval w address >>= store_word w offset ty v)
+stmt_step w (Stmt-F.StoreSmall address offset ty value) = eval w value >>= (λ v. eval w address >>= store_small w offset ty v)
+stmt_step w (Stmt-F.Match names e arms) = eval w e >>= run_match w names arms
+stmt_step w (Stmt-F.AssertLast name n) = lend_local (stuck w) name >>= assert_last w n
+stmt_step w (Stmt-F.LetSlot name) = bind name empty_slot
+stmt_step w (Stmt-F.WriteSlot name e) = eval w e >>= write_slot (stuck w) name
+
+abbrev pub arm_step : Arm-F (Act (Unit {0})) ArmAct (Act (List Val)) → ArmAct
+arm_step a = (a.pattern, a.body)
+
+abbrev pub block_step : Setting → Block-F (Act (Unit {0})) ArmAct (Act (List Val)) → Act (List Val)
+block_step w b = each b.stmts >> all (map (eval w) (results b.tail))
+
 abbrev pub run_stmt : Setting → Stmt → Act (Unit {0})
-run_stmt w (stmt.Import d) = declare d
-run_stmt w (stmt.Let name e) = eval w e >>= bind name
-run_stmt w (stmt.Expr e) = eval w e >>= drop_value w
-run_stmt w (stmt.Area a) = declare_area w a
-run_stmt w (stmt.LetParts p e) = eval w e >>= take_apart w p
-run_stmt w (stmt.Store address offset ty value) = eval w value >>= (λ v. eval w address >>= store_word w offset ty v)
-run_stmt w (stmt.StoreSmall address offset ty value) = eval w value >>= (λ v. eval w address >>= store_small w offset ty v)
+run_stmt w = fold-Stmt (Act (Unit {0})) ArmAct (Act (List Val)) (stmt_step w) arm_step (block_step w)
+
+abbrev pub arm_act : Setting → Arm → ArmAct
+arm_act w = fold-Arm (Act (Unit {0})) ArmAct (Act (List Val)) (stmt_step w) arm_step (block_step w)
+
+abbrev pub block_act : Setting → Block → Act (List Val)
+block_act w = fold-Block (Act (Unit {0})) ArmAct (Act (List Val)) (stmt_step w) arm_step (block_step w)
 
 abbrev pub run_stmts : Setting → List Stmt → Act (Unit {0})
-run_stmts w [] = pure tt
-run_stmts w (s ∷ stmts) = run_stmt w s >> run_stmts w stmts
+run_stmts w stmts = each (map (run_stmt w) stmts)
 
 -- a block without a tail is `()`
 abbrev pub run_tail : Setting → Option Expr → Act Val
@@ -276,7 +361,7 @@ run_tail w None = pure (val.Value value.Unit)
 run_tail w (Some e) = eval w e
 
 abbrev pub run_block : Setting → Block → Act Val
-run_block w b = run_stmts w b.stmts >> run_tail w b.tail
+run_block w b = run_stmts w (out-Block b).stmts >> run_tail w (out-Block b).tail
 
 -- the whole run of an import's wrapper
 

@@ -1,8 +1,12 @@
 //! What a body does.
 
 ghost use Rattle.std.specs.Prelude.{◌≡◌, map};
-ghost use Rattle.wrapper_values.specs.Act.{Runs, all};
-ghost use Rattle.wrapper_run.specs.Results.{results, run_inner, run_results};
+ghost use Rattle.rust_tree.specs.declared.stmt.Arm.{out-Arm};
+ghost use Rattle.wrapper_values.specs.Act.{Runs, all, and_then};
+ghost use Rattle.wrapper_values.specs.Matches.{enter_arm};
+ghost use Rattle.wrapper_run.specs.Arms as arms_spec;
+ghost use Rattle.wrapper_run.specs.LastParts.{results};
+ghost use Rattle.wrapper_run.specs.Results.{run_inner, run_results};
 ghost use Rattle.wrapper_run.specs.Run as spec;
 ghost use Rattle.wrapper_values.specs.Setting.{setting};
 
@@ -11,12 +15,17 @@ use crate::freeing::{drop_value, leave_to};
 use crate::places::declare_area;
 use crate::small::store_small;
 use crate::store::store_word;
-use rust_tree::{Block, Expr, Stmt};
+use rust_tree::{Arm, Block, Expr, MatchNames, Stmt};
 use std::alloc::Global;
 use wit_model::List;
-use wrapper_data::RustValue;
-use wrapper_values::{Halt, State, Val, World, bind, declare, take_apart};
+use wrapper_data::{RustValue, Word};
+use wrapper_values::{
+    Halt, State, Val, World, assert_last, bind, bind_results, declare, enter_arm, lend_local,
+    take_apart, takes, write_slot,
+};
 
+/// Runs a statement.
+#[cycle(run)]
 fn run_stmt(alloc: Global, world: &World, state: &mut State, s: &Stmt) -> Result<(), Halt>
     ensures { Runs (spec.run_stmt (setting world.now) s.now state.old) result state.new }
 {
@@ -45,9 +54,93 @@ fn run_stmt(alloc: Global, world: &World, state: &mut State, s: &Stmt) -> Result
             let address = eval(alloc, world, state, address)?;
             store_small(alloc, world, state, offset, *ty, &v, &address)
         }
+        Stmt::Match(names, e, arms) => {
+            let v = eval(alloc, world, state, e)?;
+            run_match(alloc, world, state, names, arms.as_slice(), &v)
+        }
+        Stmt::AssertLast(name, n) => {
+            let v = lend_local(alloc, world.stuck(), state, name)?;
+            assert_last(world, state, *n, &v)
+        }
+        Stmt::LetSlot(name) => bind(alloc, state, name, Val::Word(Word::Slot(None))),
+        Stmt::WriteSlot(name, e) => {
+            let pointer = eval(alloc, world, state, e)?;
+            write_slot(alloc, world.stuck(), state, name, &pointer)
+        }
     }
 }
 
+/// Runs the first arm that takes a value, and binds the names of the `match` to its results.
+#[cycle(run)]
+fn run_match(
+    alloc: Global,
+    world: &World,
+    state: &mut State,
+    names: &MatchNames,
+    arms: &[Arm],
+    v: &Val,
+) -> Result<(), Halt>
+    ensures { Runs (arms_spec.run_match (setting world.now) names.now (map (spec.arm_act (setting world.now)) arms.now) v.now state.old) result state.new }
+{
+    let vs = run_arms(alloc, world, state, arms, v)?;
+    bind_results(alloc, world, state, names, vs.as_slice())
+}
+
+/// Runs the first arm that takes a value, and gives the values of its results.
+#[cycle(run)]
+fn run_arms(
+    alloc: Global,
+    world: &World,
+    state: &mut State,
+    arms: &[Arm],
+    v: &Val,
+) -> Result<List<Val>, Halt>
+    ensures { Runs (arms_spec.run_arms (setting world.now) v.now (map (spec.arm_act (setting world.now)) arms.now) state.old) result state.new }
+{
+    for arm in arms {
+        match takes(world.items, &arm.pattern, v) {
+            None => return Err(Halt::Stopped(world.stuck())),
+            Some(true) => return run_arm(alloc, world, state, arm, v),
+            Some(false) => {}
+        }
+    }
+    Err(Halt::Stopped(world.stuck()))
+}
+
+/// Runs an arm that takes a value in a scope of its own, and gives the values of its results.
+#[cycle(run)]
+fn run_arm(
+    alloc: Global,
+    world: &World,
+    state: &mut State,
+    arm: &Arm,
+    v: &Val,
+) -> Result<List<Val>, Halt>
+    ensures { Runs (arms_spec.run_arm (setting world.now) v.now (spec.arm_act (setting world.now) arm.now) state.old) result state.new }
+{
+    let outer = state.locals.len();
+    let vs = run_arm_inside(alloc, world, state, arm, v)?;
+    leave_to(alloc, world, state, outer)?;
+    Ok(vs)
+}
+
+/// Runs an arm in the scope that is there.
+#[cycle(run)]
+fn run_arm_inside(
+    alloc: Global,
+    world: &World,
+    state: &mut State,
+    arm: &Arm,
+    v: &Val,
+) -> Result<List<Val>, Halt>
+    ensures { Runs (and_then (enter_arm (setting world.now) (out-Arm arm.now).pattern v.now state.old) (λ _. run_results (setting world.now) (out-Arm arm.now).body)) result state.new }
+{
+    enter_arm(alloc, world, state, &arm.pattern, v)?;
+    run_results(alloc, world, state, &arm.body)
+}
+
+/// Runs statements, one after another.
+#[cycle(run)]
 pub(crate) fn run_stmts(
     alloc: Global,
     world: &World,
@@ -99,6 +192,7 @@ fn eval_results(
 }
 
 /// Runs a block, and gives the values of its results.
+#[cycle(run)]
 fn run_results(
     alloc: Global,
     world: &World,

@@ -17,8 +17,8 @@ use std::mem;
 use wit_model::{List, OutOfMemory, Text, WasmType};
 use wrapper_data::{Answer, Block, CallPoint, Heap, RustValue, Target, TrapKind, Word};
 use wrapper_values::{
-    Halt, State, Val, World, converted, enum_lift_of, import_named, is_word_of, lift_of,
-    local_named, word_of,
+    CoreFn, Halt, State, Val, World, converted, core_word, enum_lift_of, full_case, import_named,
+    is_word_of, lift_of, local_named, number_at_root, word_of,
 };
 
 /// Puts the words of the arguments behind others, and tells whether each is of its parameter's type.
@@ -162,6 +162,10 @@ fn call_runtime(
 {
     match (runtime_item_named(world.items, name.as_str()), vs) {
         (Some(RuntimeItem::CabiDealloc), vs) => dealloc_words(alloc, world, state, vs),
+        (Some(RuntimeItem::InvalidEnumDiscriminant), []) => {
+            Err(Halt::Stopped(world.failed(TrapKind::Discriminant)))
+        }
+        (Some(RuntimeItem::InvalidEnumDiscriminant), _) => Err(Halt::Stopped(world.stuck())),
         (Some(item), [v]) => apply_item(alloc, world, state, item, v),
         _ => Err(Halt::Stopped(world.stuck())),
     }
@@ -260,6 +264,35 @@ fn lift_case(world: &World, state: &State, name: &Text, vs: &[Val]) -> Result<Va
     }
 }
 
+/// Makes the case of a number with one value as its payload.
+fn make_case(
+    alloc: Global,
+    world: &World,
+    state: &State,
+    number: Option<u32>,
+    vs: &[Val],
+) -> Result<Val, Halt>
+    ensures { Runs (spec.make_case (setting world.now) number vs.now state.now) result state.now }
+{
+    match vs {
+        [v] => full_case(alloc, world, state, number, v),
+        _ => Err(Halt::Stopped(world.stuck())),
+    }
+}
+
+/// Calls a function of the core library with one value.
+fn call_core(world: &World, state: &State, f: CoreFn, vs: &[Val]) -> Result<Val, Halt>
+    ensures { Runs (spec.call_core (setting world.now) f vs.now state.now) result state.now }
+{
+    match vs {
+        [v] => match core_word(f, v) {
+            None => Err(Halt::Stopped(world.stuck())),
+            Some(w) => Ok(Val::Word(w)),
+        },
+        _ => Err(Halt::Stopped(world.stuck())),
+    }
+}
+
 /// Forgets one value.
 fn forget_one(alloc: Global, world: &World, state: &mut State, vs: &[Val]) -> Result<Val, Halt>
     ensures { Runs (spec.forget_one (setting world.now) vs.now state.old) result state.new }
@@ -284,6 +317,12 @@ pub(crate) fn call(
         Callee::Alone(name) => call_import(alloc, world, state, name, vs),
         Callee::Runtime(name) => call_runtime(alloc, world, state, name, vs),
         Callee::EnumLift(name) => lift_case(world, state, name, vs),
+        Callee::RootCase(ty, name) => {
+            let number = number_at_root(world.items, ty, name);
+            make_case(alloc, world, state, number, vs)
+        }
+        Callee::CoreCase(number) => make_case(alloc, world, state, Some(number), vs),
+        Callee::Core(f) => call_core(world, state, f, vs),
         Callee::Forget => forget_one(alloc, world, state, vs),
         Callee::Unknown => Err(Halt::Stopped(world.stuck())),
     }

@@ -4,6 +4,7 @@ ghost use Rattle.std.specs.Prelude.{◌≡◌, map};
 ghost use Rattle.std.specs.Option.{option_map};
 ghost use Rattle.wrapper_values.specs.Act.{Runs, all, and_then, keyed, or_stop};
 ghost use Rattle.wrapper_run.specs.Blocks as blocks;
+ghost use Rattle.wrapper_values.specs.CoreWords as core_words;
 ghost use Rattle.wrapper_values.specs.Effect as effect;
 ghost use Rattle.wrapper_values.specs.Enums as enums;
 ghost use Rattle.wrapper_values.specs.Flags.{flags_of_words};
@@ -15,17 +16,17 @@ ghost use Rattle.wrapper_values.specs.declared.state.Val.TheVariants as val;
 
 use crate::blocks::{boxed, take_over};
 use crate::call::call;
-use crate::casts::{cast, word_of_bool, word_of_case};
+use crate::casts::{call_on, cast, word_of_bool, word_of_case};
 use crate::memory::{at_four, loaded};
 use crate::places::static_pointer;
 use crate::small::load_small;
-use rust_tree::{Expr, Path, Repr, SmallType};
+use rust_tree::{Expr, Method, Path, Repr, SmallType};
 use std::alloc::Global;
 use wit_model::{ArchitectureSize, List, Text, WasmType};
-use wrapper_data::{TrapKind, Word};
+use wrapper_data::{RustValue, TrapKind, Word};
 use wrapper_values::{
-    Halt, State, Val, View, World, ask_local, flags_from, lend_local, use_local, value_named,
-    whole_of,
+    Halt, State, Val, View, World, ask_local, bare_case, flags_from, lend_local, use_local,
+    value_named, whole_of, zero_word,
 };
 
 /// A core value at an offset from an address.
@@ -126,6 +127,11 @@ pub(crate) fn eval(alloc: Global, world: &World, state: &mut State, e: &Expr) ->
         Expr::Tuple(parts) | Expr::Array(parts) => {
             eval_whole(alloc, world, state, parts.as_slice())
         }
+        Expr::Unit => Ok(Val::Value(RustValue::Unit)),
+        Expr::I32Const(n) => Ok(Val::Word(Word::I32(*n))),
+        Expr::Zero(ty) => Ok(Val::Word(zero_word(*ty))),
+        Expr::Case(path) => bare_case(world, state, path),
+        Expr::Method(e, method) => eval_method(alloc, world, state, e.get(), *method),
     }
 }
 
@@ -145,6 +151,21 @@ fn eval_case(alloc: Global, world: &World, state: &mut State, e: &Expr) -> Resul
 {
     let v = eval(alloc, world, state, e)?;
     word_of_case(world, state, &v)
+}
+
+/// What a method gives of the core value that an expression has.
+#[cycle(eval)]
+fn eval_method(
+    alloc: Global,
+    world: &World,
+    state: &mut State,
+    e: &Expr,
+    method: Method,
+) -> Result<Val, Halt>
+    ensures { Runs (and_then (spec.eval (setting world.now) e.now state.old) (λ v. or_stop (stuck (setting world.now)) (core_words.called_on method v))) result state.new }
+{
+    let v = eval(alloc, world, state, e)?;
+    call_on(world, state, method, &v)
 }
 
 /// The core value at an offset from the address that an expression has.

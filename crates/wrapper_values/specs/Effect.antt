@@ -119,10 +119,11 @@ abbrev pub f64_of : Val → Option ℕ
 f64_of (val.Word (word.F64 bits)) = Some bits
 f64_of v = seen_as f64_of_level v
 
--- the number that a word is
+-- the number that a word is; an address is one too
 abbrev pub integer_of_word : Word → Option ℤ
 integer_of_word (word.I32 z) = Some z
 integer_of_word (word.I64 z) = Some z
+integer_of_word (word.Pointer address) = Some (pos address)
 integer_of_word (word.Length n) = Some (pos n)
 integer_of_word _ = None
 
@@ -132,21 +133,26 @@ integer_of (val.Word w) = integer_of_word w
 integer_of (val.Value v) = option_map (λ k. k.1) (num_of (val.Value v))
 integer_of (val.Area _ _) = None
 
--- casts: a narrower type keeps the low bits, and a wider one extends by the source's sign
+-- casts: a narrower type keeps the low bits, and a wider one extends by the source's sign; a core type gives a core value, and
+-- addresses and lengths have 32 bits
 
 abbrev pub low : ℕ → ℤ → ℤ
 low n z = int_rem_euclid z (pos (2 ^ n))
 
-abbrev pub cast_integer : CastType → ℤ → RustValue
-cast_integer cast.U8 z = value.Num wit.U8 (low 8 z)
-cast_integer cast.I8 z = value.Num wit.S8 (cast_signed w8 (unsigned_abs (low 8 z)))
-cast_integer cast.U16 z = value.Num wit.U16 (low 16 z)
-cast_integer cast.I16 z = value.Num wit.S16 (cast_signed w16 (unsigned_abs (low 16 z)))
-cast_integer cast.U32 z = value.Num wit.U32 (low 32 z)
-cast_integer cast.U64 z = value.Num wit.U64 (low 64 z)
+abbrev pub cast_integer : CastType → ℤ → Val
+cast_integer cast.U8 z = val.Value (value.Num wit.U8 (low 8 z))
+cast_integer cast.I8 z = val.Value (value.Num wit.S8 (cast_signed w8 (unsigned_abs (low 8 z))))
+cast_integer cast.U16 z = val.Value (value.Num wit.U16 (low 16 z))
+cast_integer cast.I16 z = val.Value (value.Num wit.S16 (cast_signed w16 (unsigned_abs (low 16 z))))
+cast_integer cast.U32 z = val.Value (value.Num wit.U32 (low 32 z))
+cast_integer cast.U64 z = val.Value (value.Num wit.U64 (low 64 z))
+cast_integer cast.I32 z = val.Word (word.I32 (low_i32 z))
+cast_integer cast.I64 z = val.Word (word.I64 (low_i64 z))
+cast_integer cast.Usize z = val.Word (word.Length (unsigned_abs (low 32 z)))
+cast_integer cast.Pointer z = val.Word (word.Pointer (unsigned_abs (low 32 z)))
 
 unfoldable pub cast_to : CastType → Val → Option Val
-cast_to to v = option_map (λ z. val.Value (cast_integer to z)) (integer_of v)
+cast_to to v = option_map (cast_integer to) (integer_of v)
 
 -- the functions of `_rt`
 

@@ -8,7 +8,7 @@ use Rattle.rust_tree.specs.declared.item.Item.TheVariants as item
 use Rattle.rust_tree.specs.declared.path.Path.{Path}
 use Rattle.rust_tree.specs.declared.type_item.StructField.{StructField}
 use Rattle.rust_tree.specs.declared.type_item.TypeItem.{TypeItem}
-use Rattle.rust_tree.specs.declared.type_item.TypeItem.TheVariants.{Struct, Alias, Enum, Flags}
+use Rattle.rust_tree.specs.declared.type_item.TypeItem.TheVariants.{Struct, Alias, Enum, Flags, Variant}
 
 -- definitions of types
 
@@ -17,6 +17,7 @@ type_name (Struct s) = s.name
 type_name (Alias a) = a.name
 type_name (Enum e) = e.name
 type_name (Flags f) = f.name
+type_name (Variant v) = v.name
 
 abbrev pub defined_in : Item → Bytes → Option TypeItem
 defined_in (item.Type t) name = if bytes_eq (type_name t) name then Some t else None

@@ -1,10 +1,13 @@
 pub mod Act
+pub mod CoreWords
 pub mod Effect
 pub mod Enums
 pub mod Fields
 pub mod Flags
 pub mod Locals
+pub mod Matches
 pub mod Owning
 pub mod Setting
 pub mod Typed
+pub mod Variants
 pub mod Whole

@@ -5,6 +5,7 @@ use Rattle.std.specs.Option.{option_map, option_or}
 use Rattle.std.specs.Str.{bytes_eq}
 use Rattle.rust_tree.specs.declared.stmt.ImportDecl.{ImportDecl}
 use Rattle.wrapper_data.specs.declared.run.Stop.{Stop}
+use Rattle.wrapper_data.specs.declared.word.Word.TheVariants as word
 use Rattle.wrapper_values.specs.declared.state.Local.{Local}
 use Rattle.wrapper_values.specs.declared.state.Val.{Val}
 use Rattle.wrapper_values.specs.declared.state.Val.TheVariants as val
@@ -29,15 +30,22 @@ abbrev pub value_of : Option Local → Option Val
 value_of None = None
 value_of (Some l) = l.value
 
--- the newest local of a name has no value any more
+-- the newest local of a name has another value, or none
+abbrev pub holding : Option Val → Local → Local
+holding value l = record l { value = value }
+
+abbrev pub changed : Option Val → Bytes → List Local → List Local
+changed value name [] = []
+changed value name (l ∷ locals) =
+    if list_any (λ m. bytes_eq m.name name) locals then l ∷ changed value name locals
+    else (if bytes_eq l.name name then holding value l else l) ∷ locals
+
+-- it has none any more
 abbrev pub emptied : Local → Local
-emptied l = record l { value = None }
+emptied l = holding None l
 
 abbrev pub moved : Bytes → List Local → List Local
-moved name [] = []
-moved name (l ∷ locals) =
-    if list_any (λ m. bytes_eq m.name name) locals then l ∷ moved name locals
-    else (if bytes_eq l.name name then emptied l else l) ∷ locals
+moved name locals = changed None name locals
 
 -- an area is no value: code takes its pointer alone
 abbrev pub usable : Val → Option Val
@@ -61,6 +69,17 @@ ask_local stuck of name = λ s. or_stop stuck (option_map val.Word (option_and_t
 
 unfoldable pub bind : Bytes → Val → Act (Unit {0})
 bind name v = λ s. Done tt (record s { locals = s.locals ++ record { name = name; value = Some v } ∷ [] })
+
+-- a pointer is written into the newest local of a name, which holds a slot for a pointer or 64 bits: its upper half is then zero
+abbrev pub slot_with : Val → Val → Option Val
+slot_with (val.Word (word.Pointer address)) (val.Word (word.Slot _)) = Some (val.Word (word.Slot (Some address)))
+slot_with _ _ = None
+
+abbrev pub give_local : Bytes → Val → Act (Unit {0})
+give_local name v = λ s. Done tt (record s { locals = changed (Some v) name s.locals })
+
+unfoldable pub write_slot : Stop → Bytes → Val → Act (Unit {0})
+write_slot stuck name pointer = λ s. (or_stop stuck (option_and_then (slot_with pointer) (value_of (local_named name s.locals))) >>= give_local name) s
 
 unfoldable pub declare : ImportDecl → Act (Unit {0})
 declare d = λ s. Done tt (record s { imports = s.imports ++ d ∷ [] })

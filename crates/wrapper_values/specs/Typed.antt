@@ -1,6 +1,6 @@
--- Which values are those of a printed type, where the type may be one of the file, an alias, a record, an enum or a flags type; or a tuple,
--- an array or an option.
-use Rattle.std.specs.Prelude.{ℕ, zero, suc, ◌^◌, List, [], ◌∷◌, Option, None, Some, if◌then◌else◌, length, map, nat_eq, nat_lt, option_and_then}
+-- Which values are those of a printed type, where the type may be one of the file, an alias, a record, a variant, an enum or a flags
+-- type; or a tuple, an array, an option or a result.
+use Rattle.std.specs.Prelude.{ℕ, zero, suc, ◌^◌, List, [], ◌∷◌, Option, None, Some, if◌then◌else◌, length, map, nat_eq, nat_lt, option_and_then, slice_get}
 use Rattle.std.specs.Option.{option_map, option_or}
 use Rattle.rust_tree.specs.declared.enum_item.EnumItem.{EnumItem}
 use Rattle.rust_tree.specs.declared.flags_item.FlagsItem.{FlagsItem}
@@ -8,7 +8,8 @@ use Rattle.rust_tree.specs.declared.item.Item.{Item}
 use Rattle.rust_tree.specs.declared.type_expr.TypeExpr.{TypeExpr, TypeExpr-F, out-TypeExpr}
 use Rattle.rust_tree.specs.declared.type_expr.TypeExpr.TheVariants as type
 use Rattle.rust_tree.specs.declared.type_item.TypeItem.{TypeItem}
-use Rattle.rust_tree.specs.declared.type_item.TypeItem.TheVariants.{Alias}
+use Rattle.rust_tree.specs.declared.type_item.TypeItem.TheVariants.{Alias, Variant}
+use Rattle.rust_tree.specs.declared.variant_item.VariantCase.{VariantCase}
 use Rattle.wrapper_data.specs.declared.value.RustValue.{RustValue, RustValue-F, fold-RustValue}
 use Rattle.wrapper_data.specs.declared.value.RustValue.TheVariants as value
 use Rattle.wrapper_values.specs.declared.state.Val.{Val}
@@ -105,9 +106,40 @@ abbrev pub typed_enum : ℕ → Option Typed → Option EnumItem → Option Rust
 typed_enum number payload None = None
 typed_enum number payload (Some e) = if nat_lt number (length e.cases) then typed_bare number payload else None
 
+-- a case with a payload of this type, which may be left out where it is `()`
+
+abbrev pub typed_absent : ℕ → TypeExpr-F TypeExpr → Option RustValue
+typed_absent number TypeExpr-F.Unit = Some (value.Case number None)
+typed_absent number _ = None
+
+abbrev pub typed_payload : ℕ → Option Typed → TypeExpr → Option RustValue
+typed_payload number None ty = typed_absent number (out-TypeExpr ty)
+typed_payload number (Some payload) ty = option_map (λ r. value.Case number (Some r)) (payload ty)
+
+-- a result of two types
+abbrev pub typed_result : ℕ → Option Typed → (ok err : TypeExpr) → Option RustValue
+typed_result zero payload ok err = typed_payload 0 payload ok
+typed_result (suc zero) payload ok err = typed_payload 1 payload err
+typed_result _ payload ok err = None
+
+-- a variant's case, with a payload where it has one
+abbrev pub typed_by : ℕ → Option Typed → Option TypeExpr → Option RustValue
+typed_by number payload None = typed_bare number payload
+typed_by number payload (Some ty) = typed_payload number payload ty
+
+abbrev pub typed_variant : ℕ → Option Typed → Option VariantCase → Option RustValue
+typed_variant number payload None = None
+typed_variant number payload (Some c) = typed_by number payload c.ty
+
+-- a case of a type of the file
+abbrev pub typed_defined : ℕ → Option Typed → Option TypeItem → Option RustValue
+typed_defined number payload (Some (Variant v)) = typed_variant number payload (slice_get v.cases number)
+typed_defined number payload t = typed_enum number payload (enum_in t)
+
 abbrev pub typed_case : List Item → ℕ → Option Typed → TypeExpr-F TypeExpr → Option RustValue
 typed_case items number payload (TypeExpr-F.Optional ty) = typed_option number payload ty
-typed_case items number payload l = typed_enum number payload (enum_in (definition_in items l))
+typed_case items number payload (TypeExpr-F.Result ok err) = typed_result number payload ok err
+typed_case items number payload l = typed_defined number payload (definition_in items l)
 
 -- flags, with none but the bits that hold them
 abbrev pub typed_flags : ℕ → Option FlagsItem → Option RustValue

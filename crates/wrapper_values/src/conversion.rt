@@ -10,7 +10,8 @@ use rust_tree::RuntimeItem;
 use wit_model::WitType;
 use wrapper_data::{Form, RustValue, TrapKind, Word};
 
-fn is_narrow(kind: WitType) -> bool
+/// Whether a kind has at most 32 bits.
+pub(crate) fn is_narrow(kind: WitType) -> bool
     ensures { result ≡ spec.is_narrow kind }
 {
     !matches!(kind, WitType::U64 | WitType::S64)
@@ -23,7 +24,8 @@ pub(crate) fn low_i32(z: i128) -> i32
     (z.rem_euclid(1 << 32) as u32).cast_signed()
 }
 
-fn low_i64(z: i128) -> i64
+/// The low 64 bits of a number, as a signed one.
+pub(crate) fn low_i64(z: i128) -> i64
     ensures { result ≡ spec.low_i64 z }
 {
     (z.rem_euclid(1 << 64) as u64).cast_signed()

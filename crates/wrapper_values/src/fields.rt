@@ -17,6 +17,7 @@ fn type_name(t: &TypeItem) -> &Text
         TypeItem::Alias(a) => &a.name,
         TypeItem::Enum(e) => &e.name,
         TypeItem::Flags(f) => &f.name,
+        TypeItem::Variant(v) => &v.name,
     }
 }
 

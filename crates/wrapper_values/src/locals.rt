@@ -11,7 +11,7 @@ use rust_tree::ImportDecl;
 use std::alloc::Global;
 use std::mem;
 use wit_model::{List, OutOfMemory, Text};
-use wrapper_data::Stop;
+use wrapper_data::{Stop, Word};
 
 /// The newest local of a name, if there is one.
 pub fn local_named<'a>(locals: &'a [Local], name: &str) -> Option<&'a Local>
@@ -49,10 +49,10 @@ pub fn value_named<'a>(state: &'a State, name: &Text) -> Option<&'a Val>
     }
 }
 
-/// Takes the value out of the newest local of a name.
-#[tactic(auto, using(crate::proofs::MovedLemmas::moved_last, crate::proofs::MovedLemmas::moved_other))]
-fn move_out(locals: &mut Vec<Local>, name: &str) -> Result<(), OutOfMemory>
-    ensures { OnOk result (locals.new.items ≡ spec.moved name.now locals.old.items) }
+/// Gives the newest local of a name another value, or takes it away.
+#[tactic(auto, using(crate::proofs::ChangedLemmas::changed_last, crate::proofs::ChangedLemmas::changed_other))]
+fn change(locals: &mut Vec<Local>, name: &str, value: Option<Val>) -> Result<(), OutOfMemory>
+    ensures { OnOk result (locals.new.items ≡ spec.changed value name.now locals.old.items) }
 {
     match locals.pop() {
         None => Ok(()),
@@ -60,10 +60,10 @@ fn move_out(locals: &mut Vec<Local>, name: &str) -> Result<(), OutOfMemory>
             if l.name.as_str() == name {
                 locals.push(Local {
                     name: l.name,
-                    value: None,
+                    value,
                 })?;
             } else {
-                move_out(locals, name)?;
+                change(locals, name, value)?;
                 locals.push(l)?;
             }
             Ok(())
@@ -71,12 +71,17 @@ fn move_out(locals: &mut Vec<Local>, name: &str) -> Result<(), OutOfMemory>
     }
 }
 
-fn move_local(alloc: Global, state: &mut State, name: &Text) -> Result<(), OutOfMemory>
+fn change_local(
+    alloc: Global,
+    state: &mut State,
+    name: &Text,
+    value: Option<Val>,
+) -> Result<(), OutOfMemory>
     ensures { OnOk result
-        (state.new ≡ record state.old { locals = spec.moved name.now state.old.locals }) }
+        (state.new ≡ record state.old { locals = spec.changed value name.now state.old.locals }) }
 {
     let mut locals = mem::replace(&mut state.locals, List::new(alloc)).into_vec();
-    move_out(&mut locals, name.as_str())?;
+    change(&mut locals, name.as_str(), value)?;
     state.locals = List::from_vec(locals);
     Ok(())
 }
@@ -92,7 +97,7 @@ pub fn use_local(alloc: Global, stuck: Stop, state: &mut State, name: &Text) -> 
         Some(value) => value.copy(alloc)?,
     };
     if !value.owned(alloc)?.as_slice().is_empty() {
-        move_local(alloc, state, name)?;
+        change_local(alloc, state, name, None)?;
     }
     Ok(value)
 }
@@ -137,6 +142,27 @@ pub fn bind(alloc: Global, state: &mut State, name: &Text, value: Val) -> Result
         name,
         value: Some(value),
     })?;
+    Ok(())
+}
+
+/// Writes a pointer into the newest local of a name. Stopped by `stuck` where that holds no slot for a pointer or 64 bits, or
+/// where what is written is no pointer; and out of memory where there is none for the change.
+#[tactic(auto, unfolding(crate::specs::Locals::write_slot))]
+pub fn write_slot(
+    alloc: Global,
+    stuck: Stop,
+    state: &mut State,
+    name: &Text,
+    pointer: &Val,
+) -> Result<(), Halt>
+    ensures { Runs (spec.write_slot stuck name.now pointer.now state.old) result state.new }
+{
+    let address = match (pointer, value_named(state, name)) {
+        (Val::Word(Word::Pointer(address)), Some(Val::Word(Word::Slot(_)))) => *address,
+        _ => return Err(Halt::Stopped(stuck)),
+    };
+    let value = Val::Word(Word::Slot(Some(u64::from(address))));
+    change_local(alloc, state, name, Some(value))?;
     Ok(())
 }
 

@@ -29,7 +29,7 @@ fn rust_of_word(w: Word) -> Option<RustValue>
 }
 
 /// The value of the Rust side that something is, as a part of another value.
-fn rust_of(alloc: Global, v: &Val) -> Result<Option<RustValue>, OutOfMemory>
+pub(crate) fn rust_of(alloc: Global, v: &Val) -> Result<Option<RustValue>, OutOfMemory>
     ensures { IfOk result (λ r. r ≡ effect.rust_of v.now) }
 {
     match v {

@@ -7,12 +7,12 @@ ghost use Rattle.wrapper_data.specs.declared.value.RustValue.TheVariants as valu
 ghost use Rattle.wrapper_values.specs.Fields as fields;
 ghost use Rattle.wrapper_values.specs.Typed as spec;
 
-use crate::enums::{enum_in, has_case};
+use crate::enums::has_case;
 use crate::fields::{root_name, type_named};
 use crate::flags::typed_flags;
 use crate::printed::answer_of;
 use crate::state::Val;
-use rust_tree::{Item, Path, StructField, TypeExpr, TypeItem};
+use rust_tree::{Item, Path, StructField, TypeExpr, TypeItem, VariantCase};
 use std::alloc::Global;
 use wit_model::{Boxed, List, OutOfMemory};
 use wrapper_data::RustValue;
@@ -124,9 +124,83 @@ fn typed_case(
 {
     match ty {
         TypeExpr::Optional(ty) => typed_option(payload, alloc, items, number, ty.get()),
-        _ => match enum_in(definition_in(items, ty)) {
-            Some(e) if has_case(e, number) => typed_bare(payload, alloc, items, number),
+        TypeExpr::Result(ok, err) => {
+            typed_result(payload, alloc, items, number, ok.get(), err.get())
+        }
+        _ => match definition_in(items, ty) {
+            Some(TypeItem::Variant(v)) => {
+                let case = v.cases.as_slice().get(number as usize);
+                typed_variant(payload, alloc, items, number, case)
+            }
+            Some(TypeItem::Enum(e)) if has_case(e, number) => {
+                typed_bare(payload, alloc, items, number)
+            }
             _ => Ok(None),
+        },
+    }
+}
+
+/// A case with this payload, as one of a result of two types.
+#[cycle(typed)]
+fn typed_result(
+    payload: &Option<Boxed<RustValue>>,
+    alloc: Global,
+    items: &[Item],
+    number: u32,
+    ok: &TypeExpr,
+    err: &TypeExpr,
+) -> Result<Option<RustValue>, OutOfMemory>
+    ensures { IfOk result
+        (λ r. r ≡ spec.typed_result number (option_map (spec.typed items.now) payload.now) ok.now err.now) }
+{
+    match number {
+        0 => typed_payload(payload, alloc, items, 0, ok),
+        1 => typed_payload(payload, alloc, items, 1, err),
+        _ => Ok(None),
+    }
+}
+
+/// A case of this number, with a payload of a type. Where the type is `()` there may be none.
+#[cycle(typed)]
+fn typed_payload(
+    payload: &Option<Boxed<RustValue>>,
+    alloc: Global,
+    items: &[Item],
+    number: u32,
+    ty: &TypeExpr,
+) -> Result<Option<RustValue>, OutOfMemory>
+    ensures { IfOk result
+        (λ r. r ≡ spec.typed_payload number (option_map (spec.typed items.now) payload.now) ty.now) }
+{
+    match payload {
+        None => match ty {
+            TypeExpr::Unit => Ok(Some(RustValue::Case(number, None))),
+            _ => Ok(None),
+        },
+        Some(payload) => match typed(payload.get(), alloc, items, ty)? {
+            None => Ok(None),
+            Some(r) => Ok(Some(RustValue::Case(number, Some(Boxed::new(alloc, r)?)))),
+        },
+    }
+}
+
+/// A case with this payload, as one that a variant has.
+#[cycle(typed)]
+fn typed_variant(
+    payload: &Option<Boxed<RustValue>>,
+    alloc: Global,
+    items: &[Item],
+    number: u32,
+    case: Option<&VariantCase>,
+) -> Result<Option<RustValue>, OutOfMemory>
+    ensures { IfOk result
+        (λ r. r ≡ spec.typed_variant number (option_map (spec.typed items.now) payload.now) (option_copied case.entry)) }
+{
+    match case {
+        None => Ok(None),
+        Some(case) => match &case.ty {
+            None => typed_bare(payload, alloc, items, number),
+            Some(ty) => typed_payload(payload, alloc, items, number, ty),
         },
     }
 }

@@ -99,7 +99,7 @@ fn integer_of_word(w: Word) -> Option<i128>
     match w {
         Word::I32(z) => Some(i128::from(z)),
         Word::I64(z) => Some(i128::from(z)),
-        Word::Length(n) => Some(i128::from(n)),
+        Word::Pointer(n) | Word::Length(n) => Some(i128::from(n)),
         _ => None,
     }
 }

@@ -2,9 +2,10 @@
 
 ghost use Rattle.std.specs.Prelude.{◌≡◌, ◌++◌, OnOk};
 ghost use Rattle.std.specs.List.{flat_map};
-ghost use Rattle.rust_tree.specs.EnumText.{arm_text, arms_text, case_path_text, case_text, debug_case_text, enum_debug_text, enum_head_text, enum_lift_text, enum_shown_text, enum_text};
+ghost use Rattle.rust_tree.specs.EnumText.{arm_text, arms_text, case_path_text, case_text, debug_case_text, debug_close_text, debug_open_text, enum_debug_text, enum_head_text, enum_lift_text, enum_open_text, enum_shown_text, enum_text};
 
 use crate::enum_item::{EnumCase, EnumItem};
+use crate::path::Path;
 use crate::print::derives::push_derives;
 use crate::print::error_enum::push_error;
 use crate::print::function::push_docs;
@@ -38,37 +39,53 @@ fn push_cases(out: &mut Text, cases: &[EnumCase]) -> Result<(), OutOfMemory>
     Ok(())
 }
 
-fn push_debug_case(out: &mut Text, name: &Text, case: &EnumCase) -> Result<(), OutOfMemory>
+/// What `Debug` writes of a case without a payload.
+pub(crate) fn push_debug_case(out: &mut Text, name: &Text, case: &Text) -> Result<(), OutOfMemory>
     ensures { OnOk result (out.new ≡ out.old ++ debug_case_text name.now case.now) }
 {
-    push_case_path(out, name, &case.name)?;
+    push_case_path(out, name, case)?;
     EnumWord::CaseTuple.put(out)?;
-    push_case_path(out, name, &case.name)?;
+    push_case_path(out, name, case)?;
     EnumWord::CaseFinish.put(out)
 }
 
 fn push_debug_cases(out: &mut Text, name: &Text, cases: &[EnumCase]) -> Result<(), OutOfMemory>
-    ensures { OnOk result (out.new ≡ out.old ++ flat_map (debug_case_text name.now) cases.now) }
+    ensures { OnOk result (out.new ≡ out.old ++ flat_map (λ c. debug_case_text name.now c.name) cases.now) }
 {
     for case in cases {
-        push_debug_case(out, name, case)?;
+        push_debug_case(out, name, &case.name)?;
     }
     Ok(())
 }
 
-#[tactic(auto, unfolding(crate::specs::EnumText::enum_debug_text))]
-fn push_enum_debug(out: &mut Text, item: &EnumItem) -> Result<(), OutOfMemory>
-    ensures { OnOk result (out.new ≡ out.old ++ enum_debug_text item.now) }
+/// What stands in `Debug` before the lines of the cases.
+#[tactic(auto, unfolding(crate::specs::EnumText::debug_open_text))]
+pub(crate) fn push_debug_open(out: &mut Text, name: &Text) -> Result<(), OutOfMemory>
+    ensures { OnOk result (out.new ≡ out.old ++ debug_open_text name.now) }
 {
     DefinitionWord::DebugImpl.put(out)?;
-    out.push_str(item.name.as_str())?;
+    out.push_str(name.as_str())?;
     Sign::OpenBlock.put(out)?;
     DefinitionWord::DebugFn.put(out)?;
-    EnumWord::MatchSelf.put(out)?;
-    push_debug_cases(out, &item.name, item.cases.as_slice())?;
+    EnumWord::MatchSelf.put(out)
+}
+
+/// What stands behind them.
+#[tactic(auto, unfolding(crate::specs::EnumText::debug_close_text))]
+pub(crate) fn push_debug_close(out: &mut Text) -> Result<(), OutOfMemory>
+    ensures { OnOk result (out.new ≡ out.old ++ debug_close_text) }
+{
     Sign::CloseBlock.put(out)?;
     Sign::CloseBlock.put(out)?;
     Sign::CloseBlock.put(out)
+}
+
+fn push_enum_debug(out: &mut Text, item: &EnumItem) -> Result<(), OutOfMemory>
+    ensures { OnOk result (out.new ≡ out.old ++ enum_debug_text item.now) }
+{
+    push_debug_open(out, &item.name)?;
+    push_debug_cases(out, &item.name, item.cases.as_slice())?;
+    push_debug_close(out)
 }
 
 /// `Debug`, and what else there is of an error type.
@@ -115,6 +132,20 @@ fn push_enum_lift(out: &mut Text, item: &EnumItem) -> Result<(), OutOfMemory>
     EnumWord::NoCase.put(out)
 }
 
+/// The line of derives, and the beginning of the enum itself.
+pub(crate) fn push_enum_open(
+    out: &mut Text,
+    derives: &[Path],
+    name: &Text,
+) -> Result<(), OutOfMemory>
+    ensures { OnOk result (out.new ≡ out.old ++ enum_open_text derives.now name.now) }
+{
+    push_derives(out, derives)?;
+    EnumWord::PublicEnum.put(out)?;
+    out.push_str(name.as_str())?;
+    Sign::OpenBlock.put(out)
+}
+
 #[tactic(auto, unfolding(crate::specs::EnumText::enum_head_text))]
 fn push_enum_head(out: &mut Text, item: &EnumItem) -> Result<(), OutOfMemory>
     ensures { OnOk result (out.new ≡ out.old ++ enum_head_text item.now) }
@@ -123,10 +154,7 @@ fn push_enum_head(out: &mut Text, item: &EnumItem) -> Result<(), OutOfMemory>
     EnumWord::OpenRepr.put(out)?;
     push_repr_type(out, item.repr)?;
     EnumWord::CloseRepr.put(out)?;
-    push_derives(out, item.derives.as_slice())?;
-    EnumWord::PublicEnum.put(out)?;
-    out.push_str(item.name.as_str())?;
-    Sign::OpenBlock.put(out)
+    push_enum_open(out, item.derives.as_slice(), &item.name)
 }
 
 pub(crate) fn push_enum(out: &mut Text, item: &EnumItem) -> Result<(), OutOfMemory>

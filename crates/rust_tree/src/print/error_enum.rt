@@ -1,8 +1,8 @@
-//! What an enum has that is an error type.
+//! What an enum has that is an error type, and of it what every error type has.
 
 ghost use Rattle.std.specs.Prelude.{◌≡◌, ◌++◌, OnOk};
 ghost use Rattle.std.specs.List.{flat_map};
-ghost use Rattle.rust_tree.specs.EnumText.{case_message_text, case_name_text, error_debug_text, error_display_text, error_fns_text, error_text, std_feature_text};
+ghost use Rattle.rust_tree.specs.EnumText.{case_message_text, case_name_text, display_text, error_debug_text, error_fns_text, error_impl_text, error_text, std_feature_text};
 
 use crate::enum_item::{ErrorCase, ErrorEnum};
 use crate::print::enum_item::push_case_path;
@@ -81,15 +81,16 @@ fn push_error_debug(out: &mut Text, name: &Text) -> Result<(), OutOfMemory>
     Sign::CloseBlock.put(out)
 }
 
-#[tactic(auto, unfolding(crate::specs::EnumText::error_display_text))]
-fn push_error_display(out: &mut Text, name: &Text) -> Result<(), OutOfMemory>
-    ensures { OnOk result (out.new ≡ out.old ++ error_display_text name.now) }
+/// `Display`, with the line that writes.
+#[tactic(auto, unfolding(crate::specs::EnumText::display_text))]
+pub(crate) fn push_display(out: &mut Text, name: &Text, line: EnumWord) -> Result<(), OutOfMemory>
+    ensures { OnOk result (out.new ≡ out.old ++ display_text line name.now) }
 {
     EnumWord::DisplayImpl.put(out)?;
     out.push_str(name.as_str())?;
     Sign::OpenBlock.put(out)?;
     DefinitionWord::DebugFn.put(out)?;
-    EnumWord::WriteError.put(out)?;
+    line.put(out)?;
     Sign::CloseBlock.put(out)?;
     Sign::CloseBlock.put(out)
 }
@@ -103,15 +104,25 @@ fn push_std_feature(out: &mut Text, std_feature: bool) -> Result<(), OutOfMemory
     Ok(())
 }
 
+pub(crate) fn push_error_impl(
+    out: &mut Text,
+    name: &Text,
+    std_feature: bool,
+) -> Result<(), OutOfMemory>
+    ensures { OnOk result (out.new ≡ out.old ++ error_impl_text name.now std_feature) }
+{
+    push_std_feature(out, std_feature)?;
+    EnumWord::ErrorImpl.put(out)?;
+    out.push_str(name.as_str())?;
+    EnumWord::EmptyBlock.put(out)
+}
+
 /// What an error enum of this name has.
 pub(crate) fn push_error(out: &mut Text, name: &Text, error: &ErrorEnum) -> Result<(), OutOfMemory>
     ensures { OnOk result (out.new ≡ out.old ++ error_text name.now error.now) }
 {
     push_error_fns(out, name, error.cases.as_slice())?;
     push_error_debug(out, name)?;
-    push_error_display(out, name)?;
-    push_std_feature(out, error.std_feature)?;
-    EnumWord::ErrorImpl.put(out)?;
-    out.push_str(name.as_str())?;
-    EnumWord::EmptyBlock.put(out)
+    push_display(out, name, EnumWord::WriteError)?;
+    push_error_impl(out, name, error.std_feature)
 }

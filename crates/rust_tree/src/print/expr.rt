@@ -1,12 +1,13 @@
 ghost use Rattle.std.specs.Prelude.{◌≡◌, ◌++◌, OnOk, decimal, map};
-ghost use Rattle.rust_tree.specs.CodeText.{arguments_text, array_text, bracket, capacity_text, cast_type_text, expr_fields, expr_spelled, expr_text, expr_words, fields_text, flags_bits_text, flags_of_words_text, listed_text, parts_text, path_text, place_text, receiver_text, repr_type_text, small_type_text};
+ghost use Rattle.rust_tree.specs.CodeText.{arguments_text, array_text, bracket, capacity_text, cast_type_text, expr_fields, expr_spelled, expr_text, expr_words, fields_text, flags_bits_text, flags_of_words_text, listed_text, method_text, parts_text, path_text, place_text, receiver_text, repr_type_text, small_type_text};
 ghost use Rattle.rust_tree.specs.Word.{expr_word, flags_word, sign};
 ghost use Rattle.rust_tree.specs.declared.print.word.expr.ExprWord.TheVariants.{CaseNumber, IntoBoxedBytes};
 ghost use Rattle.rust_tree.specs.declared.print.word.flags.FlagsWord.TheVariants.{AsWord, FromBits, FromBitsEnd, Or, ShiftedBy};
 ghost use Rattle.rust_tree.specs.declared.print.word.sign.Sign.TheVariants.{As, Close, Colon, Open, Reference};
 
-use crate::expr::{CastType, Expr, SmallType};
+use crate::expr::{CastType, Expr, Method, SmallType};
 use crate::path::Path;
+use crate::print::constant::{push_i32, zero_name};
 use crate::print::path::push_path;
 use crate::print::size::push_term;
 use crate::print::type_name::{core_type_name, push_cast_type, push_repr_type, small_type_name};
@@ -126,6 +127,16 @@ fn push_behind_word(out: &mut Text, repr: Repr, n: u32) -> Result<(), OutOfMemor
     FlagsWord::FromBitsEnd.put(out)
 }
 
+fn method_name(method: Method) -> &'static str
+    ensures { result.now ≡ method_text method }
+{
+    match method {
+        Method::ToBits => ".to_bits()",
+        Method::AssumeInit => ".assume_init()",
+        Method::ReadPointer => ".as_ptr().cast::<*mut u8>().read()",
+    }
+}
+
 #[cycle(expr)]
 pub(crate) fn push_expr(out: &mut Text, e: &Expr) -> Result<(), OutOfMemory>
     ensures { OnOk result (out.new ≡ out.old ++ expr_text e.now) }
@@ -164,11 +175,23 @@ pub(crate) fn push_expr(out: &mut Text, e: &Expr) -> Result<(), OutOfMemory>
         Expr::Size(size) => push_term(out, *size),
         Expr::Record(path, fields) => push_record(out, path, fields.as_slice()),
         Expr::Tuple(parts) => push_parts(out, parts.as_slice()),
+        Expr::Unit => push_unit(out),
         Expr::Array(parts) => push_array(out, parts.as_slice()),
         Expr::EnumNumber(e) => push_case_number(out, e.get()),
         Expr::FlagsBits(name, n) => push_flags_bits(out, name, *n),
         Expr::FlagsOfWords(path, repr, words) => push_flags(out, path, *repr, words.as_slice()),
+        Expr::I32Const(n) => push_i32(out, *n),
+        Expr::Zero(ty) => out.push_str(zero_name(*ty)),
+        Expr::Case(path) => push_path(out, path),
+        Expr::Method(e, method) => push_method(out, e.get(), *method),
     }
+}
+
+fn push_unit(out: &mut Text) -> Result<(), OutOfMemory>
+    ensures { OnOk result (out.new ≡ out.old ++ (sign Open ++ sign Close)) }
+{
+    Sign::Open.put(out)?;
+    Sign::Close.put(out)
 }
 
 #[cycle(expr)]
@@ -178,6 +201,16 @@ fn push_case_number(out: &mut Text, e: &Expr) -> Result<(), OutOfMemory>
     Sign::Open.put(out)?;
     push_expr(out, e)?;
     ExprWord::CaseNumber.put(out)
+}
+
+#[cycle(expr)]
+fn push_method(out: &mut Text, e: &Expr, method: Method) -> Result<(), OutOfMemory>
+    ensures { OnOk result (out.new ≡ out.old ++ (sign Open ++ expr_text e.now ++ sign Close ++ method_text method)) }
+{
+    Sign::Open.put(out)?;
+    push_expr(out, e)?;
+    Sign::Close.put(out)?;
+    out.push_str(method_name(method))
 }
 
 /// A word, and behind it an expression on which a method is called.

@@ -110,6 +110,13 @@ fn push_runtime_item(out: &mut Text, item: RuntimeItem) -> Result<(), OutOfMemor
         ),
         RuntimeItem::StdAllocModule => push_alloc_use(out, item, ""),
         RuntimeItem::CabiDealloc => push_dealloc(out),
+        RuntimeItem::InvalidEnumDiscriminant => push_lift(
+            out,
+            item,
+            LiftWord::NoCaseType,
+            LiftWord::CheckedNoCase,
+            LiftWord::UncheckedNoCase,
+        ),
     }
 }
 

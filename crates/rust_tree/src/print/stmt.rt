@@ -1,16 +1,20 @@
 ghost use Rattle.std.specs.Prelude.{◌≡◌, ◌++◌, OnOk};
 ghost use Rattle.std.specs.List.{flat_map};
-ghost use Rattle.rust_tree.specs.CodeText.{block_text, let_parts_text, let_text, narrowed_text, small_store_text, stmt_text, store_text, tail_text};
+ghost use Rattle.rust_tree.specs.CodeText.{arm_text, block_text, let_parts_text, let_text, narrowed_text, small_store_text, stmt_text, store_text, tail_text};
 
 use crate::expr::{Expr, SmallType};
 use crate::pattern::Pattern;
 use crate::print::area::push_area;
 use crate::print::core_import::{push_linked, push_unlinked};
 use crate::print::expr::{push_expr, push_place, push_receiver};
+use crate::print::match_stmt::{
+    push_arm_open, push_assert_last, push_match_close, push_match_open,
+};
 use crate::print::pattern::push_pattern;
+use crate::print::slot::{push_let_slot, push_write_slot};
 use crate::print::type_name::{core_type_name, small_type_name};
-use crate::print::word::{ExprWord, Sign};
-use crate::stmt::{Block, Stmt};
+use crate::print::word::{ExprWord, MatchWord, Sign};
+use crate::stmt::{Arm, Block, Stmt};
 use wit_model::{ArchitectureSize, OutOfMemory, Text, WasmType};
 
 fn push_let(out: &mut Text, name: &Text, e: &Expr) -> Result<(), OutOfMemory>
@@ -76,6 +80,7 @@ fn push_small_store(
     Sign::StatementEnd.put(out)
 }
 
+#[cycle(stmt)]
 fn push_stmt(out: &mut Text, stmt: &Stmt) -> Result<(), OutOfMemory>
     ensures { OnOk result (out.new ≡ out.old ++ stmt_text stmt.now) }
 {
@@ -95,9 +100,45 @@ fn push_stmt(out: &mut Text, stmt: &Stmt) -> Result<(), OutOfMemory>
             push_small_store(out, address, *offset, *ty, e)
         }
         Stmt::LetParts(pattern, e) => push_let_parts(out, pattern, e),
+        Stmt::Match(names, e, arms) => {
+            push_match_open(out, names, e)?;
+            push_arms(out, arms.as_slice())?;
+            push_match_close(out, names)
+        }
+        Stmt::AssertLast(name, n) => push_assert_last(out, name, *n),
+        Stmt::LetSlot(name) => push_let_slot(out, name),
+        Stmt::WriteSlot(name, e) => push_write_slot(out, name, e),
     }
 }
 
+#[cycle(stmt)]
+fn push_arms(out: &mut Text, arms: &[Arm]) -> Result<(), OutOfMemory>
+    ensures { OnOk result (out.new ≡ out.old ++ flat_map arm_text arms.now) }
+{
+    for arm in arms {
+        push_arm(out, arm)?;
+    }
+    Ok(())
+}
+
+#[cycle(stmt)]
+fn push_arm(out: &mut Text, arm: &Arm) -> Result<(), OutOfMemory>
+    ensures { OnOk result (out.new ≡ out.old ++ arm_text arm.now) }
+{
+    push_arm_open(out, &arm.pattern)?;
+    push_block(out, &arm.body)?;
+    MatchWord::CloseArm.put(out)
+}
+
+#[cycle(stmt)]
+pub(crate) fn push_block(out: &mut Text, block: &Block) -> Result<(), OutOfMemory>
+    ensures { OnOk result (out.new ≡ out.old ++ block_text block.now) }
+{
+    push_stmts(out, block.stmts.as_slice())?;
+    push_tail(out, &block.tail)
+}
+
+#[cycle(stmt)]
 pub(crate) fn push_stmts(out: &mut Text, stmts: &[Stmt]) -> Result<(), OutOfMemory>
     ensures { OnOk result (out.new ≡ out.old ++ flat_map stmt_text stmts.now) }
 {
@@ -117,11 +158,4 @@ fn push_tail(out: &mut Text, tail: &Option<Expr>) -> Result<(), OutOfMemory>
             Sign::LineEnd.put(out)
         }
     }
-}
-
-pub(crate) fn push_block(out: &mut Text, block: &Block) -> Result<(), OutOfMemory>
-    ensures { OnOk result (out.new ≡ out.old ++ block_text block.now) }
-{
-    push_stmts(out, block.stmts.as_slice())?;
-    push_tail(out, &block.tail)
 }

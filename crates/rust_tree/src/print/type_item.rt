@@ -9,6 +9,7 @@ use crate::print::enum_item::push_enum;
 use crate::print::flags_item::push_flags;
 use crate::print::function::push_docs;
 use crate::print::type_name::push_type;
+use crate::print::variant_item::push_variant;
 use crate::print::word::{DefinitionWord, Sign};
 use crate::type_item::{AliasItem, StructField, StructItem, TypeItem};
 use wit_model::{OutOfMemory, Text};
@@ -118,5 +119,6 @@ pub(crate) fn push_type_item(out: &mut Text, item: &TypeItem) -> Result<(), OutO
         TypeItem::Alias(item) => push_alias(out, item),
         TypeItem::Enum(item) => push_enum(out, item),
         TypeItem::Flags(item) => push_flags(out, item),
+        TypeItem::Variant(item) => push_variant(out, item),
     }
 }

@@ -37,6 +37,10 @@ fn cast_type_name(ty: CastType) -> &'static str
         CastType::I16 => "i16",
         CastType::U32 => "u32",
         CastType::U64 => "u64",
+        CastType::I32 => "i32",
+        CastType::I64 => "i64",
+        CastType::Usize => "usize",
+        CastType::Pointer => "*mut u8",
     }
 }
 
@@ -94,6 +98,13 @@ pub(crate) fn push_type(out: &mut Text, ty: &TypeExpr) -> Result<(), OutOfMemory
         TypeExpr::Tuple(parts) => push_tuple(out, parts.as_slice()),
         TypeExpr::Optional(ty) => push_option(out, ty.get()),
         TypeExpr::Array(ty, n) => push_array_type(out, ty.get(), *n),
+        TypeExpr::Result(ok, err) => {
+            DefinitionWord::ResultType.put(out)?;
+            push_type(out, ok.get())?;
+            Sign::Comma.put(out)?;
+            push_type(out, err.get())?;
+            DefinitionWord::TypeEnd.put(out)
+        }
     }
 }
 
@@ -117,7 +128,7 @@ fn push_option(out: &mut Text, ty: &TypeExpr) -> Result<(), OutOfMemory>
 {
     DefinitionWord::OptionType.put(out)?;
     push_type(out, ty)?;
-    DefinitionWord::OptionEnd.put(out)
+    DefinitionWord::TypeEnd.put(out)
 }
 
 #[cycle(type_name)]

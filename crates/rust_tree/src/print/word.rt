@@ -11,8 +11,10 @@ mod import;
 mod item;
 mod lift;
 mod macros;
+mod matches;
 mod runtime;
 mod sign;
+mod slot;
 
 pub(crate) use area::AreaWord;
 pub(crate) use conversion::ConversionWord;
@@ -25,5 +27,7 @@ pub(crate) use import::ImportWord;
 pub(crate) use item::ItemWord;
 pub(crate) use lift::LiftWord;
 pub(crate) use macros::MacroWord;
+pub(crate) use matches::MatchWord;
 pub(crate) use runtime::RuntimeWord;
 pub(crate) use sign::Sign;
+pub(crate) use slot::SlotWord;

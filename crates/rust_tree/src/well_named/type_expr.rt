@@ -44,6 +44,7 @@ pub(crate) fn is_named_type(ty: &TypeExpr) -> bool
         TypeExpr::Path(path) => is_type_path(path),
         TypeExpr::Tuple(parts) => is_nonempty(parts.as_slice())
             && are_named_types(parts.as_slice()),
+        TypeExpr::Result(ok, err) => is_named_type(ok.get()) && is_named_type(err.get()),
     }
 }
 

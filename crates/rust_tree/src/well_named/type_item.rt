@@ -9,6 +9,7 @@ use crate::well_named::enum_item::is_named_enum;
 use crate::well_named::flags_item::is_named_flags;
 use crate::well_named::text::{are_lines, are_named_paths, is_name, is_quotable};
 use crate::well_named::type_expr::is_named_type;
+use crate::well_named::variant_item::is_named_variant;
 
 fn is_named_field(field: &StructField) -> bool
     ensures { result ≡ is_named_field field.now }
@@ -48,5 +49,6 @@ pub(crate) fn is_named_type_item(item: &TypeItem) -> bool
         TypeItem::Alias(item) => is_named_alias(item),
         TypeItem::Enum(item) => is_named_enum(item),
         TypeItem::Flags(item) => is_named_flags(item),
+        TypeItem::Variant(item) => is_named_variant(item),
     }
 }

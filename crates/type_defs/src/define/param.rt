@@ -3,15 +3,18 @@
 ghost use Rattle.std.specs.Prelude.{◌≡◌, true, length, List, IfOk, map};
 ghost use Rattle.std.specs.List.{list_all};
 ghost use Rattle.wit_model.specs.declared.resolve.Resolve.{Resolve};
-ghost use Rattle.wit_model.specs.TypeOrder.{GoesDown, parts_below, type_below};
+ghost use Rattle.wit_model.specs.TypeOrder.{GoesDown, parts_below, payload_below, type_below};
 ghost use Rattle.rust_tree.specs.Ident.{type_ident};
 ghost use Rattle.rust_tree.specs.declared.type_expr.TypeExpr.TheVariants as type;
 ghost use Rattle.type_facts.specs.Facts.{type_count};
 ghost use Rattle.type_facts.specs.Own.{is_string};
 ghost use Rattle.type_defs.specs.ParamType.{HasFacts, has_list, is_text, is_text_alias, lent_type, lent_unnamed, lent_within, param_by, param_type};
+ghost use Rattle.type_defs.specs.PartType.{payload_type};
 ghost use Rattle.type_defs.specs.Paths.{local_path};
 
+use crate::define::options::option_type;
 use crate::define::part::{levels_of, named_type, part_type};
+use crate::define::results::result_type;
 use crate::printed::printed_type;
 use rust_tree::TypeExpr;
 use std::alloc::Global;
@@ -126,7 +129,35 @@ fn lent_unnamed(
             let parts = lent_parts(alloc, resolve, facts, levels, parts.as_slice())?;
             Ok(TypeExpr::Tuple(parts))
         }
+        TypeDefKind::Option(ty) => {
+            let payload = lent_within(alloc, resolve, facts, levels, *ty)?;
+            option_type(alloc, payload)
+        }
+        TypeDefKind::Result(ok, err) => {
+            let ok = lent_payload(alloc, resolve, facts, levels, *ok)?;
+            let err = lent_payload(alloc, resolve, facts, levels, *err)?;
+            result_type(alloc, ok, err)
+        }
         _ => Ok(TypeExpr::Unit),
+    }
+}
+
+#[cycle(param)]
+fn lent_payload(
+    alloc: Global,
+    resolve: &Resolve,
+    facts: &Types,
+    levels: u64,
+    payload: Option<WitType>,
+) -> Result<TypeExpr, OutOfMemory>
+    requires facts { HasFacts resolve.now facts.now }
+    requires within { payload_below (length resolve.now.types) payload ≡ true }
+    ensures { IfOk result
+        (λ printed. printed ≡ payload_type (lent_within resolve.now.types levels) payload) }
+{
+    match payload {
+        None => Ok(TypeExpr::Unit),
+        Some(ty) => lent_within(alloc, resolve, facts, levels, ty),
     }
 }
 

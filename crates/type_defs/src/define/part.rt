@@ -1,11 +1,13 @@
 //! How types are printed as parts of a definition.
 
 ghost use Rattle.std.specs.Prelude.{◌≡◌, IfOk, map};
-ghost use Rattle.type_defs.specs.PartType.{levels_of, part_type, type_within, unnamed_type};
+ghost use Rattle.type_defs.specs.PartType.{levels_of, part_type, payload_type, type_within, unnamed_type};
 ghost use Rattle.rust_tree.specs.Ident.{type_ident};
 ghost use Rattle.type_defs.specs.Paths.{local_path};
 ghost use Rattle.rust_tree.specs.declared.type_expr.TypeExpr.TheVariants as type;
 
+use crate::define::options::option_type;
+use crate::define::results::result_type;
 use crate::paths::local_path;
 use crate::printed::printed_type;
 use rust_tree::{TypeExpr, to_upper_camel_case};
@@ -61,7 +63,31 @@ fn unnamed_type(
             let parts = types_within(alloc, types, levels, parts.as_slice())?;
             Ok(TypeExpr::Tuple(parts))
         }
+        TypeDefKind::Option(ty) => {
+            let payload = type_within(alloc, types, levels, *ty)?;
+            option_type(alloc, payload)
+        }
+        TypeDefKind::Result(ok, err) => {
+            let ok = payload_within(alloc, types, levels, *ok)?;
+            let err = payload_within(alloc, types, levels, *err)?;
+            result_type(alloc, ok, err)
+        }
         _ => Ok(TypeExpr::Unit),
+    }
+}
+
+#[cycle(part)]
+fn payload_within(
+    alloc: Global,
+    types: &[TypeDef],
+    levels: u64,
+    payload: Option<WitType>,
+) -> Result<TypeExpr, OutOfMemory>
+    ensures { IfOk result (λ printed. printed ≡ payload_type (type_within types.now levels) payload) }
+{
+    match payload {
+        None => Ok(TypeExpr::Unit),
+        Some(ty) => type_within(alloc, types, levels, ty),
     }
 }
 

@@ -6,6 +6,7 @@ use Rattle.wit_model.specs.declared.types.WitType.TheVariants as wit
 use Rattle.wit_model.specs.declared.wasm_type.WasmType.TheVariants as core
 use Rattle.rust_tree.specs.declared.expr.Expr.TheVariants as expr
 use Rattle.rust_tree.specs.declared.stmt.Stmt.{Stmt}
+use Rattle.rust_tree.specs.declared.stmt.Stmt.TheVariants as stmt
 use Rattle.wrapper_data.specs.declared.answer.Answer.TheVariants as answer
 use Rattle.wrapper_data.specs.declared.form.Form.TheVariants as form
 use Rattle.wrapper_data.specs.declared.heap.Heap.{Heap}
@@ -27,6 +28,10 @@ use Rattle.wrapper_values.specs.declared.state.State.{State}
 use Rattle.wrapper_values.specs.declared.state.Val.TheVariants as val
 use Rattle.wrapper_values.specs.Act.{Done, and_then, pure}
 use Rattle.wrapper_values.specs.Locals.{bind, local_named, value_of}
+use Rattle.rust_tree.specs.declared.area.ReturnArea.{ReturnArea}
+use Rattle.wit_model.specs.declared.size.Alignment.TheVariants as alignment
+use Rattle.wrapper_run.specs.Places.{declare_area}
+use Rattle.wrapper_run.proofs.StmtSteps.{run-area, runs-code, runs-first}
 use Rattle.wrapper_run.specs.ExportRun.{core_answer, ended_export, run_export_item}
 use Rattle.wrapper_run.specs.Blocks.{leave_to}
 use Rattle.wrapper_run.specs.Places.{place_area, static_pointer}
@@ -64,7 +69,9 @@ own_runs : run_stmts (setting in_its_own) in_its_own ready ≡ Done tt (full_sta
 unfolding place_area bind
 own_runs =
     let placed : State = record own_ready { locals = result ∷ own_area ∷ [] } in
-    let_runs (setting in_its_own) (codes "ptr1") (expr.ReturnPointer (codes "ret_area")) puts (val.Word (word.Pointer 4096)) placed placed (area_gives (setting in_its_own) (codes "ret_area") 4096 8 placed refl)
+    let area : ReturnArea = record { name = codes "ret_area"; size = record { bytes = 8; pointers = 0 }; align = alignment.Bytes 4 } in
+    runs-first (setting in_its_own) (stmt.Area area) (declare_area (setting in_its_own) area) (stmt.Let (codes "ptr1") (expr.ReturnPointer (codes "ret_area")) ∷ puts) ready (run-area (setting in_its_own) area)
+    ∙ let_runs (setting in_its_own) (codes "ptr1") (expr.ReturnPointer (codes "ret_area")) puts (val.Word (word.Pointer 4096)) placed placed (area_gives (setting in_its_own) (codes "ret_area") 4096 8 placed refl)
     ∙ puts_run in_its_own own_ready refl refl refl refl
 
 static_runs : run_stmts (setting in_the_static) in_the_static ready ≡ Done tt (full_state static_ready)
@@ -97,6 +104,7 @@ unfolding run_export_item
 run_is first s end runs named ends =
     let w = setting first in
     ap ended_export (calls_it first
+    ∙ ap (λ o. and_then o (λ v. give_and_leave w (core_answer (Some core.Pointer) v))) (runs-code w (wrapper first).rest first (Some (expr.Local (codes "ptr1"))) ready refl)
     ∙ ap (λ o. and_then (and_then o (λ _. run_tail w (Some (expr.Local (codes "ptr1"))))) (λ v. give_and_leave w (core_answer (Some core.Pointer) v))) runs
     ∙ ap (λ o. and_then o (λ v. give_and_leave w (core_answer (Some core.Pointer) v))) (local_gives w (codes "ptr1") (val.Word (word.Pointer 4096)) s named refl)
     ∙ ap (λ o. and_then o (λ _. pure (word.Pointer 4096 ∷ []))) ends)

@@ -11,7 +11,7 @@ use Rattle.rust_tree.specs.declared.expr.Expr.TheVariants as expr
 use Rattle.rust_tree.specs.declared.item.FnItem.{FnItem}
 use Rattle.rust_tree.specs.declared.item.Item.TheVariants as item
 use Rattle.rust_tree.specs.declared.path.Path.{Path}
-use Rattle.rust_tree.specs.declared.stmt.Block.{Block as Code}
+use Rattle.rust_tree.specs.declared.stmt.Block.{Block as Code, out-Block}
 use Rattle.rust_tree.specs.declared.stmt.ImportDecl.{ImportDecl}
 use Rattle.rust_tree.specs.declared.stmt.Stmt.{Stmt}
 use Rattle.rust_tree.specs.declared.stmt.Stmt.TheVariants as stmt
@@ -41,6 +41,9 @@ use Rattle.wrapper_values.specs.declared.state.Val.TheVariants as val
 use Rattle.wrapper_values.specs.Act.{Done, Stopped, and_then}
 use Rattle.wrapper_values.specs.Locals.{bind, declare, local_named, value_of}
 use Rattle.wrapper_values.specs.Setting.{Setting, stuck}
+use Rattle.wrapper_run.specs.Places.{declare_area}
+use Rattle.wrapper_run.proofs.StmtSteps.{run-area, run-import, runs-code, runs-expr, runs-first}
+use Rattle.wrapper_run.specs.Code.{code_of}
 use Rattle.wrapper_run.specs.Blocks.{drop_value}
 use Rattle.wrapper_run.specs.Places.{place_area}
 use Rattle.wrapper_run.specs.Run.{answer_act, answer_and_leave, call_point, callee, ended, eval, run_item, run_stmts, run_tail, setting_of, start, take_answer}
@@ -67,7 +70,7 @@ abbrev call : Expr → Expr
 call passed = expr.Call path (expr.CastMut (codes "ptr0") ∷ expr.Local (codes "len0") ∷ passed ∷ [])
 
 abbrev calls_it : Expr → Code → List Stmt
-calls_it passed rest = stmt.Import decl ∷ stmt.Expr (call passed) ∷ rest.stmts
+calls_it passed rest = stmt.Import decl ∷ stmt.Expr (call passed) ∷ (out-Block rest).stmts
 
 abbrev names_it : Expr → Code → List Stmt
 names_it passed rest = stmt.Let (codes "ptr1") (expr.ReturnPointer (codes "ret_area")) ∷ calls_it passed rest
@@ -81,7 +84,7 @@ wrapper passed rest = record {
   name = codes "f";
   params = record { name = codes "s"; ty = type.Ref type.Str } ∷ [];
   result = type.Tuple (type.Primitive prim.U32 ∷ type.Primitive prim.U32 ∷ []);
-  body = record { stmts = body passed rest; tail = rest.tail };
+  body = code_of (body passed rest) (out-Block rest).tail;
 }
 
 abbrev pub tree : Expr → Code → Tree
@@ -146,9 +149,9 @@ text_pointer_gives w s there = ap (λ act. act s) (eval-cast_mut w (codes "ptr0"
 
 area_runs : (w : Setting) (passed : Expr) (rest : Code) (after : List Stmt) → run_stmts w (stmt.Area area ∷ after) (begun passed rest) ≡ run_stmts w after (placed (begun passed rest))
 unfolding place_area bind
-area_runs w passed rest after = refl
+area_runs w passed rest after = runs-first w (stmt.Area area) (declare_area w area) after (begun passed rest) (run-area w area)
 
-body_runs : (w : Setting) (passed : Expr) (rest : Code) → run_stmts w (body passed rest) (begun passed rest) ≡ run_stmts w (stmt.Expr (call passed) ∷ rest.stmts) (ready (begun passed rest))
+body_runs : (w : Setting) (passed : Expr) (rest : Code) → run_stmts w (body passed rest) (begun passed rest) ≡ run_stmts w (stmt.Expr (call passed) ∷ (out-Block rest).stmts) (ready (begun passed rest))
 unfolding declare
 body_runs w passed rest =
     let s = begun passed rest in
@@ -156,6 +159,7 @@ body_runs w passed rest =
     ∙ let_runs w (codes "ptr0") (expr.AsPtr (codes "s")) (stmt.Let (codes "len0") (expr.Len (codes "s")) ∷ names_it passed rest) (val.Word (word.Pointer 8192)) (placed s) (placed s) (as_ptr_gives w (codes "s") 8192 2 false (placed s) refl)
     ∙ let_runs w (codes "len0") (expr.Len (codes "s")) (names_it passed rest) (val.Word (word.Length 2)) (with_pointer s) (with_pointer s) (len_gives w (codes "s") 8192 2 false (with_pointer s) refl)
     ∙ let_runs w (codes "ptr1") (expr.ReturnPointer (codes "ret_area")) (calls_it passed rest) (val.Word (word.Pointer 4096)) (with_text s) (with_text s) (area_gives w (codes "ret_area") 4096 8 (with_text s) refl)
+    ∙ runs-first w (stmt.Import decl) (declare decl) (stmt.Expr (call passed) ∷ (out-Block rest).stmts) _ (run-import w decl)
 
 -- the call is made with these words
 stops : (w : Setting) (passed : Expr) (rest : Code) (address : ℕ) → w.answer ≡ answer.Value None heap → eval w passed (ready (begun passed rest)) ≡ Done (val.Word (word.Pointer address)) (ready (begun passed rest))
@@ -176,5 +180,6 @@ pub run_calls : (passed : Expr) (rest : Code) (address : ℕ) → eval (setting 
 unfolding run_item
 run_calls passed rest address gives =
     let w = setting passed rest in
-    ap (λ o. (ended (and_then (and_then o (λ _. run_tail w rest.tail)) (answer_and_leave w (wrapper passed rest).result))).calls) (body_runs w passed rest)
-    ∙ ap (λ o. (ended (and_then (and_then (and_then (and_then o (drop_value w)) (λ _. run_stmts w rest.stmts)) (λ _. run_tail w rest.tail)) (answer_and_leave w (wrapper passed rest).result))).calls) (stops w passed rest address refl gives)
+    ap (λ o. (ended (and_then o (answer_and_leave w (wrapper passed rest).result))).calls) (runs-code w (wrapper passed rest).body (body passed rest) (out-Block rest).tail (begun passed rest) refl)
+    ∙ ap (λ o. (ended (and_then (and_then o (λ _. run_tail w (out-Block rest).tail)) (answer_and_leave w (wrapper passed rest).result))).calls) (body_runs w passed rest ∙ runs-expr w (call passed) (out-Block rest).stmts (ready (begun passed rest)))
+    ∙ ap (λ o. (ended (and_then (and_then (and_then (and_then o (drop_value w)) (λ _. run_stmts w (out-Block rest).stmts)) (λ _. run_tail w (out-Block rest).tail)) (answer_and_leave w (wrapper passed rest).result))).calls) (stops w passed rest address refl gives)

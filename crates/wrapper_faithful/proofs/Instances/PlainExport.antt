@@ -33,6 +33,7 @@ use Rattle.wrapper_meaning.specs.Shape.Shapes.{none}
 use Rattle.wrapper_values.specs.declared.state.State.{State}
 use Rattle.wrapper_values.specs.declared.state.Val.TheVariants as val
 use Rattle.wrapper_values.specs.Act.{Act, Done, ◌>>=◌, ◌>>◌, and_then, pure}
+use Rattle.wrapper_run.specs.Code.{code_of}
 use Rattle.wrapper_run.specs.Blocks.{free_all, leave_to}
 use Rattle.wrapper_run.specs.Entries.{ExportNames}
 use Rattle.wrapper_run.specs.ExportRun.{call_inside, core_answer, ended_export, keep_result, run_export_fn, run_export_item, run_to_words, take_value}
@@ -53,7 +54,7 @@ abbrev pub body : CallBlock
 body = record { result = None; stmts = []; method = codes "f"; arguments = [] }
 
 abbrev pub wrapper : ExportFn
-wrapper = record { base = codes "f"; bound = codes "Guest"; params = []; result = None; call = body; rest = record { stmts = []; tail = None } }
+wrapper = record { base = codes "f"; bound = codes "Guest"; params = []; result = None; call = body; rest = code_of [] None }
 
 abbrev pub method : TraitFn
 method = record { docs = []; name = codes "f"; params = []; result = type.Unit }

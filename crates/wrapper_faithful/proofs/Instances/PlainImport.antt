@@ -36,6 +36,9 @@ use Rattle.wrapper_meaning.specs.Shape.Shapes.{none}
 use Rattle.wrapper_values.specs.declared.state.State.{State}
 use Rattle.wrapper_values.specs.declared.state.Val.TheVariants as val
 use Rattle.wrapper_values.specs.Act.{Act, Done, ◌>>=◌, ◌>>◌, and_then}
+use Rattle.rust_tree.specs.declared.stmt.Stmt.{Stmt}
+use Rattle.wrapper_run.proofs.StmtSteps.{run-import, runs-code, runs-expr, runs-first}
+use Rattle.wrapper_run.specs.Code.{code_of}
 use Rattle.wrapper_run.specs.Blocks.{drop_value, free_all}
 use Rattle.wrapper_values.specs.Locals.{declare}
 use Rattle.wrapper_run.specs.Run.{answer_and_leave, begin, call_point, callee, ended, eval, run_fn, run_item, run_stmts, run_tail, setting_of, take_answer}
@@ -57,7 +60,7 @@ abbrev pub path : Path
 path = record { lead = false; supers = 0; names = codes "wit_import0" ∷ [] }
 
 abbrev pub wrapper : FnItem
-wrapper = record { docs = []; name = codes "f"; params = []; result = type.Unit; body = record { stmts = stmt.Import decl ∷ stmt.Expr (expr.Call path []) ∷ []; tail = None } }
+wrapper = record { docs = []; name = codes "f"; params = []; result = type.Unit; body = code_of (stmt.Import decl ∷ stmt.Expr (expr.Call path []) ∷ []) None }
 
 abbrev pub tree : Tree
 tree = record { options = []; items = item.Import wrapper ∷ []; places = record { interface = None; nth = 0 } ∷ [] }
@@ -91,7 +94,13 @@ calls_once w heap choices = call_gives w path [] [] (declared_state heap choices
 
 goes : (w : Setting) (heap : Heap) (choices : Choices) → run_fn w wrapper (begin [] [] heap choices) ≡ behind w (called_state heap choices)
 unfolding declare
-goes w heap choices = ap (λ o. and_then (and_then (and_then (and_then o (drop_value w)) (λ _. run_stmts w [])) (λ _. run_tail w None)) (answer_and_leave w type.Unit)) (calls_once w heap choices)
+goes w heap choices =
+    let begun : State = begin [] [] heap choices in
+    let stmts : List Stmt = stmt.Import decl ∷ stmt.Expr (expr.Call path []) ∷ [] in
+    ap (λ o. and_then o (answer_and_leave w type.Unit)) (runs-code w wrapper.body stmts None begun refl)
+    ∙ ap (λ o. and_then (and_then o (λ _. run_tail w None)) (answer_and_leave w type.Unit))
+    (runs-first w (stmt.Import decl) (declare decl) (stmt.Expr (expr.Call path []) ∷ []) begun (run-import w decl) ∙ runs-expr w (expr.Call path []) [] (declared_state heap choices))
+    ∙ ap (λ o. and_then (and_then (and_then (and_then o (drop_value w)) (λ _. run_stmts w [])) (λ _. run_tail w None)) (answer_and_leave w type.Unit)) (calls_once w heap choices)
 
 quiet_behind : (w : Setting) → Quiet (behind w)
 quiet_behind w =

@@ -6,6 +6,7 @@ use mathlib.Core.Logic.{inl, inr}
 use Rattle.wit_model.specs.Bytes.{Bytes}
 use Rattle.wit_model.specs.declared.size.Alignment.TheVariants as alignment
 use Rattle.wit_model.specs.declared.wasm_type.WasmType.TheVariants as core
+use Rattle.rust_tree.specs.declared.area.ReturnArea.{ReturnArea}
 use Rattle.rust_tree.specs.declared.export.PostReturnFn.{PostReturnFn}
 use Rattle.rust_tree.specs.declared.item.FnItem.{FnItem}
 use Rattle.rust_tree.specs.declared.item.Item.TheVariants as item
@@ -29,9 +30,13 @@ use Rattle.wrapper_meaning.specs.Shape.Shape.{text}
 use Rattle.wrapper_meaning.specs.Shape.Shapes.{none}
 use Rattle.wrapper_meaning.specs.Value.{Result}
 use Rattle.wrapper_meaning.proofs.Lists.{first_or}
+use Rattle.wrapper_run.specs.Code.{code_of}
 use Rattle.wrapper_run.specs.Entries.{ExportNames}
-use Rattle.wrapper_run.specs.Places.{place_area}
-use Rattle.wrapper_run.specs.Run.{run_item, setting_of}
+use Rattle.wrapper_values.specs.declared.state.State.{State}
+use Rattle.wrapper_values.specs.Act.{and_then}
+use Rattle.wrapper_run.specs.Places.{declare_area, place_area}
+use Rattle.wrapper_run.specs.Run.{answer_and_leave, ended, run_item, run_tail, setting_of, start}
+use Rattle.wrapper_run.proofs.StmtSteps.{run-area, runs-code, runs-first}
 use Rattle.wrapper_faithful.specs.Export.{IsExportFaithful, RunOfExport, bill_of}
 use Rattle.wrapper_faithful.specs.Import.{IsFaithful, RunOfImport}
 use Rattle.wrapper_faithful.specs.Passed.{Passed, width}
@@ -109,20 +114,31 @@ refuses_another_signature name tree function two entered = omega (ap length (sym
 
 -- 4. The wrapper of an import without parameters and result, which asks for an area
 
+abbrev own_area : ReturnArea
+own_area = record { name = codes "ret_area"; size = record { bytes = 0; pointers = 2 }; align = alignment.Pointer }
+
 abbrev asks : FnItem
 asks = record {
   docs = [];
   name = codes "f";
   params = [];
   result = type.String;
-  body = record { stmts = stmt.Area (record { name = codes "ret_area"; size = record { bytes = 0; pointers = 2 }; align = alignment.Pointer }) ∷ []; tail = None };
+  body = code_of (stmt.Area own_area ∷ []) None;
 }
 
 abbrev asking_tree : Tree
 asking_tree = record { options = []; items = item.Import asks ∷ []; places = record { interface = None; nth = 0 } ∷ [] }
 
 abbrev asking_run : Run
-asking_run = run_item (setting_of asking_tree 1 (answer.Words None [] []) form.Debug) asks [] (record { blocks = [] }) (record { list = [] })
+asking_run = record { stop = stop.BadChoice; calls = []; requests = record { size = 8; align = 4 } ∷ []; heap = record { blocks = [] }; words = []; value = None }
+
+asking_is : run_item (setting_of asking_tree 1 (answer.Words None [] []) form.Debug) asks [] (record { blocks = [] }) (record { list = [] }) ≡ asking_run
+unfolding run_item place_area
+asking_is =
+    let w = setting_of asking_tree 1 (answer.Words None [] []) form.Debug in
+    let s : State = start asks [] (record { blocks = [] }) (record { list = [] }) in
+    ap (λ o. ended (and_then o (answer_and_leave w type.String))) (runs-code w asks.body (stmt.Area own_area ∷ []) None s refl)
+    ∙ ap (λ o. ended (and_then (and_then o (λ _. run_tail w None)) (answer_and_leave w type.String))) (runs-first w (stmt.Area own_area) (declare_area w own_area) [] s (run-area w own_area))
 
 abbrev asking : RunOfImport nothing asking_tree 0
 asking = record {
@@ -131,9 +147,8 @@ asking = record {
   choices = record { list = [] };
   answer = answer.Words None [] [];
   run = asking_run;
-  ran = refl;
+  ran = ap (λ run. Some run) asking_is;
 }
 
 refuses_what_is_not_due : (resources : Resources) (target : Target) → IsFaithful resources target false asking_tree 0 nothing → ⊥
-unfolding run_item place_area
 refuses_what_is_not_due resources target faithful = omega ((faithful.ends asking tt (record { good = tt; honest = tt })).1.requests (λ r. 1), arith)

@@ -45,6 +45,9 @@ use Rattle.wrapper_values.specs.Effect.{answer_of, is_of_kind, lift_of, low_i32}
 use Rattle.wrapper_values.specs.Locals.{bind, local_named, value_of}
 use Rattle.wrapper_values.specs.Owning.{concat, owned}
 use Rattle.wrapper_values.specs.Setting.{Setting, stuck}
+use Rattle.rust_tree.specs.declared.expr.Expr.{Expr}
+use Rattle.wrapper_run.specs.Code.{code_of}
+use Rattle.wrapper_run.proofs.StmtSteps.{run-store, runs-first}
 use Rattle.wrapper_run.specs.ExportRun.{keep_result, returned_of, run_export_fn, run_to_words}
 use Rattle.wrapper_run.specs.Blocks.{keep_blocks, leave_to, store_word}
 use Rattle.wrapper_run.specs.Memory.{stored}
@@ -78,7 +81,7 @@ abbrev pub wrapper : List Stmt → ExportFn
 wrapper after = record plain.wrapper {
   result = Some core.Pointer;
   call = record plain.body { result = Some (codes "result0") };
-  rest = record { stmts = after; tail = Some (expr.Local (codes "ptr1")) };
+  rest = code_of after (Some (expr.Local (codes "ptr1")));
 }
 
 -- a stack area of its own, or the static area of the file
@@ -165,7 +168,9 @@ put_runs : (first : List Stmt) (offset : ℕ) (name : List ℕ) (n : ℕ) (block
 put_runs first offset name n blocks after s there pointer fits written =
     let w = setting first in
     let size : ArchitectureSize = record { bytes = offset; pointers = 0 } in
-    ap (λ o. and_then (and_then o (λ v. eval w (expr.Local (codes "ptr1")) >>= store_word w size core.I32 v)) (λ _. run_stmts w after)) (word_gives first name n s there fits)
+    let e : Expr = expr.Call word_path (expr.Local name ∷ []) in
+    runs-first w (put offset name) (eval w e >>= (λ v. eval w (expr.Local (codes "ptr1")) >>= store_word w size core.I32 v)) after s (run-store w (expr.Local (codes "ptr1")) size core.I32 e)
+    ∙ ap (λ o. and_then (and_then o (λ v. eval w (expr.Local (codes "ptr1")) >>= store_word w size core.I32 v)) (λ _. run_stmts w after)) (word_gives first name n s there fits)
     ∙ ap (λ o. and_then (and_then o (store_word w size core.I32 (val.Word (word.I32 (low_i32 (pos n)))))) (λ _. run_stmts w after)) (local_gives w (codes "ptr1") (val.Word (word.Pointer 4096)) s pointer refl)
     ∙ ap (λ o. and_then (and_then (or_stop (stuck w) o s) keep_blocks) (λ _. run_stmts w after)) written
 

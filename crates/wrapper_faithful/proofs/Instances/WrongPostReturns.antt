@@ -26,6 +26,7 @@ use Rattle.wrapper_meaning.proofs.Lists.{first_or}
 use Rattle.wrapper_values.specs.declared.state.State.{State}
 use Rattle.wrapper_values.specs.declared.state.Val.TheVariants as val
 use Rattle.wrapper_values.specs.Act.{Done}
+use Rattle.wrapper_run.specs.Code.{code_of}
 use Rattle.wrapper_run.specs.Entries.{ExportNames}
 use Rattle.wrapper_run.specs.ExportRun.{core_answer, ended_export}
 use Rattle.wrapper_run.specs.PostReturn.{post_return_setting, run_post_return_item, start_post_return}
@@ -42,7 +43,7 @@ abbrev pointer : List CoreParam
 pointer = record { name = codes "arg0"; ty = core.Pointer } ∷ []
 
 abbrev function : PostReturnFn
-function = record { base = codes "f"; bound = codes "Guest"; params = pointer; body = record { stmts = []; tail = None } }
+function = record { base = codes "f"; bound = codes "Guest"; params = pointer; body = code_of [] None }
 
 abbrev entry_of : EntryKind → List CoreParam → Option WasmType → ExportEntry
 entry_of kind params result = record { kind = kind; export_name = codes "cabi_post_f"; base = codes "f"; params = params; result = result }

@@ -28,6 +28,9 @@ use Rattle.wrapper_meaning.specs.Shape.Shapes.{none, more}
 use Rattle.wrapper_meaning.proofs.Lists.{some_or}
 use Rattle.wrapper_values.specs.declared.state.State.{State}
 use Rattle.wrapper_values.specs.Act.{Stopped, and_then}
+use Rattle.rust_tree.specs.declared.stmt.Stmt.{Stmt}
+use Rattle.wrapper_run.proofs.StmtSteps.{run-import, runs-code, runs-expr, runs-first}
+use Rattle.wrapper_run.specs.Code.{code_of}
 use Rattle.wrapper_run.specs.Blocks.{drop_value}
 use Rattle.wrapper_run.specs.Entries.{ExportNames}
 use Rattle.wrapper_values.specs.Locals.{declare}
@@ -84,7 +87,7 @@ refuses_no_word resources names results faithful =
 -- 2. Imports: the machine calls by the declaration, and is stuck where the words or the answer are not of its kinds
 
 abbrev declared : ImportDecl → FnItem
-declared d = record plain_import.wrapper { body = record { stmts = stmt.Import d ∷ stmt.Expr (expr.Call plain_import.path []) ∷ []; tail = None } }
+declared d = record plain_import.wrapper { body = code_of (stmt.Import d ∷ stmt.Expr (expr.Call plain_import.path []) ∷ []) None }
 
 abbrev import_tree : ImportDecl → Tree
 import_tree d = record { options = []; items = item.Import (declared d) ∷ []; places = record { interface = None; nth = 0 } ∷ [] }
@@ -116,7 +119,12 @@ stops : (d : ImportDecl) (s : State) → eval (setting d) (expr.Call plain_impor
 unfolding run_item declare
 stops d s stopped =
     let w = setting d in
-    ap (λ o. ended (and_then (and_then (and_then (and_then o (drop_value w)) (λ _. run_stmts w [])) (λ _. run_tail w None)) (answer_and_leave w type.Unit))) stopped
+    let begun : State = begin [] [] empty (record { list = [] }) in
+    let after : List Stmt = stmt.Expr (expr.Call plain_import.path []) ∷ [] in
+    ap (λ o. ended (and_then o (answer_and_leave w type.Unit))) (runs-code w (declared d).body (stmt.Import d ∷ after) None begun refl)
+    ∙ ap (λ o. ended (and_then (and_then o (λ _. run_tail w None)) (answer_and_leave w type.Unit)))
+    (runs-first w (stmt.Import d) (declare d) after begun (run-import w d) ∙ runs-expr w (expr.Call plain_import.path []) [] (declared_state d))
+    ∙ ap (λ o. ended (and_then (and_then (and_then (and_then o (drop_value w)) (λ _. run_stmts w [])) (λ _. run_tail w None)) (answer_and_leave w type.Unit))) stopped
 
 -- a run that is stuck ends by nothing
 never_stuck : (resources : Resources) (target : Target) (d : ImportDecl) (s : State) → run_of d ≡ ended (Stopped (stuck (setting d)) s) → AllByRecursion (HonestPeer width None tt (answer.Words None [] [])) s.calls

@@ -22,7 +22,8 @@ pub(crate) enum DefinitionWord {
     PublicType,
     TupleEnd,
     OptionType,
-    OptionEnd,
+    ResultType,
+    TypeEnd,
     ArrayLength,
 }
 
@@ -49,7 +50,8 @@ impl DefinitionWord {
             DefinitionWord::PublicType => "pub type ",
             DefinitionWord::TupleEnd => ",)",
             DefinitionWord::OptionType => "::core::option::Option<",
-            DefinitionWord::OptionEnd => ">",
+            DefinitionWord::ResultType => "::core::result::Result<",
+            DefinitionWord::TypeEnd => ">",
             DefinitionWord::ArrayLength => "; ",
         }
     }

@@ -3,7 +3,7 @@ ghost use Rattle.rust_tree.specs.Word.{enum_word};
 
 use wit_model::{OutOfMemory, Text};
 
-/// The words of definitions of enums.
+/// The words of definitions of enums and variants.
 #[derive(Clone, Copy)]
 pub(crate) enum EnumWord {
     OpenRepr,
@@ -14,6 +14,8 @@ pub(crate) enum EnumWord {
     MatchSelf,
     CaseTuple,
     CaseFinish,
+    PayloadTuple,
+    PayloadFinish,
     NameFn,
     MessageFn,
     CaseText,
@@ -21,6 +23,7 @@ pub(crate) enum EnumWord {
     ErrorFields,
     DisplayImpl,
     WriteError,
+    WriteDebug,
     StdFeature,
     ErrorImpl,
     EmptyBlock,
@@ -49,6 +52,8 @@ impl EnumWord {
             EnumWord::MatchSelf => "match self {\n",
             EnumWord::CaseTuple => " => f.debug_tuple(\"",
             EnumWord::CaseFinish => "\").finish(),\n",
+            EnumWord::PayloadTuple => "(e) => f.debug_tuple(\"",
+            EnumWord::PayloadFinish => "\").field(e).finish(),\n",
             EnumWord::NameFn => "pub fn name(&self) -> &'static str {\n",
             EnumWord::MessageFn => "pub fn message(&self) -> &'static str {\n",
             EnumWord::CaseText => " => \"",
@@ -58,6 +63,7 @@ impl EnumWord {
             EnumWord::DisplayImpl => "impl ::core::fmt::Display for ",
             EnumWord::WriteError =>
                 "::core::write!(f, \"{} (error {})\", self.name(), *self as i32)\n",
+            EnumWord::WriteDebug => "::core::write!(f, \"{:?}\", self)\n",
             EnumWord::StdFeature => "#[cfg(feature = \"std\")]\n",
             EnumWord::ErrorImpl => "impl ::core::error::Error for ",
             EnumWord::EmptyBlock => " {}\n",

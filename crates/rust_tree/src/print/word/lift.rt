@@ -3,7 +3,7 @@ ghost use Rattle.rust_tree.specs.Word.{lift_word};
 
 use wit_model::{OutOfMemory, Text};
 
-/// The words of the runtime items that give the value of a core value.
+/// The words of the runtime items that give the value of a core value, or find that it is none.
 #[derive(Clone, Copy)]
 pub(crate) enum LiftWord {
     IfDebug,
@@ -18,6 +18,9 @@ pub(crate) enum LiftWord {
     StringLiftType,
     CheckedString,
     UncheckedString,
+    NoCaseType,
+    CheckedNoCase,
+    UncheckedNoCase,
 }
 
 impl LiftWord {
@@ -39,6 +42,9 @@ impl LiftWord {
             LiftWord::StringLiftType => "(bytes: Vec<u8>) -> String",
             LiftWord::CheckedString => "String::from_utf8(bytes).unwrap()\n",
             LiftWord::UncheckedString => "unsafe { String::from_utf8_unchecked(bytes) }\n",
+            LiftWord::NoCaseType => "<T>() -> T",
+            LiftWord::CheckedNoCase => "panic!(\"invalid enum discriminant\")\n",
+            LiftWord::UncheckedNoCase => "unsafe { ::core::hint::unreachable_unchecked() }\n",
         }
     }
 

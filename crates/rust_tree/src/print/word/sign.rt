@@ -22,6 +22,7 @@ pub(crate) enum Sign {
     Let,
     LetMut,
     Equals,
+    Minus,
 }
 
 impl Sign {
@@ -46,6 +47,7 @@ impl Sign {
             Sign::Let => "let ",
             Sign::LetMut => "let mut ",
             Sign::Equals => " = ",
+            Sign::Minus => "-",
         }
     }
 

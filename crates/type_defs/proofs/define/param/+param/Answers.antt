@@ -1,10 +1,10 @@
 use Rattle.std.proofs.Common.{◌≡◌, ◌∙◌, ◌-◌, ◌+◌, ◌*◌, ◌<◌, true, length, IfOk, ap, subst, sym, arith}
 use Rattle.std.specs.List.{list_all}
-use Rattle.wit_model.specs.TypeOrder.{parts_below, type_below}
+use Rattle.wit_model.specs.TypeOrder.{parts_below, payload_below, type_below}
 use Rattle.wit_model.proofs.WellFormedLemmas.{types_go_down}
 use Rattle.rust_tree.specs.declared.type_expr.TypeExpr.{TypeExpr}
 use Rattle.type_defs.specs.ParamType.{is_text, lent_entry, lent_within}
-use Rattle.type_defs.proofs.ParamLemmas.{entry-below, lent-level, lent-text, members-below, target-below}
+use Rattle.type_defs.proofs.ParamLemmas.{entry-below, lent-level, lent-text, members-below, option-below, result-below, some-below, target-below}
 use Rattle.type_defs.proofs.define.param.+param.Goals as goal
 
 pub lent_unnamed-param_within-requires : goal.lent_unnamed-param_within-requires
@@ -19,6 +19,30 @@ lent_unnamed-lent_parts-requires t c =
     let below : 4 * c.args.levels + 1 < t = omega (arith, c.decreases) in
     let members = members-below bound c.in-Tuple.parts (subst (λ k. parts_below bound k ≡ true) c.in-Tuple.is c.requires.within) in
     (below, (c.requires.facts, ap (list_all (type_below bound)) c.as_slice.ensures ∙ members))
+
+pub lent_unnamed-lent_within-requires : goal.lent_unnamed-lent_within-requires
+lent_unnamed-lent_within-requires t c =
+    let bound = length c.args.resolve.now.types in
+    let below : 4 * c.args.levels < t = omega (arith, c.decreases) in
+    (below, (c.requires.facts, option-below bound c.in-Option.ty (subst (λ k. parts_below bound k ≡ true) c.in-Option.is c.requires.within)))
+
+pub lent_unnamed-lent_payload-requires : goal.lent_unnamed-lent_payload-requires
+lent_unnamed-lent_payload-requires t c =
+    let bound = length c.args.resolve.now.types in
+    let below : 4 * c.args.levels + 1 < t = omega (arith, c.decreases) in
+    (below, (c.requires.facts, (result-below bound c.in-Result.ok c.in-Result.err (subst (λ k. parts_below bound k ≡ true) c.in-Result.is c.requires.within)).0))
+
+pub lent_unnamed-lent_payload-requires-in-Result : goal.lent_unnamed-lent_payload-requires-in-Result
+lent_unnamed-lent_payload-requires-in-Result t c =
+    let bound = length c.args.resolve.now.types in
+    let below : 4 * c.args.levels + 1 < t = omega (arith, c.decreases) in
+    (below, (c.requires.facts, (result-below bound c.in-Result.ok c.in-Result.err (subst (λ k. parts_below bound k ≡ true) c.in-Result.is c.requires.within)).1))
+
+pub lent_payload-lent_within-requires : goal.lent_payload-lent_within-requires
+lent_payload-lent_within-requires t c =
+    let bound = length c.args.resolve.now.types in
+    let below : 4 * c.args.levels < t = omega (arith, c.decreases) in
+    (below, (c.requires.facts, some-below bound c.in-Some.ty (subst (λ p. payload_below bound p ≡ true) c.in-Some.is c.requires.within)))
 
 pub lent_within-is_text-requires : goal.lent_within-is_text-requires
 lent_within-is_text-requires t c = types_go_down c.args.resolve.now c.requires.facts.checked.unbroken

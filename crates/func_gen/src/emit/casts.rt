@@ -1,0 +1,323 @@
+//! Core words become words of other core types.
+
+ghost use Rattle.std.specs.Prelude.{◌≡◌, ◌<◌, ◌^◌, ◌∷◌, ◌++◌, ℕ, [], false, length, map, IfOk, OnOk};
+ghost use Rattle.rust_tree.specs.declared.expr.Expr.TheVariants as expr;
+ghost use Rattle.wit_layout.specs.Cast.{cast};
+ghost use Rattle.abi_driver.specs.Instructions.{Emits};
+ghost use Rattle.abi_driver.specs.declared.instruction.Instruction.TheVariants as instruction;
+ghost use Rattle.func_gen.specs.CastForms.{cast_expr, cast_names, cast_result, cast_stmts, casts_from, core_call, core_path, needs_slot, slot_prefix, slots_from, step_expr, stmts_from};
+ghost use Rattle.func_gen.specs.Added.{Appends};
+ghost use Rattle.func_gen.specs.CallForms.{FreshAll};
+ghost use Rattle.func_gen.specs.Forms.{operand_of};
+ghost use Rattle.func_gen.specs.Meaning.{func_meaning};
+ghost use Rattle.func_gen.specs.PartForms.{part_name};
+ghost use Rattle.func_gen.specs.Scope.{Takes, names_at};
+
+use crate::emit::parts::operand_exprs;
+use crate::function_bindgen::FunctionBindgen;
+use crate::operand::{ExprOperand, copy_expr};
+use crate::scope::{LocalName, numbered};
+use rust_tree::{CastType, Expr, Method, Path, Stmt};
+use std::alloc::Global;
+use wit_layout::{Bitcast, cast, join};
+use wit_model::{Boxed, List, OutOfMemory, Resolve, Text, WasmType};
+use wrapper_values::CoreFn;
+
+/// A function of a number type.
+fn number_path(alloc: Global, ty: &str, name: &str) -> Result<Path, OutOfMemory>
+    ensures { IfOk result (λ p. p ≡ record { lead = false; supers = 0; names = ty.now ∷ name.now ∷ [] }) }
+{
+    let mut names = List::new(alloc);
+    names.push(Text::from_str(alloc, ty)?)?;
+    names.push(Text::from_str(alloc, name)?)?;
+    Ok(Path {
+        lead: false,
+        supers: 0,
+        names,
+    })
+}
+
+#[tactic(auto, unfolding(crate::specs::CastForms::new_slot_names))]
+fn new_slot_path(alloc: Global) -> Result<Path, OutOfMemory>
+    ensures { IfOk result (λ p. p ≡ core_path CoreFn.NewSlot) }
+{
+    let mut names = List::new(alloc);
+    names.push(Text::from_str(alloc, "core")?)?;
+    names.push(Text::from_str(alloc, "mem")?)?;
+    names.push(Text::from_str(alloc, "MaybeUninit")?)?;
+    names.push(Text::from_str(alloc, "new")?)?;
+    Ok(Path {
+        lead: true,
+        supers: 0,
+        names,
+    })
+}
+
+#[tactic(auto, unfolding(crate::specs::CastForms::from_names, crate::specs::CastForms::f32_names, crate::specs::CastForms::f64_names))]
+fn core_path(alloc: Global, f: CoreFn) -> Result<Path, OutOfMemory>
+    ensures { IfOk result (λ p. p ≡ core_path f) }
+{
+    match f {
+        CoreFn::I64From => number_path(alloc, "i64", "from"),
+        CoreFn::F32FromBits => number_path(alloc, "f32", "from_bits"),
+        CoreFn::F64FromBits => number_path(alloc, "f64", "from_bits"),
+        CoreFn::NewSlot => new_slot_path(alloc),
+    }
+}
+
+/// The call of a function of the core library.
+fn core_call(alloc: Global, f: CoreFn, e: Expr) -> Result<Expr, OutOfMemory>
+    ensures { IfOk result (λ c. c ≡ core_call f e) }
+{
+    let path = core_path(alloc, f)?;
+    let mut arguments = List::new(alloc);
+    arguments.push(e)?;
+    Ok(Expr::Call(path, arguments))
+}
+
+fn cast_to(alloc: Global, e: Expr, to: CastType) -> Result<Expr, OutOfMemory>
+    ensures { IfOk result (λ c. c ≡ expr.Cast e to) }
+{
+    Ok(Expr::Cast(Boxed::new(alloc, e)?, to))
+}
+
+fn call_on(alloc: Global, e: Expr, method: Method) -> Result<Expr, OutOfMemory>
+    ensures { IfOk result (λ c. c ≡ expr.Method e method) }
+{
+    Ok(Expr::Method(Boxed::new(alloc, e)?, method))
+}
+
+/// A float of the low bits of a number.
+fn float_of(alloc: Global, e: Expr, bits: CastType, f: CoreFn) -> Result<Expr, OutOfMemory>
+    ensures { IfOk result (λ c. c ≡ core_call f (expr.Cast e bits)) }
+{
+    let number = cast_to(alloc, e, bits)?;
+    core_call(alloc, f, number)
+}
+
+/// What a method gives, as a number of a type.
+fn number_of(alloc: Global, e: Expr, method: Method, to: CastType) -> Result<Expr, OutOfMemory>
+    ensures { IfOk result (λ c. c ≡ expr.Cast (expr.Method e method) to) }
+{
+    let bits = call_on(alloc, e, method)?;
+    cast_to(alloc, bits, to)
+}
+
+/// An expression behind a cast that is no sequence.
+fn step_expr(alloc: Global, step: Bitcast, e: Expr) -> Result<Expr, OutOfMemory>
+    ensures { IfOk result (λ c. c ≡ step_expr step e) }
+{
+    match step {
+        Bitcast::I32ToI64 => core_call(alloc, CoreFn::I64From, e),
+        Bitcast::F32ToI32 => number_of(alloc, e, Method::ToBits, CastType::I32),
+        Bitcast::F64ToI64 => number_of(alloc, e, Method::ToBits, CastType::I64),
+        Bitcast::I64ToI32 => cast_to(alloc, e, CastType::I32),
+        Bitcast::I32ToF32 => float_of(alloc, e, CastType::U32, CoreFn::F32FromBits),
+        Bitcast::I64ToF32 => float_of(alloc, e, CastType::U32, CoreFn::F32FromBits),
+        Bitcast::I64ToF64 => float_of(alloc, e, CastType::U64, CoreFn::F64FromBits),
+        Bitcast::F32ToI64 => {
+            let bits = call_on(alloc, e, Method::ToBits)?;
+            core_call(alloc, CoreFn::I64From, bits)
+        }
+        Bitcast::I64ToP64 => float_of(alloc, e, CastType::U64, CoreFn::NewSlot),
+        Bitcast::P64ToI64 => number_of(alloc, e, Method::AssumeInit, CastType::I64),
+        Bitcast::P64ToP => call_on(alloc, e, Method::ReadPointer),
+        Bitcast::I32ToP => cast_to(alloc, e, CastType::Pointer),
+        Bitcast::LToP => cast_to(alloc, e, CastType::Pointer),
+        Bitcast::PToI32 => cast_to(alloc, e, CastType::I32),
+        Bitcast::LToI32 => cast_to(alloc, e, CastType::I32),
+        Bitcast::I32ToL => cast_to(alloc, e, CastType::Usize),
+        Bitcast::I64ToL => cast_to(alloc, e, CastType::Usize),
+        Bitcast::PToL => cast_to(alloc, e, CastType::Usize),
+        Bitcast::LToI64 => cast_to(alloc, e, CastType::I64),
+        _ => Ok(e),
+    }
+}
+
+/// The cast between two types of which one is the join of both. Of any others there is no memory.
+fn cast_between(from: WasmType, to: WasmType) -> Result<Bitcast, OutOfMemory>
+    ensures { IfOk result (λ c. c ≡ cast from to) }
+{
+    let joined = join(from, to);
+    if joined == to || joined == from {
+        return Ok(cast(from, to));
+    }
+    Err(OutOfMemory)
+}
+
+/// An expression behind a cast.
+fn cast_expr(alloc: Global, whole: Bitcast, e: Expr) -> Result<Expr, OutOfMemory>
+    ensures { IfOk result (λ c. c ≡ cast_expr whole e) }
+{
+    match whole {
+        Bitcast::Sequence { from, through, to } => {
+            let first = cast_between(from, through)?;
+            let second = cast_between(through, to)?;
+            let between = step_expr(alloc, first, e)?;
+            step_expr(alloc, second, between)
+        }
+        step => step_expr(alloc, step, e),
+    }
+}
+
+/// Whether a cast puts a pointer into a slot.
+fn needs_slot(cast: Bitcast) -> bool
+    ensures { result ≡ needs_slot cast }
+{
+    match cast {
+        Bitcast::PToP64 => true,
+        _ => false,
+    }
+}
+
+/// The name of the slot of the cast at a place.
+#[tactic(auto, unfolding(crate::specs::CastForms::slot_prefix))]
+fn slot_name(alloc: Global, at: u32, t: u32) -> Result<Text, OutOfMemory>
+    ensures { IfOk result (λ name. name ≡ part_name slot_prefix t at) }
+{
+    let part = Some(at);
+    let name = LocalName {
+        prefix: "slot",
+        part,
+    };
+    numbered(alloc, name, t)
+}
+
+/// The name of a cast's slot, where it needs one.
+fn push_slot_name<'a>(
+    prefix: &'a str,
+    cast: Bitcast,
+    at: u32,
+    names: &mut List<LocalName<'a>>,
+) -> Result<(), OutOfMemory>
+    requires named { prefix.now ≡ slot_prefix }
+    ensures { OnOk result ((t : ℕ) → names_at names.new t ≡ names_at names.old t ++ cast_names (needs_slot cast) (part_name slot_prefix t at)) }
+{
+    if needs_slot(cast) {
+        let part = Some(at);
+        names.push(LocalName { prefix, part })?;
+    }
+    Ok(())
+}
+
+/// The names of the slots of casts.
+fn slot_names<'a>(
+    alloc: Global,
+    prefix: &'a str,
+    casts: &[Bitcast],
+) -> Result<List<LocalName<'a>>, OutOfMemory>
+    requires named { prefix.now ≡ slot_prefix }
+    requires few { length casts.now < 2 ^ 32 }
+    ensures { IfOk result (λ names. (t : ℕ) → names_at names t ≡ slots_from 0 casts.now t) }
+{
+    let mut names = List::new(alloc);
+    for i in 0..casts.len() {
+        push_slot_name(prefix, casts[i], i as u32, &mut names)?;
+    }
+    Ok(names)
+}
+
+/// The statements of a cast that needs a slot.
+fn push_slot(
+    alloc: Global,
+    cast: Bitcast,
+    at: u32,
+    t: u32,
+    e: &Expr,
+    stmts: &mut List<Stmt>,
+) -> Result<(), OutOfMemory>
+    ensures { OnOk result (stmts.new ≡ stmts.old ++ cast_stmts (needs_slot cast) (part_name slot_prefix t at) (cast_expr cast e.now)) }
+{
+    if needs_slot(cast) {
+        let slot = slot_name(alloc, at, t)?;
+        let copy = slot.copy(alloc)?;
+        let e = cast_expr(alloc, cast, copy_expr(e, alloc)?)?;
+        stmts.push(Stmt::LetSlot(slot))?;
+        stmts.push(Stmt::WriteSlot(copy, e))?;
+    }
+    Ok(())
+}
+
+/// The statements of casts that need slots.
+fn push_slots(
+    alloc: Global,
+    t: u32,
+    casts: &[Bitcast],
+    es: &[Expr],
+    stmts: &mut List<Stmt>,
+) -> Result<(), OutOfMemory>
+    requires many { length es.now ≡ length casts.now }
+    requires few { length casts.now < 2 ^ 32 }
+    ensures { OnOk result (stmts.new ≡ stmts.old ++ stmts_from 0 casts.now es.now t) }
+{
+    for i in 0..casts.len() {
+        push_slot(alloc, casts[i], i as u32, t, &es[i], stmts)?;
+    }
+    Ok(())
+}
+
+/// What a cast gives: its slot, or the expression behind it.
+fn cast_result(alloc: Global, cast: Bitcast, at: u32, t: u32, e: &Expr) -> Result<Expr, OutOfMemory>
+    ensures { IfOk result (λ c. c ≡ cast_result (needs_slot cast) (part_name slot_prefix t at) (cast_expr cast e.now)) }
+{
+    if needs_slot(cast) {
+        return Ok(Expr::Local(slot_name(alloc, at, t)?));
+    }
+    cast_expr(alloc, cast, copy_expr(e, alloc)?)
+}
+
+/// What casts give, in order.
+fn push_casts(
+    alloc: Global,
+    t: u32,
+    casts: &[Bitcast],
+    es: &[Expr],
+    results: &mut List<ExprOperand>,
+) -> Result<(), OutOfMemory>
+    requires many { length es.now ≡ length casts.now }
+    requires few { length casts.now < 2 ^ 32 }
+    ensures { OnOk result (results.new ≡ results.old ++ map operand_of (casts_from 0 casts.now es.now t)) }
+{
+    for i in 0..casts.len() {
+        let expr = cast_result(alloc, casts[i], i as u32, t, &es[i])?;
+        results.push(ExprOperand { expr })?;
+    }
+    Ok(())
+}
+
+impl FunctionBindgen {
+    /// The number of the slots of casts, into which pointers are put.
+    #[tactic(auto, unfolding(crate::specs::CastForms::slot_prefix))]
+    fn add_slots(&mut self, casts: &[Bitcast], es: &[Expr]) -> Result<u32, OutOfMemory>
+        requires many { length es.now ≡ length casts.now }
+        requires few { length casts.now < 2 ^ 32 }
+        ensures adds { IfOk result (λ t. Appends self.old self.new (stmts_from 0 casts.now es.now t) []) }
+        ensures fresh { IfOk result (λ t. FreshAll self.old self.new (slots_from 0 casts.now t)) }
+        ensures takes { IfOk result (λ t. Takes self.old.scope (λ k. slots_from 0 casts.now k) t self.new.scope) }
+    {
+        let names = slot_names(self.alloc, "slot", casts)?;
+        let t = self.scope.declare(self.alloc, names.as_slice())?;
+        push_slots(self.alloc, t, casts, es, &mut self.code.stmts)?;
+        Ok(t)
+    }
+
+    pub(crate) fn cast_words(
+        &mut self,
+        resolve: &Resolve,
+        casts: &[Bitcast],
+        operands: &List<ExprOperand>,
+        results: &mut List<ExprOperand>,
+    ) -> Result<(), OutOfMemory>
+        requires many { length operands.now ≡ length casts.now }
+        requires empty { results.old ≡ [] }
+        ensures { OnOk result (Emits func_meaning resolve.now.types (instruction.Bitcasts casts.entry) operands.now results.new self.old self.new) }
+    {
+        if u32::try_from(casts.len()).is_err() {
+            return Err(OutOfMemory);
+        }
+        let es = operand_exprs(self.alloc, operands.as_slice())?;
+        let t = self.add_slots(casts, es.as_slice())?;
+        push_casts(self.alloc, t, casts, es.as_slice(), results)?;
+        Ok(())
+    }
+}
