@@ -21,8 +21,9 @@ EXAMPLES = os.path.join(HERE, "..", "crates", "examples", "data")
 
 # Worked examples whose documents say no more than their WIT, by the beginnings of their names.
 FAMILIES = (
-    "alias_of", "enum_in_", "export_", "fields_", "flags_in_", "flags_of_", "locals_",
-    "records_", "seventeen_", "sixteen_", "tuple_of_a_text", "words_",
+    "alias_of", "each_", "enum_in_", "error_", "export_", "fields_", "flags_in_", "flags_of_", "freed_", "joined_", "locals_",
+    "option_of_", "options_", "record_of_each", "records_", "result_of_option", "result_of_record", "result_of_text",
+    "result_of_variant", "results_of_each", "seventeen_", "sixteen_", "slot", "tuple_of_a_text", "variants_", "words_",
 )  # fmt: skip
 
 
@@ -48,7 +49,7 @@ class Worlds(unittest.TestCase):
 
     def test_worked_examples(self):
         names = sorted(n[:-3] for n in os.listdir(EXAMPLES) if n.endswith(".rs") and n.startswith(FAMILIES))
-        self.assertGreater(len(names), 80)
+        self.assertGreater(len(names), 150)
         for name in names:
             with self.subTest(name):
                 wanted = json.loads(read(EXAMPLES, f"{name}.json"))

@@ -151,7 +151,7 @@ module _ {Self Operand : Type 0} (m : Meaning Self Operand) (sound : Sound m) wh
 
     module _ (types : List TypeDef) (z : Self) (n : ℕ) (empty : List Operand) (ended : Emits m types (Return n) given empty e z) (many : is_indirect (Some t) ≡ true) (v : Value t) (a : m.Item) (own : List Block) (listed : IsListed t v) (stands : m.stands give t v a own)
         (w : m.World) (p : Peer m.Item) (s0 s2 : m.State) (serves : m.serves w z) (done : m.does w p (m.code d) s0 ≡ Done s2) (good : is_heap (m.account s2).heap ≡ true) (owners : SameItems (m.account s2).taken (addresses own)) (owns : SameItems (m.owns s2) (addresses own))
-        (unplaced : m.area_at s0 ≡ None) (unasked : m.asked d ≡ []) (denotes : m.denotes w d (of h.value (item a) ∷ []) s2) where
+        (unplaced : m.area_at s0 ≡ None) (export : m.exports d ≡ true) (unasked : m.asked d ≡ []) (denotes : m.denotes w d (of h.value (item a) ∷ []) s2) where
       abbrev acc : Account m.Item
       acc = m.account s2
 
@@ -164,7 +164,7 @@ module _ {Self Operand : Type 0} (m : Meaning Self Operand) (sound : Sound m) wh
       pointed_so : Follows m.account (pointing (m.area w) None acc) (m.does w p (m.code h.middle) s0) (λ x s3. (pointing (m.area w) None acc ≡ Done x) × Pointing x s3)
       pointed_so =
           follows_known m.account (pointing (m.area w) None acc) (m.does w p (m.code h.middle) s0) Pointing
-          (h.points.2.row w p (of h.value (item a) ∷ []) s0 s2 None (record { serves = serves_middle; done = done; holds = denotes }) unplaced (λ e. unasked))
+          (h.points.2.row w p (of h.value (item a) ∷ []) s0 s2 None (record { serves = serves_middle; done = done; holds = denotes }) unplaced (λ e. (export, unasked)))
 
       holds : HoldsRecord m.width (m.area w) h.points.0
       holds = last_room (HoldsRecord m.width (m.area w)) (m.asked d) h.points.0 (subst (AllByRecursion (HoldsRecord m.width (m.area w))) h.points.2.asked (sound.room w h.middle serves_middle))
@@ -259,17 +259,17 @@ module _ {Self Operand : Type 0} (m : Meaning Self Operand) (sound : Sound m) wh
   -- the words of a result that passes by the area
   ends_by_area : (types : List TypeDef) (r : Option Shape) (back given : List Operand) (d e z : Self) (n : ℕ) (empty : List Operand) → Emits m types (Return n) given empty e z → is_indirect r ≡ true → GivesAnswer m r back given d e
       → (v : Result r) (vals : List m.Item) (own : List Block) → IsResult r v → ResultStands m give r v vals own → (w : m.World) (p : Peer m.Item) (s0 s2 : m.State) → m.serves w z → m.does w p (m.code d) s0 ≡ Done s2 → is_heap (m.account s2).heap ≡ true
-      → (m.account s2).taken ≡ flat_map m.owned vals → SameItems (m.owns s2) (flat_map m.owned vals) → m.area_at s0 ≡ None → m.asked d ≡ [] → m.denotes w d (ofs m back (item_data m vals)) s2 → EndsWithWords m w p r v own (m.account s2).heap given z s0 (m.account s2)
-  ends_by_area types None back given d e z n empty ended many gives v vals own good stands w p s0 s2 serves done formed taken owns unplaced unasked denotes = absurd (let g = many in cc)
-  ends_by_area types (Some t) back given d e z n empty ended many gives v vals own good stands w p s0 s2 serves done formed taken owns unplaced unasked denotes =
+      → (m.account s2).taken ≡ flat_map m.owned vals → SameItems (m.owns s2) (flat_map m.owned vals) → m.area_at s0 ≡ None → m.exports d ≡ true → m.asked d ≡ [] → m.denotes w d (ofs m back (item_data m vals)) s2 → EndsWithWords m w p r v own (m.account s2).heap given z s0 (m.account s2)
+  ends_by_area types None back given d e z n empty ended many gives v vals own good stands w p s0 s2 serves done formed taken owns unplaced export unasked denotes = absurd (let g = many in cc)
+  ends_by_area types (Some t) back given d e z n empty ended many gives v vals own good stands w p s0 s2 serves done formed taken owns unplaced export unasked denotes =
       let h = subst (λ c. MatchBool c (StoresAnswer m t back given d e) (LowersAnswer m (Some t) back given d e)) many gives in
       let owned : SameItems (flat_map m.owned vals) (addresses own) = owned_answer (Some t) v vals own stands in
       let facts : m.denotes w d (of h.value (item stands.0) ∷ []) s2 = subst (λ fs. m.denotes w d fs s2) (ap₂ (λ os xs. ofs m os (item_data m xs)) h.answered stands.1) denotes in
-      ends_in_area t back given d e h types z n empty ended many v stands.0 own good.0 stands.2 w p s0 s2 serves done formed (λ g. ap (total g) taken ∙ owned g) (λ g. owns g ∙ owned g) unplaced unasked facts
+      ends_in_area t back given d e h types z n empty ended many v stands.0 own good.0 stands.2 w p s0 s2 serves done formed (λ g. ap (total g) taken ∙ owned g) (λ g. owns g ∙ owned g) unplaced export unasked facts
 
   module _ (types : List TypeDef) (fn : Bor Function) (a c d e z : Self) (values back given empty : List Operand) (n : ℕ)
       (takes : TakesArgumentsOver m (param_shapes types fn.now) values a c)
-      (called : Emits m types (CallInterface fn) values back c d) (lowers : GivesAnswer m (result_shape types fn.now) back given d e) (ended : Emits m types (Return n) given empty e z) where
+      (called : Emits m types (CallInterface fn) values back c d) (export : m.exports a ≡ true) (lowers : GivesAnswer m (result_shape types fn.now) back given d e) (ended : Emits m types (Return n) given empty e z) where
     abbrev ts : Shapes
     ts = param_shapes types fn.now
 
@@ -414,7 +414,7 @@ module _ {Self Operand : Type 0} (m : Meaning Self Operand) (sound : Sound m) wh
           let stands = (back_in v honest).stands in
           let two = answered_so v honest in
           let unasked : m.asked d ≡ [] = called.asked ∙ takes.adds.asked ∙ is.unasked in
-          let ends = ends_by_area types r back given d e z n empty ended many lowers v vals honest.own honest.good stands w p s0 two.state is.at.serves two.done (ap (λ acc. is_heap acc.heap) two.account ∙ honest.formed) (ap (λ acc. acc.taken) two.account) two.owns is.unplaced unasked two.denotes in
+          let ends = ends_by_area types r back given d e z n empty ended many lowers v vals honest.own honest.good stands w p s0 two.state is.at.serves two.done (ap (λ acc. is_heap acc.heap) two.account ∙ honest.formed) (ap (λ acc. acc.taken) two.account) two.owns is.unplaced (called.adds.exports ∙ takes.adds.grows.exports ∙ export) unasked two.denotes in
           subst (λ acc. EndsWithWords m w p r v honest.own acc.heap given z s0 acc) two.account ends
 
       gives_words : (v : Result r) → (honest : IsHonestMethod m w a fn.now r v p.reply) → HandsBack m w p r v honest.own honest.heap call given z s0 s

@@ -1,5 +1,5 @@
 -- What each meaning keeps, and in which sense code that was added does an action.
-use Rattle.std.specs.Prelude.{◌≡◌, ◌⊎◌, ℕ, suc, List, [], ◌∷◌, ◌++◌, length, map, Option, None, IfSome, option_to_list}
+use Rattle.std.specs.Prelude.{◌≡◌, ◌⊎◌, ℕ, suc, true, List, [], ◌∷◌, ◌++◌, length, map, Option, None, IfSome, option_to_list}
 use Rattle.std.specs.List.{AllByRecursion}
 use Rattle.wit_model.specs.declared.function.Function.{Function}
 use Rattle.wit_model.specs.declared.types.TypeDef.{TypeDef}
@@ -156,6 +156,6 @@ module _ {Self Operand : Type 0} (m : Meaning Self Operand) where
     pub asked : m.asked new ≡ m.asked old ++ a ∷ []
     pub blocks : m.blocks new ≡ m.blocks old
     pub form : m.forms (asks a) [] (o ∷ []) old new
-    pub row : (w : m.World) (f : Peer m.Item) (others : Facts) (s0 s : m.State) (at : Option ℕ) → At w f old new others s0 s → m.area_at s0 ≡ at → (at ≡ None → m.asked old ≡ [])
+    pub row : (w : m.World) (f : Peer m.Item) (others : Facts) (s0 s : m.State) (at : Option ℕ) → At w f old new others s0 s → m.area_at s0 ≡ at → (at ≡ None → (m.exports old ≡ true) × (m.asked old ≡ []))
         → Follows m.account (pointing (m.area w) at (m.account s)) (m.does w f (m.code new) s0)
         (λ x t. After w new (of o (word (core.Pointer x.result)) ∷ others) (newly at x.result) [] s x t)

@@ -19,8 +19,8 @@ use wit_model::{ArchitectureSize, Function, List, OutOfMemory, Resolve, WitType}
 /// The code of the post-return function of an export, after `post_return` of wit-bindgen-core: the blocks of its result are
 /// freed, which stands at the address that is the first argument, and nothing is given.
 ///
-/// So far a result holds scalars, texts, enums and flags, and records and tuples of such, also through aliases. Of any other the answer is
-/// `OutOfMemory`, as where memory is wanting.
+/// So far a result holds scalars, texts, enums and flags, and records, tuples, variants, options and results of such, also through aliases.
+/// Of any other the answer is `OutOfMemory`, as where memory is wanting.
 pub fn post_return<B: Bindgen>(
     alloc: Global,
     resolve: &Resolve,

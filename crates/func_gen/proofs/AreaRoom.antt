@@ -21,7 +21,7 @@ use Rattle.func_gen.specs.declared.function_bindgen.FunctionBindgen.{FunctionBin
 use Rattle.func_gen.specs.Area.{asking}
 use Rattle.func_gen.specs.Meaning.{File, Found, IsArea, Serves, static_request}
 use Rattle.func_gen.proofs.FieldOrder.{still_defined}
-use Rattle.func_gen.proofs.RuntimeItems.{gives_as_called}
+use Rattle.func_gen.proofs.RuntimeItems.{gives_as_called, suspended_from}
 
 -- 1. The area
 
@@ -77,5 +77,6 @@ more_room a b aligned w h =
         static = λ e. sym (static_is r w.items);
         bound = h.bound;
         called = gives_as_called w.items (with_static r w.items) w.bound b.code.call (λ name. refl) h.called;
+        suspended = suspended_from w.items (with_static r w.items) w.bound (λ call. gives_as_called w.items (with_static r w.items) w.bound call (λ name. refl)) b.opened h.suspended;
       },
     )

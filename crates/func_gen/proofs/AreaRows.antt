@@ -1,5 +1,5 @@
 -- The law of the return area: it stands in a local, or is placed when its pointer is first taken.
-use Rattle.std.proofs.Common.{◌≡◌, ℕ, ◌<◌, Bool, true, false, if◌then◌else◌, not, ◌&&◌, ◌||◌, nat_eq, ◌%◌, List, [], ◌∷◌, ◌++◌, Option, None, Some, refl, sym, ap, ◌∙◌, subst, arith}
+use Rattle.std.proofs.Common.{◌≡◌, ℕ, ◌<◌, Bool, true, false, if◌then◌else◌, not, ◌&&◌, ◌||◌, nat_eq, ◌%◌, List, [], ◌∷◌, ◌++◌, reverse, Option, None, Some, refl, sym, ap, ◌∙◌, subst, arith}
 use Rattle.std.specs.Prelude.{IfSome, option_and_then, option_map, option_to_list, codes}
 use Rattle.std.specs.List.{flat_map}
 use Rattle.std.proofs.lemmas.Bool.{and_parts, not-true}
@@ -48,13 +48,12 @@ use Rattle.func_gen.specs.declared.function_bindgen.FunctionBindgen.{FunctionBin
 use Rattle.func_gen.specs.Added.{Appends, Fresh}
 use Rattle.func_gen.specs.Area.{area_pointer, asking}
 use Rattle.func_gen.specs.Forms.{operand_of}
-use Rattle.func_gen.specs.Opened.{in_view}
 use Rattle.func_gen.specs.Meaning.{AreaIs, Denote, File, FuncState, IsArea, account_of, func_meaning, owns_of, run_code, seen, setting_for, static_request}
 use Rattle.func_gen.specs.Emission.{one_local}
 use Rattle.func_gen.specs.Scope.{TakesOne}
 use Rattle.func_gen.proofs.AreaRoom.{more_room}
 use Rattle.func_gen.proofs.Forming.{written}
-use Rattle.func_gen.proofs.Lasting.{area_viewed, owns_with, with_local}
+use Rattle.func_gen.proofs.Lasting.{owns_with, with_local}
 use Rattle.func_gen.proofs.Placed.{owned_placed}
 use Rattle.func_gen.proofs.Rows.{binds, bound, let_adds}
 use Rattle.func_gen.proofs.Steps.{ran, seen_done}
@@ -75,12 +74,12 @@ known : (a : Asked) (b : FunctionBindgen) (w : File) (facts : Facts func_meaning
 known a b w facts s d = record {
   hold = record { right = d.hold.right; apart = d.hold.apart; within = d.hold.within };
   owners = d.owners;
-  area = asked_more b.import (in_view b.opened w.area) (in_view b.opened s.area) b.asked a b.area s.machine d.area;
+  area = asked_more b.import w.area s.area b.asked a b.area s.machine d.area;
 }
 
 noted_grows : (a : Asked) (b : FunctionBindgen) → IsAlignment a.align → Grows func_meaning b (asking a b)
 noted_grows a b aligned = record {
-  serves = λ w h. record { runtime = h.runtime; sites = h.sites; room = all_left (HoldsRecord 2 w.area) b.asked (a ∷ []) h.room; sized = h.sized; static = h.static; bound = h.bound; called = h.called };
+  serves = λ w h. record { runtime = h.runtime; sites = h.sites; room = all_left (HoldsRecord 2 w.area) b.asked (a ∷ []) h.room; sized = h.sized; static = h.static; bound = h.bound; called = h.called; suspended = h.suspended };
   more = more_room a b aligned;
   stops = λ w p s h. stops_same func_meaning.account (func_meaning.does w p b.code s);
   imports = refl;
@@ -183,10 +182,9 @@ module _ (a : Asked) (old mid : FunctionBindgen) (n : Bytes) (added : Appends ol
     denotes address = bound old mid n (area_pointer old) [] added fresh (quiet_pointer old) [] others w s (val.Word (core.Pointer address)) (word (core.Pointer address)) stands.holds refl refl
 
     -- where the area stands in a local
-    of_import : old.import ≡ true → (area : Option Request) → w.area ≡ area → (at : Option ℕ) → s.area ≡ at → AreaIs true area at old.asked old.area s.machine → PointsAfter w p others s0 s area at
-    of_import import None e at f h = absurd (subst (λ x. HoldsRecord 2 x a) e holds_record)
-    of_import import (Some area) e None f h = absurd h
-    of_import import (Some area) e (Some address) f h =
+    of_import : old.import ≡ true → (area : Option Request) (address : ℕ) → AreaIs true area (Some address) old.asked old.area s.machine → PointsAfter w p others s0 s area (Some address)
+    of_import import None address h = absurd h
+    of_import import (Some area) address h =
         let v = val.Word (core.Pointer address) in
         let pointer = ap (λ (c : Bool). if c then expr.ReturnPointer old.area else expr.StaticPointer) import in
         let t : FuncState = record { machine = with_local s.machine n v; area = s.area } in (
@@ -222,8 +220,7 @@ module _ (a : Asked) (old mid : FunctionBindgen) (n : Bytes) (added : Appends ol
         record {
           hold = record { right = (denotes address).hold.right; apart = (denotes address).hold.apart; within = (denotes address).hold.within };
           owners = owned_placed (area_block address (request_of sa.size sa.align)) some s.machine.heap.blocks s.machine.taken alone stands.holds.owners;
-          area = area_viewed mid.opened mid.import w.area None (mid.asked ++ a ∷ []) mid.area (placed_at address later).machine
-              (subst (λ i. AreaIs i w.area None (mid.asked ++ a ∷ []) mid.area (placed_at address later).machine) (sym (added.import ∙ export)) (λ e. absurd (not_asked_no_more mid.asked e)));
+          area = subst (λ i. AreaIs i w.area None (mid.asked ++ a ∷ []) mid.area (placed_at address later).machine) (sym (added.import ∙ export)) (λ e. absurd (not_asked_no_more mid.asked e));
         },
       )
         where
@@ -267,14 +264,16 @@ module _ (a : Asked) (old mid : FunctionBindgen) (n : Bytes) (added : Appends ol
         let is : w.area ≡ Some (request_of sa.size sa.align) = stands.serves.static (added.import ∙ export) ∙ ap static_request e in
         subst (λ x. PointsAfter w p others s0 s x None) (sym is) (of_export sa e is outside unplaced export)
 
-    points : (import : Bool) → old.import ≡ import → (at : Option ℕ) → s.area ≡ at → (at ≡ None → old.asked ≡ []) → AreaIs import w.area at old.asked old.area s.machine → PointsAfter w p others s0 s w.area at
-    points true e at f first h = of_import e w.area refl at f h
-    points false e None f first h = by_static (area_in w.items) refl f (h (first refl)) e
+    -- where it does not stand yet, the code is an export's
+    points : (import : Bool) → old.import ≡ import → (at : Option ℕ) → s.area ≡ at → (at ≡ None → (not old.import ≡ true) × (old.asked ≡ [])) → AreaIs import w.area at old.asked old.area s.machine → PointsAfter w p others s0 s w.area at
+    points true e None f first h = absurd (let export : false ≡ true = ap not (sym e) ∙ (first refl).0 in cc)
+    points true e (Some address) f first h = of_import e w.area address h
+    points false e None f first h = by_static (area_in w.items) refl f (h (first refl).1) e
     points false e (Some address) f first h = absurd h
 
   -- the statement, and then the note
-  pub points_to : old.opened ≡ [] → TakesOne old.scope (codes "ptr") n mid.scope → PointsTo func_meaning a (operand_of (expr.Local n)) old (asking a mid)
-  points_to closed one =
+  pub points_to : TakesOne old.scope (codes "ptr") n mid.scope → PointsTo func_meaning a (operand_of (expr.Local n)) old (asking a mid)
+  points_to one =
       let writes = written old mid (operand_of (expr.Local n) ∷ []) (one_local (codes "ptr") (area_pointer old) []) one.number one.takes (subst (λ x. Appends old mid (stmt.Let x (area_pointer old) ∷ []) []) one.is added) (ap (λ x. operand_of (expr.Local x) ∷ []) one.is) in
       let adds = let_adds old mid n (area_pointer old) [] added fresh (quiet_pointer old) in
       let noted = noted_grows a mid aligned in
@@ -284,14 +283,13 @@ module _ (a : Asked) (old mid : FunctionBindgen) (n : Bytes) (added : Appends ol
         quiet = quiet_both func_meaning old mid (asking a mid) adds.quiet noted silent;
         returned = added.returned;
         asked = ap (λ asked. asked ++ a ∷ []) added.asked;
-        blocks = refl;
+        blocks = ap reverse added.finished;
         form = record {
-          code = record { code = one_local (codes "ptr") (area_pointer old) []; is = refl; writes = record { number = writes.number; takes = writes.takes; call = writes.call; stmts = writes.stmts; runtime = writes.runtime; results = writes.results; opened = writes.opened } };
+          code = record { code = one_local (codes "ptr") (area_pointer old) []; is = refl; writes = record { number = writes.number; takes = writes.takes; call = writes.call; stmts = writes.stmts; runtime = writes.runtime; results = writes.results; opened = writes.opened; finished = writes.finished } };
           still = record { import = added.import; home = added.home; area = added.area; params = added.params; sites = added.sites; sizes = added.sizes };
           given = tt;
         };
         row = λ w p others s0 s at stands here first.
             let outside = (seen_done s0.area (run_code (setting_for w p) w.bound old.code s0.machine) s stands.done).1 ∙ here in
-            let here = subst (λ os. AreaIs old.import (in_view os w.area) (in_view os s.area) old.asked old.area s.machine) closed stands.holds.area in
-            points w p others s0 s stands old.import refl at outside first (subst (λ x. AreaIs old.import w.area x old.asked old.area s.machine) outside here);
+            points w p others s0 s stands old.import refl at outside first (subst (λ x. AreaIs old.import w.area x old.asked old.area s.machine) outside stands.holds.area);
       }

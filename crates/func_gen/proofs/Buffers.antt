@@ -72,7 +72,7 @@ pub record UsedBuffer (w : Setting) (b : FunctionBindgen) (e : Expr) (p n : ℕ)
 
 pub uses_buffer : (w : Setting) (b : FunctionBindgen) (e : Expr) (p n : ℕ) (o : Bool) (others : List (Fact ExprOperand Slot RustValue)) (s : State) → Hold w.items b (of (operand_of e) (item (value.Buffer p n o)) ∷ others) s → UsedBuffer w b e p n o others s
 uses_buffer w b e p n o others s h =
-    let u = uses w b e (value.Buffer p n o) others s h in
+    let u = uses w b (operand_of e) (value.Buffer p n o) others s h in
     let same = buffer_is u.given p n o u.is in
     record {
       then = u.then;

@@ -1,5 +1,5 @@
 -- The row of the call of a core import.
-use Rattle.std.proofs.Common.{◌≡◌, ℕ, Bool, true, false, not, cond, ◌&&◌, ◌||◌, Bor, List, [], ◌∷◌, ◌++◌, length, map, Option, None, Some, refl, sym, ap, ap₂, ◌∙◌, subst, arith, append-nil, append_assoc}
+use Rattle.std.proofs.Common.{◌≡◌, ℕ, Bool, true, false, not, cond, ◌&&◌, ◌||◌, Bor, List, [], ◌∷◌, ◌++◌, length, map, reverse, Option, None, Some, refl, sym, ap, ap₂, ◌∙◌, subst, arith, append-nil, append_assoc}
 use Rattle.std.specs.Prelude.{option_and_then}
 use Rattle.std.specs.List.{list_any}
 use Rattle.std.specs.Option.{option_map, option_or}
@@ -47,11 +47,10 @@ use Rattle.abi_driver.specs.Meaning.{Fact, of, word}
 use Rattle.func_gen.specs.declared.function_bindgen.FunctionBindgen.{FunctionBindgen}
 use Rattle.func_gen.specs.declared.operand.ExprOperand.{ExprOperand}
 use Rattle.func_gen.specs.CallForms.{AddsCall, AddsStatement, FreshAll, exprs, import_of, local_path, import_name}
-use Rattle.func_gen.specs.FactLemmas.{is_said}
+use Rattle.func_gen.specs.FactLemmas.{is_said, word_read}
 use Rattle.func_gen.specs.Facts.{AreOwned, Hold, IsThere}
 use Rattle.func_gen.specs.Formed.{CallsSome}
 use Rattle.func_gen.specs.Forms.{operand_of}
-use Rattle.func_gen.specs.Opened.{in_view}
 use Rattle.func_gen.specs.Meaning.{Denote, File, FuncState, account_of, answer_of, call_of, func_meaning, owns_of, seen, setting_for, target_of}
 use Rattle.func_gen.specs.Read.{Read, env_of}
 use Rattle.func_gen.specs.ReadForms.{read-local}
@@ -117,7 +116,7 @@ words_give w b [] (x ∷ ws) others s len h = absurd (omega (arith, len))
 words_give w b (o ∷ os) [] others s len h = absurd (omega (arith, len))
 words_give w b (o ∷ os) (x ∷ ws) others s len h =
     let later = ofs func_meaning os (core_data func_meaning ws) ++ others in (
-      gives w o.expr s (val.Word x) (is_said w.items b.params (env_of s) (of o (word x)) (omega (arith, h.right))) refl,
+      gives w o.expr s (val.Word x) (word_read w.items o (env_of s) x (is_said w.items b.params (env_of s) (of o (word x)) (omega (arith, h.right)))).1 refl,
       words_give w b os ws others s (omega (arith, len)) (part w.items b later (of o (word x) ∷ later) s (λ f. omega arith) h),
     )
 
@@ -156,7 +155,7 @@ answered_denotes : (file : File) (old new : FunctionBindgen) (before facts : Fac
     → t.heap ≡ answered blocks writes s.machine.heap → Denote file old before s → Hold file.items new facts t → Denote file new facts (record { machine = t; area = s.area })
 answered_denotes file old new before facts s t writes blocks same beside is h hold =
     let d = denotes_on file old new before facts s (record t { heap = s.machine.heap }) same beside h (record { right = hold.right; apart = hold.apart; within = hold.within }) in
-    record { hold = hold; owners = subst (λ hp. AreOwned hp.blocks t.taken) (sym is) (owned_still s.machine.heap.blocks blocks writes t.taken d.owners); area = area_lasts new.import (in_view new.opened file.area) (in_view new.opened s.area) new.asked new.area (record t { heap = s.machine.heap }) t (λ n v e. e) refl d.area }
+    record { hold = hold; owners = subst (λ hp. AreOwned hp.blocks t.taken) (sym is) (owned_still s.machine.heap.blocks blocks writes t.taken d.owners); area = area_lasts new.import file.area s.area new.asked new.area (record t { heap = s.machine.heap }) t (λ n v e. e) refl d.area }
 
 module _ (old new : FunctionBindgen) (file : File) (p : Peer RustValue) (d : ImportDecl) (s : FuncState) (ws : List Word) (others : Facts func_meaning) where
   abbrev goal : Target
@@ -321,7 +320,7 @@ pub statement_emits : (types : List TypeDef) (fn : Bor Function) (os : List Expr
     → import_results types fn.now ≡ [] → Emits func_meaning types (instruction.CallWasm fn) os [] old new
 statement_emits types fn os old new imports len adds none = record {
   adds = func_grows old new _ [] adds.stmts (λ n free. (split_used old new (adds.import ∷ []) adds.names n free).0);
-  blocks = refl;
+  blocks = ap reverse adds.stmts.finished;
   returned = adds.stmts.returned;
   asked = adds.stmts.asked;
   form = record {
@@ -337,7 +336,7 @@ pub call_emits : (types : List TypeDef) (fn : Bor Function) (os : List ExprOpera
     → AddsCall fn.now (import_params types fn.now) ty (exprs os) ret old new → import_results types fn.now ≡ ty ∷ [] → Emits func_meaning types (instruction.CallWasm fn) os (operand_of (expr.Local ret) ∷ []) old new
 call_emits types fn os old new ty ret imports len adds one = record {
   adds = func_grows old new _ [] adds.stmts (λ n free. (split_used old new (adds.import ∷ ret ∷ []) adds.names n free).0);
-  blocks = refl;
+  blocks = ap reverse adds.stmts.finished;
   returned = adds.stmts.returned;
   asked = adds.stmts.asked;
   form = record {

@@ -1,5 +1,5 @@
 -- The row of casts of core words: what they read, and the statements of those that put a pointer into a slot.
-use Rattle.std.proofs.Common.{◌≡◌, ℕ, ◌+◌, ◌<◌, ◌≤◌, ◌^◌, ◌%◌, Bool, true, false, Bor, not, ◌&&◌, ◌||◌, List, [], ◌∷◌, ◌++◌, length, map, Some, refl, sym, ap, ◌∙◌, subst, suc, arith}
+use Rattle.std.proofs.Common.{◌≡◌, ℕ, ◌+◌, ◌<◌, ◌≤◌, ◌^◌, ◌%◌, Bool, true, false, Bor, not, ◌&&◌, ◌||◌, List, [], ◌∷◌, ◌++◌, length, map, reverse, Some, refl, sym, ap, ◌∙◌, subst, suc, arith}
 use Rattle.std.specs.Prelude.{option_and_then}
 use Rattle.std.specs.List.{list_any}
 use Rattle.std.specs.Str.{bytes_eq}
@@ -38,12 +38,11 @@ use Rattle.wrapper_run.proofs.StmtSteps.{run-slot, run-write, runs-first}
 use Rattle.abi_driver.specs.Constants.{AreCasts, CastsWords, cast_words}
 use Rattle.abi_driver.specs.Laws.{Facts, core_data, ofs}
 use Rattle.abi_driver.specs.Meaning.{Fact, of, word}
-use Rattle.func_gen.specs.Opened.{in_view}
 use Rattle.func_gen.specs.Slot.{Slot}
 use Rattle.func_gen.specs.declared.function_bindgen.FunctionBindgen.{FunctionBindgen}
 use Rattle.func_gen.specs.declared.operand.ExprOperand.{ExprOperand}
 use Rattle.func_gen.specs.CastForms.{cast_expr, cast_names, cast_result, cast_stmts, casts, casts_from, needs_slot, slot_prefix, slots_from, stmts_from}
-use Rattle.func_gen.specs.FactLemmas.{follows, is_said}
+use Rattle.func_gen.specs.FactLemmas.{follows, is_said, word_read}
 use Rattle.func_gen.specs.Facts.{AreOwned, Hold, wrong}
 use Rattle.func_gen.specs.Forms.{operand_of}
 use Rattle.func_gen.specs.Meaning.{func_meaning, owns_of, seen, setting_for}
@@ -84,7 +83,7 @@ module _ (items : List Item) (params : List ParamSite) (env : Env) where
   one_cast from last c o x ordered is plain fits =
       let y = word_of_bits 2 last (after_cast 2 (cast from last) (bits_of x)) in
       follows items params env (of o (word x)) (of (operand_of (cast_expr c o.expr)) (word y))
-      (λ h. subst (λ k. (read items (cast_expr k o.expr)).at env ≡ Some (val.Word y)) (sym is) (cast_reads items from last ordered (ap needs_slot (sym is) ∙ plain) o.expr x env fits h))
+      (λ h. subst (λ k. (read items (cast_expr k o.expr)).at env ≡ Some (val.Word y)) (sym is) (cast_reads items from last ordered (ap needs_slot (sym is) ∙ plain) o.expr x env fits (word_read items o env x h).1))
 
 -- 2. No name of a slot stands twice
 
@@ -184,21 +183,21 @@ record Slotted (w : Setting) (b : FunctionBindgen) (n : Bytes) (e : Expr) (y : W
   holds : Hold w.items (record b { scope = record b.scope { used = b.scope.used ++ n ∷ [] } }) (of (operand_of (expr.Local n)) (word y) ∷ others) (with_local s n given)
 
 -- a pointer becomes a slot
-slotted : (w : Setting) (b : FunctionBindgen) (n : Bytes) (e : Expr) (a : ℕ) (others : Facts func_meaning) (s : State) → is_used b.scope.used n ≡ false → a < 2 ^ 32 → Hold w.items b (of (operand_of e) (word (core.Pointer a)) ∷ others) s
-    → Slotted w b n e (core.Slot (Some (a % 2 ^ 64))) others s
-slotted w b n e a others s free small h =
+slotted : (w : Setting) (b : FunctionBindgen) (n : Bytes) (o : ExprOperand) (a : ℕ) (others : Facts func_meaning) (s : State) → is_used b.scope.used n ≡ false → a < 2 ^ 32 → Hold w.items b (of o (word (core.Pointer a)) ∷ others) s
+    → Slotted w b n o.expr (core.Slot (Some (a % 2 ^ 64))) others s
+slotted w b n o a others s free small h =
     let given : Val = val.Word (core.Slot (Some a)) in
     let next : FunctionBindgen = record b { scope = record b.scope { used = b.scope.used ++ n ∷ [] } } in
     let whole : a % 2 ^ 64 ≡ a = omega (arith, small) in
-    let reads = is_said w.items b.params (env_of s) (of (operand_of e) (word (core.Pointer a))) (omega (arith, h.right)) in
+    let reads = (word_read w.items o (env_of s) (core.Pointer a) (is_said w.items b.params (env_of s) (of o (word (core.Pointer a))) (omega (arith, h.right)))).1 in
     let under = bound_under s n empty_slot (h.within n free) in
-    let there = (read w.items e).mono (env_of s) (env_of (with_local s n empty_slot)) under (val.Word (core.Pointer a)) reads in
+    let there = (read w.items o.expr).mono (env_of s) (env_of (with_local s n empty_slot)) under (val.Word (core.Pointer a)) reads in
     record {
       given = given;
-      runs = λ more. slot_runs w n e more a s (gives w e (with_local s n empty_slot) (val.Word (core.Pointer a)) there refl);
+      runs = λ more. slot_runs w n o.expr more a s (gives w o.expr (with_local s n empty_slot) (val.Word (core.Pointer a)) there refl);
       bare = λ f. omega (arith, owns_with f s n given);
       holds = add_local w.items b next others s n given (word (core.Slot (Some (a % 2 ^ 64)))) refl (record { free = free; used = refl }) (ap (λ k. Some (val.Word (core.Slot (Some k)))) (sym whole))
-          (part w.items b others (of (operand_of e) (word (core.Pointer a)) ∷ others) s (λ f. omega arith) h);
+          (part w.items b others (of o (word (core.Pointer a)) ∷ others) s (λ f. omega arith) h);
     }
 
 -- a fact in place of one that weighs as much or more
@@ -267,7 +266,7 @@ casted w b at t (c ∷ cs) (o ∷ os) (from ∷ froms) (last ∷ tos) (x ∷ ws)
         ap (λ k. word_of_bits 2 last (after_cast 2 (cast k last) (bits_of x))) types.0 ∙ ap (λ k. word_of_bits 2 k (after_cast 2 (cast wasm.Pointer k) (bits_of x))) types.1
         ∙ ap (λ z. word_of_bits 2 wasm.PointerOrI64 (after_cast 2 bitcast.PToP64 (bits_of z))) word_is in
         let first : Fact ExprOperand Slot RustValue = of (operand_of (expr.Local slot)) (word (core.Slot (Some (a % 2 ^ 64)))) in
-        let one = slotted w b slot o.expr a (rest ++ others) s free.0 small (subst (λ z. Hold w.items b (of o (word z) ∷ (rest ++ others)) s) word_is h) in
+        let one = slotted w b slot o a (rest ++ others) s free.0 small (subst (λ z. Hold w.items b (of o (word z) ∷ (rest ++ others)) s) word_is h) in
         let bound = with_local s slot one.given in
         let turned = part w.items next (rest ++ (first ∷ others)) (first ∷ (rest ++ others)) bound (λ g. omega (arith, total-append g rest others, total-append g rest (first ∷ others))) one.holds in
         let later = behind next (first ∷ others) bound free.1 turned in
@@ -342,7 +341,7 @@ module _ (old new : FunctionBindgen) (t : ℕ) (cs : List Bitcast) (os : List Ex
               hold = lasts w.items (using old names) new (facts ++ others) r.then r.then (a.params ∙ sym (using_params old names)) (λ n v h. h)
                   (λ n fr. r.holds.within n (sym (ap (λ us. is_used us n) (fresh.used ∙ sym (using_used old names))) ∙ fr)) r.holds;
               owners = subst (λ (acc : Account RustValue). AreOwned acc.heap.blocks acc.taken) (sym r.account) at.holds.owners;
-              area = areas_last new.import (in_view new.opened w.area) (in_view new.opened s.area) new.asked new.area s.machine r.then r.areas r.place (area_same w old new s.area s.machine (same_area old new stmts [] a) at.holds.area);
+              area = areas_last new.import w.area s.area new.asked new.area s.machine r.then r.areas r.place (area_same w old new s.area s.machine (same_area old new stmts [] a) at.holds.area);
             };
           },
         ),
@@ -356,7 +355,7 @@ casts_row types old new t cs os many small ok a fresh takes =
     let rs = map operand_of (casts_from 0 cs.now es t) in
     record {
       adds = func_adds old new (stmts_from 0 cs.now es t) [] a (λ k free. (split_used old new names fresh k free).0) (λ w. quiet_slots w 0 t cs.now os ok);
-      blocks = refl;
+      blocks = ap reverse a.finished;
       returned = a.returned;
       asked = a.asked;
       results = casts_many 0 t cs.now os many;

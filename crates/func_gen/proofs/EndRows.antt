@@ -14,8 +14,8 @@ use Rattle.func_gen.specs.declared.operand.ExprOperand.{ExprOperand}
 use Rattle.func_gen.specs.Emission.{alone, nothing}
 use Rattle.func_gen.specs.FactLemmas.{Says}
 use Rattle.func_gen.specs.Meaning.{Denote, File, FuncState, Serves, func_meaning}
-use Rattle.func_gen.specs.Read.{read}
-use Rattle.func_gen.proofs.Forming.{form_alone, takes_none}
+use Rattle.func_gen.specs.Read.{read_operand}
+use Rattle.func_gen.proofs.Forming.{form_one, takes_none}
 use Rattle.func_gen.proofs.Rows.{none_adds, swaps, unchanged}
 
 -- 1. Arguments
@@ -27,8 +27,8 @@ arg_row types b n p is = record {
   returned = refl;
   asked = refl;
   results = refl;
-  form = form_alone (sends (GetArg n)) (record { gives = refl; calls = refl }) [] b b p.operand.expr [] (ap (option_map (λ (q : ParamSite). λ (t : ℕ). alone q.operand.expr)) is) refl (unchanged b);
-  row = λ d. swaps b b [] (unchanged b) refl (arg n d) (of p.operand d) (λ w found env h. subst (Says d) (ap (option_and_then (λ (q : ParamSite). (read w.items q.operand.expr).at env)) is) h);
+  form = form_one (sends (GetArg n)) (record { gives = refl; calls = refl }) [] b b p.operand [] (ap (option_map (λ (q : ParamSite). λ (t : ℕ). alone q.operand.expr)) is) refl (unchanged b);
+  row = λ d. swaps b b [] (unchanged b) refl (arg n d) (of p.operand d) (λ w found env h. subst (Says d) (ap (option_and_then (λ (q : ParamSite). (read_operand w.items q.operand).at env)) is) h);
 }
 
 -- 2. What code gives
@@ -38,14 +38,14 @@ giving os b = record b { returned = Some os }
 
 module _ (os : List ExprOperand) (b : FunctionBindgen) where
   serves_giving : (w : File) → Serves w b → Serves w (giving os b)
-  serves_giving w h = record { runtime = h.runtime; sites = h.sites; room = h.room; sized = h.sized; static = h.static; bound = h.bound; called = h.called }
+  serves_giving w h = record { runtime = h.runtime; sites = h.sites; room = h.room; sized = h.sized; static = h.static; bound = h.bound; called = h.called; suspended = h.suspended }
 
   known_giving : (w : File) (facts : Facts func_meaning) (s : FuncState) → Denote w b facts s → Denote w (giving os b) facts s
   known_giving w facts s d = record { hold = record { right = d.hold.right; apart = d.hold.apart; within = d.hold.within }; owners = d.owners; area = d.area }
 
   giving_grows : Grows func_meaning b (giving os b)
   giving_grows = record {
-    serves = λ w h. record { runtime = h.runtime; sites = h.sites; room = h.room; sized = h.sized; static = h.static; bound = h.bound; called = h.called };
+    serves = λ w h. record { runtime = h.runtime; sites = h.sites; room = h.room; sized = h.sized; static = h.static; bound = h.bound; called = h.called; suspended = h.suspended };
     more = λ w h. (w, serves_giving w h);
     stops = λ w p s h. stops_same func_meaning.account (func_meaning.does w p b.code s);
     imports = refl;
@@ -68,7 +68,7 @@ module _ (os : List ExprOperand) (b : FunctionBindgen) where
     form = record {
       still = record { import = refl; home = refl; area = refl; params = refl; sites = refl; sizes = refl };
       given = many;
-      code = record { code = λ t. nothing; is = refl; writes = record { number = b.scope.next; takes = takes_none b.scope b.scope refl; call = refl; stmts = sym (append-nil b.code.stmts); runtime = sym (append-nil b.runtime); results = refl; opened = refl } };
+      code = record { code = λ t. nothing; is = refl; writes = record { number = b.scope.next; takes = takes_none b.scope b.scope refl; call = refl; stmts = sym (append-nil b.code.stmts); runtime = sym (append-nil b.runtime); results = refl; opened = refl; finished = refl } };
     };
     row = λ ds w p others s0 s at. (s, at.done, (ofs func_meaning os ds, refl, record { account = refl; owns = λ x. refl; denotes = known_giving w (ofs func_meaning os ds ++ others) s at.holds }));
   }

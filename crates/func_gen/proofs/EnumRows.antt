@@ -1,6 +1,6 @@
 -- The rows of enums: the number of a case, and the case of a word.
 use mathlib.Core.Logic.{inl, inr}
-use Rattle.std.proofs.Common.{rules, ◌≡◌, ◌++◌, ℕ, ℤ, pos, Bool, true, false, cond, nat_lt, if◌then◌else◌, List, [], ◌∷◌, length, Option, None, Some, refl, sym, ap, ap₂, ◌∙◌, subst, ◌<◌, arith}
+use Rattle.std.proofs.Common.{rules, ◌≡◌, ◌++◌, ℕ, ℤ, pos, Bool, true, false, cond, nat_lt, if◌then◌else◌, List, [], ◌∷◌, length, reverse, Option, None, Some, refl, sym, ap, ap₂, ◌∙◌, subst, ◌<◌, arith}
 use Rattle.std.specs.Prelude.{option_and_then, Ok, Err, codes}
 use Rattle.std.specs.Option.{option_map}
 use Rattle.std.specs.Str.{bytes_eq}
@@ -63,7 +63,7 @@ use Rattle.func_gen.specs.Added.{Appends, Fresh}
 use Rattle.func_gen.specs.CodeOf.{emitted}
 use Rattle.func_gen.specs.EnumForms.{HasCaseCount, IsEnumSite, case_cast, case_let, case_lifted, enum_site_in, lift_path, lifts_enum}
 use Rattle.func_gen.specs.Emission.{one_local}
-use Rattle.func_gen.specs.Facts.{Hold, item_of}
+use Rattle.func_gen.specs.Facts.{Hold}
 use Rattle.func_gen.specs.Forms.{operand_of}
 use Rattle.func_gen.specs.Meaning.{File, IsNormal, Serves, StandsAsItIs, account_of, answer_of, func_meaning, passing_level, setting_for}
 use Rattle.func_gen.specs.Operand.{is_operand}
@@ -74,12 +74,11 @@ use Rattle.func_gen.specs.StandLemmas.{owned-none, owned-some, owned-unit}
 use Rattle.func_gen.specs.TypeSites.{AreDefined, Defines, DefinesEnum, HasCases, held_cases}
 use Rattle.func_gen.proofs.FieldOrder.{defined_as}
 use Rattle.func_gen.proofs.Forming.{form_alone, form_let}
-use Rattle.func_gen.proofs.LiftedRows.{cast_given, low_u32, low_u8, read_some, says_one}
+use Rattle.func_gen.proofs.LiftedRows.{cast_given, low_u32, low_u8, says_one}
 use Rattle.func_gen.proofs.LowBits.{same_low}
 use Rattle.func_gen.proofs.Moving.{cast_owns}
 use Rattle.func_gen.proofs.Quiet.{quiet_cast_of, quiet_operand}
 use Rattle.func_gen.proofs.Rows.{Agrees, let_adds, lets_served, none_adds, swaps}
-use Rattle.func_gen.proofs.Scalars.{shown_level, value_is}
 use Rattle.wrapper_meaning.proofs.Lists.{some_or, some_same}
 use Rattle.wrapper_meaning.proofs.RustValues.{out-case}
 use Rattle.abi_driver.proofs.BareCases.{case_below, count_bare}
@@ -121,16 +120,14 @@ signed_fits : (n : ℕ) → n < 2147483648 → low_i32 (pos n) ≡ pos n
 signed_fits n h = low_i32-s32 (pos n) (grind (arith, ints))
 
 -- the number of what reads a case
-number_says : (items : List Item) (n : ℕ) (payload : Option RustValue) (e : Expr) (env : Env) → n < 2147483648 → IsBare payload → option_and_then item_of ((read items e).at env) ≡ Some (value.Case n payload)
+number_says : (items : List Item) (n : ℕ) (payload : Option RustValue) (e : Expr) (env : Env) → n < 2147483648 → IsBare payload → (read items e).at env ≡ Some (val.Value (value.Case n payload))
     → (read items (expr.EnumNumber e)).at env ≡ Some (val.Word (core.I32 (pos n)))
 unfolding word_of_case
 number_says items n payload e env small b h =
-    let (v, reads, is) = read_some ((read items e).at env) (value.Case n payload) h in
-    let same : v ≡ val.Value (value.Case n payload) = value_is v (value.Case n payload) (ap shown_level (out-case n payload)) is in
     let told : as_case_word (val.Value (value.Case n payload)) ≡ Some (val.Word (core.I32 (pos n))) =
     ap (λ l. option_map val.Word (option_map (λ n. core.I32 (low_i32 (pos n))) (case_of_level l))) (out-case n payload)
     ∙ ap (λ b. option_map val.Word (option_map (λ n. core.I32 (low_i32 (pos n))) (cond b (Some n) None))) b.without ∙ ap (λ z. Some (val.Word (core.I32 z))) (signed_fits n small) in
-    ap (λ (r : Read). r.at env) (read-enum_number items e) ∙ ap (option_and_then (on_bare as_case_word)) (reads ∙ ap (λ x. Some x) same)
+    ap (λ (r : Read). r.at env) (read-enum_number items e) ∙ ap (option_and_then (on_bare as_case_word)) h
     ∙ ap (λ bs. option_and_then as_case_word (bare_or (val.Value (value.Case n payload)) bs)) (b.owns n) ∙ told
 
 number_lowers : (old new : FunctionBindgen) (e : Expr) (members : List Member) → length members < 2147483648 → Appends old new [] [] → new.scope ≡ old.scope → LowersEnum func_meaning (bare members) (operand_of e ∷ []) (operand_of (expr.EnumNumber e) ∷ []) old new
@@ -139,14 +136,14 @@ number_lowers old new e members small a scope dir c r own ((payload, is, stands)
     let n = case_number (bare members) c in (
       k.0,
       swaps old new [] a scope (of (operand_of e) (item r)) (of (operand_of (expr.EnumNumber e)) (word (core.I32 (pos n))))
-          (λ w found env h. number_says w.items n payload e env (omega (arith, small, case_below members c)) k.1 (h ∙ ap (λ q. Some q) is)),
+          (λ w found env h. number_says w.items n payload e env (omega (arith, small, case_below members c)) k.1 (h ∙ ap (λ q. Some (val.Value q)) is)),
     )
 
 pub enum_number_row : (types : List TypeDef) (old new : FunctionBindgen) (id : TypeId) (e : Expr) (n : ℕ) → HasCaseCount types id.0 n → n < 2147483648 → Appends old new [] [] → new.scope ≡ old.scope
     → Emits func_meaning types (EnumLower id) (operand_of e ∷ []) (operand_of (expr.EnumNumber e) ∷ []) old new
 enum_number_row types old new id e n (members, is, many) small a scope = record {
   adds = none_adds old new [] a scope;
-  blocks = refl;
+  blocks = ap reverse a.finished;
   returned = a.returned;
   asked = a.asked;
   form = form_alone (sends (EnumLower id)) (record { gives = refl; calls = refl }) (operand_of e ∷ []) old new (expr.EnumNumber e) [] refl scope a;
@@ -217,6 +214,7 @@ enum_defined : (items : List Item) (t : TypeSite) (s : EnumSite) → Defines ite
 enum_defined items (site.Record r) s d is = absurd cc
 enum_defined items (site.Enum r) s d is = subst (DefinesEnum items) (some_same r s is) d
 enum_defined items (site.Flags r) s d is = absurd cc
+enum_defined items (site.Variant r) s d is = absurd cc
 
 module _ (types : List TypeDef) (old new : FunctionBindgen) (n : Bytes) (id : TypeId) (e : Expr) (s : EnumSite) (is_site : IsEnumSite types old.sites id.0 s) (name : Bytes) (root : root_name s.path ≡ Some name)
     (typed : bytes_eq name runtime_module_name ≡ false) (to : CastType) (casts : case_cast s.repr ≡ Some to) (ok : is_operand e ≡ true) (fresh : Fresh old new n) where
@@ -264,7 +262,7 @@ module _ (types : List TypeDef) (old new : FunctionBindgen) (n : Bytes) (id : Ty
       ap (option_and_then (lifts_enum e)) is_site.at ∙ ap (option_and_then (λ name. option_map (case_let name e) (case_cast s.repr))) root ∙ ap (option_map (case_let name e)) casts in
       record {
         adds = let_adds old new n lifted [] a fresh (λ w. quiet_lifted w name to e typed ok);
-        blocks = refl;
+        blocks = ap reverse a.finished;
         returned = a.returned;
         asked = a.asked;
         form = form_let (sends (EnumLift id)) (record { gives = refl; calls = refl }) (operand_of e ∷ []) old new (codes "v") n lifted [] told one a;

@@ -23,7 +23,7 @@ use Rattle.func_gen.specs.declared.scope.Scope.{Scope}
 use Rattle.func_gen.specs.declared.type_site.TypeSite.{TypeSite}
 use Rattle.func_gen.specs.declared.type_site.TypeSite.TheVariants as site
 use Rattle.func_gen.specs.RecordForms.{DeclaresFields, locals_for, record_at, record_in}
-use Rattle.func_gen.specs.TypeSites.{AreDefined, Defines, DefinesRecord, HasCases, HasFields, HasMembers, field_names, held_cases, held_members, site_at}
+use Rattle.func_gen.specs.TypeSites.{AreDefined, Defines, DefinesRecord, HasCaseNames, HasCases, HasFields, HasMembers, case_names, field_names, held_cases, held_members, site_at, variant_in}
 
 -- 1. The order
 
@@ -101,6 +101,7 @@ record_defined : (items : List Item) (t : TypeSite) (r : RecordSite) → Defines
 record_defined items (site.Record s) r d is = subst (DefinesRecord items) (some_same s r is) d
 record_defined items (site.Enum s) r d is = absurd cc
 record_defined items (site.Flags s) r d is = absurd cc
+record_defined items (site.Variant s) r d is = absurd cc
 
 pub defined_at : (items : List Item) (sites : List (Option TypeSite)) (id : ℕ) (r : RecordSite) → AreDefined items sites → record_at sites id ≡ Some r → DefinesRecord items r
 defined_at items = defined_as items record_in (DefinesRecord items) (record_defined items)
@@ -121,10 +122,15 @@ still_defined items all same = each
     of_members held None h = tt
     of_members held (Some name) h = ap (λ t. option_map held_members (flags_in t)) (same name) ∙ h
 
+    of_names : (cases : List Bytes) (o : Option Bytes) → HasCaseNames items cases o → HasCaseNames all cases o
+    of_names cases None h = tt
+    of_names cases (Some name) h = ap (λ t. option_map case_names (variant_in t)) (same name) ∙ h
+
     of_site : (s : TypeSite) → Defines items s → Defines all s
     of_site (site.Record s) d = record { lifted = still s.fields (root_name s.lifted) d.lifted; lowered = still s.fields (root_name s.lowered) d.lowered; distinct = d.distinct }
     of_site (site.Enum s) d = of_cases (s.repr, s.cases) (root_name s.path) d
     of_site (site.Flags s) d = of_members (s.repr, s.members) (root_name s.path) d
+    of_site (site.Variant s) d = record { lifted = of_names s.cases (root_name s.lifted) d.lifted; lowered = of_names s.cases (root_name s.lowered) d.lowered; distinct = d.distinct }
 
     each : (sites : List (Option TypeSite)) → AreDefined items sites → AreDefined all sites
     each [] h = tt

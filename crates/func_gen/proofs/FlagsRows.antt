@@ -1,5 +1,5 @@
 -- The rows of flags: the words of their bits, and flags of words.
-use Rattle.std.proofs.Common.{append-nil, ◌≡◌, ℕ, zero, suc, ◌+◌, ◌%◌, ◌^◌, ◌<◌, ◌≤◌, true, cond, List, [], ◌∷◌, ◌++◌, length, map, Option, None, Some, refl, sym, ap, ◌∙◌, subst, arith}
+use Rattle.std.proofs.Common.{append-nil, ◌≡◌, ℕ, zero, suc, ◌+◌, ◌%◌, ◌^◌, ◌<◌, ◌≤◌, true, cond, List, [], ◌∷◌, ◌++◌, length, map, reverse, Option, None, Some, refl, sym, ap, ◌∙◌, subst, arith}
 use Rattle.std.specs.Prelude.{option_and_then, codes}
 use Rattle.std.specs.Option.{option_map}
 use Rattle.std.proofs.lemmas.Bool.{and_parts, eq-eqb}
@@ -59,7 +59,7 @@ use Rattle.func_gen.specs.declared.operand.ExprOperand.{ExprOperand}
 use Rattle.func_gen.specs.declared.type_site.TypeSite.{TypeSite}
 use Rattle.func_gen.specs.declared.type_site.TypeSite.TheVariants as site
 use Rattle.func_gen.specs.Added.{Appends, Fresh}
-use Rattle.func_gen.specs.Facts.{Hold, item_of}
+use Rattle.func_gen.specs.Facts.{Hold}
 use Rattle.func_gen.specs.FlagsForms.{HasWordCount, IsFlagsSite, flags_made, flags_site_in, lifts_flags, lowers_flags, operands_of, shifted_from, words_of}
 use Rattle.func_gen.specs.Forms.{operand_of}
 use Rattle.func_gen.specs.Meaning.{File, Serves, StandsAsItIs, func_meaning, owns_of, seen, setting_for}
@@ -76,10 +76,9 @@ use Rattle.func_gen.proofs.FieldOrder.{defined_as}
 use Rattle.func_gen.proofs.FlagsBits.{AreNarrow, are_narrow, bits_within, bits_words, joins, members_kept, members_said, numbers_in, words_typed}
 use Rattle.func_gen.proofs.Forming.{form_by, form_let}
 use Rattle.func_gen.proofs.Lasting.{add_plain, bound_under, denotes_on, lasts, owns_with, part, with_local, within_with}
-use Rattle.func_gen.proofs.LiftedRows.{read_some, says_one}
+use Rattle.func_gen.proofs.LiftedRows.{says_one}
 use Rattle.func_gen.proofs.Quiet.{quiet_operand}
 use Rattle.func_gen.proofs.Rows.{binds, let_adds, lets_served, same_area}
-use Rattle.func_gen.proofs.Scalars.{shown_level, value_is}
 use Rattle.func_gen.proofs.Steps.{ran}
 
 -- 1. The flags at a place of the table
@@ -107,11 +106,8 @@ words_hold items b facts s name bits by (suc n) at h =
     (words_hold items b facts s name bits (32 + by) n at h)
 
 -- what reads flags gives them
-flags_given : (w : Setting) (e : Expr) (bits : ℕ) (s : State) → option_and_then item_of ((read w.items e).at (env_of s)) ≡ Some (value.Bits bits) → eval w e s ≡ machine.Done (val.Value (value.Bits bits)) s
-flags_given w e bits s h =
-    let (v, reads, is) = read_some ((read w.items e).at (env_of s)) (value.Bits bits) h in
-    let same : v ≡ val.Value (value.Bits bits) = value_is v (value.Bits bits) (ap shown_level (out-bits bits)) is in
-    gives w e s (val.Value (value.Bits bits)) (reads ∙ ap (λ x. Some x) same) (owned-bits bits)
+flags_given : (w : Setting) (e : Expr) (bits : ℕ) (s : State) → (read w.items e).at (env_of s) ≡ Some (val.Value (value.Bits bits)) → eval w e s ≡ machine.Done (val.Value (value.Bits bits)) s
+flags_given w e bits s h = gives w e s (val.Value (value.Bits bits)) h (owned-bits bits)
 
 module _ (old new : FunctionBindgen) (n : Bytes) (e : Expr) (ok : is_operand e ≡ true) (a : Appends old new (stmt.Let n e ∷ []) []) (fresh : Fresh old new n) where
   words_told : (bits count : ℕ) → Stays func_meaning old new (of (operand_of e) (item (value.Bits bits)) ∷ []) (λ fs. fs ≡ word_facts n bits 0 count)
@@ -155,7 +151,7 @@ pub flags_words_row : (types : List TypeDef) (old new : FunctionBindgen) (n : By
     → Emits func_meaning types (FlagsLower id) (operand_of e ∷ []) (operands_of (words_of n 0 (flag_words s.members))) old new
 flags_words_row types old new n id e s is_site ok a fresh one = record {
   adds = let_adds old new n e [] a fresh (λ w. quiet_operand w e ok);
-  blocks = refl;
+  blocks = ap reverse a.finished;
   returned = a.returned;
   asked = a.asked;
   form = form_by (sends (FlagsLower id)) (record { gives = refl; calls = refl }) (operand_of e ∷ []) old new (operands_of (words_of n 0 (flag_words s.members))) (lowers_flags e s) one.number (ap (option_map (lowers_flags e)) is_site.at) one.takes
@@ -227,6 +223,7 @@ flags_defined : (items : List Item) (t : TypeSite) (s : FlagsSite) → Defines i
 flags_defined items (site.Record r) s d is = absurd cc
 flags_defined items (site.Enum r) s d is = absurd cc
 flags_defined items (site.Flags r) s d is = subst (DefinesFlags items) (some_same r s is) d
+flags_defined items (site.Variant r) s d is = absurd cc
 
 -- the flags that words are
 abbrev flags_taken : FlagsSite → List Word → RustValue
@@ -278,7 +275,7 @@ module _ (types : List TypeDef) (old new : FunctionBindgen) (n : Bytes) (id : Ty
   pub flags_row : TakesOne old.scope (codes "flags") n new.scope → Emits func_meaning types (FlagsLift id) os (operand_of (expr.Local n) ∷ []) old new
   flags_row one = record {
     adds = let_adds old new n made [] a fresh (λ w. quiet_flags w s os ok);
-    blocks = refl;
+    blocks = ap reverse a.finished;
     returned = a.returned;
     asked = a.asked;
     form = form_let (sends (FlagsLift id)) (record { gives = refl; calls = refl }) os old new (codes "flags") n made [] (ap (option_map (lifts_flags (exprs_of os))) is_site.at) one a;

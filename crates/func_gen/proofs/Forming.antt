@@ -1,17 +1,21 @@
 -- The form of a step: what it emitted, by what was added.
-use Rattle.std.proofs.Common.{◌≡◌, ℕ, false, List, [], ◌∷◌, length, map, None, Some, refl, sym, ap, subst, arith}
+use Rattle.std.proofs.Common.{◌≡◌, ℕ, List, [], ◌∷◌, drop, length, map, Option, None, Some, refl, sym, ap, ◌∙◌, subst, arith}
 use Rattle.std.specs.Prelude.{IfSome}
 use Rattle.wit_model.specs.Bytes.{Bytes}
+use Rattle.wit_model.specs.declared.types.TypeDef.{TypeDef}
+use Rattle.wit_layout.specs.Tree.{Scalar}
 use Rattle.rust_tree.specs.declared.expr.Expr.{Expr}
 use Rattle.rust_tree.specs.declared.expr.Expr.TheVariants as expr
 use Rattle.rust_tree.specs.declared.runtime_item.RuntimeItem.{RuntimeItem}
 use Rattle.rust_tree.specs.declared.stmt.Stmt.{Stmt}
 use Rattle.rust_tree.specs.declared.stmt.Stmt.TheVariants as stmt
-use Rattle.abi_driver.specs.Calls.{is_call, is_return}
 use Rattle.abi_driver.specs.declared.instruction.Instruction.{Instruction}
-use Rattle.abi_driver.specs.declared.instruction.Instruction.TheVariants.{CallInterface, CallWasm, Return}
+use Rattle.abi_driver.specs.declared.instruction.Instruction.TheVariants.{CallInterface, CallWasm, GuestDeallocateVariant, OptionLift, OptionLower, ResultLift, ResultLower, Return, VariantLift, VariantLower}
+use Rattle.abi_driver.specs.Instructions.{block_results, lifted_scalar, lowered_scalar}
 use Rattle.abi_driver.specs.Sent.{Sent, sends}
+use Rattle.abi_driver.specs.Touches.{Touch, touch}
 use Rattle.abi_driver.proofs.Ordinary.{IsOrdinary}
+use Rattle.func_gen.specs.declared.function_bindgen.FinishedBlock.{FinishedBlock}
 use Rattle.func_gen.specs.declared.function_bindgen.FunctionBindgen.{FunctionBindgen}
 use Rattle.func_gen.specs.declared.operand.ExprOperand.{ExprOperand}
 use Rattle.func_gen.specs.declared.scope.Scope.{Scope}
@@ -30,17 +34,32 @@ pub record IsPlain (step : Sent) : Type 0 where
   pub gives : given_count step ≡ None
   pub calls : called step ≡ no_call
 
-gives_none : (i : Instruction) → is_return i ≡ false → given_count (sends i) ≡ None
-gives_none (Return n) e = absurd cc
-gives_none _ e = refl
+-- an instruction of a scalar or of a word in memory is none of those whose code the table does not tell
+is_plain : (i : Instruction) → (lowered_scalar i ≡ None → lifted_scalar i ≡ None → touch i ≡ None → ⊥) → IsPlain (sends i)
+is_plain (CallWasm f) none_of = absurd (none_of refl refl refl)
+is_plain (CallInterface f) none_of = absurd (none_of refl refl refl)
+is_plain (Return n) none_of = absurd (none_of refl refl refl)
+is_plain (VariantLower id n) none_of = absurd (none_of refl refl refl)
+is_plain (OptionLower id n) none_of = absurd (none_of refl refl refl)
+is_plain (ResultLower id n) none_of = absurd (none_of refl refl refl)
+is_plain (VariantLift id) none_of = absurd (none_of refl refl refl)
+is_plain (OptionLift id) none_of = absurd (none_of refl refl refl)
+is_plain (ResultLift id) none_of = absurd (none_of refl refl refl)
+is_plain (GuestDeallocateVariant n) none_of = absurd (none_of refl refl refl)
+is_plain _ none_of = record { gives = refl; calls = refl }
 
-calls_none : (i : Instruction) → is_call i ≡ false → called (sends i) ≡ no_call
-calls_none (CallWasm f) e = absurd cc
-calls_none (CallInterface f) e = absurd cc
-calls_none _ e = refl
+pub lowers_plain : (i : Instruction) (s : Scalar) → lowered_scalar i ≡ Some s → IsPlain (sends i)
+lowers_plain i s e = is_plain i (λ one two three. let no : (let o : Option Scalar = None in o ≡ Some s) = sym one ∙ e in cc)
 
-pub ordinary_plain : (i : Instruction) → IsOrdinary i → IsPlain (sends i)
-ordinary_plain i o = record { gives = gives_none i o.goes_on; calls = calls_none i o.quiet }
+pub lifts_plain : (i : Instruction) (s : Scalar) → lifted_scalar i ≡ Some s → IsPlain (sends i)
+lifts_plain i s e = is_plain i (λ one two three. let no : (let o : Option Scalar = None in o ≡ Some s) = sym two ∙ e in cc)
+
+pub touches_plain : (i : Instruction) (t : Touch) → touch i ≡ Some t → IsPlain (sends i)
+touches_plain i t e = is_plain i (λ one two three. let no : (let o : Option Touch = None in o ≡ Some t) = sym three ∙ e in cc)
+
+-- and such a step uses no finished block up
+pub still_blocks : (i : Instruction) → IsOrdinary i → (types : List TypeDef) (before after : List FinishedBlock) → after ≡ before → after ≡ drop (length (block_results types i)) before
+still_blocks i o types before after e = e ∙ ap (λ (used : List ℕ). drop (length used) before) (sym (o.whole types))
 
 -- 2. No name, or one, is declared
 
@@ -69,9 +88,17 @@ locals_are (n ∷ names) = ap (λ os. operand_of (expr.Local n) ∷ os) (locals_
 pub still_of : (old new : FunctionBindgen) (added : List Stmt) (items : List RuntimeItem) → Appends old new added items → StillOf old new
 still_of old new added items a = record { import = a.import; home = a.home; area = a.area; params = a.params; sites = a.sites; sizes = a.sizes }
 
+exprs_operands : (es : List Expr) → exprs_of (map operand_of es) ≡ es
+exprs_operands [] = refl
+exprs_operands (e ∷ es) = ap (λ xs. e ∷ xs) (exprs_operands es)
+
+pub written_as : (old new : FunctionBindgen) (rs : List ExprOperand) (code : ℕ → Emission) (t : ℕ) → Takes old.scope (λ k. (code k).names) t new.scope → Appends old new (code t).stmts (code t).items
+    → exprs_of rs ≡ (code t).results → Writes code rs old new
+written_as old new rs code t takes a same = record { number = t; takes = takes; call = a.call; stmts = a.stmts; runtime = a.runtime; results = same; opened = a.opened; finished = a.finished }
+
 pub written : (old new : FunctionBindgen) (rs : List ExprOperand) (code : ℕ → Emission) (t : ℕ) → Takes old.scope (λ k. (code k).names) t new.scope → Appends old new (code t).stmts (code t).items
     → rs ≡ map operand_of (code t).results → Writes code rs old new
-written old new rs code t takes a same = record { number = t; takes = takes; call = a.call; stmts = a.stmts; runtime = a.runtime; results = same; opened = a.opened }
+written old new rs code t takes a same = written_as old new rs code t takes a (ap exprs_of same ∙ exprs_operands (code t).results)
 
 module _ (step : Sent) (plain : IsPlain step) (os : List ExprOperand) (old new : FunctionBindgen) where
   pub form_of : (rs : List ExprOperand) (code : ℕ → Emission) → emitted old step (exprs_of os) ≡ Some code → StillOf old new → Writes code rs old new → Formed step os rs old new
@@ -82,13 +109,20 @@ module _ (step : Sent) (plain : IsPlain step) (os : List ExprOperand) (old new :
   }
 
   -- names are declared
+  pub form_as : (rs : List ExprOperand) (code : ℕ → Emission) (t : ℕ) → emitted old step (exprs_of os) ≡ Some code → Takes old.scope (λ k. (code k).names) t new.scope → Appends old new (code t).stmts (code t).items
+      → exprs_of rs ≡ (code t).results → Formed step os rs old new
+  form_as rs code t is takes a same = form_of rs code is (still_of old new (code t).stmts (code t).items a) (written_as old new rs code t takes a same)
+
   pub form_by : (rs : List ExprOperand) (code : ℕ → Emission) (t : ℕ) → emitted old step (exprs_of os) ≡ Some code → Takes old.scope (λ k. (code k).names) t new.scope → Appends old new (code t).stmts (code t).items
       → rs ≡ map operand_of (code t).results → Formed step os rs old new
   form_by rs code t is takes a same = form_of rs code is (still_of old new (code t).stmts (code t).items a) (written old new rs code t takes a same)
 
   -- no name is
+  pub form_one : (o : ExprOperand) (items : List RuntimeItem) → emitted old step (exprs_of os) ≡ Some (λ t. record { names = []; stmts = []; results = o.expr ∷ []; items = items }) → new.scope ≡ old.scope → Appends old new [] items → Formed step os (o ∷ []) old new
+  form_one o items is scope a = form_as (o ∷ []) (λ t. record { names = []; stmts = []; results = o.expr ∷ []; items = items }) old.scope.next is (takes_none old.scope new.scope scope) a refl
+
   pub form_alone : (e : Expr) (items : List RuntimeItem) → emitted old step (exprs_of os) ≡ Some (λ t. record { names = []; stmts = []; results = e ∷ []; items = items }) → new.scope ≡ old.scope → Appends old new [] items → Formed step os (operand_of e ∷ []) old new
-  form_alone e items is scope a = form_by (operand_of e ∷ []) (λ t. record { names = []; stmts = []; results = e ∷ []; items = items }) old.scope.next is (takes_none old.scope new.scope scope) a refl
+  form_alone e items is scope a = form_one (operand_of e) items is scope a
 
   pub form_effect : (s : Stmt) (items : List RuntimeItem) → emitted old step (exprs_of os) ≡ Some (λ t. effect s items) → new.scope ≡ old.scope → Appends old new (s ∷ []) items → Formed step os [] old new
   form_effect s items is scope a = form_by [] (λ t. effect s items) old.scope.next is (takes_none old.scope new.scope scope) a refl

@@ -1,5 +1,5 @@
 -- The rows of texts and of blocks that are freed.
-use Rattle.std.proofs.Common.{◌≡◌, ℕ, zero, suc, ◌-◌, ◌^◌, Bool, true, false, cond, nat_eq, nat_lt, ◌&&◌, if◌then◌else◌, List, [], ◌∷◌, Option, None, Some, refl, sym, ap, ◌∙◌, subst, arith}
+use Rattle.std.proofs.Common.{◌≡◌, ℕ, zero, suc, ◌-◌, ◌^◌, Bool, true, false, cond, nat_eq, nat_lt, ◌&&◌, if◌then◌else◌, List, [], ◌∷◌, reverse, Option, None, Some, refl, sym, ap, ◌∙◌, subst, arith}
 use Rattle.std.proofs.lemmas.Bool.{and_parts, or_parts}
 use Rattle.std.proofs.lemmas.Bool.Decides.{nat_tests}
 use Rattle.wit_model.specs.Size.{bytes_at}
@@ -182,7 +182,7 @@ module _ (types : List TypeDef) (old new : FunctionBindgen) (e : Expr) (ok : is_
       let adds = one_adds old new (stmt.Expr (text_freed e f)) (CabiDealloc ∷ []) a scope quiet in
       record {
         adds = adds;
-        blocks = refl;
+        blocks = ap reverse a.finished;
         returned = a.returned;
         asked = adds.asked;
         form = form_effect (sends GuestDeallocateString) (record { gives = refl; calls = refl }) (operand_of e ∷ operand_of f ∷ []) old new (stmt.Expr (text_freed e f)) (CabiDealloc ∷ []) refl scope a;
@@ -202,7 +202,7 @@ module _ (types : List TypeDef) (old new : FunctionBindgen) (e : Expr) (ok : is_
       let adds = one_adds old new (stmt.Expr (block_freed e size align)) (CabiDealloc ∷ []) a scope quiet in
       record {
         adds = adds;
-        blocks = refl;
+        blocks = ap reverse a.finished;
         returned = a.returned;
         asked = adds.asked;
         form = form_effect (sends (GuestDeallocate size align)) (record { gives = refl; calls = refl }) (operand_of e ∷ []) old new (stmt.Expr (block_freed e size align)) (CabiDealloc ∷ []) refl scope a;

@@ -1,5 +1,5 @@
 -- A value that comes in as one of a type owns what it did.
-use Rattle.std.proofs.Common.{◌≡◌, ℕ, ℤ, zero, suc, ◌^◌, Bool, true, false, if◌then◌else◌, nat_eq, nat_lt, List, [], ◌∷◌, ◌++◌, length, map, Option, None, Some, refl, sym, ap, ap₂, ◌∙◌, subst, rules}
+use Rattle.std.proofs.Common.{◌≡◌, ℕ, ℤ, zero, suc, ◌^◌, Bool, true, false, if◌then◌else◌, nat_eq, nat_lt, List, [], ◌∷◌, ◌++◌, length, map, Option, None, Some, refl, sym, ap, ap₂, ◌∙◌, subst}
 use Rattle.std.specs.Prelude.{option_and_then, slice_get}
 use Rattle.std.specs.Option.{option_map, option_or}
 use Rattle.wit_model.specs.declared.types.WitType.{WitType}
@@ -9,7 +9,6 @@ use Rattle.rust_tree.specs.declared.item.Item.{Item}
 use Rattle.rust_tree.specs.declared.type_expr.Primitive.{Primitive}
 use Rattle.rust_tree.specs.declared.type_expr.Primitive.TheVariants as prim
 use Rattle.rust_tree.specs.declared.type_expr.TypeExpr.{TypeExpr, TypeExpr-F, out-TypeExpr}
-use Rattle.rust_tree.specs.declared.type_expr.TypeExpr as expr_lemmas
 use Rattle.rust_tree.specs.declared.type_expr.TypeExpr.TheVariants as type
 use Rattle.rust_tree.specs.declared.type_item.TypeItem.{TypeItem}
 use Rattle.rust_tree.specs.declared.type_item.TypeItem.TheVariants.{Variant}
@@ -22,7 +21,7 @@ use Rattle.wrapper_values.specs.Effect.{answer_as, answer_of, is_of_kind, is_pri
 use Rattle.wrapper_values.specs.Enums.{enum_in}
 use Rattle.wrapper_values.specs.Flags.{flags_in, repr_bits}
 use Rattle.wrapper_values.specs.Owning.{owned_by, owned_level, taken_by}
-use Rattle.wrapper_values.specs.Typed.{Typed, behind, behind_one, definition_in, part_types_in, plain_as, target_in, typed, typed_absent, typed_alike, typed_bare, typed_by, typed_case, typed_defined, typed_each, typed_enum, typed_flags, typed_level, typed_option, typed_parts, typed_payload, typed_result, typed_unit, typed_variant, unaliased}
+use Rattle.wrapper_values.specs.Typed.{Typed, definition_in, part_types_in, plain_as, typed, typed_absent, typed_alike, typed_bare, typed_by, typed_case, typed_defined, typed_each, typed_enum, typed_flags, typed_level, typed_option, typed_parts, typed_payload, typed_result, typed_unit, typed_variant, unaliased}
 use Rattle.wrapper_run.specs.ExportRun.{passed_as, returned_of}
 use Rattle.func_gen.specs.StandLemmas.{owned-struct}
 use Rattle.func_gen.proofs.MethodValues.{as_level, value_level}
@@ -126,13 +125,6 @@ plain_keeps ty r c h = go (answer_as (out-TypeExpr ty) (val.Value r)) refl h
 
 -- 3. Of a type of the file
 
-out_unit : out-TypeExpr type.Unit ≡ TypeExpr-F.Unit
-out_unit = search (rules, expr_lemmas.the_lemmas)
-
-behind_unit : (more items : List Item) → behind more items type.Unit ≡ type.Unit
-behind_unit [] items = refl
-behind_unit (i ∷ more) items = ap (λ l. behind_one (behind more items) type.Unit (target_in (definition_in items l))) out_unit
-
 module _ (items : List Item) where
   abbrev typed_here : RustValue-F RustValue → Typed
   typed_here l ty = typed_level items (map-RustValue RustValue Typed (typed items) l) (unaliased items ty)
@@ -140,42 +132,25 @@ module _ (items : List Item) where
   typed_roll : (l : RustValue-F RustValue) (ty : TypeExpr) → typed items (roll-RustValue l) ty ≡ typed_here l ty
   typed_roll l ty = ap (λ (t : Typed). t ty) (fold-roll-RustValue Typed (λ l ty. typed_level items l (unaliased items ty)) l)
 
-  -- a value as one of a type owns what it does, and `()` nothing
-  pub record Kept (r : RustValue) : Type 0 where
-    pub owners : (ty : TypeExpr) (c : RustValue) → typed items r ty ≡ Some c → owned_by c ≡ owned_by r
-    pub unit : (c : RustValue) → typed items r type.Unit ≡ Some c → owned_by r ≡ []
+  -- a value as one of a type owns what it does
+  abbrev pub Kept : RustValue → Type 0
+  Kept r = (ty : TypeExpr) (c : RustValue) → typed items r ty ≡ Some c → owned_by c ≡ owned_by r
 
   abbrev LevelKept : RustValue-F RustValue → Type 0
   LevelKept l = (ty : TypeExpr) (c : RustValue) → typed_level items (map-RustValue RustValue Typed (typed items) l) ty ≡ Some c → owned_by c ≡ level_owns l
 
-  abbrev LevelUnit : RustValue-F RustValue → Type 0
-  LevelUnit l = (c : RustValue) → typed_level items (map-RustValue RustValue Typed (typed items) l) type.Unit ≡ Some c → level_owns l ≡ []
-
-  kept_level : (l : RustValue-F RustValue) → LevelKept l → LevelUnit l → Kept (roll-RustValue l)
-  kept_level l k u = record {
-    owners = λ ty c h. k (unaliased items ty) c (sym (typed_roll l ty) ∙ h) ∙ sym (owned_roll l);
-    unit = λ c h. owned_roll l ∙ u c (sym (ap (λ ty. typed_level items (map-RustValue RustValue Typed (typed items) l) ty) (behind_unit items items)) ∙ sym (typed_roll l type.Unit) ∙ h);
-  }
+  kept_level : (l : RustValue-F RustValue) → LevelKept l → Kept (roll-RustValue l)
+  kept_level l k ty c h = k (unaliased items ty) c (sym (typed_roll l ty) ∙ h) ∙ sym (owned_roll l)
 
   -- of a value without parts
   leaf_kept : (r : RustValue) (l : RustValue-F RustValue) → owned_by r ≡ level_owns l → (ty : TypeExpr) (c : RustValue) → plain_as ty (val.Value r) ≡ Some c → owned_by c ≡ level_owns l
   leaf_kept r l e ty c h = plain_keeps ty r c h ∙ e
 
-  no_unit : {A : Type 0} (r c : RustValue) → plain_as type.Unit (val.Value r) ≡ Some c → A
-  unfolding answer_of
-  no_unit {A} r c h = go (is_unit (val.Value r)) (sym (ap (λ l. option_and_then (λ r. r) (answer_as l (val.Value r))) out_unit) ∙ h)
-    where
-      go : (b : Bool) → option_and_then (λ r. r) (if b then Some None else None) ≡ Some c → A
-      go true k = absurd cc
-      go false k = absurd cc
-
   leaf : (r : RustValue) (l : RustValue-F RustValue) → owned_by r ≡ level_owns l → ((ty : TypeExpr) → typed_level items (map-RustValue RustValue Typed (typed items) l) ty ≡ plain_as ty (val.Value r)) → Kept (roll-RustValue l)
-  leaf r l e is = kept_level l (λ ty c h. leaf_kept r l e ty c (sym (is ty) ∙ h)) (λ c h. no_unit r c (sym (is type.Unit) ∙ h))
+  leaf r l e is = kept_level l (λ ty c h. leaf_kept r l e ty c (sym (is ty) ∙ h))
 
   never : (l : RustValue-F RustValue) → ((ty : TypeExpr) → typed_level items (map-RustValue RustValue Typed (typed items) l) ty ≡ None) → Kept (roll-RustValue l)
-  never l none = kept_level l
-      (λ ty c h. absurd (let e : (let o : Option RustValue = None in o ≡ Some c) = sym (none ty) ∙ h in cc))
-      (λ c h. absurd (let e : (let o : Option RustValue = None in o ≡ Some c) = sym (none type.Unit) ∙ h in cc))
+  never l none = kept_level l (λ ty c h. absurd (let e : (let o : Option RustValue = None in o ≡ Some c) = sym (none ty) ∙ h in cc))
 
   -- parts
 
@@ -189,7 +164,7 @@ module _ (items : List Item) where
     one_more x xs ty (Some r) e None later rs h = absurd cc
     one_more x xs ty (Some r) e (Some more) later rs h =
         let same : r ∷ more ≡ rs = cc in
-        ap taken_by (sym same) ∙ ap₂ (λ a b. a ++ b) ((snd x).owners ty r e) (later more refl)
+        ap taken_by (sym same) ∙ ap₂ (λ a b. a ++ b) (snd x ty r e) (later more refl)
 
     each_kept : (xs : List X) (types : List TypeExpr) (rs : List RustValue) → typed_each (parts xs) types ≡ Some rs → taken_by rs ≡ taken_by (map fst xs)
     each_kept [] [] rs h = let same : [] ≡ rs = cc in ap taken_by (sym same)
@@ -222,14 +197,11 @@ module _ (items : List Item) where
     parts_kept xs (TypeExpr-F.Optional ty) rs h = absurd cc
 
     struct_kept : (xs : List X) → Kept (roll-RustValue (RustValue-F.Struct (map fst xs)))
-    struct_kept xs = kept_level (RustValue-F.Struct (map fst xs)) (λ ty c h. go ty c (typed_parts items (parts xs) (out-TypeExpr ty)) refl h) no
+    struct_kept xs = kept_level (RustValue-F.Struct (map fst xs)) (λ ty c h. go ty c (typed_parts items (parts xs) (out-TypeExpr ty)) refl h)
       where
         go : (ty : TypeExpr) (c : RustValue) (o : Option (List RustValue)) → typed_parts items (parts xs) (out-TypeExpr ty) ≡ o → option_map value.Struct o ≡ Some c → owned_by c ≡ taken_by (map fst xs)
         go ty c None e h = absurd cc
         go ty c (Some rs) e h = let same : value.Struct rs ≡ c = cc in ap owned_by (sym same) ∙ owned-struct rs ∙ parts_kept xs (out-TypeExpr ty) rs e
-
-        no : LevelUnit (RustValue-F.Struct (map fst xs))
-        no c h = absurd (let e : (let o : Option RustValue = None in o ≡ Some c) = sym (ap (λ l. option_map value.Struct (typed_parts items (parts xs) l)) out_unit) ∙ h in cc)
 
     -- a case
 
@@ -248,7 +220,7 @@ module _ (items : List Item) where
         go None e k = absurd cc
         go (Some r) e k =
             let same : value.Case n (Some r) ≡ c = cc in
-            ap owned_by (sym same) ∙ case_owned n (Some r) ∙ ap (λ xs. xs ++ []) ((snd x).owners type.Unit r e)
+            ap owned_by (sym same) ∙ case_owned n (Some r) ∙ ap (λ xs. xs ++ []) (snd x type.Unit r e)
 
     none_kept : (n : ℕ) (ty : TypeExpr) (c : RustValue) → typed_option n None ty ≡ Some c → owned_by c ≡ level_owns (RustValue-F.Case n None)
     none_kept zero ty c h = bare_none 0 c h
@@ -256,20 +228,14 @@ module _ (items : List Item) where
     none_kept (suc (suc n)) ty c h = absurd cc
 
     some_kept : (n : ℕ) (x : X) (ty : TypeExpr) (c : RustValue) → typed_option n (Some (typed items (fst x))) ty ≡ Some c → owned_by c ≡ level_owns (RustValue-F.Case n (Some (fst x)))
-    some_kept zero x ty c h = go (typed items (fst x) type.Unit) refl h
-      where
-        go : (q : Option RustValue) → typed items (fst x) type.Unit ≡ q → option_map (λ r. value.Case 0 None) q ≡ Some c → owned_by c ≡ level_owns (RustValue-F.Case 0 (Some (fst x)))
-        go None e k = absurd cc
-        go (Some r) e k =
-            let same : value.Case 0 None ≡ c = cc in
-            ap owned_by (sym same) ∙ case_owned 0 None ∙ sym (ap (λ xs. xs ++ []) ((snd x).unit r e))
+    some_kept zero x ty c h = bare_some 0 x c h
     some_kept (suc zero) x ty c h = go (typed items (fst x) ty) refl h
       where
         go : (q : Option RustValue) → typed items (fst x) ty ≡ q → option_map (λ r. value.Case 1 (Some r)) q ≡ Some c → owned_by c ≡ level_owns (RustValue-F.Case 1 (Some (fst x)))
         go None e k = absurd cc
         go (Some r) e k =
             let same : value.Case 1 (Some r) ≡ c = cc in
-            ap owned_by (sym same) ∙ case_owned 1 (Some r) ∙ ap (λ xs. xs ++ []) ((snd x).owners ty r e)
+            ap owned_by (sym same) ∙ case_owned 1 (Some r) ∙ ap (λ xs. xs ++ []) (snd x ty r e)
     some_kept (suc (suc n)) x ty c h = absurd cc
 
     of_enum : (n : ℕ) (payload : Option Typed) (own : List ℕ) → ((c : RustValue) → typed_bare n payload ≡ Some c → owned_by c ≡ own) → (o : Option EnumItem) (c : RustValue) → typed_enum n payload o ≡ Some c → owned_by c ≡ own
@@ -295,7 +261,7 @@ module _ (items : List Item) where
         go None e k = absurd cc
         go (Some r) e k =
             let same : value.Case n (Some r) ≡ c = cc in
-            ap owned_by (sym same) ∙ case_owned n (Some r) ∙ ap (λ xs. xs ++ []) ((snd x).owners ty r e)
+            ap owned_by (sym same) ∙ case_owned n (Some r) ∙ ap (λ xs. xs ++ []) (snd x ty r e)
 
     abbrev PayloadKept : ℕ → Option Typed → List ℕ → Type 0
     PayloadKept n payload own = (ty : TypeExpr) (c : RustValue) → typed_payload n payload ty ≡ Some c → owned_by c ≡ own
@@ -327,21 +293,17 @@ module _ (items : List Item) where
     of_case n payload own k p b (TypeExpr-F.Result ok err) c h = of_result n payload own p ok err c h
     of_case n payload own k p b l c h = of_defined n payload own p b (definition_in items l) c h
 
-    no_case : {A : Type 0} (n : ℕ) (payload : Option Typed) (c : RustValue) → typed_case items n payload (out-TypeExpr type.Unit) ≡ Some c → A
-    no_case n payload c h = absurd (let e : (let q : Option RustValue = None in q ≡ Some c) = sym (ap (typed_case items n payload) out_unit) ∙ h in cc)
-
     case_none : (n : ℕ) → Kept (roll-RustValue (RustValue-F.Case n None))
-    case_none n = kept_level (RustValue-F.Case n None) (λ ty c h. of_case n None (level_owns (RustValue-F.Case n None)) (none_kept n) (payload_none n) (bare_none n) (out-TypeExpr ty) c h) (λ c h. no_case n None c h)
+    case_none n = kept_level (RustValue-F.Case n None) (λ ty c h. of_case n None (level_owns (RustValue-F.Case n None)) (none_kept n) (payload_none n) (bare_none n) (out-TypeExpr ty) c h)
 
     case_some : (n : ℕ) (x : X) → Kept (roll-RustValue (RustValue-F.Case n (Some (fst x))))
     case_some n x =
         kept_level (RustValue-F.Case n (Some (fst x))) (λ ty c h. of_case n (Some (typed items (fst x))) (level_owns (RustValue-F.Case n (Some (fst x)))) (some_kept n x) (payload_some n x) (bare_some n x) (out-TypeExpr ty) c h)
-        (λ c h. no_case n (Some (typed items (fst x))) c h)
 
     -- flags own nothing
 
     flags_kept : (n : ℕ) → Kept (roll-RustValue (RustValue-F.Bits n))
-    flags_kept n = kept_level (RustValue-F.Bits n) (λ ty c h. of_flags c (flags_in (definition_in items (out-TypeExpr ty))) h) (λ c h. refl)
+    flags_kept n = kept_level (RustValue-F.Bits n) (λ ty c h. of_flags c (flags_in (definition_in items (out-TypeExpr ty))) h)
       where
         held : (c : RustValue) (b : Bool) → (if b then Some (value.Bits n) else None) ≡ Some c → owned_by c ≡ []
         held c true h = let same : value.Bits n ≡ c = cc in ap owned_by (sym same) ∙ ap owned_by (sym (rolls-Bits n)) ∙ owned_roll (RustValue-F.Bits n)
@@ -356,7 +318,7 @@ module _ (items : List Item) where
     step l (RustValue-F.Struct xs) is = subst (λ z. Kept (roll-RustValue z)) is (struct_kept xs)
     step l (RustValue-F.Case n None) is = subst (λ z. Kept (roll-RustValue z)) is (case_none n)
     step l (RustValue-F.Case n (Some x)) is = subst (λ z. Kept (roll-RustValue z)) is (case_some n x)
-    step l RustValue-F.Unit is = subst (λ z. Kept (roll-RustValue z)) is (kept_level RustValue-F.Unit unit_kept (λ c h. refl))
+    step l RustValue-F.Unit is = subst (λ z. Kept (roll-RustValue z)) is (kept_level RustValue-F.Unit unit_kept)
       where
         unit_kept : LevelKept RustValue-F.Unit
         unit_kept ty c h = go (out-TypeExpr ty) h
@@ -382,7 +344,7 @@ module _ (items : List Item) where
     where
       go : (o : Option (Option RustValue)) → answer_as (out-TypeExpr (unaliased items ty)) (val.Value r) ≡ o → (q : Option RustValue) → typed items r ty ≡ q → option_and_then (λ r. r) (option_or o (option_map Some q)) ≡ Some c → owned_by c ≡ owned_by r
       go None e None f k = absurd cc
-      go None e (Some d) f k = let same : d ≡ c = cc in ap owned_by (sym same) ∙ (kept r).owners ty d f
+      go None e (Some d) f k = let same : d ≡ c = cc in ap owned_by (sym same) ∙ kept r ty d f
       go (Some None) e q f k = absurd cc
       go (Some (Some d)) e q f k = let same : d ≡ c = cc in ap owned_by (sym same) ∙ answer_keeps (out-TypeExpr (unaliased items ty)) r d e
 

@@ -26,10 +26,8 @@ use Rattle.func_gen.specs.declared.function_bindgen.FunctionBindgen.{FunctionBin
 use Rattle.func_gen.specs.declared.operand.ExprOperand.{ExprOperand}
 use Rattle.func_gen.specs.Added.{Fresh}
 use Rattle.func_gen.specs.Facts.{AreOwned, Hold, Owns, wrong}
-use Rattle.func_gen.specs.declared.function_bindgen.OpenBlock.{OpenBlock}
-use Rattle.func_gen.specs.Opened.{in_view}
 use Rattle.func_gen.specs.Meaning.{AreaIs, Denote, File, FuncState, owns_of}
-use Rattle.func_gen.specs.Read.{Env, Under, env_of, less, read}
+use Rattle.func_gen.specs.Read.{Env, Under, env_of, less, read_operand}
 use Rattle.func_gen.specs.Scope.{is_used}
 use Rattle.func_gen.specs.FactLemmas.{Says, less_under, said, total_mono}
 use Rattle.func_gen.specs.Slot.{Slot}
@@ -112,7 +110,7 @@ module _ (items : List Item) where
 
   -- a fact that rests on one local, which owns nothing
   pub add_plain : (b : FunctionBindgen) (facts : List (Fact ExprOperand Slot RustValue)) (s : State) (o : ExprOperand) (d : Datum RustValue) (n : Bytes) (v : Val)
-      → ((env : Env) → env n ≡ Some v → Says d ((read items o.expr).at env)) → env_of s n ≡ Some v → owned v ≡ [] → Hold items b facts s → Hold items b (of o d ∷ facts) s
+      → ((env : Env) → env n ≡ Some v → Says d ((read_operand items o).at env)) → env_of s n ≡ Some v → owned v ≡ [] → Hold items b facts s → Hold items b (of o d ∷ facts) s
   add_plain b facts s o d n v says at none h = record {
     right = omega (arith, said items b.params (env_of s) (of o d) (says (env_of s) at), h.right);
     apart = λ k owns. omega (arith, h.apart k owns, said items b.params (less (env_of s) k) (of o d) (says (less (env_of s) k) (other k owns (bytes_eq n k) refl)));
@@ -131,7 +129,7 @@ module _ (items : List Item) where
 pub area_lasts : (import : Bool) (area : Option Request) (at : Option ℕ) (asked : List Asked) (name : Bytes) (s t : State) → Under (env_of s) (env_of t) → t.place ≡ s.place → AreaIs import area at asked name s → AreaIs import area at asked name t
 area_lasts true None None asked name s t u p h = p ∙ h
 area_lasts true None (Some address) asked name s t u p h = h
-area_lasts true (Some area) None asked name s t u p h = h
+area_lasts true (Some area) None asked name s t u p h = p ∙ h
 area_lasts true (Some area) (Some address) asked name s t u p h = (u name (val.Area address area.size) h.0, p ∙ h.1)
 area_lasts false area None asked name s t u p h = λ e. p ∙ h e
 area_lasts false area (Some address) asked name s t u p h = h
@@ -141,24 +139,10 @@ pub record SameArea (old new : FunctionBindgen) : Type 0 where
   pub import : new.import ≡ old.import
   pub asked : new.asked ≡ old.asked
   pub name : new.area ≡ old.area
-  pub opened : new.opened ≡ old.opened
 
-pub area_same : (w : File) (old new : FunctionBindgen) (at : Option ℕ) (s : State) → SameArea old new
-    → AreaIs old.import (in_view old.opened w.area) (in_view old.opened at) old.asked old.area s → AreaIs new.import (in_view new.opened w.area) (in_view new.opened at) new.asked new.area s
+pub area_same : (w : File) (old new : FunctionBindgen) (at : Option ℕ) (s : State) → SameArea old new → AreaIs old.import w.area at old.asked old.area s → AreaIs new.import w.area at new.asked new.area s
 area_same w old new at s e h =
-    subst (λ os. AreaIs new.import (in_view os w.area) (in_view os at) new.asked new.area s) (sym e.opened)
-    (subst (λ i. AreaIs i (in_view old.opened w.area) (in_view old.opened at) new.asked new.area s) (sym e.import)
-    (subst (λ a. AreaIs old.import (in_view old.opened w.area) (in_view old.opened at) a new.area s) (sym e.asked) (subst (λ n. AreaIs old.import (in_view old.opened w.area) (in_view old.opened at) old.asked n s) (sym e.name) h)))
-
--- what is known of the area is so while a block is open, too
-pub area_viewed : (opened : List OpenBlock) (import : Bool) (area : Option Request) (at : Option ℕ) (asked : List Asked) (name : Bytes) (s : State) → AreaIs import area at asked name s → AreaIs import (in_view opened area) (in_view opened at) asked name s
-area_viewed [] import area at asked name s h = h
-area_viewed (o ∷ opened) true None None asked name s h = h
-area_viewed (o ∷ opened) true None (Some address) asked name s h = absurd h
-area_viewed (o ∷ opened) true (Some area) None asked name s h = absurd h
-area_viewed (o ∷ opened) true (Some area) (Some address) asked name s h = h.1
-area_viewed (o ∷ opened) false area None asked name s h = h
-area_viewed (o ∷ opened) false area (Some address) asked name s h = absurd h
+    subst (λ i. AreaIs i w.area at new.asked new.area s) (sym e.import) (subst (λ a. AreaIs old.import w.area at a new.area s) (sym e.asked) (subst (λ n. AreaIs old.import w.area at old.asked n s) (sym e.name) h))
 
 -- a state in which no more than locals was changed
 pub record Beside (s t : State) : Type 0 where
@@ -172,5 +156,5 @@ pub denotes_on : (w : File) (old new : FunctionBindgen) (before facts : List (Fa
 denotes_on w old new before facts s t e beside d h = record {
   hold = h;
   owners = subst (λ blocks. AreOwned blocks t.taken) (ap (λ heap. heap.blocks) (sym beside.heap)) (subst (AreOwned s.machine.heap.blocks) (sym beside.taken) d.owners);
-  area = area_lasts new.import (in_view new.opened w.area) (in_view new.opened s.area) new.asked new.area s.machine t beside.under beside.place (area_same w old new s.area s.machine e d.area);
+  area = area_lasts new.import w.area s.area new.asked new.area s.machine t beside.under beside.place (area_same w old new s.area s.machine e d.area);
 }

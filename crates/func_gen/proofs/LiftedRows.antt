@@ -1,5 +1,5 @@
 -- The rows of bools and of chars that are lifted: a statement binds what the expression gives.
-use Rattle.std.proofs.Common.{◌≡◌, ℕ, zero, suc, ℤ, pos, Bool, true, false, nat_eq, nat_lt, if◌then◌else◌, List, [], ◌∷◌, Option, None, Some, refl, sym, ap, ◌∙◌, subst, arith}
+use Rattle.std.proofs.Common.{◌≡◌, ℕ, zero, suc, ℤ, pos, Bool, true, false, nat_eq, nat_lt, if◌then◌else◌, List, [], ◌∷◌, Some, refl, sym, ap, ◌∙◌, subst, arith}
 use Rattle.std.specs.Prelude.{option_and_then, Result, Ok, Err, codes}
 use Rattle.std.proofs.lemmas.Bool.Decides.{nat_tests}
 use Rattle.std.proofs.lemmas.Int.{ints}
@@ -35,7 +35,7 @@ use Rattle.wrapper_values.specs.declared.state.State.{State}
 use Rattle.wrapper_values.specs.declared.state.Val.{Val}
 use Rattle.wrapper_values.specs.declared.state.Val.TheVariants as val
 use Rattle.wrapper_values.specs.Act as machine
-use Rattle.wrapper_values.specs.Effect.{bit, word_of_bool, bool_of_number, cast_integer, char_of_number, is_of_kind, lift_of, lift_of_number, low, rust_of}
+use Rattle.wrapper_values.specs.Effect.{bit, bool_of_number, cast_integer, char_of_number, is_of_kind, lift_of, lift_of_number, low}
 use Rattle.wrapper_values.specs.Owning.{owned}
 use Rattle.wrapper_values.specs.Setting.{Setting}
 use Rattle.wrapper_run.specs.Run.{apply, call_callee, call_runtime, converted_or_lifted, eval, lift_act, runtime_item_named}
@@ -50,25 +50,25 @@ use Rattle.abi_driver.specs.Meaning.{Datum, item, of, word}
 use Rattle.func_gen.specs.declared.function_bindgen.FunctionBindgen.{FunctionBindgen}
 use Rattle.func_gen.specs.declared.operand.ExprOperand.{ExprOperand}
 use Rattle.func_gen.specs.Added.{Appends, Fresh}
-use Rattle.func_gen.specs.Facts.{Hold, item_of}
+use Rattle.func_gen.specs.Facts.{Hold}
 use Rattle.func_gen.specs.Forms.{operand_of, runtime_call, runtime_path}
 use Rattle.func_gen.specs.Meaning.{File, Found, StandsAsItIs, account_of, answer_of, func_meaning, setting_for}
 use Rattle.func_gen.specs.Operand.{is_operand}
-use Rattle.func_gen.specs.Read.{env_of, read}
+use Rattle.func_gen.specs.Read.{env_of, read, read_operand}
 use Rattle.func_gen.specs.Scope.{TakesOne}
 use Rattle.abi_driver.specs.Sent.{sends}
 use Rattle.func_gen.proofs.Evaluated.{gives}
-use Rattle.func_gen.specs.FactLemmas.{Says, is_said, item_rust}
+use Rattle.func_gen.specs.FactLemmas.{Says, is_said}
 use Rattle.func_gen.proofs.Forming.{IsPlain, form_let}
 use Rattle.func_gen.proofs.Quiet.{quiet_cast_of, quiet_operand}
 use Rattle.func_gen.proofs.Rows.{Agrees, let_adds, lets}
 use Rattle.func_gen.proofs.ScalarRows.{calls_runtime, cast_says, emits_lifted, emits_lowered}
-use Rattle.func_gen.proofs.Scalars.{bool_is, stands_scalar}
+use Rattle.func_gen.proofs.Scalars.{stands_scalar}
 use Rattle.func_gen.specs.StandLemmas.{scalar_owns}
 use Rattle.func_gen.proofs.LowBits.{same_low}
 
 -- what one fact that holds says
-pub says_one : (items : List Item) (b : FunctionBindgen) (o : ExprOperand) (d : Datum RustValue) (s : State) → Hold items b (of o d ∷ []) s → Says d ((read items o.expr).at (env_of s))
+pub says_one : (items : List Item) (b : FunctionBindgen) (o : ExprOperand) (d : Datum RustValue) (s : State) → Hold items b (of o d ∷ []) s → Says d ((read_operand items o).at (env_of s))
 says_one items b o d s h = is_said items b.params (env_of s) (of o d) (omega (arith, h.right))
 
 -- 1. A bool becomes a word
@@ -77,16 +77,11 @@ same_bit : (b : Bool) → bit b ≡ pos (number.bit b)
 same_bit true = refl
 same_bit false = refl
 
-pub read_some : (o : Option Val) (r : RustValue) → option_and_then item_of o ≡ Some r → (v : Val) × (o ≡ Some v) × (rust_of v ≡ Some r)
-read_some None r h = absurd cc
-read_some (Some v) r h = (v, refl, item_rust v r h)
-
-bool_evaluated : (w : Setting) (e : Expr) (b : Bool) (s : State) → option_and_then item_of ((read w.items e).at (env_of s)) ≡ Some (value.Bool b) → eval w (expr.I32FromBool e) s ≡ machine.Done (val.Word (passed_word Scalar.bool b)) s
+bool_evaluated : (w : Setting) (e : Expr) (b : Bool) (s : State) → (read w.items e).at (env_of s) ≡ Some (val.Value (value.Bool b)) → eval w (expr.I32FromBool e) s ≡ machine.Done (val.Word (passed_word Scalar.bool b)) s
 bool_evaluated w e b s h =
-    let (v, reads, is) = read_some ((read w.items e).at (env_of s)) (value.Bool b) h in
-    let same = bool_is b v is in
-    let given = gives w e s v reads (ap owned same ∙ scalar_owns Scalar.bool b) in
-    bool_gives w e v (core.I32 (bit b)) s given (ap word_of_bool same ∙ word_of-bool b) ∙ ap (λ z. machine.Done (val.Word (core.I32 z)) s) (same_bit b)
+    let v = val.Value (value.Bool b) in
+    let given = gives w e s v h (scalar_owns Scalar.bool b) in
+    bool_gives w e v (core.I32 (bit b)) s given (word_of-bool b) ∙ ap (λ z. machine.Done (val.Word (core.I32 z)) s) (same_bit b)
 
 pub bool_row : (types : List TypeDef) (old new : FunctionBindgen) (n : Bytes) (e : Expr) → is_operand e ≡ true → Appends old new (stmt.Let n (expr.I32FromBool e) ∷ []) [] → Fresh old new n → TakesOne old.scope (codes "b") n new.scope
     → Emits func_meaning types I32FromBool (operand_of e ∷ []) (operand_of (expr.Local n) ∷ []) old new
@@ -98,7 +93,7 @@ bool_row types old new n e ok a fresh one =
     (λ dir v r own good st. (
       st.0.1,
       lets old new n (expr.I32FromBool e) [] a fresh quiet (of (operand_of e) (item r) ∷ []) (λ p. stay) (word (passed_word Scalar.bool v)) (λ fs. fs ≡ of (operand_of (expr.Local n)) (word (passed_word Scalar.bool v)) ∷ []) refl
-          (λ w p s found h. (refl, (val.Word (passed_word Scalar.bool v), bool_evaluated (setting_for w p) e v s (says_one w.items old (operand_of e) (item r) s h ∙ ap (λ q. Some q) st.0.0), refl, refl))),
+          (λ w p s found h. (refl, (val.Word (passed_word Scalar.bool v), bool_evaluated (setting_for w p) e v s (says_one w.items old (operand_of e) (item r) s h ∙ ap (λ q. Some (val.Value q)) st.0.0), refl, refl))),
     ))
 
 -- 2. A word is lifted

@@ -40,7 +40,6 @@ use Rattle.abi_driver.specs.Meaning.{of, word}
 use Rattle.abi_driver.specs.Memory as law
 use Rattle.abi_driver.specs.Memory.{Access, loading}
 use Rattle.abi_driver.specs.Touches.{LoadsWord, Part, accessed, loads, low_byte, low_half, touch, whole}
-use Rattle.abi_driver.proofs.Ordinary.{touches_ordinary}
 use Rattle.func_gen.specs.declared.function_bindgen.FunctionBindgen.{FunctionBindgen}
 use Rattle.func_gen.specs.Added.{Appends, Fresh}
 use Rattle.func_gen.specs.FactLemmas.{is_said}
@@ -54,7 +53,7 @@ use Rattle.abi_driver.specs.Sent.{sends}
 use Rattle.func_gen.specs.Scope.{TakesOne}
 use Rattle.func_gen.proofs.Emissions.{small_load_emitted, whole_load_emitted}
 use Rattle.func_gen.proofs.Evaluated.{gives}
-use Rattle.func_gen.proofs.Forming.{form_let, ordinary_plain}
+use Rattle.func_gen.proofs.Forming.{form_let, touches_plain}
 use Rattle.func_gen.proofs.LoadTies.{HasLength, Reads, byte_read, f32_read, f64_read, half_read, i32_read, i64_read, length_read, many_at, pointer_read, same_found, signed_byte_read, signed_half_read, small_from}
 use Rattle.func_gen.proofs.Quiet.{quiet_operand}
 use Rattle.func_gen.proofs.Rows.{AgreesBy, let_adds, lets_by}
@@ -217,7 +216,7 @@ module _ (types : List TypeDef) (old new : FunctionBindgen) (i : Instruction) (n
       let value = expr.Load e q.0 q.1 in
       let quiet = quiet_whole old new n e ok q.0 fresh q.1 in
       emits_touch types old new i (loads t.part t.signed t.ty q.0) (operand_of e ∷ []) (operand_of (expr.Local n) ∷ []) t.lowered t.lifted t.touched refl (load_adds old new n e ok q.0 fresh a value quiet adds) adds.returned
-      (form_let (sends i) (ordinary_plain i (touches_ordinary i (loads t.part t.signed t.ty q.0) t.touched)) (operand_of e ∷ []) old new (codes "l") n value [] (whole_load_emitted old i q e is) one adds)
+      (form_let (sends i) (touches_plain i (loads t.part t.signed t.ty q.0) t.touched) (operand_of e ∷ []) old new (codes "l") n value [] (whole_load_emitted old i q e is) one adds)
       (load_row old new n e ok q.0 fresh a value quiet adds (whole_follows old new n e ok q.0 fresh q.1 a t.size t.tie))
 
   pub small_load_row : (q : ArchitectureSize × SmallType) → small_load i ≡ Some q → Appends old new (stmt.Let n (expr.LoadSmall e q.0 q.1) ∷ []) [] → Emits func_meaning types i (operand_of e ∷ []) (operand_of (expr.Local n) ∷ []) old new
@@ -227,5 +226,5 @@ module _ (types : List TypeDef) (old new : FunctionBindgen) (i : Instruction) (n
       let value = expr.LoadSmall e q.0 q.1 in
       let quiet = quiet_small old new n e ok q.0 fresh q.1 in
       emits_touch types old new i (loads t.part t.signed t.ty q.0) (operand_of e ∷ []) (operand_of (expr.Local n) ∷ []) t.lowered t.lifted t.touched refl (load_adds old new n e ok q.0 fresh a value quiet adds) adds.returned
-      (form_let (sends i) (ordinary_plain i (touches_ordinary i (loads t.part t.signed t.ty q.0) t.touched)) (operand_of e ∷ []) old new (codes "l") n value [] (small_load_emitted old i q e is) one adds)
+      (form_let (sends i) (touches_plain i (loads t.part t.signed t.ty q.0) t.touched) (operand_of e ∷ []) old new (codes "l") n value [] (small_load_emitted old i q e is) one adds)
       (load_row old new n e ok q.0 fresh a value quiet adds (small_follows old new n e ok q.0 fresh q.1 a t.size t.tie))

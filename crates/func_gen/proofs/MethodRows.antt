@@ -1,5 +1,5 @@
 -- The row of the call of a method.
-use Rattle.std.proofs.Common.{◌≡◌, ℕ, zero, suc, Bool, true, false, not, cond, if◌then◌else◌, ◌&&◌, Bor, List, [], ◌∷◌, ◌++◌, length, map, take, drop, find, Option, None, Some, refl, sym, ap, ap₂, ◌∙◌, subst, arith}
+use Rattle.std.proofs.Common.{◌≡◌, ℕ, zero, suc, Bool, true, false, not, cond, if◌then◌else◌, ◌&&◌, Bor, List, [], ◌∷◌, ◌++◌, length, map, take, drop, find, reverse, Option, None, Some, refl, sym, ap, ap₂, ◌∙◌, subst, arith}
 use Rattle.std.specs.Prelude.{IfSome, is_some, option_and_then, option_to_list, codes}
 use Rattle.std.specs.List.{flat_map, AllByRecursion}
 use Rattle.std.specs.Option.{option_map, option_or}
@@ -63,10 +63,10 @@ use Rattle.func_gen.specs.declared.scope.Scope.{Scope}
 use Rattle.func_gen.specs.Added.{Fresh}
 use Rattle.func_gen.specs.CallForms.{exprs}
 use Rattle.func_gen.specs.FactLemmas.{Says, one_at_most, said}
-use Rattle.func_gen.specs.Facts.{AreOwned, IsThere, item_of, matches}
+use Rattle.func_gen.specs.Facts.{AreOwned, IsThere, matches}
 use Rattle.func_gen.specs.Forms.{operand_of}
-use Rattle.func_gen.specs.Opened.{in_view, open_blocks}
-use Rattle.func_gen.specs.Meaning.{AreaIs, Denote, File, Found, FuncState, GivesAsCalled, account_of, answer_of, call_of, func_meaning, owns_of, run_code, run_head, seen, setting_for, target_of}
+use Rattle.func_gen.specs.Opened.{open_blocks}
+use Rattle.func_gen.specs.Meaning.{AllAsCalled, AreaIs, Denote, File, Found, FuncState, GivesAsCalled, account_of, answer_of, call_of, func_meaning, owns_of, run_code, run_head, seen, setting_for, target_of}
 use Rattle.func_gen.specs.MethodForms.{CallsIn, call_block, is_uncalled}
 use Rattle.func_gen.specs.Read.{Env, Read, env_of, less, read}
 use Rattle.func_gen.specs.ReadForms.{read-local}
@@ -82,6 +82,7 @@ use Rattle.func_gen.proofs.MethodValues.{values_alike}
 use Rattle.func_gen.proofs.PartRows.{acts_same, all_owned}
 use Rattle.func_gen.proofs.Rows.{unmoved}
 use Rattle.func_gen.proofs.Several.{UsedAll, uses_all}
+use Rattle.func_gen.proofs.RuntimeItems.{suspended_from}
 use Rattle.func_gen.proofs.Steps.{seen_calls, seen_done}
 use Rattle.wrapper_meaning.proofs.PostReturn.{total-append}
 
@@ -102,6 +103,16 @@ named_with : (named name : Bytes) (items : List Item) → method_named (with_met
 named_with named name items =
     ap (λ b. option_or (if b then method_in (unit_method name ∷ []) name else None) (method_named items named name)) (bytes_eq-same named)
     ∙ ap (λ b. option_or (cond b (Some (unit_method name)) None) (method_named items named name)) (bytes_eq-same name)
+
+-- what else is called for no value still gives none
+still_called : (named name : Bytes) (items : List Item) (call : Option CallBlock) → GivesAsCalled items named call → GivesAsCalled (with_method named name items) named call
+still_called named name items None h = tt
+still_called named name items (Some c) h = λ none.
+    subst (λ b. IfSome (option_or (if b then method_in (unit_method name ∷ []) c.method else None) (method_named items named c.method)) (λ (m : TraitFn). m.result ≡ type.Unit)) (sym (bytes_eq-same named)) (go (bytes_eq name c.method) (h none))
+  where
+    go : (b : Bool) → IfSome (method_named items named c.method) (λ (m : TraitFn). m.result ≡ type.Unit) → IfSome (option_or (cond b (Some (unit_method name)) None) (method_named items named c.method)) (λ (m : TraitFn). m.result ≡ type.Unit)
+    go true k = refl
+    go false k = k
 
 -- how the block ends, once the method has answered
 abbrev ending : Option Bytes → Setting → ℕ → machine.Outcome Val → machine.Outcome (Unit {0})
@@ -128,7 +139,7 @@ module _ (f : Function) (os : List ExprOperand) (held : Option Bytes) (old new :
   module _ (names : (n : Bytes) → is_used new.scope.used n ≡ false → is_used old.scope.used n ≡ false) where
     known : (w : File) (facts : Facts func_meaning) (s : FuncState) → Denote w old facts s → Denote w new facts s
     known w facts s h =
-        denotes_on w old new facts facts s s.machine (record { import = a.import; asked = a.asked; name = a.area; opened = a.opened }) (unmoved s.machine) h
+        denotes_on w old new facts facts s s.machine (record { import = a.import; asked = a.asked; name = a.area }) (unmoved s.machine) h
         (lasts w.items old new facts s.machine s.machine a.params (λ n v e. e) (λ n free. h.hold.within n (names n free)) h.hold)
 
     -- where the old code stops, the block does: its statements come first
@@ -142,6 +153,7 @@ module _ (f : Function) (os : List ExprOperand) (held : Option Bytes) (old new :
         static = λ e. h.static (a.import ∙ e);
         bound = λ e. h.bound (a.import ∙ e) ∙ a.home;
         called = subst (GivesAsCalled w.items w.bound) (sym first) tt;
+        suspended = subst (AllAsCalled w.items w.bound) a.opened h.suspended;
       };
       more = λ w h.
           let items = with_method w.bound (rust_ident f.name) w.items in (
@@ -154,6 +166,7 @@ module _ (f : Function) (os : List ExprOperand) (held : Option Bytes) (old new :
               static = λ e. h.static (sym a.import ∙ e);
               bound = λ e. h.bound (sym a.import ∙ e) ∙ sym a.home;
               called = subst (λ (c : Code). GivesAsCalled items w.bound c.call) (sym a.code) (λ none. subst (λ t. IfSome t (λ (m : TraitFn). m.result ≡ type.Unit)) (sym (named_with w.bound (rust_ident f.name) w.items)) refl);
+              suspended = subst (AllAsCalled items w.bound) (sym a.opened) (suspended_from w.items items w.bound (still_called w.bound (rust_ident f.name) w.items) old.opened h.suspended);
             },
           );
       stops = λ w p s h.
@@ -198,11 +211,11 @@ leaves : (w : Setting) (kept : ℕ) (s : State) → ArePlain s.locals → leave_
 unfolding leave_to
 leaves w kept s h = ap (λ o. and_then o (λ u. keep_locals (take kept s.locals))) (drops_plain w (drop kept s.locals) (record s { locals = [] }) (plain_drop kept s.locals h))
 
-nothing_there : (xs : List ℕ) → total (λ x. 1) xs ≡ 0 → xs ≡ []
+pub nothing_there : (xs : List ℕ) → total (λ x. 1) xs ≡ 0 → xs ≡ []
 nothing_there [] h = refl
 nothing_there (x ∷ xs) h = absurd (omega (arith, h))
 
-both_empty : (xs ys : List ℕ) → xs ++ ys ≡ [] → ys ≡ []
+pub both_empty : (xs ys : List ℕ) → xs ++ ys ≡ [] → ys ≡ []
 both_empty [] ys h = h
 both_empty (x ∷ xs) ys h = absurd cc
 
@@ -322,7 +335,7 @@ module _ (f : Function) (os : List ExprOperand) (held : Option Bytes) (old new :
         all_plain u.then.locals (both_empty (option_to_list u.then.place) (locals_own u.then.locals) none)
 
     unplaced : u.then.place ≡ None
-    unplaced = u.place ∙ not_placed old.import export (in_view old.opened w.area) (in_view old.opened s.area) old.asked unasked old.area s.machine at.holds.area
+    unplaced = u.place ∙ not_placed old.import export w.area s.area old.asked unasked old.area s.machine at.holds.area
 
     ended : (v : Val) (t : State) → ArePlain t.locals → ending held set kept (machine.Done v t) ≡ and_then (keep_result set held v (record t { locals = take kept t.locals })) (λ u. pure tt)
     ended v t h = ap (λ o. and_then (and_then (and_then o (λ u. pure v)) (keep_result set held)) (λ u. pure tt)) (leaves set kept t h)
@@ -331,15 +344,15 @@ module _ (f : Function) (os : List ExprOperand) (held : Option Bytes) (old new :
     within : (n : Bytes) → is_used old.scope.used n ≡ false → local_named n (take kept u.then.locals) ≡ None
     within n free = take_none (λ (l : Local). bytes_eq l.name n) kept u.then.locals (u.holds.within n free)
 
-    area_there : (t : State) → t.place ≡ u.then.place → AreaIs new.import (in_view new.opened w.area) (in_view new.opened s0.area) new.asked new.area t
+    area_there : (t : State) → t.place ≡ u.then.place → AreaIs new.import w.area s0.area new.asked new.area t
     area_there t same =
         let before = seen_done s0.area (run_code set w.bound old.code s0.machine) s at.done in
-        let here = area_same w old new s.area s.machine (record { import = a.import; asked = a.asked; name = a.area; opened = a.opened }) at.holds.area in
+        let here = area_same w old new s.area s.machine (record { import = a.import; asked = a.asked; name = a.area }) at.holds.area in
         let is_false : new.import ≡ false = a.import ∙ export in
-        subst (λ i. AreaIs i (in_view new.opened w.area) (in_view new.opened s0.area) new.asked new.area t) (sym is_false)
-        (area_of_export (in_view new.opened w.area) (in_view new.opened s0.area) new.asked new.area s.machine t (same ∙ u.place)
-        (subst (λ at. AreaIs false (in_view new.opened w.area) (in_view new.opened at) new.asked new.area s.machine) before.1
-        (subst (λ i. AreaIs i (in_view new.opened w.area) (in_view new.opened s.area) new.asked new.area s.machine) is_false here)))
+        subst (λ i. AreaIs i w.area s0.area new.asked new.area t) (sym is_false)
+        (area_of_export w.area s0.area new.asked new.area s.machine t (same ∙ u.place)
+        (subst (λ at. AreaIs false w.area at new.asked new.area s.machine) before.1
+        (subst (λ i. AreaIs i w.area s.area new.asked new.area s.machine) is_false here)))
 
     abbrev Handed : Option Bytes → Got RustValue (List RustValue) → FuncState → Type 0
     Handed h x t = (account_of t.machine ≡ x.account) × ((g : ℕ → ℕ) → total g (owns_of t.machine) ≡ total g (flat_map owned_by x.result)) × Denote w new (ofs func_meaning (results h) (item_data func_meaning x.result)) t
@@ -427,7 +440,7 @@ module _ (f : Function) (os : List ExprOperand) (held : Option Bytes) (old new :
           taken_same = ap (λ xs. xs ++ []) (sym (keeps w.items m.result r c given))
 
           says : (env : Env) → env n ≡ Some (val.Value c) → Says (item c) ((read w.items (expr.Local n)).at env)
-          says env e = ap (λ (q : Read). option_and_then item_of (q.at env)) (read-local w.items n) ∙ ap (λ o. option_and_then item_of (option_and_then usable o)) e
+          says env e = ap (λ (q : Read). q.at env) (read-local w.items n) ∙ ap (option_and_then usable) e
 
           go : (b : Bool) → are_live (owned_by c ++ []) heap.blocks ≡ b
               → Follows func_meaning.account (if b then Done (record { result = c ∷ []; account = record acc1 { heap = heap; taken = owned_by c ++ [] } }) else Stuck acc1) (func_meaning.does w p new.code s0) (Handed (Some n))
@@ -510,7 +523,7 @@ NamedBy (Some n) old new = TakesOne old.scope (codes "result") n new.scope
 
 becomes : (f : Function) (os : List ExprOperand) (due : Option WitType) (held : Option Bytes) (old new : FunctionBindgen) → CallsIn f (exprs os) held old new → old.code.call ≡ None → length (option_to_list due) ≡ length (option_to_list held) → NamedBy held old new
     → CallsMethod due f os (results held) old new
-becomes f os None None old new a first same named = record { number = old.scope.next; takes = takes_none old.scope new.scope named; first = first; code = a.code; runtime = a.runtime; results = refl; opened = a.opened }
+becomes f os None None old new a first same named = record { number = old.scope.next; takes = takes_none old.scope new.scope named; first = first; code = a.code; runtime = a.runtime; results = refl; opened = a.opened; finished = a.finished }
 becomes f os None (Some n) old new a first same named = absurd cc
 becomes f os (Some ty) None old new a first same named = absurd cc
 becomes f os (Some ty) (Some n) old new a first same named = record {
@@ -521,6 +534,7 @@ becomes f os (Some ty) (Some n) old new a first same named = record {
   runtime = a.runtime;
   results = ap (λ x. operand_of (expr.Local x) ∷ []) named.is;
   opened = a.opened;
+  finished = a.finished;
 }
 
 pub method_row : (types : List TypeDef) (f : Bor Function) (os : List ExprOperand) (held : Option Bytes) (old new : FunctionBindgen) → CallsIn f.now (exprs os) held old new → is_uncalled old.code.call old.asked ≡ true → old.import ≡ false
@@ -529,7 +543,7 @@ method_row types f os held old new a none export due local named =
     let (first, unasked) = uncalled old.code.call old.asked none in
     record {
       adds = method_grows f.now os held old new a first (names_still held old new local);
-      blocks = refl;
+      blocks = ap reverse a.finished;
       returned = a.returned;
       asked = a.asked;
       results = as_many held ∙ sym due;

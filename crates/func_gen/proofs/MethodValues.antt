@@ -20,9 +20,9 @@ use Rattle.wrapper_values.specs.declared.state.Val.TheVariants as val
 use Rattle.wrapper_values.specs.Effect.{answer_as, answer_of, f32_of_level, f64_of_level, is_unit_level, num_of_level, text_of_level, bool_of_level, char_of_level, number_as, value_as, value_of_word}
 use Rattle.wrapper_values.specs.Typed.{Typed, plain_as, typed, typed_level, unaliased}
 use Rattle.wrapper_run.specs.ExportRun.{passed_as, values_of}
-use Rattle.func_gen.specs.Facts.{item_of, item_of_word}
 use Rattle.func_gen.proofs.Several.{AreItems}
 use Rattle.wrapper_meaning.proofs.RustValues.{out-num, out-f32, out-f64}
+use Rattle.func_gen.specs.Read.{item_of, item_of_word}
 
 -- 1. Of a plain type
 

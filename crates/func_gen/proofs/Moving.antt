@@ -40,11 +40,11 @@ use Rattle.abi_driver.specs.Meaning.{Fact, item, of}
 use Rattle.func_gen.specs.declared.function_bindgen.FunctionBindgen.{FunctionBindgen}
 use Rattle.func_gen.specs.declared.function_bindgen.ParamSite.{ParamSite}
 use Rattle.func_gen.specs.declared.operand.ExprOperand.{ExprOperand}
-use Rattle.func_gen.specs.FactLemmas.{is_said, item_rust, less_under, matches_says, total_meet, total_mono}
-use Rattle.func_gen.specs.Facts.{Hold, Owns, item_of, matches, wrong}
-use Rattle.func_gen.specs.Forms.{operand_of}
+use Rattle.func_gen.specs.FactLemmas.{is_said, item_read, item_rust, kept_item, less_under, matches_says, operand_reads, total_meet, total_mono}
+use Rattle.func_gen.specs.Facts.{Hold, Owns, matches, wrong}
+use Rattle.func_gen.specs.Forms.{local_kept}
 use Rattle.func_gen.specs.Meaning.{account_of, owns_of}
-use Rattle.func_gen.specs.Read.{Env, Read, Under, as_case_word, as_flags_word, as_pointer, conversion, converts, env_of, less, nothing, read, read_step}
+use Rattle.func_gen.specs.Read.{Env, Read, Under, as_case_word, as_flags_word, as_pointer, conversion, converts, env_of, item_of, kept_value, less, nothing, read, read_operand, read_step}
 use Rattle.func_gen.specs.ReadForms.{at_read, bare_value, read-call, read-cast, read-cast_mut, read-enum_number, read-flags_bits, read-i32_const, read-local, read-method, read-ref, read-zero, ref_bare, usable_is}
 use Rattle.func_gen.specs.Scope.{is_used}
 use Rattle.func_gen.specs.StandLemmas.{scalar_owns}
@@ -184,10 +184,12 @@ module _ (items : List Item) where
 
 -- 2. The use of an operand
 
-pub record Used (w : Setting) (b : FunctionBindgen) (e : Expr) (r : RustValue) (others : List (Fact ExprOperand Slot RustValue)) (s : State) : Type 0 where
+pub record Used (w : Setting) (b : FunctionBindgen) (u : ExprOperand) (r : RustValue) (others : List (Fact ExprOperand Slot RustValue)) (s : State) : Type 0 where
   pub given : Val
   pub then : State
-  pub evaluated : eval w e s ≡ machine.Done given then
+  pub evaluated : eval w u.expr s ≡ machine.Done given then
+  -- it denotes the value, as the operand does
+  pub denotes : kept_value u.kept (Some given) ≡ Some (val.Value r)
   pub is : rust_of given ≡ Some r
   pub item : item_of given ≡ Some r
   pub account : account_of then ≡ account_of s
@@ -202,16 +204,18 @@ unfolding use_local
 use_moves w n v x more s at own =
     ap (λ act. act s) (eval-local w n) ∙ ap (λ o. and_then (or_stop (stuck w) o s) (λ v. used n v (owned v))) at ∙ ap (λ bs. used n v bs s) own
 
--- a local is not read without its name
-not_read : (items : List Item) (params : List ParamSite) (env : Env) (n : Bytes) (r : RustValue) → wrong items params (less env n) (of (operand_of (expr.Local n)) (item r)) ≡ 1
-not_read items params env n r = go (matches (item r) ((read items (expr.Local n)).at (less env n))) refl
+-- a local denotes nothing without its name
+not_read : (items : List Item) (params : List ParamSite) (env : Env) (kept : Bool) (n : Bytes) (r : RustValue) → wrong items params (less env n) (of (local_kept kept n) (item r)) ≡ 1
+not_read items params env kept n r = go (matches (item r) ((read_operand items (local_kept kept n)).at (less env n))) refl
   where
     none : (read items (expr.Local n)).at (less env n) ≡ None
     none = ap (λ (q : Read). q.at (less env n)) (read-local items n) ∙ ap (λ c. option_and_then usable (cond c None (env n))) (bytes_eq-same n)
 
-    go : (c : Bool) → matches (item r) ((read items (expr.Local n)).at (less env n)) ≡ c → cond {A = ℕ} c 0 1 ≡ 1
+    go : (c : Bool) → matches (item r) ((read_operand items (local_kept kept n)).at (less env n)) ≡ c → cond {A = ℕ} c 0 1 ≡ 1
     go false e = refl
-    go true e = absurd (let z : (let q : Option RustValue = None in q ≡ Some r) = sym (ap (option_and_then item_of) none) ∙ matches_says (item r) ((read items (expr.Local n)).at (less env n)) e in cc)
+    go true e =
+        let reads = item_read items (local_kept kept n) (less env n) r (matches_says (item r) ((read_operand items (local_kept kept n)).at (less env n)) e) in
+        absurd (let z : (let q : Option RustValue = None in q ≡ Some r) = sym (ap (option_and_then item_of) none) ∙ reads in cc)
 
 less_same : (s : State) (n : Bytes) → Under (less (env_of s) n) (less (env_of (without s n)) n)
 less_same s n k v h = go (bytes_eq k n) refl h
@@ -221,11 +225,11 @@ less_same s n k v h = go (bytes_eq k n) refl h
     go false e x = less_stays s n k v (ap (λ c. cond c None (env_of s k)) e ∙ x)
 
 -- other facts last, where a local that owns a block is moved
-moved_lasts : (items : List Item) (b : FunctionBindgen) (n : Bytes) (r : RustValue) (v : Val) (others : List (Fact ExprOperand Slot RustValue)) (s : State) → env_of s n ≡ Some v → Owns (env_of s n) → Hold items b (of (operand_of (expr.Local n)) (item r) ∷ others) s → Hold items b others (without s n)
-moved_lasts items b n r v others s at owning h =
+moved_lasts : (items : List Item) (b : FunctionBindgen) (kept : Bool) (n : Bytes) (r : RustValue) (v : Val) (others : List (Fact ExprOperand Slot RustValue)) (s : State) → env_of s n ≡ Some v → Owns (env_of s n) → Hold items b (of (local_kept kept n) (item r) ∷ others) s → Hold items b others (without s n)
+moved_lasts items b kept n r v others s at owning h =
     let params = b.params in
     let env = env_of s in
-    let zero_others : total (wrong items params (less env n)) others ≡ 0 = omega (arith, not_read items params env n r, h.apart n owning) in
+    let zero_others : total (wrong items params (less env n)) others ≡ 0 = omega (arith, not_read items params env kept n r, h.apart n owning) in
     record {
       right = omega (arith, zero_others, total_mono items params (less env n) (env_of (without s n)) (less_stays s n) others);
       apart = λ k owned_k. each zero_others k owned_k (bytes_eq n k) refl;
@@ -257,44 +261,42 @@ area_stays s n k v a z used is = go (bytes_eq n k) refl
     go true e = absurd (let no : (let q : Option Val = None in q ≡ Some v) = sym (ap (option_and_then usable) (ap (env_of s) ((bytes_eq-Decides n k).0 e) ∙ is)) ∙ used in cc)
     go false e = ap value_of (other_named n k s.locals e) ∙ is
 
-read_some : (o : Option Val) (r : RustValue) → option_and_then item_of o ≡ Some r → (v : Val) × (o ≡ Some v) × (item_of v ≡ Some r)
-read_some None r h = absurd cc
-read_some (Some v) r h = (v, refl, h)
-
-pub uses : (w : Setting) (b : FunctionBindgen) (e : Expr) (r : RustValue) (others : List (Fact ExprOperand Slot RustValue)) (s : State) → Hold w.items b (of (operand_of e) (item r) ∷ others) s → Used w b e r others s
-uses w b e r others s h =
-    let (v, reads, is) = read_some ((read w.items e).at (env_of s)) r (is_said w.items b.params (env_of s) (of (operand_of e) (item r)) (omega (arith, h.right))) in
-    go v reads is (owned v) refl
+pub uses : (w : Setting) (b : FunctionBindgen) (o : ExprOperand) (r : RustValue) (others : List (Fact ExprOperand Slot RustValue)) (s : State) → Hold w.items b (of o (item r) ∷ others) s → Used w b o r others s
+uses w b o r others s h =
+    let (v, reads, told) = operand_reads w.items o (env_of s) (val.Value r) (is_said w.items b.params (env_of s) (of o (item r)) (omega (arith, h.right))) in
+    go v reads told (kept_item o.kept v r told) (owned v) refl
   where
-    go : (v : Val) → (read w.items e).at (env_of s) ≡ Some v → item_of v ≡ Some r → (bs : List ℕ) → owned v ≡ bs → Used w b e r others s
-    go v reads is [] own = record {
+    go : (v : Val) → (read w.items o.expr).at (env_of s) ≡ Some v → kept_value o.kept (Some v) ≡ Some (val.Value r) → item_of v ≡ Some r → (bs : List ℕ) → owned v ≡ bs → Used w b o r others s
+    go v reads told is [] own = record {
       given = v;
       then = s;
-      evaluated = gives w e s v reads own;
+      evaluated = gives w o.expr s v reads own;
+      denotes = told;
       is = item_rust v r is;
       item = is;
       account = refl;
       place = refl;
       owns = λ f. let z = ap (total f) own in omega (arith, z);
-      holds = part w.items b others (of (operand_of e) (item r) ∷ others) s (λ f. omega arith) h;
+      holds = part w.items b others (of o (item r) ∷ others) s (λ f. omega arith) h;
       areas = λ k a n is. is;
     }
-    go v reads is (x ∷ more) own =
-        let o = owner w.items e (env_of s) v reads (λ z. let k : [] ≡ x ∷ more = sym z ∙ own in cc) in
-        let n = o.0 in
-        let used_at : option_and_then usable (env_of s n) ≡ Some v = sym (ap (λ (q : Read). q.at (env_of s)) (read-local w.items n)) ∙ ap (λ z. (read w.items z).at (env_of s)) (sym o.1) ∙ reads in
+    go v reads told is (x ∷ more) own =
+        let local = owner w.items o.expr (env_of s) v reads (λ z. let k : [] ≡ x ∷ more = sym z ∙ own in cc) in
+        let n = local.0 in
+        let used_at : option_and_then usable (env_of s n) ≡ Some v = sym (ap (λ (q : Read). q.at (env_of s)) (read-local w.items n)) ∙ ap (λ z. (read w.items z).at (env_of s)) (sym local.1) ∙ reads in
         let at : env_of s n ≡ Some v = usable_is w.items (env_of s n) v used_at in
         let owning : Owns (env_of s n) = subst Owns (sym at) (λ z. let k : [] ≡ x ∷ more = sym z ∙ own in cc) in
-        let h1 = subst (λ z. Hold w.items b (of (operand_of z) (item r) ∷ others) s) o.1 h in
+        let h1 = subst (λ z. Hold w.items b (of (record o { expr = z }) (item r) ∷ others) s) local.1 h in
         record {
           given = v;
           then = without s n;
-          evaluated = ap (λ z. eval w z s) o.1 ∙ use_moves w n v x more s used_at own;
+          evaluated = ap (λ z. eval w z s) local.1 ∙ use_moves w n v x more s used_at own;
+          denotes = told;
           is = item_rust v r is;
           item = is;
           account = refl;
           place = refl;
           owns = λ f. owns_without f s n v at;
-          holds = moved_lasts w.items b n r v others s at owning h1;
+          holds = moved_lasts w.items b o.kept n r v others s at owning h1;
           areas = λ k a z is. area_stays s n k v a z used_at is;
         }

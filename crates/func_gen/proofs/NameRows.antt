@@ -18,7 +18,7 @@ use Rattle.func_gen.specs.Emission.{alone}
 use Rattle.func_gen.specs.FactLemmas.{Says}
 use Rattle.func_gen.specs.Forms.{operand_of}
 use Rattle.func_gen.specs.Meaning.{func_meaning}
-use Rattle.func_gen.specs.Opened.{first_number, innermost, is_closed, name_read, open_block, open_blocks, stem_read}
+use Rattle.func_gen.specs.Opened.{first_number, innermost, name_read, open_block, open_blocks, stem_read}
 use Rattle.func_gen.specs.Read.{Read}
 use Rattle.func_gen.specs.ReadForms.{read-local}
 use Rattle.func_gen.specs.Slot.{name_prefix, slot_name}
@@ -26,10 +26,6 @@ use Rattle.func_gen.specs.Scope.{with_number}
 use Rattle.func_gen.proofs.Forming.{form_alone}
 use Rattle.func_gen.proofs.Rows.{none_adds, swaps, unchanged}
 use Rattle.wrapper_meaning.proofs.Lists.{some_same}
-
-pub closed_none : (opened : List OpenBlock) → is_closed opened ≡ true → opened ≡ []
-closed_none [] e = refl
-closed_none (o ∷ opened) e = absurd cc
 
 -- 1. The innermost block is the last one
 

@@ -26,9 +26,9 @@ use Rattle.abi_driver.specs.Blocks.{IsOfWord}
 use Rattle.abi_driver.specs.Meaning.{Fact, arg, bound, item, of, word}
 use Rattle.func_gen.specs.declared.function_bindgen.ParamSite.{ParamSite}
 use Rattle.func_gen.specs.declared.operand.ExprOperand.{ExprOperand}
-use Rattle.func_gen.specs.FactLemmas.{is_said, said}
+use Rattle.func_gen.specs.FactLemmas.{is_said, said, word_denoted, word_read}
 use Rattle.func_gen.specs.Facts.{wrong}
-use Rattle.func_gen.specs.Read.{Env, Read, always, as_case_word, as_flags_word, as_pointer, conversion, lent_bare, nothing, on_bare, read, read_step}
+use Rattle.func_gen.specs.Read.{Env, Read, as_case_word, as_flags_word, as_pointer, conversion, lent_bare, nothing, on_bare, read, read_step}
 use Rattle.func_gen.specs.ReadForms.{at_read, bare_value, flags_bare, lent_of, pointer_bare, read-call, read-cast, read-cast_mut, read-enum_number, read-flags_bits, read-i32_const, read-local, read-method, read-ref, read-zero, usable_is}
 use Rattle.func_gen.specs.Slot.{Slot}
 
@@ -116,7 +116,9 @@ module _ (items : List Item) (a b c : Env) (kept : (n : Bytes) (y z : Val) → a
   module _ (pa pb pc : List ParamSite) where
     word_narrowed : (f : Fact ExprOperand Slot RustValue) → IsOfWord f → wrong items pa a f ≡ 0 → wrong items pb b f ≡ 0 → wrong items pc c f ≡ 0
     word_narrowed (of o (word x)) t ha hb =
-        said items pc c (of o (word x)) (narrows o.expr (val.Word x) (val.Word x) (is_said items pa a (of o (word x)) ha) (is_said items pb b (of o (word x)) hb) refl)
+        let at_a = word_read items o a x (is_said items pa a (of o (word x)) ha) in
+        let at_b = word_read items o b x (is_said items pb b (of o (word x)) hb) in
+        said items pc c (of o (word x)) (word_denoted items o c x at_a.0 (narrows o.expr (val.Word x) (val.Word x) at_a.1 at_b.1 refl))
     word_narrowed (of o (item r)) t ha hb = absurd t
     word_narrowed (arg n d) t ha hb = absurd t
     word_narrowed (bound slot name (item r)) t ha hb = absurd t

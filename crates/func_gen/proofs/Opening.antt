@@ -1,5 +1,5 @@
 -- A block is opened: what its code finds where it begins.
-use Rattle.std.proofs.Common.{◌≡◌, ℕ, ◌≤◌, Bool, true, false, cond, not, List, [], ◌∷◌, ◌++◌, length, filter, map, Option, None, Some, refl, sym, ap, ap₂, ◌∙◌, subst, arith, append-nil}
+use Rattle.std.proofs.Common.{◌≡◌, ℕ, ◌≤◌, Bool, true, false, cond, not, List, [], ◌∷◌, ◌++◌, length, filter, map, reverse, Option, None, Some, refl, sym, ap, ap₂, ◌∙◌, subst, arith, append-nil}
 use Rattle.std.specs.Prelude.{option_and_then, option_map}
 use Rattle.std.specs.List.{AllByRecursion, flat_map}
 use Rattle.std.specs.Option.{option_or}
@@ -31,6 +31,7 @@ use Rattle.abi_driver.specs.declared.bindgen.Asked.{Asked}
 use Rattle.abi_driver.specs.Area.{HoldsRecord}
 use Rattle.abi_driver.specs.Blocks.{IsOfWord, Lasts, Pushes, brought, names}
 use Rattle.abi_driver.specs.Laws.{Facts}
+use Rattle.abi_driver.specs.PlainSound.{all_both, all_left, all_right}
 use Rattle.abi_driver.specs.Meaning.{Bound, Fact, Name, at_place, bound, item, the_base, the_element, the_key, the_payload, the_value, with_element, with_entry, with_nothing, with_payload, word}
 use Rattle.func_gen.specs.declared.function_bindgen.Code.{Code}
 use Rattle.func_gen.specs.declared.function_bindgen.FunctionBindgen.{FunctionBindgen}
@@ -40,9 +41,9 @@ use Rattle.func_gen.specs.declared.operand.ExprOperand.{ExprOperand}
 use Rattle.func_gen.specs.CallForms.{FreshAll}
 use Rattle.func_gen.specs.Entered.{binding, bindings, entered, is_nothing, reached, without_owner}
 use Rattle.func_gen.specs.FactLemmas.{one_at_most, said}
-use Rattle.func_gen.specs.Facts.{Hold, Owns, fact_datum, fact_value, item_of, matches, wrong}
-use Rattle.func_gen.specs.Meaning.{AreaIs, Denote, File, Found, FuncState, GivesAsCalled, Serves, func_meaning, owns_of}
-use Rattle.func_gen.specs.Opened.{in_view, open_blocks}
+use Rattle.func_gen.specs.Facts.{Hold, Owns, fact_datum, fact_value, matches, wrong}
+use Rattle.func_gen.specs.Meaning.{AllAsCalled, AreaIs, Denote, File, Found, FuncState, GivesAsCalled, Serves, func_meaning, owns_of}
+use Rattle.func_gen.specs.Opened.{open_blocks}
 use Rattle.func_gen.specs.Read.{Env, env_of, less}
 use Rattle.func_gen.specs.ReadForms.{still_there}
 use Rattle.func_gen.specs.Scope.{is_used}
@@ -50,9 +51,10 @@ use Rattle.func_gen.specs.Slot.{Slot, block_names, slot_name}
 use Rattle.func_gen.specs.Suspends.{Suspends}
 use Rattle.func_gen.specs.TypeSites.{AreDefined}
 use Rattle.func_gen.proofs.CallRows.{declared_as, split_used}
-use Rattle.func_gen.proofs.Lasting.{area_viewed, lasts}
+use Rattle.func_gen.proofs.Lasting.{denotes_on, lasts}
 use Rattle.func_gen.proofs.NameRows.{opened_more}
 use Rattle.func_gen.proofs.Narrowed.{words_narrowed}
+use Rattle.func_gen.proofs.Rows.{unmoved}
 
 -- 1. Which locals are reached
 
@@ -94,7 +96,7 @@ or_none None = refl
 or_none (Some l) = refl
 
 -- a name that is not used is another
-other_name : (used : List Bytes) (l : Local) (n : Bytes) (b : Bool) → is_used used l.name ≡ b → is_used used n ≡ not b → bytes_eq l.name n ≡ false
+pub other_name : (used : List Bytes) (l : Local) (n : Bytes) (b : Bool) → is_used used l.name ≡ b → is_used used n ≡ not b → bytes_eq l.name n ≡ false
 other_name used l n b e f = go (bytes_eq l.name n) refl
   where
     differ : (b : Bool) → is_used used l.name ≡ b → is_used used n ≡ not b → is_used used l.name ≡ is_used used n → false ≡ true
@@ -122,7 +124,7 @@ reached_same used n u (l ∷ ls) = go (is_used used l.name) refl (reached_same u
         ih ∙ ap (option_map without_owner) (or_none (local_named n ls) ∙ ap (λ c. option_or (local_named n ls) (cond c (Some l) None)) (sym (other_name used l n false e u)))
 
 -- of another there is none
-reached_none : (used : List Bytes) (n : Bytes) → is_used used n ≡ false → (ls : List Local) → local_named n (reached used ls) ≡ None
+pub reached_none : (used : List Bytes) (n : Bytes) → is_used used n ≡ false → (ls : List Local) → local_named n (reached used ls) ≡ None
 reached_none used n u [] = refl
 reached_none used n u (l ∷ ls) = go (is_used used l.name) refl (reached_none used n u ls)
   where
@@ -233,7 +235,7 @@ are_bound k (with_entry a b q) env h =
 
 module _ (items : List Item) (params : List ParamSite) (slot : Slot) where
   item_right : (env : Env) (name : Name) (a : RustValue) → env (slot_name name slot.number) ≡ Some (val.Value a) → wrong items params env (bound slot name (item a)) ≡ 0
-  item_right env name a e = said items params env (bound slot name (item a)) (ap (λ o. option_and_then item_of (option_and_then usable o)) e)
+  item_right env name a e = said items params env (bound slot name (item a)) (ap (option_and_then usable) e)
 
   word_right : (env : Env) (name : Name) (x : Word) → env (slot_name name slot.number) ≡ Some (val.Word x) → wrong items params env (bound slot name (word x)) ≡ 0
   word_right env name x e = said items params env (bound slot name (word x)) (ap (option_and_then usable) e)
@@ -354,17 +356,10 @@ module _ (w : File) (old new : FunctionBindgen) (k : ℕ) (fresh : FreshAll old 
 
 -- 4. The area
 
-area_opened : (opened : List OpenBlock) (o : OpenBlock) (import : Bool) (area : Option Request) (at : Option ℕ) (asked : List Asked) (name : Bytes) (s : State) → AreaIs import (in_view opened area) (in_view opened at) asked name s
-    → AreaIs import (in_view (opened ++ o ∷ []) area) (in_view (opened ++ o ∷ []) at) asked name s
-area_opened [] o import area at asked name s h = area_viewed (o ∷ []) import area at asked name s h
-area_opened (x ∷ opened) o import area at asked name s h = h
-
-area_inside : (opened : List OpenBlock) (o : OpenBlock) (import : Bool) (area : Option Request) (asked : List Asked) (name : Bytes) (s : State) → s.place ≡ None
-    → AreaIs import (in_view (opened ++ o ∷ []) area) (in_view (opened ++ o ∷ []) None) asked name s
-area_inside [] o true area asked name s h = h
-area_inside [] o false area asked name s h = λ e. h
-area_inside (x ∷ opened) o true area asked name s h = h
-area_inside (x ∷ opened) o false area asked name s h = λ e. h
+area_inside : (import : Bool) (area : Option Request) (asked : List Asked) (name : Bytes) (s : State) → s.place ≡ None → AreaIs import area None asked name s
+area_inside true None asked name s h = h
+area_inside true (Some r) asked name s h = h
+area_inside false area asked name s h = λ e. h
 
 -- 5. It is opened
 
@@ -383,7 +378,8 @@ module _ (old new : FunctionBindgen) (a : Suspends old new) where
     sized = h.sized;
     static = λ e. h.static (a.still.import ∙ e);
     bound = λ e. h.bound (a.still.import ∙ e) ∙ a.still.home;
-    called = subst (GivesAsCalled w.items w.bound) (sym a.uncalled) tt;
+    called = (all_right (λ (o : OpenBlock). GivesAsCalled w.items w.bound o.code.call) old.opened (opening ∷ []) (subst (AllAsCalled w.items w.bound) a.block.opened h.suspended)).0;
+    suspended = all_left (λ (o : OpenBlock). GivesAsCalled w.items w.bound o.code.call) old.opened (opening ∷ []) (subst (AllAsCalled w.items w.bound) a.block.opened h.suspended);
   }
 
   more : (w : File) → Serves w old → Serves w new
@@ -395,22 +391,13 @@ module _ (old new : FunctionBindgen) (a : Suspends old new) where
     static = λ e. h.static (sym a.still.import ∙ e);
     bound = λ e. h.bound (sym a.still.import ∙ e) ∙ sym a.still.home;
     called = subst (λ (c : Code). GivesAsCalled w.items w.bound c.call) (sym a.block.code) tt;
+    suspended = subst (AllAsCalled w.items w.bound) (sym a.block.opened) (all_both (λ (o : OpenBlock). GivesAsCalled w.items w.bound o.code.call) old.opened (opening ∷ []) h.suspended (h.called, tt));
   }
-
-  area_as : (w : File) (at : Option ℕ) (s : State) → AreaIs old.import (in_view (old.opened ++ opening ∷ []) w.area) (in_view (old.opened ++ opening ∷ []) at) old.asked old.area s
-      → AreaIs new.import (in_view new.opened w.area) (in_view new.opened at) new.asked new.area s
-  area_as w at s h =
-      subst (λ os. AreaIs new.import (in_view os w.area) (in_view os at) new.asked new.area s) (sym a.block.opened)
-      (subst (λ i. AreaIs i (in_view (old.opened ++ opening ∷ []) w.area) (in_view (old.opened ++ opening ∷ []) at) new.asked new.area s) (sym a.still.import)
-      (subst (λ xs. AreaIs old.import (in_view (old.opened ++ opening ∷ []) w.area) (in_view (old.opened ++ opening ∷ []) at) xs new.area s) (sym a.asked)
-      (subst (λ n. AreaIs old.import (in_view (old.opened ++ opening ∷ []) w.area) (in_view (old.opened ++ opening ∷ []) at) old.asked n s) (sym a.still.area) h)))
 
   known : (w : File) (facts : Facts func_meaning) (s : FuncState) → Denote w old facts s → Denote w new facts s
-  known w facts s d = record {
-    hold = lasts w.items old new facts s.machine s.machine a.still.params (λ n v e. e) (λ n free. d.hold.within n (split_used old new (block_names a.block.number) fresh n free).0) d.hold;
-    owners = d.owners;
-    area = area_as w s.area s.machine (area_opened old.opened opening old.import w.area s.area old.asked old.area s.machine d.area);
-  }
+  known w facts s d =
+      denotes_on w old new facts facts s s.machine (record { import = a.still.import; asked = a.asked; name = a.still.area }) (unmoved s.machine) d
+      (lasts w.items old new facts s.machine s.machine a.still.params (λ n v e. e) (λ n free. d.hold.within n (split_used old new (block_names a.block.number) fresh n free).0) d.hold)
 
   stays : Lasts func_meaning old new
   stays = record {
@@ -433,14 +420,13 @@ module _ (old new : FunctionBindgen) (a : Suspends old new) where
     slot = record { number = a.block.number; names = old.scope.used };
     opened = ap open_blocks a.block.opened ∙ opened_more old.opened opening;
     code = a.block.code;
-    blocks = refl;
+    blocks = ap reverse a.block.finished;
     account = λ s with. refl;
     owns = λ s with. entered_owns (record { number = a.block.number; names = old.scope.used }) with s.machine;
     enters = λ w later facts before s with words d e. record {
       hold = holds_then w old new a.block.number fresh later facts words before.machine s.machine d.hold e.hold with;
       owners = e.owners;
-      area = area_as w None (entered (record { number = a.block.number; names = old.scope.used }) with s.machine)
-          (area_inside old.opened opening old.import w.area old.asked old.area (entered (record { number = a.block.number; names = old.scope.used }) with s.machine) refl);
+      area = area_inside new.import w.area new.asked new.area (entered (record { number = a.block.number; names = old.scope.used }) with s.machine) refl;
     };
     form = record { still = a.still; given = tt; code = a.block };
   }

@@ -1,5 +1,5 @@
 -- The row of tuples that are made of their parts.
-use Rattle.std.proofs.Common.{◌≡◌, ℕ, suc, Bool, true, false, List, [], ◌∷◌, ◌++◌, length, map, Option, None, Some, refl, sym, ap, ap₂, ◌∙◌, subst, arith}
+use Rattle.std.proofs.Common.{◌≡◌, ℕ, suc, Bool, true, false, List, [], ◌∷◌, ◌++◌, length, map, reverse, Option, None, Some, refl, sym, ap, ap₂, ◌∙◌, subst, arith}
 use Rattle.std.specs.List.{flat_map}
 use Rattle.std.specs.Prelude.{option_and_then, codes}
 use Rattle.std.specs.Option.{option_map}
@@ -50,7 +50,6 @@ use Rattle.func_gen.specs.declared.operand.ExprOperand.{ExprOperand}
 use Rattle.func_gen.specs.Added.{Appends, Fresh}
 use Rattle.func_gen.specs.Facts.{AreOwned}
 use Rattle.func_gen.specs.Forms.{operand_of}
-use Rattle.func_gen.specs.Opened.{in_view}
 use Rattle.func_gen.specs.Meaning.{AreaIs, File, IsNormal, Serves, func_meaning, owns_of, passing_level, seen, setting_for}
 use Rattle.func_gen.specs.Operand.{is_operand}
 use Rattle.func_gen.specs.PartForms.{are_operands, exprs_of}
@@ -153,7 +152,7 @@ pub areas_last : (import : Bool) (area : Option Request) (at : Option ℕ) (aske
     → AreaIs import area at asked name s → AreaIs import area at asked name t
 areas_last true None None asked name s t stays p h = p ∙ h
 areas_last true None (Some address) asked name s t stays p h = h
-areas_last true (Some area) None asked name s t stays p h = h
+areas_last true (Some area) None asked name s t stays p h = p ∙ h
 areas_last true (Some area) (Some address) asked name s t stays p h = (stays name address area.size h.0, p ∙ h.1)
 areas_last false area None asked name s t stays p h = λ e. p ∙ h e
 areas_last false area (Some address) asked name s t stays p h = h
@@ -187,7 +186,7 @@ module _ (old new : FunctionBindgen) (n : Bytes) (os : List ExprOperand) (e : Ex
             denotes = record {
               hold = add_local w.items old new others u.then n v (item (value.Struct rs)) a.params fresh refl u.holds;
               owners = subst (λ (acc : Account RustValue). AreOwned acc.heap.blocks acc.taken) (sym u.account) at.holds.owners;
-              area = areas_last new.import (in_view new.opened w.area) (in_view new.opened s.area) new.asked new.area s.machine t (λ k x z is. under k (val.Area x z) (u.areas k x z is)) u.place
+              area = areas_last new.import w.area s.area new.asked new.area s.machine t (λ k x z is. under k (val.Area x z) (u.areas k x z is)) u.place
                   (area_same w old new s.area s.machine (same_area old new (stmt.Let n e ∷ []) [] a) at.holds.area);
             };
           },
@@ -205,7 +204,7 @@ pub tuple_row : (types : List TypeDef) (old new : FunctionBindgen) (n : Bytes) (
     → Emits func_meaning types (TupleLift k) os (operand_of (expr.Local n) ∷ []) old new
 tuple_row types old new n k os many ok a fresh one = record {
   adds = let_adds old new n (expr.Tuple (exprs_of os)) [] a fresh (quiet_tuple os ok);
-  blocks = refl;
+  blocks = ap reverse a.finished;
   returned = a.returned;
   asked = a.asked;
   form = form_let (sends (TupleLift k)) (record { gives = refl; calls = refl }) os old new (codes "tuple") n (expr.Tuple (exprs_of os)) [] refl one a;

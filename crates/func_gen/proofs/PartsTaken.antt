@@ -55,7 +55,6 @@ use Rattle.func_gen.specs.CallForms.{FreshAll}
 use Rattle.func_gen.specs.Facts.{AreOwned, Hold}
 use Rattle.func_gen.specs.Forms.{operand_of}
 use Rattle.func_gen.specs.StandLemmas.{owned-struct}
-use Rattle.func_gen.specs.Opened.{in_view}
 use Rattle.func_gen.specs.Meaning.{File, IsNormal, Serves, func_meaning, owns_of, passing_level, seen, setting_for}
 use Rattle.func_gen.specs.Added.{Appends}
 use Rattle.func_gen.specs.Operand.{is_operand}
@@ -253,7 +252,7 @@ module _ (old new : FunctionBindgen) (pat : Pattern) (names : List Bytes) (e : E
       let stmts = stmt.LetParts pat e ∷ [] in
       let many = as_many names rs len in
       let here = fits w at.serves in
-      let u = uses (setting_for w p) old e (value.Struct rs) others s.machine at.holds.hold in
+      let u = uses (setting_for w p) old (operand_of e) (value.Struct rs) others s.machine at.holds.hold in
       let is = struct_is u.given rs u.is in
       let t = with_parts u.then names rs in
       let free = all_free old.scope.used names fresh.free here.1 in
@@ -277,7 +276,7 @@ module _ (old new : FunctionBindgen) (pat : Pattern) (names : List Bytes) (e : E
               hold = lasts w.items (using old names) new (facts ++ others) t t (a.params ∙ sym (using_params old names)) (λ n v h. h)
                   (λ n fr. added.within n (sym (ap (λ us. is_used us n) (fresh.used ∙ sym (using_used old names))) ∙ fr)) added;
               owners = subst (λ (acc : Account RustValue). AreOwned acc.heap.blocks acc.taken) (sym u.account) at.holds.owners;
-              area = areas_last new.import (in_view new.opened w.area) (in_view new.opened s.area) new.asked new.area s.machine t (λ k x z h. under k (val.Area x z) (u.areas k x z h)) u.place (area_same w old new s.area s.machine (same_area old new stmts [] a) at.holds.area);
+              area = areas_last new.import w.area s.area new.asked new.area s.machine t (λ k x z h. under k (val.Area x z) (u.areas k x z h)) u.place (area_same w old new s.area s.machine (same_area old new stmts [] a) at.holds.area);
             };
           },
         ),

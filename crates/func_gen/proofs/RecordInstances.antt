@@ -16,7 +16,7 @@ abbrev field : Bytes → StructField
 field name = record { docs = []; name = name; wit = name; ty = type.Unit }
 
 abbrev point : TypeItem
-point = Struct (record { docs = []; repr_c = false; derives = []; name = codes "Point"; fields = field (codes "x") ∷ field (codes "y") ∷ [] })
+point = Struct (record { docs = []; repr_c = false; derives = []; name = codes "Point"; fields = field (codes "x") ∷ field (codes "y") ∷ []; error = None })
 
 abbrev point_path : Path
 point_path = record { lead = false; supers = 0; names = codes "Point" ∷ [] }

@@ -1,5 +1,5 @@
 -- The rows of records: they are made of their fields, and taken apart.
-use Rattle.std.proofs.Common.{◌≡◌, ℕ, true, List, [], ◌∷◌, length, map, Some, refl, sym, ap, ◌∙◌, subst, arith}
+use Rattle.std.proofs.Common.{◌≡◌, ℕ, true, List, [], ◌∷◌, length, map, reverse, Some, refl, sym, ap, ◌∙◌, subst, arith}
 use Rattle.std.specs.Prelude.{option_and_then, zip, codes}
 use Rattle.std.specs.Option.{option_map}
 use Rattle.std.proofs.lemmas.Bool.{and_parts}
@@ -119,7 +119,7 @@ record_made types old new n id os e made appends fresh one =
     let a = subst (λ x. Appends old new (stmt.Let n x ∷ []) []) made.is appends in
     record {
       adds = let_adds old new n whole [] a fresh (λ w. quiet_record w site os made.operands);
-      blocks = refl;
+      blocks = ap reverse appends.finished;
       returned = appends.returned;
       asked = appends.asked;
       form = form_let (sends (RecordLift id)) (record { gives = refl; calls = refl }) os old new (codes "record") n whole [] (ap (option_map (makes_record (exprs_of os))) made.is_site.at) one a;
@@ -142,7 +142,7 @@ record_split types old new id e names ok split =
     (arranged_fields w.items site.lowered site.fields names d.lowered d.distinct (sym many), ap is_distinct named ∙ locals_distinct site.fields t d.distinct) in
     record {
       adds = apart_adds old new pat names e split.stmts split.fresh fits ok;
-      blocks = refl;
+      blocks = ap reverse split.stmts.finished;
       returned = split.stmts.returned;
       asked = split.stmts.asked;
       form = form_by (sends (RecordLower id)) (record { gives = refl; calls = refl }) (operand_of e ∷ []) old new (locals_of names) (splits_record e site) t (ap (option_map (splits_record e)) split.is_site.at)

@@ -59,7 +59,7 @@ instead items old new f g others s params scope from d = record {
 }
 
 pub same_area : (old new : FunctionBindgen) (added : List Stmt) (items : List RuntimeItem) → Appends old new added items → SameArea old new
-same_area old new added items a = record { import = a.import; asked = a.asked; name = a.area; opened = a.opened }
+same_area old new added items a = record { import = a.import; asked = a.asked; name = a.area }
 
 pub unmoved : (s : State) → Beside s s
 unmoved s = record { heap = refl; taken = refl; place = refl; under = λ n v h. h }
@@ -186,7 +186,7 @@ pub pushed : (old new : List ExprOperand) (e f : Expr) → new ≡ old ++ operan
 pushed old new e f is none same = is ∙ ap (λ ys. ys ++ operand_of e ∷ []) none ∙ ap (λ x. operand_of x ∷ []) same
 
 pub unchanged : (b : FunctionBindgen) → Appends b b [] []
-unchanged b = record { call = refl; stmts = sym (append-nil b.code.stmts); runtime = sym (append-nil b.runtime); import = refl; home = refl; area = refl; params = refl; sites = refl; sizes = refl; asked = refl; returned = refl; opened = refl }
+unchanged b = record { call = refl; stmts = sym (append-nil b.code.stmts); runtime = sym (append-nil b.runtime); import = refl; home = refl; area = refl; params = refl; sites = refl; sizes = refl; asked = refl; returned = refl; opened = refl; finished = refl }
 
 -- statements and items after others
 pub appends_both : (a b c : FunctionBindgen) (xs ys : List Stmt) (is js : List RuntimeItem) → Appends a b xs is → Appends b c ys js → Appends a c (xs ++ ys) (is ++ js)
@@ -203,6 +203,7 @@ appends_both a b c xs ys is js h k = record {
   asked = k.asked ∙ h.asked;
   returned = k.returned ∙ h.returned;
   opened = k.opened ∙ h.opened;
+  finished = k.finished ∙ h.finished;
 }
 
 -- a name that is declared where the scope is as before

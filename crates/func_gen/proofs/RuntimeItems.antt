@@ -18,7 +18,9 @@ use Rattle.wrapper_run.specs.ExportRun.{method_named}
 use Rattle.wrapper_run.specs.Places.{area_in}
 use Rattle.wrapper_run.specs.Run.{runtime_item_named}
 use Rattle.wrapper_run.proofs.LocalLemmas.{bytes_eq-same}
-use Rattle.func_gen.specs.Meaning.{Found, GivesAsCalled}
+use Rattle.func_gen.specs.declared.function_bindgen.OpenBlock.{OpenBlock}
+use Rattle.func_gen.specs.Meaning.{AllAsCalled, Found, GivesAsCalled}
+use Rattle.func_gen.specs.Opened.{is_closed}
 
 -- an item is told by its name
 named_item : (i : RuntimeItem) → item_of_name (item_name i) ≡ Some i
@@ -67,6 +69,16 @@ found_right items (x ∷ xs) ys h = found_right items xs ys h.1
 pub gives_as_called : (items all : List Item) (named : Bytes) (call : Option CallBlock) → ((name : Bytes) → method_named all named name ≡ method_named items named name) → GivesAsCalled items named call → GivesAsCalled all named call
 gives_as_called items all named None same h = tt
 gives_as_called items all named (Some c) same h = λ none. subst (λ t. IfSome t (λ (f : TraitFn). f.result ≡ type.Unit)) (sym (same c.method)) (h none)
+
+-- and so in the codes that open blocks suspend
+pub suspended_from : (items all : List Item) (named : Bytes) → ((call : Option CallBlock) → GivesAsCalled items named call → GivesAsCalled all named call) → (opened : List OpenBlock) → AllAsCalled items named opened → AllAsCalled all named opened
+suspended_from items all named from [] h = tt
+suspended_from items all named from (o ∷ opened) h = (from o.code.call h.0, suspended_from items all named from opened h.1)
+
+-- where no block is open, none is suspended
+pub none_suspended : (items : List Item) (named : Bytes) (opened : List OpenBlock) → is_closed opened ≡ true → AllAsCalled items named opened
+none_suspended items named [] e = tt
+none_suspended items named (o ∷ opened) e = absurd cc
 
 -- items that have these parts too, and the static area, the types and the methods as before
 pub record More (items : List Item) (parts more : List RuntimeItem) : Type 0 where

@@ -1,7 +1,6 @@
 -- The rows of scalars.
 use Rattle.std.proofs.Common.{◌≡◌, ℕ, ℤ, Bool, true, if◌then◌else◌, List, [], ◌∷◌, ◌++◌, Option, None, Some, refl, sym, ap, ◌∙◌, subst, length}
 use Rattle.std.specs.Prelude.{option_and_then}
-use Rattle.std.proofs.Math.Seq.{drop-nil}
 use Rattle.wit_layout.specs.Flat.{core_type}
 use Rattle.wit_layout.specs.Tree.{Scalar}
 use Rattle.wit_model.specs.declared.types.TypeDef.{TypeDef}
@@ -27,12 +26,12 @@ use Rattle.wrapper_meaning.specs.Shape.Shape.{scalar}
 use Rattle.wrapper_meaning.specs.StandsFor.{rust_scalar}
 use Rattle.wrapper_meaning.specs.Value.{ScalarValue}
 use Rattle.wrapper_values.specs.declared.state.Val.TheVariants as val
-use Rattle.wrapper_values.specs.Effect.{cast_integer, integer_of}
+use Rattle.wrapper_values.specs.Effect.{cast_integer, integer_of, rust_of}
 use Rattle.wrapper_run.specs.Run.{callee, of_runtime, runtime_item_named, runtime_module_name}
 use Rattle.abi_driver.specs.declared.instruction.Instruction.{Instruction}
 use Rattle.abi_driver.specs.declared.instruction.Instruction.TheVariants.{I32FromU8, I32FromS8, I32FromU16, I32FromS16, I32FromU32, I32FromS32, I32FromChar, I64FromU64, I64FromS64, CoreF32FromF32, CoreF64FromF64, U8FromI32, S8FromI32, U16FromI32, S16FromI32, U32FromI32, S32FromI32, U64FromI64, S64FromI64, F32FromCoreF32, F64FromCoreF64}
 use Rattle.abi_driver.specs.Account.{Account, Follows, Stuck, has_type, reading, stay}
-use Rattle.abi_driver.specs.Instructions.{Emits, MakesBy, RowBy, block_results, lifted_scalar, lowered_scalar}
+use Rattle.abi_driver.specs.Instructions.{Emits, MakesBy, RowBy, lifted_scalar, lowered_scalar}
 use Rattle.abi_driver.specs.Laws.{Adds, After, Facts}
 use Rattle.abi_driver.specs.Leaves.{LiftsScalar, LowersScalar}
 use Rattle.abi_driver.specs.Meaning.{item, of, word}
@@ -40,20 +39,20 @@ use Rattle.abi_driver.proofs.Ordinary.{code_of, lifts_ordinary, lowers_ordinary,
 use Rattle.func_gen.specs.declared.function_bindgen.FunctionBindgen.{FunctionBindgen}
 use Rattle.func_gen.specs.declared.operand.ExprOperand.{ExprOperand}
 use Rattle.func_gen.specs.Added.{Appends}
-use Rattle.func_gen.specs.Forms.{conversion, is_kept, number_cast, operand_of, runtime_call, runtime_name, runtime_path}
+use Rattle.func_gen.specs.Forms.{conversion, is_kept, kept_operand, number_cast, operand_of, runtime_call, runtime_name, runtime_path}
 use Rattle.func_gen.specs.Meaning.{StandsAsItIs, account_of, func_meaning}
-use Rattle.func_gen.specs.Read.{Env, Read, converts, on_bare, read}
+use Rattle.func_gen.specs.Read.{Env, Read, as_item, converts, item_of_word, on_bare, read, read_operand}
 use Rattle.func_gen.specs.Read as reader
 use Rattle.func_gen.specs.ReadForms.{read-call, read-cast}
-use Rattle.func_gen.specs.FactLemmas.{Says, item_rust_at}
-use Rattle.func_gen.specs.Facts.{item_of, item_of_word}
+use Rattle.func_gen.specs.FactLemmas.{Says}
 use Rattle.func_gen.specs.Formed.{Formed}
 use Rattle.abi_driver.specs.Sent.{sends}
 use Rattle.func_gen.proofs.Emissions.{cast_emitted, conversion_emitted, kept_emitted}
-use Rattle.func_gen.proofs.Forming.{form_alone, ordinary_plain}
+use Rattle.func_gen.proofs.Forming.{form_alone, form_one, lifts_plain, lowers_plain, still_blocks}
 use Rattle.func_gen.proofs.Rows.{none_adds, swaps, tests}
 use Rattle.wrapper_meaning.proofs.Lists.{some_or}
 use Rattle.func_gen.proofs.Scalars.{cast_word, conversion_to, converts_scalar, is_number, stands_scalar, taken_is, taken_word}
+use Rattle.std.specs.Option.{option_map}
 
 -- 1. What is emitted
 
@@ -65,7 +64,7 @@ module _ (types : List TypeDef) (old new : FunctionBindgen) (i : Instruction) (s
   pub emits_lowered : lowered_scalar i ≡ Some s → Adds func_meaning old new → new.returned ≡ old.returned → Formed (sends i) (o ∷ []) (r ∷ []) old new → LowersScalar func_meaning s (o ∷ []) (r ∷ []) old new → Emits func_meaning types i (o ∷ []) (r ∷ []) old new
   emits_lowered is adds returned form row = record {
     adds = code_of func_meaning i (lowers_ordinary i s is) types old new adds;
-    blocks = sym (drop-nil {A = ⊥} (length (block_results types i)));
+    blocks = still_blocks i (lowers_ordinary i s is) types (func_meaning.blocks old) (func_meaning.blocks new) adds.blocks;
     returned = still_returned func_meaning i (lowers_ordinary i s is) (o ∷ []) old.returned new.returned returned;
     asked = adds.asked;
     form = form;
@@ -76,7 +75,7 @@ module _ (types : List TypeDef) (old new : FunctionBindgen) (i : Instruction) (s
   pub emits_lifted : lowered_scalar i ≡ None → lifted_scalar i ≡ Some s → Adds func_meaning old new → new.returned ≡ old.returned → Formed (sends i) (o ∷ []) (r ∷ []) old new → LiftsScalar func_meaning s (o ∷ []) (r ∷ []) old new → Emits func_meaning types i (o ∷ []) (r ∷ []) old new
   emits_lifted none is adds returned form row = record {
     adds = code_of func_meaning i (lifts_ordinary i s is) types old new adds;
-    blocks = sym (drop-nil {A = ⊥} (length (block_results types i)));
+    blocks = still_blocks i (lifts_ordinary i s is) types (func_meaning.blocks old) (func_meaning.blocks new) adds.blocks;
     returned = still_returned func_meaning i (lifts_ordinary i s is) (o ∷ []) old.returned new.returned returned;
     asked = adds.asked;
     form = form;
@@ -107,21 +106,21 @@ converted_by _ f e = absurd (let h = e in cc)
 
 -- the call of a conversion on what reads a scalar reads its word
 call_says : (items : List Item) (s : Scalar) (v : ScalarValue s) (f : RuntimeItem) (e : Expr) (env : Env) → conversion_to s ≡ Some f → runtime_item_named items (item_name f) ≡ Some f → IsScalar s v
-    → option_and_then item_of ((read items e).at env) ≡ Some (rust_scalar s v) → (read items (runtime_call f e)).at env ≡ Some (val.Word (passed_word s v))
+    → (read items e).at env ≡ Some (val.Value (rust_scalar s v)) → (read items (runtime_call f e)).at env ≡ Some (val.Word (passed_word s v))
 call_says items s v f e env by found good h =
     let o = (read items e).at env in
     ap (λ (r : Read). r.at env) (read-call items (runtime_path f) (e ∷ [])) ∙ ap (λ c. option_and_then (on_bare (reader.conversion items c)) o) (calls_runtime f)
-    ∙ ap (λ q. option_and_then (on_bare (converts q)) o) (found ∙ sym by) ∙ converts_scalar s v f o by good (item_rust_at o (rust_scalar s v) h)
+    ∙ ap (λ q. option_and_then (on_bare (converts q)) o) (found ∙ sym by) ∙ converts_scalar s v f o by good (ap (option_and_then rust_of) h)
 
 pub convert_row : (types : List TypeDef) (old new : FunctionBindgen) (i : Instruction) (f : RuntimeItem) (e : Expr) → conversion i ≡ Some f → Appends old new [] (f ∷ []) → new.scope ≡ old.scope
     → Emits func_meaning types i (operand_of e ∷ []) (operand_of (runtime_call f e) ∷ []) old new
 convert_row types old new i f e is a scope =
     let c = converted_by i f is in
-    emits_lowered types old new i c.scalar (operand_of e) (operand_of (runtime_call f e)) c.lowered (none_adds old new (f ∷ []) a scope) a.returned (form_alone (sends i) (ordinary_plain i (lowers_ordinary i c.scalar c.lowered)) (operand_of e ∷ []) old new (runtime_call f e) (f ∷ []) (conversion_emitted old i f e is) scope a)
+    emits_lowered types old new i c.scalar (operand_of e) (operand_of (runtime_call f e)) c.lowered (none_adds old new (f ∷ []) a scope) a.returned (form_alone (sends i) (lowers_plain i c.scalar c.lowered) (operand_of e ∷ []) old new (runtime_call f e) (f ∷ []) (conversion_emitted old i f e is) scope a)
     (λ dir v r own good st. (
       st.0.1,
       swaps old new (f ∷ []) a scope (of (operand_of e) (item r)) (of (operand_of (runtime_call f e)) (word (passed_word c.scalar v)))
-          (λ w found env h. call_says w.items c.scalar v f e env c.by found.0 good (h ∙ ap (λ q. Some q) st.0.0)),
+          (λ w found env h. call_says w.items c.scalar v f e env c.by found.0 good (h ∙ ap (λ q. Some (val.Value q)) st.0.0)),
     ))
 
 -- 3. Numbers of words
@@ -180,7 +179,7 @@ number_read s f x acc h = refl
 
 -- an operand that reads the number of each word of a scalar
 lifts_number : (old new : FunctionBindgen) (s : Scalar) (o r : ExprOperand) → is_number s ≡ true → Appends old new [] [] → new.scope ≡ old.scope
-    → ((x : Word) → is_read s x ≡ true → (items : List Item) (env : Env) → Says (word x) ((read items o.expr).at env) → Says (item (taken_word s x)) ((read items r.expr).at env))
+    → ((x : Word) → is_read s x ≡ true → (items : List Item) (env : Env) → Says (word x) ((read_operand items o).at env) → Says (item (taken_word s x)) ((read_operand items r).at env))
     → LiftsScalar func_meaning s (o ∷ []) (r ∷ []) old new
 lifts_number old new s o r is a scope says x w p others s0 t at =
     subst (λ q. Follows func_meaning.account q (func_meaning.does w p new.code s0)
@@ -215,9 +214,9 @@ pub cast_row : (types : List TypeDef) (old new : FunctionBindgen) (i : Instructi
     → Emits func_meaning types i (operand_of e ∷ []) (operand_of (expr.Cast e to) ∷ []) old new
 cast_row types old new i to e is a scope =
     let c = cast_by i to is in
-    emits_lifted types old new i c.scalar (operand_of e) (operand_of (expr.Cast e to)) c.none c.lifted (none_adds old new [] a scope) a.returned (form_alone (sends i) (ordinary_plain i (lifts_ordinary i c.scalar c.lifted)) (operand_of e ∷ []) old new (expr.Cast e to) [] (cast_emitted old i to e is) scope a)
+    emits_lifted types old new i c.scalar (operand_of e) (operand_of (expr.Cast e to)) c.none c.lifted (none_adds old new [] a scope) a.returned (form_alone (sends i) (lifts_plain i c.scalar c.lifted) (operand_of e ∷ []) old new (expr.Cast e to) [] (cast_emitted old i to e is) scope a)
     (lifts_number old new c.scalar (operand_of e) (operand_of (expr.Cast e to)) c.number a scope
-    (λ x typed items env h. let (z, i, same) = c.casts x typed in ap (option_and_then item_of) (cast_says items e to x z env i h) ∙ ap item_of (sym same)))
+    (λ x typed items env h. let (z, i, same) = c.casts x typed in cast_says items e to x z env i h ∙ ap (λ y. Some y) (sym same)))
 
 pub record Kept (i : Instruction) : Type 0 where
   pub scalar : Scalar
@@ -251,8 +250,10 @@ kept_by F32FromCoreF32 e = record { scalar = Scalar.f32; none = refl; lifted = r
 kept_by F64FromCoreF64 e = record { scalar = Scalar.f64; none = refl; lifted = refl; number = refl; keeps = λ x h. let (z, is) = f64_word x h in ap item_of_word is ∙ ap (λ y. Some (taken_word Scalar.f64 y)) (sym is) }
 kept_by _ e = absurd (let h = e in cc)
 
-pub keep_row : (types : List TypeDef) (old new : FunctionBindgen) (i : Instruction) (o : ExprOperand) → is_kept i ≡ true → Appends old new [] [] → new.scope ≡ old.scope → Emits func_meaning types i (o ∷ []) (o ∷ []) old new
-keep_row types old new i o is a scope =
+pub keep_row : (types : List TypeDef) (old new : FunctionBindgen) (i : Instruction) (e : Expr) → is_kept i ≡ true → Appends old new [] [] → new.scope ≡ old.scope → Emits func_meaning types i (operand_of e ∷ []) (kept_operand e ∷ []) old new
+keep_row types old new i e is a scope =
     let c = kept_by i is in
-    emits_lifted types old new i c.scalar o o c.none c.lifted (none_adds old new [] a scope) a.returned (form_alone (sends i) (ordinary_plain i (lifts_ordinary i c.scalar c.lifted)) (o ∷ []) old new o.expr [] (kept_emitted old i o.expr is) scope a)
-    (lifts_number old new c.scalar o o c.number a scope (λ x typed items env h. ap (option_and_then item_of) h ∙ c.keeps x typed))
+    let o = operand_of e in
+    let r = kept_operand e in
+    emits_lifted types old new i c.scalar o r c.none c.lifted (none_adds old new [] a scope) a.returned (form_one (sends i) (lifts_plain i c.scalar c.lifted) (o ∷ []) old new r [] (kept_emitted old i e is) scope a)
+    (lifts_number old new c.scalar o r c.number a scope (λ x typed items env h. ap (option_and_then as_item) h ∙ ap (option_map val.Value) (c.keeps x typed)))

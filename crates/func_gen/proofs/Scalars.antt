@@ -182,27 +182,6 @@ core_word s v (core.Length z) c h = absurd cc
 core_word s v (core.Slot z) c h = absurd cc
 core_word s v x c h = absurd (let e : false ≡ true = c in cc)
 
--- what is no scalar for the Rust side is no core word
-no_word : (x : Word) (r : RustValue) → shown r ≡ None → rust_of_word x ≡ Some r → ⊥
-no_word x r none h = go x h
-  where
-    differs : (s : Scalar) (q : RustValue) → shown q ≡ Some s → (let o : Option RustValue = Some q in o ≡ Some r) → ⊥
-    differs s q is e = let no : (let o : Option Scalar = Some s in o ≡ None) = sym is ∙ ap shown (value_same q r e) ∙ none in absurd cc
-
-    go : (x : Word) → rust_of_word x ≡ Some r → ⊥
-    go (core.I32 z) e = differs Scalar.s32 (value.Num wit.S32 z) (ap shown_level (out-num wit.S32 z)) e
-    go (core.I64 z) e = differs Scalar.s64 (value.Num wit.S64 z) (ap shown_level (out-num wit.S64 z)) e
-    go (core.F32 z) e = differs Scalar.f32 (value.F32 z) (ap shown_level (out-f32 z)) e
-    go (core.F64 z) e = differs Scalar.f64 (value.F64 z) (ap shown_level (out-f64 z)) e
-    go (core.Pointer z) e = absurd cc
-    go (core.Length z) e = absurd cc
-    go (core.Slot z) e = absurd cc
-
-pub value_is : (v : Val) (r : RustValue) → shown r ≡ None → rust_of v ≡ Some r → v ≡ val.Value r
-value_is (val.Value q) r none h = ap val.Value (value_same q r h)
-value_is (val.Word x) r none h = absurd (no_word x r none h)
-value_is (val.Area a n) r none h = absurd cc
-
 -- 3. The core words of scalars
 
 -- the function that gives them; a bool has none
@@ -252,12 +231,6 @@ converts_scalar s v i (Some (val.Word x)) e h is =
     let c = word_is s v x is in
     ap (λ y. on_bare (converts (conversion_to s)) (val.Word y)) (core_word s v x c is) ∙ on_owner (converts (conversion_to s)) (val.Word (passed_word s v)) (val.Word (passed_word s v)) refl (core_converts s v c h)
 converts_scalar s v i (Some (val.Area a n)) e h is = absurd cc
-
--- what is a bool for the Rust side is the value
-pub bool_is : (b : Bool) (x : Val) → rust_of x ≡ Some (value.Bool b) → x ≡ val.Value (value.Bool b)
-bool_is b (val.Value r) h = ap val.Value (value_same r (value.Bool b) h)
-bool_is b (val.Word x) h = absurd (let e : false ≡ true = word_is Scalar.bool b x h in cc)
-bool_is b (val.Area a n) h = absurd cc
 
 -- 4. Numbers of core words
 

@@ -25,11 +25,11 @@ use Rattle.abi_driver.specs.Meaning.{Datum, Fact, of}
 use Rattle.func_gen.specs.declared.function_bindgen.FunctionBindgen.{FunctionBindgen}
 use Rattle.func_gen.specs.declared.operand.ExprOperand.{ExprOperand}
 use Rattle.func_gen.specs.Added.{Fresh}
-use Rattle.func_gen.specs.FactLemmas.{Says, one_at_most, said, total_mono}
-use Rattle.func_gen.specs.Facts.{Hold, item_of, matches, wrong}
-use Rattle.func_gen.specs.Forms.{operand_of}
+use Rattle.func_gen.specs.FactLemmas.{Says, kept_reads, one_at_most, said, total_mono}
+use Rattle.func_gen.specs.Facts.{Hold, matches, wrong}
+use Rattle.func_gen.specs.Forms.{local_kept, operand_of}
 use Rattle.func_gen.specs.Meaning.{account_of, func_meaning, owns_of}
-use Rattle.func_gen.specs.Read.{Env, Read, Under, env_of, less, read}
+use Rattle.func_gen.specs.Read.{Env, Read, Under, env_of, item_of, kept_value, less, read, read_operand}
 use Rattle.func_gen.specs.ReadForms.{read-local}
 use Rattle.func_gen.specs.Slot.{Slot}
 use Rattle.func_gen.proofs.Lasting.{bound_under, lasts, under_less, with_local, within_with}
@@ -63,7 +63,7 @@ pub record UsedAll (w : Setting) (b : FunctionBindgen) (os : List ExprOperand) (
   pub holds : Hold w.items b others then
   pub areas : (k : Bytes) (address size : ℕ) → env_of s k ≡ Some (val.Area address size) → env_of then k ≡ Some (val.Area address size)
 
-one_more : (a : Act Val) (more : List (Act Val)) (v : Val) (vs : List Val) (s t u : State) → a s ≡ machine.Done v t → all more t ≡ machine.Done vs u → all (a ∷ more) s ≡ machine.Done (v ∷ vs) u
+pub one_more : (a : Act Val) (more : List (Act Val)) (v : Val) (vs : List Val) (s t u : State) → a s ≡ machine.Done v t → all more t ≡ machine.Done vs u → all (a ∷ more) s ≡ machine.Done (v ∷ vs) u
 one_more a more v vs s t u h k = ap (λ o. and_then o (λ x. all more >>= (λ xs. pure (x ∷ xs)))) h ∙ ap (λ o. and_then o (λ xs. pure (v ∷ xs))) k
 
 pub uses_all : (w : Setting) (b : FunctionBindgen) (os : List ExprOperand) (rs : List RustValue) (others : List (Fact ExprOperand Slot RustValue)) (s : State) → length os ≡ length rs → Hold w.items b (ofs func_meaning os (item_data func_meaning rs) ++ others) s → UsedAll w b os rs others s
@@ -71,7 +71,7 @@ uses_all w b [] [] others s len h = record { given = []; then = s; evaluated = r
 uses_all w b [] (r ∷ rs) others s len h = absurd (omega (arith, len))
 uses_all w b (o ∷ os) [] others s len h = absurd (omega (arith, len))
 uses_all w b (o ∷ os) (r ∷ rs) others s len h =
-    let one = uses w b o.expr r (ofs func_meaning os (item_data func_meaning rs) ++ others) s h in
+    let one = uses w b o r (ofs func_meaning os (item_data func_meaning rs) ++ others) s h in
     let later = uses_all w b os rs others one.then (omega (arith, len)) one.holds in
     record {
       given = one.given ∷ later.given;
@@ -88,9 +88,9 @@ uses_all w b (o ∷ os) (r ∷ rs) others s len h =
 
 -- 2. A new local, which may own blocks
 
-pub add_local : (items : List Item) (old new : FunctionBindgen) (facts : List (Fact ExprOperand Slot RustValue)) (s : State) (n : Bytes) (v : Val) (d : Datum RustValue) → new.params ≡ old.params → Fresh old new n → Says d (option_and_then usable (Some v))
-    → Hold items old facts s → Hold items new (of (operand_of (expr.Local n)) d ∷ facts) (with_local s n v)
-add_local items old new facts s n v d params fresh is h =
+pub add_kept : (items : List Item) (old new : FunctionBindgen) (facts : List (Fact ExprOperand Slot RustValue)) (s : State) (kept : Bool) (n : Bytes) (v : Val) (d : Datum RustValue) → new.params ≡ old.params → Fresh old new n → Says d (kept_value kept (option_and_then usable (Some v)))
+    → Hold items old facts s → Hold items new (of (local_kept kept n) d ∷ facts) (with_local s n v)
+add_kept items old new facts s kept n v d params fresh is h =
     let t = with_local s n v in
     let free = h.within n fresh.free in
     let under = bound_under s n v free in
@@ -103,20 +103,24 @@ add_local items old new facts s n v d params fresh is h =
     }
   where
     f : Fact ExprOperand Slot RustValue
-    f = of (operand_of (expr.Local n)) d
+    f = of (local_kept kept n) d
 
-    says : (env : Env) → env n ≡ Some v → Says d ((read items (expr.Local n)).at env)
-    says env e = subst (Says d) (sym (ap (λ (q : Read). q.at env) (read-local items n) ∙ ap (option_and_then usable) e)) is
+    says : (env : Env) → env n ≡ Some v → Says d ((read_operand items (local_kept kept n)).at env)
+    says env e = subst (Says d) (sym (kept_reads kept (read items (expr.Local n)) env ∙ ap (kept_value kept) (ap (λ (q : Read). q.at env) (read-local items n) ∙ ap (option_and_then usable) e))) is
 
     each : (k : Bytes) → total (wrong items new.params (less (env_of (with_local s n v)) k)) facts ≤ 1 → (c : Bool) → bytes_eq n k ≡ c → env_of (with_local s n v) n ≡ Some v → Under (env_of s) (less (env_of (with_local s n v)) n)
-        → total (wrong items new.params (less (env_of (with_local s n v)) k)) (of (operand_of (expr.Local n)) d ∷ facts) ≤ 1
+        → total (wrong items new.params (less (env_of (with_local s n v)) k)) (of (local_kept kept n) d ∷ facts) ≤ 1
     each k few true e at under =
         let same : n ≡ k = (bytes_eq-Decides n k).0 e in
         let ps = ap (λ q. total (wrong items q (less (env_of (with_local s n v)) n)) facts) params in
         let z = total_mono items old.params (env_of s) (less (env_of (with_local s n v)) n) under facts in
         let y = ap (λ q. total (wrong items new.params (less (env_of (with_local s n v)) q)) facts) same in
-        let x = one_at_most (matches d ((read items (expr.Local n)).at (less (env_of (with_local s n v)) k))) in
+        let x = one_at_most (matches d ((read_operand items (local_kept kept n)).at (less (env_of (with_local s n v)) k))) in
         omega (arith, ps, z, y, x, h.right)
     each k few false e at under =
         let here : less (env_of (with_local s n v)) k n ≡ Some v = ap (λ c. cond c None (env_of (with_local s n v) n)) e ∙ at in
-        omega (arith, few, said items new.params (less (env_of (with_local s n v)) k) (of (operand_of (expr.Local n)) d) (says (less (env_of (with_local s n v)) k) here))
+        omega (arith, few, said items new.params (less (env_of (with_local s n v)) k) (of (local_kept kept n) d) (says (less (env_of (with_local s n v)) k) here))
+
+pub add_local : (items : List Item) (old new : FunctionBindgen) (facts : List (Fact ExprOperand Slot RustValue)) (s : State) (n : Bytes) (v : Val) (d : Datum RustValue) → new.params ≡ old.params → Fresh old new n → Says d (option_and_then usable (Some v))
+    → Hold items old facts s → Hold items new (of (operand_of (expr.Local n)) d ∷ facts) (with_local s n v)
+add_local items old new facts s n v d params fresh is h = add_kept items old new facts s false n v d params fresh is h

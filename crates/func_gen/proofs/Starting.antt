@@ -1,5 +1,5 @@
 -- A new `FunctionBindgen` can be run: from a state for each account, and for any arguments.
-use Rattle.std.proofs.Common.{◌≡◌, ℕ, zero, suc, ◌+◌, ◌<◌, Bool, true, false, cond, ◌||◌, nat_eq, nat_lt, List, [], ◌∷◌, ◌++◌, length, map, Option, None, Some, refl, sym, ap, ap₂, ◌∙◌, subst, arith}
+use Rattle.std.proofs.Common.{◌≡◌, ℕ, zero, suc, ◌+◌, ◌<◌, Bool, true, false, cond, ◌||◌, nat_eq, nat_lt, List, [], ◌∷◌, ◌++◌, length, map, reverse, Option, None, Some, refl, sym, ap, ap₂, ◌∙◌, subst, arith}
 use Rattle.std.specs.Prelude.{option_and_then, option_to_list, slice_get, Contains, IfSome}
 use Rattle.std.specs.List.{flat_map, AllByRecursion}
 use mathlib.Core.Logic.{inl, inr}
@@ -27,16 +27,15 @@ use Rattle.wrapper_run.proofs.LocalLemmas.{ReadsAll, SameLength, reads_bound, un
 use Rattle.abi_driver.specs.Account.{Account, Call}
 use Rattle.abi_driver.specs.Area.{HoldsRecord, MayStand, StandsIn}
 use Rattle.abi_driver.specs.Laws.{AreLent, Data, IsNew, args}
-use Rattle.abi_driver.specs.Meaning.{Datum, arg, item, word}
+use Rattle.abi_driver.specs.Meaning.{arg, item, word}
 use Rattle.func_gen.specs.declared.function_bindgen.Code.{Code}
 use Rattle.func_gen.specs.declared.function_bindgen.FunctionBindgen.{FunctionBindgen}
 use Rattle.func_gen.specs.declared.function_bindgen.ParamSite.{ParamSite}
-use Rattle.func_gen.specs.FactLemmas.{Says, said}
-use Rattle.func_gen.specs.Facts.{AreOwned, IsThere, Owns, wrong}
+use Rattle.func_gen.specs.FactLemmas.{said}
+use Rattle.func_gen.specs.Facts.{AreOwned, IsThere, Owns, val_of, wrong}
 use Rattle.func_gen.specs.Opened.{open_blocks}
-use Rattle.func_gen.proofs.Lasting.{area_viewed}
-use Rattle.func_gen.specs.Meaning.{AreaIs, Denote, File, Found, FuncState, GivesAsCalled, IsArea, Serves, account_of, call_of, func_meaning, owns_of, static_request}
-use Rattle.func_gen.specs.Read.{Env, Read, bare, bare_or, env_of, lent_bare, less, on_bare, read}
+use Rattle.func_gen.specs.Meaning.{AllAsCalled, AreaIs, Denote, File, Found, FuncState, GivesAsCalled, IsArea, Serves, account_of, call_of, func_meaning, owns_of, static_request}
+use Rattle.func_gen.specs.Read.{Env, Read, bare, bare_or, env_of, lent_bare, less, on_bare, read_operand}
 use Rattle.func_gen.specs.ReadForms.{read-local, read-ref, still_there}
 use Rattle.func_gen.specs.TypeSites.{CanBeDefined, items_of}
 use Rattle.func_gen.specs.Scope.{is_used}
@@ -44,10 +43,6 @@ use Rattle.func_gen.specs.Sites.{IsSite, site_names}
 use Rattle.func_gen.specs.StandLemmas.{lent_alone}
 
 -- 1. Values of arguments
-
-abbrev pub val_of : Datum RustValue → Val
-val_of (word x) = val.Word x
-val_of (item r) = val.Value r
 
 abbrev pub vals : Data func_meaning → List Val
 vals ds = map val_of ds
@@ -87,16 +82,12 @@ reads_less (p ∷ sites) (d ∷ ds) env n q o h = (still_there env p.name n (val
 on_none : (f : Val → Option Val) (v : Val) → owned v ≡ [] → on_bare f v ≡ f v
 on_none f v e = ap (λ bs. option_and_then f (bare_or v bs)) e
 
-site_reads : (items : List Item) (p : ParamSite) (env : Env) (v : Val) → IsSite p → env p.name ≡ Some v → IsPassed v → (read items p.operand.expr).at env ≡ Some v
+site_reads : (items : List Item) (p : ParamSite) (env : Env) (v : Val) → IsSite p → env p.name ≡ Some v → IsPassed v → (read_operand items p.operand).at env ≡ Some v
 site_reads items p env v (inl e) h q =
-    ap (λ x. (read items x).at env) e ∙ ap (λ (r : Read). r.at env) (read-local items p.name) ∙ ap (option_and_then usable) h ∙ q.usable
+    ap (λ o. (read_operand items o).at env) e ∙ ap (λ (r : Read). r.at env) (read-local items p.name) ∙ ap (option_and_then usable) h ∙ q.usable
 site_reads items p env v (inr e) h q =
-    ap (λ x. (read items x).at env) e ∙ ap (λ (r : Read). r.at env) (read-ref items p.name) ∙ ap (option_and_then lent_bare) h
+    ap (λ o. (read_operand items o).at env) e ∙ ap (λ (r : Read). r.at env) (read-ref items p.name) ∙ ap (option_and_then lent_bare) h
     ∙ on_none (λ x. option_and_then bare (lent x)) v q.none ∙ ap (option_and_then bare) q.lent ∙ ap (bare_or v) q.none
-
-datum_says : (d : Datum RustValue) → Says d (Some (val_of d))
-datum_says (word x) = refl
-datum_says (item r) = refl
 
 args_hold : (items : List Item) (all : List ParamSite) (env : Env) (k : ℕ) (sites : List ParamSite) (ds : Data func_meaning) → ((i : ℕ) → slice_get all (k + i) ≡ slice_get sites i) → AllByRecursion IsSite sites → ArePassed ds → ReadsEnv (site_names sites) (vals ds) env → length sites ≡ length ds
     → total (wrong items all env) (args func_meaning k ds) ≡ 0
@@ -104,8 +95,8 @@ args_hold items all env k sites [] at are p reads len = refl
 args_hold items all env k [] (d ∷ ds) at are p reads len = absurd (omega (arith, len))
 args_hold items all env k (site ∷ sites) (d ∷ ds) at are p reads len =
     let first : slice_get all k ≡ Some site = let e : k ≡ k + 0 = omega arith in ap (slice_get all) e ∙ at 0 in
-    let value = ap (option_and_then (λ (q : ParamSite). (read items q.operand.expr).at env)) first ∙ site_reads items site env (val_of d) are.0 reads.0 p.0 in
-    let here = said items all env (arg k d) (subst (Says d) (sym value) (datum_says d)) in
+    let value = ap (option_and_then (λ (q : ParamSite). (read_operand items q.operand).at env)) first ∙ site_reads items site env (val_of d) are.0 reads.0 p.0 in
+    let here = said items all env (arg k d) value in
     omega (arith, here, args_hold items all env (suc k) sites ds (λ i. let e : suc k + i ≡ k + suc i = omega arith in ap (slice_get all) e ∙ at (suc i)) are.1 p.1 reads.1 (omega (arith, len)))
 
 -- definitions of types have no static area among them
@@ -185,7 +176,7 @@ module _ (b : FunctionBindgen) (unasked : b.asked ≡ []) (used : (n : Bytes) �
           within = within;
         };
         owners = owners;
-        area = area_viewed b.opened b.import w.area s.area b.asked b.area s.machine area;
+        area = area;
       }
 
   -- without an area that stands
@@ -236,10 +227,10 @@ module _ (b : FunctionBindgen) (unasked : b.asked ≡ []) (used : (n : Bytes) �
   start w ds acc (Some address) sv len l taken g false i area a h = absurd h
 
   -- a file of no more than definitions of types serves it
-  pub func_new : b.code ≡ record { call = None; stmts = [] } → b.returned ≡ None → b.runtime ≡ [] → b.opened ≡ [] → CanBeDefined b.sites → IsNew func_meaning b
-  func_new empty endless runtime closed (defs, defined) = record {
+  pub func_new : b.code ≡ record { call = None; stmts = [] } → b.returned ≡ None → b.runtime ≡ [] → b.opened ≡ [] → b.finished ≡ [] → CanBeDefined b.sites → IsNew func_meaning b
+  func_new empty endless runtime closed unfinished (defs, defined) = record {
     closed = ap open_blocks closed;
-    unfinished = refl;
+    unfinished = ap reverse unfinished;
     empty = empty;
     endless = endless;
     unasked = unasked;
@@ -252,6 +243,7 @@ module _ (b : FunctionBindgen) (unasked : b.asked ≡ []) (used : (n : Bytes) �
       static = λ e. sym (ap static_request (no_area defs));
       bound = λ e. refl;
       called = subst (λ (c : Code). GivesAsCalled (items_of defs) b.home c.call) (sym empty) tt;
+      suspended = subst (AllAsCalled (items_of defs) b.home) (sym closed) tt;
     };
     start = λ w ds acc at sv len l stands taken unguarded. start w ds acc at sv len l taken unguarded b.import refl w.area refl stands;
   }

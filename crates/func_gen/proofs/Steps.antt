@@ -1,5 +1,5 @@
 -- Statements that are added to the code: how it then runs, and what it leaves as it was.
-use Rattle.std.proofs.Common.{◌≡◌, ℕ, not, if◌then◌else◌, List, [], ◌∷◌, ◌++◌, length, map, Option, Some, refl, sym, ap, ap₂, ◌∙◌, subst, false}
+use Rattle.std.proofs.Common.{◌≡◌, ℕ, not, if◌then◌else◌, List, [], ◌∷◌, ◌++◌, length, map, reverse, Option, Some, refl, sym, ap, ap₂, ◌∙◌, subst, false}
 use Rattle.std.specs.List.{AllByRecursion}
 use Rattle.wit_layout.specs.Filled.{IsFilledFor}
 use Rattle.wit_model.specs.Bytes.{Bytes}
@@ -23,12 +23,12 @@ use Rattle.func_gen.specs.declared.function_bindgen.Code.{Code}
 use Rattle.func_gen.specs.declared.function_bindgen.FunctionBindgen.{FunctionBindgen}
 use Rattle.func_gen.specs.Added.{Appends}
 use Rattle.func_gen.specs.Opened.{open_blocks}
-use Rattle.func_gen.specs.Meaning.{Denote, File, Found, FuncState, GivesAsCalled, Serves, call_of, func_meaning, run_code, run_head, seen, setting_for, static_request}
+use Rattle.func_gen.specs.Meaning.{AllAsCalled, Denote, File, Found, FuncState, GivesAsCalled, Serves, call_of, func_meaning, run_code, run_head, seen, setting_for, static_request}
 use Rattle.func_gen.specs.TypeSites.{AreDefined}
 use Rattle.func_gen.specs.Scope.{is_used}
 use Rattle.func_gen.proofs.FieldOrder.{still_defined}
 use Rattle.func_gen.proofs.Lasting.{denotes_on, lasts}
-use Rattle.func_gen.proofs.RuntimeItems.{found_left, gives_as_called, has_more}
+use Rattle.func_gen.proofs.RuntimeItems.{found_left, gives_as_called, has_more, suspended_from}
 
 -- 1. Outcomes of the machine, as they are seen
 
@@ -103,6 +103,7 @@ module _ (old new : FunctionBindgen) (added : List Stmt) (items : List RuntimeIt
     static = λ e. h.static (a.import ∙ e);
     bound = λ e. h.bound (a.import ∙ e) ∙ a.home;
     called = subst (GivesAsCalled w.items w.bound) a.call h.called;
+    suspended = subst (AllAsCalled w.items w.bound) a.opened h.suspended;
   }
 
   serves_more : (w : File) → Serves w old → (x : File) × Serves x new
@@ -117,13 +118,14 @@ module _ (old new : FunctionBindgen) (added : List Stmt) (items : List RuntimeIt
           static = λ e. h.static (sym a.import ∙ e) ∙ ap static_request (sym m.area);
           bound = λ e. h.bound (sym a.import ∙ e) ∙ sym a.home;
           called = subst (GivesAsCalled m.all w.bound) (sym a.call) (gives_as_called w.items m.all w.bound old.code.call (m.methods w.bound) h.called);
+          suspended = subst (AllAsCalled m.all w.bound) (sym a.opened) (suspended_from w.items m.all w.bound (λ call. gives_as_called w.items m.all w.bound call (m.methods w.bound)) old.opened h.suspended);
         },
       )
 
   -- what was known of a state is known of it, where no name became free
   known : ((n : Bytes) → is_used new.scope.used n ≡ false → is_used old.scope.used n ≡ false) → (w : File) (facts : Facts func_meaning) (s : FuncState) → Denote w old facts s → Denote w new facts s
   known names w facts s h =
-      denotes_on w old new facts facts s s.machine (record { import = a.import; asked = a.asked; name = a.area; opened = a.opened }) (record { heap = refl; taken = refl; place = refl; under = λ n v e. e }) h
+      denotes_on w old new facts facts s s.machine (record { import = a.import; asked = a.asked; name = a.area }) (record { heap = refl; taken = refl; place = refl; under = λ n v e. e }) h
       (lasts w.items old new facts s.machine s.machine a.params (λ n v e. e) (λ n free. h.hold.within n (names n free)) h.hold)
 
   pub func_grows : ((n : Bytes) → is_used new.scope.used n ≡ false → is_used old.scope.used n ≡ false) → Grows func_meaning old new
@@ -144,7 +146,7 @@ module _ (old new : FunctionBindgen) (added : List Stmt) (items : List RuntimeIt
   pub func_adds : ((n : Bytes) → is_used new.scope.used n ≡ false → is_used old.scope.used n ≡ false) → ((w : Setting) → Quiet (run_stmts w added)) → Adds func_meaning old new
   func_adds names quiet = record {
     grows = func_grows names;
-    blocks = refl;
+    blocks = ap reverse a.finished;
     quiet = λ w p s h.
         let before = run_code (setting_for w p) w.bound old.code s.machine in
         ap (λ o. (account_in func_meaning.account o).calls) (more_code w p s)

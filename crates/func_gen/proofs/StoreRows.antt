@@ -1,6 +1,5 @@
 -- The rows of stores.
 use Rattle.std.proofs.Common.{◌≡◌, ℕ, ◌+◌, ◌%◌, ◌&&◌, nat_eq, ℤ, Bool, true, false, if◌then◌else◌, List, [], ◌∷◌, length, Option, None, Some, refl, sym, ap, ◌∙◌, subst, arith}
-use Rattle.std.proofs.Math.Seq.{drop-nil}
 use Rattle.wit_model.specs.Size.{bytes_at}
 use Rattle.wit_model.specs.declared.size.ArchitectureSize.{ArchitectureSize}
 use Rattle.wit_model.specs.declared.types.TypeDef.{TypeDef}
@@ -32,7 +31,7 @@ use Rattle.wrapper_run.proofs.StmtSteps.{run-store, run-store_small, runs-first}
 use Rattle.abi_driver.specs.declared.instruction.Instruction.{Instruction}
 use Rattle.abi_driver.specs.declared.instruction.Instruction.TheVariants.{F32Store, F64Store, I32Store, I32Store8, I32Store16, I64Store, LengthStore, PointerStore}
 use Rattle.abi_driver.specs.Account.{Account, Peer}
-use Rattle.abi_driver.specs.Instructions.{Emits, MakesBy, MakesTouch, RowBy, RowTouch, block_results, lifted_scalar, lowered_scalar}
+use Rattle.abi_driver.specs.Instructions.{Emits, MakesBy, MakesTouch, RowBy, RowTouch, lifted_scalar, lowered_scalar}
 use Rattle.abi_driver.specs.Laws.{Adds}
 use Rattle.abi_driver.specs.Meaning.{of, word}
 use Rattle.abi_driver.specs.Memory.{Access, is_ranged, storing}
@@ -52,7 +51,7 @@ use Rattle.func_gen.specs.Formed.{Formed}
 use Rattle.abi_driver.specs.Sent.{sends}
 use Rattle.func_gen.proofs.Emissions.{small_store_emitted, whole_store_emitted}
 use Rattle.func_gen.proofs.Evaluated.{gives}
-use Rattle.func_gen.proofs.Forming.{form_effect, ordinary_plain}
+use Rattle.func_gen.proofs.Forming.{form_effect, still_blocks, touches_plain}
 use Rattle.func_gen.proofs.MemoryTies.{by_blocks, byte_stored, f32_stored, f64_stored, half_stored, i32_stored, i64_stored, length_stored, pointer_stored, ranged_blocks, stored_low, stored_word}
 use Rattle.func_gen.proofs.Quiet.{quiet_operand}
 use Rattle.func_gen.proofs.Writing.{Keeps, Writes, finish, finishes, one_adds, there_written, writes}
@@ -63,7 +62,7 @@ pub emits_touch : (types : List TypeDef) (old new : FunctionBindgen) (i : Instru
     → Adds func_meaning old new → new.returned ≡ old.returned → Formed (sends i) os rs old new → RowOfTouch func_meaning t os rs old new → Emits func_meaning types i os rs old new
 emits_touch types old new i t os rs no_lower no_lift is count adds returned form row = record {
   adds = code_of func_meaning i (touches_ordinary i t is) types old new adds;
-  blocks = sym (drop-nil {A = ⊥} (length (block_results types i)));
+  blocks = still_blocks i (touches_ordinary i t is) types (func_meaning.blocks old) (func_meaning.blocks new) adds.blocks;
   returned = still_returned func_meaning i (touches_ordinary i t is) os old.returned new.returned returned;
   asked = adds.asked;
   form = form;
@@ -224,10 +223,10 @@ module _ (types : List TypeDef) (old new : FunctionBindgen) (i : Instruction) (o
   whole_store_row ty is a =
       let t = is_store i o ty is in
       emits_touch types old new i (stores whole ty o) (operand_of e ∷ operand_of at ∷ []) [] t.lowered t.lifted t.touched refl (store_adds old new e at ok ok_at o scope ty a) a.returned
-      (form_effect (sends i) (ordinary_plain i (touches_ordinary i (stores whole ty o) t.touched)) (operand_of e ∷ operand_of at ∷ []) old new (stmt.Store at o ty e) [] (whole_store_emitted old i (o, ty) e at is) scope a) (store_row old new e at ok ok_at o scope ty a (accessed 2 whole false ty) t.tie)
+      (form_effect (sends i) (touches_plain i (stores whole ty o) t.touched) (operand_of e ∷ operand_of at ∷ []) old new (stmt.Store at o ty e) [] (whole_store_emitted old i (o, ty) e at is) scope a) (store_row old new e at ok ok_at o scope ty a (accessed 2 whole false ty) t.tie)
 
   pub small_store_row : (ty : SmallType) → small_store i ≡ Some (o, ty) → Appends old new (stmt.StoreSmall at o ty e ∷ []) [] → Emits func_meaning types i (operand_of e ∷ operand_of at ∷ []) [] old new
   small_store_row ty is a =
       let t = is_low_store i o ty is in
       emits_touch types old new i (stores t.part wasm.I32 o) (operand_of e ∷ operand_of at ∷ []) [] t.lowered t.lifted t.touched refl (low_adds old new e at ok ok_at o scope ty a) a.returned
-      (form_effect (sends i) (ordinary_plain i (touches_ordinary i (stores t.part wasm.I32 o) t.touched)) (operand_of e ∷ operand_of at ∷ []) old new (stmt.StoreSmall at o ty e) [] (small_store_emitted old i (o, ty) e at is) scope a) (low_row old new e at ok ok_at o scope ty a (accessed 2 t.part false wasm.I32) t.tie)
+      (form_effect (sends i) (touches_plain i (stores t.part wasm.I32 o) t.touched) (operand_of e ∷ operand_of at ∷ []) old new (stmt.StoreSmall at o ty e) [] (small_store_emitted old i (o, ty) e at is) scope a) (low_row old new e at ok ok_at o scope ty a (accessed 2 t.part false wasm.I32) t.tie)

@@ -1,5 +1,5 @@
 -- The row of a text that is taken over by its address and its length: where nothing honest is there, the machine stops as the law does.
-use Rattle.std.proofs.Common.{◌≡◌, ℕ, zero, suc, ◌-◌, ◌^◌, ◌<◌, Bool, true, false, cond, ◌||◌, nat_eq, nat_lt, if◌then◌else◌, find, List, [], ◌∷◌, ◌++◌, length, Option, None, Some, refl, sym, ap, ap₂, ◌∙◌, subst, arith}
+use Rattle.std.proofs.Common.{◌≡◌, ℕ, zero, suc, ◌-◌, ◌^◌, ◌<◌, Bool, true, false, cond, ◌||◌, nat_eq, nat_lt, if◌then◌else◌, find, List, [], ◌∷◌, ◌++◌, length, reverse, Option, None, Some, refl, sym, ap, ap₂, ◌∙◌, subst, arith}
 use Rattle.std.specs.Prelude.{option_and_then}
 use Rattle.std.specs.Str.{bytes_eq, is_utf8}
 use Rattle.std.proofs.lemmas.Bool.{and_parts, eqb-true, or_parts}
@@ -60,7 +60,6 @@ use Rattle.func_gen.specs.CallForms.{FreshAll}
 use Rattle.func_gen.specs.FactLemmas.{is_said}
 use Rattle.func_gen.specs.Facts.{AreOwned, Hold, IsThere}
 use Rattle.func_gen.specs.Forms.{operand_of, runtime_call, runtime_path}
-use Rattle.func_gen.specs.Opened.{in_view}
 use Rattle.func_gen.specs.Meaning.{Denote, File, Found, FuncState, StandsAsItIs, account_of, func_meaning, owns_of, seen, setting_for}
 use Rattle.func_gen.specs.Operand.{is_operand}
 use Rattle.func_gen.specs.Read.{env_of}
@@ -269,7 +268,7 @@ module _ (w : File) (q : Peer RustValue) (old new : FunctionBindgen) (a n : Expr
             denotes = record {
               hold = hold_as w.items named new (text_fact k ∷ others) u adds.params (three_used old new (len_name t) (bytes_name t) (text_name t) fresh) x.holds;
               owners = subst (λ (z : Account RustValue). AreOwned z.heap.blocks z.taken) (sym x.account) owners;
-              area = areas_last new.import (in_view new.opened w.area) (in_view new.opened s.area) new.asked new.area s.machine u x.areas x.place (area_same w old new s.area s.machine (same_area old new (taken_stmts t a n) taking_items adds) d.area);
+              area = areas_last new.import w.area s.area new.asked new.area s.machine u x.areas x.place (area_same w old new s.area s.machine (same_area old new (taken_stmts t a n) taking_items adds) d.area);
             };
           },
         ),
@@ -345,7 +344,7 @@ module _ (types : List TypeDef) (old new : FunctionBindgen) (a e : Expr) (t : �
   pub lift_row : Takes old.scope (λ k. taken_names k) t new.scope → Emits func_meaning types instruction.StringLift (operand_of a ∷ operand_of e ∷ []) (operand_of (expr.Local (text_name t)) ∷ []) old new
   lift_row takes = record {
     adds = taken_adds;
-    blocks = refl;
+    blocks = ap reverse adds.finished;
     returned = adds.returned;
     asked = adds.asked;
     form = form_by (sends instruction.StringLift) (record { gives = refl; calls = refl }) (operand_of a ∷ operand_of e ∷ []) old new (operand_of (expr.Local (text_name t)) ∷ []) (takes_text a e) t refl takes adds refl;

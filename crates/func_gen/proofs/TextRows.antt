@@ -1,5 +1,5 @@
 -- The rows of texts that are lent or given away: three locals, and two words.
-use Rattle.std.proofs.Common.{◌≡◌, ℕ, ◌+◌, true, false, List, [], ◌∷◌, ◌++◌, length, map, Some, refl, sym, ap, ◌∙◌, subst, arith}
+use Rattle.std.proofs.Common.{◌≡◌, ℕ, ◌+◌, true, false, List, [], ◌∷◌, ◌++◌, length, map, reverse, Some, refl, sym, ap, ◌∙◌, subst, arith}
 use Rattle.std.specs.Prelude.{option_map}
 use Rattle.wit_model.specs.declared.types.TypeDef.{TypeDef}
 use Rattle.wit_model.specs.Bytes.{Bytes}
@@ -37,7 +37,6 @@ use Rattle.func_gen.specs.Added.{Appends}
 use Rattle.func_gen.specs.CallForms.{FreshAll}
 use Rattle.func_gen.specs.Facts.{AreOwned, Hold}
 use Rattle.func_gen.specs.Forms.{operand_of}
-use Rattle.func_gen.specs.Opened.{in_view}
 use Rattle.func_gen.specs.Meaning.{account_of, call_of, func_meaning, owns_of, passing_level, seen, setting_for}
 use Rattle.func_gen.specs.Operand.{is_operand}
 use Rattle.func_gen.specs.Read.{env_of}
@@ -89,7 +88,7 @@ module _ (types : List TypeDef) (old new : FunctionBindgen) (e : Expr) (t : ℕ)
             denotes = record {
               hold = hold_as w.items (with_three old (vec_name t) (ptr_name t) (len_name t)) new facts u a.params (three_used old new (vec_name t) (ptr_name t) (len_name t) f) few;
               owners = subst (λ (acc : Account RustValue). AreOwned acc.heap.blocks acc.taken) (sym x.account) at.holds.owners;
-              area = areas_last new.import (in_view new.opened w.area) (in_view new.opened s.area) new.asked new.area s.machine u (λ k y z is. buffer_under w.items old t lent_names p n false others x.then x.holds k (val.Area y z) (x.areas k y z is)) x.place
+              area = areas_last new.import w.area s.area new.asked new.area s.machine u (λ k y z is. buffer_under w.items old t lent_names p n false others x.then x.holds k (val.Area y z) (x.areas k y z is)) x.place
                   (area_same w old new s.area s.machine (same_area old new (buffer_stmts t e) [] a) at.holds.area);
             };
           },
@@ -99,7 +98,7 @@ module _ (types : List TypeDef) (old new : FunctionBindgen) (e : Expr) (t : ℕ)
   pub lend_row : Takes old.scope (λ k. buffer_names k) t new.scope → Emits func_meaning types (StringLower false) (operand_of e ∷ []) (buffer_words t) old new
   lend_row takes = record {
     adds = lent_adds;
-    blocks = refl;
+    blocks = ap reverse a.finished;
     returned = a.returned;
     asked = a.asked;
     form = form_by (sends (StringLower false)) (record { gives = refl; calls = refl }) (operand_of e ∷ []) old new (buffer_words t) (lends_text e) t refl takes a refl;
@@ -195,7 +194,7 @@ module _ (types : List TypeDef) (old new : FunctionBindgen) (name : Bytes) (t : 
                 denotes = record {
                   hold = record { right = held.right; apart = held.apart; within = held.within };
                   owners = owners;
-                  area = areas_last new.import (in_view new.opened w.area) (in_view new.opened s.area) new.asked new.area s.machine u m.areas m.place (area_same w old new s.area s.machine (same_area old new (given_stmts t name) [] a) at.holds.area);
+                  area = areas_last new.import w.area s.area new.asked new.area s.machine u m.areas m.place (area_same w old new s.area s.machine (same_area old new (given_stmts t name) [] a) at.holds.area);
                 };
               },
             ),
@@ -208,7 +207,7 @@ module _ (types : List TypeDef) (old new : FunctionBindgen) (name : Bytes) (t : 
   pub give_row : Takes old.scope (λ k. buffer_names k) t new.scope → Emits func_meaning types (StringLower true) (operand_of (expr.Local name) ∷ []) (buffer_words t) old new
   give_row takes = record {
     adds = given_adds;
-    blocks = refl;
+    blocks = ap reverse a.finished;
     returned = a.returned;
     asked = a.asked;
     form = form_by (sends (StringLower true)) (record { gives = refl; calls = refl }) (operand_of (expr.Local name) ∷ []) old new (buffer_words t) (hands_text name) t (ap (option_map hands_text) (local_is name)) takes a refl;

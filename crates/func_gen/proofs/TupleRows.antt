@@ -1,5 +1,5 @@
 -- The row of tuples that are taken apart.
-use Rattle.std.proofs.Common.{◌≡◌, ℕ, ◌<◌, ◌^◌, true, List, [], ◌∷◌, length, Some, refl, sym, ap, ◌∙◌, arith, subst}
+use Rattle.std.proofs.Common.{◌≡◌, ℕ, ◌<◌, ◌^◌, true, List, [], ◌∷◌, length, reverse, Some, refl, sym, ap, ◌∙◌, arith, subst}
 use Rattle.wit_model.specs.Bytes.{Bytes}
 use Rattle.wit_model.specs.Distinct.{is_distinct}
 use Rattle.wit_model.specs.declared.types.TypeDef.{TypeDef}
@@ -30,7 +30,7 @@ apart_row types old new t k names e ok small is a fresh takes =
     let many : length names ≡ k = ap length is ∙ names_many part_prefix t 0 k in
     record {
       adds = apart_adds old new (pattern.Tuple names) names e a fresh fits ok;
-      blocks = refl;
+      blocks = ap reverse a.finished;
       returned = a.returned;
       asked = a.asked;
       form = form_by (sends (TupleLower k)) (record { gives = refl; calls = refl }) (operand_of e ∷ []) old new (locals_of names) (splits_tuple k e) t refl takes (subst (λ ns. Appends old new (stmt.LetParts (pattern.Tuple ns) e ∷ []) []) is a) (ap locals_of is ∙ locals_are (names_from part_prefix t 0 k));

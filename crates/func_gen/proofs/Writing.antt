@@ -23,7 +23,6 @@ use Rattle.func_gen.specs.declared.function_bindgen.FunctionBindgen.{FunctionBin
 use Rattle.func_gen.specs.declared.scope.Scope.{Scope}
 use Rattle.func_gen.specs.Added.{Appends}
 use Rattle.func_gen.specs.Facts.{AreOwned, Hold, IsThere}
-use Rattle.func_gen.specs.Opened.{in_view}
 use Rattle.func_gen.specs.Meaning.{Denote, File, Found, FuncState, account_of, call_of, func_meaning, seen, setting_for}
 use Rattle.func_gen.specs.Scope.{is_used}
 use Rattle.func_gen.proofs.Lasting.{area_lasts, denotes_on, lasts, part}
@@ -103,7 +102,7 @@ module _ (old new : FunctionBindgen) (st : Stmt) (items : List RuntimeItem) (a :
       record {
         hold = record { right = d.hold.right; apart = d.hold.apart; within = d.hold.within };
         owners = keeps h.owners;
-        area = area_lasts new.import (in_view new.opened w.area) (in_view new.opened s.area) new.asked new.area s.machine (with_heap s.machine blocks) (λ n v e. e) refl d.area;
+        area = area_lasts new.import w.area s.area new.asked new.area s.machine (with_heap s.machine blocks) (λ n v e. e) refl d.area;
       }
 
   pub writes : (ins : Facts func_meaning) (act : Peer RustValue → Act RustValue (Unit {0}))

@@ -11,6 +11,7 @@ use Rattle.func_gen.specs.declared.body.Body.{Body}
 use Rattle.func_gen.specs.declared.function_bindgen.FunctionBindgen.{FunctionBindgen}
 use Rattle.func_gen.specs.declared.operand.ExprOperand.{ExprOperand}
 use Rattle.func_gen.specs.declared.type_tables.TypeTables.{TypeTables}
+use Rattle.func_gen.specs.Opened.{is_closed}
 use Rattle.func_gen.specs.Operand.{is_operand}
 
 -- the greater size and the greater alignment of two records
@@ -36,7 +37,9 @@ Gives (Some []) tail = tail ≡ None
 Gives (Some (o ∷ [])) tail = tail ≡ Some o.expr
 Gives (Some (_ ∷ _ ∷ _)) tail = ⊥
 
+-- the body has all that was made, and no block is open
 pub record IsBodyOf (b : FunctionBindgen) (body : Body) : Type 0 where
+  pub closed : is_closed b.opened ≡ true
   pub call : body.call ≡ b.code.call
   pub stmts : body.stmts ≡ b.code.stmts
   pub tail : Gives b.returned body.tail

@@ -8,7 +8,8 @@ use Rattle.rust_tree.specs.declared.stmt.Stmt.{Stmt}
 use Rattle.rust_tree.specs.declared.stmt.Stmt.TheVariants as stmt
 use Rattle.func_gen.specs.declared.function_bindgen.FunctionBindgen.{FunctionBindgen}
 use Rattle.func_gen.specs.declared.operand.ExprOperand.{ExprOperand}
-use Rattle.func_gen.specs.Forms.{operand_of, runtime_call}
+use Rattle.func_gen.specs.Forms.{runtime_call}
+use Rattle.func_gen.specs.PartForms.{exprs_of}
 use Rattle.func_gen.specs.Scope.{Takes, with_number}
 
 -- the names that are declared, the statements, the expressions that are the results, and the items of `_rt` that these name
@@ -48,5 +49,6 @@ pub record Writes (code : ℕ → Emission) (rs : List ExprOperand) (old new : F
   pub call : new.code.call ≡ old.code.call
   pub stmts : new.code.stmts ≡ old.code.stmts ++ (code number).stmts
   pub runtime : new.runtime ≡ old.runtime ++ (code number).items
-  pub results : rs ≡ map operand_of (code number).results
+  pub results : exprs_of rs ≡ (code number).results
   pub opened : new.opened ≡ old.opened
+  pub finished : new.finished ≡ old.finished

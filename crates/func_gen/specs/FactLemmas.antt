@@ -1,6 +1,7 @@
 -- When a fact is right, and that it stays so where more names are known.
 use Rattle.std.proofs.Common.{◌≡◌, ℕ, ◌≤◌, Bool, true, false, cond, List, [], ◌∷◌, Option, None, Some, refl, sym, ap, ap₂, ◌∙◌, arith}
 use Rattle.std.specs.Prelude.{option_and_then, slice_get}
+use Rattle.std.specs.Option.{option_map}
 use Rattle.std.specs.Coded.{Coded, coded_option}
 use Rattle.std.proofs.lemmas.Bool.{and_parts, and_from}
 use Rattle.std.proofs.lemmas.Bool.Decides.{nat_tests}
@@ -9,9 +10,9 @@ use base.Stored.{Gv, gnil, gnum, gcons}
 use Rattle.rust_tree.specs.declared.item.Item.{Item}
 use Rattle.wit_model.specs.Bytes.{Bytes}
 use Rattle.wit_model.specs.declared.types.WitType.TheVariants as wit
-use Rattle.wrapper_data.specs.contracts.value.RustValue as rust
 use Rattle.wrapper_data.specs.declared.value.RustValue.{RustValue}
 use Rattle.wrapper_data.specs.declared.value.RustValue.TheVariants as value
+use Rattle.wrapper_data.specs.declared.word.Word.{Word}
 use Rattle.wrapper_data.specs.declared.word.Word.TheVariants as core
 use Rattle.wrapper_meaning.specs.Items.{total}
 use Rattle.wrapper_meaning.specs.Numbers.{is_signed}
@@ -19,11 +20,11 @@ use Rattle.wrapper_values.specs.contracts.state.Val as vals
 use Rattle.wrapper_values.specs.declared.state.Val.{Val}
 use Rattle.wrapper_values.specs.declared.state.Val.TheVariants as val
 use Rattle.wrapper_values.specs.Effect.{rust_of}
-use Rattle.abi_driver.specs.Meaning.{Datum, Fact, word, item, of, arg, bound}
+use Rattle.abi_driver.specs.Meaning.{Datum, Fact, of, arg, bound}
 use Rattle.func_gen.specs.declared.function_bindgen.ParamSite.{ParamSite}
 use Rattle.func_gen.specs.declared.operand.ExprOperand.{ExprOperand}
-use Rattle.func_gen.specs.Facts.{fact_datum, fact_value, gv_eq, item_of, matches, same, wrong}
-use Rattle.func_gen.specs.Read.{Env, Under, less, less_is_under, read}
+use Rattle.func_gen.specs.Facts.{fact_datum, fact_value, gv_eq, matches, same, val_of, wrong}
+use Rattle.func_gen.specs.Read.{Env, Read, Under, item_of, kept_value, less, read, read_kept, read_operand}
 use Rattle.func_gen.specs.Slot.{Slot, slot_read}
 
 -- 1. The test of codes
@@ -56,16 +57,13 @@ same_from c x y e = ap (λ z. gv_eq (c.code z) (c.code y)) e ∙ gv_self (c.code
 
 -- what a fact says of the value that is read
 abbrev pub Says : Datum RustValue → Option Val → Type 0
-Says (word x) o = o ≡ Some (val.Word x)
-Says (item r) o = option_and_then item_of o ≡ Some r
+Says d o = o ≡ Some (val_of d)
 
 pub matches_says : (d : Datum RustValue) (o : Option Val) → matches d o ≡ true → Says d o
-matches_says (word x) o h = same_true (coded_option vals.the_row.coded) o (Some (val.Word x)) h
-matches_says (item r) o h = same_true (coded_option rust.the_row.coded) (option_and_then item_of o) (Some r) h
+matches_says d o h = same_true (coded_option vals.the_row.coded) o (Some (val_of d)) h
 
 pub says_matches : (d : Datum RustValue) (o : Option Val) → Says d o → matches d o ≡ true
-says_matches (word x) o h = same_from (coded_option vals.the_row.coded) o (Some (val.Word x)) h
-says_matches (item r) o h = same_from (coded_option rust.the_row.coded) (option_and_then item_of o) (Some r) h
+says_matches d o h = same_from (coded_option vals.the_row.coded) o (Some (val_of d)) h
 
 -- a word that is a whole number is one of the Rust side
 ranged_is : (b : Bool) (r s : RustValue) → cond b (Some r) None ≡ Some s → (let o : Option RustValue = Some r in o) ≡ Some s
@@ -83,9 +81,57 @@ item_rust (val.Word (core.Slot o)) r h = absurd cc
 item_rust (val.Value q) r h = h
 item_rust (val.Area a z) r h = absurd cc
 
-pub item_rust_at : (o : Option Val) (r : RustValue) → option_and_then item_of o ≡ Some r → option_and_then rust_of o ≡ Some r
-item_rust_at None r h = absurd cc
-item_rust_at (Some v) r h = item_rust v r h
+pub kept_reads : (kept : Bool) (x : Read) (env : Env) → (read_kept kept x).at env ≡ kept_value kept (x.at env)
+kept_reads true x env = refl
+kept_reads false x env = refl
+
+value_is : (o : Option RustValue) (r : RustValue) → option_map val.Value o ≡ Some (val.Value r) → o ≡ Some r
+value_is None r h = absurd cc
+value_is (Some q) r h = ap (option_and_then item_of) h
+
+is_word : Option Val → Bool
+is_word (Some (val.Word x)) = true
+is_word _ = false
+
+no_word : (o : Option RustValue) (x : Word) → option_map val.Value o ≡ Some (val.Word x) → ⊥
+unfolding is_word
+no_word None x h = cc
+no_word (Some q) x h = let e : false ≡ true = ap is_word h in cc
+
+-- a value that is denoted is that value for the Rust side, whether a word was kept or not
+pub kept_item : (kept : Bool) (v : Val) (r : RustValue) → kept_value kept (Some v) ≡ Some (val.Value r) → item_of v ≡ Some r
+kept_item true v r h = value_is (item_of v) r h
+kept_item false v r h = ap (option_and_then item_of) h
+
+-- and a word that is denoted was not kept
+pub kept_word : (kept : Bool) (v : Val) (x : Word) → kept_value kept (Some v) ≡ Some (val.Word x) → (kept ≡ false) × (v ≡ val.Word x)
+kept_word true v x h = absurd (no_word (item_of v) x h)
+kept_word false v x h = (refl, cc)
+
+-- something was read where something is denoted
+pub kept_some : (kept : Bool) (o : Option Val) (v : Val) → kept_value kept o ≡ Some v → (u : Val) × (o ≡ Some u) × (kept_value kept (Some u) ≡ Some v)
+kept_some true None v h = absurd cc
+kept_some false None v h = absurd cc
+kept_some kept (Some u) v h = (u, refl, h)
+
+-- what an operand reads that denotes a datum
+pub operand_reads : (items : List Item) (o : ExprOperand) (env : Env) (v : Val) → (read_operand items o).at env ≡ Some v → (u : Val) × ((read items o.expr).at env ≡ Some u) × (kept_value o.kept (Some u) ≡ Some v)
+operand_reads items o env v h = kept_some o.kept ((read items o.expr).at env) v (sym (kept_reads o.kept (read items o.expr) env) ∙ h)
+
+pub item_read : (items : List Item) (o : ExprOperand) (env : Env) (r : RustValue) → (read_operand items o).at env ≡ Some (val.Value r) → option_and_then item_of ((read items o.expr).at env) ≡ Some r
+item_read items o env r h =
+    let (u, reads, is) = operand_reads items o env (val.Value r) h in
+    ap (option_and_then item_of) reads ∙ kept_item o.kept u r is
+
+pub word_read : (items : List Item) (o : ExprOperand) (env : Env) (x : Word) → (read_operand items o).at env ≡ Some (val.Word x) → (o.kept ≡ false) × ((read items o.expr).at env ≡ Some (val.Word x))
+word_read items o env x h =
+    let (u, reads, is) = operand_reads items o env (val.Word x) h in
+    let two = kept_word o.kept u x is in
+    (two.0, reads ∙ ap (λ z. Some z) two.1)
+
+-- a word is denoted by an operand that was not kept and reads it
+pub word_denoted : (items : List Item) (o : ExprOperand) (env : Env) (x : Word) → o.kept ≡ false → (read items o.expr).at env ≡ Some (val.Word x) → (read_operand items o).at env ≡ Some (val.Word x)
+word_denoted items o env x plain h = ap (λ kept. (read_kept kept (read items o.expr)).at env) plain ∙ h
 
 -- a weight is 0 or 1
 pub wrong_none : (b : Bool) → b ≡ true → cond {A = ℕ} b 0 1 ≡ 0
@@ -120,23 +166,18 @@ module _ (items : List Item) (params : List ParamSite) where
 
   -- what is read is read where more names are known
   value_mono : (a b : Env) → Under a b → (f : Fact ExprOperand Slot RustValue) (v : Val) → fact_value items params a f ≡ Some v → fact_value items params b f ≡ Some v
-  value_mono a b u (of e d) v h = (read items e.expr).mono a b u v h
+  value_mono a b u (of o d) v h = (read_operand items o).mono a b u v h
   value_mono a b u (bound slot name d) v h = (slot_read slot name).mono a b u v h
   value_mono a b u (arg n d) v h = go (slice_get params n) h
     where
-      go : (o : Option ParamSite) → option_and_then (λ p. (read items p.operand.expr).at a) o ≡ Some v → option_and_then (λ p. (read items p.operand.expr).at b) o ≡ Some v
+      go : (o : Option ParamSite) → option_and_then (λ p. (read_operand items p.operand).at a) o ≡ Some v → option_and_then (λ p. (read_operand items p.operand).at b) o ≡ Some v
       go None k = absurd cc
-      go (Some p) k = (read items p.operand.expr).mono a b u v k
-
-  says_mono : (d : Datum RustValue) (o p : Option Val) → ((v : Val) → o ≡ Some v → p ≡ Some v) → Says d o → Says d p
-  says_mono (word x) o p h k = h (val.Word x) k
-  says_mono (item r) None p h k = absurd cc
-  says_mono (item r) (Some v) p h k = ap (option_and_then item_of) (h v refl) ∙ k
+      go (Some p) k = (read_operand items p.operand).mono a b u v k
 
   wrong_mono : (a b : Env) → Under a b → (f : Fact ExprOperand Slot RustValue) → wrong items params b f ≤ wrong items params a f
   wrong_mono a b u f =
       less_wrong (matches (fact_datum f) (fact_value items params a f)) (matches (fact_datum f) (fact_value items params b f))
-      (λ h. says_matches (fact_datum f) (fact_value items params b f) (says_mono (fact_datum f) (fact_value items params a f) (fact_value items params b f) (value_mono a b u f) (matches_says (fact_datum f) (fact_value items params a f) h)))
+      (λ h. says_matches (fact_datum f) (fact_value items params b f) (value_mono a b u f (val_of (fact_datum f)) (matches_says (fact_datum f) (fact_value items params a f) h)))
 
   pub total_mono : (a b : Env) → Under a b → (fs : List (Fact ExprOperand Slot RustValue)) → total (wrong items params b) fs ≤ total (wrong items params a) fs
   total_mono a b u [] = omega arith
@@ -146,31 +187,17 @@ module _ (items : List Item) (params : List ParamSite) where
 
   -- what holds without one name, and without another, holds without both
   value_meet : (env : Env) (n k : Bytes) (f : Fact ExprOperand Slot RustValue) (v : Val) → fact_value items params (less env n) f ≡ Some v → fact_value items params (less env k) f ≡ Some v → fact_value items params (less (less env n) k) f ≡ Some v
-  value_meet env n k (of e d) v g h = (read items e.expr).meet env n k v g h
+  value_meet env n k (of o d) v g h = (read_operand items o).meet env n k v g h
   value_meet env n k (bound slot name d) v g h = (slot_read slot name).meet env n k v g h
   value_meet env n k (arg i d) v g h = go (slice_get params i) g h
     where
-      go : (o : Option ParamSite) → option_and_then (λ p. (read items p.operand.expr).at (less env n)) o ≡ Some v → option_and_then (λ p. (read items p.operand.expr).at (less env k)) o ≡ Some v
-          → option_and_then (λ p. (read items p.operand.expr).at (less (less env n) k)) o ≡ Some v
+      go : (o : Option ParamSite) → option_and_then (λ p. (read_operand items p.operand).at (less env n)) o ≡ Some v → option_and_then (λ p. (read_operand items p.operand).at (less env k)) o ≡ Some v
+          → option_and_then (λ p. (read_operand items p.operand).at (less (less env n) k)) o ≡ Some v
       go None x y = absurd cc
-      go (Some p) x y = (read items p.operand.expr).meet env n k v x y
+      go (Some p) x y = (read_operand items p.operand).meet env n k v x y
 
   says_meet : (env : Env) (n k : Bytes) (f : Fact ExprOperand Slot RustValue) → Says (fact_datum f) (fact_value items params (less env n) f) → Says (fact_datum f) (fact_value items params (less env k) f) → Says (fact_datum f) (fact_value items params (less (less env n) k) f)
-  says_meet env n k f = by (fact_datum f)
-    where
-      by : (d : Datum RustValue) → Says d (fact_value items params (less env n) f) → Says d (fact_value items params (less env k) f) → Says d (fact_value items params (less (less env n) k) f)
-      by (word x) g h = value_meet env n k f (val.Word x) g h
-      by (item r) g h = go (fact_value items params (less env n) f) refl (fact_value items params (less env k) f) refl g
-        where
-          go : (o : Option Val) → fact_value items params (less env n) f ≡ o → (p : Option Val) → fact_value items params (less env k) f ≡ p → option_and_then item_of o ≡ Some r → option_and_then item_of (fact_value items params (less (less env n) k) f) ≡ Some r
-          go None a p b x = absurd cc
-          go (Some v) a None b x = absurd (let z : (let q : Option RustValue = None in q ≡ Some r) = sym (ap (option_and_then item_of) b) ∙ h in cc)
-          go (Some v) a (Some u) b x =
-              let ev : fact_value items params env f ≡ Some v = value_mono (less env n) env (less_is_under env n) f v a in
-              let eu : fact_value items params env f ≡ Some u = value_mono (less env k) env (less_is_under env k) f u b in
-              let same : u ≡ v = cc in
-              let bv : fact_value items params (less env k) f ≡ Some v = cc in
-              ap (option_and_then item_of) (value_meet env n k f v a bv) ∙ x
+  says_meet env n k f g h = value_meet env n k f (val_of (fact_datum f)) g h
 
   pub total_meet : (env : Env) (n k : Bytes) (fs : List (Fact ExprOperand Slot RustValue)) → total (wrong items params (less env n)) fs ≡ 0 → total (wrong items params (less (less env n) k)) fs ≤ total (wrong items params (less env k)) fs
   total_meet env n k [] h = omega arith

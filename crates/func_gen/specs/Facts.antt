@@ -4,15 +4,9 @@ use Rattle.std.specs.Coded.{coded_option}
 use base.Stored.{Coded, Gv, gnil, gnum, gcons}
 use Rattle.rust_tree.specs.declared.item.Item.{Item}
 use Rattle.wit_model.specs.Bytes.{Bytes}
-use Rattle.wit_model.specs.declared.types.WitType.TheVariants as wit
-use Rattle.wrapper_data.specs.contracts.value.RustValue as rust
 use Rattle.wrapper_data.specs.declared.block.Block.{Block}
 use Rattle.wrapper_data.specs.declared.value.RustValue.{RustValue}
-use Rattle.wrapper_data.specs.declared.value.RustValue.TheVariants as value
-use Rattle.wrapper_data.specs.declared.word.Word.{Word}
-use Rattle.wrapper_data.specs.declared.word.Word.TheVariants as core
 use Rattle.wrapper_meaning.specs.Items.{total}
-use Rattle.wrapper_meaning.specs.Numbers.{is_signed}
 use Rattle.wrapper_values.specs.contracts.state.Val as vals
 use Rattle.wrapper_values.specs.declared.state.State.{State}
 use Rattle.wrapper_values.specs.declared.state.Val.{Val}
@@ -25,7 +19,7 @@ use Rattle.abi_driver.specs.Meaning.{Datum, Fact, word, item, of, arg, bound}
 use Rattle.func_gen.specs.declared.function_bindgen.FunctionBindgen.{FunctionBindgen}
 use Rattle.func_gen.specs.declared.function_bindgen.ParamSite.{ParamSite}
 use Rattle.func_gen.specs.declared.operand.ExprOperand.{ExprOperand}
-use Rattle.func_gen.specs.Read.{Env, env_of, less, read}
+use Rattle.func_gen.specs.Read.{Env, env_of, less, read_operand}
 use Rattle.func_gen.specs.Scope.{is_used}
 use Rattle.func_gen.specs.Slot.{Slot, slot_read}
 
@@ -47,32 +41,22 @@ same c x y = gv_eq (c.code x) (c.code y)
 
 -- 2. A fact by itself
 
--- what something is for the Rust side. A whole number that is a word is in its range: no method is passed another as its value
-abbrev pub item_of_word : Word → Option RustValue
-item_of_word (core.I32 z) = if is_signed 31 z then Some (value.Num wit.S32 z) else None
-item_of_word (core.I64 z) = if is_signed 63 z then Some (value.Num wit.S64 z) else None
-item_of_word (core.F32 bits) = Some (value.F32 bits)
-item_of_word (core.F64 bits) = Some (value.F64 bits)
-item_of_word _ = None
+-- the value that a datum is: a word, or a value of the Rust side
+abbrev pub val_of : Datum RustValue → Val
+val_of (word x) = val.Word x
+val_of (item r) = val.Value r
 
-abbrev pub item_of : Val → Option RustValue
-item_of (val.Word x) = item_of_word x
-item_of (val.Value r) = Some r
-item_of (val.Area _ _) = None
-
--- a word denotes itself; a value is denoted by what is one for the Rust side
 abbrev pub matches : Datum RustValue → Option Val → Bool
-matches (word x) o = same (coded_option vals.the_row.coded) o (Some (val.Word x))
-matches (item r) o = same (coded_option rust.the_row.coded) (option_and_then item_of o) (Some r)
+matches d o = same (coded_option vals.the_row.coded) o (Some (val_of d))
 
 -- what names let read, of an operand, of an argument, and of a name of a block
 abbrev pub fact_value : List Item → List ParamSite → Env → Fact ExprOperand Slot RustValue → Option Val
-fact_value items params env (of e d) = (read items e.expr).at env
-fact_value items params env (arg n d) = option_and_then (λ p. (read items p.operand.expr).at env) (slice_get params n)
+fact_value items params env (of o d) = (read_operand items o).at env
+fact_value items params env (arg n d) = option_and_then (λ p. (read_operand items p.operand).at env) (slice_get params n)
 fact_value items params env (bound slot name d) = (slot_read slot name).at env
 
 abbrev pub fact_datum : Fact ExprOperand Slot RustValue → Datum RustValue
-fact_datum (of e d) = d
+fact_datum (of o d) = d
 fact_datum (arg n d) = d
 fact_datum (bound slot name d) = d
 

@@ -1,14 +1,22 @@
 -- What is promised of the code of a step: what it is, beside what it does.
-use Rattle.std.specs.Prelude.{◌≡◌, ℕ, List, [], ◌∷◌, ◌++◌, length, Option, None, Some, IfSome, option_to_list}
+use Rattle.std.specs.Prelude.{◌≡◌, ℕ, suc, List, [], ◌∷◌, ◌++◌, length, Option, None, Some, IfSome, option_to_list}
 use Rattle.wit_model.specs.declared.function.Function.{Function}
 use Rattle.wit_model.specs.declared.types.WitType.{WitType}
 use Rattle.wit_model.specs.declared.wasm_type.WasmType.{WasmType}
-use Rattle.abi_driver.specs.declared.instruction.Instruction.TheVariants.{CallInterface, CallWasm, Return}
-use Rattle.abi_driver.specs.Sent.{Sent, opens, sends}
+use Rattle.rust_tree.specs.declared.expr.Expr.{Expr}
+use Rattle.rust_tree.specs.declared.stmt.Stmt.{Stmt}
+use Rattle.wit_model.specs.Bytes.{Bytes}
+use Rattle.abi_driver.specs.declared.instruction.Instruction.TheVariants.{CallInterface, CallWasm, GuestDeallocateVariant, OptionLift, OptionLower, ResultLift, ResultLower, Return, VariantLift, VariantLower}
+use Rattle.abi_driver.specs.Sent.{Sent, closes, opens, sends}
+use Rattle.func_gen.specs.declared.case_form.CaseForm.{CaseForm}
+use Rattle.func_gen.specs.declared.function_bindgen.FinishedBlock.{FinishedBlock}
 use Rattle.func_gen.specs.declared.function_bindgen.FunctionBindgen.{FunctionBindgen}
+use Rattle.func_gen.specs.declared.function_bindgen.OpenBlock.{OpenBlock}
 use Rattle.func_gen.specs.declared.operand.ExprOperand.{ExprOperand}
 use Rattle.func_gen.specs.CodeOf.{calls_core, emitted}
 use Rattle.func_gen.specs.Emission.{Emission, Writes}
+use Rattle.func_gen.specs.LiftedCases.{FreesBy, LiftsBy, LiftsVariantBy}
+use Rattle.func_gen.specs.MatchForms.{LowersBy}
 use Rattle.func_gen.specs.MethodForms.{call_block, value_local}
 use Rattle.func_gen.specs.PartForms.{exprs_of, locals_of}
 use Rattle.func_gen.specs.Scope.{Takes}
@@ -25,13 +33,29 @@ pub data Called : Type 0 where
   no_call : Called
   core_call : Function → Called
   method_call : Function → Called
-  -- or that it opens a block
+  -- or that it opens a block, or closes one
   block_begins : Called
+  block_ends : Called
+  -- or that it takes the cases of a value apart, for so many results
+  cases_match : ℕ → Called
+  -- or that it makes a case of a number, where every other number ends the run, or is that of the last case
+  case_lifts : Called
+  last_lifts : Called
+  -- or that it runs the one of so many blocks that free
+  cases_free : ℕ → Called
 
 abbrev pub called : Sent → Called
 called (sends (CallWasm f)) = core_call f.now
 called (sends (CallInterface f)) = method_call f.now
+called (sends (VariantLower id n)) = cases_match n
+called (sends (OptionLower id n)) = cases_match n
+called (sends (ResultLower id n)) = cases_match n
 called opens = block_begins
+called (sends (OptionLift id)) = case_lifts
+called (sends (ResultLift id)) = case_lifts
+called (sends (VariantLift id)) = last_lifts
+called (sends (GuestDeallocateVariant n)) = cases_free n
+called closes = block_ends
 called _ = no_call
 
 -- it becomes what the table says
@@ -57,6 +81,7 @@ pub record CallsMethod (due : Option WitType) (f : Function) (os rs : List ExprO
   pub runtime : new.runtime ≡ old.runtime
   pub results : rs ≡ locals_of (option_to_list (value_local due number))
   pub opened : new.opened ≡ old.opened
+  pub finished : new.finished ≡ old.finished
 
 -- a block is opened, whose names take one number; the code so far is suspended
 pub record OpensBlock (old new : FunctionBindgen) : Type 0 where
@@ -65,12 +90,70 @@ pub record OpensBlock (old new : FunctionBindgen) : Type 0 where
   pub opened : new.opened ≡ old.opened ++ record { number = number; names = old.scope.used; code = old.code } ∷ []
   pub code : new.code ≡ record { call = None; stmts = [] }
   pub runtime : new.runtime ≡ old.runtime
+  pub finished : new.finished ≡ old.finished
+
+-- what a block is, once it is closed with these statements and results
+abbrev pub block_of : OpenBlock → List Stmt → List ExprOperand → FinishedBlock
+block_of o stmts os = record { number = o.number; names = o.names; stmts = stmts; results = os }
+
+-- the innermost block is closed, of whose code no method was called. It is the last finished one, and the code that it suspended is gone on
+-- with; all names stay used
+pub record ClosesBlock (os : List ExprOperand) (old new : FunctionBindgen) : Type 0 where
+  pub block : OpenBlock
+  pub opened : old.opened ≡ new.opened ++ block ∷ []
+  pub code : new.code ≡ block.code
+  pub uncalled : old.code.call ≡ None
+  pub finished : new.finished ≡ old.finished ++ block_of block old.code.stmts os ∷ []
+  pub scope : new.scope ≡ old.scope
+  pub runtime : new.runtime ≡ old.runtime
+
+-- the last finished blocks become the arms of a match of the operand, whose results are locals. How the cases are taken, the step does not tell
+pub record MatchesCases (n : ℕ) (os rs : List ExprOperand) (old new : FunctionBindgen) : Type 0 where
+  pub forms : List CaseForm
+  pub operand : Expr
+  pub only : exprs_of os ≡ operand ∷ []
+  pub names : List Bytes
+  pub lowers : LowersBy forms operand n names old new
+  pub results : rs ≡ locals_of names
+
+-- the last finished blocks become the arms of a match of the number, which gives the case
+pub record LiftsCases (os rs : List ExprOperand) (old new : FunctionBindgen) : Type 0 where
+  pub forms : List CaseForm
+  pub operand : Expr
+  pub only : exprs_of os ≡ operand ∷ []
+  pub name : Bytes
+  pub lifts : LiftsBy forms operand name old new
+  pub results : rs ≡ locals_of (name ∷ [])
+
+pub record LiftsVariant (os rs : List ExprOperand) (old new : FunctionBindgen) : Type 0 where
+  pub forms : List CaseForm
+  pub last : CaseForm
+  pub operand : Expr
+  pub only : exprs_of os ≡ operand ∷ []
+  pub number : Bytes
+  pub name : Bytes
+  pub lifts : LiftsVariantBy forms last operand number name old new
+  pub results : rs ≡ locals_of (name ∷ [])
+
+-- and so many that free
+pub record FreesCases (n : ℕ) (os rs : List ExprOperand) (old new : FunctionBindgen) : Type 0 where
+  pub first : ℕ
+  pub many : n ≡ suc first
+  pub operand : Expr
+  pub only : exprs_of os ≡ operand ∷ []
+  pub frees : FreesBy first operand old new
+  pub results : rs ≡ []
 
 abbrev pub Becomes : Called → Sent → (os rs : List ExprOperand) → (old new : FunctionBindgen) → Type 0
 Becomes no_call step os rs old new = BecomesTold step os rs old new
 Becomes (core_call f) step os rs old new = CallsSome f os rs old new
 Becomes (method_call f) step os rs old new = CallsMethod f.result f os rs old new
 Becomes block_begins step os rs old new = OpensBlock old new
+Becomes block_ends step os rs old new = ClosesBlock os old new
+Becomes (cases_match n) step os rs old new = MatchesCases n os rs old new
+Becomes case_lifts step os rs old new = LiftsCases os rs old new
+Becomes last_lifts step os rs old new = LiftsVariant os rs old new
+Becomes (cases_free n) step os rs old new = FreesCases n os rs old new
 
 pub record Formed (step : Sent) (os rs : List ExprOperand) (old new : FunctionBindgen) : Type 0 where
   pub still : StillOf old new

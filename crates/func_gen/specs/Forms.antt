@@ -13,8 +13,13 @@ use Rattle.abi_driver.specs.declared.instruction.Instruction.{Instruction}
 use Rattle.abi_driver.specs.declared.instruction.Instruction.TheVariants.{I32FromU8, I32FromS8, I32FromU16, I32FromS16, I32FromU32, I32FromS32, I32FromChar, I64FromU64, I64FromS64, CoreF32FromF32, CoreF64FromF64, U8FromI32, S8FromI32, U16FromI32, S16FromI32, U32FromI32, S32FromI32, U64FromI64, S64FromI64, F32FromCoreF32, F64FromCoreF64}
 use Rattle.func_gen.specs.declared.operand.ExprOperand.{ExprOperand}
 
+-- an expression that denotes what it reads
 abbrev pub operand_of : Expr → ExprOperand
-operand_of e = record { expr = e }
+operand_of e = record { expr = e; kept = false }
+
+-- a local, which keeps a word as a number or does not
+abbrev pub local_kept : Bool → Bytes → ExprOperand
+local_kept kept n = record { expr = expr.Local n; kept = kept }
 
 unfoldable pub runtime_name : Bytes
 runtime_name = codes "_rt"
@@ -51,7 +56,10 @@ number_cast U32FromI32 = Some cast.U32
 number_cast U64FromI64 = Some cast.U64
 number_cast _ = None
 
--- a word is a number as it is
+-- an expression that reads a word, which is a number as it is
+abbrev pub kept_operand : Expr → ExprOperand
+kept_operand e = record { expr = e; kept = true }
+
 abbrev pub is_kept : Instruction → Bool
 is_kept S32FromI32 = true
 is_kept S64FromI64 = true

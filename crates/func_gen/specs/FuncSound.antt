@@ -1,6 +1,6 @@
 -- That the meaning of a `FunctionBindgen` is one: it keeps the laws on facts, operands and items.
 use mathlib.Core.Logic.{inl}
-use Rattle.std.proofs.Common.{◌≡◌, ℕ, ◌≤◌, [], ◌∷◌, ◌++◌, Option, None, Some, refl, sym, ap, ◌∙◌, arith}
+use Rattle.std.proofs.Common.{◌≡◌, ℕ, ◌≤◌, [], ◌∷◌, ◌++◌, Option, None, Some, refl, sym, ap, ◌∙◌, arith, List}
 use Rattle.std.specs.Prelude.{option_and_then, slice_get}
 use Rattle.wit_model.specs.Bytes.{Bytes}
 use Rattle.rust_tree.specs.declared.expr.Expr.TheVariants as expr
@@ -17,14 +17,15 @@ use Rattle.abi_driver.specs.Meaning.{Datum, Fact, arg, item, of, word, bound, Na
 use Rattle.func_gen.specs.declared.function_bindgen.FunctionBindgen.{FunctionBindgen}
 use Rattle.func_gen.specs.declared.function_bindgen.ParamSite.{ParamSite}
 use Rattle.func_gen.specs.declared.operand.ExprOperand.{ExprOperand}
-use Rattle.func_gen.specs.FactLemmas.{Says, is_said, said}
+use Rattle.func_gen.specs.FactLemmas.{Says, is_said, said, word_denoted, word_read}
 use Rattle.func_gen.specs.Facts.{Owns, wrong}
 use Rattle.func_gen.specs.Meaning.{Denote, File, FuncState, func_meaning}
-use Rattle.func_gen.specs.Read.{Env, Read, env_of, less, read}
+use Rattle.func_gen.specs.Read.{Env, Read, env_of, item_of, less, read, read_operand}
 use Rattle.func_gen.specs.ReadForms.{read-local, stable}
 use Rattle.func_gen.specs.StandLemmas.{given_on, lent_alone, taken_on, taken_owns}
 use Rattle.func_gen.specs.Slot.{Slot, slot_name}
 use Rattle.wrapper_meaning.proofs.PostReturn.{total-append}
+use Rattle.rust_tree.specs.declared.item.Item.{Item}
 
 -- facts that weigh no more hold too
 module _ (w : File) (b : FunctionBindgen) (facts others : Facts func_meaning) (less_weight : (g : Fact ExprOperand Slot RustValue → ℕ) → total g others ≤ total g facts) where
@@ -57,20 +58,26 @@ twice w b f facts s needs d = record {
   area = d.area;
 }
 
+-- a word that an operand denotes is read without a local that owns
+word_stable : (items : List Item) (o : ExprOperand) (env : Env) (x : Word) → (read_operand items o).at env ≡ Some (val.Word x) → (n : Bytes) → Owns (env n) → (read_operand items o).at (less env n) ≡ Some (val.Word x)
+word_stable items o env x h n owns =
+    let two = word_read items o env x h in
+    word_denoted items o (less env n) x two.0 (stable items o.expr env (val.Word x) two.1 refl n owns)
+
 word_again : (w : File) (b : FunctionBindgen) (o : ExprOperand) (x : Word) (facts : Facts func_meaning) (s : FuncState) → Denote w b (of o (word x) ∷ facts) s → Denote w b (of o (word x) ∷ of o (word x) ∷ facts) s
 word_again w b o x facts s d =
     let here = is_said w.items b.params (env_of s.machine) (of o (word x)) (omega (arith, d.hold.right)) in
-    twice w b (of o (word x)) facts s (λ n owns. said w.items b.params (less (env_of s.machine) n) (of o (word x)) (stable w.items o.expr (env_of s.machine) (val.Word x) here refl n owns)) d
+    twice w b (of o (word x)) facts s (λ n owns. said w.items b.params (less (env_of s.machine) n) (of o (word x)) (word_stable w.items o (env_of s.machine) x here n owns)) d
 
 arg_word_again : (w : File) (b : FunctionBindgen) (k : ℕ) (x : Word) (facts : Facts func_meaning) (s : FuncState) → Denote w b (arg k (word x) ∷ facts) s → Denote w b (arg k (word x) ∷ arg k (word x) ∷ facts) s
 arg_word_again w b k x facts s d =
     let here = is_said w.items b.params (env_of s.machine) (arg k (word x)) (omega (arith, d.hold.right)) in
     twice w b (arg k (word x)) facts s (λ n owns. said w.items b.params (less (env_of s.machine) n) (arg k (word x)) (go (slice_get b.params k) here n owns)) d
   where
-    go : (o : Option ParamSite) → option_and_then (λ (p : ParamSite). (read w.items p.operand.expr).at (env_of s.machine)) o ≡ Some (val.Word x) → (n : Bytes) → Owns (env_of s.machine n)
-        → option_and_then (λ (p : ParamSite). (read w.items p.operand.expr).at (less (env_of s.machine) n)) o ≡ Some (val.Word x)
+    go : (o : Option ParamSite) → option_and_then (λ (p : ParamSite). (read_operand w.items p.operand).at (env_of s.machine)) o ≡ Some (val.Word x) → (n : Bytes) → Owns (env_of s.machine n)
+        → option_and_then (λ (p : ParamSite). (read_operand w.items p.operand).at (less (env_of s.machine) n)) o ≡ Some (val.Word x)
     go None h n owns = absurd cc
-    go (Some p) h n owns = stable w.items p.operand.expr (env_of s.machine) (val.Word x) h refl n owns
+    go (Some p) h n owns = word_stable w.items p.operand (env_of s.machine) x h n owns
 
 -- a name of a block is read as its local is
 bound_word_again : (w : File) (b : FunctionBindgen) (slot : Slot) (name : Name) (x : Word) (facts : Facts func_meaning) (s : FuncState) → Denote w b (bound slot name (word x) ∷ facts) s → Denote w b (bound slot name (word x) ∷ bound slot name (word x) ∷ facts) s
@@ -82,7 +89,7 @@ bound_word_again w b slot name x facts s d =
     twice w b (bound slot name (word x)) facts s
     (λ n owns. said w.items b.params (less env n) (bound slot name (word x)) (sym (ap (λ (r : Read). r.at (less env n)) (read-local w.items k)) ∙ stable w.items (expr.Local k) env (val.Word x) reads refl n owns)) d
 
-says_of : (w : File) (b : FunctionBindgen) (o : ExprOperand) (d : Datum RustValue) (s : FuncState) → Denote w b (of o d ∷ []) s → Says d ((read w.items o.expr).at (env_of s.machine))
+says_of : (w : File) (b : FunctionBindgen) (o : ExprOperand) (d : Datum RustValue) (s : FuncState) → Denote w b (of o d ∷ []) s → Says d ((read_operand w.items o).at (env_of s.machine))
 says_of w b o d s h = is_said w.items b.params (env_of s.machine) (of o d) (omega (arith, h.hold.right))
 
 word_in : Val → Word → Word
@@ -100,7 +107,7 @@ func_sound = record {
   fewer = λ w b some others s h. lighter w b (some ++ others) others (λ g. omega (arith, total-append g some others)) s h;
   room = λ w b h. h.room;
   one_word = λ w b o x y s h g. same_word x y (some_same (val.Word x) (val.Word y) (sym (says_of w b o (word x) s h) ∙ says_of w b o (word y) s g));
-  one_item = λ w b o a c s h g. some_same a c (sym (says_of w b o (item a) s h) ∙ says_of w b o (item c) s g);
+  one_item = λ w b o a c s h g. some_same a c (ap (option_and_then item_of) (sym (says_of w b o (item a) s h) ∙ says_of w b o (item c) s g));
   again = word_again;
   arg_again = arg_word_again;
   bound_again = bound_word_again;

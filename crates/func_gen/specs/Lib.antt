@@ -2,6 +2,8 @@ pub mod Added
 pub mod Area
 pub mod Body
 pub mod CallForms
+pub mod CalledCases
+pub mod CaseForms
 pub mod CastForms
 pub mod CodeOf
 pub mod Emission
@@ -9,12 +11,16 @@ pub mod Entered
 pub mod EnumForms
 pub mod FactLemmas
 pub mod Facts
+pub mod Finished
 pub mod FlagsForms
 pub mod FlushForms
 pub mod Formed
 pub mod Forms
 pub mod FuncSound
+pub mod InwardTests
+pub mod LiftedCases
 pub mod Made
+pub mod MatchForms
 pub mod Meaning
 pub mod MemoryForms
 pub mod MethodForms
@@ -24,6 +30,7 @@ pub mod PartForms
 pub mod Read
 pub mod ReadForms
 pub mod RecordForms
+pub mod Resumes
 pub mod Scope
 pub mod Sites
 pub mod Slot
@@ -32,3 +39,4 @@ pub mod Still
 pub mod Suspends
 pub mod TextForms
 pub mod TypeSites
+pub mod Uses

@@ -18,3 +18,4 @@ pub record IsMadeOf (sizes : SizeAlign) (import : Bool) (home area cleanup : Byt
   pub used : b.scope.used ≡ area ∷ cleanup ∷ site_names params
   pub empty : b.code ≡ record { call = None; stmts = [] }
   pub unasked : b.asked ≡ []
+  pub unfinished : b.finished ≡ []

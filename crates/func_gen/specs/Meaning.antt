@@ -1,5 +1,5 @@
 -- What a `FunctionBindgen` means: its statements, as the machine runs them.
-use Rattle.std.specs.Prelude.{◌≡◌, ◌<◌, ℕ, Bool, true, false, not, if◌then◌else◌, List, [], ◌∷◌, ◌++◌, length, map, Option, None, Some, IfSome, option_and_then, option_map, option_to_list}
+use Rattle.std.specs.Prelude.{◌≡◌, ◌<◌, ℕ, Bool, true, false, not, if◌then◌else◌, List, [], ◌∷◌, ◌++◌, length, map, reverse, Option, None, Some, IfSome, option_and_then, option_map, option_to_list}
 use Rattle.std.specs.List.{AllByRecursion, flat_map}
 use Rattle.rust_tree.specs.Ident.{rust_ident}
 use Rattle.rust_tree.specs.declared.area.StaticArea.{StaticArea}
@@ -27,6 +27,7 @@ use Rattle.wrapper_meaning.specs.Shape.{Shape}
 use Rattle.wrapper_meaning.specs.StandsFor.{Stands}
 use Rattle.wrapper_meaning.specs.Value.{Value}
 use Rattle.wrapper_values.specs.declared.state.State.{State}
+use Rattle.wrapper_values.specs.declared.state.Val.{Val}
 use Rattle.wrapper_values.specs.declared.state.Val.TheVariants as val
 use Rattle.wrapper_values.specs.Act as machine
 use Rattle.wrapper_values.specs.Act.{◌>>=◌, ◌>>◌}
@@ -39,13 +40,16 @@ use Rattle.wrapper_run.specs.Run.{run_stmts, runtime_item_named}
 use Rattle.abi_driver.specs.declared.bindgen.Asked.{Asked}
 use Rattle.abi_driver.specs.Account.{Account, Call, Crossing, Done, Outcome, Peer, Reply, Stopped, Stuck, value as value_reply, words}
 use Rattle.abi_driver.specs.Area.{HoldsRecord}
-use Rattle.abi_driver.specs.Meaning.{Fact, Meaning}
+use Rattle.abi_driver.specs.Meaning.{Bound, Datum, Ended, Fact, Meaning}
 use Rattle.func_gen.specs.declared.function_bindgen.Code.{Code}
+use Rattle.func_gen.specs.declared.function_bindgen.FinishedBlock.{FinishedBlock}
 use Rattle.func_gen.specs.declared.function_bindgen.FunctionBindgen.{FunctionBindgen}
+use Rattle.func_gen.specs.declared.function_bindgen.OpenBlock.{OpenBlock}
 use Rattle.func_gen.specs.declared.operand.ExprOperand.{ExprOperand}
-use Rattle.func_gen.specs.Entered.{entered}
+use Rattle.func_gen.specs.Entered.{entered, is_nothing, reached}
 use Rattle.func_gen.specs.Facts.{AreOwned, Hold}
-use Rattle.func_gen.specs.Opened.{in_view, open_blocks}
+use Rattle.func_gen.specs.Finished.{data_of, left_owners, outside, results_act, slot_before}
+use Rattle.func_gen.specs.Opened.{open_blocks}
 use Rattle.func_gen.specs.Read.{env_of}
 use Rattle.func_gen.specs.TypeSites.{AreDefined}
 use Rattle.func_gen.specs.Formed.{Formed}
@@ -77,6 +81,10 @@ abbrev pub GivesAsCalled : List Item → Bytes → Option CallBlock → Type 0
 GivesAsCalled items bound None = Unit {0}
 GivesAsCalled items bound (Some c) = c.result ≡ None → IfSome (method_named items bound c.method) (λ (t : TraitFn). t.result ≡ type.Unit)
 
+-- so do those of the codes that open blocks suspend
+abbrev pub AllAsCalled : List Item → Bytes → List OpenBlock → Type 0
+AllAsCalled items bound opened = AllByRecursion (λ (o : OpenBlock). GivesAsCalled items bound o.code.call) opened
+
 pub record Serves (w : File) (b : FunctionBindgen) : Type 0 where
   pub runtime : Found w.items b.runtime
   pub sites : AreDefined w.items b.sites
@@ -86,6 +94,7 @@ pub record Serves (w : File) (b : FunctionBindgen) : Type 0 where
   pub static : b.import ≡ false → w.area ≡ static_request (area_in w.items)
   pub bound : b.import ≡ false → w.bound ≡ b.home
   pub called : GivesAsCalled w.items w.bound b.code.call
+  pub suspended : AllAsCalled w.items w.bound b.opened
 
 -- 2. States
 
@@ -104,19 +113,20 @@ account_of s = record { heap = s.heap; choices = s.choices; requests = s.request
 abbrev pub owns_of : State → List ℕ
 owns_of s = option_to_list s.place ++ flat_map (λ l. owned_in l.value) s.locals
 
--- of an import the area stands, where there is one, in the local of its name, and no static one is ever placed. That of an export does not
--- stand when the code begins, and is not placed while it was not asked for
+-- of an import no static area is ever placed, and where its own is in reach, that is in the local of its name: in a block it is not. That of an
+-- export does not stand when the code begins, and is not placed while it was not asked for
 abbrev pub AreaIs : (import : Bool) → Option Request → Option ℕ → List Asked → Bytes → State → Type 0
 AreaIs true None None asked name s = s.place ≡ None
 AreaIs true (Some area) (Some address) asked name s = (env_of s name ≡ Some (val.Area address area.size)) × (s.place ≡ None)
-AreaIs true _ _ asked name s = ⊥
+AreaIs true (Some area) None asked name s = s.place ≡ None
+AreaIs true None (Some address) asked name s = ⊥
 AreaIs false area None asked name s = asked ≡ [] → s.place ≡ None
 AreaIs false area (Some address) asked name s = ⊥
 
 pub record Denote (w : File) (b : FunctionBindgen) (facts : List (Fact ExprOperand Slot RustValue)) (s : FuncState) : Type 0 where
   pub hold : Hold w.items b facts s.machine
   pub owners : AreOwned s.machine.heap.blocks s.machine.taken
-  pub area : AreaIs b.import (in_view b.opened w.area) (in_view b.opened s.area) b.asked b.area s.machine
+  pub area : AreaIs b.import w.area s.area b.asked b.area s.machine
 
 -- 3. Runs
 
@@ -138,6 +148,20 @@ abbrev pub seen : Option ℕ → machine.Outcome (Unit {0}) → Outcome RustValu
 seen at (machine.Done u s) = Done (record { machine = s; area = at })
 seen at (machine.Stopped (stop.Stuck n) s) = Stuck (account_of s)
 seen at (machine.Stopped e s) = Stopped e (account_of s)
+
+-- a finished block is done where no local of its own owns a block still, and where its results are data
+abbrev pub done_block : Bool → Option (List (Datum RustValue)) → FuncState → State → Outcome RustValue (Ended RustValue FuncState)
+done_block true (Some ds) s u = Done (record { results = ds; state = record { machine = outside s.machine u; area = s.area } })
+done_block true None s u = Stuck (account_of u)
+done_block false ds s u = Stuck (account_of u)
+
+abbrev pub ended_block : FinishedBlock → FuncState → machine.Outcome (List Val) → Outcome RustValue (Ended RustValue FuncState)
+ended_block b s (machine.Done vs u) = done_block (is_nothing (left_owners (length (reached b.names s.machine.locals)) u)) (data_of b.results vs) s u
+ended_block b s (machine.Stopped (stop.Stuck n) u) = Stuck (account_of u)
+ended_block b s (machine.Stopped e u) = Stopped e (account_of u)
+
+abbrev pub run_finished : File → Peer RustValue → FinishedBlock → Bound RustValue → FuncState → Outcome RustValue (Ended RustValue FuncState)
+run_finished w p b with s = ended_block b s (results_act (setting_for w p) b (entered (slot_before b) with s.machine))
 
 -- 4. Values
 
@@ -193,7 +217,7 @@ func_meaning = record {
   World = File;
   State = FuncState;
   Code = Code;
-  Block = ⊥;
+  Block = FinishedBlock;
   Slot = Slot;
   Item = RustValue;
   width = 2;
@@ -206,13 +230,13 @@ func_meaning = record {
   owned = owned_by;
   nothing = record { call = None; stmts = [] };
   does = λ w p code s. seen s.area (run_code (setting_for w p) w.bound code s.machine);
-  runs = λ w p block with s. absurd block;
+  runs = run_finished;
   enter = λ slot with s. record { machine = entered slot with s.machine; area = None };
-  results_of = λ block. absurd block;
+  results_of = λ b. length b.results;
   denotes = Denote;
   code = λ b. b.code;
   opened = λ b. open_blocks b.opened;
-  blocks = λ b. [];
+  blocks = λ b. reverse b.finished;
   imports = λ b. b.import;
   exports = λ b. not b.import;
   knows = λ b types. IsFilledFor b.sizes types;

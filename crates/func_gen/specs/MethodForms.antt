@@ -36,6 +36,7 @@ pub record CallsIn (f : Function) (arguments : List Expr) (value : Option Bytes)
   pub asked : new.asked ≡ old.asked
   pub returned : new.returned ≡ old.returned
   pub opened : new.opened ≡ old.opened
+  pub finished : new.finished ≡ old.finished
 
 -- and that name is new
 pub record CallsFor (f : Function) (arguments : List Expr) (name : Bytes) (old new : FunctionBindgen) : Type 0 where

@@ -42,8 +42,3 @@ stem_read i = option_map name_prefix (name_read i)
 abbrev pub is_closed : List OpenBlock → Bool
 is_closed [] = true
 is_closed (_ ∷ _) = false
-
--- the return area is not in view while a block is open
-abbrev pub in_view : {A : Type 0} → List OpenBlock → Option A → Option A
-in_view [] o = o
-in_view (_ ∷ _) o = None

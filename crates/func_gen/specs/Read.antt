@@ -6,7 +6,12 @@ use Rattle.rust_tree.specs.declared.expr.Expr.{Expr, Expr-F, fold-Expr}
 use Rattle.rust_tree.specs.declared.item.Item.{Item}
 use Rattle.rust_tree.specs.declared.runtime_item.RuntimeItem.{RuntimeItem}
 use Rattle.wit_model.specs.Bytes.{Bytes}
+use Rattle.wit_model.specs.declared.types.WitType.TheVariants as wit
+use Rattle.wrapper_data.specs.declared.value.RustValue.{RustValue}
+use Rattle.wrapper_data.specs.declared.value.RustValue.TheVariants as value
+use Rattle.wrapper_data.specs.declared.word.Word.{Word}
 use Rattle.wrapper_data.specs.declared.word.Word.TheVariants as word
+use Rattle.wrapper_meaning.specs.Numbers.{is_signed}
 use Rattle.wrapper_values.specs.declared.state.State.{State}
 use Rattle.wrapper_values.specs.declared.state.Val.{Val}
 use Rattle.wrapper_values.specs.declared.state.Val.TheVariants as val
@@ -17,6 +22,7 @@ use Rattle.wrapper_values.specs.Flags.{bits_of_flags, word_at}
 use Rattle.wrapper_values.specs.Locals.{local_named, usable, value_of}
 use Rattle.wrapper_values.specs.Owning.{lent, owned, pointer_of}
 use Rattle.wrapper_run.specs.Run.{Callee, alone, callee, core_case, core_forget, core_function, enum_lift, of_runtime, root_case, runtime_item_named, unknown}
+use Rattle.func_gen.specs.declared.operand.ExprOperand.{ExprOperand}
 
 -- 1. Environments
 
@@ -167,3 +173,33 @@ read_step items _ = nothing
 -- in a file of these items
 abbrev pub read : List Item → Expr → Read
 read items = fold-Expr Read (read_step items)
+
+-- 4. What an operand denotes
+
+-- what something is for the Rust side. A whole number that is a word is in its range: no method is passed another as its value
+abbrev pub item_of_word : Word → Option RustValue
+item_of_word (word.I32 z) = if is_signed 31 z then Some (value.Num wit.S32 z) else None
+item_of_word (word.I64 z) = if is_signed 63 z then Some (value.Num wit.S64 z) else None
+item_of_word (word.F32 bits) = Some (value.F32 bits)
+item_of_word (word.F64 bits) = Some (value.F64 bits)
+item_of_word _ = None
+
+abbrev pub item_of : Val → Option RustValue
+item_of (val.Word x) = item_of_word x
+item_of (val.Value r) = Some r
+item_of (val.Area _ _) = None
+
+abbrev pub as_item : Val → Option Val
+as_item v = option_map val.Value (item_of v)
+
+-- a word that is kept as a number is one for the Rust side, and no word any more
+abbrev pub kept_value : Bool → Option Val → Option Val
+kept_value true o = option_and_then as_item o
+kept_value false o = o
+
+abbrev pub read_kept : Bool → Read → Read
+read_kept true r = through as_item r
+read_kept false r = r
+
+abbrev pub read_operand : List Item → ExprOperand → Read
+read_operand items o = read_kept o.kept (read items o.expr)

@@ -11,6 +11,8 @@ use Rattle.rust_tree.specs.declared.item.Item.TheVariants as item
 use Rattle.rust_tree.specs.declared.repr.Repr.{Repr}
 use Rattle.rust_tree.specs.declared.type_item.StructField.{StructField}
 use Rattle.rust_tree.specs.declared.type_item.TypeItem.{TypeItem}
+use Rattle.rust_tree.specs.declared.type_item.TypeItem.TheVariants.{Variant}
+use Rattle.rust_tree.specs.declared.variant_item.VariantItem.{VariantItem}
 use Rattle.wrapper_values.specs.Enums.{enum_in}
 use Rattle.wrapper_values.specs.Fields.{fields_in, root_name, type_named}
 use Rattle.wrapper_values.specs.Flags.{flags_in}
@@ -19,6 +21,7 @@ use Rattle.func_gen.specs.declared.flags_site.FlagsSite.{FlagsSite}
 use Rattle.func_gen.specs.declared.record_site.RecordSite.{RecordSite}
 use Rattle.func_gen.specs.declared.type_site.TypeSite.{TypeSite}
 use Rattle.func_gen.specs.declared.type_site.TypeSite.TheVariants as site
+use Rattle.func_gen.specs.declared.variant_site.VariantSite.{VariantSite}
 
 abbrev pub field_names : List StructField → List Bytes
 field_names fields = map (λ f. f.name) fields
@@ -57,10 +60,28 @@ HasMembers items held (Some name) = option_map held_members (flags_in (type_name
 abbrev pub DefinesFlags : List Item → FlagsSite → Type 0
 DefinesFlags items s = HasMembers items (s.repr, s.members) (root_name s.path)
 
+abbrev pub variant_in : Option TypeItem → Option VariantItem
+variant_in (Some (Variant v)) = Some v
+variant_in _ = None
+
+abbrev pub case_names : VariantItem → List Bytes
+case_names v = map (λ c. c.name) v.cases
+
+-- and that of a variant with exactly these cases, in this order
+abbrev pub HasCaseNames : List Item → List Bytes → Option Bytes → Type 0
+HasCaseNames items cases None = Unit {0}
+HasCaseNames items cases (Some name) = option_map case_names (variant_in (type_named items name)) ≡ Some cases
+
+pub record DefinesVariant (items : List Item) (s : VariantSite) : Type 0 where
+  pub lifted : HasCaseNames items s.cases (root_name s.lifted)
+  pub lowered : HasCaseNames items s.cases (root_name s.lowered)
+  pub distinct : is_distinct s.cases ≡ true
+
 abbrev pub Defines : List Item → TypeSite → Type 0
 Defines items (site.Record s) = DefinesRecord items s
 Defines items (site.Enum s) = DefinesEnum items s
 Defines items (site.Flags s) = DefinesFlags items s
+Defines items (site.Variant s) = DefinesVariant items s
 
 -- the items of a file define each type that has a site
 abbrev pub AreDefined : List Item → List (Option TypeSite) → Type 0

@@ -14,14 +14,15 @@ use rust_tree::{Expr, RuntimeItem, Stmt};
 use std::alloc::Global;
 use wit_model::{List, OutOfMemory, Text};
 
-/// The one operand. Of an expression that is no operand there is no memory.
+/// The one operand. Of an expression that is no operand there is no memory, nor of a word that is kept as a number.
 pub(crate) fn only_operand(alloc: Global, operands: &List<ExprOperand>) -> Result<Expr, OutOfMemory>
     requires one { length operands.now ≡ 1 }
     ensures only { IfOk result (λ e. operands.now ≡ operand_of e ∷ []) }
     ensures operand { IfOk result (λ e. is_operand e ≡ true) }
 {
-    let e = copy_expr(&operands.as_slice()[0].expr, alloc)?;
-    if !is_operand(&e) {
+    let operand = &operands.as_slice()[0];
+    let e = copy_expr(&operand.expr, alloc)?;
+    if operand.kept || !is_operand(&e) {
         return Err(OutOfMemory);
     }
     Ok(e)

@@ -24,18 +24,15 @@ impl FunctionBindgen {
         }
     }
 
-    /// A new local of the address of the area, which has room for one more record. In a block there is no memory for it.
+    /// A new local of the address of the area, which has room for one more record.
     pub(crate) fn point(&mut self, room: Asked) -> Result<ExprOperand, OutOfMemory>
         requires aligned { IsAlignment room.align }
         ensures { IfOk result (λ o. PointsTo func_meaning room o self.old self.new) }
     {
-        if !self.is_closed() {
-            return Err(OutOfMemory);
-        }
         let pointer = self.area_pointer()?;
         let name = self.add_let("ptr", pointer)?;
         self.asked.push(room)?;
         let expr = Expr::Local(name);
-        Ok(ExprOperand { expr })
+        Ok(ExprOperand { expr, kept: false })
     }
 }

@@ -48,13 +48,10 @@ impl Scope {
 }
 
 impl FunctionBindgen {
-    /// The code so far is suspended, and the names of the block get one number. Behind the call of a method there is no memory for it.
+    /// The code so far is suspended, and the names of the block get one number.
     fn suspend(&mut self) -> Result<(), OutOfMemory>
         ensures { OnOk result (Suspends self.old self.new) }
     {
-        if self.code.call.is_some() {
-            return Err(OutOfMemory);
-        }
         let names = copy_names(self.scope.used.as_slice(), self.alloc)?;
         let number = self.scope.declare_block(self.alloc)?;
         let empty = Code {
@@ -116,7 +113,7 @@ impl FunctionBindgen {
             part: None,
         };
         let expr = Expr::Local(numbered(self.alloc, name, number)?);
-        results.push(ExprOperand { expr })?;
+        results.push(ExprOperand { expr, kept: false })?;
         Ok(())
     }
 }

@@ -30,11 +30,14 @@ pub struct Body {
 
 impl FunctionBindgen {
     /// The body that was made, and the tables by which it was. There is no memory also where the code gives several operands or an expression
-    /// that is none, and where the area is of no size that a memory has.
+    /// that is none, where the area is of no size that a memory has, and where a block is open.
     pub fn finish(self) -> Result<(Body, TypeTables), OutOfMemory>
         ensures body { IfOk result (λ made. IsBodyOf self made.0) }
         ensures tables { IfOk result (λ made. made.1 ≡ tables_of self) }
     {
+        if !self.is_closed() {
+            return Err(OutOfMemory);
+        }
         let FunctionBindgen {
             alloc,
             sizes,

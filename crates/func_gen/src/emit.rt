@@ -6,14 +6,21 @@ mod constants;
 mod enums;
 mod flags;
 mod flush;
+mod freed_cases;
 mod frees;
+mod lifted_cases;
+mod lifted_variants;
 mod loads;
+mod matches;
 mod memory;
 mod methods;
+mod options;
 mod parts;
 mod records;
+mod results;
 mod scalars;
 mod texts;
+mod variants;
 
 ghost use Rattle.std.specs.Prelude.{◌≡◌, ◌<◌, [], length, OnOk};
 ghost use Rattle.abi_driver.specs.Instructions.{Emits, IsSendable};
@@ -24,8 +31,8 @@ use crate::emit::loads::{small_load, whole_load};
 use crate::emit::memory::{small_store, whole_store};
 pub(crate) use crate::emit::scalars::{conversion, is_kept, number_cast};
 use crate::function_bindgen::FunctionBindgen;
-use crate::operand::{ExprOperand, copy_expr};
-use abi_driver::Instruction;
+use crate::operand::ExprOperand;
+use abi_driver::{Instruction, Operand};
 use wit_model::{List, OutOfMemory, Resolve};
 
 impl FunctionBindgen {
@@ -39,8 +46,8 @@ impl FunctionBindgen {
         requires empty { results.old ≡ [] }
         ensures { OnOk result (Emits func_meaning resolve.now.types (instruction.GetArg n) [] results.new self.old self.new) }
     {
-        let expr = copy_expr(&self.params.as_slice()[n as usize].operand.expr, self.alloc)?;
-        results.push(ExprOperand { expr })?;
+        let operand = self.params.as_slice()[n as usize].operand.copy(self.alloc)?;
+        results.push(operand)?;
         Ok(())
     }
 

@@ -47,6 +47,19 @@ pub struct OpenBlock {
     pub code: Code,
 }
 
+/// A finished block.
+#[derive(Drop)]
+pub struct FinishedBlock {
+    /// The number of its names.
+    pub number: u32,
+    /// The names that were used when it was opened.
+    pub names: List<Text>,
+    /// Its statements.
+    pub stmts: List<Stmt>,
+    /// What it gives.
+    pub results: List<ExprOperand>,
+}
+
 /// Makes statements of instructions, for the wrapper of an import or of an export.
 #[derive(Drop)]
 pub struct FunctionBindgen {
@@ -65,6 +78,8 @@ pub struct FunctionBindgen {
     pub(crate) code: Code,
     /// The open blocks, the innermost last.
     pub(crate) opened: List<OpenBlock>,
+    /// The finished blocks that no instruction used up, the last one last.
+    pub(crate) finished: List<FinishedBlock>,
     /// The items of `_rt` that the code names.
     pub(crate) runtime: List<RuntimeItem>,
     /// The records for which the return area was asked for.
@@ -128,6 +143,7 @@ impl FunctionBindgen {
                 stmts: List::new(alloc),
             },
             opened: List::new(alloc),
+            finished: List::new(alloc),
             runtime: List::new(alloc),
             asked: List::new(alloc),
             returned: None,

@@ -18,9 +18,9 @@ impl Bindgen for FunctionBindgen {
     ghost sound = { func_sound };
 
     /// The statements of arguments, constants, casts of core words and scalars, of texts, tuples and records, of enums and flags, of stores,
-    /// loads and frees, of operands that get locals of their own and of the call of a core import, the block that calls a method of no
-    /// resource, the names of an open block, and what the code gives. Of any other instruction so far, and of an expression that is no
-    /// operand, the answer is `OutOfMemory`.
+    /// loads and frees, of variants, options and results that are lowered or lifted, of operands that get locals of their own and of the
+    /// call of a core import, the block that calls a method of no resource, the names of an open block, and what the code gives. Of any
+    /// other instruction so far, and of an expression that is no operand, the answer is `OutOfMemory`.
     fn emit(
         &mut self,
         resolve: &Resolve,
@@ -41,7 +41,7 @@ impl Bindgen for FunctionBindgen {
             Instruction::GetArg(n) => self.get_arg(resolve, n, results),
             Instruction::Flush(n) => self.flush(resolve, n, operands, results),
             Instruction::Return(n) => self.give(resolve, n, operands, results),
-            Instruction::I32Const(n) => self.make_number(resolve, n, results),
+            Instruction::I32Const(_) => self.make_constant(resolve, inst, operands, results),
             Instruction::ConstZero(types) => self.make_zeros(resolve, types, results),
             Instruction::Bitcasts(casts) => self.cast_words(resolve, casts, operands, results),
             Instruction::I32FromBool => self.lower_bool(resolve, operands, results),
@@ -56,12 +56,27 @@ impl Bindgen for FunctionBindgen {
             Instruction::TupleLift(n) => self.lift_tuple(resolve, n, operands, results),
             Instruction::EnumLower(id) => self.lower_enum(resolve, id, operands, results),
             Instruction::EnumLift(id) => self.lift_enum(resolve, id, operands, results),
+            Instruction::VariantLower(id, n) => {
+                self.lower_variant(resolve, id, n, operands, results)
+            }
+            Instruction::OptionLower(id, n) => {
+                self.lower_option(resolve, id, n, operands, results)
+            }
+            Instruction::ResultLower(id, n) => {
+                self.lower_result(resolve, id, n, operands, results)
+            }
+            Instruction::VariantLift(id) => self.lift_variant(resolve, id, operands, results),
+            Instruction::OptionLift(id) => self.lift_option(resolve, id, operands, results),
+            Instruction::ResultLift(id) => self.lift_result(resolve, id, operands, results),
             Instruction::FlagsLower(id) => self.lower_flags(resolve, id, operands, results),
             Instruction::FlagsLift(id) => self.lift_flags(resolve, id, operands, results),
             Instruction::GuestDeallocate(size, align) => {
                 self.free_block(resolve, size, align, operands, results)
             }
             Instruction::GuestDeallocateString => self.free_text(resolve, operands, results),
+            Instruction::GuestDeallocateVariant(n) => {
+                self.free_variant(resolve, n, operands, results)
+            }
             Instruction::CallWasm(func) => self.call_core(resolve, func, operands, results),
             Instruction::CallInterface(func) => self.call_method(resolve, func, operands, results),
             Instruction::VariantPayloadName => self.read_name(resolve, inst, "e", results),
@@ -77,8 +92,8 @@ impl Bindgen for FunctionBindgen {
         self.open_block()
     }
 
-    fn finish_block(&mut self, _operands: &mut List<ExprOperand>) -> Result<(), OutOfMemory> {
-        Err(OutOfMemory)
+    fn finish_block(&mut self, operands: &mut List<ExprOperand>) -> Result<(), OutOfMemory> {
+        self.close_block(operands)
     }
 
     fn return_pointer(

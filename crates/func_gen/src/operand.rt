@@ -14,12 +14,17 @@ use wit_model::{Boxed, List, OutOfMemory, Text};
 #[derive(Drop)]
 pub struct ExprOperand {
     pub expr: Expr,
+    /// Whether it denotes a number that a core word is kept as.
+    pub kept: bool,
 }
 
 impl Operand for ExprOperand {
     fn copy(&self, alloc: Global) -> Result<ExprOperand, OutOfMemory> {
         let expr = copy_expr(&self.expr, alloc)?;
-        Ok(ExprOperand { expr })
+        Ok(ExprOperand {
+            expr,
+            kept: self.kept,
+        })
     }
 }
 

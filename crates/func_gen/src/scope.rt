@@ -34,7 +34,7 @@ pub(crate) fn numbered(alloc: Global, name: LocalName<'_>, t: u32) -> Result<Tex
     Ok(text)
 }
 
-fn is_used(used: &[Text], name: &Text) -> bool
+pub(crate) fn is_used(used: &[Text], name: &Text) -> bool
     ensures { result ≡ is_used used.now name.now }
 {
     used.iter().any(|u| u.as_str() == name.as_str())

@@ -3,6 +3,7 @@
 use crate::enum_site::EnumSite;
 use crate::flags_site::FlagsSite;
 use crate::record_site::RecordSite;
+use crate::variant_site::VariantSite;
 
 /// A type of the table as the file writes it.
 #[derive(Drop)]
@@ -10,4 +11,5 @@ pub enum TypeSite {
     Record(RecordSite),
     Enum(EnumSite),
     Flags(FlagsSite),
+    Variant(VariantSite),
 }

@@ -31,7 +31,6 @@ use Rattle.type_defs.specs.FunctionTypes.{entries_pass, function_passes, functio
 use Rattle.type_defs.specs.ListedTypes.{listed_types}
 use Rattle.type_defs.specs.Listing.{is_covered}
 use Rattle.type_defs.specs.Modes.{is_always_defined, is_owning, is_wanted}
-use Rattle.type_defs.specs.Passing.{are_passed, is_passed}
 use Rattle.type_defs.specs.Used.{IsUsed, UsesTypes, function_types, is_always_entry, is_wanted_at, uses}
 use Rattle.type_defs.proofs.FunctionTypeLemmas.{all-more}
 use Rattle.type_defs.proofs.UsedLemmas.{used_is}
@@ -40,7 +39,7 @@ use Rattle.gen_accept.specs.Built.{are_built_options, are_built_tables, is_built
 use Rattle.gen_accept.specs.Cause.{is_accepted, is_built}
 use Rattle.gen_accept.specs.Emitted.{exported_functions, imported_functions}
 use Rattle.gen_accept.specs.TypeOpts.{type_opts}
-use Rattle.gen_accept.proofs.CauseLemmas.{accepted-declares, accepted-passed, accepted-shallow}
+use Rattle.gen_accept.proofs.CauseLemmas.{accepted-declares, accepted-shallow}
 use Rattle.gen_accept.proofs.DeclaredLemmas.{distinct_fields, distinct_members, distinct_types}
 use Rattle.gen_accept.proofs.FunctionLemmas.{exports-within, imports-within, param-types-below, result-below}
 use Rattle.gen_accept.proofs.ListedNameLemmas.{all-contained, covers, functions-covered, listed-is-named, named-definition}
@@ -140,17 +139,8 @@ module _ (opts : Opts) (r : Resolve) (id : WorldId) (world : World) (checked : I
   types-pass : list_all is_defined_type (function_types r world) ≡ true
   types-pass = function-types-pass is_defined_type r world built-world (world-types world built-world)
 
-  all-passed : list_all (is_passed r.types) (function_types r world) ≡ true
-  unfolding are_passed
-  all-passed = function-types-pass (is_passed r.types) r world built-world (accepted-passed opts r world accepted)
-
   used-type : (ty : WitType) → Contains (function_types r world) ty → type_below (length r.types) ty ≡ true → IsUsed r world ty
-  used-type ty among below = record {
-    used = among;
-    below = below;
-    defined = all-contained is_defined_type (function_types r world) ty types-pass among;
-    passed = all-contained (is_passed r.types) (function_types r world) ty all-passed among;
-  }
+  used-type ty among below = record { used = among; below = below; defined = all-contained is_defined_type (function_types r world) ty types-pass among }
 
   -- of a function in range
   type-within : (f : Function) → function_in_range r f ≡ true → (ty : WitType) → OfFunction f ty → type_below (length r.types) ty ≡ true

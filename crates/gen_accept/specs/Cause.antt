@@ -17,7 +17,6 @@ use Rattle.gen_accept.specs.declared.opts.Opts.{Opts}
 use Rattle.gen_accept.specs.Built.{are_built_tables, are_built_options}
 use Rattle.gen_accept.specs.DeclaredNames.{declares_well, has_distinct_names}
 use Rattle.type_defs.specs.Listing.{are_listed_well}
-use Rattle.type_defs.specs.Passing.{are_passed}
 use Rattle.gen_accept.specs.NameText.{are_written_tables}
 use Rattle.gen_accept.specs.TooLarge.{are_small}
 use Rattle.type_defs.specs.TypeNames.{are_type_names}
@@ -44,10 +43,9 @@ is_built opts r = are_built_tables r && are_built_options opts
 unfoldable pub is_well_named : Opts → Resolve → World → Bool
 is_well_named opts r world = are_written_tables r && list_all has_distinct_names r.worlds && declares_well opts r world
 
--- nor for its types: none is too large, nor is a function, none lacks its name, and worlds list what they may and all that is reached;
--- and wrappers pass what the functions name
+-- nor for its types: none is too large, nor is a function, none lacks its name, and worlds list what they may and all that is reached
 unfoldable pub is_accepted : Opts → Resolve → World → Bool
-is_accepted opts r world = are_small r.types world && are_passed r.types world && are_type_names r.types && are_listed_well r && is_well_named opts r world
+is_accepted opts r world = are_small r.types world && are_type_names r.types && are_listed_well r && is_well_named opts r world
 
 -- the cause that lies in what is built: a rule that the tables break, or a cause that has no answer of its own yet
 abbrev pub built_cause : Opts → Resolve → World → Option GenError

@@ -15,7 +15,7 @@ use crate::names::{declared_names, have_distinct_names};
 use crate::opts::Opts;
 use crate::too_large::are_small;
 use std::alloc::Global;
-use type_defs::{are_listed_well, are_passed, are_type_names};
+use type_defs::{are_listed_well, are_type_names};
 use wit_model::{OutOfMemory, Resolve, Rule, Table, World, WorldFault, WorldId};
 
 /// A rule that the tables break, and the first entry that breaks it.
@@ -107,9 +107,6 @@ fn is_accepted(
     ensures { IfOk result (λ b. b ≡ is_accepted opts.now resolve.now world.now) }
 {
     if !are_small(alloc, resolve, world)? {
-        return Ok(false);
-    }
-    if !are_passed(alloc, resolve.types.as_slice(), world)? {
         return Ok(false);
     }
     if !are_type_names(resolve.types.as_slice()) {

@@ -11,6 +11,7 @@ use Rattle.wit_model.specs.declared.types.WitType.TheVariants as wit
 use Rattle.rust_tree.specs.declared.export.CoreParam.{CoreParam}
 use Rattle.rust_tree.specs.Ident.{rust_ident}
 use Rattle.gen_accept.specs.DeclaredNames.{param_idents}
+use Rattle.func_gen.specs.Forms.{operand_of}
 use Rattle.func_gen.specs.Scope.{is_used}
 use Rattle.func_gen.specs.Sites.{IsSite, site_names}
 use Rattle.func_gen.specs.declared.type_tables.TypeTables.{TypeTables}
@@ -26,7 +27,7 @@ use Rattle.rust_gen.specs.Known.{AreAtHand, sites_in}
 free-name : (params : List Bytes) (base name : Bytes) → IsFixedName params base name → is_used params name ≡ false
 free-name params base name h = elim h [ inl e ↦ ap (is_used params) e.1 ∙ e.0 | inr r ↦ r.free ]
 
-one-site : (ty : WitType) (name : Bytes) → IsSite (record { operand = record { expr = site_expr ty name }; name = name })
+one-site : (ty : WitType) (name : Bytes) → IsSite (record { operand = operand_of (site_expr ty name); name = name })
 one-site wit.String name = inl refl
 one-site (wit.Id id) name = inl refl
 one-site _ name = inr refl

@@ -43,6 +43,7 @@ use Rattle.rust_gen.specs.Wrapper.{DeclaresOne, export_result, printed_param, ro
 use Rattle.rust_gen.specs.declared.export.ExportCode.{ExportCode}
 use Rattle.rust_gen.specs.declared.export.ExportMade.{ExportMade}
 use Rattle.rust_gen.specs.declared.import.ImportHead.{ImportHead}
+use Rattle.func_gen.specs.Forms.{operand_of}
 
 -- 1. Of what bodies are made
 
@@ -53,7 +54,7 @@ site_expr (wit.Id _) name = expr.Local name
 site_expr _ name = expr.Ref name
 
 abbrev pub import_site : Param → ParamSite
-import_site p = record { operand = record { expr = site_expr p.ty (rust_ident p.name) }; name = rust_ident p.name }
+import_site p = record { operand = operand_of (site_expr p.ty (rust_ident p.name)); name = rust_ident p.name }
 
 -- calls go to the root's module, and the area and the list of cleanups have their fixed names
 pub record AreImportParts (types : List TypeDef) (sites : List (Option TypeSite)) (f : Function) (parts : BodyParts) : Type 0 where

@@ -24,6 +24,8 @@ use Rattle.wrapper_meaning.specs.Shape.{result_shape}
 use Rattle.abi_driver.specs.Area.{AreFor}
 use Rattle.abi_driver.specs.declared.bindgen.Asked.{Asked}
 use Rattle.abi_driver.specs.Calls.{import_params, import_results}
+use Rattle.wrapper_closing.specs.declared.declares.Declaration.TheVariants.{Import}
+use Rattle.wrapper_closing.specs.Declares.{arms_declare_none}
 use Rattle.wrapper_closing.specs.Params.{export_args, result_types, return_args}
 use Rattle.type_defs.specs.PartType.{printed_result}
 
@@ -50,9 +52,9 @@ pub record Declares (types : List TypeDef) (f : Function) (decl : ImportDecl) : 
   pub params : decl.params ≡ import_params types f
   pub answer : option_to_list decl.result ≡ import_results types f
 
--- exactly one core import is declared, which is that of the function
+-- exactly one core import is declared, which is that of the function, and none in the arms of a match
 abbrev pub DeclaresOne : List TypeDef → Function → List Stmt → Type 0
-DeclaresOne types f stmts = (decl : ImportDecl) × (declared stmts ≡ decl ∷ []) × Declares types f decl
+DeclaresOne types f stmts = (decl : ImportDecl) × (declared stmts ≡ decl ∷ []) × Declares types f decl × (arms_declare_none Import stmts ≡ true)
 
 pub record Wraps (types : List TypeDef) (f : Function) (item : FnItem) : Type 0 where
   pub docs : item.docs ≡ doc_lines f.docs

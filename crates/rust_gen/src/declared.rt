@@ -10,6 +10,7 @@ use func_gen::{import_params, import_result};
 use rust_tree::{ImportDecl, Stmt};
 use std::alloc::Global;
 use wit_model::{Function, List, OutOfMemory, Resolve, WasmType};
+use wrapper_closing::{Declaration, arms_declare_none};
 
 fn push_declared<'a>(found: &mut Vec<&'a ImportDecl>, stmt: &'a Stmt) -> Result<(), OutOfMemory>
     ensures { OnOk result
@@ -78,7 +79,7 @@ fn is_declaration(
     Ok(has_result(decl, import_result(resolve, f)))
 }
 
-/// Whether statements declare exactly one core import, which is that of the function.
+/// Whether statements declare exactly one core import, which is that of the function, and none in the arms of a `match`.
 pub(crate) fn declares(
     alloc: Global,
     resolve: &Resolve,
@@ -89,6 +90,9 @@ pub(crate) fn declares(
     requires within { function_in_range resolve.now f.now ≡ true }
     ensures { IfOk result (λ b. b ≡ true → DeclaresOne resolve.now.types f.now stmts.now) }
 {
+    if !arms_declare_none(Declaration::Import, stmts) {
+        return Ok(false);
+    }
     let found = declared(alloc, stmts)?;
     match found.as_slice() {
         [decl] => is_declaration(alloc, resolve, f, decl),

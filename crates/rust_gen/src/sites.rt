@@ -23,7 +23,7 @@ fn import_site(alloc: Global, p: &Param) -> Result<ParamSite, OutOfMemory>
 {
     let expr = site_expr(p.ty, to_rust_ident(alloc, &p.name)?);
     Ok(ParamSite {
-        operand: ExprOperand { expr },
+        operand: ExprOperand { expr, kept: false },
         name: to_rust_ident(alloc, &p.name)?,
     })
 }

@@ -298,7 +298,7 @@ fn option_lines(alloc: Global, opts: &Opts) -> Result<List<Text>, OutOfMemory>
     }
 }
 
-/// The tree of a world of functions over scalars and texts, and of types that no function reaches.
+/// The tree of a world.
 pub(crate) fn bindings_of(
     alloc: Global,
     opts: &Opts,

@@ -10,7 +10,7 @@ use Rattle.rust_tree.specs.declared.print.word.definition.DefinitionWord.TheVari
 use Rattle.rust_tree.specs.declared.print.word.sign.Sign.TheVariants.{StatementEnd, OpenBlock, CloseBlock, Close, Colon, Equals}
 use Rattle.rust_tree.specs.CodeText.{doc_text, type_text}
 use Rattle.rust_tree.specs.Derives.{derives_text}
-use Rattle.rust_tree.specs.EnumText.{enum_text}
+use Rattle.rust_tree.specs.EnumText.{enum_text, error_type_text}
 use Rattle.rust_tree.specs.FlagsText.{flags_text}
 use Rattle.rust_tree.specs.VariantText.{variant_text}
 use Rattle.wit_model.specs.Bytes.{Bytes}
@@ -39,9 +39,9 @@ unfoldable pub struct_head_text : StructItem → Bytes
 struct_head_text s =
     flat_map doc_text s.docs ++ repr_text s.repr_c ++ derives_text s.derives ++ definition_word PublicStruct ++ s.name ++ sign OpenBlock
 
--- a struct, and its `Debug`
+-- a struct, its `Debug`, and what it has besides where it is an error type
 abbrev pub struct_text : StructItem → Bytes
-struct_text s = struct_head_text s ++ flat_map field_text s.fields ++ sign CloseBlock ++ debug_text s
+struct_text s = struct_head_text s ++ flat_map field_text s.fields ++ sign CloseBlock ++ debug_text s ++ error_type_text s.name s.error
 
 -- `pub type N = T;`
 abbrev pub alias_text : AliasItem → Bytes

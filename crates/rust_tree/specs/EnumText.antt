@@ -5,10 +5,11 @@ use Rattle.rust_tree.specs.declared.enum_item.EnumCase.{EnumCase}
 use Rattle.rust_tree.specs.declared.enum_item.EnumItem.{EnumItem}
 use Rattle.rust_tree.specs.declared.enum_item.ErrorCase.{ErrorCase}
 use Rattle.rust_tree.specs.declared.enum_item.ErrorEnum.{ErrorEnum}
+use Rattle.rust_tree.specs.declared.error_type.ErrorType.{ErrorType}
 use Rattle.rust_tree.specs.declared.path.Path.{Path}
 use Rattle.rust_tree.specs.declared.print.word.definition.DefinitionWord.TheVariants.{DebugImpl, DebugFn, DebugStruct}
 use Rattle.rust_tree.specs.declared.print.word.enums.EnumWord.{EnumWord}
-use Rattle.rust_tree.specs.declared.print.word.enums.EnumWord.TheVariants.{OpenRepr, CloseRepr, PublicEnum, CaseEnd, Impl, MatchSelf, CaseTuple, CaseFinish, NameFn, MessageFn, CaseText, CaseTextEnd, ErrorFields, DisplayImpl, WriteError, StdFeature, ErrorImpl, EmptyBlock, LiftFn, LiftResult, LiftBody, Arm, NoCase, EscapedQuote, EscapedBackslash, EscapedLineFeed, EscapedReturn}
+use Rattle.rust_tree.specs.declared.print.word.enums.EnumWord.TheVariants.{OpenRepr, CloseRepr, PublicEnum, CaseEnd, Impl, MatchSelf, CaseTuple, CaseFinish, NameFn, MessageFn, CaseText, CaseTextEnd, ErrorFields, DisplayImpl, WriteDebug, WriteError, StdFeature, ErrorImpl, EmptyBlock, LiftFn, LiftResult, LiftBody, Arm, NoCase, EscapedQuote, EscapedBackslash, EscapedLineFeed, EscapedReturn}
 use Rattle.rust_tree.specs.declared.print.word.sign.Sign.TheVariants.{OpenBlock, CloseBlock, PathMark}
 use Rattle.rust_tree.specs.CodeText.{doc_text, repr_type_text}
 use Rattle.rust_tree.specs.Derives.{derives_text}
@@ -87,6 +88,11 @@ error_impl_text name std_feature = std_feature_text std_feature ++ enum_word Err
 -- what an error enum of this name has; its `Display` writes the case's name and its number
 abbrev pub error_text : Bytes → ErrorEnum → Bytes
 error_text name e = error_fns_text name e.cases ++ error_debug_text name ++ display_text WriteError name ++ error_impl_text name e.std_feature
+
+-- and what a record or a variant of this name has, where it is an error type; its `Display` writes what `Debug` writes
+abbrev pub error_type_text : Bytes → Option ErrorType → Bytes
+error_type_text name None = []
+error_type_text name (Some error) = display_text WriteDebug name ++ error_impl_text name error.std_feature
 
 -- `_lift`
 

@@ -2,13 +2,12 @@
 use Rattle.std.specs.Prelude.{[], ◌++◌, Option, None, Some}
 use Rattle.std.specs.List.{flat_map}
 use Rattle.rust_tree.specs.declared.type_expr.TypeExpr.{TypeExpr}
-use Rattle.rust_tree.specs.declared.variant_item.ErrorVariant.{ErrorVariant}
 use Rattle.rust_tree.specs.declared.variant_item.VariantCase.{VariantCase}
 use Rattle.rust_tree.specs.declared.variant_item.VariantItem.{VariantItem}
-use Rattle.rust_tree.specs.declared.print.word.enums.EnumWord.TheVariants.{CaseEnd, PayloadTuple, PayloadFinish, WriteDebug}
+use Rattle.rust_tree.specs.declared.print.word.enums.EnumWord.TheVariants.{CaseEnd, PayloadTuple, PayloadFinish}
 use Rattle.rust_tree.specs.declared.print.word.sign.Sign.TheVariants.{CloseBlock, Open, Close}
 use Rattle.rust_tree.specs.CodeText.{doc_text, type_text}
-use Rattle.rust_tree.specs.EnumText.{case_path_text, debug_case_text, debug_close_text, debug_open_text, display_text, enum_open_text, error_impl_text}
+use Rattle.rust_tree.specs.EnumText.{case_path_text, debug_case_text, debug_close_text, debug_open_text, enum_open_text, error_type_text}
 use Rattle.wit_model.specs.Bytes.{Bytes}
 use Rattle.rust_tree.specs.Word.{enum_word, sign}
 
@@ -37,11 +36,6 @@ shown_text name c (Some ty) = debug_payload_text name c
 abbrev pub variant_debug_text : VariantItem → Bytes
 variant_debug_text v = debug_open_text v.name ++ flat_map (λ c. shown_text v.name c.name c.ty) v.cases ++ debug_close_text
 
--- `Display`, which writes what `Debug` writes, and `Error`; or nothing
-abbrev pub variant_error_text : Bytes → Option ErrorVariant → Bytes
-variant_error_text name None = []
-variant_error_text name (Some error) = display_text WriteDebug name ++ error_impl_text name error.std_feature
-
 -- the whole
 
 -- the doc lines, the line of derives, and `pub enum N {`
@@ -49,4 +43,4 @@ abbrev pub variant_head_text : VariantItem → Bytes
 variant_head_text v = flat_map doc_text v.docs ++ enum_open_text v.derives v.name
 
 abbrev pub variant_text : VariantItem → Bytes
-variant_text v = variant_head_text v ++ flat_map variant_case_text v.cases ++ sign CloseBlock ++ variant_debug_text v ++ variant_error_text v.name v.error
+variant_text v = variant_head_text v ++ flat_map variant_case_text v.cases ++ sign CloseBlock ++ variant_debug_text v ++ error_type_text v.name v.error

@@ -7,6 +7,7 @@ mod core_import;
 mod derives;
 mod enum_item;
 mod error_enum;
+mod error_type;
 mod escaped;
 mod export;
 mod expr;

@@ -1,6 +1,7 @@
 //! Definitions of types.
 
 use crate::enum_item::EnumItem;
+use crate::error_type::ErrorType;
 use crate::flags_item::FlagsItem;
 use crate::path::Path;
 use crate::type_expr::TypeExpr;
@@ -29,6 +30,8 @@ pub struct StructItem {
     pub derives: List<Path>,
     pub name: Text,
     pub fields: List<StructField>,
+    /// What is there where the record is an error type.
+    pub error: Option<ErrorType>,
 }
 
 /// Another name of a type, with its doc lines: `pub type N = T;`.

@@ -1,5 +1,6 @@
 //! Definitions of variants.
 
+use crate::error_type::ErrorType;
 use crate::path::Path;
 use crate::type_expr::TypeExpr;
 use wit_model::{List, Text};
@@ -14,13 +15,6 @@ pub struct VariantCase {
     pub ty: Option<TypeExpr>,
 }
 
-/// What makes a variant an error type: `Display`, which writes what `Debug` writes, and `Error`.
-#[derive(Clone, Copy, Debug, PartialEq, Eq)]
-pub struct ErrorVariant {
-    /// Whether `Error` is there with the feature `std` alone.
-    pub std_feature: bool,
-}
-
 /// A public enum whose cases may have payloads, with its doc lines, and its implementation of `Debug`.
 #[derive(Debug, PartialEq, Drop)]
 pub struct VariantItem {
@@ -31,5 +25,5 @@ pub struct VariantItem {
     pub name: Text,
     pub cases: List<VariantCase>,
     /// What is there where the variant is an error type.
-    pub error: Option<ErrorVariant>,
+    pub error: Option<ErrorType>,
 }

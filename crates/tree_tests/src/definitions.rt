@@ -2,7 +2,7 @@
 
 use crate::made::{file, path, text, texts};
 use rust_tree::{
-    AliasItem, ErrorVariant, Item, StructItem, TypeExpr, TypeItem, VariantCase, VariantItem,
+    AliasItem, ErrorType, Item, StructItem, TypeExpr, TypeItem, VariantCase, VariantItem,
     are_well_named, text_of,
 };
 use std::alloc::Global;
@@ -19,6 +19,13 @@ fn fmt(&self, f: &mut ::core::fmt::Formatter<'_>) -> ::core::fmt::Result {
 f.debug_struct(\"Bare\").finish()
 }
 }
+impl ::core::fmt::Display for Bare {
+fn fmt(&self, f: &mut ::core::fmt::Formatter<'_>) -> ::core::fmt::Result {
+::core::write!(f, \"{:?}\", self)
+}
+}
+#[cfg(feature = \"std\")]
+impl ::core::error::Error for Bare {}
 pub type Maybe = ::core::option::Option<[other::T; 4]>;
 pub type Outcome = ::core::result::Result<(), other::T>;
 /// one of two
@@ -45,7 +52,7 @@ fn fmt(&self, f: &mut ::core::fmt::Formatter<'_>) -> ::core::fmt::Result {
 impl ::core::error::Error for Fault {}
 ";
 
-/// A struct without fields, with a derive of two names.
+/// A struct without fields that is an error type, with a derive of two names.
 fn bare(alloc: Global) -> Result<TypeItem, OutOfMemory> {
     let mut derives = List::new(alloc);
     derives.push(path(alloc, &["serde", "Serialize"])?)?;
@@ -55,6 +62,7 @@ fn bare(alloc: Global) -> Result<TypeItem, OutOfMemory> {
         derives,
         name: text(alloc, "Bare")?,
         fields: List::new(alloc),
+        error: Some(ErrorType { std_feature: true }),
     }))
 }
 
@@ -101,7 +109,7 @@ fn fault(alloc: Global) -> Result<TypeItem, OutOfMemory> {
         derives,
         name: text(alloc, "Fault")?,
         cases,
-        error: Some(ErrorVariant { std_feature: true }),
+        error: Some(ErrorType { std_feature: true }),
     }))
 }
 

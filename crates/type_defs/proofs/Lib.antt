@@ -11,7 +11,6 @@ pub mod ParamInstances
 pub mod ParamLemmas
 pub mod PartLemmas
 pub mod PartNameLemmas
-pub mod PassingLemmas
 pub mod PrintedLemmas
 pub mod UsedLemmas
 pub mod UsedNameLemmas

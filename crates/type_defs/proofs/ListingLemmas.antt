@@ -41,12 +41,12 @@ lists-more listed n id nth {before = before} at b a =
     a ∙ or-cond (nat_eq id.0 nth) before ∙ ap (λ x. x || (nat_eq id.0 nth || false)) b
     ∙ sym (ap (λ ids. lists ids nth) (take_at listed n id at) ∙ list_any-append (λ i. nat_eq i.0 nth) (take n listed) (id ∷ []))
 
-pub or-false : (a b : Bool) → (a || b) ≡ false → (a ≡ false) × (b ≡ false)
+or-false : (a b : Bool) → (a || b) ≡ false → (a ≡ false) × (b ≡ false)
 or-false true b h = cc
 or-false false b h = (refl, h)
 
 -- no type behind the end of a table is covered
-pub or-past : (known : List Bool) (types : List TypeDef) (n : ℕ) → length known ≡ length types → slice_get types n ≡ None → get_or known n false ≡ false
+or-past : (known : List Bool) (types : List TypeDef) (n : ℕ) → length known ≡ length types → slice_get types n ≡ None → get_or known n false ≡ false
 or-past [] types n count none = refl
 or-past (b ∷ known) [] n count none = absurd (omega (arith, count))
 or-past (b ∷ known) (t ∷ types) zero count none = absurd (cc)

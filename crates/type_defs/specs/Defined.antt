@@ -29,6 +29,7 @@ use Rattle.type_defs.specs.declared.type_opts.TypeOpts.{TypeOpts}
 use Rattle.type_defs.specs.Derives.{derives_of, is_copied}
 use Rattle.type_defs.specs.Docs.{doc_lines}
 use Rattle.type_defs.specs.EnumDef.{enum_item}
+use Rattle.type_defs.specs.ErrorDef.{error_type}
 use Rattle.type_defs.specs.FlagsDef.{flags_item}
 use Rattle.type_defs.specs.FunctionTypes.{passes_or_none}
 use Rattle.type_defs.specs.ListedTypes.{listed_types}
@@ -44,7 +45,7 @@ field_item types f = record { docs = doc_lines f.docs; name = rust_ident f.name;
 
 abbrev pub record_item : List TypeDef → TypeInfo → Docs → Bytes → List Field → StructItem
 record_item types info docs name fields =
-    record { docs = doc_lines docs; repr_c = is_copied info; derives = derives_of info; name = name; fields = map (field_item types) fields }
+    record { docs = doc_lines docs; repr_c = is_copied info; derives = derives_of info; name = name; fields = map (field_item types) fields; error = error_type info }
 
 abbrev pub alias_item : Docs → Bytes → TypeExpr → AliasItem
 alias_item docs name ty = record { docs = doc_lines docs; name = name; ty = ty }

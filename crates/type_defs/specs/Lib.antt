@@ -3,6 +3,7 @@ pub mod DefinedNames
 pub mod Derives
 pub mod Docs
 pub mod EnumDef
+pub mod ErrorDef
 pub mod Finds
 pub mod FlagsDef
 pub mod FunctionTypes
@@ -15,7 +16,6 @@ pub mod Nodes
 pub mod OwnershipText
 pub mod ParamType
 pub mod PartType
-pub mod Passing
 pub mod Paths
 pub mod Printed
 pub mod PrintedTypes

@@ -17,7 +17,6 @@ use Rattle.type_defs.specs.Finds.{finds}
 use Rattle.type_defs.specs.ListedTypes.{listed_types}
 use Rattle.type_defs.specs.Listing.{lists}
 use Rattle.type_defs.specs.Modes.{is_always_defined}
-use Rattle.type_defs.specs.Passing.{is_passed}
 use Rattle.type_defs.specs.PrintedTypes.{entry_at}
 
 -- the types of the parameters and results of a world's functions
@@ -57,13 +56,11 @@ defined_types opts r world = flat_map (entry_at r.types) (defined_ids opts r wor
 abbrev pub Covers : Resolve → World → WitType → Type 0
 Covers r world ty = (part : TypeId) (entry : TypeDef) → Reaches r.types ty (Id part) → slice_get r.types part.0 ≡ Some entry → is_some entry.name ≡ true → lists (listed_types world) part.0 ≡ true
 
--- a type of a world's functions that can be defined and passed: it is one of those, in the table, no error context, and all that it
--- reaches is passed
+-- a type of a world's functions that can be defined: it is one of those, in the table, and no error context
 pub record IsUsed (r : Resolve) (world : World) (ty : WitType) : Type 0 where
   pub used : Contains (function_types r world) ty
   pub below : type_below (length r.types) ty ≡ true
   pub defined : is_defined_type ty ≡ true
-  pub passed : is_passed r.types ty ≡ true
 
 -- a function has such types alone
 abbrev pub UsesTypes : Resolve → World → Function → Type 0

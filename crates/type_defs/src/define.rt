@@ -3,6 +3,7 @@
 mod alias;
 mod derives;
 mod enums;
+mod error_type;
 mod flags;
 mod options;
 mod param;

@@ -60,7 +60,7 @@ fn covered_by(known: &[bool], part: Option<WitType>) -> bool
     }
 }
 
-pub(crate) fn are_parts_covered(known: &[bool], kind: &TypeDefKind) -> bool
+fn are_parts_covered(known: &[bool], kind: &TypeDefKind) -> bool
     ensures { result ≡ list_all (covered_by known.now) (parts kind.now) }
 {
     for nth in 0..kind.part_count() {
@@ -108,7 +108,7 @@ fn are_entries_covered(known: &[bool], entries: &[(WorldKey, WorldItem)]) -> boo
     entries.iter().all(|entry| is_item_covered(known, &entry.1))
 }
 
-pub(crate) fn are_functions_covered(known: &[bool], world: &World) -> bool
+fn are_functions_covered(known: &[bool], world: &World) -> bool
     ensures { result ≡ functions_pass (λ ty. covered_by known.now (Some ty)) world.now }
 {
     are_entries_covered(known, world.imports.as_slice())

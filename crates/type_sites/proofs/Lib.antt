@@ -2,6 +2,7 @@ pub mod Definitions
 pub mod DirectTypes
 pub mod Instances
 pub mod PartTypes
+pub mod PrintedForms
 pub mod PrintedTypes
 pub mod SitesDefined
 pub mod SiteLemmas

@@ -26,6 +26,7 @@ pub unnamed-site : (k : TypeDefKind) → site_by k None ≡ None
 unnamed-site (kind.Record fields) = refl
 unnamed-site (kind.Enum cases) = refl
 unnamed-site (kind.Flags members) = refl
+unnamed-site (kind.Variant cases) = refl
 unnamed-site _ = refl
 
 none-either : (a b : Bool) → cond a None (let o : Option TypeSite = None in o) ≡ cond b None None

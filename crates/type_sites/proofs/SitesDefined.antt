@@ -11,6 +11,7 @@ use Rattle.wit_model.specs.declared.name.Name.{Name}
 use Rattle.wit_model.specs.declared.name.TypeId.{TypeId}
 use Rattle.wit_model.specs.declared.name.WorldId.{WorldId}
 use Rattle.wit_model.specs.declared.resolve.Resolve.{Resolve}
+use Rattle.wit_model.specs.declared.types.Case.{Case}
 use Rattle.wit_model.specs.declared.types.Field.{Field}
 use Rattle.wit_model.specs.declared.types.Member.{Member}
 use Rattle.wit_model.specs.declared.types.TypeDef.{TypeDef}
@@ -21,25 +22,26 @@ use Rattle.rust_tree.specs.Ident.{rust_ident, type_ident}
 use Rattle.rust_tree.specs.declared.item.Item.{Item}
 use Rattle.rust_tree.specs.declared.item.Item.TheVariants as item
 use Rattle.rust_tree.specs.declared.type_item.TypeItem.{TypeItem}
-use Rattle.rust_tree.specs.declared.type_item.TypeItem.TheVariants.{Enum, Flags, Struct}
+use Rattle.rust_tree.specs.declared.type_item.TypeItem.TheVariants.{Enum, Flags, Struct, Variant}
 use Rattle.type_defs.specs.declared.type_opts.TypeOpts.{TypeOpts}
 use Rattle.type_defs.specs.Defined.{AreDefinitions, field_item, kind_items, record_item}
 use Rattle.type_defs.specs.DefinedNames.{AreDefinable}
 use Rattle.type_defs.specs.ListedTypes.{listed_types}
 use Rattle.type_defs.specs.Listing.{lists}
 use Rattle.type_defs.specs.PrintedTypes.{entry_at, entry_or_none}
-use Rattle.type_defs.specs.PrintedTypes.{field_names as idents_of}
+use Rattle.type_defs.specs.PrintedTypes.{field_names as idents_of, member_names}
 use Rattle.type_defs.specs.EnumDef.{enum_case, enum_item, enum_repr}
 use Rattle.type_defs.specs.FlagsDef.{flags_item, flags_member, flags_repr}
+use Rattle.type_defs.specs.VariantDef.{variant_case, variant_item}
 use Rattle.type_defs.specs.Used.{is_always_entry, is_wanted_at, uses}
 use Rattle.type_defs.proofs.UsedLemmas.{uses_reached}
 use Rattle.wrapper_values.specs.Enums.{enum_in}
 use Rattle.wrapper_values.specs.Fields.{fields_in, type_named}
 use Rattle.wrapper_values.specs.Flags.{flags_in}
-use Rattle.func_gen.specs.TypeSites.{AreDefined, Defines, DefinesEnum, DefinesFlags, DefinesRecord, HasFields, field_names, held_cases, held_members}
+use Rattle.func_gen.specs.TypeSites.{AreDefined, Defines, DefinesEnum, DefinesFlags, DefinesRecord, DefinesVariant, HasCaseNames, HasFields, case_names, field_names, held_cases, held_members, variant_in}
 use Rattle.type_sites.specs.PrintedLaws.{file_of}
 use Rattle.type_sites.specs.SiteLaws.{SitesAreDefined, SitesCanBeDefined}
-use Rattle.type_sites.specs.Sites.{enum_site, flags_site, record_site, site_at, site_by, site_of, type_sites}
+use Rattle.type_sites.specs.Sites.{enum_site, flags_site, record_site, site_at, site_by, site_of, type_sites, variant_site}
 use Rattle.type_sites.proofs.Definitions.{IsDefinedIn, count, definition-of}
 use Rattle.type_sites.proofs.SiteLemmas.{unnamed-site}
 
@@ -117,6 +119,21 @@ module _ (opts : TypeOpts) (r : Resolve) (w : WorldId) (world : World) (defs : L
         ap (λ o. option_map held_members (flags_in o)) (found (kind.Flags members) (Flags (flags_item t.docs (type_ident name) members)) is refl)
         ∙ ap (λ n. Some (flags_repr (length members), n)) (length-map members flags_member)
 
+    same-cases : (cs : List Case) → map (λ c. c.name) (map (variant_case r.types) cs) ≡ map (λ c. c.name.camel) cs
+    same-cases [] = refl
+    same-cases (c ∷ cs) = ap (λ names. c.name.camel ∷ names) (same-cases cs)
+
+    variant-defined : (cases : List Case) → t.kind ≡ kind.Variant cases → DefinesVariant items (variant_site (type_ident name) cases)
+    variant-defined cases is = record { lifted = has-cases; lowered = has-cases; distinct = distinct }
+      where
+        has-cases : HasCaseNames items (map (λ c. c.name.camel) cases) (Some (type_ident name))
+        has-cases = ap (λ o. option_map case_names (variant_in o)) (found (kind.Variant cases) (Variant (variant_item r.types definition.info t.docs (type_ident name) cases)) is refl) ∙ ap (λ names. Some names) (same-cases cases)
+
+        distinct : is_distinct (map (λ c. c.name.camel) cases) ≡ true
+        distinct =
+            sym (ap (λ k. is_distinct (member_names k)) is)
+            ∙ wanted-passes (λ t. is_distinct (member_names t.kind)) r.types (λ id. is_wanted_at opts r world id) (listed_types world) id.0 t d.members listed wanted at
+
   -- the site of an entry, if it has one
   entry-defined : (id : TypeId) (t : TypeDef) → slice_get r.types id.0 ≡ Some t → IfSome (site_at r world (id.0, t)) (Defines items)
   entry-defined id t at = go (uses r world id.0) refl t.kind refl t.name refl
@@ -130,6 +147,7 @@ module _ (opts : TypeOpts) (r : Resolve) (w : WorldId) (world : World) (defs : L
       go true used (kind.Record members) is (Some name) named = by true (kind.Record members) (Some name) used is named (record-defined id t name used at named members is)
       go true used (kind.Enum cases) is (Some name) named = by true (kind.Enum cases) (Some name) used is named (enum-defined id t name used at named cases is)
       go true used (kind.Flags members) is (Some name) named = by true (kind.Flags members) (Some name) used is named (flags-defined id t name used at named members is)
+      go true used (kind.Variant cases) is (Some name) named = by true (kind.Variant cases) (Some name) used is named (variant-defined id t name used at named cases is)
       go true used k is None named = by true k None used is named (subst (λ o. IfSome o (Defines items)) (sym (unnamed-site k)) tt)
       go true used k is n named = by true k n used is named tt
 

@@ -28,22 +28,18 @@ use Rattle.type_defs.specs.Defined.{is_defined_type}
 use Rattle.type_defs.specs.DefinedNames.{AreDefinable}
 use Rattle.type_defs.specs.PartType.{part_type, printed_result}
 use Rattle.type_defs.specs.Used.{Covers, function_types, is_always_entry, uses}
-use Rattle.type_defs.specs.Levels.{are_shallow}
-use Rattle.type_defs.proofs.PassingLemmas.{passed-reached}
 use Rattle.type_defs.proofs.UsedLemmas.{contained-at, reached_uses}
 use Rattle.wrapper_meaning.specs.Shape.{param_shapes, result_shape, shape_of}
 use Rattle.abi_driver.specs.Instructions.{shapes_of}
+use Rattle.abi_driver.proofs.Payloads.{payload_some}
 use Rattle.wrapper_closing.specs.Direct.{are_direct, is_direct, is_direct_result}
 use Rattle.wrapper_closing.specs.PrintedAs.{ArePrintedAs, ArePrintedParams, IsPrintedAs, IsPrintedResult}
 use Rattle.type_sites.specs.PrintedLaws.{AreSites, ArePartParams, ParamsAreDirect, ParamsArePrinted, ResultsAreDirect, ResultsArePrinted, TypesAreDirect, TypesArePrinted, file_of}
 use Rattle.type_defs.specs.Used.{IsUsed, UsesTypes}
 use Rattle.type_sites.proofs.Definitions.{IsDefinedIn, count, count-grows, count-most, definition-of}
 use Rattle.type_sites.proofs.DirectTypes.{all-direct, type-direct}
-use Rattle.type_sites.proofs.PrintedTypes.{AreReachedPassed, stays, type-printed, unit-ends}
-
--- a type of a function reaches kinds alone that are passed
-reached-passed : (r : Resolve) (world : World) → are_shallow r.types ≡ true → (ty : WitType) → IsUsed r world ty → AreReachedPassed r.types ty
-reached-passed r world shallow ty u part entry reaches at = passed-reached r.types ty part entry shallow u.passed reaches at
+use Rattle.type_sites.proofs.PrintedForms.{stays, unit-ends}
+use Rattle.type_sites.proofs.PrintedTypes.{type-printed}
 
 module _ (opts : TypeOpts) (r : Resolve) (id : WorldId) (world : World) (defs : List TypeItem) (rest : List Item) (s : AreSites opts r id world defs) where
   abbrev items : List Item
@@ -63,13 +59,13 @@ module _ (opts : TypeOpts) (r : Resolve) (id : WorldId) (world : World) (defs : 
 
   -- so it is printed as its shape
   pub covered-printed : (ty : WitType) → type_below (length r.types) ty ≡ true → is_defined_type ty ≡ true → Covers r world ty → ((part : TypeId) → Reaches r.types ty (Id part) → uses r world part.0 ≡ true)
-      → AreReachedPassed r.types ty → IsPrintedAs items (shape_of r.types ty) (part_type r.types ty)
-  covered-printed ty below h covers used passed =
-      type-printed r.types items counts (types_go_down r s.definable.checked.unbroken) s.definable.kinds s.definable.parts s.names (count-grows opts r id world s.definable defs s.are rest)
-      (count-most opts r id world s.definable defs s.are rest) ty below h (covered-defined ty covers used) passed
+      → IsPrintedAs items (shape_of r.types ty) (part_type r.types ty)
+  covered-printed ty below h covers used =
+      type-printed r.types items counts (types_go_down r s.definable.checked.unbroken) s.definable.kinds s.definable.parts (payload_some r s.definable.checked) s.names (count-grows opts r id world s.definable defs s.are rest)
+      (count-most opts r id world s.definable defs s.are rest) ty below h (covered-defined ty covers used)
 
   pub used-printed : (ty : WitType) → IsUsed r world ty → IsPrintedAs items (shape_of r.types ty) (part_type r.types ty)
-  used-printed ty u = covered-printed ty u.below u.defined (s.definable.covered ty u.used) (used-parts ty u.used) (reached-passed r world s.definable.shallow ty u)
+  used-printed ty u = covered-printed ty u.below u.defined (s.definable.covered ty u.used) (used-parts ty u.used)
 
   all-used-printed : (tys : List WitType) → ((ty : WitType) → Contains tys ty → IsUsed r world ty) → ArePrintedAs items (shapes_of r.types tys) (map (part_type r.types) tys)
   all-used-printed [] h = tt
@@ -97,7 +93,7 @@ results-are-printed opts r id world defs rest s = result-printed opts r id world
 
 module _ (opts : TypeOpts) (r : Resolve) (id : WorldId) (world : World) (d : AreDefinable opts r id world) where
   used-direct : (ty : WitType) → IsUsed r world ty → is_direct (shape_of r.types ty) ≡ true
-  used-direct ty u = type-direct r.types (types_go_down r d.checked.unbroken) d.kinds d.parts ty u.below u.defined (reached-passed r world d.shallow ty u)
+  used-direct ty u = type-direct r.types (types_go_down r d.checked.unbroken) d.kinds d.parts ty u.below u.defined
 
   params-direct : (f : Function) → UsesTypes r world f → are_direct (param_shapes r.types f) ≡ true
   params-direct f uses =

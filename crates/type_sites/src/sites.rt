@@ -6,15 +6,16 @@ ghost use Rattle.wit_model.specs.declared.world.World.{World};
 ghost use Rattle.rust_tree.specs.Ident.{rust_ident, type_ident};
 ghost use Rattle.type_defs.specs.Levels.{are_shallow};
 ghost use Rattle.type_defs.specs.Modes.{is_used};
-ghost use Rattle.type_sites.specs.Sites.{enum_site, flags_site, record_site, site_by, site_of, type_sites};
+ghost use Rattle.type_sites.specs.Sites.{enum_site, flags_site, record_site, site_by, site_of, type_sites, variant_site};
 
-use func_gen::{EnumSite, FlagsSite, RecordSite, TypeSite};
+use func_gen::{EnumSite, FlagsSite, RecordSite, TypeSite, VariantSite};
 use rust_tree::{to_rust_ident, to_upper_camel_case};
 use std::alloc::Global;
 use type_defs::{enum_repr, flags_repr, is_used, local_path};
 use type_facts::{TypeInfo, Types};
 use wit_model::{
-    Field, List, Member, Name, OutOfMemory, Resolve, Text, TypeDef, TypeDefKind, TypeId, WorldId,
+    Case, Field, List, Member, Name, OutOfMemory, Resolve, Text, TypeDef, TypeDefKind, TypeId,
+    WorldId,
 };
 
 fn field_idents(alloc: Global, fields: &[Field]) -> Result<List<Text>, OutOfMemory>
@@ -37,6 +38,29 @@ fn record_site(alloc: Global, name: &Name, fields: &[Field]) -> Result<RecordSit
         lifted: local_path(alloc, lifted)?,
         lowered: local_path(alloc, lowered)?,
         fields: field_idents(alloc, fields)?,
+    })
+}
+
+fn case_names(alloc: Global, cases: &[Case]) -> Result<List<Text>, OutOfMemory>
+    ensures { IfOk result (λ names. names ≡ map (λ c. c.name.camel) cases.now) }
+{
+    let mut names = List::new(alloc);
+    for case in cases {
+        names.push(case.name.camel.copy(alloc)?)?;
+    }
+    Ok(names)
+}
+
+/// A variant of this name.
+fn variant_site(alloc: Global, name: &Name, cases: &[Case]) -> Result<VariantSite, OutOfMemory>
+    ensures { IfOk result (λ site. site ≡ variant_site (type_ident name.now) cases.now) }
+{
+    let lifted = to_upper_camel_case(alloc, name)?;
+    let lowered = to_upper_camel_case(alloc, name)?;
+    Ok(VariantSite {
+        lifted: local_path(alloc, lifted)?,
+        lowered: local_path(alloc, lowered)?,
+        cases: case_names(alloc, cases)?,
     })
 }
 
@@ -90,6 +114,10 @@ fn site_by(alloc: Global, kind: &TypeDefKind, name: &Name) -> Result<Option<Type
         TypeDefKind::Flags(members) => {
             let site = flags_site(alloc, name, members.as_slice())?;
             Ok(Some(TypeSite::Flags(site)))
+        }
+        TypeDefKind::Variant(cases) => {
+            let site = variant_site(alloc, name, cases.as_slice())?;
+            Ok(Some(TypeSite::Variant(site)))
         }
         _ => Ok(None),
     }

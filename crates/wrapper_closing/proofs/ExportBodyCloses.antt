@@ -28,7 +28,8 @@ use Rattle.wrapper_closing.specs.Bodies.{is_plain_call}
 use Rattle.wrapper_closing.specs.ClosedExport.{AnswersComeIn, ClosesExport, export_file}
 use Rattle.wrapper_closing.specs.ExportBody.{ClosesExportBody}
 use Rattle.wrapper_closing.specs.Laws.{ExportBodyIsFaithful}
-use Rattle.wrapper_closing.specs.NoArea.{declares_no_area}
+use Rattle.wrapper_closing.specs.declared.declares.Declaration.TheVariants.{Area}
+use Rattle.wrapper_closing.specs.Declares.{declare_none}
 use Rattle.wrapper_closing.specs.declared.parts.BodyParts.{BodyParts}
 use Rattle.wrapper_closing.proofs.FaithfulExport.{closed_export_is_faithful}
 use Rattle.wrapper_closing.proofs.Givings.{begun_of, block_with, operands_given, tail_given}
@@ -59,6 +60,7 @@ closes_export types func parts body names results tree nth c =
       calls = k.calls;
       many = ap length k.made.of_params ∙ k.many;
       head = sym b.call ∙ c.head;
+      closed = b.closed;
       bound = c.bound ∙ home;
       given = os;
       returned = gave;
@@ -68,7 +70,7 @@ closes_export types func parts body names results tree nth c =
       signature = c.signature;
       body = c.block ∙ ap₂ block_with b.stmts (tail_given os body.tail tail);
       plain_call = ap is_plain_call (sym c.head) ∙ k.method;
-      plain_rest = ap declares_no_area (sym b.stmts) ∙ k.plain;
+      plain_rest = ap (declare_none Area) (sym b.stmts) ∙ k.plain;
       runtime = subst (Found tree.items) b.runtime c.runtime;
       sites = subst (AreDefined tree.items) (sym k.made.of_sites) c.sites;
       called = subst (λ h. GivesAsCalled tree.items h (Some c.item.call)) home c.called;

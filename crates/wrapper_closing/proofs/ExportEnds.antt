@@ -48,7 +48,7 @@ use Rattle.abi_driver.specs.Exports.{GivesWords, HandsBack, IsHonestMethod, hand
 use Rattle.abi_driver.specs.Laws.{core_data, ofs}
 use Rattle.abi_driver.specs.Meaning.{of, word}
 use Rattle.abi_driver.proofs.SaysTypes.{says_typed}
-use Rattle.func_gen.specs.FactLemmas.{is_said}
+use Rattle.func_gen.specs.FactLemmas.{is_said, word_read}
 use Rattle.func_gen.specs.Facts.{Hold}
 use Rattle.func_gen.specs.Read.{env_of, read}
 use Rattle.func_gen.specs.Meaning.{FuncState, IsArea, account_of, answer_of, func_meaning, owns_of, run_code, seen, setting_for, static_request}
@@ -148,7 +148,7 @@ gives_words w new (Some ty) (o ∷ p ∷ os) ws s count typed holds bare = absur
 gives_words w new (Some ty) (o ∷ []) [] s count typed holds bare = absurd cc
 gives_words w new (Some ty) (o ∷ []) (x ∷ y ∷ ws) s count typed holds bare = absurd (let e = (and_parts (has_type ty x) (have_types [] (y ∷ ws)) typed).1 in cc)
 gives_words w new (Some ty) (o ∷ []) (x ∷ []) s count typed holds bare =
-    let reads : (read w.items o.expr).at (env_of s) ≡ Some (val.Word x) = is_said w.items new.params (env_of s) (of o (word x)) (omega (arith, holds.right)) in
+    let reads : (read w.items o.expr).at (env_of s) ≡ Some (val.Word x) = (word_read w.items o (env_of s) x (is_said w.items new.params (env_of s) (of o (word x)) (omega (arith, holds.right)))).1 in
     let is : is_word_of ty x ≡ true = same_type ty x (and_parts (has_type ty x) true typed).0 in
     ap (λ q. machine.and_then q (λ v. give_and_leave w (core_answer (Some ty) v))) (gives_value w o.expr s (val.Word x) reads refl)
     ∙ ap (λ c. give_and_leave w (option_map (λ y. y ∷ []) (if c then Some x else None)) s) is

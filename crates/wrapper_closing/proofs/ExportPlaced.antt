@@ -16,7 +16,8 @@ use Rattle.wrapper_run.specs.ExportRun.{keep_result, run_call}
 use Rattle.wrapper_run.specs.Run.{run_stmts}
 use Rattle.func_gen.specs.Meaning.{owns_of, run_code, run_head}
 use Rattle.func_gen.specs.declared.function_bindgen.Code.{Code}
-use Rattle.wrapper_closing.specs.NoArea.{declares_no_area}
+use Rattle.wrapper_closing.specs.declared.declares.Declaration.TheVariants.{Area}
+use Rattle.wrapper_closing.specs.Declares.{declare_none}
 use Rattle.wrapper_closing.proofs.Leaving.{no_items}
 use Rattle.wrapper_closing.proofs.Unasking.{unasked_done}
 use Rattle.wrapper_closing.proofs.Unplaced.{unasking_call, unasking_stmts}
@@ -28,7 +29,7 @@ split_done (machine.Done u s) g a t h = (s, refl, h)
 split_done (machine.Stopped e s) g a t h = absurd cc
 
 -- where the area is not placed at the end, nothing was asked for
-asks_nothing : (w : Setting) (bound : Bytes) (code : Code) (call : CallBlock) (s t : State) → code.call ≡ Some call → declares_no_area call.stmts ≡ true → declares_no_area code.stmts ≡ true → run_code w bound code s ≡ machine.Done tt t → t.place ≡ None → t.requests ≡ s.requests
+asks_nothing : (w : Setting) (bound : Bytes) (code : Code) (call : CallBlock) (s t : State) → code.call ≡ Some call → declare_none Area call.stmts ≡ true → declare_none Area code.stmts ≡ true → run_code w bound code s ≡ machine.Done tt t → t.place ≡ None → t.requests ≡ s.requests
 asks_nothing w bound code call s t head plain_call plain_rest ran none =
     let (u, first, second) = split_done (run_head w bound code.call s) (run_stmts w code.stmts) tt t ran in
     let later = unasked_done (run_stmts w code.stmts) (unasking_stmts w code.stmts plain_rest) u t tt second none in
@@ -57,7 +58,7 @@ placed_locals s a some owns = by s.place refl
         (cc, e ∙ cc)
 
 -- code that was done, and made a request, placed the area
-pub was_placed : (w : Setting) (bound : Bytes) (code : Code) (call : CallBlock) (s t : State) (area : Request) → code.call ≡ Some call → declares_no_area call.stmts ≡ true → declares_no_area code.stmts ≡ true → run_code w bound code s ≡ machine.Done tt t
+pub was_placed : (w : Setting) (bound : Bytes) (code : Code) (call : CallBlock) (s t : State) (area : Request) → code.call ≡ Some call → declare_none Area call.stmts ≡ true → declare_none Area code.stmts ≡ true → run_code w bound code s ≡ machine.Done tt t
     → s.requests ≡ [] → t.requests ≡ area ∷ [] → t.place ≡ None → ⊥
 was_placed w bound code call s t area head plain_call plain_rest ran none one unplaced =
     let e : area ∷ [] ≡ [] = sym one ∙ asks_nothing w bound code call s t head plain_call plain_rest ran unplaced ∙ none in absurd cc

@@ -51,6 +51,7 @@ use Rattle.func_gen.specs.Scope.{is_used}
 use Rattle.func_gen.specs.Sites.{site_names}
 use Rattle.func_gen.specs.declared.function_bindgen.FunctionBindgen.{FunctionBindgen}
 use Rattle.func_gen.proofs.Starting.{bound_bare, holds, passed, reads_env, same_length, vals}
+use Rattle.func_gen.proofs.RuntimeItems.{none_suspended}
 use Rattle.wrapper_closing.specs.Begun.{IsBegun}
 use Rattle.wrapper_closing.specs.ClosedExport.{ClosesExport, export_file}
 use Rattle.wrapper_closing.proofs.SharedArea.{shared_room, shared_sized}
@@ -143,6 +144,7 @@ module _ (types : List TypeDef) (f : Function) (names : ExportNames) (results : 
     static = λ e. refl;
     bound = λ e. sym c.still.home;
     called = subst (GivesAsCalled tree.items old.home) (sym c.head) c.called;
+    suspended = none_suspended tree.items old.home new.opened c.closed;
   }
 
   module _ (us : Parts (param_shapes types f)) (ws : List Word) (heap : Heap) (choices : Choices) (caller : HonestCaller 2 (param_shapes types f) us ws heap) where

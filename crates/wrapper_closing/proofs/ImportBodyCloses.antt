@@ -63,6 +63,7 @@ closes_import types func parts body tree nth c =
       calls = k.calls;
       many = ap length k.made.of_params ∙ k.many;
       headless = sym b.call ∙ k.headless;
+      closed = b.closed;
       given = os;
       returned = gave;
       operands = operands_given os body.tail tail b.operand;

@@ -52,7 +52,6 @@ use Rattle.abi_driver.proofs.HonestAnswers.{in_words}
 use Rattle.abi_driver.proofs.ImportSteps.{answer_in_area, same_addresses}
 use Rattle.func_gen.specs.FuncSound.{func_sound}
 use Rattle.func_gen.specs.Facts.{Hold}
-use Rattle.func_gen.specs.Opened.{in_view}
 use Rattle.func_gen.specs.Meaning.{AreaIs, FuncState, account_of, answer_of, call_of, func_meaning, owns_of, setting_for}
 use Rattle.func_gen.specs.declared.function_bindgen.FunctionBindgen.{FunctionBindgen}
 use Rattle.func_gen.specs.declared.operand.ExprOperand.{ExprOperand}
@@ -92,7 +91,7 @@ honest_call r u reply p c is none h = record {
 unplaced : (area : Option Request) (at : Option ℕ) (asked : List Asked) (name : Bytes) (s : State) → AreaIs true area at asked name s → s.place ≡ None
 unplaced None None asked name s h = h
 unplaced None (Some a) asked name s h = absurd h
-unplaced (Some r) None asked name s h = absurd h
+unplaced (Some r) None asked name s h = h
 unplaced (Some r) (Some a) asked name s h = h.1
 
 -- 2. The heap after it
@@ -192,8 +191,8 @@ module _ (types : List TypeDef) (f : Function) (tree : Tree) (nth : ℕ) (old ne
         owns = λ g. sym (ap (total g) (append-nil (owns_of back.state.machine))) ∙ back.after.owns g ∙ ap (λ xs. total g (xs ++ addresses back.own)) owns_is;
         taken = ap (λ (x : Account RustValue). x.taken) back.after.account ∙ ap (λ xs. xs ++ addresses back.own) (ready.taken ∙ sym areas);
         requests = ap (λ (x : Account RustValue). x.requests) back.after.account ∙ ready.requests;
-        place = unplaced (in_view new.opened (wanted new.asked)) (in_view new.opened back.state.area) new.asked new.area back.state.machine
-            (subst (λ i. AreaIs i (in_view new.opened (wanted new.asked)) (in_view new.opened back.state.area) new.asked new.area back.state.machine) (c.still.import ∙ c.import) back.after.denotes.area);
+        place = unplaced (wanted new.asked) back.state.area new.asked new.area back.state.machine
+            (subst (λ i. AreaIs i (wanted new.asked) back.state.area new.asked new.area back.state.machine) (c.still.import ∙ c.import) back.after.denotes.area);
       }
 
   -- 4. What is given
@@ -265,7 +264,7 @@ tail_runs w new ty [] (Some t) u vals own after s answers listed count stands ho
 tail_runs w new ty (o ∷ p ∷ os) (Some t) u vals own after s answers listed count stands holds owns = absurd (omega (arith, count))
 tail_runs w new ty (o ∷ []) (Some t) u vals own after s answers listed count (a, is, stands) holds owns =
     let held : Hold w.items new (of o (item a) ∷ []) s = subst (λ vs. Hold w.items new (ofs func_meaning (o ∷ []) (item_data func_meaning vs) ++ []) s) is holds in
-    let used = uses w new o.expr a [] s held in
+    let used = uses w new o a [] s held in
     let (q, answered_as, also) = answers u used.given a own listed used.is stands.0 in
     record {
       value = used.given;

@@ -36,6 +36,7 @@ use Rattle.func_gen.specs.FuncSound.{func_sound}
 use Rattle.func_gen.specs.declared.function_bindgen.FunctionBindgen.{FunctionBindgen}
 use Rattle.wrapper_closing.specs.ClosedImport.{ClosesImport}
 use Rattle.func_gen.specs.Body.{asked_alignment, asked_size}
+use Rattle.func_gen.proofs.RuntimeItems.{none_suspended}
 use Rattle.wrapper_closing.specs.ImportBlock.{area_stmts, wanted}
 use Rattle.wrapper_closing.proofs.Arguments.{AreItems}
 use Rattle.wrapper_closing.proofs.ClosedArea.{area_due, area_holds, area_sized, records_of}
@@ -75,6 +76,7 @@ module _ (types : List TypeDef) (f : Function) (tree : Tree) (nth : ℕ) (old ne
     static = λ e. absurd (true≢false (sym imports ∙ e));
     bound = λ e. absurd (true≢false (sym imports ∙ e));
     called = subst (GivesAsCalled tree.items old.home) (sym c.headless) tt;
+    suspended = none_suspended tree.items old.home new.opened c.closed;
   }
 
   no_code : (p : Peer RustValue) (s : FuncState) → func_meaning.does file p old.code s ≡ Done s

@@ -3,7 +3,9 @@ pub mod AreaRoom
 pub mod Args
 pub mod Arguments
 pub mod BodyAreas
+pub mod CaseInstances
 pub mod ClosedArea
+pub mod DeclaresLemmas
 pub mod Direct
 pub mod ExportBodyCloses
 pub mod ExportCalls
@@ -22,7 +24,6 @@ pub mod ImportLeaves
 pub mod ImportStart
 pub mod Leaving
 pub mod LocalSites
-pub mod NoAreaLemmas
 pub mod OwningValues
 pub mod Placing
 pub mod PostReturnBodyCloses
@@ -35,5 +36,6 @@ pub mod SettledDirect
 pub mod SharedArea
 pub mod Start
 pub mod TwoWords
+pub mod TypedCases
 pub mod Unasking
 pub mod Unplaced

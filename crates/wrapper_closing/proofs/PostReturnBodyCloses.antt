@@ -33,6 +33,7 @@ closes_post_return types f parts body tree nth c =
       names = c.names ∙ ap site_names (sym k.made.of_params);
       pinned = c.pinned;
       headless = sym b.call ∙ k.headless;
+      closed = b.closed;
       body = c.block ∙ ap₂ block_with b.stmts tail;
       runtime = subst (Found tree.items) b.runtime c.runtime;
       sites = subst (AreDefined tree.items) (sym (still.sites ∙ k.made.of_sites)) c.sites;

@@ -42,6 +42,7 @@ use Rattle.func_gen.specs.Meaning.{File, FuncState, GivesAsCalled, Serves, accou
 use Rattle.func_gen.specs.declared.function_bindgen.FunctionBindgen.{FunctionBindgen}
 use Rattle.func_gen.specs.declared.function_bindgen.ParamSite.{ParamSite}
 use Rattle.func_gen.proofs.Steps.{seen_done}
+use Rattle.func_gen.proofs.RuntimeItems.{none_suspended}
 use Rattle.wrapper_closing.specs.ClosedExport.{export_file}
 use Rattle.wrapper_closing.specs.ClosedPostReturn.{ClosesPostReturn}
 use Rattle.wrapper_closing.proofs.ExportStart.{at_words, words_begin, words_own}
@@ -71,6 +72,7 @@ module _ (types : List TypeDef) (f : Function) (tree : Tree) (nth : ℕ) (old ne
     static = λ e. refl;
     bound = λ e. refl;
     called = subst (GivesAsCalled tree.items new.home) (sym c.headless) tt;
+    suspended = none_suspended tree.items new.home new.opened c.closed;
   }
 
   pub indirect : is_indirect (result_shape types f) ≡ true

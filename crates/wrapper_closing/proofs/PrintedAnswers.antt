@@ -16,7 +16,7 @@ use Rattle.wrapper_data.specs.declared.value.RustValue.TheVariants.{rolls-Case}
 use Rattle.wrapper_data.specs.declared.word.Word.TheVariants as core
 use Rattle.wrapper_meaning.specs.Direction.{take}
 use Rattle.wrapper_meaning.specs.InRange.{AreListed, IsListed, IsScalar}
-use Rattle.wrapper_meaning.specs.Shape.{Shape, Shapes, bare, nothing}
+use Rattle.wrapper_meaning.specs.Shape.{Shape, Shapes, bare, is_nothing}
 use Rattle.wrapper_meaning.specs.Shape.Shape.{cases, fields, fixed, flags, handle, list, other, pairs, resource, scalar, text, tuple}
 use Rattle.wrapper_meaning.specs.Shape.Shapes.{more, none}
 use Rattle.wrapper_meaning.specs.StandsFor.{Stands, rust_scalar}
@@ -29,11 +29,11 @@ use Rattle.wrapper_run.specs.ExportRun.{passed_as, returned_of, values_of}
 use Rattle.wrapper_run.proofs.NumberLemmas.{answered-unit}
 use Rattle.abi_driver.specs.Calls.{coming}
 use Rattle.abi_driver.specs.Parts.{PartsStand}
-use Rattle.func_gen.specs.Facts.{item_of}
+use Rattle.func_gen.specs.Read.{item_of}
 use Rattle.func_gen.specs.Meaning.{func_meaning}
 use Rattle.func_gen.proofs.MethodValues.{passed_alike}
 use Rattle.wrapper_closing.specs.Direct.{are_direct, is_direct}
-use Rattle.wrapper_closing.specs.PrintedAs.{ArePrintedAs, ArePrintedParams, IsPrintedAs}
+use Rattle.wrapper_closing.specs.PrintedAs.{ArePrintedAs, ArePrintedCases, ArePrintedParams, IsPrintedAs}
 use Rattle.wrapper_closing.specs.PrintedLaws.{PrintedParamsPass, PrintedResultsAnswer, PrintedResultsComeIn, PrintedValuesAreTaken}
 use Rattle.wrapper_closing.proofs.OwningValues.{owning, owns}
 use Rattle.wrapper_closing.proofs.PrintedValues.{is_typed}
@@ -108,14 +108,20 @@ is_item (val.Word (core.Slot o)) r h e = absurd cc
 
 -- 2. Values
 
--- cases without payload are as many as the members, and direct
-pub bare_mapped : {A B : Type 0} (f : A → B) (members : List A) → bare members ≡ bare (map f members)
-bare_mapped f [] = refl
-bare_mapped f (_ ∷ members) = ap (more nothing) (bare_mapped f members)
+-- cases without payload are printed as ones of an enum with as many members, and direct
+pub bare_printed : {A B : Type 0} (items : List Item) (f : A → B) (members : List A) → ArePrintedCases items (bare members) (map (λ c. None) (map f members))
+bare_printed items f [] = tt
+bare_printed items f (_ ∷ members) = (refl, bare_printed items f members)
 
 pub bare_direct : {A : Type 0} (members : List A) → are_direct (bare members) ≡ true
 bare_direct [] = refl
 bare_direct (_ ∷ members) = bare_direct members
+
+-- nothing is passed directly
+pub nothing_direct : (t : Shape) → is_nothing t ≡ true → is_direct t ≡ true
+nothing_direct (fields none) h = refl
+nothing_direct (fields (more t ts)) h = absurd cc
+nothing_direct _ h = absurd (let e = h in cc)
 
 mutual
   printed_direct : (items : List Item) (t : Shape) (ty : TypeExpr) → IsPrintedAs items t ty → is_direct t ≡ true
@@ -126,7 +132,7 @@ mutual
   printed_direct items (list t) ty p = absurd p
   printed_direct items (pairs x y) ty p = absurd p
   printed_direct items (fixed t n) ty p = absurd p
-  printed_direct items (cases ts) ty (e, is, p) = ap are_direct p ∙ bare_direct e.cases
+  printed_direct items (cases ts) ty (payloads, has, p) = cases_printed_direct items ts payloads p
   printed_direct items (flags n) ty p = refl
   printed_direct items (handle o n) ty p = absurd p
   printed_direct items (resource n) ty p = absurd p
@@ -136,6 +142,12 @@ mutual
   all_printed_direct items none types p = refl
   all_printed_direct items (more t ts) [] p = absurd p
   all_printed_direct items (more t ts) (ty ∷ types) p = ap₂ (λ a b. a && b) (printed_direct items t ty p.0) (all_printed_direct items ts types p.1)
+
+  cases_printed_direct : (items : List Item) (ts : Shapes) (payloads : List (Option TypeExpr)) → ArePrintedCases items ts payloads → are_direct ts ≡ true
+  cases_printed_direct items none payloads p = refl
+  cases_printed_direct items (more t ts) [] p = absurd p
+  cases_printed_direct items (more t ts) (None ∷ payloads) p = ap₂ (λ a b. a && b) (nothing_direct t p.0) (cases_printed_direct items ts payloads p.1)
+  cases_printed_direct items (more t ts) (Some ty ∷ payloads) p = ap₂ (λ a b. a && b) (printed_direct items t ty p.1) (cases_printed_direct items ts payloads p.2)
 
 -- what is passed was answered
 answered_so : (o : Option (Option RustValue)) (q : RustValue) → option_and_then (λ r. r) o ≡ Some q → o ≡ Some (Some q)

@@ -52,6 +52,7 @@ pair_item = record {
   derives = [];
   name = codes "Pair";
   fields = field (codes "count") (named (codes "Count")) ∷ field (codes "name") type.String ∷ [];
+  error = None;
 }
 
 abbrev swap : TraitFn

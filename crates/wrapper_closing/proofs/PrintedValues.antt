@@ -1,43 +1,42 @@
 -- What stands for a value is one of the type that its shape is printed as.
-use Rattle.std.proofs.Common.{◌≡◌, ◌⊎◌, ◌<◌, ℕ, ◌^◌, ℤ, inl, inr, Bool, true, cond, List, [], ◌∷◌, length, map, Option, None, Some, refl, sym, ap, ap₂, ◌∙◌, subst, arith, rules}
+use Rattle.std.proofs.Common.{◌≡◌, ◌⊎◌, ◌<◌, ℕ, suc, ◌^◌, ℤ, inl, inr, Bool, true, cond, List, [], ◌∷◌, length, map, Option, None, Some, refl, sym, ap, ap₂, ◌∙◌, subst, rules}
 use Rattle.std.specs.Prelude.{option_and_then}
 use Rattle.std.specs.Option.{option_map, option_or}
 use Rattle.std.proofs.lemmas.Bool.{lt-ltb}
 use Rattle.wit_layout.specs.Tree.{Scalar}
 use Rattle.wit_model.specs.declared.types.WitType.{WitType}
 use Rattle.wit_model.specs.declared.types.WitType.TheVariants as wit
-use Rattle.rust_tree.specs.declared.enum_item.EnumItem.{EnumItem}
 use Rattle.rust_tree.specs.declared.flags_item.FlagsItem.{FlagsItem}
 use Rattle.rust_tree.specs.declared.item.Item.{Item}
 use Rattle.rust_tree.specs.declared.type_expr.Primitive.TheVariants as prim
 use Rattle.rust_tree.specs.declared.type_expr.TypeExpr.{TypeExpr, TypeExpr-F, out-TypeExpr, the_lemmas as type_lemmas}
 use Rattle.rust_tree.specs.declared.type_expr.TypeExpr.TheVariants as type
 use Rattle.rust_tree.specs.declared.type_item.StructItem.{StructItem}
-use Rattle.rust_tree.specs.declared.type_item.TypeItem.TheVariants.{Enum, Flags, Struct}
+use Rattle.rust_tree.specs.declared.type_item.TypeItem.TheVariants.{Flags, Struct}
 use Rattle.wrapper_data.specs.declared.block.Block.{Block}
-use Rattle.wrapper_data.specs.declared.value.RustValue.{RustValue, RustValue-F, fold-roll-RustValue, map-RustValue, roll-RustValue}
+use Rattle.wrapper_data.specs.declared.value.RustValue.{RustValue, RustValue-F, map-RustValue, roll-RustValue}
 use Rattle.wrapper_data.specs.declared.value.RustValue.TheVariants as value
-use Rattle.wrapper_data.specs.declared.value.RustValue.TheVariants.{rolls-Bits, rolls-Bool, rolls-Buffer, rolls-Case, rolls-Char, rolls-F32, rolls-F64, rolls-Num, rolls-Struct, rolls-Unit}
+use Rattle.wrapper_data.specs.declared.value.RustValue.TheVariants.{rolls-Bits, rolls-Bool, rolls-Buffer, rolls-Char, rolls-F32, rolls-F64, rolls-Num, rolls-Struct}
 use Rattle.wrapper_meaning.specs.Direction.{take}
-use Rattle.wrapper_meaning.specs.InRange.{AreListed, IsListed, IsScalar}
-use Rattle.wrapper_meaning.specs.Shape.{Shape, Shapes, bare}
+use Rattle.wrapper_meaning.specs.InRange.{AreListed, IsListed, IsListedCase, IsScalar}
+use Rattle.wrapper_meaning.specs.Shape.{Shape, Shapes, is_nothing}
 use Rattle.wrapper_meaning.specs.Shape.Shape.{cases, fields, fixed, flags, handle, list, other, pairs, resource, scalar, text, tuple}
 use Rattle.wrapper_meaning.specs.Shape.Shapes.{more, none}
-use Rattle.wrapper_meaning.specs.StandsFor.{CaseStands, PartsStand, Stands, rust_scalar}
+use Rattle.wrapper_meaning.specs.StandsFor.{CaseStands, PartsStand, PayloadStands, Stands, rust_scalar}
 use Rattle.wrapper_meaning.specs.Value.{Case, Parts, ScalarValue, Value, case_number}
 use Rattle.wrapper_values.specs.declared.state.Val.{Val}
 use Rattle.wrapper_values.specs.declared.state.Val.TheVariants as val
 use Rattle.wrapper_values.specs.Effect.{answer_as, answer_of}
 use Rattle.wrapper_values.specs.Fields.{fields_in}
 use Rattle.wrapper_values.specs.Flags.{flags_in, repr_bits}
-use Rattle.wrapper_values.specs.Typed.{Typed, answer_in, behind, behind_one, definition_in, plain_as, target_in, typed, typed_bare, typed_case, typed_defined, typed_each, typed_enum, typed_flags, typed_level, typed_parts, typed_unit, unaliased}
+use Rattle.wrapper_values.specs.Typed.{Typed, answer_in, definition_in, plain_as, typed, typed_each, typed_flags, typed_level, typed_parts, unaliased}
 use Rattle.wrapper_run.proofs.NumberLemmas.{answered-bool, answered-char, answered-f32-value, answered-f64-value, answered-number}
 use Rattle.wrapper_run.proofs.TakeLemmas.{answered-empty, answered-text}
-use Rattle.abi_driver.proofs.BareCases.{case_below}
-use Rattle.func_gen.proofs.Normals.{normal_bits, normal_unit, passing_case}
+use Rattle.func_gen.proofs.Normals.{normal_bits}
 use Rattle.func_gen.proofs.Scalars.{scalar_normal}
-use Rattle.wrapper_closing.specs.PrintedAs.{ArePrintedAs, IsPrintedAs, scalar_type}
+use Rattle.wrapper_closing.specs.PrintedAs.{ArePrintedAs, ArePrintedCases, HavePayloads, IsPrintedAs, scalar_type}
 use Rattle.wrapper_closing.proofs.OwningValues.{owning, owning_buffer, owning_struct}
+use Rattle.wrapper_closing.proofs.TypedCases.{FitsPlace, cases_unanswered, typed_roll, value_typed}
 
 -- 1. Of a plain type
 
@@ -64,28 +63,15 @@ text_answered (b ∷ v) r own h =
     let full : r ≡ value.Buffer h.address (length (b ∷ v)) true = h.is ∙ ap (value.Buffer h.address (length (b ∷ v))) h.flag in
     ap (λ r. answer_of type.String (val.Value r)) full ∙ answered-text h.address (length (b ∷ v)) ∙ ap (λ r. Some (Some r)) (sym (ap owning full ∙ owning_buffer h.address (length (b ∷ v)) true))
 
--- a case without payload: it is left out, or `()`
-abbrev IsBare : Option RustValue → Type 0
-IsBare payload = (payload ≡ None) ⊎ (payload ≡ Some value.Unit)
-
-bare_payload : {A : Type 0} (members : List A) (payload : Option RustValue) (own : List Block) (c : Case (bare members)) → CaseStands 2 take (bare members) c payload own → IsBare payload
-bare_payload [] payload own c h = absurd c
-bare_payload (_ ∷ members) None own (inl v) h = inl refl
-bare_payload (_ ∷ members) (Some r) own (inl v) h = inr (ap (λ r. Some r) h.0)
-bare_payload (_ ∷ members) payload own (inr c) h = bare_payload members payload own c h
-
 -- 2. As one of a type of the file
 
 module _ (items : List Item) where
-  typed_roll : (l : RustValue-F RustValue) (ty : TypeExpr) → typed items (roll-RustValue l) ty ≡ typed_level items (map-RustValue RustValue Typed (typed items) l) (unaliased items ty)
-  typed_roll l ty = ap (λ (t : Typed). t ty) (fold-roll-RustValue Typed (λ l ty. typed_level items l (unaliased items ty)) l)
-
   -- a value without parts is what it is as one of a plain type
   abbrev IsLeaf : RustValue → Type 0
   IsLeaf r = (ty : TypeExpr) → typed items r ty ≡ plain_as (unaliased items ty) (val.Value r)
 
   leaf : (l : RustValue-F RustValue) (r : RustValue) → roll-RustValue l ≡ r → ((ty : TypeExpr) → typed_level items (map-RustValue RustValue Typed (typed items) l) ty ≡ plain_as ty (val.Value r)) → IsLeaf r
-  leaf l r e h ty = ap (λ r. typed items r ty) (sym e) ∙ typed_roll l ty ∙ h (unaliased items ty)
+  leaf l r e h ty = ap (λ r. typed items r ty) (sym e) ∙ typed_roll items l ty ∙ h (unaliased items ty)
 
   num_leaf : (k : WitType) (z : ℤ) → IsLeaf (value.Num k z)
   num_leaf k z = leaf (RustValue-F.Num k z) (value.Num k z) (rolls-Num k z) (λ ty. refl)
@@ -102,7 +88,7 @@ module _ (items : List Item) where
   buffer_leaf address n o = leaf (RustValue-F.Buffer address n o) (value.Buffer address n o) (rolls-Buffer address n o) (λ ty. refl)
 
   typed_struct : (rs : List RustValue) (ty : TypeExpr) → typed items (value.Struct rs) ty ≡ option_map value.Struct (typed_parts items (map (typed items) rs) (out-TypeExpr (unaliased items ty)))
-  typed_struct rs ty = ap (λ r. typed items r ty) (sym (rolls-Struct rs)) ∙ typed_roll (RustValue-F.Struct rs) ty
+  typed_struct rs ty = ap (λ r. typed items r ty) (sym (rolls-Struct rs)) ∙ typed_roll items (RustValue-F.Struct rs) ty
 
   -- 3. Values of printed types
 
@@ -151,48 +137,24 @@ module _ (items : List Item) where
       by_whole r ty of.1
       (ap (λ r. typed items r ty) is ∙ typed_struct rs ty ∙ ap (option_map value.Struct) (of.0 (map (typed items) rs) ∙ h) ∙ ap (λ r. Some r) (sym (ap owning is ∙ owning_struct rs)))
 
-  -- an enum of the file
-  enum_level : (l : TypeExpr-F TypeExpr) (e : EnumItem) → definition_in items l ≡ Some (Enum e) → ((n : ℕ) (payload : Option Typed) → typed_case items n payload l ≡ typed_enum n payload (Some e)) × ((v : Val) → answer_as l v ≡ None)
-  enum_level (TypeExpr-F.Path p) e h = (λ n payload. ap (typed_defined n payload) h, λ v. refl)
-  enum_level TypeExpr-F.Unit e h = absurd cc
-  enum_level (TypeExpr-F.Primitive p) e h = absurd cc
-  enum_level TypeExpr-F.Str e h = absurd cc
-  enum_level TypeExpr-F.String e h = absurd cc
-  enum_level (TypeExpr-F.Ref t) e h = absurd cc
-  enum_level (TypeExpr-F.Tuple ts) e h = absurd cc
-  enum_level (TypeExpr-F.Optional t) e h = absurd cc
-  enum_level (TypeExpr-F.Array t n) e h = absurd cc
-  enum_level (TypeExpr-F.Result ok err) e h = absurd cc
+  -- a case of a type whose cases have these payloads
+  by_case : (n : ℕ) (r : RustValue) (payload : Option RustValue) (ty : TypeExpr) (payloads : List (Option TypeExpr)) → r ≡ value.Case n payload → HavePayloads items (out-TypeExpr (unaliased items ty)) payloads → FitsPlace items n payload payloads
+      → IsTyped r ty
+  by_case n r payload ty payloads is has fits =
+      by_whole r ty (cases_unanswered items (out-TypeExpr (unaliased items ty)) payloads has) (ap (λ r. typed items r ty) is ∙ value_typed items payloads n payload ty has fits ∙ ap (λ r. Some (owning r)) (sym is))
 
-  -- `()` is itself as one of its type
-  unit_typed : typed items value.Unit type.Unit ≡ Some value.Unit
-  unit_typed = ap (λ r. typed items r type.Unit) (sym rolls-Unit) ∙ typed_roll RustValue-F.Unit type.Unit ∙ ap (λ t. typed_unit (out-TypeExpr t)) (unit_behind items) ∙ ap typed_unit unit_opened
+  -- a payload that is nothing is left out or `()`
+  left_out : (t : Shape) (stands : RustValue → List Block → Type 0) (payload : Option RustValue) (own : List Block) → is_nothing t ≡ true → PayloadStands (is_nothing t) stands payload own → (payload ≡ None) ⊎ (payload ≡ Some value.Unit)
+  left_out t stands payload own empty h = go payload (subst (λ b. PayloadStands b stands payload own) empty h)
     where
-      unit_opened : out-TypeExpr type.Unit ≡ TypeExpr-F.Unit
-      unit_opened = search (rules, type_lemmas)
+      go : (payload : Option RustValue) → PayloadStands true stands payload own → (payload ≡ None) ⊎ (payload ≡ Some value.Unit)
+      go None h = inl refl
+      go (Some r) h = inr (ap (λ r. Some r) h.0)
 
-      unit_behind : (left : List Item) → behind left items type.Unit ≡ type.Unit
-      unit_behind [] = refl
-      unit_behind (_ ∷ left) = ap (λ l. behind_one (behind left items) type.Unit (target_in (definition_in items l))) unit_opened
-
-  -- a case without payload passes as it is
-  bare_typed : (n : ℕ) (payload : Option RustValue) → IsBare payload → typed_bare n (option_map (typed items) payload) ≡ Some (owning (value.Case n payload))
-  bare_typed n payload (inl is) =
-      ap (λ p. typed_bare n (option_map (typed items) p)) is ∙ ap (λ r. Some r) (sym (passing_case take n None)) ∙ ap (λ p. Some (owning (value.Case n p))) (sym is)
-  bare_typed n payload (inr is) =
-      ap (λ p. typed_bare n (option_map (typed items) p)) is ∙ ap (option_map (λ r. value.Case n (Some r))) unit_typed
-      ∙ ap (λ r. Some r) (sym (passing_case take n (Some value.Unit) ∙ ap (λ r. value.Case n (Some r)) (normal_unit take))) ∙ ap (λ p. Some (owning (value.Case n p))) (sym is)
-
-  case_typed : (n : ℕ) (payload : Option RustValue) (ty : TypeExpr) → typed items (value.Case n payload) ty ≡ typed_case items n (option_map (typed items) payload) (out-TypeExpr (unaliased items ty))
-  case_typed n None ty = ap (λ r. typed items r ty) (sym (rolls-Case n None)) ∙ typed_roll (RustValue-F.Case n None) ty
-  case_typed n (Some r) ty = ap (λ r. typed items r ty) (sym (rolls-Case n (Some r))) ∙ typed_roll (RustValue-F.Case n (Some r)) ty
-
-  by_case : (n : ℕ) (r : RustValue) (payload : Option RustValue) (ty : TypeExpr) (e : EnumItem) → r ≡ value.Case n payload → definition_in items (out-TypeExpr (unaliased items ty)) ≡ Some (Enum e) → n < length e.cases → IsBare payload → IsTyped r ty
-  by_case n r payload ty e is p low bare_of =
-      let level = enum_level (out-TypeExpr (unaliased items ty)) e p in
-      by_whole r ty level.1
-      (ap (λ r. typed items r ty) is ∙ case_typed n payload ty ∙ level.0 n (option_map (typed items) payload)
-      ∙ ap (λ b. cond b (typed_bare n (option_map (typed items) payload)) None) (lt-ltb n (length e.cases) low) ∙ bare_typed n payload bare_of ∙ ap (λ r. Some (owning r)) (sym is))
+  -- with one case more before it
+  one_later : (n : ℕ) (payload : Option RustValue) (first : Option TypeExpr) (payloads : List (Option TypeExpr)) → FitsPlace items n payload payloads → FitsPlace items (suc n) payload (first ∷ payloads)
+  one_later n payload first payloads (inl fits) = inl fits
+  one_later n payload first payloads (inr fits) = inr fits
 
   -- flags of the file
   flags_level : (l : TypeExpr-F TypeExpr) (f : FlagsItem) → definition_in items l ≡ Some (Flags f) → (v : Val) → answer_as l v ≡ None
@@ -210,7 +172,7 @@ module _ (items : List Item) where
   by_flags : (bits : ℕ) (r : RustValue) (ty : TypeExpr) (f : FlagsItem) → r ≡ value.Bits bits → definition_in items (out-TypeExpr (unaliased items ty)) ≡ Some (Flags f) → bits < 2 ^ repr_bits f.repr → IsTyped r ty
   by_flags bits r ty f is p small =
       by_whole r ty (flags_level (out-TypeExpr (unaliased items ty)) f p)
-      (ap (λ r. typed items r ty) (is ∙ sym (rolls-Bits bits)) ∙ typed_roll (RustValue-F.Bits bits) ty ∙ ap (λ d. typed_flags bits (flags_in d)) p
+      (ap (λ r. typed items r ty) (is ∙ sym (rolls-Bits bits)) ∙ typed_roll items (RustValue-F.Bits bits) ty ∙ ap (λ d. typed_flags bits (flags_in d)) p
       ∙ ap (λ b. cond b (Some (value.Bits bits)) None) (lt-ltb bits (2 ^ repr_bits f.repr) small) ∙ ap (λ r. Some r) (sym (normal_bits take bits)) ∙ ap (λ r. Some (owning r)) (sym is))
 
   mutual
@@ -225,9 +187,7 @@ module _ (items : List Item) where
     is_typed (list t) v r own ty p g h = absurd p
     is_typed (pairs x y) v r own ty p g h = absurd p
     is_typed (fixed t n) v r own ty p g h = absurd p
-    is_typed (cases ts) v r own ty (e, p, same) g (payload, is, h) =
-        by_case (case_number ts v) r payload ty e is p (subst (λ ts. (c : Case ts) → case_number ts c < length e.cases) (sym same) (case_below e.cases) v)
-        (subst (λ ts. (c : Case ts) → CaseStands 2 take ts c payload own → IsBare payload) (sym same) (bare_payload e.cases payload own) v h)
+    is_typed (cases ts) v r own ty (payloads, has, ps) g (payload, is, h) = by_case (case_number ts v) r payload ty payloads is has (payload_fits ts v payload own payloads ps g h)
     is_typed (flags n) v r own ty (f, p, many, wide) g (bits, small, is, means, alone) = by_flags bits r ty f is p (subst (λ k. bits < 2 ^ k) (sym wide) small)
     is_typed (handle o n) v r own ty p g h = absurd p
     is_typed (resource n) v r own ty p g h = absurd p
@@ -241,3 +201,14 @@ module _ (items : List Item) where
         ap (λ rs. typed_each (map (typed items) rs) (ty ∷ types)) is
         ∙ ap₂ (λ o q. option_and_then (λ r. option_map (λ rs. r ∷ rs) q) o) (is_typed t v.0 r first ty p.0 g.0 h).typed (are_typed ts v.1 others rest types p.1 g.1 hs)
         ∙ ap (λ rs. Some (map owning rs)) (sym is)
+
+    payload_fits : (ts : Shapes) (c : Case ts) (payload : Option RustValue) (own : List Block) (payloads : List (Option TypeExpr)) → ArePrintedCases items ts payloads → IsListedCase ts c → CaseStands 2 take ts c payload own
+        → FitsPlace items (case_number ts c) payload payloads
+    payload_fits none c payload own payloads p g h = absurd c
+    payload_fits (more t ts) c payload own [] p g h = absurd p
+    payload_fits (more t ts) (inl v) payload own (None ∷ payloads) p g h = inl (refl, left_out t (Stands 2 take t v) payload own p.0 h)
+    payload_fits (more t ts) (inl v) payload own (Some ty ∷ payloads) p g h =
+        let (r, is, stands) = subst (λ b. PayloadStands b (Stands 2 take t v) payload own) p.0 h in
+        inr (ty, r, refl, is, (is_typed t v r own ty p.1 g stands).typed)
+    payload_fits (more t ts) (inr c) payload own (None ∷ payloads) p g h = one_later (case_number ts c) payload None payloads (payload_fits ts c payload own payloads p.1 g h)
+    payload_fits (more t ts) (inr c) payload own (Some ty ∷ payloads) p g h = one_later (case_number ts c) payload (Some ty) payloads (payload_fits ts c payload own payloads p.2 g h)

@@ -49,7 +49,8 @@ use Rattle.wrapper_run.specs.Blocks.{boxed, dealloc, dealloc_words, drop_value, 
 use Rattle.wrapper_run.specs.ExportRun.{call_inside, call_method, call_with, keep_result, run_call}
 use Rattle.wrapper_run.specs.LastParts.{results}
 use Rattle.wrapper_run.specs.Run.{alone, apply, apply_item, apply_one, arm_act, arm_step, block_act, block_step, call_callee, call_core, call_runtime, Callee, callee, converted_or_lifted, core_case, core_forget, core_function, each, enum_lift, eval, eval_step, forget_one, lift_act, lift_case, load_small, load_word, make_case, no_case, of_runtime, root_case, run_stmt, run_stmts, runtime_item_named, size_word, stmt_step, take_bytes, unknown}
-use Rattle.wrapper_closing.specs.NoArea.{declares_no_area, is_arm_without_area, is_block_without_area, is_no_area, no_area_arm, no_area_block, no_area_step}
+use Rattle.wrapper_closing.specs.declared.declares.Declaration.TheVariants.{Area}
+use Rattle.wrapper_closing.specs.Declares.{arm_without_step, block_without_step, declare_none, is_arm_without, is_block_without, is_without, without_step}
 use Rattle.wrapper_closing.proofs.Unasking.{Unasking, unasking_ask, unasking_bind, unasking_box, unasking_dealloc, unasking_declare, unasking_drop, unasking_import, unasking_leave, unasking_lend, unasking_lift, unasking_load, unasking_load_small, unasking_method, unasking_or_stop, unasking_pure, unasking_releases, unasking_static, unasking_stop, unasking_store, unasking_store_small, unasking_take, unasking_then, unasking_use, unasking_write}
 
 module _ (w : Setting) where
@@ -260,31 +261,31 @@ module _ (w : Setting) where
   -- every statement but that of an area, and arms and blocks of these
 
   abbrev StmtHolds : Stmt → Type 0
-  StmtHolds s = is_no_area s ≡ true → Unasking (run_stmt w s)
+  StmtHolds s = is_without Area s ≡ true → Unasking (run_stmt w s)
 
   abbrev ArmHolds : Arm → Type 0
-  ArmHolds a = is_arm_without_area a ≡ true → Unasking (arm_act w a).1
+  ArmHolds a = is_arm_without Area a ≡ true → Unasking (arm_act w a).1
 
   abbrev BlockHolds : Code → Type 0
-  BlockHolds b = is_block_without_area b ≡ true → Unasking (block_act w b)
+  BlockHolds b = is_block_without Area b ≡ true → Unasking (block_act w b)
 
-  runs_arms : (Y : Type 0) (of : Y → Arm) → ((y : Y) → ArmHolds (of y)) → (v : Val) (arms : List Y) → list_all (λ b. b) (map is_arm_without_area (map of arms)) ≡ true → Unasking (run_arms w v (map (arm_act w) (map of arms)))
+  runs_arms : (Y : Type 0) (of : Y → Arm) → ((y : Y) → ArmHolds (of y)) → (v : Val) (arms : List Y) → list_all (λ b. b) (map (is_arm_without Area) (map of arms)) ≡ true → Unasking (run_arms w v (map (arm_act w) (map of arms)))
   runs_arms Y of k v [] p = unasking_stop (stuck w)
   runs_arms Y of k v (a ∷ arms) p =
-      let both = and_parts (is_arm_without_area (of a)) (list_all (λ b. b) (map is_arm_without_area (map of arms))) p in
+      let both = and_parts (is_arm_without Area (of a)) (list_all (λ b. b) (map (is_arm_without Area) (map of arms))) p in
       let x : ArmAct = arm_act w (of a) in
       tries (takes w.items x.0 v) (in_scope w (enter_arm w x.0 v >> x.1)) (run_arms w v (map (arm_act w) (map of arms)))
       (unasking_scope (enter_arm w x.0 v >> x.1) (unasking_then (enter_arm w x.0 v) (λ _. x.1) (enters x.0 v) (λ _. k a both.0)))
       (runs_arms Y of k v arms both.1)
 
-  runs_each : (X : Type 0) (of : X → Stmt) → ((x : X) → StmtHolds (of x)) → (xs : List X) → list_all (λ b. b) (map is_no_area (map of xs)) ≡ true → Unasking (each (map (run_stmt w) (map of xs)))
+  runs_each : (X : Type 0) (of : X → Stmt) → ((x : X) → StmtHolds (of x)) → (xs : List X) → list_all (λ b. b) (map (is_without Area) (map of xs)) ≡ true → Unasking (each (map (run_stmt w) (map of xs)))
   runs_each X of k [] p = unasking_pure tt
   runs_each X of k (x ∷ xs) p =
-      let both = and_parts (is_no_area (of x)) (list_all (λ b. b) (map is_no_area (map of xs))) p in
+      let both = and_parts (is_without Area (of x)) (list_all (λ b. b) (map (is_without Area) (map of xs))) p in
       unasking_then (run_stmt w (of x)) (λ _. each (map (run_stmt w) (map of xs))) (k x both.0) (λ _. runs_each X of k xs both.1)
 
   stmt_layer : (X Y Z : Type 0) (stmt_in : X → Stmt) (arm_in : Y → Arm) (block_in : Z → Code) → ((y : Y) → ArmHolds (arm_in y)) → (l : Stmt-F X Y Z)
-      → no_area_step (map-Stmt Stmt Arm Code Bool Bool Bool is_no_area is_arm_without_area is_block_without_area (map-Stmt X Y Z Stmt Arm Code stmt_in arm_in block_in l)) ≡ true
+      → without_step Area (map-Stmt Stmt Arm Code Bool Bool Bool (is_without Area) (is_arm_without Area) (is_block_without Area) (map-Stmt X Y Z Stmt Arm Code stmt_in arm_in block_in l)) ≡ true
       → Unasking (stmt_step w (map-Stmt Stmt Arm Code (Act (Unit {0})) ArmAct (Act (List Val)) (run_stmt w) (arm_act w) (block_act w) (map-Stmt X Y Z Stmt Arm Code stmt_in arm_in block_in l)))
   stmt_layer X Y Z stmt_in arm_in block_in k (Stmt-F.Import d) p = unasking_declare d
   stmt_layer X Y Z stmt_in arm_in block_in k (Stmt-F.Let name e) p = unasking_then (eval w e) (bind name) (unasking_eval e) (unasking_bind name)
@@ -308,14 +309,14 @@ module _ (w : Setting) where
   step_stmt X Y Z stmt_in arm_in block_in k y p =
       let l = map-Stmt X Y Z Stmt Arm Code stmt_in arm_in block_in y in
       subst (λ act. Unasking act) (sym (fold-roll-Stmt (Act (Unit {0})) ArmAct (Act (List Val)) (stmt_step w) arm_step (block_step w) l))
-      (stmt_layer X Y Z stmt_in arm_in block_in k y (sym (fold-roll-Stmt Bool Bool Bool no_area_step no_area_arm no_area_block l) ∙ p))
+      (stmt_layer X Y Z stmt_in arm_in block_in k y (sym (fold-roll-Stmt Bool Bool Bool (without_step Area) arm_without_step block_without_step l) ∙ p))
 
   step_arm : (X Y Z : Type 0) (stmt_in : X → Stmt) (arm_in : Y → Arm) (block_in : Z → Code) → ((z : Z) → BlockHolds (block_in z)) → (y : Arm-F X Y Z)
       → ArmHolds (roll-Arm (map-Arm X Y Z Stmt Arm Code stmt_in arm_in block_in y))
   step_arm X Y Z stmt_in arm_in block_in k y p =
       let l = map-Arm X Y Z Stmt Arm Code stmt_in arm_in block_in y in
       subst (λ (a : ArmAct). Unasking a.1) (sym (fold-roll-Arm (Act (Unit {0})) ArmAct (Act (List Val)) (stmt_step w) arm_step (block_step w) l))
-      (k y.body (sym (fold-roll-Arm Bool Bool Bool no_area_step no_area_arm no_area_block l) ∙ p))
+      (k y.body (sym (fold-roll-Arm Bool Bool Bool (without_step Area) arm_without_step block_without_step l) ∙ p))
 
   step_block : (X Y Z : Type 0) (stmt_in : X → Stmt) (arm_in : Y → Arm) (block_in : Z → Code) → ((x : X) → StmtHolds (stmt_in x)) → (y : Block-F X Y Z)
       → BlockHolds (roll-Block (map-Block X Y Z Stmt Arm Code stmt_in arm_in block_in y))
@@ -323,7 +324,7 @@ module _ (w : Setting) where
       let l = map-Block X Y Z Stmt Arm Code stmt_in arm_in block_in y in
       subst (λ act. Unasking act) (sym (fold-roll-Block (Act (Unit {0})) ArmAct (Act (List Val)) (stmt_step w) arm_step (block_step w) l))
       (unasking_then (each (map (run_stmt w) (map stmt_in y.stmts))) (λ _. all (map (eval w) (results y.tail)))
-      (runs_each X stmt_in k y.stmts (sym (fold-roll-Block Bool Bool Bool no_area_step no_area_arm no_area_block l) ∙ p)) (λ _. gives_each (results y.tail)))
+      (runs_each X stmt_in k y.stmts (sym (fold-roll-Block Bool Bool Bool (without_step Area) arm_without_step block_without_step l) ∙ p)) (λ _. gives_each (results y.tail)))
 
   unasking_stmt : (s : Stmt) → StmtHolds s
   unasking_stmt =
@@ -332,15 +333,15 @@ module _ (w : Setting) where
       (λ l y is. subst (λ z. ArmHolds (roll-Arm z)) is (step_arm _ _ _ (λ x. x.0) (λ x. x.0) (λ x. x.0) (λ x. x.1) y))
       (λ l y is. subst (λ z. BlockHolds (roll-Block z)) is (step_block _ _ _ (λ x. x.0) (λ x. x.0) (λ x. x.0) (λ x. x.1) y))
 
-  pub unasking_stmts : (stmts : List Stmt) → declares_no_area stmts ≡ true → Unasking (run_stmts w stmts)
+  pub unasking_stmts : (stmts : List Stmt) → declare_none Area stmts ≡ true → Unasking (run_stmts w stmts)
   unasking_stmts [] k = unasking_pure tt
   unasking_stmts (s ∷ stmts) k =
-      let both = and_parts (is_no_area s) (declares_no_area stmts) k in
+      let both = and_parts (is_without Area s) (declare_none Area stmts) k in
       unasking_then (run_stmt w s) (λ _. run_stmts w stmts) (unasking_stmt s both.0) (λ _. unasking_stmts stmts both.1)
 
   -- the call of an implementation
 
-  inside : (bound : Bytes) (c : CallBlock) → declares_no_area c.stmts ≡ true → Unasking (call_inside w bound c)
+  inside : (bound : Bytes) (c : CallBlock) → declare_none Area c.stmts ≡ true → Unasking (call_inside w bound c)
   inside bound c k =
       unasking_then (run_stmts w c.stmts) (λ _. call_with w bound c) (unasking_stmts c.stmts k)
       (λ _. unasking_then (all (map (eval w) c.arguments)) (call_method w bound c.method) (gives_each c.arguments) (unasking_method w bound c.method))
@@ -349,7 +350,7 @@ module _ (w : Setting) where
   kept None v = unasking_drop w v
   kept (Some name) v = unasking_bind name v
 
-  pub unasking_call : (bound : Bytes) (c : CallBlock) → declares_no_area c.stmts ≡ true → Unasking (run_call w bound c >>= keep_result w c.result)
+  pub unasking_call : (bound : Bytes) (c : CallBlock) → declare_none Area c.stmts ≡ true → Unasking (run_call w bound c >>= keep_result w c.result)
   unasking_call bound c k =
       unasking_then (run_call w bound c) (keep_result w c.result)
       (unasking_scope (call_inside w bound c) (inside bound c k))

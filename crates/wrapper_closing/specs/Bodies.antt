@@ -15,7 +15,8 @@ use Rattle.func_gen.specs.Body.{IsBodyOf}
 use Rattle.func_gen.specs.Meaning.{func_meaning}
 use Rattle.func_gen.specs.declared.body.Body.{Body}
 use Rattle.func_gen.specs.declared.function_bindgen.FunctionBindgen.{FunctionBindgen}
-use Rattle.wrapper_closing.specs.NoArea.{declares_no_area}
+use Rattle.wrapper_closing.specs.declared.declares.Declaration.TheVariants.{Area}
+use Rattle.wrapper_closing.specs.Declares.{declare_none}
 use Rattle.wrapper_closing.specs.Parts.{IsMadeFrom}
 use Rattle.wrapper_closing.specs.declared.parts.BodyParts.{BodyParts}
 
@@ -34,7 +35,7 @@ pub record MakesImport (types : List TypeDef) (func : Bor Function) (parts : Bod
 -- a block that calls a method, and declares no area
 abbrev pub is_plain_call : Option CallBlock → Bool
 is_plain_call None = false
-is_plain_call (Some block) = declares_no_area block.stmts
+is_plain_call (Some block) = declare_none Area block.stmts
 
 abbrev pub calls_method : Body → Bool
 calls_method body = is_plain_call body.call
@@ -49,7 +50,7 @@ pub record MakesExport (types : List TypeDef) (func : Bor Function) (parts : Bod
   pub sends : Sends func_meaning types (call_code types GuestExport func) old new
   pub body_of : IsBodyOf new body
   pub method : calls_method body ≡ true
-  pub plain : declares_no_area body.stmts ≡ true
+  pub plain : declare_none Area body.stmts ≡ true
 
 -- The driver sent its code for the post-return function of an export to a bindgen that was made of these parts, and the body is what that
 -- made. No method is called

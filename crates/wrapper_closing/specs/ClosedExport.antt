@@ -32,6 +32,7 @@ use Rattle.func_gen.specs.TypeSites.{AreDefined}
 use Rattle.func_gen.specs.Sites.{site_names}
 use Rattle.func_gen.specs.declared.function_bindgen.FunctionBindgen.{FunctionBindgen}
 use Rattle.func_gen.specs.declared.operand.ExprOperand.{ExprOperand}
+use Rattle.func_gen.specs.Opened.{is_closed}
 use Rattle.wrapper_data.specs.declared.block.Block.{Block as HeapBlock}
 use Rattle.wrapper_data.specs.declared.value.RustValue.{RustValue}
 use Rattle.wrapper_meaning.specs.Direction.{give}
@@ -42,7 +43,8 @@ use Rattle.func_gen.specs.Still.{StillOf}
 use Rattle.wrapper_closing.specs.Begun.{IsBegun}
 use Rattle.wrapper_closing.specs.Direct.{are_direct, is_direct_result}
 use Rattle.wrapper_closing.specs.ImportBlock.{tail_of, wanted}
-use Rattle.wrapper_closing.specs.NoArea.{declares_no_area}
+use Rattle.wrapper_closing.specs.declared.declares.Declaration.TheVariants.{Area}
+use Rattle.wrapper_closing.specs.Declares.{declare_none}
 
 -- the file, with its static area, and the trait of the methods
 abbrev pub export_file : Tree → ℕ → Bytes → File
@@ -77,6 +79,7 @@ pub record ClosesExport (types : List TypeDef) (f : Function) (names : ExportNam
   pub calls : CallsFunction func_meaning types GuestExport f old new
   pub many : length old.params ≡ length (export_params types f)
   pub head : new.code.call ≡ Some item.call
+  pub closed : is_closed new.opened ≡ true
   pub bound : item.bound ≡ old.home
   pub given : List ExprOperand
   pub returned : new.returned ≡ Some given
@@ -85,8 +88,8 @@ pub record ClosesExport (types : List TypeDef) (f : Function) (names : ExportNam
   pub params : map (λ p. p.name) item.params ≡ site_names old.params
   pub signature : HasCoreSignature (passed types f) item
   pub body : item.rest ≡ code_of new.code.stmts (tail_of given)
-  pub plain_call : declares_no_area item.call.stmts ≡ true
-  pub plain_rest : declares_no_area new.code.stmts ≡ true
+  pub plain_call : declare_none Area item.call.stmts ≡ true
+  pub plain_rest : declare_none Area new.code.stmts ≡ true
   pub runtime : Found tree.items new.runtime
   pub sites : AreDefined tree.items old.sites
   pub called : GivesAsCalled tree.items old.home (Some item.call)

@@ -29,6 +29,7 @@ use Rattle.func_gen.specs.PartForms.{are_operands}
 use Rattle.func_gen.specs.Sites.{site_names}
 use Rattle.func_gen.specs.declared.function_bindgen.FunctionBindgen.{FunctionBindgen}
 use Rattle.func_gen.specs.declared.operand.ExprOperand.{ExprOperand}
+use Rattle.func_gen.specs.Opened.{is_closed}
 use Rattle.func_gen.specs.Still.{StillOf}
 use Rattle.wrapper_closing.specs.Begun.{IsBegun}
 use Rattle.wrapper_closing.specs.Direct.{are_direct, is_direct_result}
@@ -51,6 +52,7 @@ pub record ClosesImport (types : List TypeDef) (f : Function) (tree : Tree) (nth
   pub calls : CallsFunction func_meaning types GuestImport f old new
   pub many : length old.params ≡ length f.params
   pub headless : new.code.call ≡ None
+  pub closed : is_closed new.opened ≡ true
   pub given : List ExprOperand
   pub returned : new.returned ≡ Some given
   pub operands : are_operands given ≡ true

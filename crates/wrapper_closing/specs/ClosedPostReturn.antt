@@ -17,6 +17,7 @@ use Rattle.func_gen.specs.Meaning.{Found, IsArea, func_meaning, static_request}
 use Rattle.func_gen.specs.TypeSites.{AreDefined}
 use Rattle.func_gen.specs.Sites.{site_names}
 use Rattle.func_gen.specs.declared.function_bindgen.FunctionBindgen.{FunctionBindgen}
+use Rattle.func_gen.specs.Opened.{is_closed}
 use Rattle.wrapper_closing.specs.Begun.{IsBegun}
 use Rattle.wrapper_closing.specs.Direct.{is_direct_result}
 
@@ -32,6 +33,7 @@ pub record ClosesPostReturn (types : List TypeDef) (f : Function) (tree : Tree) 
   pub names : map (λ p. p.name) function.params ≡ site_names old.params
   pub pinned : map (λ p. p.ty) function.params ≡ core_results GuestExport (result_words (result_shape types f))
   pub headless : new.code.call ≡ None
+  pub closed : is_closed new.opened ≡ true
   pub body : function.body ≡ code_of new.code.stmts None
   pub runtime : Found tree.items new.runtime
   pub sites : AreDefined tree.items new.sites

@@ -3,13 +3,13 @@ pub mod Bodies
 pub mod ClosedExport
 pub mod ClosedImport
 pub mod ClosedPostReturn
+pub mod Declares
 pub mod Direct
 pub mod ExportBody
 pub mod FileArea
 pub mod ImportBlock
 pub mod ImportBody
 pub mod Laws
-pub mod NoArea
 pub mod ParamLaws
 pub mod Params
 pub mod Parts

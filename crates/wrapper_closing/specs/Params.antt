@@ -9,6 +9,7 @@ use Rattle.wit_layout.specs.Signature.{core_params, core_results}
 use Rattle.wrapper_meaning.specs.Represents.{param_words, result_words}
 use Rattle.wrapper_faithful.specs.Passed.{Passed}
 use Rattle.func_gen.specs.declared.function_bindgen.ParamSite.{ParamSite}
+use Rattle.func_gen.specs.Forms.{operand_of}
 
 unfoldable pub arg_prefix : Bytes
 arg_prefix = codes "arg"
@@ -51,7 +52,7 @@ cleanup_list = codes "cleanup_list"
 
 -- a parameter that is denoted by its name
 abbrev pub local_site : Bytes → ParamSite
-local_site name = record { operand = record { expr = expr.Local name }; name = name }
+local_site name = record { operand = operand_of (expr.Local name); name = name }
 
 abbrev pub local_sites : List Bytes → List ParamSite
 local_sites names = map local_site names

@@ -7,7 +7,7 @@ ghost use Rattle.wit_model.specs.WellFormed.{IsWellFormed};
 ghost use Rattle.wrapper_closing.specs.Bodies.{MakesExport, calls_method};
 ghost use Rattle.wrapper_closing.specs.Parts.{AreParts, tables_of};
 
-use crate::no_area::declares_no_area;
+use crate::declares::{Declaration, declare_none};
 use crate::parts::{BodyParts, begin};
 use abi_driver::{LiftLower, call};
 use func_gen::{Body, TypeTables};
@@ -40,7 +40,7 @@ pub fn export_body(
         &mut bindgen,
     )?;
     let (body, tables) = bindgen.finish()?;
-    if !calls_method(&body) || !declares_no_area(body.stmts.as_slice()) {
+    if !calls_method(&body) || !declare_none(Declaration::Area, body.stmts.as_slice()) {
         return Err(OutOfMemory);
     }
     Ok((body, tables))
@@ -51,7 +51,7 @@ fn calls_method(body: &Body) -> bool
     ensures { result ≡ calls_method body.now }
 {
     match &body.call {
-        Some(block) => declares_no_area(block.stmts.as_slice()),
+        Some(block) => declare_none(Declaration::Area, block.stmts.as_slice()),
         None => false,
     }
 }

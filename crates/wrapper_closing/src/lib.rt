@@ -3,10 +3,10 @@
 #![tactic(auto)]
 
 mod block;
+mod declares;
 mod exports;
 mod imports;
 mod laws;
-mod no_area;
 mod param_laws;
 mod params;
 mod parts;
@@ -15,12 +15,12 @@ mod printed_law;
 mod sites;
 
 pub use block::import_block;
+pub use declares::{Declaration, arms_declare_none, declare_none};
 pub use exports::export_body;
 pub use imports::import_body;
 pub use laws::{
     export_body_law, export_law, import_body_law, import_law, post_return_body_law, post_return_law,
 };
-pub use no_area::declares_no_area;
 pub use param_laws::param_law;
 pub use params::{core_params, core_result, post_return_params};
 pub use parts::BodyParts;

@@ -17,7 +17,7 @@ fn local_site(alloc: Global, name: &Text) -> Result<ParamSite, OutOfMemory>
 {
     let expr = Expr::Local(name.copy(alloc)?);
     Ok(ParamSite {
-        operand: ExprOperand { expr },
+        operand: ExprOperand { expr, kept: false },
         name: name.copy(alloc)?,
     })
 }

@@ -99,7 +99,7 @@ abbrev field : Bytes → TypeExpr → StructField
 field name ty = record { docs = []; name = name; wit = name; ty = ty }
 
 abbrev p_struct : StructItem
-p_struct = record { docs = []; repr_c = false; derives = []; name = codes "P"; fields = field (codes "f") type.String ∷ field (codes "g") (type.Primitive prim.I32) ∷ [] }
+p_struct = record { docs = []; repr_c = false; derives = []; name = codes "P"; fields = field (codes "f") type.String ∷ field (codes "g") (type.Primitive prim.I32) ∷ []; error = None }
 
 -- a file that begins with this struct
 abbrev in_file : Setting → Setting
@@ -232,21 +232,21 @@ case_is_typed n r =
     number_opened : out-TypeExpr number_option ≡ TypeExpr-F.Optional (type.Primitive prim.I32)
     number_opened = search (rules, type_lemmas)
 
--- the case 0 with `()` is the same option, and with another payload it is none
+-- the case 0 with `()` is one too, and with another payload it is none
 
 unit_is_typed : typed [] value.Unit type.Unit ≡ Some value.Unit
 unfolding answer_of
 unit_is_typed = search (rules, the_lemmas, type_lemmas)
 
-option_unit : typed [] (value.Case 0 (Some value.Unit)) number_option ≡ Some (value.Case 0 None)
-option_unit = case_is_typed 0 value.Unit ∙ ap (option_map (λ r. value.Case 0 None)) unit_is_typed
+option_unit : typed [] (value.Case 0 (Some value.Unit)) number_option ≡ Some (value.Case 0 (Some value.Unit))
+option_unit = case_is_typed 0 value.Unit ∙ ap (option_map (λ r. value.Case 0 (Some r))) unit_is_typed
 
 number_is_no_unit : typed [] (value.Num wit.S32 (pos 7)) type.Unit ≡ None
 unfolding answer_of
 number_is_no_unit = search (rules, the_lemmas, type_lemmas)
 
 option_not_unit : typed [] (value.Case 0 (Some (value.Num wit.S32 (pos 7)))) number_option ≡ None
-option_not_unit = case_is_typed 0 (value.Num wit.S32 (pos 7)) ∙ ap (option_map (λ r. value.Case 0 None)) number_is_no_unit
+option_not_unit = case_is_typed 0 (value.Num wit.S32 (pos 7)) ∙ ap (option_map (λ r. value.Case 0 (Some r))) number_is_no_unit
 
 -- the case 1 with a payload of its type is one
 

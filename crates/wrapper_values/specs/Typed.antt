@@ -89,17 +89,16 @@ abbrev pub typed_parts : List Item → List Typed → TypeExpr-F TypeExpr → Op
 typed_parts items parts (TypeExpr-F.Array ty n) = if nat_eq (length parts) n then typed_alike ty parts else None
 typed_parts items parts l = option_and_then (typed_each parts) (part_types_in items l)
 
--- an option of a type: the case 0 without a payload, or with `()`; or the case 1, with a payload of the type
-abbrev pub typed_option : ℕ → Option Typed → TypeExpr → Option RustValue
-typed_option zero None ty = Some (value.Case 0 None)
-typed_option zero (Some payload) ty = option_map (λ r. value.Case 0 None) (payload type.Unit)
-typed_option (suc zero) (Some payload) ty = option_map (λ r. value.Case 1 (Some r)) (payload ty)
-typed_option _ _ ty = None
-
 -- a case of this number that has no payload, or `()`
 abbrev pub typed_bare : ℕ → Option Typed → Option RustValue
 typed_bare number None = Some (value.Case number None)
 typed_bare number (Some payload) = option_map (λ r. value.Case number (Some r)) (payload type.Unit)
+
+-- an option of a type: the case 0 without a payload, or with `()`; or the case 1, with a payload of the type
+abbrev pub typed_option : ℕ → Option Typed → TypeExpr → Option RustValue
+typed_option zero payload ty = typed_bare 0 payload
+typed_option (suc zero) (Some payload) ty = option_map (λ r. value.Case 1 (Some r)) (payload ty)
+typed_option _ _ ty = None
 
 -- one of an enum's cases
 abbrev pub typed_enum : ℕ → Option Typed → Option EnumItem → Option RustValue

@@ -238,11 +238,7 @@ fn typed_option(
         (λ r. r ≡ spec.typed_option number (option_map (spec.typed items.now) payload.now) ty.now) }
 {
     match (number, payload) {
-        (0, None) => Ok(Some(RustValue::Case(0, None))),
-        (0, Some(payload)) => match typed(payload.get(), alloc, items, &TypeExpr::Unit)? {
-            None => Ok(None),
-            Some(_) => Ok(Some(RustValue::Case(0, None))),
-        },
+        (0, payload) => typed_bare(payload, alloc, items, 0),
         (1, Some(payload)) => match typed(payload.get(), alloc, items, ty)? {
             None => Ok(None),
             Some(r) => Ok(Some(RustValue::Case(1, Some(Boxed::new(alloc, r)?)))),

@@ -42,7 +42,7 @@ impl FunctionBindgen {
             Some(ty) => {
                 let name = self.add_call(func, params, ty, arguments)?;
                 let expr = Expr::Local(name);
-                results.push(ExprOperand { expr })?;
+                results.push(ExprOperand { expr, kept: false })?;
                 Ok(())
             }
         }

@@ -280,7 +280,7 @@ fn push_casts(
 {
     for i in 0..casts.len() {
         let expr = cast_result(alloc, casts[i], i as u32, t, &es[i])?;
-        results.push(ExprOperand { expr })?;
+        results.push(ExprOperand { expr, kept: false })?;
     }
     Ok(())
 }

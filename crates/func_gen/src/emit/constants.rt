@@ -1,13 +1,14 @@
 //! Constants are core words as they are.
 
 ghost use Rattle.std.specs.Prelude.{◌≡◌, ◌++◌, [], OnOk};
-ghost use Rattle.abi_driver.specs.Instructions.{Emits};
+ghost use Rattle.abi_driver.specs.Instructions.{Emits, IsSendable};
 ghost use Rattle.abi_driver.specs.declared.instruction.Instruction.TheVariants as instruction;
 ghost use Rattle.func_gen.specs.CastForms.{zero_expr, zero_operands};
 ghost use Rattle.func_gen.specs.Meaning.{func_meaning};
 
 use crate::function_bindgen::FunctionBindgen;
 use crate::operand::ExprOperand;
+use abi_driver::Instruction;
 use rust_tree::{Expr, ZeroType};
 use wit_model::{List, OutOfMemory, Resolve, WasmType};
 
@@ -31,13 +32,31 @@ fn push_zeros(types: &[WasmType], results: &mut List<ExprOperand>) -> Result<(),
 {
     for ty in types {
         let expr = zero_expr(*ty);
-        results.push(ExprOperand { expr })?;
+        results.push(ExprOperand { expr, kept: false })?;
     }
     Ok(())
 }
 
 impl FunctionBindgen {
-    pub(crate) fn make_number(
+    /// A constant number is made. To any other instruction the answer is `OutOfMemory`.
+    pub(crate) fn make_constant(
+        &mut self,
+        resolve: &Resolve,
+        inst: &Instruction,
+        operands: &List<ExprOperand>,
+        results: &mut List<ExprOperand>,
+    ) -> Result<(), OutOfMemory>
+        requires sendable { IsSendable func_meaning resolve.now inst.now operands.now self.old }
+        requires empty { results.old ≡ [] }
+        ensures { OnOk result (Emits func_meaning resolve.now.types inst.now operands.now results.new self.old self.new) }
+    {
+        match *inst {
+            Instruction::I32Const(n) => self.make_number(resolve, n, results),
+            _ => Err(OutOfMemory),
+        }
+    }
+
+    fn make_number(
         &mut self,
         resolve: &Resolve,
         number: i32,
@@ -47,7 +66,7 @@ impl FunctionBindgen {
         ensures { OnOk result (Emits func_meaning resolve.now.types (instruction.I32Const number) [] results.new self.old self.new) }
     {
         let expr = Expr::I32Const(number);
-        results.push(ExprOperand { expr })?;
+        results.push(ExprOperand { expr, kept: false })?;
         Ok(())
     }
 

@@ -148,7 +148,7 @@ impl FunctionBindgen {
         }
         let e = only_operand(self.alloc, operands)?;
         let expr = Expr::EnumNumber(Boxed::new(self.alloc, e)?);
-        results.push(ExprOperand { expr })?;
+        results.push(ExprOperand { expr, kept: false })?;
         Ok(())
     }
 
@@ -167,7 +167,7 @@ impl FunctionBindgen {
         let case = self.lifted_case(resolve, id, e)?;
         let name = self.add_let("v", case)?;
         let expr = Expr::Local(name);
-        results.push(ExprOperand { expr })?;
+        results.push(ExprOperand { expr, kept: false })?;
         Ok(())
     }
 }

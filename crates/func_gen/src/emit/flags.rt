@@ -63,7 +63,7 @@ fn push_words(
 {
     for word in 0..count {
         let expr = Expr::FlagsBits(name.copy(alloc)?, 32 * word);
-        results.push(ExprOperand { expr })?;
+        results.push(ExprOperand { expr, kept: false })?;
     }
     Ok(())
 }
@@ -168,7 +168,7 @@ impl FunctionBindgen {
         let flags = self.flags_expr(resolve, id, operands)?;
         let name = self.add_let("flags", flags)?;
         let expr = Expr::Local(name);
-        results.push(ExprOperand { expr })?;
+        results.push(ExprOperand { expr, kept: false })?;
         Ok(())
     }
 }

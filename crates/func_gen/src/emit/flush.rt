@@ -5,12 +5,12 @@ ghost use Rattle.abi_driver.specs.Instructions.{Emits};
 ghost use Rattle.abi_driver.specs.declared.instruction.Instruction.TheVariants as instruction;
 ghost use Rattle.func_gen.specs.Added.{Appends};
 ghost use Rattle.func_gen.specs.CallForms.{FreshAll};
-ghost use Rattle.func_gen.specs.FlushForms.{flush_prefix, lets_of};
+ghost use Rattle.func_gen.specs.FlushForms.{flush_prefix, flushed, lets_of};
 ghost use Rattle.func_gen.specs.Meaning.{func_meaning};
 ghost use Rattle.func_gen.specs.PartForms.{names_from};
 ghost use Rattle.func_gen.specs.Scope.{TakesAll};
 
-use crate::emit::parts::{operand_exprs, part_names, push_locals};
+use crate::emit::parts::{operand_exprs, part_names};
 use crate::function_bindgen::FunctionBindgen;
 use crate::operand::{ExprOperand, copy_expr};
 use rust_tree::{Expr, Stmt};
@@ -31,6 +31,24 @@ fn push_lets(
         let e = copy_expr(&es[i], alloc)?;
         let name = names[i].copy(alloc)?;
         stmts.push(Stmt::Let(name, e))?;
+    }
+    Ok(())
+}
+
+/// A local for each operand, which denotes what that does.
+fn push_flushed(
+    alloc: Global,
+    names: &[Text],
+    operands: &[ExprOperand],
+    results: &mut List<ExprOperand>,
+) -> Result<(), OutOfMemory>
+    requires many { length names.now ≡ length operands.now }
+    ensures { OnOk result (results.new ≡ results.old ++ flushed names.now operands.now) }
+{
+    for i in 0..operands.len() {
+        let expr = Expr::Local(names[i].copy(alloc)?);
+        let kept = operands[i].kept;
+        results.push(ExprOperand { expr, kept })?;
     }
     Ok(())
 }
@@ -63,7 +81,7 @@ impl FunctionBindgen {
     {
         let es = operand_exprs(self.alloc, operands.as_slice())?;
         let names = self.add_lets(count, es.as_slice())?;
-        push_locals(self.alloc, names.as_slice(), results)?;
+        push_flushed(self.alloc, names.as_slice(), operands.as_slice(), results)?;
         Ok(())
     }
 }

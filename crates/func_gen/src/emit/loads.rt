@@ -58,7 +58,7 @@ impl FunctionBindgen {
         let word = Expr::Load(Boxed::new(self.alloc, address)?, place.0, place.1);
         let name = self.add_let("l", word)?;
         let expr = Expr::Local(name);
-        results.push(ExprOperand { expr })?;
+        results.push(ExprOperand { expr, kept: false })?;
         Ok(())
     }
 
@@ -79,7 +79,7 @@ impl FunctionBindgen {
         let word = Expr::LoadSmall(Boxed::new(self.alloc, address)?, place.0, place.1);
         let name = self.add_let("l", word)?;
         let expr = Expr::Local(name);
-        results.push(ExprOperand { expr })?;
+        results.push(ExprOperand { expr, kept: false })?;
         Ok(())
     }
 }

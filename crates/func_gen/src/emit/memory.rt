@@ -42,7 +42,7 @@ pub(crate) fn small_store(inst: &Instruction) -> Option<(ArchitectureSize, Small
     }
 }
 
-/// The two operands. Of an expression that is no operand there is no memory.
+/// The two operands. Of an expression that is no operand there is no memory, nor of a word that is kept as a number.
 pub(crate) fn both_operands(
     alloc: Global,
     operands: &List<ExprOperand>,
@@ -56,7 +56,7 @@ pub(crate) fn both_operands(
     };
     let first = copy_expr(&a.expr, alloc)?;
     let second = copy_expr(&b.expr, alloc)?;
-    if !is_operand(&first) || !is_operand(&second) {
+    if a.kept || b.kept || !is_operand(&first) || !is_operand(&second) {
         return Err(OutOfMemory);
     }
     Ok((first, second))

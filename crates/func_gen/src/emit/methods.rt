@@ -36,7 +36,7 @@ impl FunctionBindgen {
         }
         let name = self.call_for_value(func, arguments)?;
         let expr = Expr::Local(name);
-        results.push(ExprOperand { expr })?;
+        results.push(ExprOperand { expr, kept: false })?;
         Ok(())
     }
 

@@ -63,7 +63,7 @@ pub(crate) fn push_locals(
 {
     for name in names {
         let expr = Expr::Local(name.copy(alloc)?);
-        results.push(ExprOperand { expr })?;
+        results.push(ExprOperand { expr, kept: false })?;
     }
     Ok(())
 }
@@ -116,7 +116,7 @@ impl FunctionBindgen {
         let parts = operand_exprs(self.alloc, operands.as_slice())?;
         let name = self.add_let("tuple", Expr::Tuple(parts))?;
         let expr = Expr::Local(name);
-        results.push(ExprOperand { expr })?;
+        results.push(ExprOperand { expr, kept: false })?;
         Ok(())
     }
 }

@@ -157,7 +157,7 @@ impl FunctionBindgen {
         let record = self.record_expr(resolve, id, operands)?;
         let name = self.add_let("record", record)?;
         let expr = Expr::Local(name);
-        results.push(ExprOperand { expr })?;
+        results.push(ExprOperand { expr, kept: false })?;
         Ok(())
     }
 

@@ -79,7 +79,7 @@ impl FunctionBindgen {
         let e = only_operand(self.alloc, operands)?;
         let expr = runtime_call(self.alloc, function, e)?;
         self.ask(function)?;
-        results.push(ExprOperand { expr })?;
+        results.push(ExprOperand { expr, kept: false })?;
         Ok(())
     }
 
@@ -98,7 +98,7 @@ impl FunctionBindgen {
     {
         let e = only_operand(self.alloc, operands)?;
         let expr = Expr::Cast(Boxed::new(self.alloc, e)?, to);
-        results.push(ExprOperand { expr })?;
+        results.push(ExprOperand { expr, kept: false })?;
         Ok(())
     }
 
@@ -115,7 +115,7 @@ impl FunctionBindgen {
         ensures { OnOk result (Emits func_meaning resolve.now.types inst.now operands.now results.new self.old self.new) }
     {
         let expr = only_operand(self.alloc, operands)?;
-        results.push(ExprOperand { expr })?;
+        results.push(ExprOperand { expr, kept: true })?;
         Ok(())
     }
 }
@@ -135,7 +135,7 @@ impl FunctionBindgen {
         let word = Expr::I32FromBool(Boxed::new(self.alloc, e)?);
         let name = self.add_let("b", word)?;
         let expr = Expr::Local(name);
-        results.push(ExprOperand { expr })?;
+        results.push(ExprOperand { expr, kept: false })?;
         Ok(())
     }
 
@@ -155,7 +155,7 @@ impl FunctionBindgen {
         self.ask(RuntimeItem::BoolLift)?;
         let name = self.add_let("b", lifted)?;
         let expr = Expr::Local(name);
-        results.push(ExprOperand { expr })?;
+        results.push(ExprOperand { expr, kept: false })?;
         Ok(())
     }
 
@@ -175,7 +175,7 @@ impl FunctionBindgen {
         self.ask(RuntimeItem::CharLift)?;
         let name = self.add_let("c", lifted)?;
         let expr = Expr::Local(name);
-        results.push(ExprOperand { expr })?;
+        results.push(ExprOperand { expr, kept: false })?;
         Ok(())
     }
 }

@@ -55,13 +55,14 @@ fn forgotten(alloc: Global, name: Text) -> Result<Expr, OutOfMemory>
     Ok(Expr::Call(path, arguments))
 }
 
-/// The one operand, where it is a local by itself. Of any other there is no memory.
+/// The one operand, where it is a local by itself that is not kept. Of any other there is no memory.
 fn only_local(alloc: Global, operands: &List<ExprOperand>) -> Result<Text, OutOfMemory>
     requires one { length operands.now ≡ 1 }
     ensures { IfOk result (λ name. operands.now ≡ operand_of (expr.Local name) ∷ []) }
 {
-    match &operands.as_slice()[0].expr {
-        Expr::Local(name) => name.copy(alloc),
+    let operand = &operands.as_slice()[0];
+    match &operand.expr {
+        Expr::Local(name) if !operand.kept => name.copy(alloc),
         _ => Err(OutOfMemory),
     }
 }
@@ -73,8 +74,14 @@ fn push_words(alloc: Global, t: u32, results: &mut List<ExprOperand>) -> Result<
 {
     let address = Expr::CastMut(local_name(alloc, "ptr", t)?);
     let length = Expr::Local(local_name(alloc, "len", t)?);
-    results.push(ExprOperand { expr: address })?;
-    results.push(ExprOperand { expr: length })
+    results.push(ExprOperand {
+        expr: address,
+        kept: false,
+    })?;
+    results.push(ExprOperand {
+        expr: length,
+        kept: false,
+    })
 }
 
 impl FunctionBindgen {
@@ -221,7 +228,7 @@ impl FunctionBindgen {
         let t = self.add_taken(address, n)?;
         let name = local_name(self.alloc, "text", t)?;
         let expr = Expr::Local(name);
-        results.push(ExprOperand { expr })?;
+        results.push(ExprOperand { expr, kept: false })?;
         Ok(())
     }
 }

@@ -6,6 +6,7 @@ ghost use Rattle.rust_tree.specs.DefinitionText.{alias_text, debug_field_text, d
 
 use crate::print::derives::push_derives;
 use crate::print::enum_item::push_enum;
+use crate::print::error_type::push_error_type;
 use crate::print::flags_item::push_flags;
 use crate::print::function::push_docs;
 use crate::print::type_name::push_type;
@@ -97,7 +98,8 @@ fn push_struct(out: &mut Text, item: &StructItem) -> Result<(), OutOfMemory>
     push_struct_head(out, item)?;
     push_fields(out, item.fields.as_slice())?;
     Sign::CloseBlock.put(out)?;
-    push_debug(out, item)
+    push_debug(out, item)?;
+    push_error_type(out, &item.name, &item.error)
 }
 
 fn push_alias(out: &mut Text, item: &AliasItem) -> Result<(), OutOfMemory>

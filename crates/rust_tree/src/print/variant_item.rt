@@ -2,17 +2,17 @@
 
 ghost use Rattle.std.specs.Prelude.{◌≡◌, ◌++◌, OnOk};
 ghost use Rattle.std.specs.List.{flat_map};
-ghost use Rattle.rust_tree.specs.VariantText.{debug_payload_text, payload_text, shown_text, variant_case_text, variant_debug_text, variant_error_text, variant_head_text, variant_text};
+ghost use Rattle.rust_tree.specs.VariantText.{debug_payload_text, payload_text, shown_text, variant_case_text, variant_debug_text, variant_head_text, variant_text};
 
 use crate::print::enum_item::{
     push_case_path, push_debug_case, push_debug_close, push_debug_open, push_enum_open,
 };
-use crate::print::error_enum::{push_display, push_error_impl};
+use crate::print::error_type::push_error_type;
 use crate::print::function::push_docs;
 use crate::print::type_name::push_type;
 use crate::print::word::{EnumWord, Sign};
 use crate::type_expr::TypeExpr;
-use crate::variant_item::{ErrorVariant, VariantCase, VariantItem};
+use crate::variant_item::{VariantCase, VariantItem};
 use wit_model::{OutOfMemory, Text};
 
 fn push_payload(out: &mut Text, ty: &Option<TypeExpr>) -> Result<(), OutOfMemory>
@@ -81,23 +81,6 @@ fn push_variant_debug(out: &mut Text, item: &VariantItem) -> Result<(), OutOfMem
     push_debug_close(out)
 }
 
-/// What there is besides of an error type.
-fn push_variant_error(
-    out: &mut Text,
-    name: &Text,
-    error: &Option<ErrorVariant>,
-) -> Result<(), OutOfMemory>
-    ensures { OnOk result (out.new ≡ out.old ++ variant_error_text name.now error.now) }
-{
-    match error {
-        None => Ok(()),
-        Some(error) => {
-            push_display(out, name, EnumWord::WriteDebug)?;
-            push_error_impl(out, name, error.std_feature)
-        }
-    }
-}
-
 fn push_variant_head(out: &mut Text, item: &VariantItem) -> Result<(), OutOfMemory>
     ensures { OnOk result (out.new ≡ out.old ++ variant_head_text item.now) }
 {
@@ -112,5 +95,5 @@ pub(crate) fn push_variant(out: &mut Text, item: &VariantItem) -> Result<(), Out
     push_cases(out, item.cases.as_slice())?;
     Sign::CloseBlock.put(out)?;
     push_variant_debug(out, item)?;
-    push_variant_error(out, &item.name, &item.error)
+    push_error_type(out, &item.name, &item.error)
 }

@@ -4,6 +4,7 @@ ghost use Rattle.rust_tree.specs.Ident.{type_ident};
 ghost use Rattle.rust_tree.specs.declared.type_item.TypeItem.TheVariants as item;
 
 use crate::define::derives::derives_of;
+use crate::define::error_type::error_type;
 use crate::define::part::part_type;
 use crate::docs::doc_lines;
 use rust_tree::{StructField, StructItem, TypeItem, to_rust_ident, to_upper_camel_case};
@@ -60,5 +61,6 @@ pub(crate) fn record_item(
         derives,
         name,
         fields: field_items(alloc, types, fields)?,
+        error: error_type(info),
     }))
 }

@@ -1,14 +1,15 @@
 ghost use Rattle.std.specs.Prelude.{◌≡◌, IfOk, map};
 ghost use Rattle.std.specs.Option.{option_map};
 ghost use Rattle.type_defs.specs.PartType.{part_type};
-ghost use Rattle.type_defs.specs.VariantDef.{variant_case, variant_error, variant_item};
+ghost use Rattle.type_defs.specs.VariantDef.{variant_case, variant_item};
 ghost use Rattle.rust_tree.specs.Ident.{type_ident};
 ghost use Rattle.rust_tree.specs.declared.type_item.TypeItem.TheVariants as item;
 
 use crate::define::derives::derives_of;
+use crate::define::error_type::error_type;
 use crate::define::part::part_type;
 use crate::docs::doc_lines;
-use rust_tree::{ErrorVariant, TypeExpr, TypeItem, VariantCase, VariantItem, to_upper_camel_case};
+use rust_tree::{TypeExpr, TypeItem, VariantCase, VariantItem, to_upper_camel_case};
 use std::alloc::Global;
 use type_facts::TypeInfo;
 use wit_model::{Case, List, Name, OutOfMemory, TypeDef, WitType};
@@ -52,17 +53,6 @@ fn variant_cases(
     Ok(items)
 }
 
-/// What there is besides of a variant that is an error type.
-fn variant_error(info: TypeInfo) -> Option<ErrorVariant>
-    ensures { result ≡ variant_error info }
-{
-    if info.error {
-        Some(ErrorVariant { std_feature: false })
-    } else {
-        None
-    }
-}
-
 /// The definition of a variant.
 pub(crate) fn variant_item(
     alloc: Global,
@@ -83,6 +73,6 @@ pub(crate) fn variant_item(
         derives,
         name,
         cases: variant_cases(alloc, types, cases)?,
-        error: variant_error(info),
+        error: error_type(info),
     }))
 }

@@ -86,6 +86,6 @@ returns g c =
     let called = sends_then m types (CallInterface c.args.func) values c.in_ok-answer.answer (give_code types f.result) one two three c.in_ok-answer.ensures c.in_ok-given.ensures.sends in
     let gave = sends_both m types args (sends (CallInterface c.args.func) ∷ give_code types f.result) c.args.bindgen.now one three taken called in
     record {
-      calls = calls_export m g.met.B.Bindgen.sound types c.args.func _ _ _ _ _ values c.in_ok-answer.answer given _ c.in_ok-given_count.given_count takes c.in_ok-answer.ensures lowers c.in_ok-send.ensures;
+      calls = calls_export m g.met.B.Bindgen.sound types c.args.func _ _ _ _ _ values c.in_ok-answer.answer given _ c.in_ok-given_count.given_count takes c.in_ok-answer.ensures c.requires.serves lowers c.in_ok-send.ensures;
       sends = sends_both m types (args ++ (sends (CallInterface c.args.func) ∷ give_code types f.result)) end c.args.bindgen.now three four gave last;
     }

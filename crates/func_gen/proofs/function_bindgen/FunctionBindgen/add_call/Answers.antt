@@ -24,6 +24,7 @@ returns c =
         asked = refl;
         returned = refl;
         opened = refl;
+        finished = refl;
       };
       number = c.in_ok-t.t;
       is = c.in_ok-name.ensures;

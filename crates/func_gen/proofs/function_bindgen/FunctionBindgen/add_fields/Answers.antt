@@ -36,6 +36,7 @@ returns c =
         asked = refl;
         returned = refl;
         opened = refl;
+        finished = refl;
       };
       fresh = declared_as old _ d.locals d.declares.number names d.declares.declares d.declares.are;
     }

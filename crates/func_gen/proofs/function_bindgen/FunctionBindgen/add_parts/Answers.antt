@@ -22,6 +22,7 @@ returns-clause-adds c =
       asked = refl;
       returned = refl;
       opened = refl;
+      finished = refl;
     }
 
 pub returns-clause-fresh : goal.returns-clause-fresh

@@ -18,6 +18,7 @@ returns-clause-adds c = record {
   asked = refl;
   returned = refl;
   opened = refl;
+  finished = refl;
 }
 
 pub returns-clause-fresh : goal.returns-clause-fresh

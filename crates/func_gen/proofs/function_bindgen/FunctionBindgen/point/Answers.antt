@@ -1,4 +1,4 @@
-use Rattle.std.proofs.Common.{[], ◌∷◌, ◌∙◌, subst, sym}
+use Rattle.std.proofs.Common.{[], ◌∷◌, subst, sym}
 use Rattle.rust_tree.specs.declared.expr.Expr.TheVariants as expr
 use Rattle.rust_tree.specs.declared.stmt.Stmt.TheVariants as stmt
 use Rattle.abi_driver.specs.Laws.{PointsTo}
@@ -6,7 +6,6 @@ use Rattle.func_gen.specs.Added.{Appends}
 use Rattle.func_gen.specs.Forms.{operand_of}
 use Rattle.func_gen.specs.Meaning.{func_meaning}
 use Rattle.func_gen.proofs.AreaRows.{points_to}
-use Rattle.func_gen.proofs.NameRows.{closed_none}
 use Rattle.func_gen.proofs.function_bindgen.FunctionBindgen.point.Goals as goal
 
 pub returns : goal.returns
@@ -16,4 +15,4 @@ returns c =
     let n = c.in_ok-name.name in
     let added = subst (λ e. Appends old mid (stmt.Let n e ∷ []) []) c.in_ok-pointer.ensures c.in_ok-name.ensures.adds in
     subst (λ asked. PointsTo func_meaning c.args.room (operand_of (expr.Local n)) old (record mid { asked = asked })) (sym c.in_ok-push.ensures.ok)
-    (points_to c.args.room old mid n added c.in_ok-name.ensures.fresh c.requires.aligned (closed_none old.opened (sym c.is_closed.ensures ∙ c.if-not-is_closed.false)) c.in_ok-name.ensures.takes)
+    (points_to c.args.room old mid n added c.in_ok-name.ensures.fresh c.requires.aligned c.in_ok-name.ensures.takes)

@@ -1,0 +1,104 @@
+-- The rows of variants, options and results that are lifted.
+use Rattle.std.proofs.Common.{◌≡◌, ◌+◌, ◌++◌, ◌&&◌, ◌||◌, ℕ, suc, Bool, true, false, not, List, [], ◌∷◌, length, Option, None, Some, refl, sym, ap, ◌∙◌, subst, arith}
+use Rattle.std.specs.Prelude.{codes}
+use Rattle.std.specs.List.{list_all}
+use Rattle.std.specs.Str.{bytes_eq}
+use Rattle.std.proofs.lemmas.Bool.{and_parts, not-true, or_parts}
+use Rattle.std.proofs.lemmas.List.{length-append}
+use Rattle.wit_model.specs.Bytes.{Bytes}
+use Rattle.wit_model.specs.declared.name.TypeId.{TypeId}
+use Rattle.wit_model.specs.declared.types.Case.{Case}
+use Rattle.wit_model.specs.declared.types.TypeDef.{TypeDef}
+use Rattle.wit_model.specs.declared.types.WitType.{WitType}
+use Rattle.rust_tree.specs.declared.expr.Expr.{Expr}
+use Rattle.wrapper_values.specs.Setting.{Setting}
+use Rattle.abi_driver.specs.declared.instruction.Instruction.TheVariants.{OptionLift, ResultLift, VariantLift}
+use Rattle.abi_driver.specs.Cases.{payloads_at, payloads_of, payloads_or}
+use Rattle.abi_driver.specs.Instructions.{Emits}
+use Rattle.func_gen.specs.declared.case_form.CaseForm.{CaseForm}
+use Rattle.func_gen.specs.declared.function_bindgen.FunctionBindgen.{FunctionBindgen}
+use Rattle.func_gen.specs.CalledCases.{calls_case, is_called, is_lift, is_other_module, names_case}
+use Rattle.func_gen.specs.CaseForms.{AreOptionForms, AreResultForms, AreVariantForms, member_form, member_forms, member_path, option_forms, side_form}
+use Rattle.func_gen.specs.Forms.{operand_of}
+use Rattle.func_gen.specs.LiftedCases.{LiftsBy, LiftsVariantBy}
+use Rattle.func_gen.specs.MatchForms.{case_path}
+use Rattle.func_gen.specs.Meaning.{func_meaning, setting_for}
+use Rattle.func_gen.specs.Operand.{is_operand}
+use Rattle.func_gen.specs.PartForms.{locals_of}
+use Rattle.func_gen.specs.TypeSites.{AreDefined}
+use Rattle.func_gen.proofs.CaseFits.{option_numbers, result_numbers}
+use Rattle.func_gen.proofs.CaseNames.{variant_count, variant_numbers}
+use Rattle.func_gen.proofs.CasePaths.{AllCall, CallsCase, NamesType, are_cases, case_called, err_called, none_called, ok_called, some_called}
+use Rattle.func_gen.proofs.LiftedCaseRows.{AreCases}
+use Rattle.func_gen.proofs.LiftedEmits.{option_lifted, result_lifted, variant_lifted}
+
+-- 1. What the paths of the cases call
+
+option_cases : (w : Setting) → AreCases w 0 option_forms
+option_cases w = are_cases w 0 option_forms (option_numbers w.items) (none_called, (some_called, tt))
+
+ok_side : (payload : Option WitType) → CallsCase (case_path (side_form (codes "Ok") payload))
+ok_side None = ok_called
+ok_side (Some ty) = ok_called
+
+err_side : (payload : Option WitType) → CallsCase (case_path (side_form (codes "Err") payload))
+err_side None = err_called
+err_side (Some ty) = err_called
+
+result_cases : (w : Setting) (ok err : Option WitType) → AreCases w 0 (side_form (codes "Ok") ok ∷ side_form (codes "Err") err ∷ [])
+result_cases w ok err = are_cases w 0 (side_form (codes "Ok") ok ∷ side_form (codes "Err") err ∷ []) (result_numbers w.items ok err) (ok_side ok, (err_side err, tt))
+
+names_type : (ty : Bytes) → is_other_module ty ≡ false → NamesType ty
+unfolding is_other_module
+names_type ty h =
+    let one = or_parts (bytes_eq ty (codes "_rt")) (bytes_eq ty (codes "i64") || (bytes_eq ty (codes "f32") || bytes_eq ty (codes "f64"))) h in
+    let two = or_parts (bytes_eq ty (codes "i64")) (bytes_eq ty (codes "f32") || bytes_eq ty (codes "f64")) one.1 in
+    let three = or_parts (bytes_eq ty (codes "f32")) (bytes_eq ty (codes "f64")) two.1 in
+    record { runtime = one.0; i64 = two.0; f32 = three.0; f64 = three.1 }
+
+member_calls : (ty name : Bytes) → names_case ty name ≡ true → CallsCase (member_path ty name)
+unfolding is_lift
+member_calls ty name h =
+    let two = and_parts (not (is_other_module ty)) (not (is_lift name)) h in
+    case_called ty name (names_type ty (not-true (is_other_module ty) two.0)) (not-true (is_lift name) two.1)
+
+form_calls : (ty name : Bytes) (payload : Option WitType) → is_called (member_form ty name payload) ≡ true → CallsCase (case_path (member_form ty name payload))
+form_calls ty name None h = member_calls ty name h
+form_calls ty name (Some p) h = member_calls ty name h
+
+members_call : (ty : Bytes) (names : List Bytes) (members : List Case) → list_all is_called (member_forms ty names members) ≡ true → AllCall (member_forms ty names members)
+members_call ty [] members h = tt
+members_call ty (n ∷ names) [] h = tt
+members_call ty (n ∷ names) (c ∷ members) h =
+    let two = and_parts (is_called (member_form ty n c.ty)) (list_all is_called (member_forms ty names members)) h in
+    (form_calls ty n c.ty two.0, members_call ty names members two.1)
+
+-- 2. Options and results
+
+module _ (types : List TypeDef) (id : TypeId) (old new : FunctionBindgen) (forms : List CaseForm) (e : Expr) (v : Bytes) (l : LiftsBy forms e v old new) (ok : is_operand e ≡ true) where
+  pub option_made : AreOptionForms types id.0 forms → Emits func_meaning types (OptionLift id) (operand_of e ∷ []) (locals_of (v ∷ [])) old new
+  option_made o =
+      option_lifted types id forms e v old new l ok 1 (ap length o.are) (ap length (ap payloads_or o.kind.stands ∙ ap payloads_of o.kind.kind) ∙ ap length (sym o.are))
+      (λ w p s. subst (AreCases (setting_for w p) 0) (sym o.are) (option_cases (setting_for w p)))
+
+  pub result_made : AreResultForms types id.0 forms → Emits func_meaning types (ResultLift id) (operand_of e ∷ []) (locals_of (v ∷ [])) old new
+  result_made r =
+      result_lifted types id forms e v old new l ok 1 (ap length r.are) (ap length (ap payloads_or r.kind.stands ∙ ap payloads_of r.kind.kind) ∙ ap length (sym r.are))
+      (λ w p s. subst (AreCases (setting_for w p) 0) (sym r.are) (result_cases (setting_for w p) r.ok r.err))
+
+-- 3. Variants
+
+module _ (types : List TypeDef) (id : TypeId) (old new : FunctionBindgen) (all forms : List CaseForm) (c : CaseForm) (e : Expr) (n v : Bytes) (l : LiftsVariantBy forms c e n v old new) (ok : is_operand e ≡ true) where
+  pub variant_made : AreVariantForms types old.sites id.0 all → all ≡ forms ++ c ∷ [] → list_all is_called all ≡ true → Emits func_meaning types (VariantLift id) (operand_of e ∷ []) (locals_of (v ∷ [])) old new
+  variant_made f split called =
+      variant_lifted types id forms c e n v old new l ok many
+      (λ w p s. subst (AreCases (setting_for w p) 0) split (are_cases (setting_for w p) 0 all (variant_numbers types old.sites id.0 all f w.items (subst (AreDefined w.items) same s.sites)) calls))
+    where
+      many : length (payloads_at types id.0) ≡ suc (length forms)
+      many = let counted = variant_count types old.sites id.0 all f in let parts = ap length split in omega (arith, counted, parts, length-append forms (c ∷ []))
+
+      same : new.sites ≡ old.sites
+      same = l.adds.sites ∙ ap (λ (b : FunctionBindgen). b.sites) l.uses.rest
+
+      calls : AllCall all
+      calls = subst AllCall (sym f.are) (members_call f.name f.site.cases f.members (ap (list_all is_called) (sym f.are) ∙ called))

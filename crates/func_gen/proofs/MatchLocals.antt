@@ -1,0 +1,161 @@
+-- What a match gives gets names: new locals denote these data.
+use Rattle.std.proofs.Common.{◌≡◌, ◌+◌, ◌++◌, ◌&&◌, ℕ, suc, Bool, true, false, cond, not, List, [], ◌∷◌, length, map, Option, None, Some, refl, sym, ap, ◌∙◌, subst, arith, append-nil, append_assoc}
+use Rattle.std.specs.Prelude.{option_and_then, option_map, option_to_list}
+use Rattle.std.specs.List.{flat_map}
+use Rattle.std.proofs.lemmas.Bool.{and_parts, or_parts}
+use Rattle.std.proofs.lemmas.Grind.{flat_map-append}
+use Rattle.std.proofs.lemmas.List.Folds.{list_any-append}
+use Rattle.std.specs.Option.{option_or}
+use Rattle.std.specs.Str.{bytes_eq}
+use Rattle.wit_model.specs.Bytes.{Bytes}
+use Rattle.rust_tree.specs.declared.expr.Expr.TheVariants as expr
+use Rattle.rust_tree.specs.declared.item.Item.{Item}
+use Rattle.wrapper_data.specs.declared.value.RustValue.{RustValue}
+use Rattle.wrapper_meaning.specs.Items.{total}
+use Rattle.wrapper_meaning.proofs.PostReturn.{total-append}
+use Rattle.wrapper_values.specs.declared.state.Local.{Local}
+use Rattle.wrapper_values.specs.declared.state.State.{State}
+use Rattle.wrapper_values.specs.declared.state.Val.{Val}
+use Rattle.wrapper_values.specs.declared.state.Val.TheVariants as val
+use Rattle.wrapper_values.specs.Act as machine
+use Rattle.wrapper_values.specs.Act.{Done, and_then}
+use Rattle.wrapper_values.specs.Locals.{bind, local_named, usable}
+use Rattle.wrapper_values.specs.Matches.{bind_results, bind_values}
+use Rattle.wrapper_values.specs.Owning.{owned, owned_in}
+use Rattle.wrapper_values.specs.Setting.{Setting}
+use Rattle.wrapper_run.specs.Run.{bound}
+use Rattle.wrapper_run.proofs.LocalLemmas.{last-append}
+use Rattle.abi_driver.specs.Blocks.{owned_datum}
+use Rattle.abi_driver.specs.Laws.{Data, ofs}
+use Rattle.abi_driver.specs.Meaning.{Datum, Fact, item, of, word}
+use Rattle.func_gen.specs.declared.function_bindgen.FunctionBindgen.{FunctionBindgen}
+use Rattle.func_gen.specs.declared.operand.ExprOperand.{ExprOperand}
+use Rattle.func_gen.specs.Facts.{Hold, val_of}
+use Rattle.func_gen.specs.Finished.{data_of, datum_of}
+use Rattle.func_gen.specs.Forms.{operand_of}
+use Rattle.func_gen.specs.MatchForms.{are_plain, match_names}
+use Rattle.func_gen.specs.Meaning.{func_meaning, owns_of}
+use Rattle.func_gen.specs.Operand.{is_operand}
+use Rattle.func_gen.specs.PartForms.{locals_of}
+use Rattle.func_gen.specs.Read.{Under, env_of}
+use Rattle.func_gen.specs.Scope.{is_used}
+use Rattle.func_gen.specs.Slot.{Slot}
+use Rattle.func_gen.proofs.Lasting.{bound_under, part, with_local}
+use Rattle.func_gen.proofs.PartsTaken.{AllFree, using}
+use Rattle.func_gen.proofs.Several.{add_local}
+
+-- 1. Values that are data
+
+abbrev pub vals_of : Data func_meaning → List Val
+vals_of ds = map val_of ds
+
+plain_datum : (kept : Bool) (v : Val) (d : Datum RustValue) → not kept ≡ true → datum_of kept v ≡ Some d → v ≡ val_of d
+plain_datum true v d plain h = absurd cc
+plain_datum false (val.Word x) d plain h = let is : word x ≡ d = cc in ap val_of is
+plain_datum false (val.Value r) d plain h = let is : item r ≡ d = cc in ap val_of is
+plain_datum false (val.Area a n) d plain h = absurd cc
+
+-- of operands that are no kept words the values are the data
+pub plain_data : (os : List ExprOperand) (vs : List Val) (ds : Data func_meaning) → are_plain os ≡ true → data_of os vs ≡ Some ds → (vs ≡ vals_of ds) × (length ds ≡ length os)
+plain_data [] [] ds ok h = let is : (let none : Data func_meaning = [] in none) ≡ ds = cc in (ap vals_of is, ap length (sym is))
+plain_data [] (v ∷ vs) ds ok h = absurd cc
+plain_data (o ∷ os) [] ds ok h = absurd cc
+plain_data (o ∷ os) (v ∷ vs) ds ok h =
+    let two = and_parts (is_operand o.expr && not o.kept) (are_plain os) ok in
+    go (and_parts (is_operand o.expr) (not o.kept) two.0).1 (λ rest known. plain_data os vs rest two.1 known) (datum_of o.kept v) refl (data_of os vs) refl h
+  where
+    go : not o.kept ≡ true → ((rest : Data func_meaning) → data_of os vs ≡ Some rest → (vs ≡ vals_of rest) × (length rest ≡ length os)) → (one : Option (Datum RustValue)) → datum_of o.kept v ≡ one → (more : Option (Data func_meaning)) → data_of os vs ≡ more
+        → option_and_then (λ d. option_map (λ ds. d ∷ ds) more) one ≡ Some ds → (v ∷ vs ≡ vals_of ds) × (length ds ≡ length (o ∷ os))
+    go plain others None a more b k = absurd cc
+    go plain others (Some d) a None b k = absurd cc
+    go plain others (Some d) a (Some rest) b k =
+        let is : d ∷ rest ≡ ds = cc in
+        let first = plain_datum o.kept v d plain a in
+        let later = others rest b in
+        (ap (λ x. x ∷ vs) first ∙ ap (λ xs. val_of d ∷ xs) later.0 ∙ ap vals_of is, ap length (sym is) ∙ ap suc later.1)
+
+-- 2. They are bound
+
+abbrev pub with_data : State → List Bytes → Data func_meaning → State
+with_data s names ds = record s { locals = s.locals ++ bound names (vals_of ds) }
+
+binds_values : (w : Setting) (names : List Bytes) (ds : Data func_meaning) (s : State) → length names ≡ length ds → bind_values w names (vals_of ds) s ≡ Done tt (with_data s names ds)
+unfolding bind
+binds_values w [] [] s e = ap (λ ls. Done tt (record s { locals = ls })) (sym (append-nil s.locals))
+binds_values w [] (d ∷ ds) s e = absurd (omega (arith, e))
+binds_values w (n ∷ names) [] s e = absurd (omega (arith, e))
+binds_values w (n ∷ names) (d ∷ ds) s e =
+    let l : Local = record { name = n; value = Some (val_of d) } in
+    binds_values w names ds (with_local s n (val_of d)) (omega (arith, e)) ∙ ap (λ ls. Done tt (record s { locals = ls })) (append_assoc s.locals (l ∷ []) (bound names (vals_of ds)))
+
+-- as the results of an arm
+pub binds_data : (w : Setting) (names : List Bytes) (ds : Data func_meaning) (s : State) → length names ≡ length ds → bind_results w (match_names names) (vals_of ds) s ≡ Done tt (with_data s names ds)
+binds_data w [] ds s e = binds_values w [] ds s e
+binds_data w (n ∷ []) [] s e = absurd (omega (arith, e))
+binds_data w (n ∷ []) (d ∷ []) s e = ones (bind n (val_of d) s) (binds_values w (n ∷ []) (d ∷ []) s e)
+  where
+    ones : (o : machine.Outcome (Unit {0})) → and_then o (λ _. machine.pure (tt {0})) ≡ Done tt (with_data s (n ∷ []) (d ∷ [])) → o ≡ Done tt (with_data s (n ∷ []) (d ∷ []))
+    ones (machine.Done u t) k = k
+    ones (machine.Stopped x t) k = absurd cc
+binds_data w (n ∷ []) (d ∷ d2 ∷ ds) s e = absurd (omega (arith, e))
+binds_data w (n ∷ m ∷ names) ds s e = binds_values w (n ∷ m ∷ names) ds s e
+
+-- 3. What they denote
+
+says_datum : (d : Datum RustValue) → option_and_then usable (Some (val_of d)) ≡ Some (val_of d)
+says_datum (word x) = refl
+says_datum (item r) = refl
+
+pub add_data : (items : List Item) (b : FunctionBindgen) (names : List Bytes) (ds : Data func_meaning) (facts : List (Fact ExprOperand Slot RustValue)) (s : State) → AllFree b.scope.used names → length names ≡ length ds → Hold items b facts s
+    → Hold items (using b names) (ofs func_meaning (locals_of names) ds ++ facts) (with_data s names ds)
+add_data items b [] [] facts s f many h = subst (λ ls. Hold items b facts (record s { locals = ls })) (sym (append-nil s.locals)) h
+add_data items b [] (d ∷ ds) facts s f many h = absurd (omega (arith, many))
+add_data items b (n ∷ ns) [] facts s f many h = absurd (omega (arith, many))
+add_data items b (n ∷ ns) (d ∷ ds) facts s f many h =
+    let next : FunctionBindgen = record b { scope = record b.scope { used = b.scope.used ++ n ∷ [] } } in
+    let first : Fact ExprOperand Slot RustValue = of (operand_of (expr.Local n)) d in
+    let others = ofs func_meaning (locals_of ns) ds in
+    let l : Local = record { name = n; value = Some (val_of d) } in
+    let one = add_local items b next facts s n (val_of d) d refl (record { free = f.0; used = refl }) (says_datum d) h in
+    let later = add_data items next ns ds (first ∷ facts) (with_local s n (val_of d)) f.1 (omega (arith, many)) one in
+    subst (λ ls. Hold items (using next ns) (first ∷ (others ++ facts)) (record s { locals = ls })) (append_assoc s.locals (l ∷ []) (bound ns (vals_of ds)))
+    (part items (using next ns) (first ∷ (others ++ facts)) (others ++ (first ∷ facts)) (with_data (with_local s n (val_of d)) ns ds) (λ g. omega (arith, total-append g others facts, total-append g others (first ∷ facts))) later)
+
+-- what they own
+
+owns_datum : (d : Datum RustValue) → owned (val_of d) ≡ owned_datum func_meaning d
+owns_datum (word x) = refl
+owns_datum (item r) = refl
+
+data_own : (names : List Bytes) (ds : Data func_meaning) → length names ≡ length ds → flat_map (λ (l : Local). owned_in l.value) (bound names (vals_of ds)) ≡ flat_map (owned_datum func_meaning) ds
+data_own [] [] e = refl
+data_own [] (d ∷ ds) e = absurd (omega (arith, e))
+data_own (n ∷ names) [] e = absurd (omega (arith, e))
+data_own (n ∷ names) (d ∷ ds) e = ap (λ xs. xs ++ flat_map (λ (l : Local). owned_in l.value) (bound names (vals_of ds))) (owns_datum d) ∙ ap (λ xs. owned_datum func_meaning d ++ xs) (data_own names ds (omega (arith, e)))
+
+pub owns_data : (g : ℕ → ℕ) (s : State) (names : List Bytes) (ds : Data func_meaning) → length names ≡ length ds → total g (owns_of (with_data s names ds)) ≡ total g (owns_of s) + total g (flat_map (owned_datum func_meaning) ds)
+owns_data g s names ds many =
+    let e = ap (total g) (flat_map-append (λ (l : Local). owned_in l.value) s.locals (bound names (vals_of ds))) in
+    let f = ap (total g) (data_own names ds many) in
+    let placed = option_to_list s.place in
+    let before = flat_map (λ (l : Local). owned_in l.value) s.locals in
+    let added = flat_map (λ (l : Local). owned_in l.value) (bound names (vals_of ds)) in
+    omega (arith, e, f, total-append g before added, total-append g placed before, total-append g placed (flat_map (λ (l : Local). owned_in l.value) (s.locals ++ bound names (vals_of ds))))
+
+-- names behind hide none that is not known
+pub data_under : (s : State) (used names : List Bytes) (ds : Data func_meaning) → AllFree used names → length names ≡ length ds → ((k : Bytes) → is_used used k ≡ false → (let o : Option Local = None in local_named k s.locals ≡ o)) → Under (env_of s) (env_of (with_data s names ds))
+data_under s used [] [] f many within k v h = ap (λ ls. env_of (record s { locals = ls }) k) (append-nil s.locals) ∙ h
+data_under s used [] (d ∷ ds) f many within k v h = absurd (omega (arith, many))
+data_under s used (n ∷ ns) [] f many within k v h = absurd (omega (arith, many))
+data_under s used (n ∷ ns) (d ∷ ds) f many within k v h =
+    let l : Local = record { name = n; value = Some (val_of d) } in
+    let first = bound_under s n (val_of d) (within n f.0) k v h in
+    let later = data_under (with_local s n (val_of d)) (used ++ n ∷ []) ns ds f.1 (omega (arith, many)) (λ m free. within_one m free) k v first in
+    ap (λ ls. env_of (record s { locals = ls }) k) (sym (append_assoc s.locals (l ∷ []) (bound ns (vals_of ds)))) ∙ later
+  where
+    within_one : (m : Bytes) → is_used (used ++ n ∷ []) m ≡ false → (let o : Option Local = None in local_named m (with_local s n (val_of d)).locals ≡ o)
+    within_one m free =
+        let l : Local = record { name = n; value = Some (val_of d) } in
+        let split = or_parts (is_used used m) (is_used (n ∷ []) m) (sym (list_any-append (λ u. bytes_eq u m) used (n ∷ [])) ∙ free) in
+        let other = (or_parts (bytes_eq n m) false split.1).0 in
+        last-append (λ (q : Local). bytes_eq q.name m) s.locals l ∙ ap (λ b. option_or (let o : Option Local = cond b (Some l) None in o) (local_named m s.locals)) other ∙ within m split.0

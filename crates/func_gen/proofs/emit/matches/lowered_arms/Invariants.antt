@@ -1,0 +1,9 @@
+use Rattle.std.proofs.Common.{◌≡◌, ◌++◌, drop, length, reverse}
+use Rattle.std.specs.List.{list_all}
+use Rattle.func_gen.specs.MatchForms.{is_lowerable, lowered_arms}
+use Rattle.func_gen.proofs.emit.matches.lowered_arms.Given as goal
+
+abbrev pub invariant-loop-case : goal.invariant-loop-case
+invariant-loop-case l =
+    (l.arms ++ lowered_arms (drop l.case-index l.cases) (reverse l.left.items) ≡ lowered_arms l.cases (reverse l.initial.left.items))
+    × (list_all (is_lowerable l.count) (reverse l.left.items) ≡ list_all (is_lowerable l.count) (reverse l.initial.left.items)) × (length (drop l.case-index l.cases) ≡ length l.left.items)

@@ -1,0 +1,36 @@
+use Rattle.std.proofs.Common.{[], ◌∷◌, ◌++◌, ◌≡◌, ℕ, refl, sym, ap, ◌∙◌, append-nil, subst}
+use Rattle.rust_tree.specs.declared.stmt.Stmt.TheVariants as stmt
+use Rattle.func_gen.specs.MatchForms.{match_names, result_names}
+use Rattle.func_gen.specs.Scope.{Declares, names_at}
+use Rattle.func_gen.proofs.CallRows.{declared_as}
+use Rattle.func_gen.proofs.function_bindgen.FunctionBindgen.bind_match.Goals as goal
+
+pub returns : goal.returns
+returns c =
+    let old = c.args.self.now in
+    let d = c.in_ok-names.ensures in
+    let named : (k : ℕ) → names_at c.in_ok-locals.locals k ≡ result_names c.args.count k = c.in_ok-locals.ensures in
+    let bound = c.in_ok-bound.ensures ∙ ap match_names c.as_slice-2.ensures in
+    record {
+      adds = record {
+        call = refl;
+        stmts = c.in_ok-push.ensures.ok ∙ ap (λ names. old.code.stmts ++ stmt.Match names c.args.e c.args.arms ∷ []) bound;
+        runtime = sym (append-nil old.runtime);
+        import = refl;
+        home = refl;
+        area = refl;
+        params = refl;
+        sites = refl;
+        sizes = refl;
+        asked = refl;
+        returned = refl;
+        opened = refl;
+        finished = refl;
+      };
+      fresh = declared_as old _ _ d.number c.in_ok-names.names d.declares d.are;
+      takes = record {
+        number = d.number;
+        are = d.are ∙ ap (λ ns. names_at ns d.number) c.as_slice.ensures ∙ named d.number;
+        takes = record { locals = c.in_ok-locals.locals; named = named; declares = subst (λ ns. Declares old.scope ns d.number c.declare_all.new.self) c.as_slice.ensures d.declares };
+      };
+    }

@@ -1,0 +1,32 @@
+use Rattle.std.proofs.Common.{[], ◌∷◌, refl, reverse, sym, ap, ◌∙◌, subst}
+use Rattle.rust_tree.specs.declared.pattern.ArmPattern.TheVariants as arm
+use Rattle.rust_tree.specs.declared.runtime_item.RuntimeItem.TheVariants.{InvalidEnumDiscriminant}
+use Rattle.rust_tree.specs.declared.stmt.MatchNames.TheVariants as names_of
+use Rattle.rust_tree.specs.declared.stmt.Stmt.TheVariants as stmt
+use Rattle.wrapper_run.specs.Inward.{is_inward}
+use Rattle.func_gen.specs.Added.{Appends}
+use Rattle.func_gen.specs.LiftedCases.{lifted_bodies, number_arms}
+use Rattle.func_gen.specs.MatchForms.{arm_of}
+use Rattle.func_gen.proofs.Forming.{one_since}
+use Rattle.func_gen.proofs.Rows.{appends_both, fresh_since}
+use Rattle.func_gen.proofs.function_bindgen.FunctionBindgen.lift_cases.Goals as goal
+
+pub returns : goal.returns
+returns c =
+    let mid = c.use_blocks.new.self in
+    let asked = c.ask.new.self in
+    let name = c.in_ok-name.name in
+    let bodies = lifted_bodies c.args.cases.now (reverse c.in_ok-blocks.blocks) in
+    let are = c.in_ok-arms.ensures.arms ∙ ap (λ b. number_arms 0 bodies (arm_of arm.AnyOther b)) c.in_ok-body.ensures.body in
+    let added = subst (λ arms. Appends asked c.add_match.new.self (stmt.Match (names_of.One name) c.args.e arms ∷ []) []) are c.in_ok-name.ensures.adds in
+    record {
+      used = c.in_ok-blocks.blocks;
+      mid = mid;
+      uses = c.in_ok-blocks.ensures;
+      few = c.in_ok-arms.ensures.few;
+      inward = c.in_ok-arms.ensures.inward;
+      inward_last = ap is_inward (sym c.in_ok-body.ensures.body) ∙ c.in_ok-body.ensures.inward;
+      adds = appends_both mid asked c.add_match.new.self [] _ (InvalidEnumDiscriminant ∷ []) [] c.in_ok-ask.ensures.asks added;
+      fresh = fresh_since mid asked c.add_match.new.self name c.in_ok-ask.ensures.scope c.in_ok-name.ensures.fresh;
+      takes = one_since mid.scope asked.scope c.add_match.new.self.scope _ name c.in_ok-ask.ensures.scope c.in_ok-name.ensures.takes;
+    }

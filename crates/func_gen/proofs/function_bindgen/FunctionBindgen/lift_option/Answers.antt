@@ -1,0 +1,17 @@
+use Rattle.std.proofs.Common.{refl, subst}
+use Rattle.rust_tree.specs.declared.expr.Expr.TheVariants as expr
+use Rattle.abi_driver.specs.declared.instruction.Instruction.TheVariants as instruction
+use Rattle.func_gen.specs.LiftedCases.{LiftsBy}
+use Rattle.func_gen.proofs.CaseLifted.{option_made}
+use Rattle.func_gen.proofs.Rows.{emits_as, pushed}
+use Rattle.func_gen.proofs.function_bindgen.FunctionBindgen.lift_option.Goals as goal
+
+pub returns : goal.returns
+returns c =
+    let types = c.args.resolve.now.types in
+    let e = c.in_ok-e.e in
+    let forms = c.in_ok-forms.forms in
+    let name = c.in_ok-name.name in
+    let lifts = subst (λ fs. LiftsBy fs e name c.args.self.now c.lift_cases.new.self) c.as_slice.ensures c.in_ok-name.ensures in
+    emits_as types (instruction.OptionLift c.args.id) _ _ _ _ _ _ c.in_ok-e.ensures.only (pushed c.args.results.now _ _ (expr.Local name) c.in_ok-push.ensures.ok c.requires.empty refl)
+    (option_made types c.args.id _ _ forms e name lifts c.in_ok-e.ensures.operand c.in_ok-forms.ensures)

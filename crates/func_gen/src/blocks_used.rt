@@ -1,0 +1,39 @@
+//! Finished blocks are used up.
+
+ghost use Rattle.std.specs.Prelude.{◌≡◌, ◌++◌, length, reverse, IfOk};
+ghost use Rattle.func_gen.specs.Uses.{Uses};
+
+use crate::function_bindgen::{FinishedBlock, FunctionBindgen};
+use std::alloc::Global;
+use wit_model::{List, OutOfMemory};
+
+/// Takes so many blocks, the last one first. Where fewer are there, there is no memory.
+fn last_blocks(
+    alloc: Global,
+    finished: &mut Vec<FinishedBlock>,
+    count: usize,
+) -> Result<List<FinishedBlock>, OutOfMemory>
+    ensures taken { IfOk result (λ blocks. reverse finished.old.items ≡ blocks ++ reverse finished.new.items) }
+    ensures many { IfOk result (λ blocks. length blocks ≡ count) }
+{
+    let mut blocks = List::new(alloc);
+    for _i in 0..count {
+        let Some(block) = finished.pop() else {
+            return Err(OutOfMemory);
+        };
+        blocks.push(block)?;
+    }
+    Ok(blocks)
+}
+
+impl FunctionBindgen {
+    /// So many blocks that were finished last, the last one first, which are kept no more.
+    pub(crate) fn use_blocks(&mut self, count: usize) -> Result<List<FinishedBlock>, OutOfMemory>
+        ensures { IfOk result (λ blocks. Uses blocks count self.old self.new) }
+    {
+        let mut finished = std::mem::replace(&mut self.finished, List::new(self.alloc)).into_vec();
+        let blocks = last_blocks(self.alloc, &mut finished, count)?;
+        self.finished = List::from_vec(finished);
+        Ok(blocks)
+    }
+}

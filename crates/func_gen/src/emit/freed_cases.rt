@@ -1,0 +1,105 @@
+//! Finished blocks that give nothing become the arms of a match by numbers.
+
+ghost use Rattle.std.specs.Prelude.{◌≡◌, [], true, length, map, reverse, IfOk, OnOk};
+ghost use Rattle.std.specs.List.{AllByRecursion, list_all};
+ghost use Rattle.wrapper_run.specs.Inward as spec;
+ghost use Rattle.abi_driver.specs.Instructions.{Emits};
+ghost use Rattle.abi_driver.specs.declared.instruction.Instruction.TheVariants as instruction;
+ghost use Rattle.func_gen.specs.LiftedCases.{FreesBy, freed_body, number_arms};
+ghost use Rattle.func_gen.specs.Meaning.{func_meaning};
+
+use crate::added::only_operand;
+use crate::function_bindgen::{FinishedBlock, FunctionBindgen};
+use crate::inward::is_inward;
+use crate::operand::ExprOperand;
+use rust_tree::{Arm, ArmPattern, Block, Expr, MatchNames, Stmt};
+use std::alloc::Global;
+use wit_model::{List, OutOfMemory, Resolve};
+
+/// The code of a block that gives nothing. Of one that gives something there is no memory, nor of one whose code is not inward.
+fn freed_body(block: FinishedBlock) -> Result<Block, OutOfMemory>
+    ensures body { IfOk result (λ b. b ≡ freed_body block) }
+    ensures none { IfOk result (λ b. block.results ≡ []) }
+    ensures inward { IfOk result (λ b. spec.is_inward b ≡ true) }
+{
+    let FinishedBlock {
+        number: _,
+        names: _,
+        stmts,
+        results,
+    } = block;
+    if !results.is_empty() {
+        return Err(OutOfMemory);
+    }
+    let body = Block { stmts, tail: None };
+    if !is_inward(&body) {
+        return Err(OutOfMemory);
+    }
+    Ok(body)
+}
+
+/// The arms of so many blocks by their numbers, of which the last one is the first, and another arm behind them.
+fn freed_arms(
+    alloc: Global,
+    count: u32,
+    blocks: Vec<FinishedBlock>,
+    other: Arm,
+) -> Result<List<Arm>, OutOfMemory>
+    requires many { length blocks.items ≡ count }
+    ensures arms { IfOk result (λ arms. arms ≡ number_arms 0 (map freed_body (reverse blocks.items)) other) }
+    ensures none { IfOk result (λ arms. AllByRecursion (λ b. b.results ≡ []) (reverse blocks.items)) }
+    ensures inward { IfOk result (λ arms. list_all spec.is_inward (map freed_body (reverse blocks.items)) ≡ true) }
+{
+    let mut left = blocks;
+    let mut arms = List::new(alloc);
+    for k in 0..count {
+        let Some(block) = left.pop() else {
+            return Err(OutOfMemory);
+        };
+        let body = freed_body(block)?;
+        let pattern = ArmPattern::Number(k);
+        arms.push(Arm { pattern, body })?;
+    }
+    arms.push(other)?;
+    Ok(arms)
+}
+
+impl FunctionBindgen {
+    /// So many blocks are run by their numbers, and the one that was finished last for any other number.
+    fn free_cases(&mut self, count: u32, e: Expr) -> Result<(), OutOfMemory>
+        ensures { OnOk result (FreesBy count e self.old self.new) }
+    {
+        let mut blocks = self.use_blocks(count as usize + 1)?.into_vec();
+        let last = blocks.remove(0);
+        let body = freed_body(last)?;
+        let other = Arm {
+            pattern: ArmPattern::AnyOther,
+            body,
+        };
+        let arms = freed_arms(self.alloc, count, blocks, other)?;
+        self.code
+            .stmts
+            .push(Stmt::Match(MatchNames::Nothing, e, arms))?;
+        Ok(())
+    }
+
+    /// Of no block at all there is no memory.
+    pub(crate) fn free_variant(
+        &mut self,
+        resolve: &Resolve,
+        count: u32,
+        operands: &List<ExprOperand>,
+        results: &mut List<ExprOperand>,
+    ) -> Result<(), OutOfMemory>
+        requires one { length operands.now ≡ 1 }
+        requires empty { results.old ≡ [] }
+        ensures { OnOk result (Emits func_meaning resolve.now.types (instruction.GuestDeallocateVariant count) operands.now results.new self.old self.new) }
+    {
+        if count == 0 {
+            return Err(OutOfMemory);
+        }
+        let e = only_operand(self.alloc, operands)?;
+        self.free_cases(count - 1, e)?;
+        Ok(())
+    }
+}

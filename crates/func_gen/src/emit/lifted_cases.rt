@@ -1,0 +1,222 @@
+//! Finished blocks become the arms of a match by numbers.
+
+ghost use Rattle.std.specs.Prelude.{◌≡◌, [], ◌∷◌, true, codes, length, reverse, IfOk, OnOk};
+ghost use Rattle.std.specs.List.{list_all};
+ghost use Rattle.rust_tree.specs.declared.stmt.MatchNames.TheVariants as names_of;
+ghost use Rattle.rust_tree.specs.declared.stmt.Stmt.TheVariants as stmt;
+ghost use Rattle.wrapper_run.specs.Inward as spec;
+ghost use Rattle.abi_driver.specs.Instructions.{Emits};
+ghost use Rattle.abi_driver.specs.declared.instruction.Instruction.TheVariants as instruction;
+ghost use Rattle.func_gen.specs.Added.{Appends, Fresh};
+ghost use Rattle.func_gen.specs.LiftedCases.{LiftsBy, are_few, case_expr, empty_case, invalid_body, is_liftable, is_unit, lifted_bodies, lifted_body, number_arms};
+ghost use Rattle.func_gen.specs.MatchForms.{case_path};
+ghost use Rattle.func_gen.specs.Meaning.{func_meaning};
+ghost use Rattle.func_gen.specs.PartForms.{exprs_of};
+ghost use Rattle.func_gen.specs.Scope.{TakesOne};
+
+use crate::added::only_operand;
+use crate::case_form::CaseForm;
+use crate::emit::options::option_forms;
+use crate::emit::results::result_forms;
+use crate::forms::runtime_path;
+use crate::function_bindgen::{FinishedBlock, FunctionBindgen};
+use crate::inward::is_inward;
+use crate::operand::{ExprOperand, copy_expr, copy_path};
+use crate::scope::{LocalName, numbered};
+use rust_tree::{Arm, ArmPattern, Block, Expr, MatchNames, Path, RuntimeItem, Stmt};
+use std::alloc::Global;
+use wit_model::{List, OutOfMemory, Resolve, Text, TypeId};
+
+/// Whether a payload that is left out is `()`.
+fn is_unit(case: &CaseForm) -> bool
+    ensures { result ≡ is_unit case.now }
+{
+    match case {
+        CaseForm::LeftOut(_) => true,
+        _ => false,
+    }
+}
+
+fn case_path(alloc: Global, case: &CaseForm) -> Result<Path, OutOfMemory>
+    ensures { IfOk result (λ p. p ≡ case_path case.now) }
+{
+    match case {
+        CaseForm::Bare(path) | CaseForm::Full(path) | CaseForm::LeftOut(path) => {
+            copy_path(path, alloc)
+        }
+    }
+}
+
+/// A case without a payload, or with `()`.
+fn empty_case(alloc: Global, unit: bool, path: Path) -> Result<Expr, OutOfMemory>
+    ensures { IfOk result (λ e. e ≡ empty_case unit path) }
+{
+    if !unit {
+        return Ok(Expr::Case(path));
+    }
+    let mut arguments = List::new(alloc);
+    arguments.push(Expr::Unit)?;
+    Ok(Expr::Call(path, arguments))
+}
+
+/// The case of what a block gives. Of more than one result there is no memory.
+pub(crate) fn case_expr(
+    alloc: Global,
+    case: &CaseForm,
+    results: &[ExprOperand],
+) -> Result<Expr, OutOfMemory>
+    ensures same { IfOk result (λ e. e ≡ case_expr (is_unit case.now) (case_path case.now) (exprs_of results.now)) }
+    ensures few { IfOk result (λ e. are_few results.now ≡ true) }
+{
+    let path = case_path(alloc, case)?;
+    match results {
+        [] => empty_case(alloc, is_unit(case), path),
+        [operand] => {
+            let mut arguments = List::new(alloc);
+            arguments.push(copy_expr(&operand.expr, alloc)?)?;
+            Ok(Expr::Call(path, arguments))
+        }
+        _ => Err(OutOfMemory),
+    }
+}
+
+/// The code of a block, and the case of what it gives. Of code that is not inward there is no memory.
+fn lifted_body(alloc: Global, case: &CaseForm, block: FinishedBlock) -> Result<Block, OutOfMemory>
+    ensures body { IfOk result (λ b. b ≡ lifted_body case.now block) }
+    ensures few { IfOk result (λ b. is_liftable block ≡ true) }
+    ensures inward { IfOk result (λ b. spec.is_inward b ≡ true) }
+{
+    let FinishedBlock {
+        number: _,
+        names: _,
+        stmts,
+        results,
+    } = block;
+    let tail = Some(case_expr(alloc, case, results.as_slice())?);
+    let body = Block { stmts, tail };
+    if !is_inward(&body) {
+        return Err(OutOfMemory);
+    }
+    Ok(body)
+}
+
+/// What stands where a number is that of no case.
+fn invalid_body(alloc: Global) -> Result<Block, OutOfMemory>
+    ensures body { IfOk result (λ b. b ≡ invalid_body) }
+    ensures inward { IfOk result (λ b. spec.is_inward b ≡ true) }
+{
+    let path = runtime_path(alloc, RuntimeItem::InvalidEnumDiscriminant)?;
+    let tail = Some(Expr::Call(path, List::new(alloc)));
+    let body = Block {
+        stmts: List::new(alloc),
+        tail,
+    };
+    if !is_inward(&body) {
+        return Err(OutOfMemory);
+    }
+    Ok(body)
+}
+
+/// The arms of cases by their numbers, of whose blocks the last one is the first, and another arm behind them.
+pub(crate) fn lifted_arms(
+    alloc: Global,
+    cases: &[CaseForm],
+    blocks: List<FinishedBlock>,
+    other: Arm,
+) -> Result<List<Arm>, OutOfMemory>
+    requires many { length cases.now ≡ length blocks }
+    ensures arms { IfOk result (λ arms. arms ≡ number_arms 0 (lifted_bodies cases.now (reverse blocks)) other) }
+    ensures few { IfOk result (λ arms. list_all is_liftable (reverse blocks) ≡ true) }
+    ensures inward { IfOk result (λ arms. list_all spec.is_inward (lifted_bodies cases.now (reverse blocks)) ≡ true) }
+{
+    let mut left = blocks.into_vec();
+    let mut arms = List::new(alloc);
+    for i in 0..cases.len() {
+        let Some(block) = left.pop() else {
+            return Err(OutOfMemory);
+        };
+        if i > u32::MAX as usize {
+            return Err(OutOfMemory);
+        }
+        let body = lifted_body(alloc, &cases[i], block)?;
+        let pattern = ArmPattern::Number(i as u32);
+        arms.push(Arm { pattern, body })?;
+    }
+    arms.push(other)?;
+    Ok(arms)
+}
+
+impl FunctionBindgen {
+    /// The name of a new local for what the arms of a match give.
+    fn add_match(&mut self, e: Expr, arms: List<Arm>) -> Result<Text, OutOfMemory>
+        ensures adds { IfOk result (λ v. Appends self.old self.new (stmt.Match (names_of.One v) e arms ∷ []) []) }
+        ensures fresh { IfOk result (λ v. Fresh self.old self.new v) }
+        ensures takes { IfOk result (λ v. TakesOne self.old.scope (codes "v") v self.new.scope) }
+    {
+        let name = LocalName {
+            prefix: "v",
+            part: None,
+        };
+        let t = self.scope.declare(self.alloc, &[name])?;
+        let text = numbered(self.alloc, name, t)?;
+        let copy = text.copy(self.alloc)?;
+        self.code
+            .stmts
+            .push(Stmt::Match(MatchNames::One(text), e, arms))?;
+        Ok(copy)
+    }
+
+    /// The name of a new local for the case that a word is, with an arm for each case. A number of no case ends the run.
+    fn lift_cases(&mut self, cases: &[CaseForm], e: Expr) -> Result<Text, OutOfMemory>
+        ensures { IfOk result (λ v. LiftsBy cases.now e v self.old self.new) }
+    {
+        let blocks = self.use_blocks(cases.len())?;
+        let body = invalid_body(self.alloc)?;
+        let other = Arm {
+            pattern: ArmPattern::AnyOther,
+            body,
+        };
+        let arms = lifted_arms(self.alloc, cases, blocks, other)?;
+        self.ask(RuntimeItem::InvalidEnumDiscriminant)?;
+        let name = self.add_match(e, arms)?;
+        Ok(name)
+    }
+
+    pub(crate) fn lift_option(
+        &mut self,
+        resolve: &Resolve,
+        id: TypeId,
+        operands: &List<ExprOperand>,
+        results: &mut List<ExprOperand>,
+    ) -> Result<(), OutOfMemory>
+        requires one { length operands.now ≡ 1 }
+        requires empty { results.old ≡ [] }
+        ensures { OnOk result (Emits func_meaning resolve.now.types (instruction.OptionLift id) operands.now results.new self.old self.new) }
+    {
+        let e = only_operand(self.alloc, operands)?;
+        let forms = option_forms(self.alloc, resolve, id)?;
+        let name = self.lift_cases(forms.as_slice(), e)?;
+        let expr = Expr::Local(name);
+        results.push(ExprOperand { expr, kept: false })?;
+        Ok(())
+    }
+
+    pub(crate) fn lift_result(
+        &mut self,
+        resolve: &Resolve,
+        id: TypeId,
+        operands: &List<ExprOperand>,
+        results: &mut List<ExprOperand>,
+    ) -> Result<(), OutOfMemory>
+        requires one { length operands.now ≡ 1 }
+        requires empty { results.old ≡ [] }
+        ensures { OnOk result (Emits func_meaning resolve.now.types (instruction.ResultLift id) operands.now results.new self.old self.new) }
+    {
+        let e = only_operand(self.alloc, operands)?;
+        let forms = result_forms(self.alloc, resolve, id)?;
+        let name = self.lift_cases(forms.as_slice(), e)?;
+        let expr = Expr::Local(name);
+        results.push(ExprOperand { expr, kept: false })?;
+        Ok(())
+    }
+}

@@ -1,0 +1,213 @@
+//! Finished blocks become the arms of a match by numbers, of which the last one tests its number: words become the cases of variants.
+
+ghost use Rattle.std.specs.Prelude.{◌≡◌, ◌+◌, [], ◌∷◌, false, true, length, IfOk, OnOk};
+ghost use Rattle.std.specs.List.{list_all};
+ghost use Rattle.rust_tree.specs.declared.pattern.ArmPattern.TheVariants as pattern;
+ghost use Rattle.rust_tree.specs.declared.stmt.MatchNames.TheVariants as names_of;
+ghost use Rattle.rust_tree.specs.declared.stmt.Stmt.TheVariants as stmt;
+ghost use Rattle.wit_model.specs.Bytes.{Bytes};
+ghost use Rattle.wrapper_run.specs.Inward as spec;
+ghost use Rattle.abi_driver.specs.Instructions.{Emits};
+ghost use Rattle.abi_driver.specs.declared.instruction.Instruction.TheVariants as instruction;
+ghost use Rattle.func_gen.specs.Added.{Appends};
+ghost use Rattle.func_gen.specs.CalledCases.{calls_case, is_called, is_other_module};
+ghost use Rattle.func_gen.specs.LiftedCases.{LiftsVariantBy, MemberArms, NamesCase, is_liftable, last_body};
+ghost use Rattle.func_gen.specs.MatchForms.{arm_of};
+ghost use Rattle.func_gen.specs.Meaning.{func_meaning};
+ghost use Rattle.func_gen.specs.Scope.{is_used};
+
+use crate::added::only_operand;
+use crate::case_form::CaseForm;
+use crate::emit::lifted_cases::{case_expr, lifted_arms};
+use crate::emit::variants::variant_forms;
+use crate::function_bindgen::{FinishedBlock, FunctionBindgen};
+use crate::inward::is_inward;
+use crate::operand::ExprOperand;
+use crate::scope::{LocalName, is_used, numbered};
+use rust_tree::{Arm, ArmPattern, Block, Expr, MatchNames, Path, Stmt};
+use std::alloc::Global;
+use wit_model::{List, OutOfMemory, Resolve, Text, TypeId};
+
+/// Whether functions of another module stand behind a name: of `_rt`, or of a number type.
+#[tactic(auto, unfolding(crate::specs::CalledCases::is_other_module))]
+fn is_other_module(name: &Text) -> bool
+    ensures { result ≡ is_other_module name.now }
+{
+    let name = name.as_str();
+    name == "_rt" || name == "i64" || name == "f32" || name == "f64"
+}
+
+/// Whether a path is called as a case of a type of the file.
+#[tactic(auto, unfolding(crate::specs::CalledCases::is_lift))]
+fn calls_case(path: &Path) -> bool
+    ensures { result ≡ calls_case path.now }
+{
+    if path.lead || path.supers != 0 {
+        return false;
+    }
+    match path.names.as_slice() {
+        [ty, name] => !is_other_module(ty) && name.as_str() != "_lift",
+        _ => false,
+    }
+}
+
+fn is_called(case: &CaseForm) -> bool
+    ensures { result ≡ is_called case.now }
+{
+    match case {
+        CaseForm::Bare(path) | CaseForm::Full(path) | CaseForm::LeftOut(path) => calls_case(path),
+    }
+}
+
+fn are_called(cases: &[CaseForm]) -> bool
+    ensures { result ≡ list_all is_called cases.now }
+{
+    cases.iter().all(|case| is_called(case))
+}
+
+/// A statement before others.
+fn stmts_behind(first: Stmt, later: List<Stmt>) -> Result<List<Stmt>, OutOfMemory>
+    ensures { IfOk result (λ stmts. stmts ≡ first ∷ later) }
+{
+    let mut stmts = later.into_vec();
+    stmts.insert(0, first)?;
+    Ok(List::from_vec(stmts))
+}
+
+/// The arm of the last case, which has the number under a name. Of a block that has the name in reach there is no memory.
+fn last_arm(
+    alloc: Global,
+    name: Text,
+    number: usize,
+    case: &CaseForm,
+    block: FinishedBlock,
+) -> Result<Arm, OutOfMemory>
+    ensures arm { IfOk result (λ a. a ≡ arm_of (pattern.Name name) (last_body name number case.now block)) }
+    ensures few { IfOk result (λ a. is_liftable block ≡ true) }
+    ensures unnamed { IfOk result (λ a. is_used block.names name ≡ false) }
+    ensures inward { IfOk result (λ a. spec.is_inward (last_body name number case.now block) ≡ true) }
+{
+    let FinishedBlock {
+        number: _,
+        names,
+        stmts: later,
+        results,
+    } = block;
+    if number > u32::MAX as usize || is_used(names.as_slice(), &name) {
+        return Err(OutOfMemory);
+    }
+    let test = Stmt::AssertLast(name.copy(alloc)?, number as u32);
+    let stmts = stmts_behind(test, later)?;
+    let tail = Some(case_expr(alloc, case, results.as_slice())?);
+    let body = Block { stmts, tail };
+    if !is_inward(&body) {
+        return Err(OutOfMemory);
+    }
+    let pattern = ArmPattern::Name(name);
+    Ok(Arm { pattern, body })
+}
+
+/// The block that was finished last, and those before it, of blocks of which the last one is the first. Where there is none, there is no memory.
+fn parted(blocks: List<FinishedBlock>) -> Result<(FinishedBlock, List<FinishedBlock>), OutOfMemory>
+    ensures { IfOk result (λ parts. blocks ≡ parts.0 ∷ parts.1) }
+{
+    let mut left = blocks.into_vec();
+    if left.is_empty() {
+        return Err(OutOfMemory);
+    }
+    let block = left.remove(0);
+    Ok((block, List::from_vec(left)))
+}
+
+/// The arms of a variant's cases, made of blocks of which the last one is the first. The arm of the last case has the number under a name.
+fn member_arms(
+    alloc: Global,
+    cases: &[CaseForm],
+    last: &CaseForm,
+    number: Text,
+    blocks: List<FinishedBlock>,
+) -> Result<List<Arm>, OutOfMemory>
+    requires many { length blocks ≡ length cases.now + 1 }
+    ensures { IfOk result (λ arms. MemberArms cases.now last.now number blocks arms) }
+{
+    let (block, others) = parted(blocks)?;
+    let other = last_arm(alloc, number, cases.len(), last, block)?;
+    let arms = lifted_arms(alloc, cases, others, other)?;
+    Ok(arms)
+}
+
+impl FunctionBindgen {
+    /// The names of new locals, for the number that the last arm tests and for the case that a match gives.
+    fn name_case(&mut self) -> Result<(Text, Text), OutOfMemory>
+        ensures { IfOk result (λ names. NamesCase names.0 names.1 self.old self.new) }
+    {
+        let number = LocalName {
+            prefix: "n",
+            part: None,
+        };
+        let value = LocalName {
+            prefix: "v",
+            part: None,
+        };
+        let t = self.scope.declare(self.alloc, &[number, value])?;
+        let tested = numbered(self.alloc, number, t)?;
+        let name = numbered(self.alloc, value, t)?;
+        Ok((tested, name))
+    }
+
+    /// A match with these arms, whose result gets a name that was declared.
+    fn push_match(&mut self, name: Text, e: Expr, arms: List<Arm>) -> Result<Text, OutOfMemory>
+        ensures same { IfOk result (λ v. v ≡ name) }
+        ensures adds { IfOk result (λ v. Appends self.old self.new (stmt.Match (names_of.One name) e arms ∷ []) []) }
+        ensures scope { IfOk result (λ v. self.new.scope ≡ self.old.scope) }
+    {
+        let copy = name.copy(self.alloc)?;
+        self.code
+            .stmts
+            .push(Stmt::Match(MatchNames::One(name), e, arms))?;
+        Ok(copy)
+    }
+
+    /// The name of a new local for the case that a word is, with an arm for each case. The last case is that of every other number: its arm
+    /// has the number under a name, and tests it.
+    fn lift_members(
+        &mut self,
+        cases: &[CaseForm],
+        last: &CaseForm,
+        e: Expr,
+    ) -> Result<Text, OutOfMemory>
+        ensures { IfOk result (λ v. (n : Bytes) × LiftsVariantBy cases.now last.now e n v self.old self.new) }
+    {
+        let blocks = self.use_blocks(cases.len() + 1)?;
+        let (number, name) = self.name_case()?;
+        let arms = member_arms(self.alloc, cases, last, number, blocks)?;
+        let name = self.push_match(name, e, arms)?;
+        Ok(name)
+    }
+
+    pub(crate) fn lift_variant(
+        &mut self,
+        resolve: &Resolve,
+        id: TypeId,
+        operands: &List<ExprOperand>,
+        results: &mut List<ExprOperand>,
+    ) -> Result<(), OutOfMemory>
+        requires one { length operands.now ≡ 1 }
+        requires empty { results.old ≡ [] }
+        ensures { OnOk result (Emits func_meaning resolve.now.types (instruction.VariantLift id) operands.now results.new self.old self.new) }
+    {
+        let e = only_operand(self.alloc, operands)?;
+        let forms = variant_forms(self.alloc, resolve, self.sites.as_slice(), id)?;
+        if !are_called(forms.as_slice()) {
+            return Err(OutOfMemory);
+        }
+        let mut cases = forms.into_vec();
+        let Some(last) = cases.pop() else {
+            return Err(OutOfMemory);
+        };
+        let name = self.lift_members(cases.as_slice(), &last, e)?;
+        let expr = Expr::Local(name);
+        results.push(ExprOperand { expr, kept: false })?;
+        Ok(())
+    }
+}

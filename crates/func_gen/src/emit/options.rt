@@ -1,0 +1,84 @@
+//! Options become what their cases do.
+
+ghost use Rattle.std.specs.Prelude.{◌≡◌, [], ◌∷◌, true, codes, length, IfOk, OnOk};
+ghost use Rattle.abi_driver.specs.Instructions.{Emits};
+ghost use Rattle.abi_driver.specs.declared.instruction.Instruction.TheVariants as instruction;
+ghost use Rattle.func_gen.specs.CaseForms.{AreOptionForms, core_path};
+ghost use Rattle.func_gen.specs.Meaning.{func_meaning};
+
+use crate::added::only_operand;
+use crate::case_form::CaseForm;
+use crate::emit::parts::push_locals;
+use crate::function_bindgen::FunctionBindgen;
+use crate::operand::ExprOperand;
+use crate::something::is_something;
+use rust_tree::Path;
+use std::alloc::Global;
+use wit_model::{List, OutOfMemory, Resolve, Text, TypeDefKind, TypeId};
+
+/// The path of a case of an option or a result.
+pub(crate) fn core_path(
+    alloc: Global,
+    second: &str,
+    third: &str,
+    case: &str,
+) -> Result<Path, OutOfMemory>
+    ensures { IfOk result (λ p. p ≡ core_path second.now third.now case.now) }
+{
+    let mut names = List::new(alloc);
+    names.push(Text::from_str(alloc, "core")?)?;
+    names.push(Text::from_str(alloc, second)?)?;
+    names.push(Text::from_str(alloc, third)?)?;
+    names.push(Text::from_str(alloc, case)?)?;
+    Ok(Path {
+        lead: true,
+        supers: 0,
+        names,
+    })
+}
+
+/// The forms of the cases of an option of the table.
+pub(crate) fn option_forms(
+    alloc: Global,
+    resolve: &Resolve,
+    id: TypeId,
+) -> Result<List<CaseForm>, OutOfMemory>
+    ensures { IfOk result (λ forms. AreOptionForms resolve.now.types id.0 forms) }
+{
+    let types = resolve.types.as_slice();
+    let at = id.0 as usize;
+    if at >= types.len() {
+        return Err(OutOfMemory);
+    }
+    let TypeDefKind::Option(ty) = &types[at].kind else {
+        return Err(OutOfMemory);
+    };
+    if !is_something(resolve, *ty) {
+        return Err(OutOfMemory);
+    }
+    let mut forms = List::new(alloc);
+    forms.push(CaseForm::Bare(core_path(alloc, "option", "Option", "None")?))?;
+    forms.push(CaseForm::Full(core_path(alloc, "option", "Option", "Some")?))?;
+    Ok(forms)
+}
+
+impl FunctionBindgen {
+    pub(crate) fn lower_option(
+        &mut self,
+        resolve: &Resolve,
+        id: TypeId,
+        count: u32,
+        operands: &List<ExprOperand>,
+        results: &mut List<ExprOperand>,
+    ) -> Result<(), OutOfMemory>
+        requires one { length operands.now ≡ 1 }
+        requires empty { results.old ≡ [] }
+        ensures { OnOk result (Emits func_meaning resolve.now.types (instruction.OptionLower id count) operands.now results.new self.old self.new) }
+    {
+        let e = only_operand(self.alloc, operands)?;
+        let forms = option_forms(self.alloc, resolve, id)?;
+        let names = self.lower_cases(forms.as_slice(), e, count)?;
+        push_locals(self.alloc, names.as_slice(), results)?;
+        Ok(())
+    }
+}

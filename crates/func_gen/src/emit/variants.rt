@@ -1,0 +1,154 @@
+//! Values with cases become what their cases do.
+
+ghost use Rattle.std.specs.Prelude.{◌≡◌, [], Some, length, IfOk, OnOk};
+ghost use Rattle.std.specs.List.{AllByRecursion};
+ghost use Rattle.wrapper_values.specs.Fields.{root_name};
+ghost use Rattle.abi_driver.specs.Instructions.{Emits};
+ghost use Rattle.abi_driver.specs.declared.instruction.Instruction.TheVariants as instruction;
+ghost use Rattle.func_gen.specs.CaseForms.{AreVariantForms, IsSome, member_form, member_forms, member_path, variant_at};
+ghost use Rattle.func_gen.specs.Meaning.{func_meaning};
+
+use crate::added::only_operand;
+use crate::case_form::CaseForm;
+use crate::emit::parts::push_locals;
+use crate::function_bindgen::FunctionBindgen;
+use crate::operand::ExprOperand;
+use crate::something::is_something;
+use crate::type_site::TypeSite;
+use crate::variant_site::VariantSite;
+use rust_tree::Path;
+use std::alloc::Global;
+use wit_model::{Case, List, OutOfMemory, Resolve, Text, TypeDefKind, TypeId, WitType};
+
+/// A path of two names.
+fn member_path(alloc: Global, ty: &Text, case: &Text) -> Result<Path, OutOfMemory>
+    ensures { IfOk result (λ p. p ≡ member_path ty.now case.now) }
+{
+    let mut names = List::new(alloc);
+    names.push(ty.copy(alloc)?)?;
+    names.push(case.copy(alloc)?)?;
+    Ok(Path {
+        lead: false,
+        supers: 0,
+        names,
+    })
+}
+
+/// The form of a case of a type of the file.
+fn member_form(
+    alloc: Global,
+    resolve: &Resolve,
+    ty: &Text,
+    case: &Text,
+    payload: Option<WitType>,
+) -> Result<CaseForm, OutOfMemory>
+    ensures form { IfOk result (λ f. f ≡ member_form ty.now case.now payload) }
+    ensures some { IfOk result (λ f. IsSome resolve.now.types payload) }
+{
+    let path = member_path(alloc, ty, case)?;
+    let Some(payload) = payload else {
+        return Ok(CaseForm::Bare(path));
+    };
+    if !is_something(resolve, payload) {
+        return Err(OutOfMemory);
+    }
+    Ok(CaseForm::Full(path))
+}
+
+/// Those of all its cases.
+fn member_forms(
+    alloc: Global,
+    resolve: &Resolve,
+    ty: &Text,
+    names: &[Text],
+    members: &[Case],
+) -> Result<List<CaseForm>, OutOfMemory>
+    requires { length names.now ≡ length members.now }
+    ensures forms { IfOk result (λ forms. forms ≡ member_forms ty.now names.now members.now) }
+    ensures some { IfOk result (λ forms. AllByRecursion (λ c. IsSome resolve.now.types c.ty) members.now) }
+{
+    let mut forms = List::new(alloc);
+    for i in 0..names.len() {
+        forms.push(member_form(alloc, resolve, ty, &names[i], members[i].ty)?)?;
+    }
+    Ok(forms)
+}
+
+/// The one name of a path of the file's root. Of another path there is no memory.
+fn name_at_root(path: &Path) -> Result<&Text, OutOfMemory>
+    ensures { IfOk result (λ name. root_name path.now ≡ Some name.now) }
+{
+    if path.lead || path.supers != 0 {
+        return Err(OutOfMemory);
+    }
+    let [name] = path.names.as_slice() else {
+        return Err(OutOfMemory);
+    };
+    Ok(name)
+}
+
+/// How the variant at a place of the table is written. Of one without a site there is no memory.
+fn variant_site(sites: &[Option<TypeSite>], id: TypeId) -> Result<&VariantSite, OutOfMemory>
+    ensures { IfOk result (λ s. variant_at sites.now id.0 ≡ Some s.now) }
+{
+    let at = id.0 as usize;
+    if at >= sites.len() {
+        return Err(OutOfMemory);
+    }
+    let Some(TypeSite::Variant(site)) = &sites[at] else {
+        return Err(OutOfMemory);
+    };
+    Ok(site)
+}
+
+/// The forms of the cases of a variant of the table. Of one without a site, or with other cases in number, there is no memory.
+pub(crate) fn variant_forms(
+    alloc: Global,
+    resolve: &Resolve,
+    sites: &[Option<TypeSite>],
+    id: TypeId,
+) -> Result<List<CaseForm>, OutOfMemory>
+    ensures { IfOk result (λ forms. AreVariantForms resolve.now.types sites.now id.0 forms) }
+{
+    let site = variant_site(sites, id)?;
+    let name = name_at_root(&site.lowered)?;
+    let types = resolve.types.as_slice();
+    let at = id.0 as usize;
+    if at >= types.len() {
+        return Err(OutOfMemory);
+    }
+    let TypeDefKind::Variant(members) = &types[at].kind else {
+        return Err(OutOfMemory);
+    };
+    if site.cases.len() != members.len() || members.len() > u32::MAX as usize {
+        return Err(OutOfMemory);
+    }
+    member_forms(
+        alloc,
+        resolve,
+        name,
+        site.cases.as_slice(),
+        members.as_slice(),
+    )
+}
+
+impl FunctionBindgen {
+    pub(crate) fn lower_variant(
+        &mut self,
+        resolve: &Resolve,
+        id: TypeId,
+        count: u32,
+        operands: &List<ExprOperand>,
+        results: &mut List<ExprOperand>,
+    ) -> Result<(), OutOfMemory>
+        requires one { length operands.now ≡ 1 }
+        requires empty { results.old ≡ [] }
+        ensures { OnOk result (Emits func_meaning resolve.now.types (instruction.VariantLower id count) operands.now results.new self.old self.new) }
+    {
+        let e = only_operand(self.alloc, operands)?;
+        let forms = variant_forms(self.alloc, resolve, self.sites.as_slice(), id)?;
+        let names = self.lower_cases(forms.as_slice(), e, count)?;
+        push_locals(self.alloc, names.as_slice(), results)?;
+        Ok(())
+    }
+}
