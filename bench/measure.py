@@ -1,6 +1,7 @@
 #!/usr/bin/env python3
 """Measures the program on documents of 1,000, 2,000, 4,000 and 8,000 functions or records, of up to 2,000 functions over
-records of 20 fields, and of up to 20,000 aliases.
+records of 20 fields, of two functions over a variant of up to 8,000 cases or over results in results up to 12 deep, and of up to
+20,000 aliases.
 
     python3 bench/measure.py [path of the built program]
 
@@ -22,6 +23,7 @@ import time
 
 COUNTS = [1000, 2000, 4000, 8000]
 PASSED = [250, 500, 1000, 2000]
+DEPTHS = [9, 10, 11, 12]
 CHAINS = [2500, 5000, 10000, 20000]
 RUNS = 5
 HERE = os.path.dirname(os.path.abspath(__file__))
@@ -94,6 +96,25 @@ def passed_records(count, world):
     """A world of so many functions over records of 20 fields, half of them imported and half exported."""
     imports = [{"type": i} for i in range(count)] + [passing(i) for i in range(0, count, 2)]
     return document(imports, [record(i, 20) for i in range(count)], world, exports=[passing(i) for i in range(1, count, 2)])
+
+
+def passed_last(types, world):
+    """A world of an imported and an exported function that take and give the last of these types."""
+    given = [passing(len(types) - 1)]
+    named = [{"type": i} for i, t in enumerate(types) if t["name"]]
+    return document(named + given, types, world, exports=given)
+
+
+def variant(count, world):
+    """One variant of so many cases, each with a number."""
+    cases = [{"name": name(f"case-{i}"), "ty": "u32"} for i in range(count)]
+    return passed_last([{"name": name("choice"), "owner": {"world": 0}, "kind": {"variant": cases}}], world)
+
+
+def results(depth, world):
+    """A result whose two types are the same result, and so on down to a number: the code doubles with each."""
+    types = [["u32", "u32"] if i == 0 else [i - 1, i - 1] for i in range(depth)]
+    return passed_last([unnamed({"result": t}) for t in types], world)
 
 
 def run(command, source, target):
@@ -170,6 +191,8 @@ def main():
             print(f"jq -c . on the largest: {seconds * 1000:.0f} ms; the program takes {taken / seconds:.2f} of that")
         measure(program, folder, "records", records, COUNTS, 0)
         measure(program, folder, "functions over records of 20 fields", passed_records, PASSED, 0)
+        measure(program, folder, "cases of a variant", variant, COUNTS, 0)
+        measure(program, folder, "results deep", results, DEPTHS, 0)
         measure(program, folder, "aliases and as many maps", chain, CHAINS, 10)
 
 

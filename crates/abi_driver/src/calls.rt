@@ -37,7 +37,8 @@ pub enum LiftLower {
 /// the whole has the method.
 ///
 /// So far each parameter and the result is a scalar, a text, an enum or flags, or a record, a tuple, a variant, an option or a result of such,
-/// also through aliases. Of any other function, and of a record of parameters of more than 2^31 - 1 bytes where pointers have 8, the answer is `OutOfMemory`, as where memory is wanting.
+/// also through aliases. Of any other function, and of a record of parameters of more than 2^31 - 1 bytes where pointers have 8, the answer
+/// is `OutOfMemory`, as where memory is wanting.
 pub fn call<B: Bindgen>(
     alloc: Global,
     resolve: &Resolve,

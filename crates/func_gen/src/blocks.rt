@@ -10,7 +10,7 @@ ghost use Rattle.func_gen.specs.Slot.{block_names};
 ghost use Rattle.func_gen.specs.Suspends.{Suspends};
 
 use crate::function_bindgen::{Code, FunctionBindgen, OpenBlock};
-use crate::operand::{ExprOperand, copy_names};
+use crate::operand::ExprOperand;
 use crate::scope::{LocalName, Scope, numbered};
 use abi_driver::Instruction;
 use rust_tree::Expr;
@@ -52,7 +52,7 @@ impl FunctionBindgen {
     fn suspend(&mut self) -> Result<(), OutOfMemory>
         ensures { OnOk result (Suspends self.old self.new) }
     {
-        let names = copy_names(self.scope.used.as_slice(), self.alloc)?;
+        let names = self.scope.used.share(self.alloc)?;
         let number = self.scope.declare_block(self.alloc)?;
         let empty = Code {
             call: None,

@@ -3,6 +3,7 @@
 mod calls;
 mod casts;
 mod constants;
+mod dispatch;
 mod enums;
 mod flags;
 mod flush;

@@ -13,6 +13,7 @@ use crate::operand::ExprOperand;
 use crate::scope::Scope;
 use crate::type_site::TypeSite;
 use abi_driver::Asked;
+use local_names::Names;
 use rust_tree::{CallBlock, RuntimeItem, Stmt};
 use std::alloc::Global;
 use wit_layout::SizeAlign;
@@ -42,7 +43,7 @@ pub struct OpenBlock {
     /// The number of its names.
     pub number: u32,
     /// The names that were used when it was opened.
-    pub names: List<Text>,
+    pub names: Names,
     /// The code that it suspends.
     pub code: Code,
 }
@@ -53,7 +54,7 @@ pub struct FinishedBlock {
     /// The number of its names.
     pub number: u32,
     /// The names that were used when it was opened.
-    pub names: List<Text>,
+    pub names: Names,
     /// Its statements.
     pub stmts: List<Stmt>,
     /// What it gives.
@@ -92,16 +93,16 @@ pub struct FunctionBindgen {
 fn first_names(
     alloc: Global,
     area: &Text,
-    cleanup: Text,
+    cleanup: &Text,
     params: &[ParamSite],
-) -> Result<List<Text>, OutOfMemory>
-    ensures { IfOk result (λ names. names ≡ area.now ∷ cleanup ∷ site_names params.now) }
+) -> Result<Names, OutOfMemory>
+    ensures { IfOk result (λ names. names ≡ area.now ∷ cleanup.now ∷ site_names params.now) }
 {
-    let mut names = List::new(alloc);
-    names.push(area.copy(alloc)?)?;
-    names.push(cleanup)?;
+    let mut names = Names::new(alloc);
+    names.push(alloc, area.as_str())?;
+    names.push(alloc, cleanup.as_str())?;
     for site in params {
-        names.push(site.name.copy(alloc)?)?;
+        names.push(alloc, site.name.as_str())?;
     }
     Ok(names)
 }
@@ -128,7 +129,7 @@ impl FunctionBindgen {
         ensures imports { IfOk result (λ b. func_meaning.imports b ≡ import) }
         ensures exports { IfOk result (λ b. func_meaning.exports b ≡ not import) }
     {
-        let used = first_names(alloc, &area, cleanup, params.as_slice())?;
+        let used = first_names(alloc, &area, &cleanup, params.as_slice())?;
         Ok(FunctionBindgen {
             alloc,
             sizes,

@@ -44,47 +44,9 @@ impl Bindgen for FunctionBindgen {
             Instruction::I32Const(_) => self.make_constant(resolve, inst, operands, results),
             Instruction::ConstZero(types) => self.make_zeros(resolve, types, results),
             Instruction::Bitcasts(casts) => self.cast_words(resolve, casts, operands, results),
-            Instruction::I32FromBool => self.lower_bool(resolve, operands, results),
-            Instruction::BoolFromI32 => self.lift_bool(resolve, operands, results),
-            Instruction::CharFromI32 => self.lift_char(resolve, operands, results),
-            Instruction::StringLower(false) => self.lend_text(resolve, operands, results),
-            Instruction::StringLower(true) => self.give_text(resolve, operands, results),
-            Instruction::StringLift => self.lift_text(resolve, operands, results),
-            Instruction::RecordLower(id) => self.lower_record(resolve, id, operands, results),
-            Instruction::RecordLift(id) => self.lift_record(resolve, id, operands, results),
-            Instruction::TupleLower(n) => self.lower_tuple(resolve, n, operands, results),
-            Instruction::TupleLift(n) => self.lift_tuple(resolve, n, operands, results),
-            Instruction::EnumLower(id) => self.lower_enum(resolve, id, operands, results),
-            Instruction::EnumLift(id) => self.lift_enum(resolve, id, operands, results),
-            Instruction::VariantLower(id, n) => {
-                self.lower_variant(resolve, id, n, operands, results)
-            }
-            Instruction::OptionLower(id, n) => {
-                self.lower_option(resolve, id, n, operands, results)
-            }
-            Instruction::ResultLower(id, n) => {
-                self.lower_result(resolve, id, n, operands, results)
-            }
-            Instruction::VariantLift(id) => self.lift_variant(resolve, id, operands, results),
-            Instruction::OptionLift(id) => self.lift_option(resolve, id, operands, results),
-            Instruction::ResultLift(id) => self.lift_result(resolve, id, operands, results),
-            Instruction::FlagsLower(id) => self.lower_flags(resolve, id, operands, results),
-            Instruction::FlagsLift(id) => self.lift_flags(resolve, id, operands, results),
-            Instruction::GuestDeallocate(size, align) => {
-                self.free_block(resolve, size, align, operands, results)
-            }
-            Instruction::GuestDeallocateString => self.free_text(resolve, operands, results),
-            Instruction::GuestDeallocateVariant(n) => {
-                self.free_variant(resolve, n, operands, results)
-            }
             Instruction::CallWasm(func) => self.call_core(resolve, func, operands, results),
             Instruction::CallInterface(func) => self.call_method(resolve, func, operands, results),
-            Instruction::VariantPayloadName => self.read_name(resolve, inst, "e", results),
-            Instruction::IterElem => self.read_name(resolve, inst, "e", results),
-            Instruction::IterMapKey => self.read_name(resolve, inst, "map_key", results),
-            Instruction::IterMapValue => self.read_name(resolve, inst, "map_value", results),
-            Instruction::IterBasePointer => self.read_name(resolve, inst, "base", results),
-            _ => self.touch(resolve, inst, operands, results),
+            _ => self.emit_value(resolve, inst, operands, results),
         }
     }
 

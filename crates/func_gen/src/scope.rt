@@ -1,8 +1,9 @@
 //! The numbers of a wrapper's locals.
 
 ghost use Rattle.std.specs.Prelude.{◌≡◌, ◌+◌, ◌^◌, ◌<◌, ◌++◌, IfOk, OnOk};
-ghost use Rattle.func_gen.specs.Scope.{Declares, DeclaresAs, IsLeastFree, is_free, is_used, names_at, numbered};
+ghost use Rattle.func_gen.specs.Scope.{Declares, DeclaresAs, IsLeastFree, is_free, names_at, numbered};
 
+use local_names::Names;
 use std::alloc::Global;
 use wit_model::{List, OutOfMemory, Text};
 
@@ -16,7 +17,7 @@ pub(crate) struct LocalName<'a> {
 /// The names that a wrapper uses so far, and the counter from which the next number is looked for.
 #[derive(Drop)]
 pub(crate) struct Scope {
-    pub(crate) used: List<Text>,
+    pub(crate) used: Names,
     pub(crate) next: u32,
 }
 
@@ -34,15 +35,9 @@ pub(crate) fn numbered(alloc: Global, name: LocalName<'_>, t: u32) -> Result<Tex
     Ok(text)
 }
 
-pub(crate) fn is_used(used: &[Text], name: &Text) -> bool
-    ensures { result ≡ is_used used.now name.now }
-{
-    used.iter().any(|u| u.as_str() == name.as_str())
-}
-
 fn is_free(
     alloc: Global,
-    used: &[Text],
+    used: &Names,
     names: &[LocalName<'_>],
     t: u32,
 ) -> Result<bool, OutOfMemory>
@@ -50,32 +45,42 @@ fn is_free(
 {
     for name in names {
         let text = numbered(alloc, *name, t)?;
-        if is_used(used, &text) {
+        if used.contains(text.as_str()) {
             return Ok(false);
         }
     }
     Ok(true)
 }
 
-fn push_names(
+fn use_names(
     alloc: Global,
-    used: &mut List<Text>,
+    used: &mut Names,
     names: &[LocalName<'_>],
     t: u32,
 ) -> Result<(), OutOfMemory>
     ensures { OnOk result (used.new ≡ used.old ++ names_at names.now t) }
 {
     for name in names {
-        used.push(numbered(alloc, *name, t)?)?;
+        used.push(alloc, numbered(alloc, *name, t)?.as_str())?;
     }
     Ok(())
+}
+
+fn names_at(alloc: Global, names: &[LocalName<'_>], t: u32) -> Result<List<Text>, OutOfMemory>
+    ensures { IfOk result (λ texts. texts ≡ names_at names.now t) }
+{
+    let mut texts = List::new(alloc);
+    for name in names {
+        texts.push(numbered(alloc, *name, t)?)?;
+    }
+    Ok(texts)
 }
 
 /// The least number, not below the counter, at which none of the names is used. There is no memory also where a `u32`
 /// holds no such number.
 fn free_number(
     alloc: Global,
-    used: &[Text],
+    used: &Names,
     next: u32,
     names: &[LocalName<'_>],
 ) -> Result<u32, OutOfMemory>
@@ -101,8 +106,8 @@ impl Scope {
         if names.is_empty() {
             return Ok(self.next);
         }
-        let t = free_number(alloc, self.used.as_slice(), self.next, names)?;
-        push_names(alloc, &mut self.used, names, t)?;
+        let t = free_number(alloc, &self.used, self.next, names)?;
+        use_names(alloc, &mut self.used, names, t)?;
         self.next = t + 1;
         Ok(t)
     }
@@ -116,8 +121,6 @@ impl Scope {
         ensures { IfOk result (λ texts. DeclaresAs self.old names.now texts self.new) }
     {
         let t = self.declare(alloc, names)?;
-        let mut texts = List::new(alloc);
-        push_names(alloc, &mut texts, names, t)?;
-        Ok(texts)
+        names_at(alloc, names, t)
     }
 }

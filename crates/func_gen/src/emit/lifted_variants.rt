@@ -23,7 +23,7 @@ use crate::emit::variants::variant_forms;
 use crate::function_bindgen::{FinishedBlock, FunctionBindgen};
 use crate::inward::is_inward;
 use crate::operand::ExprOperand;
-use crate::scope::{LocalName, is_used, numbered};
+use crate::scope::{LocalName, numbered};
 use rust_tree::{Arm, ArmPattern, Block, Expr, MatchNames, Path, Stmt};
 use std::alloc::Global;
 use wit_model::{List, OutOfMemory, Resolve, Text, TypeId};
@@ -93,7 +93,7 @@ fn last_arm(
         stmts: later,
         results,
     } = block;
-    if number > u32::MAX as usize || is_used(names.as_slice(), &name) {
+    if number > u32::MAX as usize || names.contains(name.as_str()) {
         return Err(OutOfMemory);
     }
     let test = Stmt::AssertLast(name.copy(alloc)?, number as u32);

@@ -16,7 +16,7 @@ returns c =
         number = k;
         takes = c.in_ok-number.ensures;
         opened = c.in_ok-push.ensures.ok
-            ∙ ap₂ (λ (ns : List Bytes) (code : Code). old.opened ++ record { number = k; names = ns; code = code } ∷ []) (c.in_ok-names.ensures ∙ c.as_slice.ensures) c.replace-code.ensures.value;
+            ∙ ap₂ (λ (ns : List Bytes) (code : Code). old.opened ++ record { number = k; names = ns; code = code } ∷ []) c.in_ok-names.ensures c.replace-code.ensures.value;
         code = c.replace-code.ensures.after ∙ ap code_of c.new.ensures;
         runtime = refl;
         finished = refl;

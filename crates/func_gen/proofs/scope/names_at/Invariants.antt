@@ -1,0 +1,6 @@
+use Rattle.std.proofs.Common.{◌≡◌, ◌++◌, drop}
+use Rattle.func_gen.specs.Scope.{names_at}
+use Rattle.func_gen.proofs.scope.names_at.Given as goal
+
+abbrev pub invariant-loop-name : goal.invariant-loop-name
+invariant-loop-name l = l.texts ++ names_at (drop l.name-index l.names) l.t ≡ names_at l.names l.t
