@@ -1,0 +1,2 @@
+pub mod CanDefine
+pub mod InRange
