@@ -14,6 +14,7 @@ use Rattle.abi_driver.specs.Account.{Account, Done, Got, Outcome, is_at, is_take
 use Rattle.abi_driver.specs.Frees.{MayFree, by_freeing, without_blocks}
 use Rattle.abi_driver.specs.Lifts.{AreFree, MayTake}
 use Rattle.abi_driver.specs.Memory.{except, freed, freeing}
+use Rattle.abi_driver.proofs.AllLemmas.{all_left, all_right}
 use Rattle.abi_driver.proofs.Storing.{find_block}
 use Rattle.abi_driver.proofs.TakingOver.{may_first}
 use Rattle.wrapper_meaning.proofs.HeapBlocks.{behind_one}
@@ -132,15 +133,11 @@ pub may_after : {V : Type 0} (xs ys : List Block) (acc : Account V) → MayTake 
 may_after [] ys acc may = may
 may_after (x ∷ xs) ys acc may = may_after xs ys (by_freeing (x ∷ []) acc).account (after_one x (xs ++ ys) acc may)
 
-all_parts : (P : Block → Type 0) (xs ys : List Block) → AllByRecursion P (xs ++ ys) → AllByRecursion P xs × AllByRecursion P ys
-all_parts P [] ys h = (tt, h)
-all_parts P (x ∷ xs) ys h = let rest = all_parts P xs ys h.1 in ((h.0, rest.0), rest.1)
-
 pub free_first : {V : Type 0} (xs ys : List Block) (b : Block) (acc : Account V) → MayFree (xs ++ ys) b acc → MayFree xs b acc
-free_first xs ys b acc h = record { may = may_first xs ys acc h.may; others = (all_parts (λ c. c.address ≡ b.address → ⊥) xs ys h.others).0 }
+free_first xs ys b acc h = record { may = may_first xs ys acc h.may; others = all_left (λ (c : Block). c.address ≡ b.address → ⊥) xs ys h.others }
 
 pub free_rest : {V : Type 0} (xs ys : List Block) (b : Block) (acc : Account V) → MayFree (xs ++ ys) b acc → MayFree ys b (by_freeing xs acc).account
-free_rest xs ys b acc h = record { may = may_after xs ys acc h.may; others = (all_parts (λ c. c.address ≡ b.address → ⊥) xs ys h.others).1 }
+free_rest xs ys b acc h = record { may = may_after xs ys acc h.may; others = all_right (λ (c : Block). c.address ≡ b.address → ⊥) xs ys h.others }
 
 -- 4. Texts
 

@@ -1,3 +1,4 @@
+pub mod AllLemmas
 pub mod AnswerArea
 pub mod AreaAsked
 pub mod AreaHeaps
@@ -7,17 +8,6 @@ pub mod LiftSteps
 pub mod LiftedArguments
 pub mod LowerSteps
 pub mod Ordinary
-pub mod PlainArea
-pub mod PlainBlocks
-pub mod PlainCalls
-pub mod PlainChoices
-pub mod PlainConstants
-pub mod PlainOperands
-pub mod PlainPlaces
-pub mod PlainRows
-pub mod PlainRuns
-pub mod PlainKinds
-pub mod PlainNew
 pub mod ArgumentSteps
 pub mod ExportSteps
 pub mod MethodCalls

@@ -2,7 +2,7 @@
 use Rattle.std.proofs.Common.{◌≡◌, ℕ, zero, suc, ◌+◌, ◌≤◌, ◌<◌, true, Bool, ◌&&◌, List, [], ◌∷◌, length, map, drop, get_or, Option, Some, refl, sym, ap, ap₂, ◌∙◌, arith}
 use Rattle.std.specs.List.{slice_get, list_all}
 use Rattle.std.proofs.lemmas.Option.{slice_get-get_or}
-use Rattle.std.proofs.lemmas.List.{drop_more}
+use Rattle.std.proofs.lemmas.List.{drop_more, length-map}
 use Rattle.std.proofs.lemmas.Bool.{and_parts}
 use Rattle.wit_model.specs.declared.types.Field.{Field}
 use Rattle.wit_model.specs.declared.types.Member.{Member}
@@ -24,6 +24,9 @@ use Rattle.wit_model.proofs.BelowLemmas.{payload_below_more}
 pub count-shapes : (types : List TypeDef) (tys : List WitType) → count (shapes_of types tys) ≡ length tys
 count-shapes types [] = refl
 count-shapes types (ty ∷ tys) = ap suc (count-shapes types tys)
+
+pub field_count : (types : List TypeDef) (members : List Field) → count (field_shapes types members) ≡ length members
+field_count types members = count-shapes types (map (λ (f : Field). f.ty) members) ∙ length-map members (λ (f : Field). f.ty)
 
 pub map-twice : (members : List Field) → map (λ ty. Some ty) (map (λ (f : Field). f.ty) members) ≡ map (λ (f : Field). Some f.ty) members
 map-twice [] = refl

@@ -22,6 +22,12 @@ use Rattle.abi_driver.specs.Account.{has_type, have_types}
 
 -- 1. Words of types
 
+pub types_length : (types : List WasmType) (ws : List Word) → have_types types ws ≡ true → length ws ≡ length types
+types_length [] [] e = refl
+types_length [] (x ∷ ws) e = absurd (let h = e in cc)
+types_length (ty ∷ types) [] e = absurd (let h = e in cc)
+types_length (ty ∷ types) (x ∷ ws) e = ap suc (types_length types ws (and_parts (has_type ty x) (have_types types ws) e).1)
+
 pub types_both : (xs ys : List WasmType) (us vs : List Word) → have_types xs us ≡ true → have_types ys vs ≡ true → have_types (xs ++ ys) (us ++ vs) ≡ true
 types_both [] ys [] vs e f = f
 types_both [] ys (u ∷ us) vs e f = absurd (let h = e in cc)

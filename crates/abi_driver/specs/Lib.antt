@@ -31,11 +31,6 @@ pub mod Memory
 pub mod NumberTouches
 pub mod Parts
 pub mod Places
-pub mod Plain
-pub mod PlainLines
-pub mod PlainSound
-pub mod PlainSteps
-pub mod PlainValues
 pub mod Requested
 pub mod ScalarTouches
 pub mod Sends

@@ -12,7 +12,6 @@ mod lift;
 mod lower;
 mod memory;
 mod parts;
-mod plain;
 mod send;
 
 pub use after_return::post_return;
@@ -24,4 +23,3 @@ pub use instruction::Instruction;
 pub use lift::lift_flat;
 pub use lower::lower_flat;
 pub use memory::{lift_from_memory, lower_to_memory};
-pub use plain::{Body, Line, Place, PlainBindgen, Step};

@@ -1,6 +1,9 @@
-//! Tests of the command: runs whose ends fail, and the lines, statuses and files that no document makes.
+//! Tests of the command: runs whose ends fail, and the lines, statuses and files that no document makes; and that the wrappers of a file
+//! are the driver's code, for a payload in a joined slot and for flags of two words.
 #![tactic(auto)]
 
+#[cfg(test)]
+mod bodies;
 #[cfg(test)]
 mod ends;
 #[cfg(test)]

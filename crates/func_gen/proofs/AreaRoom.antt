@@ -1,10 +1,10 @@
 -- What serves a bindgen can be made to have room for one more record, in a file whose first item is the area.
-use Rattle.std.proofs.Common.{◌≡◌, suc, ◌+◌, ◌*◌, ◌<◌, List, [], ◌∷◌, ◌++◌, Option, None, Some, refl, sym, ap, subst, arith}
+use Rattle.std.proofs.Common.{◌≡◌, ℕ, suc, ◌+◌, ◌*◌, ◌/◌, ◌%◌, ◌<◌, List, [], ◌∷◌, ◌++◌, Option, None, Some, refl, sym, ap, ◌∙◌, subst, arith}
 use Rattle.std.specs.Prelude.{IfSome}
 use Rattle.std.specs.List.{AllByRecursion}
-use Rattle.std.proofs.Math.Nat.{mul-pos}
+use Rattle.std.proofs.Math.Nat.{mod-add-div', mul-mod_left, mul-pos}
 use Rattle.std.proofs.lemmas.Nat.{pow_pos}
-use Rattle.wit_model.specs.Size.{alignment_at}
+use Rattle.wit_model.specs.Size.{alignment_at, bytes_at}
 use Rattle.wit_model.specs.declared.size.Alignment.{Alignment}
 use Rattle.wit_model.specs.declared.size.Alignment.TheVariants.{Bytes, Pointer}
 use Rattle.rust_tree.specs.declared.area.StaticArea.{StaticArea}
@@ -15,8 +15,7 @@ use Rattle.wrapper_data.specs.declared.choice.Request.{Request}
 use Rattle.wrapper_run.specs.Places.{area_in}
 use Rattle.abi_driver.specs.declared.bindgen.Asked.{Asked}
 use Rattle.abi_driver.specs.Area.{HasRoomFor, HoldsRecord, IsAlignment}
-use Rattle.abi_driver.specs.PlainSound.{all_both}
-use Rattle.abi_driver.proofs.PlainArea.{all_wider, before, itself_wider, wider}
+use Rattle.abi_driver.proofs.AllLemmas.{all_both}
 use Rattle.func_gen.specs.declared.function_bindgen.FunctionBindgen.{FunctionBindgen}
 use Rattle.func_gen.specs.Area.{asking}
 use Rattle.func_gen.specs.Meaning.{File, Found, IsArea, Serves, static_request}
@@ -25,19 +24,46 @@ use Rattle.func_gen.proofs.RuntimeItems.{gives_as_called, suspended_from}
 
 -- 1. The area
 
--- it has bytes too
+-- what is aligned for a product is aligned for each factor
+factor_left : (x y q : ℕ) → q % (x * y) ≡ 0 → q % x ≡ 0
+factor_left x y q h =
+    let c = q / (x * y) in
+    let is : q ≡ (c * y) * x = omega (arith, mod-add-div' q (x * y), h) in
+    ap (λ n. n % x) is ∙ mul-mod_left (c * y) x
+
+factor_right : (x y q : ℕ) → q % (x * y) ≡ 0 → q % y ≡ 0
+factor_right x y q h =
+    let c = q / (x * y) in
+    let is : q ≡ (c * x) * y = omega (arith, mod-add-div' q (x * y), h) in
+    ap (λ n. n % y) is ∙ mul-mod_left (c * x) y
+
+abbrev before : Option Request → Request
+before None = record { size = 0; align = 1 }
+before (Some area) = area
+
+-- an area with room for all that the one before had room for, and for this record; it has bytes too
 abbrev roomy : Option Request → Asked → Request
-roomy area a = record { size = suc (wider area a).size; align = (wider area a).align }
+roomy area a = record { size = suc ((before area).size + bytes_at a.size 4); align = (before area).align * alignment_at a.align 4 }
 
-in_roomy : (area : Option Request) (a b : Asked) → HasRoomFor 2 (wider area a) b → HasRoomFor 2 (roomy area a) b
-in_roomy area a b h = record { size = let l = h.size in omega (arith, l); aligned = h.aligned }
+one_roomy : (area : Option Request) (a b : Asked) → HoldsRecord 2 area b → HasRoomFor 2 (roomy area a) b
+one_roomy None a b h = absurd h
+one_roomy (Some area) a b h = record {
+  size = let l = h.size in omega (arith, l);
+  aligned = λ q e. h.aligned q (factor_left area.align (alignment_at a.align 4) q e);
+}
 
-all_in_roomy : (area : Option Request) (a : Asked) (asked : List Asked) → AllByRecursion (HoldsRecord 2 (Some (wider area a))) asked → AllByRecursion (HoldsRecord 2 (Some (roomy area a))) asked
-all_in_roomy area a [] h = tt
-all_in_roomy area a (b ∷ asked) h = (in_roomy area a b h.0, all_in_roomy area a asked h.1)
+all_kept : (area : Option Request) (a : Asked) (asked : List Asked) → AllByRecursion (HoldsRecord 2 area) asked → AllByRecursion (HoldsRecord 2 (Some (roomy area a))) asked
+all_kept area a [] h = tt
+all_kept area a (b ∷ asked) h = (one_roomy area a b h.0, all_kept area a asked h.1)
+
+itself : (area : Option Request) (a : Asked) → HasRoomFor 2 (roomy area a) a
+itself area a = record {
+  size = omega arith;
+  aligned = λ q e. factor_right (before area).align (alignment_at a.align 4) q e;
+}
 
 all_roomy : (area : Option Request) (a : Asked) (asked : List Asked) → AllByRecursion (HoldsRecord 2 area) asked → AllByRecursion (HoldsRecord 2 (Some (roomy area a))) (asked ++ a ∷ [])
-all_roomy area a asked h = all_both (HoldsRecord 2 (Some (roomy area a))) asked (a ∷ []) (all_in_roomy area a asked (all_wider area a asked h)) (in_roomy area a a (itself_wider area a), tt)
+all_roomy area a asked h = all_both (HoldsRecord 2 (Some (roomy area a))) asked (a ∷ []) (all_kept area a asked h) (itself area a, tt)
 
 is_aligned : (align : Alignment) → IsAlignment align → 0 < alignment_at align 4
 is_aligned (Bytes n) h = subst (λ k. 0 < k) (sym h.1) (pow_pos h.0)

@@ -42,7 +42,7 @@ use Rattle.abi_driver.specs.Area.{HoldsRecord, IsAlignment, newly, placed, point
 use Rattle.abi_driver.specs.Area as areas
 use Rattle.abi_driver.specs.Laws.{After, At, Facts, Grows, PointsTo, Quiet as QuietCode}
 use Rattle.abi_driver.specs.Meaning.{of, word}
-use Rattle.abi_driver.specs.PlainSound.{all_left, all_right}
+use Rattle.abi_driver.proofs.AllLemmas.{all_left, all_right}
 use Rattle.abi_driver.proofs.Runs.{follows_more, grows_both, quiet_both, stops_same}
 use Rattle.func_gen.specs.declared.function_bindgen.FunctionBindgen.{FunctionBindgen}
 use Rattle.func_gen.specs.Added.{Appends, Fresh}

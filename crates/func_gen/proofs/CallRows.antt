@@ -68,7 +68,7 @@ use Rattle.func_gen.proofs.Rows.{same_area}
 use Rattle.func_gen.proofs.Steps.{func_grows, ran}
 use Rattle.func_gen.proofs.Forming.{still_of, written}
 use Rattle.wrapper_meaning.proofs.PostReturn.{total-append}
-use Rattle.abi_driver.proofs.PlainCalls.{types_length}
+use Rattle.abi_driver.proofs.SaysTypes.{types_length}
 use Rattle.func_gen.proofs.Writing.{there_first}
 
 -- 1. What has an owner is there still, once the peer has answered

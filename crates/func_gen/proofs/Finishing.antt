@@ -25,7 +25,7 @@ use Rattle.abi_driver.specs.Area.{HoldsRecord}
 use Rattle.abi_driver.specs.Blocks.{Finishes, Gives, Lasts, Runs, StopsAlike, owned_datum}
 use Rattle.abi_driver.specs.Laws.{Data, Facts, ofs}
 use Rattle.abi_driver.specs.Meaning.{Bound, Datum}
-use Rattle.abi_driver.specs.PlainSound.{all_both, all_left, all_right}
+use Rattle.abi_driver.proofs.AllLemmas.{all_both, all_left, all_right}
 use Rattle.func_gen.specs.declared.function_bindgen.Code.{Code}
 use Rattle.func_gen.specs.declared.function_bindgen.FinishedBlock.{FinishedBlock}
 use Rattle.func_gen.specs.declared.function_bindgen.FunctionBindgen.{FunctionBindgen}

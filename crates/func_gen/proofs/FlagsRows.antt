@@ -52,7 +52,7 @@ use Rattle.abi_driver.specs.Instructions.{Emits}
 use Rattle.abi_driver.specs.Laws.{Facts, Stays, core_data, ofs}
 use Rattle.abi_driver.specs.Meaning.{item, of, word}
 use Rattle.abi_driver.specs.Sent.{sends}
-use Rattle.abi_driver.proofs.PlainCalls.{types_length}
+use Rattle.abi_driver.proofs.SaysTypes.{types_length}
 use Rattle.func_gen.specs.declared.flags_site.FlagsSite.{FlagsSite}
 use Rattle.func_gen.specs.declared.function_bindgen.FunctionBindgen.{FunctionBindgen}
 use Rattle.func_gen.specs.declared.operand.ExprOperand.{ExprOperand}

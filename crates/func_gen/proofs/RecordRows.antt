@@ -27,7 +27,7 @@ use Rattle.wrapper_run.proofs.PartSteps.{eval-record}
 use Rattle.wrapper_run.proofs.StepLemmas.{Quiet, quiet_or_stop, quiet_pure, quiet_then}
 use Rattle.abi_driver.specs.declared.instruction.Instruction.TheVariants.{RecordLift, RecordLower}
 use Rattle.abi_driver.specs.Instructions.{Emits, IsRecord, field_shapes}
-use Rattle.abi_driver.proofs.Records.{one_record}
+use Rattle.abi_driver.proofs.Records.{field_count, one_record}
 use Rattle.abi_driver.specs.Sent.{sends}
 use Rattle.func_gen.specs.declared.function_bindgen.FunctionBindgen.{FunctionBindgen}
 use Rattle.func_gen.specs.declared.operand.ExprOperand.{ExprOperand}
@@ -48,7 +48,6 @@ use Rattle.func_gen.proofs.PartsTaken.{apart_adds, apart_lowers, locals_many}
 use Rattle.func_gen.proofs.Quiet.{quiet_operand}
 use Rattle.func_gen.proofs.Rows.{let_adds}
 use Rattle.func_gen.proofs.Several.{Are}
-use Rattle.abi_driver.proofs.PlainRows.{field_count}
 
 -- 1. How many fields there are
 

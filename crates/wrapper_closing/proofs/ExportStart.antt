@@ -43,7 +43,7 @@ use Rattle.abi_driver.specs.Laws.{AreLent, args, core_data}
 use Rattle.abi_driver.specs.Lifts.{MayTake}
 use Rattle.abi_driver.proofs.ExportSteps.{export_words}
 use Rattle.abi_driver.proofs.HonestAnswers.{free_once}
-use Rattle.abi_driver.proofs.SaysTypes.{parts_typed}
+use Rattle.abi_driver.proofs.SaysTypes.{parts_typed, types_length}
 use Rattle.func_gen.specs.FuncSound.{func_sound}
 use Rattle.func_gen.specs.Meaning.{AreaIs, Denote, File, GivesAsCalled, Serves, account_of, func_meaning, owns_of, static_request}
 use Rattle.func_gen.specs.TypeSites.{AreDefined}
@@ -75,12 +75,6 @@ same_types [] (x ∷ ws) h = absurd cc
 same_types (p ∷ params) [] h = absurd cc
 same_types (p ∷ params) (x ∷ ws) h =
     let both = and_parts (has_type p.ty x) (have_types (map (λ p. p.ty) params) ws) h in and_from (is_word_of p.ty x) (are_words_of params ws) (same_type p.ty x both.0) (same_types params ws both.1)
-
-as_many : (types : List WasmType) (ws : List Word) → have_types types ws ≡ true → length types ≡ length ws
-as_many [] [] h = refl
-as_many [] (x ∷ ws) h = absurd cc
-as_many (ty ∷ types) [] h = absurd cc
-as_many (ty ∷ types) (x ∷ ws) h = ap suc (as_many types ws (and_parts (has_type ty x) (have_types types ws) h).1)
 
 -- words that represent arguments are of their types
 taken_typed : (ts : Shapes) (us : Parts ts) (ws : List Word) (blocks : List Block) → AreListed ts us → TakesArguments 2 ts us ws blocks → have_types (argument_words ts) ws ≡ true
@@ -156,7 +150,7 @@ module _ (types : List TypeDef) (f : Function) (names : ExportNames) (results : 
     words_expected = same_types c.item.params ws (ap (λ tys. have_types tys ws) c.signature.params ∙ words_typed)
 
     many_words : length old.params ≡ length ws
-    many_words = c.many ∙ ap length (export_words types f) ∙ as_many (argument_words (param_shapes types f)) ws words_typed
+    many_words = c.many ∙ ap length (export_words types f) ∙ sym (types_length (argument_words (param_shapes types f)) ws words_typed)
 
     may_take : MayTake caller.blocks (account_of (at_words old ws heap choices))
     may_take = record {

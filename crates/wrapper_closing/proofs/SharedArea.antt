@@ -11,6 +11,7 @@ use Rattle.wrapper_meaning.specs.Shape.{Shape}
 use Rattle.wrapper_run.specs.Places.{area_in}
 use Rattle.abi_driver.specs.declared.bindgen.Asked.{Asked}
 use Rattle.abi_driver.specs.Area.{AreFor, HoldsRecord}
+use Rattle.abi_driver.proofs.AllLemmas.{all_left, all_right}
 use Rattle.func_gen.specs.Meaning.{IsArea, static_request}
 use Rattle.wrapper_closing.specs.ClosedExport.{SharesArea}
 use Rattle.wrapper_closing.specs.Direct.{is_direct_result}
@@ -47,14 +48,10 @@ hold (t ∷ ts) (a ∷ asked) area h k = (one_holds t area a ts asked h k.0, hol
 
 -- 2. The results of the functions
 
-split_all : {A : Type 0} (P : A → Type 0) (xs ys : List A) → AllByRecursion P (xs ++ ys) → AllByRecursion P xs × AllByRecursion P ys
-split_all P [] ys h = (tt, h)
-split_all P (x ∷ xs) ys h = let later = split_all P xs ys h.1 in ((h.0, later.0), later.1)
-
 one_of : (P : Shape → Type 0) (results : List (Option Shape)) (r : Option Shape) → AllByRecursion P (flat_map result_record results) → Contains results r → AllByRecursion P (result_record r)
 one_of P [] r h (k, below, at) = absurd (omega (below, arith))
-one_of P (x ∷ results) r h (zero, below, at) = subst (λ y. AllByRecursion P (result_record y)) at (split_all P (result_record x) (flat_map result_record results) h).0
-one_of P (x ∷ results) r h (suc k, below, at) = one_of P results r (split_all P (result_record x) (flat_map result_record results) h).1 (k, omega (below, arith), at)
+one_of P (x ∷ results) r h (zero, below, at) = subst (λ y. AllByRecursion P (result_record y)) at (all_left P (result_record x) (flat_map result_record results) h)
+one_of P (x ∷ results) r h (suc k, below, at) = one_of P results r (all_right P (result_record x) (flat_map result_record results) h) (k, omega (below, arith), at)
 
 all_have : (results : List (Option Shape)) → AllByRecursion (λ r. is_direct_result r ≡ true) results → HaveBytes (flat_map result_record results)
 all_have [] d = tt

@@ -1,0 +1,50 @@
+//! Names, entries and tables for the tests.
+
+use std::alloc::Global;
+use wit_model::{
+    Docs, List, Name, OutOfMemory, Resolve, Text, TypeDef, TypeDefKind, TypeId, TypeOwner, WitType,
+};
+
+pub(crate) fn docs() -> Docs {
+    Docs { contents: None }
+}
+
+pub(crate) fn no_name(alloc: Global) -> Name {
+    Name {
+        wit: Text::new(alloc),
+        snake: Text::new(alloc),
+        camel: Text::new(alloc),
+        upper: Text::new(alloc),
+    }
+}
+
+pub(crate) fn one<T: Drop>(alloc: Global, value: T) -> Result<List<T>, OutOfMemory> {
+    let mut items = List::new(alloc);
+    items.push(value)?;
+    Ok(items)
+}
+
+/// The type with this number.
+pub(crate) const fn entry(id: u32) -> WitType {
+    WitType::Id(TypeId(id))
+}
+
+/// A type without a name.
+pub(crate) fn type_def(owner: TypeOwner, kind: TypeDefKind) -> TypeDef {
+    TypeDef {
+        name: None,
+        owner,
+        kind,
+        docs: docs(),
+    }
+}
+
+/// Tables without entries.
+pub(crate) fn no_tables(alloc: Global) -> Resolve {
+    Resolve {
+        worlds: List::new(alloc),
+        packages: List::new(alloc),
+        interfaces: List::new(alloc),
+        types: List::new(alloc),
+    }
+}
