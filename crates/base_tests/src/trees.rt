@@ -6,4 +6,3 @@ mod made;
 mod matches;
 mod names;
 mod well_named;
-mod wrapping;

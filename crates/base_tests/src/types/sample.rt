@@ -104,11 +104,16 @@ fn more_kinds(alloc: Global, number: u32) -> Result<TypeDefKind, OutOfMemory> {
     }
 }
 
-/// A name, which the types behind the first two, tuples and lists have not.
+/// Whether the type of this number has a name.
+fn is_named(number: u32) -> bool {
+    matches!(number, 0 | 1 | 3 | 7 | 8 | 9 | 10)
+}
+
 fn name(alloc: Global, number: u32) -> Option<Name> {
-    match number {
-        0 | 1 | 3 | 7 | 8 | 9 | 10 => Some(no_name(alloc)),
-        _ => None,
+    if is_named(number) {
+        Some(no_name(alloc))
+    } else {
+        None
     }
 }
 
