@@ -2,7 +2,8 @@
 
 use std::alloc::Global;
 use wit_model::{
-    Docs, List, Name, OutOfMemory, Resolve, Text, TypeDef, TypeDefKind, TypeId, TypeOwner, WitType,
+    Docs, List, Name, OutOfMemory, Package, Resolve, Text, TypeDef, TypeDefKind, TypeId, TypeOwner,
+    WitType,
 };
 
 pub(crate) fn docs() -> Docs {
@@ -22,6 +23,16 @@ pub(crate) fn one<T: Drop>(alloc: Global, value: T) -> Result<List<T>, OutOfMemo
     let mut items = List::new(alloc);
     items.push(value)?;
     Ok(items)
+}
+
+/// A package whose names are empty.
+pub(crate) fn package(alloc: Global) -> Package {
+    Package {
+        namespace: no_name(alloc),
+        name: no_name(alloc),
+        version: None,
+        module: Text::new(alloc),
+    }
 }
 
 /// The type with this number.

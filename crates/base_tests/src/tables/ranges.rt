@@ -1,21 +1,12 @@
 //! Ids out of range in an interface, which no document has.
 
-use crate::parts::{docs, entry, no_name, no_tables, one, type_def};
+use crate::parts::{docs, entry, no_name, no_tables, one, package, type_def};
 use std::alloc::Global;
 use std::test::Fail;
 use wit_model::{
-    Function, FunctionKind, Interface, List, OutOfMemory, Package, PackageId, Param, Resolve, Rule,
-    Table, Text, TypeDefKind, TypeOwner, WorldFault,
+    Function, FunctionKind, Interface, List, OutOfMemory, PackageId, Param, Resolve, Rule, Table,
+    TypeDefKind, TypeOwner, WorldFault,
 };
-
-fn package(alloc: Global) -> Package {
-    Package {
-        namespace: no_name(alloc),
-        name: no_name(alloc),
-        version: None,
-        module: Text::new(alloc),
-    }
-}
 
 fn function(alloc: Global, id: u32) -> Result<Function, OutOfMemory> {
     let param = Param {

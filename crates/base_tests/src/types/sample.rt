@@ -3,13 +3,13 @@
 ghost use Rattle.std.specs.Prelude.{IfOk};
 ghost use Rattle.wit_model.specs.WellFormed.{IsWellFormed};
 
-use crate::parts::{docs, entry, no_name, no_tables};
+use crate::parts::{docs, entry, no_name, no_tables, package};
 use std::alloc::Global;
 use std::test::Fail;
 use wit_model::{
     Case, Field, Function, FunctionKind, Handle, Interface, InterfaceId, List, Member, Name,
-    OutOfMemory, Package, PackageId, Param, Resolve, Text, TypeDef, TypeDefKind, TypeId, TypeOwner,
-    WitType, World, WorldItem, WorldKey,
+    OutOfMemory, PackageId, Param, Resolve, TypeDef, TypeDefKind, TypeId, TypeOwner, WitType,
+    World, WorldItem, WorldKey,
 };
 
 /// Puts a type behind the others.
@@ -186,15 +186,6 @@ fn world(alloc: Global) -> Result<World, OutOfMemory> {
         WorldItem::Function(function),
     ))?;
     Ok(world)
-}
-
-fn package(alloc: Global) -> Package {
-    Package {
-        namespace: no_name(alloc),
-        name: no_name(alloc),
-        version: None,
-        module: Text::new(alloc),
-    }
 }
 
 /// The tables, where they keep the rules.
