@@ -19,15 +19,15 @@ use Rattle.wrapper_meaning.specs.Layout.{layout}
 use Rattle.wrapper_meaning.specs.Represents.{Begins}
 use Rattle.wrapper_meaning.specs.Shape.{Shape}
 use Rattle.wrapper_meaning.specs.Value.{Value}
-use Rattle.abi_driver.specs.declared.bindgen.Asked.{Asked}
-use Rattle.abi_driver.specs.Account.{Account, Done, Follows, Got, Outcome, Peer, Stopped, Stuck, addresses, is_taken, without}
-use Rattle.abi_driver.specs.Area.{HasRoomFor, HoldsRecord, NeedsArea, placed, placing, pointing}
-use Rattle.abi_driver.specs.Frees.{nowhere}
-use Rattle.abi_driver.specs.Laws.{At, Facts, Sound}
-use Rattle.abi_driver.specs.Meaning.{Meaning, item, of, word}
-use Rattle.abi_driver.specs.Places.{HasRoom, replaced}
+use Rattle.abi_bindgen.specs.declared.bindgen.Asked.{Asked}
+use Rattle.abi_bindgen.specs.Account.{Account, Done, Follows, Got, Outcome, Peer, Stopped, Stuck, addresses, is_taken, without}
+use Rattle.abi_bindgen.specs.Area.{HasRoomFor, HoldsRecord, NeedsArea, placed, placing, pointing}
+use Rattle.abi_bindgen.specs.Frees.{nowhere}
+use Rattle.abi_bindgen.specs.Laws.{At, Facts, Sound}
+use Rattle.abi_bindgen.specs.Meaning.{Meaning, item, of, word}
+use Rattle.abi_bindgen.specs.Places.{HasRoom, replaced}
 use Rattle.abi_driver.specs.Stores.{LowersToMemory, Releases}
-use Rattle.abi_driver.specs.Touches.{reached}
+use Rattle.abi_bindgen.specs.Touches.{reached}
 use Rattle.abi_driver.proofs.AreaHeaps.{contains_last, replaced_items}
 use Rattle.abi_driver.proofs.Done.{is_it, is_there, same_is, without_one}
 use Rattle.abi_driver.proofs.Replaced.{replaced_formed}

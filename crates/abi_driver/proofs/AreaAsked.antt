@@ -14,14 +14,14 @@ use Rattle.wrapper_meaning.specs.Layout.{layout}
 use Rattle.wrapper_meaning.specs.Shape.{Shape, shape_of}
 use Rattle.wrapper_meaning.specs.Shape.Shape.{fields}
 use Rattle.wrapper_meaning.proofs.LayoutIsTree.{layout_is_tree}
-use Rattle.abi_driver.specs.declared.bindgen.Asked.{Asked}
-use Rattle.abi_driver.specs.Area.{IsAlignment}
-use Rattle.abi_driver.specs.Code.{ask_for, record_size}
+use Rattle.abi_bindgen.specs.declared.bindgen.Asked.{Asked}
+use Rattle.abi_bindgen.specs.Area.{IsAlignment}
+use Rattle.abi_bindgen.specs.Code.{ask_for, record_size}
 use Rattle.abi_driver.specs.Imports.{Points}
-use Rattle.abi_driver.specs.Instructions.{shapes_of}
-use Rattle.abi_driver.specs.Laws.{PointsTo}
-use Rattle.abi_driver.specs.Meaning.{Meaning}
-use Rattle.abi_driver.specs.Sends.{Sends}
+use Rattle.abi_bindgen.specs.Instructions.{shapes_of}
+use Rattle.abi_bindgen.specs.Laws.{PointsTo}
+use Rattle.abi_bindgen.specs.Meaning.{Meaning}
+use Rattle.abi_bindgen.specs.Sends.{Sends}
 use Rattle.abi_driver.proofs.PartOffsets.{pair_is}
 use Rattle.abi_driver.proofs.RecordPlaces.{record_layout}
 

@@ -11,9 +11,9 @@ use Rattle.wrapper_meaning.specs.Honest.{are_new}
 use Rattle.wrapper_meaning.specs.Items.{AllIn, AtMost, SameItems, total}
 use Rattle.wrapper_meaning.proofs.HeapBlocks.{all_in_heap, at_address, at_most_one, still_there}
 use Rattle.wrapper_meaning.proofs.NewBlocks.{new_blocks_behind}
-use Rattle.abi_driver.specs.Account.{Account, addresses}
-use Rattle.abi_driver.specs.Lifts.{MayTake}
-use Rattle.abi_driver.specs.Places.{replaced}
+use Rattle.abi_bindgen.specs.Account.{Account, addresses}
+use Rattle.abi_bindgen.specs.Lifts.{MayTake}
+use Rattle.abi_bindgen.specs.Places.{replaced}
 use Rattle.abi_driver.proofs.Done.{is_it}
 use Rattle.abi_driver.proofs.HonestAnswers.{free_once}
 use Rattle.abi_driver.proofs.Replaced.{byte_there, replaced_others, replaced_same, replaced_there, replaced_twice, split, there_again}

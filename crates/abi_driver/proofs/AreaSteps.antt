@@ -18,22 +18,22 @@ use Rattle.wrapper_meaning.specs.Represents.{LendsRecord, are_indirect, is_indir
 use Rattle.wrapper_meaning.specs.Shape.{Shape, Shapes}
 use Rattle.wrapper_meaning.specs.Shape.Shape.{fields}
 use Rattle.wrapper_meaning.specs.Value.{Parts}
-use Rattle.abi_driver.specs.declared.bindgen.Asked.{Asked}
-use Rattle.abi_driver.specs.Account.{Account, Done, Got, Peer, releasing}
-use Rattle.abi_driver.specs.Area.{AreFor, AreaStands, HoldsRecord, NeedsArea, SameArea, newly, pointing}
-use Rattle.abi_driver.specs.Frees.{nowhere}
+use Rattle.abi_bindgen.specs.declared.bindgen.Asked.{Asked}
+use Rattle.abi_bindgen.specs.Account.{Account, Done, Got, Peer, releasing}
+use Rattle.abi_bindgen.specs.Area.{AreFor, AreaStands, HoldsRecord, NeedsArea, SameArea, newly, pointing}
+use Rattle.abi_bindgen.specs.Frees.{nowhere}
 use Rattle.abi_driver.specs.Imports.{AreGiven, Lent, PassesArguments, PassesRecord, Points, PointsAtResult}
-use Rattle.abi_driver.specs.Laws.{After, At, Facts, Grows, Quiet, Sound, args, core_data, item_data, ofs}
-use Rattle.abi_driver.specs.Lowers.{LowersArguments}
-use Rattle.abi_driver.specs.Meaning.{Meaning, of, word}
-use Rattle.abi_driver.specs.Places.{HavePlaces, replaced}
-use Rattle.abi_driver.specs.Touches.{reached}
+use Rattle.abi_bindgen.specs.Laws.{After, At, Facts, Grows, Quiet, Sound, args, core_data, item_data, ofs}
+use Rattle.abi_bindgen.specs.Lowers.{LowersArguments}
+use Rattle.abi_bindgen.specs.Meaning.{Meaning, of, word}
+use Rattle.abi_bindgen.specs.Places.{HavePlaces, replaced}
+use Rattle.abi_bindgen.specs.Touches.{reached}
 use Rattle.abi_driver.proofs.AreaHeaps.{contains_last, replaced_items}
 use Rattle.abi_driver.proofs.Done.{does_done}
 use Rattle.abi_driver.proofs.LiftSteps.{follows_done}
 use Rattle.abi_driver.proofs.RecordPlaces.{align_at_width, at_width}
 use Rattle.abi_driver.proofs.Replaced.{replaced_formed}
-use Rattle.abi_driver.proofs.Runs.{grows_both, grows_same, quiet_both}
+use Rattle.abi_bindgen.proofs.Runs.{grows_both, grows_same, quiet_both}
 use Rattle.wrapper_meaning.proofs.PostReturn.{total-append}
 use Rattle.wit_layout.proofs.RecordSteps.{record_behind}
 

@@ -10,14 +10,14 @@ use Rattle.wrapper_meaning.specs.AsWords.{PartsSay}
 use Rattle.wrapper_meaning.specs.Layout.{layout, layouts}
 use Rattle.wrapper_meaning.specs.Shape.{Shape, Shapes, shape_of}
 use Rattle.wrapper_meaning.specs.Shape.Shapes.{none, more}
-use Rattle.abi_driver.specs.declared.instruction.Instruction.TheVariants.{GetArg}
-use Rattle.abi_driver.specs.Account.{addresses, releasing}
-use Rattle.abi_driver.specs.Instructions.{Emits, shapes_of}
-use Rattle.abi_driver.specs.Laws.{Does, Facts, Sound, args, core_data, item_data, ofs}
-use Rattle.abi_driver.specs.Leaves.{way}
-use Rattle.abi_driver.specs.Lowers.{LowersArguments, LowersFlat, Passes}
-use Rattle.abi_driver.specs.Meaning.{Meaning, arg, item, of, word}
-use Rattle.abi_driver.proofs.Runs.{adds_both, adds_same, addresses_both, core_append, does_both, does_none, ofs_append, stays_then}
+use Rattle.abi_bindgen.specs.declared.instruction.Instruction.TheVariants.{GetArg}
+use Rattle.abi_bindgen.specs.Account.{addresses, releasing}
+use Rattle.abi_bindgen.specs.Instructions.{Emits, shapes_of}
+use Rattle.abi_bindgen.specs.Laws.{Does, Facts, Sound, args, core_data, item_data, ofs}
+use Rattle.abi_bindgen.specs.Leaves.{way}
+use Rattle.abi_bindgen.specs.Lowers.{LowersArguments, LowersFlat, Passes}
+use Rattle.abi_bindgen.specs.Meaning.{Meaning, arg, item, of, word}
+use Rattle.abi_bindgen.proofs.Runs.{adds_both, adds_same, addresses_both, core_append, does_both, does_none, ofs_append, stays_then}
 
 -- the numbers of arguments are below their count
 pub within_count : (limit later : Option ℕ) (n i : ℕ) → later ≡ limit → IfSome limit (λ k. k ≡ n) → i < n → IfSome later (λ k. i < k)

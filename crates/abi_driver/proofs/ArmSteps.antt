@@ -10,12 +10,12 @@ use Rattle.wrapper_meaning.specs.Settled.{settled_case}
 use Rattle.wrapper_meaning.specs.Shape.{Shapes}
 use Rattle.wrapper_meaning.specs.Shape.Shapes.{none, more}
 use Rattle.wrapper_meaning.specs.Value.{Case, case_number}
-use Rattle.abi_driver.specs.Account.{Done, Got, Outcome, Peer, Stuck, then_do}
-use Rattle.abi_driver.specs.Arms.{Armed, arm, arms, choosing, matching}
-use Rattle.abi_driver.specs.Blocks.{Gives}
-use Rattle.abi_driver.specs.Laws.{Data}
-use Rattle.abi_driver.specs.Meaning.{Ended, Meaning, with_nothing}
-use Rattle.abi_driver.specs.Turns.{Went}
+use Rattle.abi_bindgen.specs.Account.{Done, Got, Outcome, Peer, Stuck, then_do}
+use Rattle.abi_bindgen.specs.Arms.{Armed, arm, arms, choosing, matching}
+use Rattle.abi_bindgen.specs.Blocks.{Gives}
+use Rattle.abi_bindgen.specs.Laws.{Data}
+use Rattle.abi_bindgen.specs.Meaning.{Ended, Meaning, with_nothing}
+use Rattle.abi_bindgen.specs.Turns.{Went}
 
 -- 1. The number of a case
 

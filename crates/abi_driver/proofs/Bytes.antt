@@ -4,7 +4,7 @@ use Rattle.std.specs.List.{AllByRecursion}
 use Rattle.std.proofs.Math.Arith.{mod-mul}
 use Rattle.std.proofs.Math.Nat.{one-le-pow, pow-suc}
 use Rattle.wrapper_meaning.specs.Cells.{little}
-use Rattle.abi_driver.specs.Memory.{little_bytes}
+use Rattle.abi_bindgen.specs.Memory.{little_bytes}
 
 -- each is a byte
 abbrev pub AreBytes : List ℕ → Type 0

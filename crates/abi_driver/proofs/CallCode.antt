@@ -11,18 +11,18 @@ use Rattle.wit_layout.specs.Signature.{core_results}
 use Rattle.wit_layout.specs.Tree.{tree_of}
 use Rattle.wrapper_meaning.specs.Represents.{is_indirect, result_words}
 use Rattle.wrapper_meaning.specs.Shape.{Shape, shape_of}
-use Rattle.abi_driver.specs.declared.instruction.Instruction.TheVariants.{GetArg}
-use Rattle.abi_driver.specs.Code.{ask_for, get_arguments, give_code, lift_arguments, lift_code, load_code, lower_code, point_code, read_code, store_code}
+use Rattle.abi_bindgen.specs.declared.instruction.Instruction.TheVariants.{GetArg}
+use Rattle.abi_bindgen.specs.Code.{ask_for, get_arguments, give_code, lift_arguments, lift_code, load_code, lower_code, point_code, read_code, store_code}
 use Rattle.abi_driver.specs.Exports.{GivesAnswer, StoresAnswer}
-use Rattle.abi_driver.specs.Frees.{nowhere}
+use Rattle.abi_bindgen.specs.Frees.{nowhere}
 use Rattle.abi_driver.specs.Imports.{LoadsAnswer, ReadsAnswer}
-use Rattle.abi_driver.specs.Instructions.{Emits}
-use Rattle.abi_driver.specs.Lifts.{LiftsAnswer}
-use Rattle.abi_driver.specs.Lowers.{LowersAnswer}
-use Rattle.abi_driver.specs.Meaning.{Meaning}
-use Rattle.abi_driver.specs.Sends.{Sends}
-use Rattle.abi_driver.specs.Sent.{sends}
-use Rattle.abi_driver.proofs.SendSteps.{each_last, sends_as, sends_both, sends_one}
+use Rattle.abi_bindgen.specs.Instructions.{Emits}
+use Rattle.abi_bindgen.specs.Lifts.{LiftsAnswer}
+use Rattle.abi_bindgen.specs.Lowers.{LowersAnswer}
+use Rattle.abi_bindgen.specs.Meaning.{Meaning}
+use Rattle.abi_bindgen.specs.Sends.{Sends}
+use Rattle.abi_bindgen.specs.Sent.{sends}
+use Rattle.abi_bindgen.proofs.SendSteps.{each_last, sends_as, sends_both, sends_one}
 
 -- 1. Words of arguments
 

@@ -14,15 +14,15 @@ use Rattle.wrapper_meaning.specs.Shape.{Shape, Shapes, nothing, payload_in, payl
 use Rattle.wrapper_meaning.specs.Shape.Shapes.{none, more}
 use Rattle.wrapper_meaning.specs.Value.{Case, case_number}
 use Rattle.wrapper_meaning.proofs.PostReturn.{total-append}
-use Rattle.abi_driver.specs.Account.{Account}
-use Rattle.abi_driver.specs.Blocks.{Finishes, Pushes}
+use Rattle.abi_bindgen.specs.Account.{Account}
+use Rattle.abi_bindgen.specs.Blocks.{Finishes, Pushes}
 use Rattle.abi_driver.specs.FreedCases.{EmptiesCase, FreesCases, FreesPayload}
-use Rattle.abi_driver.specs.Frees.{FreesInMemory, MayFree, by_freeing}
-use Rattle.abi_driver.specs.Laws.{Facts, Sound}
-use Rattle.abi_driver.specs.Meaning.{Meaning, of, with_nothing, word}
-use Rattle.abi_driver.specs.Parts.{count}
-use Rattle.abi_driver.specs.Places.{HasRoom}
-use Rattle.abi_driver.specs.Touches.{reached}
+use Rattle.abi_bindgen.specs.Frees.{FreesInMemory, MayFree, by_freeing}
+use Rattle.abi_bindgen.specs.Laws.{Facts, Sound}
+use Rattle.abi_bindgen.specs.Meaning.{Meaning, of, with_nothing, word}
+use Rattle.abi_bindgen.specs.Parts.{count}
+use Rattle.abi_bindgen.specs.Places.{HasRoom}
+use Rattle.abi_bindgen.specs.Touches.{reached}
 use Rattle.abi_driver.proofs.CaseRooms.{first_payload, rest_payload}
 use Rattle.abi_driver.proofs.CaseSteps.{block_added, block_begins, block_gives, more_blocks, no_blocks}
 use Rattle.abi_driver.proofs.LeafFrees.{alone_at}

@@ -10,14 +10,14 @@ use Rattle.wit_model.specs.declared.types.TypeDefKind.TheVariants as kind
 use Rattle.wit_model.specs.declared.types.WitType.{WitType}
 use Rattle.wrapper_data.specs.declared.form.Form.{Form}
 use Rattle.wrapper_meaning.specs.Shape.{Shapes, payloads_in, shapes}
-use Rattle.abi_driver.specs.Arms.{serves_none, serves_others}
-use Rattle.abi_driver.specs.Cases.{LiftsCase, LowersCase, case_shapes, payload_counts, payloads_at, payloads_of}
-use Rattle.abi_driver.specs.HasList.{IsKindOf}
-use Rattle.abi_driver.specs.Instructions.{AddsCode, Emits, HasBlocks, IsSendable, case_lifting, case_lowering, has_cases}
-use Rattle.abi_driver.specs.Laws.{Grows, Quiet}
-use Rattle.abi_driver.specs.Meaning.{Meaning}
-use Rattle.abi_driver.specs.Parts.{count}
-use Rattle.abi_driver.proofs.Payloads.{count_payloads, payloads_here}
+use Rattle.abi_bindgen.specs.Arms.{serves_none, serves_others}
+use Rattle.abi_bindgen.specs.Cases.{LiftsCase, LowersCase, case_shapes, payload_counts, payloads_at, payloads_of}
+use Rattle.abi_bindgen.specs.HasList.{IsKindOf}
+use Rattle.abi_bindgen.specs.Instructions.{AddsCode, Emits, HasBlocks, IsSendable, case_lifting, case_lowering, has_cases}
+use Rattle.abi_bindgen.specs.Laws.{Grows, Quiet}
+use Rattle.abi_bindgen.specs.Meaning.{Meaning}
+use Rattle.abi_bindgen.specs.Parts.{count}
+use Rattle.abi_bindgen.proofs.Payloads.{count_payloads, payloads_here}
 use Rattle.abi_driver.proofs.CaseSteps.{uses_blocks}
 
 -- whether the last arm of its cases serves a number that is no case

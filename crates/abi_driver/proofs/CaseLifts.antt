@@ -25,25 +25,25 @@ use Rattle.wrapper_meaning.specs.Words.{AreWords, read_slots}
 use Rattle.wrapper_meaning.proofs.Lists.{some_same}
 use Rattle.wrapper_meaning.proofs.PostReturn.{total-append}
 use Rattle.wrapper_meaning.proofs.WordsDetermined.{are_words-length}
-use Rattle.abi_driver.specs.Account.{Account, Act, Done, Follows, Got, Outcome, Peer, Stuck, addresses, gives, then_do}
-use Rattle.abi_driver.specs.Arms.{Armed, arm, arms, choosing, gives_payload, matching}
-use Rattle.abi_driver.specs.Blocks.{Finishes, Gives, Pushes, names, owned_datum}
-use Rattle.abi_driver.specs.CaseBlocks.{AddsBlocks, LiftsCases, TakesPayload}
-use Rattle.abi_driver.specs.Cases.{IsPayload, LiftsCase, PayloadStands}
-use Rattle.abi_driver.specs.Constants.{cast_words}
-use Rattle.abi_driver.specs.Instructions.{AddsCode}
-use Rattle.abi_driver.specs.Laws.{Adds, After, At, Data, Facts, Sound, core_data, item_data, ofs}
-use Rattle.abi_driver.specs.Lifts.{LiftsFlat, MayTake, OneStands, TakesOver, took}
-use Rattle.abi_driver.specs.Meaning.{Ended, Meaning, item, of, with_nothing, word}
-use Rattle.abi_driver.specs.Parts.{count}
-use Rattle.abi_driver.specs.SlotCasts.{CastsAll, FitIn}
-use Rattle.abi_driver.specs.Turns.{Arrives, Moved, Went}
-use Rattle.abi_driver.proofs.BlockRuns.{begun, block_runs, blocks_both, blocks_used, code_grows, get_behind, get_front, no_blocks, one_block, take_front, words_facts}
-use Rattle.abi_driver.proofs.CaseLowers.{number_below}
+use Rattle.abi_bindgen.specs.Account.{Account, Act, Done, Follows, Got, Outcome, Peer, Stuck, addresses, gives, then_do}
+use Rattle.abi_bindgen.specs.Arms.{Armed, arm, arms, choosing, gives_payload, matching}
+use Rattle.abi_bindgen.specs.Blocks.{Finishes, Gives, Pushes, names, owned_datum}
+use Rattle.abi_bindgen.specs.CaseBlocks.{AddsBlocks, LiftsCases, TakesPayload}
+use Rattle.abi_bindgen.specs.Cases.{IsPayload, LiftsCase, PayloadStands}
+use Rattle.abi_bindgen.specs.Constants.{cast_words}
+use Rattle.abi_bindgen.specs.Instructions.{AddsCode}
+use Rattle.abi_bindgen.specs.Laws.{Adds, After, At, Data, Facts, Sound, core_data, item_data, ofs}
+use Rattle.abi_bindgen.specs.Lifts.{LiftsFlat, MayTake, OneStands, TakesOver, took}
+use Rattle.abi_bindgen.specs.Meaning.{Ended, Meaning, item, of, with_nothing, word}
+use Rattle.abi_bindgen.specs.Parts.{count}
+use Rattle.abi_bindgen.specs.SlotCasts.{CastsAll, FitIn}
+use Rattle.abi_bindgen.specs.Turns.{Arrives, Moved, Went}
+use Rattle.abi_bindgen.proofs.BlockRuns.{begun, block_runs, blocks_both, blocks_used, code_grows, get_behind, get_front, no_blocks, one_block, take_front, words_facts}
+use Rattle.abi_bindgen.proofs.CaseLowers.{number_below}
 use Rattle.abi_driver.proofs.LiftSteps.{follows_done}
-use Rattle.abi_driver.proofs.Runs.{adds_both, adds_same, core_append, ofs_append}
+use Rattle.abi_bindgen.proofs.Runs.{adds_both, adds_same, core_append, ofs_append}
 use Rattle.abi_driver.proofs.TakingOver.{took_none}
-use Rattle.abi_driver.proofs.WordBits.{cast_back, fit_length}
+use Rattle.abi_bindgen.proofs.WordBits.{cast_back, fit_length}
 
 -- the first words
 words_front : (w n : ℕ) (ds : List WasmType) (ws : List Word) → AreWords w ds ws → AreWords w (take n ds) (take n ws)

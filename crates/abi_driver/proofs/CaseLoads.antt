@@ -17,20 +17,20 @@ use Rattle.wrapper_meaning.specs.Shape.{Shape, Shapes, is_nothing, nothing, payl
 use Rattle.wrapper_meaning.specs.Shape.Shapes.{none, more}
 use Rattle.wrapper_meaning.specs.Value.{Case, Value, case_number}
 use Rattle.wrapper_meaning.proofs.PostReturn.{total-append}
-use Rattle.abi_driver.specs.Account.{Account, addresses}
-use Rattle.abi_driver.specs.Blocks.{Finishes, Pushes, owned_datum}
+use Rattle.abi_bindgen.specs.Account.{Account, addresses}
+use Rattle.abi_bindgen.specs.Blocks.{Finishes, Pushes, owned_datum}
 use Rattle.abi_driver.specs.FinishedBlocks.{Brought}
-use Rattle.abi_driver.specs.Cases.{PayloadStands, result_counts}
-use Rattle.abi_driver.specs.Laws.{Facts, Sound, item_data, ofs}
-use Rattle.abi_driver.specs.Lifts.{MayTake, took}
+use Rattle.abi_bindgen.specs.Cases.{PayloadStands, result_counts}
+use Rattle.abi_bindgen.specs.Laws.{Facts, Sound, item_data, ofs}
+use Rattle.abi_bindgen.specs.Lifts.{MayTake, took}
 use Rattle.abi_driver.specs.LoadedCases.{GetsCase, LoadsCase, LoadsCases}
 use Rattle.abi_driver.specs.Loads.{LiftsFromMemory}
-use Rattle.abi_driver.specs.Meaning.{Meaning, item, of, with_nothing, word}
-use Rattle.abi_driver.specs.Places.{HasRoom}
-use Rattle.abi_driver.specs.Touches.{reached}
+use Rattle.abi_bindgen.specs.Meaning.{Meaning, item, of, with_nothing, word}
+use Rattle.abi_bindgen.specs.Places.{HasRoom}
+use Rattle.abi_bindgen.specs.Touches.{reached}
 use Rattle.abi_driver.proofs.CaseRooms.{first_payload, rest_payload}
 use Rattle.abi_driver.proofs.CaseSteps.{block_added, block_begins, block_gives, more_blocks, no_blocks}
-use Rattle.abi_driver.proofs.Runs.{adds_same}
+use Rattle.abi_bindgen.proofs.Runs.{adds_same}
 use Rattle.abi_driver.proofs.TakingOver.{took_none}
 
 module _ {Self Operand : Type 0} (m : Meaning Self Operand) (types : List TypeDef) where

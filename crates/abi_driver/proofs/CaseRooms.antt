@@ -11,8 +11,8 @@ use Rattle.wrapper_meaning.specs.Shape.Shapes.{none, more}
 use Rattle.wrapper_meaning.proofs.HoldsLocally.{payload_within, tag_within}
 use Rattle.wrapper_meaning.proofs.PartPlaces.{aligned_part, bytes_of_first, bytes_of_rest, grain_of_first, grain_of_rest, less_grain, place_aligned}
 use Rattle.abi_driver.specs.FinishedBlocks.{HasCaseRoom, HasPayloadRoom}
-use Rattle.abi_driver.specs.Parts.{count as shape_count}
-use Rattle.abi_driver.specs.Places.{HasRoom}
+use Rattle.abi_bindgen.specs.Parts.{count as shape_count}
+use Rattle.abi_bindgen.specs.Places.{HasRoom}
 
 -- 1. How many cases there are
 

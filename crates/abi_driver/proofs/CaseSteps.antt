@@ -3,14 +3,14 @@ use Rattle.std.proofs.Common.{◌≡◌, ℕ, zero, suc, ◌+◌, Bool, false, t
 use Rattle.std.specs.List.{AllByRecursion, flat_map}
 use Rattle.std.proofs.lemmas.List.{length-reverse, replicate_more, reverse-append, reverse-reverse}
 use Rattle.wrapper_meaning.specs.Items.{SameItems, total}
-use Rattle.abi_driver.specs.Account.{Done, Peer, Stops, account_in}
-use Rattle.abi_driver.specs.Arms.{arms}
-use Rattle.abi_driver.specs.Blocks.{AreFinished, Finishes, Gives, IsOfWord, IsOpen, IsQuiet, Pushes, names, owned_datum}
+use Rattle.abi_bindgen.specs.Account.{Done, Peer, Stops, account_in}
+use Rattle.abi_bindgen.specs.Arms.{arms}
+use Rattle.abi_bindgen.specs.Blocks.{AreFinished, Finishes, Gives, IsOfWord, IsOpen, IsQuiet, Pushes, names, owned_datum}
 use Rattle.abi_driver.specs.FinishedBlocks.{AddsBlock, AddsBlocks, AreQuiet, Resumes}
-use Rattle.abi_driver.specs.Instructions.{AddsCode, IsSide}
-use Rattle.abi_driver.specs.Laws.{Adds, At, Data, Facts, Grows, Quiet, Sound, ofs}
-use Rattle.abi_driver.specs.Meaning.{Bound, Meaning}
-use Rattle.abi_driver.proofs.BlockSteps.{block_quiet, one_block_more, same_code, same_opened, same_slot}
+use Rattle.abi_bindgen.specs.Instructions.{AddsCode, IsSide}
+use Rattle.abi_bindgen.specs.Laws.{Adds, At, Data, Facts, Grows, Quiet, Sound, ofs}
+use Rattle.abi_bindgen.specs.Meaning.{Bound, Meaning}
+use Rattle.abi_bindgen.proofs.BlockSteps.{block_quiet, one_block_more, same_code, same_opened, same_slot}
 
 -- 1. Lists of blocks
 

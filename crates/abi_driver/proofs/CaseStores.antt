@@ -24,27 +24,27 @@ use Rattle.wrapper_meaning.specs.Value.{Case, Value, case_number}
 use Rattle.wrapper_meaning.proofs.HoldsLocally.{number_locally}
 use Rattle.wrapper_meaning.proofs.PartPlaces.{bytes_of_first, bytes_of_rest}
 use Rattle.wrapper_meaning.proofs.PostReturn.{total-append}
-use Rattle.abi_driver.specs.declared.instruction.Instruction.TheVariants.{I32Const, VariantPayloadName}
-use Rattle.abi_driver.specs.Account.{Account, Done, Peer, addresses}
-use Rattle.abi_driver.specs.Blocks.{Finishes, Pushes, brought, names}
+use Rattle.abi_bindgen.specs.declared.instruction.Instruction.TheVariants.{I32Const, VariantPayloadName}
+use Rattle.abi_bindgen.specs.Account.{Account, Done, Peer, addresses}
+use Rattle.abi_bindgen.specs.Blocks.{Finishes, Pushes, brought, names}
 use Rattle.abi_driver.specs.FinishedBlocks.{Brought, HasCaseRoom}
-use Rattle.abi_driver.specs.Cases.{PayloadStands, with_case}
-use Rattle.abi_driver.specs.Instructions.{Emits}
-use Rattle.abi_driver.specs.Laws.{Adds, At, Facts, Sound}
-use Rattle.abi_driver.specs.Leaves.{way}
-use Rattle.abi_driver.specs.Meaning.{Bound, Meaning, bound, item, of, the_payload, word}
-use Rattle.abi_driver.specs.NumberTouches.{number_store}
-use Rattle.abi_driver.specs.Parts.{count}
-use Rattle.abi_driver.specs.Places.{HasRoom, replaced}
+use Rattle.abi_bindgen.specs.Cases.{PayloadStands, with_case}
+use Rattle.abi_bindgen.specs.Instructions.{Emits}
+use Rattle.abi_bindgen.specs.Laws.{Adds, At, Facts, Sound}
+use Rattle.abi_bindgen.specs.Leaves.{way}
+use Rattle.abi_bindgen.specs.Meaning.{Bound, Meaning, bound, item, of, the_payload, word}
+use Rattle.abi_bindgen.specs.NumberTouches.{number_store}
+use Rattle.abi_bindgen.specs.Parts.{count}
+use Rattle.abi_bindgen.specs.Places.{HasRoom, replaced}
 use Rattle.abi_driver.specs.StoredCases.{BlockPuts, PutsCase, StoresCase, StoresCases, Tagged}
 use Rattle.abi_driver.specs.Stores.{LowersToMemory, Releases, Stored, by_storing}
-use Rattle.abi_driver.specs.Touches.{reached}
-use Rattle.abi_driver.proofs.BareCases.{number_ranged}
+use Rattle.abi_bindgen.specs.Touches.{reached}
+use Rattle.abi_bindgen.proofs.BareCases.{number_ranged}
 use Rattle.abi_driver.proofs.CaseRooms.{first_room, rest_room}
 use Rattle.abi_driver.proofs.CaseSteps.{block_added, block_begins, block_gives, is_open, more_blocks, no_blocks}
 use Rattle.abi_driver.proofs.NumberWords.{Written, number_store_adds, number_stored}
 use Rattle.abi_driver.proofs.Replaced.{replaced_formed, replaced_twice}
-use Rattle.abi_driver.proofs.Runs.{adds_both}
+use Rattle.abi_bindgen.proofs.Runs.{adds_both}
 use Rattle.abi_driver.proofs.StoreSteps.{word_again}
 use Rattle.abi_driver.proofs.Storing.{written_both, written_in}
 use Rattle.wrapper_meaning.specs.Numbers.{low_bits}

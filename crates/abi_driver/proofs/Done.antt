@@ -4,9 +4,9 @@ use Rattle.std.proofs.Common.{◌≡◌, ◌⊎◌, ◌≤◌, ℕ, ◌+◌, ◌
 use Rattle.std.proofs.lemmas.Bool.{eq-eqb}
 use Rattle.std.proofs.lemmas.Bool.Decides.{eqb_tells}
 use Rattle.wrapper_meaning.specs.Items.{SameItems, total}
-use Rattle.abi_driver.specs.Account.{Account, Act, Done, Follows, Got, Outcome, Peer, Stuck, is_taken, releasing, without}
-use Rattle.abi_driver.specs.Laws.{After, At, Does, Facts}
-use Rattle.abi_driver.specs.Meaning.{Meaning}
+use Rattle.abi_bindgen.specs.Account.{Account, Act, Done, Follows, Got, Outcome, Peer, Stuck, is_taken, releasing, without}
+use Rattle.abi_bindgen.specs.Laws.{After, At, Does, Facts}
+use Rattle.abi_bindgen.specs.Meaning.{Meaning}
 use Rattle.abi_driver.specs.Stores.{Releases}
 
 if_done : {V A : Type 0} (b : Bool) (o q : Outcome V A) → b ≡ true → (if b then o else q) ≡ o

@@ -1,5 +1,5 @@
 -- Enums become words, and words become enums; they are stored and loaded.
-use Rattle.std.proofs.Common.{◌≡◌, ℕ, suc, ◌%◌, ◌^◌, ◌<◌, ◌≤◌, nat_lt, Bool, pos, ℤ, List, [], ◌∷◌, ◌++◌, length, map, None, Contains, refl, sym, ap, ◌∙◌, subst, arith}
+use Rattle.std.proofs.Common.{◌≡◌, ℕ, suc, ◌%◌, ◌^◌, ◌<◌, ◌≤◌, nat_lt, Bool, pos, ℤ, List, [], ◌∷◌, ◌++◌, length, Contains, refl, sym, ap, ◌∙◌, subst, arith}
 use Rattle.std.proofs.lemmas.Bool.{cond-true, lt-ltb}
 use Rattle.std.specs.Int.{w32, cast_signed}
 use Rattle.wit_model.specs.declared.name.TypeId.{TypeId}
@@ -8,81 +8,48 @@ use Rattle.wit_model.specs.declared.types.Member.{Member}
 use Rattle.wit_model.specs.declared.types.TypeDef.{TypeDef}
 use Rattle.wit_model.specs.declared.types.TypeDefKind.TheVariants as kind
 use Rattle.wit_layout.specs.Extent.{discriminant_grain}
-use Rattle.wit_layout.specs.Flat.{flatten_type}
-use Rattle.wrapper_meaning.specs.Layout.{layout}
 use Rattle.wrapper_data.specs.Heap.{is_heap}
 use Rattle.wrapper_data.specs.declared.block.Block.{Block}
 use Rattle.wrapper_data.specs.declared.form.Form.{Form}
 use Rattle.wrapper_data.specs.declared.word.Word.TheVariants as core
-use Rattle.wrapper_meaning.specs.AsWords.{CaseSays, Says}
 use Rattle.wrapper_meaning.specs.Cells.{HasNumber}
 use Rattle.wrapper_meaning.specs.Direction.{take}
 use Rattle.wrapper_meaning.specs.InMemory.{CaseHolds}
 use Rattle.wrapper_meaning.specs.Items.{total}
 use Rattle.wrapper_meaning.specs.Settled.{settled}
-use Rattle.wrapper_meaning.specs.Shape.{bare, nothing, payloads_in, shapes}
+use Rattle.wrapper_meaning.specs.Shape.{bare}
 use Rattle.wrapper_meaning.specs.Shape.Shape.{cases}
-use Rattle.wrapper_meaning.specs.Shape.Shapes.{more}
 use Rattle.wrapper_meaning.specs.Value.{Case, case_number}
 use Rattle.wrapper_meaning.specs.Words.{AreWords}
-use Rattle.abi_driver.specs.declared.instruction.Instruction.TheVariants.{EnumLift, EnumLower}
-use Rattle.abi_driver.specs.Account.{Account, Got, Peer, addresses, releasing, stay}
-use Rattle.abi_driver.specs.Cases.{LiftsEnum, LowersEnum, case_shapes, payloads_of, payloads_or, reading_tag, tag_of}
-use Rattle.abi_driver.specs.HasList.{IsKindOf}
-use Rattle.abi_driver.specs.Instructions.{Emits}
-use Rattle.abi_driver.specs.Laws.{Adds, After, At, Does, Facts, Sound, core_data, ofs}
-use Rattle.abi_driver.specs.Leaves.{way}
-use Rattle.abi_driver.specs.Lifts.{LiftsFlat, OneStands, took}
+use Rattle.abi_bindgen.specs.declared.instruction.Instruction.TheVariants.{EnumLift}
+use Rattle.abi_bindgen.specs.Account.{Account, Got, Peer, addresses, releasing, stay}
+use Rattle.abi_bindgen.specs.Cases.{LiftsEnum, reading_tag, tag_of}
+use Rattle.abi_bindgen.specs.HasList.{IsKindOf}
+use Rattle.abi_bindgen.specs.Instructions.{Emits}
+use Rattle.abi_bindgen.specs.Laws.{Adds, After, At, Facts, Sound, core_data, ofs}
+use Rattle.abi_bindgen.specs.Leaves.{way}
+use Rattle.abi_bindgen.specs.Lifts.{LiftsFlat, OneStands, took}
 use Rattle.abi_driver.specs.Loads.{Gets, LiftsFromMemory}
-use Rattle.abi_driver.specs.Lowers.{LowersFlat}
-use Rattle.abi_driver.specs.Meaning.{Meaning, item, of, word}
-use Rattle.abi_driver.specs.NumberTouches.{tag_load, tag_store}
-use Rattle.abi_driver.specs.Parts.{count}
-use Rattle.abi_driver.specs.Places.{IsWritten}
+use Rattle.abi_bindgen.specs.Lowers.{LowersFlat}
+use Rattle.abi_bindgen.specs.Meaning.{Meaning, item, of, word}
+use Rattle.abi_bindgen.specs.NumberTouches.{tag_load, tag_store}
+use Rattle.abi_bindgen.specs.Parts.{count}
+use Rattle.abi_bindgen.specs.Places.{IsWritten}
 use Rattle.abi_driver.specs.Stores.{LowersToMemory}
-use Rattle.abi_driver.specs.Touches.{reached}
-use Rattle.abi_driver.proofs.BareCases.{bare_extent, bare_holds, bare_says, bare_settled, case_below, count_bare, no_slots, none_held, none_said, number_ranged, tag_grain_small, tag_is, tag_kept, tag_loaded, tree_count}
+use Rattle.abi_bindgen.specs.Touches.{reached}
+use Rattle.abi_bindgen.proofs.BareCases.{bare_holds, bare_settled, case_below, count_bare, no_slots, none_held, none_said, number_ranged, tree_count}
+use Rattle.abi_driver.proofs.Tags.{bare_extent, tag_grain_small, tag_is, tag_kept, tag_loaded}
+use Rattle.abi_bindgen.proofs.EnumLowers.{enum_cases}
 use Rattle.abi_driver.proofs.Done.{does_done, lets_go}
 use Rattle.abi_driver.proofs.LiftSteps.{follows_done}
 use Rattle.abi_driver.proofs.NumberWords.{number_load_adds, number_loaded, number_store_adds, number_stored}
-use Rattle.abi_driver.proofs.Runs.{adds_both}
+use Rattle.abi_bindgen.proofs.Runs.{adds_both}
 use Rattle.abi_driver.proofs.Storing.{stored_in}
 use Rattle.abi_driver.proofs.TakingOver.{took_none}
 use Rattle.wrapper_meaning.proofs.PostReturn.{total-append}
 
-no_payloads : (types : List TypeDef) (members : List Member) → payloads_in (shapes types) (map (λ (c : Member). None) members) ≡ bare members
-no_payloads types [] = refl
-no_payloads types (c ∷ members) = ap (λ ts. more nothing ts) (no_payloads types members)
-
-pub enum_cases : (types : List TypeDef) (id : ℕ) (members : List Member) → IsKindOf types id (kind.Enum members) → case_shapes types id ≡ bare members
-enum_cases types id members is =
-    ap (λ e. payloads_in (shapes types) (payloads_or e)) is.stands ∙ ap (λ k. payloads_in (shapes types) (payloads_of k)) is.kind ∙ no_payloads types members
-
 module _ {Self Operand : Type 0} (m : Meaning Self Operand) (sound : Sound m) (types : List TypeDef) where
   -- 1. Core words
-
-  module _ (realloc : Bool) where
-    enum_row : {A : Type 0} (members : List A) (a b : Self) (o : Operand) (os : List Operand) → length members ≤ 2 ^ 31 → Adds m a b → length os ≡ 1 → LowersEnum m (bare members) (o ∷ []) os a b → LowersFlat m realloc (cases (bare members)) o os a b
-    enum_row members a b o os most adds one row = record {
-      adds = adds;
-      fits = one ∙ sym (ap (λ cs. suc (length cs)) (no_slots members));
-      ranged = λ heap v ws own listed says.
-          let n = case_number (bare members) v in
-          subst (AreWords m.width (flatten_type (layout (cases (bare members))))) (sym says.1) (number_ranged n (omega (arith, case_below members v, most)), says.2);
-      row = λ heap v x own listed st.
-          let dir = way realloc heap in
-          let q = row dir v x own st in
-          let y = core.I32 (pos (case_number (bare members) v)) in
-          let says : Says m.width dir (cases (bare members)) v (y ∷ []) own =
-          ([], refl, subst (λ cs. AreWords m.width cs []) (sym (no_slots members)) refl, subst (CaseSays m.width dir (bare members) v []) (sym q.0) (bare_says m.width dir members v)) in
-          let P : List Block → Type 0 = λ own. Does m (Unit {0}) a b (of o (item x) ∷ []) (λ f. releasing (addresses own)) (λ u fs. fs ≡ ofs m os (word y ∷ [])) (λ u. []) (λ u. addresses own) in
-          (y ∷ [], sym one, says, subst P (sym q.0) q.1);
-    }
-
-    pub enum_lowers : (id : TypeId) (members : List Member) (a b : Self) (o : Operand) (os : List Operand) → length members ≤ 2 ^ 31 → IsKindOf types id.0 (kind.Enum members) → Emits m types (EnumLower id) (o ∷ []) os a b
-        → LowersFlat m realloc (cases (bare members)) o os a b
-    enum_lowers id members a b o os most is e =
-        enum_row members a b o os most e.adds e.results (subst (λ ts. LowersEnum m ts (o ∷ []) os a b) (enum_cases types id.0 members is) e.row)
 
   reads_tag : {V : Type 0} (f : Form) (k n : ℕ) (z : ℤ) (acc : Account V) → n < k → tag_of k (core.I32 z) ≡ n → reading_tag f k (core.I32 z) acc ≡ stay acc
   reads_tag f k n z acc l is = cond-true (nat_lt (tag_of k (core.I32 z)) k) _ _ (ap (λ t. nat_lt t k) is ∙ lt-ltb n k l)

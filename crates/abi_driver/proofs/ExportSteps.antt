@@ -26,18 +26,18 @@ use Rattle.wrapper_meaning.specs.Shape.{Shape, Shapes, param_shapes, result_shap
 use Rattle.wrapper_meaning.specs.Shape.Shapes.{none, more}
 use Rattle.wrapper_meaning.specs.Value.{Parts, Result, Value}
 use Rattle.wrapper_meaning.proofs.LayoutIsTree.{signature_is_by_shapes}
-use Rattle.abi_driver.specs.declared.bindgen.Asked.{Asked}
-use Rattle.abi_driver.specs.declared.instruction.Instruction.TheVariants.{CallInterface, Return}
-use Rattle.abi_driver.specs.Account.{Account, Call, Crossing, Done, Follows, Got, Outcome, Peer, account_in, addresses, gives, releasing}
-use Rattle.abi_driver.specs.Area.{AreFor, AreaStands, HoldsRecord, newly, pointing}
-use Rattle.abi_driver.specs.Calls.{PassesAsItIs, coming, handing, method_point, result_count}
+use Rattle.abi_bindgen.specs.declared.bindgen.Asked.{Asked}
+use Rattle.abi_bindgen.specs.declared.instruction.Instruction.TheVariants.{CallInterface, Return}
+use Rattle.abi_bindgen.specs.Account.{Account, Call, Crossing, Done, Follows, Got, Outcome, Peer, account_in, addresses, gives, releasing}
+use Rattle.abi_bindgen.specs.Area.{AreFor, AreaStands, HoldsRecord, newly, pointing}
+use Rattle.abi_bindgen.specs.Calls.{PassesAsItIs, coming, handing, method_point, result_count}
 use Rattle.abi_driver.specs.Exports.{CallsExport, EndsWithWords, GivesAnswer, GivesWords, HandsBack, IsHonestMethod, PassesItems, Received, StoresAnswer, TakesArgumentsOver, TookOver, argument_words, export_params, handed_on, placing_result}
 use Rattle.abi_driver.specs.Imports.{ResultStands}
-use Rattle.abi_driver.specs.Instructions.{Emits}
-use Rattle.abi_driver.specs.Laws.{Adds, After, At, Facts, Grows, Quiet, Sound, core_data, item_data, ofs}
-use Rattle.abi_driver.specs.Lowers.{LowersAnswer}
-use Rattle.abi_driver.specs.Meaning.{Meaning, item, of, word}
-use Rattle.abi_driver.specs.Parts.{PartsStand}
+use Rattle.abi_bindgen.specs.Instructions.{Emits}
+use Rattle.abi_bindgen.specs.Laws.{Adds, After, At, Facts, Grows, Quiet, Sound, core_data, item_data, ofs}
+use Rattle.abi_bindgen.specs.Lowers.{LowersAnswer}
+use Rattle.abi_bindgen.specs.Meaning.{Meaning, item, of, word}
+use Rattle.abi_bindgen.specs.Parts.{PartsStand}
 use Rattle.abi_driver.proofs.AnswerArea.{StoredThere, follows_known, pointing_is, stored_there}
 use Rattle.abi_driver.proofs.AreaSteps.{last_room}
 use Rattle.abi_driver.proofs.Done.{does_done, lets_go, releases_all}
@@ -45,7 +45,7 @@ use Rattle.abi_driver.proofs.ImportSteps.{follows_calls, no_result_record}
 use Rattle.abi_driver.proofs.LiftSteps.{follows_done, stand_count}
 use Rattle.abi_driver.proofs.MethodCalls.{Came, after_answer, came_many, handing_calls, handing_done, live_owners}
 use Rattle.abi_driver.proofs.RecordPlaces.{align_at_width, at_width}
-use Rattle.abi_driver.proofs.Runs.{adds_both, adds_same, addresses_both, follows_then, grows_both, ofs_none, quiet_both}
+use Rattle.abi_bindgen.proofs.Runs.{adds_both, adds_same, addresses_both, follows_then, grows_both, ofs_none, quiet_both}
 use Rattle.wrapper_meaning.proofs.PostReturn.{total-append}
 
 -- 1. The call

@@ -10,8 +10,6 @@ use Rattle.wit_model.specs.Size.{bytes_at}
 use Rattle.wit_model.specs.declared.name.TypeId.{TypeId}
 use Rattle.wit_model.specs.declared.size.ArchitectureSize.{ArchitectureSize}
 use Rattle.wit_model.specs.declared.types.TypeDef.{TypeDef}
-use Rattle.wit_model.specs.declared.types.TypeDefKind.{TypeDefKind}
-use Rattle.wit_model.specs.declared.types.TypeDefKind.TheVariants as kind
 use Rattle.wit_model.specs.declared.wasm_type.WasmType.TheVariants as wasm
 use Rattle.wit_layout.specs.Extent.{Extent, extent, flag_words, flags_extent}
 use Rattle.wit_layout.specs.Flat.{words_of_flags}
@@ -26,27 +24,24 @@ use Rattle.wrapper_meaning.specs.Items.{total}
 use Rattle.wrapper_meaning.specs.Shape.Shape.{flags}
 use Rattle.wrapper_meaning.specs.Words.{AreWords, IsWord, bits_of}
 use Rattle.wrapper_meaning.proofs.HoldsLocally.{flags_within}
-use Rattle.wrapper_meaning.proofs.Lists.{some_same}
 use Rattle.wrapper_meaning.proofs.PostReturn.{total-append}
-use Rattle.wrapper_meaning.proofs.WordsDetermined.{are_words-length}
-use Rattle.abi_driver.specs.declared.instruction.Instruction.TheVariants.{FlagsLift, FlagsLower}
-use Rattle.abi_driver.specs.Account.{Account, Peer, addresses, releasing}
-use Rattle.abi_driver.specs.Code.{beyond, each, word_place}
-use Rattle.abi_driver.specs.FlagSets.{AreFlags, LiftsFlags}
-use Rattle.abi_driver.specs.Instructions.{Emits}
-use Rattle.abi_driver.specs.Laws.{Adds, At, Does, Facts, Sound, core_data, ofs}
-use Rattle.abi_driver.specs.Leaves.{way}
-use Rattle.abi_driver.specs.Lifts.{LiftsFlat, OneStands, took}
+use Rattle.abi_bindgen.specs.declared.instruction.Instruction.TheVariants.{FlagsLift}
+use Rattle.abi_bindgen.specs.Account.{Account, Peer, addresses, releasing}
+use Rattle.abi_bindgen.specs.Code.{beyond, each, word_place}
+use Rattle.abi_bindgen.specs.FlagSets.{AreFlags, LiftsFlags}
+use Rattle.abi_bindgen.specs.Instructions.{Emits}
+use Rattle.abi_bindgen.specs.Laws.{Adds, At, Facts, Sound, core_data, ofs}
+use Rattle.abi_bindgen.specs.Lifts.{LiftsFlat, OneStands, took}
 use Rattle.abi_driver.specs.Loads.{Gets, LiftsFromMemory}
-use Rattle.abi_driver.specs.Lowers.{LowersFlat}
-use Rattle.abi_driver.specs.Meaning.{Meaning, item, of, word}
-use Rattle.abi_driver.specs.Sent.{Sent}
+use Rattle.abi_bindgen.specs.Lowers.{LowersFlat}
+use Rattle.abi_bindgen.specs.Meaning.{Meaning, item, of, word}
+use Rattle.abi_bindgen.specs.Sent.{Sent}
 use Rattle.abi_driver.specs.Stores.{LowersToMemory}
 use Rattle.abi_driver.proofs.Done.{does_done, lets_go}
 use Rattle.abi_driver.proofs.NumberWords.{AreApart, LoadedOn, StoredBack, kept_bits, loaded_adds, stored_adds, words_loaded, words_stored}
 use Rattle.abi_driver.proofs.PartOffsets.{beyond_at}
-use Rattle.abi_driver.proofs.Runs.{adds_both}
-use Rattle.abi_driver.proofs.SaysTypes.{words_typed}
+use Rattle.abi_bindgen.proofs.Runs.{adds_both}
+use Rattle.abi_bindgen.proofs.SaysTypes.{words_typed}
 use Rattle.abi_driver.proofs.Storing.{stored_in, written_in}
 use Rattle.abi_driver.proofs.TakingOver.{took_none}
 
@@ -126,32 +121,9 @@ each_alike f k [] (y ∷ ys) e = absurd (omega (arith, e))
 each_alike f k (x ∷ xs) [] e = absurd (omega (arith, e))
 each_alike f k (x ∷ xs) (y ∷ ys) e = ap (λ steps. f k ++ steps) (each_alike f (suc k) xs ys (omega (arith, e)))
 
--- the type at a place has one number of flags
-flags_in : TypeDefKind → ℕ
-flags_in (kind.Flags members) = length members
-flags_in _ = 0
-
-pub one_count : (types : List TypeDef) (id n k : ℕ) → AreFlags types id n → AreFlags types id k → n ≡ k
-unfolding flags_in
-one_count types id n k a b = sym a.2 ∙ ap flags_in (sym a.1.kind ∙ ap (λ (t : TypeDef). t.kind) (some_same a.1.entry b.1.entry (sym a.1.stands ∙ b.1.stands)) ∙ b.1.kind) ∙ b.2
-
 -- 4. Core words
 
 module _ {Self Operand : Type 0} (m : Meaning Self Operand) (sound : Sound m) (types : List TypeDef) where
-  pub flags_lowers : (realloc : Bool) (id : TypeId) (n : ℕ) (a b : Self) (o : Operand) (os : List Operand) → AreFlags types id.0 n → Emits m types (FlagsLower id) (o ∷ []) os a b → LowersFlat m realloc (flags n) o os a b
-  flags_lowers realloc id n a b o os is e = record {
-    adds = e.adds;
-    fits = e.results n is;
-    ranged = λ heap v ws own listed says. says.0;
-    row = λ heap v x own listed st.
-        let dir = way realloc heap in
-        let q = e.row n is dir v x own st in
-        let ws = q.1 in
-        let says = q.2 in
-        let P : List Block → Type 0 = λ own. Does m (Unit {0}) a b (of o (item x) ∷ []) (λ f. releasing (addresses own)) (λ u fs. fs ≡ ofs m os (core_data m ws)) (λ u. []) (λ u. addresses own) in
-        (ws, are_words-length m.width (words_of_flags n) ws says.0 ∙ sym (e.results n is), (says.0, says.1, q.0), subst P (sym q.0) q.3);
-  }
-
   -- words become flags that they say
   flags_made : (n : ℕ) (a b : Self) (os : List Operand) (r : Operand) → LiftsFlags m n os (r ∷ []) a b → (v : ℕ) (ws : List Word) (own : List Block) → own ≡ [] → Says m.width take (flags n) v ws []
       → (w : m.World) (f : Peer m.Item) (others : Facts m) (s0 st : m.State) → At m w f a b (ofs m os (core_data m ws) ++ others) s0 st → Gets m (OneStands m (flags n) v own) own (r ∷ []) b w f others s0 st

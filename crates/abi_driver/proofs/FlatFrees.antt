@@ -15,21 +15,21 @@ use Rattle.wrapper_meaning.specs.Shape.{Shape, Shapes, bare, shape_of}
 use Rattle.wrapper_meaning.specs.Shape.Shape.{cases, flags, scalar, text, fields, tuple}
 use Rattle.wrapper_meaning.specs.Value.{Value}
 use Rattle.wrapper_meaning.specs.Shape.Shapes.{none, more}
-use Rattle.abi_driver.specs.declared.instruction.Instruction.{Instruction}
-use Rattle.abi_driver.specs.declared.instruction.Instruction.TheVariants.{GuestDeallocateString}
-use Rattle.abi_driver.specs.Account.{Account}
-use Rattle.abi_driver.specs.Frees.{FreesAll, FreesFlat, by_freeing}
-use Rattle.abi_driver.specs.Instructions.{Emits, lifting, shapes_of}
-use Rattle.abi_driver.specs.Laws.{At, Facts, Sound, core_data, ofs}
-use Rattle.abi_driver.specs.Lifts.{MayTake}
-use Rattle.abi_driver.specs.Meaning.{Meaning, word}
-use Rattle.abi_driver.specs.Memory.{freeing}
-use Rattle.abi_driver.proofs.BareCases.{no_slots, none_said}
+use Rattle.abi_bindgen.specs.declared.instruction.Instruction.{Instruction}
+use Rattle.abi_bindgen.specs.declared.instruction.Instruction.TheVariants.{GuestDeallocateString}
+use Rattle.abi_bindgen.specs.Account.{Account}
+use Rattle.abi_bindgen.specs.Frees.{FreesAll, FreesFlat, by_freeing}
+use Rattle.abi_bindgen.specs.Instructions.{Emits, lifting, shapes_of}
+use Rattle.abi_bindgen.specs.Laws.{At, Facts, Sound, core_data, ofs}
+use Rattle.abi_bindgen.specs.Lifts.{MayTake}
+use Rattle.abi_bindgen.specs.Meaning.{Meaning, word}
+use Rattle.abi_bindgen.specs.Memory.{freeing}
+use Rattle.abi_bindgen.proofs.BareCases.{no_slots, none_said}
 use Rattle.abi_driver.proofs.Done.{does_done}
 use Rattle.abi_driver.proofs.FlagSteps.{length_words}
 use Rattle.abi_driver.proofs.Freeing.{freed_both, frees_text, may_after}
 use Rattle.abi_driver.proofs.LiftSteps.{lifted_type}
-use Rattle.abi_driver.proofs.Runs.{adds_both, adds_same, core_append, ofs_append}
+use Rattle.abi_bindgen.proofs.Runs.{adds_both, adds_same, core_append, ofs_append}
 use Rattle.abi_driver.proofs.SaysLength.{says_length}
 use Rattle.abi_driver.proofs.TakingOver.{may_first}
 use Rattle.wrapper_meaning.proofs.PostReturn.{total-append}

@@ -14,15 +14,15 @@ use Rattle.wrapper_meaning.specs.Shape.{Shape, Shapes, shape_of}
 use Rattle.wrapper_meaning.specs.Shape.Shape.{fields, tuple}
 use Rattle.wrapper_meaning.specs.Shape.Shapes.{none, more}
 use Rattle.wrapper_meaning.proofs.PartPlaces.{aligned_part, grain_of_first, grain_of_rest, less_grain, place_aligned, place_behind}
-use Rattle.abi_driver.specs.Account.{Account}
-use Rattle.abi_driver.specs.Frees.{FreesInMemory, FreesParts, MayFree, by_freeing}
-use Rattle.abi_driver.specs.Instructions.{shapes_of}
-use Rattle.abi_driver.specs.Laws.{At, Facts, Sound}
-use Rattle.abi_driver.specs.Meaning.{Meaning, of, word}
-use Rattle.abi_driver.specs.Places.{HasRoom, HavePlaces}
-use Rattle.abi_driver.specs.Touches.{reached}
+use Rattle.abi_bindgen.specs.Account.{Account}
+use Rattle.abi_bindgen.specs.Frees.{FreesInMemory, FreesParts, MayFree, by_freeing}
+use Rattle.abi_bindgen.specs.Instructions.{shapes_of}
+use Rattle.abi_bindgen.specs.Laws.{At, Facts, Sound}
+use Rattle.abi_bindgen.specs.Meaning.{Meaning, of, word}
+use Rattle.abi_bindgen.specs.Places.{HasRoom, HavePlaces}
+use Rattle.abi_bindgen.specs.Touches.{reached}
 use Rattle.abi_driver.proofs.Freeing.{free_first, free_rest, freed_both, without_formed, without_there}
-use Rattle.abi_driver.proofs.Runs.{adds_both, adds_same}
+use Rattle.abi_bindgen.proofs.Runs.{adds_both, adds_same}
 use Rattle.abi_driver.proofs.StoreSteps.{behind_of}
 use Rattle.wrapper_meaning.proofs.PostReturn.{total-append}
 use Rattle.wit_layout.proofs.RecordSteps.{end_behind, record_behind}

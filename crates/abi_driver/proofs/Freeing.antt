@@ -1,7 +1,7 @@
 -- Blocks of a well-formed heap that nobody owns are freed, and the others stay.
 use Rattle.std.proofs.Common.{◌≡◌, ℕ, zero, suc, ◌-◌, ◌*◌, ◌^◌, ◌<◌, Bool, true, false, not, ◌&&◌, ◌||◌, nat_eq, nat_lt, if◌then◌else◌, List, [], ◌∷◌, ◌++◌, length, find, Option, None, Contains, refl, sym, ap, ap₂, ◌∙◌, subst, arith}
 use Rattle.std.specs.List.{AllByRecursion, list_all, list_any, slice_index_or}
-use Rattle.std.proofs.lemmas.Bool.{and_parts, and_from, cond-false, eq-eqb, le-ltb, ne_eqb, or_parts, or_from, true≢false, not-true}
+use Rattle.std.proofs.lemmas.Bool.{and_parts, and_from, cond-false, le-ltb, ne_eqb, or_parts, or_from, true≢false, not-true}
 use Rattle.std.proofs.lemmas.List.Folds.{list_any-append}
 use Rattle.wrapper_data.specs.Heap.{are_apart, is_block, is_heap, overlaps, overlaps_any}
 use Rattle.wrapper_data.specs.declared.block.Block.{Block}
@@ -10,11 +10,12 @@ use Rattle.wrapper_meaning.specs.Buffer.{IsPlaced}
 use Rattle.wrapper_meaning.specs.Direction.{give}
 use Rattle.wrapper_meaning.specs.InMemory.{TextHolds}
 use Rattle.wrapper_meaning.specs.Items.{AllIn}
-use Rattle.abi_driver.specs.Account.{Account, Done, Got, Outcome, is_at, is_taken}
-use Rattle.abi_driver.specs.Frees.{MayFree, by_freeing, without_blocks}
-use Rattle.abi_driver.specs.Lifts.{AreFree, MayTake}
-use Rattle.abi_driver.specs.Memory.{except, freed, freeing}
-use Rattle.abi_driver.proofs.AllLemmas.{all_left, all_right}
+use Rattle.abi_bindgen.specs.Account.{Account, Done, Got, Outcome, is_at, is_taken}
+use Rattle.abi_bindgen.specs.Frees.{MayFree, by_freeing, without_blocks}
+use Rattle.abi_bindgen.specs.Lifts.{AreFree, MayTake}
+use Rattle.abi_bindgen.specs.Memory.{except, freed, freeing}
+use Rattle.abi_bindgen.proofs.AllLemmas.{all_left, all_right}
+use Rattle.abi_bindgen.proofs.Taken.{last_taken}
 use Rattle.abi_driver.proofs.Storing.{find_block}
 use Rattle.abi_driver.proofs.TakingOver.{may_first}
 use Rattle.wrapper_meaning.proofs.HeapBlocks.{behind_one}
@@ -103,14 +104,6 @@ free_fewer (b ∷ blocks) more less fewer free =
     let both = or_parts (is_taken a more) (is_taken a last) (sym (list_any-append (λ t. nat_eq t a) more last) ∙ e) in
     list_any-append (λ t. nat_eq t a) less last ∙ or_from _ _ (fewer a both.0) both.1 in
     (fewer b.address free.0, free_fewer blocks (more ++ last) (less ++ last) still free.1)
-
-pub last_taken : (a : ℕ) (taken : List ℕ) → is_taken a (taken ++ a ∷ []) ≡ true
-last_taken a [] = ap (λ t. t || false) (eq-eqb a a refl)
-last_taken a (t ∷ taken) = by (nat_eq t a) (last_taken a taken)
-  where
-    by : (c : Bool) → is_taken a (taken ++ a ∷ []) ≡ true → (c || is_taken a (taken ++ a ∷ [])) ≡ true
-    by true h = refl
-    by false h = h
 
 -- blocks without owners are not at an address that has one
 away_from : (blocks : List Block) (a : ℕ) (taken : List ℕ) → is_taken a taken ≡ true → AreFree blocks taken → AllByRecursion (λ c. c.address ≡ a → ⊥) blocks

@@ -17,7 +17,7 @@ use Rattle.wrapper_meaning.specs.Kinds.{has_list, have_list}
 use Rattle.wrapper_meaning.specs.Shape.{Shape, bare, handle_of, nothing, payload_in, payloads_in, shape_at, shape_by, shapes}
 use Rattle.wrapper_meaning.proofs.Lists.{some_same}
 use Rattle.wrapper_meaning.proofs.ShapeIsByKind.{shape_is_by_kind}
-use Rattle.abi_driver.specs.HasList.{IsKindOf, is_list, is_told_by_parts, payload_has_list}
+use Rattle.abi_bindgen.specs.HasList.{IsKindOf, is_list, is_told_by_parts, payload_has_list}
 
 payload_has : (types : List TypeDef) (p : Option WitType) → has_list (payload_in (shapes types) p) ≡ payload_has_list types p
 payload_has types None = refl

@@ -17,11 +17,11 @@ use Rattle.wrapper_meaning.specs.Shape.{Shape}
 use Rattle.wrapper_meaning.specs.Value.{Result}
 use Rattle.wrapper_meaning.proofs.HeapBlocks.{all_in_heap, at_address, at_most_one}
 use Rattle.wrapper_meaning.proofs.NewBlocks.{new_blocks_behind}
-use Rattle.abi_driver.specs.Account.{Account, Call, Reply, have_types, is_taken}
+use Rattle.abi_bindgen.specs.Account.{Account, Call, Reply, have_types, is_taken}
 use Rattle.abi_driver.specs.Imports.{IsHonest, point_of}
-use Rattle.abi_driver.specs.Lifts.{AreFree, MayTake}
+use Rattle.abi_bindgen.specs.Lifts.{AreFree, MayTake}
 use Rattle.abi_driver.proofs.Done.{is_it, same_is}
-use Rattle.abi_driver.proofs.SaysTypes.{says_typed}
+use Rattle.abi_bindgen.proofs.SaysTypes.{says_typed}
 use Rattle.wrapper_meaning.proofs.PostReturn.{total-append}
 
 -- 1. The words

@@ -36,24 +36,24 @@ use Rattle.wrapper_meaning.specs.Shape.{Shape, Shapes, param_shapes, result_shap
 use Rattle.wrapper_meaning.specs.Value.{Parts, Result, Value}
 use Rattle.wrapper_meaning.proofs.LayoutIsTree.{signature_is_by_shapes}
 use Rattle.wrapper_meaning.proofs.Lists.{first_or}
-use Rattle.abi_driver.specs.declared.bindgen.Asked.{Asked}
-use Rattle.abi_driver.specs.declared.instruction.Instruction.TheVariants.{CallWasm, Return}
-use Rattle.abi_driver.specs.Account.{Account, Call, Done, Follows, Got, Outcome, Peer, Reply, Stopped, Stuck, account_in, addresses, gives, has_type, have_types, value, words}
-use Rattle.abi_driver.specs.Area.{AreFor, SameArea}
-use Rattle.abi_driver.specs.Calls.{call_point, calling, import_params, import_results, recorded}
-use Rattle.abi_driver.specs.Frees.{nowhere}
+use Rattle.abi_bindgen.specs.declared.bindgen.Asked.{Asked}
+use Rattle.abi_bindgen.specs.declared.instruction.Instruction.TheVariants.{CallWasm, Return}
+use Rattle.abi_bindgen.specs.Account.{Account, Call, Done, Follows, Got, Outcome, Peer, Reply, Stopped, Stuck, account_in, addresses, gives, has_type, have_types, value, words}
+use Rattle.abi_bindgen.specs.Area.{AreFor, SameArea}
+use Rattle.abi_bindgen.specs.Calls.{call_point, calling, import_params, import_results, recorded}
+use Rattle.abi_bindgen.specs.Frees.{nowhere}
 use Rattle.abi_driver.specs.Imports.{CallsImport, Given, GivesBack, IsHonest, Lent, LoadsAnswer, PassesArguments, PassesValues, Points, PointsAtResult, ReadsAnswer, ResultStands, point_of}
-use Rattle.abi_driver.specs.Instructions.{Emits}
-use Rattle.abi_driver.specs.Laws.{Adds, After, At, Facts, Grows, Quiet, Sound, core_data, item_data, ofs}
-use Rattle.abi_driver.specs.Lifts.{LiftsAnswer, MayTake, by_taking, took}
-use Rattle.abi_driver.specs.Meaning.{Meaning, of, word}
-use Rattle.abi_driver.specs.Touches.{reached}
+use Rattle.abi_bindgen.specs.Instructions.{Emits}
+use Rattle.abi_bindgen.specs.Laws.{Adds, After, At, Facts, Grows, Quiet, Sound, core_data, item_data, ofs}
+use Rattle.abi_bindgen.specs.Lifts.{LiftsAnswer, MayTake, by_taking, took}
+use Rattle.abi_bindgen.specs.Meaning.{Meaning, of, word}
+use Rattle.abi_bindgen.specs.Touches.{reached}
 use Rattle.abi_driver.proofs.AreaHeaps.{IsInside, contains_last, may_take_answered, silent_there, written_there}
 use Rattle.abi_driver.proofs.AreaSteps.{Names, ResultPointed, needs_for_parameters, needs_for_result, points_grows, result_pointed}
 use Rattle.abi_driver.proofs.Done.{does_done}
 use Rattle.abi_driver.proofs.HonestAnswers.{AnswerSays, answer_typed, in_words}
-use Rattle.abi_driver.proofs.Runs.{adds_both, adds_same, addresses_both, core_append, ofs_append, ofs_none}
-use Rattle.abi_driver.proofs.SaysTypes.{parts_typed, types_both}
+use Rattle.abi_bindgen.proofs.Runs.{adds_both, adds_same, addresses_both, core_append, ofs_append, ofs_none}
+use Rattle.abi_bindgen.proofs.SaysTypes.{parts_typed, types_both}
 use Rattle.abi_driver.proofs.TakingOver.{took_none}
 use Rattle.wrapper_meaning.proofs.PostReturn.{total-append}
 

@@ -12,18 +12,18 @@ use Rattle.wrapper_meaning.specs.InMemory.{Holds}
 use Rattle.wrapper_meaning.specs.Shape.{Shape, bare, shape_of}
 use Rattle.wrapper_meaning.specs.Shape.Shape.{cases, flags, scalar, text}
 use Rattle.wrapper_meaning.specs.Value.{Value}
-use Rattle.abi_driver.specs.declared.instruction.Instruction.{Instruction}
-use Rattle.abi_driver.specs.declared.instruction.Instruction.TheVariants.{LengthLoad, PointerLoad}
-use Rattle.abi_driver.specs.Account.{Account}
-use Rattle.abi_driver.specs.Frees.{FreesFlat, FreesInMemory, by_freeing}
-use Rattle.abi_driver.specs.Instructions.{Emits, lifting}
-use Rattle.abi_driver.specs.Laws.{At, Sound, core_data, ofs}
-use Rattle.abi_driver.specs.Lifts.{MayTake}
-use Rattle.abi_driver.specs.Meaning.{Meaning, of, word}
-use Rattle.abi_driver.proofs.BareCases.{none_held}
+use Rattle.abi_bindgen.specs.declared.instruction.Instruction.{Instruction}
+use Rattle.abi_bindgen.specs.declared.instruction.Instruction.TheVariants.{LengthLoad, PointerLoad}
+use Rattle.abi_bindgen.specs.Account.{Account}
+use Rattle.abi_bindgen.specs.Frees.{FreesFlat, FreesInMemory, by_freeing}
+use Rattle.abi_bindgen.specs.Instructions.{Emits, lifting}
+use Rattle.abi_bindgen.specs.Laws.{At, Sound, core_data, ofs}
+use Rattle.abi_bindgen.specs.Lifts.{MayTake}
+use Rattle.abi_bindgen.specs.Meaning.{Meaning, of, word}
+use Rattle.abi_bindgen.proofs.BareCases.{none_held}
 use Rattle.abi_driver.proofs.LeafLoads.{text_words}
 use Rattle.abi_driver.proofs.LiftSteps.{lifted_type}
-use Rattle.abi_driver.proofs.Runs.{adds_both, adds_same}
+use Rattle.abi_bindgen.proofs.Runs.{adds_both, adds_same}
 use Rattle.wrapper_meaning.proofs.PostReturn.{total-append}
 
 module _ {Self Operand : Type 0} (m : Meaning Self Operand) (sound : Sound m) (types : List TypeDef) where

@@ -23,22 +23,22 @@ use Rattle.wrapper_meaning.specs.Shape.Shape.{scalar, text}
 use Rattle.wrapper_meaning.specs.Words.{word_of_bits}
 use Rattle.wrapper_meaning.proofs.Lists.{some_same}
 use Rattle.wrapper_meaning.proofs.PartPlaces.{aligned_part}
-use Rattle.abi_driver.specs.declared.instruction.Instruction.{Instruction}
-use Rattle.abi_driver.specs.declared.instruction.Instruction.TheVariants.{LengthLoad, PointerLoad}
-use Rattle.abi_driver.specs.Account.{Done, Peer, addresses}
-use Rattle.abi_driver.specs.Instructions.{Emits, IsSendable, Makes, RowBy, RowTouch, lifted_scalar, lifting, lowered_scalar}
-use Rattle.abi_driver.specs.Laws.{Adds, At, Facts, Sound, core_data, ofs}
-use Rattle.abi_driver.specs.Lifts.{LiftsFlat, MayTake, took}
+use Rattle.abi_bindgen.specs.declared.instruction.Instruction.{Instruction}
+use Rattle.abi_bindgen.specs.declared.instruction.Instruction.TheVariants.{LengthLoad, PointerLoad}
+use Rattle.abi_bindgen.specs.Account.{Done, Peer, addresses}
+use Rattle.abi_bindgen.specs.Instructions.{Emits, IsSendable, Makes, RowBy, RowTouch, lifted_scalar, lifting, lowered_scalar}
+use Rattle.abi_bindgen.specs.Laws.{Adds, At, Facts, Sound, core_data, ofs}
+use Rattle.abi_bindgen.specs.Lifts.{LiftsFlat, MayTake, took}
 use Rattle.abi_driver.specs.Loads.{LiftsFromMemory}
-use Rattle.abi_driver.specs.Meaning.{Meaning, of, word}
-use Rattle.abi_driver.specs.Memory.{loading, word_read}
-use Rattle.abi_driver.specs.Places.{HasRoom}
-use Rattle.abi_driver.specs.ScalarTouches.{scalar_load}
-use Rattle.abi_driver.specs.Touches.{LoadsWord, Part, accessed, loads, low_byte, low_half, reached, touch, whole}
+use Rattle.abi_bindgen.specs.Meaning.{Meaning, of, word}
+use Rattle.abi_bindgen.specs.Memory.{loading, word_read}
+use Rattle.abi_bindgen.specs.Places.{HasRoom}
+use Rattle.abi_bindgen.specs.ScalarTouches.{scalar_load}
+use Rattle.abi_bindgen.specs.Touches.{LoadsWord, Part, accessed, loads, low_byte, low_half, reached, touch, whole}
 use Rattle.abi_driver.proofs.Done.{does_done}
 use Rattle.abi_driver.proofs.LeafStores.{at_least, itself}
-use Rattle.abi_driver.proofs.Ordinary.{adds_of, touches_ordinary}
-use Rattle.abi_driver.proofs.Runs.{adds_both}
+use Rattle.abi_bindgen.proofs.Ordinary.{adds_of, touches_ordinary}
+use Rattle.abi_bindgen.proofs.Runs.{adds_both}
 use Rattle.abi_driver.proofs.ScalarsInMemory.{load_access, load_grain, loaded_scalar, scalar_alignment, scalar_size, store_access}
 use Rattle.abi_driver.proofs.Storing.{loads_from}
 use Rattle.wrapper_meaning.proofs.PostReturn.{total-append}

@@ -20,25 +20,26 @@ use Rattle.wrapper_meaning.specs.Shape.Shape.{scalar, text}
 use Rattle.wrapper_meaning.specs.Value.{ScalarValue}
 use Rattle.wrapper_meaning.proofs.Lists.{some_same}
 use Rattle.wrapper_meaning.proofs.PartPlaces.{aligned_part}
-use Rattle.abi_driver.specs.declared.instruction.Instruction.{Instruction}
-use Rattle.abi_driver.specs.declared.instruction.Instruction.TheVariants.{LengthStore, PointerStore}
-use Rattle.abi_driver.specs.Account.{Account, addresses, releasing}
-use Rattle.abi_driver.specs.Instructions.{Emits, MakesBy, RowBy, RowTouch, lifted_scalar, lowered_scalar, lowering}
-use Rattle.abi_driver.specs.Laws.{Adds, At, Facts, Sound, core_data, ofs}
-use Rattle.abi_driver.specs.Leaves.{way}
-use Rattle.abi_driver.specs.Lowers.{LowersFlat}
-use Rattle.abi_driver.specs.Meaning.{Meaning, item, of, word}
-use Rattle.abi_driver.specs.Memory.{storing}
-use Rattle.abi_driver.specs.Places.{IsWritten, replaced}
-use Rattle.abi_driver.specs.ScalarTouches.{scalar_store}
+use Rattle.abi_bindgen.specs.declared.instruction.Instruction.{Instruction}
+use Rattle.abi_bindgen.specs.declared.instruction.Instruction.TheVariants.{LengthStore, PointerStore}
+use Rattle.abi_bindgen.specs.Account.{Account, addresses, releasing}
+use Rattle.abi_bindgen.specs.Instructions.{Emits, MakesBy, RowBy, RowTouch, lifted_scalar, lowered_scalar, lowering}
+use Rattle.abi_bindgen.specs.Laws.{Adds, At, Facts, Sound, core_data, ofs}
+use Rattle.abi_bindgen.specs.Leaves.{way}
+use Rattle.abi_bindgen.specs.Lowers.{LowersFlat}
+use Rattle.abi_bindgen.specs.Meaning.{Meaning, item, of, word}
+use Rattle.abi_bindgen.specs.Memory.{storing}
+use Rattle.abi_bindgen.specs.Places.{IsWritten, replaced}
+use Rattle.abi_bindgen.specs.ScalarTouches.{scalar_store}
 use Rattle.abi_driver.specs.Stores.{LowersToMemory}
-use Rattle.abi_driver.specs.Touches.{Part, StoresWord, accessed, low_byte, low_half, reached, stores, touch, whole}
+use Rattle.abi_bindgen.specs.Touches.{Part, StoresWord, accessed, low_byte, low_half, reached, stores, touch, whole}
 use Rattle.abi_driver.proofs.Done.{does_done, lets_go}
-use Rattle.abi_driver.proofs.LowerSteps.{scalar_type}
+use Rattle.abi_bindgen.proofs.LowerSteps.{scalar_type}
 use Rattle.abi_driver.proofs.Replaced.{replaced_formed, replaced_twice}
-use Rattle.abi_driver.proofs.Ordinary.{adds_of, touches_ordinary}
-use Rattle.abi_driver.proofs.Runs.{adds_both}
-use Rattle.abi_driver.proofs.ScalarsInMemory.{scalar_alignment, scalar_size, store_access, stored_ranged, stored_scalar, stored_type}
+use Rattle.abi_bindgen.proofs.Ordinary.{adds_of, touches_ordinary}
+use Rattle.abi_bindgen.proofs.Runs.{adds_both}
+use Rattle.abi_bindgen.proofs.ScalarRanges.{stored_ranged}
+use Rattle.abi_driver.proofs.ScalarsInMemory.{scalar_alignment, scalar_size, store_access, stored_scalar, stored_type}
 use Rattle.abi_driver.proofs.StoreSteps.{word_again}
 use Rattle.abi_driver.proofs.Storing.{stores_in, written_both}
 use Rattle.wrapper_meaning.proofs.PostReturn.{total-append}

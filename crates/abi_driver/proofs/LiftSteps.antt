@@ -22,17 +22,17 @@ use Rattle.wrapper_meaning.specs.Shape.Shape.{scalar, text, fields, tuple}
 use Rattle.wrapper_meaning.specs.Shape.Shapes.{none, more}
 use Rattle.wrapper_meaning.specs.Value.{Parts, ScalarValue, Value}
 use Rattle.wrapper_meaning.proofs.Lists.{some_same}
-use Rattle.abi_driver.specs.declared.instruction.Instruction.{Instruction}
-use Rattle.abi_driver.specs.declared.instruction.Instruction.TheVariants.{RecordLift, StringLift, TupleLift}
-use Rattle.abi_driver.specs.Account.{Account, Done, Follows, Got, Outcome, Taken, addresses, reading, taking}
-use Rattle.abi_driver.specs.Instructions.{Emits, IsRecord, RowBy, field_shapes, lifted_scalar, lifting, lowered_scalar, shapes_of}
-use Rattle.abi_driver.specs.Laws.{Adds, After, At, Facts, Sound, core_data, item_data, ofs}
-use Rattle.abi_driver.specs.Leaves.{LiftsScalar}
-use Rattle.abi_driver.specs.Lifts.{LiftsAll, LiftsFlat, MayTake, OneStands, TakesOver, took}
-use Rattle.abi_driver.specs.Meaning.{Meaning, item, of, word}
-use Rattle.abi_driver.specs.Parts.{LiftsParts, PartsStand, count}
-use Rattle.abi_driver.proofs.Ordinary.{adds_of, lifts_ordinary}
-use Rattle.abi_driver.proofs.Runs.{adds_both, adds_same, addresses_both, core_append, ofs_append}
+use Rattle.abi_bindgen.specs.declared.instruction.Instruction.{Instruction}
+use Rattle.abi_bindgen.specs.declared.instruction.Instruction.TheVariants.{RecordLift, StringLift, TupleLift}
+use Rattle.abi_bindgen.specs.Account.{Account, Done, Follows, Got, Outcome, Taken, addresses, reading, taking}
+use Rattle.abi_bindgen.specs.Instructions.{Emits, IsRecord, RowBy, field_shapes, lifted_scalar, lifting, lowered_scalar, shapes_of}
+use Rattle.abi_bindgen.specs.Laws.{Adds, After, At, Facts, Sound, core_data, item_data, ofs}
+use Rattle.abi_bindgen.specs.Leaves.{LiftsScalar}
+use Rattle.abi_bindgen.specs.Lifts.{LiftsAll, LiftsFlat, MayTake, OneStands, TakesOver, took}
+use Rattle.abi_bindgen.specs.Meaning.{Meaning, item, of, word}
+use Rattle.abi_bindgen.specs.Parts.{LiftsParts, PartsStand, count}
+use Rattle.abi_bindgen.proofs.Ordinary.{adds_of, lifts_ordinary}
+use Rattle.abi_bindgen.proofs.Runs.{adds_both, adds_same, addresses_both, core_append, ofs_append}
 use Rattle.abi_driver.proofs.SaysLength.{says_length}
 use Rattle.abi_driver.proofs.TakingOver.{may_first, may_rest, reads, taking_text, took_both, took_none}
 use Rattle.wrapper_meaning.proofs.PostReturn.{total-append}

@@ -16,16 +16,16 @@ use Rattle.wrapper_meaning.specs.Settled.{all_settled}
 use Rattle.wrapper_meaning.specs.Shape.{Shape, Shapes, shape_of}
 use Rattle.wrapper_meaning.specs.Shape.Shapes.{none, more}
 use Rattle.wrapper_meaning.proofs.LayoutIsTree.{layout_is_tree}
-use Rattle.abi_driver.specs.Account.{addresses}
+use Rattle.abi_bindgen.specs.Account.{addresses}
 use Rattle.abi_driver.specs.Exports.{ReadsWords}
-use Rattle.abi_driver.specs.Instructions.{shapes_of}
-use Rattle.abi_driver.specs.Laws.{Adds, At, Facts, Sound, Stays, args, core_data, ofs}
-use Rattle.abi_driver.specs.Lifts.{LiftsArguments, LiftsFlat, MayTake, OneStands, TakesOver, took}
-use Rattle.abi_driver.specs.Meaning.{Meaning}
-use Rattle.abi_driver.specs.Parts.{PartsStand}
+use Rattle.abi_bindgen.specs.Instructions.{shapes_of}
+use Rattle.abi_bindgen.specs.Laws.{Adds, At, Facts, Sound, Stays, args, core_data, ofs}
+use Rattle.abi_bindgen.specs.Lifts.{LiftsArguments, LiftsFlat, MayTake, OneStands, TakesOver, took}
+use Rattle.abi_bindgen.specs.Meaning.{Meaning}
+use Rattle.abi_bindgen.specs.Parts.{PartsStand}
 use Rattle.abi_driver.proofs.LiftSteps.{none_lifts, takes_both}
 use Rattle.abi_driver.proofs.ReadSteps.{args_both}
-use Rattle.abi_driver.proofs.Runs.{adds_both, adds_same}
+use Rattle.abi_bindgen.proofs.Runs.{adds_both, adds_same}
 use Rattle.abi_driver.proofs.SaysLength.{says_length}
 use Rattle.wrapper_meaning.proofs.PostReturn.{total-append}
 

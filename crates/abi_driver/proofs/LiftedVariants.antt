@@ -13,20 +13,20 @@ use Rattle.wrapper_data.specs.declared.form.Form.{Form}
 use Rattle.wrapper_meaning.specs.Shape.{Shapes, payload_in, payloads_in, shape_at, shapes}
 use Rattle.wrapper_meaning.specs.Shape.Shape.{cases}
 use Rattle.wrapper_meaning.specs.Shape.Shapes.{none, more}
-use Rattle.abi_driver.specs.Arms.{serves_none, serves_others}
-use Rattle.abi_driver.specs.Blocks.{AreFinished}
-use Rattle.abi_driver.specs.CaseBlocks.{LiftsCases}
-use Rattle.abi_driver.specs.Cases.{LiftsCase, case_shapes, payload_counts, payloads_at, payloads_of, result_counts}
-use Rattle.abi_driver.specs.Code.{shared_slots}
-use Rattle.abi_driver.specs.HasList.{IsKindOf}
-use Rattle.abi_driver.specs.Instructions.{AddsCode, Emits, IsSendable, Makes, case_lifting, has_cases}
-use Rattle.abi_driver.specs.Laws.{Sound}
-use Rattle.abi_driver.specs.Lifts.{LiftsFlat}
-use Rattle.abi_driver.specs.Meaning.{Meaning}
-use Rattle.abi_driver.specs.Parts.{count}
-use Rattle.abi_driver.proofs.BlockRuns.{finished_back}
+use Rattle.abi_bindgen.specs.Arms.{serves_none, serves_others}
+use Rattle.abi_bindgen.specs.Blocks.{AreFinished}
+use Rattle.abi_bindgen.specs.CaseBlocks.{LiftsCases}
+use Rattle.abi_bindgen.specs.Cases.{LiftsCase, case_shapes, payload_counts, payloads_at, payloads_of, result_counts}
+use Rattle.abi_bindgen.specs.Code.{shared_slots}
+use Rattle.abi_bindgen.specs.HasList.{IsKindOf}
+use Rattle.abi_bindgen.specs.Instructions.{AddsCode, Emits, IsSendable, Makes, case_lifting, has_cases}
+use Rattle.abi_bindgen.specs.Laws.{Sound}
+use Rattle.abi_bindgen.specs.Lifts.{LiftsFlat}
+use Rattle.abi_bindgen.specs.Meaning.{Meaning}
+use Rattle.abi_bindgen.specs.Parts.{count}
+use Rattle.abi_bindgen.proofs.BlockRuns.{finished_back}
 use Rattle.abi_driver.proofs.CaseLifts.{cases_both, cases_lift, no_cases}
-use Rattle.abi_driver.proofs.Payloads.{count_payloads, payloads_here, variant_shape}
+use Rattle.abi_bindgen.proofs.Payloads.{count_payloads, payloads_here, variant_shape}
 
 counts_length : (payloads : List (Option WitType)) → length (result_counts payloads) ≡ length payloads
 counts_length [] = refl

@@ -22,18 +22,18 @@ use Rattle.wrapper_meaning.specs.Shape.Shape.{fields, tuple}
 use Rattle.wrapper_meaning.specs.Shape.Shapes.{none, more}
 use Rattle.wrapper_meaning.specs.Value.{Parts, Value}
 use Rattle.wrapper_meaning.proofs.PartPlaces.{aligned_part, grain_of_first, grain_of_rest, less_grain, place_aligned, place_behind}
-use Rattle.abi_driver.specs.declared.instruction.Instruction.TheVariants.{RecordLift, TupleLift}
-use Rattle.abi_driver.specs.Account.{Account, Peer, addresses}
-use Rattle.abi_driver.specs.Instructions.{Emits, IsRecord, field_shapes, shapes_of}
-use Rattle.abi_driver.specs.Laws.{Adds, At, Facts, Sound, item_data, ofs}
-use Rattle.abi_driver.specs.Lifts.{MayTake, took}
+use Rattle.abi_bindgen.specs.declared.instruction.Instruction.TheVariants.{RecordLift, TupleLift}
+use Rattle.abi_bindgen.specs.Account.{Account, Peer, addresses}
+use Rattle.abi_bindgen.specs.Instructions.{Emits, IsRecord, field_shapes, shapes_of}
+use Rattle.abi_bindgen.specs.Laws.{Adds, At, Facts, Sound, item_data, ofs}
+use Rattle.abi_bindgen.specs.Lifts.{MayTake, took}
 use Rattle.abi_driver.specs.Loads.{Gets, LiftsFromMemory, LoadsParts}
-use Rattle.abi_driver.specs.Meaning.{Meaning, item, of, word}
-use Rattle.abi_driver.specs.Parts.{LiftsParts, count}
-use Rattle.abi_driver.specs.Places.{HasRoom, HavePlaces}
-use Rattle.abi_driver.specs.Touches.{reached}
+use Rattle.abi_bindgen.specs.Meaning.{Meaning, item, of, word}
+use Rattle.abi_bindgen.specs.Parts.{LiftsParts, count}
+use Rattle.abi_bindgen.specs.Places.{HasRoom, HavePlaces}
+use Rattle.abi_bindgen.specs.Touches.{reached}
 use Rattle.abi_driver.proofs.LiftSteps.{stand_count}
-use Rattle.abi_driver.proofs.Runs.{adds_both, adds_same, addresses_both}
+use Rattle.abi_bindgen.proofs.Runs.{adds_both, adds_same, addresses_both}
 use Rattle.abi_driver.proofs.TakingOver.{may_first, may_rest, took_both, took_none}
 use Rattle.wrapper_meaning.proofs.PostReturn.{total-append}
 use Rattle.wit_layout.proofs.RecordSteps.{end_behind, record_behind}

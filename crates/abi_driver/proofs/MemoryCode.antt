@@ -16,16 +16,16 @@ use Rattle.wit_model.specs.declared.types.WitType.TheVariants as wit
 use Rattle.wit_layout.specs.Tree.{tree_at}
 use Rattle.wrapper_meaning.specs.Kinds.{has_list}
 use Rattle.wrapper_meaning.specs.Shape.{shape_at}
-use Rattle.abi_driver.specs.declared.instruction.Instruction.{Instruction}
-use Rattle.abi_driver.specs.declared.instruction.Instruction.TheVariants.{EnumLift, EnumLower, FlagsLift, FlagsLower, GuestDeallocateString, GuestDeallocateVariant, LengthLoad, LengthStore, PointerLoad, PointerStore, RecordLift, RecordLower, StringLift, StringLower, TupleLift, TupleLower}
-use Rattle.abi_driver.specs.Cases.{payloads_of}
-use Rattle.abi_driver.specs.Code.{at_words, beyond, by_case, each, free_cases, free_code, free_kind, free_leaf, in_blocks, at_payload, load_cases, load_code, load_kind, load_leaf, members_of, one_pointer, payload_place, payloads_there, place_in, sent, store_case, store_cases, store_code, store_kind, store_leaf}
-use Rattle.abi_driver.specs.Instructions.{case_lifting, case_lowering, has_cases, lifting, lowering}
-use Rattle.abi_driver.specs.NumberTouches.{flags_load, flags_store, tag_load, tag_store}
-use Rattle.abi_driver.specs.ScalarTouches.{scalar_load, scalar_store}
-use Rattle.abi_driver.specs.Sent.{Sent, closes, opens, sends}
-use Rattle.abi_driver.proofs.CodeByKind.{made_by_kind}
-use Rattle.abi_driver.proofs.SendSteps.{each_map}
+use Rattle.abi_bindgen.specs.declared.instruction.Instruction.{Instruction}
+use Rattle.abi_bindgen.specs.declared.instruction.Instruction.TheVariants.{EnumLift, EnumLower, FlagsLift, FlagsLower, GuestDeallocateString, GuestDeallocateVariant, LengthLoad, LengthStore, PointerLoad, PointerStore, RecordLift, RecordLower, StringLift, StringLower, TupleLift, TupleLower}
+use Rattle.abi_bindgen.specs.Cases.{payloads_of}
+use Rattle.abi_bindgen.specs.Code.{at_words, beyond, by_case, each, free_cases, free_code, free_kind, free_leaf, in_blocks, at_payload, load_cases, load_code, load_kind, load_leaf, members_of, one_pointer, payload_place, payloads_there, place_in, sent, store_case, store_cases, store_code, store_kind, store_leaf}
+use Rattle.abi_bindgen.specs.Instructions.{case_lifting, case_lowering, has_cases, lifting, lowering}
+use Rattle.abi_bindgen.specs.NumberTouches.{flags_load, flags_store, tag_load, tag_store}
+use Rattle.abi_bindgen.specs.ScalarTouches.{scalar_load, scalar_store}
+use Rattle.abi_bindgen.specs.Sent.{Sent, closes, opens, sends}
+use Rattle.abi_bindgen.proofs.CodeByKind.{made_by_kind}
+use Rattle.abi_bindgen.proofs.SendSteps.{each_map}
 
 -- 1. Scalars and texts
 

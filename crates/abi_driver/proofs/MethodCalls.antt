@@ -14,10 +14,10 @@ use Rattle.wrapper_meaning.specs.Shape.{Shape}
 use Rattle.wrapper_meaning.specs.Value.{Result}
 use Rattle.wrapper_meaning.proofs.Lists.{some_same}
 use Rattle.wrapper_meaning.proofs.HeapBlocks.{at_address, at_most_one, size_of_block}
-use Rattle.abi_driver.specs.Account.{Account, Call, Crossing, Done, Got, Outcome, Reply, Stuck, account_in, addresses, gives, value, words}
-use Rattle.abi_driver.specs.Calls.{are_live, begins_at, coming, handed_over, handing, left_by, method_point, recorded, returned_with}
+use Rattle.abi_bindgen.specs.Account.{Account, Call, Crossing, Done, Got, Outcome, Reply, Stuck, account_in, addresses, gives, value, words}
+use Rattle.abi_bindgen.specs.Calls.{are_live, begins_at, coming, handed_over, handing, left_by, method_point, recorded, returned_with}
 use Rattle.abi_driver.specs.Imports.{ResultStands}
-use Rattle.abi_driver.specs.Meaning.{Meaning}
+use Rattle.abi_bindgen.specs.Meaning.{Meaning}
 use Rattle.abi_driver.proofs.Done.{is_it, same_is}
 use Rattle.abi_driver.proofs.HonestAnswers.{not_taken}
 use Rattle.abi_driver.proofs.ImportSteps.{if_calls}

@@ -20,24 +20,24 @@ use Rattle.wrapper_meaning.specs.InMemory.{HasWords}
 use Rattle.wrapper_meaning.specs.Numbers.{is_signed}
 use Rattle.wrapper_meaning.specs.AsWords.{flag_bits}
 use Rattle.wrapper_meaning.specs.Words.{IsWord, bits_of, word_of_bits}
-use Rattle.abi_driver.specs.Account.{Account, Done, Got, Peer, has_type}
-use Rattle.abi_driver.specs.Code.{each}
-use Rattle.abi_driver.specs.Instructions.{Emits}
-use Rattle.abi_driver.specs.Laws.{Adds, After, At, Facts, Sound, core_data, ofs}
-use Rattle.abi_driver.specs.Meaning.{Meaning, of, word}
-use Rattle.abi_driver.specs.Memory.{access, is_ranged, loading, storing}
-use Rattle.abi_driver.specs.NumberTouches.{number_load, number_store}
-use Rattle.abi_driver.specs.Places.{IsWritten}
-use Rattle.abi_driver.specs.Sends.{Sends}
-use Rattle.abi_driver.specs.Sent.{Sent, sends}
-use Rattle.abi_driver.specs.Touches.{LoadsWord, StoresWord, low_byte, low_half, reached, whole}
-use Rattle.abi_driver.proofs.BareCases.{read_32}
+use Rattle.abi_bindgen.specs.Account.{Account, Done, Got, Peer, has_type}
+use Rattle.abi_bindgen.specs.Code.{each}
+use Rattle.abi_bindgen.specs.Instructions.{Emits}
+use Rattle.abi_bindgen.specs.Laws.{Adds, After, At, Facts, Sound, core_data, ofs}
+use Rattle.abi_bindgen.specs.Meaning.{Meaning, of, word}
+use Rattle.abi_bindgen.specs.Memory.{access, is_ranged, loading, storing}
+use Rattle.abi_bindgen.specs.NumberTouches.{number_load, number_store}
+use Rattle.abi_bindgen.specs.Places.{IsWritten}
+use Rattle.abi_bindgen.specs.Sends.{Sends}
+use Rattle.abi_bindgen.specs.Sent.{Sent, sends}
+use Rattle.abi_bindgen.specs.Touches.{LoadsWord, StoresWord, low_byte, low_half, reached, whole}
+use Rattle.abi_driver.proofs.Tags.{read_32}
 use Rattle.abi_driver.proofs.Done.{does_done}
 use Rattle.abi_driver.proofs.LeafLoads.{load_row}
 use Rattle.abi_driver.proofs.LeafStores.{at_least, store_row}
-use Rattle.abi_driver.proofs.Runs.{adds_both, adds_same}
+use Rattle.abi_bindgen.proofs.Runs.{adds_both, adds_same}
 use Rattle.abi_driver.proofs.Replaced.{block_formed, replaced_formed, replaced_same, replaced_twice}
-use Rattle.abi_driver.proofs.SendSteps.{sends_as, sends_both, sends_one, sends_then}
+use Rattle.abi_bindgen.proofs.SendSteps.{sends_as, sends_both, sends_one, sends_then}
 use Rattle.abi_driver.proofs.Storing.{loads_from, stored_in, stores_in, written_both, written_in, written_none}
 use Rattle.wrapper_meaning.proofs.PostReturn.{total-append}
 

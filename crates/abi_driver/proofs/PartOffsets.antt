@@ -21,10 +21,10 @@ use Rattle.wrapper_meaning.specs.Shape.{Shape, Shapes, is_nothing, nothing, shap
 use Rattle.wrapper_meaning.specs.Shape.Shape.{cases, fields}
 use Rattle.wrapper_meaning.specs.Shape.Shapes.{none}
 use Rattle.wrapper_meaning.proofs.LayoutIsTree.{layout_is_tree}
-use Rattle.abi_driver.specs.Code.{beyond, one_pointer, payload_place, place_in}
-use Rattle.abi_driver.specs.Instructions.{has_cases, shapes_of}
-use Rattle.abi_driver.specs.Places.{HasParts, IsOfParts}
-use Rattle.abi_driver.proofs.Records.{record_shape, tuple_shape}
+use Rattle.abi_bindgen.specs.Code.{beyond, one_pointer, payload_place, place_in}
+use Rattle.abi_bindgen.specs.Instructions.{has_cases, shapes_of}
+use Rattle.abi_bindgen.specs.Places.{HasParts, IsOfParts}
+use Rattle.abi_bindgen.proofs.Records.{record_shape, tuple_shape}
 
 -- 1. Ends and places of lists
 

@@ -3,12 +3,12 @@ use Rattle.std.proofs.Common.{◌≡◌, ℕ, zero, suc, ◌+◌, List, [], ◌�
 use Rattle.std.proofs.lemmas.List.{length-append, length-map}
 use Rattle.wit_model.specs.declared.types.TypeDef.{TypeDef}
 use Rattle.wrapper_data.specs.declared.word.Word.{Word}
-use Rattle.abi_driver.specs.declared.instruction.Instruction.TheVariants.{GetArg}
+use Rattle.abi_bindgen.specs.declared.instruction.Instruction.TheVariants.{GetArg}
 use Rattle.abi_driver.specs.Exports.{ReadsWords}
-use Rattle.abi_driver.specs.Instructions.{Emits}
-use Rattle.abi_driver.specs.Laws.{Data, Facts, Sound, Stays, args, core_data, ofs}
-use Rattle.abi_driver.specs.Meaning.{Meaning, arg, of, word}
-use Rattle.abi_driver.proofs.Runs.{adds_both, adds_same, core_append, does_both, does_none, ofs_append}
+use Rattle.abi_bindgen.specs.Instructions.{Emits}
+use Rattle.abi_bindgen.specs.Laws.{Data, Facts, Sound, Stays, args, core_data, ofs}
+use Rattle.abi_bindgen.specs.Meaning.{Meaning, arg, of, word}
+use Rattle.abi_bindgen.proofs.Runs.{adds_both, adds_same, core_append, does_both, does_none, ofs_append}
 
 -- a list by its last
 pub record Ended {A : Type 0} (n : ℕ) (xs : List A) : Type 0 where

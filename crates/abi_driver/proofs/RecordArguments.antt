@@ -26,22 +26,23 @@ use Rattle.wrapper_meaning.specs.Shape.{Shapes}
 use Rattle.wrapper_meaning.specs.Shape.Shape.{fields}
 use Rattle.wrapper_meaning.specs.Value.{Parts}
 use Rattle.wrapper_meaning.proofs.Lists.{some_same}
-use Rattle.abi_driver.specs.Account.{Account, Done, Got, Outcome, Peer, addresses, failing, is_at, is_taken, stay}
+use Rattle.abi_bindgen.specs.Account.{Account, Done, Got, Outcome, Peer, addresses, failing, is_at, is_taken, stay}
 use Rattle.abi_driver.specs.Exports.{TakesArgumentsOver, TakesRecordOver, TookOver}
-use Rattle.abi_driver.specs.Frees.{nowhere}
-use Rattle.abi_driver.specs.Laws.{Adds, At, Facts, Sound, args, core_data, item_data, ofs}
-use Rattle.abi_driver.specs.Lifts.{AreFree, LiftsArguments, MayTake, took}
-use Rattle.abi_driver.specs.Meaning.{Meaning, arg, item, of, word}
-use Rattle.abi_driver.specs.Memory.{except, freed, freeing}
-use Rattle.abi_driver.specs.Parts.{PartsStand}
-use Rattle.abi_driver.specs.Places.{HavePlaces}
-use Rattle.abi_driver.specs.Touches.{reached}
+use Rattle.abi_bindgen.specs.Frees.{nowhere}
+use Rattle.abi_bindgen.specs.Laws.{Adds, At, Facts, Sound, args, core_data, item_data, ofs}
+use Rattle.abi_bindgen.specs.Lifts.{AreFree, LiftsArguments, MayTake, took}
+use Rattle.abi_bindgen.specs.Meaning.{Meaning, arg, item, of, word}
+use Rattle.abi_bindgen.specs.Memory.{except, freed, freeing}
+use Rattle.abi_bindgen.specs.Parts.{PartsStand}
+use Rattle.abi_bindgen.specs.Places.{HavePlaces}
+use Rattle.abi_bindgen.specs.Touches.{reached}
 use Rattle.abi_driver.proofs.Done.{does_done}
-use Rattle.abi_driver.proofs.Freeing.{without_formed, last_taken}
+use Rattle.abi_bindgen.proofs.Taken.{last_taken}
+use Rattle.abi_driver.proofs.Freeing.{without_formed}
 use Rattle.abi_driver.proofs.LiftSteps.{stand_count}
 use Rattle.abi_driver.proofs.RecordPlaces.{at_width}
 use Rattle.abi_driver.proofs.Replaced.{IsSized, is_sized, split}
-use Rattle.abi_driver.proofs.Runs.{adds_both}
+use Rattle.abi_bindgen.proofs.Runs.{adds_both}
 use Rattle.abi_driver.proofs.Storing.{find_block}
 use Rattle.wrapper_meaning.proofs.PostReturn.{total-append}
 use Rattle.wit_layout.proofs.RecordSteps.{record_behind}

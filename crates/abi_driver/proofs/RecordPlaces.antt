@@ -21,9 +21,9 @@ use Rattle.wrapper_meaning.specs.Layout.{layout, layouts}
 use Rattle.wrapper_meaning.specs.Shape.{shape_of, shapes}
 use Rattle.wrapper_meaning.specs.Shape.Shape.{fields}
 use Rattle.wrapper_meaning.proofs.LayoutIsTree.{layouts_are_trees, of_payloads}
-use Rattle.abi_driver.specs.Code.{beyond}
-use Rattle.abi_driver.specs.Frees.{nowhere}
-use Rattle.abi_driver.specs.Instructions.{shapes_of}
+use Rattle.abi_bindgen.specs.Code.{beyond}
+use Rattle.abi_bindgen.specs.Frees.{nowhere}
+use Rattle.abi_bindgen.specs.Instructions.{shapes_of}
 use Rattle.abi_driver.proofs.PartOffsets.{beyond_at, place_of}
 
 -- the first so many places are those of the first so many types

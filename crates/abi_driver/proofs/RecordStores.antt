@@ -11,16 +11,16 @@ use Rattle.wrapper_data.specs.declared.word.Word.TheVariants as core
 use Rattle.wrapper_meaning.specs.Layout.{layout}
 use Rattle.wrapper_meaning.specs.Shape.{Shape, Shapes, shape_of}
 use Rattle.wrapper_meaning.specs.Shape.Shapes.{more}
-use Rattle.abi_driver.specs.declared.instruction.Instruction.TheVariants.{GetArg}
-use Rattle.abi_driver.specs.Account.{Account, addresses}
-use Rattle.abi_driver.specs.Frees.{nowhere}
-use Rattle.abi_driver.specs.Instructions.{Emits, shapes_of}
-use Rattle.abi_driver.specs.Laws.{At, Facts, Sound, args, item_data, ofs}
-use Rattle.abi_driver.specs.Meaning.{Meaning, arg, item, of, word}
-use Rattle.abi_driver.specs.Places.{HavePlaces}
+use Rattle.abi_bindgen.specs.declared.instruction.Instruction.TheVariants.{GetArg}
+use Rattle.abi_bindgen.specs.Account.{Account, addresses}
+use Rattle.abi_bindgen.specs.Frees.{nowhere}
+use Rattle.abi_bindgen.specs.Instructions.{Emits, shapes_of}
+use Rattle.abi_bindgen.specs.Laws.{At, Facts, Sound, args, item_data, ofs}
+use Rattle.abi_bindgen.specs.Meaning.{Meaning, arg, item, of, word}
+use Rattle.abi_bindgen.specs.Places.{HavePlaces}
 use Rattle.abi_driver.specs.Stores.{LowersToMemory, Releases, StoresArguments, StoresFrom, by_storing}
-use Rattle.abi_driver.specs.Touches.{reached}
-use Rattle.abi_driver.proofs.Runs.{adds_both}
+use Rattle.abi_bindgen.specs.Touches.{reached}
+use Rattle.abi_bindgen.proofs.Runs.{adds_both}
 use Rattle.abi_driver.proofs.StoreSteps.{behind_of, more_stores, none_stores}
 use Rattle.wrapper_meaning.proofs.PostReturn.{total-append}
 

@@ -6,7 +6,7 @@ use Rattle.wrapper_data.specs.Answered.{written_block, written_byte}
 use Rattle.wrapper_data.specs.Heap.{are_apart, are_cells, covers, is_block, is_heap, overlaps, overlaps_any}
 use Rattle.wrapper_data.specs.declared.block.Block.{Block}
 use Rattle.wrapper_meaning.proofs.Lists.{none_at}
-use Rattle.abi_driver.specs.Places.{IsWritten, replaced}
+use Rattle.abi_bindgen.specs.Places.{IsWritten, replaced}
 use Rattle.wrapper_meaning.proofs.HeapBlocks.{behind_one}
 
 -- 1. The blocks before and behind one

@@ -4,15 +4,15 @@ use Rattle.wit_model.specs.declared.types.TypeDef.{TypeDef}
 use Rattle.wrapper_data.specs.declared.block.Block.{Block}
 use Rattle.wrapper_data.specs.declared.word.Word.TheVariants as core
 use Rattle.wrapper_meaning.specs.Shape.{Shape}
-use Rattle.abi_driver.specs.declared.instruction.Instruction.TheVariants.{GetArg, Return}
-use Rattle.abi_driver.specs.Account.{Peer}
-use Rattle.abi_driver.specs.Frees.{Frees, FreesInMemory, FreesResult, MayFree, PostReturns, by_freeing, nowhere}
-use Rattle.abi_driver.specs.Instructions.{Emits}
-use Rattle.abi_driver.specs.Laws.{Adds, At, Facts}
-use Rattle.abi_driver.specs.Meaning.{Meaning, arg, of, word}
-use Rattle.abi_driver.specs.Places.{HasRoom}
-use Rattle.abi_driver.specs.Touches.{reached}
-use Rattle.abi_driver.proofs.Runs.{adds_both}
+use Rattle.abi_bindgen.specs.declared.instruction.Instruction.TheVariants.{GetArg, Return}
+use Rattle.abi_bindgen.specs.Account.{Peer}
+use Rattle.abi_bindgen.specs.Frees.{Frees, FreesInMemory, FreesResult, MayFree, PostReturns, by_freeing, nowhere}
+use Rattle.abi_bindgen.specs.Instructions.{Emits}
+use Rattle.abi_bindgen.specs.Laws.{Adds, At, Facts}
+use Rattle.abi_bindgen.specs.Meaning.{Meaning, arg, of, word}
+use Rattle.abi_bindgen.specs.Places.{HasRoom}
+use Rattle.abi_bindgen.specs.Touches.{reached}
+use Rattle.abi_bindgen.proofs.Runs.{adds_both}
 use Rattle.wrapper_meaning.proofs.PostReturn.{total-append}
 
 module _ {Self Operand : Type 0} (m : Meaning Self Operand) (types : List TypeDef) where

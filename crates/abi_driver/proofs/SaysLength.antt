@@ -14,7 +14,6 @@ use Rattle.wrapper_meaning.specs.Shape.{Shape, Shapes}
 use Rattle.wrapper_meaning.specs.Shape.Shape.{scalar, text, list, pairs, fixed, fields, tuple, cases, flags, handle, resource, other}
 use Rattle.wrapper_meaning.specs.Shape.Shapes.{none, more}
 use Rattle.wrapper_meaning.specs.Value.{Parts, Value}
-use Rattle.wrapper_meaning.specs.Words.{AreWords}
 use Rattle.wrapper_meaning.proofs.WordsDetermined.{are_words-length}
 
 repeated_length : (n : ℕ) (cs : List WasmType) → length (repeated (suc n) cs) ≡ length cs + length (repeated n cs)

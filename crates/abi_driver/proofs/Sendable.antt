@@ -5,11 +5,11 @@ use Rattle.wit_model.specs.declared.size.ArchitectureSize.{ArchitectureSize}
 use Rattle.wit_model.specs.declared.types.WitType.{WitType}
 use Rattle.wit_model.specs.declared.types.WitType.TheVariants as wit
 use Rattle.wrapper_meaning.proofs.Lists.{some_same}
-use Rattle.abi_driver.specs.declared.instruction.Instruction.{Instruction}
-use Rattle.abi_driver.specs.declared.instruction.Instruction.TheVariants.{F32Store, F64Store, I32Store, I32Store16, I32Store8, I64Store}
-use Rattle.abi_driver.specs.Instructions.{IsSendable}
-use Rattle.abi_driver.specs.Meaning.{Meaning}
-use Rattle.abi_driver.specs.ScalarTouches.{scalar_store}
+use Rattle.abi_bindgen.specs.declared.instruction.Instruction.{Instruction}
+use Rattle.abi_bindgen.specs.declared.instruction.Instruction.TheVariants.{F32Store, F64Store, I32Store, I32Store16, I32Store8, I64Store}
+use Rattle.abi_bindgen.specs.Instructions.{IsSendable}
+use Rattle.abi_bindgen.specs.Meaning.{Meaning}
+use Rattle.abi_bindgen.specs.ScalarTouches.{scalar_store}
 
 module _ {Self Operand : Type 0} (m : Meaning Self Operand) (r : Resolve) (o : ArchitectureSize) (i : Instruction) (p q : Operand) (b : Self) where
   from : (store : Instruction) → Some store ≡ Some i → IsSendable m r store (p ∷ q ∷ []) b → IsSendable m r i (p ∷ q ∷ []) b

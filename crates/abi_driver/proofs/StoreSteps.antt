@@ -23,18 +23,18 @@ use Rattle.wrapper_meaning.specs.Shape.Shapes.{none, more}
 use Rattle.wrapper_meaning.specs.Value.{Parts, Value}
 use Rattle.wrapper_meaning.proofs.HoldsLocally.{holds_locally}
 use Rattle.wrapper_meaning.proofs.PartPlaces.{aligned_part, grain_of_first, grain_of_rest, less_grain, place_aligned, place_behind}
-use Rattle.abi_driver.specs.declared.instruction.Instruction.TheVariants.{RecordLower, TupleLower}
-use Rattle.abi_driver.specs.Account.{Account, Peer, addresses}
-use Rattle.abi_driver.specs.Instructions.{Emits, IsRecord, field_shapes, shapes_of}
-use Rattle.abi_driver.specs.Laws.{Adds, At, Facts, Sound, item_data, ofs}
-use Rattle.abi_driver.specs.Leaves.{way}
-use Rattle.abi_driver.specs.Meaning.{Meaning, item, of, word}
-use Rattle.abi_driver.specs.Parts.{LowersParts, count}
-use Rattle.abi_driver.specs.Places.{HasRoom, HavePlaces, replaced}
+use Rattle.abi_bindgen.specs.declared.instruction.Instruction.TheVariants.{RecordLower, TupleLower}
+use Rattle.abi_bindgen.specs.Account.{Account, Peer, addresses}
+use Rattle.abi_bindgen.specs.Instructions.{Emits, IsRecord, field_shapes, shapes_of}
+use Rattle.abi_bindgen.specs.Laws.{Adds, At, Facts, Sound, item_data, ofs}
+use Rattle.abi_bindgen.specs.Leaves.{way}
+use Rattle.abi_bindgen.specs.Meaning.{Meaning, item, of, word}
+use Rattle.abi_bindgen.specs.Parts.{LowersParts, count}
+use Rattle.abi_bindgen.specs.Places.{HasRoom, HavePlaces, replaced}
 use Rattle.abi_driver.specs.Stores.{LowersToMemory, Puts, Releases, StoresFrom, StoresParts}
-use Rattle.abi_driver.specs.Touches.{reached}
+use Rattle.abi_bindgen.specs.Touches.{reached}
 use Rattle.abi_driver.proofs.Done.{releases_both}
-use Rattle.abi_driver.proofs.Runs.{adds_both, adds_same, addresses_both}
+use Rattle.abi_bindgen.proofs.Runs.{adds_both, adds_same, addresses_both}
 use Rattle.wrapper_meaning.specs.Items.{total}
 use Rattle.abi_driver.proofs.Replaced.{block_formed, replaced_formed, replaced_same, replaced_twice}
 use Rattle.abi_driver.proofs.Storing.{written_both, written_in}

@@ -11,9 +11,9 @@ use Rattle.wrapper_data.specs.declared.form.Form.{Form}
 use Rattle.wrapper_data.specs.declared.word.Word.{Word}
 use Rattle.wrapper_meaning.specs.Cells.{HasNumber, bytes_from, little}
 use Rattle.wrapper_meaning.specs.Words.{bits_of}
-use Rattle.abi_driver.specs.Account.{Account, Done, Got, Outcome, has_type, is_at}
-use Rattle.abi_driver.specs.Memory.{Access, bytes_at, bytes_on, is_aligned, is_inside, is_ranged, is_reached, little_bytes, loaded, loading, storing, word_read}
-use Rattle.abi_driver.specs.Places.{IsWritten, SameOutside, replaced}
+use Rattle.abi_bindgen.specs.Account.{Account, Done, Got, Outcome, has_type, is_at}
+use Rattle.abi_bindgen.specs.Memory.{Access, bytes_at, bytes_on, is_aligned, is_inside, is_ranged, is_reached, little_bytes, loaded, loading, storing, word_read}
+use Rattle.abi_bindgen.specs.Places.{IsWritten, SameOutside, replaced}
 use Rattle.abi_driver.proofs.Bytes.{length-little_bytes, little-little_bytes, some_numbers}
 use Rattle.abi_driver.proofs.CellWrites.{none_read, put, put_before, put_behind, put_here, put_in_order, read_both, with_cell_is_put}
 use Rattle.abi_driver.proofs.Replaced.{Tells, block_formed, block_from, byte_there, find_there, is_sized, meet, replaced_formed, replaced_same, replaced_twice}

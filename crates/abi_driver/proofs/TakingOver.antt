@@ -20,8 +20,8 @@ use Rattle.wrapper_meaning.specs.Items.{AllIn}
 use Rattle.wrapper_meaning.specs.Numbers.{bit, is_scalar_value, is_signed, low_bits}
 use Rattle.wrapper_meaning.specs.Value.{ScalarValue}
 use Rattle.wrapper_meaning.proofs.Lists.{none_at}
-use Rattle.abi_driver.specs.Account.{Account, Done, Got, Outcome, Stuck, Taken, addresses, failing, found, gives, is_at, is_taken, reading, stay, taking, tested}
-use Rattle.abi_driver.specs.Lifts.{AreFree, MayTake, took}
+use Rattle.abi_bindgen.specs.Account.{Account, Done, Got, Outcome, Stuck, Taken, addresses, failing, found, gives, is_at, is_taken, reading, stay, taking, tested}
+use Rattle.abi_bindgen.specs.Lifts.{AreFree, MayTake, took}
 
 -- 1. Scalars
 

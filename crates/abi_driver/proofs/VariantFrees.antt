@@ -18,10 +18,10 @@ use Rattle.wrapper_meaning.specs.InMemory.{CaseHolds}
 use Rattle.wrapper_meaning.specs.InRange.{IsListedCase}
 use Rattle.wrapper_meaning.specs.Kinds.{has_list}
 use Rattle.wrapper_meaning.proofs.NoLists.{memory_has_no_blocks}
-use Rattle.abi_driver.specs.Cases.{payloads_of}
-use Rattle.abi_driver.specs.Code.{at_payload, beyond, free_code, in_blocks}
-use Rattle.abi_driver.specs.Sends.{Sends}
-use Rattle.abi_driver.specs.Sent.{Sent, sends}
+use Rattle.abi_bindgen.specs.Cases.{payloads_of}
+use Rattle.abi_bindgen.specs.Code.{at_payload, beyond, free_code, in_blocks}
+use Rattle.abi_bindgen.specs.Sends.{Sends}
+use Rattle.abi_bindgen.specs.Sent.{Sent, sends}
 use Rattle.wit_layout.specs.Extent.{discriminant_grain, greatest}
 use Rattle.wit_layout.specs.Sizes.{count as tree_count, extents_of, payload_offset}
 use Rattle.wrapper_data.specs.declared.word.Word.TheVariants as core
@@ -29,21 +29,21 @@ use Rattle.wrapper_meaning.specs.Layout.{layout, layouts}
 use Rattle.wrapper_meaning.specs.Shape.{Shapes, payloads_in, shape_at, shapes}
 use Rattle.wrapper_meaning.specs.Shape.Shape.{cases}
 use Rattle.wrapper_meaning.specs.Value.{Case, case_number}
-use Rattle.abi_driver.specs.declared.instruction.Instruction.TheVariants.{GuestDeallocateVariant}
-use Rattle.abi_driver.specs.Account.{Account, Done, Peer}
-use Rattle.abi_driver.specs.Arms.{arms, gives_nothing, matching}
+use Rattle.abi_bindgen.specs.declared.instruction.Instruction.TheVariants.{GuestDeallocateVariant}
+use Rattle.abi_bindgen.specs.Account.{Account, Done, Peer}
+use Rattle.abi_bindgen.specs.Arms.{arms, gives_nothing, matching}
 use Rattle.abi_driver.specs.FinishedBlocks.{HasPayloadRoom}
 use Rattle.abi_driver.specs.FreedCases.{FreesCases}
-use Rattle.abi_driver.specs.Frees.{Frees, FreesInMemory, MayFree, by_freeing}
-use Rattle.abi_driver.specs.Instructions.{Emits, has_cases}
-use Rattle.abi_driver.specs.Laws.{At, Facts, Grows, Quiet, Sound}
-use Rattle.abi_driver.specs.Meaning.{Meaning, of, word}
-use Rattle.abi_driver.specs.NumberTouches.{number_load, tag_load}
-use Rattle.abi_driver.specs.Parts.{count}
-use Rattle.abi_driver.specs.Touches.{reached}
+use Rattle.abi_bindgen.specs.Frees.{Frees, FreesInMemory, MayFree, by_freeing}
+use Rattle.abi_bindgen.specs.Instructions.{Emits, has_cases}
+use Rattle.abi_bindgen.specs.Laws.{At, Facts, Grows, Quiet, Sound}
+use Rattle.abi_bindgen.specs.Meaning.{Meaning, of, word}
+use Rattle.abi_bindgen.specs.NumberTouches.{number_load, tag_load}
+use Rattle.abi_bindgen.specs.Parts.{count}
+use Rattle.abi_bindgen.specs.Touches.{reached}
 use Rattle.abi_driver.proofs.ArmSteps.{arm_runs, read_number, went}
-use Rattle.abi_driver.proofs.BareCases.{tag_grain_small}
-use Rattle.abi_driver.proofs.CaseLowers.{number_below}
+use Rattle.abi_driver.proofs.Tags.{tag_grain_small}
+use Rattle.abi_bindgen.proofs.CaseLowers.{number_below}
 use Rattle.abi_driver.proofs.CaseRooms.{case_room, count_layouts, payload_room}
 use Rattle.abi_driver.proofs.CaseSteps.{arms_are, arms_gone, front_only, plain_total, resumes_then, uses_blocks}
 use Rattle.abi_driver.proofs.LiftSteps.{follows_done}
@@ -51,10 +51,10 @@ use Rattle.abi_driver.proofs.LeafFrees.{alone_at}
 use Rattle.abi_driver.proofs.MemoryCode.{cases_place, free_none_code, free_variant_code}
 use Rattle.abi_driver.proofs.PartOffsets.{payload_offset_of, payload_sent}
 use Rattle.abi_driver.proofs.RecordPlaces.{place_told}
-use Rattle.abi_driver.proofs.Payloads.{count_payloads, variant_shape}
-use Rattle.abi_driver.proofs.SendSteps.{sends_as, sends_both, sends_one, sends_then}
+use Rattle.abi_bindgen.proofs.Payloads.{count_payloads, variant_shape}
+use Rattle.abi_bindgen.proofs.SendSteps.{sends_as, sends_both, sends_one, sends_then}
 use Rattle.abi_driver.proofs.NumberWords.{number_load_adds, number_loaded}
-use Rattle.abi_driver.proofs.Runs.{adds_both}
+use Rattle.abi_bindgen.proofs.Runs.{adds_both}
 
 module _ {Self Operand : Type 0} (m : Meaning Self Operand) (sound : Sound m) (types : List TypeDef) (n : ℕ) (ts : Shapes) (b c d : Self) (address x : Operand) (place : ArchitectureSize) (is : count ts ≡ n) (frees : FreesCases m ts address place b c) (arm : Emits m types (GuestDeallocateVariant n) (x ∷ []) [] c d) where
   many : length {A = ℕ} (replicate (count ts) 0) ≡ n

@@ -29,26 +29,26 @@ use Rattle.wrapper_meaning.specs.Shape.Shape.{cases}
 use Rattle.wrapper_meaning.specs.Shape.Shapes.{none, more}
 use Rattle.wrapper_meaning.specs.Value.{Case, case_number}
 use Rattle.wrapper_meaning.proofs.PostReturn.{total-append}
-use Rattle.abi_driver.specs.Account.{Account, Done, Peer, addresses}
-use Rattle.abi_driver.specs.Arms.{arms, gives_payload, matching}
-use Rattle.abi_driver.specs.Blocks.{owned_datum}
+use Rattle.abi_bindgen.specs.Account.{Account, Done, Peer, addresses}
+use Rattle.abi_bindgen.specs.Arms.{arms, gives_payload, matching}
+use Rattle.abi_bindgen.specs.Blocks.{owned_datum}
 use Rattle.abi_driver.specs.FinishedBlocks.{HasPayloadRoom}
-use Rattle.abi_driver.specs.Cases.{IsPayload, PayloadStands, payloads_of, result_counts}
-use Rattle.abi_driver.specs.Code.{at_payload, beyond, in_blocks, load_code}
-use Rattle.abi_driver.specs.Sends.{Sends}
-use Rattle.abi_driver.specs.Sent.{Sent, sends}
-use Rattle.abi_driver.specs.Instructions.{Emits, case_lifting, has_cases}
-use Rattle.abi_driver.specs.Laws.{At, Facts, Sound, ofs}
-use Rattle.abi_driver.specs.Lifts.{MayTake, OneStands, took}
+use Rattle.abi_bindgen.specs.Cases.{IsPayload, PayloadStands, payloads_of, result_counts}
+use Rattle.abi_bindgen.specs.Code.{at_payload, beyond, in_blocks, load_code}
+use Rattle.abi_bindgen.specs.Sends.{Sends}
+use Rattle.abi_bindgen.specs.Sent.{Sent, sends}
+use Rattle.abi_bindgen.specs.Instructions.{Emits, case_lifting, has_cases}
+use Rattle.abi_bindgen.specs.Laws.{At, Facts, Sound, ofs}
+use Rattle.abi_bindgen.specs.Lifts.{MayTake, OneStands, took}
 use Rattle.abi_driver.specs.LoadedCases.{LoadsCases, payload_data}
 use Rattle.abi_driver.specs.Loads.{Gets, LiftsFromMemory}
-use Rattle.abi_driver.specs.Meaning.{Meaning, item, of, word}
-use Rattle.abi_driver.specs.NumberTouches.{number_load, tag_load}
-use Rattle.abi_driver.specs.Parts.{count}
-use Rattle.abi_driver.specs.Touches.{reached}
+use Rattle.abi_bindgen.specs.Meaning.{Meaning, item, of, word}
+use Rattle.abi_bindgen.specs.NumberTouches.{number_load, tag_load}
+use Rattle.abi_bindgen.specs.Parts.{count}
+use Rattle.abi_bindgen.specs.Touches.{reached}
 use Rattle.abi_driver.proofs.ArmSteps.{arm_runs, number_settled, read_number, went}
-use Rattle.abi_driver.proofs.BareCases.{tag_grain_small}
-use Rattle.abi_driver.proofs.CaseLowers.{number_below}
+use Rattle.abi_driver.proofs.Tags.{tag_grain_small}
+use Rattle.abi_bindgen.proofs.CaseLowers.{number_below}
 use Rattle.abi_driver.proofs.CaseInstructions.{LiftsBy, case_serves, lifts_by}
 use Rattle.abi_driver.proofs.CaseRooms.{case_room, count_layouts, payload_room}
 use Rattle.abi_driver.proofs.CaseSteps.{arms_are, arms_gone, front_only, plain_total, resumes_then}
@@ -56,10 +56,10 @@ use Rattle.abi_driver.proofs.LiftSteps.{follows_done}
 use Rattle.abi_driver.proofs.MemoryCode.{cases_place, load_variant_code}
 use Rattle.abi_driver.proofs.PartOffsets.{payload_offset_of, payload_sent}
 use Rattle.abi_driver.proofs.RecordPlaces.{place_told}
-use Rattle.abi_driver.proofs.Payloads.{count_payloads, variant_shape}
-use Rattle.abi_driver.proofs.SendSteps.{sends_as, sends_both, sends_one, sends_then}
+use Rattle.abi_bindgen.proofs.Payloads.{count_payloads, variant_shape}
+use Rattle.abi_bindgen.proofs.SendSteps.{sends_as, sends_both, sends_one, sends_then}
 use Rattle.abi_driver.proofs.NumberWords.{number_load_adds, number_loaded}
-use Rattle.abi_driver.proofs.Runs.{adds_both}
+use Rattle.abi_bindgen.proofs.Runs.{adds_both}
 
 module _ {Self Operand : Type 0} (m : Meaning Self Operand) (sound : Sound m) where
   -- 1. What an arm gives

@@ -22,23 +22,23 @@ use Rattle.wrapper_meaning.specs.Shape.Shape.{cases}
 use Rattle.wrapper_meaning.specs.Value.{case_number}
 use Rattle.wrapper_meaning.proofs.HoldsLocally.{payload_within}
 use Rattle.wrapper_meaning.proofs.PostReturn.{total-append}
-use Rattle.abi_driver.specs.Account.{Account, Done, Outcome, Stuck, addresses, then_do}
-use Rattle.abi_driver.specs.Arms.{Armed, arm, arms, gives_any}
-use Rattle.abi_driver.specs.Blocks.{owned_datum}
+use Rattle.abi_bindgen.specs.Account.{Account, Done, Outcome, Stuck, addresses, then_do}
+use Rattle.abi_bindgen.specs.Arms.{Armed, arm, arms, gives_any}
+use Rattle.abi_bindgen.specs.Blocks.{owned_datum}
 use Rattle.abi_driver.specs.FinishedBlocks.{HasCaseRoom}
-use Rattle.abi_driver.specs.Cases.{payloads_of, with_case}
-use Rattle.abi_driver.specs.Code.{beyond, in_blocks, store_case, store_code}
-use Rattle.abi_driver.specs.Instructions.{Emits, case_lowering, has_cases}
-use Rattle.abi_driver.specs.Sends.{Sends}
-use Rattle.abi_driver.specs.Sent.{Sent, sends}
-use Rattle.abi_driver.specs.Laws.{At, Facts, Sound, ofs}
-use Rattle.abi_driver.specs.Leaves.{way}
-use Rattle.abi_driver.specs.Meaning.{Ended, Meaning, item, of, word}
-use Rattle.abi_driver.specs.Parts.{count}
+use Rattle.abi_bindgen.specs.Cases.{payloads_of, with_case}
+use Rattle.abi_bindgen.specs.Code.{beyond, in_blocks, store_case, store_code}
+use Rattle.abi_bindgen.specs.Instructions.{Emits, case_lowering, has_cases}
+use Rattle.abi_bindgen.specs.Sends.{Sends}
+use Rattle.abi_bindgen.specs.Sent.{Sent, sends}
+use Rattle.abi_bindgen.specs.Laws.{At, Facts, Sound, ofs}
+use Rattle.abi_bindgen.specs.Leaves.{way}
+use Rattle.abi_bindgen.specs.Meaning.{Ended, Meaning, item, of, word}
+use Rattle.abi_bindgen.specs.Parts.{count}
 use Rattle.abi_driver.specs.StoredCases.{StoresCases}
 use Rattle.abi_driver.specs.Stores.{LowersToMemory, Releases, by_storing}
-use Rattle.abi_driver.specs.Touches.{reached}
-use Rattle.abi_driver.specs.Turns.{Arrives, Went}
+use Rattle.abi_bindgen.specs.Touches.{reached}
+use Rattle.abi_bindgen.specs.Turns.{Arrives, Went}
 use Rattle.abi_driver.proofs.CaseInstructions.{LowersBy, lowers_by, lowers_count}
 use Rattle.abi_driver.proofs.CaseRooms.{case_room, count_layouts}
 use Rattle.abi_driver.proofs.CaseStores.{owns_blocks}
@@ -47,8 +47,8 @@ use Rattle.abi_driver.proofs.LiftSteps.{follows_done}
 use Rattle.abi_driver.proofs.MemoryCode.{cases_place, store_variant_code}
 use Rattle.abi_driver.proofs.PartOffsets.{payload_offset_of, payload_sent}
 use Rattle.abi_driver.proofs.RecordPlaces.{place_told}
-use Rattle.abi_driver.proofs.Payloads.{count_payloads, variant_shape}
-use Rattle.abi_driver.proofs.SendSteps.{sends_as, sends_both, sends_one}
+use Rattle.abi_bindgen.proofs.Payloads.{count_payloads, variant_shape}
+use Rattle.abi_bindgen.proofs.SendSteps.{sends_as, sends_both, sends_one}
 use Rattle.abi_driver.proofs.Storing.{written_in}
 
 no_items : {A : Type 0} (xs : List A) → length xs ≡ 0 → xs ≡ []

@@ -27,20 +27,20 @@ use Rattle.wrapper_meaning.specs.Settled.{IsResult, all_settled}
 use Rattle.wrapper_meaning.specs.Shape.{Shape, Shapes}
 use Rattle.wrapper_meaning.specs.Shape.Shape.{fields}
 use Rattle.wrapper_meaning.specs.Value.{Parts, Result}
-use Rattle.abi_driver.specs.declared.bindgen.Asked.{Asked}
-use Rattle.abi_driver.specs.declared.instruction.Instruction.TheVariants.{Flush, GetArg, GuestDeallocate}
-use Rattle.abi_driver.specs.Account.{Account, Act, Call, Done, Follows, Got, Peer, Reply, account_in, addresses, gives, then_do, value}
-use Rattle.abi_driver.specs.Area.{AreFor, AreaStands, pointing}
-use Rattle.abi_driver.specs.Calls.{PassesAsItIs, coming, recorded}
-use Rattle.abi_driver.specs.Frees.{nowhere}
+use Rattle.abi_bindgen.specs.declared.bindgen.Asked.{Asked}
+use Rattle.abi_bindgen.specs.declared.instruction.Instruction.TheVariants.{Flush, GetArg, GuestDeallocate}
+use Rattle.abi_bindgen.specs.Account.{Account, Act, Call, Done, Follows, Got, Peer, Reply, account_in, addresses, gives, then_do, value}
+use Rattle.abi_bindgen.specs.Area.{AreFor, AreaStands, pointing}
+use Rattle.abi_bindgen.specs.Calls.{PassesAsItIs, coming, recorded}
+use Rattle.abi_bindgen.specs.Frees.{nowhere}
 use Rattle.abi_driver.specs.Imports.{Points, ResultStands}
-use Rattle.abi_driver.specs.Instructions.{Emits}
-use Rattle.abi_driver.specs.Laws.{Adds, After, At, Facts, Stays, args, core_data, item_data, ofs}
-use Rattle.abi_driver.specs.Lifts.{MayTake, by_taking}
+use Rattle.abi_bindgen.specs.Instructions.{Emits}
+use Rattle.abi_bindgen.specs.Laws.{Adds, After, At, Facts, Stays, args, core_data, item_data, ofs}
+use Rattle.abi_bindgen.specs.Lifts.{MayTake, by_taking}
 use Rattle.abi_driver.specs.Loads.{LoadsParts}
-use Rattle.abi_driver.specs.Lowers.{LowersAnswer}
-use Rattle.abi_driver.specs.Meaning.{Meaning}
-use Rattle.abi_driver.specs.Parts.{PartsStand, count}
+use Rattle.abi_bindgen.specs.Lowers.{LowersAnswer}
+use Rattle.abi_bindgen.specs.Meaning.{Meaning}
+use Rattle.abi_bindgen.specs.Parts.{PartsStand, count}
 use Rattle.abi_driver.specs.Stores.{LowersToMemory}
 
 -- the core words that a function is passed as an export

@@ -19,16 +19,16 @@ use Rattle.wrapper_meaning.specs.Settled.{settled_result}
 use Rattle.wrapper_meaning.specs.Shape.{Shape, Shapes}
 use Rattle.wrapper_meaning.specs.Shape.Shape.{fields}
 use Rattle.wrapper_meaning.specs.Value.{Parts, Result}
-use Rattle.abi_driver.specs.declared.bindgen.Asked.{Asked}
-use Rattle.abi_driver.specs.Account.{Account, Call, Done, Got, Peer, Reply, account_in, addresses, words}
-use Rattle.abi_driver.specs.Area.{AreFor, AreaStands, NeedsArea, SameArea}
-use Rattle.abi_driver.specs.Calls.{recorded}
-use Rattle.abi_driver.specs.Frees.{nowhere}
-use Rattle.abi_driver.specs.Laws.{After, At, Facts, Grows, PointsTo, Quiet, args, core_data, item_data, ofs}
-use Rattle.abi_driver.specs.Lifts.{LiftsAnswer, by_taking}
+use Rattle.abi_bindgen.specs.declared.bindgen.Asked.{Asked}
+use Rattle.abi_bindgen.specs.Account.{Account, Call, Done, Got, Peer, Reply, account_in, addresses, words}
+use Rattle.abi_bindgen.specs.Area.{AreFor, AreaStands, NeedsArea, SameArea}
+use Rattle.abi_bindgen.specs.Calls.{recorded}
+use Rattle.abi_bindgen.specs.Frees.{nowhere}
+use Rattle.abi_bindgen.specs.Laws.{After, At, Facts, Grows, PointsTo, Quiet, args, core_data, item_data, ofs}
+use Rattle.abi_bindgen.specs.Lifts.{LiftsAnswer, by_taking}
 use Rattle.abi_driver.specs.Loads.{LiftsFromMemory}
-use Rattle.abi_driver.specs.Meaning.{Meaning}
-use Rattle.abi_driver.specs.Parts.{PartsStand}
+use Rattle.abi_bindgen.specs.Meaning.{Meaning}
+use Rattle.abi_bindgen.specs.Parts.{PartsStand}
 use Rattle.abi_driver.specs.Stores.{StoresArguments}
 
 -- 1. The call and its answer

@@ -9,13 +9,13 @@ use Rattle.wrapper_meaning.specs.InRange.{AreListed, IsListed}
 use Rattle.wrapper_meaning.specs.Settled.{all_settled}
 use Rattle.wrapper_meaning.specs.Shape.{Shape, Shapes}
 use Rattle.wrapper_meaning.specs.Value.{Parts, Value}
-use Rattle.abi_driver.specs.Account.{Done, Peer, addresses}
-use Rattle.abi_driver.specs.Laws.{Adds, After, At, Facts, item_data, ofs}
-use Rattle.abi_driver.specs.Lifts.{MayTake, OneStands, by_taking}
-use Rattle.abi_driver.specs.Meaning.{Meaning, of, word}
-use Rattle.abi_driver.specs.Parts.{PartsStand}
-use Rattle.abi_driver.specs.Places.{HasRoom, HavePlaces}
-use Rattle.abi_driver.specs.Touches.{reached}
+use Rattle.abi_bindgen.specs.Account.{Done, Peer, addresses}
+use Rattle.abi_bindgen.specs.Laws.{Adds, After, At, Facts, item_data, ofs}
+use Rattle.abi_bindgen.specs.Lifts.{MayTake, OneStands, by_taking}
+use Rattle.abi_bindgen.specs.Meaning.{Meaning, of, word}
+use Rattle.abi_bindgen.specs.Parts.{PartsStand}
+use Rattle.abi_bindgen.specs.Places.{HasRoom, HavePlaces}
+use Rattle.abi_bindgen.specs.Touches.{reached}
 
 module _ {Self Operand : Type 0} (m : Meaning Self Operand) where
   -- the code makes operands of items, which own what was taken over

@@ -11,14 +11,14 @@ use Rattle.wrapper_meaning.specs.InRange.{AreListed, IsListed}
 use Rattle.wrapper_meaning.specs.Layout.{layout, layouts}
 use Rattle.wrapper_meaning.specs.Shape.{Shape, Shapes}
 use Rattle.wrapper_meaning.specs.Value.{Parts, Value}
-use Rattle.abi_driver.specs.Account.{Account, Done, Got, Peer, addresses, is_taken, without}
-use Rattle.abi_driver.specs.Frees.{nowhere}
-use Rattle.abi_driver.specs.Laws.{Adds, After, At, Facts, args, item_data, ofs}
-use Rattle.abi_driver.specs.Leaves.{way}
-use Rattle.abi_driver.specs.Meaning.{Meaning, item, of, word}
-use Rattle.abi_driver.specs.Parts.{PartsStand}
-use Rattle.abi_driver.specs.Places.{HasRoom, HavePlaces, IsWritten, replaced}
-use Rattle.abi_driver.specs.Touches.{reached}
+use Rattle.abi_bindgen.specs.Account.{Account, Done, Got, Peer, addresses, is_taken, without}
+use Rattle.abi_bindgen.specs.Frees.{nowhere}
+use Rattle.abi_bindgen.specs.Laws.{Adds, After, At, Facts, args, item_data, ofs}
+use Rattle.abi_bindgen.specs.Leaves.{way}
+use Rattle.abi_bindgen.specs.Meaning.{Meaning, item, of, word}
+use Rattle.abi_bindgen.specs.Parts.{PartsStand}
+use Rattle.abi_bindgen.specs.Places.{HasRoom, HavePlaces, IsWritten, replaced}
+use Rattle.abi_bindgen.specs.Touches.{reached}
 
 -- each of these blocks has an owner, and those are left when they are let go, one after another
 abbrev pub Releases : List ℕ → (taken left : List ℕ) → Type 0

@@ -9,8 +9,8 @@ use Rattle.abi_driver.specs.declared.calls.LiftLower.{LiftLower}
 use Rattle.abi_driver.specs.declared.calls.LiftLower.TheVariants.{LiftArgsLowerResults, LowerArgsLiftResults}
 use Rattle.abi_driver.specs.Exports.{CallsExport, export_params}
 use Rattle.abi_driver.specs.Imports.{CallsImport}
-use Rattle.abi_driver.specs.Laws.{IsCount}
-use Rattle.abi_driver.specs.Meaning.{Meaning}
+use Rattle.abi_bindgen.specs.Laws.{IsCount}
+use Rattle.abi_bindgen.specs.Meaning.{Meaning}
 
 -- an import lowers its arguments, and an export lifts them
 abbrev pub IsWay : AbiVariant → LiftLower → Type 0

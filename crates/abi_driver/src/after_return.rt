@@ -4,15 +4,13 @@ ghost use Rattle.std.specs.Prelude.{◌<◌, IsTrue, length, IfSome, OnOk};
 ghost use Rattle.std.specs.Option.{option_map};
 ghost use Rattle.wit_model.specs.TypeOrder.{GoesDown, payload_below};
 ghost use Rattle.wrapper_meaning.specs.Shape.{result_shape, shape_of};
-ghost use Rattle.abi_driver.specs.Code.{free_result_code, post_return_code};
-ghost use Rattle.abi_driver.specs.Frees.{FreesResult, PostReturns};
-ghost use Rattle.abi_driver.specs.Laws.{Adds};
-ghost use Rattle.abi_driver.specs.Sends.{Sends};
+ghost use Rattle.abi_bindgen.specs.Code.{free_result_code, post_return_code};
+ghost use Rattle.abi_bindgen.specs.Frees.{FreesResult, PostReturns};
+ghost use Rattle.abi_bindgen.specs.Laws.{Adds};
+ghost use Rattle.abi_bindgen.specs.Sends.{Sends};
 
-use crate::bindgen::Bindgen;
 use crate::dealloc::memory::free_type;
-use crate::instruction::Instruction;
-use crate::send::{argument, send};
+use abi_bindgen::{Bindgen, Instruction, argument, send};
 use std::alloc::Global;
 use wit_model::{ArchitectureSize, Function, List, OutOfMemory, Resolve, WitType};
 

@@ -8,13 +8,13 @@ mod record;
 ghost use Rattle.std.specs.Prelude.{◌≡◌, true, OnOk};
 ghost use Rattle.wit_model.specs.IndexRange.{function_in_range};
 ghost use Rattle.wit_model.specs.WellFormed.{IsWellFormed};
-ghost use Rattle.abi_driver.specs.Code.{call_code};
-ghost use Rattle.abi_driver.specs.Sends.{Sends};
+ghost use Rattle.abi_bindgen.specs.Code.{call_code};
+ghost use Rattle.abi_bindgen.specs.Sends.{Sends};
 ghost use Rattle.abi_driver.specs.WholeCalls.{CallsFunction, HasArguments, IsServed, IsWay};
 
-use crate::bindgen::Bindgen;
 use crate::calls::export::call_export;
 use crate::calls::import::call_import;
+use abi_bindgen::Bindgen;
 use std::alloc::Global;
 use wit_layout::AbiVariant;
 use wit_model::{Function, OutOfMemory, Resolve};

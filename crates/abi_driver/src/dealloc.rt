@@ -8,14 +8,14 @@ mod variants;
 ghost use Rattle.std.specs.Prelude.{◌≡◌, true, length, OnOk};
 ghost use Rattle.std.specs.List.{list_all};
 ghost use Rattle.wit_model.specs.TypeOrder.{GoesDown, type_below};
-ghost use Rattle.abi_driver.specs.Code.{free_types_code};
-ghost use Rattle.abi_driver.specs.Frees.{FreesTypes};
-ghost use Rattle.abi_driver.specs.Instructions.{shapes_of};
-ghost use Rattle.abi_driver.specs.Sends.{Sends};
+ghost use Rattle.abi_bindgen.specs.Code.{free_types_code};
+ghost use Rattle.abi_bindgen.specs.Frees.{FreesTypes};
+ghost use Rattle.abi_bindgen.specs.Instructions.{shapes_of};
+ghost use Rattle.abi_bindgen.specs.Sends.{Sends};
 
-use crate::bindgen::Bindgen;
 use crate::dealloc::flat::free_words;
 use crate::dealloc::memory::free_record;
+use abi_bindgen::Bindgen;
 use std::alloc::Global;
 use wit_model::{List, OutOfMemory, Resolve, WitType};
 

@@ -7,7 +7,7 @@ ghost use Rattle.wit_model.specs.TypeOrder.{GoesDown, payload_below, type_below}
 ghost use Rattle.wit_model.specs.declared.types.WitType.{WitType};
 ghost use Rattle.wrapper_meaning.specs.Kinds.{has_list, result_has_list};
 ghost use Rattle.wrapper_meaning.specs.Shape.{result_shape, shape_at, shape_of};
-ghost use Rattle.abi_driver.specs.HasList.{IsKindOf, is_list, is_told_by_parts, payload_has_list};
+ghost use Rattle.abi_bindgen.specs.HasList.{IsKindOf, is_list, is_told_by_parts, payload_has_list};
 
 use wit_model::{Function, Resolve, TypeDefKind, TypeId, WitType};
 

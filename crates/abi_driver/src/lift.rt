@@ -13,25 +13,23 @@ ghost use Rattle.wit_model.specs.WellFormed.{IsWellFormed};
 ghost use Rattle.wit_model.specs.declared.types.WitType.TheVariants.{Id};
 ghost use Rattle.wrapper_meaning.specs.Shape.{payload_in, payloads_in, shape_at, shape_of, shapes};
 ghost use Rattle.wrapper_meaning.specs.Shape.Shapes.{none, more};
-ghost use Rattle.abi_driver.specs.CaseBlocks.{LiftsCases};
-ghost use Rattle.abi_driver.specs.Cases.{result_counts};
-ghost use Rattle.abi_driver.specs.Code.{each, lift_case, lift_code, payload_words, shared_slots};
-ghost use Rattle.abi_driver.specs.HasList.{IsKindOf};
-ghost use Rattle.abi_driver.specs.Instructions.{has_cases, shapes_of};
-ghost use Rattle.abi_driver.specs.Lifts.{LiftsAll, LiftsFlat};
-ghost use Rattle.abi_driver.specs.Sends.{Sends};
-ghost use Rattle.abi_driver.specs.SlotCasts.{FitIn};
+ghost use Rattle.abi_bindgen.specs.CaseBlocks.{LiftsCases};
+ghost use Rattle.abi_bindgen.specs.Cases.{result_counts};
+ghost use Rattle.abi_bindgen.specs.Code.{each, lift_case, lift_code, payload_words, shared_slots};
+ghost use Rattle.abi_bindgen.specs.HasList.{IsKindOf};
+ghost use Rattle.abi_bindgen.specs.Instructions.{has_cases, shapes_of};
+ghost use Rattle.abi_bindgen.specs.Lifts.{LiftsAll, LiftsFlat};
+ghost use Rattle.abi_bindgen.specs.Sends.{Sends};
+ghost use Rattle.abi_bindgen.specs.SlotCasts.{FitIn};
 
-use crate::bindgen::{Bindgen, Operand};
-use crate::casts::cast_words;
-use crate::instruction::Instruction;
 use crate::lift::enums::lift_enum;
 use crate::lift::flags::lift_flags;
 use crate::lift::leaf::{lift_scalar, lift_text, scalar_lifting};
 use crate::lift::variants::{case_lifting, close_payload, lift_bare};
-use crate::lower::variants::kind_payloads;
-use crate::parts::{field_types, part_count};
-use crate::send::{only, push_copies, send_one};
+use abi_bindgen::{
+    Bindgen, Instruction, Operand, cast_words, field_types, kind_payloads, only, part_count,
+    push_copies, send_one,
+};
 use std::alloc::Global;
 use wit_layout::flat_types;
 use wit_model::{List, OutOfMemory, Resolve, TypeDefKind, TypeId, WasmType, WitType};

@@ -3,7 +3,6 @@
 pub(crate) mod enums;
 pub(crate) mod flags;
 pub(crate) mod load;
-pub(crate) mod number;
 pub(crate) mod place;
 pub(crate) mod store;
 pub(crate) mod variants;

@@ -13,9 +13,9 @@ use Rattle.rust_tree.specs.declared.item.Item.TheVariants as item
 use Rattle.rust_tree.specs.declared.runtime_item.RuntimeItem.{RuntimeItem}
 use Rattle.wrapper_data.specs.declared.choice.Request.{Request}
 use Rattle.wrapper_run.specs.Places.{area_in}
-use Rattle.abi_driver.specs.declared.bindgen.Asked.{Asked}
-use Rattle.abi_driver.specs.Area.{HasRoomFor, HoldsRecord, IsAlignment}
-use Rattle.abi_driver.proofs.AllLemmas.{all_both}
+use Rattle.abi_bindgen.specs.declared.bindgen.Asked.{Asked}
+use Rattle.abi_bindgen.specs.Area.{HasRoomFor, HoldsRecord, IsAlignment}
+use Rattle.abi_bindgen.proofs.AllLemmas.{all_both}
 use Rattle.func_gen.specs.declared.function_bindgen.FunctionBindgen.{FunctionBindgen}
 use Rattle.func_gen.specs.Area.{asking}
 use Rattle.func_gen.specs.Meaning.{File, Found, IsArea, Serves, static_request}

@@ -36,14 +36,14 @@ use Rattle.wrapper_run.proofs.QuietSteps.{quiet_static}
 use Rattle.wrapper_run.proofs.StepLemmas.{Quiet, quiet_or_stop}
 use Rattle.wrapper_run.proofs.StmtSteps.{runs-let}
 use Rattle.wrapper_run.proofs.TakeLemmas.{area_gives, eval-return_pointer}
-use Rattle.abi_driver.specs.declared.bindgen.Asked.{Asked}
-use Rattle.abi_driver.specs.Account.{Done, Follows, Got, Outcome, Peer, Stopped, Stuck}
-use Rattle.abi_driver.specs.Area.{HoldsRecord, IsAlignment, newly, placed, pointing}
-use Rattle.abi_driver.specs.Area as areas
-use Rattle.abi_driver.specs.Laws.{After, At, Facts, Grows, PointsTo, Quiet as QuietCode}
-use Rattle.abi_driver.specs.Meaning.{of, word}
-use Rattle.abi_driver.proofs.AllLemmas.{all_left, all_right}
-use Rattle.abi_driver.proofs.Runs.{follows_more, grows_both, quiet_both, stops_same}
+use Rattle.abi_bindgen.specs.declared.bindgen.Asked.{Asked}
+use Rattle.abi_bindgen.specs.Account.{Done, Follows, Got, Outcome, Peer, Stopped, Stuck}
+use Rattle.abi_bindgen.specs.Area.{HoldsRecord, IsAlignment, newly, placed, pointing}
+use Rattle.abi_bindgen.specs.Area as areas
+use Rattle.abi_bindgen.specs.Laws.{After, At, Facts, Grows, PointsTo, Quiet as QuietCode}
+use Rattle.abi_bindgen.specs.Meaning.{of, word}
+use Rattle.abi_bindgen.proofs.AllLemmas.{all_left, all_right}
+use Rattle.abi_bindgen.proofs.Runs.{follows_more, grows_both, quiet_both, stops_same}
 use Rattle.func_gen.specs.declared.function_bindgen.FunctionBindgen.{FunctionBindgen}
 use Rattle.func_gen.specs.Added.{Appends, Fresh}
 use Rattle.func_gen.specs.Area.{area_pointer, asking}

@@ -21,11 +21,11 @@ use Rattle.wrapper_run.specs.Inward.{AskedAlike, AsksNothing}
 use Rattle.wrapper_run.specs.OuterLocals.{IsInReach, OwnNothing, RunsBehind}
 use Rattle.wrapper_run.proofs.AskLemmas.{asks_bind, asks_pure, asks_stop, asks_then}
 use Rattle.wrapper_run.proofs.StepLemmas.{calls_at}
-use Rattle.abi_driver.specs.Account.{Done, Follows, Outcome, Peer, Stopped, Stuck, account_in, then_do}
-use Rattle.abi_driver.specs.Arms.{Armed, arm}
-use Rattle.abi_driver.specs.Laws.{Data}
-use Rattle.abi_driver.specs.Meaning.{Ended, with_nothing}
-use Rattle.abi_driver.specs.Turns.{Went}
+use Rattle.abi_bindgen.specs.Account.{Done, Follows, Outcome, Peer, Stopped, Stuck, account_in, then_do}
+use Rattle.abi_bindgen.specs.Arms.{Armed, arm}
+use Rattle.abi_bindgen.specs.Laws.{Data}
+use Rattle.abi_bindgen.specs.Meaning.{Ended, with_nothing}
+use Rattle.abi_bindgen.specs.Turns.{Went}
 use Rattle.func_gen.specs.declared.function_bindgen.FinishedBlock.{FinishedBlock}
 use Rattle.func_gen.specs.Entered.{entered, is_nothing, reached}
 use Rattle.func_gen.specs.Finished.{data_of, left_owners, outside, results_act, slot_before}

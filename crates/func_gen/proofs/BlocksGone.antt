@@ -7,8 +7,8 @@ use Rattle.rust_tree.specs.declared.stmt.Stmt.{Stmt}
 use Rattle.wrapper_values.specs.Setting.{Setting}
 use Rattle.wrapper_run.specs.Run.{run_stmts}
 use Rattle.wrapper_run.proofs.StepLemmas.{Quiet}
-use Rattle.abi_driver.specs.Instructions.{AddsCode}
-use Rattle.abi_driver.specs.Laws as law
+use Rattle.abi_bindgen.specs.Instructions.{AddsCode}
+use Rattle.abi_bindgen.specs.Laws as law
 use Rattle.func_gen.specs.declared.function_bindgen.FinishedBlock.{FinishedBlock}
 use Rattle.func_gen.specs.declared.function_bindgen.FunctionBindgen.{FunctionBindgen}
 use Rattle.func_gen.specs.Added.{Appends}

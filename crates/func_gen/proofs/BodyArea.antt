@@ -5,7 +5,7 @@ use Rattle.std.specs.List.{fold}
 use Rattle.std.proofs.lemmas.List.{drop_all}
 use Rattle.wit_model.specs.Size.{greater_alignment, greater_size}
 use Rattle.wit_model.specs.declared.size.Alignment.TheVariants.{Bytes}
-use Rattle.abi_driver.specs.declared.bindgen.Asked.{Asked}
+use Rattle.abi_bindgen.specs.declared.bindgen.Asked.{Asked}
 use Rattle.func_gen.specs.Body.{greater, needed}
 
 folded : (a : Asked) (asked : List Asked) → fold greater a asked ≡ record { size = fold greater_size a.size (map (λ (b : Asked). b.size) asked); align = fold greater_alignment a.align (map (λ (b : Asked). b.align) asked) }

@@ -29,7 +29,7 @@ use Rattle.wrapper_run.proofs.LocalLemmas.{reads-new, reads-past}
 use Rattle.wrapper_run.proofs.OwningLemmas.{buffer-text, no_buffer-f32, no_buffer-f64, no_buffer-number}
 use Rattle.wrapper_run.proofs.QuietSteps.{quiet_as_ptr, quiet_len, quiet_let}
 use Rattle.wrapper_run.proofs.StepLemmas.{Quiet, as_ptr_gives, len_gives}
-use Rattle.abi_driver.specs.Meaning.{Fact, item, of, word}
+use Rattle.abi_bindgen.specs.Meaning.{Fact, item, of, word}
 use Rattle.func_gen.specs.declared.function_bindgen.FunctionBindgen.{FunctionBindgen}
 use Rattle.func_gen.specs.declared.operand.ExprOperand.{ExprOperand}
 use Rattle.func_gen.specs.Facts.{Hold}

@@ -38,12 +38,12 @@ use Rattle.wrapper_run.specs.Run.{alone, answer_act, call_point, called_with, ca
 use Rattle.wrapper_run.proofs.LocalLemmas.{bytes_eq-same, last-append, reads-new}
 use Rattle.wrapper_run.proofs.StepLemmas.{Give, call_gives, import_gives}
 use Rattle.wrapper_run.proofs.StmtSteps.{run-import, runs-expr, runs-first, runs-let}
-use Rattle.abi_driver.specs.declared.instruction.Instruction.TheVariants as instruction
-use Rattle.abi_driver.specs.Account.{Account, Done, Follows, Got, Outcome, Peer, Reply, Stuck, has_type, have_types, value as value_reply, words}
-use Rattle.abi_driver.specs.Calls.{CallsCore, answered_by, calling, call_point as core_point, import_params, import_results, recorded}
-use Rattle.abi_driver.specs.Instructions.{Emits}
-use Rattle.abi_driver.specs.Laws.{After, Facts, core_data, ofs}
-use Rattle.abi_driver.specs.Meaning.{Fact, of, word}
+use Rattle.abi_bindgen.specs.declared.instruction.Instruction.TheVariants as instruction
+use Rattle.abi_bindgen.specs.Account.{Account, Done, Follows, Got, Outcome, Peer, Reply, Stuck, has_type, have_types, value as value_reply, words}
+use Rattle.abi_bindgen.specs.Calls.{CallsCore, answered_by, calling, call_point as core_point, import_params, import_results, recorded}
+use Rattle.abi_bindgen.specs.Instructions.{Emits}
+use Rattle.abi_bindgen.specs.Laws.{After, Facts, core_data, ofs}
+use Rattle.abi_bindgen.specs.Meaning.{Fact, of, word}
 use Rattle.func_gen.specs.declared.function_bindgen.FunctionBindgen.{FunctionBindgen}
 use Rattle.func_gen.specs.declared.operand.ExprOperand.{ExprOperand}
 use Rattle.func_gen.specs.CallForms.{AddsCall, AddsStatement, FreshAll, exprs, import_of, local_path, import_name}
@@ -68,7 +68,7 @@ use Rattle.func_gen.proofs.Rows.{same_area}
 use Rattle.func_gen.proofs.Steps.{func_grows, ran}
 use Rattle.func_gen.proofs.Forming.{still_of, written}
 use Rattle.wrapper_meaning.proofs.PostReturn.{total-append}
-use Rattle.abi_driver.proofs.SaysTypes.{types_length}
+use Rattle.abi_bindgen.proofs.SaysTypes.{types_length}
 use Rattle.func_gen.proofs.Writing.{there_first}
 
 -- 1. What has an owner is there still, once the peer has answered

@@ -15,7 +15,7 @@ use Rattle.wrapper_data.specs.declared.word.Word.TheVariants as core
 use Rattle.wrapper_values.specs.declared.state.Val.TheVariants as val
 use Rattle.wrapper_values.specs.Effect.{is_word_of}
 use Rattle.wrapper_run.specs.Run.{words_of}
-use Rattle.abi_driver.specs.Account.{has_type, have_types}
+use Rattle.abi_bindgen.specs.Account.{has_type, have_types}
 use Rattle.wit_layout.proofs.SignatureSteps.{direct_short}
 
 -- 1. Words of core types

@@ -28,7 +28,7 @@ use Rattle.wrapper_run.specs.Run.{arm_act, eval, run_stmts}
 use Rattle.wrapper_run.proofs.AskLemmas.{asks_within}
 use Rattle.wrapper_run.proofs.InwardWalk.{walks_given}
 use Rattle.wrapper_run.proofs.OuterLemmas.{behind_within}
-use Rattle.abi_driver.specs.Meaning.{Bound, the_payload, with_nothing, with_payload}
+use Rattle.abi_bindgen.specs.Meaning.{Bound, the_payload, with_nothing, with_payload}
 use Rattle.func_gen.specs.declared.case_form.CaseForm.{CaseForm}
 use Rattle.func_gen.specs.declared.case_form.CaseForm.TheVariants as form
 use Rattle.func_gen.specs.declared.function_bindgen.FinishedBlock.{FinishedBlock}

@@ -9,10 +9,10 @@ use Rattle.wit_model.specs.declared.name.TypeId.{TypeId}
 use Rattle.wit_model.specs.declared.types.TypeDef.{TypeDef}
 use Rattle.rust_tree.specs.declared.expr.Expr.{Expr}
 use Rattle.wrapper_meaning.specs.Shape.{Shapes}
-use Rattle.abi_driver.specs.declared.instruction.Instruction.TheVariants.{OptionLower, ResultLower, VariantLower}
-use Rattle.abi_driver.specs.Cases.{LowersCase, case_shapes, payloads_at}
-use Rattle.abi_driver.specs.Instructions.{AddsCode, Emits}
-use Rattle.abi_driver.specs.Laws.{Adds, Grows, Quiet}
+use Rattle.abi_bindgen.specs.declared.instruction.Instruction.TheVariants.{OptionLower, ResultLower, VariantLower}
+use Rattle.abi_bindgen.specs.Cases.{LowersCase, case_shapes, payloads_at}
+use Rattle.abi_bindgen.specs.Instructions.{AddsCode, Emits}
+use Rattle.abi_bindgen.specs.Laws.{Adds, Grows, Quiet}
 use Rattle.func_gen.specs.declared.case_form.CaseForm.{CaseForm}
 use Rattle.func_gen.specs.declared.function_bindgen.FinishedBlock.{FinishedBlock}
 use Rattle.func_gen.specs.declared.function_bindgen.FunctionBindgen.{FunctionBindgen}

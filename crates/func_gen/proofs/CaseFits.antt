@@ -10,8 +10,8 @@ use Rattle.rust_tree.specs.declared.item.Item.{Item}
 use Rattle.rust_tree.specs.declared.path.Path.{Path}
 use Rattle.wrapper_meaning.specs.Shape.{is_nothing, payload_in, payloads_in, shape_of, shapes}
 use Rattle.wrapper_values.specs.Variants.{case_number, is_core_option, is_core_result, number_in_option, number_in_result}
-use Rattle.abi_driver.specs.Cases.{case_shapes, payloads_of, payloads_or}
-use Rattle.abi_driver.specs.HasList.{IsKindOf}
+use Rattle.abi_bindgen.specs.Cases.{case_shapes, payloads_of, payloads_or}
+use Rattle.abi_bindgen.specs.HasList.{IsKindOf}
 use Rattle.func_gen.specs.declared.case_form.CaseForm.{CaseForm}
 use Rattle.func_gen.specs.declared.case_form.CaseForm.TheVariants as taken
 use Rattle.func_gen.specs.CaseForms.{AreOptionForms, AreResultForms, IsSome, core_path, option_forms, side_form}

@@ -12,9 +12,9 @@ use Rattle.wit_model.specs.declared.types.TypeDef.{TypeDef}
 use Rattle.wit_model.specs.declared.types.WitType.{WitType}
 use Rattle.rust_tree.specs.declared.expr.Expr.{Expr}
 use Rattle.wrapper_values.specs.Setting.{Setting}
-use Rattle.abi_driver.specs.declared.instruction.Instruction.TheVariants.{OptionLift, ResultLift, VariantLift}
-use Rattle.abi_driver.specs.Cases.{payloads_at, payloads_of, payloads_or}
-use Rattle.abi_driver.specs.Instructions.{Emits}
+use Rattle.abi_bindgen.specs.declared.instruction.Instruction.TheVariants.{OptionLift, ResultLift, VariantLift}
+use Rattle.abi_bindgen.specs.Cases.{payloads_at, payloads_of, payloads_or}
+use Rattle.abi_bindgen.specs.Instructions.{Emits}
 use Rattle.func_gen.specs.declared.case_form.CaseForm.{CaseForm}
 use Rattle.func_gen.specs.declared.function_bindgen.FunctionBindgen.{FunctionBindgen}
 use Rattle.func_gen.specs.CalledCases.{calls_case, is_called, is_lift, is_other_module, names_case}

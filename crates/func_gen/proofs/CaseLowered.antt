@@ -4,8 +4,8 @@ use Rattle.wit_model.specs.Bytes.{Bytes}
 use Rattle.wit_model.specs.declared.name.TypeId.{TypeId}
 use Rattle.wit_model.specs.declared.types.TypeDef.{TypeDef}
 use Rattle.rust_tree.specs.declared.expr.Expr.{Expr}
-use Rattle.abi_driver.specs.declared.instruction.Instruction.TheVariants.{OptionLower, ResultLower, VariantLower}
-use Rattle.abi_driver.specs.Instructions.{Emits}
+use Rattle.abi_bindgen.specs.declared.instruction.Instruction.TheVariants.{OptionLower, ResultLower, VariantLower}
+use Rattle.abi_bindgen.specs.Instructions.{Emits}
 use Rattle.func_gen.specs.declared.case_form.CaseForm.{CaseForm}
 use Rattle.func_gen.specs.declared.function_bindgen.FunctionBindgen.{FunctionBindgen}
 use Rattle.func_gen.specs.CaseForms.{AreOptionForms, AreResultForms, AreVariantForms}

@@ -35,14 +35,14 @@ use Rattle.wrapper_run.specs.OuterLocals.{IsInReach}
 use Rattle.wrapper_run.specs.Run.{arm_act, eval, run_stmt, run_stmts}
 use Rattle.wrapper_run.proofs.StepLemmas.{Quiet}
 use Rattle.wrapper_run.proofs.VariantSteps.{match_runs}
-use Rattle.abi_driver.specs.Account.{Account, Done, Follows, Outcome, Peer, Stopped, Stuck, account_in, then_do}
-use Rattle.abi_driver.specs.Arms.{Armed, arm, arms, gives_any}
-use Rattle.abi_driver.specs.Blocks.{owned_datum}
-use Rattle.abi_driver.specs.Cases.{LowersCase, PayloadStands, with_case}
-use Rattle.abi_driver.specs.Laws.{At, Data, Facts, ofs}
-use Rattle.abi_driver.specs.Meaning.{Bound, Ended, item, of}
-use Rattle.abi_driver.specs.Parts.{count}
-use Rattle.abi_driver.specs.Turns.{Arrives, Moved, Went}
+use Rattle.abi_bindgen.specs.Account.{Account, Done, Follows, Outcome, Peer, Stopped, Stuck, account_in, then_do}
+use Rattle.abi_bindgen.specs.Arms.{Armed, arm, arms, gives_any}
+use Rattle.abi_bindgen.specs.Blocks.{owned_datum}
+use Rattle.abi_bindgen.specs.Cases.{LowersCase, PayloadStands, with_case}
+use Rattle.abi_bindgen.specs.Laws.{At, Data, Facts, ofs}
+use Rattle.abi_bindgen.specs.Meaning.{Bound, Ended, item, of}
+use Rattle.abi_bindgen.specs.Parts.{count}
+use Rattle.abi_bindgen.specs.Turns.{Arrives, Moved, Went}
 use Rattle.func_gen.specs.declared.case_form.CaseForm.{CaseForm}
 use Rattle.func_gen.specs.declared.function_bindgen.FinishedBlock.{FinishedBlock}
 use Rattle.func_gen.specs.declared.function_bindgen.FunctionBindgen.{FunctionBindgen}

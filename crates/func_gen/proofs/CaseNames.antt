@@ -20,7 +20,7 @@ use Rattle.rust_tree.specs.declared.variant_item.VariantCase.{VariantCase}
 use Rattle.rust_tree.specs.declared.variant_item.VariantItem.{VariantItem}
 use Rattle.wrapper_meaning.specs.Shape.{is_nothing, payload_in, payloads_in, shape_of, shapes}
 use Rattle.wrapper_meaning.proofs.Lists.{some_same}
-use Rattle.abi_driver.specs.Cases.{case_shapes, payloads_at, payloads_of, payloads_or}
+use Rattle.abi_bindgen.specs.Cases.{case_shapes, payloads_at, payloads_of, payloads_or}
 use Rattle.wrapper_values.specs.Fields.{type_named}
 use Rattle.wrapper_values.specs.Variants.{case_number, in_32_bits, number_at_root, number_in, number_in_variant}
 use Rattle.wrapper_run.proofs.LocalLemmas.{bytes_eq-same}

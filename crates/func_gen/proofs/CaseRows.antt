@@ -31,8 +31,8 @@ use Rattle.wrapper_values.specs.declared.state.State.{State}
 use Rattle.wrapper_values.specs.declared.state.Val.{Val}
 use Rattle.wrapper_values.specs.declared.state.Val.TheVariants as val
 use Rattle.wrapper_values.specs.Owning.{owned, owned_by, owned_in, taken_by}
-use Rattle.abi_driver.specs.Cases.{PayloadStands, with_case}
-use Rattle.abi_driver.specs.Parts.{count}
+use Rattle.abi_bindgen.specs.Cases.{PayloadStands, with_case}
+use Rattle.abi_bindgen.specs.Parts.{count}
 use Rattle.func_gen.specs.declared.case_form.CaseForm.{CaseForm}
 use Rattle.func_gen.specs.declared.case_form.CaseForm.TheVariants as form
 use Rattle.func_gen.specs.Meaning.{IsNormal, func_meaning, passing_level}

@@ -14,7 +14,7 @@ use Rattle.wrapper_meaning.specs.StandsFor as rust
 use Rattle.wrapper_meaning.specs.StandsFor.{CaseStands, Standing}
 use Rattle.wrapper_meaning.specs.Value.{Case, case_number}
 use Rattle.wrapper_values.specs.Owning.{owned_by}
-use Rattle.abi_driver.specs.Cases.{PayloadStands}
+use Rattle.abi_bindgen.specs.Cases.{PayloadStands}
 use Rattle.func_gen.specs.Meaning.{IsNormal, StandsAsItIs, func_meaning}
 use Rattle.func_gen.specs.StandLemmas.{owned-none, owned-some, owned-unit}
 use Rattle.func_gen.proofs.Normals.{normal_case, normal_unit, passing}

@@ -35,9 +35,9 @@ use Rattle.wrapper_run.specs.Run.{eval, run_stmt, run_stmts}
 use Rattle.wrapper_run.proofs.LocalLemmas.{bytes_eq-same, reads-new}
 use Rattle.wrapper_run.proofs.StepLemmas.{Quiet, quiet_bind, quiet_or_stop, quiet_pure, quiet_then}
 use Rattle.wrapper_run.proofs.StmtSteps.{run-slot, run-write, runs-first}
-use Rattle.abi_driver.specs.Constants.{AreCasts, CastsWords, cast_words}
-use Rattle.abi_driver.specs.Laws.{Facts, core_data, ofs}
-use Rattle.abi_driver.specs.Meaning.{Fact, of, word}
+use Rattle.abi_bindgen.specs.Constants.{AreCasts, CastsWords, cast_words}
+use Rattle.abi_bindgen.specs.Laws.{Facts, core_data, ofs}
+use Rattle.abi_bindgen.specs.Meaning.{Fact, of, word}
 use Rattle.func_gen.specs.Slot.{Slot}
 use Rattle.func_gen.specs.declared.function_bindgen.FunctionBindgen.{FunctionBindgen}
 use Rattle.func_gen.specs.declared.operand.ExprOperand.{ExprOperand}
@@ -60,10 +60,10 @@ use Rattle.func_gen.proofs.Quiet.{quiet_operand}
 use Rattle.func_gen.proofs.Several.{add_local}
 use Rattle.wit_model.specs.declared.types.TypeDef.{TypeDef}
 use Rattle.rust_tree.specs.declared.item.Item.{Item}
-use Rattle.abi_driver.specs.declared.instruction.Instruction.TheVariants.{Bitcasts}
-use Rattle.abi_driver.specs.Account.{Account}
-use Rattle.abi_driver.specs.Instructions.{Emits}
-use Rattle.abi_driver.specs.Sent.{sends}
+use Rattle.abi_bindgen.specs.declared.instruction.Instruction.TheVariants.{Bitcasts}
+use Rattle.abi_bindgen.specs.Account.{Account}
+use Rattle.abi_bindgen.specs.Instructions.{Emits}
+use Rattle.abi_bindgen.specs.Sent.{sends}
 use Rattle.func_gen.specs.declared.function_bindgen.ParamSite.{ParamSite}
 use Rattle.func_gen.specs.Added.{Appends}
 use Rattle.func_gen.specs.CallForms.{FreshAll}

@@ -22,9 +22,9 @@ use Rattle.rust_tree.specs.declared.stmt.Stmt.{Stmt-F, fold-roll-Stmt}
 use Rattle.rust_tree.specs.declared.stmt.Stmt.TheVariants as stmt
 use Rattle.rust_tree.specs.declared.stmt.Stmt.TheVariants.{rolls-Expr, rolls-Let, rolls-StoreSmall}
 use Rattle.wrapper_run.specs.Run.{lift_name}
-use Rattle.abi_driver.specs.declared.instruction.Instruction.{Instruction}
-use Rattle.abi_driver.specs.declared.instruction.Instruction.TheVariants.{BoolFromI32, EnumLift, EnumLower, FlagsLift, FlagsLower, I32FromBool, I32Load8U, I32Store8, StringLift, StringLower}
-use Rattle.abi_driver.specs.Sent.{sends}
+use Rattle.abi_bindgen.specs.declared.instruction.Instruction.{Instruction}
+use Rattle.abi_bindgen.specs.declared.instruction.Instruction.TheVariants.{BoolFromI32, EnumLift, EnumLower, FlagsLift, FlagsLower, I32FromBool, I32Load8U, I32Store8, StringLift, StringLower}
+use Rattle.abi_bindgen.specs.Sent.{sends}
 use Rattle.func_gen.specs.declared.enum_site.EnumSite.{EnumSite}
 use Rattle.func_gen.specs.declared.flags_site.FlagsSite.{FlagsSite}
 use Rattle.func_gen.specs.declared.function_bindgen.FunctionBindgen.{FunctionBindgen}

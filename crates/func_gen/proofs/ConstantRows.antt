@@ -13,13 +13,13 @@ use Rattle.wrapper_data.specs.declared.word.Word.TheVariants as core
 use Rattle.wrapper_meaning.specs.Words.{word_of_bits}
 use Rattle.wrapper_values.specs.declared.state.State.{State}
 use Rattle.wrapper_values.specs.declared.state.Val.TheVariants as val
-use Rattle.abi_driver.specs.declared.instruction.Instruction.{Instruction}
-use Rattle.abi_driver.specs.declared.instruction.Instruction.TheVariants.{ConstZero, I32Const}
-use Rattle.abi_driver.specs.Constants.{MakesWords}
-use Rattle.abi_driver.specs.Instructions.{Emits}
-use Rattle.abi_driver.specs.Laws.{Facts, core_data, ofs}
-use Rattle.abi_driver.specs.Meaning.{Fact, of, word}
-use Rattle.abi_driver.specs.Sent.{sends}
+use Rattle.abi_bindgen.specs.declared.instruction.Instruction.{Instruction}
+use Rattle.abi_bindgen.specs.declared.instruction.Instruction.TheVariants.{ConstZero, I32Const}
+use Rattle.abi_bindgen.specs.Constants.{MakesWords}
+use Rattle.abi_bindgen.specs.Instructions.{Emits}
+use Rattle.abi_bindgen.specs.Laws.{Facts, core_data, ofs}
+use Rattle.abi_bindgen.specs.Meaning.{Fact, of, word}
+use Rattle.abi_bindgen.specs.Sent.{sends}
 use Rattle.func_gen.specs.Slot.{Slot}
 use Rattle.func_gen.specs.declared.function_bindgen.FunctionBindgen.{FunctionBindgen}
 use Rattle.func_gen.specs.declared.operand.ExprOperand.{ExprOperand}

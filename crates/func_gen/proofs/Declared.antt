@@ -9,7 +9,7 @@ use Rattle.wrapper_data.specs.declared.value.RustValue.{RustValue}
 use Rattle.wrapper_values.specs.declared.state.State.{State}
 use Rattle.wrapper_values.specs.declared.state.Val.{Val}
 use Rattle.wrapper_run.proofs.LocalLemmas.{bytes_eq-same}
-use Rattle.abi_driver.specs.Meaning.{Fact}
+use Rattle.abi_bindgen.specs.Meaning.{Fact}
 use Rattle.func_gen.specs.declared.function_bindgen.FunctionBindgen.{FunctionBindgen}
 use Rattle.func_gen.specs.declared.operand.ExprOperand.{ExprOperand}
 use Rattle.func_gen.specs.declared.scope.Scope.{Scope}

@@ -11,9 +11,9 @@ use Rattle.rust_tree.specs.declared.expr.Expr.TheVariants.{rolls-Local}
 use Rattle.rust_tree.specs.declared.expr.SmallType.{SmallType}
 use Rattle.rust_tree.specs.declared.runtime_item.RuntimeItem.{RuntimeItem}
 use Rattle.rust_tree.specs.declared.stmt.Stmt.TheVariants as stmt
-use Rattle.abi_driver.specs.declared.instruction.Instruction.{Instruction}
-use Rattle.abi_driver.specs.declared.instruction.Instruction.TheVariants.{CoreF32FromF32, CoreF64FromF64, F32FromCoreF32, F32Load, F32Store, F64FromCoreF64, F64Load, F64Store, I32FromChar, I32FromS16, I32FromS32, I32FromS8, I32FromU16, I32FromU32, I32FromU8, I32Load, I32Load16S, I32Load16U, I32Load8S, I32Load8U, I32Store, I32Store16, I32Store8, I64FromS64, I64FromU64, I64Load, I64Store, LengthLoad, LengthStore, PointerLoad, PointerStore, S16FromI32, S32FromI32, S64FromI64, S8FromI32, U16FromI32, U32FromI32, U64FromI64, U8FromI32}
-use Rattle.abi_driver.specs.Sent.{sends}
+use Rattle.abi_bindgen.specs.declared.instruction.Instruction.{Instruction}
+use Rattle.abi_bindgen.specs.declared.instruction.Instruction.TheVariants.{CoreF32FromF32, CoreF64FromF64, F32FromCoreF32, F32Load, F32Store, F64FromCoreF64, F64Load, F64Store, I32FromChar, I32FromS16, I32FromS32, I32FromS8, I32FromU16, I32FromU32, I32FromU8, I32Load, I32Load16S, I32Load16U, I32Load8S, I32Load8U, I32Store, I32Store16, I32Store8, I64FromS64, I64FromU64, I64Load, I64Store, LengthLoad, LengthStore, PointerLoad, PointerStore, S16FromI32, S32FromI32, S64FromI64, S8FromI32, U16FromI32, U32FromI32, U64FromI64, U8FromI32}
+use Rattle.abi_bindgen.specs.Sent.{sends}
 use Rattle.func_gen.specs.declared.function_bindgen.FunctionBindgen.{FunctionBindgen}
 use Rattle.func_gen.specs.CodeOf.{emitted, local_of, local_step}
 use Rattle.func_gen.specs.Emission.{Emission, one_local, converted, effect, alone}

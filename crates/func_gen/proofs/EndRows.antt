@@ -2,12 +2,12 @@
 use Rattle.std.proofs.Common.{◌≡◌, ℕ, List, [], ◌∷◌, ◌++◌, length, Some, refl, sym, ap, subst, append-nil}
 use Rattle.std.specs.Prelude.{option_and_then, slice_get, option_map}
 use Rattle.wit_model.specs.declared.types.TypeDef.{TypeDef}
-use Rattle.abi_driver.specs.declared.instruction.Instruction.TheVariants.{GetArg, Return}
-use Rattle.abi_driver.specs.Instructions.{Emits}
-use Rattle.abi_driver.specs.Laws.{Facts, Grows, ofs}
-use Rattle.abi_driver.specs.Meaning.{arg, of}
-use Rattle.abi_driver.specs.Sent.{sends}
-use Rattle.abi_driver.proofs.Runs.{stops_same}
+use Rattle.abi_bindgen.specs.declared.instruction.Instruction.TheVariants.{GetArg, Return}
+use Rattle.abi_bindgen.specs.Instructions.{Emits}
+use Rattle.abi_bindgen.specs.Laws.{Facts, Grows, ofs}
+use Rattle.abi_bindgen.specs.Meaning.{arg, of}
+use Rattle.abi_bindgen.specs.Sent.{sends}
+use Rattle.abi_bindgen.proofs.Runs.{stops_same}
 use Rattle.func_gen.specs.declared.function_bindgen.FunctionBindgen.{FunctionBindgen}
 use Rattle.func_gen.specs.declared.function_bindgen.ParamSite.{ParamSite}
 use Rattle.func_gen.specs.declared.operand.ExprOperand.{ExprOperand}

@@ -48,13 +48,13 @@ use Rattle.wrapper_run.specs.Run.{call, call_callee, callee, enum_lift, eval, li
 use Rattle.wrapper_run.proofs.LocalLemmas.{bytes_eq-same}
 use Rattle.wrapper_run.proofs.NumberLemmas.{low_i32-s32, num_of-number}
 use Rattle.wrapper_run.proofs.StepLemmas.{Quiet, call_gives, eval-call, quiet_lift_act, quiet_one, quiet_then}
-use Rattle.abi_driver.specs.declared.instruction.Instruction.TheVariants.{EnumLift, EnumLower}
-use Rattle.abi_driver.specs.Account.{Peer, failing, stay}
-use Rattle.abi_driver.specs.Cases.{LiftsEnum, LowersEnum, reading_tag, tag_of}
-use Rattle.abi_driver.specs.Instructions.{Emits}
-use Rattle.abi_driver.specs.Laws.{Does, Facts}
-use Rattle.abi_driver.specs.Meaning.{item, of, word}
-use Rattle.abi_driver.specs.Sent.{sends}
+use Rattle.abi_bindgen.specs.declared.instruction.Instruction.TheVariants.{EnumLift, EnumLower}
+use Rattle.abi_bindgen.specs.Account.{Peer, failing, stay}
+use Rattle.abi_bindgen.specs.Cases.{LiftsEnum, LowersEnum, reading_tag, tag_of}
+use Rattle.abi_bindgen.specs.Instructions.{Emits}
+use Rattle.abi_bindgen.specs.Laws.{Does, Facts}
+use Rattle.abi_bindgen.specs.Meaning.{item, of, word}
+use Rattle.abi_bindgen.specs.Sent.{sends}
 use Rattle.func_gen.specs.declared.enum_site.EnumSite.{EnumSite}
 use Rattle.func_gen.specs.declared.function_bindgen.FunctionBindgen.{FunctionBindgen}
 use Rattle.func_gen.specs.declared.type_site.TypeSite.{TypeSite}
@@ -81,8 +81,8 @@ use Rattle.func_gen.proofs.Quiet.{quiet_cast_of, quiet_operand}
 use Rattle.func_gen.proofs.Rows.{Agrees, let_adds, lets_served, none_adds, swaps}
 use Rattle.wrapper_meaning.proofs.Lists.{some_or, some_same}
 use Rattle.wrapper_meaning.proofs.RustValues.{out-case}
-use Rattle.abi_driver.proofs.BareCases.{case_below, count_bare}
-use Rattle.abi_driver.proofs.EnumSteps.{enum_cases}
+use Rattle.abi_bindgen.proofs.BareCases.{case_below, count_bare}
+use Rattle.abi_bindgen.proofs.EnumLowers.{enum_cases}
 
 -- 1. The cases of an enum have no payload
 

@@ -1,5 +1,5 @@
 -- What an operand reads is what it evaluates to, where that owns no block.
-use Rattle.std.proofs.Common.{rules, ◌≡◌, ℕ, [], ◌∷◌, map, Option, None, Some, refl, sym, ap, ◌∙◌, subst}
+use Rattle.std.proofs.Common.{◌≡◌, ℕ, [], ◌∷◌, map, Option, None, Some, refl, sym, ap, ◌∙◌, subst}
 use Rattle.std.specs.Prelude.{ℤ, option_and_then, Result}
 use Rattle.std.specs.Option.{option_map}
 use Rattle.wit_model.specs.Bytes.{Bytes}
@@ -21,8 +21,8 @@ use Rattle.wrapper_values.specs.declared.owning.View.TheVariants as view_of
 use Rattle.wrapper_values.specs.declared.state.State.{State}
 use Rattle.wrapper_values.specs.declared.state.Val.{Val}
 use Rattle.wrapper_values.specs.declared.state.Val.TheVariants as val
-use Rattle.wrapper_values.specs.Act.{Act, Done, ◌>>=◌, all, and_then, or_stop, pure}
-use Rattle.wrapper_values.specs.CoreWords.{called_on, core_word, zero_word}
+use Rattle.wrapper_values.specs.Act.{Done, ◌>>=◌, all, and_then, or_stop, pure}
+use Rattle.wrapper_values.specs.CoreWords.{called_on, zero_word}
 use Rattle.wrapper_values.specs.Effect.{cast_to, converted, lift_of}
 use Rattle.wrapper_values.specs.Locals.{ask_local, lend_local, local_named, usable, use_local, used, value_of}
 use Rattle.wrapper_values.specs.Owning.{lent, owned, view}

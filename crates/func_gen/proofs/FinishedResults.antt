@@ -16,9 +16,9 @@ use Rattle.wrapper_values.specs.Owning.{owned, owned_by}
 use Rattle.wrapper_values.specs.Setting.{Setting}
 use Rattle.wrapper_run.specs.Run.{eval}
 use Rattle.wrapper_run.proofs.StepLemmas.{Quiet, quiet_pure, quiet_then}
-use Rattle.abi_driver.specs.Blocks.{owned_datum}
-use Rattle.abi_driver.specs.Laws.{Data, Facts, ofs}
-use Rattle.abi_driver.specs.Meaning.{Datum, item, word}
+use Rattle.abi_bindgen.specs.Blocks.{owned_datum}
+use Rattle.abi_bindgen.specs.Laws.{Data, Facts, ofs}
+use Rattle.abi_bindgen.specs.Meaning.{Datum, item, word}
 use Rattle.func_gen.specs.declared.function_bindgen.FunctionBindgen.{FunctionBindgen}
 use Rattle.func_gen.specs.declared.operand.ExprOperand.{ExprOperand}
 use Rattle.func_gen.specs.FactLemmas.{item_rust}

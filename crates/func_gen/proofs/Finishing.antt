@@ -20,12 +20,12 @@ use Rattle.wrapper_values.specs.Owning.{owned_in}
 use Rattle.wrapper_values.specs.Setting.{Setting}
 use Rattle.wrapper_run.specs.Run.{run_stmts}
 use Rattle.wrapper_run.proofs.StepLemmas.{Quiet, calls_at}
-use Rattle.abi_driver.specs.Account.{Account, Done, Peer, account_in}
-use Rattle.abi_driver.specs.Area.{HoldsRecord}
-use Rattle.abi_driver.specs.Blocks.{Finishes, Gives, Lasts, Runs, StopsAlike, owned_datum}
-use Rattle.abi_driver.specs.Laws.{Data, Facts, ofs}
-use Rattle.abi_driver.specs.Meaning.{Bound, Datum}
-use Rattle.abi_driver.proofs.AllLemmas.{all_both, all_left, all_right}
+use Rattle.abi_bindgen.specs.Account.{Account, Done, Peer, account_in}
+use Rattle.abi_bindgen.specs.Area.{HoldsRecord}
+use Rattle.abi_bindgen.specs.Blocks.{Finishes, Gives, Lasts, Runs, StopsAlike, owned_datum}
+use Rattle.abi_bindgen.specs.Laws.{Data, Facts, ofs}
+use Rattle.abi_bindgen.specs.Meaning.{Bound, Datum}
+use Rattle.abi_bindgen.proofs.AllLemmas.{all_both, all_left, all_right}
 use Rattle.func_gen.specs.declared.function_bindgen.Code.{Code}
 use Rattle.func_gen.specs.declared.function_bindgen.FinishedBlock.{FinishedBlock}
 use Rattle.func_gen.specs.declared.function_bindgen.FunctionBindgen.{FunctionBindgen}

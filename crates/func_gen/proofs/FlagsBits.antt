@@ -16,7 +16,7 @@ use Rattle.wrapper_meaning.specs.Words.{AreWords, bits_of}
 use Rattle.wrapper_values.specs.Effect.{low_i32}
 use Rattle.wrapper_values.specs.Flags.{joined, repr_bits, word_at}
 use Rattle.wrapper_values.proofs.FlagsLemmas.{joined_words, words_from, words_sum}
-use Rattle.abi_driver.specs.Account.{has_type, have_types}
+use Rattle.abi_bindgen.specs.Account.{has_type, have_types}
 use Rattle.func_gen.proofs.ScalarRows.{i32_word}
 
 -- 1. The words of bits, the lowest first

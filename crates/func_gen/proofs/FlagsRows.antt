@@ -30,7 +30,7 @@ use Rattle.wrapper_meaning.specs.Numbers.{flags_width}
 use Rattle.wrapper_meaning.specs.Shape.Shape.{flags}
 use Rattle.wrapper_meaning.proofs.Lists.{some_same}
 use Rattle.wrapper_meaning.proofs.RustValues.{out-bits}
-use Rattle.abi_driver.proofs.FlagSteps.{one_count}
+use Rattle.abi_bindgen.proofs.FlagLowers.{one_count}
 use Rattle.func_gen.proofs.Normals.{normal_bits}
 use Rattle.wrapper_meaning.proofs.PostReturn.{total-append}
 use Rattle.wrapper_values.specs.declared.state.State.{State}
@@ -45,14 +45,14 @@ use Rattle.wrapper_values.proofs.FlagsLemmas.{words_from}
 use Rattle.wrapper_run.specs.Run.{eval, eval_step}
 use Rattle.wrapper_run.proofs.LocalLemmas.{reads-new}
 use Rattle.wrapper_run.proofs.StepLemmas.{Give, Quiet, quiet_or_stop, quiet_pure, quiet_then}
-use Rattle.abi_driver.specs.declared.instruction.Instruction.TheVariants.{FlagsLift, FlagsLower}
-use Rattle.abi_driver.specs.Account.{stay}
-use Rattle.abi_driver.specs.FlagSets.{LiftsFlags, LowersFlags}
-use Rattle.abi_driver.specs.Instructions.{Emits}
-use Rattle.abi_driver.specs.Laws.{Facts, Stays, core_data, ofs}
-use Rattle.abi_driver.specs.Meaning.{item, of, word}
-use Rattle.abi_driver.specs.Sent.{sends}
-use Rattle.abi_driver.proofs.SaysTypes.{types_length}
+use Rattle.abi_bindgen.specs.declared.instruction.Instruction.TheVariants.{FlagsLift, FlagsLower}
+use Rattle.abi_bindgen.specs.Account.{stay}
+use Rattle.abi_bindgen.specs.FlagSets.{LiftsFlags, LowersFlags}
+use Rattle.abi_bindgen.specs.Instructions.{Emits}
+use Rattle.abi_bindgen.specs.Laws.{Facts, Stays, core_data, ofs}
+use Rattle.abi_bindgen.specs.Meaning.{item, of, word}
+use Rattle.abi_bindgen.specs.Sent.{sends}
+use Rattle.abi_bindgen.proofs.SaysTypes.{types_length}
 use Rattle.func_gen.specs.declared.flags_site.FlagsSite.{FlagsSite}
 use Rattle.func_gen.specs.declared.function_bindgen.FunctionBindgen.{FunctionBindgen}
 use Rattle.func_gen.specs.declared.operand.ExprOperand.{ExprOperand}

@@ -23,13 +23,13 @@ use Rattle.wrapper_run.specs.Run.{eval, run_stmt, run_stmts}
 use Rattle.wrapper_run.proofs.GiveSteps.{let_runs}
 use Rattle.wrapper_run.proofs.StepLemmas.{Quiet, quiet_bind, quiet_pure, quiet_then}
 use Rattle.wrapper_run.proofs.StmtSteps.{run-let}
-use Rattle.abi_driver.specs.declared.instruction.Instruction.TheVariants.{Flush}
-use Rattle.abi_driver.specs.Account.{Account}
-use Rattle.abi_driver.specs.Calls.{Renames}
-use Rattle.abi_driver.specs.Instructions.{Emits}
-use Rattle.abi_driver.specs.Laws.{Adds, Data, Facts, ofs}
-use Rattle.abi_driver.specs.Meaning.{Datum, Fact, item, of, word}
-use Rattle.abi_driver.specs.Sent.{sends}
+use Rattle.abi_bindgen.specs.declared.instruction.Instruction.TheVariants.{Flush}
+use Rattle.abi_bindgen.specs.Account.{Account}
+use Rattle.abi_bindgen.specs.Calls.{Renames}
+use Rattle.abi_bindgen.specs.Instructions.{Emits}
+use Rattle.abi_bindgen.specs.Laws.{Adds, Data, Facts, ofs}
+use Rattle.abi_bindgen.specs.Meaning.{Datum, Fact, item, of, word}
+use Rattle.abi_bindgen.specs.Sent.{sends}
 use Rattle.func_gen.specs.declared.function_bindgen.FunctionBindgen.{FunctionBindgen}
 use Rattle.func_gen.specs.declared.operand.ExprOperand.{ExprOperand}
 use Rattle.func_gen.specs.Added.{Appends}

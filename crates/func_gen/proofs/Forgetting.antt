@@ -20,7 +20,7 @@ use Rattle.wrapper_run.specs.Run.{call, call_callee, callee, core_forget, eval, 
 use Rattle.wrapper_run.proofs.QuietSteps.{quiet_expr, quiet_forget}
 use Rattle.wrapper_run.proofs.StepLemmas.{Quiet, eval-call, quiet_local, quiet_pure}
 use Rattle.wrapper_run.proofs.StmtSteps.{runs-expr}
-use Rattle.abi_driver.specs.Account.{Account, Done, Got, Outcome, Stopped, Stuck, releasing, without}
+use Rattle.abi_bindgen.specs.Account.{Account, Done, Got, Outcome, Stopped, Stuck, releasing, without}
 use Rattle.func_gen.specs.Facts.{AreOwned, IsThere}
 use Rattle.func_gen.specs.Meaning.{account_of}
 use Rattle.func_gen.specs.TextForms.{forget_names, forget_path, forgotten}

@@ -9,12 +9,12 @@ use Rattle.rust_tree.specs.declared.expr.Expr.TheVariants as expr
 use Rattle.rust_tree.specs.declared.runtime_item.RuntimeItem.{RuntimeItem}
 use Rattle.rust_tree.specs.declared.stmt.Stmt.{Stmt}
 use Rattle.rust_tree.specs.declared.stmt.Stmt.TheVariants as stmt
-use Rattle.abi_driver.specs.declared.instruction.Instruction.{Instruction}
-use Rattle.abi_driver.specs.declared.instruction.Instruction.TheVariants.{CallInterface, CallWasm, GuestDeallocateVariant, OptionLift, OptionLower, ResultLift, ResultLower, Return, VariantLift, VariantLower}
-use Rattle.abi_driver.specs.Instructions.{block_results, lifted_scalar, lowered_scalar}
-use Rattle.abi_driver.specs.Sent.{Sent, sends}
-use Rattle.abi_driver.specs.Touches.{Touch, touch}
-use Rattle.abi_driver.proofs.Ordinary.{IsOrdinary}
+use Rattle.abi_bindgen.specs.declared.instruction.Instruction.{Instruction}
+use Rattle.abi_bindgen.specs.declared.instruction.Instruction.TheVariants.{CallInterface, CallWasm, GuestDeallocateVariant, OptionLift, OptionLower, ResultLift, ResultLower, Return, VariantLift, VariantLower}
+use Rattle.abi_bindgen.specs.Instructions.{block_results, lifted_scalar, lowered_scalar}
+use Rattle.abi_bindgen.specs.Sent.{Sent, sends}
+use Rattle.abi_bindgen.specs.Touches.{Touch, touch}
+use Rattle.abi_bindgen.proofs.Ordinary.{IsOrdinary}
 use Rattle.func_gen.specs.declared.function_bindgen.FinishedBlock.{FinishedBlock}
 use Rattle.func_gen.specs.declared.function_bindgen.FunctionBindgen.{FunctionBindgen}
 use Rattle.func_gen.specs.declared.operand.ExprOperand.{ExprOperand}

@@ -34,12 +34,12 @@ use Rattle.wrapper_run.proofs.QuietSteps.{quiet_expr}
 use Rattle.wrapper_run.proofs.StmtSteps.{runs-expr}
 use Rattle.wrapper_run.proofs.StepLemmas.{Quiet, calls_at, call_gives, eval-call, quiet_pure, quiet_then, quiet_dealloc_words}
 use Rattle.wrapper_run.proofs.FreeSteps.{eval-size, one_byte}
-use Rattle.abi_driver.specs.declared.instruction.Instruction.TheVariants.{GuestDeallocate, GuestDeallocateString}
-use Rattle.abi_driver.specs.Account.{failing}
-use Rattle.abi_driver.specs.Instructions.{Emits}
-use Rattle.abi_driver.specs.Memory.{freed, freeing}
-use Rattle.abi_driver.specs.Meaning.{of, word}
-use Rattle.abi_driver.specs.Sent.{sends}
+use Rattle.abi_bindgen.specs.declared.instruction.Instruction.TheVariants.{GuestDeallocate, GuestDeallocateString}
+use Rattle.abi_bindgen.specs.Account.{failing}
+use Rattle.abi_bindgen.specs.Instructions.{Emits}
+use Rattle.abi_bindgen.specs.Memory.{freed, freeing}
+use Rattle.abi_bindgen.specs.Meaning.{of, word}
+use Rattle.abi_bindgen.specs.Sent.{sends}
 use Rattle.func_gen.specs.declared.function_bindgen.FunctionBindgen.{FunctionBindgen}
 use Rattle.func_gen.specs.Added.{Appends}
 use Rattle.func_gen.specs.Facts.{AreOwned, IsThere}

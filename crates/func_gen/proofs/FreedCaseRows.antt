@@ -17,12 +17,12 @@ use Rattle.wrapper_run.specs.Inward.{is_inward}
 use Rattle.wrapper_run.specs.Results.{run_results}
 use Rattle.wrapper_run.specs.Run.{run_stmts}
 use Rattle.wrapper_run.proofs.AskLemmas.{asks_pure}
-use Rattle.abi_driver.specs.Account.{Follows, Peer}
-use Rattle.abi_driver.specs.Arms.{Armed, arm, gives_nothing}
-use Rattle.abi_driver.specs.Blocks.{owned_datum}
-use Rattle.abi_driver.specs.Laws.{Data, Facts}
-use Rattle.abi_driver.specs.Meaning.{with_nothing}
-use Rattle.abi_driver.specs.Turns.{Arrives, Went}
+use Rattle.abi_bindgen.specs.Account.{Follows, Peer}
+use Rattle.abi_bindgen.specs.Arms.{Armed, arm, gives_nothing}
+use Rattle.abi_bindgen.specs.Blocks.{owned_datum}
+use Rattle.abi_bindgen.specs.Laws.{Data, Facts}
+use Rattle.abi_bindgen.specs.Meaning.{with_nothing}
+use Rattle.abi_bindgen.specs.Turns.{Arrives, Went}
 use Rattle.func_gen.specs.declared.function_bindgen.FinishedBlock.{FinishedBlock}
 use Rattle.func_gen.specs.declared.function_bindgen.FunctionBindgen.{FunctionBindgen}
 use Rattle.func_gen.specs.Finished.{data_of, evaluated, outside, results_act}

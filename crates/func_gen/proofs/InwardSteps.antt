@@ -1,5 +1,5 @@
 -- One level of whether code is inward.
-use Rattle.std.proofs.Common.{◌≡◌, ℕ, Bool, true, false, ◌&&◌, List, [], ◌∷◌, Option, None, Some, map, refl, sym, ap, ◌∙◌}
+use Rattle.std.proofs.Common.{◌≡◌, ℕ, Bool, ◌&&◌, List, [], ◌∷◌, Option, map, refl, sym, ap, ◌∙◌}
 use Rattle.std.specs.List.{list_all}
 use Rattle.std.proofs.lemmas.List.Folds.{list_all-map}
 use Rattle.wit_model.specs.Bytes.{Bytes}
@@ -11,10 +11,10 @@ use Rattle.rust_tree.specs.declared.repr.Repr.{Repr}
 use Rattle.rust_tree.specs.declared.stmt.Arm.{Arm, fold-Arm, fold-roll-Arm, out-Arm, roll-out-Arm}
 use Rattle.rust_tree.specs.declared.stmt.Block.{Block, fold-Block, fold-roll-Block, out-Block, roll-out-Block}
 use Rattle.rust_tree.specs.declared.stmt.MatchNames.{MatchNames}
-use Rattle.rust_tree.specs.declared.stmt.Stmt.{Stmt, Stmt-F, fold-roll-Stmt}
+use Rattle.rust_tree.specs.declared.stmt.Stmt.{Stmt-F, fold-roll-Stmt}
 use Rattle.rust_tree.specs.declared.stmt.Stmt.TheVariants as stmt
 use Rattle.rust_tree.specs.declared.stmt.Stmt.TheVariants.{rolls-Match}
-use Rattle.wrapper_run.specs.Inward.{StmtTest, are_inward, declares_slot, inward_arm_step, inward_block_step, inward_step, inward_stmt_step, is_inward, is_inward_expr, is_inward_tail, is_no_import, plain, stmt_test, writes_slot}
+use Rattle.wrapper_run.specs.Inward.{StmtTest, are_inward, declares_slot, inward_arm_step, inward_block_step, inward_step, inward_stmt_step, is_inward, is_inward_expr, is_no_import, plain, stmt_test, writes_slot}
 use Rattle.wrapper_run.specs.Run.{callee}
 use Rattle.func_gen.specs.InwardTests.{is_inward_arm, passes, slot_behind}
 

@@ -20,8 +20,8 @@ use Rattle.wrapper_values.specs.declared.state.Val.TheVariants as val
 use Rattle.wrapper_values.specs.Locals.{local_named, value_of}
 use Rattle.wrapper_values.specs.Owning.{owned, owned_in}
 use Rattle.wrapper_run.proofs.LocalLemmas.{last-append, reads-past}
-use Rattle.abi_driver.specs.declared.bindgen.Asked.{Asked}
-use Rattle.abi_driver.specs.Meaning.{Datum, Fact, of}
+use Rattle.abi_bindgen.specs.declared.bindgen.Asked.{Asked}
+use Rattle.abi_bindgen.specs.Meaning.{Datum, Fact, of}
 use Rattle.func_gen.specs.declared.function_bindgen.FunctionBindgen.{FunctionBindgen}
 use Rattle.func_gen.specs.declared.operand.ExprOperand.{ExprOperand}
 use Rattle.func_gen.specs.Added.{Fresh}

@@ -33,13 +33,13 @@ use Rattle.wrapper_run.specs.Inward.{is_inward}
 use Rattle.wrapper_run.specs.OuterLocals.{OwnNothing}
 use Rattle.wrapper_run.specs.Results.{run_results}
 use Rattle.wrapper_run.specs.Run.{eval, run_stmts}
-use Rattle.abi_driver.specs.Account.{Follows, Peer}
-use Rattle.abi_driver.specs.Arms.{Armed, arm, gives_payload}
-use Rattle.abi_driver.specs.Blocks.{owned_datum}
-use Rattle.abi_driver.specs.Cases.{IsPayload, PayloadStands}
-use Rattle.abi_driver.specs.Laws.{Data, Facts}
-use Rattle.abi_driver.specs.Meaning.{Datum, item, of, with_nothing, word}
-use Rattle.abi_driver.specs.Turns.{Arrives, Went}
+use Rattle.abi_bindgen.specs.Account.{Follows, Peer}
+use Rattle.abi_bindgen.specs.Arms.{Armed, arm, gives_payload}
+use Rattle.abi_bindgen.specs.Blocks.{owned_datum}
+use Rattle.abi_bindgen.specs.Cases.{IsPayload, PayloadStands}
+use Rattle.abi_bindgen.specs.Laws.{Data, Facts}
+use Rattle.abi_bindgen.specs.Meaning.{Datum, item, of, with_nothing, word}
+use Rattle.abi_bindgen.specs.Turns.{Arrives, Went}
 use Rattle.func_gen.specs.declared.case_form.CaseForm.{CaseForm}
 use Rattle.func_gen.specs.declared.function_bindgen.FinishedBlock.{FinishedBlock}
 use Rattle.func_gen.specs.declared.function_bindgen.FunctionBindgen.{FunctionBindgen}

@@ -18,11 +18,11 @@ use Rattle.wrapper_meaning.specs.Shape.{Shapes, payloads_in, shapes}
 use Rattle.wrapper_values.specs.Setting.{Setting}
 use Rattle.wrapper_run.specs.Run.{run_stmts}
 use Rattle.wrapper_run.proofs.StepLemmas.{Quiet}
-use Rattle.abi_driver.specs.declared.instruction.Instruction.TheVariants.{GuestDeallocateVariant, OptionLift, ResultLift, VariantLift}
-use Rattle.abi_driver.specs.Account.{Peer}
-use Rattle.abi_driver.specs.Cases.{case_shapes, payload_counts, payloads_at, result_counts}
-use Rattle.abi_driver.specs.Instructions.{Emits}
-use Rattle.abi_driver.specs.Parts.{count}
+use Rattle.abi_bindgen.specs.declared.instruction.Instruction.TheVariants.{GuestDeallocateVariant, OptionLift, ResultLift, VariantLift}
+use Rattle.abi_bindgen.specs.Account.{Peer}
+use Rattle.abi_bindgen.specs.Cases.{case_shapes, payload_counts, payloads_at, result_counts}
+use Rattle.abi_bindgen.specs.Instructions.{Emits}
+use Rattle.abi_bindgen.specs.Parts.{count}
 use Rattle.func_gen.specs.declared.case_form.CaseForm.{CaseForm}
 use Rattle.func_gen.specs.declared.function_bindgen.FinishedBlock.{FinishedBlock}
 use Rattle.func_gen.specs.declared.function_bindgen.FunctionBindgen.{FunctionBindgen}

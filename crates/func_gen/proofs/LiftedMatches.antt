@@ -37,14 +37,14 @@ use Rattle.wrapper_run.specs.Results.{run_results}
 use Rattle.wrapper_run.specs.Run.{apply, call_callee, call_runtime, eval, runtime_item_named}
 use Rattle.wrapper_run.proofs.LocalLemmas.{bytes_eq-same}
 use Rattle.wrapper_run.proofs.StepLemmas.{eval-call}
-use Rattle.abi_driver.specs.Account.{Account, Follows, Got, Outcome, Peer, failing, gives}
-use Rattle.abi_driver.specs.Arms.{Armed, FreesCase, Matches, arm, choosing, gives_nothing, gives_payload, other_case, serves_none, serves_others}
-use Rattle.abi_driver.specs.Blocks.{owned_datum}
-use Rattle.abi_driver.specs.Cases.{LiftsCase}
-use Rattle.abi_driver.specs.Laws.{Facts}
-use Rattle.abi_driver.specs.Meaning.{with_nothing}
-use Rattle.abi_driver.specs.Parts.{count}
-use Rattle.abi_driver.specs.Turns.{Arrives, Went}
+use Rattle.abi_bindgen.specs.Account.{Account, Follows, Got, Outcome, Peer, failing, gives}
+use Rattle.abi_bindgen.specs.Arms.{Armed, FreesCase, Matches, arm, choosing, gives_nothing, gives_payload, other_case, serves_none, serves_others}
+use Rattle.abi_bindgen.specs.Blocks.{owned_datum}
+use Rattle.abi_bindgen.specs.Cases.{LiftsCase}
+use Rattle.abi_bindgen.specs.Laws.{Facts}
+use Rattle.abi_bindgen.specs.Meaning.{with_nothing}
+use Rattle.abi_bindgen.specs.Parts.{count}
+use Rattle.abi_bindgen.specs.Turns.{Arrives, Went}
 use Rattle.func_gen.specs.declared.case_form.CaseForm.{CaseForm}
 use Rattle.func_gen.specs.declared.function_bindgen.FinishedBlock.{FinishedBlock}
 use Rattle.func_gen.specs.declared.function_bindgen.FunctionBindgen.{FunctionBindgen}

@@ -42,11 +42,11 @@ use Rattle.wrapper_run.specs.Run.{apply, call_callee, call_runtime, converted_or
 use Rattle.wrapper_run.proofs.NumberLemmas.{not-converted, num_of-number, word_of-bool}
 use Rattle.wrapper_run.proofs.QuietSteps.{quiet_bool}
 use Rattle.wrapper_run.proofs.StepLemmas.{Quiet, bool_gives, call_gives, quiet_runtime}
-use Rattle.abi_driver.specs.declared.instruction.Instruction.TheVariants.{BoolFromI32, CharFromI32, I32FromBool}
-use Rattle.abi_driver.specs.Account.{Peer, failing, reading, stay}
-use Rattle.abi_driver.specs.Instructions.{Emits}
-use Rattle.abi_driver.specs.Laws.{Facts}
-use Rattle.abi_driver.specs.Meaning.{Datum, item, of, word}
+use Rattle.abi_bindgen.specs.declared.instruction.Instruction.TheVariants.{BoolFromI32, CharFromI32, I32FromBool}
+use Rattle.abi_bindgen.specs.Account.{Peer, failing, reading, stay}
+use Rattle.abi_bindgen.specs.Instructions.{Emits}
+use Rattle.abi_bindgen.specs.Laws.{Facts}
+use Rattle.abi_bindgen.specs.Meaning.{Datum, item, of, word}
 use Rattle.func_gen.specs.declared.function_bindgen.FunctionBindgen.{FunctionBindgen}
 use Rattle.func_gen.specs.declared.operand.ExprOperand.{ExprOperand}
 use Rattle.func_gen.specs.Added.{Appends, Fresh}
@@ -56,7 +56,7 @@ use Rattle.func_gen.specs.Meaning.{File, Found, StandsAsItIs, account_of, answer
 use Rattle.func_gen.specs.Operand.{is_operand}
 use Rattle.func_gen.specs.Read.{env_of, read, read_operand}
 use Rattle.func_gen.specs.Scope.{TakesOne}
-use Rattle.abi_driver.specs.Sent.{sends}
+use Rattle.abi_bindgen.specs.Sent.{sends}
 use Rattle.func_gen.proofs.Evaluated.{gives}
 use Rattle.func_gen.specs.FactLemmas.{Says, is_said}
 use Rattle.func_gen.proofs.Forming.{IsPlain, form_let}

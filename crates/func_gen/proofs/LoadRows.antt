@@ -31,15 +31,15 @@ use Rattle.wrapper_run.specs.Memory.{bytes_of_small, bytes_of_type, loaded, load
 use Rattle.wrapper_run.specs.Memory as memory
 use Rattle.wrapper_run.specs.Run.{eval, load_small, load_word}
 use Rattle.wrapper_run.proofs.StepLemmas.{Quiet, quiet_or_stop, quiet_then}
-use Rattle.abi_driver.specs.declared.instruction.Instruction.{Instruction}
-use Rattle.abi_driver.specs.declared.instruction.Instruction.TheVariants.{F32Load, F64Load, I32Load, I32Load16S, I32Load16U, I32Load8S, I32Load8U, I64Load, LengthLoad, PointerLoad}
-use Rattle.abi_driver.specs.Account.{Got, Outcome, Stuck, failing, gives as law_gives}
-use Rattle.abi_driver.specs.Instructions.{Emits, lifted_scalar, lowered_scalar}
-use Rattle.abi_driver.specs.Laws.{Adds}
-use Rattle.abi_driver.specs.Meaning.{of, word}
-use Rattle.abi_driver.specs.Memory as law
-use Rattle.abi_driver.specs.Memory.{Access, loading}
-use Rattle.abi_driver.specs.Touches.{LoadsWord, Part, accessed, loads, low_byte, low_half, touch, whole}
+use Rattle.abi_bindgen.specs.declared.instruction.Instruction.{Instruction}
+use Rattle.abi_bindgen.specs.declared.instruction.Instruction.TheVariants.{F32Load, F64Load, I32Load, I32Load16S, I32Load16U, I32Load8S, I32Load8U, I64Load, LengthLoad, PointerLoad}
+use Rattle.abi_bindgen.specs.Account.{Got, Outcome, Stuck, failing, gives as law_gives}
+use Rattle.abi_bindgen.specs.Instructions.{Emits, lifted_scalar, lowered_scalar}
+use Rattle.abi_bindgen.specs.Laws.{Adds}
+use Rattle.abi_bindgen.specs.Meaning.{of, word}
+use Rattle.abi_bindgen.specs.Memory as law
+use Rattle.abi_bindgen.specs.Memory.{Access, loading}
+use Rattle.abi_bindgen.specs.Touches.{LoadsWord, Part, accessed, loads, low_byte, low_half, touch, whole}
 use Rattle.func_gen.specs.declared.function_bindgen.FunctionBindgen.{FunctionBindgen}
 use Rattle.func_gen.specs.Added.{Appends, Fresh}
 use Rattle.func_gen.specs.FactLemmas.{is_said}
@@ -49,7 +49,7 @@ use Rattle.func_gen.specs.Meaning.{account_of, func_meaning, setting_for}
 use Rattle.func_gen.specs.MemoryForms.{small_load, whole_load}
 use Rattle.func_gen.specs.Operand.{is_operand}
 use Rattle.func_gen.specs.Read.{env_of}
-use Rattle.abi_driver.specs.Sent.{sends}
+use Rattle.abi_bindgen.specs.Sent.{sends}
 use Rattle.func_gen.specs.Scope.{TakesOne}
 use Rattle.func_gen.proofs.Emissions.{small_load_emitted, whole_load_emitted}
 use Rattle.func_gen.proofs.Evaluated.{gives}

@@ -12,7 +12,7 @@ use Rattle.wrapper_data.specs.declared.word.Word.TheVariants as core
 use Rattle.wrapper_meaning.specs.Cells.{bytes_from, little}
 use Rattle.wrapper_run.specs.Memory.{number_from, word_from}
 use Rattle.wrapper_run.specs.Memory as machine
-use Rattle.abi_driver.specs.Memory.{Access, access, bytes_at, signed_access, word_read}
+use Rattle.abi_bindgen.specs.Memory.{Access, access, bytes_at, signed_access, word_read}
 
 -- 1. The same bytes, and so many
 

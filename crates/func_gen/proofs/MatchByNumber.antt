@@ -28,11 +28,11 @@ use Rattle.wrapper_run.specs.Run.{arm_act}
 use Rattle.wrapper_run.proofs.AskLemmas.{asks_bind, asks_pure, asks_scope, asks_stop, asks_then, asks_within}
 use Rattle.wrapper_run.proofs.InwardWalk.{walks_given}
 use Rattle.wrapper_run.proofs.OuterLemmas.{behind_within}
-use Rattle.abi_driver.specs.Account.{Account, Follows, Got, gives, Outcome, Peer, account_in, then_do}
-use Rattle.abi_driver.specs.Arms.{Armed, arm, choosing, other_case}
-use Rattle.abi_driver.specs.Laws.{Data}
-use Rattle.abi_driver.specs.Meaning.{with_nothing}
-use Rattle.abi_driver.specs.Turns.{Went}
+use Rattle.abi_bindgen.specs.Account.{Account, Follows, Got, gives, Outcome, Peer, account_in, then_do}
+use Rattle.abi_bindgen.specs.Arms.{Armed, arm, choosing, other_case}
+use Rattle.abi_bindgen.specs.Laws.{Data}
+use Rattle.abi_bindgen.specs.Meaning.{with_nothing}
+use Rattle.abi_bindgen.specs.Turns.{Went}
 use Rattle.func_gen.specs.declared.function_bindgen.FinishedBlock.{FinishedBlock}
 use Rattle.func_gen.specs.LiftedCases.{number_arms}
 use Rattle.func_gen.specs.Meaning.{File, FuncState, account_of, call_of, func_meaning, run_finished, seen, setting_for}

@@ -25,9 +25,9 @@ use Rattle.wrapper_values.specs.Owning.{owned, owned_in}
 use Rattle.wrapper_values.specs.Setting.{Setting}
 use Rattle.wrapper_run.specs.Run.{bound}
 use Rattle.wrapper_run.proofs.LocalLemmas.{last-append}
-use Rattle.abi_driver.specs.Blocks.{owned_datum}
-use Rattle.abi_driver.specs.Laws.{Data, ofs}
-use Rattle.abi_driver.specs.Meaning.{Datum, Fact, item, of, word}
+use Rattle.abi_bindgen.specs.Blocks.{owned_datum}
+use Rattle.abi_bindgen.specs.Laws.{Data, ofs}
+use Rattle.abi_bindgen.specs.Meaning.{Datum, Fact, item, of, word}
 use Rattle.func_gen.specs.declared.function_bindgen.FunctionBindgen.{FunctionBindgen}
 use Rattle.func_gen.specs.declared.operand.ExprOperand.{ExprOperand}
 use Rattle.func_gen.specs.Facts.{Hold, val_of}

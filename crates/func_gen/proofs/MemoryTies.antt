@@ -15,8 +15,8 @@ use Rattle.wrapper_meaning.specs.Numbers.{is_signed, low_bits}
 use Rattle.wrapper_values.specs.Effect.{is_word_of}
 use Rattle.wrapper_run.specs.Memory.{low_bytes, stored, stored_small, without, writes_from}
 use Rattle.wrapper_run.specs.Memory as machine
-use Rattle.abi_driver.specs.Account.{Account, Act, Got, Outcome, Stuck, is_at, stay}
-use Rattle.abi_driver.specs.Memory.{access, bytes_on, except, is_inside, is_ranged, little_bytes, storing}
+use Rattle.abi_bindgen.specs.Account.{Account, Act, Got, Outcome, Stuck, is_at, stay}
+use Rattle.abi_bindgen.specs.Memory.{access, bytes_on, except, is_inside, is_ranged, little_bytes, storing}
 
 -- 1. Bytes
 

@@ -47,15 +47,15 @@ use Rattle.wrapper_run.proofs.LocalLemmas.{bytes_eq-same, reads-new}
 use Rattle.wrapper_run.proofs.MethodLemmas.{answered_by, called_with, method_gives, point_of, quiet_taken, returned-unit, value_gives}
 use Rattle.wrapper_run.proofs.OwningLemmas.{ArePlain, drops_plain}
 use Rattle.wrapper_run.proofs.StepLemmas.{Quiet, calls_at, quiet_bind, quiet_drop, quiet_leave, quiet_pure, quiet_then}
-use Rattle.abi_driver.specs.declared.bindgen.Asked.{Asked}
-use Rattle.abi_driver.specs.declared.instruction.Instruction.TheVariants as instruction
-use Rattle.abi_driver.specs.Account.{Account, Done, Follows, Got, Peer, Reply, Stops, Stuck, account_in, is_taken, value as value_reply, words}
-use Rattle.abi_driver.specs.Area.{HoldsRecord}
-use Rattle.abi_driver.specs.Calls.{HandsOver, are_live, handed_over, left_by, left_with, recorded, result_count, returned_with}
-use Rattle.abi_driver.specs.Calls as calls
-use Rattle.abi_driver.specs.Instructions.{Emits}
-use Rattle.abi_driver.specs.Laws.{At, Facts, Grows, item_data, ofs}
-use Rattle.abi_driver.specs.Meaning.{item, of}
+use Rattle.abi_bindgen.specs.declared.bindgen.Asked.{Asked}
+use Rattle.abi_bindgen.specs.declared.instruction.Instruction.TheVariants as instruction
+use Rattle.abi_bindgen.specs.Account.{Account, Done, Follows, Got, Peer, Reply, Stops, Stuck, account_in, is_taken, value as value_reply, words}
+use Rattle.abi_bindgen.specs.Area.{HoldsRecord}
+use Rattle.abi_bindgen.specs.Calls.{HandsOver, are_live, handed_over, left_by, left_with, recorded, result_count, returned_with}
+use Rattle.abi_bindgen.specs.Calls as calls
+use Rattle.abi_bindgen.specs.Instructions.{Emits}
+use Rattle.abi_bindgen.specs.Laws.{At, Facts, Grows, item_data, ofs}
+use Rattle.abi_bindgen.specs.Meaning.{item, of}
 use Rattle.func_gen.specs.declared.function_bindgen.Code.{Code}
 use Rattle.func_gen.specs.declared.function_bindgen.FunctionBindgen.{FunctionBindgen}
 use Rattle.func_gen.specs.declared.operand.ExprOperand.{ExprOperand}

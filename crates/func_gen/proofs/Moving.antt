@@ -36,7 +36,7 @@ use Rattle.wrapper_values.specs.Setting.{Setting, stuck}
 use Rattle.wrapper_run.specs.Run.{Callee, alone, callee, core_case, core_forget, core_function, enum_lift, eval, of_runtime, root_case, runtime_item_named, unknown}
 use Rattle.wrapper_run.proofs.LocalLemmas.{bytes_eq-same}
 use Rattle.wrapper_run.proofs.StepLemmas.{eval-local}
-use Rattle.abi_driver.specs.Meaning.{Fact, item, of}
+use Rattle.abi_bindgen.specs.Meaning.{Fact, item, of}
 use Rattle.func_gen.specs.declared.function_bindgen.FunctionBindgen.{FunctionBindgen}
 use Rattle.func_gen.specs.declared.function_bindgen.ParamSite.{ParamSite}
 use Rattle.func_gen.specs.declared.operand.ExprOperand.{ExprOperand}

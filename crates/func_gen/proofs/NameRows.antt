@@ -6,12 +6,12 @@ use Rattle.wit_model.specs.Bytes.{Bytes}
 use Rattle.wit_model.specs.declared.types.TypeDef.{TypeDef}
 use Rattle.rust_tree.specs.declared.expr.Expr.TheVariants as expr
 use Rattle.wrapper_values.specs.Locals.{usable}
-use Rattle.abi_driver.specs.declared.instruction.Instruction.{Instruction}
-use Rattle.abi_driver.specs.declared.instruction.Instruction.TheVariants.{IterBasePointer, IterElem, IterMapKey, IterMapValue, VariantPayloadName}
-use Rattle.abi_driver.specs.Blocks.{IsOpen, ReadsName}
-use Rattle.abi_driver.specs.Instructions.{Emits}
-use Rattle.abi_driver.specs.Meaning.{Name, bound, of, the_base, the_element, the_key, the_payload, the_value}
-use Rattle.abi_driver.specs.Sent.{sends}
+use Rattle.abi_bindgen.specs.declared.instruction.Instruction.{Instruction}
+use Rattle.abi_bindgen.specs.declared.instruction.Instruction.TheVariants.{IterBasePointer, IterElem, IterMapKey, IterMapValue, VariantPayloadName}
+use Rattle.abi_bindgen.specs.Blocks.{IsOpen, ReadsName}
+use Rattle.abi_bindgen.specs.Instructions.{Emits}
+use Rattle.abi_bindgen.specs.Meaning.{Name, bound, of, the_base, the_element, the_key, the_payload, the_value}
+use Rattle.abi_bindgen.specs.Sent.{sends}
 use Rattle.func_gen.specs.declared.function_bindgen.FunctionBindgen.{FunctionBindgen}
 use Rattle.func_gen.specs.declared.function_bindgen.OpenBlock.{OpenBlock}
 use Rattle.func_gen.specs.Emission.{alone}

@@ -22,8 +22,8 @@ use Rattle.wrapper_values.specs.Effect.{cast_to}
 use Rattle.wrapper_values.specs.Locals.{usable}
 use Rattle.wrapper_values.specs.Owning.{owned}
 use Rattle.wrapper_run.specs.Run.{callee}
-use Rattle.abi_driver.specs.Blocks.{IsOfWord}
-use Rattle.abi_driver.specs.Meaning.{Fact, arg, bound, item, of, word}
+use Rattle.abi_bindgen.specs.Blocks.{IsOfWord}
+use Rattle.abi_bindgen.specs.Meaning.{Fact, arg, bound, item, of, word}
 use Rattle.func_gen.specs.declared.function_bindgen.ParamSite.{ParamSite}
 use Rattle.func_gen.specs.declared.operand.ExprOperand.{ExprOperand}
 use Rattle.func_gen.specs.FactLemmas.{is_said, said, word_denoted, word_read}

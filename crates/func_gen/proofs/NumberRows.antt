@@ -28,12 +28,12 @@ use Rattle.wrapper_run.specs.Inward.{is_inward}
 use Rattle.wrapper_run.specs.Results.{run_results}
 use Rattle.wrapper_run.specs.Run.{arm_act, run_stmt, run_stmts}
 use Rattle.wrapper_run.proofs.VariantSteps.{match_runs}
-use Rattle.abi_driver.specs.Account.{Follows, Peer, then_do}
-use Rattle.abi_driver.specs.Arms.{Armed, Matches, arm, arms, choosing}
-use Rattle.abi_driver.specs.Blocks.{owned_datum}
-use Rattle.abi_driver.specs.Laws.{At, Data, Facts}
-use Rattle.abi_driver.specs.Meaning.{of, with_nothing, word}
-use Rattle.abi_driver.specs.Turns.{Arrives, Moved, Went}
+use Rattle.abi_bindgen.specs.Account.{Follows, Peer, then_do}
+use Rattle.abi_bindgen.specs.Arms.{Armed, Matches, arm, arms, choosing}
+use Rattle.abi_bindgen.specs.Blocks.{owned_datum}
+use Rattle.abi_bindgen.specs.Laws.{At, Data, Facts}
+use Rattle.abi_bindgen.specs.Meaning.{of, with_nothing, word}
+use Rattle.abi_bindgen.specs.Turns.{Arrives, Moved, Went}
 use Rattle.func_gen.specs.declared.function_bindgen.FinishedBlock.{FinishedBlock}
 use Rattle.func_gen.specs.declared.function_bindgen.FunctionBindgen.{FunctionBindgen}
 use Rattle.func_gen.specs.Added.{Appends}

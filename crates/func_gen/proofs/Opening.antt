@@ -27,12 +27,12 @@ use Rattle.wrapper_values.specs.Owning.{owned, owned_by, owned_in}
 use Rattle.wrapper_run.specs.OuterLocals.{IsInReach, OwnNothing}
 use Rattle.wrapper_run.proofs.LocalLemmas.{bytes_eq-same}
 use Rattle.wrapper_run.proofs.OuterLemmas.{named-append}
-use Rattle.abi_driver.specs.declared.bindgen.Asked.{Asked}
-use Rattle.abi_driver.specs.Area.{HoldsRecord}
-use Rattle.abi_driver.specs.Blocks.{IsOfWord, Lasts, Pushes, brought, names}
-use Rattle.abi_driver.specs.Laws.{Facts}
-use Rattle.abi_driver.proofs.AllLemmas.{all_both, all_left, all_right}
-use Rattle.abi_driver.specs.Meaning.{Bound, Fact, Name, at_place, bound, item, the_base, the_element, the_key, the_payload, the_value, with_element, with_entry, with_nothing, with_payload, word}
+use Rattle.abi_bindgen.specs.declared.bindgen.Asked.{Asked}
+use Rattle.abi_bindgen.specs.Area.{HoldsRecord}
+use Rattle.abi_bindgen.specs.Blocks.{IsOfWord, Lasts, Pushes, brought, names}
+use Rattle.abi_bindgen.specs.Laws.{Facts}
+use Rattle.abi_bindgen.proofs.AllLemmas.{all_both, all_left, all_right}
+use Rattle.abi_bindgen.specs.Meaning.{Bound, Fact, Name, at_place, bound, item, the_base, the_element, the_key, the_payload, the_value, with_element, with_entry, with_nothing, with_payload, word}
 use Rattle.func_gen.specs.declared.function_bindgen.Code.{Code}
 use Rattle.func_gen.specs.declared.function_bindgen.FunctionBindgen.{FunctionBindgen}
 use Rattle.func_gen.specs.declared.function_bindgen.OpenBlock.{OpenBlock}

@@ -37,14 +37,14 @@ use Rattle.wrapper_run.specs.Run.{eval, run_stmts}
 use Rattle.wrapper_run.proofs.GiveSteps.{let_runs}
 use Rattle.wrapper_run.proofs.PartSteps.{eval-tuple}
 use Rattle.wrapper_run.proofs.StepLemmas.{Quiet, quiet_or_stop, quiet_pure, quiet_then}
-use Rattle.abi_driver.specs.declared.bindgen.Asked.{Asked}
-use Rattle.abi_driver.specs.declared.instruction.Instruction.TheVariants.{TupleLift}
-use Rattle.abi_driver.specs.Account.{Account, Peer}
-use Rattle.abi_driver.specs.Instructions.{Emits}
-use Rattle.abi_driver.specs.Laws.{Facts, Stays, item_data, ofs}
-use Rattle.abi_driver.specs.Meaning.{item, of}
-use Rattle.abi_driver.specs.Parts.{PartsStand, count}
-use Rattle.abi_driver.specs.Sent.{sends}
+use Rattle.abi_bindgen.specs.declared.bindgen.Asked.{Asked}
+use Rattle.abi_bindgen.specs.declared.instruction.Instruction.TheVariants.{TupleLift}
+use Rattle.abi_bindgen.specs.Account.{Account, Peer}
+use Rattle.abi_bindgen.specs.Instructions.{Emits}
+use Rattle.abi_bindgen.specs.Laws.{Facts, Stays, item_data, ofs}
+use Rattle.abi_bindgen.specs.Meaning.{item, of}
+use Rattle.abi_bindgen.specs.Parts.{PartsStand, count}
+use Rattle.abi_bindgen.specs.Sent.{sends}
 use Rattle.func_gen.specs.declared.function_bindgen.FunctionBindgen.{FunctionBindgen}
 use Rattle.func_gen.specs.declared.operand.ExprOperand.{ExprOperand}
 use Rattle.func_gen.specs.Added.{Appends, Fresh}

@@ -46,9 +46,9 @@ use Rattle.wrapper_run.specs.Run.{eval, run_stmt, run_stmts}
 use Rattle.wrapper_run.proofs.PartSteps.{AsMany, part_locals, parts-whole, takes_apart}
 use Rattle.wrapper_run.proofs.StepLemmas.{Quiet, quiet_bind, quiet_or_stop, quiet_pure, quiet_then}
 use Rattle.wrapper_run.proofs.StmtSteps.{run-parts}
-use Rattle.abi_driver.specs.Laws.{Adds, Stays, item_data, ofs}
-use Rattle.abi_driver.specs.Meaning.{Fact, item, of}
-use Rattle.abi_driver.specs.Parts.{PartsStand, count}
+use Rattle.abi_bindgen.specs.Laws.{Adds, Stays, item_data, ofs}
+use Rattle.abi_bindgen.specs.Meaning.{Fact, item, of}
+use Rattle.abi_bindgen.specs.Parts.{PartsStand, count}
 use Rattle.func_gen.specs.declared.function_bindgen.FunctionBindgen.{FunctionBindgen}
 use Rattle.func_gen.specs.declared.operand.ExprOperand.{ExprOperand}
 use Rattle.func_gen.specs.CallForms.{FreshAll}
@@ -68,7 +68,7 @@ use Rattle.func_gen.proofs.Moving.{uses}
 use Rattle.func_gen.proofs.Quiet.{quiet_operand}
 use Rattle.func_gen.proofs.Rows.{same_area}
 use Rattle.func_gen.proofs.Steps.{func_adds, ran}
-use Rattle.abi_driver.specs.Account.{Account}
+use Rattle.abi_bindgen.specs.Account.{Account}
 use Rattle.func_gen.proofs.PartRows.{areas_last, struct_level}
 use Rattle.func_gen.proofs.Several.{add_local}
 use Rattle.wrapper_meaning.proofs.PostReturn.{total-append}

@@ -25,10 +25,10 @@ use Rattle.wrapper_values.specs.Whole.{field_act, given_names, whole_of}
 use Rattle.wrapper_run.specs.Run.{eval}
 use Rattle.wrapper_run.proofs.PartSteps.{eval-record}
 use Rattle.wrapper_run.proofs.StepLemmas.{Quiet, quiet_or_stop, quiet_pure, quiet_then}
-use Rattle.abi_driver.specs.declared.instruction.Instruction.TheVariants.{RecordLift, RecordLower}
-use Rattle.abi_driver.specs.Instructions.{Emits, IsRecord, field_shapes}
-use Rattle.abi_driver.proofs.Records.{field_count, one_record}
-use Rattle.abi_driver.specs.Sent.{sends}
+use Rattle.abi_bindgen.specs.declared.instruction.Instruction.TheVariants.{RecordLift, RecordLower}
+use Rattle.abi_bindgen.specs.Instructions.{Emits, IsRecord, field_shapes}
+use Rattle.abi_bindgen.proofs.Records.{field_count, one_record}
+use Rattle.abi_bindgen.specs.Sent.{sends}
 use Rattle.func_gen.specs.declared.function_bindgen.FunctionBindgen.{FunctionBindgen}
 use Rattle.func_gen.specs.declared.operand.ExprOperand.{ExprOperand}
 use Rattle.func_gen.specs.declared.record_site.RecordSite.{RecordSite}

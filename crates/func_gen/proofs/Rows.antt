@@ -26,11 +26,11 @@ use Rattle.wrapper_run.proofs.GiveSteps.{let_runs}
 use Rattle.wrapper_run.proofs.QuietSteps.{quiet_let as quiet_stmt}
 use Rattle.wrapper_run.proofs.StepLemmas.{Quiet, quiet_pure}
 use Rattle.wrapper_run.proofs.StmtSteps.{runs-let}
-use Rattle.abi_driver.specs.Account.{Account, Act, Done, Follows, Got, Outcome, Peer, Stopped, Stuck, account_in, stay}
-use Rattle.abi_driver.specs.declared.instruction.Instruction.{Instruction}
-use Rattle.abi_driver.specs.Instructions.{Emits}
-use Rattle.abi_driver.specs.Laws.{Adds, After, At, Does, Facts, Stays}
-use Rattle.abi_driver.specs.Meaning.{Datum, Fact, of}
+use Rattle.abi_bindgen.specs.Account.{Account, Act, Done, Follows, Got, Outcome, Peer, Stopped, Stuck, account_in, stay}
+use Rattle.abi_bindgen.specs.declared.instruction.Instruction.{Instruction}
+use Rattle.abi_bindgen.specs.Instructions.{Emits}
+use Rattle.abi_bindgen.specs.Laws.{Adds, After, At, Does, Facts, Stays}
+use Rattle.abi_bindgen.specs.Meaning.{Datum, Fact, of}
 use Rattle.func_gen.specs.declared.function_bindgen.FunctionBindgen.{FunctionBindgen}
 use Rattle.func_gen.specs.declared.operand.ExprOperand.{ExprOperand}
 use Rattle.func_gen.specs.declared.scope.Scope.{Scope}

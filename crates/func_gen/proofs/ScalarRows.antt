@@ -28,14 +28,14 @@ use Rattle.wrapper_meaning.specs.Value.{ScalarValue}
 use Rattle.wrapper_values.specs.declared.state.Val.TheVariants as val
 use Rattle.wrapper_values.specs.Effect.{cast_integer, integer_of, rust_of}
 use Rattle.wrapper_run.specs.Run.{callee, of_runtime, runtime_item_named, runtime_module_name}
-use Rattle.abi_driver.specs.declared.instruction.Instruction.{Instruction}
-use Rattle.abi_driver.specs.declared.instruction.Instruction.TheVariants.{I32FromU8, I32FromS8, I32FromU16, I32FromS16, I32FromU32, I32FromS32, I32FromChar, I64FromU64, I64FromS64, CoreF32FromF32, CoreF64FromF64, U8FromI32, S8FromI32, U16FromI32, S16FromI32, U32FromI32, S32FromI32, U64FromI64, S64FromI64, F32FromCoreF32, F64FromCoreF64}
-use Rattle.abi_driver.specs.Account.{Account, Follows, Stuck, has_type, reading, stay}
-use Rattle.abi_driver.specs.Instructions.{Emits, MakesBy, RowBy, lifted_scalar, lowered_scalar}
-use Rattle.abi_driver.specs.Laws.{Adds, After, Facts}
-use Rattle.abi_driver.specs.Leaves.{LiftsScalar, LowersScalar}
-use Rattle.abi_driver.specs.Meaning.{item, of, word}
-use Rattle.abi_driver.proofs.Ordinary.{code_of, lifts_ordinary, lowers_ordinary, still_returned}
+use Rattle.abi_bindgen.specs.declared.instruction.Instruction.{Instruction}
+use Rattle.abi_bindgen.specs.declared.instruction.Instruction.TheVariants.{I32FromU8, I32FromS8, I32FromU16, I32FromS16, I32FromU32, I32FromS32, I32FromChar, I64FromU64, I64FromS64, CoreF32FromF32, CoreF64FromF64, U8FromI32, S8FromI32, U16FromI32, S16FromI32, U32FromI32, S32FromI32, U64FromI64, S64FromI64, F32FromCoreF32, F64FromCoreF64}
+use Rattle.abi_bindgen.specs.Account.{Account, Follows, Stuck, has_type, reading, stay}
+use Rattle.abi_bindgen.specs.Instructions.{Emits, MakesBy, RowBy, lifted_scalar, lowered_scalar}
+use Rattle.abi_bindgen.specs.Laws.{Adds, After, Facts}
+use Rattle.abi_bindgen.specs.Leaves.{LiftsScalar, LowersScalar}
+use Rattle.abi_bindgen.specs.Meaning.{item, of, word}
+use Rattle.abi_bindgen.proofs.Ordinary.{code_of, lifts_ordinary, lowers_ordinary, still_returned}
 use Rattle.func_gen.specs.declared.function_bindgen.FunctionBindgen.{FunctionBindgen}
 use Rattle.func_gen.specs.declared.operand.ExprOperand.{ExprOperand}
 use Rattle.func_gen.specs.Added.{Appends}
@@ -46,7 +46,7 @@ use Rattle.func_gen.specs.Read as reader
 use Rattle.func_gen.specs.ReadForms.{read-call, read-cast}
 use Rattle.func_gen.specs.FactLemmas.{Says}
 use Rattle.func_gen.specs.Formed.{Formed}
-use Rattle.abi_driver.specs.Sent.{sends}
+use Rattle.abi_bindgen.specs.Sent.{sends}
 use Rattle.func_gen.proofs.Emissions.{cast_emitted, conversion_emitted, kept_emitted}
 use Rattle.func_gen.proofs.Forming.{form_alone, form_one, lifts_plain, lowers_plain, still_blocks}
 use Rattle.func_gen.proofs.Rows.{none_adds, swaps, tests}

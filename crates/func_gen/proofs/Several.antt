@@ -20,8 +20,8 @@ use Rattle.wrapper_values.specs.Owning.{owned}
 use Rattle.wrapper_values.specs.Setting.{Setting}
 use Rattle.wrapper_run.specs.Run.{eval}
 use Rattle.wrapper_run.proofs.LocalLemmas.{reads-new}
-use Rattle.abi_driver.specs.Laws.{item_data, ofs}
-use Rattle.abi_driver.specs.Meaning.{Datum, Fact, of}
+use Rattle.abi_bindgen.specs.Laws.{item_data, ofs}
+use Rattle.abi_bindgen.specs.Meaning.{Datum, Fact, of}
 use Rattle.func_gen.specs.declared.function_bindgen.FunctionBindgen.{FunctionBindgen}
 use Rattle.func_gen.specs.declared.operand.ExprOperand.{ExprOperand}
 use Rattle.func_gen.specs.Added.{Fresh}

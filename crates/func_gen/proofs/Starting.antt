@@ -24,10 +24,10 @@ use Rattle.wrapper_run.specs.Memory.{begins_at, block_from}
 use Rattle.wrapper_run.specs.Places.{area_in}
 use Rattle.wrapper_run.specs.Run.{bound}
 use Rattle.wrapper_run.proofs.LocalLemmas.{ReadsAll, SameLength, reads_bound, unbound}
-use Rattle.abi_driver.specs.Account.{Account, Call}
-use Rattle.abi_driver.specs.Area.{HoldsRecord, MayStand, StandsIn}
-use Rattle.abi_driver.specs.Laws.{AreLent, Data, IsNew, args}
-use Rattle.abi_driver.specs.Meaning.{arg, item, word}
+use Rattle.abi_bindgen.specs.Account.{Account, Call}
+use Rattle.abi_bindgen.specs.Area.{HoldsRecord, MayStand, StandsIn}
+use Rattle.abi_bindgen.specs.Laws.{AreLent, Data, IsNew, args}
+use Rattle.abi_bindgen.specs.Meaning.{arg, item, word}
 use Rattle.func_gen.specs.declared.function_bindgen.Code.{Code}
 use Rattle.func_gen.specs.declared.function_bindgen.FunctionBindgen.{FunctionBindgen}
 use Rattle.func_gen.specs.declared.function_bindgen.ParamSite.{ParamSite}

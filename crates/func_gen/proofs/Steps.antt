@@ -16,9 +16,9 @@ use Rattle.wrapper_values.specs.Act.{Act, and_then}
 use Rattle.wrapper_values.specs.Setting.{Setting}
 use Rattle.wrapper_run.specs.Run.{run_stmt, run_stmts}
 use Rattle.wrapper_run.proofs.StepLemmas.{Quiet, calls_at}
-use Rattle.abi_driver.specs.Account.{Done, Peer, Stops, account_in}
-use Rattle.abi_driver.specs.Area.{HoldsRecord}
-use Rattle.abi_driver.specs.Laws.{Adds, At, Facts, Grows}
+use Rattle.abi_bindgen.specs.Account.{Done, Peer, Stops, account_in}
+use Rattle.abi_bindgen.specs.Area.{HoldsRecord}
+use Rattle.abi_bindgen.specs.Laws.{Adds, At, Facts, Grows}
 use Rattle.func_gen.specs.declared.function_bindgen.Code.{Code}
 use Rattle.func_gen.specs.declared.function_bindgen.FunctionBindgen.{FunctionBindgen}
 use Rattle.func_gen.specs.Added.{Appends}

@@ -1,9 +1,9 @@
 -- What steps leave as it was, and what code gives behind them.
 use Rattle.std.proofs.Common.{◌≡◌, ℕ, List, [], ◌∷◌, ◌++◌, length, Some, refl, sym, ◌∙◌, subst}
 use Rattle.wit_model.specs.declared.types.TypeDef.{TypeDef}
-use Rattle.abi_driver.specs.declared.instruction.Instruction.TheVariants.{Return}
-use Rattle.abi_driver.specs.Sends.{Sends}
-use Rattle.abi_driver.specs.Sent.{Sent, asks, closes, opens, sends, sends_casts, sends_zeros}
+use Rattle.abi_bindgen.specs.declared.instruction.Instruction.TheVariants.{Return}
+use Rattle.abi_bindgen.specs.Sends.{Sends}
+use Rattle.abi_bindgen.specs.Sent.{Sent, asks, closes, opens, sends, sends_casts, sends_zeros}
 use Rattle.func_gen.specs.declared.function_bindgen.FunctionBindgen.{FunctionBindgen}
 use Rattle.func_gen.specs.declared.operand.ExprOperand.{ExprOperand}
 use Rattle.func_gen.specs.Meaning.{func_meaning}

@@ -28,15 +28,15 @@ use Rattle.wrapper_run.specs.Run.{eval, run_stmt, run_stmts}
 use Rattle.wrapper_run.proofs.QuietSteps.{quiet_store}
 use Rattle.wrapper_run.proofs.StepLemmas.{Quiet, quiet_pure, quiet_then}
 use Rattle.wrapper_run.proofs.StmtSteps.{run-store, run-store_small, runs-first}
-use Rattle.abi_driver.specs.declared.instruction.Instruction.{Instruction}
-use Rattle.abi_driver.specs.declared.instruction.Instruction.TheVariants.{F32Store, F64Store, I32Store, I32Store8, I32Store16, I64Store, LengthStore, PointerStore}
-use Rattle.abi_driver.specs.Account.{Account, Peer}
-use Rattle.abi_driver.specs.Instructions.{Emits, MakesBy, MakesTouch, RowBy, RowTouch, lifted_scalar, lowered_scalar}
-use Rattle.abi_driver.specs.Laws.{Adds}
-use Rattle.abi_driver.specs.Meaning.{of, word}
-use Rattle.abi_driver.specs.Memory.{Access, is_ranged, storing}
-use Rattle.abi_driver.specs.Touches.{Part, RowOfTouch, StoresWord, Touch, accessed, low_byte, low_half, stores, touch, touch_makes, whole}
-use Rattle.abi_driver.proofs.Ordinary.{code_of, still_returned, touches_ordinary}
+use Rattle.abi_bindgen.specs.declared.instruction.Instruction.{Instruction}
+use Rattle.abi_bindgen.specs.declared.instruction.Instruction.TheVariants.{F32Store, F64Store, I32Store, I32Store8, I32Store16, I64Store, LengthStore, PointerStore}
+use Rattle.abi_bindgen.specs.Account.{Account, Peer}
+use Rattle.abi_bindgen.specs.Instructions.{Emits, MakesBy, MakesTouch, RowBy, RowTouch, lifted_scalar, lowered_scalar}
+use Rattle.abi_bindgen.specs.Laws.{Adds}
+use Rattle.abi_bindgen.specs.Meaning.{of, word}
+use Rattle.abi_bindgen.specs.Memory.{Access, is_ranged, storing}
+use Rattle.abi_bindgen.specs.Touches.{Part, RowOfTouch, StoresWord, Touch, accessed, low_byte, low_half, stores, touch, touch_makes, whole}
+use Rattle.abi_bindgen.proofs.Ordinary.{code_of, still_returned, touches_ordinary}
 use Rattle.func_gen.specs.declared.function_bindgen.FunctionBindgen.{FunctionBindgen}
 use Rattle.func_gen.specs.declared.operand.ExprOperand.{ExprOperand}
 use Rattle.func_gen.specs.Added.{Appends}
@@ -48,7 +48,7 @@ use Rattle.func_gen.specs.MemoryForms.{small_store, whole_store}
 use Rattle.func_gen.specs.Operand.{is_operand}
 use Rattle.func_gen.specs.Read.{env_of}
 use Rattle.func_gen.specs.Formed.{Formed}
-use Rattle.abi_driver.specs.Sent.{sends}
+use Rattle.abi_bindgen.specs.Sent.{sends}
 use Rattle.func_gen.proofs.Emissions.{small_store_emitted, whole_store_emitted}
 use Rattle.func_gen.proofs.Evaluated.{gives}
 use Rattle.func_gen.proofs.Forming.{form_effect, still_blocks, touches_plain}

@@ -47,12 +47,12 @@ use Rattle.wrapper_run.proofs.QuietSteps.{quiet_let}
 use Rattle.wrapper_run.proofs.StepLemmas.{Quiet, quiet_local, quiet_pure, quiet_runtime}
 use Rattle.wrapper_run.proofs.StmtSteps.{runs-let}
 use Rattle.wrapper_run.proofs.TakeLemmas.{quiet_raw, raw_gives}
-use Rattle.abi_driver.specs.Account.{Account, Follows, Got, Outcome, Peer, Stopped, Taken, addresses, failing, gives as lawful, found as law_found, taking, tested as law_tested}
-use Rattle.abi_driver.specs.declared.instruction.Instruction.TheVariants as instruction
-use Rattle.abi_driver.specs.Instructions.{Emits}
-use Rattle.abi_driver.specs.Laws.{Adds, After, Facts}
-use Rattle.abi_driver.specs.Meaning.{Fact, item, of, word}
-use Rattle.abi_driver.specs.Sent.{sends}
+use Rattle.abi_bindgen.specs.Account.{Account, Follows, Got, Outcome, Peer, Stopped, Taken, addresses, failing, gives as lawful, found as law_found, taking, tested as law_tested}
+use Rattle.abi_bindgen.specs.declared.instruction.Instruction.TheVariants as instruction
+use Rattle.abi_bindgen.specs.Instructions.{Emits}
+use Rattle.abi_bindgen.specs.Laws.{Adds, After, Facts}
+use Rattle.abi_bindgen.specs.Meaning.{Fact, item, of, word}
+use Rattle.abi_bindgen.specs.Sent.{sends}
 use Rattle.func_gen.specs.declared.function_bindgen.FunctionBindgen.{FunctionBindgen}
 use Rattle.func_gen.specs.declared.operand.ExprOperand.{ExprOperand}
 use Rattle.func_gen.specs.Added.{Appends}
@@ -81,7 +81,7 @@ use Rattle.func_gen.proofs.RuntimeItems.{found_right}
 use Rattle.func_gen.proofs.ScalarRows.{calls_runtime}
 use Rattle.func_gen.proofs.Several.{add_local}
 use Rattle.func_gen.proofs.Steps.{func_adds, ran}
-use Rattle.abi_driver.proofs.Freeing.{last_taken}
+use Rattle.abi_bindgen.proofs.Taken.{last_taken}
 use Rattle.wrapper_meaning.proofs.PostReturn.{total-append}
 
 -- 1. One more owner

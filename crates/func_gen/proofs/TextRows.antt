@@ -25,12 +25,12 @@ use Rattle.wrapper_run.proofs.GiveSteps.{eval-boxed}
 use Rattle.wrapper_run.proofs.OwningLemmas.{buffer-text, owned-lent}
 use Rattle.wrapper_run.proofs.QuietSteps.{quiet_boxed}
 use Rattle.wrapper_run.proofs.StepLemmas.{Quiet, eval-local, quiet_pure}
-use Rattle.abi_driver.specs.Account.{Account, Done, Follows, Got, Outcome, Stopped, Stuck, account_in, addresses, releasing}
-use Rattle.abi_driver.specs.declared.instruction.Instruction.TheVariants.{StringLower}
-use Rattle.abi_driver.specs.Instructions.{Emits}
-use Rattle.abi_driver.specs.Laws.{Adds, After, Does, Facts}
-use Rattle.abi_driver.specs.Meaning.{Fact, item, of}
-use Rattle.abi_driver.specs.Sent.{sends}
+use Rattle.abi_bindgen.specs.Account.{Account, Done, Follows, Got, Outcome, Stopped, Stuck, account_in, addresses, releasing}
+use Rattle.abi_bindgen.specs.declared.instruction.Instruction.TheVariants.{StringLower}
+use Rattle.abi_bindgen.specs.Instructions.{Emits}
+use Rattle.abi_bindgen.specs.Laws.{Adds, After, Does, Facts}
+use Rattle.abi_bindgen.specs.Meaning.{Fact, item, of}
+use Rattle.abi_bindgen.specs.Sent.{sends}
 use Rattle.func_gen.specs.declared.function_bindgen.FunctionBindgen.{FunctionBindgen}
 use Rattle.func_gen.specs.declared.operand.ExprOperand.{ExprOperand}
 use Rattle.func_gen.specs.Added.{Appends}

@@ -17,8 +17,8 @@ use Rattle.wrapper_run.specs.Blocks.{keep_blocks}
 use Rattle.wrapper_run.specs.Memory.{begins_at, block_from}
 use Rattle.wrapper_run.specs.Run.{run_stmts}
 use Rattle.wrapper_run.proofs.StepLemmas.{Quiet}
-use Rattle.abi_driver.specs.Account.{Account, Act, Done, Follows, Got, Outcome, Peer, Stopped, Stuck, account_in}
-use Rattle.abi_driver.specs.Laws.{Adds, After, Does, Facts}
+use Rattle.abi_bindgen.specs.Account.{Account, Act, Done, Follows, Got, Outcome, Peer, Stopped, Stuck, account_in}
+use Rattle.abi_bindgen.specs.Laws.{Adds, After, Does, Facts}
 use Rattle.func_gen.specs.declared.function_bindgen.FunctionBindgen.{FunctionBindgen}
 use Rattle.func_gen.specs.declared.scope.Scope.{Scope}
 use Rattle.func_gen.specs.Added.{Appends}

@@ -9,7 +9,7 @@ use Rattle.wrapper_values.specs.declared.state.Val.{Val}
 use Rattle.wrapper_values.specs.declared.state.Val.TheVariants as val
 use Rattle.wrapper_values.specs.Locals.{emptied}
 use Rattle.wrapper_values.specs.Owning.{owned_in}
-use Rattle.abi_driver.specs.Meaning.{Bound, Name, at_place, the_base, the_element, the_key, the_payload, the_value, with_element, with_entry, with_nothing, with_payload}
+use Rattle.abi_bindgen.specs.Meaning.{Bound, Name, at_place, the_base, the_element, the_key, the_payload, the_value, with_element, with_entry, with_nothing, with_payload}
 use Rattle.func_gen.specs.Scope.{is_used}
 use Rattle.func_gen.specs.Slot.{Slot, slot_name}
 

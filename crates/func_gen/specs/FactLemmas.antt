@@ -20,7 +20,7 @@ use Rattle.wrapper_values.specs.contracts.state.Val as vals
 use Rattle.wrapper_values.specs.declared.state.Val.{Val}
 use Rattle.wrapper_values.specs.declared.state.Val.TheVariants as val
 use Rattle.wrapper_values.specs.Effect.{rust_of}
-use Rattle.abi_driver.specs.Meaning.{Datum, Fact, of, arg, bound}
+use Rattle.abi_bindgen.specs.Meaning.{Datum, Fact, of, arg, bound}
 use Rattle.func_gen.specs.declared.function_bindgen.ParamSite.{ParamSite}
 use Rattle.func_gen.specs.declared.operand.ExprOperand.{ExprOperand}
 use Rattle.func_gen.specs.Facts.{fact_datum, fact_value, gv_eq, matches, same, val_of, wrong}

@@ -14,8 +14,8 @@ use Rattle.wrapper_values.specs.declared.state.Val.TheVariants as val
 use Rattle.wrapper_values.specs.Locals.{local_named}
 use Rattle.wrapper_values.specs.Owning.{owned}
 use Rattle.wrapper_run.specs.Memory.{block_from}
-use Rattle.abi_driver.specs.Account.{is_taken}
-use Rattle.abi_driver.specs.Meaning.{Datum, Fact, word, item, of, arg, bound}
+use Rattle.abi_bindgen.specs.Account.{is_taken}
+use Rattle.abi_bindgen.specs.Meaning.{Datum, Fact, word, item, of, arg, bound}
 use Rattle.func_gen.specs.declared.function_bindgen.FunctionBindgen.{FunctionBindgen}
 use Rattle.func_gen.specs.declared.function_bindgen.ParamSite.{ParamSite}
 use Rattle.func_gen.specs.declared.operand.ExprOperand.{ExprOperand}

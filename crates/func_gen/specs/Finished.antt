@@ -10,7 +10,7 @@ use Rattle.wrapper_values.specs.Act.{Act, ◌>>◌, all}
 use Rattle.wrapper_values.specs.Owning.{owned_in}
 use Rattle.wrapper_values.specs.Setting.{Setting}
 use Rattle.wrapper_run.specs.Run.{eval, run_stmts}
-use Rattle.abi_driver.specs.Meaning.{Datum, item, word}
+use Rattle.abi_bindgen.specs.Meaning.{Datum, item, word}
 use Rattle.func_gen.specs.declared.function_bindgen.FinishedBlock.{FinishedBlock}
 use Rattle.func_gen.specs.declared.operand.ExprOperand.{ExprOperand}
 use Rattle.func_gen.specs.Read.{item_of}

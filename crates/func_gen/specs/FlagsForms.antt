@@ -8,7 +8,7 @@ use Rattle.rust_tree.specs.declared.expr.Expr.TheVariants as expr
 use Rattle.rust_tree.specs.declared.stmt.Stmt.TheVariants as stmt
 use Rattle.wrapper_meaning.specs.Numbers.{flags_width}
 use Rattle.wrapper_values.specs.Flags.{repr_bits}
-use Rattle.abi_driver.specs.FlagSets.{AreFlags}
+use Rattle.abi_bindgen.specs.FlagSets.{AreFlags}
 use Rattle.func_gen.specs.declared.flags_site.FlagsSite.{FlagsSite}
 use Rattle.func_gen.specs.declared.operand.ExprOperand.{ExprOperand}
 use Rattle.func_gen.specs.declared.type_site.TypeSite.{TypeSite}

@@ -6,8 +6,8 @@ use Rattle.wit_model.specs.declared.wasm_type.WasmType.{WasmType}
 use Rattle.rust_tree.specs.declared.expr.Expr.{Expr}
 use Rattle.rust_tree.specs.declared.stmt.Stmt.{Stmt}
 use Rattle.wit_model.specs.Bytes.{Bytes}
-use Rattle.abi_driver.specs.declared.instruction.Instruction.TheVariants.{CallInterface, CallWasm, GuestDeallocateVariant, OptionLift, OptionLower, ResultLift, ResultLower, Return, VariantLift, VariantLower}
-use Rattle.abi_driver.specs.Sent.{Sent, closes, opens, sends}
+use Rattle.abi_bindgen.specs.declared.instruction.Instruction.TheVariants.{CallInterface, CallWasm, GuestDeallocateVariant, OptionLift, OptionLower, ResultLift, ResultLower, Return, VariantLift, VariantLower}
+use Rattle.abi_bindgen.specs.Sent.{Sent, closes, opens, sends}
 use Rattle.func_gen.specs.declared.case_form.CaseForm.{CaseForm}
 use Rattle.func_gen.specs.declared.function_bindgen.FinishedBlock.{FinishedBlock}
 use Rattle.func_gen.specs.declared.function_bindgen.FunctionBindgen.{FunctionBindgen}

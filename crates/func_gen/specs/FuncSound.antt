@@ -12,8 +12,8 @@ use Rattle.wrapper_meaning.proofs.Lists.{some_same}
 use Rattle.wrapper_meaning.proofs.RustValueDetermined.{rust_value_determines}
 use Rattle.wrapper_values.specs.declared.state.Val.{Val}
 use Rattle.wrapper_values.specs.declared.state.Val.TheVariants as val
-use Rattle.abi_driver.specs.Laws.{Facts, Sound}
-use Rattle.abi_driver.specs.Meaning.{Datum, Fact, arg, item, of, word, bound, Name}
+use Rattle.abi_bindgen.specs.Laws.{Facts, Sound}
+use Rattle.abi_bindgen.specs.Meaning.{Datum, Fact, arg, item, of, word, bound, Name}
 use Rattle.func_gen.specs.declared.function_bindgen.FunctionBindgen.{FunctionBindgen}
 use Rattle.func_gen.specs.declared.function_bindgen.ParamSite.{ParamSite}
 use Rattle.func_gen.specs.declared.operand.ExprOperand.{ExprOperand}

@@ -37,10 +37,10 @@ use Rattle.wrapper_values.specs.Setting.{Setting}
 use Rattle.wrapper_run.specs.ExportRun.{keep_result, method_named, returned_of, run_call, values_of}
 use Rattle.wrapper_run.specs.Places.{area_in, request_of}
 use Rattle.wrapper_run.specs.Run.{run_stmts, runtime_item_named}
-use Rattle.abi_driver.specs.declared.bindgen.Asked.{Asked}
-use Rattle.abi_driver.specs.Account.{Account, Call, Crossing, Done, Outcome, Peer, Reply, Stopped, Stuck, value as value_reply, words}
-use Rattle.abi_driver.specs.Area.{HoldsRecord}
-use Rattle.abi_driver.specs.Meaning.{Bound, Datum, Ended, Fact, Meaning}
+use Rattle.abi_bindgen.specs.declared.bindgen.Asked.{Asked}
+use Rattle.abi_bindgen.specs.Account.{Account, Call, Crossing, Done, Outcome, Peer, Reply, Stopped, Stuck, value as value_reply, words}
+use Rattle.abi_bindgen.specs.Area.{HoldsRecord}
+use Rattle.abi_bindgen.specs.Meaning.{Bound, Datum, Ended, Fact, Meaning}
 use Rattle.func_gen.specs.declared.function_bindgen.Code.{Code}
 use Rattle.func_gen.specs.declared.function_bindgen.FinishedBlock.{FinishedBlock}
 use Rattle.func_gen.specs.declared.function_bindgen.FunctionBindgen.{FunctionBindgen}

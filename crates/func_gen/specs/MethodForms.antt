@@ -6,7 +6,7 @@ use Rattle.rust_tree.specs.Ident.{rust_ident}
 use Rattle.rust_tree.specs.declared.export.CallBlock.{CallBlock}
 use Rattle.rust_tree.specs.declared.expr.Expr.{Expr}
 use Rattle.rust_tree.specs.declared.stmt.Stmt.{Stmt}
-use Rattle.abi_driver.specs.declared.bindgen.Asked.{Asked}
+use Rattle.abi_bindgen.specs.declared.bindgen.Asked.{Asked}
 use Rattle.func_gen.specs.declared.function_bindgen.FunctionBindgen.{FunctionBindgen}
 use Rattle.func_gen.specs.Added.{Fresh}
 use Rattle.func_gen.specs.Scope.{TakesOne, with_number}

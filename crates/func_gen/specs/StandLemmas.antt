@@ -25,8 +25,8 @@ use Rattle.wrapper_meaning.specs.Value.{ScalarValue}
 use Rattle.wrapper_run.proofs.OwningLemmas.{owned-bool, owned-char, owned-f32, owned-f64, owned-number}
 use Rattle.wrapper_values.specs.declared.state.Val.TheVariants as val
 use Rattle.wrapper_values.specs.Owning.{owned, owned_by, owned_level, taken_by, taken_by_entries}
-use Rattle.abi_driver.specs.Account.{addresses}
-use Rattle.abi_driver.proofs.Runs.{addresses_both}
+use Rattle.abi_bindgen.specs.Account.{addresses}
+use Rattle.abi_bindgen.proofs.Runs.{addresses_both}
 
 -- 1. What values own
 

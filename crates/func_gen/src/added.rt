@@ -20,12 +20,18 @@ pub(crate) fn only_operand(alloc: Global, operands: &List<ExprOperand>) -> Resul
     ensures only { IfOk result (λ e. operands.now ≡ operand_of e ∷ []) }
     ensures operand { IfOk result (λ e. is_operand e ≡ true) }
 {
-    let operand = &operands.as_slice()[0];
-    let e = copy_expr(&operand.expr, alloc)?;
-    if operand.kept || !is_operand(&e) {
+    operand_expr(alloc, &operands.as_slice()[0])
+}
+
+/// The expression of an operand, on the same terms.
+pub(crate) fn operand_expr(alloc: Global, operand: &ExprOperand) -> Result<Expr, OutOfMemory>
+    ensures same { IfOk result (λ e. operand.now ≡ operand_of e) }
+    ensures operand { IfOk result (λ e. is_operand e ≡ true) }
+{
+    if operand.kept || !is_operand(&operand.expr) {
         return Err(OutOfMemory);
     }
-    Ok(e)
+    copy_expr(&operand.expr, alloc)
 }
 
 impl FunctionBindgen {

@@ -1,14 +1,14 @@
 //! The return area is asked for, and its address is taken.
 
 ghost use Rattle.std.specs.Prelude.{◌≡◌, IfOk};
-ghost use Rattle.abi_driver.specs.Area.{IsAlignment};
-ghost use Rattle.abi_driver.specs.Laws.{PointsTo};
+ghost use Rattle.abi_bindgen.specs.Area.{IsAlignment};
+ghost use Rattle.abi_bindgen.specs.Laws.{PointsTo};
 ghost use Rattle.func_gen.specs.Area.{area_pointer};
 ghost use Rattle.func_gen.specs.Meaning.{func_meaning};
 
 use crate::function_bindgen::FunctionBindgen;
 use crate::operand::ExprOperand;
-use abi_driver::Asked;
+use abi_bindgen::Asked;
 use rust_tree::Expr;
 use wit_model::OutOfMemory;
 

@@ -1,8 +1,8 @@
 //! Blocks of code are opened, and their names are read.
 
 ghost use Rattle.std.specs.Prelude.{◌≡◌, [], Some, IfOk, OnOk};
-ghost use Rattle.abi_driver.specs.Blocks.{Pushes};
-ghost use Rattle.abi_driver.specs.Instructions.{Emits};
+ghost use Rattle.abi_bindgen.specs.Blocks.{Pushes};
+ghost use Rattle.abi_bindgen.specs.Instructions.{Emits};
 ghost use Rattle.func_gen.specs.Meaning.{func_meaning};
 ghost use Rattle.func_gen.specs.Opened.{innermost, is_closed, stem_read};
 ghost use Rattle.func_gen.specs.Scope.{Takes};
@@ -12,7 +12,7 @@ ghost use Rattle.func_gen.specs.Suspends.{Suspends};
 use crate::function_bindgen::{Code, FunctionBindgen, OpenBlock};
 use crate::operand::ExprOperand;
 use crate::scope::{LocalName, Scope, numbered};
-use abi_driver::Instruction;
+use abi_bindgen::Instruction;
 use rust_tree::Expr;
 use std::alloc::Global;
 use wit_model::{List, OutOfMemory, Resolve};

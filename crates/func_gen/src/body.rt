@@ -8,7 +8,7 @@ ghost use Rattle.func_gen.specs.Operand.{is_operand};
 use crate::function_bindgen::{Code, FunctionBindgen};
 use crate::operand::{ExprOperand, copy_expr, is_operand};
 use crate::type_tables::TypeTables;
-use abi_driver::Asked;
+use abi_bindgen::Asked;
 use rust_tree::{CallBlock, Expr, RuntimeItem, Stmt};
 use std::alloc::Global;
 use wit_model::{Alignment, ArchitectureSize, List, OutOfMemory};
@@ -38,19 +38,16 @@ impl FunctionBindgen {
         if !self.is_closed() {
             return Err(OutOfMemory);
         }
+        let tail = tail_of(self.alloc, &self.returned)?;
+        let area = needed_area(self.asked.as_slice())?;
         let FunctionBindgen {
-            alloc,
             sizes,
             sites,
             code,
             runtime,
-            asked,
-            returned,
             ..
         } = self;
         let Code { call, stmts } = code;
-        let tail = tail_of(alloc, &returned)?;
-        let area = needed_area(asked.as_slice())?;
         let body = Body {
             call,
             stmts,

@@ -1,13 +1,15 @@
 //! How the cases of a match are taken.
 
 ghost use Rattle.std.specs.Prelude.{◌≡◌, IfOk};
+ghost use Rattle.abi_bindgen.specs.Meaning.{the_payload};
 ghost use Rattle.func_gen.specs.MatchForms.{case_pattern};
+ghost use Rattle.func_gen.specs.Slot.{slot_name};
 
 use crate::operand::copy_path;
 use crate::scope::{LocalName, numbered};
 use rust_tree::{ArmPattern, Path};
 use std::alloc::Global;
-use wit_model::OutOfMemory;
+use wit_model::{OutOfMemory, Text};
 
 /// How a case is taken: by itself, with its payload under the name of its block, or with its payload left out.
 #[derive(Drop)]
@@ -25,14 +27,23 @@ pub(crate) fn case_pattern(
 ) -> Result<ArmPattern, OutOfMemory>
     ensures { IfOk result (λ p. p ≡ case_pattern case.now number) }
 {
-    let path = match case {
-        CaseForm::Bare(path) => return Ok(ArmPattern::Case(copy_path(path, alloc)?)),
-        CaseForm::LeftOut(path) => return Ok(ArmPattern::LeftOut(copy_path(path, alloc)?)),
-        CaseForm::Full(path) => copy_path(path, alloc)?,
-    };
+    match case {
+        CaseForm::Bare(path) => Ok(ArmPattern::Case(copy_path(path, alloc)?)),
+        CaseForm::LeftOut(path) => Ok(ArmPattern::LeftOut(copy_path(path, alloc)?)),
+        CaseForm::Full(path) => {
+            let name = payload_name(alloc, number)?;
+            Ok(ArmPattern::Payload(copy_path(path, alloc)?, name))
+        }
+    }
+}
+
+/// The local that holds the payload in an arm for a block of this number.
+fn payload_name(alloc: Global, number: u32) -> Result<Text, OutOfMemory>
+    ensures { IfOk result (λ name. name ≡ slot_name the_payload number) }
+{
     let name = LocalName {
         prefix: "e",
         part: None,
     };
-    Ok(ArmPattern::Payload(path, numbered(alloc, name, number)?))
+    numbered(alloc, name, number)
 }

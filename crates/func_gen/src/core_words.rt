@@ -3,7 +3,7 @@
 ghost use Rattle.std.specs.Prelude.{◌≡◌, true, option_to_list, IfOk};
 ghost use Rattle.wit_model.specs.IndexRange.{function_in_range};
 ghost use Rattle.wit_model.specs.WellFormed.{IsWellFormed};
-ghost use Rattle.abi_driver.specs.Calls.{import_params, import_results};
+ghost use Rattle.abi_bindgen.specs.Calls.{import_params, import_results};
 
 use std::alloc::Global;
 use wit_layout::{AbiVariant, wasm_signature};

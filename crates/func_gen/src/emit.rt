@@ -24,8 +24,8 @@ mod texts;
 mod variants;
 
 ghost use Rattle.std.specs.Prelude.{◌≡◌, ◌<◌, [], length, OnOk};
-ghost use Rattle.abi_driver.specs.Instructions.{Emits, IsSendable};
-ghost use Rattle.abi_driver.specs.declared.instruction.Instruction.TheVariants as instruction;
+ghost use Rattle.abi_bindgen.specs.Instructions.{Emits, IsSendable};
+ghost use Rattle.abi_bindgen.specs.declared.instruction.Instruction.TheVariants as instruction;
 ghost use Rattle.func_gen.specs.Meaning.{func_meaning};
 
 use crate::emit::loads::{small_load, whole_load};
@@ -33,7 +33,7 @@ use crate::emit::memory::{small_store, whole_store};
 pub(crate) use crate::emit::scalars::{conversion, is_kept, number_cast};
 use crate::function_bindgen::FunctionBindgen;
 use crate::operand::ExprOperand;
-use abi_driver::{Instruction, Operand};
+use abi_bindgen::{Instruction, Operand};
 use wit_model::{List, OutOfMemory, Resolve};
 
 impl FunctionBindgen {

@@ -1,7 +1,7 @@
 //! Blocks of code are closed.
 
 ghost use Rattle.std.specs.Prelude.{◌≡◌, ◌++◌, option_to_list, OnOk};
-ghost use Rattle.abi_driver.specs.Blocks.{Finishes};
+ghost use Rattle.abi_bindgen.specs.Blocks.{Finishes};
 ghost use Rattle.func_gen.specs.Meaning.{func_meaning};
 ghost use Rattle.func_gen.specs.PartForms.{are_operands};
 ghost use Rattle.func_gen.specs.Resumes.{Resumes};

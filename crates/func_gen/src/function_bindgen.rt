@@ -3,7 +3,7 @@
 ghost use Rattle.std.specs.Prelude.{◌≡◌, ◌∷◌, true, not, IfOk};
 ghost use Rattle.std.specs.List.{AllByRecursion};
 ghost use Rattle.wit_model.specs.Distinct.{is_distinct};
-ghost use Rattle.abi_driver.specs.Laws.{IsNew};
+ghost use Rattle.abi_bindgen.specs.Laws.{IsNew};
 ghost use Rattle.func_gen.specs.Made.{IsMadeOf};
 ghost use Rattle.func_gen.specs.Meaning.{func_meaning};
 ghost use Rattle.func_gen.specs.Sites.{IsSite, site_names};
@@ -12,7 +12,7 @@ ghost use Rattle.func_gen.specs.TypeSites.{CanBeDefined};
 use crate::operand::ExprOperand;
 use crate::scope::Scope;
 use crate::type_site::TypeSite;
-use abi_driver::Asked;
+use abi_bindgen::Asked;
 use local_names::Names;
 use rust_tree::{CallBlock, RuntimeItem, Stmt};
 use std::alloc::Global;

@@ -1,6 +1,6 @@
 //! Whether code is inward: it makes no call of an import, places no area, and writes into no slot from outside.
 
-ghost use Rattle.std.specs.Prelude.{◌≡◌, None, map};
+ghost use Rattle.std.specs.Prelude.{◌≡◌, None, map, true, IfOk};
 ghost use Rattle.std.specs.List.{list_all};
 ghost use Rattle.std.specs.Option.{option_copied};
 ghost use Rattle.wrapper_run.specs.Inward as spec;
@@ -8,7 +8,7 @@ ghost use Rattle.wrapper_run.specs.Run.{callee};
 ghost use Rattle.func_gen.specs.InwardTests.{is_inward_arm, passes, slot_behind};
 
 use rust_tree::{Arm, Block, Expr, Path, Stmt};
-use wit_model::Text;
+use wit_model::{List, OutOfMemory, Text};
 
 /// Whether a path is other than a name alone.
 #[tactic(auto, unfolding(wrapper_run::specs::Run::callee))]
@@ -149,4 +149,16 @@ pub(crate) fn is_inward(block: &Block) -> bool
     ensures { result ≡ spec.is_inward block.now }
 {
     are_inward(block.stmts.as_slice()) && is_inward_tail(&block.tail)
+}
+
+/// A block of inward code. Of any other code there is no memory for one.
+pub(crate) fn inward_block(stmts: List<Stmt>, tail: Option<Expr>) -> Result<Block, OutOfMemory>
+    ensures block { IfOk result (λ b. b ≡ record { stmts = stmts; tail = tail }) }
+    ensures inward { IfOk result (λ b. spec.is_inward b ≡ true) }
+{
+    let block = Block { stmts, tail };
+    if !is_inward(&block) {
+        return Err(OutOfMemory);
+    }
+    Ok(block)
 }

@@ -3,7 +3,7 @@
 use crate::emit::{conversion, is_kept, number_cast};
 use crate::function_bindgen::FunctionBindgen;
 use crate::operand::ExprOperand;
-use abi_driver::{Asked, Bindgen, Instruction};
+use abi_bindgen::{Asked, Bindgen, Instruction};
 use wit_layout::SizeAlign;
 use wit_model::{Alignment, ArchitectureSize, List, OutOfMemory, Resolve, WitType};
 

@@ -1,10 +1,12 @@
 //! Operands: expressions that may be used where code is made of instructions.
 
-ghost use Rattle.std.specs.Prelude.{◌≡◌, ◌||◌, IfOk};
+ghost use Rattle.std.specs.Prelude.{◌≡◌, ◌||◌, [], ◌∷◌, ◌++◌, IfOk, OnOk};
+ghost use Rattle.func_gen.specs.Forms.{operand_of};
 ghost use Rattle.func_gen.specs.Operand.{is_conversion, is_converting, is_core_function, is_operand};
 ghost use Rattle.wrapper_run.specs.Run.{is_f32_from_bits, is_f64_from_bits, is_i64_from, is_new_slot};
 
-use abi_driver::Operand;
+use crate::forms::call_of;
+use abi_bindgen::Operand;
 use rust_tree::{Expr, Path};
 use std::alloc::Global;
 use wit_model::{Boxed, List, OutOfMemory, Text};
@@ -56,9 +58,8 @@ pub(crate) fn copy_expr(e: &Expr, alloc: Global) -> Result<Expr, OutOfMemory>
             let [argument] = arguments.as_slice() else {
                 return Err(OutOfMemory);
             };
-            let mut copies = List::new(alloc);
-            copies.push(copy_expr(argument, alloc)?)?;
-            Ok(Expr::Call(path, copies))
+            let argument = copy_expr(argument, alloc)?;
+            call_of(alloc, path, argument)
         }
         _ => Err(OutOfMemory),
     }
@@ -160,4 +161,11 @@ pub(crate) fn is_operand(e: &Expr) -> bool
         },
         _ => false,
     }
+}
+
+/// Puts an operand last that is no kept word.
+pub(crate) fn push_expr(operands: &mut List<ExprOperand>, expr: Expr) -> Result<(), OutOfMemory>
+    ensures { OnOk result (operands.new ≡ operands.old ++ operand_of expr ∷ []) }
+{
+    operands.push(ExprOperand { expr, kept: false })
 }

@@ -29,7 +29,7 @@ use Rattle.rust_tree.specs.declared.macros.RootMacro.{RootMacro}
 use Rattle.rust_tree.specs.declared.trait_item.TraitItem.{TraitItem}
 use Rattle.rust_gen.specs.Bound.{AreItems, Parts, area_items, area_of, areas_of, export_items, file_area, own_items}
 use Rattle.rust_gen.specs.Exported.{file_macro, guest_trait, last_macro, trait_and_macro, where_any, world_macro}
-use Rattle.abi_driver.specs.declared.bindgen.Asked.{Asked}
+use Rattle.abi_bindgen.specs.declared.bindgen.Asked.{Asked}
 use Rattle.func_gen.specs.Body.{needed}
 use Rattle.wrapper_closing.specs.FileArea.{static_area}
 use Rattle.type_defs.proofs.ZipLemmas.{AllZip-more}

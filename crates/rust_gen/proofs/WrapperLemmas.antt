@@ -16,8 +16,8 @@ use Rattle.gen_accept.specs.DeclaredNames.{guest_name}
 use Rattle.gen_accept.specs.declared.opts.Opts.{Opts}
 use Rattle.wrapper_meaning.specs.Areas.{result_record}
 use Rattle.wrapper_meaning.specs.Shape.{result_shape}
-use Rattle.abi_driver.specs.Area.{AreFor}
-use Rattle.abi_driver.specs.declared.bindgen.Asked.{Asked}
+use Rattle.abi_bindgen.specs.Area.{AreFor}
+use Rattle.abi_bindgen.specs.declared.bindgen.Asked.{Asked}
 use Rattle.func_gen.specs.declared.type_site.TypeSite.{TypeSite}
 use Rattle.type_sites.specs.Sites.{type_sites}
 use Rattle.wrapper_closing.proofs.BodyAreas.{export_body_area_is_for}

@@ -27,7 +27,7 @@ use Rattle.gen_accept.specs.DeclaredNames.{guest_name, param_idents}
 use Rattle.type_defs.specs.Docs.{doc_lines}
 use Rattle.wrapper_run.specs.Code.{code_of}
 use Rattle.wrapper_faithful.specs.Passed.{passed}
-use Rattle.abi_driver.specs.declared.bindgen.Asked.{Asked}
+use Rattle.abi_bindgen.specs.declared.bindgen.Asked.{Asked}
 use Rattle.func_gen.specs.declared.body.Body.{Body}
 use Rattle.func_gen.specs.declared.function_bindgen.ParamSite.{ParamSite}
 use Rattle.func_gen.specs.declared.type_site.TypeSite.{TypeSite}

@@ -20,7 +20,7 @@ use Rattle.gen_accept.specs.declared.opts.Opts.{Opts}
 use Rattle.gen_accept.specs.Emitted.{emitted_places, exported_functions, imported_functions}
 use Rattle.gen_accept.specs.TypeOpts.{type_opts}
 use Rattle.type_defs.specs.Defined.{AreDefinitions}
-use Rattle.abi_driver.specs.declared.bindgen.Asked.{Asked}
+use Rattle.abi_bindgen.specs.declared.bindgen.Asked.{Asked}
 use Rattle.func_gen.specs.Body.{needed}
 use Rattle.wrapper_closing.specs.FileArea.{static_area}
 use Rattle.rust_gen.specs.Exported.{last_macro, trait_and_macro}

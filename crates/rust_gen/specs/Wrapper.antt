@@ -21,9 +21,9 @@ use Rattle.type_defs.specs.ParamType.{param_type}
 use Rattle.wrapper_faithful.specs.Passed.{passed}
 use Rattle.wrapper_meaning.specs.Areas.{result_record}
 use Rattle.wrapper_meaning.specs.Shape.{result_shape}
-use Rattle.abi_driver.specs.Area.{AreFor}
-use Rattle.abi_driver.specs.declared.bindgen.Asked.{Asked}
-use Rattle.abi_driver.specs.Calls.{import_params, import_results}
+use Rattle.abi_bindgen.specs.Area.{AreFor}
+use Rattle.abi_bindgen.specs.declared.bindgen.Asked.{Asked}
+use Rattle.abi_bindgen.specs.Calls.{import_params, import_results}
 use Rattle.wrapper_closing.specs.declared.declares.Declaration.TheVariants.{Import}
 use Rattle.wrapper_closing.specs.Declares.{arms_declare_none}
 use Rattle.wrapper_closing.specs.Params.{export_args, result_types, return_args}

@@ -11,7 +11,7 @@ ghost use Rattle.rust_gen.specs.Known.{AreAtHand, sites_in};
 
 use crate::exported::{export_result, guest_name};
 use crate::tables::take_tables;
-use abi_driver::Asked;
+use abi_bindgen::Asked;
 use func_gen::{Body, TypeTables};
 use rust_tree::{Block, CallBlock, CoreParam, ExportFn, RuntimeItem, to_rust_ident};
 use std::alloc::Global;

@@ -14,7 +14,7 @@ ghost use Rattle.gen_accept.specs.InRange.{AreInRange};
 ghost use Rattle.rust_gen.specs.Wrapper.{export_result};
 
 use crate::signature::printed_result;
-use abi_driver::Asked;
+use abi_bindgen::Asked;
 use func_gen::needed_area;
 use gen_accept::needs_return;
 use rust_tree::{

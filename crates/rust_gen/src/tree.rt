@@ -29,7 +29,7 @@ use crate::post_return::post_return;
 use crate::runtime::runtime_items;
 use crate::sound::test_at;
 use crate::tables::type_tables;
-use abi_driver::Asked;
+use abi_bindgen::Asked;
 use func_gen::TypeTables;
 use gen_accept::{Opts, functions_in, needs_return, places_in};
 use rust_tree::{Bindings, FuncPlace, Item, RuntimeItem, TypeItem};

@@ -16,10 +16,10 @@ use Rattle.wit_model.proofs.AllLemmas.{all_at}
 use Rattle.wit_model.proofs.BelowLemmas.{id_below, type_below_more}
 use Rattle.type_defs.specs.Defined.{are_defined_kinds, have_defined_parts, is_defined_kind, is_defined_part, is_defined_type}
 use Rattle.wrapper_meaning.specs.Shape.{payloads_in, shape_of, shapes}
-use Rattle.abi_driver.specs.Cases.{payloads_of}
-use Rattle.abi_driver.specs.Instructions.{has_cases, shapes_of}
-use Rattle.abi_driver.proofs.Payloads.{variant_shape}
-use Rattle.abi_driver.proofs.Records.{alias_shape, enum_shape, flags_shape, record_shape, tuple_shape}
+use Rattle.abi_bindgen.specs.Cases.{payloads_of}
+use Rattle.abi_bindgen.specs.Instructions.{has_cases, shapes_of}
+use Rattle.abi_bindgen.proofs.Payloads.{variant_shape}
+use Rattle.abi_bindgen.proofs.Records.{alias_shape, enum_shape, flags_shape, record_shape, tuple_shape}
 use Rattle.wrapper_closing.proofs.PrintedAnswers.{bare_direct}
 use Rattle.wrapper_closing.specs.Direct.{are_direct, is_direct}
 use Rattle.type_sites.proofs.PrintedTypes.{mapped, mapped-fields}

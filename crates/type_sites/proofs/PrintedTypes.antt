@@ -44,10 +44,10 @@ use Rattle.wrapper_meaning.specs.Shape.{Shape, bare, is_nothing, payloads_in, sh
 use Rattle.wrapper_meaning.specs.Shape.Shape.{cases, fields, fixed, flags, handle, list, other, pairs, resource, scalar, text, tuple}
 use Rattle.wrapper_values.specs.Typed.{behind, definition_in, target_in, target_of, unaliased}
 use Rattle.wrapper_values.specs.Flags.{repr_bits}
-use Rattle.abi_driver.specs.Cases.{payloads_of}
-use Rattle.abi_driver.specs.Instructions.{field_shapes, has_cases, shapes_of}
-use Rattle.abi_driver.proofs.Payloads.{variant_shape}
-use Rattle.abi_driver.proofs.Records.{alias_rank, alias_shape, enum_shape, flags_shape, record_shape, tuple_shape}
+use Rattle.abi_bindgen.specs.Cases.{payloads_of}
+use Rattle.abi_bindgen.specs.Instructions.{field_shapes, has_cases, shapes_of}
+use Rattle.abi_bindgen.proofs.Payloads.{variant_shape}
+use Rattle.abi_bindgen.proofs.Records.{alias_rank, alias_shape, enum_shape, flags_shape, record_shape, tuple_shape}
 use Rattle.wrapper_closing.proofs.PrintedAnswers.{bare_printed}
 use Rattle.wrapper_closing.specs.PrintedAs.{ArePrintedAs, ArePrintedCases, HavePayloads, IsPrintedAs, scalar_type}
 use Rattle.type_sites.proofs.Definitions.{IsDefinedIn}

@@ -30,8 +30,8 @@ use Rattle.type_defs.specs.PartType.{part_type, printed_result}
 use Rattle.type_defs.specs.Used.{Covers, function_types, is_always_entry, uses}
 use Rattle.type_defs.proofs.UsedLemmas.{contained-at, reached_uses}
 use Rattle.wrapper_meaning.specs.Shape.{param_shapes, result_shape, shape_of}
-use Rattle.abi_driver.specs.Instructions.{shapes_of}
-use Rattle.abi_driver.proofs.Payloads.{payload_some}
+use Rattle.abi_bindgen.specs.Instructions.{shapes_of}
+use Rattle.abi_bindgen.proofs.Payloads.{payload_some}
 use Rattle.wrapper_closing.specs.Direct.{are_direct, is_direct, is_direct_result}
 use Rattle.wrapper_closing.specs.PrintedAs.{ArePrintedAs, ArePrintedParams, IsPrintedAs, IsPrintedResult}
 use Rattle.type_sites.specs.PrintedLaws.{AreSites, ArePartParams, ParamsAreDirect, ParamsArePrinted, ResultsAreDirect, ResultsArePrinted, TypesAreDirect, TypesArePrinted, file_of}

@@ -12,7 +12,7 @@ use Rattle.wrapper_meaning.specs.Items.{SameItems, total}
 use Rattle.wrapper_meaning.proofs.Lists.{some_same}
 use Rattle.wrapper_meaning.proofs.NewBlocks.{new_blocks_behind}
 use Rattle.wrapper_run.specs.Memory.{begins_at, block_at, block_from, is_at, without}
-use Rattle.abi_driver.specs.Account.{addresses}
+use Rattle.abi_bindgen.specs.Account.{addresses}
 use Rattle.abi_driver.proofs.AreaHeaps.{IsInside, contains_last, replaced_items, writes_inside}
 use Rattle.abi_driver.proofs.Replaced.{find_there, is_sized, meet}
 use Rattle.wrapper_meaning.proofs.PostReturn.{total-append}

@@ -14,8 +14,8 @@ use Rattle.wit_model.specs.declared.size.ArchitectureSize.{ArchitectureSize}
 use Rattle.wrapper_meaning.specs.Shape.{Shape}
 use Rattle.wrapper_meaning.proofs.PartPlaces.{less_grain}
 use Rattle.wrapper_run.specs.Places.{request_of}
-use Rattle.abi_driver.specs.declared.bindgen.Asked.{Asked}
-use Rattle.abi_driver.specs.Area.{AreFor, HasRoomFor}
+use Rattle.abi_bindgen.specs.declared.bindgen.Asked.{Asked}
+use Rattle.abi_bindgen.specs.Area.{AreFor, HasRoomFor}
 use Rattle.func_gen.specs.Body.{asked_alignment, asked_size}
 
 -- 1. Sizes, where a pointer has four bytes

@@ -14,8 +14,8 @@ use Rattle.wrapper_meaning.specs.StandsFor.{ArgumentsStand, Stands}
 use Rattle.wrapper_meaning.specs.StandsFor as rust
 use Rattle.wrapper_meaning.specs.Value.{Case, Parts, Value}
 use Rattle.wrapper_values.specs.Owning.{taken_by}
-use Rattle.abi_driver.specs.Laws.{AreLent, item_data}
-use Rattle.abi_driver.specs.Parts.{PartsStand}
+use Rattle.abi_bindgen.specs.Laws.{AreLent, item_data}
+use Rattle.abi_bindgen.specs.Parts.{PartsStand}
 use Rattle.func_gen.specs.Meaning.{IsNormal, StandsAsItIs, func_meaning, passing_level}
 use Rattle.func_gen.specs.StandLemmas.{lent_alone}
 use Rattle.func_gen.proofs.PartRows.{normal_struct}

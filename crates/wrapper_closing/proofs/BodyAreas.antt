@@ -16,8 +16,8 @@ use Rattle.wrapper_meaning.specs.Areas.{result_record}
 use Rattle.wrapper_meaning.specs.Layout.{layout}
 use Rattle.wrapper_meaning.specs.Represents.{is_indirect}
 use Rattle.wrapper_meaning.specs.Shape.{Shape, result_shape}
-use Rattle.abi_driver.specs.declared.bindgen.Asked.{Asked}
-use Rattle.abi_driver.specs.Area.{AreFor}
+use Rattle.abi_bindgen.specs.declared.bindgen.Asked.{Asked}
+use Rattle.abi_bindgen.specs.Area.{AreFor}
 use Rattle.func_gen.specs.Body.{needed}
 use Rattle.func_gen.specs.Meaning.{static_request}
 use Rattle.wrapper_closing.specs.FileArea.{NeedAreas, static_area}

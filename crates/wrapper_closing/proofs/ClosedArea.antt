@@ -19,9 +19,9 @@ use Rattle.wrapper_meaning.specs.Represents.{are_indirect, is_indirect}
 use Rattle.wrapper_meaning.specs.Shape.{Shape, Shapes}
 use Rattle.wrapper_meaning.specs.Shape.Shape.{cases, fields, fixed, flags, handle, list, other, pairs, resource, scalar, text, tuple}
 use Rattle.wrapper_meaning.specs.Shape.Shapes.{more, none}
-use Rattle.abi_driver.specs.declared.bindgen.Asked.{Asked}
-use Rattle.abi_driver.specs.Area.{AreFor, HoldsRecord}
-use Rattle.abi_driver.specs.Code.{record_size}
+use Rattle.abi_bindgen.specs.declared.bindgen.Asked.{Asked}
+use Rattle.abi_bindgen.specs.Area.{AreFor, HoldsRecord}
+use Rattle.abi_bindgen.specs.Code.{record_size}
 use Rattle.abi_driver.proofs.AreaAsked.{record_told}
 use Rattle.func_gen.specs.Meaning.{IsArea}
 use Rattle.wrapper_closing.specs.Direct.{are_direct, is_direct, is_direct_result}

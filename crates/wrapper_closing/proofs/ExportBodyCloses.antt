@@ -11,11 +11,11 @@ use Rattle.wrapper_data.specs.declared.run.Target.TheVariants as target
 use Rattle.wrapper_meaning.specs.Represents.{result_words}
 use Rattle.wrapper_meaning.specs.Shape.{Shape, param_shapes, result_shape}
 use Rattle.wrapper_run.specs.Entries.{ExportNames}
-use Rattle.abi_driver.specs.declared.instruction.Instruction.TheVariants.{CallInterface}
-use Rattle.abi_driver.specs.Calls.{PassesAsItIs}
-use Rattle.abi_driver.specs.Code.{call_code, give_code, take_code}
-use Rattle.abi_driver.specs.Sends.{Sends}
-use Rattle.abi_driver.specs.Sent.{sends}
+use Rattle.abi_bindgen.specs.declared.instruction.Instruction.TheVariants.{CallInterface}
+use Rattle.abi_bindgen.specs.Calls.{PassesAsItIs}
+use Rattle.abi_bindgen.specs.Code.{call_code, give_code, take_code}
+use Rattle.abi_bindgen.specs.Sends.{Sends}
+use Rattle.abi_bindgen.specs.Sent.{sends}
 use Rattle.func_gen.specs.Body.{Gives}
 use Rattle.func_gen.specs.Meaning.{Found, GivesAsCalled, func_meaning}
 use Rattle.func_gen.specs.TypeSites.{AreDefined}

@@ -34,7 +34,7 @@ use Rattle.wrapper_run.specs.ExportRun.{core_answer, keep_result, run_call, run_
 use Rattle.wrapper_run.specs.Run.{give_and_leave, run_stmts, run_tail}
 use Rattle.wrapper_run.proofs.StepLemmas.{Quiet, calls_at, quiet_give, quiet_pure}
 use Rattle.wrapper_run.proofs.StmtSteps.{code-opened}
-use Rattle.abi_driver.specs.Account.{Call, Peer}
+use Rattle.abi_bindgen.specs.Account.{Call, Peer}
 use Rattle.abi_driver.specs.Exports.{HandsOn}
 use Rattle.func_gen.specs.Meaning.{FuncState, call_of, func_meaning, run_code, run_head, setting_for}
 use Rattle.func_gen.specs.Operand.{is_operand}

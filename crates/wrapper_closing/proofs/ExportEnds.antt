@@ -41,13 +41,13 @@ use Rattle.wrapper_run.specs.Run.{give_and_leave}
 use Rattle.wrapper_run.proofs.FreeSteps.{unit_words}
 use Rattle.wrapper_run.specs.Entries.{ExportNames}
 use Rattle.wrapper_run.specs.Places.{area_in}
-use Rattle.abi_driver.specs.declared.bindgen.Asked.{Asked}
-use Rattle.abi_driver.specs.Account.{Account, Done, Follows, Got, Outcome, Peer, Reply, Stopped, Stuck, gives, has_type, have_types, then_do, value as value_reply, words}
-use Rattle.abi_driver.specs.Area.{AreFor, AreaStands, HoldsRecord, placed, with_area}
+use Rattle.abi_bindgen.specs.declared.bindgen.Asked.{Asked}
+use Rattle.abi_bindgen.specs.Account.{Account, Done, Follows, Got, Outcome, Peer, Reply, Stopped, Stuck, gives, has_type, have_types, then_do, value as value_reply, words}
+use Rattle.abi_bindgen.specs.Area.{AreFor, AreaStands, HoldsRecord, placed, with_area}
 use Rattle.abi_driver.specs.Exports.{GivesWords, HandsBack, IsHonestMethod, handed_on, placing_result}
-use Rattle.abi_driver.specs.Laws.{core_data, ofs}
-use Rattle.abi_driver.specs.Meaning.{of, word}
-use Rattle.abi_driver.proofs.SaysTypes.{says_typed}
+use Rattle.abi_bindgen.specs.Laws.{core_data, ofs}
+use Rattle.abi_bindgen.specs.Meaning.{of, word}
+use Rattle.abi_bindgen.proofs.SaysTypes.{says_typed}
 use Rattle.func_gen.specs.FactLemmas.{is_said, word_read}
 use Rattle.func_gen.specs.Facts.{Hold}
 use Rattle.func_gen.specs.Read.{env_of, read}

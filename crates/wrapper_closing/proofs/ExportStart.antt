@@ -36,14 +36,14 @@ use Rattle.wrapper_run.specs.ExportRun.{are_words_of}
 use Rattle.wrapper_run.specs.Places.{area_in}
 use Rattle.wrapper_run.specs.Run.{begin, bound}
 use Rattle.wrapper_run.proofs.LocalLemmas.{ReadsAll, reads_bound, unbound}
-use Rattle.abi_driver.specs.Account.{Peer, has_type, have_types}
-use Rattle.abi_driver.specs.Area.{HoldsRecord}
+use Rattle.abi_bindgen.specs.Account.{Peer, has_type, have_types}
+use Rattle.abi_bindgen.specs.Area.{HoldsRecord}
 use Rattle.abi_driver.specs.Exports.{Received, argument_words}
-use Rattle.abi_driver.specs.Laws.{AreLent, args, core_data}
-use Rattle.abi_driver.specs.Lifts.{MayTake}
+use Rattle.abi_bindgen.specs.Laws.{AreLent, args, core_data}
+use Rattle.abi_bindgen.specs.Lifts.{MayTake}
 use Rattle.abi_driver.proofs.ExportSteps.{export_words}
 use Rattle.abi_driver.proofs.HonestAnswers.{free_once}
-use Rattle.abi_driver.proofs.SaysTypes.{parts_typed, types_length}
+use Rattle.abi_bindgen.proofs.SaysTypes.{parts_typed, types_length}
 use Rattle.func_gen.specs.FuncSound.{func_sound}
 use Rattle.func_gen.specs.Meaning.{AreaIs, Denote, File, GivesAsCalled, Serves, account_of, func_meaning, owns_of, static_request}
 use Rattle.func_gen.specs.TypeSites.{AreDefined}

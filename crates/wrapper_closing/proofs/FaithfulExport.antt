@@ -39,7 +39,7 @@ use Rattle.wrapper_faithful.specs.Passed.{Passed, passed}
 use Rattle.wrapper_faithful.specs.Resources.{Resources, calls_of}
 use Rattle.wrapper_faithful.proofs.KeptHeaps.{export_keeps_heap}
 use Rattle.wrapper_faithful.proofs.NoHandles.{all_calls_count, nothing_is_dropped}
-use Rattle.abi_driver.specs.Account.{Peer}
+use Rattle.abi_bindgen.specs.Account.{Peer}
 use Rattle.func_gen.specs.Meaning.{answer_of, setting_for, static_request}
 use Rattle.func_gen.specs.declared.function_bindgen.FunctionBindgen.{FunctionBindgen}
 use Rattle.wrapper_closing.specs.ClosedExport.{ClosesExport, export_file}

@@ -42,7 +42,7 @@ use Rattle.wrapper_faithful.specs.Passed.{Passed, passed}
 use Rattle.wrapper_faithful.specs.Resources.{Resources, calls_of}
 use Rattle.wrapper_faithful.proofs.KeptHeaps.{import_keeps_heap}
 use Rattle.wrapper_faithful.proofs.NoHandles.{all_calls_count, nothing_is_dropped}
-use Rattle.abi_driver.specs.Account.{Peer, Reply, words, value as value_reply}
+use Rattle.abi_bindgen.specs.Account.{Peer, Reply, words, value as value_reply}
 use Rattle.func_gen.specs.Meaning.{answer_of, setting_for}
 use Rattle.func_gen.specs.declared.function_bindgen.FunctionBindgen.{FunctionBindgen}
 use Rattle.wrapper_closing.specs.ClosedImport.{ClosesImport, import_target}

@@ -7,10 +7,10 @@ use Rattle.wrapper_data.specs.Heap.{is_heap}
 use Rattle.wrapper_data.proofs.FormedHeaps.{formed}
 use Rattle.wrapper_meaning.specs.Items.{SameItems, total}
 use Rattle.wrapper_meaning.proofs.HeapBlocks.{all_in_heap, at_address, at_most_one}
-use Rattle.abi_driver.specs.Account.{Account, is_at}
-use Rattle.abi_driver.specs.Frees.{MayFree, by_freeing, without_blocks}
-use Rattle.abi_driver.specs.Lifts.{AreFree, MayTake}
-use Rattle.abi_driver.specs.Memory.{except}
+use Rattle.abi_bindgen.specs.Account.{Account, is_at}
+use Rattle.abi_bindgen.specs.Frees.{MayFree, by_freeing, without_blocks}
+use Rattle.abi_bindgen.specs.Lifts.{AreFree, MayTake}
+use Rattle.abi_bindgen.specs.Memory.{except}
 use Rattle.abi_driver.proofs.Freeing.{may_after}
 use Rattle.abi_driver.proofs.HonestAnswers.{free_once}
 use Rattle.abi_driver.proofs.Replaced.{block_formed}

@@ -11,11 +11,11 @@ use Rattle.wit_layout.specs.declared.signature.AbiVariant.TheVariants.{GuestImpo
 use Rattle.wrapper_data.specs.declared.run.Target.TheVariants as target
 use Rattle.wrapper_faithful.specs.Import.{IsFaithful}
 use Rattle.wrapper_faithful.specs.Passed.{passed}
-use Rattle.abi_driver.specs.declared.bindgen.Asked.{Asked}
-use Rattle.abi_driver.specs.declared.instruction.Instruction.TheVariants.{CallWasm}
-use Rattle.abi_driver.specs.Code.{call_code, pass_code, point_code, read_code}
-use Rattle.abi_driver.specs.Sends.{Sends}
-use Rattle.abi_driver.specs.Sent.{sends}
+use Rattle.abi_bindgen.specs.declared.bindgen.Asked.{Asked}
+use Rattle.abi_bindgen.specs.declared.instruction.Instruction.TheVariants.{CallWasm}
+use Rattle.abi_bindgen.specs.Code.{call_code, pass_code, point_code, read_code}
+use Rattle.abi_bindgen.specs.Sends.{Sends}
+use Rattle.abi_bindgen.specs.Sent.{sends}
 use Rattle.func_gen.specs.Body.{Gives, needed}
 use Rattle.func_gen.specs.Meaning.{Found, func_meaning}
 use Rattle.func_gen.specs.TypeSites.{AreDefined}

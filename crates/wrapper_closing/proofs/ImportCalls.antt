@@ -30,8 +30,8 @@ use Rattle.wrapper_values.specs.Setting.{Setting}
 use Rattle.wrapper_run.specs.Run.{answer_and_leave, run_fn, run_stmts, run_tail}
 use Rattle.wrapper_run.proofs.StepLemmas.{Quiet, calls_at, quiet_answers, quiet_pure}
 use Rattle.wrapper_run.proofs.StmtSteps.{runs-code}
-use Rattle.abi_driver.specs.Account.{Call, Peer, account_in}
-use Rattle.abi_driver.specs.Area.{SameArea}
+use Rattle.abi_bindgen.specs.Account.{Call, Peer, account_in}
+use Rattle.abi_bindgen.specs.Area.{SameArea}
 use Rattle.abi_driver.specs.Imports.{Carries}
 use Rattle.func_gen.specs.Meaning.{FuncState, call_of, func_meaning, run_head, seen, setting_for}
 use Rattle.func_gen.specs.PartForms.{are_operands}

@@ -41,13 +41,13 @@ use Rattle.wrapper_values.specs.Act as machine
 use Rattle.wrapper_values.specs.Setting.{Setting}
 use Rattle.wrapper_values.specs.Typed.{answer_in}
 use Rattle.wrapper_run.specs.Run.{answer_and_leave, run_stmts, run_tail}
-use Rattle.abi_driver.specs.declared.bindgen.Asked.{Asked}
-use Rattle.abi_driver.specs.Account.{Account, Call, Peer, Reply, words, value as value_reply}
-use Rattle.abi_driver.specs.Account.{addresses}
-use Rattle.abi_driver.specs.Area.{AreFor, SameArea}
+use Rattle.abi_bindgen.specs.declared.bindgen.Asked.{Asked}
+use Rattle.abi_bindgen.specs.Account.{Account, Call, Peer, Reply, words, value as value_reply}
+use Rattle.abi_bindgen.specs.Account.{addresses}
+use Rattle.abi_bindgen.specs.Area.{AreFor, SameArea}
 use Rattle.abi_driver.specs.Imports.{IsHonest, ResultStands as DriverResult, point_of}
-use Rattle.abi_driver.specs.Laws.{item_data, ofs}
-use Rattle.abi_driver.specs.Meaning.{item, of}
+use Rattle.abi_bindgen.specs.Laws.{item_data, ofs}
+use Rattle.abi_bindgen.specs.Meaning.{item, of}
 use Rattle.abi_driver.proofs.HonestAnswers.{in_words}
 use Rattle.abi_driver.proofs.ImportSteps.{answer_in_area, same_addresses}
 use Rattle.func_gen.specs.FuncSound.{func_sound}

@@ -19,7 +19,7 @@ use Rattle.wrapper_values.specs.Typed.{answer_in}
 use Rattle.wrapper_run.specs.Blocks.{leave_to, owned_block, without_block}
 use Rattle.wrapper_run.specs.Memory.{block_from, without}
 use Rattle.wrapper_run.specs.Run.{answer_and_leave}
-use Rattle.abi_driver.specs.Account.{addresses}
+use Rattle.abi_bindgen.specs.Account.{addresses}
 use Rattle.abi_driver.proofs.AreaHeaps.{contains_last}
 use Rattle.abi_driver.proofs.Replaced.{block_formed}
 use Rattle.func_gen.specs.Meaning.{owns_of}

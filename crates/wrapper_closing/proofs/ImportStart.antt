@@ -24,12 +24,12 @@ use Rattle.wrapper_meaning.specs.Value.{Parts}
 use Rattle.wrapper_values.specs.Act as machine
 use Rattle.wrapper_run.specs.Places.{area_block, request_of}
 use Rattle.wrapper_run.specs.Run.{run_stmts}
-use Rattle.abi_driver.specs.declared.bindgen.Asked.{Asked}
-use Rattle.abi_driver.specs.Account.{Done, Peer, addresses}
-use Rattle.abi_driver.specs.Area.{AreFor, AreaStands, NeedsArea}
+use Rattle.abi_bindgen.specs.declared.bindgen.Asked.{Asked}
+use Rattle.abi_bindgen.specs.Account.{Done, Peer, addresses}
+use Rattle.abi_bindgen.specs.Area.{AreFor, AreaStands, NeedsArea}
 use Rattle.abi_driver.specs.Imports.{Given}
-use Rattle.abi_driver.specs.Laws.{args, item_data}
-use Rattle.abi_driver.proofs.Runs.{addresses_both}
+use Rattle.abi_bindgen.specs.Laws.{args, item_data}
+use Rattle.abi_bindgen.proofs.Runs.{addresses_both}
 use Rattle.func_gen.specs.Meaning.{Denote, File, FuncState, GivesAsCalled, IsArea, Serves, func_meaning, owns_of, setting_for}
 use Rattle.func_gen.specs.TypeSites.{AreDefined}
 use Rattle.func_gen.specs.FuncSound.{func_sound}

@@ -3,7 +3,7 @@ use Rattle.std.proofs.Common.{◌≡◌, ℕ, false, List, None, sym, ap, ap₂,
 use Rattle.rust_tree.specs.Tree.{Tree}
 use Rattle.wit_model.specs.declared.function.Function.{Function}
 use Rattle.wit_model.specs.declared.types.TypeDef.{TypeDef}
-use Rattle.abi_driver.specs.Code.{post_return_code}
+use Rattle.abi_bindgen.specs.Code.{post_return_code}
 use Rattle.func_gen.specs.Body.{Gives}
 use Rattle.func_gen.specs.Meaning.{Found}
 use Rattle.func_gen.specs.TypeSites.{AreDefined}

@@ -29,13 +29,13 @@ use Rattle.wrapper_values.specs.Act as machine
 use Rattle.wrapper_values.specs.Owning.{owned_in}
 use Rattle.wrapper_run.specs.Places.{area_in}
 use Rattle.wrapper_run.specs.Run.{run_stmts}
-use Rattle.abi_driver.specs.Account.{Account, Peer, words}
-use Rattle.abi_driver.specs.Area.{HoldsRecord}
-use Rattle.abi_driver.specs.Frees.{FreesResult, MayFree, nowhere}
-use Rattle.abi_driver.specs.Laws.{At}
-use Rattle.abi_driver.specs.Meaning.{arg, word}
-use Rattle.abi_driver.specs.Places.{HasRoom}
-use Rattle.abi_driver.specs.Touches.{reached}
+use Rattle.abi_bindgen.specs.Account.{Account, Peer, words}
+use Rattle.abi_bindgen.specs.Area.{HoldsRecord}
+use Rattle.abi_bindgen.specs.Frees.{FreesResult, MayFree, nowhere}
+use Rattle.abi_bindgen.specs.Laws.{At}
+use Rattle.abi_bindgen.specs.Meaning.{arg, word}
+use Rattle.abi_bindgen.specs.Places.{HasRoom}
+use Rattle.abi_bindgen.specs.Touches.{reached}
 use Rattle.abi_driver.proofs.AreaHeaps.{contains_last}
 use Rattle.func_gen.specs.FuncSound.{func_sound}
 use Rattle.func_gen.specs.Meaning.{File, FuncState, GivesAsCalled, Serves, account_of, func_meaning, owns_of, run_head, seen, setting_for, static_request}

@@ -27,8 +27,8 @@ use Rattle.wrapper_values.specs.Effect.{answer_of, is_of_kind, rust_of}
 use Rattle.wrapper_values.specs.Typed.{answer_in, whole_as}
 use Rattle.wrapper_run.specs.ExportRun.{passed_as, returned_of, values_of}
 use Rattle.wrapper_run.proofs.NumberLemmas.{answered-unit}
-use Rattle.abi_driver.specs.Calls.{coming}
-use Rattle.abi_driver.specs.Parts.{PartsStand}
+use Rattle.abi_bindgen.specs.Calls.{coming}
+use Rattle.abi_bindgen.specs.Parts.{PartsStand}
 use Rattle.func_gen.specs.Read.{item_of}
 use Rattle.func_gen.specs.Meaning.{func_meaning}
 use Rattle.func_gen.proofs.MethodValues.{passed_alike}

@@ -25,7 +25,7 @@ use Rattle.wrapper_values.specs.declared.state.Val.TheVariants as val
 use Rattle.wrapper_values.specs.Effect.{answer_of}
 use Rattle.wrapper_values.specs.Typed.{answer_in, definition_in, unaliased}
 use Rattle.wrapper_run.specs.ExportRun.{method_named}
-use Rattle.abi_driver.specs.Calls.{PassesAsItIs}
+use Rattle.abi_bindgen.specs.Calls.{PassesAsItIs}
 use Rattle.func_gen.specs.Meaning.{File, func_meaning, method}
 use Rattle.func_gen.specs.declared.function_bindgen.FunctionBindgen.{FunctionBindgen}
 use Rattle.wrapper_closing.specs.ClosedExport.{AnswersComeIn}

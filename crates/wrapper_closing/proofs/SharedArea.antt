@@ -9,9 +9,9 @@ use Rattle.wrapper_meaning.specs.Areas.{area_for, result_record}
 use Rattle.wrapper_meaning.specs.Layout.{layout}
 use Rattle.wrapper_meaning.specs.Shape.{Shape}
 use Rattle.wrapper_run.specs.Places.{area_in}
-use Rattle.abi_driver.specs.declared.bindgen.Asked.{Asked}
-use Rattle.abi_driver.specs.Area.{AreFor, HoldsRecord}
-use Rattle.abi_driver.proofs.AllLemmas.{all_left, all_right}
+use Rattle.abi_bindgen.specs.declared.bindgen.Asked.{Asked}
+use Rattle.abi_bindgen.specs.Area.{AreFor, HoldsRecord}
+use Rattle.abi_bindgen.proofs.AllLemmas.{all_left, all_right}
 use Rattle.func_gen.specs.Meaning.{IsArea, static_request}
 use Rattle.wrapper_closing.specs.ClosedExport.{SharesArea}
 use Rattle.wrapper_closing.specs.Direct.{is_direct_result}

@@ -25,7 +25,7 @@ use Rattle.wrapper_run.specs.Places.{area_block, request_of}
 use Rattle.wrapper_run.specs.Run.{begin, bound}
 use Rattle.wrapper_run.proofs.LocalLemmas.{last-append, reads-new, reads-past, ReadsAll, reads_bound, unbound}
 use Rattle.abi_driver.proofs.AreaHeaps.{contains_last}
-use Rattle.abi_driver.specs.Laws.{AreLent, args, item_data}
+use Rattle.abi_bindgen.specs.Laws.{AreLent, args, item_data}
 use Rattle.func_gen.specs.Facts.{IsThere}
 use Rattle.func_gen.specs.Meaning.{AreaIs, Denote, File, func_meaning, owns_of}
 use Rattle.func_gen.specs.Read.{env_of}

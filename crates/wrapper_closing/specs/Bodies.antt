@@ -6,10 +6,10 @@ use Rattle.wit_model.specs.declared.types.TypeDef.{TypeDef}
 use Rattle.rust_tree.specs.declared.export.CallBlock.{CallBlock}
 use Rattle.wit_layout.specs.declared.signature.AbiVariant.TheVariants.{GuestExport, GuestImport}
 use Rattle.wrapper_meaning.specs.Shape.{result_shape}
-use Rattle.abi_driver.specs.Code.{call_code, post_return_code}
+use Rattle.abi_bindgen.specs.Code.{call_code, post_return_code}
 use Rattle.abi_driver.specs.Exports.{export_params}
-use Rattle.abi_driver.specs.Frees.{PostReturns}
-use Rattle.abi_driver.specs.Sends.{Sends}
+use Rattle.abi_bindgen.specs.Frees.{PostReturns}
+use Rattle.abi_bindgen.specs.Sends.{Sends}
 use Rattle.abi_driver.specs.WholeCalls.{CallsFunction}
 use Rattle.func_gen.specs.Body.{IsBodyOf}
 use Rattle.func_gen.specs.Meaning.{func_meaning}

@@ -20,9 +20,9 @@ use Rattle.wrapper_run.specs.Places.{area_in}
 use Rattle.wrapper_faithful.specs.Export.{HasCoreSignature}
 use Rattle.wrapper_faithful.specs.Passed.{passed}
 use Rattle.wrapper_faithful.specs.Returned.{Returns}
-use Rattle.abi_driver.specs.declared.bindgen.Asked.{Asked}
-use Rattle.abi_driver.specs.Area.{AreFor}
-use Rattle.abi_driver.specs.Calls.{PassesAsItIs, coming}
+use Rattle.abi_bindgen.specs.declared.bindgen.Asked.{Asked}
+use Rattle.abi_bindgen.specs.Area.{AreFor}
+use Rattle.abi_bindgen.specs.Calls.{PassesAsItIs, coming}
 use Rattle.abi_driver.specs.Exports.{export_params}
 use Rattle.abi_driver.specs.Imports.{ResultStands}
 use Rattle.abi_driver.specs.WholeCalls.{CallsFunction}

@@ -12,7 +12,7 @@ use Rattle.wrapper_meaning.specs.Shape.{result_shape}
 use Rattle.wrapper_run.specs.Code.{code_of}
 use Rattle.wrapper_run.specs.Places.{area_in}
 use Rattle.wrapper_run.specs.PostReturn.{post_return_at}
-use Rattle.abi_driver.specs.Frees.{PostReturns}
+use Rattle.abi_bindgen.specs.Frees.{PostReturns}
 use Rattle.func_gen.specs.Meaning.{Found, IsArea, func_meaning, static_request}
 use Rattle.func_gen.specs.TypeSites.{AreDefined}
 use Rattle.func_gen.specs.Sites.{site_names}

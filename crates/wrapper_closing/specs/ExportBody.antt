@@ -14,7 +14,7 @@ use Rattle.wrapper_run.specs.ExportRun.{export_at}
 use Rattle.wrapper_faithful.specs.Export.{HasCoreSignature}
 use Rattle.wrapper_faithful.specs.Passed.{passed}
 use Rattle.wrapper_faithful.specs.Returned.{Returns}
-use Rattle.abi_driver.specs.Calls.{PassesAsItIs}
+use Rattle.abi_bindgen.specs.Calls.{PassesAsItIs}
 use Rattle.func_gen.specs.Meaning.{Found, GivesAsCalled, func_meaning}
 use Rattle.func_gen.specs.TypeSites.{AreDefined}
 use Rattle.func_gen.specs.Sites.{site_names}

@@ -6,8 +6,8 @@ use Rattle.rust_tree.specs.declared.area.StaticArea.{StaticArea}
 use Rattle.wrapper_meaning.specs.Areas.{result_record}
 use Rattle.wrapper_meaning.specs.Shape.{Shape}
 use Rattle.wrapper_run.specs.Places.{area_in}
-use Rattle.abi_driver.specs.declared.bindgen.Asked.{Asked}
-use Rattle.abi_driver.specs.Area.{AreFor}
+use Rattle.abi_bindgen.specs.declared.bindgen.Asked.{Asked}
+use Rattle.abi_bindgen.specs.Area.{AreFor}
 use Rattle.func_gen.specs.Body.{needed}
 use Rattle.wrapper_closing.specs.Direct.{is_direct_result}
 

@@ -8,7 +8,7 @@ use Rattle.wit_model.specs.Bytes.{Bytes}
 use Rattle.wrapper_data.specs.declared.choice.Request.{Request}
 use Rattle.wrapper_run.specs.Code.{code_of}
 use Rattle.wrapper_run.specs.Places.{request_of}
-use Rattle.abi_driver.specs.declared.bindgen.Asked.{Asked}
+use Rattle.abi_bindgen.specs.declared.bindgen.Asked.{Asked}
 use Rattle.func_gen.specs.Body.{asked_alignment, asked_size}
 use Rattle.func_gen.specs.declared.body.Body.{Body}
 use Rattle.func_gen.specs.declared.function_bindgen.FunctionBindgen.{FunctionBindgen}

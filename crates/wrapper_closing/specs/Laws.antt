@@ -18,8 +18,8 @@ use Rattle.wrapper_faithful.specs.Passed.{passed}
 use Rattle.wrapper_faithful.specs.Resources.{Resources}
 use Rattle.wrapper_faithful.specs.Returned.{IsEntered, IsReturned, IsUnreturned, RunOfPostReturn}
 use Rattle.wrapper_meaning.specs.Gives.{FreesWords}
-use Rattle.abi_driver.specs.Area.{AreFor}
-use Rattle.abi_driver.specs.declared.bindgen.Asked.{Asked}
+use Rattle.abi_bindgen.specs.Area.{AreFor}
+use Rattle.abi_bindgen.specs.declared.bindgen.Asked.{Asked}
 use Rattle.wrapper_closing.specs.Bodies.{MakesExport}
 use Rattle.wrapper_closing.specs.ClosedExport.{ClosesExport, SharesArea}
 use Rattle.wrapper_closing.specs.ClosedImport.{ClosesImport, import_target}

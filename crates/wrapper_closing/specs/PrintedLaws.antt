@@ -14,7 +14,7 @@ use Rattle.wrapper_meaning.specs.Value.{Value}
 use Rattle.wrapper_values.specs.Effect.{rust_of}
 use Rattle.wrapper_values.specs.Typed.{answer_in, typed}
 use Rattle.wrapper_values.specs.declared.state.Val.{Val}
-use Rattle.abi_driver.specs.Calls.{PassesAsItIs}
+use Rattle.abi_bindgen.specs.Calls.{PassesAsItIs}
 use Rattle.func_gen.specs.Meaning.{File, IsNormal, StandsAsItIs, func_meaning, method}
 use Rattle.func_gen.specs.declared.function_bindgen.FunctionBindgen.{FunctionBindgen}
 use Rattle.wrapper_closing.specs.ClosedExport.{AnswersComeIn}

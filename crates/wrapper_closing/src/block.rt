@@ -3,7 +3,7 @@
 ghost use Rattle.std.specs.Prelude.{◌≡◌, ◌++◌, IfOk, OnOk};
 ghost use Rattle.wrapper_closing.specs.ImportBlock.{block_of, local_area};
 
-use abi_driver::Asked;
+use abi_bindgen::Asked;
 use func_gen::Body;
 use rust_tree::{Block, ReturnArea, RuntimeItem, Stmt};
 use std::alloc::Global;

@@ -18,4 +18,4 @@ pub use form::Form;
 pub use heap::Heap;
 pub use run::{CallPoint, Run, Stop, Target, TrapKind};
 pub use value::RustValue;
-pub use word::Word;
+pub use word::{Word, low_word};

@@ -12,7 +12,7 @@ use crate::fields::{root_name, type_named};
 use crate::state::{Halt, State, Val, World};
 use crate::views::integer_of;
 use rust_tree::{FlagsItem, Item, Path, Repr, TypeItem};
-use wrapper_data::{RustValue, Word};
+use wrapper_data::{RustValue, Word, low_word};
 
 fn bits_of_flags(v: &Val) -> Option<u128>
     ensures { result ≡ spec.bits_of_flags v.now }
@@ -90,8 +90,7 @@ fn is_flags_path(items: &[Item], path: &Path, repr: Repr) -> bool
 fn shifted(repr: Repr, by: u32, z: i128) -> u128
     ensures { result ≡ spec.shifted repr by z }
 {
-    let word = z.rem_euclid(1 << 32) as u128;
-    within(repr, word.unbounded_shl(by))
+    within(repr, low_word(z).unbounded_shl(by))
 }
 
 /// The bits that are joined of words, each shifted by its own number of bits. Nothing where one is no number.

@@ -16,7 +16,7 @@ use crate::variants::case_number;
 use rust_tree::{ArmPattern, Item, MatchNames, Path};
 use std::alloc::Global;
 use wit_model::{OutOfMemory, Text};
-use wrapper_data::{Form, RustValue, Stop, TrapKind, Word};
+use wrapper_data::{Form, RustValue, Stop, Word};
 
 fn number_of(v: &Val) -> Option<u32>
     ensures { result ≡ variants.number_of v.now }
@@ -212,10 +212,14 @@ pub fn bind_results(
 pub fn assert_last(world: &World, state: &State, n: u32, v: &Val) -> Result<(), Halt>
     ensures { Runs (spec.assert_last (setting world.now) n v.now state.now) result state.now }
 {
-    match (world.form, i32_of(v)) {
-        (Form::Release, _) => Ok(()),
-        (Form::Debug, None) => Err(Halt::Stopped(world.stuck())),
-        (Form::Debug, Some(z)) if is_number(n, z) => Ok(()),
-        _ => Err(Halt::Stopped(Stop::Trap(TrapKind::Discriminant))),
+    let Some(z) = i32_of(v) else {
+        return match world.form {
+            Form::Release => Ok(()),
+            Form::Debug => Err(Halt::Stopped(world.stuck())),
+        };
+    };
+    match world.form.trap_at(n, z) {
+        None => Ok(()),
+        Some(kind) => Err(Halt::Stopped(Stop::Trap(kind))),
     }
 }

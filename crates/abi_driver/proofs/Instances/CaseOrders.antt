@@ -11,9 +11,9 @@ use Rattle.wit_model.specs.declared.types.WitType.TheVariants as wit
 use Rattle.wit_model.specs.declared.wasm_type.WasmType.TheVariants.{F32, I32, Length, Pointer}
 use Rattle.wit_layout.specs.declared.bitcast.Bitcast.TheVariants as bitcast
 use Rattle.wrapper_meaning.specs.Shape.{shapes}
-use Rattle.abi_driver.specs.declared.instruction.Instruction.TheVariants as i
-use Rattle.abi_driver.specs.Code.{lift_code, lower_code, made}
-use Rattle.abi_driver.specs.Sent.{closes, opens, sends, sends_casts, sends_zeros}
+use Rattle.abi_bindgen.specs.declared.instruction.Instruction.TheVariants as i
+use Rattle.abi_bindgen.specs.Code.{lift_code, lower_code, made}
+use Rattle.abi_bindgen.specs.Sent.{closes, opens, sends, sends_casts, sends_zeros}
 
 no_docs : Docs
 no_docs = record { contents = None }

@@ -10,9 +10,9 @@ use Rattle.wit_model.specs.declared.types.TypeOwner.TheVariants as owner
 use Rattle.wit_model.specs.declared.types.WitType.TheVariants as wit
 use Rattle.wit_layout.specs.Tree.{trees}
 use Rattle.wrapper_meaning.specs.Shape.{shapes}
-use Rattle.abi_driver.specs.declared.instruction.Instruction.TheVariants as i
-use Rattle.abi_driver.specs.Code.{free_code, load_code, made, store_code}
-use Rattle.abi_driver.specs.Sent.{Sent, closes, opens, sends}
+use Rattle.abi_bindgen.specs.declared.instruction.Instruction.TheVariants as i
+use Rattle.abi_bindgen.specs.Code.{free_code, load_code, made, store_code}
+use Rattle.abi_bindgen.specs.Sent.{Sent, closes, opens, sends}
 
 of_kind : TypeDefKind → TypeDef
 of_kind k = record { name = None; owner = owner.None; kind = k; docs = record { contents = None } }

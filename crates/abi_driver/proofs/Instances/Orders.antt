@@ -17,10 +17,10 @@ use Rattle.wit_model.specs.declared.types.WitType.TheVariants as wit
 use Rattle.wit_layout.specs.declared.signature.AbiVariant.TheVariants.{GuestExport, GuestImport}
 use Rattle.wit_layout.specs.Tree.{trees}
 use Rattle.wrapper_meaning.specs.Shape.{shapes}
-use Rattle.abi_driver.specs.declared.instruction.Instruction.{Instruction}
-use Rattle.abi_driver.specs.declared.instruction.Instruction.TheVariants as i
-use Rattle.abi_driver.specs.Code.{call_code, free_code, free_types_code, free_words_code, lift_code, load_code, lower_code, made, post_return_code, store_code}
-use Rattle.abi_driver.specs.Sent.{Sent, asks, sends}
+use Rattle.abi_bindgen.specs.declared.instruction.Instruction.{Instruction}
+use Rattle.abi_bindgen.specs.declared.instruction.Instruction.TheVariants as i
+use Rattle.abi_bindgen.specs.Code.{call_code, free_code, free_types_code, free_words_code, lift_code, load_code, lower_code, made, post_return_code, store_code}
+use Rattle.abi_bindgen.specs.Sent.{Sent, asks, sends}
 
 -- 1. A table
 

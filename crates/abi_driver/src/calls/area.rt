@@ -5,19 +5,17 @@ ghost use Rattle.std.specs.List.{list_all};
 ghost use Rattle.wit_model.specs.TypeOrder.{GoesDown, type_below};
 ghost use Rattle.wrapper_meaning.specs.Shape.{shape_of};
 ghost use Rattle.wrapper_meaning.specs.Shape.Shape.{fields};
-ghost use Rattle.abi_driver.specs.Code as code;
-ghost use Rattle.abi_driver.specs.Code.{ask_for};
+ghost use Rattle.abi_bindgen.specs.Code as code;
+ghost use Rattle.abi_bindgen.specs.Code.{ask_for};
 ghost use Rattle.abi_driver.specs.Imports.{PassesRecord, Points};
-ghost use Rattle.abi_driver.specs.Instructions.{shapes_of};
-ghost use Rattle.abi_driver.specs.Laws.{IsCount};
-ghost use Rattle.abi_driver.specs.Sends.{Sends};
+ghost use Rattle.abi_bindgen.specs.Instructions.{shapes_of};
+ghost use Rattle.abi_bindgen.specs.Laws.{IsCount};
+ghost use Rattle.abi_bindgen.specs.Sends.{Sends};
 ghost use Rattle.abi_driver.specs.Stores.{StoresArguments};
 
-use crate::bindgen::Bindgen;
 use crate::dealloc::places::record_places;
 use crate::memory::store::store_type;
-use crate::parts::numbered;
-use crate::send::argument;
+use abi_bindgen::{Bindgen, argument, numbered};
 use std::alloc::Global;
 use wit_model::{List, OutOfMemory, Resolve, WitType};
 

@@ -8,8 +8,8 @@ ghost use Rattle.wit_model.specs.TypeOrder.{GoesDown, payload_below, type_below}
 ghost use Rattle.wit_model.specs.WellFormed.{IsWellFormed};
 ghost use Rattle.wrapper_meaning.specs.Represents.{are_indirect, is_indirect, param_words};
 ghost use Rattle.wrapper_meaning.specs.Shape.{param_shapes, result_shape, shape_of};
-ghost use Rattle.abi_driver.specs.Code as code;
-ghost use Rattle.abi_driver.specs.Code.{
+ghost use Rattle.abi_bindgen.specs.Code as code;
+ghost use Rattle.abi_bindgen.specs.Code.{
   ask_for,
   export_code,
   get_arguments,
@@ -27,23 +27,21 @@ ghost use Rattle.abi_driver.specs.Exports.{
   argument_words,
   export_params,
 };
-ghost use Rattle.abi_driver.specs.Frees.{nowhere};
-ghost use Rattle.abi_driver.specs.Instructions.{shapes_of};
-ghost use Rattle.abi_driver.specs.Laws.{IsCount};
-ghost use Rattle.abi_driver.specs.Lifts.{LiftsArguments};
-ghost use Rattle.abi_driver.specs.Lowers.{LowersAnswer};
-ghost use Rattle.abi_driver.specs.Sends.{Sends};
+ghost use Rattle.abi_bindgen.specs.Frees.{nowhere};
+ghost use Rattle.abi_bindgen.specs.Instructions.{shapes_of};
+ghost use Rattle.abi_bindgen.specs.Laws.{IsCount};
+ghost use Rattle.abi_bindgen.specs.Lifts.{LiftsArguments};
+ghost use Rattle.abi_bindgen.specs.Lowers.{LowersAnswer};
+ghost use Rattle.abi_bindgen.specs.Sends.{Sends};
 
-use crate::bindgen::{Bindgen, Operand};
 use crate::calls::area::point_at;
 use crate::calls::record::load_arguments;
-use crate::instruction::Instruction;
 use crate::lift::lift_flat;
-use crate::lower::lower_type;
 use crate::memory::place::NOWHERE;
 use crate::memory::store::store_type;
-use crate::parts::{numbered, param_types};
-use crate::send::{argument, only, send};
+use abi_bindgen::{
+    Bindgen, Instruction, Operand, argument, lower_flat, numbered, only, param_types, send,
+};
 use std::alloc::Global;
 use wit_layout::{AbiVariant, flat_types, wasm_signature};
 use wit_model::{Function, List, OutOfMemory, Resolve, WitType};
@@ -210,7 +208,7 @@ fn lower_answer<B: Bindgen>(
     ensures sends { OnOk result (Sends B.meaning resolve.now.types (lower_code resolve.now.types true ty) bindgen.old bindgen.new) }
 {
     let value = answer[0].copy(alloc)?;
-    let words = lower_type(alloc, resolve, bindgen, value, ty, true)?;
+    let words = lower_flat(alloc, resolve, bindgen, value, &ty, true)?;
     Ok(words)
 }
 

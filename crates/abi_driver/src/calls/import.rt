@@ -8,9 +8,9 @@ ghost use Rattle.wit_model.specs.TypeOrder.{GoesDown, payload_below, type_below}
 ghost use Rattle.wit_model.specs.WellFormed.{IsWellFormed};
 ghost use Rattle.wrapper_meaning.specs.Represents.{are_indirect, is_indirect};
 ghost use Rattle.wrapper_meaning.specs.Shape.{param_shapes, result_shape, shape_of};
-ghost use Rattle.abi_driver.specs.Code as code;
-ghost use Rattle.abi_driver.specs.Code.{import_code, lift_code, load_code, pass_code, point_code, read_code};
-ghost use Rattle.abi_driver.specs.Frees.{nowhere};
+ghost use Rattle.abi_bindgen.specs.Code as code;
+ghost use Rattle.abi_bindgen.specs.Code.{import_code, lift_code, load_code, pass_code, point_code, read_code};
+ghost use Rattle.abi_bindgen.specs.Frees.{nowhere};
 ghost use Rattle.abi_driver.specs.Imports.{
   CallsImport,
   LoadsAnswer,
@@ -18,20 +18,19 @@ ghost use Rattle.abi_driver.specs.Imports.{
   PointsAtResult,
   ReadsAnswer,
 };
-ghost use Rattle.abi_driver.specs.Instructions.{shapes_of};
-ghost use Rattle.abi_driver.specs.Laws.{IsCount};
-ghost use Rattle.abi_driver.specs.Lifts.{LiftsAnswer};
-ghost use Rattle.abi_driver.specs.Lowers.{LowersArguments};
-ghost use Rattle.abi_driver.specs.Sends.{Sends};
+ghost use Rattle.abi_bindgen.specs.Instructions.{shapes_of};
+ghost use Rattle.abi_bindgen.specs.Laws.{IsCount};
+ghost use Rattle.abi_bindgen.specs.Lifts.{LiftsAnswer};
+ghost use Rattle.abi_bindgen.specs.Lowers.{LowersArguments};
+ghost use Rattle.abi_bindgen.specs.Sends.{Sends};
 
-use crate::bindgen::{Bindgen, Operand};
 use crate::calls::area::{point_at, store_arguments};
-use crate::instruction::Instruction;
 use crate::lift::lift_flat;
-use crate::lower::lower_type;
 use crate::memory::lift_from_memory;
-use crate::parts::{numbered, param_types};
-use crate::send::{argument, only, push_copies, send};
+use abi_bindgen::{
+    Bindgen, Instruction, Operand, argument, lower_flat, numbered, only, param_types, push_copies,
+    send,
+};
 use std::alloc::Global;
 use wit_layout::{AbiVariant, wasm_signature};
 use wit_model::{Function, List, OutOfMemory, Resolve, WitType};
@@ -129,7 +128,7 @@ fn lower_arguments<B: Bindgen>(
     for i in 0..tys.len() {
         let number = numbered(i)?;
         let value = argument(alloc, resolve, bindgen, number)?;
-        let words = lower_type(alloc, resolve, bindgen, value, tys[i], false)?;
+        let words = lower_flat(alloc, resolve, bindgen, value, &tys[i], false)?;
         push_copies(&mut all, alloc, words.as_slice())?;
     }
     Ok(List::from_vec(all))

@@ -4,20 +4,17 @@ ghost use Rattle.std.specs.Prelude.{◌≡◌, ◌<◌, true, length, IfOk, OnOk
 ghost use Rattle.std.specs.List.{list_all};
 ghost use Rattle.wit_model.specs.TypeOrder.{GoesDown, type_below};
 ghost use Rattle.wrapper_meaning.specs.Shape.Shape.{fields};
-ghost use Rattle.abi_driver.specs.Code as code;
-ghost use Rattle.abi_driver.specs.Code.{free_block_code, take_record_code};
+ghost use Rattle.abi_bindgen.specs.Code as code;
+ghost use Rattle.abi_bindgen.specs.Code.{free_block_code, take_record_code};
 ghost use Rattle.abi_driver.specs.Exports.{FreesArguments, TakesRecordOver};
-ghost use Rattle.abi_driver.specs.Frees.{nowhere};
-ghost use Rattle.abi_driver.specs.Instructions.{shapes_of};
+ghost use Rattle.abi_bindgen.specs.Frees.{nowhere};
+ghost use Rattle.abi_bindgen.specs.Instructions.{shapes_of};
 ghost use Rattle.abi_driver.specs.Loads.{LoadsParts};
-ghost use Rattle.abi_driver.specs.Sends.{Sends};
+ghost use Rattle.abi_bindgen.specs.Sends.{Sends};
 
-use crate::bindgen::Bindgen;
 use crate::dealloc::places::record_places;
-use crate::instruction::Instruction;
 use crate::memory::load::load_type;
-use crate::parts::numbered;
-use crate::send::{argument, only, send};
+use abi_bindgen::{Bindgen, Instruction, argument, numbered, only, send};
 use std::alloc::Global;
 use wit_model::{List, OutOfMemory, Resolve, WitType};
 

@@ -6,17 +6,14 @@ ghost use Rattle.wit_model.specs.TypeOrder.{GoesDown, type_below};
 ghost use Rattle.wit_model.specs.declared.types.WitType.TheVariants.{Id, String};
 ghost use Rattle.wrapper_meaning.specs.Shape.{shape_at, shape_of};
 ghost use Rattle.wrapper_meaning.specs.Shape.Shape.{text};
-ghost use Rattle.abi_driver.specs.Code.{each, free_words_code};
-ghost use Rattle.abi_driver.specs.Frees.{FreesAll, FreesFlat};
-ghost use Rattle.abi_driver.specs.Instructions.{shapes_of};
-ghost use Rattle.abi_driver.specs.Sends.{Sends};
+ghost use Rattle.abi_bindgen.specs.Code.{each, free_words_code};
+ghost use Rattle.abi_bindgen.specs.Frees.{FreesAll, FreesFlat};
+ghost use Rattle.abi_bindgen.specs.Instructions.{shapes_of};
+ghost use Rattle.abi_bindgen.specs.Sends.{Sends};
 
-use crate::bindgen::{Bindgen, Operand};
-use crate::instruction::Instruction;
 use crate::lift::flags::flag_words;
 use crate::lift::leaf::scalar_lifting;
-use crate::parts::field_types;
-use crate::send::{only, send};
+use abi_bindgen::{Bindgen, Instruction, Operand, field_types, only, send};
 use std::alloc::Global;
 use wit_model::{OutOfMemory, Resolve, TypeDefKind, TypeId, WitType};
 

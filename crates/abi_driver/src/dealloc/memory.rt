@@ -7,25 +7,22 @@ ghost use Rattle.wit_model.specs.declared.types.WitType.TheVariants.{Id, String}
 ghost use Rattle.wit_layout.specs.Tree.{record_of, tree_at};
 ghost use Rattle.wrapper_meaning.specs.Shape.{payload_in, payloads_in, shape_at, shape_of, shapes};
 ghost use Rattle.wrapper_meaning.specs.Shape.Shape.{text};
-ghost use Rattle.abi_driver.specs.Code.{at_payload, beyond, each, free_code, in_blocks, place_in};
+ghost use Rattle.abi_bindgen.specs.Code.{at_payload, beyond, each, free_code, in_blocks, place_in};
 ghost use Rattle.abi_driver.specs.FreedCases.{FreesCases, FreesPayload};
-ghost use Rattle.abi_driver.specs.Frees.{FreesInMemory, FreesParts, nowhere};
-ghost use Rattle.abi_driver.specs.Instructions.{shapes_of};
-ghost use Rattle.abi_driver.specs.Places.{HasParts};
-ghost use Rattle.abi_driver.specs.Sends.{Sends};
-ghost use Rattle.abi_driver.specs.Sent.{closes, opens};
+ghost use Rattle.abi_bindgen.specs.Frees.{FreesInMemory, FreesParts, nowhere};
+ghost use Rattle.abi_bindgen.specs.Instructions.{shapes_of};
+ghost use Rattle.abi_bindgen.specs.Places.{HasParts};
+ghost use Rattle.abi_bindgen.specs.Sends.{Sends};
+ghost use Rattle.abi_bindgen.specs.Sent.{closes, opens};
 
-use crate::bindgen::Bindgen;
 use crate::dealloc::places::record_places;
 use crate::dealloc::variants::run_case;
 use crate::has_list::id_has_list;
-use crate::instruction::Instruction;
 use crate::lift::leaf::scalar_lifting;
 use crate::memory::place::{behind_pointer, part_place};
 use crate::memory::variants::{case_payloads, close, empty_block, load_tag, payload_place};
 use crate::memory::word::load_word;
-use crate::parts::{field_types, numbered};
-use crate::send::{only, send};
+use abi_bindgen::{Bindgen, Instruction, field_types, numbered, only, send};
 use std::alloc::Global;
 use wit_model::{ArchitectureSize, OutOfMemory, Resolve, TypeDefKind, TypeId, WitType};
 

@@ -1,12 +1,10 @@
 //! The instruction that frees by the block of a case is sent.
 
 ghost use Rattle.std.specs.Prelude.{◌≡◌, ◌∷◌, [], replicate, OnOk};
-ghost use Rattle.abi_driver.specs.declared.instruction.Instruction.TheVariants as instruction;
-ghost use Rattle.abi_driver.specs.Instructions.{Emits, HasBlocks};
+ghost use Rattle.abi_bindgen.specs.declared.instruction.Instruction.TheVariants as instruction;
+ghost use Rattle.abi_bindgen.specs.Instructions.{Emits, HasBlocks};
 
-use crate::bindgen::Bindgen;
-use crate::instruction::Instruction;
-use crate::send::{only, send};
+use abi_bindgen::{Bindgen, Instruction, only, send};
 use std::alloc::Global;
 use wit_model::{OutOfMemory, Resolve};
 

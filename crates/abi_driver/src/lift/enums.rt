@@ -5,20 +5,15 @@ ghost use Rattle.wit_model.specs.TypeOrder.{GoesDown};
 ghost use Rattle.wit_model.specs.declared.types.TypeDefKind.TheVariants as kind;
 ghost use Rattle.wit_model.specs.declared.types.WitType.TheVariants.{Id};
 ghost use Rattle.wrapper_meaning.specs.Shape.{shape_at};
-ghost use Rattle.abi_driver.specs.Code.{lift_code};
-ghost use Rattle.abi_driver.specs.HasList.{IsKindOf};
-ghost use Rattle.abi_driver.specs.Lifts.{LiftsFlat};
-ghost use Rattle.abi_driver.specs.Sends.{Sends};
+ghost use Rattle.abi_bindgen.specs.Code.{lift_code};
+ghost use Rattle.abi_bindgen.specs.HasList.{IsKindOf};
+ghost use Rattle.abi_bindgen.specs.Lifts.{LiftsFlat};
+ghost use Rattle.abi_bindgen.specs.Sends.{Sends};
 
-use crate::bindgen::{Bindgen, Operand};
-use crate::instruction::Instruction;
 use crate::lift::Lifted;
-use crate::send::{only, send_one};
+use abi_bindgen::{Bindgen, Instruction, MOST_CASES, Operand, only, send_one};
 use std::alloc::Global;
 use wit_model::{List, Member, OutOfMemory, Resolve, TypeId};
-
-/// So many cases at most have numbers that a word of 32 bits keeps, whose highest bit is its sign.
-pub(crate) const MOST_CASES: usize = 0x8000_0000;
 
 /// The value of an enum that the tag at a place represents.
 pub(crate) fn lift_enum<B: Bindgen>(

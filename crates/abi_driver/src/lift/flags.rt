@@ -6,15 +6,13 @@ ghost use Rattle.wit_model.specs.declared.types.TypeDefKind.TheVariants as kind;
 ghost use Rattle.wit_model.specs.declared.types.WitType.TheVariants.{Id};
 ghost use Rattle.wit_layout.specs.Extent.{flag_words};
 ghost use Rattle.wrapper_meaning.specs.Shape.{shape_at};
-ghost use Rattle.abi_driver.specs.Code.{lift_code};
-ghost use Rattle.abi_driver.specs.HasList.{IsKindOf};
-ghost use Rattle.abi_driver.specs.Lifts.{LiftsFlat};
-ghost use Rattle.abi_driver.specs.Sends.{Sends};
+ghost use Rattle.abi_bindgen.specs.Code.{lift_code};
+ghost use Rattle.abi_bindgen.specs.HasList.{IsKindOf};
+ghost use Rattle.abi_bindgen.specs.Lifts.{LiftsFlat};
+ghost use Rattle.abi_bindgen.specs.Sends.{Sends};
 
-use crate::bindgen::Bindgen;
-use crate::instruction::Instruction;
 use crate::lift::Lifted;
-use crate::send::{push_copies, send_one};
+use abi_bindgen::{Bindgen, Instruction, push_copies, send_one};
 use std::alloc::Global;
 use wit_model::{List, Member, OutOfMemory, Resolve, TypeId};
 

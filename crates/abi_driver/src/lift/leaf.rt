@@ -4,15 +4,13 @@ ghost use Rattle.std.specs.Prelude.{◌≡◌, ◌++◌, List, Some, drop, IfOk,
 ghost use Rattle.wit_model.specs.declared.types.WitType.TheVariants.{String};
 ghost use Rattle.wrapper_meaning.specs.Shape.{shape_of};
 ghost use Rattle.wrapper_meaning.specs.Shape.Shape.{text};
-ghost use Rattle.abi_driver.specs.Code.{lift_code};
-ghost use Rattle.abi_driver.specs.Instructions.{lifting};
-ghost use Rattle.abi_driver.specs.Lifts.{LiftsFlat};
-ghost use Rattle.abi_driver.specs.Sends.{Sends};
+ghost use Rattle.abi_bindgen.specs.Code.{lift_code};
+ghost use Rattle.abi_bindgen.specs.Instructions.{lifting};
+ghost use Rattle.abi_bindgen.specs.Lifts.{LiftsFlat};
+ghost use Rattle.abi_bindgen.specs.Sends.{Sends};
 
-use crate::bindgen::{Bindgen, Operand};
-use crate::instruction::Instruction;
 use crate::lift::Lifted;
-use crate::send::{only, send_one};
+use abi_bindgen::{Bindgen, Instruction, Operand, only, send_one};
 use std::alloc::Global;
 use wit_model::{OutOfMemory, Resolve, WitType};
 

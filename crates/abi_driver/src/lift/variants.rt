@@ -5,15 +5,13 @@ ghost use Rattle.wit_model.specs.declared.types.TypeDef.{TypeDef};
 ghost use Rattle.wit_model.specs.declared.wasm_type.WasmType.{WasmType as CoreType};
 ghost use Rattle.wrapper_meaning.specs.Shape.{nothing};
 ghost use Rattle.wrapper_meaning.specs.Shape.Shapes.{none, more};
-ghost use Rattle.abi_driver.specs.Blocks.{Finishes, IsOpen};
-ghost use Rattle.abi_driver.specs.CaseBlocks.{LiftsCases};
-ghost use Rattle.abi_driver.specs.Instructions.{case_lifting};
-ghost use Rattle.abi_driver.specs.Sends.{Sends};
-ghost use Rattle.abi_driver.specs.Sent.{closes, opens};
+ghost use Rattle.abi_bindgen.specs.Blocks.{Finishes, IsOpen};
+ghost use Rattle.abi_bindgen.specs.CaseBlocks.{LiftsCases};
+ghost use Rattle.abi_bindgen.specs.Instructions.{case_lifting};
+ghost use Rattle.abi_bindgen.specs.Sends.{Sends};
+ghost use Rattle.abi_bindgen.specs.Sent.{closes, opens};
 
-use crate::bindgen::Bindgen;
-use crate::instruction::Instruction;
-use crate::send::only;
+use abi_bindgen::{Bindgen, Instruction, only};
 use std::alloc::Global;
 use wit_model::{List, OutOfMemory, TypeDefKind, TypeId};
 

@@ -4,36 +4,19 @@ ghost use Rattle.std.specs.Prelude.{◌≡◌, Bool, IfOk, OnOk};
 ghost use Rattle.wit_model.specs.TypeOrder.{GoesDown};
 ghost use Rattle.wit_model.specs.declared.types.TypeDefKind.TheVariants as kind;
 ghost use Rattle.wit_model.specs.declared.types.WitType.TheVariants.{Id};
-ghost use Rattle.wit_layout.specs.Extent.{discriminant_grain};
 ghost use Rattle.wrapper_meaning.specs.Shape.{shape_at};
-ghost use Rattle.abi_driver.specs.Code.{load_code, store_code};
-ghost use Rattle.abi_driver.specs.HasList.{IsKindOf};
+ghost use Rattle.abi_bindgen.specs.Code.{load_code, store_code};
+ghost use Rattle.abi_bindgen.specs.HasList.{IsKindOf};
 ghost use Rattle.abi_driver.specs.Loads.{LiftsFromMemory};
-ghost use Rattle.abi_driver.specs.Sends.{Sends};
+ghost use Rattle.abi_bindgen.specs.Sends.{Sends};
 ghost use Rattle.abi_driver.specs.Stores.{LowersToMemory};
 
-use crate::bindgen::{Bindgen, Operand};
-use crate::instruction::Instruction;
-use crate::lift::enums::MOST_CASES;
-use crate::lower::leaf::lower_by;
-use crate::memory::number::{number_load, number_store};
 use crate::memory::word::{load_word, store_word};
-use crate::send::{only, send_one};
+use abi_bindgen::{
+    Bindgen, Instruction, MOST_CASES, Operand, lower_by, only, send_one, tag_load, tag_store,
+};
 use std::alloc::Global;
 use wit_model::{ArchitectureSize, List, Member, OutOfMemory, Resolve, TypeId};
-
-/// How many bytes the tag of one of so many cases has, as an exponent of 2.
-pub(super) fn tag_grain(cases: usize) -> u32
-    ensures { result ≡ discriminant_grain cases }
-{
-    if cases <= 256 {
-        0
-    } else if cases <= 65536 {
-        1
-    } else {
-        2
-    }
-}
 
 /// A value of an enum becomes the number of its case, which is stored.
 pub(super) fn store_enum<B: Bindgen>(
@@ -55,7 +38,7 @@ pub(super) fn store_enum<B: Bindgen>(
     if cases > MOST_CASES {
         return Err(OutOfMemory);
     }
-    let store = number_store(tag_grain(cases), offset);
+    let store = tag_store(cases, offset);
     let words = lower_by(alloc, resolve, bindgen, value, Instruction::EnumLower(id))?;
     let tag = words.as_slice()[0].copy(alloc)?;
     store_word(alloc, resolve, bindgen, tag, address, store)?;
@@ -78,7 +61,7 @@ pub(super) fn load_enum<B: Bindgen>(
     ensures sends { OnOk result (Sends B.meaning resolve.now.types (load_code resolve.now.types (Id id) offset) bindgen.old bindgen.new) }
 {
     let cases = members.len();
-    let load = number_load(tag_grain(cases), offset);
+    let load = tag_load(cases, offset);
     let tag = load_word(alloc, resolve, bindgen, address, load)?;
     let operands = only(alloc, tag)?;
     let operand = send_one(alloc, resolve, bindgen, Instruction::EnumLift(id), operands)?;

@@ -6,20 +6,16 @@ ghost use Rattle.wit_model.specs.declared.types.TypeDefKind.TheVariants as kind;
 ghost use Rattle.wit_model.specs.declared.types.WitType.TheVariants.{Id};
 ghost use Rattle.wit_layout.specs.Extent.{flags_extent};
 ghost use Rattle.wrapper_meaning.specs.Shape.{shape_at};
-ghost use Rattle.abi_driver.specs.Code.{load_code, store_code};
-ghost use Rattle.abi_driver.specs.HasList.{IsKindOf};
+ghost use Rattle.abi_bindgen.specs.Code.{load_code, store_code};
+ghost use Rattle.abi_bindgen.specs.HasList.{IsKindOf};
 ghost use Rattle.abi_driver.specs.Loads.{LiftsFromMemory};
-ghost use Rattle.abi_driver.specs.Sends.{Sends};
+ghost use Rattle.abi_bindgen.specs.Sends.{Sends};
 ghost use Rattle.abi_driver.specs.Stores.{LowersToMemory};
 
-use crate::bindgen::{Bindgen, Operand};
-use crate::instruction::Instruction;
 use crate::lift::flags::flag_words;
-use crate::lower::leaf::lower_by;
-use crate::memory::number::{number_load, number_store};
 use crate::memory::place::word_offset;
 use crate::memory::word::{load_word, store_word};
-use crate::send::send_one;
+use abi_bindgen::{Bindgen, Instruction, Operand, lower_by, number_load, number_store, send_one};
 use std::alloc::Global;
 use wit_model::{ArchitectureSize, List, Member, OutOfMemory, Resolve, TypeId};
 

@@ -7,16 +7,14 @@ ghost use Rattle.wit_model.specs.declared.types.WitType.TheVariants.{Id, String}
 ghost use Rattle.wit_layout.specs.Tree.{tree_at};
 ghost use Rattle.wrapper_meaning.specs.Shape.{payload_in, payloads_in, shape_at, shape_of, shapes};
 ghost use Rattle.wrapper_meaning.specs.Shape.Shape.{text};
-ghost use Rattle.abi_driver.specs.Code.{beyond, each, in_blocks, at_payload, load_code, place_in};
-ghost use Rattle.abi_driver.specs.Instructions.{lifting, shapes_of};
+ghost use Rattle.abi_bindgen.specs.Code.{beyond, each, in_blocks, at_payload, load_code, place_in};
+ghost use Rattle.abi_bindgen.specs.Instructions.{lifting, shapes_of};
 ghost use Rattle.abi_driver.specs.LoadedCases.{LoadsCase, LoadsCases};
 ghost use Rattle.abi_driver.specs.Loads.{LiftsFromMemory, LoadsParts};
-ghost use Rattle.abi_driver.specs.Places.{HasParts};
-ghost use Rattle.abi_driver.specs.Sends.{Sends};
-ghost use Rattle.abi_driver.specs.Sent.{closes, opens};
+ghost use Rattle.abi_bindgen.specs.Places.{HasParts};
+ghost use Rattle.abi_bindgen.specs.Sends.{Sends};
+ghost use Rattle.abi_bindgen.specs.Sent.{closes, opens};
 
-use crate::bindgen::{Bindgen, Operand};
-use crate::instruction::Instruction;
 use crate::lift::leaf::scalar_lifting;
 use crate::lift::variants::case_lifting;
 use crate::memory::enums::load_enum;
@@ -24,8 +22,7 @@ use crate::memory::flags::load_flags;
 use crate::memory::place::{NOWHERE, behind_pointer, part_place};
 use crate::memory::variants::{case_payloads, empty_block, has_bytes, load_tag, payload_place};
 use crate::memory::word::{load_word, scalar_load};
-use crate::parts::{field_types, part_count};
-use crate::send::{only, send_one};
+use abi_bindgen::{Bindgen, Instruction, Operand, field_types, only, part_count, send_one};
 use std::alloc::Global;
 use wit_model::{ArchitectureSize, List, OutOfMemory, Resolve, TypeDefKind, TypeId, WitType};
 

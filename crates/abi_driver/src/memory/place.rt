@@ -6,9 +6,9 @@ ghost use Rattle.wit_model.specs.declared.types.TypeDef.{TypeDef};
 ghost use Rattle.wit_layout.specs.Sizes.{field_offsets};
 ghost use Rattle.wit_layout.specs.Told.{IsPairOf, is_alias};
 ghost use Rattle.wit_layout.specs.Tree.{tree_at};
-ghost use Rattle.abi_driver.specs.Code.{beyond, one_pointer, word_place};
+ghost use Rattle.abi_bindgen.specs.Code.{beyond, one_pointer, word_place};
 
-use crate::bindgen::Bindgen;
+use abi_bindgen::Bindgen;
 use wit_model::{ArchitectureSize, OutOfMemory, TypeId, WitType};
 
 /// No bytes and no pointers.

@@ -8,20 +8,15 @@ ghost use Rattle.wit_layout.specs.Extent.{discriminant_grain};
 ghost use Rattle.wit_layout.specs.Tree.{tree_at};
 ghost use Rattle.wrapper_meaning.specs.Shape.{payload_in, payloads_in, shape_at, shape_of, shapes};
 ghost use Rattle.wrapper_meaning.specs.Shape.Shape.{text};
-ghost use Rattle.abi_driver.specs.Code.{beyond, each, in_blocks, place_in, store_case, store_code};
-ghost use Rattle.abi_driver.specs.Instructions.{IsSide, lowering, shapes_of};
-ghost use Rattle.abi_driver.specs.ScalarTouches.{scalar_store};
-ghost use Rattle.abi_driver.specs.Places.{HasParts};
-ghost use Rattle.abi_driver.specs.Sends.{Sends};
-ghost use Rattle.abi_driver.specs.Sent.{closes, opens};
+ghost use Rattle.abi_bindgen.specs.Code.{beyond, each, in_blocks, place_in, store_case, store_code};
+ghost use Rattle.abi_bindgen.specs.Instructions.{IsSide, lowering, shapes_of};
+ghost use Rattle.abi_bindgen.specs.ScalarTouches.{scalar_store};
+ghost use Rattle.abi_bindgen.specs.Places.{HasParts};
+ghost use Rattle.abi_bindgen.specs.Sends.{Sends};
+ghost use Rattle.abi_bindgen.specs.Sent.{closes, opens};
 ghost use Rattle.abi_driver.specs.StoredCases.{StoresCase, StoresCases};
 ghost use Rattle.abi_driver.specs.Stores.{LowersToMemory, StoresParts};
 
-use crate::bindgen::{Bindgen, Operand};
-use crate::instruction::Instruction;
-use crate::lift::enums::MOST_CASES;
-use crate::lower::leaf::{lower_by, scalar_lowering};
-use crate::lower::variants::case_lowering;
 use crate::memory::enums::store_enum;
 use crate::memory::flags::store_flags;
 use crate::memory::place::{NOWHERE, behind_pointer, part_place};
@@ -29,7 +24,10 @@ use crate::memory::variants::{
     case_payloads, close, has_bytes, payload, payload_place, store_bare, store_tag,
 };
 use crate::memory::word::{scalar_store, store_word};
-use crate::parts::{field_types, part_count};
+use abi_bindgen::{
+    Bindgen, Instruction, MOST_CASES, Operand, case_lowering, field_types, lower_by, part_count,
+    scalar_lowering,
+};
 use std::alloc::Global;
 use wit_model::{ArchitectureSize, List, OutOfMemory, Resolve, TypeDefKind, TypeId, WitType};
 

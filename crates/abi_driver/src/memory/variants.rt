@@ -8,25 +8,21 @@ ghost use Rattle.wit_layout.specs.Sizes.{payload_offset};
 ghost use Rattle.wit_layout.specs.Told.{IsPairOf, is_alias};
 ghost use Rattle.wit_layout.specs.Tree.{tree_at};
 ghost use Rattle.wrapper_meaning.specs.Shape.{is_nothing, nothing, shape_of};
-ghost use Rattle.abi_driver.specs.declared.instruction.Instruction.TheVariants as instruction;
-ghost use Rattle.abi_driver.specs.Blocks.{Finishes, IsOpen, Pushes};
-ghost use Rattle.abi_driver.specs.Cases.{payloads_of};
-ghost use Rattle.abi_driver.specs.Code.{beyond, store_case};
-ghost use Rattle.abi_driver.specs.Instructions.{Emits, has_cases};
-ghost use Rattle.abi_driver.specs.NumberTouches.{tag_load, tag_store};
-ghost use Rattle.abi_driver.specs.Sends.{Sends};
-ghost use Rattle.abi_driver.specs.Sent.{closes, opens};
+ghost use Rattle.abi_bindgen.specs.declared.instruction.Instruction.TheVariants as instruction;
+ghost use Rattle.abi_bindgen.specs.Blocks.{Finishes, IsOpen, Pushes};
+ghost use Rattle.abi_bindgen.specs.Cases.{payloads_of};
+ghost use Rattle.abi_bindgen.specs.Code.{beyond, store_case};
+ghost use Rattle.abi_bindgen.specs.Instructions.{Emits, has_cases};
+ghost use Rattle.abi_bindgen.specs.NumberTouches.{tag_load, tag_store};
+ghost use Rattle.abi_bindgen.specs.Sends.{Sends};
+ghost use Rattle.abi_bindgen.specs.Sent.{closes, opens};
 ghost use Rattle.abi_driver.specs.StoredCases.{StoresCase};
 
-use crate::bindgen::{Bindgen, Operand};
-use crate::instruction::Instruction;
-use crate::lift::enums::MOST_CASES;
-use crate::lower::variants::kind_payloads;
-use crate::memory::enums::tag_grain;
-use crate::memory::number::{number_load, number_store};
 use crate::memory::place::sum;
 use crate::memory::word::{load_word, store_word};
-use crate::send::send_one;
+use abi_bindgen::{
+    Bindgen, Instruction, MOST_CASES, Operand, kind_payloads, send_one, tag_load, tag_store,
+};
 use std::alloc::Global;
 use wit_model::{ArchitectureSize, List, OutOfMemory, Resolve, TypeDefKind, TypeId, WitType};
 
@@ -130,7 +126,7 @@ pub(super) fn store_tag<B: Bindgen>(
 {
     let inst = Instruction::I32Const(number as i32);
     let tag = send_one(alloc, resolve, bindgen, inst, List::new(alloc))?;
-    let store = number_store(tag_grain(cases), offset);
+    let store = tag_store(cases, offset);
     store_word(alloc, resolve, bindgen, tag, address, store)?;
     Ok(())
 }
@@ -150,7 +146,7 @@ pub(crate) fn load_tag<B: Bindgen>(
     if cases > MOST_CASES {
         return Err(OutOfMemory);
     }
-    let load = number_load(tag_grain(cases), offset);
+    let load = tag_load(cases, offset);
     let tag = load_word(alloc, resolve, bindgen, address, load)?;
     Ok(tag)
 }

@@ -1,12 +1,10 @@
 //! Core words are stored and loaded, one at a time.
 
 ghost use Rattle.std.specs.Prelude.{◌≡◌, ℕ, [], ◌∷◌, IfOk, OnOk};
-ghost use Rattle.abi_driver.specs.Instructions.{Emits, IsSendable, Makes};
-ghost use Rattle.abi_driver.specs.ScalarTouches.{scalar_load, scalar_store};
+ghost use Rattle.abi_bindgen.specs.Instructions.{Emits, IsSendable, Makes};
+ghost use Rattle.abi_bindgen.specs.ScalarTouches.{scalar_load, scalar_store};
 
-use crate::bindgen::{Bindgen, Operand};
-use crate::instruction::Instruction;
-use crate::send::{only, send, send_one};
+use abi_bindgen::{Bindgen, Instruction, Operand, only, send, send_one};
 use std::alloc::Global;
 use wit_model::{ArchitectureSize, OutOfMemory, Resolve, WitType};
 

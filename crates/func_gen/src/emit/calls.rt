@@ -3,9 +3,9 @@
 ghost use Rattle.std.specs.Prelude.{◌≡◌, [], true, length, IfOk, OnOk};
 ghost use Rattle.wit_model.specs.IndexRange.{function_in_range};
 ghost use Rattle.wit_model.specs.WellFormed.{IsWellFormed};
-ghost use Rattle.abi_driver.specs.Calls.{import_params};
-ghost use Rattle.abi_driver.specs.Instructions.{Emits};
-ghost use Rattle.abi_driver.specs.declared.instruction.Instruction.TheVariants as instruction;
+ghost use Rattle.abi_bindgen.specs.Calls.{import_params};
+ghost use Rattle.abi_bindgen.specs.Instructions.{Emits};
+ghost use Rattle.abi_bindgen.specs.declared.instruction.Instruction.TheVariants as instruction;
 ghost use Rattle.func_gen.specs.CallForms.{AddsCall, AddsStatement, exprs, import_of, local_path};
 ghost use Rattle.func_gen.specs.Meaning.{func_meaning};
 

@@ -2,9 +2,10 @@
 
 ghost use Rattle.std.specs.Prelude.{◌≡◌, ◌<◌, ◌^◌, ◌∷◌, ◌++◌, ℕ, [], false, length, map, IfOk, OnOk};
 ghost use Rattle.rust_tree.specs.declared.expr.Expr.TheVariants as expr;
+ghost use Rattle.rust_tree.specs.declared.stmt.Stmt.TheVariants as stmt;
 ghost use Rattle.wit_layout.specs.Cast.{cast};
-ghost use Rattle.abi_driver.specs.Instructions.{Emits};
-ghost use Rattle.abi_driver.specs.declared.instruction.Instruction.TheVariants as instruction;
+ghost use Rattle.abi_bindgen.specs.Instructions.{Emits};
+ghost use Rattle.abi_bindgen.specs.declared.instruction.Instruction.TheVariants as instruction;
 ghost use Rattle.func_gen.specs.CastForms.{cast_expr, cast_names, cast_result, cast_stmts, casts_from, core_call, core_path, needs_slot, slot_prefix, slots_from, step_expr, stmts_from};
 ghost use Rattle.func_gen.specs.Added.{Appends};
 ghost use Rattle.func_gen.specs.CallForms.{FreshAll};
@@ -14,6 +15,7 @@ ghost use Rattle.func_gen.specs.PartForms.{part_name};
 ghost use Rattle.func_gen.specs.Scope.{Takes, names_at};
 
 use crate::emit::parts::operand_exprs;
+use crate::forms::{call_of, push_name};
 use crate::function_bindgen::FunctionBindgen;
 use crate::operand::{ExprOperand, copy_expr};
 use crate::scope::{LocalName, numbered};
@@ -28,8 +30,8 @@ fn number_path(alloc: Global, ty: &str, name: &str) -> Result<Path, OutOfMemory>
     ensures { IfOk result (λ p. p ≡ record { lead = false; supers = 0; names = ty.now ∷ name.now ∷ [] }) }
 {
     let mut names = List::new(alloc);
-    names.push(Text::from_str(alloc, ty)?)?;
-    names.push(Text::from_str(alloc, name)?)?;
+    push_name(alloc, &mut names, ty)?;
+    push_name(alloc, &mut names, name)?;
     Ok(Path {
         lead: false,
         supers: 0,
@@ -42,10 +44,10 @@ fn new_slot_path(alloc: Global) -> Result<Path, OutOfMemory>
     ensures { IfOk result (λ p. p ≡ core_path CoreFn.NewSlot) }
 {
     let mut names = List::new(alloc);
-    names.push(Text::from_str(alloc, "core")?)?;
-    names.push(Text::from_str(alloc, "mem")?)?;
-    names.push(Text::from_str(alloc, "MaybeUninit")?)?;
-    names.push(Text::from_str(alloc, "new")?)?;
+    push_name(alloc, &mut names, "core")?;
+    push_name(alloc, &mut names, "mem")?;
+    push_name(alloc, &mut names, "MaybeUninit")?;
+    push_name(alloc, &mut names, "new")?;
     Ok(Path {
         lead: true,
         supers: 0,
@@ -70,9 +72,7 @@ fn core_call(alloc: Global, f: CoreFn, e: Expr) -> Result<Expr, OutOfMemory>
     ensures { IfOk result (λ c. c ≡ core_call f e) }
 {
     let path = core_path(alloc, f)?;
-    let mut arguments = List::new(alloc);
-    arguments.push(e)?;
-    Ok(Expr::Call(path, arguments))
+    call_of(alloc, path, e)
 }
 
 fn cast_to(alloc: Global, e: Expr, to: CastType) -> Result<Expr, OutOfMemory>
@@ -145,16 +145,22 @@ fn cast_between(from: WasmType, to: WasmType) -> Result<Bitcast, OutOfMemory>
     Err(OutOfMemory)
 }
 
+/// An expression behind the cast between two types.
+fn cast_step(alloc: Global, from: WasmType, to: WasmType, e: Expr) -> Result<Expr, OutOfMemory>
+    ensures { IfOk result (λ c. c ≡ step_expr (cast from to) e) }
+{
+    let step = cast_between(from, to)?;
+    step_expr(alloc, step, e)
+}
+
 /// An expression behind a cast.
 fn cast_expr(alloc: Global, whole: Bitcast, e: Expr) -> Result<Expr, OutOfMemory>
     ensures { IfOk result (λ c. c ≡ cast_expr whole e) }
 {
     match whole {
         Bitcast::Sequence { from, through, to } => {
-            let first = cast_between(from, through)?;
-            let second = cast_between(through, to)?;
-            let between = step_expr(alloc, first, e)?;
-            step_expr(alloc, second, between)
+            let between = cast_step(alloc, from, through, e)?;
+            cast_step(alloc, through, to, between)
         }
         step => step_expr(alloc, step, e),
     }
@@ -217,6 +223,22 @@ fn slot_names<'a>(
     Ok(names)
 }
 
+/// A copy of an expression, behind a cast.
+fn cast_copy(alloc: Global, cast: Bitcast, e: &Expr) -> Result<Expr, OutOfMemory>
+    ensures { IfOk result (λ c. c ≡ cast_expr cast e.now) }
+{
+    let copy = copy_expr(e, alloc)?;
+    cast_expr(alloc, cast, copy)
+}
+
+/// The statement that writes what a cast gives into a slot.
+fn write_slot(alloc: Global, slot: Text, cast: Bitcast, e: &Expr) -> Result<Stmt, OutOfMemory>
+    ensures { IfOk result (λ s. s ≡ stmt.WriteSlot slot (cast_expr cast e.now)) }
+{
+    let e = cast_copy(alloc, cast, e)?;
+    Ok(Stmt::WriteSlot(slot, e))
+}
+
 /// The statements of a cast that needs a slot.
 fn push_slot(
     alloc: Global,
@@ -230,10 +252,9 @@ fn push_slot(
 {
     if needs_slot(cast) {
         let slot = slot_name(alloc, at, t)?;
-        let copy = slot.copy(alloc)?;
-        let e = cast_expr(alloc, cast, copy_expr(e, alloc)?)?;
         stmts.push(Stmt::LetSlot(slot))?;
-        stmts.push(Stmt::WriteSlot(copy, e))?;
+        let slot = slot_name(alloc, at, t)?;
+        stmts.push(write_slot(alloc, slot, cast, e)?)?;
     }
     Ok(())
 }
@@ -263,7 +284,7 @@ fn cast_result(alloc: Global, cast: Bitcast, at: u32, t: u32, e: &Expr) -> Resul
     if needs_slot(cast) {
         return Ok(Expr::Local(slot_name(alloc, at, t)?));
     }
-    cast_expr(alloc, cast, copy_expr(e, alloc)?)
+    cast_copy(alloc, cast, e)
 }
 
 /// What casts give, in order.

@@ -1,14 +1,14 @@
 //! Constants are core words as they are.
 
 ghost use Rattle.std.specs.Prelude.{◌≡◌, ◌++◌, [], OnOk};
-ghost use Rattle.abi_driver.specs.Instructions.{Emits, IsSendable};
-ghost use Rattle.abi_driver.specs.declared.instruction.Instruction.TheVariants as instruction;
+ghost use Rattle.abi_bindgen.specs.Instructions.{Emits, IsSendable};
+ghost use Rattle.abi_bindgen.specs.declared.instruction.Instruction.TheVariants as instruction;
 ghost use Rattle.func_gen.specs.CastForms.{zero_expr, zero_operands};
 ghost use Rattle.func_gen.specs.Meaning.{func_meaning};
 
 use crate::function_bindgen::FunctionBindgen;
 use crate::operand::ExprOperand;
-use abi_driver::Instruction;
+use abi_bindgen::Instruction;
 use rust_tree::{Expr, ZeroType};
 use wit_model::{List, OutOfMemory, Resolve, WasmType};
 

@@ -1,12 +1,12 @@
 //! Which method makes the code of an instruction.
 
 ghost use Rattle.std.specs.Prelude.{◌≡◌, [], OnOk};
-ghost use Rattle.abi_driver.specs.Instructions.{Emits, IsSendable};
+ghost use Rattle.abi_bindgen.specs.Instructions.{Emits, IsSendable};
 ghost use Rattle.func_gen.specs.Meaning.{func_meaning};
 
 use crate::function_bindgen::FunctionBindgen;
 use crate::operand::ExprOperand;
-use abi_driver::Instruction;
+use abi_bindgen::Instruction;
 use wit_model::{List, OutOfMemory, Resolve};
 
 impl FunctionBindgen {

@@ -3,13 +3,14 @@
 ghost use Rattle.std.specs.Prelude.{◌≡◌, ◌*◌, ◌^◌, [], Some, length, IfOk, OnOk};
 ghost use Rattle.wit_layout.specs.Extent.{discriminant_grain};
 ghost use Rattle.wrapper_values.specs.Flags.{repr_bits};
-ghost use Rattle.abi_driver.specs.Instructions.{Emits};
-ghost use Rattle.abi_driver.specs.declared.instruction.Instruction.TheVariants as instruction;
+ghost use Rattle.abi_bindgen.specs.Instructions.{Emits};
+ghost use Rattle.abi_bindgen.specs.declared.instruction.Instruction.TheVariants as instruction;
 ghost use Rattle.func_gen.specs.EnumForms.{HasCaseCount, IsEnumSite, LiftsBy, LiftsEnumAt, case_cast};
 ghost use Rattle.func_gen.specs.Meaning.{func_meaning};
 
 use crate::added::only_operand;
 use crate::enum_site::EnumSite;
+use crate::forms::push_name;
 use crate::function_bindgen::FunctionBindgen;
 use crate::operand::ExprOperand;
 use crate::type_site::TypeSite;
@@ -85,8 +86,8 @@ fn lift_path(alloc: Global, path: &Path) -> Result<Path, OutOfMemory>
         return Err(OutOfMemory);
     }
     let mut names = List::new(alloc);
-    names.push(name.copy(alloc)?)?;
-    names.push(Text::from_str(alloc, "_lift")?)?;
+    push_name(alloc, &mut names, name.as_str())?;
+    push_name(alloc, &mut names, "_lift")?;
     Ok(Path {
         lead: false,
         supers: 0,

@@ -1,8 +1,9 @@
 //! Operands get locals of their own.
 
 ghost use Rattle.std.specs.Prelude.{◌≡◌, ◌++◌, [], length, IfOk, OnOk};
-ghost use Rattle.abi_driver.specs.Instructions.{Emits};
-ghost use Rattle.abi_driver.specs.declared.instruction.Instruction.TheVariants as instruction;
+ghost use Rattle.abi_bindgen.specs.Instructions.{Emits};
+ghost use Rattle.abi_bindgen.specs.declared.instruction.Instruction.TheVariants as instruction;
+ghost use Rattle.rust_tree.specs.declared.stmt.Stmt.TheVariants as stmt;
 ghost use Rattle.func_gen.specs.Added.{Appends};
 ghost use Rattle.func_gen.specs.CallForms.{FreshAll};
 ghost use Rattle.func_gen.specs.FlushForms.{flush_prefix, flushed, lets_of};
@@ -17,6 +18,14 @@ use rust_tree::{Expr, Stmt};
 use std::alloc::Global;
 use wit_model::{List, OutOfMemory, Resolve, Text};
 
+/// The statement that gives an expression a local.
+fn let_copy(alloc: Global, name: &Text, e: &Expr) -> Result<Stmt, OutOfMemory>
+    ensures { IfOk result (λ s. s ≡ stmt.Let name.now e.now) }
+{
+    let name = name.copy(alloc)?;
+    Ok(Stmt::Let(name, copy_expr(e, alloc)?))
+}
+
 /// A local for each expression, in order.
 fn push_lets(
     alloc: Global,
@@ -28,9 +37,7 @@ fn push_lets(
     ensures { OnOk result (stmts.new ≡ stmts.old ++ lets_of names.now es.now) }
 {
     for i in 0..es.len() {
-        let e = copy_expr(&es[i], alloc)?;
-        let name = names[i].copy(alloc)?;
-        stmts.push(Stmt::Let(name, e))?;
+        stmts.push(let_copy(alloc, &names[i], &es[i])?)?;
     }
     Ok(())
 }

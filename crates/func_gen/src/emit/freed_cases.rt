@@ -2,15 +2,17 @@
 
 ghost use Rattle.std.specs.Prelude.{◌≡◌, [], true, length, map, reverse, IfOk, OnOk};
 ghost use Rattle.std.specs.List.{AllByRecursion, list_all};
+ghost use Rattle.rust_tree.specs.declared.pattern.ArmPattern.TheVariants as pattern;
 ghost use Rattle.wrapper_run.specs.Inward as spec;
-ghost use Rattle.abi_driver.specs.Instructions.{Emits};
-ghost use Rattle.abi_driver.specs.declared.instruction.Instruction.TheVariants as instruction;
+ghost use Rattle.abi_bindgen.specs.Instructions.{Emits};
+ghost use Rattle.abi_bindgen.specs.declared.instruction.Instruction.TheVariants as instruction;
 ghost use Rattle.func_gen.specs.LiftedCases.{FreesBy, freed_body, number_arms};
+ghost use Rattle.func_gen.specs.MatchForms.{arm_of};
 ghost use Rattle.func_gen.specs.Meaning.{func_meaning};
 
 use crate::added::only_operand;
 use crate::function_bindgen::{FinishedBlock, FunctionBindgen};
-use crate::inward::is_inward;
+use crate::inward::inward_block;
 use crate::operand::ExprOperand;
 use rust_tree::{Arm, ArmPattern, Block, Expr, MatchNames, Stmt};
 use std::alloc::Global;
@@ -31,11 +33,18 @@ fn freed_body(block: FinishedBlock) -> Result<Block, OutOfMemory>
     if !results.is_empty() {
         return Err(OutOfMemory);
     }
-    let body = Block { stmts, tail: None };
-    if !is_inward(&body) {
-        return Err(OutOfMemory);
-    }
-    Ok(body)
+    inward_block(stmts, None)
+}
+
+/// The arm of a block by its number.
+fn freed_arm(number: u32, block: FinishedBlock) -> Result<Arm, OutOfMemory>
+    ensures arm { IfOk result (λ a. a ≡ arm_of (pattern.Number number) (freed_body block)) }
+    ensures none { IfOk result (λ a. block.results ≡ []) }
+    ensures inward { IfOk result (λ a. spec.is_inward (freed_body block) ≡ true) }
+{
+    let body = freed_body(block)?;
+    let pattern = ArmPattern::Number(number);
+    Ok(Arm { pattern, body })
 }
 
 /// The arms of so many blocks by their numbers, of which the last one is the first, and another arm behind them.
@@ -56,9 +65,7 @@ fn freed_arms(
         let Some(block) = left.pop() else {
             return Err(OutOfMemory);
         };
-        let body = freed_body(block)?;
-        let pattern = ArmPattern::Number(k);
-        arms.push(Arm { pattern, body })?;
+        arms.push(freed_arm(k, block)?)?;
     }
     arms.push(other)?;
     Ok(arms)

@@ -3,8 +3,8 @@
 ghost use Rattle.std.specs.Prelude.{◌≡◌, [], ◌∷◌, true, length, IfOk, OnOk};
 ghost use Rattle.rust_tree.specs.declared.stmt.Stmt.TheVariants as stmt;
 ghost use Rattle.rust_tree.specs.declared.runtime_item.RuntimeItem.TheVariants.{CabiDealloc};
-ghost use Rattle.abi_driver.specs.Instructions.{Emits};
-ghost use Rattle.abi_driver.specs.declared.instruction.Instruction.TheVariants as instruction;
+ghost use Rattle.abi_bindgen.specs.Instructions.{Emits};
+ghost use Rattle.abi_bindgen.specs.declared.instruction.Instruction.TheVariants as instruction;
 ghost use Rattle.func_gen.specs.Added.{Appends};
 ghost use Rattle.func_gen.specs.Meaning.{func_meaning};
 ghost use Rattle.func_gen.specs.MemoryForms.{align_size, bytes_freed, is_length};
@@ -51,11 +51,11 @@ fn bytes_freed(
 ) -> Result<Expr, OutOfMemory>
     ensures { IfOk result (λ c. c ≡ bytes_freed address n align) }
 {
-    let path = runtime_path(alloc, RuntimeItem::CabiDealloc)?;
     let mut arguments = List::new(alloc);
     arguments.push(address)?;
     arguments.push(n)?;
     arguments.push(Expr::Size(align))?;
+    let path = runtime_path(alloc, RuntimeItem::CabiDealloc)?;
     Ok(Expr::Call(path, arguments))
 }
 

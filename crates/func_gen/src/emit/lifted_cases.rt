@@ -4,12 +4,13 @@ ghost use Rattle.std.specs.Prelude.{◌≡◌, [], ◌∷◌, true, codes, lengt
 ghost use Rattle.std.specs.List.{list_all};
 ghost use Rattle.rust_tree.specs.declared.stmt.MatchNames.TheVariants as names_of;
 ghost use Rattle.rust_tree.specs.declared.stmt.Stmt.TheVariants as stmt;
+ghost use Rattle.rust_tree.specs.declared.pattern.ArmPattern.TheVariants as pattern;
 ghost use Rattle.wrapper_run.specs.Inward as spec;
-ghost use Rattle.abi_driver.specs.Instructions.{Emits};
-ghost use Rattle.abi_driver.specs.declared.instruction.Instruction.TheVariants as instruction;
+ghost use Rattle.abi_bindgen.specs.Instructions.{Emits};
+ghost use Rattle.abi_bindgen.specs.declared.instruction.Instruction.TheVariants as instruction;
 ghost use Rattle.func_gen.specs.Added.{Appends, Fresh};
-ghost use Rattle.func_gen.specs.LiftedCases.{LiftsBy, are_few, case_expr, empty_case, invalid_body, is_liftable, is_unit, lifted_bodies, lifted_body, number_arms};
-ghost use Rattle.func_gen.specs.MatchForms.{case_path};
+ghost use Rattle.func_gen.specs.LiftedCases.{LiftsBy, are_few, case_body, case_expr, empty_case, invalid_body, is_liftable, is_unit, lifted_bodies, lifted_body, number_arms};
+ghost use Rattle.func_gen.specs.MatchForms.{arm_of, case_path};
 ghost use Rattle.func_gen.specs.Meaning.{func_meaning};
 ghost use Rattle.func_gen.specs.PartForms.{exprs_of};
 ghost use Rattle.func_gen.specs.Scope.{TakesOne};
@@ -18,9 +19,9 @@ use crate::added::only_operand;
 use crate::case_form::CaseForm;
 use crate::emit::options::option_forms;
 use crate::emit::results::result_forms;
-use crate::forms::runtime_path;
+use crate::forms::{call_of, runtime_path};
 use crate::function_bindgen::{FinishedBlock, FunctionBindgen};
-use crate::inward::is_inward;
+use crate::inward::inward_block;
 use crate::operand::{ExprOperand, copy_expr, copy_path};
 use crate::scope::{LocalName, numbered};
 use rust_tree::{Arm, ArmPattern, Block, Expr, MatchNames, Path, RuntimeItem, Stmt};
@@ -54,9 +55,7 @@ fn empty_case(alloc: Global, unit: bool, path: Path) -> Result<Expr, OutOfMemory
     if !unit {
         return Ok(Expr::Case(path));
     }
-    let mut arguments = List::new(alloc);
-    arguments.push(Expr::Unit)?;
-    Ok(Expr::Call(path, arguments))
+    call_of(alloc, path, Expr::Unit)
 }
 
 /// The case of what a block gives. Of more than one result there is no memory.
@@ -72,12 +71,26 @@ pub(crate) fn case_expr(
     match results {
         [] => empty_case(alloc, is_unit(case), path),
         [operand] => {
-            let mut arguments = List::new(alloc);
-            arguments.push(copy_expr(&operand.expr, alloc)?)?;
-            Ok(Expr::Call(path, arguments))
+            let argument = copy_expr(&operand.expr, alloc)?;
+            call_of(alloc, path, argument)
         }
         _ => Err(OutOfMemory),
     }
+}
+
+/// Statements, and the case of what they give. Of code that is not inward there is no memory.
+pub(crate) fn case_body(
+    alloc: Global,
+    case: &CaseForm,
+    stmts: List<Stmt>,
+    results: &[ExprOperand],
+) -> Result<Block, OutOfMemory>
+    ensures body { IfOk result (λ b. b ≡ case_body (is_unit case.now) (case_path case.now) stmts (exprs_of results.now)) }
+    ensures few { IfOk result (λ b. are_few results.now ≡ true) }
+    ensures inward { IfOk result (λ b. spec.is_inward b ≡ true) }
+{
+    let tail = case_expr(alloc, case, results)?;
+    inward_block(stmts, Some(tail))
 }
 
 /// The code of a block, and the case of what it gives. Of code that is not inward there is no memory.
@@ -92,12 +105,24 @@ fn lifted_body(alloc: Global, case: &CaseForm, block: FinishedBlock) -> Result<B
         stmts,
         results,
     } = block;
-    let tail = Some(case_expr(alloc, case, results.as_slice())?);
-    let body = Block { stmts, tail };
-    if !is_inward(&body) {
-        return Err(OutOfMemory);
-    }
-    Ok(body)
+    case_body(alloc, case, stmts, results.as_slice())
+}
+
+/// The arm of a case by its number.
+fn numbered_arm(
+    alloc: Global,
+    number: usize,
+    case: &CaseForm,
+    block: FinishedBlock,
+) -> Result<Arm, OutOfMemory>
+    ensures arm { IfOk result (λ a. a ≡ arm_of (pattern.Number number) (lifted_body case.now block)) }
+    ensures few { IfOk result (λ a. is_liftable block ≡ true) }
+    ensures inward { IfOk result (λ a. spec.is_inward (lifted_body case.now block) ≡ true) }
+{
+    let number = u32::try_from(number).map_err(|_| OutOfMemory)?;
+    let body = lifted_body(alloc, case, block)?;
+    let pattern = ArmPattern::Number(number);
+    Ok(Arm { pattern, body })
 }
 
 /// What stands where a number is that of no case.
@@ -106,15 +131,8 @@ fn invalid_body(alloc: Global) -> Result<Block, OutOfMemory>
     ensures inward { IfOk result (λ b. spec.is_inward b ≡ true) }
 {
     let path = runtime_path(alloc, RuntimeItem::InvalidEnumDiscriminant)?;
-    let tail = Some(Expr::Call(path, List::new(alloc)));
-    let body = Block {
-        stmts: List::new(alloc),
-        tail,
-    };
-    if !is_inward(&body) {
-        return Err(OutOfMemory);
-    }
-    Ok(body)
+    let tail = Expr::Call(path, List::new(alloc));
+    inward_block(List::new(alloc), Some(tail))
 }
 
 /// The arms of cases by their numbers, of whose blocks the last one is the first, and another arm behind them.
@@ -135,12 +153,7 @@ pub(crate) fn lifted_arms(
         let Some(block) = left.pop() else {
             return Err(OutOfMemory);
         };
-        if i > u32::MAX as usize {
-            return Err(OutOfMemory);
-        }
-        let body = lifted_body(alloc, &cases[i], block)?;
-        let pattern = ArmPattern::Number(i as u32);
-        arms.push(Arm { pattern, body })?;
+        arms.push(numbered_arm(alloc, i, &cases[i], block)?)?;
     }
     arms.push(other)?;
     Ok(arms)

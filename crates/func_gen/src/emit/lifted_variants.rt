@@ -7,8 +7,8 @@ ghost use Rattle.rust_tree.specs.declared.stmt.MatchNames.TheVariants as names_o
 ghost use Rattle.rust_tree.specs.declared.stmt.Stmt.TheVariants as stmt;
 ghost use Rattle.wit_model.specs.Bytes.{Bytes};
 ghost use Rattle.wrapper_run.specs.Inward as spec;
-ghost use Rattle.abi_driver.specs.Instructions.{Emits};
-ghost use Rattle.abi_driver.specs.declared.instruction.Instruction.TheVariants as instruction;
+ghost use Rattle.abi_bindgen.specs.Instructions.{Emits};
+ghost use Rattle.abi_bindgen.specs.declared.instruction.Instruction.TheVariants as instruction;
 ghost use Rattle.func_gen.specs.Added.{Appends};
 ghost use Rattle.func_gen.specs.CalledCases.{calls_case, is_called, is_other_module};
 ghost use Rattle.func_gen.specs.LiftedCases.{LiftsVariantBy, MemberArms, NamesCase, is_liftable, last_body};
@@ -18,13 +18,12 @@ ghost use Rattle.func_gen.specs.Scope.{is_used};
 
 use crate::added::only_operand;
 use crate::case_form::CaseForm;
-use crate::emit::lifted_cases::{case_expr, lifted_arms};
+use crate::emit::lifted_cases::{case_body, lifted_arms};
 use crate::emit::variants::variant_forms;
 use crate::function_bindgen::{FinishedBlock, FunctionBindgen};
-use crate::inward::is_inward;
 use crate::operand::ExprOperand;
 use crate::scope::{LocalName, numbered};
-use rust_tree::{Arm, ArmPattern, Block, Expr, MatchNames, Path, Stmt};
+use rust_tree::{Arm, ArmPattern, Expr, MatchNames, Path, Stmt};
 use std::alloc::Global;
 use wit_model::{List, OutOfMemory, Resolve, Text, TypeId};
 
@@ -74,6 +73,19 @@ fn stmts_behind(first: Stmt, later: List<Stmt>) -> Result<List<Stmt>, OutOfMemor
     Ok(List::from_vec(stmts))
 }
 
+/// The statements of the last case, which tests its number first.
+fn tested_stmts(
+    alloc: Global,
+    name: &Text,
+    number: u32,
+    later: List<Stmt>,
+) -> Result<List<Stmt>, OutOfMemory>
+    ensures { IfOk result (λ stmts. stmts ≡ stmt.AssertLast name.now number ∷ later) }
+{
+    let test = Stmt::AssertLast(name.copy(alloc)?, number);
+    stmts_behind(test, later)
+}
+
 /// The arm of the last case, which has the number under a name. Of a block that has the name in reach there is no memory.
 fn last_arm(
     alloc: Global,
@@ -96,13 +108,8 @@ fn last_arm(
     if number > u32::MAX as usize || names.contains(name.as_str()) {
         return Err(OutOfMemory);
     }
-    let test = Stmt::AssertLast(name.copy(alloc)?, number as u32);
-    let stmts = stmts_behind(test, later)?;
-    let tail = Some(case_expr(alloc, case, results.as_slice())?);
-    let body = Block { stmts, tail };
-    if !is_inward(&body) {
-        return Err(OutOfMemory);
-    }
+    let stmts = tested_stmts(alloc, &name, number as u32, later)?;
+    let body = case_body(alloc, case, stmts, results.as_slice())?;
     let pattern = ArmPattern::Name(name);
     Ok(Arm { pattern, body })
 }

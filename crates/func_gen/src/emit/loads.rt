@@ -1,14 +1,14 @@
 //! Core words are loaded from memory.
 
 ghost use Rattle.std.specs.Prelude.{◌≡◌, [], Some, length, OnOk};
-ghost use Rattle.abi_driver.specs.Instructions.{Emits};
+ghost use Rattle.abi_bindgen.specs.Instructions.{Emits};
 ghost use Rattle.func_gen.specs.Meaning.{func_meaning};
 ghost use Rattle.func_gen.specs.MemoryForms.{small_load, whole_load};
 
 use crate::added::only_operand;
 use crate::function_bindgen::FunctionBindgen;
 use crate::operand::ExprOperand;
-use abi_driver::Instruction;
+use abi_bindgen::Instruction;
 use rust_tree::{Expr, SmallType};
 use wit_model::{ArchitectureSize, Boxed, List, OutOfMemory, Resolve, WasmType};
 

@@ -2,14 +2,14 @@
 
 ghost use Rattle.std.specs.Prelude.{◌≡◌, ℕ, true, length, reverse, IfOk};
 ghost use Rattle.std.specs.List.{list_all};
-ghost use Rattle.func_gen.specs.MatchForms.{BindsMatch, LowersBy, UsesArms, are_plain, is_lowerable, lowered_arm, lowered_arms, match_names, result_names, tail_of};
+ghost use Rattle.func_gen.specs.MatchForms.{BindsMatch, LowersBy, UsesArms, are_plain, is_lowerable, lowered_arm, lowered_arms, lowered_body, match_names, result_names, tail_of};
 ghost use Rattle.func_gen.specs.PartForms.{exprs_of};
 ghost use Rattle.func_gen.specs.Scope.{names_at};
 
 use crate::case_form::{CaseForm, case_pattern};
 use crate::emit::parts::part_names;
 use crate::function_bindgen::{FinishedBlock, FunctionBindgen};
-use crate::inward::is_inward;
+use crate::inward::inward_block;
 use crate::operand::{ExprOperand, copy_expr, copy_names, is_operand};
 use crate::scope::LocalName;
 use rust_tree::{Arm, Block, Expr, MatchNames, Stmt};
@@ -68,6 +68,24 @@ fn result_locals(alloc: Global, count: u32) -> Result<List<LocalName<'static>>, 
     Ok(names)
 }
 
+/// The code of a block that gives so many results. Of any other block there is no memory, nor of one whose code is not inward.
+fn lowered_body(alloc: Global, block: FinishedBlock, count: u32) -> Result<Block, OutOfMemory>
+    ensures body { IfOk result (λ b. b ≡ lowered_body block) }
+    ensures fits { IfOk result (λ b. is_lowerable count block ≡ true) }
+{
+    if block.results.len() != count as usize {
+        return Err(OutOfMemory);
+    }
+    let FinishedBlock {
+        number: _,
+        names: _,
+        stmts,
+        results,
+    } = block;
+    let es = plain_exprs(alloc, results.as_slice())?;
+    inward_block(stmts, tail_of(es))
+}
+
 /// The arm of a case, whose block gives so many results. Of any other block there is no memory, nor of one whose code is not inward.
 fn lowered_arm(
     alloc: Global,
@@ -78,19 +96,9 @@ fn lowered_arm(
     ensures arm { IfOk result (λ a. a ≡ lowered_arm case.now block) }
     ensures fits { IfOk result (λ a. is_lowerable count block ≡ true) }
 {
-    let FinishedBlock {
-        number,
-        names: _,
-        stmts,
-        results,
-    } = block;
-    let es = plain_exprs(alloc, results.as_slice())?;
+    let number = block.number;
+    let body = lowered_body(alloc, block, count)?;
     let pattern = case_pattern(alloc, case, number)?;
-    let tail = tail_of(es);
-    let body = Block { stmts, tail };
-    if results.len() != count as usize || !is_inward(&body) {
-        return Err(OutOfMemory);
-    }
     Ok(Arm { pattern, body })
 }
 

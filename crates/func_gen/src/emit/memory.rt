@@ -2,16 +2,17 @@
 
 ghost use Rattle.std.specs.Prelude.{◌≡◌, [], ◌∷◌, Some, true, IfOk, OnOk};
 ghost use Rattle.rust_tree.specs.declared.stmt.Stmt.TheVariants as stmt;
-ghost use Rattle.abi_driver.specs.Instructions.{Emits};
+ghost use Rattle.abi_bindgen.specs.Instructions.{Emits};
 ghost use Rattle.func_gen.specs.Added.{Appends};
 ghost use Rattle.func_gen.specs.Forms.{operand_of};
 ghost use Rattle.func_gen.specs.Meaning.{func_meaning};
 ghost use Rattle.func_gen.specs.MemoryForms.{small_store, whole_store};
 ghost use Rattle.func_gen.specs.Operand.{is_operand};
 
+use crate::added::operand_expr;
 use crate::function_bindgen::FunctionBindgen;
-use crate::operand::{ExprOperand, copy_expr, is_operand};
-use abi_driver::Instruction;
+use crate::operand::ExprOperand;
+use abi_bindgen::Instruction;
 use rust_tree::{Expr, SmallType, Stmt};
 use std::alloc::Global;
 use wit_model::{ArchitectureSize, List, OutOfMemory, Resolve, WasmType};
@@ -54,12 +55,8 @@ pub(crate) fn both_operands(
     let [a, b] = operands.as_slice() else {
         return Err(OutOfMemory);
     };
-    let first = copy_expr(&a.expr, alloc)?;
-    let second = copy_expr(&b.expr, alloc)?;
-    if a.kept || b.kept || !is_operand(&first) || !is_operand(&second) {
-        return Err(OutOfMemory);
-    }
-    Ok((first, second))
+    let first = operand_expr(alloc, a)?;
+    Ok((first, operand_expr(alloc, b)?))
 }
 
 impl FunctionBindgen {

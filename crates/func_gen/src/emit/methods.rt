@@ -1,8 +1,8 @@
 //! The method of an export is called.
 
 ghost use Rattle.std.specs.Prelude.{◌≡◌, [], false, Some, None, true, IfOk, OnOk};
-ghost use Rattle.abi_driver.specs.Instructions.{Emits};
-ghost use Rattle.abi_driver.specs.declared.instruction.Instruction.TheVariants as instruction;
+ghost use Rattle.abi_bindgen.specs.Instructions.{Emits};
+ghost use Rattle.abi_bindgen.specs.declared.instruction.Instruction.TheVariants as instruction;
 ghost use Rattle.func_gen.specs.Meaning.{func_meaning};
 ghost use Rattle.func_gen.specs.MethodForms.{CallsFor, CallsIn, is_uncalled};
 

@@ -1,14 +1,15 @@
 //! Options become what their cases do.
 
 ghost use Rattle.std.specs.Prelude.{◌≡◌, [], ◌∷◌, true, codes, length, IfOk, OnOk};
-ghost use Rattle.abi_driver.specs.Instructions.{Emits};
-ghost use Rattle.abi_driver.specs.declared.instruction.Instruction.TheVariants as instruction;
+ghost use Rattle.abi_bindgen.specs.Instructions.{Emits};
+ghost use Rattle.abi_bindgen.specs.declared.instruction.Instruction.TheVariants as instruction;
 ghost use Rattle.func_gen.specs.CaseForms.{AreOptionForms, core_path};
 ghost use Rattle.func_gen.specs.Meaning.{func_meaning};
 
 use crate::added::only_operand;
 use crate::case_form::CaseForm;
 use crate::emit::parts::push_locals;
+use crate::forms::push_name;
 use crate::function_bindgen::FunctionBindgen;
 use crate::operand::ExprOperand;
 use crate::something::is_something;
@@ -26,10 +27,10 @@ pub(crate) fn core_path(
     ensures { IfOk result (λ p. p ≡ core_path second.now third.now case.now) }
 {
     let mut names = List::new(alloc);
-    names.push(Text::from_str(alloc, "core")?)?;
-    names.push(Text::from_str(alloc, second)?)?;
-    names.push(Text::from_str(alloc, third)?)?;
-    names.push(Text::from_str(alloc, case)?)?;
+    push_name(alloc, &mut names, "core")?;
+    push_name(alloc, &mut names, second)?;
+    push_name(alloc, &mut names, third)?;
+    push_name(alloc, &mut names, case)?;
     Ok(Path {
         lead: true,
         supers: 0,

@@ -2,8 +2,9 @@
 
 ghost use Rattle.std.specs.Prelude.{◌≡◌, ℕ, [], true, length, zip, IfOk, OnOk};
 ghost use Rattle.rust_tree.specs.declared.pattern.Pattern.TheVariants as pattern;
-ghost use Rattle.abi_driver.specs.Instructions.{Emits};
-ghost use Rattle.abi_driver.specs.declared.instruction.Instruction.TheVariants as instruction;
+ghost use Rattle.rust_tree.specs.declared.stmt.Stmt.TheVariants as stmt;
+ghost use Rattle.abi_bindgen.specs.Instructions.{Emits};
+ghost use Rattle.abi_bindgen.specs.declared.instruction.Instruction.TheVariants as instruction;
 ghost use Rattle.func_gen.specs.Meaning.{func_meaning};
 ghost use Rattle.func_gen.specs.PartForms.{are_operands, exprs_of};
 ghost use Rattle.func_gen.specs.RecordForms.{DeclaresFields, HasFieldCount, IsSiteOf, MakesRecord, SplitsRecord, locals_for};
@@ -95,6 +96,20 @@ fn record_pattern(alloc: Global, site: &RecordSite, names: &[Text]) -> Result<Pa
     Ok(Pattern::Record(path, pairs))
 }
 
+/// The statement that takes a record apart.
+fn let_fields(
+    alloc: Global,
+    site: &RecordSite,
+    names: &[Text],
+    e: Expr,
+) -> Result<Stmt, OutOfMemory>
+    requires { length names.now ≡ length site.now.fields }
+    ensures { IfOk result (λ s. s ≡ stmt.LetParts (pattern.Record site.now.lowered (zip site.now.fields names.now)) e) }
+{
+    let pattern = record_pattern(alloc, site, names)?;
+    Ok(Stmt::LetParts(pattern, e))
+}
+
 /// How a record of the table is written. Of one without a site, or with other fields in number, there is no memory.
 fn record_site<'a>(
     sites: &'a [Option<TypeSite>],
@@ -174,8 +189,8 @@ impl FunctionBindgen {
         let names = self
             .scope
             .declare_fields(self.alloc, site.fields.as_slice())?;
-        let pattern = record_pattern(self.alloc, site, names.as_slice())?;
-        self.code.stmts.push(Stmt::LetParts(pattern, e))?;
+        let parts = let_fields(self.alloc, site, names.as_slice(), e)?;
+        self.code.stmts.push(parts)?;
         Ok(names)
     }
 

@@ -1,8 +1,8 @@
 //! Results become what their cases do.
 
 ghost use Rattle.std.specs.Prelude.{◌≡◌, [], codes, length, IfOk, OnOk};
-ghost use Rattle.abi_driver.specs.Instructions.{Emits};
-ghost use Rattle.abi_driver.specs.declared.instruction.Instruction.TheVariants as instruction;
+ghost use Rattle.abi_bindgen.specs.Instructions.{Emits};
+ghost use Rattle.abi_bindgen.specs.declared.instruction.Instruction.TheVariants as instruction;
 ghost use Rattle.func_gen.specs.CaseForms.{AreResultForms, IsSome, side_form};
 ghost use Rattle.func_gen.specs.Meaning.{func_meaning};
 

@@ -1,8 +1,8 @@
 //! Scalars become core words, and core words scalars.
 
 ghost use Rattle.std.specs.Prelude.{◌≡◌, [], Some, true, length, OnOk};
-ghost use Rattle.abi_driver.specs.Instructions.{Emits};
-ghost use Rattle.abi_driver.specs.declared.instruction.Instruction.TheVariants as instruction;
+ghost use Rattle.abi_bindgen.specs.Instructions.{Emits};
+ghost use Rattle.abi_bindgen.specs.declared.instruction.Instruction.TheVariants as instruction;
 ghost use Rattle.func_gen.specs.Forms.{conversion, is_kept, number_cast};
 ghost use Rattle.func_gen.specs.Meaning.{func_meaning};
 
@@ -10,7 +10,7 @@ use crate::added::only_operand;
 use crate::forms::runtime_call;
 use crate::function_bindgen::FunctionBindgen;
 use crate::operand::ExprOperand;
-use abi_driver::Instruction;
+use abi_bindgen::Instruction;
 use rust_tree::{CastType, Expr, RuntimeItem};
 use wit_model::{Boxed, List, OutOfMemory, Resolve};
 

@@ -4,8 +4,8 @@ ghost use Rattle.std.specs.Prelude.{◌≡◌, [], ◌∷◌, true, false, lengt
 ghost use Rattle.rust_tree.specs.declared.expr.Expr.TheVariants as expr;
 ghost use Rattle.rust_tree.specs.declared.runtime_item.RuntimeItem.TheVariants.{StringLift};
 ghost use Rattle.rust_tree.specs.declared.stmt.Stmt.TheVariants as stmt;
-ghost use Rattle.abi_driver.specs.Instructions.{Emits};
-ghost use Rattle.abi_driver.specs.declared.instruction.Instruction.TheVariants as instruction;
+ghost use Rattle.abi_bindgen.specs.Instructions.{Emits};
+ghost use Rattle.abi_bindgen.specs.declared.instruction.Instruction.TheVariants as instruction;
 ghost use Rattle.func_gen.specs.Added.{Appends};
 ghost use Rattle.func_gen.specs.CallForms.{FreshAll};
 ghost use Rattle.func_gen.specs.Forms.{operand_of, runtime_call};
@@ -15,9 +15,9 @@ ghost use Rattle.func_gen.specs.TextForms.{buffer_names, buffer_stmts, buffer_wo
 
 use crate::added::only_operand;
 use crate::emit::memory::both_operands;
-use crate::forms::runtime_call;
+use crate::forms::{call_of, push_name, runtime_call};
 use crate::function_bindgen::FunctionBindgen;
-use crate::operand::ExprOperand;
+use crate::operand::{ExprOperand, push_expr};
 use crate::scope::{LocalName, numbered};
 use rust_tree::{Expr, Path, RuntimeItem, Stmt};
 use std::alloc::Global;
@@ -35,9 +35,9 @@ fn forget_path(alloc: Global) -> Result<Path, OutOfMemory>
     ensures { IfOk result (λ p. p ≡ forget_path) }
 {
     let mut names = List::new(alloc);
-    names.push(Text::from_str(alloc, "core")?)?;
-    names.push(Text::from_str(alloc, "mem")?)?;
-    names.push(Text::from_str(alloc, "forget")?)?;
+    push_name(alloc, &mut names, "core")?;
+    push_name(alloc, &mut names, "mem")?;
+    push_name(alloc, &mut names, "forget")?;
     Ok(Path {
         lead: true,
         supers: 0,
@@ -50,9 +50,7 @@ fn forgotten(alloc: Global, name: Text) -> Result<Expr, OutOfMemory>
     ensures { IfOk result (λ c. c ≡ forgotten name) }
 {
     let path = forget_path(alloc)?;
-    let mut arguments = List::new(alloc);
-    arguments.push(Expr::Local(name))?;
-    Ok(Expr::Call(path, arguments))
+    call_of(alloc, path, Expr::Local(name))
 }
 
 /// The one operand, where it is a local by itself that is not kept. Of any other there is no memory.
@@ -72,16 +70,10 @@ fn push_words(alloc: Global, t: u32, results: &mut List<ExprOperand>) -> Result<
     requires empty { results.old ≡ [] }
     ensures { OnOk result (results.new ≡ buffer_words t) }
 {
-    let address = Expr::CastMut(local_name(alloc, "ptr", t)?);
-    let length = Expr::Local(local_name(alloc, "len", t)?);
-    results.push(ExprOperand {
-        expr: address,
-        kept: false,
-    })?;
-    results.push(ExprOperand {
-        expr: length,
-        kept: false,
-    })
+    let address = local_name(alloc, "ptr", t)?;
+    push_expr(results, Expr::CastMut(address))?;
+    let length = local_name(alloc, "len", t)?;
+    push_expr(results, Expr::Local(length))
 }
 
 impl FunctionBindgen {
@@ -162,14 +154,24 @@ impl FunctionBindgen {
         self.push_let("text", t, lifted)
     }
 
+    /// The number of the same locals, of which the length has its value.
+    fn add_length(&mut self, n: Expr) -> Result<u32, OutOfMemory>
+        ensures adds { IfOk result (λ t. Appends self.old self.new (stmt.Let (len_name t) n ∷ []) []) }
+        ensures fresh { IfOk result (λ t. FreshAll self.old self.new (taken_names t)) }
+        ensures takes { IfOk result (λ t. Takes self.old.scope (λ k. taken_names k) t self.new.scope) }
+    {
+        let t = self.declare_three("len", "bytes", "text")?;
+        self.push_let("len", t, n)?;
+        Ok(t)
+    }
+
     /// The number of the locals of a text that is taken over: its length, its bytes, and itself.
     fn add_taken(&mut self, address: Expr, n: Expr) -> Result<u32, OutOfMemory>
         ensures adds { IfOk result (λ t. Appends self.old self.new (taken_stmts t address n) []) }
         ensures fresh { IfOk result (λ t. FreshAll self.old self.new (taken_names t)) }
         ensures takes { IfOk result (λ t. Takes self.old.scope (λ k. taken_names k) t self.new.scope) }
     {
-        let t = self.declare_three("len", "bytes", "text")?;
-        self.push_let("len", t, n)?;
+        let t = self.add_length(n)?;
         self.push_bytes(t, address)?;
         self.push_text(t)?;
         Ok(t)

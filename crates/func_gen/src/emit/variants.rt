@@ -3,8 +3,8 @@
 ghost use Rattle.std.specs.Prelude.{◌≡◌, [], Some, length, IfOk, OnOk};
 ghost use Rattle.std.specs.List.{AllByRecursion};
 ghost use Rattle.wrapper_values.specs.Fields.{root_name};
-ghost use Rattle.abi_driver.specs.Instructions.{Emits};
-ghost use Rattle.abi_driver.specs.declared.instruction.Instruction.TheVariants as instruction;
+ghost use Rattle.abi_bindgen.specs.Instructions.{Emits};
+ghost use Rattle.abi_bindgen.specs.declared.instruction.Instruction.TheVariants as instruction;
 ghost use Rattle.func_gen.specs.CaseForms.{AreVariantForms, IsSome, member_form, member_forms, member_path, variant_at};
 ghost use Rattle.func_gen.specs.Meaning.{func_meaning};
 

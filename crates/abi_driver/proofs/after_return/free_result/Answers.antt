@@ -1,12 +1,12 @@
 use Rattle.std.proofs.Common.{sym, ap, subst}
 use Rattle.std.specs.Option.{option_map}
 use Rattle.wrapper_meaning.specs.Shape.{shape_of}
-use Rattle.abi_driver.specs.declared.instruction.Instruction.TheVariants.{GetArg}
-use Rattle.abi_driver.specs.Code.{free_code, free_result_code}
-use Rattle.abi_driver.specs.Frees.{FreesResult, nowhere}
+use Rattle.abi_bindgen.specs.declared.instruction.Instruction.TheVariants.{GetArg}
+use Rattle.abi_bindgen.specs.Code.{free_code, free_result_code}
+use Rattle.abi_bindgen.specs.Frees.{FreesResult, nowhere}
 use Rattle.abi_driver.proofs.ReturnSteps.{argument_frees}
-use Rattle.abi_driver.proofs.Runs.{adds_both}
-use Rattle.abi_driver.proofs.SendSteps.{sends_as, sends_then}
+use Rattle.abi_bindgen.proofs.Runs.{adds_both}
+use Rattle.abi_bindgen.proofs.SendSteps.{sends_as, sends_then}
 use Rattle.abi_driver.proofs.after_return.free_result.Goals as goal
 
 pub returns-clause-adds : goal.returns-clause-adds

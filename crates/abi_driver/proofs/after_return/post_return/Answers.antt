@@ -1,10 +1,10 @@
 use Rattle.std.proofs.Common.{[], ◌∷◌}
 use Rattle.wrapper_meaning.specs.Shape.{result_shape}
-use Rattle.abi_driver.specs.declared.instruction.Instruction.TheVariants.{Return}
-use Rattle.abi_driver.specs.Code.{free_result_code}
-use Rattle.abi_driver.specs.Sent.{sends}
+use Rattle.abi_bindgen.specs.declared.instruction.Instruction.TheVariants.{Return}
+use Rattle.abi_bindgen.specs.Code.{free_result_code}
+use Rattle.abi_bindgen.specs.Sent.{sends}
 use Rattle.abi_driver.proofs.ReturnSteps.{post_returns}
-use Rattle.abi_driver.proofs.SendSteps.{sends_both, sends_one}
+use Rattle.abi_bindgen.proofs.SendSteps.{sends_both, sends_one}
 use Rattle.abi_driver.proofs.after_return.post_return.Goals as goal
 
 pub returns : goal.returns

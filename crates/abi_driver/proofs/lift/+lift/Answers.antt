@@ -13,26 +13,26 @@ use Rattle.wit_model.specs.declared.wasm_type.WasmType.{WasmType}
 use Rattle.wrapper_meaning.specs.Shape.{payload_in, payloads_in, shape_at, shape_of, shapes}
 use Rattle.wrapper_meaning.specs.Shape.Shape.{cases}
 use Rattle.wrapper_meaning.specs.Shape.Shapes.{none, more}
-use Rattle.abi_driver.specs.Blocks.{Finishes}
-use Rattle.abi_driver.specs.CaseBlocks.{LiftsCases}
-use Rattle.abi_driver.specs.Cases.{payloads_of, result_counts}
-use Rattle.abi_driver.specs.declared.instruction.Instruction.{Instruction}
-use Rattle.abi_driver.specs.declared.instruction.Instruction.TheVariants.{RecordLift, TupleLift}
-use Rattle.abi_driver.specs.Code.{case_words, cast_code, each, lift_case, lift_code, payload_words, shared_slots}
-use Rattle.abi_driver.specs.Instructions.{Emits, IsRecord, IsSendable, Makes, case_lifting, shapes_of}
-use Rattle.abi_driver.specs.Lifts.{LiftsFlat}
-use Rattle.abi_driver.specs.Sends.{Sends}
-use Rattle.abi_driver.specs.Sent.{closes, sends}
-use Rattle.abi_driver.specs.SlotCasts.{AreOrdered, CastsAll, FitIn}
-use Rattle.abi_driver.proofs.BlockRuns.{grows_alike, grows_none}
+use Rattle.abi_bindgen.specs.Blocks.{Finishes}
+use Rattle.abi_bindgen.specs.CaseBlocks.{LiftsCases}
+use Rattle.abi_bindgen.specs.Cases.{payloads_of, result_counts}
+use Rattle.abi_bindgen.specs.declared.instruction.Instruction.{Instruction}
+use Rattle.abi_bindgen.specs.declared.instruction.Instruction.TheVariants.{RecordLift, TupleLift}
+use Rattle.abi_bindgen.specs.Code.{case_words, cast_code, each, lift_case, lift_code, payload_words, shared_slots}
+use Rattle.abi_bindgen.specs.Instructions.{Emits, IsRecord, IsSendable, Makes, case_lifting, shapes_of}
+use Rattle.abi_bindgen.specs.Lifts.{LiftsFlat}
+use Rattle.abi_bindgen.specs.Sends.{Sends}
+use Rattle.abi_bindgen.specs.Sent.{closes, sends}
+use Rattle.abi_bindgen.specs.SlotCasts.{AreOrdered, CastsAll, FitIn}
+use Rattle.abi_bindgen.proofs.BlockRuns.{grows_alike, grows_none}
 use Rattle.abi_driver.proofs.CaseLifts.{full_lifts}
 use Rattle.abi_driver.proofs.LiftedVariants.{all_used, lifting_makes, lifts_done, lifts_next, variant_liftable, variant_lifts}
-use Rattle.abi_driver.proofs.Payloads.{count_told, payload_count, payload_in_table, payload_ranked, payload_told, slots_told, variant_below, variant_shape, payload_some}
-use Rattle.abi_driver.proofs.WordBits.{fit_length, of_slots, payload_fits}
-use Rattle.abi_driver.proofs.FlatCode.{lift_alias_code, lift_record_code, lift_tuple_code, lift_variant_code}
+use Rattle.abi_bindgen.proofs.Payloads.{count_told, payload_count, payload_in_table, payload_ranked, payload_told, slots_told, variant_below, variant_shape, payload_some}
+use Rattle.abi_bindgen.proofs.WordBits.{fit_length, of_slots, payload_fits}
+use Rattle.abi_bindgen.proofs.FlatCode.{lift_alias_code, lift_record_code, lift_tuple_code, lift_variant_code}
 use Rattle.abi_driver.proofs.LiftSteps.{lifts_all_as, lifts_as, record_lifts, rest_last, rest_next, tuple_lifts}
-use Rattle.abi_driver.proofs.Records.{alias_below, alias_rank, alias_shape, count-shapes, drop-same, entry_at, kind_at, one_record, part_below_within, part_ranked, record_below, record_shape, tuple_below, tuple_shape}
-use Rattle.abi_driver.proofs.SendSteps.{sends_as, sends_both, sends_last, sends_next, sends_one}
+use Rattle.abi_bindgen.proofs.Records.{alias_below, alias_rank, alias_shape, count-shapes, drop-same, entry_at, kind_at, one_record, part_below_within, part_ranked, record_below, record_shape, tuple_below, tuple_shape}
+use Rattle.abi_bindgen.proofs.SendSteps.{sends_as, sends_both, sends_last, sends_next, sends_one}
 use Rattle.abi_driver.proofs.lift.+lift.Goals as goal
 
 pub lift_id-lift_type-requires : goal.lift_id-lift_type-requires

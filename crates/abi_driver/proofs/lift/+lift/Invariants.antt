@@ -1,13 +1,13 @@
 use Rattle.std.proofs.Common.{◌≡◌, ◌++◌, ◌+◌, ◌*◌, List, drop, length, option_map, take}
 use Rattle.wrapper_meaning.specs.Shape.{payloads_in, shapes}
 use Rattle.wit_layout.proofs.FlattenSteps.{payload_rank, rank}
-use Rattle.abi_driver.specs.CaseBlocks.{LiftsCases}
-use Rattle.abi_driver.specs.Cases.{result_counts}
-use Rattle.abi_driver.specs.Code.{each, lift_case, lift_code, shared_slots}
-use Rattle.abi_driver.specs.Laws.{Grows}
-use Rattle.abi_driver.specs.Instructions.{shapes_of}
-use Rattle.abi_driver.specs.Lifts.{LiftsAll}
-use Rattle.abi_driver.specs.Sends.{Sends}
+use Rattle.abi_bindgen.specs.CaseBlocks.{LiftsCases}
+use Rattle.abi_bindgen.specs.Cases.{result_counts}
+use Rattle.abi_bindgen.specs.Code.{each, lift_case, lift_code, shared_slots}
+use Rattle.abi_bindgen.specs.Laws.{Grows}
+use Rattle.abi_bindgen.specs.Instructions.{shapes_of}
+use Rattle.abi_bindgen.specs.Lifts.{LiftsAll}
+use Rattle.abi_bindgen.specs.Sends.{Sends}
 use Rattle.abi_driver.proofs.lift.+lift.Given as goal
 
 abbrev pub decreases-lift_type : goal.decreases-lift_type

@@ -1,7 +1,6 @@
 use Rattle.std.proofs.Common.{◌≡◌, ◌&&◌, inl, inr, ap, sym, ◌∙◌}
 use Rattle.std.specs.List.{list_all}
-use Rattle.wrapper_run.specs.Inward.{is_inward_expr, is_no_import}
-use Rattle.wrapper_run.specs.Run.{callee}
+use Rattle.wrapper_run.specs.Inward.{is_inward_expr}
 use Rattle.func_gen.proofs.InwardSteps.{inward-array, inward-call, inward-record, inward-tuple, inward-words}
 use Rattle.func_gen.proofs.inward.+inward_expr.Goals as goal
 

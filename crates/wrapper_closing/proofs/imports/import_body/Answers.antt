@@ -1,6 +1,6 @@
 use Rattle.std.proofs.Common.{true}
 use Rattle.wit_layout.specs.declared.signature.AbiVariant.TheVariants.{GuestImport}
-use Rattle.abi_driver.specs.Code.{call_code}
+use Rattle.abi_bindgen.specs.Code.{call_code}
 use Rattle.func_gen.proofs.StillSent.{still_sent}
 use Rattle.wrapper_closing.proofs.HandedBack.{handed_back}
 use Rattle.wrapper_closing.proofs.imports.import_body.Goals as goal

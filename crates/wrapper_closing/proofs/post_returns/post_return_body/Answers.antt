@@ -1,5 +1,5 @@
 use Rattle.std.proofs.Common.{false}
-use Rattle.abi_driver.specs.Code.{post_return_code}
+use Rattle.abi_bindgen.specs.Code.{post_return_code}
 use Rattle.func_gen.proofs.StillSent.{still_sent}
 use Rattle.wit_model.proofs.WellFormedLemmas.{types_go_down}
 use Rattle.wit_layout.proofs.SignatureSteps.{result_in_table}

@@ -1,7 +1,7 @@
 use Rattle.wrapper_meaning.specs.Shape.Shape.{fields}
-use Rattle.abi_driver.specs.Code.{ask_for, store_arguments}
-use Rattle.abi_driver.specs.Instructions.{shapes_of}
-use Rattle.abi_driver.proofs.SendSteps.{sends_both}
+use Rattle.abi_bindgen.specs.Code.{ask_for, store_arguments}
+use Rattle.abi_bindgen.specs.Instructions.{shapes_of}
+use Rattle.abi_bindgen.proofs.SendSteps.{sends_both}
 use Rattle.abi_driver.proofs.calls.area.store_arguments.Goals as goal
 
 pub returns : goal.returns

@@ -6,17 +6,17 @@ use Rattle.wit_model.specs.declared.types.WitType.TheVariants as wit
 use Rattle.wit_layout.specs.Sizes.{field_offsets}
 use Rattle.wit_layout.specs.Told.{IsPairOf}
 use Rattle.wit_layout.specs.Tree.{record_of}
-use Rattle.abi_driver.specs.declared.instruction.Instruction.TheVariants as instruction
-use Rattle.abi_driver.specs.Code.{place_in, store_code}
-use Rattle.abi_driver.specs.Frees.{nowhere}
-use Rattle.abi_driver.specs.Instructions.{Emits}
-use Rattle.abi_driver.specs.Sent.{sends}
+use Rattle.abi_bindgen.specs.declared.instruction.Instruction.TheVariants as instruction
+use Rattle.abi_bindgen.specs.Code.{place_in, store_code}
+use Rattle.abi_bindgen.specs.Frees.{nowhere}
+use Rattle.abi_bindgen.specs.Instructions.{Emits}
+use Rattle.abi_bindgen.specs.Sent.{sends}
 use Rattle.abi_driver.proofs.ArgumentSteps.{within_count}
 use Rattle.abi_driver.proofs.PartOffsets.{behind_next, pair_is}
 use Rattle.abi_driver.proofs.RecordPlaces.{record_place}
 use Rattle.abi_driver.proofs.RecordStores.{rest_last, rest_next}
-use Rattle.abi_driver.proofs.Runs.{adds_both}
-use Rattle.abi_driver.proofs.SendSteps.{sends_as, sends_last, sends_next, sends_then}
+use Rattle.abi_bindgen.proofs.Runs.{adds_both}
+use Rattle.abi_bindgen.proofs.SendSteps.{sends_as, sends_last, sends_next, sends_then}
 use Rattle.abi_driver.proofs.calls.area.store_at.Goals as goal
 
 pub argument-requires : goal.argument-requires

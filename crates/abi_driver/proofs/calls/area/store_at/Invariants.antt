@@ -1,10 +1,10 @@
 use Rattle.std.proofs.Common.{◌∷◌, false, take}
 use Rattle.wit_layout.specs.Tree.{record_of}
-use Rattle.abi_driver.specs.declared.instruction.Instruction.TheVariants.{GetArg}
-use Rattle.abi_driver.specs.Code.{each, place_in, store_code}
-use Rattle.abi_driver.specs.Laws.{Adds}
-use Rattle.abi_driver.specs.Sends.{Sends}
-use Rattle.abi_driver.specs.Sent.{sends}
+use Rattle.abi_bindgen.specs.declared.instruction.Instruction.TheVariants.{GetArg}
+use Rattle.abi_bindgen.specs.Code.{each, place_in, store_code}
+use Rattle.abi_bindgen.specs.Laws.{Adds}
+use Rattle.abi_bindgen.specs.Sends.{Sends}
+use Rattle.abi_bindgen.specs.Sent.{sends}
 use Rattle.abi_driver.proofs.RecordStores.{Rest}
 use Rattle.abi_driver.proofs.calls.area.store_at.Given as goal
 

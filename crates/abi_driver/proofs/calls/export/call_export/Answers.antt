@@ -11,16 +11,16 @@ use Rattle.wrapper_meaning.specs.Represents.{are_indirect, result_words}
 use Rattle.wrapper_meaning.specs.Shape.{result_shape}
 use Rattle.wit_layout.specs.declared.signature.AbiVariant.TheVariants.{GuestExport}
 use Rattle.wit_layout.specs.Signature.{core_results}
-use Rattle.abi_driver.specs.declared.instruction.Instruction.TheVariants.{CallInterface, Return}
-use Rattle.abi_driver.specs.Code.{give_code, take_code}
+use Rattle.abi_bindgen.specs.declared.instruction.Instruction.TheVariants.{CallInterface, Return}
+use Rattle.abi_bindgen.specs.Code.{give_code, take_code}
 use Rattle.abi_driver.specs.Exports.{GivesAnswer, TakesArgumentsOver, argument_words}
-use Rattle.abi_driver.specs.Instructions.{shapes_of}
-use Rattle.abi_driver.specs.Laws.{IsCount}
-use Rattle.abi_driver.specs.Sent.{sends}
+use Rattle.abi_bindgen.specs.Instructions.{shapes_of}
+use Rattle.abi_bindgen.specs.Laws.{IsCount}
+use Rattle.abi_bindgen.specs.Sent.{sends}
 use Rattle.abi_driver.proofs.CallCode.{given_words}
 use Rattle.abi_driver.proofs.ExportSteps.{calls_export, export_indirect, export_pointer, export_words}
-use Rattle.abi_driver.proofs.Records.{count-shapes}
-use Rattle.abi_driver.proofs.SendSteps.{sends_as, sends_both, sends_one, sends_then}
+use Rattle.abi_bindgen.proofs.Records.{count-shapes}
+use Rattle.abi_bindgen.proofs.SendSteps.{sends_as, sends_both, sends_one, sends_then}
 use Rattle.abi_driver.proofs.calls.export.call_export.Goals as goal
 
 pub take_arguments-requires-clause-below : goal.take_arguments-requires-clause-below

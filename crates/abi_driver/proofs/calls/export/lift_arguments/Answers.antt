@@ -7,13 +7,13 @@ use Rattle.wit_layout.specs.Flat.{flatten_type}
 use Rattle.wit_layout.specs.Tree.{tree_of}
 use Rattle.wrapper_meaning.specs.Represents.{param_words}
 use Rattle.wrapper_meaning.proofs.LayoutIsTree.{layout_is_tree}
-use Rattle.abi_driver.specs.Code.{lift_arguments}
-use Rattle.abi_driver.specs.Instructions.{shapes_of}
+use Rattle.abi_bindgen.specs.Code.{lift_arguments}
+use Rattle.abi_bindgen.specs.Instructions.{shapes_of}
 use Rattle.abi_driver.proofs.ArgumentSteps.{within_words}
 use Rattle.abi_driver.proofs.CallCode as Sent
 use Rattle.abi_driver.proofs.LiftedArguments.{rest_first, rest_last, rest_next, told_within, words_left, words_next}
-use Rattle.abi_driver.proofs.Runs.{adds_both, adds_same}
-use Rattle.abi_driver.proofs.SendSteps.{sends_as}
+use Rattle.abi_bindgen.proofs.Runs.{adds_both, adds_same}
+use Rattle.abi_bindgen.proofs.SendSteps.{sends_as}
 use Rattle.abi_driver.proofs.calls.export.lift_arguments.Goals as goal
 
 pub loop-i-init : goal.loop-i-init

@@ -1,7 +1,7 @@
 use Rattle.std.proofs.Common.{◌≡◌, ◌+◌, length}
 use Rattle.wrapper_meaning.specs.Represents.{param_words}
-use Rattle.abi_driver.specs.Instructions.{shapes_of}
-use Rattle.abi_driver.specs.Laws.{Adds}
+use Rattle.abi_bindgen.specs.Instructions.{shapes_of}
+use Rattle.abi_bindgen.specs.Laws.{Adds}
 use Rattle.abi_driver.proofs.CallCode as Sent
 use Rattle.abi_driver.proofs.LiftedArguments.{Rest, words_left}
 use Rattle.abi_driver.proofs.calls.export.lift_arguments.Given as goal

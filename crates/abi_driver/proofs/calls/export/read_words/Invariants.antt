@@ -1,6 +1,6 @@
-use Rattle.abi_driver.specs.Code.{get_arguments}
+use Rattle.abi_bindgen.specs.Code.{get_arguments}
 use Rattle.abi_driver.specs.Exports.{ReadsWords}
-use Rattle.abi_driver.specs.Sends.{Sends}
+use Rattle.abi_bindgen.specs.Sends.{Sends}
 use Rattle.abi_driver.proofs.calls.export.read_words.Given as goal
 
 abbrev pub invariant-loop-i : goal.invariant-loop-i

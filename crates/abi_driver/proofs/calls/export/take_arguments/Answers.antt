@@ -3,13 +3,13 @@ use Rattle.wit_model.specs.declared.wasm_type.WasmType.TheVariants as wasm
 use Rattle.wit_model.proofs.WellFormedLemmas.{types_go_down}
 use Rattle.wrapper_meaning.specs.Represents.{param_words}
 use Rattle.abi_driver.specs.Exports.{argument_words}
-use Rattle.abi_driver.specs.Code as code
-use Rattle.abi_driver.specs.Code.{take_code, take_record_code}
-use Rattle.abi_driver.specs.Instructions.{shapes_of}
-use Rattle.abi_driver.specs.Laws.{IsCount}
+use Rattle.abi_bindgen.specs.Code as code
+use Rattle.abi_bindgen.specs.Code.{take_code, take_record_code}
+use Rattle.abi_bindgen.specs.Instructions.{shapes_of}
+use Rattle.abi_bindgen.specs.Laws.{IsCount}
 use Rattle.abi_driver.proofs.ArgumentSteps.{within_count}
 use Rattle.abi_driver.proofs.RecordArguments.{takes_record, takes_words}
-use Rattle.abi_driver.proofs.SendSteps.{sends_as}
+use Rattle.abi_bindgen.proofs.SendSteps.{sends_as}
 use Rattle.abi_driver.proofs.calls.export.take_arguments.Goals as goal
 
 pub load_arguments-requires-clause-down : goal.load_arguments-requires-clause-down

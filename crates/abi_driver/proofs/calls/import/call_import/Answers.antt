@@ -9,16 +9,16 @@ use Rattle.wit_model.proofs.WellFormedLemmas.{types_go_down}
 use Rattle.wit_layout.proofs.SignatureSteps.{params_in_table, result_in_table}
 use Rattle.wrapper_meaning.specs.Represents.{are_indirect}
 use Rattle.wrapper_meaning.specs.Shape.{result_shape, shape_of}
-use Rattle.abi_driver.specs.declared.instruction.Instruction.TheVariants.{CallWasm, Return}
-use Rattle.abi_driver.specs.Code.{pass_code, point_code, read_code}
+use Rattle.abi_bindgen.specs.declared.instruction.Instruction.TheVariants.{CallWasm, Return}
+use Rattle.abi_bindgen.specs.Code.{pass_code, point_code, read_code}
 use Rattle.abi_driver.specs.Imports.{PassesArguments, ReadsAnswer}
-use Rattle.abi_driver.specs.Instructions.{Emits, shapes_of}
-use Rattle.abi_driver.specs.Sent.{sends}
+use Rattle.abi_bindgen.specs.Instructions.{Emits, shapes_of}
+use Rattle.abi_bindgen.specs.Sent.{sends}
 use Rattle.abi_driver.proofs.AreaSteps.{points_grows}
 use Rattle.abi_driver.proofs.CallCode.{given_count}
 use Rattle.abi_driver.proofs.ExportSteps.{count_mapped}
 use Rattle.abi_driver.proofs.ImportSteps.{calls_import, indirect_told, one_pointer, pointer_told, words_count}
-use Rattle.abi_driver.proofs.SendSteps.{sends_as, sends_both, sends_one, sends_then}
+use Rattle.abi_bindgen.proofs.SendSteps.{sends_as, sends_both, sends_one, sends_then}
 use Rattle.abi_driver.proofs.calls.import.call_import.Goals as goal
 
 pub pass_arguments-requires-clause-down : goal.pass_arguments-requires-clause-down

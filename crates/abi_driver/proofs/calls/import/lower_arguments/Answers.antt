@@ -2,13 +2,13 @@ use Rattle.std.proofs.Common.{◌<◌, ◌≤◌, [], ◌∷◌, ◌++◌, lengt
 use Rattle.std.specs.Prelude.{IfSome}
 use Rattle.std.proofs.lemmas.List.{drop_more}
 use Rattle.wit_model.specs.declared.types.WitType.TheVariants as wit
-use Rattle.abi_driver.specs.declared.instruction.Instruction.TheVariants as instruction
-use Rattle.abi_driver.specs.Code.{lower_code}
-use Rattle.abi_driver.specs.Instructions.{Emits}
-use Rattle.abi_driver.specs.Sent.{sends}
+use Rattle.abi_bindgen.specs.declared.instruction.Instruction.TheVariants as instruction
+use Rattle.abi_bindgen.specs.Code.{lower_code}
+use Rattle.abi_bindgen.specs.Instructions.{Emits}
+use Rattle.abi_bindgen.specs.Sent.{sends}
 use Rattle.abi_driver.proofs.ArgumentSteps.{rest_last, rest_next, within_count}
-use Rattle.abi_driver.proofs.Runs.{adds_both}
-use Rattle.abi_driver.proofs.SendSteps.{sends_last, sends_next, sends_then}
+use Rattle.abi_bindgen.proofs.Runs.{adds_both}
+use Rattle.abi_bindgen.proofs.SendSteps.{sends_last, sends_next, sends_then}
 use Rattle.abi_driver.proofs.calls.import.lower_arguments.Goals as goal
 
 pub argument-requires : goal.argument-requires

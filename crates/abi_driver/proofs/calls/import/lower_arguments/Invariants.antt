@@ -1,11 +1,11 @@
 use Rattle.std.proofs.Common.{◌++◌, ◌∷◌, false, List, drop, take}
-use Rattle.abi_driver.specs.declared.instruction.Instruction.TheVariants.{GetArg}
-use Rattle.abi_driver.specs.Code.{each, lower_code}
-use Rattle.abi_driver.specs.Instructions.{shapes_of}
-use Rattle.abi_driver.specs.Laws.{Adds}
-use Rattle.abi_driver.specs.Lowers.{LowersArguments}
-use Rattle.abi_driver.specs.Sends.{Sends}
-use Rattle.abi_driver.specs.Sent.{sends}
+use Rattle.abi_bindgen.specs.declared.instruction.Instruction.TheVariants.{GetArg}
+use Rattle.abi_bindgen.specs.Code.{each, lower_code}
+use Rattle.abi_bindgen.specs.Instructions.{shapes_of}
+use Rattle.abi_bindgen.specs.Laws.{Adds}
+use Rattle.abi_bindgen.specs.Lowers.{LowersArguments}
+use Rattle.abi_bindgen.specs.Sends.{Sends}
+use Rattle.abi_bindgen.specs.Sent.{sends}
 use Rattle.abi_driver.proofs.calls.import.lower_arguments.Given as goal
 
 -- what lowers the arguments that are left, lowers them all; and what was sent is the code of the arguments so far

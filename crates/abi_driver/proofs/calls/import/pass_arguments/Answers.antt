@@ -1,10 +1,10 @@
 use Rattle.std.proofs.Common.{◌++◌, List, if◌then◌else◌, sym, ap, ◌∙◌, subst}
 use Rattle.wrapper_meaning.specs.Shape.Shape.{fields}
-use Rattle.abi_driver.specs.Code.{ask_for, lower_arguments, pass_code, store_arguments}
+use Rattle.abi_bindgen.specs.Code.{ask_for, lower_arguments, pass_code, store_arguments}
 use Rattle.abi_driver.specs.Imports.{PassesArguments}
-use Rattle.abi_driver.specs.Instructions.{shapes_of}
+use Rattle.abi_bindgen.specs.Instructions.{shapes_of}
 use Rattle.abi_driver.proofs.AreaSteps.{passes_record, passes_words}
-use Rattle.abi_driver.proofs.SendSteps.{sends_as}
+use Rattle.abi_bindgen.proofs.SendSteps.{sends_as}
 use Rattle.abi_driver.proofs.calls.import.pass_arguments.Goals as goal
 
 pub returns-then-indirect : goal.returns-then-indirect

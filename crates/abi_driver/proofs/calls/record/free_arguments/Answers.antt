@@ -4,13 +4,13 @@ use Rattle.wit_layout.specs.Sizes.{elem_size}
 use Rattle.wit_layout.specs.Told.{IsPairOf}
 use Rattle.wit_layout.specs.Tree.{record_of}
 use Rattle.wrapper_meaning.specs.Shape.Shape.{fields}
-use Rattle.abi_driver.specs.declared.instruction.Instruction.TheVariants.{GetArg, GuestDeallocate}
-use Rattle.abi_driver.specs.Code.{free_block_code}
-use Rattle.abi_driver.specs.Instructions.{Emits, shapes_of}
-use Rattle.abi_driver.specs.Sent.{sends}
+use Rattle.abi_bindgen.specs.declared.instruction.Instruction.TheVariants.{GetArg, GuestDeallocate}
+use Rattle.abi_bindgen.specs.Code.{free_block_code}
+use Rattle.abi_bindgen.specs.Instructions.{Emits, shapes_of}
+use Rattle.abi_bindgen.specs.Sent.{sends}
 use Rattle.abi_driver.proofs.AreaAsked.{record_told}
 use Rattle.abi_driver.proofs.RecordPlaces.{record_layout}
-use Rattle.abi_driver.proofs.SendSteps.{sends_as, sends_one, sends_then}
+use Rattle.abi_bindgen.proofs.SendSteps.{sends_as, sends_one, sends_then}
 use Rattle.abi_driver.proofs.calls.record.free_arguments.Goals as goal
 
 pub returns : goal.returns

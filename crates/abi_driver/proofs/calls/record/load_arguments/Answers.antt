@@ -1,11 +1,11 @@
 use Rattle.std.proofs.Common.{◌≡◌, [], ◌∷◌, ◌++◌, length, sym, ap, ◌∙◌}
 use Rattle.wrapper_meaning.specs.Shape.Shape.{fields}
-use Rattle.abi_driver.specs.declared.instruction.Instruction.TheVariants.{Flush, GetArg}
-use Rattle.abi_driver.specs.Code.{free_block_code, load_arguments}
-use Rattle.abi_driver.specs.Instructions.{shapes_of}
-use Rattle.abi_driver.specs.Sent.{sends}
-use Rattle.abi_driver.proofs.Records.{count-shapes}
-use Rattle.abi_driver.proofs.SendSteps.{sends_as, sends_both, sends_then}
+use Rattle.abi_bindgen.specs.declared.instruction.Instruction.TheVariants.{Flush, GetArg}
+use Rattle.abi_bindgen.specs.Code.{free_block_code, load_arguments}
+use Rattle.abi_bindgen.specs.Instructions.{shapes_of}
+use Rattle.abi_bindgen.specs.Sent.{sends}
+use Rattle.abi_bindgen.proofs.Records.{count-shapes}
+use Rattle.abi_bindgen.proofs.SendSteps.{sends_as, sends_both, sends_then}
 use Rattle.abi_driver.proofs.calls.record.load_arguments.Goals as goal
 
 pub returns : goal.returns

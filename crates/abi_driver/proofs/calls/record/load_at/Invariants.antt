@@ -1,9 +1,9 @@
 use Rattle.std.proofs.Common.{◌≡◌, length, take}
 use Rattle.wit_layout.specs.Tree.{record_of}
-use Rattle.abi_driver.specs.Code.{each, load_code, place_in}
-use Rattle.abi_driver.specs.Frees.{nowhere}
-use Rattle.abi_driver.specs.Laws.{Adds}
-use Rattle.abi_driver.specs.Sends.{Sends}
+use Rattle.abi_bindgen.specs.Code.{each, load_code, place_in}
+use Rattle.abi_bindgen.specs.Frees.{nowhere}
+use Rattle.abi_bindgen.specs.Laws.{Adds}
+use Rattle.abi_bindgen.specs.Sends.{Sends}
 use Rattle.abi_driver.proofs.LoadSteps.{Rest}
 use Rattle.abi_driver.proofs.calls.record.load_at.Given as goal
 

@@ -8,12 +8,12 @@ use Rattle.wit_model.specs.declared.types.WitType.{WitType}
 use Rattle.wit_model.specs.declared.types.WitType.TheVariants as wit
 use Rattle.wit_layout.proofs.FlattenSteps.{rank}
 use Rattle.wit_layout.specs.Extent.{flag_words}
-use Rattle.abi_driver.specs.Code.{each, free_words_code}
-use Rattle.abi_driver.specs.Instructions.{field_shapes, shapes_of}
-use Rattle.abi_driver.proofs.FlatCode.{free_words_alias_code, free_words_enum_code, free_words_flags_code, free_words_record_code, free_words_scalar_code, free_words_tuple_code}
+use Rattle.abi_bindgen.specs.Code.{each, free_words_code}
+use Rattle.abi_bindgen.specs.Instructions.{field_shapes, shapes_of}
+use Rattle.abi_bindgen.proofs.FlatCode.{free_words_alias_code, free_words_enum_code, free_words_flags_code, free_words_record_code, free_words_scalar_code, free_words_tuple_code}
 use Rattle.abi_driver.proofs.FlatFrees.{all_freed_as, enum_passed, fields_freed, flags_passed, freed_as, rest_last, rest_next, scalar_passed, tuple_freed}
-use Rattle.abi_driver.proofs.Records.{alias_below, alias_rank, alias_shape, entry_at, enum_shape, flags_shape, kind_at, part_below_within, part_ranked, record_below, record_shape, tuple_below, tuple_shape}
-use Rattle.abi_driver.proofs.SendSteps.{sends_as, sends_last, sends_next}
+use Rattle.abi_bindgen.proofs.Records.{alias_below, alias_rank, alias_shape, entry_at, enum_shape, flags_shape, kind_at, part_below_within, part_ranked, record_below, record_shape, tuple_below, tuple_shape}
+use Rattle.abi_bindgen.proofs.SendSteps.{sends_as, sends_last, sends_next}
 use Rattle.abi_driver.proofs.dealloc.flat.+free.Goals as goal
 
 pub free_id-free_type-requires : goal.free_id-free_type-requires

@@ -1,7 +1,7 @@
 use Rattle.std.proofs.Common.{◌+◌, ◌*◌, take}
 use Rattle.wit_layout.proofs.FlattenSteps.{rank}
-use Rattle.abi_driver.specs.Code.{each, free_words_code}
-use Rattle.abi_driver.specs.Sends.{Sends}
+use Rattle.abi_bindgen.specs.Code.{each, free_words_code}
+use Rattle.abi_bindgen.specs.Sends.{Sends}
 use Rattle.abi_driver.proofs.FlatFrees.{Rest}
 use Rattle.abi_driver.proofs.dealloc.flat.+free.Given as goal
 

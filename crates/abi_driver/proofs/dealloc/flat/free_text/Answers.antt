@@ -1,10 +1,10 @@
 use Rattle.std.proofs.Common.{◌≡◌, ◌<◌, ◌+◌, List, [], ◌∷◌, ◌++◌, length, drop, refl, ap, ◌∙◌, subst, arith}
-use Rattle.abi_driver.specs.Instructions.{Emits}
-use Rattle.abi_driver.specs.declared.instruction.Instruction.TheVariants.{GuestDeallocateString}
-use Rattle.abi_driver.proofs.FlatCode.{free_words_text_code}
+use Rattle.abi_bindgen.specs.Instructions.{Emits}
+use Rattle.abi_bindgen.specs.declared.instruction.Instruction.TheVariants.{GuestDeallocateString}
+use Rattle.abi_bindgen.proofs.FlatCode.{free_words_text_code}
 use Rattle.abi_driver.proofs.FlatFrees.{text_freed}
-use Rattle.abi_driver.proofs.Records.{drop-same}
-use Rattle.abi_driver.proofs.SendSteps.{sends_as, sends_one}
+use Rattle.abi_bindgen.proofs.Records.{drop-same}
+use Rattle.abi_bindgen.proofs.SendSteps.{sends_as, sends_one}
 use Rattle.abi_driver.proofs.dealloc.flat.free_text.Goals as goal
 
 pub returns : goal.returns

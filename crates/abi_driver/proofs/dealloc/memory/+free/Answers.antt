@@ -14,15 +14,15 @@ use Rattle.wit_layout.specs.Sizes.{field_offsets}
 use Rattle.wit_layout.specs.Told.{is_alias}
 use Rattle.wit_layout.specs.Tree.{tree_at}
 use Rattle.wrapper_meaning.specs.Shape.{payload_in, payloads_in, shape_of, shapes}
-use Rattle.abi_driver.specs.Code.{at_payload, beyond, each, free_code, place_in}
+use Rattle.abi_bindgen.specs.Code.{at_payload, beyond, each, free_code, place_in}
 use Rattle.abi_driver.specs.FreedCases.{FreesPayload}
-use Rattle.abi_driver.specs.Instructions.{HasBlocks, field_shapes, shapes_of}
-use Rattle.abi_driver.specs.Parts.{count}
-use Rattle.abi_driver.specs.Places.{HasParts, IsOfParts}
-use Rattle.abi_driver.specs.Sent.{Sent, closes, opens}
-use Rattle.abi_driver.specs.Sends.{Sends}
+use Rattle.abi_bindgen.specs.Instructions.{HasBlocks, field_shapes, shapes_of}
+use Rattle.abi_bindgen.specs.Parts.{count}
+use Rattle.abi_bindgen.specs.Places.{HasParts, IsOfParts}
+use Rattle.abi_bindgen.specs.Sent.{Sent, closes, opens}
+use Rattle.abi_bindgen.specs.Sends.{Sends}
 use Rattle.abi_driver.proofs.CaseFrees.{bare_frees, payload_frees, rest_last as last_case, rest_next as next_case}
-use Rattle.abi_driver.proofs.Payloads.{count_payloads, variant_below}
+use Rattle.abi_bindgen.proofs.Payloads.{count_payloads, variant_below}
 use Rattle.abi_driver.proofs.CaseSteps.{are_finished, resumes_both, resumes_same, same_back}
 use Rattle.abi_driver.proofs.NumberWords.{number_load_adds}
 use Rattle.abi_driver.proofs.VariantFrees.{freed_none, freed_variant}
@@ -31,9 +31,9 @@ use Rattle.abi_driver.proofs.LeafFrees.{enum_frees, flags_frees, scalar_frees}
 use Rattle.abi_driver.proofs.MemoryCode.{free_alias_code, free_enum_code, free_flags_code, free_record_code, free_scalar_code, free_tuple_code}
 use Rattle.abi_driver.proofs.PartOffsets.{behind_next, cases_no_alias, no_alias, part_offset, place_sent}
 use Rattle.abi_driver.proofs.RecordPlaces.{place_told}
-use Rattle.abi_driver.proofs.Records.{alias_below, alias_rank, alias_shape, entry_at, enum_shape, flags_shape, kind_at, part_below_table, part_ranked, payload_low, payload_type_low, record_below, record_shape, tuple_below, tuple_shape, type_below_table, type_ranked}
-use Rattle.abi_driver.proofs.Runs.{adds_both, adds_same}
-use Rattle.abi_driver.proofs.SendSteps.{sends_as, sends_block, sends_last, sends_next}
+use Rattle.abi_bindgen.proofs.Records.{alias_below, alias_rank, alias_shape, entry_at, enum_shape, flags_shape, kind_at, part_below_table, part_ranked, payload_low, payload_type_low, record_below, record_shape, tuple_below, tuple_shape, type_below_table, type_ranked}
+use Rattle.abi_bindgen.proofs.Runs.{adds_both, adds_same}
+use Rattle.abi_bindgen.proofs.SendSteps.{sends_as, sends_block, sends_last, sends_next}
 use Rattle.abi_driver.proofs.dealloc.memory.+free.Goals as goal
 
 pub free_id-free_type-requires : goal.free_id-free_type-requires

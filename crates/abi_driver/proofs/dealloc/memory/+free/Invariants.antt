@@ -1,10 +1,10 @@
 use Rattle.std.proofs.Common.{◌+◌, ◌*◌, option_map, take}
 use Rattle.wit_layout.proofs.FlattenSteps.{rank}
 use Rattle.wit_layout.specs.Tree.{tree_at}
-use Rattle.abi_driver.specs.Code.{at_payload, beyond, each, free_code, in_blocks, place_in}
+use Rattle.abi_bindgen.specs.Code.{at_payload, beyond, each, free_code, in_blocks, place_in}
 use Rattle.abi_driver.specs.FinishedBlocks.{Resumes}
-use Rattle.abi_driver.specs.Laws.{Adds}
-use Rattle.abi_driver.specs.Sends.{Sends}
+use Rattle.abi_bindgen.specs.Laws.{Adds}
+use Rattle.abi_bindgen.specs.Sends.{Sends}
 use Rattle.abi_driver.proofs.CaseFrees.{Rest as RestCases}
 use Rattle.abi_driver.proofs.FreeSteps.{Rest}
 use Rattle.abi_driver.proofs.dealloc.memory.+free.Given as goal

@@ -5,13 +5,13 @@ use Rattle.wit_model.specs.declared.types.WitType.TheVariants as wit
 use Rattle.wit_layout.specs.Sizes.{field_offsets}
 use Rattle.wit_layout.specs.Told.{IsPairOf}
 use Rattle.wit_layout.specs.Tree.{record_of}
-use Rattle.abi_driver.specs.Code.{free_code, place_in}
-use Rattle.abi_driver.specs.Frees.{nowhere}
+use Rattle.abi_bindgen.specs.Code.{free_code, place_in}
+use Rattle.abi_bindgen.specs.Frees.{nowhere}
 use Rattle.abi_driver.proofs.FreeSteps.{rest_last, rest_next}
 use Rattle.abi_driver.proofs.PartOffsets.{behind_next, pair_is}
 use Rattle.abi_driver.proofs.RecordPlaces.{record_place}
-use Rattle.abi_driver.proofs.Runs.{adds_both}
-use Rattle.abi_driver.proofs.SendSteps.{sends_as, sends_last, sends_next}
+use Rattle.abi_bindgen.proofs.Runs.{adds_both}
+use Rattle.abi_bindgen.proofs.SendSteps.{sends_as, sends_last, sends_next}
 use Rattle.abi_driver.proofs.dealloc.memory.free_record.Goals as goal
 
 pub loop-i-preserved : goal.loop-i-preserved

@@ -1,9 +1,9 @@
 use Rattle.std.proofs.Common.{take}
-use Rattle.abi_driver.specs.Frees.{nowhere}
+use Rattle.abi_bindgen.specs.Frees.{nowhere}
 use Rattle.wit_layout.specs.Tree.{record_of}
-use Rattle.abi_driver.specs.Code.{each, free_code, place_in}
-use Rattle.abi_driver.specs.Laws.{Adds}
-use Rattle.abi_driver.specs.Sends.{Sends}
+use Rattle.abi_bindgen.specs.Code.{each, free_code, place_in}
+use Rattle.abi_bindgen.specs.Laws.{Adds}
+use Rattle.abi_bindgen.specs.Sends.{Sends}
 use Rattle.abi_driver.proofs.FreeSteps.{Rest}
 use Rattle.abi_driver.proofs.dealloc.memory.free_record.Given as goal
 

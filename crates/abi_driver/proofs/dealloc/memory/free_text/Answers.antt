@@ -1,12 +1,12 @@
 use Rattle.std.proofs.Common.{List, [], ◌∷◌, ◌++◌, sym, ap, ◌∙◌, subst}
-use Rattle.abi_driver.specs.Instructions.{Emits}
-use Rattle.abi_driver.specs.Sent.{sends}
-use Rattle.abi_driver.specs.declared.instruction.Instruction.TheVariants.{GuestDeallocateString, LengthLoad, PointerLoad}
+use Rattle.abi_bindgen.specs.Instructions.{Emits}
+use Rattle.abi_bindgen.specs.Sent.{sends}
+use Rattle.abi_bindgen.specs.declared.instruction.Instruction.TheVariants.{GuestDeallocateString, LengthLoad, PointerLoad}
 use Rattle.abi_driver.proofs.FlatFrees.{text_freed}
 use Rattle.abi_driver.proofs.LeafFrees.{text_frees}
 use Rattle.abi_driver.proofs.MemoryCode.{free_text_code}
 use Rattle.abi_driver.proofs.PartOffsets.{behind_at}
-use Rattle.abi_driver.proofs.SendSteps.{sends_as, sends_three}
+use Rattle.abi_bindgen.proofs.SendSteps.{sends_as, sends_three}
 use Rattle.abi_driver.proofs.dealloc.memory.free_text.Goals as goal
 
 pub returns : goal.returns

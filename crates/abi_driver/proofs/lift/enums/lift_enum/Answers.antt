@@ -1,11 +1,11 @@
 use Rattle.std.proofs.Common.{◌<◌, ◌≤◌, ◌^◌, List, [], ◌∷◌, length, refl, subst, arith}
-use Rattle.abi_driver.specs.Instructions.{Emits}
-use Rattle.abi_driver.specs.declared.instruction.Instruction.TheVariants.{EnumLift}
+use Rattle.abi_bindgen.specs.Instructions.{Emits}
+use Rattle.abi_bindgen.specs.declared.instruction.Instruction.TheVariants.{EnumLift}
 use Rattle.abi_driver.proofs.EnumSteps.{enum_lifts}
-use Rattle.abi_driver.proofs.FlatCode.{lift_enum_code}
+use Rattle.abi_bindgen.proofs.FlatCode.{lift_enum_code}
 use Rattle.abi_driver.proofs.LiftSteps.{lifts_as}
-use Rattle.abi_driver.proofs.Records.{drop-same, enum_shape}
-use Rattle.abi_driver.proofs.SendSteps.{sends_as, sends_one}
+use Rattle.abi_bindgen.proofs.Records.{drop-same, enum_shape}
+use Rattle.abi_bindgen.proofs.SendSteps.{sends_as, sends_one}
 use Rattle.abi_driver.proofs.lift.enums.lift_enum.Goals as goal
 
 pub returns : goal.returns

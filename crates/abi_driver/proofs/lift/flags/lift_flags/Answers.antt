@@ -1,13 +1,13 @@
 use Rattle.std.proofs.Common.{◌≡◌, ◌≤◌, ◌+◌, ◌-◌, List, [], ◌∷◌, ◌++◌, length, take, drop, refl, sym, ap, ◌∙◌, subst, arith, length-drop}
 use Rattle.std.proofs.lemmas.List.{drop-drop, length-take-le, take-append-drop}
 use Rattle.wit_layout.specs.Extent.{flag_words}
-use Rattle.abi_driver.specs.Instructions.{Emits}
-use Rattle.abi_driver.specs.declared.instruction.Instruction.TheVariants.{FlagsLift}
+use Rattle.abi_bindgen.specs.Instructions.{Emits}
+use Rattle.abi_bindgen.specs.declared.instruction.Instruction.TheVariants.{FlagsLift}
 use Rattle.abi_driver.proofs.FlagSteps.{flags_lifts}
-use Rattle.abi_driver.proofs.FlatCode.{lift_flags_code}
+use Rattle.abi_bindgen.proofs.FlatCode.{lift_flags_code}
 use Rattle.abi_driver.proofs.LiftSteps.{lifts_as}
-use Rattle.abi_driver.proofs.Records.{flags_shape}
-use Rattle.abi_driver.proofs.SendSteps.{sends_as, sends_one}
+use Rattle.abi_bindgen.proofs.Records.{flags_shape}
+use Rattle.abi_bindgen.proofs.SendSteps.{sends_as, sends_one}
 use Rattle.abi_driver.proofs.lift.flags.lift_flags.Goals as goal
 
 pub returns : goal.returns

@@ -1,9 +1,9 @@
 use Rattle.std.proofs.Common.{◌<◌, List, [], ◌∷◌, length, refl, subst, arith}
-use Rattle.abi_driver.specs.Instructions.{Emits}
-use Rattle.abi_driver.proofs.FlatCode.{lift_scalar_code}
+use Rattle.abi_bindgen.specs.Instructions.{Emits}
+use Rattle.abi_bindgen.proofs.FlatCode.{lift_scalar_code}
 use Rattle.abi_driver.proofs.LiftSteps.{scalar_lifts}
-use Rattle.abi_driver.proofs.Records.{drop-same}
-use Rattle.abi_driver.proofs.SendSteps.{sends_as, sends_one}
+use Rattle.abi_bindgen.proofs.Records.{drop-same}
+use Rattle.abi_bindgen.proofs.SendSteps.{sends_as, sends_one}
 use Rattle.abi_driver.proofs.lift.leaf.lift_scalar.Goals as goal
 
 pub returns : goal.returns

@@ -1,10 +1,10 @@
 use Rattle.std.proofs.Common.{◌≡◌, ◌<◌, ◌+◌, List, [], ◌∷◌, ◌++◌, length, drop, refl, ap, ◌∙◌, subst, arith}
-use Rattle.abi_driver.specs.Instructions.{Emits}
-use Rattle.abi_driver.specs.declared.instruction.Instruction.TheVariants.{StringLift}
-use Rattle.abi_driver.proofs.FlatCode.{lift_text_code}
+use Rattle.abi_bindgen.specs.Instructions.{Emits}
+use Rattle.abi_bindgen.specs.declared.instruction.Instruction.TheVariants.{StringLift}
+use Rattle.abi_bindgen.proofs.FlatCode.{lift_text_code}
 use Rattle.abi_driver.proofs.LiftSteps.{text_lifts}
-use Rattle.abi_driver.proofs.Records.{drop-same}
-use Rattle.abi_driver.proofs.SendSteps.{sends_as, sends_one}
+use Rattle.abi_bindgen.proofs.Records.{drop-same}
+use Rattle.abi_bindgen.proofs.SendSteps.{sends_as, sends_one}
 use Rattle.abi_driver.proofs.lift.leaf.lift_text.Goals as goal
 
 pub returns : goal.returns

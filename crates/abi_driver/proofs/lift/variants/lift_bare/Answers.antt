@@ -1,5 +1,5 @@
 use Rattle.std.proofs.Common.{◌≡◌, List, [], subst, refl}
-use Rattle.abi_driver.specs.Blocks.{Finishes, IsOpen}
+use Rattle.abi_bindgen.specs.Blocks.{Finishes, IsOpen}
 use Rattle.abi_driver.proofs.CaseLifts.{bare_lifts}
 use Rattle.abi_driver.proofs.lift.variants.lift_bare.Goals as goal
 

@@ -1,15 +1,15 @@
 use Rattle.std.proofs.Common.{List, [], ◌∷◌, length, ap, ◌∙◌, subst}
-use Rattle.wit_layout.specs.Extent.{discriminant_grain}
-use Rattle.abi_driver.specs.Cases.{LiftsEnum}
-use Rattle.abi_driver.specs.Instructions.{Emits}
-use Rattle.abi_driver.specs.NumberTouches.{number_load, tag_load}
-use Rattle.abi_driver.specs.declared.instruction.Instruction.{Instruction}
-use Rattle.abi_driver.specs.declared.instruction.Instruction.TheVariants.{EnumLift}
-use Rattle.abi_driver.proofs.EnumSteps.{enum_cases, enum_loads}
+use Rattle.abi_bindgen.specs.Cases.{LiftsEnum}
+use Rattle.abi_bindgen.specs.Instructions.{Emits}
+use Rattle.abi_bindgen.specs.NumberTouches.{tag_load}
+use Rattle.abi_bindgen.specs.declared.instruction.Instruction.{Instruction}
+use Rattle.abi_bindgen.specs.declared.instruction.Instruction.TheVariants.{EnumLift}
+use Rattle.abi_bindgen.proofs.EnumLowers.{enum_cases}
+use Rattle.abi_driver.proofs.EnumSteps.{enum_loads}
 use Rattle.abi_driver.proofs.LoadSteps.{loads_as}
 use Rattle.abi_driver.proofs.MemoryCode.{load_enum_code}
-use Rattle.abi_driver.proofs.Records.{enum_shape}
-use Rattle.abi_driver.proofs.SendSteps.{sends_as, sends_two}
+use Rattle.abi_bindgen.proofs.Records.{enum_shape}
+use Rattle.abi_bindgen.proofs.SendSteps.{sends_as, sends_two}
 use Rattle.abi_driver.proofs.memory.enums.load_enum.Goals as goal
 
 pub returns : goal.returns
@@ -20,7 +20,7 @@ returns g c =
     let here = c.requires.here in
     let members = c.args.members.now in
     let e = subst (λ (os : List g.row.B-Operand.Denot). Emits m types (EnumLift c.args.id) os (c.in_ok-operand.operand ∷ []) c.load_word.new.bindgen c.send_one.new.bindgen) c.in_ok-operands.ensures c.in_ok-operand.ensures in
-    let is = c.number_load-load.ensures ∙ ap (λ n. number_load n c.args.offset) (c.tag_grain.ensures ∙ ap discriminant_grain c.len-cases.ensures) in
+    let is = c.tag_load-load.ensures ∙ ap (λ n. tag_load n c.args.offset) c.len-cases.ensures in
     let load = subst (λ (i : Instruction). Emits m types i (c.args.address.now ∷ []) (c.in_ok-tag.tag ∷ []) c.args.bindgen.now c.load_word.new.bindgen) is c.in_ok-tag.ensures in
     let shape = enum_shape types c.requires.down c.args.id.0 here.entry here.stands members here.kind in
     let row = subst (λ ts. LiftsEnum m ts (c.in_ok-tag.tag ∷ []) (c.in_ok-operand.operand ∷ []) c.load_word.new.bindgen c.send_one.new.bindgen) (enum_cases types c.args.id.0 members here) e.row in

@@ -2,18 +2,19 @@ use Rattle.std.proofs.Common.{◌≡◌, ℕ, ◌+◌, List, [], ◌∷◌, ◌+
 use Rattle.std.proofs.lemmas.List.{length-append}
 use Rattle.wit_layout.specs.Extent.{flag_words, flags_extent}
 use Rattle.wit_layout.specs.Flat.{words_of_flags}
-use Rattle.abi_driver.specs.FlagSets.{AreFlags}
-use Rattle.abi_driver.specs.Instructions.{Emits}
-use Rattle.abi_driver.specs.NumberTouches.{flags_load, number_load}
-use Rattle.abi_driver.specs.Sent.{Sent, sends}
-use Rattle.abi_driver.specs.declared.instruction.Instruction.{Instruction}
-use Rattle.abi_driver.specs.declared.instruction.Instruction.TheVariants.{FlagsLift}
-use Rattle.abi_driver.proofs.FlagSteps.{each_alike, flags_grain_small, flags_loads, length_words, one_count, place_of}
+use Rattle.abi_bindgen.specs.FlagSets.{AreFlags}
+use Rattle.abi_bindgen.specs.Instructions.{Emits}
+use Rattle.abi_bindgen.specs.NumberTouches.{flags_load, number_load}
+use Rattle.abi_bindgen.specs.Sent.{Sent, sends}
+use Rattle.abi_bindgen.specs.declared.instruction.Instruction.{Instruction}
+use Rattle.abi_bindgen.specs.declared.instruction.Instruction.TheVariants.{FlagsLift}
+use Rattle.abi_bindgen.proofs.FlagLowers.{one_count}
+use Rattle.abi_driver.proofs.FlagSteps.{each_alike, flags_grain_small, flags_loads, length_words, place_of}
 use Rattle.abi_driver.proofs.LoadSteps.{loads_as}
 use Rattle.abi_driver.proofs.MemoryCode.{load_flags_code}
 use Rattle.abi_driver.proofs.NumberWords.{LoadedOn, loaded_more, loaded_sends}
-use Rattle.abi_driver.proofs.Records.{flags_shape}
-use Rattle.abi_driver.proofs.SendSteps.{sends_as, sends_both, sends_one}
+use Rattle.abi_bindgen.proofs.Records.{flags_shape}
+use Rattle.abi_bindgen.proofs.SendSteps.{sends_as, sends_both, sends_one}
 use Rattle.abi_driver.proofs.memory.flags.load_flags.Goals as goal
 
 pub loop-nth-init : goal.loop-nth-init

@@ -2,17 +2,18 @@ use Rattle.std.proofs.Common.{◌≡◌, ℕ, suc, ◌<◌, ◌+◌, ◌-◌, Li
 use Rattle.std.proofs.lemmas.List.{drop_all}
 use Rattle.wit_layout.specs.Extent.{flags_extent}
 use Rattle.wit_layout.specs.Flat.{words_of_flags}
-use Rattle.abi_driver.specs.FlagSets.{AreFlags}
-use Rattle.abi_driver.specs.Instructions.{Emits}
-use Rattle.abi_driver.specs.NumberTouches.{flags_store, number_store}
-use Rattle.abi_driver.specs.Sent.{Sent, sends}
-use Rattle.abi_driver.specs.declared.instruction.Instruction.{Instruction}
-use Rattle.abi_driver.specs.declared.instruction.Instruction.TheVariants.{FlagsLower}
-use Rattle.abi_driver.proofs.FlagSteps.{each_alike, flags_grain_small, flags_lowers, flags_stores, place_of}
+use Rattle.abi_bindgen.specs.FlagSets.{AreFlags}
+use Rattle.abi_bindgen.specs.Instructions.{Emits}
+use Rattle.abi_bindgen.specs.NumberTouches.{flags_store, number_store}
+use Rattle.abi_bindgen.specs.Sent.{Sent, sends}
+use Rattle.abi_bindgen.specs.declared.instruction.Instruction.{Instruction}
+use Rattle.abi_bindgen.specs.declared.instruction.Instruction.TheVariants.{FlagsLower}
+use Rattle.abi_bindgen.proofs.FlagLowers.{flags_lowers}
+use Rattle.abi_driver.proofs.FlagSteps.{each_alike, flags_grain_small, flags_stores, place_of}
 use Rattle.abi_driver.proofs.MemoryCode.{store_flags_code}
 use Rattle.abi_driver.proofs.NumberWords.{StoredBack, stored_sends}
-use Rattle.abi_driver.proofs.Records.{drop-same, flags_shape}
-use Rattle.abi_driver.proofs.SendSteps.{sends_as, sends_then}
+use Rattle.abi_bindgen.proofs.Records.{drop-same, flags_shape}
+use Rattle.abi_bindgen.proofs.SendSteps.{sends_as, sends_then}
 use Rattle.abi_driver.proofs.StoreSteps.{stores_as}
 use Rattle.abi_driver.proofs.memory.flags.store_flags.Goals as goal
 
@@ -73,7 +74,7 @@ returns g c =
     let steps = sends_then m types (FlagsLower c.args.id) (c.args.value ∷ []) words _ _ _ _ made (stored_sends m sound types grain (flags_grain_small n) place address 0 words _ _ stored) in
     record {
       stores = λ realloc. stores_as m sound types realloc _ _ _ _ c.args.value address c.args.offset shape
-          (flags_stores m sound types realloc n _ _ _ c.args.value address words c.args.offset (flags_lowers m sound types realloc c.args.id n _ _ c.args.value words are made) stored);
+          (flags_stores m sound types realloc n _ _ _ c.args.value address words c.args.offset (flags_lowers m types realloc c.args.id n _ _ c.args.value words are made) stored);
       sends = λ realloc. sends_as m types _ _ _ _
           (store_flags_code types c.requires.down c.args.id here.entry here.stands c.args.offset realloc members here.kind ∙ ap (λ steps. sends (FlagsLower c.args.id) ∷ reverse steps) (each_alike step 0 (words_of_flags n) words many)) steps;
     }

@@ -14,31 +14,31 @@ use Rattle.wit_layout.specs.Sizes.{field_offsets}
 use Rattle.wit_layout.specs.Told.{is_alias}
 use Rattle.wit_layout.specs.Tree.{tree_at}
 use Rattle.wrapper_meaning.specs.Shape.{payload_in, shape_of, shapes}
-use Rattle.abi_driver.specs.declared.instruction.Instruction.{Instruction}
-use Rattle.abi_driver.specs.declared.instruction.Instruction.TheVariants.{RecordLift, TupleLift}
-use Rattle.abi_driver.specs.Cases.{result_counts}
-use Rattle.abi_driver.specs.Code.{at_payload, beyond, each, load_code, place_in}
-use Rattle.abi_driver.specs.Instructions.{Emits, HasBlocks, IsRecord, IsSendable, Makes, case_lifting, shapes_of}
-use Rattle.abi_driver.specs.Blocks.{Finishes, IsOpen}
+use Rattle.abi_bindgen.specs.declared.instruction.Instruction.{Instruction}
+use Rattle.abi_bindgen.specs.declared.instruction.Instruction.TheVariants.{RecordLift, TupleLift}
+use Rattle.abi_bindgen.specs.Cases.{result_counts}
+use Rattle.abi_bindgen.specs.Code.{at_payload, beyond, each, load_code, place_in}
+use Rattle.abi_bindgen.specs.Instructions.{Emits, HasBlocks, IsRecord, IsSendable, Makes, case_lifting, shapes_of}
+use Rattle.abi_bindgen.specs.Blocks.{Finishes, IsOpen}
 use Rattle.abi_driver.specs.LoadedCases.{LoadsCase}
-use Rattle.abi_driver.specs.Sends.{Sends}
+use Rattle.abi_bindgen.specs.Sends.{Sends}
 use Rattle.abi_driver.specs.Loads.{LoadsParts}
-use Rattle.abi_driver.specs.Places.{HasParts, IsOfParts}
-use Rattle.abi_driver.specs.Sent.{Sent, closes, opens, sends}
+use Rattle.abi_bindgen.specs.Places.{HasParts, IsOfParts}
+use Rattle.abi_bindgen.specs.Sent.{Sent, closes, opens, sends}
 use Rattle.abi_driver.proofs.CaseInstructions.{lifting_sendable}
 use Rattle.abi_driver.proofs.LiftedVariants.{lifting_makes}
 use Rattle.abi_driver.proofs.CaseLoads.{bare_loads, payload_loads, rest_last as last_case, rest_next as next_case}
 use Rattle.abi_driver.proofs.CaseSteps.{are_finished, resumes_both, resumes_same}
-use Rattle.abi_driver.proofs.Payloads.{variant_below}
+use Rattle.abi_bindgen.proofs.Payloads.{variant_below}
 use Rattle.abi_driver.proofs.NumberWords.{number_load_adds}
 use Rattle.abi_driver.proofs.VariantLoads.{loaded_variant}
 use Rattle.abi_driver.proofs.LoadSteps.{loads_as, loads_parts_as, record_loads, rest_last, rest_next, tuple_loads}
 use Rattle.abi_driver.proofs.MemoryCode.{load_alias_code, load_record_code, load_tuple_code}
 use Rattle.abi_driver.proofs.PartOffsets.{behind_next, cases_no_alias, no_alias, part_offset, place_sent}
 use Rattle.abi_driver.proofs.RecordPlaces.{place_told}
-use Rattle.abi_driver.proofs.Records.{alias_below, alias_rank, alias_shape, count-shapes, entry_at, kind_at, one_record, part_below_table, part_ranked, payload_low, payload_type_low, record_below, record_shape, tuple_below, tuple_shape, type_below_table, type_ranked}
-use Rattle.abi_driver.proofs.Runs.{adds_both, adds_same}
-use Rattle.abi_driver.proofs.SendSteps.{sends_as, sends_block, sends_both, sends_last, sends_next, sends_one}
+use Rattle.abi_bindgen.proofs.Records.{alias_below, alias_rank, alias_shape, count-shapes, entry_at, kind_at, one_record, part_below_table, part_ranked, payload_low, payload_type_low, record_below, record_shape, tuple_below, tuple_shape, type_below_table, type_ranked}
+use Rattle.abi_bindgen.proofs.Runs.{adds_both, adds_same}
+use Rattle.abi_bindgen.proofs.SendSteps.{sends_as, sends_block, sends_both, sends_last, sends_next, sends_one}
 use Rattle.abi_driver.proofs.memory.load.+load.Goals as goal
 
 pub load_id-load_type-requires : goal.load_id-load_type-requires

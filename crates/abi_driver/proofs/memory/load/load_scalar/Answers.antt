@@ -1,9 +1,9 @@
 use Rattle.std.proofs.Common.{List, [], ◌∷◌, sym, ◌∙◌, subst}
-use Rattle.abi_driver.specs.Instructions.{Emits}
+use Rattle.abi_bindgen.specs.Instructions.{Emits}
 use Rattle.abi_driver.proofs.LeafLoads.{lift_makes, lift_sendable, scalar_loads}
 use Rattle.abi_driver.proofs.LiftSteps.{scalar_lifts}
 use Rattle.abi_driver.proofs.MemoryCode.{load_scalar_code}
-use Rattle.abi_driver.proofs.SendSteps.{sends_as, sends_two}
+use Rattle.abi_bindgen.proofs.SendSteps.{sends_as, sends_two}
 use Rattle.abi_driver.proofs.memory.load.load_scalar.Goals as goal
 
 pub returns : goal.returns

@@ -13,20 +13,20 @@ use Rattle.wit_layout.specs.Extent.{discriminant_grain}
 use Rattle.wit_layout.specs.Sizes.{field_offsets}
 use Rattle.wit_layout.specs.Told.{is_alias}
 use Rattle.wit_layout.specs.Tree.{tree_at}
-use Rattle.abi_driver.specs.declared.instruction.Instruction.{Instruction}
-use Rattle.abi_driver.specs.declared.instruction.Instruction.TheVariants.{I32Const, TupleLower, VariantPayloadName}
+use Rattle.abi_bindgen.specs.declared.instruction.Instruction.{Instruction}
+use Rattle.abi_bindgen.specs.declared.instruction.Instruction.TheVariants.{I32Const, TupleLower, VariantPayloadName}
 use Rattle.wrapper_meaning.specs.Shape.{payloads_in, shape_of, shapes}
-use Rattle.abi_driver.specs.Cases.{payloads_of}
-use Rattle.abi_driver.specs.Code.{beyond, each, place_in, store_case, store_code}
-use Rattle.abi_driver.specs.Instructions.{Emits, HasBlocks, IsSendable, shapes_of}
-use Rattle.abi_driver.specs.NumberTouches.{tag_store}
-use Rattle.abi_driver.specs.Parts.{count}
-use Rattle.abi_driver.specs.Places.{HasParts, IsOfParts}
-use Rattle.abi_driver.specs.Sends.{Sends}
-use Rattle.abi_driver.specs.Sent.{Sent, closes, opens, sends}
+use Rattle.abi_bindgen.specs.Cases.{payloads_of}
+use Rattle.abi_bindgen.specs.Code.{beyond, each, place_in, store_case, store_code}
+use Rattle.abi_bindgen.specs.Instructions.{Emits, HasBlocks, IsSendable, shapes_of}
+use Rattle.abi_bindgen.specs.NumberTouches.{tag_store}
+use Rattle.abi_bindgen.specs.Parts.{count}
+use Rattle.abi_bindgen.specs.Places.{HasParts, IsOfParts}
+use Rattle.abi_bindgen.specs.Sends.{Sends}
+use Rattle.abi_bindgen.specs.Sent.{Sent, closes, opens, sends}
 use Rattle.abi_driver.proofs.CaseInstructions.{lowering_sendable}
-use Rattle.abi_driver.proofs.BareCases.{tag_grain_small, tag_kept}
-use Rattle.abi_driver.proofs.Payloads.{count_payloads, variant_below}
+use Rattle.abi_driver.proofs.Tags.{tag_grain_small, tag_kept}
+use Rattle.abi_bindgen.proofs.Payloads.{count_payloads, variant_below}
 use Rattle.abi_driver.proofs.NumberWords.{number_store_adds}
 use Rattle.abi_driver.proofs.CaseSteps.{are_finished, resumes_both, resumes_same, same_back, side_opened, side_resumed}
 use Rattle.abi_driver.proofs.CaseStores.{payload_case, rest_last as last_case, rest_next as next_case}
@@ -35,9 +35,9 @@ use Rattle.abi_driver.proofs.MemoryCode.{store_alias_code, store_record_code, st
 use Rattle.abi_driver.proofs.PartOffsets.{behind_next, cases_no_alias, no_alias, part_offset, place_sent}
 use Rattle.abi_driver.proofs.RecordPlaces.{place_told}
 use Rattle.abi_driver.proofs.StoreSteps.{record_stores, rest_last, rest_next, stores_as, stores_parts_as, tuple_stores}
-use Rattle.abi_driver.proofs.Records.{alias_below, alias_rank, alias_shape, count-shapes, drop-same, entry_at, kind_at, part_below_table, part_ranked, payload_low, payload_type_low, record_below, record_shape, tuple_below, tuple_shape, type_below_table, type_ranked}
-use Rattle.abi_driver.proofs.Runs.{adds_both, adds_same, side_later}
-use Rattle.abi_driver.proofs.SendSteps.{sends_as, sends_block, sends_last, sends_next, sends_then}
+use Rattle.abi_bindgen.proofs.Records.{alias_below, alias_rank, alias_shape, count-shapes, drop-same, entry_at, kind_at, part_below_table, part_ranked, payload_low, payload_type_low, record_below, record_shape, tuple_below, tuple_shape, type_below_table, type_ranked}
+use Rattle.abi_bindgen.proofs.Runs.{adds_both, adds_same, side_later}
+use Rattle.abi_bindgen.proofs.SendSteps.{sends_as, sends_block, sends_last, sends_next, sends_then}
 use Rattle.abi_driver.proofs.memory.store.+store.Goals as goal
 
 pub store_id-store_type-requires : goal.store_id-store_type-requires

@@ -2,10 +2,10 @@ use Rattle.std.proofs.Common.{◌+◌, ◌*◌, length, option_map, take}
 use Rattle.wit_layout.proofs.FlattenSteps.{rank}
 use Rattle.wit_layout.specs.Extent.{discriminant_grain}
 use Rattle.wit_layout.specs.Tree.{tree_at}
-use Rattle.abi_driver.specs.Code.{beyond, each, in_blocks, place_in, store_case, store_code}
+use Rattle.abi_bindgen.specs.Code.{beyond, each, in_blocks, place_in, store_case, store_code}
 use Rattle.abi_driver.specs.FinishedBlocks.{Resumes}
-use Rattle.abi_driver.specs.Laws.{Adds}
-use Rattle.abi_driver.specs.Sends.{Sends}
+use Rattle.abi_bindgen.specs.Laws.{Adds}
+use Rattle.abi_bindgen.specs.Sends.{Sends}
 use Rattle.abi_driver.proofs.CaseStores.{Rest as RestCases}
 use Rattle.abi_driver.proofs.StoreSteps.{Rest}
 use Rattle.abi_driver.proofs.memory.store.+store.Given as goal

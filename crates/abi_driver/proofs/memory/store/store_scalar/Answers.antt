@@ -1,8 +1,8 @@
 use Rattle.std.proofs.Common.{sym, ◌∙◌}
 use Rattle.abi_driver.proofs.LeafStores.{one_word, scalar_stores}
-use Rattle.abi_driver.proofs.LowerSteps.{scalar_lowers}
+use Rattle.abi_bindgen.proofs.LowerSteps.{scalar_lowers}
 use Rattle.abi_driver.proofs.MemoryCode.{store_scalar_code}
-use Rattle.abi_driver.proofs.SendSteps.{sends_as, sends_two}
+use Rattle.abi_bindgen.proofs.SendSteps.{sends_as, sends_two}
 use Rattle.abi_driver.proofs.Sendable.{store_sendable}
 use Rattle.abi_driver.proofs.memory.store.store_scalar.Goals as goal
 

@@ -1,11 +1,11 @@
 use Rattle.std.proofs.Common.{[], ◌∷◌, sym, ap, ◌∙◌}
-use Rattle.abi_driver.specs.declared.instruction.Instruction.TheVariants.{LengthStore, PointerStore, StringLower}
-use Rattle.abi_driver.specs.Sent.{sends}
+use Rattle.abi_bindgen.specs.declared.instruction.Instruction.TheVariants.{LengthStore, PointerStore, StringLower}
+use Rattle.abi_bindgen.specs.Sent.{sends}
 use Rattle.abi_driver.proofs.LeafStores.{text_stores, two_words}
-use Rattle.abi_driver.proofs.LowerSteps.{text_lowers}
+use Rattle.abi_bindgen.proofs.LowerSteps.{text_lowers}
 use Rattle.abi_driver.proofs.MemoryCode.{store_text_code}
 use Rattle.abi_driver.proofs.PartOffsets.{behind_at}
-use Rattle.abi_driver.proofs.SendSteps.{sends_as, sends_three}
+use Rattle.abi_bindgen.proofs.SendSteps.{sends_as, sends_three}
 use Rattle.abi_driver.proofs.memory.store.store_text.Goals as goal
 
 pub returns : goal.returns

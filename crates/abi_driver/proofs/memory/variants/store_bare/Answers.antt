@@ -1,11 +1,11 @@
 use Rattle.std.proofs.Common.{◌<◌, ◌^◌, pos, [], ◌∷◌, arith}
 use Rattle.wit_layout.specs.Extent.{discriminant_grain}
-use Rattle.abi_driver.specs.NumberTouches.{tag_store}
-use Rattle.abi_driver.specs.Sent.{sends}
-use Rattle.abi_driver.specs.declared.instruction.Instruction.TheVariants.{I32Const}
-use Rattle.abi_driver.proofs.BareCases.{tag_grain_small, tag_kept}
+use Rattle.abi_bindgen.specs.NumberTouches.{tag_store}
+use Rattle.abi_bindgen.specs.Sent.{sends}
+use Rattle.abi_bindgen.specs.declared.instruction.Instruction.TheVariants.{I32Const}
+use Rattle.abi_driver.proofs.Tags.{tag_grain_small, tag_kept}
 use Rattle.abi_driver.proofs.CaseStores.{bare_case}
-use Rattle.abi_driver.proofs.SendSteps.{sends_block, sends_two}
+use Rattle.abi_bindgen.proofs.SendSteps.{sends_block, sends_two}
 use Rattle.abi_driver.proofs.memory.variants.store_bare.Goals as goal
 
 pub returns : goal.returns

@@ -7,8 +7,8 @@ use Rattle.func_gen.proofs.CallRows.{declared_as}
 use Rattle.func_gen.proofs.FieldOrder.{fields_named, locals_many}
 use Rattle.func_gen.proofs.function_bindgen.FunctionBindgen.add_fields.Goals as goal
 
-pub record_pattern-requires : goal.record_pattern-requires
-record_pattern-requires c =
+pub let_fields-requires : goal.let_fields-requires
+let_fields-requires c =
     let d = c.in_ok-names.ensures in
     ap length (c.as_slice-3.ensures ∙ fields_named d) ∙ locals_many c.as_slice-2.result.now d.declares.number ∙ ap length c.as_slice-2.ensures
 
@@ -18,14 +18,14 @@ returns c =
     let site = c.in_ok-site.site.now in
     let names = c.in_ok-names.names in
     let d = c.in_ok-names.ensures in
-    let same = c.in_ok-pattern.ensures ∙ ap (λ ns. pattern.Record site.lowered (zip site.fields ns)) c.as_slice-3.ensures in
+    let same = c.in_ok-parts.ensures ∙ ap (λ ns. stmt.LetParts (pattern.Record site.lowered (zip site.fields ns)) c.args.e) c.as_slice-3.ensures in
     record {
       site = site;
       is_site = subst (λ sites. IsSiteOf c.args.resolve.now.types sites c.args.id.0 site) c.as_slice.ensures c.in_ok-site.ensures;
       declares = subst (λ fs. DeclaresFields old.scope fs names c.declare_fields.new.self) c.as_slice-2.ensures d;
       stmts = record {
         call = refl;
-        stmts = c.in_ok-push.ensures.ok ∙ ap (λ p. old.code.stmts ++ stmt.LetParts p c.args.e ∷ []) same;
+        stmts = c.in_ok-push.ensures.ok ∙ ap (λ s. old.code.stmts ++ s ∷ []) same;
         runtime = sym (append-nil old.runtime);
         import = refl;
         home = refl;

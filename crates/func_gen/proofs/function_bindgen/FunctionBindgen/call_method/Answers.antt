@@ -1,6 +1,6 @@
 use Rattle.std.proofs.Common.{None, Some, not, refl, sym, ap, ◌∙◌}
 use Rattle.rust_tree.specs.declared.expr.Expr.TheVariants as expr
-use Rattle.abi_driver.specs.declared.instruction.Instruction.TheVariants as instruction
+use Rattle.abi_bindgen.specs.declared.instruction.Instruction.TheVariants as instruction
 use Rattle.func_gen.specs.CallForms.{exprs}
 use Rattle.func_gen.proofs.MethodRows.{calls_as, method_row, none_due, one_due}
 use Rattle.func_gen.proofs.Rows.{emits_as, pushed}

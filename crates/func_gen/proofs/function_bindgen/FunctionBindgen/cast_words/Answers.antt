@@ -1,5 +1,5 @@
 use Rattle.std.proofs.Common.{[], ◌++◌, ◌∙◌, ap, arith, length, map, refl, rules, subst, sym}
-use Rattle.abi_driver.specs.declared.instruction.Instruction.TheVariants as instruction
+use Rattle.abi_bindgen.specs.declared.instruction.Instruction.TheVariants as instruction
 use Rattle.func_gen.specs.Added.{Appends}
 use Rattle.func_gen.specs.CastForms.{casts_from, stmts_from}
 use Rattle.func_gen.specs.Forms.{operand_of}

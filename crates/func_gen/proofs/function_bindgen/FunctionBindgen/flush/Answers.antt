@@ -1,5 +1,5 @@
 use Rattle.std.proofs.Common.{◌++◌, ◌∙◌, [], ap, ap₂, arith, length, refl, subst, sym}
-use Rattle.abi_driver.specs.declared.instruction.Instruction.TheVariants as instruction
+use Rattle.abi_bindgen.specs.declared.instruction.Instruction.TheVariants as instruction
 use Rattle.func_gen.specs.Added.{Appends}
 use Rattle.func_gen.specs.FlushForms.{flush_prefix, flushed, lets_of}
 use Rattle.func_gen.specs.PartForms.{are_operands, exprs_of}

@@ -1,7 +1,7 @@
 use Rattle.std.proofs.Common.{◌≡◌, ◌<◌, ◌∙◌, ◌++◌, [], ◌∷◌, Some, length, refl, sym, ap, subst}
 use Rattle.std.specs.Prelude.{slice_get}
 use Rattle.std.proofs.lemmas.Option.{slice_get_read}
-use Rattle.abi_driver.specs.declared.instruction.Instruction.TheVariants as instruction
+use Rattle.abi_bindgen.specs.declared.instruction.Instruction.TheVariants as instruction
 use Rattle.func_gen.specs.declared.function_bindgen.ParamSite.{ParamSite}
 use Rattle.func_gen.proofs.EndRows.{arg_row}
 use Rattle.func_gen.proofs.Rows.{emits_as}

@@ -1,4 +1,4 @@
-use Rattle.abi_driver.specs.declared.instruction.Instruction.TheVariants as instruction
+use Rattle.abi_bindgen.specs.declared.instruction.Instruction.TheVariants as instruction
 use Rattle.std.proofs.Common.{false}
 use Rattle.func_gen.proofs.Rows.{emits_as}
 use Rattle.func_gen.proofs.TextRows.{lend_row}

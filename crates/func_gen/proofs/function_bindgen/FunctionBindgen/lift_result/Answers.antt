@@ -1,6 +1,6 @@
 use Rattle.std.proofs.Common.{refl, subst}
 use Rattle.rust_tree.specs.declared.expr.Expr.TheVariants as expr
-use Rattle.abi_driver.specs.declared.instruction.Instruction.TheVariants as instruction
+use Rattle.abi_bindgen.specs.declared.instruction.Instruction.TheVariants as instruction
 use Rattle.func_gen.specs.LiftedCases.{LiftsBy}
 use Rattle.func_gen.proofs.CaseLifted.{result_made}
 use Rattle.func_gen.proofs.Rows.{emits_as, pushed}

@@ -1,7 +1,7 @@
 use Rattle.std.proofs.Common.{[], ◌∷◌, ap, ◌∙◌}
 use Rattle.rust_tree.specs.declared.expr.Expr.TheVariants as expr
 use Rattle.rust_tree.specs.declared.runtime_item.RuntimeItem.TheVariants.{StringLift, VecType}
-use Rattle.abi_driver.specs.declared.instruction.Instruction.TheVariants as instruction
+use Rattle.abi_bindgen.specs.declared.instruction.Instruction.TheVariants as instruction
 use Rattle.func_gen.specs.TextForms.{taken_names, taken_stmts, taking_items, text_name}
 use Rattle.func_gen.proofs.Declared.{fresh_after}
 use Rattle.func_gen.proofs.Forming.{takes_since}

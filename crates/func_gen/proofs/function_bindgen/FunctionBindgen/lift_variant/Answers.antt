@@ -2,7 +2,7 @@ use Rattle.std.proofs.Common.{◌≡◌, ◌++◌, true, List, [], ◌∷◌, re
 use Rattle.std.specs.List.{list_all}
 use Rattle.wit_model.specs.Bytes.{Bytes}
 use Rattle.rust_tree.specs.declared.expr.Expr.TheVariants as expr
-use Rattle.abi_driver.specs.declared.instruction.Instruction.TheVariants as instruction
+use Rattle.abi_bindgen.specs.declared.instruction.Instruction.TheVariants as instruction
 use Rattle.func_gen.specs.CalledCases.{is_called}
 use Rattle.func_gen.specs.CaseForms.{AreVariantForms}
 use Rattle.func_gen.specs.LiftedCases.{LiftsVariantBy}

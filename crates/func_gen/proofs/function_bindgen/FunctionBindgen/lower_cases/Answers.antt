@@ -1,4 +1,4 @@
-use Rattle.std.proofs.Common.{[], ◌∷◌, ap, subst}
+use Rattle.std.proofs.Common.{[], ◌∷◌, subst}
 use Rattle.func_gen.specs.Added.{Appends}
 use Rattle.func_gen.specs.MatchForms.{match_of}
 use Rattle.func_gen.proofs.function_bindgen.FunctionBindgen.lower_cases.Goals as goal

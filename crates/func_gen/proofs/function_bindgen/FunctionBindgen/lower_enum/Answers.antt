@@ -1,6 +1,6 @@
 use Rattle.std.proofs.Common.{refl, ap, arith}
 use Rattle.rust_tree.specs.declared.expr.Expr.TheVariants as expr
-use Rattle.abi_driver.specs.declared.instruction.Instruction.TheVariants as instruction
+use Rattle.abi_bindgen.specs.declared.instruction.Instruction.TheVariants as instruction
 use Rattle.func_gen.proofs.EnumRows.{enum_number_row}
 use Rattle.func_gen.proofs.Rows.{emits_as, pushed, unchanged}
 use Rattle.func_gen.proofs.function_bindgen.FunctionBindgen.lower_enum.Goals as goal

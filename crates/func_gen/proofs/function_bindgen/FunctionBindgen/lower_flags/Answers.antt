@@ -1,5 +1,5 @@
 use Rattle.std.proofs.Common.{◌++◌, ap, ◌∙◌}
-use Rattle.abi_driver.specs.declared.instruction.Instruction.TheVariants as instruction
+use Rattle.abi_bindgen.specs.declared.instruction.Instruction.TheVariants as instruction
 use Rattle.func_gen.specs.FlagsForms.{operands_of, words_of}
 use Rattle.func_gen.proofs.FlagsRows.{flags_words_row, words_fit}
 use Rattle.func_gen.proofs.Rows.{emits_as}

@@ -1,5 +1,5 @@
 use Rattle.std.proofs.Common.{◌++◌, ◌∙◌, ap, arith, subst}
-use Rattle.abi_driver.specs.declared.instruction.Instruction.TheVariants as instruction
+use Rattle.abi_bindgen.specs.declared.instruction.Instruction.TheVariants as instruction
 use Rattle.func_gen.specs.CaseForms.{AreVariantForms}
 use Rattle.func_gen.specs.MatchForms.{LowersBy}
 use Rattle.func_gen.specs.PartForms.{locals_of}

@@ -1,8 +1,8 @@
 use Rattle.std.proofs.Common.{◌≡◌, ℤ, List, [], ◌∷◌, OnOk, length, refl, sym, subst, w32}
 use Rattle.std.proofs.lemmas.Int.{to_z-of_z}
 use borrow.Author.Rules.{sfits_of}
-use Rattle.abi_driver.specs.declared.instruction.Instruction.TheVariants as instruction
-use Rattle.abi_driver.specs.Instructions.{Emits, Reads}
+use Rattle.abi_bindgen.specs.declared.instruction.Instruction.TheVariants as instruction
+use Rattle.abi_bindgen.specs.Instructions.{Emits, Reads}
 use Rattle.func_gen.specs.declared.operand.ExprOperand.{ExprOperand}
 use Rattle.func_gen.specs.Meaning.{func_meaning}
 use Rattle.func_gen.proofs.function_bindgen.FunctionBindgen.make_constant.Goals as goal

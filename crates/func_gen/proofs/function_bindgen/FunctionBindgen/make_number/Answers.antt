@@ -1,7 +1,7 @@
 use Rattle.std.proofs.Common.{ap, arith, refl}
 use Rattle.std.proofs.lemmas.Int.{ints}
 use Rattle.rust_tree.specs.declared.expr.Expr.TheVariants as expr
-use Rattle.abi_driver.specs.declared.instruction.Instruction.TheVariants as instruction
+use Rattle.abi_bindgen.specs.declared.instruction.Instruction.TheVariants as instruction
 use Rattle.func_gen.proofs.ConstantRows.{number_row}
 use Rattle.func_gen.proofs.Rows.{emits_as, pushed}
 use Rattle.func_gen.proofs.function_bindgen.FunctionBindgen.make_number.Goals as goal

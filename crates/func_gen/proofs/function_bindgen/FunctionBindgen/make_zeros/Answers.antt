@@ -1,5 +1,5 @@
 use Rattle.std.proofs.Common.{◌++◌, ◌∙◌, ap, refl}
-use Rattle.abi_driver.specs.declared.instruction.Instruction.TheVariants as instruction
+use Rattle.abi_bindgen.specs.declared.instruction.Instruction.TheVariants as instruction
 use Rattle.func_gen.specs.CastForms.{zero_operands}
 use Rattle.func_gen.proofs.ConstantRows.{zeros_row}
 use Rattle.func_gen.proofs.Rows.{emits_as}

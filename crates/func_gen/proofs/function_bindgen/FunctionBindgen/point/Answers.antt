@@ -1,7 +1,7 @@
 use Rattle.std.proofs.Common.{[], ◌∷◌, subst, sym}
 use Rattle.rust_tree.specs.declared.expr.Expr.TheVariants as expr
 use Rattle.rust_tree.specs.declared.stmt.Stmt.TheVariants as stmt
-use Rattle.abi_driver.specs.Laws.{PointsTo}
+use Rattle.abi_bindgen.specs.Laws.{PointsTo}
 use Rattle.func_gen.specs.Added.{Appends}
 use Rattle.func_gen.specs.Forms.{operand_of}
 use Rattle.func_gen.specs.Meaning.{func_meaning}

@@ -1,0 +1,192 @@
+-- Blocks that were finished one after another, and what the run of one does.
+use Rattle.std.proofs.Common.{◌≡◌, ℕ, suc, ◌+◌, List, [], ◌∷◌, ◌++◌, length, reverse, take, drop, zero, Bool, true, false, Some, refl, sym, ap, ◌∙◌, subst, arith, append-nil, append_assoc}
+use Rattle.std.specs.List.{AllByRecursion, flat_map, slice_get}
+use Rattle.std.proofs.lemmas.List.{length-append, length-map, length-reverse, reverse-append}
+use Rattle.wrapper_data.specs.declared.block.Block.{Block}
+use Rattle.wrapper_data.specs.declared.word.Word.{Word}
+use Rattle.wrapper_meaning.specs.Items.{SameItems, total}
+use Rattle.wrapper_meaning.specs.Shape.{Shape}
+use Rattle.wrapper_meaning.specs.Value.{Value}
+use Rattle.wrapper_meaning.proofs.PostReturn.{total-append}
+use Rattle.abi_bindgen.specs.Account.{Done, Follows, Got, Outcome, Peer, Stopped, Stops, Stuck, account_in, addresses, releasing}
+use Rattle.abi_bindgen.specs.Blocks.{AreFinished, Finishes, IsOfWord, Pushes, Runs, StopsAlike, brought, names, owned_datum}
+use Rattle.abi_bindgen.specs.CaseBlocks.{AddsBlocks, GivesWords}
+use Rattle.abi_bindgen.specs.Instructions.{AddsCode}
+use Rattle.abi_bindgen.specs.Laws.{Adds, After, At, Does, Facts, Grows, Quiet, Sound, core_data, ofs}
+use Rattle.abi_bindgen.specs.Leaves.{way}
+use Rattle.abi_bindgen.specs.Meaning.{Bound, Ended, Meaning, word}
+use Rattle.abi_bindgen.proofs.BlockSteps.{block_quiet, one_block_more, same_code, same_opened, same_slot}
+use Rattle.abi_bindgen.proofs.Runs.{stops_same}
+
+-- 1. Places of blocks
+
+pub get_front : {A : Type 0} (xs ys : List A) (n : ℕ) (x : A) → slice_get xs n ≡ Some x → slice_get (xs ++ ys) n ≡ Some x
+get_front [] ys n x h = cc
+get_front (y ∷ xs) ys zero x h = h
+get_front (y ∷ xs) ys (suc n) x h = get_front xs ys n x h
+
+pub get_behind : {A : Type 0} (xs ys : List A) (n : ℕ) → slice_get (xs ++ ys) (length xs + n) ≡ slice_get ys n
+get_behind {A} [] ys n = let e : length {A = A} [] + n ≡ n = omega arith in ap (slice_get ys) e
+get_behind (x ∷ xs) ys n = let e : length (x ∷ xs) + n ≡ suc (length xs + n) = omega arith in ap (slice_get (x ∷ xs ++ ys)) e ∙ get_behind xs ys n
+
+pub drop_front : {A : Type 0} (xs ys : List A) (n : ℕ) → n ≡ length xs → drop n (xs ++ ys) ≡ ys
+drop_front [] ys n e = ap (λ k. drop k ys) e
+drop_front (x ∷ xs) ys n e = ap (λ k. drop k (x ∷ xs ++ ys)) e ∙ drop_front xs ys (length xs) refl
+
+pub take_front : {A : Type 0} (xs ys : List A) (n : ℕ) → n ≡ length xs → take n (xs ++ ys) ≡ xs
+take_front [] ys n e = ap (λ k. take k ys) e
+take_front (x ∷ xs) ys n e = ap (λ k. take k (x ∷ xs ++ ys)) e ∙ ap (λ zs. x ∷ zs) (take_front xs ys (length xs) refl)
+
+module _ {Self Operand : Type 0} (m : Meaning Self Operand) where
+  -- 2. Finished blocks
+
+  finished_later : (a b : Self) (ks : List ℕ) (bodies : List m.Block) → ((w : m.World) → m.serves w b → m.serves w a) → AreFinished m a ks bodies → AreFinished m b ks bodies
+  finished_later a b [] bodies sv h = tt
+  finished_later a b (k ∷ ks) [] sv h = absurd h
+  finished_later a b (k ∷ ks) (x ∷ bodies) sv h = (h.0, λ w p with s serves. h.1 w p with s (sv w serves), finished_later a b ks bodies sv h.2)
+
+  finished_both : (b : Self) (ks ls : List ℕ) (xs ys : List m.Block) → length xs ≡ length ks → AreFinished m b ks xs → AreFinished m b ls ys → AreFinished m b (ks ++ ls) (xs ++ ys)
+  finished_both b [] ls [] ys e f g = g
+  finished_both b [] ls (x ∷ xs) ys e f g = absurd (omega (arith, e))
+  finished_both b (k ∷ ks) ls [] ys e f g = absurd f
+  finished_both b (k ∷ ks) ls (x ∷ xs) ys e f g = (f.0, f.1, finished_both b ks ls xs ys (omega (arith, e)) f.2 g)
+
+  -- the last one first
+  pub finished_back : (b : Self) (ks : List ℕ) (xs others : List m.Block) → length xs ≡ length ks → AreFinished m b ks xs → AreFinished m b (reverse ks) (reverse xs ++ others)
+  finished_back b [] xs others e f = tt
+  finished_back b (k ∷ ks) [] others e f = absurd f
+  finished_back b (k ∷ ks) (x ∷ xs) others e f =
+      let later : AreFinished m b (reverse ks ++ k ∷ []) (reverse xs ++ (x ∷ others)) =
+      finished_both b (reverse ks) (k ∷ []) (reverse xs) (x ∷ others) (length-reverse xs ∙ omega (arith, e) ∙ sym (length-reverse ks)) (subst (AreFinished m b (reverse ks)) (append-nil (reverse xs)) (finished_back b ks xs [] (omega (arith, e)) f.2)) (f.0, f.1, tt) in
+      subst (λ js. AreFinished m b js (reverse (x ∷ xs) ++ others)) (sym (reverse-append (k ∷ []) ks))
+      (subst (AreFinished m b (reverse ks ++ k ∷ [])) (sym (append_assoc (reverse xs) (x ∷ []) others) ∙ ap (λ bs. bs ++ others) (sym (reverse-append (x ∷ []) xs))) later)
+
+  -- what grows behind code that is the same
+  pub grows_alike : (a b c : Self) → m.code b ≡ m.code a → Grows m a b → Grows m b c → Grows m a c
+  grows_alike a b c same g h = record {
+    serves = λ w s. g.serves w (h.serves w s);
+    more = λ w s. let x = g.more w s in h.more x.0 x.1;
+    stops = λ w f s v. subst (λ code. Stops m.account (m.does w f code s) (m.does w f (m.code c) s)) same (h.stops w f s v);
+    imports = h.imports ∙ g.imports;
+    exports = h.exports ∙ g.exports;
+    arguments = h.arguments ∙ g.arguments;
+    knows = λ types k. h.knows types (g.knows types k);
+    target = λ fn. h.target fn ∙ g.target fn;
+    crosses = λ w fn. h.crosses w fn ∙ g.crosses w fn;
+    opened = h.opened ∙ g.opened;
+    known = λ w facts s k. h.known w facts s (g.known w facts s k);
+  }
+
+  pub grows_none : (a : Self) → Grows m a a
+  grows_none a = record { serves = λ w h. h; more = λ w h. (w, h); stops = λ w f s h. stops_same m.account (m.does w f (m.code a) s); imports = refl; exports = refl; arguments = refl; knows = λ types h. h; target = λ f. refl; crosses = λ w f. refl; opened = refl; known = λ w facts s h. h }
+
+  pub no_blocks : (a : Self) → AddsBlocks m [] [] a a
+  no_blocks a = record {
+    grows = grows_none a;
+    code = refl;
+    asked = refl;
+    blocks = refl;
+    many = refl;
+    finished = tt;
+  }
+
+  pub blocks_both : (xs ys : List m.Block) (ks ls : List ℕ) (a b c : Self) → AddsBlocks m xs ks a b → AddsBlocks m ys ls b c → AddsBlocks m (xs ++ ys) (ks ++ ls) a c
+  blocks_both xs ys ks ls a b c g h = record {
+    grows = grows_alike a b c g.code g.grows h.grows;
+    code = h.code ∙ g.code;
+    asked = h.asked ∙ g.asked;
+    blocks = h.blocks ∙ ap (λ bs. reverse ys ++ bs) g.blocks ∙ sym (append_assoc (reverse ys) (reverse xs) (m.blocks a)) ∙ ap (λ bs. bs ++ m.blocks a) (sym (reverse-append xs ys));
+    many = length-append xs ys ∙ omega (arith, g.many, h.many, length-append ks ls);
+    finished = finished_both c ks ls xs ys g.many (finished_later b c ks xs h.grows.serves g.finished) h.finished;
+  }
+
+  pub code_grows : (ks : List ℕ) (a b : Self) → AddsCode m false ks a b → Grows m a b × Quiet m a b
+  code_grows [] a b h = (h.grows, h.quiet)
+  code_grows (k ∷ ks) a b h = h
+
+  -- the blocks, and then code that uses them up
+  pub blocks_used : (xs : List m.Block) (ks : List ℕ) (a b c : Self) → AddsBlocks m xs ks a b → Grows m b c → Quiet m b c → m.asked c ≡ m.asked b → m.blocks c ≡ drop (length ks) (m.blocks b) → Adds m a c
+  blocks_used xs ks a b c g grows quiet asked blocks = record {
+    grows = grows_alike a b c g.code g.grows grows;
+    quiet = λ w f s v. quiet w f s v ∙ ap (λ code. (account_in m.account (m.does w f code s)).calls) g.code;
+    asked = asked ∙ g.asked;
+    blocks = blocks ∙ ap (drop (length ks)) g.blocks ∙ drop_front (reverse xs) (m.blocks a) (length ks) (sym (length-reverse xs ∙ g.many));
+  }
+
+  pub words_own : (ws : List Word) → flat_map (owned_datum m) (core_data m ws) ≡ []
+  words_own [] = refl
+  words_own (x ∷ ws) = words_own ws
+
+  pub words_facts : (os : List Operand) (ws : List Word) → AllByRecursion IsOfWord (ofs m os (core_data m ws))
+  words_facts [] ws = tt
+  words_facts (o ∷ os) [] = tt
+  words_facts (o ∷ os) (x ∷ ws) = (tt, words_facts os ws)
+
+  -- what is given away or lent owns its blocks
+  pub way_owned : Sound m → (realloc : Bool) (heap : List Block) (t : Shape) (v : Value t) (x : m.Item) (own : List Block) → m.stands (way realloc heap) t v x own → SameItems (m.owned x) (addresses own)
+  way_owned sound true heap t v x own st = sound.owned t v x own (sound.taken t v x own st)
+  way_owned sound false heap t v x own st = λ g. ap (total g) (sound.lent t v x heap own st) ∙ sym (ap (λ (bs : List Block). total g (addresses bs)) (sound.bare t v x heap own st))
+
+-- 3. One block
+
+module _ {Self Operand : Type 0} (m : Meaning Self Operand) (sound : Sound m) (a b c d : Self) (os : List Operand) (open_block : Pushes m a b) (adds : Adds m b c) (close_block : Finishes m os c d) where
+  pub one_block : AddsBlocks m (close_block.block ∷ []) (length os ∷ []) a d
+  one_block = record {
+    grows = record {
+      serves = λ w s. open_block.lasts.serves w (adds.grows.serves w (close_block.lasts.serves w s));
+      more = λ w s. let x = open_block.lasts.more w s in let y = adds.grows.more x.0 x.1 in close_block.lasts.more y.0 y.1;
+      stops = λ w f s v. subst (λ code. Stops m.account (m.does w f (m.code a) s) (m.does w f code s)) (sym (same_code m sound a b c d os open_block adds close_block)) (stops_same m.account (m.does w f (m.code a) s));
+      imports = close_block.lasts.imports ∙ adds.grows.imports ∙ open_block.lasts.imports;
+      exports = close_block.lasts.exports ∙ adds.grows.exports ∙ open_block.lasts.exports;
+      arguments = close_block.lasts.arguments ∙ adds.grows.arguments ∙ open_block.lasts.arguments;
+      knows = λ types k. close_block.lasts.knows types (adds.grows.knows types (open_block.lasts.knows types k));
+      target = λ fn. close_block.lasts.target fn ∙ adds.grows.target fn ∙ open_block.lasts.target fn;
+      crosses = λ w fn. close_block.lasts.crosses w fn ∙ adds.grows.crosses w fn ∙ open_block.lasts.crosses w fn;
+      opened = same_opened m sound a b c d os open_block adds close_block;
+      known = λ w facts s k. close_block.lasts.known w facts s (adds.grows.known w facts s (open_block.lasts.known w facts s k));
+    };
+    code = same_code m sound a b c d os open_block adds close_block;
+    asked = close_block.lasts.asked ∙ adds.asked ∙ open_block.lasts.asked;
+    blocks = one_block_more m sound a b c d os open_block adds close_block;
+    many = refl;
+    finished = (close_block.results, block_quiet m sound a b c d os open_block adds close_block, tt);
+  }
+
+  pub block_runs : Runs m close_block.block open_block.slot os c d
+  block_runs = subst (λ slot. Runs m close_block.block slot os c d) (same_slot m sound a b c d os open_block adds close_block) close_block.runs
+
+  -- in a state that was entered nothing is done yet
+  pub begun : (w : m.World) (p : Peer m.Item) (s : m.State) → m.does w p (m.code b) s ≡ Done s
+  begun w p s = ap (λ code. m.does w p code s) open_block.code ∙ sound.nothing w p s
+
+  -- its code passes a payload on as words; so does the block
+  module _ (with : Bound m.Item) (own : List Block) (ws : List Word) (len : length ws ≡ length os) (owned : SameItems (brought m with) (addresses own))
+      (does : Does m (Unit {0}) b c (names m open_block.slot with) (λ f. releasing (addresses own)) (λ u fs. fs ≡ ofs m os (core_data m ws)) (λ u. []) (λ u. addresses own)) where
+    module _ (w : m.World) (p : Peer m.Item) (later : Self) (before s : m.State) (sv : m.serves w d) (hb : m.denotes w a [] before) (hs : m.denotes w later [] s) where
+      abbrev Inner : Got m.Item (Unit {0}) → m.State → Type 0
+      Inner x t = (outs : Facts m) × (outs ≡ ofs m os (core_data m ws)) × After m w c (outs ++ []) [] (addresses own) (m.enter open_block.slot with s) x t
+
+      abbrev Outer : Got m.Item (Unit {0}) → Ended m.Item m.State → Type 0
+      Outer x e = (e.results ≡ core_data m ws) × (m.account e.state ≡ x.account) × SameItems (m.owns e.state) (m.owns s) × ((b : Self) (facts : Facts m) → m.denotes w b facts s → m.denotes w b facts e.state)
+
+      inner : Follows m.account (releasing (addresses own) (m.account s)) (m.does w p (m.code c) (m.enter open_block.slot with s)) Inner
+      inner =
+          let u0 = m.enter open_block.slot with s in
+          let at : At m w p b c (names m open_block.slot with ++ []) u0 u0 = record { serves = close_block.lasts.serves w sv; done = begun w p u0; holds = open_block.enters w later [] before s with tt hb hs } in
+          subst (λ acc. Follows m.account (releasing (addresses own) acc) (m.does w p (m.code c) u0) Inner) (open_block.account s with) (does w p [] u0 u0 at)
+
+      by_outcome : (o : Outcome m.Item (Got m.Item (Unit {0}))) → Follows m.account o (m.does w p (m.code c) (m.enter open_block.slot with s)) Inner → Follows (λ e. m.account e.state) o (m.runs w p close_block.block with s) Outer
+      by_outcome (Done x) h =
+          let u0 = m.enter open_block.slot with s in
+          let t = h.0 in
+          let after = h.2.2 in
+          let holds : m.denotes w c (ofs m os (core_data m ws)) t = subst (λ fs. m.denotes w c fs t) (append-nil (ofs m os (core_data m ws))) (subst (λ fs. m.denotes w c (fs ++ []) t) h.2.1 after.denotes) in
+          let nothing_owned : SameItems (m.owns t) (flat_map (owned_datum m) (core_data m ws)) =
+          λ g. omega (arith, after.owns g, total-append g (m.owns t) (addresses own), total-append g (m.owns u0) [], open_block.owns s with g, owned g) ∙ sym (ap (total g) (words_own m ws)) in
+          let e = block_runs.ends w p with s t (core_data m ws) sv h.1 (length-map ws (λ x. word x) ∙ len) holds nothing_owned in
+          (record { results = core_data m ws; state = e.state }, e.runs, (refl, e.account ∙ after.account, e.owns, e.denotes))
+      by_outcome (Stopped e acc) h = subst (λ o. StopsAlike m o (m.runs w p close_block.block with s)) h (block_runs.stops w p with s sv)
+      by_outcome (Stuck acc) h = block_runs.calls w p with s sv ∙ h
+
+      pub block_passes : GivesWords m w p close_block.block with own ws s
+      block_passes = by_outcome (releasing (addresses own) (m.account s)) inner

@@ -1,0 +1,418 @@
+use Rattle.std.proofs.Common.{rules, ◌≡◌, ℤ, pos, ◌<◌, ◌≤◌, ◌^◌, ◌-◌, true, List, [], ◌∷◌, take, drop, Option, None, Some, option_map, ◌++◌, length, map, get_or, refl, sym, ap, ◌∙◌, subst, arith}
+use Rattle.std.specs.List.{list_all}
+use Rattle.std.proofs.lemmas.Bool.{lt-ltb}
+use Rattle.std.proofs.lemmas.List.{drop_more, length-drop, length-map, length-take-le, take_all}
+use Rattle.std.proofs.lemmas.Option.{slice_get_within}
+use Rattle.wit_model.specs.TypeOrder.{payload_below, type_below}
+use Rattle.wit_model.specs.declared.types.Field.{Field}
+use Rattle.wit_model.specs.declared.types.TypeDefKind.TheVariants as kind
+use Rattle.wit_model.specs.declared.types.WitType.{WitType}
+use Rattle.wit_model.specs.declared.types.WitType.TheVariants as wit
+use Rattle.wit_layout.proofs.FlattenSteps.{payload_rank, rank}
+use Rattle.wit_model.specs.declared.wasm_type.WasmType.{WasmType}
+use Rattle.wrapper_meaning.specs.Shape.{payload_in, payloads_in, shape_at, shape_of, shapes}
+use Rattle.wrapper_meaning.specs.Shape.Shape.{cases}
+use Rattle.wrapper_meaning.specs.Shape.Shapes.{none, more}
+use Rattle.abi_bindgen.specs.CaseBlocks.{LowersCases}
+use Rattle.abi_bindgen.specs.Cases.{payloads_of}
+use Rattle.abi_bindgen.specs.declared.instruction.Instruction.{Instruction}
+use Rattle.abi_bindgen.specs.declared.instruction.Instruction.TheVariants.{EnumLower, FlagsLower, I32Const, StringLower, TupleLower, VariantPayloadName}
+use Rattle.abi_bindgen.specs.Code.{case_words, cast_code, each, lower_case, lower_code, payload_words, shared_slots, zero_code}
+use Rattle.abi_bindgen.specs.Blocks.{Finishes}
+use Rattle.abi_bindgen.specs.Instructions.{Emits, IsSendable, case_lowering, shapes_of}
+use Rattle.abi_bindgen.specs.Sends.{Sends}
+use Rattle.abi_bindgen.specs.Sent.{closes, sends}
+use Rattle.abi_bindgen.specs.SlotCasts.{AddsZeros, AreOrdered, CastsAll, FitIn, ReadBack}
+use Rattle.abi_bindgen.proofs.BlockRuns.{grows_alike, grows_none}
+use Rattle.abi_bindgen.proofs.CaseLowers.{full_lowers}
+use Rattle.abi_bindgen.proofs.Payloads.{count_told, payload_count, payload_in_table, payload_ranked, payload_told, slots_told, variant_below, variant_shape, payload_some}
+use Rattle.abi_bindgen.proofs.Variants.{cases_done, cases_next, variant_lowers, variant_sendable}
+use Rattle.abi_bindgen.proofs.WordBits.{fit_length, number_signed, payload_fits, to_slots}
+use Rattle.abi_bindgen.proofs.EnumLowers.{enum_lowers}
+use Rattle.abi_bindgen.proofs.FlagLowers.{flags_lowers}
+use Rattle.abi_bindgen.proofs.FlatCode.{lower_alias_code, lower_enum_code, lower_flags_code, lower_record_code, lower_scalar_code, lower_text_code, lower_tuple_code, lower_variant_code}
+use Rattle.abi_bindgen.proofs.LowerSteps.{lowers_all_as, lowers_as, record_lowers, rest_last, rest_next, scalar_lowers, text_lowers, tuple_lowers}
+use Rattle.abi_bindgen.proofs.Records.{alias_below, alias_rank, alias_shape, count-shapes, drop-same, entry_at, enum_shape, flags_shape, kind_at, part_below_table, part_ranked, record_below, record_shape, tuple_below, tuple_shape}
+use Rattle.abi_bindgen.proofs.Runs.{adds_both, side_later}
+use Rattle.abi_bindgen.proofs.SendSteps.{sends_as, sends_both, sends_last, sends_next, sends_one, sends_then}
+use Rattle.abi_bindgen.proofs.lower.+lower.Goals as goal
+
+pub lower_id-lower_type-requires : goal.lower_id-lower_type-requires
+lower_id-lower_type-requires g t c κs within =
+    let types = c.args.resolve.now.types in
+    let d = c.index-types-at.result in
+    let at = entry_at types c.as_slice-types.result.now c.args.id.0 d c.as_slice-types.ensures c.requires.within c.index-types-at.is in
+    let is = kind_at c.as_slice-types.result.now c.args.id.0 d (kind.Alias c.in-Alias.ty) c.index-types-at.is c.in-Alias.is in
+    let low : rank c.in-Alias.ty ≤ c.args.id.0 = alias_rank types c.requires.down c.args.id.0 d at c.in-Alias.ty is in
+    let below = alias_below types c.requires.down c.args.id.0 d at c.in-Alias.ty is c.requires.within in
+    search rules
+
+pub lower_id-lower_by-requires : goal.lower_id-lower_by-requires
+lower_id-lower_by-requires g t c =
+    let types = c.args.resolve.now.types in
+    let d = c.index-types-at.result in
+    let at = entry_at types c.as_slice-types.result.now c.args.id.0 d c.as_slice-types.ensures c.requires.within c.index-types-at.is in
+    let is = kind_at c.as_slice-types.result.now c.args.id.0 d (kind.Record c.in-Record.members) c.index-types-at.is c.in-Record.is in
+    record { operands = refl; suits = (c.in-Record.members, record { entry = d; at = at; kind = is }) }
+
+pub lower_id-lower_parts-requires : goal.lower_id-lower_parts-requires
+lower_id-lower_parts-requires g t c κs within =
+    let m = g.B.Bindgen.meaning in
+    let types = c.args.resolve.now.types in
+    let d = c.index-types-at.result in
+    let at = entry_at types c.as_slice-types.result.now c.args.id.0 d c.as_slice-types.ensures c.requires.within c.index-types-at.is in
+    let is = kind_at c.as_slice-types.result.now c.args.id.0 d (kind.Record c.in-Record.members) c.index-types-at.is c.in-Record.is in
+    let members = c.in-Record.members in
+    let read = c.as_slice-tys.result.now in
+    let same : read ≡ map (λ (f : Field). f.ty) members = c.as_slice-tys.ensures ∙ c.in_ok-tys-in-Record.ensures ∙ ap (map (λ (f : Field). f.ty)) c.as_slice.ensures in
+    let below = subst (λ (xs : List WitType). list_all (λ ty. type_below c.args.id.0 ty) xs ≡ true) (sym same) (record_below types c.requires.down c.args.id.0 d at members is) in
+    let made = c.in_ok-parts-in-Record.ensures.results members (record { entry = d; at = at; kind = is }) in
+    let enough : length c.in_ok-parts-in-Record.parts ≡ length read = made ∙ sym (ap length same ∙ length-map members (λ (f : Field). f.ty)) in
+    let side = side_later m _ _ c.args.realloc c.in_ok-parts-in-Record.ensures.adds.grows c.requires.side in
+    search rules
+
+pub lower_id-lower_parts-requires-in-Tuple : goal.lower_id-lower_parts-requires-in-Tuple
+lower_id-lower_parts-requires-in-Tuple g t c κs within =
+    let m = g.B.Bindgen.meaning in
+    let types = c.args.resolve.now.types in
+    let d = c.index-types-at.result in
+    let at = entry_at types c.as_slice-types.result.now c.args.id.0 d c.as_slice-types.ensures c.requires.within c.index-types-at.is in
+    let is = kind_at c.as_slice-types.result.now c.args.id.0 d (kind.Tuple c.in-Tuple.members) c.index-types-at.is c.in-Tuple.is in
+    let read = c.as_slice-tys-in-Tuple.result.now in
+    let below = subst (λ (xs : List WitType). list_all (λ ty. type_below c.args.id.0 ty) xs ≡ true) (sym c.as_slice-tys-in-Tuple.ensures) (tuple_below types c.requires.down c.args.id.0 d at c.in-Tuple.members is) in
+    let enough : length c.in_ok-parts-in-Tuple.parts ≡ length read = c.in_ok-parts-in-Tuple.ensures.results ∙ c.in_ok-part_count-in-Tuple.ensures in
+    let side = side_later m _ _ c.args.realloc c.in_ok-parts-in-Tuple.ensures.adds.grows c.requires.side in
+    search rules
+
+pub lower_id-returns-in_ok-words-in-Alias : goal.lower_id-returns-in_ok-words-in-Alias
+lower_id-returns-in_ok-words-in-Alias g t c =
+    let m = g.B.Bindgen.meaning in
+    let types = c.args.resolve.now.types in
+    let d = c.index-types-at.result in
+    let at = entry_at types c.as_slice-types.result.now c.args.id.0 d c.as_slice-types.ensures c.requires.within c.index-types-at.is in
+    let is = kind_at c.as_slice-types.result.now c.args.id.0 d (kind.Alias c.in-Alias.ty) c.index-types-at.is c.in-Alias.is in
+    record {
+      lowers = lowers_as m g.met.B.Bindgen.sound types c.args.realloc _ _ _ _ c.args.value c.in_ok-words-in-Alias.words (alias_shape types c.requires.down c.args.id.0 d at c.in-Alias.ty is) c.in_ok-words-in-Alias.ensures.lowers;
+      sends = sends_as m types _ _ _ _ (lower_alias_code types c.requires.down c.args.id d at c.args.realloc c.in-Alias.ty is) c.in_ok-words-in-Alias.ensures.sends;
+    }
+
+pub lower_id-returns-in_ok-words-in-Record : goal.lower_id-returns-in_ok-words-in-Record
+lower_id-returns-in_ok-words-in-Record g t c =
+    let m = g.B.Bindgen.meaning in
+    let types = c.args.resolve.now.types in
+    let d = c.index-types-at.result in
+    let at = entry_at types c.as_slice-types.result.now c.args.id.0 d c.as_slice-types.ensures c.requires.within c.index-types-at.is in
+    let is = kind_at c.as_slice-types.result.now c.args.id.0 d (kind.Record c.in-Record.members) c.index-types-at.is c.in-Record.is in
+    let members = c.in-Record.members in
+    let same : c.as_slice-tys.result.now ≡ map (λ (f : Field). f.ty) members = c.as_slice-tys.ensures ∙ c.in_ok-tys-in-Record.ensures ∙ ap (map (λ (f : Field). f.ty)) c.as_slice.ensures in
+    let later = lowers_all_as m g.met.B.Bindgen.sound types c.args.realloc _ _ _ _ c.in_ok-parts-in-Record.parts c.in_ok-words-in-Record.words same c.in_ok-words-in-Record.ensures.lowers in
+    let whole = record_lowers m g.met.B.Bindgen.sound types c.args.realloc c.args.id members _ _ _ c.args.value c.in_ok-parts-in-Record.parts c.in_ok-words-in-Record.words (record { entry = d; at = at; kind = is }) c.in_ok-parts-in-Record.ensures later in
+    let parts = sends_as m types _ _ _ _ (ap (each (λ n ty. lower_code types c.args.realloc ty) 0) (sym same)) c.in_ok-words-in-Record.ensures.sends in
+    record {
+      lowers = lowers_as m g.met.B.Bindgen.sound types c.args.realloc _ _ _ _ c.args.value c.in_ok-words-in-Record.words (record_shape types c.requires.down c.args.id.0 d at members is) whole;
+      sends = sends_as m types _ _ _ _ (lower_record_code types c.requires.down c.args.id d at c.args.realloc members is) (sends_then m types _ _ _ _ _ _ _ c.in_ok-parts-in-Record.ensures parts);
+    }
+
+pub lower_id-returns-in_ok-words-in-Tuple : goal.lower_id-returns-in_ok-words-in-Tuple
+lower_id-returns-in_ok-words-in-Tuple g t c =
+    let m = g.B.Bindgen.meaning in
+    let types = c.args.resolve.now.types in
+    let d = c.index-types-at.result in
+    let at = entry_at types c.as_slice-types.result.now c.args.id.0 d c.as_slice-types.ensures c.requires.within c.index-types-at.is in
+    let is = kind_at c.as_slice-types.result.now c.args.id.0 d (kind.Tuple c.in-Tuple.members) c.index-types-at.is c.in-Tuple.is in
+    let tys = c.in-Tuple.members in
+    let later = lowers_all_as m g.met.B.Bindgen.sound types c.args.realloc _ _ _ _ c.in_ok-parts-in-Tuple.parts c.in_ok-words-in-Tuple.words c.as_slice-tys-in-Tuple.ensures c.in_ok-words-in-Tuple.ensures.lowers in
+    let count = count-shapes types tys ∙ sym (c.in_ok-part_count-in-Tuple.ensures ∙ ap length c.as_slice-tys-in-Tuple.ensures) in
+    let whole = tuple_lowers m g.met.B.Bindgen.sound types c.args.realloc c.in_ok-part_count-in-Tuple.field-0 (shapes_of types tys) _ _ _ c.args.value c.in_ok-parts-in-Tuple.parts c.in_ok-words-in-Tuple.words count c.in_ok-parts-in-Tuple.ensures later in
+    let many : length tys ≡ c.in_ok-part_count-in-Tuple.field-0 = sym (c.in_ok-part_count-in-Tuple.ensures ∙ ap length c.as_slice-tys-in-Tuple.ensures) in
+    let parts = sends_as m types _ _ _ _ (ap (each (λ n ty. lower_code types c.args.realloc ty) 0) (sym c.as_slice-tys-in-Tuple.ensures)) c.in_ok-words-in-Tuple.ensures.sends in
+    let code = lower_tuple_code types c.requires.down c.args.id d at c.args.realloc tys is ∙ ap (λ n. sends (TupleLower n) ∷ each (λ n ty. lower_code types c.args.realloc ty) 0 tys) many in
+    record {
+      lowers = lowers_as m g.met.B.Bindgen.sound types c.args.realloc _ _ _ _ c.args.value c.in_ok-words-in-Tuple.words (tuple_shape types c.requires.down c.args.id.0 d at tys is) whole;
+      sends = sends_as m types _ _ _ _ code (sends_then m types _ _ _ _ _ _ _ c.in_ok-parts-in-Tuple.ensures parts);
+    }
+
+pub lower_id-returns-in_ok-words-in-Enum : goal.lower_id-returns-in_ok-words-in-Enum
+lower_id-returns-in_ok-words-in-Enum g t c =
+    let m = g.B.Bindgen.meaning in
+    let types = c.args.resolve.now.types in
+    let d = c.index-types-at.result in
+    let at = entry_at types c.as_slice-types.result.now c.args.id.0 d c.as_slice-types.ensures c.requires.within c.index-types-at.is in
+    let members = c.in-Enum.members in
+    let most : length members ≤ 2 ^ 31 = omega (arith, c.if-len-gt-MOST_CASES.false, c.len.ensures) in
+    let is = kind_at c.as_slice-types.result.now c.args.id.0 d (kind.Enum members) c.index-types-at.is c.in-Enum.is in
+    let e = c.in_ok-words-in-Enum.ensures in
+    let flat = enum_lowers m types c.args.realloc c.args.id members _ _ c.args.value c.in_ok-words-in-Enum.words most (record { entry = d; stands = at; kind = is }) e in
+    record {
+      lowers = lowers_as m g.met.B.Bindgen.sound types c.args.realloc _ _ _ _ c.args.value c.in_ok-words-in-Enum.words (enum_shape types c.requires.down c.args.id.0 d at members is) flat;
+      sends = sends_as m types _ _ _ _ (lower_enum_code types c.requires.down c.args.id d at c.args.realloc members is) (sends_one m types (EnumLower c.args.id) _ _ _ _ e);
+    }
+
+pub lower_id-lower_by-requires-in-Flags : goal.lower_id-lower_by-requires-in-Flags
+lower_id-lower_by-requires-in-Flags g t c =
+    let types = c.args.resolve.now.types in
+    let d = c.index-types-at.result in
+    let at = entry_at types c.as_slice-types.result.now c.args.id.0 d c.as_slice-types.ensures c.requires.within c.index-types-at.is in
+    let members = c.in-Flags.field-0 in
+    let is = kind_at c.as_slice-types.result.now c.args.id.0 d (kind.Flags members) c.index-types-at.is c.in-Flags.is in
+    record { operands = refl; suits = (length members, (members, record { entry = d; stands = at; kind = is }, refl)) }
+
+pub lower_id-returns-in_ok-words-in-Flags : goal.lower_id-returns-in_ok-words-in-Flags
+lower_id-returns-in_ok-words-in-Flags g t c =
+    let m = g.B.Bindgen.meaning in
+    let types = c.args.resolve.now.types in
+    let d = c.index-types-at.result in
+    let at = entry_at types c.as_slice-types.result.now c.args.id.0 d c.as_slice-types.ensures c.requires.within c.index-types-at.is in
+    let members = c.in-Flags.field-0 in
+    let is = kind_at c.as_slice-types.result.now c.args.id.0 d (kind.Flags members) c.index-types-at.is c.in-Flags.is in
+    let e = c.in_ok-words-in-Flags.ensures in
+    let flat = flags_lowers m types c.args.realloc c.args.id (length members) _ _ c.args.value c.in_ok-words-in-Flags.words (members, record { entry = d; stands = at; kind = is }, refl) e in
+    record {
+      lowers = lowers_as m g.met.B.Bindgen.sound types c.args.realloc _ _ _ _ c.args.value c.in_ok-words-in-Flags.words (flags_shape types c.requires.down c.args.id.0 d at members is) flat;
+      sends = sends_as m types _ _ _ _ (lower_flags_code types c.requires.down c.args.id d at c.args.realloc members is) (sends_one m types (FlagsLower c.args.id) _ _ _ _ e);
+    }
+
+pub lower_parts-lower_type-requires : goal.lower_parts-lower_type-requires
+lower_parts-lower_type-requires g t c κs within =
+    let m = g.B.Bindgen.meaning in
+    let types = c.args.resolve.now.types in
+    let short : c.loop-i.i < length c.args.tys.now = omega (arith, c.loop-i-test.true) in
+    let low : rank (get_or c.args.tys.now c.loop-i.i wit.Bool) ≤ c.args.at = part_ranked c.args.at c.args.tys.now c.requires.below c.loop-i.i wit.Bool short in
+    let below = part_below_table c.args.at c.args.tys.now c.requires.below c.loop-i.i wit.Bool short (length types) c.requires.within in
+    let side = side_later m _ _ c.args.realloc c.loop-i.invariant.adds.grows c.requires.side in
+    search rules
+
+pub lower_parts-loop-i-preserved : goal.lower_parts-loop-i-preserved
+lower_parts-loop-i-preserved g t c =
+    let m = g.B.Bindgen.meaning in
+    let short : c.loop-i.i < length c.args.tys.now = omega (arith, c.loop-i-test.true) in
+    let enough : c.loop-i.i < length c.args.parts.now = omega (arith, short, c.requires.enough) in
+    record {
+      adds = adds_both m _ _ _ c.loop-i.invariant.adds c.in_ok-words.ensures.lowers.adds;
+      sent = sends_next m c.args.resolve.now.types (λ n ty. lower_code c.args.resolve.now.types c.args.realloc ty) c.args.tys.now c.loop-i.i wit.Bool _ _ _ short c.loop-i.invariant.sent c.in_ok-words.ensures.sends;
+      rest = rest_next m g.met.B.Bindgen.sound c.args.resolve.now.types c.args.realloc c.args.tys.now c.args.parts.now c.loop-i.i c.loop-i.all.items c.in_ok-words.words c.push_copies.new.all.items _ _ _ (get_or c.args.tys.now c.loop-i.i wit.Bool) c.in_ok-part.part
+          (drop_more c.args.tys.now c.loop-i.i wit.Bool short)
+          (drop-same c.args.parts.now c.as_slice.result.now c.loop-i.i c.in_ok-part.part c.index-as_slice-i.result c.as_slice.ensures enough c.index-as_slice-i.is c.in_ok-part.ensures)
+          c.in_ok-words.ensures.lowers (c.in_ok-push_copies.ensures ∙ ap (λ os. c.loop-i.all.items ++ os) c.as_slice-in-loop-i.ensures) c.loop-i.invariant.rest;
+    }
+
+pub lower_parts-returns : goal.lower_parts-returns
+lower_parts-returns g t c =
+    let m = g.B.Bindgen.meaning in
+    let ended : length c.args.tys.now ≤ c.loop-i.i = omega (arith, c.loop-i-test.false) in
+    let done : length c.args.parts.now ≤ c.loop-i.i = omega (arith, ended, c.requires.enough) in
+    record {
+      lowers = rw c.from_vec.ensures (rest_last m g.met.B.Bindgen.sound c.args.resolve.now.types c.args.realloc c.args.tys.now c.args.parts.now c.loop-i.i c.loop-i.all.items _ _ ended done c.loop-i.invariant.rest);
+      sends = sends_last m c.args.resolve.now.types (λ n ty. lower_code c.args.resolve.now.types c.args.realloc ty) c.args.tys.now c.loop-i.i _ _ ended c.loop-i.invariant.sent;
+    }
+
+pub lower_type-returns-in-Some : goal.lower_type-returns-in-Some
+lower_type-returns-in-Some g t c =
+    let m = g.B.Bindgen.meaning in
+    let types = c.args.resolve.now.types in
+    let is = sym c.scalar_lowering.ensures ∙ c.in-Some.is in
+    record {
+      lowers = scalar_lowers m g.met.B.Bindgen.sound types c.args.realloc c.args.ty c.in-Some.inst _ _ c.args.value c.in_ok-words.words is c.in_ok-words.ensures;
+      sends = sends_as m types _ _ _ _ (lower_scalar_code types c.args.realloc c.args.ty c.in-Some.inst is) (sends_one m types c.in-Some.inst _ _ _ _ c.in_ok-words.ensures);
+    }
+
+pub lower_type-returns-in_ok-words-in-String : goal.lower_type-returns-in_ok-words-in-String
+lower_type-returns-in_ok-words-in-String g t c =
+    let m = g.B.Bindgen.meaning in
+    let types = c.args.resolve.now.types in
+    record {
+      lowers = lowers_as m g.met.B.Bindgen.sound types c.args.realloc _ _ _ _ c.args.value c.in_ok-words-in-String.words (ap (shape_of types) c.in-String.is) (text_lowers m g.met.B.Bindgen.sound types c.args.realloc _ _ c.args.value _ c.in_ok-words-in-String.ensures);
+      sends = sends_as m types _ _ _ _ (ap (lower_code types c.args.realloc) c.in-String.is ∙ lower_text_code types c.args.realloc) (sends_one m types (StringLower c.args.realloc) _ _ _ _ c.in_ok-words-in-String.ensures);
+    }
+
+pub lower_cases-flat_types-flat-requires-clause-below : goal.lower_cases-flat_types-flat-requires-clause-below
+unfolding type_below
+lower_cases-flat_types-flat-requires-clause-below g t c = lt-ltb c.args.id.0 (length c.args.resolve.now.types) c.requires.within
+
+pub lower_cases-slice_bounds-slots-count : goal.lower_cases-slice_bounds-slots-count
+lower_cases-slice_bounds-slots-count g t c =
+    let f = c.flat_types-flat.result in
+    let is : f.count ≡ case_words c.args.resolve.now.types c.args.payloads.now = count_told c.args.resolve.now.types c.args.id c.args.payloads.now c.requires.cases f c.flat_types-flat.ensures c.if-flat.false in
+    omega (arith, is)
+
+pub lower_cases-slice_bounds-slots-start : goal.lower_cases-slice_bounds-slots-start
+lower_cases-slice_bounds-slots-start g t c =
+    let f = c.flat_types-flat.result in
+    let is : f.count ≡ case_words c.args.resolve.now.types c.args.payloads.now = count_told c.args.resolve.now.types c.args.id c.args.payloads.now c.requires.cases f c.flat_types-flat.ensures c.if-flat.false in
+    let some : 1 ≤ f.count = omega (arith, is) in
+    some
+
+pub lower_cases-lower_case-requires : goal.lower_cases-lower_case-requires
+lower_cases-lower_case-requires g t c κs within =
+    let m = g.B.Bindgen.meaning in
+    let types = c.args.resolve.now.types in
+    let payloads = c.args.payloads.now in
+    let i = c.loop-i.i in
+    let short : i < length payloads = omega (arith, c.loop-i-test.true) in
+    let low : payload_rank (get_or payloads i None) ≤ c.args.id.0 = payload_ranked c.args.id.0 payloads i None c.requires.below short in
+    let below : payload_below (length types) (get_or payloads i None) ≡ true = payload_in_table c.args.id.0 (length types) payloads i None c.requires.within c.requires.below short in
+    let few : i < 2 ^ 31 = omega (arith, short, c.if-payloads-gt-MOST_CASES.false) in
+    let f = c.flat_types-flat.result in
+    let fits : FitIn (payload_words types (get_or payloads i None)) (take (f.count - 1) (drop 1 f.words)) =
+    subst (FitIn (payload_words types (get_or payloads i None))) (sym (slots_told types c.args.id payloads c.requires.cases f c.flat_types-flat.ensures c.if-flat.false)) (payload_fits types payloads i None short) in
+    let side = side_later m _ _ c.args.realloc c.loop-i.invariant.grows c.requires.side in
+    search rules
+
+pub lower_cases-loop-i-init : goal.lower_cases-loop-i-init
+lower_cases-loop-i-init g t c = record { grows = grows_none g.B.Bindgen.meaning c.args.bindgen.now; code = refl; sent = refl; rest = λ new h. h }
+
+pub lower_cases-loop-i-preserved : goal.lower_cases-loop-i-preserved
+lower_cases-loop-i-preserved g t c =
+    let m = g.B.Bindgen.meaning in
+    let r = c.args.resolve.now in
+    let types = r.types in
+    let payloads = c.args.payloads.now in
+    let i = c.loop-i.i in
+    let f = c.flat_types-flat.result in
+    let short : i < length payloads = omega (arith, c.loop-i-test.true) in
+    let told = slots_told types c.args.id payloads c.requires.cases f c.flat_types-flat.ensures c.if-flat.false in
+    let here = subst (λ (ds : List WasmType). LowersCases m c.args.realloc (more (payload_in (shapes types) (get_or payloads i None)) none) i ds c.loop-i.bindgen c.lower_case.new.bindgen) told c.in_ok-lower_case.ensures.lowers in
+    let sent = subst (λ (ds : List WasmType). Sends m types (lower_case types ds i (get_or payloads i None) (option_map (lower_code types c.args.realloc) (get_or payloads i None))) c.loop-i.bindgen c.lower_case.new.bindgen) told c.in_ok-lower_case.ensures.sends in
+    record {
+      grows = grows_alike m _ _ _ c.loop-i.invariant.code c.loop-i.invariant.grows here.adds.grows;
+      code = here.adds.code ∙ c.loop-i.invariant.code;
+      sent = sends_next m types (λ n payload. lower_case types (shared_slots types payloads) n payload (option_map (lower_code types c.args.realloc) payload)) payloads i None _ _ _ short c.loop-i.invariant.sent sent;
+      rest = cases_next m g.met.B.Bindgen.sound r c.requires.down c.args.id c.args.realloc payloads i None (shared_slots types payloads) _ _ _ short c.loop-i.invariant.rest here;
+    }
+
+pub lower_cases-returns : goal.lower_cases-returns
+lower_cases-returns g t c =
+    let m = g.B.Bindgen.meaning in
+    let r = c.args.resolve.now in
+    let types = r.types in
+    let payloads = c.args.payloads.now in
+    let ended : length payloads ≤ c.loop-i.i = omega (arith, c.loop-i-test.false) in
+    record {
+      words = count_told types c.args.id payloads c.requires.cases c.flat_types-flat.result c.flat_types-flat.ensures c.if-flat.false;
+      few = c.if-payloads-gt-MOST_CASES.false;
+      lowers = cases_done m g.met.B.Bindgen.sound r c.requires.down c.args.id c.args.realloc payloads c.loop-i.i (shared_slots types payloads) _ _ ended c.loop-i.invariant.rest;
+      sends = sends_last m types (λ n payload. lower_case types (shared_slots types payloads) n payload (option_map (lower_code types c.args.realloc) payload)) payloads c.loop-i.i _ _ ended c.loop-i.invariant.sent;
+    }
+
+pub lower_payload-slice_bounds-cast_words-end : goal.lower_payload-slice_bounds-cast_words-end
+lower_payload-slice_bounds-cast_words-end g t c =
+    let f = c.flat_types-flat.result in
+    let is = payload_count c.args.resolve.now.types c.args.ty f c.flat_types-flat.ensures c.if-flat.false in
+    let most = fit_length (payload_words c.args.resolve.now.types (Some c.args.ty)) c.args.slots.now c.requires.fits in
+    sym (length-take-le f.count c.args.slots.now (omega (arith, is, most)))
+
+pub lower_payload-cast_words-requires-clause-ordered : goal.lower_payload-cast_words-requires-clause-ordered
+lower_payload-cast_words-requires-clause-ordered g t c =
+    let types = c.args.resolve.now.types in
+    let f = c.flat_types-flat.result in
+    let words = payload_words types (Some c.args.ty) in
+    let told = payload_told types c.args.ty f c.flat_types-flat.ensures c.if-flat.false in
+    let is = payload_count types c.args.ty f c.flat_types-flat.ensures c.if-flat.false in
+    subst (λ (xs : List WasmType). AreOrdered xs (take f.count c.args.slots.now)) (sym told) (subst (λ n. AreOrdered words (take n c.args.slots.now)) (sym is) (to_slots words c.args.slots.now c.requires.fits))
+
+pub lower_payload-cast_words-requires-clause-enough : goal.lower_payload-cast_words-requires-clause-enough
+lower_payload-cast_words-requires-clause-enough g t c =
+    let told = payload_told c.args.resolve.now.types c.args.ty c.flat_types-flat.result c.flat_types-flat.ensures c.if-flat.false in
+    c.in_ok-lowered.ensures.lowers.fits ∙ sym (ap length told)
+
+pub lower_payload-slice_bounds-zero_words-count : goal.lower_payload-slice_bounds-zero_words-count
+lower_payload-slice_bounds-zero_words-count g t c =
+    let is = payload_count c.args.resolve.now.types c.args.ty c.flat_types-flat.result c.flat_types-flat.ensures c.if-flat.false in
+    let most = fit_length (payload_words c.args.resolve.now.types (Some c.args.ty)) c.args.slots.now c.requires.fits in
+    omega (arith, is, most)
+
+pub lower_payload-slice_bounds-zero_words-start : goal.lower_payload-slice_bounds-zero_words-start
+lower_payload-slice_bounds-zero_words-start g t c =
+    let is = payload_count c.args.resolve.now.types c.args.ty c.flat_types-flat.result c.flat_types-flat.ensures c.if-flat.false in
+    let most = fit_length (payload_words c.args.resolve.now.types (Some c.args.ty)) c.args.slots.now c.requires.fits in
+    let within : c.flat_types-flat.result.count ≤ length c.args.slots.now = omega (arith, is, most) in
+    within
+
+pub lower_payload-returns : goal.lower_payload-returns
+lower_payload-returns g t c =
+    let m = g.B.Bindgen.meaning in
+    let sound = g.met.B.Bindgen.sound in
+    let types = c.args.resolve.now.types in
+    let ty = c.args.ty in
+    let slots = c.args.slots.now in
+    let f = c.flat_types-flat.result in
+    let words = payload_words types (Some ty) in
+    let told = payload_told types ty f c.flat_types-flat.ensures c.if-flat.false in
+    let is = payload_count types ty f c.flat_types-flat.ensures c.if-flat.false in
+    let b = c.push_block.new.self in
+    let named = c.send_one.new.bindgen in
+    let numbered = c.send_one-2.new.bindgen in
+    let opens = c.in_ok-push_block.ensures in
+    let payload = c.in_ok-payload.payload in
+    let tag = c.in_ok-tag.tag in
+    let lowered = c.in_ok-lowered.lowered in
+    let name = subst (λ (os : List g.row.B-Operand.Denot). Emits m types VariantPayloadName os (payload ∷ []) b named) c.new.ensures c.in_ok-payload.ensures in
+    let number = subst (λ (z : ℤ). Emits m types (I32Const z) c.new-2.result (tag ∷ []) named numbered) (number_signed c.args.number c.requires.few) c.in_ok-tag.ensures in
+    let const = subst (λ (os : List g.row.B-Operand.Denot). Emits m types (I32Const (pos c.args.number)) os (tag ∷ []) named numbered) c.new-2.ensures number in
+    let casts = subst (λ n. CastsAll m words (take n slots) lowered c.in_ok-words.words c.lower_type.new.bindgen c.cast_words.new.bindgen) is
+    (subst (λ (xs : List WasmType). CastsAll m xs (take f.count slots) lowered c.in_ok-words.words c.lower_type.new.bindgen c.cast_words.new.bindgen) told c.in_ok-words.ensures.casts) in
+    let back = subst (λ n. ReadBack words (take n slots)) is (subst (λ (xs : List WasmType). ReadBack xs (take f.count slots)) told c.in_ok-words.ensures.back) in
+    let cast_sent = subst (λ n. Sends m types (cast_code words (take n slots)) c.lower_type.new.bindgen c.cast_words.new.bindgen) is
+    (subst (λ (xs : List WasmType). Sends m types (cast_code xs (take f.count slots)) c.lower_type.new.bindgen c.cast_words.new.bindgen) told c.in_ok-words.ensures.sends) in
+    let left : take (length slots - f.count) (drop f.count slots) ≡ drop (length words) slots = take_all (length slots - f.count) (drop f.count slots) (omega (arith, length-drop f.count slots)) ∙ ap (λ n. drop n slots) is in
+    let zeros = subst (λ (ds : List WasmType). AddsZeros m ds c.in_ok-zeros.zeros c.cast_words.new.bindgen c.zero_words.new.bindgen) left c.in_ok-zeros.ensures.zeros in
+    let zero_sent = subst (λ (ds : List WasmType). Sends m types (zero_code ds) c.cast_words.new.bindgen c.zero_words.new.bindgen) left c.in_ok-zeros.ensures.sends in
+    let close = subst (λ (zs : List g.row.B-Operand.Denot). Finishes m (tag ∷ c.in_ok-words.words ++ zs) c.zero_words.new.bindgen c.close_case.new.bindgen) c.as_slice-2.ensures
+    (subst (λ (ws : List g.row.B-Operand.Denot). Finishes m (tag ∷ ws ++ c.as_slice-2.result.now) c.zero_words.new.bindgen c.close_case.new.bindgen) c.as_slice.ensures c.in_ok-close_case.ensures) in
+    let some = payload_some c.args.resolve.now c.requires.well ty c.requires.below in
+    let lower_sent = lower_code types c.args.realloc ty in
+    let cast_steps = cast_code words (take (length words) slots) in
+    let zero_steps = zero_code (drop (length words) slots) in
+    let ended = c.close_case.new.bindgen in
+    let with_casts = sends_both m types lower_sent cast_steps numbered c.lower_type.new.bindgen c.cast_words.new.bindgen c.in_ok-lowered.ensures.sends cast_sent in
+    let with_zeros = sends_both m types (lower_sent ++ cast_steps) zero_steps numbered c.cast_words.new.bindgen c.zero_words.new.bindgen with_casts zero_sent in
+    let inside = sends_both m types ((lower_sent ++ cast_steps) ++ zero_steps) (closes ∷ []) numbered c.zero_words.new.bindgen ended with_zeros (tag ∷ c.in_ok-words.words ++ c.in_ok-zeros.zeros, ended, close, refl) in
+    record {
+      lowers = full_lowers m sound c.args.realloc c.args.number (shape_of types ty) slots types _ b named numbered _ _ _ _ payload tag lowered c.in_ok-words.words c.in_ok-zeros.zeros c.requires.fits some back opens name const c.in_ok-lowered.ensures.lowers casts zeros close;
+      sends = (b, opens, ([], payload ∷ [], named, name, ([], tag ∷ [], numbered, const, inside)));
+    }
+
+pub lower_variant-lower_cases-requires : goal.lower_variant-lower_cases-requires
+lower_variant-lower_cases-requires g t c κs within =
+    let types = c.args.resolve.now.types in
+    let kind = c.args.kind.now in
+    let here = c.requires.here in
+    let is : c.as_slice-payloads.result.now ≡ payloads_of kind = c.as_slice-payloads.ensures ∙ c.in_ok-payloads.ensures in
+    let inside : c.args.id.0 < length types = slice_get_within types c.args.id.0 here.entry here.stands in
+    let shape : shape_at types c.args.id.0 ≡ cases (payloads_in (shapes types) c.as_slice-payloads.result.now) = variant_shape types c.requires.down c.args.id.0 kind here c.requires.cases ∙ ap (λ (ps : List (Option WitType)). cases (payloads_in (shapes types) ps)) (sym is) in
+    let below : list_all (λ payload. payload_below c.args.id.0 payload) c.as_slice-payloads.result.now ≡ true =
+    subst (λ (ps : List (Option WitType)). list_all (λ payload. payload_below c.args.id.0 payload) ps ≡ true) (sym is) (variant_below types c.requires.down c.args.id.0 kind here c.requires.cases) in
+    search rules
+
+pub lower_variant-lower_by-requires : goal.lower_variant-lower_by-requires
+lower_variant-lower_by-requires g t c =
+    let m = g.B.Bindgen.meaning in
+    let r = c.args.resolve.now in
+    let kind = c.args.kind.now in
+    let n = c.in_ok-count.count in
+    let is : c.as_slice-payloads.result.now ≡ payloads_of kind = c.as_slice-payloads.ensures ∙ c.in_ok-payloads.ensures in
+    let many : n ≡ case_words r.types (payloads_of kind) = c.in_ok-count.ensures.words ∙ ap (case_words r.types) is in
+    let blocks = subst (λ (ps : List (Option WitType)). LowersCases m c.args.realloc (payloads_in (shapes r.types) ps) 0 (shared_slots r.types ps) c.args.bindgen.now c.lower_cases.new.bindgen) is c.in_ok-count.ensures.lowers in
+    subst (λ (i : Instruction). IsSendable m r i (c.args.value ∷ []) c.lower_cases.new.bindgen) (sym c.case_lowering-inst.ensures)
+    (variant_sendable m g.met.B.Bindgen.sound r c.requires.down c.args.id c.args.realloc _ _ kind n c.args.value c.requires.here c.requires.cases many blocks)
+
+pub lower_variant-returns : goal.lower_variant-returns
+lower_variant-returns g t c =
+    let m = g.B.Bindgen.meaning in
+    let r = c.args.resolve.now in
+    let types = r.types in
+    let kind = c.args.kind.now in
+    let here = c.requires.here in
+    let n = c.in_ok-count.count in
+    let realloc = c.args.realloc in
+    let is : c.as_slice-payloads.result.now ≡ payloads_of kind = c.as_slice-payloads.ensures ∙ c.in_ok-payloads.ensures in
+    let many : n ≡ case_words types (payloads_of kind) = c.in_ok-count.ensures.words ∙ ap (case_words types) is in
+    let most : length (payloads_of kind) ≤ 2 ^ 31 = omega (arith, c.in_ok-count.ensures.few, ap length is) in
+    let blocks = subst (λ (ps : List (Option WitType)). LowersCases m realloc (payloads_in (shapes types) ps) 0 (shared_slots types ps) c.args.bindgen.now c.lower_cases.new.bindgen) is c.in_ok-count.ensures.lowers in
+    let sent = subst (λ (ps : List (Option WitType)). Sends m types (each (λ n payload. lower_case types (shared_slots types ps) n payload (option_map (lower_code types realloc) payload)) 0 ps) c.args.bindgen.now c.lower_cases.new.bindgen) is c.in_ok-count.ensures.sends in
+    let e = subst (λ (i : Instruction). Emits m types i (c.args.value ∷ []) c.in_ok-words.words c.lower_cases.new.bindgen c.lower_by.new.bindgen) c.case_lowering-inst.ensures c.in_ok-words.ensures in
+    let told = subst (λ k. Emits m types (case_lowering kind c.args.id k) (c.args.value ∷ []) c.in_ok-words.words c.lower_cases.new.bindgen c.lower_by.new.bindgen) many e in
+    record {
+      lowers = variant_lowers m g.met.B.Bindgen.sound r c.requires.down c.args.id realloc _ _ kind n _ c.args.value c.in_ok-words.words here c.requires.cases many most blocks e;
+      sends = sends_as m types _ _ _ _ (lower_variant_code types c.requires.down c.args.id here.entry here.stands realloc kind here.kind c.requires.cases) (sends_both m types _ _ _ _ _ sent (sends_one m types (case_lowering kind c.args.id (case_words types (payloads_of kind))) _ _ _ _ told));
+    }

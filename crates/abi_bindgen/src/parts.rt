@@ -1,0 +1,44 @@
+//! The types of the parts of a type.
+
+ghost use Rattle.std.specs.Prelude.{◌≡◌, length, map, IfOk};
+
+use std::alloc::Global;
+use wit_model::{Field, List, OutOfMemory, Param, WitType};
+
+/// The types of some fields.
+pub fn field_types(alloc: Global, members: &[Field]) -> Result<List<WitType>, OutOfMemory>
+    ensures { IfOk result (λ tys. tys ≡ map (λ f. f.ty) members.now) }
+{
+    let mut tys = List::new(alloc);
+    for member in members {
+        tys.push(member.ty)?;
+    }
+    Ok(tys)
+}
+
+/// The types of some parameters.
+pub fn param_types(alloc: Global, params: &[Param]) -> Result<List<WitType>, OutOfMemory>
+    ensures { IfOk result (λ tys. tys ≡ map (λ p. p.ty) params.now) }
+{
+    let mut tys = List::new(alloc);
+    for param in params {
+        tys.push(param.ty)?;
+    }
+    Ok(tys)
+}
+
+/// How many there are.
+pub fn part_count(tys: &[WitType]) -> Result<u32, OutOfMemory>
+    ensures { IfOk result (λ n. n ≡ length tys.now) }
+{
+    let n = numbered(tys.len())?;
+    Ok(n)
+}
+
+/// A number as a `u32`.
+pub fn numbered(n: usize) -> Result<u32, OutOfMemory>
+    ensures { IfOk result (λ k. k ≡ n) }
+{
+    let k = u32::try_from(n).map_err(|_| OutOfMemory)?;
+    Ok(k)
+}
