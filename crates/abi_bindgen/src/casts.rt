@@ -52,7 +52,8 @@ fn change_nothing(casts: &[Bitcast]) -> bool
     true
 }
 
-/// Words of some types become words of others, by one instruction where one of the casts changes anything.
+/// Words of some types become words of others, by one instruction where one of the casts changes anything. The answer is `OutOfMemory`
+/// as of `send`, and where there is no memory for the casts.
 pub fn cast_words<B: Bindgen>(
     alloc: Global,
     resolve: &Resolve,

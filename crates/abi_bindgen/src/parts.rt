@@ -5,7 +5,7 @@ ghost use Rattle.std.specs.Prelude.{◌≡◌, length, map, IfOk};
 use std::alloc::Global;
 use wit_model::{Field, List, OutOfMemory, Param, WitType};
 
-/// The types of some fields.
+/// The types of some fields, or `OutOfMemory` where there is no memory for them.
 pub fn field_types(alloc: Global, members: &[Field]) -> Result<List<WitType>, OutOfMemory>
     ensures { IfOk result (λ tys. tys ≡ map (λ f. f.ty) members.now) }
 {
@@ -16,7 +16,7 @@ pub fn field_types(alloc: Global, members: &[Field]) -> Result<List<WitType>, Ou
     Ok(tys)
 }
 
-/// The types of some parameters.
+/// The types of some parameters, or `OutOfMemory` where there is no memory for them.
 pub fn param_types(alloc: Global, params: &[Param]) -> Result<List<WitType>, OutOfMemory>
     ensures { IfOk result (λ tys. tys ≡ map (λ p. p.ty) params.now) }
 {
@@ -27,7 +27,7 @@ pub fn param_types(alloc: Global, params: &[Param]) -> Result<List<WitType>, Out
     Ok(tys)
 }
 
-/// How many there are.
+/// How many there are. Of 2^32 or more the answer is `OutOfMemory`.
 pub fn part_count(tys: &[WitType]) -> Result<u32, OutOfMemory>
     ensures { IfOk result (λ n. n ≡ length tys.now) }
 {
@@ -35,7 +35,7 @@ pub fn part_count(tys: &[WitType]) -> Result<u32, OutOfMemory>
     Ok(n)
 }
 
-/// A number as a `u32`.
+/// A number as a `u32`. Of 2^32 or more the answer is `OutOfMemory`.
 pub fn numbered(n: usize) -> Result<u32, OutOfMemory>
     ensures { IfOk result (λ k. k ≡ n) }
 {

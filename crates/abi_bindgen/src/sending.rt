@@ -9,7 +9,7 @@ use crate::instruction::Instruction;
 use std::alloc::Global;
 use wit_model::{List, OutOfMemory, Resolve};
 
-/// Sends an instruction with its operands, and gives its results.
+/// Sends an instruction with its operands, and gives its results. The answer is `OutOfMemory` where the bindgen gives it.
 pub fn send<B: Bindgen>(
     alloc: Global,
     resolve: &Resolve,
@@ -26,7 +26,7 @@ pub fn send<B: Bindgen>(
     Ok(results)
 }
 
-/// A list of one operand.
+/// A list of one operand, or `OutOfMemory` where there is no memory for it.
 pub fn only<O: Operand>(alloc: Global, operand: O) -> Result<List<O>, OutOfMemory>
     ensures { IfOk result (λ l. l ≡ operand ∷ []) }
 {
@@ -35,7 +35,8 @@ pub fn only<O: Operand>(alloc: Global, operand: O) -> Result<List<O>, OutOfMemor
     Ok(all)
 }
 
-/// Sends an instruction that has one result, and gives it.
+/// Sends an instruction that has one result, and gives it. The answer is `OutOfMemory` as of `send`, and where the result cannot be
+/// copied.
 pub fn send_one<B: Bindgen>(
     alloc: Global,
     resolve: &Resolve,
@@ -51,7 +52,7 @@ pub fn send_one<B: Bindgen>(
     results.as_slice()[0].copy(alloc)
 }
 
-/// Puts copies of some operands last.
+/// Puts copies of some operands last. Where there is no memory for one the answer is `OutOfMemory`, and some may have been put.
 pub fn push_copies<O: Operand>(
     all: &mut Vec<O>,
     alloc: Global,
@@ -65,7 +66,7 @@ pub fn push_copies<O: Operand>(
     Ok(())
 }
 
-/// An argument of the code.
+/// An argument of the code, by its number from 0. The answer is `OutOfMemory` as of `send_one`.
 pub fn argument<B: Bindgen>(
     alloc: Global,
     resolve: &Resolve,

@@ -1,5 +1,5 @@
 -- An arm of a match whose code is inward: it ends as its code does where the block is entered, and leaves what is outside as it was.
-use Rattle.std.proofs.Common.{◌≡◌, ℕ, List, [], ◌∷◌, ◌++◌, length, refl, sym, ap, ap₂, ◌∙◌, subst, drop, take, append_assoc, append-nil}
+use Rattle.std.proofs.Common.{◌≡◌, ℕ, List, [], ◌∷◌, ◌++◌, length, refl, sym, ap, ap₂, ◌∙◌, subst, drop, take, append_assoc}
 use Rattle.std.specs.Prelude.{◌≢◌, None}
 use Rattle.std.specs.List.{flat_map}
 use Rattle.std.proofs.Math.Seq.{drop-append_seam, take-append_seam}
@@ -7,7 +7,7 @@ use Rattle.wrapper_data.specs.declared.run.Stop.{Stop}
 use Rattle.wrapper_data.specs.declared.run.Stop.TheVariants as stop_of
 use Rattle.wrapper_values.specs.declared.state.Local.{Local}
 use Rattle.wrapper_values.specs.declared.state.State.{State}
-use Rattle.wrapper_values.specs.Act.{Act, Outcome, Done, Stopped, ◌>>=◌, ◌>>◌, and_then, pure}
+use Rattle.wrapper_values.specs.Act.{Act, Outcome, Done, Stopped, ◌>>◌, and_then, pure}
 use Rattle.wrapper_values.specs.Owning.{owned_in}
 use Rattle.wrapper_values.specs.Setting.{Setting}
 use Rattle.wrapper_run.specs.Blocks.{drop_locals, in_scope, keep_locals, leave_to}

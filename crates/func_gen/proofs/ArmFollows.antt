@@ -1,5 +1,5 @@
 -- An arm of a match that was made of a finished block does what the block does, and what is made of its results is bound.
-use Rattle.std.proofs.Common.{◌≡◌, ℕ, Bool, true, false, List, [], ◌∷◌, ◌++◌, if◌then◌else◌, length, map, Option, None, Some, refl, sym, ap, ◌∙◌, subst}
+use Rattle.std.proofs.Common.{◌≡◌, ℕ, Bool, true, false, List, [], ◌∷◌, ◌++◌, if◌then◌else◌, length, map, Option, None, Some, refl, sym, ap, ◌∙◌}
 use Rattle.std.specs.Prelude.{◌≢◌}
 use Rattle.rust_tree.specs.declared.stmt.MatchNames.{MatchNames}
 use Rattle.rust_tree.specs.declared.stmt.MatchNames.TheVariants as names_of

@@ -1,26 +1,21 @@
 -- The arms of cases that are lowered: the one of a value's case runs its block with the payload.
-use Rattle.std.proofs.Common.{◌≡◌, ◌+◌, ◌++◌, ◌&&◌, ℕ, zero, suc, Bool, true, false, not, List, [], ◌∷◌, length, map, Option, None, Some, refl, sym, ap, ◌∙◌, subst, arith, append-nil}
+use Rattle.std.proofs.Common.{◌≡◌, ◌+◌, ◌++◌, ◌&&◌, ℕ, zero, suc, true, not, List, [], ◌∷◌, length, map, Option, Some, refl, sym, ap, ◌∙◌, subst, arith, append-nil}
 use Rattle.std.specs.Prelude.{nat_eq, slice_get}
 use Rattle.std.specs.List.{list_all}
 use Rattle.std.proofs.lemmas.Bool.{and_parts, eqb-true}
-use Rattle.rust_tree.specs.declared.expr.Expr.{Expr}
 use Rattle.rust_tree.specs.declared.item.Item.{Item}
-use Rattle.rust_tree.specs.declared.path.Path.{Path}
-use Rattle.rust_tree.specs.declared.stmt.Stmt.{Stmt}
 use Rattle.wrapper_data.specs.declared.value.RustValue.{RustValue, out-RustValue}
 use Rattle.wrapper_data.specs.declared.value.RustValue.TheVariants as value
 use Rattle.wrapper_meaning.proofs.RustValues.{out-case}
-use Rattle.wrapper_values.specs.declared.state.Local.{Local}
 use Rattle.wrapper_values.specs.declared.state.State.{State}
 use Rattle.wrapper_values.specs.declared.state.Val.{Val}
 use Rattle.wrapper_values.specs.declared.state.Val.TheVariants as val
-use Rattle.wrapper_values.specs.Act.{Act, Done, ◌>>◌, all}
+use Rattle.wrapper_values.specs.Act.{Done, ◌>>◌, all}
 use Rattle.wrapper_values.specs.Matches.{enter_arm, same_case, takes}
 use Rattle.wrapper_values.specs.Owning.{owned}
 use Rattle.wrapper_values.specs.Setting.{Setting}
 use Rattle.wrapper_values.specs.Variants.{case_number, number_of_level}
 use Rattle.wrapper_run.specs.Arms.{ArmAct, run_arm, run_arms}
-use Rattle.wrapper_run.specs.Blocks.{in_scope}
 use Rattle.wrapper_run.specs.Inward.{AsksNothing, is_inward}
 use Rattle.wrapper_run.specs.OuterLocals.{RunsBehind}
 use Rattle.wrapper_run.specs.Results.{run_results}

@@ -1,6 +1,5 @@
 -- What the lowering of a variant, an option or a result emits.
-use Rattle.std.proofs.Common.{◌≡◌, ◌+◌, ◌<◌, ◌^◌, ◌++◌, ℕ, zero, suc, false, true, List, [], ◌∷◌, drop, length, map, replicate, reverse, Option, None, Some, refl, sym, ap, ◌∙◌, subst, arith}
-use Rattle.std.specs.Prelude.{IfSome}
+use Rattle.std.proofs.Common.{◌≡◌, ◌<◌, ◌^◌, ◌++◌, ℕ, zero, suc, false, true, List, [], ◌∷◌, drop, length, replicate, reverse, refl, sym, ap, ◌∙◌, subst, arith}
 use Rattle.std.proofs.Math.Seq.{drop-append_seam}
 use Rattle.std.proofs.lemmas.List.{length-replicate}
 use Rattle.wit_model.specs.Bytes.{Bytes}
@@ -8,7 +7,6 @@ use Rattle.wit_model.specs.Distinct.{is_distinct}
 use Rattle.wit_model.specs.declared.name.TypeId.{TypeId}
 use Rattle.wit_model.specs.declared.types.TypeDef.{TypeDef}
 use Rattle.rust_tree.specs.declared.expr.Expr.{Expr}
-use Rattle.wrapper_meaning.specs.Shape.{Shapes}
 use Rattle.abi_bindgen.specs.declared.instruction.Instruction.TheVariants.{OptionLower, ResultLower, VariantLower}
 use Rattle.abi_bindgen.specs.Cases.{LowersCase, case_shapes, payloads_at}
 use Rattle.abi_bindgen.specs.Instructions.{AddsCode, Emits}
@@ -16,7 +14,6 @@ use Rattle.abi_bindgen.specs.Laws.{Adds, Grows, Quiet}
 use Rattle.func_gen.specs.declared.case_form.CaseForm.{CaseForm}
 use Rattle.func_gen.specs.declared.function_bindgen.FinishedBlock.{FinishedBlock}
 use Rattle.func_gen.specs.declared.function_bindgen.FunctionBindgen.{FunctionBindgen}
-use Rattle.func_gen.specs.declared.operand.ExprOperand.{ExprOperand}
 use Rattle.func_gen.specs.Forms.{operand_of}
 use Rattle.func_gen.specs.Formed.{MatchesCases}
 use Rattle.func_gen.specs.MatchForms.{LowersBy, lowered_arms, match_of, result_names, result_prefix}

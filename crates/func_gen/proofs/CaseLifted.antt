@@ -1,5 +1,5 @@
 -- The rows of variants, options and results that are lifted.
-use Rattle.std.proofs.Common.{◌≡◌, ◌+◌, ◌++◌, ◌&&◌, ◌||◌, ℕ, suc, Bool, true, false, not, List, [], ◌∷◌, length, Option, None, Some, refl, sym, ap, ◌∙◌, subst, arith}
+use Rattle.std.proofs.Common.{◌≡◌, ◌++◌, ◌||◌, suc, true, false, not, List, [], ◌∷◌, length, Option, None, Some, sym, ap, ◌∙◌, subst, arith}
 use Rattle.std.specs.Prelude.{codes}
 use Rattle.std.specs.List.{list_all}
 use Rattle.std.specs.Str.{bytes_eq}
@@ -17,7 +17,7 @@ use Rattle.abi_bindgen.specs.Cases.{payloads_at, payloads_of, payloads_or}
 use Rattle.abi_bindgen.specs.Instructions.{Emits}
 use Rattle.func_gen.specs.declared.case_form.CaseForm.{CaseForm}
 use Rattle.func_gen.specs.declared.function_bindgen.FunctionBindgen.{FunctionBindgen}
-use Rattle.func_gen.specs.CalledCases.{calls_case, is_called, is_lift, is_other_module, names_case}
+use Rattle.func_gen.specs.CalledCases.{is_called, is_lift, is_other_module, names_case}
 use Rattle.func_gen.specs.CaseForms.{AreOptionForms, AreResultForms, AreVariantForms, member_form, member_forms, member_path, option_forms, side_form}
 use Rattle.func_gen.specs.Forms.{operand_of}
 use Rattle.func_gen.specs.LiftedCases.{LiftsBy, LiftsVariantBy}

@@ -1,22 +1,19 @@
 -- The row of a match whose arms are finished blocks: it does what the block of a value's case does.
-use Rattle.std.proofs.Common.{◌≡◌, ◌+◌, ◌++◌, ℕ, Bool, true, false, List, [], ◌∷◌, drop, length, map, reverse, take, Option, None, Some, refl, sym, ap, ◌∙◌, subst, arith, append-nil}
+use Rattle.std.proofs.Common.{◌≡◌, ◌++◌, ℕ, true, List, [], ◌∷◌, length, map, reverse, take, Option, None, Some, refl, sym, ap, ◌∙◌, subst, arith, append-nil}
 use Rattle.std.specs.Prelude.{◌≢◌, if◌then◌else◌, slice_get}
 use Rattle.std.specs.List.{flat_map, list_all}
-use Rattle.std.proofs.Math.Seq.{drop-append_seam, take-append_seam}
+use Rattle.std.proofs.Math.Seq.{take-append_seam}
 use Rattle.wit_model.specs.Bytes.{Bytes}
 use Rattle.wit_model.specs.Distinct.{is_distinct}
 use Rattle.rust_tree.specs.declared.expr.Expr.{Expr}
 use Rattle.rust_tree.specs.declared.stmt.Stmt.{Stmt}
-use Rattle.wrapper_data.specs.declared.block.Block.{Block}
 use Rattle.wrapper_data.specs.declared.run.Stop.{Stop}
 use Rattle.wrapper_data.specs.declared.run.Stop.TheVariants as stop_of
 use Rattle.wrapper_data.specs.declared.value.RustValue.{RustValue}
 use Rattle.wrapper_data.specs.declared.value.RustValue.TheVariants as value
-use Rattle.wrapper_meaning.specs.Direction.{Direction}
 use Rattle.wrapper_meaning.specs.Items.{total}
 use Rattle.wrapper_meaning.specs.Shape.{Shapes}
-use Rattle.wrapper_meaning.specs.Shape.Shape.{cases}
-use Rattle.wrapper_meaning.specs.Value.{Case, case_number}
+use Rattle.wrapper_meaning.specs.Value.{case_number}
 use Rattle.wrapper_meaning.proofs.PostReturn.{total-append}
 use Rattle.wrapper_values.specs.declared.state.Local.{Local}
 use Rattle.wrapper_values.specs.declared.state.State.{State}
@@ -25,20 +22,18 @@ use Rattle.wrapper_values.specs.declared.state.Val.TheVariants as val
 use Rattle.wrapper_values.specs.Act as machine
 use Rattle.wrapper_values.specs.Act.{Act, ◌>>◌, and_then}
 use Rattle.wrapper_values.specs.Matches.{bind_results, enter_arm}
-use Rattle.wrapper_values.specs.Owning.{owned, owned_in}
+use Rattle.wrapper_values.specs.Owning.{owned}
 use Rattle.wrapper_values.specs.Setting.{Setting}
-use Rattle.wrapper_run.specs.Arms.{run_arms, run_match}
 use Rattle.wrapper_run.specs.Blocks.{in_scope}
 use Rattle.wrapper_run.specs.Growth.{state_of}
-use Rattle.wrapper_run.specs.Inward.{AskedAlike}
 use Rattle.wrapper_run.specs.OuterLocals.{IsInReach}
-use Rattle.wrapper_run.specs.Run.{arm_act, eval, run_stmt, run_stmts}
+use Rattle.wrapper_run.specs.Run.{eval, run_stmts}
 use Rattle.wrapper_run.proofs.StepLemmas.{Quiet}
 use Rattle.wrapper_run.proofs.VariantSteps.{match_runs}
-use Rattle.abi_bindgen.specs.Account.{Account, Done, Follows, Outcome, Peer, Stopped, Stuck, account_in, then_do}
-use Rattle.abi_bindgen.specs.Arms.{Armed, arm, arms, gives_any}
+use Rattle.abi_bindgen.specs.Account.{Account, Done, Follows, Outcome, Peer, Stuck, account_in, then_do}
+use Rattle.abi_bindgen.specs.Arms.{Armed, arms, gives_any}
 use Rattle.abi_bindgen.specs.Blocks.{owned_datum}
-use Rattle.abi_bindgen.specs.Cases.{LowersCase, PayloadStands, with_case}
+use Rattle.abi_bindgen.specs.Cases.{LowersCase, with_case}
 use Rattle.abi_bindgen.specs.Laws.{At, Data, Facts, ofs}
 use Rattle.abi_bindgen.specs.Meaning.{Bound, Ended, item, of}
 use Rattle.abi_bindgen.specs.Parts.{count}
@@ -49,20 +44,19 @@ use Rattle.func_gen.specs.declared.function_bindgen.FunctionBindgen.{FunctionBin
 use Rattle.func_gen.specs.Added.{Appends}
 use Rattle.func_gen.specs.CallForms.{FreshAll}
 use Rattle.func_gen.specs.Entered.{bindings, entered, is_nothing, reached}
-use Rattle.func_gen.specs.Facts.{AreOwned, Hold}
+use Rattle.func_gen.specs.Facts.{AreOwned}
 use Rattle.func_gen.specs.Finished.{data_of, left_owners, outside, results_act, slot_before}
 use Rattle.func_gen.specs.Forms.{operand_of}
-use Rattle.func_gen.specs.MatchForms.{case_pattern, is_lowerable, lowered_arms, lowered_body, match_names, match_of}
-use Rattle.func_gen.specs.Meaning.{Denote, File, FuncState, IsNormal, Serves, account_of, call_of, done_block, ended_block, func_meaning, owns_of, run_finished, seen, setting_for}
+use Rattle.func_gen.specs.MatchForms.{case_pattern, is_lowerable, lowered_arms, match_names, match_of}
+use Rattle.func_gen.specs.Meaning.{Denote, File, FuncState, IsNormal, Serves, account_of, call_of, done_block, ended_block, func_meaning, owns_of, seen, setting_for}
 use Rattle.func_gen.specs.PartForms.{locals_of}
-use Rattle.func_gen.specs.Read.{env_of}
 use Rattle.func_gen.specs.Scope.{is_used}
 use Rattle.func_gen.specs.Uses.{Uses}
 use Rattle.func_gen.proofs.ArmEnds.{arm_ends, arm_stops}
 use Rattle.func_gen.proofs.CaseArms.{AreNumbered, Brings, Lowerable, case_chosen, case_enters, fit_at, is_lowered}
-use Rattle.func_gen.proofs.CaseRows.{Brought, FitForms, case_brings, forms_count}
+use Rattle.func_gen.proofs.CaseRows.{FitForms, case_brings, forms_count}
 use Rattle.func_gen.proofs.Lasting.{SameArea, area_same, lasts}
-use Rattle.func_gen.proofs.MatchLocals.{add_data, binds_data, data_under, owns_data, plain_data, vals_of, with_data}
+use Rattle.func_gen.proofs.MatchLocals.{add_data, binds_data, data_under, owns_data, plain_data, with_data}
 use Rattle.func_gen.proofs.Moving.{Used, uses}
 use Rattle.func_gen.proofs.Opening.{reached_in}
 use Rattle.func_gen.proofs.PartRows.{areas_last}

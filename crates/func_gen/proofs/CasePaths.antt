@@ -1,5 +1,5 @@
 -- What the paths of cases call: a case of `Option` or of `Result`, or one of a type of the file.
-use Rattle.std.proofs.Common.{◌≡◌, ℕ, suc, Bool, true, false, cond, ◌&&◌, List, [], ◌∷◌, Some, refl, ap, ◌∙◌}
+use Rattle.std.proofs.Common.{◌≡◌, ℕ, suc, Bool, true, false, cond, ◌&&◌, List, [], ◌∷◌, refl, ap, ◌∙◌}
 use Rattle.std.specs.Prelude.{codes}
 use Rattle.std.specs.Str.{bytes_eq}
 use Rattle.wit_model.specs.Bytes.{Bytes}
@@ -8,12 +8,11 @@ use Rattle.wrapper_values.specs.declared.core_words.CoreFn.TheVariants as core_f
 use Rattle.wrapper_values.specs.declared.state.Val.{Val}
 use Rattle.wrapper_values.specs.Setting.{Setting}
 use Rattle.wrapper_values.specs.Variants.{case_number, is_core_option, is_core_result, number_in_option, number_in_result}
-use Rattle.wrapper_run.specs.Run.{call, call_callee, callee, core_case, core_function, enum_lift, is_f32_from_bits, is_f64_from_bits, is_i64_from, is_new_slot, lift_name, make_case, member_callee, of_runtime, root_case, runtime_module_name, type_callee}
+use Rattle.wrapper_run.specs.Run.{call, call_callee, callee, core_function, enum_lift, is_f32_from_bits, is_f64_from_bits, is_i64_from, is_new_slot, lift_name, make_case, member_callee, of_runtime, root_case, runtime_module_name, type_callee}
 use Rattle.func_gen.specs.declared.case_form.CaseForm.{CaseForm}
 use Rattle.func_gen.specs.CaseForms.{core_path, member_path}
 use Rattle.func_gen.specs.MatchForms.{case_path}
 use Rattle.func_gen.proofs.CaseArms.{AreNumbered}
-use Rattle.func_gen.proofs.CasesMade.{IsCaseOf}
 use Rattle.func_gen.proofs.LiftedCaseRows.{AreCases}
 
 -- the call of a path makes the case that it names

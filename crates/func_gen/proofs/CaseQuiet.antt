@@ -1,5 +1,5 @@
 -- A match whose arms are inward blocks makes no call.
-use Rattle.std.proofs.Common.{◌≡◌, ◌&&◌, ℕ, Bool, true, false, List, [], ◌∷◌, length, map, Option, None, Some, refl, sym, subst}
+use Rattle.std.proofs.Common.{◌≡◌, ℕ, Bool, true, false, List, [], ◌∷◌, length, map, Option, None, Some, refl, sym, subst}
 use Rattle.std.specs.List.{list_all}
 use Rattle.std.specs.Option.{option_map}
 use Rattle.std.proofs.lemmas.Bool.{and_parts}
@@ -10,7 +10,7 @@ use Rattle.rust_tree.specs.declared.pattern.ArmPattern.TheVariants as arm
 use Rattle.wrapper_values.specs.declared.state.State.{State}
 use Rattle.wrapper_values.specs.declared.state.Val.{Val}
 use Rattle.wrapper_values.specs.declared.state.Val.TheVariants as val
-use Rattle.wrapper_values.specs.Act.{Act, Outcome, Done, Stopped, ◌>>=◌, ◌>>◌, or_stop, pure}
+use Rattle.wrapper_values.specs.Act.{Act, Outcome, Done, Stopped, ◌>>◌, or_stop, pure}
 use Rattle.wrapper_values.specs.Locals.{bind}
 use Rattle.wrapper_values.specs.Matches.{bind_results, bind_values, enter_arm, left_out, takes}
 use Rattle.wrapper_values.specs.Owning.{owned}
@@ -20,7 +20,6 @@ use Rattle.wrapper_run.specs.Arms.{ArmAct, run_arm, run_arm_or, run_arms, run_ma
 use Rattle.wrapper_run.specs.Blocks.{in_scope, leave_to}
 use Rattle.wrapper_run.specs.Growth.{state_of}
 use Rattle.wrapper_run.specs.Inward.{AskedAlike, AsksNothing}
-use Rattle.wrapper_run.specs.Results.{run_results}
 use Rattle.wrapper_run.specs.Run.{arm_act, eval, run_stmt, run_stmts}
 use Rattle.wrapper_run.proofs.StepLemmas.{Quiet, calls_at, quiet_bind, quiet_leave, quiet_or_stop, quiet_pure, quiet_then}
 use Rattle.wrapper_run.proofs.StmtSteps.{run-match}

@@ -1,36 +1,20 @@
 -- A value with cases becomes what its case does: the row of a match whose arms are finished blocks.
 use mathlib.Core.Logic.{inl, inr}
-use Rattle.std.proofs.Common.{◌≡◌, ◌+◌, ◌++◌, ℕ, zero, suc, Bool, true, false, List, [], ◌∷◌, drop, length, map, reverse, take, Option, None, Some, refl, sym, ap, ◌∙◌, subst, arith, append-nil}
-use Rattle.std.specs.Prelude.{◌≢◌, slice_get}
-use Rattle.std.specs.List.{flat_map, list_all}
-use Rattle.std.proofs.Math.Seq.{drop-append_seam, take-append_seam}
-use Rattle.std.proofs.lemmas.List.{reverse-reverse}
-use Rattle.wit_model.specs.Bytes.{Bytes}
-use Rattle.wit_model.specs.Distinct.{is_distinct}
-use Rattle.rust_tree.specs.declared.expr.Expr.{Expr}
-use Rattle.rust_tree.specs.declared.stmt.Stmt.{Stmt}
+use Rattle.std.proofs.Common.{◌≡◌, ◌++◌, ℕ, suc, Bool, true, false, List, [], ◌∷◌, length, Option, None, Some, refl, sym, ap, ◌∙◌, subst}
+use Rattle.std.specs.Prelude.{slice_get}
 use Rattle.wrapper_data.specs.declared.block.Block.{Block}
-use Rattle.wrapper_data.specs.declared.run.Stop.{Stop}
-use Rattle.wrapper_data.specs.declared.run.Stop.TheVariants as stop_of
 use Rattle.wrapper_data.specs.declared.value.RustValue.{RustValue, RustValue-F, fold-RustValue, fold-roll-RustValue, out-RustValue}
 use Rattle.wrapper_data.specs.declared.value.RustValue.TheVariants as value
 use Rattle.wrapper_data.specs.declared.value.RustValue.TheVariants.{rolls-Case}
 use Rattle.wrapper_meaning.specs.Direction.{Direction, give, lend, make}
 use Rattle.wrapper_meaning.specs.Direction as way
-use Rattle.wrapper_meaning.specs.Items.{SameItems, total}
 use Rattle.wrapper_meaning.specs.Shape.{Shapes, is_nothing}
 use Rattle.wrapper_meaning.specs.Shape.Shapes.{none, more}
 use Rattle.wrapper_meaning.specs.StandsFor as rust
 use Rattle.wrapper_meaning.specs.StandsFor.{CaseStands}
 use Rattle.wrapper_meaning.specs.Value.{Case, case_number}
-use Rattle.wrapper_meaning.proofs.Lists.{some_same}
-use Rattle.wrapper_meaning.proofs.PostReturn.{total-append}
 use Rattle.wrapper_meaning.proofs.RustValues.{out-case}
-use Rattle.wrapper_values.specs.declared.state.Local.{Local}
-use Rattle.wrapper_values.specs.declared.state.State.{State}
-use Rattle.wrapper_values.specs.declared.state.Val.{Val}
-use Rattle.wrapper_values.specs.declared.state.Val.TheVariants as val
-use Rattle.wrapper_values.specs.Owning.{owned, owned_by, owned_in, taken_by}
+use Rattle.wrapper_values.specs.Owning.{taken_by}
 use Rattle.abi_bindgen.specs.Cases.{PayloadStands, with_case}
 use Rattle.abi_bindgen.specs.Parts.{count}
 use Rattle.func_gen.specs.declared.case_form.CaseForm.{CaseForm}

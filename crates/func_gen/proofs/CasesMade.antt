@@ -1,6 +1,5 @@
 -- The code of a block, and the case that is made of what it gives: it ends as the block does, and gives the case.
 use Rattle.std.proofs.Common.{◌≡◌, ℕ, ◌≤◌, Bool, true, false, List, [], ◌∷◌, length, map, Option, None, Some, refl, sym, ap, ◌∙◌, subst, arith, rules}
-use Rattle.std.specs.Prelude.{option_and_then}
 use Rattle.std.specs.Option.{option_map}
 use Rattle.rust_tree.specs.declared.expr.Expr.{Expr, Expr-F, out-Expr, the_lemmas}
 use Rattle.rust_tree.specs.declared.expr.Expr.TheVariants as expr
@@ -17,7 +16,6 @@ use Rattle.wrapper_values.specs.Act.{Act, Outcome, Done, Stopped, ◌>>=◌, ◌
 use Rattle.wrapper_values.specs.Effect.{rust_of}
 use Rattle.wrapper_values.specs.Setting.{Setting, stuck}
 use Rattle.wrapper_values.specs.Variants.{bare_case, case_number, full_case, with_payload}
-use Rattle.wrapper_run.specs.Code.{code_of}
 use Rattle.wrapper_run.specs.Inward.{AsksNothing}
 use Rattle.wrapper_run.specs.LastParts.{results, results_in}
 use Rattle.wrapper_run.specs.Results.{run_results}

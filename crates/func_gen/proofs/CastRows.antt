@@ -28,7 +28,7 @@ use Rattle.wrapper_values.specs.declared.state.Val.TheVariants as val
 use Rattle.wrapper_values.specs.Act as machine
 use Rattle.wrapper_values.specs.Act.{◌>>=◌, and_then, or_stop}
 use Rattle.wrapper_values.specs.CoreWords.{empty_slot}
-use Rattle.wrapper_values.specs.Locals.{bind, give_local, local_named, slot_with, usable, value_of, write_slot}
+use Rattle.wrapper_values.specs.Locals.{bind, give_local, local_named, slot_with, value_of, write_slot}
 use Rattle.wrapper_values.specs.Setting.{Setting, stuck}
 use Rattle.wrapper_values.proofs.ChangedLemmas.{changed_last}
 use Rattle.wrapper_run.specs.Run.{eval, run_stmt, run_stmts}

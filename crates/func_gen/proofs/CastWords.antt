@@ -1,5 +1,5 @@
 -- What the printed casts of core words read: the word with the bits that the cast makes of a word's bits.
-use Rattle.std.proofs.Common.{inl, inr, ◌≡◌, ℕ, ℤ, pos, negsuc, ◌<◌, ◌%◌, ◌^◌, Bool, true, false, List, [], ◌∷◌, Option, None, Some, refl, sym, ap, ◌∙◌, subst, arith}
+use Rattle.std.proofs.Common.{inl, inr, ◌≡◌, ℕ, ℤ, pos, negsuc, ◌<◌, ◌%◌, ◌^◌, true, false, List, [], ◌∷◌, Option, Some, refl, sym, ap, ◌∙◌, arith}
 use Rattle.std.specs.Prelude.{option_and_then}
 use Rattle.std.specs.Option.{option_map}
 use Rattle.std.specs.Int.{w32, w64, cast_signed}
@@ -27,8 +27,8 @@ use Rattle.wrapper_values.specs.declared.core_words.CoreFn.{CoreFn}
 use Rattle.wrapper_values.specs.declared.core_words.CoreFn.TheVariants as core_fn
 use Rattle.wrapper_values.specs.declared.state.Val.{Val}
 use Rattle.wrapper_values.specs.declared.state.Val.TheVariants as val
-use Rattle.wrapper_values.specs.CoreWords.{applied, bits_in_32, bits_in_64, called_on, core_word, slot_pointer, u32_value, u64_value}
-use Rattle.wrapper_values.specs.Effect.{cast_integer, cast_to, integer_of, is_of_kind, low, low_i32, low_i64, num_of}
+use Rattle.wrapper_values.specs.CoreWords.{applied, called_on, core_word, slot_pointer, u32_value, u64_value}
+use Rattle.wrapper_values.specs.Effect.{cast_integer, cast_to, integer_of, is_of_kind, low, low_i64, num_of}
 use Rattle.wrapper_values.specs.Owning.{owned}
 use Rattle.wrapper_run.specs.Run.{callee, core_function, is_f32_from_bits, is_f64_from_bits, is_i64_from, is_new_slot, lift_name, runtime_module_name}
 use Rattle.wrapper_run.proofs.NumberLemmas.{low_i32-s32, low_i64-s64, num_of-number}

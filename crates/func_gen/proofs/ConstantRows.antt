@@ -1,5 +1,5 @@
 -- The rows of constants, which add no statement and are read whatever the names stand for.
-use Rattle.std.proofs.Common.{◌≡◌, ℕ, ℤ, pos, Bor, List, [], ◌∷◌, ◌++◌, length, map, Some, refl, sym, ap, ◌∙◌, subst, suc, arith}
+use Rattle.std.proofs.Common.{◌≡◌, ℤ, pos, Bor, List, [], ◌∷◌, ◌++◌, length, map, Some, refl, ap, suc, arith}
 use Rattle.wit_model.specs.declared.types.TypeDef.{TypeDef}
 use Rattle.wit_model.specs.declared.wasm_type.WasmType.{WasmType}
 use Rattle.wit_model.specs.declared.wasm_type.WasmType.TheVariants as wasm
@@ -13,7 +13,6 @@ use Rattle.wrapper_data.specs.declared.word.Word.TheVariants as core
 use Rattle.wrapper_meaning.specs.Words.{word_of_bits}
 use Rattle.wrapper_values.specs.declared.state.State.{State}
 use Rattle.wrapper_values.specs.declared.state.Val.TheVariants as val
-use Rattle.abi_bindgen.specs.declared.instruction.Instruction.{Instruction}
 use Rattle.abi_bindgen.specs.declared.instruction.Instruction.TheVariants.{ConstZero, I32Const}
 use Rattle.abi_bindgen.specs.Constants.{MakesWords}
 use Rattle.abi_bindgen.specs.Instructions.{Emits}

@@ -1,5 +1,5 @@
 -- A block is closed: it makes the calls of its code, and gives what its operands denote.
-use Rattle.std.proofs.Common.{◌≡◌, ℕ, zero, suc, ◌+◌, Bool, true, false, not, cond, List, [], ◌∷◌, ◌++◌, drop, length, map, reverse, Option, None, Some, refl, sym, ap, ap₂, ◌∙◌, subst, arith, append-nil}
+use Rattle.std.proofs.Common.{◌≡◌, ℕ, zero, suc, ◌+◌, Bool, true, false, not, cond, List, [], ◌∷◌, drop, length, map, reverse, Option, None, Some, refl, sym, ap, ap₂, ◌∙◌, subst, arith, append-nil}
 use Rattle.std.specs.Prelude.{option_to_list}
 use Rattle.std.specs.List.{AllByRecursion, flat_map}
 use Rattle.std.proofs.lemmas.List.{reverse-append}
@@ -22,7 +22,7 @@ use Rattle.wrapper_run.specs.Run.{run_stmts}
 use Rattle.wrapper_run.proofs.StepLemmas.{Quiet, calls_at}
 use Rattle.abi_bindgen.specs.Account.{Account, Done, Peer, account_in}
 use Rattle.abi_bindgen.specs.Area.{HoldsRecord}
-use Rattle.abi_bindgen.specs.Blocks.{Finishes, Gives, Lasts, Runs, StopsAlike, owned_datum}
+use Rattle.abi_bindgen.specs.Blocks.{Finishes, Gives, Lasts, StopsAlike, owned_datum}
 use Rattle.abi_bindgen.specs.Laws.{Data, Facts, ofs}
 use Rattle.abi_bindgen.specs.Meaning.{Bound, Datum}
 use Rattle.abi_bindgen.proofs.AllLemmas.{all_both, all_left, all_right}
@@ -36,13 +36,12 @@ use Rattle.func_gen.specs.Entered.{entered, is_nothing, reached}
 use Rattle.func_gen.specs.Facts.{AreOwned, Hold}
 use Rattle.func_gen.specs.Finished.{data_of, evaluated, left_owners, outside, results_act}
 use Rattle.func_gen.specs.Formed.{block_of}
-use Rattle.func_gen.specs.Meaning.{AllAsCalled, Denote, File, Found, FuncState, GivesAsCalled, Serves, account_of, call_of, done_block, ended_block, func_meaning, owns_of, run_code, run_finished, run_head, seen, setting_for}
+use Rattle.func_gen.specs.Meaning.{AllAsCalled, Denote, File, Found, FuncState, GivesAsCalled, Serves, call_of, done_block, ended_block, func_meaning, owns_of, run_code, run_finished, run_head, seen, setting_for}
 use Rattle.func_gen.specs.Opened.{open_blocks, slot_of}
 use Rattle.func_gen.specs.Resumes.{Resumes}
 use Rattle.func_gen.specs.Scope.{is_used}
-use Rattle.func_gen.specs.Slot.{Slot}
 use Rattle.func_gen.specs.TypeSites.{AreDefined}
-use Rattle.func_gen.proofs.FinishedResults.{Results, quiet_results, results_given}
+use Rattle.func_gen.proofs.FinishedResults.{quiet_results, results_given}
 use Rattle.func_gen.proofs.Lasting.{area_lasts, denotes_on, lasts}
 use Rattle.func_gen.proofs.MethodRows.{both_empty, nothing_there}
 use Rattle.func_gen.proofs.NameRows.{opened_more}

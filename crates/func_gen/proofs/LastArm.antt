@@ -1,8 +1,6 @@
 -- The last arm of a variant: it has the number under a name, and tests it in the debug form.
-use Rattle.std.proofs.Common.{◌≡◌, ℕ, zero, suc, ◌-◌, ◌<◌, ◌≤◌, ℤ, pos, negsuc, Bool, true, false, cond, nat_eq, nat_lt, ◌&&◌, List, [], ◌∷◌, ◌++◌, length, map, Option, None, Some, refl, sym, ap, ◌∙◌, subst, arith}
-use Rattle.std.specs.Prelude.{option_and_then, slice_get}
-use Rattle.std.proofs.lemmas.Bool.{le-ltb, lt-ltb}
-use Rattle.std.proofs.lemmas.Bool.Decides.{nat_tests}
+use Rattle.std.proofs.Common.{◌≡◌, ℕ, ℤ, Bool, true, false, cond, ◌&&◌, List, [], ◌∷◌, ◌++◌, length, map, Option, None, Some, refl, sym, ap, ◌∙◌}
+use Rattle.std.specs.Prelude.{option_and_then}
 use Rattle.wit_model.specs.Bytes.{Bytes}
 use Rattle.rust_tree.specs.declared.expr.Expr.{Expr}
 use Rattle.rust_tree.specs.declared.pattern.ArmPattern.TheVariants as arm_by
@@ -19,14 +17,14 @@ use Rattle.wrapper_data.specs.declared.word.Word.TheVariants as core
 use Rattle.wrapper_values.specs.declared.state.State.{State}
 use Rattle.wrapper_values.specs.declared.state.Val.{Val}
 use Rattle.wrapper_values.specs.declared.state.Val.TheVariants as val
-use Rattle.wrapper_values.specs.Act.{Act, Outcome, Done, Stopped, ◌>>=◌, ◌>>◌, all, and_then, or_stop, pure}
-use Rattle.wrapper_values.specs.Locals.{bind, lend_local, local_named, value_of}
+use Rattle.wrapper_values.specs.Act.{Act, Outcome, Done, Stopped, ◌>>◌, all, and_then, or_stop, pure}
+use Rattle.wrapper_values.specs.Locals.{bind, lend_local}
 use Rattle.wrapper_values.specs.Matches.{assert_last, expect_number, is_number}
 use Rattle.wrapper_values.specs.Owning.{lent}
 use Rattle.wrapper_values.specs.Setting.{Setting, stuck}
 use Rattle.wrapper_run.specs.Arms.{run_arm}
 use Rattle.wrapper_run.specs.Blocks.{in_scope, leave_to}
-use Rattle.wrapper_run.specs.Code.{code_of, open_code}
+use Rattle.wrapper_run.specs.Code.{code_of}
 use Rattle.wrapper_run.specs.Inward.{StmtTest, are_inward, inward_arm_step, inward_block_step, inward_stmt_step, is_inward, is_inward_tail, plain, stmt_test}
 use Rattle.wrapper_run.specs.LastParts.{results}
 use Rattle.wrapper_run.specs.Results.{run_results}

@@ -54,7 +54,7 @@ use Rattle.func_gen.specs.Meaning.{File, FuncState, StandsAsItIs, account_of, fu
 use Rattle.func_gen.specs.PartForms.{exprs_of}
 use Rattle.func_gen.specs.Read.{item_of}
 use Rattle.func_gen.specs.Scope.{is_used}
-use Rattle.func_gen.proofs.ArmFollows.{arm_follows, went}
+use Rattle.func_gen.proofs.ArmFollows.{arm_follows}
 use Rattle.func_gen.proofs.ArmReach.{Unused}
 use Rattle.func_gen.proofs.CaseArms.{each_evaluated}
 use Rattle.func_gen.proofs.CaseValues.{Fills, case_made, case_owns}

@@ -1,5 +1,5 @@
 -- What the lifting of a variant, an option or a result emits, and the freeing of a variant.
-use Rattle.std.proofs.Common.{◌≡◌, ◌++◌, ℕ, suc, false, true, List, [], ◌∷◌, drop, length, map, replicate, reverse, Option, None, Some, refl, sym, ap, ◌∙◌, subst, arith}
+use Rattle.std.proofs.Common.{◌≡◌, ◌++◌, ℕ, suc, false, true, List, [], ◌∷◌, drop, length, map, replicate, reverse, Option, refl, sym, ap, ◌∙◌}
 use Rattle.std.specs.Prelude.{option_to_list}
 use Rattle.std.proofs.lemmas.List.{length-map, length-replicate, length-reverse}
 use Rattle.wit_model.specs.Bytes.{Bytes}
@@ -14,7 +14,7 @@ use Rattle.rust_tree.specs.declared.stmt.MatchNames.TheVariants as names_of
 use Rattle.rust_tree.specs.declared.stmt.Stmt.{Stmt}
 use Rattle.rust_tree.specs.declared.stmt.Stmt.TheVariants as stmt
 use Rattle.wrapper_data.specs.declared.value.RustValue.{RustValue}
-use Rattle.wrapper_meaning.specs.Shape.{Shapes, payloads_in, shapes}
+use Rattle.wrapper_meaning.specs.Shape.{payloads_in, shapes}
 use Rattle.wrapper_values.specs.Setting.{Setting}
 use Rattle.wrapper_run.specs.Run.{run_stmts}
 use Rattle.wrapper_run.proofs.StepLemmas.{Quiet}

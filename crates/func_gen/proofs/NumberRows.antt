@@ -1,5 +1,5 @@
 -- The row of a match by numbers: of a word that an operand denotes it runs the block that the laws choose.
-use Rattle.std.proofs.Common.{◌≡◌, ◌≤◌, ℕ, ℤ, Bool, true, List, [], ◌∷◌, ◌++◌, length, map, reverse, take, Option, None, Some, refl, sym, ap, ◌∙◌, subst, arith}
+use Rattle.std.proofs.Common.{◌≡◌, ◌≤◌, ℕ, ℤ, Bool, true, List, [], ◌∷◌, length, map, reverse, take, Some, refl, sym, ap, ◌∙◌, subst, arith}
 use Rattle.std.specs.Prelude.{slice_get}
 use Rattle.std.specs.List.{flat_map, list_all}
 use Rattle.std.proofs.Math.Seq.{take-append_seam}
@@ -16,7 +16,6 @@ use Rattle.wrapper_data.specs.declared.value.RustValue.{RustValue}
 use Rattle.wrapper_data.specs.declared.word.Word.{Word}
 use Rattle.wrapper_data.specs.declared.word.Word.TheVariants as core
 use Rattle.wrapper_meaning.proofs.PostReturn.{total-append}
-use Rattle.wrapper_values.specs.declared.state.Val.{Val}
 use Rattle.wrapper_values.specs.declared.state.Val.TheVariants as val
 use Rattle.wrapper_values.specs.Act as machine
 use Rattle.wrapper_values.specs.Act.{and_then}
@@ -26,21 +25,21 @@ use Rattle.wrapper_run.specs.Arms.{ArmAct, run_arm, run_arms}
 use Rattle.wrapper_run.specs.Blocks.{in_scope}
 use Rattle.wrapper_run.specs.Inward.{is_inward}
 use Rattle.wrapper_run.specs.Results.{run_results}
-use Rattle.wrapper_run.specs.Run.{arm_act, run_stmt, run_stmts}
+use Rattle.wrapper_run.specs.Run.{arm_act, run_stmt}
 use Rattle.wrapper_run.proofs.VariantSteps.{match_runs}
 use Rattle.abi_bindgen.specs.Account.{Follows, Peer, then_do}
 use Rattle.abi_bindgen.specs.Arms.{Armed, Matches, arm, arms, choosing}
 use Rattle.abi_bindgen.specs.Blocks.{owned_datum}
 use Rattle.abi_bindgen.specs.Laws.{At, Data, Facts}
 use Rattle.abi_bindgen.specs.Meaning.{of, with_nothing, word}
-use Rattle.abi_bindgen.specs.Turns.{Arrives, Moved, Went}
+use Rattle.abi_bindgen.specs.Turns.{Arrives, Moved}
 use Rattle.func_gen.specs.declared.function_bindgen.FinishedBlock.{FinishedBlock}
 use Rattle.func_gen.specs.declared.function_bindgen.FunctionBindgen.{FunctionBindgen}
 use Rattle.func_gen.specs.Added.{Appends}
 use Rattle.func_gen.specs.Forms.{operand_of}
 use Rattle.func_gen.specs.LiftedCases.{number_arms}
 use Rattle.func_gen.specs.MatchForms.{arm_of}
-use Rattle.func_gen.specs.Meaning.{Denote, File, FuncState, account_of, func_meaning, owns_of, run_finished, seen, setting_for}
+use Rattle.func_gen.specs.Meaning.{File, FuncState, account_of, func_meaning, owns_of, run_finished, seen, setting_for}
 use Rattle.func_gen.specs.Uses.{Uses}
 use Rattle.func_gen.proofs.ArmResults.{arm-made}
 use Rattle.func_gen.proofs.CaseMatch.{at_but}

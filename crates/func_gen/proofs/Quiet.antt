@@ -1,6 +1,6 @@
 -- Operands make no call, whatever they are evaluated in.
 use Rattle.std.proofs.Common.{◌≡◌, ℕ, zero, suc, Bool, true, false, cond, ◌&&◌, ◌||◌, List, [], ◌∷◌, map, refl, sym, ap, ◌∙◌, subst}
-use Rattle.std.specs.Prelude.{ℤ, codes, option_and_then}
+use Rattle.std.specs.Prelude.{codes, option_and_then}
 use Rattle.std.specs.Option.{option_map}
 use Rattle.std.specs.Str.{bytes_eq}
 use Rattle.std.proofs.lemmas.Bool.{and_parts}
@@ -11,7 +11,6 @@ use Rattle.rust_tree.specs.declared.expr.Expr.{Expr, Expr-F, fold-roll-Expr, ind
 use Rattle.rust_tree.specs.declared.expr.Expr.TheVariants as expr
 use Rattle.rust_tree.specs.declared.expr.Expr.TheVariants.{rolls-Call, rolls-Cast, rolls-CastMut, rolls-EnumNumber, rolls-FlagsBits, rolls-I32Const, rolls-Local, rolls-Method, rolls-Ref, rolls-Zero}
 use Rattle.rust_tree.specs.declared.expr.Method.{Method}
-use Rattle.rust_tree.specs.declared.expr.ZeroType.{ZeroType}
 use Rattle.rust_tree.specs.declared.path.Path.{Path}
 use Rattle.wrapper_data.specs.declared.run.Stop.{Stop}
 use Rattle.wrapper_data.specs.declared.word.Word.TheVariants as word
@@ -28,7 +27,7 @@ use Rattle.wrapper_values.specs.Locals.{ask_local, lend_local, local_named, valu
 use Rattle.wrapper_values.specs.Owning.{lent, view}
 use Rattle.wrapper_values.specs.Setting.{Setting, stuck}
 use Rattle.wrapper_values.specs.Variants.{number_in_core}
-use Rattle.wrapper_run.specs.Run.{call, call_callee, call_core, callee, case_callee, core_function, eval, is_f32_from_bits, is_f64_from_bits, is_i64_from, is_new_slot, lift_name, of_runtime, path_callee, runtime_module_name, type_callee}
+use Rattle.wrapper_run.specs.Run.{call, call_callee, call_core, callee, case_callee, core_function, eval, is_f32_from_bits, is_f64_from_bits, is_i64_from, lift_name, of_runtime, path_callee, runtime_module_name, type_callee}
 use Rattle.wrapper_run.proofs.QuietSteps.{quiet_cast_mut}
 use Rattle.wrapper_run.proofs.EnumSteps.{eval-case}
 use Rattle.wrapper_run.proofs.FlagsSteps.{eval-bits}

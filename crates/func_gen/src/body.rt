@@ -40,6 +40,14 @@ impl FunctionBindgen {
         }
         let tail = tail_of(self.alloc, &self.returned)?;
         let area = needed_area(self.asked.as_slice())?;
+        Ok(self.into_body(tail, area))
+    }
+
+    /// The body with this end and this area, and the tables.
+    fn into_body(self, tail: Option<Expr>, area: Option<Asked>) -> (Body, TypeTables)
+        ensures body { result.0 ≡ record { call = self.code.call; stmts = self.code.stmts; tail = tail; area = area; runtime = self.runtime } }
+        ensures tables { result.1 ≡ tables_of self }
+    {
         let FunctionBindgen {
             sizes,
             sites,
@@ -55,7 +63,7 @@ impl FunctionBindgen {
             area,
             runtime,
         };
-        Ok((body, TypeTables { sizes, sites }))
+        (body, TypeTables { sizes, sites })
     }
 }
 

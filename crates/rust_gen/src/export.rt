@@ -5,6 +5,7 @@ ghost use Rattle.wit_model.specs.Distinct.{is_distinct};
 ghost use Rattle.wit_model.specs.IndexRange.{function_in_range};
 ghost use Rattle.wit_model.specs.WellFormed.{IsWellFormed};
 ghost use Rattle.rust_tree.specs.Ident.{rust_ident};
+ghost use Rattle.gen_accept.specs.DeclaredNames.{guest_name};
 ghost use Rattle.wrapper_closing.specs.Params.{arg_names, ret_area};
 ghost use Rattle.rust_gen.specs.Body.{AreExportParts, CallsMethodOf, IsCodeOf, IsExportCode, IsExportMade, IsExportOutside};
 ghost use Rattle.rust_gen.specs.Known.{AreAtHand, sites_in};
@@ -15,7 +16,7 @@ use abi_bindgen::Asked;
 use func_gen::{Body, TypeTables};
 use rust_tree::{Block, CallBlock, CoreParam, ExportFn, RuntimeItem, to_rust_ident};
 use std::alloc::Global;
-use wit_model::{Function, List, OutOfMemory, Resolve};
+use wit_model::{Function, List, OutOfMemory, Resolve, Text};
 use wrapper_closing::{BodyParts, cleanup_list, core_params, core_sites, export_body, ret_area};
 
 /// The code of an export's wrapper.
@@ -99,11 +100,38 @@ fn export_code(
 }
 
 /// Whether a block calls the method of a function, and keeps its value where it has one.
-fn calls(alloc: Global, f: &Function, call: &CallBlock) -> Result<bool, OutOfMemory>
-    ensures { IfOk result (λ b. b ≡ true → CallsMethodOf f.now call.now) }
+fn calls(f: &Function, method: &Text, call: &CallBlock) -> bool
+    requires { method.now ≡ rust_ident f.now.name }
+    ensures { result ≡ true → CallsMethodOf f.now call.now }
 {
-    let method = to_rust_ident(alloc, &f.name)?;
-    Ok(call.method.as_str() == method.as_str() && call.result.is_some() == f.result.is_some())
+    call.method.as_str() == method.as_str() && call.result.is_some() == f.result.is_some()
+}
+
+/// What comes before the code of a wrapper.
+#[derive(Drop)]
+pub(crate) struct ExportHead {
+    pub(crate) base: Text,
+    pub(crate) bound: Text,
+    pub(crate) params: List<CoreParam>,
+}
+
+/// The head of the wrapper of an exported function, and that of its post-return function.
+pub(crate) fn export_head(
+    alloc: Global,
+    f: &Function,
+    params: List<CoreParam>,
+) -> Result<ExportHead, OutOfMemory>
+    ensures base { IfOk result (λ h. h.base ≡ f.now.name.snake) }
+    ensures bound { IfOk result (λ h. h.bound ≡ guest_name) }
+    ensures params { IfOk result (λ h. h.params ≡ params) }
+{
+    let base = f.name.snake.copy(alloc)?;
+    let bound = guest_name(alloc)?;
+    Ok(ExportHead {
+        base,
+        bound,
+        params,
+    })
 }
 
 fn export_fn(
@@ -117,10 +145,16 @@ fn export_fn(
     requires within { function_in_range resolve.now f.now ≡ true }
     ensures { IfOk result (IsExportOutside resolve.now.types f.now call rest) }
 {
+    let args = core_params(alloc, resolve, f)?;
+    let ExportHead {
+        base,
+        bound,
+        params,
+    } = export_head(alloc, f, args)?;
     Ok(ExportFn {
-        base: f.name.snake.copy(alloc)?,
-        bound: guest_name(alloc)?,
-        params: core_params(alloc, resolve, f)?,
+        base,
+        bound,
+        params,
         result: export_result(resolve, f),
         call,
         rest,
@@ -142,12 +176,12 @@ fn calling_code(
     ensures kept { OnOk result (AreAtHand resolve.now.types tables.new) }
     ensures same { OnOk result (sites_in tables.new ≡ sites_in tables.old) }
 {
+    let method = to_rust_ident(alloc, &f.name)?;
     let code = export_code(alloc, resolve, tables, f)?;
-    if calls(alloc, f, &code.call)? {
-        Ok(code)
-    } else {
-        Err(OutOfMemory)
+    if !calls(f, &method, &code.call) {
+        return Err(OutOfMemory);
     }
+    Ok(code)
 }
 
 /// The wrapper of an exported function; the area that it needs, if it needs one; and the items of `_rt` that it asks for.

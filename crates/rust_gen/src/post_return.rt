@@ -6,8 +6,7 @@ ghost use Rattle.wit_model.specs.WellFormed.{IsWellFormed};
 ghost use Rattle.rust_gen.specs.Body.{IsReturnCode, IsReturnMade, IsReturnOutside};
 ghost use Rattle.rust_gen.specs.Known.{AreAtHand, sites_in};
 
-use crate::export::export_parts;
-use crate::exported::guest_name;
+use crate::export::{ExportHead, export_head, export_parts};
 use func_gen::{Body, TypeTables};
 use rust_tree::{Block, PostReturnFn, RuntimeItem};
 use std::alloc::Global;
@@ -54,10 +53,16 @@ fn return_fn(
     requires within { function_in_range resolve.now f.now ≡ true }
     ensures { IfOk result (IsReturnOutside resolve.now.types f.now body) }
 {
+    let args = post_return_params(alloc, resolve, f)?;
+    let ExportHead {
+        base,
+        bound,
+        params,
+    } = export_head(alloc, f, args)?;
     Ok(PostReturnFn {
-        base: f.name.snake.copy(alloc)?,
-        bound: guest_name(alloc)?,
-        params: post_return_params(alloc, resolve, f)?,
+        base,
+        bound,
+        params,
         body,
     })
 }

@@ -30,7 +30,8 @@ pub fn scalar_lowering(ty: WitType) -> Option<Instruction<'static>>
     }
 }
 
-/// Sends an instruction with a value, and gives its results.
+/// Sends an instruction with a value, and gives its results. The answer is `OutOfMemory` as of `send`, and where there is no memory for
+/// the operands.
 pub fn lower_by<B: Bindgen>(
     alloc: Global,
     resolve: &Resolve,

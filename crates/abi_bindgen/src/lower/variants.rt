@@ -31,7 +31,7 @@ fn case_payloads(alloc: Global, members: &[Case]) -> Result<List<Option<WitType>
     Ok(payloads)
 }
 
-/// The payloads of the cases of a variant, an option or a result.
+/// The payloads of the cases of a variant, an option or a result, or `OutOfMemory` where there is no memory for them.
 pub fn kind_payloads(
     alloc: Global,
     kind: &TypeDefKind,

@@ -75,7 +75,8 @@ fn core_call(alloc: Global, f: CoreFn, e: Expr) -> Result<Expr, OutOfMemory>
     call_of(alloc, path, e)
 }
 
-fn cast_to(alloc: Global, e: Expr, to: CastType) -> Result<Expr, OutOfMemory>
+/// An expression as a value of another type.
+pub(crate) fn cast_to(alloc: Global, e: Expr, to: CastType) -> Result<Expr, OutOfMemory>
     ensures { IfOk result (λ c. c ≡ expr.Cast e to) }
 {
     Ok(Expr::Cast(Boxed::new(alloc, e)?, to))

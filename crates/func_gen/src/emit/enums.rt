@@ -9,8 +9,9 @@ ghost use Rattle.func_gen.specs.EnumForms.{HasCaseCount, IsEnumSite, LiftsBy, Li
 ghost use Rattle.func_gen.specs.Meaning.{func_meaning};
 
 use crate::added::only_operand;
+use crate::emit::casts::cast_to;
 use crate::enum_site::EnumSite;
-use crate::forms::push_name;
+use crate::forms::{call_of, push_name};
 use crate::function_bindgen::FunctionBindgen;
 use crate::operand::ExprOperand;
 use crate::type_site::TypeSite;
@@ -124,12 +125,9 @@ impl FunctionBindgen {
         ensures { IfOk result (λ c. LiftsEnumAt resolve.now.types self.now.sites id.0 e c) }
     {
         let site = enum_site(self.sites.as_slice(), resolve, id)?;
+        let number = cast_to(self.alloc, e, case_cast(site.repr)?)?;
         let path = lift_path(self.alloc, &site.path)?;
-        let to = case_cast(site.repr)?;
-        let number = Expr::Cast(Boxed::new(self.alloc, e)?, to);
-        let mut arguments = List::new(self.alloc);
-        arguments.push(number)?;
-        Ok(Expr::Call(path, arguments))
+        call_of(self.alloc, path, number)
     }
 
     pub(crate) fn lower_enum(

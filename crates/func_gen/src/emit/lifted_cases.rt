@@ -172,11 +172,24 @@ impl FunctionBindgen {
         };
         let t = self.scope.declare(self.alloc, &[name])?;
         let text = numbered(self.alloc, name, t)?;
-        let copy = text.copy(self.alloc)?;
+        self.push_match(&text, e, arms)?;
+        Ok(text)
+    }
+
+    /// A match by whose arms a local of this name gets its value.
+    pub(crate) fn push_match(
+        &mut self,
+        name: &Text,
+        e: Expr,
+        arms: List<Arm>,
+    ) -> Result<(), OutOfMemory>
+        ensures adds { OnOk result (Appends self.old self.new (stmt.Match (names_of.One name.now) e arms ∷ []) []) }
+        ensures scope { OnOk result (self.new.scope ≡ self.old.scope) }
+    {
+        let name = name.copy(self.alloc)?;
         self.code
             .stmts
-            .push(Stmt::Match(MatchNames::One(text), e, arms))?;
-        Ok(copy)
+            .push(Stmt::Match(MatchNames::One(name), e, arms))
     }
 
     /// The name of a new local for the case that a word is, with an arm for each case. A number of no case ends the run.

@@ -3,13 +3,11 @@
 ghost use Rattle.std.specs.Prelude.{◌≡◌, ◌+◌, [], ◌∷◌, false, true, length, IfOk, OnOk};
 ghost use Rattle.std.specs.List.{list_all};
 ghost use Rattle.rust_tree.specs.declared.pattern.ArmPattern.TheVariants as pattern;
-ghost use Rattle.rust_tree.specs.declared.stmt.MatchNames.TheVariants as names_of;
 ghost use Rattle.rust_tree.specs.declared.stmt.Stmt.TheVariants as stmt;
 ghost use Rattle.wit_model.specs.Bytes.{Bytes};
 ghost use Rattle.wrapper_run.specs.Inward as spec;
 ghost use Rattle.abi_bindgen.specs.Instructions.{Emits};
 ghost use Rattle.abi_bindgen.specs.declared.instruction.Instruction.TheVariants as instruction;
-ghost use Rattle.func_gen.specs.Added.{Appends};
 ghost use Rattle.func_gen.specs.CalledCases.{calls_case, is_called, is_other_module};
 ghost use Rattle.func_gen.specs.LiftedCases.{LiftsVariantBy, MemberArms, NamesCase, is_liftable, last_body};
 ghost use Rattle.func_gen.specs.MatchForms.{arm_of};
@@ -23,7 +21,7 @@ use crate::emit::variants::variant_forms;
 use crate::function_bindgen::{FinishedBlock, FunctionBindgen};
 use crate::operand::ExprOperand;
 use crate::scope::{LocalName, numbered};
-use rust_tree::{Arm, ArmPattern, Expr, MatchNames, Path, Stmt};
+use rust_tree::{Arm, ArmPattern, Expr, Path, Stmt};
 use std::alloc::Global;
 use wit_model::{List, OutOfMemory, Resolve, Text, TypeId};
 
@@ -162,19 +160,6 @@ impl FunctionBindgen {
         Ok((tested, name))
     }
 
-    /// A match with these arms, whose result gets a name that was declared.
-    fn push_match(&mut self, name: Text, e: Expr, arms: List<Arm>) -> Result<Text, OutOfMemory>
-        ensures same { IfOk result (λ v. v ≡ name) }
-        ensures adds { IfOk result (λ v. Appends self.old self.new (stmt.Match (names_of.One name) e arms ∷ []) []) }
-        ensures scope { IfOk result (λ v. self.new.scope ≡ self.old.scope) }
-    {
-        let copy = name.copy(self.alloc)?;
-        self.code
-            .stmts
-            .push(Stmt::Match(MatchNames::One(name), e, arms))?;
-        Ok(copy)
-    }
-
     /// The name of a new local for the case that a word is, with an arm for each case. The last case is that of every other number: its arm
     /// has the number under a name, and tests it.
     fn lift_members(
@@ -188,7 +173,7 @@ impl FunctionBindgen {
         let blocks = self.use_blocks(cases.len() + 1)?;
         let (number, name) = self.name_case()?;
         let arms = member_arms(self.alloc, cases, last, number, blocks)?;
-        let name = self.push_match(name, e, arms)?;
+        self.push_match(&name, e, arms)?;
         Ok(name)
     }
 
@@ -203,7 +188,6 @@ impl FunctionBindgen {
         requires empty { results.old ≡ [] }
         ensures { OnOk result (Emits func_meaning resolve.now.types (instruction.VariantLift id) operands.now results.new self.old self.new) }
     {
-        let e = only_operand(self.alloc, operands)?;
         let forms = variant_forms(self.alloc, resolve, self.sites.as_slice(), id)?;
         if !are_called(forms.as_slice()) {
             return Err(OutOfMemory);
@@ -212,6 +196,7 @@ impl FunctionBindgen {
         let Some(last) = cases.pop() else {
             return Err(OutOfMemory);
         };
+        let e = only_operand(self.alloc, operands)?;
         let name = self.lift_members(cases.as_slice(), &last, e)?;
         let expr = Expr::Local(name);
         results.push(ExprOperand { expr, kept: false })?;

@@ -68,6 +68,14 @@ pub(crate) fn push_locals(
     Ok(())
 }
 
+/// The statement that takes a tuple apart.
+fn let_tuple(alloc: Global, names: &[Text], e: Expr) -> Result<Stmt, OutOfMemory>
+    ensures { IfOk result (λ s. s ≡ stmt.LetParts (pattern.Tuple names.now) e) }
+{
+    let names = copy_names(names, alloc)?;
+    Ok(Stmt::LetParts(Pattern::Tuple(names), e))
+}
+
 impl FunctionBindgen {
     /// The names of new locals, one for each part of a tuple.
     #[tactic(auto, unfolding(crate::specs::PartForms::part_prefix))]
@@ -78,11 +86,9 @@ impl FunctionBindgen {
     {
         let parts = part_names(self.alloc, "t", count)?;
         let names = self.scope.declare_all(self.alloc, parts.as_slice())?;
-        let copies = copy_names(names.as_slice(), self.alloc)?;
-        self.code
-            .stmts
-            .push(Stmt::LetParts(Pattern::Tuple(names), e))?;
-        Ok(copies)
+        let taken = let_tuple(self.alloc, names.as_slice(), e)?;
+        self.code.stmts.push(taken)?;
+        Ok(names)
     }
 
     pub(crate) fn lower_tuple(

@@ -1,4 +1,4 @@
-use Rattle.std.proofs.Common.{◌≡◌, ℕ, ◌++◌, ◌≤◌, drop, length}
+use Rattle.std.proofs.Common.{◌≡◌, ℕ, ◌++◌, drop}
 use Rattle.func_gen.specs.CastForms.{slots_from}
 use Rattle.func_gen.specs.Scope.{names_at}
 use Rattle.func_gen.proofs.emit.casts.slot_names.Given as goal

@@ -8,10 +8,10 @@ use Rattle.func_gen.proofs.function_bindgen.FunctionBindgen.add_parts.Goals as g
 
 pub returns-clause-adds : goal.returns-clause-adds
 returns-clause-adds c =
-    let same = c.in_ok-copies.ensures ∙ c.as_slice-2.ensures in
+    let same = c.in_ok-taken.ensures ∙ ap (λ ns. stmt.LetParts (pattern.Tuple ns) c.args.e) c.as_slice-2.ensures in
     record {
       call = refl;
-      stmts = c.in_ok-push.ensures.ok ∙ ap (λ ns. c.args.self.now.code.stmts ++ stmt.LetParts (pattern.Tuple ns) c.args.e ∷ []) (sym same);
+      stmts = c.in_ok-push.ensures.ok ∙ ap (λ s. c.args.self.now.code.stmts ++ s ∷ []) same;
       runtime = sym (append-nil c.args.self.now.runtime);
       import = refl;
       home = refl;
@@ -28,7 +28,7 @@ returns-clause-adds c =
 pub returns-clause-fresh : goal.returns-clause-fresh
 returns-clause-fresh c =
     let d = c.in_ok-names.ensures in
-    declared_as c.args.self.now _ _ d.number c.in_ok-copies.copies d.declares (c.in_ok-copies.ensures ∙ c.as_slice-2.ensures ∙ d.are)
+    declared_as c.args.self.now _ _ d.number c.in_ok-names.names d.declares d.are
 
 pub returns-clause-takes : goal.returns-clause-takes
 unfolding part_prefix
@@ -37,6 +37,6 @@ returns-clause-takes c =
     let named : (k : ℕ) → names_at c.in_ok-parts.parts k ≡ names_from part_prefix k 0 c.args.count = c.in_ok-parts.ensures in
     record {
       number = d.number;
-      are = c.in_ok-copies.ensures ∙ c.as_slice-2.ensures ∙ d.are ∙ ap (λ ns. names_at ns d.number) c.as_slice.ensures ∙ named d.number;
+      are = d.are ∙ ap (λ ns. names_at ns d.number) c.as_slice.ensures ∙ named d.number;
       takes = record { locals = c.in_ok-parts.parts; named = named; declares = subst (λ ns. Declares c.args.self.now.scope ns d.number c.declare_all.new.self) c.as_slice.ensures d.declares };
     }

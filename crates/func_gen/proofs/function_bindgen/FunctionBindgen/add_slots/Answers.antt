@@ -1,5 +1,4 @@
 use Rattle.std.proofs.Common.{refl, sym, ap, ◌∙◌, append-nil, subst}
-use Rattle.func_gen.specs.CastForms.{slot_prefix}
 use Rattle.func_gen.specs.Scope.{names_at, Declares}
 use Rattle.func_gen.proofs.CallRows.{declared_as}
 use Rattle.func_gen.proofs.function_bindgen.FunctionBindgen.add_slots.Goals as goal

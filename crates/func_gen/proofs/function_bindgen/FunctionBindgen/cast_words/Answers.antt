@@ -1,10 +1,10 @@
-use Rattle.std.proofs.Common.{[], ◌++◌, ◌∙◌, ap, arith, length, map, refl, rules, subst, sym}
+use Rattle.std.proofs.Common.{[], ◌++◌, ◌∙◌, ap, map, refl, rules, subst, sym}
 use Rattle.abi_bindgen.specs.declared.instruction.Instruction.TheVariants as instruction
 use Rattle.func_gen.specs.Added.{Appends}
 use Rattle.func_gen.specs.CastForms.{casts_from, stmts_from}
 use Rattle.func_gen.specs.Forms.{operand_of}
 use Rattle.func_gen.specs.PartForms.{are_operands, exprs_of}
-use Rattle.func_gen.proofs.CastRows.{casts_row, exprs_many}
+use Rattle.func_gen.proofs.CastRows.{casts_row}
 use Rattle.func_gen.proofs.Rows.{emits_as}
 use Rattle.func_gen.proofs.function_bindgen.FunctionBindgen.cast_words.Goals as goal
 

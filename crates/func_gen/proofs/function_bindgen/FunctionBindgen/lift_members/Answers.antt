@@ -1,4 +1,4 @@
-use Rattle.std.proofs.Common.{◌≡◌, ◌++◌, ◌+◌, suc, List, [], ◌∷◌, length, refl, sym, ap, ◌∙◌, subst, append-nil, arith}
+use Rattle.std.proofs.Common.{◌≡◌, ◌+◌, suc, List, [], ◌∷◌, length, sym, ap, ◌∙◌, subst, append-nil, arith}
 use Rattle.rust_tree.specs.declared.stmt.MatchNames.TheVariants as names_of
 use Rattle.std.specs.Prelude.{codes}
 use Rattle.rust_tree.specs.declared.stmt.Arm.{Arm}
@@ -43,7 +43,7 @@ returns c =
     let cases = c.args.cases.now in
     let names = c.in_ok-number.ensures in
     let arms = c.in_ok-arms.ensures in
-    let pushed = c.in_ok-name.ensures in
+    let pushed = c.in_ok-push_match.ensures in
     let next : length cases + 1 ≡ suc (length cases) = omega arith in
     let match_by : List Arm → List Stmt = λ xs. stmt.Match (names_of.One name) c.args.e xs ∷ [] in
     let added : Appends mid new (match_by c.in_ok-arms.arms) [] = appends_both mid named new [] (match_by c.in_ok-arms.arms) [] [] (no_code mid named names.rest) pushed.adds in
@@ -67,4 +67,4 @@ returns c =
       takes = subst (λ s. TakesAll mid.scope (λ k. with_number (codes "n") k ∷ with_number (codes "v") k ∷ []) (number ∷ name ∷ []) s) (sym pushed.scope) names.takes;
     }
     in
-    (number, subst (λ v. LiftsVariantBy cases c.args.last.now c.args.e number v old new) (sym pushed.same) whole)
+    (number, whole)
