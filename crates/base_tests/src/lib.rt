@@ -1,10 +1,11 @@
-//! Tests of the tables of a world, of layouts, core words and facts of types, and of trees of a file.
+//! Tests of containers, of facts on types, of tables that are deep, and of trees of a file. What the definitions of tables, layouts, core
+//! words and identifiers hold of worked rows is proved in `proofs`.
 #![tactic(auto)]
 
 #[cfg(test)]
-mod parts;
+mod containers;
 #[cfg(test)]
-mod tables;
+mod parts;
 #[cfg(test)]
 mod trees;
 #[cfg(test)]

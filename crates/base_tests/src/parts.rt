@@ -1,5 +1,7 @@
 //! Names, entries and tables for the tests.
 
+ghost use Rattle.std.specs.Prelude.{◌≡◌, [], ◌∷◌, IfOk};
+
 use std::alloc::Global;
 use wit_model::{
     Docs, List, Name, OutOfMemory, Package, Resolve, Text, TypeDef, TypeDefKind, TypeId, TypeOwner,
@@ -19,7 +21,9 @@ pub(crate) fn no_name(alloc: Global) -> Name {
     }
 }
 
-pub(crate) fn one<T: Drop>(alloc: Global, value: T) -> Result<List<T>, OutOfMemory> {
+pub(crate) fn one<T: Drop>(alloc: Global, value: T) -> Result<List<T>, OutOfMemory>
+    ensures { IfOk result (λ l. l ≡ value ∷ []) }
+{
     let mut items = List::new(alloc);
     items.push(value)?;
     Ok(items)
@@ -40,22 +44,26 @@ pub(crate) const fn entry(id: u32) -> WitType {
     WitType::Id(TypeId(id))
 }
 
-/// A type without a name.
-pub(crate) fn type_def(owner: TypeOwner, kind: TypeDefKind) -> TypeDef {
-    TypeDef {
-        name: None,
-        owner,
+/// Puts a type without an owner behind others.
+pub(crate) fn push(
+    types: &mut List<TypeDef>,
+    name: Option<Name>,
+    kind: TypeDefKind,
+) -> Result<(), OutOfMemory> {
+    types.push(TypeDef {
+        name,
+        owner: TypeOwner::None,
         kind,
         docs: docs(),
-    }
+    })
 }
 
-/// Tables without entries.
-pub(crate) fn no_tables(alloc: Global) -> Resolve {
+/// Tables of types alone.
+pub(crate) fn of_types(alloc: Global, types: List<TypeDef>) -> Resolve {
     Resolve {
         worlds: List::new(alloc),
         packages: List::new(alloc),
         interfaces: List::new(alloc),
-        types: List::new(alloc),
+        types,
     }
 }

@@ -4,5 +4,4 @@ mod definitions;
 mod forms;
 mod made;
 mod matches;
-mod names;
 mod well_named;

@@ -1,10 +1,5 @@
-//! Layouts, core words, signatures and facts of types, against values worked out by the Canonical ABI.
+//! Facts on types, and tables that are deep.
 
 mod deep;
 mod facts;
-mod flat;
-mod limits;
 mod sample;
-mod signature;
-mod sizes;
-mod words;

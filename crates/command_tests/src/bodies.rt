@@ -1,37 +1,45 @@
-//! The lines of the file's wrappers behind their heads are those of the driver's code.
+//! The wrappers of a file are the driver's code.
 
 mod code;
 mod sites;
 mod worlds;
 
-use code::{export_text, import_text};
+use code::{export_code, import_code};
+use func_gen::Body;
 use rust_gen::{Build, Files, Opts};
-use rust_tree::text_of;
+use rust_tree::{Bindings, Block, WrapperId, text_of};
 use std::alloc::Global;
 use std::test::Fail;
-use wit_model::{Resolve, Text, WorldId};
+use wit_model::{Resolve, WorldId};
 use worlds::{world_of_a_variant, world_of_flags};
+use wrapper_run::{export_at, import_at};
 
-/// The file of the first world of tables.
-fn file_of(alloc: Global, resolve: &Resolve) -> Result<Text, Fail> {
+/// The tree of the first world of tables.
+fn tree_of(alloc: Global, resolve: &Resolve) -> Result<Bindings, Fail> {
     let mut generator = Opts::default(alloc).build(alloc)?;
     let mut files = Files::new(alloc);
     let tree = generator.generate(resolve, WorldId(0), &mut files)?;
-    Ok(text_of(alloc, &tree)?)
+    Ok(tree)
 }
 
-/// What stands behind the first head of a wrapper.
-fn behind_head(text: &str) -> &str {
-    match text.split_once("unsafe {\n") {
-        Some((_, body)) => body,
-        None => "",
+/// Whether the first wrapper of a tree is that of an import with this body.
+fn is_import(tree: &Bindings, body: &Block) -> bool {
+    match import_at(tree, WrapperId(0)) {
+        Some((_, wrapper)) => wrapper.body == *body,
+        None => false,
     }
 }
 
-/// Whether the code holds a passage, and the file's first wrapper is that code.
-fn is_first(file: &Text, code: &Text, passage: &str) -> bool {
-    let body = behind_head(code.as_str());
-    body.contains(passage) && behind_head(file.as_str()).starts_with(body)
+/// Whether the first wrapper of a tree is that of an export with this body.
+fn is_export(tree: &Bindings, body: &Body) -> bool {
+    match (export_at(tree, WrapperId(0)), &body.call) {
+        (Some((_, wrapper)), Some(call)) => {
+            wrapper.call == *call
+                && wrapper.rest.stmts == body.stmts
+                && wrapper.rest.tail == body.tail
+        }
+        _ => false,
+    }
 }
 
 /// The float's bits, put into the slot that a whole number shares.
@@ -41,9 +49,11 @@ const PAYLOAD: &str =
 #[test]
 fn a_payload_in_a_joined_slot_is_passed_by_the_drivers_code(rt: HostRuntime) -> Result<(), Fail> {
     let resolve = world_of_a_variant(rt.alloc())?;
-    let code = import_text(rt.alloc(), &resolve)?;
-    let file = file_of(rt.alloc(), &resolve)?;
-    assert!(rt; is_first(&file, &code, PAYLOAD), "{}", code.as_str());
+    let body = import_code(rt.alloc(), &resolve)?;
+    let tree = tree_of(rt.alloc(), &resolve)?;
+    assert!(rt; is_import(&tree, &body));
+    let text = text_of(rt.alloc(), &tree)?;
+    assert!(rt; text.as_str().contains(PAYLOAD), "{}", text.as_str());
     Ok(())
 }
 
@@ -54,8 +64,10 @@ const WORDS: &str =
 #[test]
 fn flags_of_two_words_are_read_by_the_drivers_code(rt: HostRuntime) -> Result<(), Fail> {
     let resolve = world_of_flags(rt.alloc())?;
-    let code = export_text(rt.alloc(), &resolve)?;
-    let file = file_of(rt.alloc(), &resolve)?;
-    assert!(rt; is_first(&file, &code, WORDS), "{}", code.as_str());
+    let body = export_code(rt.alloc(), &resolve)?;
+    let tree = tree_of(rt.alloc(), &resolve)?;
+    assert!(rt; is_export(&tree, &body));
+    let text = text_of(rt.alloc(), &tree)?;
+    assert!(rt; text.as_str().contains(WORDS), "{}", text.as_str());
     Ok(())
 }

@@ -1,5 +1,5 @@
-//! Tests of the command: runs whose ends fail, and the lines, statuses and files that no document makes; and that the wrappers of a file
-//! are the driver's code, for a payload in a joined slot and for flags of two words.
+//! Tests of the command: runs whose ends fail, and files that no document makes; and that the wrappers of a file are the driver's code, for
+//! a payload in a joined slot and for flags of two words.
 #![tactic(auto)]
 
 #[cfg(test)]
@@ -8,8 +8,6 @@ mod bodies;
 mod ends;
 #[cfg(test)]
 mod files;
-#[cfg(test)]
-mod lines;
 #[cfg(test)]
 mod runs;
 #[cfg(test)]

@@ -54,10 +54,17 @@ fn file_name(alloc: Global, world: &World) -> Result<Text, OutOfMemory>
     Ok(name)
 }
 
-fn push_file(files: &mut Files, name: &Text, content: &Text) -> Result<(), OutOfMemory>
-    ensures ok { IfOk result (λ _. Gains files.old files.new name.now content.now) }
+/// Puts the text of a tree behind what the files hold under a name.
+fn push_text(
+    alloc: Global,
+    files: &mut Files,
+    name: &Text,
+    tree: &Bindings,
+) -> Result<(), OutOfMemory>
+    ensures ok { IfOk result (λ _. Gains files.old files.new name.now (text tree.now)) }
     ensures err { OnErr result (files.new ≡ files.old) }
 {
+    let content = text_of(alloc, tree)?;
     files.push(name.as_str(), content.as_str().as_bytes())
 }
 
@@ -75,10 +82,9 @@ fn write_file(
     ensures gains { IfOk result (λ tree. Gains files.old files.new (file_name world.now) (text tree)) }
     ensures err { OnErr result (files.new ≡ files.old) }
 {
-    let tree = bindings_of(alloc, opts, resolve, id, world)?;
     let name = file_name(alloc, world)?;
-    let content = text_of(alloc, &tree)?;
-    push_file(files, &name, &content)?;
+    let tree = bindings_of(alloc, opts, resolve, id, world)?;
+    push_text(alloc, files, &name, &tree)?;
     Ok(tree)
 }
 

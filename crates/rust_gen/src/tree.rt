@@ -1,6 +1,6 @@
 //! The tree of a world's file.
 
-ghost use Rattle.std.specs.Prelude.{◌≡◌, ◌++◌, ◌∷◌, [], true, List, Option, IfOk, OnOk, map, option_to_list};
+ghost use Rattle.std.specs.Prelude.{◌≡◌, ◌++◌, ◌∷◌, [], true, List, Option, Some, IfOk, OnOk, map, option_to_list, slice_get};
 ghost use Rattle.std.specs.List.{AllZip, flat_map};
 ghost use Rattle.wit_model.specs.Distinct.{is_distinct};
 ghost use Rattle.wit_model.specs.IndexRange.{function_in_range};
@@ -12,15 +12,16 @@ ghost use Rattle.rust_tree.specs.declared.item.Item.TheVariants as item;
 ghost use Rattle.rust_tree.specs.WellNamed.{are_well_named};
 ghost use Rattle.gen_accept.specs.Area.{needs_return};
 ghost use Rattle.gen_accept.specs.DeclaredNames.{param_idents};
-ghost use Rattle.gen_accept.specs.Emitted.{emitted_places};
+ghost use Rattle.gen_accept.specs.Emitted.{emitted_places, imported_functions};
 ghost use Rattle.rust_gen.specs.Body.{ArePartsWritten, IsExportWritten, IsReturnWritten, IsWritten, ReturnWritten};
+ghost use Rattle.type_defs.specs.Levels.{are_shallow};
 ghost use Rattle.type_defs.specs.ParamType.{HasFacts};
 ghost use Rattle.type_sites.specs.Sites.{type_sites};
 ghost use Rattle.rust_gen.specs.Bound.{AreItems, Binds, Parts, areas_of, export_items, return_items};
 ghost use Rattle.gen_accept.specs.InRange.{AreInRange};
-ghost use Rattle.rust_gen.specs.Known.{AreAtHand, HaveDistinctParams, IsKnown, sites_in};
+ghost use Rattle.rust_gen.specs.Known.{AreAtHand, CanWriteTypes, HaveDistinctParams, IsKnown, sites_in};
 ghost use Rattle.rust_gen.specs.OptionLines.{option_lines, unused_types_line};
-ghost use Rattle.rust_gen.specs.Runtime.{runtime_module};
+ghost use Rattle.rust_gen.specs.Runtime.{runtime_items, runtime_module};
 
 use crate::export::{ExportMade, export_wrapper};
 use crate::exported::{push_area, push_last_macro, push_trait_and_macro};
@@ -228,9 +229,45 @@ fn push_exports(
     Ok(areas)
 }
 
-fn push_runtime(items: &mut List<Item>, asked: List<RuntimeItem>) -> Result<(), OutOfMemory>
-    ensures { OnOk result (items.new ≡ items.old ++ runtime_module asked) }
+/// Puts the wrappers of a world's functions behind other items, and answers the areas that those of exported functions need.
+fn push_wrappers(
+    alloc: Global,
+    resolve: &Resolve,
+    id: WorldId,
+    items: &mut List<Item>,
+    world: &World,
+    exports: &[&Function],
+) -> Result<List<Asked>, OutOfMemory>
+    requires well { IsWellFormed resolve.now }
+    requires found { slice_get resolve.now.worlds id.0 ≡ Some world.now }
+    requires shallow { are_shallow resolve.now.types ≡ true }
+    requires types { CanWriteTypes resolve.now id }
+    requires imports { AreInRange resolve.now (imported_functions world.now) }
+    requires distinct { HaveDistinctParams (imported_functions world.now) }
+    requires within { AreInRange resolve.now (map (λ f. f.now) exports.now) }
+    ensures { IfOk result
+        (λ areas. (ws : List FnItem) × (es : List Parts) × (items.new ≡ (items.old ++ map item.Import ws) ++ flat_map export_items es) × (areas ≡ flat_map option_to_list (areas_of es)) × AllZip (IsWritten resolve.now.types (type_sites resolve.now world.now)) (imported_functions world.now) ws × AllZip (ArePartsWritten resolve.now.types (type_sites resolve.now world.now)) (map (λ f. f.now) exports.now) es) }
 {
+    let imports = functions_in(alloc, world.imports.as_slice())?;
+    let facts = Types::analyze(alloc, resolve, id)?;
+    let mut tables = type_tables(alloc, resolve, id)?;
+    push_imports(
+        alloc,
+        resolve,
+        &facts,
+        &mut tables,
+        items,
+        imports.as_slice(),
+    )?;
+    let areas = push_exports(alloc, resolve, &mut tables, items, exports)?;
+    Ok(areas)
+}
+
+/// Puts the module `_rt` behind other items, where they ask for any of its items.
+fn push_runtime(items: &mut List<Item>, alloc: Global) -> Result<(), OutOfMemory>
+    ensures { OnOk result (items.new ≡ items.old ++ runtime_module (runtime_items items.old)) }
+{
+    let asked = runtime_items(alloc, items.as_slice())?;
     if asked.is_empty() {
         return Ok(());
     }
@@ -248,26 +285,15 @@ fn world_items(
     requires { IsKnown opts.now resolve.now id world.now }
     ensures { IfOk result (AreItems (IsWritten resolve.now.types (type_sites resolve.now world.now)) (ArePartsWritten resolve.now.types (type_sites resolve.now world.now)) opts.now resolve.now id world.now) }
 {
-    let imports = functions_in(alloc, world.imports.as_slice())?;
-    let exports = functions_in(alloc, world.exports.as_slice())?;
     let types = definitions_of(alloc, opts.type_opts(), resolve, id, world)?;
-    let facts = Types::analyze(alloc, resolve, id)?;
-    let mut tables = type_tables(alloc, resolve, id)?;
     let mut items = type_items(alloc, types)?;
-    push_imports(
-        alloc,
-        resolve,
-        &facts,
-        &mut tables,
-        &mut items,
-        imports.as_slice(),
-    )?;
-    let areas = push_exports(alloc, resolve, &mut tables, &mut items, exports.as_slice())?;
-    push_trait_and_macro(alloc, resolve, &mut items, world, exports.as_slice())?;
+    let exports = functions_in(alloc, world.exports.as_slice())?;
+    let exports = exports.as_slice();
+    let areas = push_wrappers(alloc, resolve, id, &mut items, world, exports)?;
+    push_trait_and_macro(alloc, resolve, &mut items, world, exports)?;
     push_area(&mut items, areas.as_slice())?;
-    let asked = runtime_items(alloc, items.as_slice())?;
-    push_runtime(&mut items, asked)?;
-    push_last_macro(alloc, &mut items, world, exports.as_slice())?;
+    push_runtime(&mut items, alloc)?;
+    push_last_macro(alloc, &mut items, world, exports)?;
     Ok(items)
 }
 

@@ -47,9 +47,10 @@ impl Trees {
         if let Some(at) = place_in(self.made.as_slice(), name) {
             return Ok(at);
         }
-        let tree = tree_at(rt, name)?;
+        let name = Text::from_str(rt.alloc(), name)?;
+        let tree = tree_at(rt, name.as_str())?;
         let at = self.made.len();
-        self.made.push((Text::from_str(rt.alloc(), name)?, tree))?;
+        self.made.push((name, tree))?;
         Ok(at)
     }
 }

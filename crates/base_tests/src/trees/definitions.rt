@@ -1,9 +1,11 @@
 //! Definitions of types: forms that no world has so far, and which types may stand in them.
 
-use crate::trees::made::{file, path, text};
-use rust_tree::{
-    AliasItem, ErrorType, Item, StructItem, TypeExpr, TypeItem, are_well_named, text_of,
-};
+ghost use Rattle.std.specs.Prelude.{◌≡◌, IfOk};
+ghost use Rattle.rust_tree.specs.Tree.{wrapper_count};
+
+use crate::parts::one;
+use crate::trees::made::{file_text, path, text};
+use rust_tree::{AliasItem, ErrorType, Item, StructItem, TypeExpr, TypeItem, are_well_named};
 use std::alloc::Global;
 use std::test::Fail;
 use wit_model::{Boxed, List, OutOfMemory};
@@ -58,14 +60,27 @@ fn maybe(alloc: Global, names: &[&str], n: u32) -> Result<TypeExpr, OutOfMemory>
     Ok(TypeExpr::Optional(Boxed::new(alloc, array)?))
 }
 
+fn maybe_alias(alloc: Global) -> Result<TypeItem, OutOfMemory> {
+    let maybe = maybe(alloc, &["other", "T"], 4)?;
+    alias(alloc, "Maybe", maybe)
+}
+
+/// That struct, and such an alias.
+fn items(alloc: Global) -> Result<List<Item>, OutOfMemory>
+    ensures { IfOk result (λ items. wrapper_count items ≡ 0) }
+{
+    let bare = bare(alloc)?;
+    let mut items = one(alloc, Item::Type(bare))?;
+    let alias = maybe_alias(alloc)?;
+    items.push(Item::Type(alias))?;
+    Ok(items)
+}
+
 #[test]
 fn definitions_of_types(rt: HostRuntime) -> Result<(), Fail> {
-    let alloc = rt.alloc();
-    let mut items = List::new(alloc);
-    items.push(Item::Type(bare(alloc)?))?;
-    items.push(Item::Type(alias(alloc, "Maybe", maybe(alloc, &["other", "T"], 4)?)?))?;
-    let tree = file(alloc, items, List::new(alloc))?;
-    assert_eq!(rt; text_of(alloc, &tree)?.as_str(), WANT);
+    let items = items(rt.alloc())?;
+    let text = file_text(rt.alloc(), items, List::new(rt.alloc()))?;
+    assert!(rt; text.as_str() == WANT, "{}", text.as_str());
     Ok(())
 }
 

@@ -1,8 +1,8 @@
 //! Forms of the tree that no worked example prints: a core type that is an address or a number, a path from outer modules, a
 //! cast of a cast, and memory behind an address that is no local.
 
-use crate::trees::made::{file, import, path, place, text};
-use rust_tree::{CastType, Expr, ImportDecl, Item, SmallType, Stmt, text_of};
+use crate::trees::made::{import_text, path, text};
+use rust_tree::{CastType, Expr, ImportDecl, SmallType, Stmt};
 use std::alloc::Global;
 use std::test::Fail;
 use wit_model::{ArchitectureSize, Boxed, List, OutOfMemory, WasmType};
@@ -69,10 +69,17 @@ fn cast(alloc: Global, e: Expr, to: CastType) -> Result<Expr, OutOfMemory> {
     Ok(Expr::Cast(Boxed::new(alloc, e)?, to))
 }
 
+/// `(y as u8 as i8)`
+fn cast_twice(alloc: Global) -> Result<Expr, OutOfMemory> {
+    let y = Expr::Local(text(alloc, "y")?);
+    let byte = cast(alloc, y, CastType::U8)?;
+    cast(alloc, byte, CastType::I8)
+}
+
 fn small_store(alloc: Global) -> Result<Stmt, OutOfMemory> {
-    let y = cast(alloc, Expr::Local(text(alloc, "y")?), CastType::U8)?;
-    let y = cast(alloc, y, CastType::I8)?;
-    Ok(Stmt::StoreSmall(Expr::Ref(text(alloc, "x")?), OFFSET, SmallType::I8, y))
+    let x = text(alloc, "x")?;
+    let y = cast_twice(alloc)?;
+    Ok(Stmt::StoreSmall(Expr::Ref(x), OFFSET, SmallType::I8, y))
 }
 
 fn stmts(alloc: Global) -> Result<List<Stmt>, OutOfMemory> {
@@ -87,13 +94,8 @@ fn stmts(alloc: Global) -> Result<List<Stmt>, OutOfMemory> {
 
 #[test]
 fn forms_that_no_example_prints(rt: HostRuntime) -> Result<(), Fail> {
-    let alloc = rt.alloc();
-    let many = import(alloc, "many", &[], stmts(alloc)?)?;
-    let mut items = List::new(alloc);
-    items.push(Item::Import(many))?;
-    let mut places = List::new(alloc);
-    places.push(place(0))?;
-    let tree = file(alloc, items, places)?;
-    assert_eq!(rt; text_of(alloc, &tree)?.as_str(), WANT);
+    let stmts = stmts(rt.alloc())?;
+    let text = import_text(rt.alloc(), "many", stmts)?;
+    assert!(rt; text.as_str() == WANT, "{}", text.as_str());
     Ok(())
 }

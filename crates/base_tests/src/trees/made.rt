@@ -3,9 +3,10 @@
 ghost use Rattle.std.specs.Prelude.{◌≡◌, IfOk, length};
 ghost use Rattle.rust_tree.specs.Tree.{wrapper_count};
 
+use crate::parts::one;
 use rust_tree::{
-    Bindings, Block, CallBlock, ExportFn, Expr, FnItem, FuncPlace, Item, Path, Stmt, TypeExpr,
-    are_well_named,
+    Bindings, Block, CallBlock, ExportFn, FnItem, FuncPlace, Item, Path, Stmt, TypeExpr,
+    are_well_named, text_of,
 };
 use std::alloc::Global;
 use std::test::Fail;
@@ -30,10 +31,6 @@ pub(crate) fn path(alloc: Global, names: &[&str]) -> Result<Path, OutOfMemory> {
         supers: 0,
         names: texts(alloc, names)?,
     })
-}
-
-pub(crate) fn local(alloc: Global, name: &str) -> Result<Expr, OutOfMemory> {
-    Ok(Expr::Local(text(alloc, name)?))
 }
 
 /// An import's wrapper of this name without parameters and a result, whose body is these statements.
@@ -81,26 +78,30 @@ pub(crate) fn export(
     })
 }
 
-/// The place of the function so far from the first in its world.
-pub(crate) const fn place(nth: u32) -> FuncPlace {
-    FuncPlace {
-        interface: None,
-        nth,
-    }
-}
-
-/// The file of these items, or a failure where a name may not stand in one.
-pub(crate) fn file(
+/// The text of a file of these items, or a failure where a name may not stand in one.
+pub(crate) fn file_text(
     alloc: Global,
     items: List<Item>,
     places: List<FuncPlace>,
-) -> Result<Bindings, Fail>
+) -> Result<Text, Fail>
     requires { length places ≡ wrapper_count items }
-    ensures { IfOk result (λ t. (t.items ≡ items) × (t.places ≡ places)) }
 {
     if !are_well_named(&[], items.as_slice()) {
         return Err(Fail::new("a name may not stand in a tree"));
     }
     let tree = Bindings::new(alloc, List::new(alloc), items, places)?;
-    Ok(tree)
+    let text = text_of(alloc, &tree)?;
+    Ok(text)
+}
+
+/// The text of a file of one import, whose wrapper has this name and these statements.
+pub(crate) fn import_text(alloc: Global, name: &str, stmts: List<Stmt>) -> Result<Text, Fail> {
+    let function = import(alloc, name, &[], stmts)?;
+    let items = one(alloc, Item::Import(function))?;
+    let place = FuncPlace {
+        interface: None,
+        nth: 0,
+    };
+    let places = one(alloc, place)?;
+    file_text(alloc, items, places)
 }

@@ -1,22 +1,24 @@
 //! Names in the arms of a `match`. What such statements print, worked examples show.
 
-use crate::trees::made::{import, local, path, text};
+use crate::parts::one;
+use crate::trees::made::{import, path, text};
 use rust_tree::{Arm, ArmPattern, Block, Expr, Item, MatchNames, Stmt, are_well_named};
 use std::alloc::Global;
 use std::test::Fail;
-use wit_model::{List, OutOfMemory};
+use wit_model::OutOfMemory;
 
-/// Whether these statements may stand in a tree.
-fn may_stand(alloc: Global, stmts: List<Stmt>) -> Result<bool, OutOfMemory> {
-    let mut items = List::new(alloc);
-    items.push(Item::Import(import(alloc, "f", &[], stmts)?))?;
+/// Whether this statement may stand in a tree.
+fn may_stand(alloc: Global, stmt: Stmt) -> Result<bool, OutOfMemory> {
+    let stmts = one(alloc, stmt)?;
+    let function = import(alloc, "f", &[], stmts)?;
+    let items = one(alloc, Item::Import(function))?;
     Ok(are_well_named(&[], items.as_slice()))
 }
 
 /// An arm behind this pattern, in which a slot is declared.
 fn arm(alloc: Global, pattern: ArmPattern, slot: &str) -> Result<Arm, OutOfMemory> {
-    let mut stmts = List::new(alloc);
-    stmts.push(Stmt::LetSlot(text(alloc, slot)?))?;
+    let name = text(alloc, slot)?;
+    let stmts = one(alloc, Stmt::LetSlot(name))?;
     Ok(Arm {
         pattern,
         body: Block { stmts, tail: None },
@@ -25,18 +27,19 @@ fn arm(alloc: Global, pattern: ArmPattern, slot: &str) -> Result<Arm, OutOfMemor
 
 /// Whether an arm behind this pattern may stand in a tree, with a local of this name.
 fn may_arm_stand(alloc: Global, pattern: ArmPattern, name: &str) -> Result<bool, OutOfMemory> {
-    let mut arms = List::new(alloc);
-    arms.push(arm(alloc, pattern, name)?)?;
-    let mut stmts = List::new(alloc);
-    stmts.push(Stmt::Match(MatchNames::Nothing, local(alloc, "a")?, arms))?;
-    may_stand(alloc, stmts)
+    let arm = arm(alloc, pattern, name)?;
+    let arms = one(alloc, arm)?;
+    let a = text(alloc, "a")?;
+    may_stand(
+        alloc,
+        Stmt::Match(MatchNames::Nothing, Expr::Local(a), arms),
+    )
 }
 
 /// Whether a case by the names of its path may stand in a tree as a value.
 fn may_value_stand(alloc: Global, names: &[&str]) -> Result<bool, OutOfMemory> {
-    let mut stmts = List::new(alloc);
-    stmts.push(Stmt::Expr(Expr::Case(path(alloc, names)?)))?;
-    may_stand(alloc, stmts)
+    let case = path(alloc, names)?;
+    may_stand(alloc, Stmt::Expr(Expr::Case(case)))
 }
 
 /// The same as a pattern.

@@ -1,32 +1,45 @@
 //! Tables that are deep.
 
-use crate::parts::{entry, no_tables};
-use crate::types::flat::flat_of;
-use crate::types::sample::{checked, push, record};
+ghost use Rattle.wit_model.specs.WellFormed.{IsWellFormed};
+
+use crate::parts::{entry, of_types, push};
+use crate::types::sample::{checked, record};
 use std::alloc::Global;
 use std::test::Fail;
-use wit_layout::SizeAlign;
-use wit_model::{OutOfMemory, Resolve, TypeDefKind, TypeId, WitType};
+use wit_layout::{SizeAlign, flat_types};
+use wit_model::{List, OutOfMemory, Resolve, TypeDefKind, TypeId, WitType};
 
 /// A byte, and 20,000 records of which each holds the type before it and a byte more.
 fn records(alloc: Global) -> Result<Resolve, OutOfMemory> {
-    let mut tables = no_tables(alloc);
-    push(&mut tables, None, TypeDefKind::Alias(WitType::U8))?;
+    let mut types = List::new(alloc);
+    push(&mut types, None, TypeDefKind::Alias(WitType::U8))?;
     for id in 0..20000 {
-        push(&mut tables, None, record(alloc, &[entry(id), WitType::U8])?)?;
+        push(&mut types, None, record(alloc, &[entry(id), WitType::U8])?)?;
     }
-    Ok(tables)
+    Ok(of_types(alloc, types))
 }
 
 /// An option, and a hundred results of which each has the type before it as both payloads.
 fn results(alloc: Global) -> Result<Resolve, OutOfMemory> {
-    let mut tables = no_tables(alloc);
-    push(&mut tables, None, TypeDefKind::Option(WitType::U8))?;
+    let mut types = List::new(alloc);
+    push(&mut types, None, TypeDefKind::Option(WitType::U8))?;
     for id in 0..100 {
         let both = Some(entry(id));
-        push(&mut tables, None, TypeDefKind::Result(both, both))?;
+        push(&mut types, None, TypeDefKind::Result(both, both))?;
     }
-    Ok(tables)
+    Ok(of_types(alloc, types))
+}
+
+/// How many words of the type with this number are told, and whether there are more.
+#[tactic(auto, unfolding(wit_model::specs::TypeOrder::type_below))]
+fn told(resolve: &Resolve, id: u32) -> Option<(u32, bool)>
+    requires { IsWellFormed resolve.now }
+{
+    if (id as usize) < resolve.types.len() {
+        let flat = flat_types(resolve, &WitType::Id(TypeId(id)));
+        return Some((flat.count, flat.more));
+    }
+    None
 }
 
 fn bytes_of(sizes: &SizeAlign, id: u32) -> u64 {
@@ -40,10 +53,9 @@ fn bytes_of(sizes: &SizeAlign, id: u32) -> u64 {
 #[test]
 fn a_long_chain_of_records(rt: HostRuntime) -> Result<(), Fail> {
     let tables = checked(rt.alloc(), records(rt.alloc())?)?;
-    for (id, count, more) in [(15, 16, false), (16, 16, true), (20000, 16, true)] {
-        let found = flat_of(&tables, id).map(|flat| (flat.count, flat.more));
-        assert!(rt; found == Some((count, more)), "type {id}");
-    }
+    assert!(rt; told(&tables, 15) == Some((16, false)));
+    assert!(rt; told(&tables, 16) == Some((16, true)));
+    assert!(rt; told(&tables, 20000) == Some((16, true)));
     let sizes = SizeAlign::fill(rt.alloc(), &tables)?;
     assert!(rt; bytes_of(&sizes, 20000) == 20001);
     Ok(())
@@ -52,9 +64,8 @@ fn a_long_chain_of_records(rt: HostRuntime) -> Result<(), Fail> {
 #[test]
 fn results_within_one_another_share_their_slots(rt: HostRuntime) -> Result<(), Fail> {
     let tables = checked(rt.alloc(), results(rt.alloc())?)?;
-    for (id, count, more) in [(14, 16, false), (15, 16, true), (100, 16, true)] {
-        let found = flat_of(&tables, id).map(|flat| (flat.count, flat.more));
-        assert!(rt; found == Some((count, more)), "type {id}");
-    }
+    assert!(rt; told(&tables, 14) == Some((16, false)));
+    assert!(rt; told(&tables, 15) == Some((16, true)));
+    assert!(rt; told(&tables, 100) == Some((16, true)));
     Ok(())
 }

@@ -1,32 +1,17 @@
-//! Tables for the tests: a world over types of each kind.
+//! Tables for the facts: a world over types of many kinds.
 
 ghost use Rattle.std.specs.Prelude.{IfOk};
 ghost use Rattle.wit_model.specs.WellFormed.{IsWellFormed};
 
-use crate::parts::{docs, entry, no_name, no_tables, package};
+use crate::parts::{docs, entry, no_name, one, package, push};
 use std::alloc::Global;
 use std::test::Fail;
 use wit_model::{
-    Case, Field, Function, FunctionKind, Handle, Interface, InterfaceId, List, Member, Name,
-    OutOfMemory, PackageId, Param, Resolve, TypeDef, TypeDefKind, TypeId, TypeOwner, WitType,
-    World, WorldItem, WorldKey,
+    Case, Field, Function, FunctionKind, Handle, Interface, InterfaceId, List, Name, OutOfMemory,
+    PackageId, Param, Resolve, TypeDef, TypeDefKind, TypeId, WitType, World, WorldItem, WorldKey,
 };
 
-/// Puts a type behind the others.
-pub(crate) fn push(
-    tables: &mut Resolve,
-    name: Option<Name>,
-    kind: TypeDefKind,
-) -> Result<(), OutOfMemory> {
-    tables.types.push(TypeDef {
-        name,
-        owner: TypeOwner::None,
-        kind,
-        docs: docs(),
-    })
-}
-
-pub(crate) fn tuple(alloc: Global, members: &[WitType]) -> Result<TypeDefKind, OutOfMemory> {
+fn tuple(alloc: Global, members: &[WitType]) -> Result<TypeDefKind, OutOfMemory> {
     Ok(TypeDefKind::Tuple(List::from_slice(alloc, members)?))
 }
 
@@ -44,29 +29,13 @@ pub(crate) fn record(alloc: Global, members: &[WitType]) -> Result<TypeDefKind, 
 
 /// A variant of one case.
 fn variant(alloc: Global, ty: WitType) -> Result<TypeDefKind, OutOfMemory> {
-    let mut list = List::new(alloc);
-    list.push(Case {
+    let case = Case {
         name: no_name(alloc),
         ty: Some(ty),
         docs: docs(),
-    })?;
-    Ok(TypeDefKind::Variant(list))
+    };
+    Ok(TypeDefKind::Variant(one(alloc, case)?))
 }
-
-/// So many members of an enum, or flags.
-fn members(alloc: Global, count: u32) -> Result<List<Member>, OutOfMemory> {
-    let mut list = List::new(alloc);
-    for _member in 0..count {
-        list.push(Member {
-            name: no_name(alloc),
-            docs: docs(),
-        })?;
-    }
-    Ok(list)
-}
-
-/// How many types the sample has.
-pub(crate) const TYPES: u32 = 25;
 
 fn kind(alloc: Global, number: u32) -> Result<TypeDefKind, OutOfMemory> {
     match number {
@@ -83,24 +52,7 @@ fn kind(alloc: Global, number: u32) -> Result<TypeDefKind, OutOfMemory> {
         10 => Ok(TypeDefKind::Alias(entry(9))),
         11 => Ok(TypeDefKind::Result(Some(entry(7)), Some(entry(10)))),
         12 => Ok(TypeDefKind::Map(WitType::U8, WitType::U32)),
-        _ => more_kinds(alloc, number),
-    }
-}
-
-fn more_kinds(alloc: Global, number: u32) -> Result<TypeDefKind, OutOfMemory> {
-    match number {
-        13 => Ok(TypeDefKind::FixedLengthList(entry(0), 4)),
-        14 => Ok(TypeDefKind::Option(WitType::U64)),
-        15 => Ok(TypeDefKind::Option(WitType::String)),
-        16 => Ok(TypeDefKind::Result(Some(WitType::String), Some(WitType::U64))),
-        17 => Ok(TypeDefKind::Result(None, None)),
-        18 => Ok(TypeDefKind::Enum(members(alloc, 256)?)),
-        19 => Ok(TypeDefKind::Enum(members(alloc, 257)?)),
-        20 => Ok(TypeDefKind::Flags(members(alloc, 8)?)),
-        21 => Ok(TypeDefKind::Flags(members(alloc, 16)?)),
-        22 => Ok(TypeDefKind::Flags(members(alloc, 33)?)),
-        23 => Ok(TypeDefKind::Future(Some(WitType::U64))),
-        _ => Ok(TypeDefKind::Stream(Some(WitType::U64))),
+        _ => Ok(TypeDefKind::FixedLengthList(entry(0), 4)),
     }
 }
 
@@ -117,75 +69,82 @@ fn name(alloc: Global, number: u32) -> Option<Name> {
     }
 }
 
-/// A function of so many parameters of a type.
-fn function(
-    alloc: Global,
-    params: u32,
-    ty: WitType,
-    answer: Option<WitType>,
-) -> Result<Function, OutOfMemory> {
-    let mut list = List::new(alloc);
-    for _param in 0..params {
-        list.push(Param {
-            name: no_name(alloc),
-            ty,
-        })?;
+/// The fourteen types of the sample.
+fn types(alloc: Global) -> Result<List<TypeDef>, OutOfMemory> {
+    let mut types = List::new(alloc);
+    for number in 0..14 {
+        let kind = kind(alloc, number)?;
+        push(&mut types, name(alloc, number), kind)?;
     }
+    Ok(types)
+}
+
+/// A function that takes a type and gives one.
+fn function(alloc: Global, ty: u32, answer: WitType) -> Result<Function, OutOfMemory> {
+    let param = Param {
+        name: no_name(alloc),
+        ty: entry(ty),
+    };
+    let params = one(alloc, param)?;
     Ok(Function {
         name: no_name(alloc),
         kind: FunctionKind::Freestanding,
-        params: list,
-        result: answer,
+        params,
+        result: Some(answer),
         docs: docs(),
     })
 }
 
-fn interface(alloc: Global, functions: List<Function>) -> Interface {
-    Interface {
+/// An interface of such a function.
+fn interface(alloc: Global, ty: u32, answer: u32) -> Result<Interface, OutOfMemory> {
+    let function = function(alloc, ty, entry(answer))?;
+    let functions = one(alloc, function)?;
+    Ok(Interface {
         name: None,
         package: None,
         types: List::new(alloc),
         functions,
         docs: docs(),
+    })
+}
+
+/// Interface 0 takes type 7 and gives type 11; interface 1, which no world lists, takes and gives type 1.
+fn interfaces(alloc: Global) -> Result<List<Interface>, OutOfMemory> {
+    let mut interfaces = List::new(alloc);
+    for (ty, answer) in [(7, 11), (1, 1)] {
+        let interface = interface(alloc, ty, answer)?;
+        interfaces.push(interface)?;
     }
+    Ok(interfaces)
 }
 
-/// One function, which takes and gives a type.
-fn one_function(alloc: Global, ty: u32, answer: u32) -> Result<List<Function>, OutOfMemory> {
-    let mut functions = List::new(alloc);
-    functions.push(function(alloc, 1, entry(ty), Some(entry(answer)))?)?;
-    Ok(functions)
-}
-
-/// Functions of 16 and of 17 words, each without a result, with one of a word and with one of two.
-fn long_functions(alloc: Global) -> Result<List<Function>, OutOfMemory> {
-    let mut functions = List::new(alloc);
-    for params in 16..18 {
-        for answer in [None, Some(WitType::U64), Some(WitType::String)] {
-            functions.push(function(alloc, params, WitType::U32, answer)?)?;
-        }
-    }
-    Ok(functions)
-}
-
-/// A world that imports interface 1, and exports a function that takes type 8 and gives a number.
+/// A world that imports interface 0, and exports a function that takes type 8 and gives a number.
 fn world(alloc: Global) -> Result<World, OutOfMemory> {
-    let mut world = World {
+    let function = function(alloc, 8, WitType::U32)?;
+    let key = WorldKey::Name(no_name(alloc));
+    let exports = one(alloc, (key, WorldItem::Function(function)))?;
+    let id = InterfaceId(0);
+    let imports = one(alloc, (WorldKey::Interface(id), WorldItem::Interface(id)))?;
+    Ok(World {
         name: no_name(alloc),
         package: PackageId(0),
-        imports: List::new(alloc),
-        exports: List::new(alloc),
-    };
-    let key = WorldKey::Interface(InterfaceId(1));
-    world
-        .imports
-        .push((key, WorldItem::Interface(InterfaceId(1))))?;
-    let function = function(alloc, 1, entry(8), Some(WitType::U32))?;
-    world.exports.push((
-        WorldKey::Name(no_name(alloc)),
-        WorldItem::Function(function),
-    ))?;
-    Ok(world)
+        imports,
+        exports,
+    })
+}
+
+fn unchecked(alloc: Global) -> Result<Resolve, OutOfMemory> {
+    let world = world(alloc)?;
+    let worlds = one(alloc, world)?;
+    let packages = one(alloc, package(alloc))?;
+    let interfaces = interfaces(alloc)?;
+    let types = types(alloc)?;
+    Ok(Resolve {
+        worlds,
+        packages,
+        interfaces,
+        types,
+    })
 }
 
 /// The tables, where they keep the rules.
@@ -193,27 +152,6 @@ pub(crate) fn checked(alloc: Global, tables: Resolve) -> Result<Resolve, Fail>
     ensures { IfOk result IsWellFormed }
 {
     tables.check(alloc)?;
-    Ok(tables)
-}
-
-/// Tables of the sample. The functions of interface 0 are long; interface 1 takes type 7 and gives type 11; interface 2,
-/// which no world lists, takes and gives type 1.
-fn unchecked(alloc: Global) -> Result<Resolve, OutOfMemory> {
-    let mut tables = no_tables(alloc);
-    for number in 0..TYPES {
-        push(&mut tables, name(alloc, number), kind(alloc, number)?)?;
-    }
-    tables.packages.push(package(alloc))?;
-    tables
-        .interfaces
-        .push(interface(alloc, long_functions(alloc)?))?;
-    tables
-        .interfaces
-        .push(interface(alloc, one_function(alloc, 7, 11)?))?;
-    tables
-        .interfaces
-        .push(interface(alloc, one_function(alloc, 1, 1)?))?;
-    tables.worlds.push(world(alloc)?)?;
     Ok(tables)
 }
 

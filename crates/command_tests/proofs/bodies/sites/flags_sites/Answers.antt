@@ -1,4 +1,5 @@
 use Rattle.std.proofs.Common.{List, [], ◌∷◌, ◌++◌, Option, Some, sym, ap, ◌∙◌, subst}
+use Rattle.std.specs.Prelude.{codes}
 use Rattle.rust_tree.specs.declared.repr.Repr.TheVariants.{U64}
 use Rattle.func_gen.specs.declared.flags_site.FlagsSite.{FlagsSite}
 use Rattle.func_gen.specs.declared.type_site.TypeSite.{TypeSite}
@@ -9,6 +10,6 @@ use Rattle.command_tests.proofs.bodies.sites.flags_sites.Goals as goal
 
 pub returns : goal.returns
 returns c =
-    let s : FlagsSite = record { path = c.in_ok-local_path.field-0; repr = U64; members = 40 } in
+    let s : FlagsSite = record { path = c.in_ok-path.path; repr = U64; members = 40 } in
     let pushed = c.in_ok-push.ensures.ok ∙ ap (λ (xs : List (Option TypeSite)). xs ++ Some (site.Flags s) ∷ []) c.new-sites.ensures in
-    subst CanBeDefined (sym pushed) (flags_can s c.in_ok-from_str.field-0 c.in_ok-local_path.ensures)
+    subst CanBeDefined (sym pushed) (flags_can s (codes "Fl") c.in_ok-path.ensures)

@@ -1,0 +1,5 @@
+mod LayoutRows
+mod NameRows
+mod RuleRows
+mod Sample
+mod WordRows
