@@ -8,6 +8,7 @@ ghost use Rattle.std.specs.List.{list_all};
 ghost use Rattle.std.specs.Option.{option_map};
 ghost use Rattle.wit_model.specs.TypeOrder.{GoesDown, payload_below, type_below};
 ghost use Rattle.wit_model.specs.WellFormed.{IsWellFormed};
+ghost use Rattle.wit_model.specs.declared.types.TypeDefKind.TheVariants as kind;
 ghost use Rattle.wit_model.specs.declared.types.WitType.TheVariants.{Id};
 ghost use Rattle.wrapper_meaning.specs.Shape.{payload_in, payloads_in, shape_at, shape_of, shapes};
 ghost use Rattle.wrapper_meaning.specs.Shape.Shape.{cases};
@@ -29,7 +30,7 @@ use crate::parts::{field_types, part_count};
 use crate::sending::{push_copies, send_one};
 use std::alloc::Global;
 use wit_layout::flat_types;
-use wit_model::{List, OutOfMemory, Resolve, TypeDefKind, TypeId, WasmType, WitType};
+use wit_model::{Field, List, OutOfMemory, Resolve, TypeDefKind, TypeId, WasmType, WitType};
 
 /// The core words of the value that an operand denotes, after `lower_flat` of wit-bindgen-core.
 ///
@@ -113,18 +114,10 @@ fn lower_id<B: Bindgen>(
             Ok(words)
         }
         TypeDefKind::Record(members) => {
-            let tys = field_types(alloc, members.as_slice())?;
-            let parts = lower_by(alloc, resolve, bindgen, value, Instruction::RecordLower(id))?;
-            let tys = tys.as_slice();
-            let words = lower_parts(alloc, resolve, bindgen, at, tys, &parts, realloc)?;
-            Ok(words)
+            lower_record(alloc, resolve, bindgen, value, id, members, realloc)
         }
         TypeDefKind::Tuple(members) => {
-            let tys = members.as_slice();
-            let inst = Instruction::TupleLower(part_count(tys)?);
-            let parts = lower_by(alloc, resolve, bindgen, value, inst)?;
-            let words = lower_parts(alloc, resolve, bindgen, at, tys, &parts, realloc)?;
-            Ok(words)
+            lower_tuple(alloc, resolve, bindgen, value, id, members, realloc)
         }
         TypeDefKind::Enum(members) => {
             if members.len() > MOST_CASES {
@@ -144,6 +137,58 @@ fn lower_id<B: Bindgen>(
         }
         _ => Err(OutOfMemory),
     }
+}
+
+/// A record: its fields, and then the words of each.
+#[cycle(lower)]
+fn lower_record<B: Bindgen>(
+    alloc: Global,
+    resolve: &Resolve,
+    bindgen: &mut B,
+    value: B::Operand,
+    id: TypeId,
+    members: &List<Field>,
+    realloc: bool,
+) -> Result<List<B::Operand>, OutOfMemory>
+    requires well { IsWellFormed resolve.now }
+    requires down { GoesDown resolve.now.types }
+    requires here { IsKindOf resolve.now.types id.0 (kind.Record members.now) }
+    requires side { IsSide B.meaning realloc bindgen.old }
+    ensures lowers { IfOk result (λ os. LowersFlat B.meaning realloc (shape_at resolve.now.types id.0) value os bindgen.old bindgen.new) }
+    ensures sends { OnOk result (Sends B.meaning resolve.now.types (lower_code resolve.now.types realloc (Id id)) bindgen.old bindgen.new) }
+{
+    let tys = field_types(alloc, members.as_slice())?;
+    let parts = lower_by(alloc, resolve, bindgen, value, Instruction::RecordLower(id))?;
+    let at = id.0 as usize;
+    let tys = tys.as_slice();
+    let words = lower_parts(alloc, resolve, bindgen, at, tys, &parts, realloc)?;
+    Ok(words)
+}
+
+/// A tuple: its parts, and then the words of each.
+#[cycle(lower)]
+fn lower_tuple<B: Bindgen>(
+    alloc: Global,
+    resolve: &Resolve,
+    bindgen: &mut B,
+    value: B::Operand,
+    id: TypeId,
+    members: &List<WitType>,
+    realloc: bool,
+) -> Result<List<B::Operand>, OutOfMemory>
+    requires well { IsWellFormed resolve.now }
+    requires down { GoesDown resolve.now.types }
+    requires here { IsKindOf resolve.now.types id.0 (kind.Tuple members.now) }
+    requires side { IsSide B.meaning realloc bindgen.old }
+    ensures lowers { IfOk result (λ os. LowersFlat B.meaning realloc (shape_at resolve.now.types id.0) value os bindgen.old bindgen.new) }
+    ensures sends { OnOk result (Sends B.meaning resolve.now.types (lower_code resolve.now.types realloc (Id id)) bindgen.old bindgen.new) }
+{
+    let tys = members.as_slice();
+    let inst = Instruction::TupleLower(part_count(tys)?);
+    let parts = lower_by(alloc, resolve, bindgen, value, inst)?;
+    let at = id.0 as usize;
+    let words = lower_parts(alloc, resolve, bindgen, at, tys, &parts, realloc)?;
+    Ok(words)
 }
 
 /// A value of a type with cases: a block for each case, and then the instruction of its kind.

@@ -47,43 +47,6 @@ lower_id-lower_type-requires g t c κs within =
     let below = alias_below types c.requires.down c.args.id.0 d at c.in-Alias.ty is c.requires.within in
     search rules
 
-pub lower_id-lower_by-requires : goal.lower_id-lower_by-requires
-lower_id-lower_by-requires g t c =
-    let types = c.args.resolve.now.types in
-    let d = c.index-types-at.result in
-    let at = entry_at types c.as_slice-types.result.now c.args.id.0 d c.as_slice-types.ensures c.requires.within c.index-types-at.is in
-    let is = kind_at c.as_slice-types.result.now c.args.id.0 d (kind.Record c.in-Record.members) c.index-types-at.is c.in-Record.is in
-    record { operands = refl; suits = (c.in-Record.members, record { entry = d; at = at; kind = is }) }
-
-pub lower_id-lower_parts-requires : goal.lower_id-lower_parts-requires
-lower_id-lower_parts-requires g t c κs within =
-    let m = g.B.Bindgen.meaning in
-    let types = c.args.resolve.now.types in
-    let d = c.index-types-at.result in
-    let at = entry_at types c.as_slice-types.result.now c.args.id.0 d c.as_slice-types.ensures c.requires.within c.index-types-at.is in
-    let is = kind_at c.as_slice-types.result.now c.args.id.0 d (kind.Record c.in-Record.members) c.index-types-at.is c.in-Record.is in
-    let members = c.in-Record.members in
-    let read = c.as_slice-tys.result.now in
-    let same : read ≡ map (λ (f : Field). f.ty) members = c.as_slice-tys.ensures ∙ c.in_ok-tys-in-Record.ensures ∙ ap (map (λ (f : Field). f.ty)) c.as_slice.ensures in
-    let below = subst (λ (xs : List WitType). list_all (λ ty. type_below c.args.id.0 ty) xs ≡ true) (sym same) (record_below types c.requires.down c.args.id.0 d at members is) in
-    let made = c.in_ok-parts-in-Record.ensures.results members (record { entry = d; at = at; kind = is }) in
-    let enough : length c.in_ok-parts-in-Record.parts ≡ length read = made ∙ sym (ap length same ∙ length-map members (λ (f : Field). f.ty)) in
-    let side = side_later m _ _ c.args.realloc c.in_ok-parts-in-Record.ensures.adds.grows c.requires.side in
-    search rules
-
-pub lower_id-lower_parts-requires-in-Tuple : goal.lower_id-lower_parts-requires-in-Tuple
-lower_id-lower_parts-requires-in-Tuple g t c κs within =
-    let m = g.B.Bindgen.meaning in
-    let types = c.args.resolve.now.types in
-    let d = c.index-types-at.result in
-    let at = entry_at types c.as_slice-types.result.now c.args.id.0 d c.as_slice-types.ensures c.requires.within c.index-types-at.is in
-    let is = kind_at c.as_slice-types.result.now c.args.id.0 d (kind.Tuple c.in-Tuple.members) c.index-types-at.is c.in-Tuple.is in
-    let read = c.as_slice-tys-in-Tuple.result.now in
-    let below = subst (λ (xs : List WitType). list_all (λ ty. type_below c.args.id.0 ty) xs ≡ true) (sym c.as_slice-tys-in-Tuple.ensures) (tuple_below types c.requires.down c.args.id.0 d at c.in-Tuple.members is) in
-    let enough : length c.in_ok-parts-in-Tuple.parts ≡ length read = c.in_ok-parts-in-Tuple.ensures.results ∙ c.in_ok-part_count-in-Tuple.ensures in
-    let side = side_later m _ _ c.args.realloc c.in_ok-parts-in-Tuple.ensures.adds.grows c.requires.side in
-    search rules
-
 pub lower_id-returns-in_ok-words-in-Alias : goal.lower_id-returns-in_ok-words-in-Alias
 lower_id-returns-in_ok-words-in-Alias g t c =
     let m = g.B.Bindgen.meaning in
@@ -94,42 +57,6 @@ lower_id-returns-in_ok-words-in-Alias g t c =
     record {
       lowers = lowers_as m g.met.B.Bindgen.sound types c.args.realloc _ _ _ _ c.args.value c.in_ok-words-in-Alias.words (alias_shape types c.requires.down c.args.id.0 d at c.in-Alias.ty is) c.in_ok-words-in-Alias.ensures.lowers;
       sends = sends_as m types _ _ _ _ (lower_alias_code types c.requires.down c.args.id d at c.args.realloc c.in-Alias.ty is) c.in_ok-words-in-Alias.ensures.sends;
-    }
-
-pub lower_id-returns-in_ok-words-in-Record : goal.lower_id-returns-in_ok-words-in-Record
-lower_id-returns-in_ok-words-in-Record g t c =
-    let m = g.B.Bindgen.meaning in
-    let types = c.args.resolve.now.types in
-    let d = c.index-types-at.result in
-    let at = entry_at types c.as_slice-types.result.now c.args.id.0 d c.as_slice-types.ensures c.requires.within c.index-types-at.is in
-    let is = kind_at c.as_slice-types.result.now c.args.id.0 d (kind.Record c.in-Record.members) c.index-types-at.is c.in-Record.is in
-    let members = c.in-Record.members in
-    let same : c.as_slice-tys.result.now ≡ map (λ (f : Field). f.ty) members = c.as_slice-tys.ensures ∙ c.in_ok-tys-in-Record.ensures ∙ ap (map (λ (f : Field). f.ty)) c.as_slice.ensures in
-    let later = lowers_all_as m g.met.B.Bindgen.sound types c.args.realloc _ _ _ _ c.in_ok-parts-in-Record.parts c.in_ok-words-in-Record.words same c.in_ok-words-in-Record.ensures.lowers in
-    let whole = record_lowers m g.met.B.Bindgen.sound types c.args.realloc c.args.id members _ _ _ c.args.value c.in_ok-parts-in-Record.parts c.in_ok-words-in-Record.words (record { entry = d; at = at; kind = is }) c.in_ok-parts-in-Record.ensures later in
-    let parts = sends_as m types _ _ _ _ (ap (each (λ n ty. lower_code types c.args.realloc ty) 0) (sym same)) c.in_ok-words-in-Record.ensures.sends in
-    record {
-      lowers = lowers_as m g.met.B.Bindgen.sound types c.args.realloc _ _ _ _ c.args.value c.in_ok-words-in-Record.words (record_shape types c.requires.down c.args.id.0 d at members is) whole;
-      sends = sends_as m types _ _ _ _ (lower_record_code types c.requires.down c.args.id d at c.args.realloc members is) (sends_then m types _ _ _ _ _ _ _ c.in_ok-parts-in-Record.ensures parts);
-    }
-
-pub lower_id-returns-in_ok-words-in-Tuple : goal.lower_id-returns-in_ok-words-in-Tuple
-lower_id-returns-in_ok-words-in-Tuple g t c =
-    let m = g.B.Bindgen.meaning in
-    let types = c.args.resolve.now.types in
-    let d = c.index-types-at.result in
-    let at = entry_at types c.as_slice-types.result.now c.args.id.0 d c.as_slice-types.ensures c.requires.within c.index-types-at.is in
-    let is = kind_at c.as_slice-types.result.now c.args.id.0 d (kind.Tuple c.in-Tuple.members) c.index-types-at.is c.in-Tuple.is in
-    let tys = c.in-Tuple.members in
-    let later = lowers_all_as m g.met.B.Bindgen.sound types c.args.realloc _ _ _ _ c.in_ok-parts-in-Tuple.parts c.in_ok-words-in-Tuple.words c.as_slice-tys-in-Tuple.ensures c.in_ok-words-in-Tuple.ensures.lowers in
-    let count = count-shapes types tys ∙ sym (c.in_ok-part_count-in-Tuple.ensures ∙ ap length c.as_slice-tys-in-Tuple.ensures) in
-    let whole = tuple_lowers m g.met.B.Bindgen.sound types c.args.realloc c.in_ok-part_count-in-Tuple.field-0 (shapes_of types tys) _ _ _ c.args.value c.in_ok-parts-in-Tuple.parts c.in_ok-words-in-Tuple.words count c.in_ok-parts-in-Tuple.ensures later in
-    let many : length tys ≡ c.in_ok-part_count-in-Tuple.field-0 = sym (c.in_ok-part_count-in-Tuple.ensures ∙ ap length c.as_slice-tys-in-Tuple.ensures) in
-    let parts = sends_as m types _ _ _ _ (ap (each (λ n ty. lower_code types c.args.realloc ty) 0) (sym c.as_slice-tys-in-Tuple.ensures)) c.in_ok-words-in-Tuple.ensures.sends in
-    let code = lower_tuple_code types c.requires.down c.args.id d at c.args.realloc tys is ∙ ap (λ n. sends (TupleLower n) ∷ each (λ n ty. lower_code types c.args.realloc ty) 0 tys) many in
-    record {
-      lowers = lowers_as m g.met.B.Bindgen.sound types c.args.realloc _ _ _ _ c.args.value c.in_ok-words-in-Tuple.words (tuple_shape types c.requires.down c.args.id.0 d at tys is) whole;
-      sends = sends_as m types _ _ _ _ code (sends_then m types _ _ _ _ _ _ _ c.in_ok-parts-in-Tuple.ensures parts);
     }
 
 pub lower_id-returns-in_ok-words-in-Enum : goal.lower_id-returns-in_ok-words-in-Enum
@@ -170,6 +97,68 @@ lower_id-returns-in_ok-words-in-Flags g t c =
     record {
       lowers = lowers_as m g.met.B.Bindgen.sound types c.args.realloc _ _ _ _ c.args.value c.in_ok-words-in-Flags.words (flags_shape types c.requires.down c.args.id.0 d at members is) flat;
       sends = sends_as m types _ _ _ _ (lower_flags_code types c.requires.down c.args.id d at c.args.realloc members is) (sends_one m types (FlagsLower c.args.id) _ _ _ _ e);
+    }
+
+pub lower_record-lower_by-requires : goal.lower_record-lower_by-requires
+lower_record-lower_by-requires g t c = record { operands = refl; suits = (c.args.members.now, record { entry = c.requires.here.entry; at = c.requires.here.stands; kind = c.requires.here.kind }) }
+
+pub lower_record-lower_parts-requires : goal.lower_record-lower_parts-requires
+lower_record-lower_parts-requires g t c κs within =
+    let m = g.B.Bindgen.meaning in
+    let types = c.args.resolve.now.types in
+    let here = c.requires.here in
+    let inside : c.args.id.0 < length types = slice_get_within types c.args.id.0 here.entry here.stands in
+    let members = c.args.members.now in
+    let read = c.as_slice-tys.result.now in
+    let same : read ≡ map (λ (f : Field). f.ty) members = c.as_slice-tys.ensures ∙ c.in_ok-tys.ensures ∙ ap (map (λ (f : Field). f.ty)) c.as_slice.ensures in
+    let below = subst (λ (xs : List WitType). list_all (λ ty. type_below c.args.id.0 ty) xs ≡ true) (sym same) (record_below types c.requires.down c.args.id.0 here.entry here.stands members here.kind) in
+    let made = c.in_ok-parts.ensures.results members (record { entry = here.entry; at = here.stands; kind = here.kind }) in
+    let enough : length c.in_ok-parts.parts ≡ length read = made ∙ sym (ap length same ∙ length-map members (λ (f : Field). f.ty)) in
+    let side = side_later m _ _ c.args.realloc c.in_ok-parts.ensures.adds.grows c.requires.side in
+    search rules
+
+pub lower_record-returns : goal.lower_record-returns
+lower_record-returns g t c =
+    let m = g.B.Bindgen.meaning in
+    let types = c.args.resolve.now.types in
+    let here = c.requires.here in
+    let members = c.args.members.now in
+    let same : c.as_slice-tys.result.now ≡ map (λ (f : Field). f.ty) members = c.as_slice-tys.ensures ∙ c.in_ok-tys.ensures ∙ ap (map (λ (f : Field). f.ty)) c.as_slice.ensures in
+    let later = lowers_all_as m g.met.B.Bindgen.sound types c.args.realloc _ _ _ _ c.in_ok-parts.parts c.in_ok-words.words same c.in_ok-words.ensures.lowers in
+    let whole = record_lowers m g.met.B.Bindgen.sound types c.args.realloc c.args.id members _ _ _ c.args.value c.in_ok-parts.parts c.in_ok-words.words (record { entry = here.entry; at = here.stands; kind = here.kind }) c.in_ok-parts.ensures later in
+    let parts = sends_as m types _ _ _ _ (ap (each (λ n ty. lower_code types c.args.realloc ty) 0) (sym same)) c.in_ok-words.ensures.sends in
+    record {
+      lowers = lowers_as m g.met.B.Bindgen.sound types c.args.realloc _ _ _ _ c.args.value c.in_ok-words.words (record_shape types c.requires.down c.args.id.0 here.entry here.stands members here.kind) whole;
+      sends = sends_as m types _ _ _ _ (lower_record_code types c.requires.down c.args.id here.entry here.stands c.args.realloc members here.kind) (sends_then m types _ _ _ _ _ _ _ c.in_ok-parts.ensures parts);
+    }
+
+pub lower_tuple-lower_parts-requires : goal.lower_tuple-lower_parts-requires
+lower_tuple-lower_parts-requires g t c κs within =
+    let m = g.B.Bindgen.meaning in
+    let types = c.args.resolve.now.types in
+    let here = c.requires.here in
+    let inside : c.args.id.0 < length types = slice_get_within types c.args.id.0 here.entry here.stands in
+    let read = c.as_slice-tys.result.now in
+    let below = subst (λ (xs : List WitType). list_all (λ ty. type_below c.args.id.0 ty) xs ≡ true) (sym c.as_slice-tys.ensures) (tuple_below types c.requires.down c.args.id.0 here.entry here.stands c.args.members.now here.kind) in
+    let enough : length c.in_ok-parts.parts ≡ length read = c.in_ok-parts.ensures.results ∙ c.in_ok-part_count.ensures in
+    let side = side_later m _ _ c.args.realloc c.in_ok-parts.ensures.adds.grows c.requires.side in
+    search rules
+
+pub lower_tuple-returns : goal.lower_tuple-returns
+lower_tuple-returns g t c =
+    let m = g.B.Bindgen.meaning in
+    let types = c.args.resolve.now.types in
+    let here = c.requires.here in
+    let tys = c.args.members.now in
+    let later = lowers_all_as m g.met.B.Bindgen.sound types c.args.realloc _ _ _ _ c.in_ok-parts.parts c.in_ok-words.words c.as_slice-tys.ensures c.in_ok-words.ensures.lowers in
+    let count = count-shapes types tys ∙ sym (c.in_ok-part_count.ensures ∙ ap length c.as_slice-tys.ensures) in
+    let whole = tuple_lowers m g.met.B.Bindgen.sound types c.args.realloc c.in_ok-part_count.field-0 (shapes_of types tys) _ _ _ c.args.value c.in_ok-parts.parts c.in_ok-words.words count c.in_ok-parts.ensures later in
+    let many : length tys ≡ c.in_ok-part_count.field-0 = sym (c.in_ok-part_count.ensures ∙ ap length c.as_slice-tys.ensures) in
+    let parts = sends_as m types _ _ _ _ (ap (each (λ n ty. lower_code types c.args.realloc ty) 0) (sym c.as_slice-tys.ensures)) c.in_ok-words.ensures.sends in
+    let code = lower_tuple_code types c.requires.down c.args.id here.entry here.stands c.args.realloc tys here.kind ∙ ap (λ n. sends (TupleLower n) ∷ each (λ n ty. lower_code types c.args.realloc ty) 0 tys) many in
+    record {
+      lowers = lowers_as m g.met.B.Bindgen.sound types c.args.realloc _ _ _ _ c.args.value c.in_ok-words.words (tuple_shape types c.requires.down c.args.id.0 here.entry here.stands tys here.kind) whole;
+      sends = sends_as m types _ _ _ _ code (sends_then m types _ _ _ _ _ _ _ c.in_ok-parts.ensures parts);
     }
 
 pub lower_parts-lower_type-requires : goal.lower_parts-lower_type-requires

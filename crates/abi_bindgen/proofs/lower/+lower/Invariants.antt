@@ -15,6 +15,12 @@ decreases-lower_type g l = 8 * rank l.ty
 abbrev pub decreases-lower_id : goal.decreases-lower_id
 decreases-lower_id g l = 8 * l.id.0 + 7
 
+abbrev pub decreases-lower_record : goal.decreases-lower_record
+decreases-lower_record g l = 8 * l.id.0 + 6
+
+abbrev pub decreases-lower_tuple : goal.decreases-lower_tuple
+decreases-lower_tuple g l = 8 * l.id.0 + 6
+
 abbrev pub decreases-lower_variant : goal.decreases-lower_variant
 decreases-lower_variant g l = 8 * l.id.0 + 6
 
