@@ -6,7 +6,8 @@ ghost use Rattle.wit_model.specs.IndexRange.{function_in_range};
 ghost use Rattle.wit_model.specs.WellFormed.{IsWellFormed};
 ghost use Rattle.rust_tree.specs.Ident.{rust_ident};
 ghost use Rattle.gen_accept.specs.DeclaredNames.{guest_name};
-ghost use Rattle.wrapper_closing.specs.Params.{arg_names, ret_area};
+ghost use Rattle.wrapper_faithful.specs.Passed.{passed};
+ghost use Rattle.wrapper_closing.specs.Params.{arg_names, export_args, ret_area};
 ghost use Rattle.rust_gen.specs.Body.{AreExportParts, CallsMethodOf, IsCodeOf, IsExportCode, IsExportMade, IsExportOutside};
 ghost use Rattle.rust_gen.specs.Known.{AreAtHand, sites_in};
 
@@ -134,31 +135,34 @@ pub(crate) fn export_head(
     })
 }
 
+/// The wrapper of an exported function with this head and this code.
 fn export_fn(
-    alloc: Global,
     resolve: &Resolve,
     f: &Function,
+    head: ExportHead,
     call: CallBlock,
     rest: Block,
-) -> Result<ExportFn, OutOfMemory>
+) -> ExportFn
     requires well { IsWellFormed resolve.now }
     requires within { function_in_range resolve.now f.now ≡ true }
-    ensures { IfOk result (IsExportOutside resolve.now.types f.now call rest) }
+    requires base { head.base ≡ f.now.name.snake }
+    requires bound { head.bound ≡ guest_name }
+    requires params { head.params ≡ export_args (passed resolve.now.types f.now) }
+    ensures { IsExportOutside resolve.now.types f.now call rest result }
 {
-    let args = core_params(alloc, resolve, f)?;
     let ExportHead {
         base,
         bound,
         params,
-    } = export_head(alloc, f, args)?;
-    Ok(ExportFn {
+    } = head;
+    ExportFn {
         base,
         bound,
         params,
         result: export_result(resolve, f),
         call,
         rest,
-    })
+    }
 }
 
 /// The same, where the block calls the method of the function. There is no memory also where it doesn't.
@@ -206,13 +210,15 @@ pub(crate) fn export_wrapper(
     ensures kept { OnOk result (AreAtHand resolve.now.types tables.new) }
     ensures same { OnOk result (sites_in tables.new ≡ sites_in tables.old) }
 {
+    let args = core_params(alloc, resolve, f)?;
+    let head = export_head(alloc, f, args)?;
     let ExportCode {
         call,
         rest,
         area,
         runtime,
     } = calling_code(alloc, resolve, tables, f)?;
-    let wrapper = export_fn(alloc, resolve, f, call, rest)?;
+    let wrapper = export_fn(resolve, f, head, call, rest);
     Ok(ExportMade {
         wrapper,
         area,

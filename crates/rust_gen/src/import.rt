@@ -6,7 +6,7 @@ ghost use Rattle.wit_model.specs.IndexRange.{function_in_range};
 ghost use Rattle.wit_model.specs.WellFormed.{IsWellFormed};
 ghost use Rattle.gen_accept.specs.DeclaredNames.{param_idents};
 ghost use Rattle.type_defs.specs.ParamType.{HasFacts};
-ghost use Rattle.rust_gen.specs.Body.{AreImportParts, IsImportCode, IsImportHead, IsImportMade, IsImportOutside};
+ghost use Rattle.rust_gen.specs.Body.{AreImportParts, IsImportCode, IsImportHead, IsImportMade};
 ghost use Rattle.rust_gen.specs.FixedName.{IsFixedName};
 ghost use Rattle.rust_gen.specs.Known.{AreAtHand, sites_in};
 ghost use Rattle.rust_gen.specs.Wrapper.{DeclaresOne, root_module};
@@ -114,30 +114,23 @@ fn import_head(
     })
 }
 
-fn import_fn(
-    alloc: Global,
-    resolve: &Resolve,
-    facts: &Types,
-    f: &Function,
-    body: Block,
-) -> Result<FnItem, OutOfMemory>
-    requires facts { HasFacts resolve.now facts.now }
-    requires within { function_in_range resolve.now f.now ≡ true }
-    ensures { IfOk result (IsImportOutside resolve.now.types f.now body) }
+/// The wrapper with this head and this body.
+fn import_fn(head: ImportHead, body: Block) -> FnItem
+    ensures { result ≡ record { docs = head.docs; name = head.name; params = head.params; result = head.result; body = body } }
 {
     let ImportHead {
         docs,
         name,
         params,
         result,
-    } = import_head(alloc, resolve, facts, f)?;
-    Ok(FnItem {
+    } = head;
+    FnItem {
         docs,
         name,
         params,
         result,
         body,
-    })
+    }
 }
 
 /// The same, where the block declares the core import of the function and no other. There is no memory also where it doesn't.
@@ -181,7 +174,7 @@ pub(crate) fn import_wrapper(
     ensures kept { OnOk result (AreAtHand resolve.now.types tables.new) }
     ensures same { OnOk result (sites_in tables.new ≡ sites_in tables.old) }
 {
+    let head = import_head(alloc, resolve, facts, f)?;
     let (body, runtime) = declaring_code(alloc, resolve, tables, f)?;
-    let wrapper = import_fn(alloc, resolve, facts, f, body)?;
-    Ok((wrapper, runtime))
+    Ok((import_fn(head, body), runtime))
 }

@@ -3,7 +3,7 @@
 ghost use Rattle.std.specs.Prelude.{◌≡◌, true, IfOk, OnOk};
 ghost use Rattle.wit_model.specs.IndexRange.{function_in_range};
 ghost use Rattle.wit_model.specs.WellFormed.{IsWellFormed};
-ghost use Rattle.rust_gen.specs.Body.{IsReturnCode, IsReturnMade, IsReturnOutside};
+ghost use Rattle.rust_gen.specs.Body.{IsReturnCode, IsReturnMade};
 ghost use Rattle.rust_gen.specs.Known.{AreAtHand, sites_in};
 
 use crate::export::{ExportHead, export_head, export_parts};
@@ -43,28 +43,21 @@ fn return_code(
     Ok((Block { stmts, tail }, runtime))
 }
 
-fn return_fn(
-    alloc: Global,
-    resolve: &Resolve,
-    f: &Function,
-    body: Block,
-) -> Result<PostReturnFn, OutOfMemory>
-    requires well { IsWellFormed resolve.now }
-    requires within { function_in_range resolve.now f.now ≡ true }
-    ensures { IfOk result (IsReturnOutside resolve.now.types f.now body) }
+/// The post-return function with this head and this body.
+fn return_fn(head: ExportHead, body: Block) -> PostReturnFn
+    ensures { result ≡ record { base = head.base; bound = head.bound; params = head.params; body = body } }
 {
-    let args = post_return_params(alloc, resolve, f)?;
     let ExportHead {
         base,
         bound,
         params,
-    } = export_head(alloc, f, args)?;
-    Ok(PostReturnFn {
+    } = head;
+    PostReturnFn {
         base,
         bound,
         params,
         body,
-    })
+    }
 }
 
 /// The post-return function of an exported function, and the items of `_rt` that it asks for.
@@ -81,7 +74,8 @@ pub(crate) fn post_return(
     ensures kept { OnOk result (AreAtHand resolve.now.types tables.new) }
     ensures same { OnOk result (sites_in tables.new ≡ sites_in tables.old) }
 {
+    let args = post_return_params(alloc, resolve, f)?;
+    let head = export_head(alloc, f, args)?;
     let (body, runtime) = return_code(alloc, resolve, tables, f)?;
-    let function = return_fn(alloc, resolve, f, body)?;
-    Ok((function, runtime))
+    Ok((return_fn(head, body), runtime))
 }

@@ -264,7 +264,7 @@ fn push_wrappers(
 }
 
 /// Puts the module `_rt` behind other items, where they ask for any of its items.
-fn push_runtime(items: &mut List<Item>, alloc: Global) -> Result<(), OutOfMemory>
+fn push_runtime(alloc: Global, items: &mut List<Item>) -> Result<(), OutOfMemory>
     ensures { OnOk result (items.new ≡ items.old ++ runtime_module (runtime_items items.old)) }
 {
     let asked = runtime_items(alloc, items.as_slice())?;
@@ -292,7 +292,7 @@ fn world_items(
     let areas = push_wrappers(alloc, resolve, id, &mut items, world, exports)?;
     push_trait_and_macro(alloc, resolve, &mut items, world, exports)?;
     push_area(&mut items, areas.as_slice())?;
-    push_runtime(&mut items, alloc)?;
+    push_runtime(alloc, &mut items)?;
     push_last_macro(alloc, &mut items, world, exports)?;
     Ok(items)
 }

@@ -22,6 +22,10 @@ use Rattle.wit_refusal.specs.Word.{word}
 abbrev Tells : Refusal → ℕ → List ℕ → Type 0
 Tells cause status line = (status_of cause ≡ status) × (line_of cause ≡ line)
 
+-- that this rule is broken by the entry of a table at a place
+abbrev rule_line : ℕ → List ℕ → ℕ → List ℕ
+rule_line nth table place = codes "invalid world: rule " ++ decimal nth ++ codes " at " ++ table ++ codes " " ++ decimal place ++ codes "\n"
+
 abbrev key : List ℕ → MissingWith
 key k = record { 0 = k }
 
@@ -112,55 +116,55 @@ not_ident = (refl, refl)
 
 -- each rule, by its number, and each table
 
-rule_1 : Tells (Gen (error.InvalidWorld rule.IndexRange table.World 20)) 6 (codes "invalid world: rule " ++ decimal 1 ++ codes " at world " ++ decimal 20 ++ codes "\n")
+rule_1 : Tells (Gen (error.InvalidWorld rule.IndexRange table.World 20)) 6 (rule_line 1 (codes "world") 20)
 unfolding word
 rule_1 = (refl, refl)
 
-rule_2 : Tells (Gen (error.InvalidWorld rule.TypeOrder table.Type_ 20)) 6 (codes "invalid world: rule " ++ decimal 2 ++ codes " at type " ++ decimal 20 ++ codes "\n")
+rule_2 : Tells (Gen (error.InvalidWorld rule.TypeOrder table.Type_ 20)) 6 (rule_line 2 (codes "type") 20)
 unfolding word
 rule_2 = (refl, refl)
 
-rule_3 : Tells (Gen (error.InvalidWorld rule.Members table.Type_ 20)) 6 (codes "invalid world: rule " ++ decimal 3 ++ codes " at type " ++ decimal 20 ++ codes "\n")
+rule_3 : Tells (Gen (error.InvalidWorld rule.Members table.Type_ 20)) 6 (rule_line 3 (codes "type") 20)
 unfolding word
 rule_3 = (refl, refl)
 
-rule_4 : Tells (Gen (error.InvalidWorld rule.MapKey table.Type_ 20)) 6 (codes "invalid world: rule " ++ decimal 4 ++ codes " at type " ++ decimal 20 ++ codes "\n")
+rule_4 : Tells (Gen (error.InvalidWorld rule.MapKey table.Type_ 20)) 6 (rule_line 4 (codes "type") 20)
 unfolding word
 rule_4 = (refl, refl)
 
-rule_5 : Tells (Gen (error.InvalidWorld rule.HandleTarget table.Type_ 20)) 6 (codes "invalid world: rule " ++ decimal 5 ++ codes " at type " ++ decimal 20 ++ codes "\n")
+rule_5 : Tells (Gen (error.InvalidWorld rule.HandleTarget table.Type_ 20)) 6 (rule_line 5 (codes "type") 20)
 unfolding word
 rule_5 = (refl, refl)
 
-rule_6 : Tells (Gen (error.InvalidWorld rule.BorrowPlace table.Type_ 20)) 6 (codes "invalid world: rule " ++ decimal 6 ++ codes " at type " ++ decimal 20 ++ codes "\n")
+rule_6 : Tells (Gen (error.InvalidWorld rule.BorrowPlace table.Type_ 20)) 6 (rule_line 6 (codes "type") 20)
 unfolding word
 rule_6 = (refl, refl)
 
-rule_7 : Tells (Gen (error.InvalidWorld rule.SelfParam table.Interface 20)) 6 (codes "invalid world: rule " ++ decimal 7 ++ codes " at interface " ++ decimal 20 ++ codes "\n")
+rule_7 : Tells (Gen (error.InvalidWorld rule.SelfParam table.Interface 20)) 6 (rule_line 7 (codes "interface") 20)
 unfolding word
 rule_7 = (refl, refl)
 
-rule_8 : Tells (Gen (error.InvalidWorld rule.Constructor table.Interface 20)) 6 (codes "invalid world: rule " ++ decimal 8 ++ codes " at interface " ++ decimal 20 ++ codes "\n")
+rule_8 : Tells (Gen (error.InvalidWorld rule.Constructor table.Interface 20)) 6 (rule_line 8 (codes "interface") 20)
 unfolding word
 rule_8 = (refl, refl)
 
-rule_9 : Tells (Gen (error.InvalidWorld rule.MissingName table.Type_ 20)) 6 (codes "invalid world: rule " ++ decimal 9 ++ codes " at type " ++ decimal 20 ++ codes "\n")
+rule_9 : Tells (Gen (error.InvalidWorld rule.MissingName table.Type_ 20)) 6 (rule_line 9 (codes "type") 20)
 unfolding word
 rule_9 = (refl, refl)
 
-rule_10 : Tells (Gen (error.InvalidWorld rule.Owner table.Type_ 20)) 6 (codes "invalid world: rule " ++ decimal 10 ++ codes " at type " ++ decimal 20 ++ codes "\n")
+rule_10 : Tells (Gen (error.InvalidWorld rule.Owner table.Type_ 20)) 6 (rule_line 10 (codes "type") 20)
 unfolding word
 rule_10 = (refl, refl)
 
-rule_11 : Tells (Gen (error.InvalidWorld rule.Listing table.Interface 20)) 6 (codes "invalid world: rule " ++ decimal 11 ++ codes " at interface " ++ decimal 20 ++ codes "\n")
+rule_11 : Tells (Gen (error.InvalidWorld rule.Listing table.Interface 20)) 6 (rule_line 11 (codes "interface") 20)
 unfolding word
 rule_11 = (refl, refl)
 
-rule_12 : Tells (Gen (error.InvalidWorld rule.UnknownKind table.Type_ 20)) 6 (codes "invalid world: rule " ++ decimal 12 ++ codes " at type " ++ decimal 20 ++ codes "\n")
+rule_12 : Tells (Gen (error.InvalidWorld rule.UnknownKind table.Type_ 20)) 6 (rule_line 12 (codes "type") 20)
 unfolding word
 rule_12 = (refl, refl)
 
-rule_13 : Tells (Gen (error.InvalidWorld rule.NameText table.Package 20)) 6 (codes "invalid world: rule " ++ decimal 13 ++ codes " at package " ++ decimal 20 ++ codes "\n")
+rule_13 : Tells (Gen (error.InvalidWorld rule.NameText table.Package 20)) 6 (rule_line 13 (codes "package") 20)
 unfolding word
 rule_13 = (refl, refl)
 

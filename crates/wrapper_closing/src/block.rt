@@ -30,6 +30,20 @@ fn push_all(stmts: &mut List<Stmt>, later: List<Stmt>) -> Result<(), OutOfMemory
     Ok(())
 }
 
+/// Statements behind the declaration of an area by a local of this name, if one is needed.
+fn behind_area(
+    alloc: Global,
+    name: Text,
+    area: Option<Asked>,
+    code: List<Stmt>,
+) -> Result<List<Stmt>, OutOfMemory>
+    ensures { IfOk result (λ stmts. stmts ≡ local_area name area ++ code) }
+{
+    let mut stmts = local_area(alloc, name, area)?;
+    push_all(&mut stmts, code)?;
+    Ok(stmts)
+}
+
 /// The block of an import's wrapper, and the items of `_rt` that it names: first its area, if it needs one, in a local of this name, and then
 /// what its body is.
 pub fn import_block(
@@ -47,7 +61,6 @@ pub fn import_block(
         runtime,
         ..
     } = body;
-    let mut stmts = local_area(alloc, area, asked)?;
-    push_all(&mut stmts, code)?;
+    let stmts = behind_area(alloc, area, asked, code)?;
     Ok((Block { stmts, tail }, runtime))
 }

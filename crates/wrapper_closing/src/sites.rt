@@ -15,10 +15,12 @@ use wit_model::{List, OutOfMemory, Text, are_distinct_texts};
 fn local_site(alloc: Global, name: &Text) -> Result<ParamSite, OutOfMemory>
     ensures { IfOk result (λ site. site ≡ local_site name.now) }
 {
-    let expr = Expr::Local(name.copy(alloc)?);
+    let local = name.copy(alloc)?;
+    let name = name.copy(alloc)?;
+    let expr = Expr::Local(local);
     Ok(ParamSite {
         operand: ExprOperand { expr, kept: false },
-        name: name.copy(alloc)?,
+        name,
     })
 }
 

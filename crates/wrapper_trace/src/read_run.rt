@@ -38,13 +38,22 @@ pub(crate) struct AskedRun {
 
 impl Readable for AskedRun {
     fn read(alloc: Global, value: &Value) -> Result<AskedRun, LineFault> {
+        let wrapper = required(alloc, value, "wrapper")?;
+        let side = side_of(alloc, value)?;
+        let (heap, form) = heap_and_form(alloc, value)?;
         Ok(AskedRun {
-            wrapper: required(alloc, value, "wrapper")?,
-            side: side_of(alloc, value)?,
-            heap: heap_in(alloc, value)?,
-            form: required(alloc, value, "form")?,
+            wrapper,
+            side,
+            heap,
+            form,
         })
     }
+}
+
+fn heap_and_form(alloc: Global, value: &Value) -> Result<(Heap, Form), LineFault> {
+    let heap = heap_in(alloc, value)?;
+    let form = required(alloc, value, "form")?;
+    Ok((heap, form))
 }
 
 fn side_of(alloc: Global, value: &Value) -> Result<Side, LineFault> {

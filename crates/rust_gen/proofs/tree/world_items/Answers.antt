@@ -1,4 +1,4 @@
-use Rattle.std.proofs.Common.{◌≡◌, ◌++◌, ◌∙◌, ap, map, subst}
+use Rattle.std.proofs.Common.{◌≡◌, ◌++◌, ◌∙◌, ap, map, refl, subst}
 use Rattle.std.specs.List.{AllZip, flat_map}
 use Rattle.rust_tree.specs.declared.item.Item.TheVariants as item
 use Rattle.gen_accept.specs.Emitted.{exported_functions, functions_in}
@@ -23,6 +23,12 @@ push_wrappers-requires-clause-types c = record {
       (subst (λ o. AreDefinitions o c.args.resolve.now c.args.id c.args.world.now c.in_ok-types.types) c.type_opts.ensures c.in_ok-types.ensures);
 }
 
+pub push_wrappers-requires-clause-found : goal.push_wrappers-requires-clause-found
+push_wrappers-requires-clause-found c = c.requires.types.found
+
+pub push_wrappers-requires-clause-shallow : goal.push_wrappers-requires-clause-shallow
+push_wrappers-requires-clause-shallow c = c.requires.types.shallow
+
 -- the items before the runtime items, step by step, and then those behind them
 pub returns : goal.returns
 returns c =
@@ -30,9 +36,9 @@ returns c =
     let world = c.args.world.now in
     let ts = c.in_ok-types.types in
     let (ws, es, made, areas, wraps, exported) = c.in_ok-areas.ensures in
-    let methods = ap (map (λ f. f.now)) c.as_slice.ensures.value ∙ c.in_ok-exports.ensures ∙ ap functions_in c.as_slice-2.ensures in
-    let own = own-made types ts ws es world c.as_slice-3.result.now c.in_ok-items.items (c.in_ok-items.items ++ map item.Import ws) c.push_wrappers.new.items c.push_trait_and_macro.new.items c.push_area.new.items
-    c.in_ok-items.ensures refl made c.in_ok-push_trait_and_macro.ensures (c.as_slice-3.ensures ∙ areas) c.in_ok-push_area.ensures in
+    let methods = ap (map (λ f. f.now)) c.as_slice-exports.ensures.value ∙ c.in_ok-exports.ensures ∙ ap functions_in c.as_slice.ensures in
+    let own = own-made types ts ws es world c.as_slice-2.result.now c.in_ok-items.items (c.in_ok-items.items ++ map item.Import ws) c.push_wrappers.new.items c.push_trait_and_macro.new.items c.push_area.new.items
+    c.in_ok-items.ensures refl made c.in_ok-push_trait_and_macro.ensures (c.as_slice-2.ensures ∙ areas) c.in_ok-push_area.ensures in
     record {
       types = ts;
       wrappers = ws;
