@@ -4,13 +4,16 @@ mod code;
 mod sites;
 mod worlds;
 
+ghost use Rattle.std.specs.Prelude.{◌<◌, length};
+ghost use Rattle.wit_model.specs.WellFormed.{IsWellFormed};
+
 use code::{export_code, import_code};
 use func_gen::Body;
 use rust_gen::{Build, Files, Opts};
 use rust_tree::{Bindings, Block, WrapperId, text_of};
 use std::alloc::Global;
 use std::test::Fail;
-use wit_model::{Resolve, WorldId};
+use wit_model::{OutOfMemory, Resolve, WorldId};
 use worlds::{world_of_a_variant, world_of_flags};
 use wrapper_run::{export_at, import_at};
 
@@ -42,18 +45,49 @@ fn is_export(tree: &Bindings, body: &Body) -> bool {
     }
 }
 
+/// Whether the first wrapper of a tree is the import that the driver makes.
+fn is_driven_import(alloc: Global, resolve: &Resolve, tree: &Bindings) -> Result<bool, Fail>
+    requires well { IsWellFormed resolve.now }
+    requires some { 0 < length resolve.now.types }
+{
+    let body = import_code(alloc, resolve)?;
+    Ok(is_import(tree, &body))
+}
+
+/// Whether the first wrapper of a tree is the export that the driver makes.
+fn is_driven_export(alloc: Global, resolve: &Resolve, tree: &Bindings) -> Result<bool, Fail>
+    requires well { IsWellFormed resolve.now }
+    requires some { 0 < length resolve.now.types }
+{
+    let body = export_code(alloc, resolve)?;
+    Ok(is_export(tree, &body))
+}
+
+/// Whether the text of a tree has a passage.
+fn prints(alloc: Global, tree: &Bindings, passage: &str) -> Result<bool, OutOfMemory> {
+    let text = text_of(alloc, tree)?;
+    Ok(text.as_str().contains(passage))
+}
+
 /// The float's bits, put into the slot that a whole number shares.
 const PAYLOAD: &str =
     "V::A(e0) => {\n(0i32, ::core::mem::MaybeUninit::new(i64::from((_rt::as_f32(e0)).to_bits()) as u64), 0usize)\n";
 
+/// Whether the import of this world is the driver's code, and passes the float so.
+fn passes_payload(alloc: Global, resolve: &Resolve) -> Result<bool, Fail>
+    requires well { IsWellFormed resolve.now }
+    requires some { 0 < length resolve.now.types }
+{
+    let tree = tree_of(alloc, resolve)?;
+    let is_same = is_driven_import(alloc, resolve, &tree)?;
+    let has_text = prints(alloc, &tree, PAYLOAD)?;
+    Ok(is_same && has_text)
+}
+
 #[test]
 fn a_payload_in_a_joined_slot_is_passed_by_the_drivers_code(rt: HostRuntime) -> Result<(), Fail> {
     let resolve = world_of_a_variant(rt.alloc())?;
-    let body = import_code(rt.alloc(), &resolve)?;
-    let tree = tree_of(rt.alloc(), &resolve)?;
-    assert!(rt; is_import(&tree, &body));
-    let text = text_of(rt.alloc(), &tree)?;
-    assert!(rt; text.as_str().contains(PAYLOAD), "{}", text.as_str());
+    assert!(rt; passes_payload(rt.alloc(), &resolve)?);
     Ok(())
 }
 
@@ -61,13 +95,20 @@ fn a_payload_in_a_joined_slot_is_passed_by_the_drivers_code(rt: HostRuntime) -> 
 const WORDS: &str =
     "Fl::empty() | Fl::from_bits_retain(((arg0 as u32 as u64) << 0) as _) | Fl::from_bits_retain(((arg1 as u32 as u64) << 32) as _)";
 
+/// Whether the export of this world is the driver's code, and reads both words so.
+fn reads_words(alloc: Global, resolve: &Resolve) -> Result<bool, Fail>
+    requires well { IsWellFormed resolve.now }
+    requires some { 0 < length resolve.now.types }
+{
+    let tree = tree_of(alloc, resolve)?;
+    let is_same = is_driven_export(alloc, resolve, &tree)?;
+    let has_text = prints(alloc, &tree, WORDS)?;
+    Ok(is_same && has_text)
+}
+
 #[test]
 fn flags_of_two_words_are_read_by_the_drivers_code(rt: HostRuntime) -> Result<(), Fail> {
     let resolve = world_of_flags(rt.alloc())?;
-    let body = export_code(rt.alloc(), &resolve)?;
-    let tree = tree_of(rt.alloc(), &resolve)?;
-    assert!(rt; is_export(&tree, &body));
-    let text = text_of(rt.alloc(), &tree)?;
-    assert!(rt; text.as_str().contains(WORDS), "{}", text.as_str());
+    assert!(rt; reads_words(rt.alloc(), &resolve)?);
     Ok(())
 }
