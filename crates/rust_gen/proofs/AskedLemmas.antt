@@ -1,8 +1,7 @@
 -- An item of `_rt` that a file's items name is found in the file.
-use Rattle.std.proofs.Common.{◌≡◌, ℕ, zero, suc, Bool, true, false, cond, ◌||◌, List, [], ◌∷◌, ◌++◌, Option, None, Some, ◌⊎◌, inl, inr, refl, sym, ap, subst, ◌∙◌, append-nil}
+use Rattle.std.proofs.Common.{◌≡◌, ℕ, zero, suc, Bool, true, false, cond, ◌||◌, List, [], ◌∷◌, ◌++◌, None, Some, ◌⊎◌, inl, inr, refl, sym, ap, subst, ◌∙◌, append-nil, arith}
 use Rattle.std.specs.Prelude.{find, fold, slice_get}
-use Rattle.std.specs.List.{flat_map, list_all, list_any}
-use Rattle.std.specs.Option.{option_or}
+use Rattle.std.specs.List.{Contains, flat_map, list_all, list_any}
 use Rattle.std.specs.Str.{bytes_eq}
 use Rattle.std.proofs.lemmas.Bool.{and_parts, or_cases, or_left, or_right}
 use Rattle.std.proofs.lemmas.List.Folds.{list_any-append}
@@ -18,7 +17,8 @@ use Rattle.rust_tree.specs.declared.export.PostReturnFn.{PostReturnFn}
 use Rattle.func_gen.specs.Meaning as bodies
 use Rattle.rust_gen.specs.Body.{is_among, is_sound}
 use Rattle.rust_gen.specs.Bound.{Parts, export_items}
-use Rattle.rust_gen.specs.Runtime.{is_same_item, runtime_items, runtime_module, with_asked, with_needed}
+use Rattle.rust_gen.specs.Runtime.{is_same_item, runtime_module, with_asked, with_needed}
+use Rattle.rust_gen.specs.Served.{Serves, asked_for}
 use Rattle.wrapper_run.proofs.LocalLemmas.{option_or-None}
 
 abbrev pub IsAmong : RuntimeItem → List RuntimeItem → Type 0
@@ -72,6 +72,21 @@ is-same StdAllocModule StdAllocModule e = refl
 is-same CabiDealloc CabiDealloc e = refl
 is-same InvalidEnumDiscriminant InvalidEnumDiscriminant e = refl
 is-same _ _ e = absurd (cc)
+
+-- an element of a list, and one that a test finds there
+
+pub among-of : (xs : List RuntimeItem) (x : RuntimeItem) → Contains xs x → IsAmong x xs
+among-of [] x (k, below, e) = absurd (omega arith)
+among-of (y ∷ xs) x (zero, below, e) = or_left (is_same_item y x) _ (subst (λ z. is_same_item y z ≡ true) e (same-refl y))
+among-of (y ∷ xs) x (suc k, below, e) = or_right (is_same_item y x) _ (among-of xs x (k, omega arith, e))
+
+pub of-among : (xs : List RuntimeItem) (x : RuntimeItem) → IsAmong x xs → Contains xs x
+of-among [] x h = absurd (cc)
+of-among (y ∷ xs) x h = go (λ k. of-among xs x k) (or_cases (is_same_item y x) _ h)
+  where
+    go : (IsAmong x xs → Contains xs x) → (is_same_item y x ≡ true) ⊎ IsAmong x xs → Contains (y ∷ xs) x
+    go later (inl e) = (0, omega arith, is-same y x e)
+    go later (inr k) = let c = later k in (suc c.0, omega (arith, c.1), c.2)
 
 -- in a module
 
@@ -144,12 +159,9 @@ found-right items xs ys h x k = h x (list_any-append (λ i. is_same_item i x) xs
 pub needed-stays : (x : RuntimeItem) (items : List RuntimeItem) → IsAmong x items → IsAmong x (with_needed items)
 needed-stays x items h = asked-all x (flat_map needed_items items) items (inl h)
 
--- the module has what is asked for
-pub found_all : (items : List Item) (x : RuntimeItem) → IsAmong x (asked_in items) → runtime_item_named (runtime_module (runtime_items items)) (item_name x) ≡ Some x
-unfolding runtime_items
-found_all items x h =
-    let first : List RuntimeItem = fold with_asked [] (asked_in items) in
-    found-in_module x (with_needed (with_needed first)) (needed-stays x (with_needed first) (needed-stays x first (asked-all x (asked_in items) [] (inr h))))
+-- what is asked for is found in a module that serves it
+pub found_all : (asked parts : List RuntimeItem) → Serves asked parts → (x : RuntimeItem) → IsAmong x asked → runtime_item_named (runtime_module parts) (item_name x) ≡ Some x
+found_all asked parts serves x h = found-in_module x parts (among-of parts x (serves.all x (asked_for x (of-among asked x h))))
 
 -- what parts of a tree ask for
 

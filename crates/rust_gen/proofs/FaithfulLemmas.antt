@@ -1,5 +1,5 @@
 -- The wrappers of a tree that is made as it is written are faithful.
-use Rattle.std.proofs.Common.{◌≡◌, ℕ, zero, suc, ◌+◌, Bool, true, false, MatchBool, List, [], ◌∷◌, ◌++◌, length, ◌&&◌, Option, None, Some, cond, map, refl, sym, ap, ap₂, subst, ◌∙◌, arith, append-nil, Contains}
+use Rattle.std.proofs.Common.{◌≡◌, ℕ, zero, suc, ◌+◌, Bool, true, false, MatchBool, List, [], ◌∷◌, ◌++◌, length, ◌&&◌, Option, None, Some, cond, map, refl, sym, ap, ap₂, subst, ◌∙◌, arith, append-nil}
 use Rattle.std.specs.Prelude.{IfSome, codes, filter, is_some, option_and_then, option_to_list, slice_get}
 use Rattle.std.specs.Option.{option_map}
 use Rattle.std.specs.List.{AllByRecursion, AllZip, flat_map, list_all}
@@ -85,7 +85,7 @@ use Rattle.rust_gen.specs.Bound.{Binds, Parts, area_items, areas_of, export_item
 use Rattle.rust_gen.specs.Exported.{entries_of, export_entry, file_macro, guest_trait, last_macro, post_return_name, return_entry, trait_and_macro, trait_fn, trait_param, where_any, where_returned, world_macro}
 use Rattle.rust_gen.specs.Known.{IsKnown}
 use Rattle.rust_gen.specs.Faithful.{AreFaithful, export_names, import_target}
-use Rattle.rust_gen.specs.Runtime.{runtime_items, runtime_module}
+use Rattle.rust_gen.specs.Runtime.{runtime_module}
 use Rattle.rust_gen.specs.Wrapper.{printed_param, root_module}
 use Rattle.rust_gen.proofs.AskedLemmas.{Found, found-asked, found-at, found-export, found-parts, found-return, found-wrapper, found_all}
 use Rattle.rust_gen.proofs.EntryLemmas.{alone-return, alone-wrapper, wit-forms}
@@ -276,7 +276,7 @@ module _ (opts : Opts) (resolve : Resolve) (id : WorldId) (world : World) (known
   own = own_items types ts ws es world
 
   abbrev asked : List RuntimeItem
-  asked = runtime_items own
+  asked = b.items.runtime
 
   abbrev area : Option StaticArea
   area = file_area (areas_of es)
@@ -319,7 +319,7 @@ module _ (opts : Opts) (resolve : Resolve) (id : WorldId) (world : World) (known
   asks : Found tree.items (asked_in own)
   asks x h =
       ap (λ is. runtime_item_named is (item_name x)) are ∙ skip-runtime_item ts others (item_name x)
-      ∙ runtime-found ws es fs area (guest_trait types fs) (world_macro types world) asked (last_macro world) (item_name x) x (found_all own x h)
+      ∙ runtime-found ws es fs area (guest_trait types fs) (world_macro types world) asked (last_macro world) (item_name x) x (found_all (asked_in own) asked b.items.serves x h)
 
   asks-wrappers : Found tree.items (asked_in (map item.Import ws)) × Found tree.items (asked_in (flat_map export_items es))
   asks-wrappers =

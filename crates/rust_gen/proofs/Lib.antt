@@ -6,6 +6,7 @@ pub mod IdentLemmas
 mod ItemLemmas
 mod KnownLemmas
 mod NamedLemmas
+mod OrderLemmas
 mod PartsLemmas
 mod PartsOfBodies
 mod ResultLemmas

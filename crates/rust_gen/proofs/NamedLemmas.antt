@@ -27,7 +27,7 @@ use Rattle.gen_accept.specs.TypeOpts.{type_opts}
 use Rattle.func_gen.specs.declared.type_site.TypeSite.{TypeSite}
 use Rattle.type_sites.specs.Sites.{type_sites}
 use Rattle.rust_gen.specs.Body.{ArePartsWritten, IsWritten, ReturnWritten, is_among, is_sound}
-use Rattle.rust_gen.specs.Bound.{AreItems, Parts, area_items, area_of, areas_of, export_items, file_area, own_items}
+use Rattle.rust_gen.specs.Bound.{AreItems, Parts, area_items, area_of, areas_of, export_items, file_area}
 use Rattle.rust_gen.specs.Known.{IsKnown}
 use Rattle.rust_gen.proofs.TreeLemmas.{own-first}
 use Rattle.gen_accept.specs.DeclaredNames.{cabi_suffix, declares_well, export_ident, export_prefix, guest_name, is_empty, macro_idents, param_idents, where_exported}
@@ -40,7 +40,7 @@ use Rattle.gen_accept.specs.NameText.{is_written_entry}
 use Rattle.type_defs.specs.WitForm.{is_wit_form}
 use Rattle.rust_gen.specs.OptionLines.{option_lines, unused_types_line}
 use Rattle.type_defs.specs.PartType.{printed_result}
-use Rattle.rust_gen.specs.Runtime.{runtime_items, runtime_module}
+use Rattle.rust_gen.specs.Runtime.{runtime_module}
 use Rattle.type_facts.specs.Roots as roots
 use Rattle.type_defs.proofs.DefinedNameLemmas.{definitions-named}
 use Rattle.type_defs.proofs.UsedNameLemmas.{functions-named}
@@ -223,7 +223,7 @@ items-named opts r id world items w a =
     (and_from (is_named_module_macro (world_macro r.types world)) true
     (and_from (is_ident_part (macro_name world)) (list_all is_named_entry (flat_map (entries_of r.types) es)) (macro_name-part world (k.macros full)) (all-entries-named r.types es exports k.exported)) refl)) in
     let last : list_all is_named_item (last_macro world) ≡ true = any-named es (item.RootMacro (file_macro world) ∷ []) (λ full. and_from (is_named_root_macro (file_macro world)) true (file_macro-named world (k.macros full)) refl) in
-    let asked = runtime_items (own_items r.types a.types a.wrappers a.exports world) in
+    let asked = a.runtime in
     let runtime : List Item = runtime_module asked in
     let area : List Item = area_of a.exports in
     let definitions : list_all is_named_item (map item.Type a.types) ≡ true = list_all-map is_named_item item.Type a.types ∙ definitions-named (type_opts opts) r id world a.types w.types a.defined in

@@ -1,7 +1,7 @@
 -- The module `_rt` has each item that is due, once, and no other.
-use Rattle.std.proofs.Common.{◌≡◌, ℕ, zero, suc, ◌<◌, ◌≤◌, Bool, true, false, cond, not, ◌||◌, List, [], ◌∷◌, ◌++◌, map, ◌⊎◌, inl, inr, Option, None, Some, append_assoc, append-nil, refl, sym, ap, subst, ◌∙◌, arith}
+use Rattle.std.proofs.Common.{◌≡◌, ℕ, ◌<◌, ◌≤◌, Bool, true, false, cond, not, ◌||◌, List, [], ◌∷◌, ◌++◌, map, ◌⊎◌, inl, inr, Option, None, Some, append_assoc, append-nil, refl, sym, ap, subst, ◌∙◌, arith}
 use Rattle.std.specs.Prelude.{fold}
-use Rattle.std.specs.List.{Contains, flat_map, list_any}
+use Rattle.std.specs.List.{flat_map, list_any}
 use Rattle.std.specs.Str.{bytes_eq}
 use Rattle.std.proofs.lemmas.Bool.{and_from, and_parts, not-true, or_cases, or_left, or_parts, or_right}
 use Rattle.std.proofs.lemmas.List.{map-append}
@@ -35,22 +35,7 @@ use Rattle.rust_gen.specs.Runtime.{is_same_item, runtime_items, runtime_module, 
 use Rattle.rust_gen.specs.Served.{IsDue, Serves, asked_for, needed_by, runtime_in}
 use Rattle.rust_gen.proofs.TreeLemmas.{own-first}
 use Rattle.rust_gen.proofs.SkipLemmas.{skip-runtime}
-use Rattle.rust_gen.proofs.AskedLemmas.{IsAmong, asked-all, is-same, same-function, same-refl, needed-stays}
-
--- an element of a list, and one that a test finds there
-
-among-of : (xs : List RuntimeItem) (x : RuntimeItem) → Contains xs x → IsAmong x xs
-among-of [] x (k, below, e) = absurd (omega arith)
-among-of (y ∷ xs) x (zero, below, e) = or_left (is_same_item y x) _ (subst (λ z. is_same_item y z ≡ true) e (same-refl y))
-among-of (y ∷ xs) x (suc k, below, e) = or_right (is_same_item y x) _ (among-of xs x (k, omega arith, e))
-
-of-among : (xs : List RuntimeItem) (x : RuntimeItem) → IsAmong x xs → Contains xs x
-of-among [] x h = absurd (cc)
-of-among (y ∷ xs) x h = go (λ k. of-among xs x k) (or_cases (is_same_item y x) _ h)
-  where
-    go : (IsAmong x xs → Contains xs x) → (is_same_item y x ≡ true) ⊎ IsAmong x xs → Contains (y ∷ xs) x
-    go later (inl e) = (0, omega arith, is-same y x e)
-    go later (inr k) = let c = later k in (suc c.0, omega (arith, c.1), c.2)
+use Rattle.rust_gen.proofs.AskedLemmas.{IsAmong, among-of, asked-all, is-same, same-function, same-refl, needed-stays, of-among}
 
 -- what stands there after asking
 
@@ -249,6 +234,19 @@ module _ (asked : List RuntimeItem) where
     no_other = λ i c. due-round second (due-round first due-first) i (among-of third i c);
   }
 
+pub serves-items : (asked : List RuntimeItem) → Serves asked (runtime_items asked)
+unfolding runtime_items
+serves-items asked = serves-asked asked
+
+-- what is asked for may be told in another order
+
+due-in : (xs ys : List RuntimeItem) → ((x : RuntimeItem) → IsAmong x xs → IsAmong x ys) → (i : RuntimeItem) → IsDue xs i → IsDue ys i
+due-in xs ys h i (asked_for _ c) = asked_for i (of-among ys i (h i (among-of xs i c)))
+due-in xs ys h j (needed_by i _ d c) = needed_by i j (due-in xs ys h i d) c
+
+pub serves-same : (xs ys parts : List RuntimeItem) → ((x : RuntimeItem) → IsAmong x xs → IsAmong x ys) → ((x : RuntimeItem) → IsAmong x ys → IsAmong x xs) → Serves xs parts → Serves ys parts
+serves-same xs ys parts to from s = record { once = s.once; all = λ i d. s.all i (due-in ys xs from i d); no_other = λ i c. due-in xs ys to i (s.no_other i c) }
+
 -- the items of a file that stand in `_rt`
 
 runtime-append : (xs ys : List Item) → runtime_in (xs ++ ys) ≡ runtime_in xs ++ runtime_in ys
@@ -308,7 +306,7 @@ module _ (opts : Opts) (r : Resolve) (id : WorldId) (world : World) (tree : Tree
   own = own_items r.types ts b.items.wrappers b.items.exports world
 
   abbrev asked_part : List RuntimeItem
-  asked_part = runtime_items own
+  asked_part = b.items.runtime
 
   abbrev last : List Item
   last = runtime_module asked_part ++ last_macro world
@@ -334,5 +332,4 @@ module _ (opts : Opts) (r : Resolve) (id : WorldId) (world : World) (tree : Tree
       ∙ append-nil (asked_in own)
 
   pub serves : Serves (asked_in tree.items) (runtime_in tree.items)
-  unfolding runtime_items
-  serves = subst (λ a. Serves a (runtime_in tree.items)) (sym asked-is) (subst (Serves (asked_in own)) (sym runtime-is) (serves-asked (asked_in own)))
+  serves = subst (λ a. Serves a (runtime_in tree.items)) (sym asked-is) (subst (Serves (asked_in own)) (sym runtime-is) b.items.serves)

@@ -151,17 +151,17 @@ own-made types ts ws es world areas i0 i1 i2 i3 i4 a b c d f g =
     traits : List Item
     traits = trait_and_macro types world
 
-pub all-made : (own i4 i5 i6 last : List Item) (asked : List RuntimeItem) → i4 ≡ own → asked ≡ runtime_items i4 → i5 ≡ i4 ++ runtime_module asked → i6 ≡ i5 ++ last
-    → i6 ≡ own ++ (runtime_module (runtime_items own) ++ last)
-all-made own i4 i5 i6 last asked a b c d =
-    d ∙ ap (λ is. is ++ last) (c ∙ ap₂ (λ is xs. is ++ runtime_module xs) a (b ∙ ap runtime_items a)) ∙ append_assoc own (runtime_module (runtime_items own)) last
+pub all-made : (own i4 i5 i6 last : List Item) (asked order : List RuntimeItem) → i4 ≡ own → asked ≡ order → i5 ≡ i4 ++ runtime_module (runtime_items asked) → i6 ≡ i5 ++ last
+    → i6 ≡ own ++ (runtime_module (runtime_items order) ++ last)
+all-made own i4 i5 i6 last asked order a b c d =
+    d ∙ ap (λ is. is ++ last) (c ∙ ap₂ (λ is xs. is ++ runtime_module (runtime_items xs)) a b) ∙ append_assoc own (runtime_module (runtime_items order)) last
 
 -- there is a place for each wrapper
 pub places_fit : (opts : Opts) (r : Resolve) (id : WorldId) (world : World) (items : List Item) (places : List FuncPlace)
     → AreItems (IsWritten r.types (type_sites r world)) (ArePartsWritten r.types (type_sites r world)) opts r id world items → places ≡ emitted_places world → length places ≡ wrapper_count items
 places_fit opts r id world items places a p =
     let last = last_macro world in
-    let asked = runtime_items (own_items r.types a.types a.wrappers a.exports world) in
+    let asked = a.runtime in
     let runtime = runtime_module asked in
     let traits = trait_and_macro r.types world in
     let traits_none : wrapper_count traits ≡ 0 = no_wrapper-trait (exported_functions world) (guest_trait r.types (exported_functions world)) (world_macro r.types world) in

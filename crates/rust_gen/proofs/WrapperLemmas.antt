@@ -62,7 +62,9 @@ binds_wraps {r = r} {world = world} b = record {
     types = b.items.types;
     wrappers = b.items.wrappers;
     exports = b.items.exports;
+    runtime = b.items.runtime;
     are = b.items.are;
+    serves = b.items.serves;
     defined = b.items.defined;
     wraps = AllZip-map (IsWritten r.types (type_sites r world)) (Wraps r.types) (wraps r.types (type_sites r world)) _ b.items.wrappers b.items.wraps;
     exported = AllZip-map (ArePartsWritten r.types (type_sites r world)) (WrapsParts r.types) (wraps_parts r.types (type_sites r world)) _ b.items.exports b.items.exported;

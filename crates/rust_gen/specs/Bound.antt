@@ -1,6 +1,6 @@
 -- How the tree of a world is made up: the definitions of its own types; one wrapper for each imported function, in the world's order, then one for each exported
 -- function, with its post-return function where it has one, with their places; the trait and the macros of the exported functions;
--- and between the macros the static area that their wrappers need, and the runtime items that the items before them ask for.
+-- and between the macros the static area that their wrappers need, and the runtime items that serve the items before them.
 use Rattle.std.specs.Prelude.{◌≡◌, List, [], ◌∷◌, ◌++◌, Option, None, Some, map, option_to_list}
 use Rattle.std.specs.List.{AllZip, flat_map}
 use Rattle.wit_model.specs.declared.function.Function.{Function}
@@ -14,7 +14,9 @@ use Rattle.rust_tree.specs.declared.export.PostReturnFn.{PostReturnFn}
 use Rattle.rust_tree.specs.declared.item.FnItem.{FnItem}
 use Rattle.rust_tree.specs.declared.item.Item.{Item}
 use Rattle.rust_tree.specs.declared.item.Item.TheVariants as item
+use Rattle.rust_tree.specs.declared.runtime_item.RuntimeItem.{RuntimeItem}
 use Rattle.rust_tree.specs.declared.type_item.TypeItem.{TypeItem}
+use Rattle.rust_tree.specs.Asked.{asked_in}
 use Rattle.rust_tree.specs.Tree.{Tree}
 use Rattle.gen_accept.specs.declared.opts.Opts.{Opts}
 use Rattle.gen_accept.specs.Emitted.{emitted_places, exported_functions, imported_functions}
@@ -25,7 +27,8 @@ use Rattle.func_gen.specs.Body.{needed}
 use Rattle.wrapper_closing.specs.FileArea.{static_area}
 use Rattle.rust_gen.specs.Exported.{last_macro, trait_and_macro}
 use Rattle.rust_gen.specs.OptionLines.{option_lines}
-use Rattle.rust_gen.specs.Runtime.{runtime_items, runtime_module}
+use Rattle.rust_gen.specs.Runtime.{runtime_module}
+use Rattle.rust_gen.specs.Served.{Serves}
 
 -- an exported function's wrapper, its post-return function if it has one, and the area that it needs
 abbrev pub Parts : Type 0
@@ -62,7 +65,9 @@ pub record AreItems (IsWrapper : Function → FnItem → Type 0) (IsExport : Fun
   pub types : List TypeItem
   pub wrappers : List FnItem
   pub exports : List Parts
-  pub are : items ≡ own_items r.types types wrappers exports world ++ (runtime_module (runtime_items (own_items r.types types wrappers exports world)) ++ last_macro world)
+  pub runtime : List RuntimeItem
+  pub are : items ≡ own_items r.types types wrappers exports world ++ (runtime_module runtime ++ last_macro world)
+  pub serves : Serves (asked_in (own_items r.types types wrappers exports world)) runtime
   pub defined : AreDefinitions (type_opts opts) r id world types
   pub wraps : AllZip IsWrapper (imported_functions world) wrappers
   pub exported : AllZip IsExport (exported_functions world) exports

@@ -11,6 +11,7 @@ use Rattle.rust_tree.specs.Tree.{Tree}
 use Rattle.rust_tree.specs.WellNamed.{are_well_named}
 use Rattle.gen_accept.specs.declared.opts.Opts.{Opts}
 use Rattle.type_sites.specs.Sites.{type_sites}
+use Rattle.rust_gen.specs.Asking.{AskInOrder}
 use Rattle.rust_gen.specs.Body.{ArePartsWritten, IsWritten}
 use Rattle.rust_gen.specs.Bound.{Binds}
 use Rattle.rust_gen.specs.Faithful.{AreFaithful}
@@ -36,11 +37,12 @@ AreWritten opts r id world tree = Binds (IsWritten r.types (type_sites r world))
 
 -- the tree is that of a world: it holds the definitions of the world's own types, and a wrapper for each function. From outside that has the
 -- signature and the core import or the method of its function, its body is the driver's code, and it carries each call of it. `_rt` holds
--- what the items ask for; and each name is an identifier
+-- what the items ask for, in the order in which they ask; and each name is an identifier
 pub record IsTreeOf (opts : Opts) (r : Resolve) (id : WorldId) (world : World) (tree : Tree) : Type 0 where
   pub bound : Binds (Wraps r.types) (WrapsParts r.types) opts r id world tree
   pub written : AreWritten opts r id world tree
   pub runtime : Serves (asked_in tree.items) (runtime_in tree.items)
+  pub order : AskInOrder r.types (type_sites r world) world tree.items
   pub faithful : AreFaithful r.types world tree
   pub well_named : are_well_named tree.options tree.items ≡ true
 

@@ -1,12 +1,11 @@
--- Which items the module `_rt` holds: each that an item of the file names, once, in the order in which they are first named;
--- and behind them those that they need.
+-- Which items the module `_rt` holds: each that is asked for, once, in the order in which they are first asked for; and behind them
+-- those that they need.
 use Rattle.std.specs.Prelude.{Bool, true, false, List, [], ◌∷◌, ◌++◌, if◌then◌else◌, fold}
 use Rattle.std.specs.List.{list_any, flat_map}
 use Rattle.rust_tree.specs.declared.item.Item.{Item}
 use Rattle.rust_tree.specs.declared.item.Item.TheVariants as item
 use Rattle.rust_tree.specs.declared.runtime_item.RuntimeItem.{RuntimeItem}
 use Rattle.rust_tree.specs.declared.runtime_item.RuntimeItem.TheVariants.{AsI32, AsI64, AsF32, AsF64, AllocCrate, StringType, VecType, BoolLift, CharLift, StringLift, StdAllocModule, CabiDealloc, InvalidEnumDiscriminant}
-use Rattle.rust_tree.specs.Asked.{asked_in}
 use Rattle.rust_tree.specs.Runtime.{needed_items}
 
 abbrev pub is_same_item : RuntimeItem → RuntimeItem → Bool
@@ -33,9 +32,9 @@ with_asked items asked = if list_any (λ i. is_same_item i asked) items then ite
 abbrev pub with_needed : List RuntimeItem → List RuntimeItem
 with_needed items = fold with_asked items (flat_map needed_items items)
 
--- what the items of a file ask for, and what these need
-unfoldable pub runtime_items : List Item → List RuntimeItem
-runtime_items items = with_needed (with_needed (fold with_asked [] (asked_in items)))
+-- what is asked for, and what this needs
+unfoldable pub runtime_items : List RuntimeItem → List RuntimeItem
+runtime_items asked = with_needed (with_needed (fold with_asked [] asked))
 
 -- the module stands where an item is asked for
 abbrev pub runtime_module : List RuntimeItem → List Item

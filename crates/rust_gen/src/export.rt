@@ -45,16 +45,19 @@ pub(crate) fn export_parts(
     requires tables { AreAtHand resolve.now.types tables.old }
     ensures { IfOk result (AreExportParts resolve.now.types (sites_in tables.old) params.now) }
 {
+    let home = guest_name(alloc)?;
+    let area = ret_area(alloc)?;
+    let cleanup = cleanup_list(alloc)?;
+    let params = core_sites(alloc, params)?;
     let taken = take_tables(tables)?;
-    let parts = BodyParts {
+    Ok(BodyParts {
         sizes: taken.sizes,
-        home: guest_name(alloc)?,
-        area: ret_area(alloc)?,
-        cleanup: cleanup_list(alloc)?,
-        params: core_sites(alloc, params)?,
+        home,
+        area,
+        cleanup,
+        params,
         sites: taken.sites,
-    };
-    Ok(parts)
+    })
 }
 
 /// The code that a body is. There is no memory also where it calls no method.
@@ -165,7 +168,8 @@ fn export_fn(
     }
 }
 
-/// The same, where the block calls the method of the function. There is no memory also where it doesn't.
+/// The code of the wrapper of an exported function, where its block calls the method of the function. There is no memory also where it
+/// doesn't.
 fn calling_code(
     alloc: Global,
     resolve: &Resolve,

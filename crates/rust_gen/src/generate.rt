@@ -2,6 +2,7 @@ ghost use Rattle.std.specs.Prelude.{◌≡◌, true, IfOk, OnErr};
 ghost use Rattle.rust_tree.specs.Text.{text};
 ghost use Rattle.rust_tree.specs.WellNamed.{are_well_named};
 ghost use Rattle.type_sites.specs.Sites.{type_sites};
+ghost use Rattle.rust_gen.specs.Asking.{AskInOrder};
 ghost use Rattle.rust_gen.specs.Body.{ArePartsWritten, IsWritten};
 ghost use Rattle.rust_gen.specs.Bound.{Binds};
 ghost use Rattle.gen_accept.specs.Cause.{IsAnswer, cause};
@@ -78,6 +79,7 @@ fn write_file(
 ) -> Result<Bindings, OutOfMemory>
     requires { IsKnown opts.now resolve.now id world.now }
     ensures bound { IfOk result (Binds (IsWritten resolve.now.types (type_sites resolve.now world.now)) (ArePartsWritten resolve.now.types (type_sites resolve.now world.now)) opts.now resolve.now id world.now) }
+    ensures order { IfOk result (λ tree. AskInOrder resolve.now.types (type_sites resolve.now world.now) world.now tree.items) }
     ensures named { IfOk result (λ tree. are_well_named tree.options tree.items ≡ true) }
     ensures gains { IfOk result (λ tree. Gains files.old files.new (file_name world.now) (text tree)) }
     ensures err { OnErr result (files.new ≡ files.old) }

@@ -1,15 +1,17 @@
 //! The wrapper of an imported function.
 
-ghost use Rattle.std.specs.Prelude.{◌≡◌, true, IfOk, OnOk};
+ghost use Rattle.std.specs.Prelude.{◌≡◌, true, IfOk, OnOk, map};
 ghost use Rattle.wit_model.specs.Distinct.{is_distinct};
 ghost use Rattle.wit_model.specs.IndexRange.{function_in_range};
 ghost use Rattle.wit_model.specs.WellFormed.{IsWellFormed};
+ghost use Rattle.rust_tree.specs.Asked.{asked_by_signature, asked_in};
 ghost use Rattle.gen_accept.specs.DeclaredNames.{param_idents};
 ghost use Rattle.type_defs.specs.ParamType.{HasFacts};
+ghost use Rattle.type_defs.specs.PartType.{printed_result};
 ghost use Rattle.rust_gen.specs.Body.{AreImportParts, IsImportCode, IsImportHead, IsImportMade};
 ghost use Rattle.rust_gen.specs.FixedName.{IsFixedName};
 ghost use Rattle.rust_gen.specs.Known.{AreAtHand, sites_in};
-ghost use Rattle.rust_gen.specs.Wrapper.{DeclaresOne, root_module};
+ghost use Rattle.rust_gen.specs.Wrapper.{DeclaresOne, printed_param, root_module};
 
 use crate::declared::declares;
 use crate::fixed_name::fixed_name;
@@ -18,9 +20,9 @@ use crate::sites::import_sites;
 use crate::tables::take_tables;
 use func_gen::TypeTables;
 use gen_accept::param_idents;
-use rust_tree::{Block, FnItem, FnParam, RuntimeItem, TypeExpr, to_rust_ident};
+use rust_tree::{Block, FnItem, FnParam, Item, RuntimeItem, TypeExpr, to_rust_ident};
 use std::alloc::Global;
-use type_defs::doc_lines;
+use type_defs::{doc_lines, one};
 use type_facts::Types;
 use wit_model::{Function, List, OutOfMemory, Resolve, Text};
 use wrapper_closing::{BodyParts, import_block, import_body};
@@ -61,16 +63,19 @@ fn import_parts(
     requires tables { AreAtHand resolve.now.types tables.old }
     ensures { IfOk result (AreImportParts resolve.now.types (sites_in tables.old) f.now) }
 {
+    let home = root_module(alloc)?;
+    let area = name_beside(alloc, f, "ret_area")?;
+    let cleanup = name_beside(alloc, f, "cleanup_list")?;
+    let params = import_sites(alloc, f.params.as_slice())?;
     let taken = take_tables(tables)?;
-    let parts = BodyParts {
+    Ok(BodyParts {
         sizes: taken.sizes,
-        home: root_module(alloc)?,
-        area: name_beside(alloc, f, "ret_area")?,
-        cleanup: name_beside(alloc, f, "cleanup_list")?,
-        params: import_sites(alloc, f.params.as_slice())?,
+        home,
+        area,
+        cleanup,
+        params,
         sites: taken.sites,
-    };
-    Ok(parts)
+    })
 }
 
 /// The block of the wrapper's body, and the items of `_rt` that it asks for.
@@ -133,7 +138,27 @@ fn import_fn(head: ImportHead, body: Block) -> FnItem
     }
 }
 
-/// The same, where the block declares the core import of the function and no other. There is no memory also where it doesn't.
+/// The wrapper of an imported function as it looks from outside, alone and with an empty body.
+pub(crate) fn outside_items(
+    alloc: Global,
+    resolve: &Resolve,
+    facts: &Types,
+    f: &Function,
+) -> Result<List<Item>, OutOfMemory>
+    requires facts { HasFacts resolve.now facts.now }
+    requires within { function_in_range resolve.now f.now ≡ true }
+    ensures { IfOk result (λ items. asked_in items ≡ asked_by_signature (map (printed_param resolve.now.types) f.now.params) (printed_result resolve.now.types f.now.result)) }
+{
+    let head = import_head(alloc, resolve, facts, f)?;
+    let body = Block {
+        stmts: List::new(alloc),
+        tail: None,
+    };
+    one(alloc, Item::Import(import_fn(head, body)))
+}
+
+/// The block of the wrapper's body, and the items of `_rt` that it asks for, where the block declares the core import of the function and no
+/// other. There is no memory also where it doesn't.
 fn declaring_code(
     alloc: Global,
     resolve: &Resolve,

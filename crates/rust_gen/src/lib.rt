@@ -14,6 +14,7 @@ mod sites;
 mod sound;
 mod tables;
 mod tree;
+mod wrappers;
 
 pub use gen_accept::{
     ChainingMode, Clash, Entry, ExportKey, GenError, Lack, MissingWith, Opts, TooLarge, WithOption,

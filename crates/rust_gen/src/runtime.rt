@@ -1,10 +1,11 @@
 //! Which items the module `_rt` holds.
 
-ghost use Rattle.std.specs.Prelude.{◌≡◌, IfOk, OnOk, fold};
+ghost use Rattle.std.specs.Prelude.{◌≡◌, ◌++◌, IfOk, OnOk, fold};
 ghost use Rattle.std.specs.List.{flat_map, list_all, list_any};
+ghost use Rattle.rust_tree.specs.Asked.{asked_in};
 ghost use Rattle.rust_tree.specs.Runtime.{needed_items};
 ghost use Rattle.rust_gen.specs.Body.{is_among};
-ghost use Rattle.rust_gen.specs.Runtime.{is_same_item, runtime_items, with_asked, with_needed};
+ghost use Rattle.rust_gen.specs.Runtime.{is_same_item, runtime_items, runtime_module, with_asked, with_needed};
 
 use rust_tree::{Item, RuntimeItem, asked_in};
 use std::alloc::Global;
@@ -82,15 +83,43 @@ fn with_needed(alloc: Global, asked: List<RuntimeItem>) -> Result<List<RuntimeIt
     Ok(items)
 }
 
-/// The items that the items of a file ask for, each once, in the order in which they are first asked for; and behind them those
-/// that they need.
+/// The items that are asked for, each once, in the order in which they are first asked for; and behind them those that they need.
 #[tactic(auto, unfolding(crate::specs::Runtime::runtime_items))]
-pub(crate) fn runtime_items(alloc: Global, items: &[Item]) -> Result<List<RuntimeItem>, OutOfMemory>
-    ensures { IfOk result (λ found. found ≡ runtime_items items.now) }
+fn runtime_items(alloc: Global, asked: &[RuntimeItem]) -> Result<List<RuntimeItem>, OutOfMemory>
+    ensures { IfOk result (λ found. found ≡ runtime_items asked.now) }
 {
-    let asked = asked_in(alloc, items)?;
     let mut found = List::new(alloc);
-    ask_all(&mut found, asked.as_slice())?;
+    ask_all(&mut found, asked)?;
     let found = with_needed(alloc, found)?;
     with_needed(alloc, found)
+}
+
+/// What is asked for of `_rt`, and behind it whatever else items name.
+fn all_asked(
+    alloc: Global,
+    asked: &[RuntimeItem],
+    items: &[Item],
+) -> Result<List<RuntimeItem>, OutOfMemory>
+    ensures { IfOk result (λ all. all ≡ asked.now ++ asked_in items.now) }
+{
+    let named = asked_in(alloc, items)?;
+    let mut all = List::from_slice(alloc, asked)?;
+    all.extend_from_slice(named.as_slice())?;
+    Ok(all)
+}
+
+/// Puts the module `_rt` behind other items, where any of its items is asked for.
+pub(crate) fn push_runtime(
+    alloc: Global,
+    items: &mut List<Item>,
+    asked: &[RuntimeItem],
+) -> Result<(), OutOfMemory>
+    ensures { OnOk result (items.new ≡ items.old ++ runtime_module (runtime_items (asked.now ++ asked_in items.old))) }
+{
+    let all = all_asked(alloc, asked, items.as_slice())?;
+    let parts = runtime_items(alloc, all.as_slice())?;
+    if parts.is_empty() {
+        return Ok(());
+    }
+    items.push(Item::Runtime(parts))
 }

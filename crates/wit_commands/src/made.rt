@@ -2,7 +2,6 @@
 
 ghost use Rattle.std.specs.Prelude.{◌≡◌, Some, IfOk, IfErr};
 ghost use Rattle.rust_tree.specs.Text.{text};
-ghost use Rattle.rust_gen.specs.Bound.{Binds};
 ghost use Rattle.gen_accept.specs.Cause.{IsAnswer, cause};
 ghost use Rattle.rust_gen.specs.Wrapper.{Wraps};
 ghost use Rattle.wit_commands.specs.Input.{input_in};

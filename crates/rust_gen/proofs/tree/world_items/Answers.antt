@@ -1,15 +1,16 @@
-use Rattle.std.proofs.Common.{◌≡◌, ◌++◌, ◌∙◌, ap, map, refl, subst}
-use Rattle.std.specs.List.{AllZip, flat_map}
+use Rattle.std.proofs.Common.{◌++◌, ◌∙◌, ap, map, refl, subst}
+use Rattle.std.specs.List.{AllZip}
 use Rattle.rust_tree.specs.declared.item.Item.TheVariants as item
-use Rattle.gen_accept.specs.Emitted.{exported_functions, functions_in}
+use Rattle.rust_tree.specs.Asked.{asked_in}
+use Rattle.gen_accept.specs.Emitted.{exported_functions, functions_in, imported_functions}
 use Rattle.type_defs.specs.Defined.{AreDefinitions}
 use Rattle.gen_accept.specs.TypeOpts.{type_opts}
 use Rattle.type_sites.specs.Sites.{type_sites}
 use Rattle.type_sites.proofs.SitesDefined.{sites-can-be-defined}
-use Rattle.rust_gen.specs.Body.{ArePartsWritten}
-use Rattle.rust_gen.specs.Bound.{export_items, own_items}
+use Rattle.rust_gen.specs.Asking.{ExportAsks, asked_order, asking_items, bare}
 use Rattle.rust_gen.specs.Exported.{last_macro}
 use Rattle.rust_gen.specs.Runtime.{runtime_items}
+use Rattle.rust_gen.proofs.OrderLemmas.{exports-written, imports-written, order-made, serves-order}
 use Rattle.rust_gen.proofs.TreeLemmas.{all-made, own-made}
 use Rattle.rust_gen.proofs.tree.world_items.Goals as goal
 
@@ -30,23 +31,42 @@ pub push_wrappers-requires-clause-shallow : goal.push_wrappers-requires-clause-s
 push_wrappers-requires-clause-shallow c = c.requires.types.shallow
 
 -- the items before the runtime items, step by step, and then those behind them
-pub returns : goal.returns
-returns c =
+pub returns-clause-order : goal.returns-clause-order
+returns-clause-order c =
     let types = c.args.resolve.now.types in
     let world = c.args.world.now in
     let ts = c.in_ok-types.types in
-    let (ws, es, made, areas, wraps, exported) = c.in_ok-areas.ensures in
-    let methods = ap (map (λ f. f.now)) c.as_slice-exports.ensures.value ∙ c.in_ok-exports.ensures ∙ ap functions_in c.as_slice.ensures in
-    let own = own-made types ts ws es world c.as_slice-2.result.now c.in_ok-items.items (c.in_ok-items.items ++ map item.Import ws) c.push_wrappers.new.items c.push_trait_and_macro.new.items c.push_area.new.items
-    c.in_ok-items.ensures refl made c.in_ok-push_trait_and_macro.ensures (c.as_slice-2.ensures ∙ areas) c.in_ok-push_area.ensures in
+    let (is, es, pushed, areas, adds, wraps, exported) = c.in_ok-areas.ensures in
+    let methods = ap (map (λ f. f.now)) c.as_slice-exports.ensures.value ∙ c.in_ok-exports.ensures ∙ ap functions_in c.as_slice-2.ensures in
+    let own = own-made types ts (bare is) (bare es) world c.as_slice-3.result.now c.in_ok-items.items (c.in_ok-items.items ++ map item.Import (bare is)) c.push_wrappers.new.items c.push_trait_and_macro.new.items c.push_area.new.items
+    c.in_ok-items.ensures refl pushed c.in_ok-push_trait_and_macro.ensures (c.as_slice-3.ensures ∙ areas) c.in_ok-push_area.ensures in
+    let order = order-made types world ts is es c.in_ok-asked.asked c.as_slice-4.result.now (asked_in c.push_area.new.items) (c.in_ok-asked.ensures ∙ ap asked_in (c.as_slice.ensures ∙ c.in_ok-items.ensures)) (c.as_slice-4.ensures ∙ adds) (ap asked_in own) in
     record {
-      types = ts;
-      wrappers = ws;
+      defs = ts;
+      imports = is;
       exports = es;
       are =
-          all-made (own_items types ts ws es world) c.push_area.new.items c.push_runtime.new.items c.push_last_macro.new.items (last_macro world) (runtime_items c.push_area.new.items) own
-          refl c.in_ok-push_runtime.ensures c.in_ok-push_last_macro.ensures;
-      defined = subst (λ o. AreDefinitions o c.args.resolve.now c.args.id world ts) c.type_opts.ensures c.in_ok-types.ensures;
+          all-made (asking_items types world ts is es) c.push_area.new.items c.push_runtime.new.items c.push_last_macro.new.items (last_macro world) (c.as_slice-4.result.now ++ asked_in c.push_area.new.items) (asked_order types world ts is es) own
+          order c.in_ok-push_runtime.ensures c.in_ok-push_last_macro.ensures;
       wraps = wraps;
-      exported = subst (λ fs. AllZip (ArePartsWritten types (type_sites c.args.resolve.now world)) fs es) methods exported;
+      exported = subst (λ fs. AllZip (ExportAsks types (type_sites c.args.resolve.now world)) fs es) methods exported;
+    }
+
+pub returns-clause-are : goal.returns-clause-are
+unfolding returns-clause-order
+returns-clause-are c =
+    let o = returns-clause-order c in
+    let types = c.args.resolve.now.types in
+    let world = c.args.world.now in
+    let sites = type_sites c.args.resolve.now world in
+    record {
+      types = o.defs;
+      wrappers = bare o.imports;
+      exports = bare o.exports;
+      runtime = runtime_items (asked_order types world o.defs o.imports o.exports);
+      are = o.are;
+      serves = serves-order types sites world o.defs o.imports o.exports o.wraps o.exported;
+      defined = subst (λ o. AreDefinitions o c.args.resolve.now c.args.id world c.in_ok-types.types) c.type_opts.ensures c.in_ok-types.ensures;
+      wraps = imports-written types sites (imported_functions world) o.imports o.wraps;
+      exported = exports-written types sites (exported_functions world) o.exports o.exported;
     }

@@ -24,6 +24,7 @@ returns-clause-ok c =
         bound = binds_wraps written;
         written = written;
         runtime = serves c.self.inside.opts c.args.resolve.now c.args.world world _ written;
+        order = c.in_ok-tree.ensures.order;
         faithful = are_faithful c.self.inside.opts c.args.resolve.now c.args.world world known (accepted-named c.self.inside.opts c.args.resolve.now world c.in_ok-accepted.ensures.accepted) _ written;
         well_named = c.in_ok-tree.ensures.named;
       };

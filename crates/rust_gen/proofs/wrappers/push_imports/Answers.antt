@@ -1,13 +1,14 @@
-use Rattle.std.proofs.Common.{◌≡◌, true, [], ◌∷◌, ◌++◌, ◌∙◌, ap, sym, append_assoc, arith, subst}
+use Rattle.std.proofs.Common.{◌≡◌, true, [], ◌∷◌, ◌++◌, ◌∙◌, ap, map, sym, append_assoc, arith, subst}
 use Rattle.std.proofs.lemmas.List.{map-append}
 use Rattle.wit_model.specs.Distinct.{is_distinct}
 use Rattle.wit_model.specs.IndexRange.{function_in_range}
 use Rattle.rust_tree.specs.declared.item.Item.TheVariants as item
 use Rattle.gen_accept.specs.DeclaredNames.{param_idents}
-use Rattle.rust_gen.specs.Body.{IsWritten}
+use Rattle.rust_gen.specs.Asking.{ImportAsks, bare}
 use Rattle.rust_gen.specs.Known.{sites_in}
+use Rattle.rust_gen.proofs.OrderLemmas.{asked-more, bare-more}
 use Rattle.rust_gen.proofs.TreeLemmas.{at-loop, wraps-more}
-use Rattle.rust_gen.proofs.tree.push_imports.Goals as goal
+use Rattle.rust_gen.proofs.wrappers.push_imports.Goals as goal
 
 pub push_import-requires-clause-within : goal.push_import-requires-clause-within
 push_import-requires-clause-within c =
@@ -22,12 +23,13 @@ push_import-requires-clause-tables c = c.loop-function.invariant.0
 
 pub loop-function-preserved : goal.loop-function-preserved
 loop-function-preserved c =
-    let before = c.loop-function.invariant.2 in
-    let same = c.loop-function.invariant.1 in
-    let more = c.in_ok-push_import.ensures.made in (
+    let (hand, same, before, items, asked, zipped) = c.loop-function.invariant in
+    let (more, pushed, adds, asks) = c.in_ok-push_import.ensures.made in (
       c.in_ok-push_import.ensures.kept,
       c.in_ok-push_import.ensures.same ∙ same,
-      before ++ more.0 ∷ [],
-      more.1 ∙ ap (λ is. is ++ item.Import more.0 ∷ []) c.loop-function.invariant.3 ∙ append_assoc c.args.items.now _ _ ∙ ap (λ is. c.args.items.now ++ is) (sym (map-append item.Import before (more.0 ∷ []))),
-      wraps-more (IsWritten c.args.resolve.now.types (sites_in c.args.tables.now)) c.args.functions.now c.loop-function.function-index c.function-item.result before more.0 (omega arith) c.function-item.is c.loop-function.invariant.4 (subst (λ sites. IsWritten c.args.resolve.now.types sites c.function-item.result.now more.0) same more.2),
+      before ++ more ∷ [],
+      pushed ∙ ap (λ is. is ++ item.Import more.0 ∷ []) items ∙ append_assoc c.args.items.now (map item.Import (bare before)) (item.Import more.0 ∷ [])
+          ∙ ap (λ is. c.args.items.now ++ is) (sym (map-append item.Import (bare before) (more.0 ∷ []))) ∙ ap (λ xs. c.args.items.now ++ map item.Import xs) (sym (bare-more before more)),
+      asked-more before more c.args.asked.now c.loop-function.asked c.push_import.new.asked asked adds,
+      wraps-more (ImportAsks c.args.resolve.now.types (sites_in c.args.tables.now)) c.args.functions.now c.loop-function.function-index c.function-item.result before more (omega arith) c.function-item.is zipped (subst (λ sites. ImportAsks c.args.resolve.now.types sites c.function-item.result.now more) same asks),
     )

@@ -2,10 +2,10 @@ use Rattle.std.proofs.Common.{◌≡◌, ◌++◌, ◌∙◌, ap, map, subst}
 use Rattle.std.specs.List.{AllZip, flat_map}
 use Rattle.gen_accept.specs.Emitted.{functions_in, imported_functions}
 use Rattle.type_sites.specs.Sites.{type_sites}
-use Rattle.rust_gen.specs.Body.{ArePartsWritten, IsWritten}
+use Rattle.rust_gen.specs.Asking.{ExportAsks, ImportAsks, asked_with, bare}
 use Rattle.rust_gen.specs.Bound.{export_items}
 use Rattle.rust_gen.specs.Known.{sites_in}
-use Rattle.rust_gen.proofs.tree.push_wrappers.Goals as goal
+use Rattle.rust_gen.proofs.wrappers.push_wrappers.Goals as goal
 
 pub push_imports-requires-clause-facts : goal.push_imports-requires-clause-facts
 push_imports-requires-clause-facts c = record { checked = c.requires.well; shallow = c.requires.shallow; analyzed = (c.args.id, c.in_ok-facts.ensures) }
@@ -15,14 +15,15 @@ pub returns : goal.returns
 returns c =
     let types = c.args.resolve.now.types in
     let world = c.args.world.now in
-    let imports = c.in_ok-push_imports.ensures.made in
-    let exports = c.in_ok-areas.ensures.made in
+    let (imports, imported, adds, asks) = c.in_ok-push_imports.ensures.made in
+    let (exports, exported, areas, adds_more, asks_more) = c.in_ok-areas.ensures.made in
     let known : sites_in c.in_ok-tables.tables ≡ type_sites c.args.resolve.now world = c.in_ok-tables.ensures.sites world c.requires.found c.requires.shallow in
     let functions = ap (map (λ f. f.now)) c.as_slice-2.ensures.value ∙ c.in_ok-imports.ensures ∙ ap functions_in c.as_slice.ensures in (
-      imports.0,
-      exports.0,
-      exports.1 ∙ ap (λ is. is ++ flat_map export_items exports.0) imports.1,
-      exports.2,
-      subst (λ rs. AllZip (IsWritten types rs) (imported_functions world) imports.0) known (subst (λ fs. AllZip (IsWritten types (sites_in c.in_ok-tables.tables)) fs imports.0) functions imports.2),
-      subst (λ rs. AllZip (ArePartsWritten types rs) (map (λ f. f.now) c.args.exports.now) exports.0) (c.in_ok-push_imports.ensures.same ∙ known) exports.3,
+      imports,
+      exports,
+      exported ∙ ap (λ is. is ++ flat_map export_items (bare exports)) imported,
+      areas,
+      adds_more ∙ ap (λ xs. xs ++ asked_with exports) adds,
+      subst (λ rs. AllZip (ImportAsks types rs) (imported_functions world) imports) known (subst (λ fs. AllZip (ImportAsks types (sites_in c.in_ok-tables.tables)) fs imports) functions asks),
+      subst (λ rs. AllZip (ExportAsks types rs) (map (λ f. f.now) c.args.exports.now) exports) (c.in_ok-push_imports.ensures.same ∙ known) asks_more,
     )

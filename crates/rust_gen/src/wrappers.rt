@@ -1,0 +1,285 @@
+//! The wrappers of a world's functions, one behind another, and what they ask for of `_rt`.
+
+ghost use Rattle.std.specs.Prelude.{◌≡◌, ◌++◌, ◌∷◌, [], true, List, Option, Some, IfOk, OnOk, map, option_to_list, slice_get};
+ghost use Rattle.std.specs.List.{AllZip, flat_map};
+ghost use Rattle.wit_model.specs.Distinct.{is_distinct};
+ghost use Rattle.wit_model.specs.IndexRange.{function_in_range};
+ghost use Rattle.wit_model.specs.WellFormed.{IsWellFormed};
+ghost use Rattle.rust_tree.specs.declared.export.ExportFn.{ExportFn};
+ghost use Rattle.rust_tree.specs.declared.export.PostReturnFn.{PostReturnFn};
+ghost use Rattle.rust_tree.specs.declared.item.FnItem.{FnItem};
+ghost use Rattle.rust_tree.specs.declared.item.Item.TheVariants as item;
+ghost use Rattle.rust_tree.specs.declared.runtime_item.RuntimeItem.{RuntimeItem};
+ghost use Rattle.rust_tree.specs.Asked.{asked_by_signature};
+ghost use Rattle.gen_accept.specs.Area.{needs_return};
+ghost use Rattle.gen_accept.specs.DeclaredNames.{param_idents};
+ghost use Rattle.gen_accept.specs.Emitted.{imported_functions};
+ghost use Rattle.gen_accept.specs.InRange.{AreInRange};
+ghost use Rattle.type_defs.specs.Levels.{are_shallow};
+ghost use Rattle.type_defs.specs.ParamType.{HasFacts};
+ghost use Rattle.type_defs.specs.PartType.{printed_result};
+ghost use Rattle.type_sites.specs.Sites.{type_sites};
+ghost use Rattle.rust_gen.specs.Asking.{ExportAsks, ImportAsks, ReturnAsks, WrapperAsks, asked_with, bare};
+ghost use Rattle.rust_gen.specs.Bound.{Parts, areas_of, export_items, return_items};
+ghost use Rattle.rust_gen.specs.Known.{AreAtHand, CanWriteTypes, HaveDistinctParams, sites_in};
+ghost use Rattle.rust_gen.specs.Wrapper.{printed_param};
+
+use crate::export::{ExportMade, export_wrapper};
+use crate::import::{import_wrapper, outside_items};
+use crate::post_return::post_return;
+use crate::sound::test_at;
+use crate::tables::type_tables;
+use abi_bindgen::Asked;
+use func_gen::TypeTables;
+use gen_accept::{functions_in, needs_return};
+use rust_tree::{Item, RuntimeItem, asked_in};
+use std::alloc::Global;
+use type_facts::Types;
+use wit_model::{Function, List, OutOfMemory, Resolve, World, WorldId};
+
+/// Puts what the signature of an import's wrapper names of `_rt` behind other items of it.
+fn ask_by_signature(
+    alloc: Global,
+    resolve: &Resolve,
+    facts: &Types,
+    asked: &mut List<RuntimeItem>,
+    f: &Function,
+) -> Result<(), OutOfMemory>
+    requires within { function_in_range resolve.now f.now ≡ true }
+    requires facts { HasFacts resolve.now facts.now }
+    ensures { OnOk result
+        (asked.new ≡ asked.old ++ asked_by_signature (map (printed_param resolve.now.types) f.now.params) (printed_result resolve.now.types f.now.result)) }
+{
+    let outside = outside_items(alloc, resolve, facts, f)?;
+    let named = asked_in(alloc, outside.as_slice())?;
+    asked.extend_from_slice(named.as_slice())
+}
+
+/// Puts the wrapper of an imported function behind other items, and what it asks for of `_rt` behind other items of that.
+fn push_import(
+    alloc: Global,
+    resolve: &Resolve,
+    facts: &Types,
+    tables: &mut Option<TypeTables>,
+    items: &mut List<Item>,
+    asked: &mut List<RuntimeItem>,
+    f: &Function,
+) -> Result<(), OutOfMemory>
+    requires well { IsWellFormed resolve.now }
+    requires within { function_in_range resolve.now f.now ≡ true }
+    requires distinct { is_distinct (param_idents f.now) ≡ true }
+    requires facts { HasFacts resolve.now facts.now }
+    requires tables { AreAtHand resolve.now.types tables.old }
+    ensures made { OnOk result
+        ((i : FnItem × List RuntimeItem) × (items.new ≡ items.old ++ item.Import i.0 ∷ []) × (asked.new ≡ asked.old ++ i.1) × ImportAsks resolve.now.types (sites_in tables.old) f.now i) }
+    ensures kept { OnOk result (AreAtHand resolve.now.types tables.new) }
+    ensures same { OnOk result (sites_in tables.new ≡ sites_in tables.old) }
+{
+    ask_by_signature(alloc, resolve, facts, asked, f)?;
+    let (wrapper, runtime) = import_wrapper(alloc, resolve, facts, tables, f)?;
+    let at = items.len();
+    items.push(Item::Import(wrapper))?;
+    test_at(alloc, items.as_slice(), at, runtime.as_slice())?;
+    asked.extend_from_slice(runtime.as_slice())?;
+    Ok(())
+}
+
+fn push_imports(
+    alloc: Global,
+    resolve: &Resolve,
+    facts: &Types,
+    tables: &mut Option<TypeTables>,
+    items: &mut List<Item>,
+    asked: &mut List<RuntimeItem>,
+    functions: &[&Function],
+) -> Result<(), OutOfMemory>
+    requires well { IsWellFormed resolve.now }
+    requires within { AreInRange resolve.now (map (λ f. f.now) functions.now) }
+    requires distinct { HaveDistinctParams (map (λ f. f.now) functions.now) }
+    requires facts { HasFacts resolve.now facts.now }
+    requires tables { AreAtHand resolve.now.types tables.old }
+    ensures made { OnOk result
+        ((is : List (FnItem × List RuntimeItem)) × (items.new ≡ items.old ++ map item.Import (bare is)) × (asked.new ≡ asked.old ++ asked_with is) × AllZip (ImportAsks resolve.now.types (sites_in tables.old)) (map (λ f. f.now) functions.now) is) }
+    ensures kept { OnOk result (AreAtHand resolve.now.types tables.new) }
+    ensures same { OnOk result (sites_in tables.new ≡ sites_in tables.old) }
+{
+    for function in functions {
+        push_import(alloc, resolve, facts, tables, items, asked, function)?;
+    }
+    Ok(())
+}
+
+/// Puts the wrapper of an exported function behind other items, and what it asks for of `_rt` behind other items of that. Answers the
+/// area that it needs, if it needs one.
+fn push_wrapper(
+    alloc: Global,
+    resolve: &Resolve,
+    tables: &mut Option<TypeTables>,
+    items: &mut List<Item>,
+    asked: &mut List<RuntimeItem>,
+    f: &Function,
+) -> Result<Option<Asked>, OutOfMemory>
+    requires well { IsWellFormed resolve.now }
+    requires within { function_in_range resolve.now f.now ≡ true }
+    requires tables { AreAtHand resolve.now.types tables.old }
+    ensures made { IfOk result
+        (λ area. (e : ExportFn × List RuntimeItem) × (items.new ≡ items.old ++ item.Export e.0 ∷ []) × (asked.new ≡ asked.old ++ e.1) × WrapperAsks resolve.now.types (sites_in tables.old) f.now e.0 area e.1) }
+    ensures kept { OnOk result (AreAtHand resolve.now.types tables.new) }
+    ensures same { OnOk result (sites_in tables.new ≡ sites_in tables.old) }
+{
+    let ExportMade {
+        wrapper,
+        area,
+        runtime,
+    } = export_wrapper(alloc, resolve, tables, f)?;
+    let at = items.len();
+    items.push(Item::Export(wrapper))?;
+    test_at(alloc, items.as_slice(), at, runtime.as_slice())?;
+    asked.extend_from_slice(runtime.as_slice())?;
+    Ok(area)
+}
+
+/// Puts the post-return function of an exported function behind other items, and what it asks for of `_rt` behind other items of that.
+fn push_returning(
+    alloc: Global,
+    resolve: &Resolve,
+    tables: &mut Option<TypeTables>,
+    items: &mut List<Item>,
+    asked: &mut List<RuntimeItem>,
+    f: &Function,
+) -> Result<(), OutOfMemory>
+    requires well { IsWellFormed resolve.now }
+    requires within { function_in_range resolve.now f.now ≡ true }
+    requires tables { AreAtHand resolve.now.types tables.old }
+    ensures made { OnOk result
+        ((p : Option PostReturnFn × List RuntimeItem) × (items.new ≡ items.old ++ return_items p.0) × (asked.new ≡ asked.old ++ p.1) × ReturnAsks resolve.now.types (sites_in tables.old) true f.now p.0 p.1) }
+    ensures kept { OnOk result (AreAtHand resolve.now.types tables.new) }
+    ensures same { OnOk result (sites_in tables.new ≡ sites_in tables.old) }
+{
+    let (function, runtime) = post_return(alloc, resolve, tables, f)?;
+    let at = items.len();
+    items.push(Item::PostReturn(function))?;
+    test_at(alloc, items.as_slice(), at, runtime.as_slice())?;
+    asked.extend_from_slice(runtime.as_slice())?;
+    Ok(())
+}
+
+/// The same where its result may hold a text.
+fn push_post_return(
+    alloc: Global,
+    resolve: &Resolve,
+    tables: &mut Option<TypeTables>,
+    items: &mut List<Item>,
+    asked: &mut List<RuntimeItem>,
+    f: &Function,
+) -> Result<(), OutOfMemory>
+    requires well { IsWellFormed resolve.now }
+    requires within { function_in_range resolve.now f.now ≡ true }
+    requires tables { AreAtHand resolve.now.types tables.old }
+    ensures made { OnOk result
+        ((p : Option PostReturnFn × List RuntimeItem) × (items.new ≡ items.old ++ return_items p.0) × (asked.new ≡ asked.old ++ p.1) × ReturnAsks resolve.now.types (sites_in tables.old) (needs_return resolve.now.types f.now) f.now p.0 p.1) }
+    ensures kept { OnOk result (AreAtHand resolve.now.types tables.new) }
+    ensures same { OnOk result (sites_in tables.new ≡ sites_in tables.old) }
+{
+    if needs_return(resolve, f) {
+        push_returning(alloc, resolve, tables, items, asked, f)?;
+        Ok(())
+    } else {
+        Ok(())
+    }
+}
+
+fn push_needed(areas: &mut List<Asked>, area: Option<Asked>) -> Result<(), OutOfMemory>
+    ensures { OnOk result (areas.new ≡ areas.old ++ option_to_list area) }
+{
+    match area {
+        None => Ok(()),
+        Some(area) => areas.push(area),
+    }
+}
+
+/// Puts the wrapper of an exported function behind other items, and its post-return function if it has one; what they ask for of `_rt`
+/// behind other items of that; and the area that is needed behind other areas.
+fn push_export(
+    alloc: Global,
+    resolve: &Resolve,
+    tables: &mut Option<TypeTables>,
+    items: &mut List<Item>,
+    asked: &mut List<RuntimeItem>,
+    areas: &mut List<Asked>,
+    f: &Function,
+) -> Result<(), OutOfMemory>
+    requires well { IsWellFormed resolve.now }
+    requires within { function_in_range resolve.now f.now ≡ true }
+    requires tables { AreAtHand resolve.now.types tables.old }
+    ensures made { OnOk result
+        ((e : Parts × List RuntimeItem) × (items.new ≡ items.old ++ export_items e.0) × (areas.new ≡ areas.old ++ option_to_list e.0.2) × (asked.new ≡ asked.old ++ e.1) × ExportAsks resolve.now.types (sites_in tables.old) f.now e) }
+    ensures kept { OnOk result (AreAtHand resolve.now.types tables.new) }
+    ensures same { OnOk result (sites_in tables.new ≡ sites_in tables.old) }
+{
+    let area = push_wrapper(alloc, resolve, tables, items, asked, f)?;
+    push_post_return(alloc, resolve, tables, items, asked, f)?;
+    push_needed(areas, area)?;
+    Ok(())
+}
+
+/// Puts the wrappers of exported functions behind other items, and answers the areas that they need.
+fn push_exports(
+    alloc: Global,
+    resolve: &Resolve,
+    tables: &mut Option<TypeTables>,
+    items: &mut List<Item>,
+    asked: &mut List<RuntimeItem>,
+    functions: &[&Function],
+) -> Result<List<Asked>, OutOfMemory>
+    requires well { IsWellFormed resolve.now }
+    requires within { AreInRange resolve.now (map (λ f. f.now) functions.now) }
+    requires tables { AreAtHand resolve.now.types tables.old }
+    ensures made { IfOk result
+        (λ areas. (es : List (Parts × List RuntimeItem)) × (items.new ≡ items.old ++ flat_map export_items (bare es)) × (areas ≡ flat_map option_to_list (areas_of (bare es))) × (asked.new ≡ asked.old ++ asked_with es) × AllZip (ExportAsks resolve.now.types (sites_in tables.old)) (map (λ f. f.now) functions.now) es) }
+    ensures kept { OnOk result (AreAtHand resolve.now.types tables.new) }
+    ensures same { OnOk result (sites_in tables.new ≡ sites_in tables.old) }
+{
+    let mut areas = List::new(alloc);
+    for function in functions {
+        push_export(alloc, resolve, tables, items, asked, &mut areas, function)?;
+    }
+    Ok(areas)
+}
+
+/// Puts the wrappers of a world's functions behind other items, and what they ask for of `_rt` behind other items of that. Answers the
+/// areas that those of exported functions need.
+pub(crate) fn push_wrappers(
+    alloc: Global,
+    resolve: &Resolve,
+    id: WorldId,
+    items: &mut List<Item>,
+    asked: &mut List<RuntimeItem>,
+    world: &World,
+    exports: &[&Function],
+) -> Result<List<Asked>, OutOfMemory>
+    requires well { IsWellFormed resolve.now }
+    requires found { slice_get resolve.now.worlds id.0 ≡ Some world.now }
+    requires shallow { are_shallow resolve.now.types ≡ true }
+    requires types { CanWriteTypes resolve.now id }
+    requires imports { AreInRange resolve.now (imported_functions world.now) }
+    requires distinct { HaveDistinctParams (imported_functions world.now) }
+    requires within { AreInRange resolve.now (map (λ f. f.now) exports.now) }
+    ensures { IfOk result
+        (λ areas. (is : List (FnItem × List RuntimeItem)) × (es : List (Parts × List RuntimeItem)) × (items.new ≡ (items.old ++ map item.Import (bare is)) ++ flat_map export_items (bare es)) × (areas ≡ flat_map option_to_list (areas_of (bare es))) × (asked.new ≡ (asked.old ++ asked_with is) ++ asked_with es) × AllZip (ImportAsks resolve.now.types (type_sites resolve.now world.now)) (imported_functions world.now) is × AllZip (ExportAsks resolve.now.types (type_sites resolve.now world.now)) (map (λ f. f.now) exports.now) es) }
+{
+    let imports = functions_in(alloc, world.imports.as_slice())?;
+    let facts = Types::analyze(alloc, resolve, id)?;
+    let mut tables = type_tables(alloc, resolve, id)?;
+    push_imports(
+        alloc,
+        resolve,
+        &facts,
+        &mut tables,
+        items,
+        asked,
+        imports.as_slice(),
+    )?;
+    let areas = push_exports(alloc, resolve, &mut tables, items, asked, exports)?;
+    Ok(areas)
+}
