@@ -1,5 +1,10 @@
+mod ArmRows
+mod DefinitionRows
+mod FormRows
 mod LayoutRows
 mod NameRows
+mod PlaceRows
 mod RuleRows
 mod Sample
+mod Trees
 mod WordRows

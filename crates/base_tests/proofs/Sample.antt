@@ -3,8 +3,6 @@ use Rattle.std.proofs.Common.{ℕ, List, [], ◌∷◌, map, replicate, Option, 
 use Rattle.wit_model.specs.declared.name.Docs.{Docs}
 use Rattle.wit_model.specs.declared.name.Name.{Name}
 use Rattle.wit_model.specs.declared.name.TypeId.{TypeId}
-use Rattle.wit_model.specs.declared.types.Case.{Case}
-use Rattle.wit_model.specs.declared.types.Field.{Field}
 use Rattle.wit_model.specs.declared.types.Handle.TheVariants.{Own, Borrow}
 use Rattle.wit_model.specs.declared.types.Member.{Member}
 use Rattle.wit_model.specs.declared.types.TypeDef.{TypeDef}

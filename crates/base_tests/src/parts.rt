@@ -1,7 +1,5 @@
 //! Names, entries and tables for the tests.
 
-ghost use Rattle.std.specs.Prelude.{◌≡◌, [], ◌∷◌, IfOk};
-
 use std::alloc::Global;
 use wit_model::{
     Docs, List, Name, OutOfMemory, Package, Resolve, Text, TypeDef, TypeDefKind, TypeId, TypeOwner,
@@ -21,9 +19,7 @@ pub(crate) fn no_name(alloc: Global) -> Name {
     }
 }
 
-pub(crate) fn one<T: Drop>(alloc: Global, value: T) -> Result<List<T>, OutOfMemory>
-    ensures { IfOk result (λ l. l ≡ value ∷ []) }
-{
+pub(crate) fn one<T: Drop>(alloc: Global, value: T) -> Result<List<T>, OutOfMemory> {
     let mut items = List::new(alloc);
     items.push(value)?;
     Ok(items)
