@@ -1,6 +1,8 @@
 mod ArmRows
 mod DefinitionRows
+mod FactRows
 mod FormRows
+mod FoundFacts
 mod LayoutRows
 mod NameRows
 mod PlaceRows

@@ -4,7 +4,6 @@ use Rattle.std.proofs.lemmas.Fmt.{decimal_digit}
 use Rattle.std.specs.Prelude.{false, codes}
 use Rattle.wit_model.specs.declared.constructor.ConstructorReturn.TheVariants.{Itself, Fallible}
 use Rattle.wit_model.specs.declared.function.FunctionKind.TheVariants.{Freestanding}
-use Rattle.wit_model.specs.declared.name.PackageId.{PackageId}
 use Rattle.wit_model.specs.declared.resolve.Resolve.{Resolve}
 use Rattle.wit_model.specs.declared.resolve.Rule.{Rule}
 use Rattle.wit_model.specs.declared.resolve.Rule.TheVariants.{IndexRange, TypeOrder, Members, MapKey}
@@ -16,7 +15,6 @@ use Rattle.wit_model.specs.declared.types.TypeDefKind.{TypeDefKind}
 use Rattle.wit_model.specs.declared.types.TypeDefKind.TheVariants as kind
 use Rattle.wit_model.specs.declared.types.WitType.{WitType}
 use Rattle.wit_model.specs.declared.types.WitType.TheVariants as wit
-use Rattle.wit_model.specs.declared.world.Package.{Package}
 use Rattle.wit_model.specs.Constructor.{constructor_return}
 use Rattle.wit_model.specs.Dealias.{dealias}
 use Rattle.wit_model.specs.IndexRange.{first_out_of_range, function_in_range, function_kind_in_range, interface_in_range, owner_in_range, owning_package_in_range, type_def_in_range}
@@ -27,7 +25,7 @@ use Rattle.wit_model.specs.Place.{Place}
 use Rattle.wit_model.specs.SizeText.{alignment_text, mark_text, size_text}
 use Rattle.wit_model.specs.TypeOrder.{first_out_of_order, parts_below, payload_below, type_below}
 use Rattle.wit_model.specs.WellFormed.{first_fault}
-use Rattle.base_tests.proofs.Sample.{entry, no_docs, no_name, type_def, type_id, variant_kind}
+use Rattle.base_tests.proofs.Sample.{any_package, entry, no_docs, no_name, package_id, type_def, type_id, variant_kind}
 
 -- tables of types alone
 abbrev of_types : List TypeDefKind → Resolve
@@ -84,12 +82,6 @@ unfolding first_fault first_out_of_range type_def_in_range owner_in_range first_
 members_first = refl
 
 -- 4. An interface is named before a type
-
-abbrev any_package : Package
-any_package = record { namespace = no_name; name = no_name; version = None; «module» = [] }
-
-abbrev package_id : ℕ → PackageId
-package_id n = record { 0 = n }
 
 -- one package; an interface of this package, whose function has a parameter of this type; and a type that names this one
 abbrev of_interface : ℕ → ℕ → ℕ → Resolve

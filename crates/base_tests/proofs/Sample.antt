@@ -2,6 +2,7 @@
 use Rattle.std.proofs.Common.{ℕ, List, [], ◌∷◌, map, replicate, Option, None, Some}
 use Rattle.wit_model.specs.declared.name.Docs.{Docs}
 use Rattle.wit_model.specs.declared.name.Name.{Name}
+use Rattle.wit_model.specs.declared.name.PackageId.{PackageId}
 use Rattle.wit_model.specs.declared.name.TypeId.{TypeId}
 use Rattle.wit_model.specs.declared.types.Handle.TheVariants.{Own, Borrow}
 use Rattle.wit_model.specs.declared.types.Member.{Member}
@@ -11,12 +12,19 @@ use Rattle.wit_model.specs.declared.types.TypeDefKind.TheVariants as kind
 use Rattle.wit_model.specs.declared.types.TypeOwner.TheVariants as owner
 use Rattle.wit_model.specs.declared.types.WitType.{WitType}
 use Rattle.wit_model.specs.declared.types.WitType.TheVariants as wit
+use Rattle.wit_model.specs.declared.world.Package.{Package}
 
 abbrev pub no_docs : Docs
 no_docs = record { contents = None }
 
 abbrev pub no_name : Name
 no_name = record { wit = []; snake = []; camel = []; upper = [] }
+
+abbrev pub any_package : Package
+any_package = record { namespace = no_name; name = no_name; version = None; «module» = [] }
+
+abbrev pub package_id : ℕ → PackageId
+package_id n = record { 0 = n }
 
 abbrev pub type_id : ℕ → TypeId
 type_id n = record { 0 = n }

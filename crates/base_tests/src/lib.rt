@@ -1,9 +1,10 @@
-//! Tests of containers, of facts on types, and of tables that are deep. What the definitions of tables, layouts, core words, identifiers
-//! and trees of a file hold of worked rows is proved in `proofs`.
+//! Tests of containers and of tables that are deep. What the definitions of tables, layouts, core words, facts on types, identifiers and
+//! trees of a file hold of worked rows is proved in `proofs`, and what is copied and cloned in `copies`.
 #![tactic(auto)]
 
 #[cfg(test)]
 mod containers;
+mod copies;
 #[cfg(test)]
 mod parts;
 #[cfg(test)]

@@ -2,8 +2,7 @@
 
 use std::alloc::Global;
 use wit_model::{
-    Docs, List, Name, OutOfMemory, Package, Resolve, Text, TypeDef, TypeDefKind, TypeId, TypeOwner,
-    WitType,
+    Docs, List, Name, OutOfMemory, Resolve, Text, TypeDef, TypeDefKind, TypeId, TypeOwner, WitType,
 };
 
 pub(crate) fn docs() -> Docs {
@@ -19,35 +18,15 @@ pub(crate) fn no_name(alloc: Global) -> Name {
     }
 }
 
-pub(crate) fn one<T: Drop>(alloc: Global, value: T) -> Result<List<T>, OutOfMemory> {
-    let mut items = List::new(alloc);
-    items.push(value)?;
-    Ok(items)
-}
-
-/// A package whose names are empty.
-pub(crate) fn package(alloc: Global) -> Package {
-    Package {
-        namespace: no_name(alloc),
-        name: no_name(alloc),
-        version: None,
-        module: Text::new(alloc),
-    }
-}
-
 /// The type with this number.
 pub(crate) const fn entry(id: u32) -> WitType {
     WitType::Id(TypeId(id))
 }
 
-/// Puts a type without an owner behind others.
-pub(crate) fn push(
-    types: &mut List<TypeDef>,
-    name: Option<Name>,
-    kind: TypeDefKind,
-) -> Result<(), OutOfMemory> {
+/// Puts a type without a name and an owner behind others.
+pub(crate) fn push(types: &mut List<TypeDef>, kind: TypeDefKind) -> Result<(), OutOfMemory> {
     types.push(TypeDef {
-        name,
+        name: None,
         owner: TypeOwner::None,
         kind,
         docs: docs(),

@@ -1,5 +1,3 @@
-//! Facts on types, and tables that are deep.
+//! Tables that are deep.
 
 mod deep;
-mod facts;
-mod sample;

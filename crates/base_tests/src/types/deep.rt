@@ -1,20 +1,32 @@
 //! Tables that are deep.
 
+ghost use Rattle.std.specs.Prelude.{IfOk};
 ghost use Rattle.wit_model.specs.WellFormed.{IsWellFormed};
 
-use crate::parts::{entry, of_types, push};
-use crate::types::sample::{checked, record};
+use crate::parts::{docs, entry, no_name, of_types, push};
 use std::alloc::Global;
 use std::test::Fail;
 use wit_layout::{SizeAlign, flat_types};
-use wit_model::{List, OutOfMemory, Resolve, TypeDefKind, TypeId, WitType};
+use wit_model::{Field, List, OutOfMemory, Resolve, TypeDefKind, TypeId, WitType};
+
+fn record(alloc: Global, members: &[WitType]) -> Result<TypeDefKind, OutOfMemory> {
+    let mut list = List::new(alloc);
+    for ty in members {
+        list.push(Field {
+            name: no_name(alloc),
+            ty: *ty,
+            docs: docs(),
+        })?;
+    }
+    Ok(TypeDefKind::Record(list))
+}
 
 /// A byte, and 20,000 records of which each holds the type before it and a byte more.
 fn records(alloc: Global) -> Result<Resolve, OutOfMemory> {
     let mut types = List::new(alloc);
-    push(&mut types, None, TypeDefKind::Alias(WitType::U8))?;
+    push(&mut types, TypeDefKind::Alias(WitType::U8))?;
     for id in 0..20000 {
-        push(&mut types, None, record(alloc, &[entry(id), WitType::U8])?)?;
+        push(&mut types, record(alloc, &[entry(id), WitType::U8])?)?;
     }
     Ok(of_types(alloc, types))
 }
@@ -22,12 +34,20 @@ fn records(alloc: Global) -> Result<Resolve, OutOfMemory> {
 /// An option, and a hundred results of which each has the type before it as both payloads.
 fn results(alloc: Global) -> Result<Resolve, OutOfMemory> {
     let mut types = List::new(alloc);
-    push(&mut types, None, TypeDefKind::Option(WitType::U8))?;
+    push(&mut types, TypeDefKind::Option(WitType::U8))?;
     for id in 0..100 {
         let both = Some(entry(id));
-        push(&mut types, None, TypeDefKind::Result(both, both))?;
+        push(&mut types, TypeDefKind::Result(both, both))?;
     }
     Ok(of_types(alloc, types))
+}
+
+/// The tables, where they keep the rules.
+fn checked(alloc: Global, tables: Resolve) -> Result<Resolve, Fail>
+    ensures { IfOk result IsWellFormed }
+{
+    tables.check(alloc)?;
+    Ok(tables)
 }
 
 /// How many words of the type with this number are told, and whether there are more.
