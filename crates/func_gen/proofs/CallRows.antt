@@ -1,5 +1,5 @@
 -- The row of the call of a core import.
-use Rattle.std.proofs.Common.{◌≡◌, ℕ, Bool, true, false, not, cond, ◌&&◌, ◌||◌, Bor, List, [], ◌∷◌, ◌++◌, length, map, reverse, Option, None, Some, refl, sym, ap, ap₂, ◌∙◌, subst, arith, append-nil, append_assoc}
+use Rattle.std.proofs.Common.{◌≡◌, ℕ, Bool, true, false, not, cond, ◌&&◌, ◌||◌, Bor, List, [], ◌∷◌, ◌++◌, length, map, reverse, Option, None, Some, refl, sym, ap, ◌∙◌, subst, arith, append-nil}
 use Rattle.std.specs.Prelude.{option_and_then}
 use Rattle.std.specs.List.{list_any}
 use Rattle.std.specs.Option.{option_map, option_or}
@@ -349,9 +349,6 @@ call_emits types fn os old new ty ret imports len adds one = record {
 }
 
 -- 5. What was added
-
-pub two_added : (old one two : List Stmt) (a b x y : Stmt) → one ≡ old ++ a ∷ [] → two ≡ one ++ b ∷ [] → a ≡ x → b ≡ y → two ≡ old ++ (x ∷ y ∷ [])
-two_added old one two a b x y e f g h = f ∙ ap (λ o. o ++ b ∷ []) e ∙ append_assoc old (a ∷ []) (b ∷ []) ∙ ap₂ (λ p q. old ++ (p ∷ q ∷ [])) g h
 
 each_free : (used names : List Bytes) (n : Bytes) → list_any (λ m. is_used used m) names ≡ false → is_used names n ≡ true → is_used used n ≡ false
 each_free used [] n free is = absurd cc

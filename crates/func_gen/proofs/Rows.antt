@@ -185,6 +185,24 @@ emits_as types i os ps rs qs old new e f h = subst (λ xs. Emits func_meaning ty
 pub pushed : (old new : List ExprOperand) (e f : Expr) → new ≡ old ++ operand_of e ∷ [] → old ≡ [] → e ≡ f → new ≡ operand_of f ∷ []
 pushed old new e f is none same = is ∙ ap (λ ys. ys ++ operand_of e ∷ []) none ∙ ap (λ x. operand_of x ∷ []) same
 
+-- where names were declared alone, no code was added
+pub no_code : (old new : FunctionBindgen) → new ≡ record old { scope = new.scope } → Appends old new [] []
+no_code old new e = record {
+  call = ap (λ (b : FunctionBindgen). b.code.call) e;
+  stmts = ap (λ (b : FunctionBindgen). b.code.stmts) e ∙ sym (append-nil old.code.stmts);
+  runtime = ap (λ (b : FunctionBindgen). b.runtime) e ∙ sym (append-nil old.runtime);
+  import = ap (λ (b : FunctionBindgen). b.import) e;
+  home = ap (λ (b : FunctionBindgen). b.home) e;
+  area = ap (λ (b : FunctionBindgen). b.area) e;
+  params = ap (λ (b : FunctionBindgen). b.params) e;
+  sites = ap (λ (b : FunctionBindgen). b.sites) e;
+  sizes = ap (λ (b : FunctionBindgen). b.sizes) e;
+  asked = ap (λ (b : FunctionBindgen). b.asked) e;
+  returned = ap (λ (b : FunctionBindgen). b.returned) e;
+  opened = ap (λ (b : FunctionBindgen). b.opened) e;
+  finished = ap (λ (b : FunctionBindgen). b.finished) e;
+}
+
 pub unchanged : (b : FunctionBindgen) → Appends b b [] []
 unchanged b = record { call = refl; stmts = sym (append-nil b.code.stmts); runtime = sym (append-nil b.runtime); import = refl; home = refl; area = refl; params = refl; sites = refl; sizes = refl; asked = refl; returned = refl; opened = refl; finished = refl }
 

@@ -14,24 +14,34 @@ use rust_tree::{Expr, RuntimeItem, Stmt};
 use std::alloc::Global;
 use wit_model::{List, OutOfMemory, Text};
 
-/// The one operand. Of an expression that is no operand there is no memory, nor of a word that is kept as a number.
+/// The expression of an operand. Of an expression that is no operand there is no memory, nor of a word that is kept as a number.
+pub(crate) fn operand_expr(operand: &ExprOperand) -> Result<&Expr, OutOfMemory>
+    ensures same { IfOk result (λ e. operand.now ≡ operand_of e.now) }
+    ensures operand { IfOk result (λ e. is_operand e.now ≡ true) }
+{
+    if operand.kept || !is_operand(&operand.expr) {
+        return Err(OutOfMemory);
+    }
+    Ok(&operand.expr)
+}
+
+/// That of the one operand, on the same terms.
+pub(crate) fn only_expr(operands: &List<ExprOperand>) -> Result<&Expr, OutOfMemory>
+    requires one { length operands.now ≡ 1 }
+    ensures only { IfOk result (λ e. operands.now ≡ operand_of e.now ∷ []) }
+    ensures operand { IfOk result (λ e. is_operand e.now ≡ true) }
+{
+    operand_expr(&operands.as_slice()[0])
+}
+
+/// The same, copied.
 pub(crate) fn only_operand(alloc: Global, operands: &List<ExprOperand>) -> Result<Expr, OutOfMemory>
     requires one { length operands.now ≡ 1 }
     ensures only { IfOk result (λ e. operands.now ≡ operand_of e ∷ []) }
     ensures operand { IfOk result (λ e. is_operand e ≡ true) }
 {
-    operand_expr(alloc, &operands.as_slice()[0])
-}
-
-/// The expression of an operand, on the same terms.
-pub(crate) fn operand_expr(alloc: Global, operand: &ExprOperand) -> Result<Expr, OutOfMemory>
-    ensures same { IfOk result (λ e. operand.now ≡ operand_of e) }
-    ensures operand { IfOk result (λ e. is_operand e ≡ true) }
-{
-    if operand.kept || !is_operand(&operand.expr) {
-        return Err(OutOfMemory);
-    }
-    copy_expr(&operand.expr, alloc)
+    let e = only_expr(operands)?;
+    copy_expr(e, alloc)
 }
 
 impl FunctionBindgen {
@@ -43,17 +53,28 @@ impl FunctionBindgen {
         self.runtime.push(item)
     }
 
+    /// The name of a new local, and the same for the statement that declares it.
+    pub(crate) fn new_local(&mut self, prefix: &str) -> Result<(Text, Text), OutOfMemory>
+        ensures adds { IfOk result (λ names. Appends self.old self.new [] []) }
+        ensures fresh { IfOk result (λ names. Fresh self.old self.new names.0) }
+        ensures takes { IfOk result (λ names. TakesOne self.old.scope prefix.now names.0 self.new.scope) }
+        ensures same { IfOk result (λ names. names.1 ≡ names.0) }
+    {
+        let name = LocalName { prefix, part: None };
+        let t = self.scope.declare(self.alloc, &[name])?;
+        let text = numbered(self.alloc, name, t)?;
+        let copy = text.copy(self.alloc)?;
+        Ok((text, copy))
+    }
+
     /// The name of a new local, with this value.
     pub(crate) fn add_let(&mut self, prefix: &str, e: Expr) -> Result<Text, OutOfMemory>
         ensures adds { IfOk result (λ name. Appends self.old self.new (stmt.Let name e ∷ []) []) }
         ensures fresh { IfOk result (λ name. Fresh self.old self.new name) }
         ensures takes { IfOk result (λ name. TakesOne self.old.scope prefix.now name self.new.scope) }
     {
-        let name = LocalName { prefix, part: None };
-        let t = self.scope.declare(self.alloc, &[name])?;
-        let text = numbered(self.alloc, name, t)?;
-        let copy = text.copy(self.alloc)?;
-        self.code.stmts.push(Stmt::Let(text, e))?;
-        Ok(copy)
+        let (name, declared) = self.new_local(prefix)?;
+        self.code.stmts.push(Stmt::Let(declared, e))?;
+        Ok(name)
     }
 }

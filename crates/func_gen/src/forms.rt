@@ -19,12 +19,20 @@ pub(crate) fn push_name(
     names.push(Text::from_str(alloc, name)?)
 }
 
+/// The one argument of a call.
+pub(crate) fn argument_of(alloc: Global, argument: Expr) -> Result<List<Expr>, OutOfMemory>
+    ensures { IfOk result (λ es. es ≡ argument ∷ []) }
+{
+    let mut arguments = List::new(alloc);
+    arguments.push(argument)?;
+    Ok(arguments)
+}
+
 /// The call of what a path names, with one argument.
 pub(crate) fn call_of(alloc: Global, path: Path, argument: Expr) -> Result<Expr, OutOfMemory>
     ensures { IfOk result (λ c. c ≡ expr.Call path (argument ∷ [])) }
 {
-    let mut arguments = List::new(alloc);
-    arguments.push(argument)?;
+    let arguments = argument_of(alloc, argument)?;
     Ok(Expr::Call(path, arguments))
 }
 
@@ -46,6 +54,7 @@ pub(crate) fn runtime_path(alloc: Global, item: RuntimeItem) -> Result<Path, Out
 pub(crate) fn runtime_call(alloc: Global, item: RuntimeItem, e: Expr) -> Result<Expr, OutOfMemory>
     ensures { IfOk result (λ c. c ≡ runtime_call item e) }
 {
+    let arguments = argument_of(alloc, e)?;
     let path = runtime_path(alloc, item)?;
-    call_of(alloc, path, e)
+    Ok(Expr::Call(path, arguments))
 }

@@ -1,11 +1,13 @@
 //! A core import is declared and called.
 
-ghost use Rattle.std.specs.Prelude.{◌≡◌, [], true, length, IfOk, OnOk};
+ghost use Rattle.std.specs.Prelude.{◌≡◌, [], ◌∷◌, true, length, IfOk, OnOk};
 ghost use Rattle.wit_model.specs.IndexRange.{function_in_range};
 ghost use Rattle.wit_model.specs.WellFormed.{IsWellFormed};
+ghost use Rattle.rust_tree.specs.declared.stmt.Stmt.TheVariants as stmt;
 ghost use Rattle.abi_bindgen.specs.Calls.{import_params};
 ghost use Rattle.abi_bindgen.specs.Instructions.{Emits};
 ghost use Rattle.abi_bindgen.specs.declared.instruction.Instruction.TheVariants as instruction;
+ghost use Rattle.func_gen.specs.Added.{Appends};
 ghost use Rattle.func_gen.specs.CallForms.{AddsCall, AddsStatement, exprs, import_of, local_path};
 ghost use Rattle.func_gen.specs.Meaning.{func_meaning};
 
@@ -68,14 +70,11 @@ impl FunctionBindgen {
         };
         let t = self.scope.declare(self.alloc, &[import, returned])?;
         let name = numbered(self.alloc, import, t)?;
+        let path = local_path(self.alloc, &name)?;
+        self.push_import(func, name, params, Some(ty))?;
         let answer = numbered(self.alloc, returned, t)?;
         let given = answer.copy(self.alloc)?;
-        let path = local_path(self.alloc, &name)?;
-        let declared = self.declared(func, name, params, Some(ty))?;
-        self.code.stmts.push(Stmt::Import(declared))?;
-        self.code
-            .stmts
-            .push(Stmt::Let(answer, Expr::Call(path, arguments)))?;
+        self.add_effect(Stmt::Let(answer, Expr::Call(path, arguments)))?;
         Ok(given)
     }
 
@@ -95,12 +94,24 @@ impl FunctionBindgen {
         let t = self.scope.declare(self.alloc, &[import])?;
         let name = numbered(self.alloc, import, t)?;
         let path = local_path(self.alloc, &name)?;
-        let declared = self.declared(func, name, params, None)?;
-        self.code.stmts.push(Stmt::Import(declared))?;
-        self.code
-            .stmts
-            .push(Stmt::Expr(Expr::Call(path, arguments)))?;
+        self.push_import(func, name, params, None)?;
+        self.add_effect(Stmt::Expr(Expr::Call(path, arguments)))?;
         Ok(())
+    }
+
+    /// The declaration of a core import of this name.
+    fn push_import(
+        &mut self,
+        func: &Function,
+        name: Text,
+        params: List<WasmType>,
+        answer: Option<WasmType>,
+    ) -> Result<(), OutOfMemory>
+        ensures adds { OnOk result (Appends self.old self.new (stmt.Import (import_of self.old.home func.now params answer name) ∷ []) []) }
+        ensures scope { OnOk result (self.new.scope ≡ self.old.scope) }
+    {
+        let declared = self.declared(func, name, params, answer)?;
+        self.add_effect(Stmt::Import(declared))
     }
 
     fn declared(

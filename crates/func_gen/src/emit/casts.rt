@@ -15,7 +15,7 @@ ghost use Rattle.func_gen.specs.PartForms.{part_name};
 ghost use Rattle.func_gen.specs.Scope.{Takes, names_at};
 
 use crate::emit::parts::operand_exprs;
-use crate::forms::{call_of, push_name};
+use crate::forms::{argument_of, push_name};
 use crate::function_bindgen::FunctionBindgen;
 use crate::operand::{ExprOperand, copy_expr};
 use crate::scope::{LocalName, numbered};
@@ -71,8 +71,9 @@ fn core_path(alloc: Global, f: CoreFn) -> Result<Path, OutOfMemory>
 fn core_call(alloc: Global, f: CoreFn, e: Expr) -> Result<Expr, OutOfMemory>
     ensures { IfOk result (λ c. c ≡ core_call f e) }
 {
+    let arguments = argument_of(alloc, e)?;
     let path = core_path(alloc, f)?;
-    call_of(alloc, path, e)
+    Ok(Expr::Call(path, arguments))
 }
 
 /// An expression as a value of another type.
@@ -146,24 +147,18 @@ fn cast_between(from: WasmType, to: WasmType) -> Result<Bitcast, OutOfMemory>
     Err(OutOfMemory)
 }
 
-/// An expression behind the cast between two types.
-fn cast_step(alloc: Global, from: WasmType, to: WasmType, e: Expr) -> Result<Expr, OutOfMemory>
-    ensures { IfOk result (λ c. c ≡ step_expr (cast from to) e) }
-{
-    let step = cast_between(from, to)?;
-    step_expr(alloc, step, e)
-}
-
-/// An expression behind a cast.
-fn cast_expr(alloc: Global, whole: Bitcast, e: Expr) -> Result<Expr, OutOfMemory>
-    ensures { IfOk result (λ c. c ≡ cast_expr whole e) }
+/// A copy of an expression, behind a cast.
+fn cast_copy(alloc: Global, whole: Bitcast, e: &Expr) -> Result<Expr, OutOfMemory>
+    ensures { IfOk result (λ c. c ≡ cast_expr whole e.now) }
 {
     match whole {
         Bitcast::Sequence { from, through, to } => {
-            let between = cast_step(alloc, from, through, e)?;
-            cast_step(alloc, through, to, between)
+            let first = cast_between(from, through)?;
+            let second = cast_between(through, to)?;
+            let between = step_expr(alloc, first, copy_expr(e, alloc)?)?;
+            step_expr(alloc, second, between)
         }
-        step => step_expr(alloc, step, e),
+        step => step_expr(alloc, step, copy_expr(e, alloc)?),
     }
 }
 
@@ -222,14 +217,6 @@ fn slot_names<'a>(
         push_slot_name(prefix, casts[i], i as u32, &mut names)?;
     }
     Ok(names)
-}
-
-/// A copy of an expression, behind a cast.
-fn cast_copy(alloc: Global, cast: Bitcast, e: &Expr) -> Result<Expr, OutOfMemory>
-    ensures { IfOk result (λ c. c ≡ cast_expr cast e.now) }
-{
-    let copy = copy_expr(e, alloc)?;
-    cast_expr(alloc, cast, copy)
 }
 
 /// The statement that writes what a cast gives into a slot.

@@ -8,12 +8,12 @@ ghost use Rattle.abi_bindgen.specs.declared.instruction.Instruction.TheVariants 
 ghost use Rattle.func_gen.specs.EnumForms.{HasCaseCount, IsEnumSite, LiftsBy, LiftsEnumAt, case_cast};
 ghost use Rattle.func_gen.specs.Meaning.{func_meaning};
 
-use crate::added::only_operand;
+use crate::added::{only_expr, only_operand};
 use crate::emit::casts::cast_to;
 use crate::enum_site::EnumSite;
 use crate::forms::{call_of, push_name};
 use crate::function_bindgen::FunctionBindgen;
-use crate::operand::ExprOperand;
+use crate::operand::{ExprOperand, copy_expr};
 use crate::type_site::TypeSite;
 use rust_tree::{CastType, Expr, Path, Repr};
 use std::alloc::Global;
@@ -121,12 +121,13 @@ fn enum_site<'a>(
 
 impl FunctionBindgen {
     /// The call that gives the case of a word's number.
-    fn lifted_case(&self, resolve: &Resolve, id: TypeId, e: Expr) -> Result<Expr, OutOfMemory>
-        ensures { IfOk result (λ c. LiftsEnumAt resolve.now.types self.now.sites id.0 e c) }
+    fn lifted_case(&self, resolve: &Resolve, id: TypeId, e: &Expr) -> Result<Expr, OutOfMemory>
+        ensures { IfOk result (λ c. LiftsEnumAt resolve.now.types self.now.sites id.0 e.now c) }
     {
         let site = enum_site(self.sites.as_slice(), resolve, id)?;
-        let number = cast_to(self.alloc, e, case_cast(site.repr)?)?;
+        let to = case_cast(site.repr)?;
         let path = lift_path(self.alloc, &site.path)?;
+        let number = cast_to(self.alloc, copy_expr(e, self.alloc)?, to)?;
         call_of(self.alloc, path, number)
     }
 
@@ -162,7 +163,7 @@ impl FunctionBindgen {
         requires empty { results.old ≡ [] }
         ensures { OnOk result (Emits func_meaning resolve.now.types (instruction.EnumLift id) operands.now results.new self.old self.new) }
     {
-        let e = only_operand(self.alloc, operands)?;
+        let e = only_expr(operands)?;
         let case = self.lifted_case(resolve, id, e)?;
         let name = self.add_let("v", case)?;
         let expr = Expr::Local(name);

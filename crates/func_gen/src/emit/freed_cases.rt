@@ -6,14 +6,14 @@ ghost use Rattle.rust_tree.specs.declared.pattern.ArmPattern.TheVariants as patt
 ghost use Rattle.wrapper_run.specs.Inward as spec;
 ghost use Rattle.abi_bindgen.specs.Instructions.{Emits};
 ghost use Rattle.abi_bindgen.specs.declared.instruction.Instruction.TheVariants as instruction;
-ghost use Rattle.func_gen.specs.LiftedCases.{FreesBy, freed_body, number_arms};
+ghost use Rattle.func_gen.specs.LiftedCases.{FreesBy, freed_body, numbered_arms};
 ghost use Rattle.func_gen.specs.MatchForms.{arm_of};
 ghost use Rattle.func_gen.specs.Meaning.{func_meaning};
 
-use crate::added::only_operand;
+use crate::added::only_expr;
 use crate::function_bindgen::{FinishedBlock, FunctionBindgen};
 use crate::inward::inward_block;
-use crate::operand::ExprOperand;
+use crate::operand::{ExprOperand, copy_expr};
 use rust_tree::{Arm, ArmPattern, Block, Expr, MatchNames, Stmt};
 use std::alloc::Global;
 use wit_model::{List, OutOfMemory, Resolve};
@@ -47,15 +47,14 @@ fn freed_arm(number: u32, block: FinishedBlock) -> Result<Arm, OutOfMemory>
     Ok(Arm { pattern, body })
 }
 
-/// The arms of so many blocks by their numbers, of which the last one is the first, and another arm behind them.
+/// The arms of so many blocks by their numbers, of which the last one is the first.
 fn freed_arms(
     alloc: Global,
     count: u32,
     blocks: Vec<FinishedBlock>,
-    other: Arm,
 ) -> Result<List<Arm>, OutOfMemory>
     requires many { length blocks.items ≡ count }
-    ensures arms { IfOk result (λ arms. arms ≡ number_arms 0 (map freed_body (reverse blocks.items)) other) }
+    ensures arms { IfOk result (λ arms. arms ≡ numbered_arms 0 (map freed_body (reverse blocks.items))) }
     ensures none { IfOk result (λ arms. AllByRecursion (λ b. b.results ≡ []) (reverse blocks.items)) }
     ensures inward { IfOk result (λ arms. list_all spec.is_inward (map freed_body (reverse blocks.items)) ≡ true) }
 {
@@ -67,23 +66,23 @@ fn freed_arms(
         };
         arms.push(freed_arm(k, block)?)?;
     }
-    arms.push(other)?;
     Ok(arms)
 }
 
 impl FunctionBindgen {
     /// So many blocks are run by their numbers, and the one that was finished last for any other number.
-    fn free_cases(&mut self, count: u32, e: Expr) -> Result<(), OutOfMemory>
-        ensures { OnOk result (FreesBy count e self.old self.new) }
+    fn free_cases(&mut self, count: u32, e: &Expr) -> Result<(), OutOfMemory>
+        ensures { OnOk result (FreesBy count e.now self.old self.new) }
     {
         let mut blocks = self.use_blocks(count as usize + 1)?.into_vec();
         let last = blocks.remove(0);
+        let mut arms = freed_arms(self.alloc, count, blocks)?;
         let body = freed_body(last)?;
-        let other = Arm {
+        arms.push(Arm {
             pattern: ArmPattern::AnyOther,
             body,
-        };
-        let arms = freed_arms(self.alloc, count, blocks, other)?;
+        })?;
+        let e = copy_expr(e, self.alloc)?;
         self.code
             .stmts
             .push(Stmt::Match(MatchNames::Nothing, e, arms))?;
@@ -105,7 +104,7 @@ impl FunctionBindgen {
         if count == 0 {
             return Err(OutOfMemory);
         }
-        let e = only_operand(self.alloc, operands)?;
+        let e = only_expr(operands)?;
         self.free_cases(count - 1, e)?;
         Ok(())
     }

@@ -1,19 +1,21 @@
 //! Texts, and blocks of a size, are freed.
 
-ghost use Rattle.std.specs.Prelude.{◌≡◌, [], ◌∷◌, true, length, IfOk, OnOk};
+ghost use Rattle.std.specs.Prelude.{◌≡◌, [], ◌∷◌, ◌++◌, true, length, IfOk, OnOk};
+ghost use Rattle.rust_tree.specs.declared.expr.Expr.TheVariants as expr;
 ghost use Rattle.rust_tree.specs.declared.stmt.Stmt.TheVariants as stmt;
 ghost use Rattle.rust_tree.specs.declared.runtime_item.RuntimeItem.TheVariants.{CabiDealloc};
 ghost use Rattle.abi_bindgen.specs.Instructions.{Emits};
 ghost use Rattle.abi_bindgen.specs.declared.instruction.Instruction.TheVariants as instruction;
 ghost use Rattle.func_gen.specs.Added.{Appends};
 ghost use Rattle.func_gen.specs.Meaning.{func_meaning};
-ghost use Rattle.func_gen.specs.MemoryForms.{align_size, bytes_freed, is_length};
+ghost use Rattle.func_gen.specs.Forms.{runtime_path};
+ghost use Rattle.func_gen.specs.MemoryForms.{align_size, is_length};
 
-use crate::added::only_operand;
-use crate::emit::memory::both_operands;
+use crate::added::only_expr;
+use crate::emit::memory::both_exprs;
 use crate::forms::runtime_path;
 use crate::function_bindgen::FunctionBindgen;
-use crate::operand::ExprOperand;
+use crate::operand::{ExprOperand, copy_expr};
 use rust_tree::{Expr, RuntimeItem, Stmt};
 use std::alloc::Global;
 use wit_model::{Alignment, ArchitectureSize, List, OutOfMemory, Resolve};
@@ -42,37 +44,41 @@ fn align_size(align: Alignment) -> ArchitectureSize
     }
 }
 
-/// The call that frees so many bytes at an address, which have this alignment.
-fn bytes_freed(
-    alloc: Global,
-    address: Expr,
-    n: Expr,
-    align: ArchitectureSize,
-) -> Result<Expr, OutOfMemory>
-    ensures { IfOk result (λ c. c ≡ bytes_freed address n align) }
+/// The arguments of the call that frees so many bytes at an address, but for the alignment.
+fn bytes_at(alloc: Global, address: &Expr, n: &Expr) -> Result<List<Expr>, OutOfMemory>
+    ensures { IfOk result (λ es. es ≡ address.now ∷ n.now ∷ []) }
 {
     let mut arguments = List::new(alloc);
-    arguments.push(address)?;
-    arguments.push(n)?;
-    arguments.push(Expr::Size(align))?;
-    let path = runtime_path(alloc, RuntimeItem::CabiDealloc)?;
-    Ok(Expr::Call(path, arguments))
+    arguments.push(copy_expr(address, alloc)?)?;
+    arguments.push(copy_expr(n, alloc)?)?;
+    Ok(arguments)
+}
+
+/// The same of a block of a size.
+fn block_at(
+    alloc: Global,
+    address: &Expr,
+    size: ArchitectureSize,
+) -> Result<List<Expr>, OutOfMemory>
+    ensures { IfOk result (λ es. es ≡ address.now ∷ expr.Size size ∷ []) }
+{
+    let mut arguments = List::new(alloc);
+    arguments.push(copy_expr(address, alloc)?)?;
+    arguments.push(Expr::Size(size))?;
+    Ok(arguments)
 }
 
 impl FunctionBindgen {
-    /// Bytes are freed, which have this alignment.
-    fn add_free(
-        &mut self,
-        address: Expr,
-        n: Expr,
-        align: ArchitectureSize,
-    ) -> Result<(), OutOfMemory>
-        ensures adds { OnOk result (Appends self.old self.new (stmt.Expr (bytes_freed address n align) ∷ []) (CabiDealloc ∷ [])) }
+    /// The bytes of these arguments are freed, which have this alignment.
+    fn add_free(&mut self, bytes: List<Expr>, align: ArchitectureSize) -> Result<(), OutOfMemory>
+        ensures adds { OnOk result (Appends self.old self.new (stmt.Expr (expr.Call (runtime_path CabiDealloc) (bytes ++ expr.Size align ∷ [])) ∷ []) (CabiDealloc ∷ [])) }
         ensures scope { OnOk result (self.new.scope ≡ self.old.scope) }
     {
-        let call = bytes_freed(self.alloc, address, n, align)?;
+        let mut arguments = bytes;
+        arguments.push(Expr::Size(align))?;
+        let path = runtime_path(self.alloc, RuntimeItem::CabiDealloc)?;
         self.ask(RuntimeItem::CabiDealloc)?;
-        self.add_effect(Stmt::Expr(call))?;
+        self.add_effect(Stmt::Expr(Expr::Call(path, arguments)))?;
         Ok(())
     }
 
@@ -85,8 +91,9 @@ impl FunctionBindgen {
         requires empty { results.old ≡ [] }
         ensures { OnOk result (Emits func_meaning resolve.now.types instruction.GuestDeallocateString operands.now results.new self.old self.new) }
     {
-        let (address, n) = both_operands(self.alloc, operands)?;
-        self.add_free(address, n, align_size(Alignment::Bytes(1)))?;
+        let (address, n) = both_exprs(operands)?;
+        let bytes = bytes_at(self.alloc, address, n)?;
+        self.add_free(bytes, align_size(Alignment::Bytes(1)))?;
         Ok(())
     }
 
@@ -106,8 +113,9 @@ impl FunctionBindgen {
         if !is_length(&size) {
             return Err(OutOfMemory);
         }
-        let address = only_operand(self.alloc, operands)?;
-        self.add_free(address, Expr::Size(size), align_size(align))?;
+        let address = only_expr(operands)?;
+        let block = block_at(self.alloc, address, size)?;
+        self.add_free(block, align_size(align))?;
         Ok(())
     }
 }

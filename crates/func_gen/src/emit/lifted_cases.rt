@@ -9,13 +9,13 @@ ghost use Rattle.wrapper_run.specs.Inward as spec;
 ghost use Rattle.abi_bindgen.specs.Instructions.{Emits};
 ghost use Rattle.abi_bindgen.specs.declared.instruction.Instruction.TheVariants as instruction;
 ghost use Rattle.func_gen.specs.Added.{Appends, Fresh};
-ghost use Rattle.func_gen.specs.LiftedCases.{LiftsBy, are_few, case_body, case_expr, empty_case, invalid_body, is_liftable, is_unit, lifted_bodies, lifted_body, number_arms};
+ghost use Rattle.func_gen.specs.LiftedCases.{LiftsBy, are_few, case_body, case_expr, empty_case, invalid_body, is_liftable, is_unit, lifted_bodies, lifted_body, numbered_arms};
 ghost use Rattle.func_gen.specs.MatchForms.{arm_of, case_path};
 ghost use Rattle.func_gen.specs.Meaning.{func_meaning};
 ghost use Rattle.func_gen.specs.PartForms.{exprs_of};
 ghost use Rattle.func_gen.specs.Scope.{TakesOne};
 
-use crate::added::only_operand;
+use crate::added::only_expr;
 use crate::case_form::CaseForm;
 use crate::emit::options::option_forms;
 use crate::emit::results::result_forms;
@@ -23,7 +23,6 @@ use crate::forms::{call_of, runtime_path};
 use crate::function_bindgen::{FinishedBlock, FunctionBindgen};
 use crate::inward::inward_block;
 use crate::operand::{ExprOperand, copy_expr, copy_path};
-use crate::scope::{LocalName, numbered};
 use rust_tree::{Arm, ArmPattern, Block, Expr, MatchNames, Path, RuntimeItem, Stmt};
 use std::alloc::Global;
 use wit_model::{List, OutOfMemory, Resolve, Text, TypeId};
@@ -135,15 +134,14 @@ fn invalid_body(alloc: Global) -> Result<Block, OutOfMemory>
     inward_block(List::new(alloc), Some(tail))
 }
 
-/// The arms of cases by their numbers, of whose blocks the last one is the first, and another arm behind them.
+/// The arms of cases by their numbers, of whose blocks the last one is the first.
 pub(crate) fn lifted_arms(
     alloc: Global,
     cases: &[CaseForm],
     blocks: List<FinishedBlock>,
-    other: Arm,
 ) -> Result<List<Arm>, OutOfMemory>
     requires many { length cases.now ≡ length blocks }
-    ensures arms { IfOk result (λ arms. arms ≡ number_arms 0 (lifted_bodies cases.now (reverse blocks)) other) }
+    ensures arms { IfOk result (λ arms. arms ≡ numbered_arms 0 (lifted_bodies cases.now (reverse blocks))) }
     ensures few { IfOk result (λ arms. list_all is_liftable (reverse blocks) ≡ true) }
     ensures inward { IfOk result (λ arms. list_all spec.is_inward (lifted_bodies cases.now (reverse blocks)) ≡ true) }
 {
@@ -155,54 +153,33 @@ pub(crate) fn lifted_arms(
         };
         arms.push(numbered_arm(alloc, i, &cases[i], block)?)?;
     }
-    arms.push(other)?;
     Ok(arms)
 }
 
 impl FunctionBindgen {
     /// The name of a new local for what the arms of a match give.
-    fn add_match(&mut self, e: Expr, arms: List<Arm>) -> Result<Text, OutOfMemory>
-        ensures adds { IfOk result (λ v. Appends self.old self.new (stmt.Match (names_of.One v) e arms ∷ []) []) }
+    fn add_match(&mut self, e: &Expr, arms: List<Arm>) -> Result<Text, OutOfMemory>
+        ensures adds { IfOk result (λ v. Appends self.old self.new (stmt.Match (names_of.One v) e.now arms ∷ []) []) }
         ensures fresh { IfOk result (λ v. Fresh self.old self.new v) }
         ensures takes { IfOk result (λ v. TakesOne self.old.scope (codes "v") v self.new.scope) }
     {
-        let name = LocalName {
-            prefix: "v",
-            part: None,
-        };
-        let t = self.scope.declare(self.alloc, &[name])?;
-        let text = numbered(self.alloc, name, t)?;
-        self.push_match(&text, e, arms)?;
-        Ok(text)
-    }
-
-    /// A match by whose arms a local of this name gets its value.
-    pub(crate) fn push_match(
-        &mut self,
-        name: &Text,
-        e: Expr,
-        arms: List<Arm>,
-    ) -> Result<(), OutOfMemory>
-        ensures adds { OnOk result (Appends self.old self.new (stmt.Match (names_of.One name.now) e arms ∷ []) []) }
-        ensures scope { OnOk result (self.new.scope ≡ self.old.scope) }
-    {
-        let name = name.copy(self.alloc)?;
-        self.code
-            .stmts
-            .push(Stmt::Match(MatchNames::One(name), e, arms))
+        let (name, bound) = self.new_local("v")?;
+        let e = copy_expr(e, self.alloc)?;
+        self.add_effect(Stmt::Match(MatchNames::One(bound), e, arms))?;
+        Ok(name)
     }
 
     /// The name of a new local for the case that a word is, with an arm for each case. A number of no case ends the run.
-    fn lift_cases(&mut self, cases: &[CaseForm], e: Expr) -> Result<Text, OutOfMemory>
-        ensures { IfOk result (λ v. LiftsBy cases.now e v self.old self.new) }
+    fn lift_cases(&mut self, cases: &[CaseForm], e: &Expr) -> Result<Text, OutOfMemory>
+        ensures { IfOk result (λ v. LiftsBy cases.now e.now v self.old self.new) }
     {
         let blocks = self.use_blocks(cases.len())?;
+        let mut arms = lifted_arms(self.alloc, cases, blocks)?;
         let body = invalid_body(self.alloc)?;
-        let other = Arm {
+        arms.push(Arm {
             pattern: ArmPattern::AnyOther,
             body,
-        };
-        let arms = lifted_arms(self.alloc, cases, blocks, other)?;
+        })?;
         self.ask(RuntimeItem::InvalidEnumDiscriminant)?;
         let name = self.add_match(e, arms)?;
         Ok(name)
@@ -219,7 +196,7 @@ impl FunctionBindgen {
         requires empty { results.old ≡ [] }
         ensures { OnOk result (Emits func_meaning resolve.now.types (instruction.OptionLift id) operands.now results.new self.old self.new) }
     {
-        let e = only_operand(self.alloc, operands)?;
+        let e = only_expr(operands)?;
         let forms = option_forms(self.alloc, resolve, id)?;
         let name = self.lift_cases(forms.as_slice(), e)?;
         let expr = Expr::Local(name);
@@ -238,7 +215,7 @@ impl FunctionBindgen {
         requires empty { results.old ≡ [] }
         ensures { OnOk result (Emits func_meaning resolve.now.types (instruction.ResultLift id) operands.now results.new self.old self.new) }
     {
-        let e = only_operand(self.alloc, operands)?;
+        let e = only_expr(operands)?;
         let forms = result_forms(self.alloc, resolve, id)?;
         let name = self.lift_cases(forms.as_slice(), e)?;
         let expr = Expr::Local(name);

@@ -14,14 +14,14 @@ ghost use Rattle.func_gen.specs.MatchForms.{arm_of};
 ghost use Rattle.func_gen.specs.Meaning.{func_meaning};
 ghost use Rattle.func_gen.specs.Scope.{is_used};
 
-use crate::added::only_operand;
+use crate::added::only_expr;
 use crate::case_form::CaseForm;
 use crate::emit::lifted_cases::{case_body, lifted_arms};
 use crate::emit::variants::variant_forms;
 use crate::function_bindgen::{FinishedBlock, FunctionBindgen};
-use crate::operand::ExprOperand;
+use crate::operand::{ExprOperand, copy_expr};
 use crate::scope::{LocalName, numbered};
-use rust_tree::{Arm, ArmPattern, Expr, Path, Stmt};
+use rust_tree::{Arm, ArmPattern, Expr, MatchNames, Path, Stmt};
 use std::alloc::Global;
 use wit_model::{List, OutOfMemory, Resolve, Text, TypeId};
 
@@ -136,8 +136,9 @@ fn member_arms(
     ensures { IfOk result (λ arms. MemberArms cases.now last.now number blocks arms) }
 {
     let (block, others) = parted(blocks)?;
+    let mut arms = lifted_arms(alloc, cases, others)?;
     let other = last_arm(alloc, number, cases.len(), last, block)?;
-    let arms = lifted_arms(alloc, cases, others, other)?;
+    arms.push(other)?;
     Ok(arms)
 }
 
@@ -166,14 +167,16 @@ impl FunctionBindgen {
         &mut self,
         cases: &[CaseForm],
         last: &CaseForm,
-        e: Expr,
+        e: &Expr,
     ) -> Result<Text, OutOfMemory>
-        ensures { IfOk result (λ v. (n : Bytes) × LiftsVariantBy cases.now last.now e n v self.old self.new) }
+        ensures { IfOk result (λ v. (n : Bytes) × LiftsVariantBy cases.now last.now e.now n v self.old self.new) }
     {
         let blocks = self.use_blocks(cases.len() + 1)?;
         let (number, name) = self.name_case()?;
         let arms = member_arms(self.alloc, cases, last, number, blocks)?;
-        self.push_match(&name, e, arms)?;
+        let copy = name.copy(self.alloc)?;
+        let e = copy_expr(e, self.alloc)?;
+        self.add_effect(Stmt::Match(MatchNames::One(copy), e, arms))?;
         Ok(name)
     }
 
@@ -196,7 +199,7 @@ impl FunctionBindgen {
         let Some(last) = cases.pop() else {
             return Err(OutOfMemory);
         };
-        let e = only_operand(self.alloc, operands)?;
+        let e = only_expr(operands)?;
         let name = self.lift_members(cases.as_slice(), &last, e)?;
         let expr = Expr::Local(name);
         results.push(ExprOperand { expr, kept: false })?;

@@ -137,15 +137,16 @@ impl FunctionBindgen {
     /// The names of new locals for so many results, which a match with these arms gives.
     fn bind_match(
         &mut self,
-        e: Expr,
+        e: &Expr,
         arms: List<Arm>,
         count: u32,
     ) -> Result<List<Text>, OutOfMemory>
-        ensures { IfOk result (λ names. BindsMatch e arms count names self.old self.new) }
+        ensures { IfOk result (λ names. BindsMatch e.now arms count names self.old self.new) }
     {
         let locals = result_locals(self.alloc, count)?;
         let names = self.scope.declare_all(self.alloc, locals.as_slice())?;
         let bound = match_names(self.alloc, names.as_slice())?;
+        let e = copy_expr(e, self.alloc)?;
         self.code.stmts.push(Stmt::Match(bound, e, arms))?;
         Ok(names)
     }
@@ -154,10 +155,10 @@ impl FunctionBindgen {
     pub(crate) fn lower_cases(
         &mut self,
         cases: &[CaseForm],
-        e: Expr,
+        e: &Expr,
         count: u32,
     ) -> Result<List<Text>, OutOfMemory>
-        ensures { IfOk result (λ names. LowersBy cases.now e count names self.old self.new) }
+        ensures { IfOk result (λ names. LowersBy cases.now e.now count names self.old self.new) }
     {
         let arms = self.use_arms(cases, count)?;
         let names = self.bind_match(e, arms, count)?;

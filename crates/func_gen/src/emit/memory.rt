@@ -11,7 +11,7 @@ ghost use Rattle.func_gen.specs.Operand.{is_operand};
 
 use crate::added::operand_expr;
 use crate::function_bindgen::FunctionBindgen;
-use crate::operand::ExprOperand;
+use crate::operand::{ExprOperand, copy_expr};
 use abi_bindgen::Instruction;
 use rust_tree::{Expr, SmallType, Stmt};
 use std::alloc::Global;
@@ -43,20 +43,28 @@ pub(crate) fn small_store(inst: &Instruction) -> Option<(ArchitectureSize, Small
     }
 }
 
-/// The two operands. Of an expression that is no operand there is no memory, nor of a word that is kept as a number.
-pub(crate) fn both_operands(
-    alloc: Global,
-    operands: &List<ExprOperand>,
-) -> Result<(Expr, Expr), OutOfMemory>
-    ensures both { IfOk result (λ es. operands.now ≡ operand_of es.0 ∷ operand_of es.1 ∷ []) }
-    ensures first { IfOk result (λ es. is_operand es.0 ≡ true) }
-    ensures second { IfOk result (λ es. is_operand es.1 ≡ true) }
+/// The expressions of the two operands. Of one that is no operand there is no memory, nor of a word that is kept as a number.
+pub(crate) fn both_exprs(operands: &List<ExprOperand>) -> Result<(&Expr, &Expr), OutOfMemory>
+    ensures both { IfOk result (λ es. operands.now ≡ operand_of es.0.now ∷ operand_of es.1.now ∷ []) }
+    ensures first { IfOk result (λ es. is_operand es.0.now ≡ true) }
+    ensures second { IfOk result (λ es. is_operand es.1.now ≡ true) }
 {
     let [a, b] = operands.as_slice() else {
         return Err(OutOfMemory);
     };
-    let first = operand_expr(alloc, a)?;
-    Ok((first, operand_expr(alloc, b)?))
+    let first = operand_expr(a)?;
+    Ok((first, operand_expr(b)?))
+}
+
+/// The same, copied.
+fn both_operands(alloc: Global, operands: &List<ExprOperand>) -> Result<(Expr, Expr), OutOfMemory>
+    ensures both { IfOk result (λ es. operands.now ≡ operand_of es.0 ∷ operand_of es.1 ∷ []) }
+    ensures first { IfOk result (λ es. is_operand es.0 ≡ true) }
+    ensures second { IfOk result (λ es. is_operand es.1 ≡ true) }
+{
+    let (first, second) = both_exprs(operands)?;
+    let first = copy_expr(first, alloc)?;
+    Ok((first, copy_expr(second, alloc)?))
 }
 
 impl FunctionBindgen {

@@ -6,7 +6,7 @@ ghost use Rattle.abi_bindgen.specs.declared.instruction.Instruction.TheVariants 
 ghost use Rattle.func_gen.specs.CaseForms.{AreOptionForms, core_path};
 ghost use Rattle.func_gen.specs.Meaning.{func_meaning};
 
-use crate::added::only_operand;
+use crate::added::only_expr;
 use crate::case_form::CaseForm;
 use crate::emit::parts::push_locals;
 use crate::forms::push_name;
@@ -76,7 +76,7 @@ impl FunctionBindgen {
         requires empty { results.old ≡ [] }
         ensures { OnOk result (Emits func_meaning resolve.now.types (instruction.OptionLower id count) operands.now results.new self.old self.new) }
     {
-        let e = only_operand(self.alloc, operands)?;
+        let e = only_expr(operands)?;
         let forms = option_forms(self.alloc, resolve, id)?;
         let names = self.lower_cases(forms.as_slice(), e, count)?;
         push_locals(self.alloc, names.as_slice(), results)?;

@@ -11,7 +11,7 @@ ghost use Rattle.func_gen.specs.Meaning.{func_meaning};
 ghost use Rattle.func_gen.specs.PartForms.{are_operands, exprs_of, locals_of, names_from, part_prefix};
 ghost use Rattle.func_gen.specs.Scope.{TakesAll, names_at};
 
-use crate::added::only_operand;
+use crate::added::only_expr;
 use crate::function_bindgen::FunctionBindgen;
 use crate::operand::{ExprOperand, copy_expr, copy_names, is_operand};
 use crate::scope::LocalName;
@@ -69,18 +69,19 @@ pub(crate) fn push_locals(
 }
 
 /// The statement that takes a tuple apart.
-fn let_tuple(alloc: Global, names: &[Text], e: Expr) -> Result<Stmt, OutOfMemory>
-    ensures { IfOk result (λ s. s ≡ stmt.LetParts (pattern.Tuple names.now) e) }
+fn let_tuple(alloc: Global, names: &[Text], e: &Expr) -> Result<Stmt, OutOfMemory>
+    ensures { IfOk result (λ s. s ≡ stmt.LetParts (pattern.Tuple names.now) e.now) }
 {
     let names = copy_names(names, alloc)?;
+    let e = copy_expr(e, alloc)?;
     Ok(Stmt::LetParts(Pattern::Tuple(names), e))
 }
 
 impl FunctionBindgen {
     /// The names of new locals, one for each part of a tuple.
     #[tactic(auto, unfolding(crate::specs::PartForms::part_prefix))]
-    fn add_parts(&mut self, count: u32, e: Expr) -> Result<List<Text>, OutOfMemory>
-        ensures adds { IfOk result (λ names. Appends self.old self.new (stmt.LetParts (pattern.Tuple names) e ∷ []) []) }
+    fn add_parts(&mut self, count: u32, e: &Expr) -> Result<List<Text>, OutOfMemory>
+        ensures adds { IfOk result (λ names. Appends self.old self.new (stmt.LetParts (pattern.Tuple names) e.now ∷ []) []) }
         ensures fresh { IfOk result (λ names. FreshAll self.old self.new names) }
         ensures takes { IfOk result (λ names. TakesAll self.old.scope (λ k. names_from part_prefix k 0 count) names self.new.scope) }
     {
@@ -102,7 +103,7 @@ impl FunctionBindgen {
         requires empty { results.old ≡ [] }
         ensures { OnOk result (Emits func_meaning resolve.now.types (instruction.TupleLower count) operands.now results.new self.old self.new) }
     {
-        let e = only_operand(self.alloc, operands)?;
+        let e = only_expr(operands)?;
         let names = self.add_parts(count, e)?;
         push_locals(self.alloc, names.as_slice(), results)?;
         Ok(())

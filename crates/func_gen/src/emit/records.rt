@@ -10,7 +10,7 @@ ghost use Rattle.func_gen.specs.PartForms.{are_operands, exprs_of};
 ghost use Rattle.func_gen.specs.RecordForms.{DeclaresFields, HasFieldCount, IsSiteOf, MakesRecord, SplitsRecord, locals_for};
 ghost use Rattle.func_gen.specs.Scope.{names_at};
 
-use crate::added::only_operand;
+use crate::added::only_expr;
 use crate::emit::parts::push_locals;
 use crate::function_bindgen::FunctionBindgen;
 use crate::operand::{ExprOperand, copy_expr, copy_path, is_operand};
@@ -101,13 +101,13 @@ fn let_fields(
     alloc: Global,
     site: &RecordSite,
     names: &[Text],
-    e: Expr,
+    e: &Expr,
 ) -> Result<Stmt, OutOfMemory>
     requires { length names.now ≡ length site.now.fields }
-    ensures { IfOk result (λ s. s ≡ stmt.LetParts (pattern.Record site.now.lowered (zip site.now.fields names.now)) e) }
+    ensures { IfOk result (λ s. s ≡ stmt.LetParts (pattern.Record site.now.lowered (zip site.now.fields names.now)) e.now) }
 {
     let pattern = record_pattern(alloc, site, names)?;
-    Ok(Stmt::LetParts(pattern, e))
+    Ok(Stmt::LetParts(pattern, copy_expr(e, alloc)?))
 }
 
 /// How a record of the table is written. Of one without a site, or with other fields in number, there is no memory.
@@ -181,9 +181,9 @@ impl FunctionBindgen {
         &mut self,
         resolve: &Resolve,
         id: TypeId,
-        e: Expr,
+        e: &Expr,
     ) -> Result<List<Text>, OutOfMemory>
-        ensures { IfOk result (λ names. SplitsRecord resolve.now.types id.0 e names self.old self.new) }
+        ensures { IfOk result (λ names. SplitsRecord resolve.now.types id.0 e.now names self.old self.new) }
     {
         let site = record_site(self.sites.as_slice(), resolve, id)?;
         let names = self
@@ -205,7 +205,7 @@ impl FunctionBindgen {
         requires empty { results.old ≡ [] }
         ensures { OnOk result (Emits func_meaning resolve.now.types (instruction.RecordLower id) operands.now results.new self.old self.new) }
     {
-        let e = only_operand(self.alloc, operands)?;
+        let e = only_expr(operands)?;
         let names = self.add_fields(resolve, id, e)?;
         push_locals(self.alloc, names.as_slice(), results)?;
         Ok(())

@@ -149,10 +149,10 @@ impl FunctionBindgen {
         requires empty { results.old ≡ [] }
         ensures { OnOk result (Emits func_meaning resolve.now.types instruction.BoolFromI32 operands.now results.new self.old self.new) }
     {
+        self.ask(RuntimeItem::BoolLift)?;
         let e = only_operand(self.alloc, operands)?;
         let number = Expr::Cast(Boxed::new(self.alloc, e)?, CastType::U8);
         let lifted = runtime_call(self.alloc, RuntimeItem::BoolLift, number)?;
-        self.ask(RuntimeItem::BoolLift)?;
         let name = self.add_let("b", lifted)?;
         let expr = Expr::Local(name);
         results.push(ExprOperand { expr, kept: false })?;
@@ -169,10 +169,10 @@ impl FunctionBindgen {
         requires empty { results.old ≡ [] }
         ensures { OnOk result (Emits func_meaning resolve.now.types instruction.CharFromI32 operands.now results.new self.old self.new) }
     {
+        self.ask(RuntimeItem::CharLift)?;
         let e = only_operand(self.alloc, operands)?;
         let number = Expr::Cast(Boxed::new(self.alloc, e)?, CastType::U32);
         let lifted = runtime_call(self.alloc, RuntimeItem::CharLift, number)?;
-        self.ask(RuntimeItem::CharLift)?;
         let name = self.add_let("c", lifted)?;
         let expr = Expr::Local(name);
         results.push(ExprOperand { expr, kept: false })?;

@@ -11,13 +11,13 @@ ghost use Rattle.func_gen.specs.CallForms.{FreshAll};
 ghost use Rattle.func_gen.specs.Forms.{operand_of, runtime_call};
 ghost use Rattle.func_gen.specs.Meaning.{func_meaning};
 ghost use Rattle.func_gen.specs.Scope.{Takes, with_number};
-ghost use Rattle.func_gen.specs.TextForms.{buffer_names, buffer_stmts, buffer_words, bytes_name, forget_path, forgotten, len_name, ptr_name, taken_names, taken_stmts, text_name, vec_name};
+ghost use Rattle.func_gen.specs.TextForms.{buffer_stmts, buffer_words, bytes_name, forget_path, forgotten, len_name, ptr_name, taken_stmts, text_name, vec_name};
 
 use crate::added::only_operand;
-use crate::emit::memory::both_operands;
+use crate::emit::memory::both_exprs;
 use crate::forms::{call_of, push_name, runtime_call};
 use crate::function_bindgen::FunctionBindgen;
-use crate::operand::{ExprOperand, push_expr};
+use crate::operand::{ExprOperand, copy_expr, push_expr};
 use crate::scope::{LocalName, numbered};
 use rust_tree::{Expr, Path, RuntimeItem, Stmt};
 use std::alloc::Global;
@@ -98,42 +98,34 @@ impl FunctionBindgen {
         self.scope.declare(self.alloc, &[one, two, three])
     }
 
-    /// A local whose name was declared.
-    fn push_let(&mut self, prefix: &str, t: u32, e: Expr) -> Result<(), OutOfMemory>
-        ensures adds { OnOk result (Appends self.old self.new (stmt.Let (with_number prefix.now t) e ∷ []) []) }
-        ensures scope { OnOk result (self.new.scope ≡ self.old.scope) }
-    {
-        let name = local_name(self.alloc, prefix, t)?;
-        self.code.stmts.push(Stmt::Let(name, e))
-    }
-
     fn push_ptr(&mut self, t: u32) -> Result<(), OutOfMemory>
         ensures adds { OnOk result (Appends self.old self.new (stmt.Let (ptr_name t) (expr.AsPtr (vec_name t)) ∷ []) []) }
         ensures scope { OnOk result (self.new.scope ≡ self.old.scope) }
     {
+        let name = local_name(self.alloc, "ptr", t)?;
         let vec = local_name(self.alloc, "vec", t)?;
-        self.push_let("ptr", t, Expr::AsPtr(vec))
+        self.add_effect(Stmt::Let(name, Expr::AsPtr(vec)))
     }
 
     fn push_len(&mut self, t: u32) -> Result<(), OutOfMemory>
         ensures adds { OnOk result (Appends self.old self.new (stmt.Let (len_name t) (expr.Len (vec_name t)) ∷ []) []) }
         ensures scope { OnOk result (self.new.scope ≡ self.old.scope) }
     {
+        let name = local_name(self.alloc, "len", t)?;
         let vec = local_name(self.alloc, "vec", t)?;
-        self.push_let("len", t, Expr::Len(vec))
+        self.add_effect(Stmt::Let(name, Expr::Len(vec)))
     }
 
-    /// The number of the locals of a buffer, whose value an expression gives: itself, its address and its length.
-    fn add_buffer(&mut self, e: Expr) -> Result<u32, OutOfMemory>
-        ensures adds { IfOk result (λ t. Appends self.old self.new (buffer_stmts t e) []) }
-        ensures fresh { IfOk result (λ t. FreshAll self.old self.new (buffer_names t)) }
-        ensures takes { IfOk result (λ t. Takes self.old.scope (λ k. buffer_names k) t self.new.scope) }
+    /// The locals of a buffer with this number and name, whose value an expression gives: itself, its address and its length.
+    fn push_buffer(&mut self, t: u32, vec: Text, e: Expr) -> Result<(), OutOfMemory>
+        requires name { vec ≡ vec_name t }
+        ensures adds { OnOk result (Appends self.old self.new (buffer_stmts t e) []) }
+        ensures scope { OnOk result (self.new.scope ≡ self.old.scope) }
     {
-        let t = self.declare_three("vec", "ptr", "len")?;
-        self.push_let("vec", t, e)?;
+        self.add_effect(Stmt::Let(vec, e))?;
         self.push_ptr(t)?;
         self.push_len(t)?;
-        Ok(t)
+        Ok(())
     }
 
     fn push_bytes(&mut self, t: u32, address: Expr) -> Result<(), OutOfMemory>
@@ -141,40 +133,33 @@ impl FunctionBindgen {
         ensures scope { OnOk result (self.new.scope ≡ self.old.scope) }
     {
         let address = Boxed::new(self.alloc, address)?;
+        let name = local_name(self.alloc, "bytes", t)?;
         let len = local_name(self.alloc, "len", t)?;
-        self.push_let("bytes", t, Expr::FromRawParts(address, len))
+        self.add_effect(Stmt::Let(name, Expr::FromRawParts(address, len)))
     }
 
     fn push_text(&mut self, t: u32) -> Result<(), OutOfMemory>
         ensures adds { OnOk result (Appends self.old self.new (stmt.Let (text_name t) (runtime_call StringLift (expr.Local (bytes_name t))) ∷ []) []) }
         ensures scope { OnOk result (self.new.scope ≡ self.old.scope) }
     {
+        let name = local_name(self.alloc, "text", t)?;
         let bytes = Expr::Local(local_name(self.alloc, "bytes", t)?);
         let lifted = runtime_call(self.alloc, RuntimeItem::StringLift, bytes)?;
-        self.push_let("text", t, lifted)
+        self.add_effect(Stmt::Let(name, lifted))
     }
 
-    /// The number of the same locals, of which the length has its value.
-    fn add_length(&mut self, n: Expr) -> Result<u32, OutOfMemory>
-        ensures adds { IfOk result (λ t. Appends self.old self.new (stmt.Let (len_name t) n ∷ []) []) }
-        ensures fresh { IfOk result (λ t. FreshAll self.old self.new (taken_names t)) }
-        ensures takes { IfOk result (λ t. Takes self.old.scope (λ k. taken_names k) t self.new.scope) }
+    /// The locals of a text that is taken over, with this number: its length, of this name, its bytes, and itself.
+    fn push_taken(&mut self, t: u32, len: Text, address: &Expr, n: &Expr) -> Result<(), OutOfMemory>
+        requires name { len ≡ len_name t }
+        ensures adds { OnOk result (Appends self.old self.new (taken_stmts t address.now n.now) []) }
+        ensures scope { OnOk result (self.new.scope ≡ self.old.scope) }
     {
-        let t = self.declare_three("len", "bytes", "text")?;
-        self.push_let("len", t, n)?;
-        Ok(t)
-    }
-
-    /// The number of the locals of a text that is taken over: its length, its bytes, and itself.
-    fn add_taken(&mut self, address: Expr, n: Expr) -> Result<u32, OutOfMemory>
-        ensures adds { IfOk result (λ t. Appends self.old self.new (taken_stmts t address n) []) }
-        ensures fresh { IfOk result (λ t. FreshAll self.old self.new (taken_names t)) }
-        ensures takes { IfOk result (λ t. Takes self.old.scope (λ k. taken_names k) t self.new.scope) }
-    {
-        let t = self.add_length(n)?;
+        let n = copy_expr(n, self.alloc)?;
+        self.add_effect(Stmt::Let(len, n))?;
+        let address = copy_expr(address, self.alloc)?;
         self.push_bytes(t, address)?;
         self.push_text(t)?;
-        Ok(t)
+        Ok(())
     }
 }
 
@@ -189,8 +174,10 @@ impl FunctionBindgen {
         requires empty { results.old ≡ [] }
         ensures { OnOk result (Emits func_meaning resolve.now.types (instruction.StringLower false) operands.now results.new self.old self.new) }
     {
+        let t = self.declare_three("vec", "ptr", "len")?;
+        let vec = local_name(self.alloc, "vec", t)?;
         let e = only_operand(self.alloc, operands)?;
-        let t = self.add_buffer(e)?;
+        self.push_buffer(t, vec, e)?;
         push_words(self.alloc, t, results)?;
         Ok(())
     }
@@ -206,8 +193,10 @@ impl FunctionBindgen {
         requires empty { results.old ≡ [] }
         ensures { OnOk result (Emits func_meaning resolve.now.types (instruction.StringLower true) operands.now results.new self.old self.new) }
     {
+        let t = self.declare_three("vec", "ptr", "len")?;
+        let vec = local_name(self.alloc, "vec", t)?;
         let name = only_local(self.alloc, operands)?;
-        let t = self.add_buffer(Expr::IntoBoxedBytes(name))?;
+        self.push_buffer(t, vec, Expr::IntoBoxedBytes(name))?;
         let vec = local_name(self.alloc, "vec", t)?;
         let call = forgotten(self.alloc, vec)?;
         self.add_effect(Stmt::Expr(call))?;
@@ -224,10 +213,12 @@ impl FunctionBindgen {
         requires empty { results.old ≡ [] }
         ensures { OnOk result (Emits func_meaning resolve.now.types instruction.StringLift operands.now results.new self.old self.new) }
     {
-        let (address, n) = both_operands(self.alloc, operands)?;
         self.ask(RuntimeItem::VecType)?;
         self.ask(RuntimeItem::StringLift)?;
-        let t = self.add_taken(address, n)?;
+        let t = self.declare_three("len", "bytes", "text")?;
+        let len = local_name(self.alloc, "len", t)?;
+        let (address, n) = both_exprs(operands)?;
+        self.push_taken(t, len, address, n)?;
         let name = local_name(self.alloc, "text", t)?;
         let expr = Expr::Local(name);
         results.push(ExprOperand { expr, kept: false })?;

@@ -8,7 +8,7 @@ ghost use Rattle.abi_bindgen.specs.declared.instruction.Instruction.TheVariants 
 ghost use Rattle.func_gen.specs.CaseForms.{AreVariantForms, IsSome, member_form, member_forms, member_path, variant_at};
 ghost use Rattle.func_gen.specs.Meaning.{func_meaning};
 
-use crate::added::only_operand;
+use crate::added::only_expr;
 use crate::case_form::CaseForm;
 use crate::emit::parts::push_locals;
 use crate::function_bindgen::FunctionBindgen;
@@ -145,7 +145,7 @@ impl FunctionBindgen {
         requires empty { results.old ≡ [] }
         ensures { OnOk result (Emits func_meaning resolve.now.types (instruction.VariantLower id count) operands.now results.new self.old self.new) }
     {
-        let e = only_operand(self.alloc, operands)?;
+        let e = only_expr(operands)?;
         let forms = variant_forms(self.alloc, resolve, self.sites.as_slice(), id)?;
         let names = self.lower_cases(forms.as_slice(), e, count)?;
         push_locals(self.alloc, names.as_slice(), results)?;

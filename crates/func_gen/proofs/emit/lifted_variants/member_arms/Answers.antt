@@ -1,6 +1,5 @@
-use Rattle.std.proofs.Common.{◌≡◌, ◌∷◌, [], length, reverse, ap, ◌∙◌, arith}
+use Rattle.std.proofs.Common.{◌≡◌, ◌∷◌, ◌++◌, [], length, reverse, ap, ap₂, ◌∙◌, arith}
 use Rattle.std.proofs.lemmas.List.{length-reverse, reverse-append}
-use Rattle.func_gen.specs.LiftedCases.{lifted_bodies, number_arms}
 use Rattle.func_gen.proofs.emit.lifted_variants.member_arms.Goals as goal
 
 pub returns : goal.returns
@@ -20,5 +19,5 @@ returns c =
       unnamed = c.in_ok-other.ensures.unnamed;
       inward = c.in_ok-arms.ensures.inward;
       inward_last = c.in_ok-other.ensures.inward;
-      are = c.in_ok-arms.ensures.arms ∙ ap (number_arms 0 (lifted_bodies cases (reverse others))) c.in_ok-other.ensures.arm;
+      are = c.in_ok-push.ensures.ok ∙ ap₂ (λ arms other. arms ++ other ∷ []) c.in_ok-arms.ensures.arms c.in_ok-other.ensures.arm;
     }

@@ -18,7 +18,7 @@ returns c =
     let site = c.in_ok-site.site.now in
     let names = c.in_ok-names.names in
     let d = c.in_ok-names.ensures in
-    let same = c.in_ok-parts.ensures ∙ ap (λ ns. stmt.LetParts (pattern.Record site.lowered (zip site.fields ns)) c.args.e) c.as_slice-3.ensures in
+    let same = c.in_ok-parts.ensures ∙ ap (λ ns. stmt.LetParts (pattern.Record site.lowered (zip site.fields ns)) c.args.e.now) c.as_slice-3.ensures in
     record {
       site = site;
       is_site = subst (λ sites. IsSiteOf c.args.resolve.now.types sites c.args.id.0 site) c.as_slice.ensures c.in_ok-site.ensures;

@@ -8,7 +8,7 @@ use Rattle.func_gen.proofs.function_bindgen.FunctionBindgen.add_parts.Goals as g
 
 pub returns-clause-adds : goal.returns-clause-adds
 returns-clause-adds c =
-    let same = c.in_ok-taken.ensures ∙ ap (λ ns. stmt.LetParts (pattern.Tuple ns) c.args.e) c.as_slice-2.ensures in
+    let same = c.in_ok-taken.ensures ∙ ap (λ ns. stmt.LetParts (pattern.Tuple ns) c.args.e.now) c.as_slice-2.ensures in
     record {
       call = refl;
       stmts = c.in_ok-push.ensures.ok ∙ ap (λ s. c.args.self.now.code.stmts ++ s ∷ []) same;

@@ -1,31 +1,31 @@
-use Rattle.std.proofs.Common.{[], ◌∷◌, refl, sym, ap, append-nil}
+use Rattle.std.proofs.Common.{[], ◌∷◌, None, refl, sym, ap, ◌∙◌, subst}
 use Rattle.rust_tree.specs.declared.expr.Expr.TheVariants as expr
 use Rattle.rust_tree.specs.declared.stmt.Stmt.TheVariants as stmt
-use Rattle.func_gen.proofs.CallRows.{declared_as, two_added}
+use Rattle.func_gen.specs.Added.{Appends}
+use Rattle.func_gen.specs.CallForms.{import_name, import_of}
+use Rattle.func_gen.specs.Scope.{Takes}
+use Rattle.func_gen.proofs.CallRows.{declared_as}
+use Rattle.func_gen.proofs.Declared.{still_fresh}
+use Rattle.func_gen.proofs.Rows.{appends_both, no_code}
 use Rattle.func_gen.proofs.function_bindgen.FunctionBindgen.add_statement.Goals as goal
 
 pub returns : goal.returns
 returns c =
+    let old = c.args.self.now in
+    let mid = record old { scope = c.declare.new.self } in
+    let imported = c.push_import.new.self in
+    let new = c.add_effect.new.self in
     let name = c.in_ok-name.name in
+    let t = c.in_ok-t.t in
+    let declares = stmt.Import (import_of old.home c.args.func.now c.args.params None name) in
+    let scope = c.in_ok-add_effect.ensures.scope ∙ c.in_ok-push_import.ensures.scope in
+    let first = appends_both old mid imported [] (declares ∷ []) [] [] (no_code old mid refl) c.in_ok-push_import.ensures.adds in
+    let both = appends_both old imported new (declares ∷ []) (stmt.Expr (expr.Call c.in_ok-path.path c.args.arguments) ∷ []) [] [] first c.in_ok-add_effect.ensures.adds in
     record {
       import = name;
-      stmts = record {
-        call = refl;
-        stmts = two_added c.args.self.now.code.stmts _ _ _ _ _ _ c.in_ok-push.ensures.ok c.in_ok-push-2.ensures.ok (ap (λ d. stmt.Import d) c.in_ok-declared.ensures) (ap (λ p. stmt.Expr (expr.Call p c.args.arguments)) c.in_ok-path.ensures);
-        runtime = sym (append-nil c.args.self.now.runtime);
-        import = refl;
-        home = refl;
-        area = refl;
-        params = refl;
-        sites = refl;
-        sizes = refl;
-        asked = refl;
-        returned = refl;
-        opened = refl;
-        finished = refl;
-      };
-      number = c.in_ok-t.t;
+      stmts = subst (λ p. Appends old new (declares ∷ stmt.Expr (expr.Call p c.args.arguments) ∷ []) []) c.in_ok-path.ensures both;
+      number = t;
       is = c.in_ok-name.ensures;
-      takes = record { locals = _; named = λ k. refl; declares = c.in_ok-t.ensures };
-      names = declared_as c.args.self.now _ _ c.in_ok-t.t (name ∷ []) c.in_ok-t.ensures (ap (λ n. n ∷ []) c.in_ok-name.ensures);
+      takes = subst (Takes old.scope (λ k. import_name k ∷ []) t) (sym scope) (record { locals = _; named = λ k. refl; declares = c.in_ok-t.ensures });
+      names = still_fresh old mid new (name ∷ []) scope (declared_as old mid _ t (name ∷ []) c.in_ok-t.ensures (ap (λ n. n ∷ []) c.in_ok-name.ensures));
     }

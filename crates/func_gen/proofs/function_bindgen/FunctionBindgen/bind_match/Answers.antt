@@ -1,4 +1,4 @@
-use Rattle.std.proofs.Common.{[], ◌∷◌, ◌++◌, ◌≡◌, ℕ, refl, sym, ap, ◌∙◌, append-nil, subst}
+use Rattle.std.proofs.Common.{[], ◌∷◌, ◌++◌, ◌≡◌, ℕ, refl, sym, ap, ap₂, ◌∙◌, append-nil, subst}
 use Rattle.rust_tree.specs.declared.stmt.Stmt.TheVariants as stmt
 use Rattle.func_gen.specs.MatchForms.{match_names, result_names}
 use Rattle.func_gen.specs.Scope.{Declares, names_at}
@@ -14,7 +14,7 @@ returns c =
     record {
       adds = record {
         call = refl;
-        stmts = c.in_ok-push.ensures.ok ∙ ap (λ names. old.code.stmts ++ stmt.Match names c.args.e c.args.arms ∷ []) bound;
+        stmts = c.in_ok-push.ensures.ok ∙ ap₂ (λ names e. old.code.stmts ++ stmt.Match names e c.args.arms ∷ []) bound c.in_ok-e.ensures;
         runtime = sym (append-nil old.runtime);
         import = refl;
         home = refl;

@@ -1,9 +1,10 @@
-use Rattle.std.proofs.Common.{[], ◌∷◌, ◌≡◌, ◌∙◌, ap, subst, sym, true}
+use Rattle.std.proofs.Common.{[], ◌∷◌, ◌++◌, ◌≡◌, ◌∙◌, ap, subst, sym, true}
 use Rattle.rust_tree.specs.declared.expr.Expr.TheVariants as expr
 use Rattle.rust_tree.specs.declared.runtime_item.RuntimeItem.TheVariants.{CabiDealloc}
 use Rattle.rust_tree.specs.declared.stmt.Stmt.TheVariants as stmt
 use Rattle.abi_bindgen.specs.declared.instruction.Instruction.TheVariants as instruction
 use Rattle.func_gen.specs.Added.{Appends}
+use Rattle.func_gen.specs.Forms.{runtime_path}
 use Rattle.func_gen.specs.MemoryForms.{align_size, bytes_freed, is_length}
 use Rattle.func_gen.proofs.FreeRow.{block_row}
 use Rattle.func_gen.proofs.Rows.{emits_as}
@@ -13,10 +14,11 @@ pub returns : goal.returns
 returns c =
     let types = c.args.resolve.now.types in
     let size = c.args.size in
-    let e = c.in_ok-address.address in
+    let e = c.in_ok-address.address.now in
     let same = c.align_size.ensures.same in
     let sized : is_length size ≡ true = sym c.is_length.ensures ∙ c.if-not-is_length.false in
     let aligned : is_length (align_size c.args.align) ≡ true = sym (ap is_length same) ∙ c.align_size.ensures.length in
-    let adds = subst (λ align. Appends c.args.self.now c.add_free.new.self (stmt.Expr (bytes_freed e (expr.Size size) align) ∷ []) (CabiDealloc ∷ [])) same c.in_ok-add_free.ensures.adds in
+    let adds = subst (λ align. Appends c.args.self.now c.add_free.new.self (stmt.Expr (bytes_freed e (expr.Size size) align) ∷ []) (CabiDealloc ∷ [])) same
+    (subst (λ bs. Appends c.args.self.now c.add_free.new.self (stmt.Expr (expr.Call (runtime_path CabiDealloc) (bs ++ expr.Size c.align_size.result ∷ [])) ∷ []) (CabiDealloc ∷ [])) c.in_ok-block.ensures c.in_ok-add_free.ensures.adds) in
     emits_as types (instruction.GuestDeallocate size c.args.align) _ _ _ _ _ _ c.in_ok-address.ensures.only c.requires.empty
     (block_row types c.args.self.now c.add_free.new.self e c.in_ok-address.ensures.operand c.in_ok-add_free.ensures.scope size c.args.align sized aligned adds)

@@ -10,7 +10,7 @@ use Rattle.func_gen.proofs.function_bindgen.FunctionBindgen.free_variant.Goals a
 pub returns : goal.returns
 returns c =
     let types = c.args.resolve.now.types in
-    let e = c.in_ok-e.e in
+    let e = c.in_ok-e.e.now in
     let before = c.args.count - 1 in
     let many : suc before ≡ c.args.count = omega arith in
     let freed = variant_freed types before e _ _ c.in_ok-free_cases.ensures c.in_ok-e.ensures.operand in

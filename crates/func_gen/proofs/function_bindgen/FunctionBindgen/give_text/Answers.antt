@@ -14,12 +14,18 @@ use Rattle.func_gen.proofs.function_bindgen.FunctionBindgen.give_text.Goals as g
 pub returns : goal.returns
 returns c =
     let types = c.args.resolve.now.types in
+    let old = c.args.self.now in
+    let mid = c.declare_three.new.self in
+    let pushed = c.push_buffer.new.self in
+    let new = c.add_effect.new.self in
     let name = c.in_ok-name.name in
     let t = c.in_ok-t.t in
     let stmts = buffer_stmts t (expr.IntoBoxedBytes name) in
-    let added = appends_both c.args.self.now c.add_buffer.new.self c.add_effect.new.self stmts (stmt.Expr c.in_ok-call.call ∷ []) [] [] c.in_ok-t.ensures.adds c.in_ok-add_effect.ensures.adds in
+    let scope = c.in_ok-add_effect.ensures.scope ∙ c.in_ok-push_buffer.ensures.scope in
+    let buffer = appends_both old mid pushed [] stmts [] [] c.in_ok-t.ensures.adds c.in_ok-push_buffer.ensures.adds in
+    let added = appends_both old pushed new stmts (stmt.Expr c.in_ok-call.call ∷ []) [] [] buffer c.in_ok-add_effect.ensures.adds in
     emits_as types (instruction.StringLower true) _ _ _ _ _ _ c.in_ok-name.ensures c.in_ok-push_words.ensures
-    (give_row types c.args.self.now c.add_effect.new.self name t
-    (subst (λ x. Appends c.args.self.now c.add_effect.new.self (stmts ++ stmt.Expr x ∷ []) []) (c.in_ok-call.ensures ∙ ap forgotten c.in_ok-vec.ensures) added)
-    (still_fresh c.args.self.now c.add_buffer.new.self c.add_effect.new.self (buffer_names t) c.in_ok-add_effect.ensures.scope c.in_ok-t.ensures.fresh)
-    (subst (Takes c.args.self.now.scope (λ k. buffer_names k) t) (sym c.in_ok-add_effect.ensures.scope) c.in_ok-t.ensures.takes))
+    (give_row types old new name t
+    (subst (λ x. Appends old new (stmts ++ stmt.Expr x ∷ []) []) (c.in_ok-call.ensures ∙ ap forgotten c.in_ok-vec-2.ensures) added)
+    (still_fresh old mid new (buffer_names t) scope c.in_ok-t.ensures.fresh)
+    (subst (Takes old.scope (λ k. buffer_names k) t) (sym scope) c.in_ok-t.ensures.takes))

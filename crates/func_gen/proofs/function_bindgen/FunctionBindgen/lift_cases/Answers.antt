@@ -1,11 +1,11 @@
-use Rattle.std.proofs.Common.{[], ◌∷◌, reverse, sym, ap, ◌∙◌, subst}
+use Rattle.std.proofs.Common.{[], ◌∷◌, ◌++◌, reverse, sym, ap, ap₂, ◌∙◌, subst}
 use Rattle.rust_tree.specs.declared.pattern.ArmPattern.TheVariants as arm
 use Rattle.rust_tree.specs.declared.runtime_item.RuntimeItem.TheVariants.{InvalidEnumDiscriminant}
 use Rattle.rust_tree.specs.declared.stmt.MatchNames.TheVariants as names_of
 use Rattle.rust_tree.specs.declared.stmt.Stmt.TheVariants as stmt
 use Rattle.wrapper_run.specs.Inward.{is_inward}
 use Rattle.func_gen.specs.Added.{Appends}
-use Rattle.func_gen.specs.LiftedCases.{lifted_bodies, number_arms}
+use Rattle.func_gen.specs.LiftedCases.{lifted_bodies}
 use Rattle.func_gen.specs.MatchForms.{arm_of}
 use Rattle.func_gen.proofs.Forming.{one_since}
 use Rattle.func_gen.proofs.Rows.{appends_both, fresh_since}
@@ -17,8 +17,8 @@ returns c =
     let asked = c.ask.new.self in
     let name = c.in_ok-name.name in
     let bodies = lifted_bodies c.args.cases.now (reverse c.in_ok-blocks.blocks) in
-    let are = c.in_ok-arms.ensures.arms ∙ ap (λ b. number_arms 0 bodies (arm_of arm.AnyOther b)) c.in_ok-body.ensures.body in
-    let added = subst (λ arms. Appends asked c.add_match.new.self (stmt.Match (names_of.One name) c.args.e arms ∷ []) []) are c.in_ok-name.ensures.adds in
+    let are = c.in_ok-push.ensures.ok ∙ ap₂ (λ arms b. arms ++ arm_of arm.AnyOther b ∷ []) c.in_ok-arms.ensures.arms c.in_ok-body.ensures.body in
+    let added = subst (λ arms. Appends asked c.add_match.new.self (stmt.Match (names_of.One name) c.args.e.now arms ∷ []) []) are c.in_ok-name.ensures.adds in
     record {
       used = c.in_ok-blocks.blocks;
       mid = mid;

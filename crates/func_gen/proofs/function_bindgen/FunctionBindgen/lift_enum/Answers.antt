@@ -10,7 +10,7 @@ use Rattle.func_gen.proofs.function_bindgen.FunctionBindgen.lift_enum.Goals as g
 pub returns : goal.returns
 returns c =
     let types = c.args.resolve.now.types in
-    let e = c.in_ok-e.e in
+    let e = c.in_ok-e.e.now in
     let n = c.in_ok-name.name in
     let k = c.in_ok-case.ensures in
     let same = k.is ∙ ap (λ path. expr.Call path (expr.Cast e k.to ∷ [])) k.by.is in

@@ -1,53 +1,36 @@
-use Rattle.std.proofs.Common.{◌≡◌, ◌+◌, suc, List, [], ◌∷◌, length, sym, ap, ◌∙◌, subst, append-nil, arith}
+use Rattle.std.proofs.Common.{◌≡◌, ◌+◌, suc, List, [], ◌∷◌, length, sym, ap, ap₂, ◌∙◌, subst, arith}
 use Rattle.rust_tree.specs.declared.stmt.MatchNames.TheVariants as names_of
 use Rattle.std.specs.Prelude.{codes}
 use Rattle.rust_tree.specs.declared.stmt.Arm.{Arm}
 use Rattle.rust_tree.specs.declared.stmt.Stmt.{Stmt}
 use Rattle.rust_tree.specs.declared.stmt.Stmt.TheVariants as stmt
-use Rattle.func_gen.specs.declared.function_bindgen.FunctionBindgen.{FunctionBindgen}
 use Rattle.func_gen.specs.declared.scope.Scope.{Scope}
 use Rattle.func_gen.specs.Added.{Appends}
 use Rattle.func_gen.specs.LiftedCases.{LiftsVariantBy}
 use Rattle.func_gen.specs.Scope.{TakesAll, with_number}
 use Rattle.func_gen.specs.Uses.{Uses}
-use Rattle.func_gen.proofs.Rows.{appends_both}
+use Rattle.func_gen.proofs.Rows.{appends_both, no_code}
 use Rattle.func_gen.proofs.function_bindgen.FunctionBindgen.lift_members.Goals as goal
-
--- where names were declared alone, no code was added
-no_code : (old new : FunctionBindgen) → new ≡ record old { scope = new.scope } → Appends old new [] []
-no_code old new e = record {
-  call = ap (λ (b : FunctionBindgen). b.code.call) e;
-  stmts = ap (λ (b : FunctionBindgen). b.code.stmts) e ∙ sym (append-nil old.code.stmts);
-  runtime = ap (λ (b : FunctionBindgen). b.runtime) e ∙ sym (append-nil old.runtime);
-  import = ap (λ (b : FunctionBindgen). b.import) e;
-  home = ap (λ (b : FunctionBindgen). b.home) e;
-  area = ap (λ (b : FunctionBindgen). b.area) e;
-  params = ap (λ (b : FunctionBindgen). b.params) e;
-  sites = ap (λ (b : FunctionBindgen). b.sites) e;
-  sizes = ap (λ (b : FunctionBindgen). b.sizes) e;
-  asked = ap (λ (b : FunctionBindgen). b.asked) e;
-  returned = ap (λ (b : FunctionBindgen). b.returned) e;
-  opened = ap (λ (b : FunctionBindgen). b.opened) e;
-  finished = ap (λ (b : FunctionBindgen). b.finished) e;
-}
 
 pub returns : goal.returns
 returns c =
     let old = c.args.self.now in
     let mid = c.use_blocks.new.self in
     let named = c.name_case.new.self in
-    let new = c.push_match.new.self in
+    let new = c.add_effect.new.self in
     let number = c.in_ok-number.number in
     let name = c.in_ok-number.name in
     let blocks = c.in_ok-blocks.blocks in
     let cases = c.args.cases.now in
     let names = c.in_ok-number.ensures in
     let arms = c.in_ok-arms.ensures in
-    let pushed = c.in_ok-push_match.ensures in
+    let pushed = c.in_ok-add_effect.ensures in
     let next : length cases + 1 ≡ suc (length cases) = omega arith in
-    let match_by : List Arm → List Stmt = λ xs. stmt.Match (names_of.One name) c.args.e xs ∷ [] in
-    let added : Appends mid new (match_by c.in_ok-arms.arms) [] = appends_both mid named new [] (match_by c.in_ok-arms.arms) [] [] (no_code mid named names.rest) pushed.adds in
-    let whole : LiftsVariantBy cases c.args.last.now c.args.e number name old new =
+    let match_by : List Arm → List Stmt = λ xs. stmt.Match (names_of.One name) c.args.e.now xs ∷ [] in
+    let same = ap₂ (λ n x. stmt.Match (names_of.One n) x c.in_ok-arms.arms ∷ []) c.in_ok-copy.ensures c.in_ok-e.ensures in
+    let adds : Appends named new (match_by c.in_ok-arms.arms) [] = subst (λ xs. Appends named new xs []) same pushed.adds in
+    let added : Appends mid new (match_by c.in_ok-arms.arms) [] = appends_both mid named new [] (match_by c.in_ok-arms.arms) [] [] (no_code mid named names.rest) adds in
+    let whole : LiftsVariantBy cases c.args.last.now c.args.e.now number name old new =
     record {
       used = blocks;
       mid = mid;

@@ -9,7 +9,7 @@ use Rattle.func_gen.proofs.function_bindgen.FunctionBindgen.lift_option.Goals as
 pub returns : goal.returns
 returns c =
     let types = c.args.resolve.now.types in
-    let e = c.in_ok-e.e in
+    let e = c.in_ok-e.e.now in
     let forms = c.in_ok-forms.forms in
     let name = c.in_ok-name.name in
     let lifts = subst (λ fs. LiftsBy fs e name c.args.self.now c.lift_cases.new.self) c.as_slice.ensures c.in_ok-name.ensures in

@@ -13,7 +13,7 @@ use Rattle.func_gen.proofs.function_bindgen.FunctionBindgen.lift_variant.Goals a
 pub returns : goal.returns
 returns c =
     let types = c.args.resolve.now.types in
-    let e = c.in_ok-e.e in
+    let e = c.in_ok-e.e.now in
     let all = c.in_ok-forms.forms in
     let cases = c.pop.new.self.items in
     let last = c.in-Some.last in

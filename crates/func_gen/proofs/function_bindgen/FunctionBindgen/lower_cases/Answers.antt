@@ -12,7 +12,7 @@ returns c =
       mid = c.use_arms.new.self;
       uses = arms.uses;
       fit = arms.fit;
-      adds = subst (λ xs. Appends c.use_arms.new.self c.bind_match.new.self (match_of c.in_ok-names.names c.args.e xs ∷ []) []) arms.are binds.adds;
+      adds = subst (λ xs. Appends c.use_arms.new.self c.bind_match.new.self (match_of c.in_ok-names.names c.args.e.now xs ∷ []) []) arms.are binds.adds;
       fresh = binds.fresh;
       takes = binds.takes;
     }

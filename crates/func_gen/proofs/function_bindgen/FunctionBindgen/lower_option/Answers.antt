@@ -9,7 +9,7 @@ use Rattle.func_gen.proofs.function_bindgen.FunctionBindgen.lower_option.Goals a
 pub returns : goal.returns
 returns c =
     let types = c.args.resolve.now.types in
-    let e = c.in_ok-e.e in
+    let e = c.in_ok-e.e.now in
     let forms = c.in_ok-forms.forms in
     let names = c.in_ok-names.names in
     let lowers = subst (λ fs. LowersBy fs e c.args.count names c.args.self.now c.lower_cases.new.self) c.as_slice.ensures c.in_ok-names.ensures in

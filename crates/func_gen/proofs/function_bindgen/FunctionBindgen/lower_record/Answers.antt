@@ -8,7 +8,7 @@ use Rattle.func_gen.proofs.function_bindgen.FunctionBindgen.lower_record.Goals a
 pub returns : goal.returns
 returns c =
     let types = c.args.resolve.now.types in
-    let e = c.in_ok-e.e in
+    let e = c.in_ok-e.e.now in
     let names = c.in_ok-names.names in
     emits_as types (instruction.RecordLower c.args.id) _ _ _ _ _ _ c.in_ok-e.ensures.only
     (c.in_ok-push_locals.ensures ∙ ap (λ rs. rs ++ locals_of c.as_slice.result.now) c.requires.empty ∙ ap locals_of c.as_slice.ensures)

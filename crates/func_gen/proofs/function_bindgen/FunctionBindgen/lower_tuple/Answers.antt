@@ -8,7 +8,7 @@ use Rattle.func_gen.proofs.function_bindgen.FunctionBindgen.lower_tuple.Goals as
 pub returns : goal.returns
 returns c =
     let types = c.args.resolve.now.types in
-    let e = c.in_ok-e.e in
+    let e = c.in_ok-e.e.now in
     let names = c.in_ok-names.names in
     let named = c.in_ok-names.ensures.takes in
     emits_as types (instruction.TupleLower c.args.count) _ _ _ _ _ _ c.in_ok-e.ensures.only
