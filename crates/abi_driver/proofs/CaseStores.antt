@@ -35,7 +35,7 @@ use Rattle.abi_bindgen.specs.Leaves.{way}
 use Rattle.abi_bindgen.specs.Meaning.{Bound, Meaning, bound, item, of, the_payload, word}
 use Rattle.abi_bindgen.specs.NumberTouches.{number_store}
 use Rattle.abi_bindgen.specs.Parts.{count}
-use Rattle.abi_bindgen.specs.Places.{HasRoom, replaced}
+use Rattle.abi_bindgen.specs.Places.{HasRoom, IsWritten, replaced}
 use Rattle.abi_driver.specs.StoredCases.{BlockPuts, PutsCase, StoresCase, StoresCases, Tagged}
 use Rattle.abi_driver.specs.Stores.{LowersToMemory, Releases, Stored, by_storing}
 use Rattle.abi_bindgen.specs.Touches.{reached}
@@ -43,11 +43,21 @@ use Rattle.abi_bindgen.proofs.BareCases.{number_ranged}
 use Rattle.abi_driver.proofs.CaseRooms.{first_room, rest_room}
 use Rattle.abi_driver.proofs.CaseSteps.{block_added, block_begins, block_gives, is_open, more_blocks, no_blocks}
 use Rattle.abi_driver.proofs.NumberWords.{Written, number_store_adds, number_stored}
-use Rattle.abi_driver.proofs.Replaced.{replaced_formed, replaced_twice}
+use Rattle.abi_driver.proofs.Replaced.{replaced_formed}
 use Rattle.abi_bindgen.proofs.Runs.{adds_both}
 use Rattle.abi_driver.proofs.StoreSteps.{word_again}
-use Rattle.abi_driver.proofs.Storing.{written_both, written_in}
+use Rattle.abi_driver.proofs.Storing.{puts_again, stored_later, written_both, written_in}
 use Rattle.wrapper_meaning.specs.Numbers.{low_bits}
+
+-- what was written at the front of a block and then behind it
+written_behind : (b mid after : Block) (k front behind size : ℕ) → front ≤ behind → IsWritten k front b mid → IsWritten (k + behind) size mid after → IsWritten k (behind + size) b after
+written_behind b mid after k front behind size apart one two =
+    written_both b mid after k (behind + size) k front (k + behind) size one two (omega arith) (omega (arith, apart)) (omega arith) (omega arith)
+
+-- what was given is let go of at last
+owns_all : (start s1 s2 u given own : List ℕ) → SameItems start given → SameItems (s1 ++ []) (start ++ []) → SameItems (s2 ++ []) (s1 ++ []) → SameItems (u ++ own) (s2 ++ []) → SameItems given own → SameItems u []
+owns_all start s1 s2 u given own begins zero one two same g =
+    omega (arith, begins g, zero g, one g, two g, same g, total-append g u own, total-append g s2 [], total-append g s1 [], total-append g start [])
 
 module _ {Self Operand : Type 0} (m : Meaning Self Operand) (types : List TypeDef) where
   -- what stores the cases from one on, stores all
@@ -98,8 +108,8 @@ module _ {Self Operand : Type 0} (m : Meaning Self Operand) (sound : Sound m) (t
         put.3,
         subst (λ j. HasNumber put.1 k (2 ^ g) j) kept put.4,
         record {
-          account = after2.account ∙ ap (λ (z : Account m.Item). record z { heap = record { blocks = replaced put.1 z.heap.blocks } }) same;
-          owns = λ h. omega (arith, after1.owns h, after2.owns h, total-append h (m.owns put.0) [], total-append h (m.owns s1) [], total-append h (m.owns s) []);
+          account = stored_later (m.account s) (m.account s1) (m.account put.0) put.1 same after2.account;
+          owns = λ h. after2.owns h ∙ after1.owns h;
           denotes = after2.denotes;
         },
       )
@@ -169,7 +179,7 @@ module _ {Self Operand : Type 0} (m : Meaning Self Operand) (sound : Sound m) (t
           let mid = tag.1 in
           let after1 = tag.5 in
           let formed = replaced_formed (m.account s).heap.blocks blk mid k (2 ^ g) room.formed room.there tag.3 in
-          let now : m.account s2 ≡ record (m.account s) { heap = record { blocks = replaced mid (m.account s).heap.blocks } } = after1.account ∙ ap (λ (z : Account m.Item). record z { heap = record { blocks = replaced mid z.heap.blocks } }) same in
+          let now : m.account s2 ≡ record (m.account s) { heap = record { blocks = replaced mid (m.account s).heap.blocks } } = stored_later (m.account s) (m.account s1) (m.account s2) mid same after1.account in
           let room1 : HasRoom m.width t (reached m q place) mid (k + h) (record { blocks = replaced mid (m.account s).heap.blocks }) = record {
             formed = formed.0;
             there = formed.1;
@@ -189,13 +199,12 @@ module _ {Self Operand : Type 0} (m : Meaning Self Operand) (sound : Sound m) (t
             all,
             put.2,
             after2.denotes,
-            λ z. omega (arith, after0.owns z, after1.owns z, after2.owns z, opens.owns s with z, owns_blocks m sound realloc heap t v i own stands z, total-append z (m.owns u) (addresses own), total-append z (m.owns s2) [], total-append z (m.owns s1) [], total-append z (m.owns start) []),
+            owns_all (m.owns start) (m.owns s1) (m.owns s2) (m.owns u) (m.owned i) (addresses own) (opens.owns s with) after0.owns after1.owns after2.owns (owns_blocks m sound realloc heap t v i own stands),
             record {
-              written = written_both blk mid all k (h + elem_size m.width (layout t)) k (2 ^ g) (k + h) (elem_size m.width (layout t)) tag.3 stored.written (omega arith) (omega (arith, room.apart)) (omega arith) (omega arith);
+              written = written_behind blk mid all k (2 ^ g) h (elem_size m.width (layout t)) room.apart tag.3 stored.written;
               holds = (tagged, stored.holds);
             },
-            after2.account ∙ ap (λ (z : Account m.Item). (by_storing all left z).account) now
-                ∙ ap (λ (bs : List Block). record (m.account s) { heap = record { blocks = bs }; taken = left }) (replaced_twice mid all (m.account s).heap.blocks (sym stored.written.same_address)),
+            puts_again (m.account s) (m.account s2) (m.account u) mid all (m.account s).taken left now after2.account stored.written.same_address,
           )
 
       pub payload_case : (a b c d e x y : Self) (o : Operand) → Pushes m a b → Emits m types VariantPayloadName [] (o ∷ []) b c → Emits m types (I32Const (pos n)) [] (r ∷ []) c d → Emits m types (number_store g offset) (r ∷ address ∷ []) [] d e

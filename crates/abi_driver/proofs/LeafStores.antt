@@ -15,6 +15,7 @@ use Rattle.wrapper_data.specs.declared.word.Word.TheVariants as core
 use Rattle.wrapper_meaning.specs.AsWords.{SaysScalar, passed_word}
 use Rattle.wrapper_meaning.specs.Cells.{HasNumber, little}
 use Rattle.wrapper_meaning.specs.InMemory.{stored_bits}
+use Rattle.wrapper_meaning.specs.Items.{SameItems}
 use Rattle.wrapper_meaning.specs.Shape.{shape_of}
 use Rattle.wrapper_meaning.specs.Shape.Shape.{scalar, text}
 use Rattle.wrapper_meaning.specs.Value.{ScalarValue}
@@ -35,13 +36,13 @@ use Rattle.abi_driver.specs.Stores.{LowersToMemory}
 use Rattle.abi_bindgen.specs.Touches.{Part, StoresWord, accessed, low_byte, low_half, reached, stores, touch, whole}
 use Rattle.abi_driver.proofs.Done.{does_done, lets_go}
 use Rattle.abi_bindgen.proofs.LowerSteps.{scalar_type}
-use Rattle.abi_driver.proofs.Replaced.{replaced_formed, replaced_twice}
+use Rattle.abi_driver.proofs.Replaced.{replaced_formed}
 use Rattle.abi_bindgen.proofs.Ordinary.{adds_of, touches_ordinary}
 use Rattle.abi_bindgen.proofs.Runs.{adds_both}
 use Rattle.abi_bindgen.proofs.ScalarRanges.{stored_ranged}
 use Rattle.abi_driver.proofs.ScalarsInMemory.{scalar_alignment, scalar_size, store_access, stored_scalar, stored_type}
 use Rattle.abi_driver.proofs.StoreSteps.{word_again}
-use Rattle.abi_driver.proofs.Storing.{stores_in, written_both}
+use Rattle.abi_driver.proofs.Storing.{stored_again, stores_in, written_both}
 use Rattle.wrapper_meaning.proofs.PostReturn.{total-append}
 
 -- 1. Which store a scalar's is
@@ -115,6 +116,10 @@ itself w (inr e) = ap (λ k. 2 ^ k % 2 ^ k) e
 
 -- 3. Stores
 
+-- owners are let go, and then what is left stays
+owns_kept : (s s1 u own : List ℕ) → SameItems (s1 ++ own) (s ++ []) → SameItems (u ++ []) (s1 ++ []) → SameItems (u ++ own) (s ++ [])
+owns_kept s s1 u own one two g = omega (arith, one g, two g, total-append g u own, total-append g u [], total-append g s1 own, total-append g s1 [])
+
 said_word : (realloc : Bool) (heap : List Block) (s : Scalar) (v : ScalarValue s) (x : Word) → SaysScalar (way realloc heap) s v x → x ≡ passed_word s v
 said_word false heap s v x h = h
 said_word true heap s v x h = h
@@ -161,7 +166,7 @@ module _ {Self Operand : Type 0} (m : Meaning Self Operand) (sound : Sound m) (t
           },
           record {
             account = after2.account;
-            owns = λ g. omega (arith, after1.owns g, after2.owns g, total-append g (m.owns two.0) (addresses own), total-append g (m.owns two.0) [], total-append g (m.owns s1) (addresses own), total-append g (m.owns s1) [], total-append g (m.owns st) []);
+            owns = owns_kept (m.owns st) (m.owns s1) (m.owns two.0) (addresses own) after1.owns after2.owns;
             denotes = subst (λ fs. m.denotes w c (fs ++ others) two.0) two.2.1 after2.denotes;
           },
         );
@@ -238,8 +243,8 @@ module _ {Self Operand : Type 0} (m : Meaning Self Operand) (sound : Sound m) (t
             };
           },
           record {
-            account = after3.account ∙ ap (λ (bs : List Block). record acc { taken = left; heap = record { blocks = bs } }) (replaced_twice mid all acc.heap.blocks (sym put2.2.same_address));
-            owns = λ g. omega (arith, after1.owns g, after2.owns g, after3.owns g, total-append g (m.owns s3) (addresses own), total-append g (m.owns s3) [], total-append g (m.owns s2) [], total-append g (m.owns s1) (addresses own), total-append g (m.owns s1) [], total-append g (m.owns st) []);
+            account = stored_again (record acc { taken = left }) acc1 (m.account s3) mid all refl after3.account put2.2.same_address;
+            owns = owns_kept (m.owns st) (m.owns s1) (m.owns s3) (addresses own) after1.owns (λ g. after3.owns g ∙ after2.owns g);
             denotes = subst (λ fs. m.denotes w d (fs ++ others) s3) three.2.1 after3.denotes;
           },
         );

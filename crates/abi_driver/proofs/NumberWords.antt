@@ -36,10 +36,9 @@ use Rattle.abi_driver.proofs.Done.{does_done}
 use Rattle.abi_driver.proofs.LeafLoads.{load_row}
 use Rattle.abi_driver.proofs.LeafStores.{at_least, store_row}
 use Rattle.abi_bindgen.proofs.Runs.{adds_both, adds_same}
-use Rattle.abi_driver.proofs.Replaced.{block_formed, replaced_formed, replaced_same, replaced_twice}
+use Rattle.abi_driver.proofs.Replaced.{block_formed, replaced_formed, replaced_same}
 use Rattle.abi_bindgen.proofs.SendSteps.{sends_as, sends_both, sends_one, sends_then}
-use Rattle.abi_driver.proofs.Storing.{loads_from, stored_in, stores_in, written_both, written_in, written_none}
-use Rattle.wrapper_meaning.proofs.PostReturn.{total-append}
+use Rattle.abi_driver.proofs.Storing.{loads_from, stored_again, stored_in, stores_in, written_both, written_in, written_none}
 
 -- 1. One word
 
@@ -289,8 +288,8 @@ module _ {Self Operand : Type 0} (m : Meaning Self Operand) (sound : Sound m) (t
             refl,
           ),
           record {
-            account = after2.account ∙ ap (stored_in all) after1.account ∙ ap (λ (bs : List Block). record acc { heap = record { blocks = bs } }) (replaced_twice one all acc.heap.blocks (sym put.3.same_address));
-            owns = λ g. omega (arith, after1.owns g, after2.owns g, total-append g (m.owns put.0) [], total-append g (m.owns s1) [], total-append g (m.owns s) []);
+            account = stored_again acc (m.account s1) (m.account put.0) one all after1.account after2.account put.3.same_address;
+            owns = λ g. after2.owns g ∙ after1.owns g;
             denotes = after2.denotes;
           },
         )
@@ -344,7 +343,7 @@ module _ {Self Operand : Type 0} (m : Meaning Self Operand) (sound : Sound m) (t
           ap₂ (λ a b. a + 2 ^ 32 * b) read later.5 ∙ sym has.4,
           record {
             account = after2.account ∙ after1.account;
-            owns = λ g. omega (arith, after1.owns g, after2.owns g, total-append g (m.owns later.0) [], total-append g (m.owns s1) [], total-append g (m.owns s) []);
+            owns = λ g. after2.owns g ∙ after1.owns g;
             denotes = subst (λ fs. m.denotes w b (here ++ fs) later.0) (append_assoc rest pointer others) (sound.swap w b (rest ++ pointer) here others later.0 (subst (λ fs. m.denotes w b fs later.0) (sym (append_assoc rest pointer (here ++ others))) after2.denotes));
           },
         )

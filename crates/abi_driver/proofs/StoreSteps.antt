@@ -30,16 +30,27 @@ use Rattle.abi_bindgen.specs.Laws.{Adds, At, Facts, Sound, item_data, ofs}
 use Rattle.abi_bindgen.specs.Leaves.{way}
 use Rattle.abi_bindgen.specs.Meaning.{Meaning, item, of, word}
 use Rattle.abi_bindgen.specs.Parts.{LowersParts, count}
-use Rattle.abi_bindgen.specs.Places.{HasRoom, HavePlaces, replaced}
+use Rattle.abi_bindgen.specs.Places.{HasRoom, HavePlaces, IsWritten, replaced}
 use Rattle.abi_driver.specs.Stores.{LowersToMemory, Puts, Releases, StoresFrom, StoresParts}
 use Rattle.abi_bindgen.specs.Touches.{reached}
 use Rattle.abi_driver.proofs.Done.{releases_both}
 use Rattle.abi_bindgen.proofs.Runs.{adds_both, adds_same, addresses_both}
-use Rattle.wrapper_meaning.specs.Items.{total}
-use Rattle.abi_driver.proofs.Replaced.{block_formed, replaced_formed, replaced_same, replaced_twice}
-use Rattle.abi_driver.proofs.Storing.{written_both, written_in}
+use Rattle.wrapper_meaning.specs.Items.{SameItems, total}
+use Rattle.abi_driver.proofs.Replaced.{block_formed, replaced_formed, replaced_same}
+use Rattle.abi_driver.proofs.Storing.{puts_again, puts_later, written_both, written_in}
 use Rattle.wrapper_meaning.proofs.PostReturn.{total-append}
 use Rattle.wit_layout.proofs.RecordSteps.{end_behind, record_behind}
+
+-- what was written in a part and then in those behind it
+written_parts : (b mid after : Block) (k behind here size last : ℕ) → behind ≤ here → here + size ≤ last → IsWritten (k + here) size b mid → IsWritten (k + (here + size)) (last - (here + size)) mid after → IsWritten (k + behind) (last - behind) b after
+written_parts b mid after k behind here size last low ends one two =
+    written_both b mid after (k + behind) (last - behind) (k + here) size (k + (here + size)) (last - (here + size)) one two (omega (arith, low)) (omega (arith, low, ends)) (omega (arith, low)) (omega (arith, low, ends))
+
+-- owners are let go, and then others
+owns_parts : (s s1 u first second all : List ℕ) → all ≡ first ++ second → SameItems (s1 ++ first) (s ++ []) → SameItems (u ++ second) (s1 ++ []) → SameItems (u ++ all) (s ++ [])
+owns_parts s s1 u first second all same one two g =
+    let sum : total g all ≡ total g first + total g second = ap (total g) same ∙ total-append g first second in
+    omega (arith, sum, one g, two g, total-append g u all, total-append g u second, total-append g s1 first, total-append g s1 [], total-append g s [])
 
 module _ {Self Operand : Type 0} (m : Meaning Self Operand) (types : List TypeDef) where
   -- where the parts from one on begin
@@ -151,15 +162,12 @@ module _ {Self Operand : Type 0} (m : Meaning Self Operand) (sound : Sound m) (t
             all,
             two.2,
             record {
-              written = written_both blk mid all (k + behind) (last - behind) (k + here) (elem_size m.width (layout t)) (k + next) (last - next) put1.written put2.written (omega (arith, low)) (omega (arith, low, ends)) (omega (arith, low)) (omega (arith, low, ends));
+              written = written_parts blk mid all k behind here (elem_size m.width (layout t)) last low ends put1.written put2.written;
               holds = (own1, own2, stays, put2.holds, stands.7);
             },
             record {
-              account = after2.account ∙ ap (λ (z : Account m.Item). record z { heap = record { blocks = replaced all z.heap.blocks }; taken = left }) after1.account
-                  ∙ ap (λ (bs : List Block). record acc { heap = record { blocks = bs }; taken = left }) (replaced_twice mid all acc.heap.blocks (sym put2.written.same_address));
-              owns = λ g.
-                  let sum : total g (addresses own) ≡ total g (addresses own1) + total g (addresses own2) = ap (λ bs. total g (addresses bs)) stands.7 ∙ ap (total g) (addresses_both own1 own2) ∙ total-append g (addresses own1) (addresses own2) in
-                  omega (arith, sum, after1.owns g, after2.owns g, total-append g (m.owns u) (addresses own), total-append g (m.owns u) (addresses own2), total-append g (m.owns s1) (addresses own1), total-append g (m.owns s1) [], total-append g (m.owns s) []);
+              account = puts_again acc (m.account s1) (m.account u) mid all split.0 left after1.account after2.account put2.written.same_address;
+              owns = owns_parts (m.owns s) (m.owns s1) (m.owns u) (addresses own1) (addresses own2) (addresses own) (ap addresses stands.7 ∙ addresses_both own1 own2) after1.owns after2.owns;
               denotes = after2.denotes;
             },
           );
@@ -206,8 +214,8 @@ module _ {Self Operand : Type 0} (m : Meaning Self Operand) (sound : Sound m) (t
           holds = holds v (way realloc heap) all k own put.holds;
         },
         record {
-          account = after2.account ∙ ap (λ (z : Account m.Item). record z { heap = record { blocks = replaced all z.heap.blocks }; taken = left }) after1.account;
-          owns = λ g. omega (arith, after1.owns g, after2.owns g, total-append g (m.owns u) (addresses own), total-append g (m.owns s1) [], total-append g (m.owns s) []);
+          account = puts_later (m.account s) (m.account s1) (m.account u) all left after1.account after2.account;
+          owns = λ g. after2.owns g ∙ after1.owns g;
           denotes = after2.denotes;
         },
       )

@@ -1,4 +1,4 @@
-use Rattle.std.proofs.Common.{◌<◌, ◌≤◌, [], ◌∷◌, ◌++◌, length, get_or, false, sym, subst, ap, ◌∙◌, arith}
+use Rattle.std.proofs.Common.{◌<◌, ◌≤◌, [], ◌∷◌, ◌++◌, length, get_or, false, refl, sym, subst, ap, ◌∙◌, arith}
 use Rattle.std.specs.Prelude.{IfSome}
 use Rattle.std.proofs.lemmas.List.{drop_more}
 use Rattle.wit_model.specs.declared.types.WitType.TheVariants as wit
@@ -7,9 +7,13 @@ use Rattle.abi_bindgen.specs.Code.{lower_code}
 use Rattle.abi_bindgen.specs.Instructions.{Emits}
 use Rattle.abi_bindgen.specs.Sent.{sends}
 use Rattle.abi_driver.proofs.ArgumentSteps.{rest_last, rest_next, within_count}
-use Rattle.abi_bindgen.proofs.Runs.{adds_both}
+use Rattle.abi_bindgen.proofs.Records.{part_below_within}
+use Rattle.abi_bindgen.proofs.Runs.{adds_both, adds_same}
 use Rattle.abi_bindgen.proofs.SendSteps.{sends_last, sends_next, sends_then}
 use Rattle.abi_driver.proofs.calls.import.lower_arguments.Goals as goal
+
+pub loop-i-init : goal.loop-i-init
+loop-i-init g c = record { adds = adds_same g.B.Bindgen.meaning c.args.bindgen.now; sent = refl; rest = λ new later h. rw c.new-all.ensures.items h }
 
 pub argument-requires : goal.argument-requires
 argument-requires g c =
@@ -17,6 +21,18 @@ argument-requires g c =
     let short : c.loop-i.i < length c.args.tys.now = omega (arith, c.loop-i-test.true) in
     let here = within_count (m.arguments c.args.bindgen.now) (m.arguments c.loop-i.bindgen) (length c.args.tys.now) c.loop-i.i c.loop-i.invariant.adds.grows.arguments c.requires.arguments short in
     subst (λ n. IfSome (m.arguments c.loop-i.bindgen) (λ k. n < k)) (sym c.in_ok-number.ensures) here
+
+pub lower_flat-requires : goal.lower_flat-requires
+lower_flat-requires g c =
+    let short : c.loop-i.i < length c.args.tys.now = omega (arith, c.loop-i-test.true) in
+    let adds = c.loop-i.invariant.adds.grows in
+    let reads = c.in_ok-value.ensures.adds.grows in
+    record {
+      well = c.requires.well;
+      down = c.requires.down;
+      below = part_below_within (length c.args.resolve.now.types) c.args.tys.now c.requires.below c.loop-i.i wit.Bool short (length c.args.resolve.now.types) (omega arith);
+      side = reads.imports ∙ adds.imports ∙ c.requires.serves;
+    }
 
 pub loop-i-preserved : goal.loop-i-preserved
 loop-i-preserved g c =

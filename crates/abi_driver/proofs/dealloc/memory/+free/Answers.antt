@@ -1,5 +1,6 @@
-use Rattle.std.proofs.Common.{rules, ◌≡◌, ℕ, ◌<◌, ◌≤◌, ◌+◌, ◌^◌, true, List, [], ◌∷◌, ◌++◌, length, map, replicate, get_or, option_map, Option, None, refl, sym, ap, ◌∙◌, subst, arith}
+use Rattle.std.proofs.Common.{rules, ◌≡◌, ℕ, ◌<◌, ◌≤◌, ◌+◌, ◌^◌, true, List, [], ◌∷◌, ◌++◌, length, map, replicate, get_or, option_map, OnOk, Option, None, refl, sym, ap, ◌∙◌, subst, arith}
 use Rattle.std.specs.List.{list_all, slice_index}
+use Rattle.std.proofs.lemmas.Bool.{ltb-true}
 use Rattle.std.proofs.lemmas.List.{drop_more}
 use Rattle.wit_model.specs.Size.{bytes_at}
 use Rattle.wit_model.specs.TypeOrder.{payload_below, type_below}
@@ -16,6 +17,7 @@ use Rattle.wit_layout.specs.Tree.{tree_at}
 use Rattle.wrapper_meaning.specs.Shape.{payload_in, payloads_in, shape_of, shapes}
 use Rattle.abi_bindgen.specs.Code.{at_payload, beyond, each, free_code, place_in}
 use Rattle.abi_driver.specs.FreedCases.{FreesPayload}
+use Rattle.abi_bindgen.specs.Frees.{FreesInMemory}
 use Rattle.abi_bindgen.specs.Instructions.{HasBlocks, field_shapes, shapes_of}
 use Rattle.abi_bindgen.specs.Parts.{count}
 use Rattle.abi_bindgen.specs.Places.{HasParts, IsOfParts}
@@ -35,6 +37,34 @@ use Rattle.abi_bindgen.proofs.Records.{alias_below, alias_rank, alias_shape, ent
 use Rattle.abi_bindgen.proofs.Runs.{adds_both, adds_same}
 use Rattle.abi_bindgen.proofs.SendSteps.{sends_as, sends_block, sends_last, sends_next}
 use Rattle.abi_driver.proofs.dealloc.memory.+free.Goals as goal
+
+pub free_type-free_id-requires : goal.free_type-free_id-requires
+unfolding type_below
+free_type-free_id-requires g t c κs within =
+    let n = length c.args.resolve.now.types in
+    let deep : rank c.args.ty ≡ c.in-Id.id.0 + 1 = ap rank c.in-Id.is ∙ omega arith in
+    let inside : c.in-Id.id.0 < n = ltb-true c.in-Id.id.0 n (ap (type_below n) (sym c.in-Id.is) ∙ c.requires.below) in
+    (omega arith, (within.0, (within.1, (c.requires.down, (inside, c.requires.knows)))))
+
+pub free_type-returns-in-String : goal.free_type-returns-in-String
+free_type-returns-in-String g t c =
+    let m = g.B.Bindgen.meaning in
+    let types = c.args.resolve.now.types in
+    let new = c.free_text.new.bindgen in
+    record {
+      frees = subst (λ (ty : WitType). OnOk c.free_text.result (FreesInMemory m (shape_of types ty) c.args.address.now c.args.offset c.args.bindgen.now new)) (sym c.in-String.is) c.free_text.ensures.frees;
+      sends = subst (λ (ty : WitType). OnOk c.free_text.result (Sends m types (free_code types ty c.args.offset) c.args.bindgen.now new)) (sym c.in-String.is) c.free_text.ensures.sends;
+    }
+
+pub free_type-returns-in-Id : goal.free_type-returns-in-Id
+free_type-returns-in-Id g t c =
+    let m = g.B.Bindgen.meaning in
+    let types = c.args.resolve.now.types in
+    let new = c.free_id.new.bindgen in
+    record {
+      frees = subst (λ (ty : WitType). OnOk c.free_id.result (FreesInMemory m (shape_of types ty) c.args.address.now c.args.offset c.args.bindgen.now new)) (sym c.in-Id.is) c.free_id.ensures.frees;
+      sends = subst (λ (ty : WitType). OnOk c.free_id.result (Sends m types (free_code types ty c.args.offset) c.args.bindgen.now new)) (sym c.in-Id.is) c.free_id.ensures.sends;
+    }
 
 pub free_id-free_type-requires : goal.free_id-free_type-requires
 free_id-free_type-requires g t c κs within =

@@ -1,14 +1,35 @@
 use Rattle.std.proofs.Common.{◌≡◌, ◌≤◌, ◌+◌, ◌-◌, List, [], ◌∷◌, ◌++◌, length, take, drop, refl, sym, ap, ◌∙◌, subst, arith, length-drop}
 use Rattle.std.proofs.lemmas.List.{drop-drop, length-take-le, take-append-drop}
 use Rattle.wit_layout.specs.Extent.{flag_words}
+use Rattle.wit_layout.specs.Flat.{words_of_flags}
+use Rattle.abi_bindgen.specs.FlagSets.{AreFlags}
 use Rattle.abi_bindgen.specs.Instructions.{Emits}
 use Rattle.abi_bindgen.specs.declared.instruction.Instruction.TheVariants.{FlagsLift}
-use Rattle.abi_driver.proofs.FlagSteps.{flags_lifts}
+use Rattle.abi_driver.proofs.FlagSteps.{flags_lifts, length_words}
+use Rattle.abi_bindgen.proofs.FlagLowers.{one_count}
 use Rattle.abi_bindgen.proofs.FlatCode.{lift_flags_code}
 use Rattle.abi_driver.proofs.LiftSteps.{lifts_as}
 use Rattle.abi_bindgen.proofs.Records.{flags_shape}
 use Rattle.abi_bindgen.proofs.SendSteps.{sends_as, sends_one}
 use Rattle.abi_driver.proofs.lift.flags.lift_flags.Goals as goal
+
+pub send_one-requires : goal.send_one-requires
+send_one-requires g c =
+    let types = c.args.resolve.now.types in
+    let members = c.args.members.now in
+    let n = length members in
+    let count = c.flag_words-count.result in
+    let read = drop c.args.at c.args.words.now in
+    let used = take (c.args.at + count - c.args.at) read in
+    let are : AreFlags types c.args.id.0 n = (members, c.requires.here, refl) in
+    let is = c.from_vec-used.ensures ∙ c.in_ok-push_copies.ensures ∙ ap (λ (os : List g.row.B-Operand.Denot). os ++ used) c.new-used.ensures.items in
+    let room : c.args.at + count - c.args.at ≤ length read = omega (arith, c.if-at-words.false, c.if-words-count.false, length-drop c.args.at c.args.words.now) in
+    let same : c.args.at + count - c.args.at ≡ count = omega arith in
+    let many = ap length is ∙ length-take-le (c.args.at + count - c.args.at) read room ∙ same ∙ c.flag_words-count.ensures ∙ ap flag_words c.len.ensures ∙ sym (length_words n) in
+    record {
+      ready = record { operands = λ k other. many ∙ ap (λ j. length (words_of_flags j)) (one_count types c.args.id.0 n k are other); suits = (n, are) };
+      makes = λ k h. h;
+    }
 
 pub returns : goal.returns
 returns g c =

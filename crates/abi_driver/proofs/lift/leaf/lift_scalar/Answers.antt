@@ -1,10 +1,17 @@
 use Rattle.std.proofs.Common.{◌<◌, List, [], ◌∷◌, length, refl, subst, arith}
 use Rattle.abi_bindgen.specs.Instructions.{Emits}
 use Rattle.abi_bindgen.proofs.FlatCode.{lift_scalar_code}
+use Rattle.abi_driver.proofs.LeafLoads.{lift_makes, lift_sendable}
 use Rattle.abi_driver.proofs.LiftSteps.{scalar_lifts}
 use Rattle.abi_bindgen.proofs.Records.{drop-same}
 use Rattle.abi_bindgen.proofs.SendSteps.{sends_as, sends_one}
 use Rattle.abi_driver.proofs.lift.leaf.lift_scalar.Goals as goal
+
+pub send_one-requires : goal.send_one-requires
+send_one-requires g c = record {
+  ready = lift_sendable g.B.Bindgen.meaning c.args.resolve.now.types c.args.resolve.now c.args.ty c.args.inst c.in_ok-operands.operands c.in_ok-word.word _ c.requires c.in_ok-operands.ensures;
+  makes = λ k h. lift_makes g.B.Bindgen.meaning c.args.resolve.now.types c.args.ty c.args.inst k c.requires h;
+}
 
 pub returns : goal.returns
 returns g c =

@@ -1,4 +1,5 @@
 use Rattle.std.proofs.Common.{List, [], ◌∷◌, length, ap, ◌∙◌, subst}
+use Rattle.wit_layout.specs.Extent.{discriminant_grain}
 use Rattle.abi_bindgen.specs.Cases.{LiftsEnum}
 use Rattle.abi_bindgen.specs.Instructions.{Emits}
 use Rattle.abi_bindgen.specs.NumberTouches.{tag_load}
@@ -8,9 +9,15 @@ use Rattle.abi_bindgen.proofs.EnumLowers.{enum_cases}
 use Rattle.abi_driver.proofs.EnumSteps.{enum_loads}
 use Rattle.abi_driver.proofs.LoadSteps.{loads_as}
 use Rattle.abi_driver.proofs.MemoryCode.{load_enum_code}
+use Rattle.abi_driver.proofs.Sendable.{makeable_number_load}
 use Rattle.abi_bindgen.proofs.Records.{enum_shape}
 use Rattle.abi_bindgen.proofs.SendSteps.{sends_as, sends_two}
 use Rattle.abi_driver.proofs.memory.enums.load_enum.Goals as goal
+
+pub load_word-requires : goal.load_word-requires
+load_word-requires g c =
+    let may = makeable_number_load g.B.Bindgen.meaning c.args.resolve.now c.args.offset c.tag_load-load.result c.args.bindgen.now c.args.address.now (discriminant_grain c.len-cases.result) c.tag_load-load.ensures in
+    record { sendable = may.sendable; makes = may.makes }
 
 pub returns : goal.returns
 returns g c =

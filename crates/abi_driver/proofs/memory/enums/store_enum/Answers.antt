@@ -1,4 +1,5 @@
 use Rattle.std.proofs.Common.{◌≤◌, ◌^◌, List, [], ◌∷◌, length, ap, ◌∙◌, subst, arith}
+use Rattle.wit_layout.specs.Extent.{discriminant_grain}
 use Rattle.abi_bindgen.specs.Instructions.{Emits}
 use Rattle.abi_bindgen.specs.NumberTouches.{tag_store}
 use Rattle.abi_bindgen.specs.declared.instruction.Instruction.{Instruction}
@@ -7,10 +8,16 @@ use Rattle.abi_bindgen.proofs.EnumLowers.{enum_lowers}
 use Rattle.abi_driver.proofs.EnumSteps.{enum_stores}
 use Rattle.abi_driver.proofs.LeafStores.{one_of}
 use Rattle.abi_driver.proofs.MemoryCode.{store_enum_code}
+use Rattle.abi_driver.proofs.Sendable.{makeable_number_store}
 use Rattle.abi_bindgen.proofs.Records.{enum_shape}
 use Rattle.abi_bindgen.proofs.SendSteps.{sends_as, sends_two}
 use Rattle.abi_driver.proofs.StoreSteps.{stores_as}
 use Rattle.abi_driver.proofs.memory.enums.store_enum.Goals as goal
+
+pub store_word-requires : goal.store_word-requires
+store_word-requires g c =
+    let may = makeable_number_store g.B.Bindgen.meaning c.args.resolve.now c.args.offset c.tag_store-store.result c.lower_by.new.bindgen c.in_ok-tag.tag c.args.address.now (discriminant_grain c.len-cases.result) c.tag_store-store.ensures in
+    record { sendable = may.sendable; silent = may.makes }
 
 pub returns : goal.returns
 returns g c =

@@ -13,6 +13,7 @@ use Rattle.abi_driver.proofs.FlagSteps.{each_alike, flags_grain_small, flags_loa
 use Rattle.abi_driver.proofs.LoadSteps.{loads_as}
 use Rattle.abi_driver.proofs.MemoryCode.{load_flags_code}
 use Rattle.abi_driver.proofs.NumberWords.{LoadedOn, loaded_more, loaded_sends}
+use Rattle.abi_driver.proofs.Sendable.{makeable_number_load}
 use Rattle.abi_bindgen.proofs.Records.{flags_shape}
 use Rattle.abi_bindgen.proofs.SendSteps.{sends_as, sends_both, sends_one}
 use Rattle.abi_driver.proofs.memory.flags.load_flags.Goals as goal
@@ -41,6 +42,11 @@ loop-nth-preserved g c =
       count = ap length c.in_ok-push.ensures.ok ∙ length-append words (word ∷ []) ∙ ap (λ n. n + 1) c.loop-nth.invariant.count;
       loaded = subst P (sym c.in_ok-push.ensures.ok) more;
     }
+
+pub load_word-requires : goal.load_word-requires
+load_word-requires g c =
+    let may = makeable_number_load g.B.Bindgen.meaning c.args.resolve.now c.in_ok-place.place c.number_load-load.result c.loop-nth.bindgen c.args.address.now c.flags_grain-grain.result c.number_load-load.ensures in
+    record { sendable = may.sendable; makes = may.makes }
 
 pub send_one-requires-clause-ready : goal.send_one-requires-clause-ready
 send_one-requires-clause-ready g c =

@@ -12,6 +12,7 @@ use Rattle.abi_bindgen.proofs.FlagLowers.{flags_lowers}
 use Rattle.abi_driver.proofs.FlagSteps.{each_alike, flags_grain_small, flags_stores, place_of}
 use Rattle.abi_driver.proofs.MemoryCode.{store_flags_code}
 use Rattle.abi_driver.proofs.NumberWords.{StoredBack, stored_sends}
+use Rattle.abi_driver.proofs.Sendable.{makeable_number_store}
 use Rattle.abi_bindgen.proofs.Records.{drop-same, flags_shape}
 use Rattle.abi_bindgen.proofs.SendSteps.{sends_as, sends_then}
 use Rattle.abi_driver.proofs.StoreSteps.{stores_as}
@@ -49,6 +50,11 @@ loop-behind-preserved g c =
     let split : drop nth words ≡ word ∷ drop (suc nth) words = drop-same words words nth word c.index-words-nth.result refl short c.index-words-nth.is c.in_ok-word.ensures ∙ ap (λ j. word ∷ drop j words) next in
     let here : Stored nth (drop nth words) c.store_word.new.bindgen = subst (λ os. Stored nth os c.store_word.new.bindgen) (sym split) (c.loop-behind.bindgen, later, one) in
     subst (λ j. Stored j (drop j words) c.store_word.new.bindgen) fewer here
+
+pub store_word-requires : goal.store_word-requires
+store_word-requires g c =
+    let may = makeable_number_store g.B.Bindgen.meaning c.args.resolve.now c.in_ok-place.place c.number_store-store.result c.loop-behind.bindgen c.in_ok-word.word c.args.address.now c.flags_grain-grain.result c.number_store-store.ensures in
+    record { sendable = may.sendable; silent = may.makes }
 
 pub returns : goal.returns
 returns g c =

@@ -1,5 +1,6 @@
-use Rattle.std.proofs.Common.{rules, ◌≡◌, ℕ, ◌<◌, ◌≤◌, ◌+◌, ◌^◌, true, List, [], ◌∷◌, ◌++◌, length, map, reverse, get_or, option_map, option_to_list, Option, None, refl, sym, ap, ◌∙◌, subst, arith}
+use Rattle.std.proofs.Common.{rules, ◌≡◌, ℕ, ◌<◌, ◌≤◌, ◌+◌, ◌^◌, true, List, [], ◌∷◌, ◌++◌, length, map, reverse, get_or, option_map, IfOk, OnOk, option_to_list, Option, None, refl, sym, ap, ◌∙◌, subst, arith}
 use Rattle.std.specs.List.{list_all, slice_index}
+use Rattle.std.proofs.lemmas.Bool.{ltb-true}
 use Rattle.std.proofs.lemmas.List.{drop_more, length-append, length-map}
 use Rattle.wit_model.specs.Size.{bytes_at}
 use Rattle.wit_model.specs.TypeOrder.{payload_below, type_below}
@@ -22,7 +23,7 @@ use Rattle.abi_bindgen.specs.Instructions.{Emits, HasBlocks, IsRecord, IsSendabl
 use Rattle.abi_bindgen.specs.Blocks.{Finishes, IsOpen}
 use Rattle.abi_driver.specs.LoadedCases.{LoadsCase}
 use Rattle.abi_bindgen.specs.Sends.{Sends}
-use Rattle.abi_driver.specs.Loads.{LoadsParts}
+use Rattle.abi_driver.specs.Loads.{LiftsFromMemory, LoadsParts}
 use Rattle.abi_bindgen.specs.Places.{HasParts, IsOfParts}
 use Rattle.abi_bindgen.specs.Sent.{Sent, closes, opens, sends}
 use Rattle.abi_driver.proofs.CaseInstructions.{lifting_sendable}
@@ -40,6 +41,34 @@ use Rattle.abi_bindgen.proofs.Records.{alias_below, alias_rank, alias_shape, cou
 use Rattle.abi_bindgen.proofs.Runs.{adds_both, adds_same}
 use Rattle.abi_bindgen.proofs.SendSteps.{sends_as, sends_block, sends_both, sends_last, sends_next, sends_one}
 use Rattle.abi_driver.proofs.memory.load.+load.Goals as goal
+
+pub load_type-load_id-requires : goal.load_type-load_id-requires
+unfolding type_below
+load_type-load_id-requires g t c κs within =
+    let n = length c.args.resolve.now.types in
+    let deep : rank c.args.ty ≡ c.in-Id.id.0 + 1 = ap rank c.in-Id.is ∙ omega arith in
+    let inside : c.in-Id.id.0 < n = ltb-true c.in-Id.id.0 n (ap (type_below n) (sym c.in-Id.is) ∙ c.requires.below) in
+    (omega arith, (within.0, (within.1, (c.requires.down, (inside, c.requires.knows)))))
+
+pub load_type-returns-in-String : goal.load_type-returns-in-String
+load_type-returns-in-String g t c =
+    let m = g.B.Bindgen.meaning in
+    let types = c.args.resolve.now.types in
+    let new = c.load_text.new.bindgen in
+    record {
+      loads = subst (λ (ty : WitType). IfOk c.load_text.result (λ r. LiftsFromMemory m (shape_of types ty) c.args.address.now c.args.offset r c.args.bindgen.now new)) (sym c.in-String.is) c.load_text.ensures.loads;
+      sends = subst (λ (ty : WitType). OnOk c.load_text.result (Sends m types (load_code types ty c.args.offset) c.args.bindgen.now new)) (sym c.in-String.is) c.load_text.ensures.sends;
+    }
+
+pub load_type-returns-in-Id : goal.load_type-returns-in-Id
+load_type-returns-in-Id g t c =
+    let m = g.B.Bindgen.meaning in
+    let types = c.args.resolve.now.types in
+    let new = c.load_id.new.bindgen in
+    record {
+      loads = subst (λ (ty : WitType). IfOk c.load_id.result (λ r. LiftsFromMemory m (shape_of types ty) c.args.address.now c.args.offset r c.args.bindgen.now new)) (sym c.in-Id.is) c.load_id.ensures.loads;
+      sends = subst (λ (ty : WitType). OnOk c.load_id.result (Sends m types (load_code types ty c.args.offset) c.args.bindgen.now new)) (sym c.in-Id.is) c.load_id.ensures.sends;
+    }
 
 pub load_id-load_type-requires : goal.load_id-load_type-requires
 load_id-load_type-requires g t c κs within =

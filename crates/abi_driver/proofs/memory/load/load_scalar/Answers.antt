@@ -3,8 +3,14 @@ use Rattle.abi_bindgen.specs.Instructions.{Emits}
 use Rattle.abi_driver.proofs.LeafLoads.{lift_makes, lift_sendable, scalar_loads}
 use Rattle.abi_driver.proofs.LiftSteps.{scalar_lifts}
 use Rattle.abi_driver.proofs.MemoryCode.{load_scalar_code}
+use Rattle.abi_driver.proofs.Sendable.{makeable_load}
 use Rattle.abi_bindgen.proofs.SendSteps.{sends_as, sends_two}
 use Rattle.abi_driver.proofs.memory.load.load_scalar.Goals as goal
+
+pub load_word-requires : goal.load_word-requires
+load_word-requires g c =
+    let may = makeable_load g.B.Bindgen.meaning c.args.resolve.now c.args.offset c.in-Some.load c.args.bindgen.now c.args.address.now c.args.ty (sym c.scalar_load.ensures ∙ c.in-Some.is) in
+    record { sendable = may.sendable; makes = may.makes }
 
 pub returns : goal.returns
 returns g c =

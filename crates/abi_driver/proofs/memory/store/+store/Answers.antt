@@ -1,5 +1,6 @@
-use Rattle.std.proofs.Common.{rules, ◌≡◌, ℕ, ◌<◌, ◌≤◌, ◌+◌, ◌^◌, true, List, [], ◌∷◌, ◌++◌, length, map, replicate, pos, get_or, option_map, Option, None, refl, sym, ap, ◌∙◌, subst, arith}
+use Rattle.std.proofs.Common.{rules, ◌≡◌, ℕ, ◌<◌, ◌≤◌, ◌+◌, ◌^◌, true, List, [], ◌∷◌, ◌++◌, length, map, replicate, pos, get_or, option_map, OnOk, Option, None, refl, sym, ap, ◌∙◌, subst, arith}
 use Rattle.std.specs.List.{list_all, slice_index}
+use Rattle.std.proofs.lemmas.Bool.{ltb-true}
 use Rattle.std.proofs.lemmas.List.{drop_more, length-map}
 use Rattle.wit_model.specs.Size.{bytes_at}
 use Rattle.wit_model.specs.TypeOrder.{payload_below, type_below}
@@ -15,7 +16,7 @@ use Rattle.wit_layout.specs.Told.{is_alias}
 use Rattle.wit_layout.specs.Tree.{tree_at}
 use Rattle.abi_bindgen.specs.declared.instruction.Instruction.{Instruction}
 use Rattle.abi_bindgen.specs.declared.instruction.Instruction.TheVariants.{I32Const, TupleLower, VariantPayloadName}
-use Rattle.wrapper_meaning.specs.Shape.{payloads_in, shape_of, shapes}
+use Rattle.wrapper_meaning.specs.Shape.{payload_in, payloads_in, shape_of, shapes}
 use Rattle.abi_bindgen.specs.Cases.{payloads_of}
 use Rattle.abi_bindgen.specs.Code.{beyond, each, place_in, store_case, store_code}
 use Rattle.abi_bindgen.specs.Instructions.{Emits, HasBlocks, IsSendable, shapes_of}
@@ -24,6 +25,8 @@ use Rattle.abi_bindgen.specs.Parts.{count}
 use Rattle.abi_bindgen.specs.Places.{HasParts, IsOfParts}
 use Rattle.abi_bindgen.specs.Sends.{Sends}
 use Rattle.abi_bindgen.specs.Sent.{Sent, closes, opens, sends}
+use Rattle.abi_driver.specs.StoredCases.{StoresCase}
+use Rattle.abi_driver.specs.Stores.{LowersToMemory}
 use Rattle.abi_driver.proofs.CaseInstructions.{lowering_sendable}
 use Rattle.abi_driver.proofs.Tags.{tag_grain_small, tag_kept}
 use Rattle.abi_bindgen.proofs.Payloads.{count_payloads, variant_below}
@@ -39,6 +42,34 @@ use Rattle.abi_bindgen.proofs.Records.{alias_below, alias_rank, alias_shape, cou
 use Rattle.abi_bindgen.proofs.Runs.{adds_both, adds_same, side_later}
 use Rattle.abi_bindgen.proofs.SendSteps.{sends_as, sends_block, sends_last, sends_next, sends_then}
 use Rattle.abi_driver.proofs.memory.store.+store.Goals as goal
+
+pub store_type-store_id-requires : goal.store_type-store_id-requires
+unfolding type_below
+store_type-store_id-requires g t c κs within =
+    let n = length c.args.resolve.now.types in
+    let deep : rank c.args.ty ≡ c.in-Id.id.0 + 1 = ap rank c.in-Id.is ∙ omega arith in
+    let inside : c.in-Id.id.0 < n = ltb-true c.in-Id.id.0 n (ap (type_below n) (sym c.in-Id.is) ∙ c.requires.below) in
+    (omega arith, (within.0, (within.1, (c.requires.down, (inside, (c.requires.side, c.requires.knows))))))
+
+pub store_type-returns-in-String : goal.store_type-returns-in-String
+store_type-returns-in-String g t c =
+    let m = g.B.Bindgen.meaning in
+    let types = c.args.resolve.now.types in
+    let new = c.store_text.new.bindgen in
+    record {
+      stores = subst (λ (ty : WitType). OnOk c.store_text.result (LowersToMemory m c.args.realloc (shape_of types ty) c.args.value c.args.address.now c.args.offset c.args.bindgen.now new)) (sym c.in-String.is) c.store_text.ensures.stores;
+      sends = subst (λ (ty : WitType). OnOk c.store_text.result (Sends m types (store_code types c.args.realloc ty c.args.offset) c.args.bindgen.now new)) (sym c.in-String.is) c.store_text.ensures.sends;
+    }
+
+pub store_type-returns-in-Id : goal.store_type-returns-in-Id
+store_type-returns-in-Id g t c =
+    let m = g.B.Bindgen.meaning in
+    let types = c.args.resolve.now.types in
+    let new = c.store_id.new.bindgen in
+    record {
+      stores = subst (λ (ty : WitType). OnOk c.store_id.result (LowersToMemory m c.args.realloc (shape_of types ty) c.args.value c.args.address.now c.args.offset c.args.bindgen.now new)) (sym c.in-Id.is) c.store_id.ensures.stores;
+      sends = subst (λ (ty : WitType). OnOk c.store_id.result (Sends m types (store_code types c.args.realloc ty c.args.offset) c.args.bindgen.now new)) (sym c.in-Id.is) c.store_id.ensures.sends;
+    }
 
 pub store_id-store_type-requires : goal.store_id-store_type-requires
 store_id-store_type-requires g t c κs within =
@@ -279,12 +310,16 @@ store_cases-returns g t c =
       sends = sends_last m types code ps c.loop-i.i _ _ ended c.loop-i.invariant.sent;
     }
 
-pub store_case-returns-in_ok-store_bare-in-None-clause-sends : goal.store_case-returns-in_ok-store_bare-in-None-clause-sends
-store_case-returns-in_ok-store_bare-in-None-clause-sends g t c =
+pub store_case-returns-in_ok-store_bare-in-None : goal.store_case-returns-in_ok-store_bare-in-None
+store_case-returns-in_ok-store_bare-in-None g t c =
     let m = g.B.Bindgen.meaning in
     let types = c.args.resolve.now.types in
     let code : Option WitType → List Sent = λ p. opens ∷ store_case c.args.count c.args.offset c.args.place c.args.number (option_map (store_code types c.args.realloc) p) ++ closes ∷ [] in
-    subst (λ (p : Option WitType). Sends m types (code p) c.args.bindgen.now c.store_bare.new.bindgen) (sym c.in-None.is) (c.in_ok-store_bare-in-None.ensures.sends c.args.place)
+    let Stored : Option WitType → Type 0 = λ p. StoresCase m c.args.realloc (discriminant_grain c.args.count) c.args.number (payload_in (shapes types) p) c.args.address.now c.args.offset c.args.place c.args.bindgen.now c.store_bare.new.bindgen in
+    record {
+      stores = subst Stored (sym c.in-None.is) (c.in_ok-store_bare-in-None.ensures.stores c.args.realloc c.args.place);
+      sends = subst (λ (p : Option WitType). Sends m types (code p) c.args.bindgen.now c.store_bare.new.bindgen) (sym c.in-None.is) (c.in_ok-store_bare-in-None.ensures.sends c.args.place);
+    }
 
 pub store_case-store_payload-requires : goal.store_case-store_payload-requires
 store_case-store_payload-requires g t c κs within =

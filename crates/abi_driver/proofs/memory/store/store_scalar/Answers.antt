@@ -3,11 +3,13 @@ use Rattle.abi_driver.proofs.LeafStores.{one_word, scalar_stores}
 use Rattle.abi_bindgen.proofs.LowerSteps.{scalar_lowers}
 use Rattle.abi_driver.proofs.MemoryCode.{store_scalar_code}
 use Rattle.abi_bindgen.proofs.SendSteps.{sends_as, sends_two}
-use Rattle.abi_driver.proofs.Sendable.{store_sendable}
+use Rattle.abi_driver.proofs.Sendable.{makeable_store}
 use Rattle.abi_driver.proofs.memory.store.store_scalar.Goals as goal
 
-pub store_word-requires-clause-sendable : goal.store_word-requires-clause-sendable
-store_word-requires-clause-sendable g c = store_sendable g.B.Bindgen.meaning c.args.resolve.now c.args.offset c.in-Some.store _ _ _ c.args.ty (sym c.scalar_store.ensures ∙ c.in-Some.is)
+pub store_word-requires : goal.store_word-requires
+store_word-requires g c =
+    let may = makeable_store g.B.Bindgen.meaning c.args.resolve.now c.args.offset c.in-Some.store c.lower_by.new.bindgen c.in_ok-word.word c.args.address.now c.args.ty (sym c.scalar_store.ensures ∙ c.in-Some.is) in
+    record { sendable = may.sendable; silent = may.makes }
 
 pub returns : goal.returns
 returns g c =
