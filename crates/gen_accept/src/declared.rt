@@ -6,7 +6,7 @@ ghost use Rattle.gen_accept.specs.Clash.{space};
 use wit_model::{List, Text};
 
 /// As what a name is declared. Names of one space are compared with each other, and each sort stands in one.
-#[derive(Clone, Copy, Debug, PartialEq, Eq)]
+#[derive(Clone, Copy)]
 pub(crate) enum Sort {
     /// A module, a type, a trait or a type parameter; and the wrapper of an exported function, or its post-return
     /// function, besides.
@@ -19,7 +19,7 @@ pub(crate) enum Sort {
 }
 
 /// Names of one space are compared with each other.
-#[derive(Clone, Copy, Debug, PartialEq, Eq, Hash)]
+#[derive(Clone, Copy, PartialEq, Eq, Hash)]
 pub(crate) enum Space {
     Types,
     Values,
@@ -40,14 +40,14 @@ impl Sort {
 }
 
 /// A name, and as what it is declared.
-#[derive(Debug, Drop)]
+#[derive(Drop)]
 pub(crate) struct Declared {
     pub sort: Sort,
     pub name: Text,
 }
 
 /// The names that stand in a module itself, where the name of the scope is empty, or in a type, a trait or a function of it.
-#[derive(Debug, Drop)]
+#[derive(Drop)]
 pub(crate) struct NameScope {
     pub name: Text,
     pub names: List<Declared>,

@@ -112,7 +112,7 @@ pub enum Clash {
 }
 
 /// Why no file is made, in the order in which the causes are tried. Want of memory may come at any point.
-#[derive(Debug, PartialEq, Drop)]
+#[derive(Debug, PartialEq)]
 pub enum GenError {
     /// The tables break a rule, first at this entry of this table.
     InvalidWorld {
@@ -140,6 +140,28 @@ pub enum GenError {
     /// A chaining entry that applies to nothing.
     UnusedChainable(Text),
     OutOfMemory,
+}
+
+// Not derived: what is derived stands again in each function that lets such a value go, and is proved with it.
+impl Drop for GenError {
+    fn drop(self) {
+        match self {
+            GenError::InvalidWorld {
+                rule: _,
+                table: _,
+                index: _,
+            }
+            | GenError::InvalidOption { field: _, index: _ }
+            | GenError::MissingWith(_)
+            | GenError::TooLarge(_)
+            | GenError::Unsupported { what: _, place: _ }
+            | GenError::NameClash(_)
+            | GenError::UnusedWith(_)
+            | GenError::UnusedSelector(_)
+            | GenError::UnusedChainable(_)
+            | GenError::OutOfMemory => {}
+        }
+    }
 }
 
 impl From<OutOfMemory> for GenError {

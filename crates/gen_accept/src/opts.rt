@@ -63,7 +63,7 @@ impl TryCopy for ChainingMode {
 }
 
 /// The options of the generator.
-#[derive(Debug, PartialEq, Drop)]
+#[derive(Debug, PartialEq)]
 pub struct Opts {
     /// Whether the implementations of `Error` stand behind the feature `std`.
     pub std_feature: bool,
@@ -106,6 +106,35 @@ pub struct Opts {
     pub merge_structurally_equal_types: Option<Option<bool>>,
     /// The full names of methods, each with how it chains.
     pub chainable_methods: List<(Text, ChainingMode)>,
+}
+
+// Not derived: what is derived stands again in each function that lets such a value go, and is proved with it.
+impl Drop for Opts {
+    fn drop(self) {
+        let Opts {
+            std_feature: _,
+            raw_strings: _,
+            stubs: _,
+            generate_all: _,
+            pub_export_macro: _,
+            generate_unused_types: _,
+            skip: _,
+            additional_derive_ignore: _,
+            export_prefix: _,
+            ownership: _,
+            runtime_path: _,
+            map_type: _,
+            bitflags_path: _,
+            default_bindings_module: _,
+            additional_derive_attributes: _,
+            additional_type_attributes: _,
+            additional_member_attributes: _,
+            with: _,
+            export_macro_name: _,
+            merge_structurally_equal_types: _,
+            chainable_methods: _,
+        } = self;
+    }
 }
 
 impl Opts {

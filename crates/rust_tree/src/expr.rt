@@ -56,7 +56,7 @@ pub enum Method {
 }
 
 /// An expression. Where a method is called on another expression, that one stands in brackets unless it is a local.
-#[derive(Debug, PartialEq, Drop)]
+#[derive(Debug, PartialEq)]
 pub enum Expr {
     /// A local or a parameter: `x`.
     Local(Text),
@@ -111,4 +111,39 @@ pub enum Expr {
     Case(Path),
     /// A method called on an expression, which always stands in brackets: `(e).to_bits()`.
     Method(Boxed<Expr>, Method),
+}
+
+// Not derived: what is derived stands again in each function that lets such a value go, and is proved with it.
+impl Drop for Expr {
+    #[cycle(drop)]
+    fn drop(self) {
+        match self {
+            Expr::Local(_)
+            | Expr::Ref(_)
+            | Expr::Cast(_, _)
+            | Expr::Call(_, _)
+            | Expr::I32FromBool(_)
+            | Expr::AsPtr(_)
+            | Expr::Len(_)
+            | Expr::CastMut(_)
+            | Expr::ReturnPointer(_)
+            | Expr::Load(_, _, _)
+            | Expr::LoadSmall(_, _, _)
+            | Expr::FromRawParts(_, _)
+            | Expr::IntoBoxedBytes(_)
+            | Expr::StaticPointer
+            | Expr::Size(_)
+            | Expr::Record(_, _)
+            | Expr::Tuple(_)
+            | Expr::Unit
+            | Expr::Array(_)
+            | Expr::EnumNumber(_)
+            | Expr::FlagsBits(_, _)
+            | Expr::FlagsOfWords(_, _, _)
+            | Expr::I32Const(_)
+            | Expr::Zero(_)
+            | Expr::Case(_)
+            | Expr::Method(_, _) => {}
+        }
+    }
 }

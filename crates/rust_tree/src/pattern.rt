@@ -2,7 +2,7 @@ use crate::path::Path;
 use wit_model::{List, Text};
 
 /// What a `let` takes apart: each part of a value gets a name.
-#[derive(Debug, PartialEq, Drop)]
+#[derive(Debug, PartialEq)]
 pub enum Pattern {
     /// A record by its path, with a name for each field: `P { f: x, g: y }`.
     Record(Path, List<(Text, Text)>),
@@ -12,8 +12,17 @@ pub enum Pattern {
     Array(List<Text>),
 }
 
+// Not derived: what is derived stands again in each function that lets such a value go, and is proved with it.
+impl Drop for Pattern {
+    fn drop(self) {
+        match self {
+            Pattern::Record(_, _) | Pattern::Tuple(_) | Pattern::Array(_) => {}
+        }
+    }
+}
+
 /// What an arm of a `match` takes.
-#[derive(Debug, PartialEq, Drop)]
+#[derive(Debug, PartialEq)]
 pub enum ArmPattern {
     /// A case without a payload: `P::C`.
     Case(Path),
@@ -27,4 +36,17 @@ pub enum ArmPattern {
     Name(Text),
     /// Whatever is left: `_`.
     AnyOther,
+}
+
+impl Drop for ArmPattern {
+    fn drop(self) {
+        match self {
+            ArmPattern::Case(_)
+            | ArmPattern::Payload(_, _)
+            | ArmPattern::LeftOut(_)
+            | ArmPattern::Number(_)
+            | ArmPattern::Name(_)
+            | ArmPattern::AnyOther => {}
+        }
+    }
 }

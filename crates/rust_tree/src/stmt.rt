@@ -4,7 +4,7 @@ use crate::pattern::{ArmPattern, Pattern};
 use wit_model::{ArchitectureSize, List, Text, WasmType};
 
 /// The declaration of a core import, in its form for WebAssembly and in its form for every other target.
-#[derive(Debug, PartialEq, Drop)]
+#[derive(Debug, PartialEq)]
 pub struct ImportDecl {
     /// The core import module.
     pub module: Text,
@@ -18,8 +18,21 @@ pub struct ImportDecl {
     pub result: Option<WasmType>,
 }
 
+// Not derived: what is derived stands again in each function that lets such a value go, and is proved with it.
+impl Drop for ImportDecl {
+    fn drop(self) {
+        let ImportDecl {
+            module: _,
+            link_name: _,
+            name: _,
+            params: _,
+            result: _,
+        } = self;
+    }
+}
+
 /// The names of what the arms of a `match` give.
-#[derive(Debug, PartialEq, Drop)]
+#[derive(Debug, PartialEq)]
 pub enum MatchNames {
     /// None, where they give nothing.
     Nothing,
@@ -29,9 +42,17 @@ pub enum MatchNames {
     Parts(List<Text>),
 }
 
+impl Drop for MatchNames {
+    fn drop(self) {
+        match self {
+            MatchNames::Nothing | MatchNames::One(_) | MatchNames::Parts(_) => {}
+        }
+    }
+}
+
 /// A statement.
 #[cycle(stmt)]
-#[derive(Debug, PartialEq, Drop)]
+#[derive(Debug, PartialEq)]
 pub enum Stmt {
     /// The declaration of a core import.
     Import(ImportDecl),
@@ -59,18 +80,54 @@ pub enum Stmt {
     WriteSlot(Text, Expr),
 }
 
+impl Drop for Stmt {
+    #[cycle(drop_stmt)]
+    fn drop(self) {
+        match self {
+            Stmt::Import(_)
+            | Stmt::Let(_, _)
+            | Stmt::Expr(_)
+            | Stmt::Area(_)
+            | Stmt::Store(_, _, _, _)
+            | Stmt::StoreSmall(_, _, _, _)
+            | Stmt::LetParts(_, _)
+            | Stmt::Match(_, _, _)
+            | Stmt::AssertLast(_, _)
+            | Stmt::LetSlot(_)
+            | Stmt::WriteSlot(_, _) => {}
+        }
+    }
+}
+
 /// An arm of a `match`: `P::C => {`, the block and `},`.
 #[cycle(stmt)]
-#[derive(Debug, PartialEq, Drop)]
+#[derive(Debug, PartialEq)]
 pub struct Arm {
     pub pattern: ArmPattern,
     pub body: Block,
 }
 
+impl Drop for Arm {
+    #[cycle(drop_stmt)]
+    fn drop(self) {
+        let Arm {
+            pattern: _,
+            body: _,
+        } = self;
+    }
+}
+
 /// Statements, and the expression behind them that is the block's value.
 #[cycle(stmt)]
-#[derive(Debug, PartialEq, Drop)]
+#[derive(Debug, PartialEq)]
 pub struct Block {
     pub stmts: List<Stmt>,
     pub tail: Option<Expr>,
+}
+
+impl Drop for Block {
+    #[cycle(drop_stmt)]
+    fn drop(self) {
+        let Block { stmts: _, tail: _ } = self;
+    }
 }

@@ -8,7 +8,7 @@ use std::marker::Model;
 use wit_model::{OutOfMemory, TypeDef, TypeDefKind, WitType};
 
 /// A mark for each type of the table.
-#[derive(Debug, Drop)]
+#[derive(Drop)]
 pub(crate) struct Marks {
     items: Vec<bool>,
 }

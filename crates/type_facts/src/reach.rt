@@ -7,7 +7,7 @@ use std::alloc::Global;
 use wit_model::{Handle, List, OutOfMemory, TypeDef, TypeDefKind, WitType};
 
 /// Of which kinds are the parts that a type reaches, or that a type is by itself.
-#[derive(Clone, Copy, Debug, PartialEq, Eq)]
+#[derive(Clone, Copy)]
 pub(crate) struct Reach {
     /// A string, a list or a map.
     pub list: bool,

@@ -1,5 +1,5 @@
 /// Whether a function is imported or exported.
-#[derive(Clone, Copy, Debug, PartialEq, Eq)]
+#[derive(Clone, Copy)]
 pub(crate) enum Side {
     Import,
     Export,

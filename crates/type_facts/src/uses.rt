@@ -80,7 +80,7 @@ fn mark_params(marks: &mut Marks, function: &Function)
 }
 
 /// Which types are borrowed, owned and error types.
-#[derive(Debug, Drop)]
+#[derive(Drop)]
 pub(crate) struct Uses {
     pub borrowed: Marks,
     pub owned: Marks,

@@ -6,7 +6,7 @@ use crate::sequence::{member, member_count};
 use wit_model::{TypeDef, WitType};
 
 /// The members of an entry of the table from one on.
-#[derive(Clone, Copy, Debug)]
+#[derive(Clone, Copy)]
 pub(crate) struct Run {
     pub(crate) at: usize,
     pub(crate) nth: usize,
@@ -14,7 +14,7 @@ pub(crate) struct Run {
 
 /// The members that are still ahead, in runs of which the last comes first. There is room for seventeen runs, and of more
 /// the nearest are kept: each type has a word, so that no word of the others is among the first seventeen.
-#[derive(Clone, Copy, Debug)]
+#[derive(Clone, Copy)]
 pub(crate) struct Ahead {
     pub(crate) runs: [Run; 17],
     pub(crate) count: usize,

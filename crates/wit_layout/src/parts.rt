@@ -9,7 +9,7 @@ use crate::stored::StoredExtent;
 
 /// Some parts of a type: where they end if they stand one after another, the greatest of their sizes, and the greatest of
 /// their alignments.
-#[derive(Clone, Copy, Debug)]
+#[derive(Clone, Copy)]
 pub(crate) struct Parts {
     pub(crate) end: Spread,
     pub(crate) largest: Spread,

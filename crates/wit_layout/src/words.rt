@@ -4,7 +4,7 @@ use crate::core_type::join;
 use wit_model::WasmType;
 
 /// The first words of a type, as far as there is room, which is at most for seventeen.
-#[derive(Clone, Copy, Debug)]
+#[derive(Clone, Copy)]
 pub(crate) struct Words {
     pub(crate) words: [WasmType; 17],
     pub(crate) count: usize,

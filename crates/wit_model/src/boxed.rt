@@ -7,9 +7,15 @@ use std::marker::Model;
 /// One value on the heap, which contracts see as that value.
 ///
 /// A tree holds itself through this type, and so its value has no pointer in it.
-#[derive(Debug, Drop)]
+#[derive(Debug)]
 pub struct Boxed<T> {
     inner: Box<T>,
+}
+
+impl<T: Drop> Drop for Boxed<T> {
+    fn drop(self) {
+        let Boxed { inner: _ } = self;
+    }
 }
 
 impl<T> Model for Boxed<T> {

@@ -6,9 +6,15 @@ use std::alloc::Global;
 use std::marker::Model;
 
 /// A vector that contracts see as the list of its elements.
-#[derive(Debug, Drop)]
+#[derive(Debug)]
 pub struct List<T> {
     items: Vec<T>,
+}
+
+impl<T: Drop> Drop for List<T> {
+    fn drop(self) {
+        let List { items: _ } = self;
+    }
 }
 
 impl<T> Model for List<T> {

@@ -4,12 +4,23 @@ use crate::types::TypeDef;
 use crate::world::{Interface, Package, World};
 
 /// The tables of a resolved world. An id is a place in its table.
-#[derive(Debug, PartialEq, Drop)]
+#[derive(Debug, PartialEq)]
 pub struct Resolve {
     pub worlds: List<World>,
     pub packages: List<Package>,
     pub interfaces: List<Interface>,
     pub types: List<TypeDef>,
+}
+
+impl Drop for Resolve {
+    fn drop(self) {
+        let Resolve {
+            worlds: _,
+            packages: _,
+            interfaces: _,
+            types: _,
+        } = self;
+    }
 }
 
 /// A rule of well-formed tables. Its number is its place here, counted from 1.

@@ -6,9 +6,15 @@ use std::fmt::Write;
 use std::marker::Model;
 
 /// A text that contracts see as its bytes, in UTF-8.
-#[derive(Debug, Drop)]
+#[derive(Debug)]
 pub struct Text {
     inner: String,
+}
+
+impl Drop for Text {
+    fn drop(self) {
+        let Text { inner: _ } = self;
+    }
 }
 
 impl Model for Text {

@@ -6,7 +6,7 @@ use std::alloc::Global;
 use wit_model::{OutOfMemory, Text};
 
 /// Why the program makes no file.
-#[derive(Debug, PartialEq, Drop)]
+#[derive(Debug, PartialEq)]
 pub enum Refusal {
     /// The command line is none that the program knows.
     Usage,
@@ -22,6 +22,21 @@ pub enum Refusal {
     WriteFault,
     /// There was no memory.
     OutOfMemory,
+}
+
+// Not derived: what is derived stands again in each function that lets such a value go, and is proved with it.
+impl Drop for Refusal {
+    fn drop(self) {
+        match self {
+            Refusal::Usage
+            | Refusal::ReadFault
+            | Refusal::InputTooLong
+            | Refusal::BadJson
+            | Refusal::Gen(_)
+            | Refusal::WriteFault
+            | Refusal::OutOfMemory => {}
+        }
+    }
 }
 
 impl From<GenError> for Refusal {

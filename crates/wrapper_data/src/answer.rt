@@ -5,7 +5,7 @@ use crate::word::Word;
 use wit_model::List;
 
 /// What the other side answers.
-#[derive(Debug, PartialEq, Drop)]
+#[derive(Debug, PartialEq)]
 pub enum Answer {
     /// The peer of an import: its result word, if the core function has one, the bytes that it writes, by address, and
     /// the blocks that it makes.
@@ -19,4 +19,17 @@ pub enum Answer {
         value: Option<RustValue>,
         heap: Heap,
     },
+}
+
+impl Drop for Answer {
+    fn drop(self) {
+        match self {
+            Answer::Words {
+                result: _,
+                writes: _,
+                blocks: _,
+            }
+            | Answer::Value { value: _, heap: _ } => {}
+        }
+    }
 }

@@ -59,7 +59,7 @@ pub struct CallPoint {
 
 /// A run: why it ended, its calls and its requests in their order, and the heap where it ended. The words are those of an
 /// export that is done, the value that of an import that is done with a result.
-#[derive(Debug, PartialEq, Drop)]
+#[derive(Debug, PartialEq)]
 pub struct Run {
     pub stop: Stop,
     pub calls: List<CallPoint>,
@@ -67,4 +67,17 @@ pub struct Run {
     pub heap: Heap,
     pub words: List<Word>,
     pub value: Option<RustValue>,
+}
+
+impl Drop for Run {
+    fn drop(self) {
+        let Run {
+            stop: _,
+            calls: _,
+            requests: _,
+            heap: _,
+            words: _,
+            value: _,
+        } = self;
+    }
 }

@@ -4,7 +4,7 @@ use std::alloc::Global;
 use wit_model::{Boxed, List, OutOfMemory, WitType};
 
 /// A value of the Rust side of a wrapper.
-#[derive(Debug, PartialEq, Drop)]
+#[derive(Debug, PartialEq)]
 pub enum RustValue {
     Bool(bool),
     /// A whole number of a WIT type, one of `U8` to `U64` and `S8` to `S64`. Only a number in the range of that type
@@ -33,6 +33,31 @@ pub enum RustValue {
     Handle { number: u32, own: bool },
     /// The value of what gives none: `()`.
     Unit,
+}
+
+impl Drop for RustValue {
+    #[cycle(drop)]
+    fn drop(self) {
+        match self {
+            RustValue::Bool(_)
+            | RustValue::Num(_, _)
+            | RustValue::F32(_)
+            | RustValue::F64(_)
+            | RustValue::Char(_)
+            | RustValue::Buffer {
+                address: _,
+                len: _,
+                owned: _,
+            }
+            | RustValue::Seq(_)
+            | RustValue::Struct(_)
+            | RustValue::Case(_, _)
+            | RustValue::Bits(_)
+            | RustValue::Map(_)
+            | RustValue::Handle { number: _, own: _ }
+            | RustValue::Unit => {}
+        }
+    }
 }
 
 impl RustValue {

@@ -84,8 +84,15 @@ pub(crate) fn tree_in_line(alloc: Global, document: &Value) -> Result<Bindings, 
 fn tree_of(alloc: Global, bytes: &[u8]) -> Result<Bindings, LineFault> {
     match generated(alloc, bytes) {
         Ok(tree) => Ok(tree),
-        Err(Refusal::OutOfMemory) => Err(LineFault::OutOfMemory),
-        Err(refusal) => Err(LineFault::Refused(cause_of(alloc, &refusal)?)),
+        Err(refusal) => Err(fault_of(alloc, &refusal)?),
+    }
+}
+
+/// What a line is told whose document is refused.
+fn fault_of(alloc: Global, refusal: &Refusal) -> Result<LineFault, OutOfMemory> {
+    match refusal {
+        Refusal::OutOfMemory => Ok(LineFault::OutOfMemory),
+        _ => Ok(LineFault::Refused(cause_of(alloc, refusal)?)),
     }
 }
 
