@@ -12,6 +12,7 @@ pub struct Resolve {
     pub types: List<TypeDef>,
 }
 
+// Not derived: what is derived stands again in each function that lets such a value go, and is proved with it.
 impl Drop for Resolve {
     fn drop(self) {
         let Resolve {

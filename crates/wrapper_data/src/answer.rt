@@ -21,6 +21,7 @@ pub enum Answer {
     },
 }
 
+// Not derived: what is derived stands again in each function that lets such a value go, and is proved with it.
 impl Drop for Answer {
     fn drop(self) {
         match self {

@@ -69,6 +69,7 @@ pub struct Run {
     pub value: Option<RustValue>,
 }
 
+// Not derived: what is derived stands again in each function that lets such a value go, and is proved with it.
 impl Drop for Run {
     fn drop(self) {
         let Run {

@@ -35,6 +35,7 @@ pub enum RustValue {
     Unit,
 }
 
+// Not derived: what is derived stands again in each function that lets such a value go, and is proved with it.
 impl Drop for RustValue {
     #[cycle(drop)]
     fn drop(self) {
