@@ -5,7 +5,7 @@ use Rattle.std.specs.List.{AllZip}
 use Rattle.std.specs.Option.{option_map}
 use Rattle.wit_model.specs.declared.wasm_type.WasmType.{WasmType}
 use Rattle.rust_tree.specs.declared.expr.CastType.{CastType}
-use Rattle.rust_tree.specs.declared.expr.Expr.{Expr, Expr-F, fold-roll-Expr, the_lemmas}
+use Rattle.rust_tree.specs.declared.expr.Expr.{Expr, Expr-F, fold-roll-Expr, map-Expr, roll-Expr, the_lemmas}
 use Rattle.rust_tree.specs.declared.expr.Expr.TheVariants as expr
 use Rattle.rust_tree.specs.declared.expr.Expr.TheVariants.{rolls-Call, rolls-Cast, rolls-I32FromBool}
 use Rattle.rust_tree.specs.declared.path.Path.{Path}
@@ -38,10 +38,11 @@ use Rattle.wrapper_data.specs.declared.run.TrapKind.{TrapKind}
 use Rattle.wrapper_data.specs.declared.value.RustValue.{RustValue}
 use Rattle.wrapper_data.specs.declared.value.RustValue.TheVariants as value
 use Rattle.wrapper_data.specs.declared.word.Word.{Word}
+use Rattle.wrapper_values.specs.declared.state.Halt.{Halt}
 use Rattle.wrapper_values.specs.declared.state.State.{State}
 use Rattle.wrapper_values.specs.declared.state.Val.{Val}
 use Rattle.wrapper_values.specs.declared.state.Val.TheVariants as val
-use Rattle.wrapper_values.specs.Act.{Act, Outcome, Done, Stopped, ◌>>=◌, ◌>>◌, all, and_then, or_stop, pure}
+use Rattle.wrapper_values.specs.Act.{Act, Runs, Outcome, Done, Stopped, ◌>>=◌, ◌>>◌, all, and_then, or_stop, pure}
 use Rattle.wrapper_values.specs.Effect.{cast_to, converted, lift_of, word_of_bool}
 use Rattle.wrapper_values.specs.Locals.{bind, lend_local, local_named, usable, use_local, used, value_of}
 use Rattle.wit_model.specs.Bytes.{Bytes}
@@ -51,6 +52,11 @@ use Rattle.wrapper_values.specs.Typed.{answer_in}
 use Rattle.wrapper_run.proofs.TypedLemmas.{answered_in}
 use Rattle.wrapper_run.specs.Blocks.{dealloc, dealloc_words, drop_local, drop_locals, free, free_all, free_bytes, free_found, free_untaken, keep_locals, leave_to, lift_buffer, lift_text, owned_block, owned_bytes, tested, untaken}
 use Rattle.wrapper_run.specs.Run.{alone, of_runtime, call, call_callee, call_point, call_runtime, callee, answer_act, apply, apply_one, converted_or_lifted, lift_act, ended, eval, eval_step, no_case, record_call, result_of, runtime_item_named, take_answer, apply_item}
+
+-- an expression of a form runs as one level of it
+pub eval-form : (w : Setting) (form : Expr-F Expr) {e : Expr} {act : Act Val} (s new : State) (r : Result Val Halt)
+    → e ≡ roll-Expr form → eval_step w (map-Expr Expr (Act Val) (eval w) form) ≡ act → Runs (act s) r new → Runs (eval w e s) r new
+eval-form w form s new r is level = subst (λ (act : Act Val). Runs (act s) r new) (sym (ap (eval w) is ∙ fold-roll-Expr (Act Val) (eval_step w) form ∙ level))
 
 -- values
 

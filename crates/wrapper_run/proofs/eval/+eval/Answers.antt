@@ -1,32 +1,50 @@
-use Rattle.std.proofs.Common.{rules, ◌≡◌, ℕ, List, ap, sym, subst, ◌∙◌, map}
-use Rattle.wit_model.specs.Bytes.{Bytes}
-use Rattle.rust_tree.specs.declared.expr.Expr.{Expr}
+use Rattle.std.proofs.Common.{ap, refl, sym, ◌∙◌}
 use Rattle.rust_tree.specs.declared.expr.Expr.TheVariants as expr
-use Rattle.wrapper_values.specs.declared.state.Val.{Val}
-use Rattle.wrapper_values.specs.Act.{Act, Runs}
-use Rattle.wrapper_run.specs.Run.{eval}
 use Rattle.wrapper_values.specs.Setting.{setting}
-use Rattle.wrapper_values.specs.Flags.{flags_of_words}
-use Rattle.wrapper_values.specs.Whole.{record_of}
-use Rattle.wrapper_run.proofs.FlagsSteps.{eval-flags}
-use Rattle.wrapper_run.proofs.PartSteps.{eval-record}
+use Rattle.wrapper_run.proofs.StepLemmas.{eval-form}
 use Rattle.wrapper_run.proofs.eval.+eval.Goals as goal
+
+pub eval-returns-in-Call : goal.eval-returns-in-Call
+eval-returns-in-Call t c =
+    let is = c.in-Call.is ∙ ap (expr.Call _) (sym c.as_slice.ensures) in
+    eval-form (setting c.args.world.now) _ _ _ _ (is ∙ sym (expr.rolls-Call _ _)) refl c.eval_call.ensures
+
+pub eval-returns-in-I32FromBool : goal.eval-returns-in-I32FromBool
+eval-returns-in-I32FromBool t c =
+    let is = c.in-I32FromBool.is ∙ ap expr.I32FromBool (sym c.get-in-I32FromBool.ensures) in
+    eval-form (setting c.args.world.now) _ _ _ _ (is ∙ sym (expr.rolls-I32FromBool _)) refl c.eval_bool.ensures
+
+pub eval-returns-in-EnumNumber : goal.eval-returns-in-EnumNumber
+eval-returns-in-EnumNumber t c =
+    let is = c.in-EnumNumber.is ∙ ap expr.EnumNumber (sym c.get-in-EnumNumber.ensures) in
+    eval-form (setting c.args.world.now) _ _ _ _ (is ∙ sym (expr.rolls-EnumNumber _)) refl c.eval_case.ensures
+
+pub eval-returns-in-Load : goal.eval-returns-in-Load
+eval-returns-in-Load t c =
+    let is = c.in-Load.is ∙ ap (λ x. expr.Load x c.in-Load.offset c.in-Load.ty) (sym c.get-in-Load.ensures) in
+    eval-form (setting c.args.world.now) _ _ _ _ (is ∙ sym (expr.rolls-Load _ _ _)) refl c.eval_load.ensures
+
+pub eval-returns-in-LoadSmall : goal.eval-returns-in-LoadSmall
+eval-returns-in-LoadSmall t c =
+    let is = c.in-LoadSmall.is ∙ ap (λ x. expr.LoadSmall x c.in-LoadSmall.offset c.in-LoadSmall.ty) (sym c.get-in-LoadSmall.ensures) in
+    eval-form (setting c.args.world.now) _ _ _ _ (is ∙ sym (expr.rolls-LoadSmall _ _ _)) refl c.eval_load_small.ensures
+
+pub eval-returns-in-FromRawParts : goal.eval-returns-in-FromRawParts
+eval-returns-in-FromRawParts t c =
+    let is = c.in-FromRawParts.is ∙ ap (λ x. expr.FromRawParts x c.in-FromRawParts.length) (sym c.get-in-FromRawParts.ensures) in
+    eval-form (setting c.args.world.now) _ _ _ _ (is ∙ sym (expr.rolls-FromRawParts _ _)) refl c.eval_bytes.ensures
+
+pub eval-returns-in-Method : goal.eval-returns-in-Method
+eval-returns-in-Method t c =
+    let is = c.in-Method.is ∙ ap (λ x. expr.Method x c.in-Method.method) (sym c.get-in-Method.ensures) in
+    eval-form (setting c.args.world.now) _ _ _ _ (is ∙ sym (expr.rolls-Method _ _)) refl c.eval_method.ensures
 
 pub eval-returns-in-Record : goal.eval-returns-in-Record
 eval-returns-in-Record t c =
-    let w = setting c.args.world.now in
-    let is : c.args.e.now ≡ expr.Record c.in-Record.path c.in-Record.fields = search rules in
-    let at : c.as_slice-in-Record.result.now ≡ c.in-Record.fields = search rules in
-    let acts : List (Bytes × Expr) → Act Val = λ fs. record_of w c.in-Record.path (map (λ (f : Bytes × Expr). (f.0, eval w f.1)) fs) in
-    let same : eval w c.args.e.now ≡ acts c.as_slice-in-Record.result.now = ap (eval w) is ∙ eval-record w c.in-Record.path c.in-Record.fields ∙ ap acts (sym at) in
-    subst (λ (act : Act Val). Runs (act c.args.state.now) c.eval_record.result c.eval_record.new.state) (sym same) c.eval_record.ensures
+    let is = c.in-Record.is ∙ ap (expr.Record _) (sym c.as_slice-in-Record.ensures) in
+    eval-form (setting c.args.world.now) _ _ _ _ (is ∙ sym (expr.rolls-Record _ _)) refl c.eval_record.ensures
 
 pub eval-returns-in-FlagsOfWords : goal.eval-returns-in-FlagsOfWords
 eval-returns-in-FlagsOfWords t c =
-    let w = setting c.args.world.now in
-    let is : c.args.e.now ≡ expr.FlagsOfWords c.in-FlagsOfWords.path c.in-FlagsOfWords.repr c.in-FlagsOfWords.words = search rules in
-    let at : c.as_slice-in-FlagsOfWords.result.now ≡ c.in-FlagsOfWords.words = search rules in
-    let acts : List (ℕ × Expr) → Act Val = λ xs. flags_of_words w c.in-FlagsOfWords.path c.in-FlagsOfWords.repr (map (λ (x : ℕ × Expr). (x.0, eval w x.1)) xs) in
-    let same : eval w c.args.e.now ≡ acts c.as_slice-in-FlagsOfWords.result.now =
-    ap (eval w) is ∙ eval-flags w c.in-FlagsOfWords.path c.in-FlagsOfWords.repr c.in-FlagsOfWords.words ∙ ap acts (sym at) in
-    subst (λ (act : Act Val). Runs (act c.args.state.now) c.eval_flags.result c.eval_flags.new.state) (sym same) c.eval_flags.ensures
+    let is = c.in-FlagsOfWords.is ∙ ap (expr.FlagsOfWords _ _) (sym c.as_slice-in-FlagsOfWords.ensures) in
+    eval-form (setting c.args.world.now) _ _ _ _ (is ∙ sym (expr.rolls-FlagsOfWords _ _ _)) refl c.eval_flags.ensures
