@@ -94,14 +94,10 @@ fn lift_type<B: Bindgen>(
     ensures sends { OnOk result (Sends B.meaning resolve.now.types (lift_code resolve.now.types ty) bindgen.old bindgen.new) }
 {
     if let Some(inst) = scalar_lifting(ty) {
-        let lifted = lift_scalar(alloc, resolve, bindgen, words, at, ty, inst)?;
-        return Ok(lifted);
+        return lift_scalar(alloc, resolve, bindgen, words, at, ty, inst);
     }
     match ty {
-        WitType::String => {
-            let lifted = lift_text(alloc, resolve, bindgen, words, at)?;
-            Ok(lifted)
-        }
+        WitType::String => lift_text(alloc, resolve, bindgen, words, at),
         WitType::Id(id) => lift_id(alloc, resolve, bindgen, words, at, id),
         _ => Err(OutOfMemory),
     }
@@ -128,10 +124,7 @@ fn lift_id<B: Bindgen>(
     let place = id.0 as usize;
     let kind = &types[place].kind;
     match kind {
-        TypeDefKind::Alias(ty) => {
-            let lifted = lift_type(alloc, resolve, bindgen, words, at, *ty)?;
-            Ok(lifted)
-        }
+        TypeDefKind::Alias(ty) => lift_type(alloc, resolve, bindgen, words, at, *ty),
         TypeDefKind::Record(members) => {
             let tys = field_types(alloc, members.as_slice())?;
             let tys = tys.as_slice();

@@ -93,10 +93,7 @@ fn load_id<B: Bindgen>(
     let types = resolve.types.as_slice();
     let at = id.0 as usize;
     match &types[at].kind {
-        TypeDefKind::Alias(ty) => {
-            let operand = load_type(alloc, resolve, bindgen, address, offset, *ty)?;
-            Ok(operand)
-        }
+        TypeDefKind::Alias(ty) => load_type(alloc, resolve, bindgen, address, offset, *ty),
         TypeDefKind::Record(members) => {
             let tys = field_types(alloc, members.as_slice())?;
             let tys = tys.as_slice();
@@ -118,8 +115,7 @@ fn load_id<B: Bindgen>(
             load_flags(alloc, resolve, bindgen, address, offset, id, members)
         }
         TypeDefKind::Variant(_) | TypeDefKind::Option(_) | TypeDefKind::Result(_, _) => {
-            let operand = load_variant(alloc, resolve, bindgen, address, offset, id)?;
-            Ok(operand)
+            load_variant(alloc, resolve, bindgen, address, offset, id)
         }
         _ => Err(OutOfMemory),
     }

@@ -109,12 +109,9 @@ fn store_id<B: Bindgen>(
     let types = resolve.types.as_slice();
     let at = id.0 as usize;
     match &types[at].kind {
-        TypeDefKind::Alias(ty) => {
-            store_type(
-                alloc, resolve, bindgen, address, offset, value, *ty, realloc,
-            )?;
-            Ok(())
-        }
+        TypeDefKind::Alias(ty) => store_type(
+            alloc, resolve, bindgen, address, offset, value, *ty, realloc,
+        ),
         TypeDefKind::Record(members) => {
             let tys = field_types(alloc, members.as_slice())?;
             let parts = lower_by(alloc, resolve, bindgen, value, Instruction::RecordLower(id))?;
@@ -140,8 +137,7 @@ fn store_id<B: Bindgen>(
             store_flags(alloc, resolve, bindgen, address, offset, value, id, members)
         }
         TypeDefKind::Variant(_) | TypeDefKind::Option(_) | TypeDefKind::Result(_, _) => {
-            store_variant(alloc, resolve, bindgen, address, offset, value, id, realloc)?;
-            Ok(())
+            store_variant(alloc, resolve, bindgen, address, offset, value, id, realloc)
         }
         _ => Err(OutOfMemory),
     }

@@ -1,16 +1,17 @@
-use Rattle.std.proofs.Common.{rules, ◌-◌, drop, take, Option, None, Some, option_map, refl, ◌≡◌, ◌<◌, ◌≤◌, ◌+◌, true, List, [], ◌∷◌, ◌++◌, length, map, get_or, sym, ap, ◌∙◌, subst, arith}
+use Rattle.std.proofs.Common.{rules, ◌-◌, drop, take, Option, None, Some, option_map, refl, ◌≡◌, ◌<◌, ◌≤◌, ◌+◌, true, List, [], ◌∷◌, ◌++◌, length, map, get_or, IfOk, OnOk, sym, ap, ◌∙◌, subst, arith}
 use Rattle.std.specs.List.{list_all}
-use Rattle.std.proofs.lemmas.Bool.{lt-ltb}
+use Rattle.std.proofs.lemmas.Bool.{lt-ltb, ltb-true}
 use Rattle.std.proofs.lemmas.List.{drop-drop, drop_more, length-append, length-drop, length-map, length-take-le, take-append-drop}
 use Rattle.std.proofs.lemmas.Option.{slice_get_within}
 use Rattle.wit_model.specs.TypeOrder.{payload_below, type_below}
 use Rattle.wit_model.specs.declared.types.Field.{Field}
+use Rattle.wit_model.specs.declared.types.TypeDef.{TypeDef}
 use Rattle.wit_model.specs.declared.types.TypeDefKind.TheVariants as kind
 use Rattle.wit_model.specs.declared.types.WitType.{WitType}
 use Rattle.wit_model.specs.declared.types.WitType.TheVariants as wit
 use Rattle.wit_layout.proofs.FlattenSteps.{payload_rank, rank}
 use Rattle.wit_model.specs.declared.wasm_type.WasmType.{WasmType}
-use Rattle.wrapper_meaning.specs.Shape.{payload_in, payloads_in, shape_at, shape_of, shapes}
+use Rattle.wrapper_meaning.specs.Shape.{Shape, payload_in, payloads_in, shape_at, shape_of, shapes}
 use Rattle.wrapper_meaning.specs.Shape.Shape.{cases}
 use Rattle.wrapper_meaning.specs.Shape.Shapes.{none, more}
 use Rattle.abi_bindgen.specs.Blocks.{Finishes}
@@ -19,10 +20,11 @@ use Rattle.abi_bindgen.specs.Cases.{payloads_of, result_counts}
 use Rattle.abi_bindgen.specs.declared.instruction.Instruction.{Instruction}
 use Rattle.abi_bindgen.specs.declared.instruction.Instruction.TheVariants.{RecordLift, TupleLift}
 use Rattle.abi_bindgen.specs.Code.{case_words, cast_code, each, lift_case, lift_code, payload_words, shared_slots}
-use Rattle.abi_bindgen.specs.Instructions.{Emits, IsRecord, IsSendable, Makes, case_lifting, shapes_of}
-use Rattle.abi_bindgen.specs.Lifts.{LiftsFlat}
+use Rattle.abi_bindgen.specs.HasList.{IsKindOf}
+use Rattle.abi_bindgen.specs.Instructions.{Emits, IsRecord, IsSendable, Makes, case_lifting, has_cases, shapes_of}
+use Rattle.abi_bindgen.specs.Lifts.{LiftsAll, LiftsFlat}
 use Rattle.abi_bindgen.specs.Sends.{Sends}
-use Rattle.abi_bindgen.specs.Sent.{closes, sends}
+use Rattle.abi_bindgen.specs.Sent.{Sent, closes, sends}
 use Rattle.abi_bindgen.specs.SlotCasts.{AreOrdered, CastsAll, FitIn}
 use Rattle.abi_bindgen.proofs.BlockRuns.{grows_alike, grows_none}
 use Rattle.abi_driver.proofs.CaseLifts.{full_lifts}
@@ -31,9 +33,47 @@ use Rattle.abi_bindgen.proofs.Payloads.{count_told, payload_count, payload_in_ta
 use Rattle.abi_bindgen.proofs.WordBits.{fit_length, of_slots, payload_fits}
 use Rattle.abi_bindgen.proofs.FlatCode.{lift_alias_code, lift_record_code, lift_tuple_code, lift_variant_code}
 use Rattle.abi_driver.proofs.LiftSteps.{lifts_all_as, lifts_as, record_lifts, rest_last, rest_next, tuple_lifts}
-use Rattle.abi_bindgen.proofs.Records.{alias_below, alias_rank, alias_shape, count-shapes, drop-same, entry_at, kind_at, one_record, part_below_within, part_ranked, record_below, record_shape, tuple_below, tuple_shape}
+use Rattle.abi_bindgen.proofs.Records.{alias_below, alias_rank, alias_shape, count-shapes, drop-same, entry_at, kind_at, one_record, part_below_within, part_ranked, payload_type_low, record_below, record_shape, tuple_below, tuple_shape}
 use Rattle.abi_bindgen.proofs.SendSteps.{sends_as, sends_both, sends_last, sends_next, sends_one}
 use Rattle.abi_driver.proofs.lift.+lift.Goals as goal
+
+pub lift_type-lift_scalar-requires : goal.lift_type-lift_scalar-requires
+lift_type-lift_scalar-requires g t c = sym c.scalar_lifting.ensures ∙ c.in-Some.is
+
+pub lift_type-returns-in-Some : goal.lift_type-returns-in-Some
+lift_type-returns-in-Some g t c = record { lifts = c.lift_scalar.ensures.lifts; sends = c.lift_scalar.ensures.sends }
+
+pub lift_type-lift_id-requires : goal.lift_type-lift_id-requires
+unfolding type_below
+lift_type-lift_id-requires g t c κs within =
+    let n = length c.args.resolve.now.types in
+    let deep : rank c.args.ty ≡ c.in-Id.id.0 + 1 = ap rank c.in-Id.is ∙ omega arith in
+    let inside : c.in-Id.id.0 < n = ltb-true c.in-Id.id.0 n (ap (type_below n) (sym c.in-Id.is) ∙ c.requires.below) in
+    (omega arith, (within.0, (within.1, (c.requires.well, (c.requires.down, inside)))))
+
+pub lift_type-returns-in-String : goal.lift_type-returns-in-String
+lift_type-returns-in-String g t c =
+    let m = g.B.Bindgen.meaning in
+    let types = c.args.resolve.now.types in
+    let words = c.args.words.now in
+    let new = c.lift_text.new.bindgen in
+    let Lifts : WitType → Type 0 = λ ty. IfOk c.lift_text.result (λ r. (used : List g.row.B-Operand.Denot) × (drop c.args.at words ≡ used ++ drop r.next words) × LiftsFlat m (shape_of types ty) used r.operand c.args.bindgen.now new) in
+    record {
+      lifts = subst Lifts (sym c.in-String.is) c.lift_text.ensures.lifts;
+      sends = subst (λ (ty : WitType). OnOk c.lift_text.result (Sends m types (lift_code types ty) c.args.bindgen.now new)) (sym c.in-String.is) c.lift_text.ensures.sends;
+    }
+
+pub lift_type-returns-in-Id : goal.lift_type-returns-in-Id
+lift_type-returns-in-Id g t c =
+    let m = g.B.Bindgen.meaning in
+    let types = c.args.resolve.now.types in
+    let words = c.args.words.now in
+    let new = c.lift_id.new.bindgen in
+    let Lifts : WitType → Type 0 = λ ty. IfOk c.lift_id.result (λ r. (used : List g.row.B-Operand.Denot) × (drop c.args.at words ≡ used ++ drop r.next words) × LiftsFlat m (shape_of types ty) used r.operand c.args.bindgen.now new) in
+    record {
+      lifts = subst Lifts (sym c.in-Id.is) c.lift_id.ensures.lifts;
+      sends = subst (λ (ty : WitType). OnOk c.lift_id.result (Sends m types (lift_code types ty) c.args.bindgen.now new)) (sym c.in-Id.is) c.lift_id.ensures.sends;
+    }
 
 pub lift_id-lift_type-requires : goal.lift_id-lift_type-requires
 lift_id-lift_type-requires g t c κs within =
@@ -43,7 +83,7 @@ lift_id-lift_type-requires g t c κs within =
     let is = kind_at c.as_slice-types.result.now c.args.id.0 d (kind.Alias c.in-Alias.ty) c.index-types-place.is c.in-Alias.is in
     let low : rank c.in-Alias.ty ≤ c.args.id.0 = alias_rank types c.requires.down c.args.id.0 d at c.in-Alias.ty is in
     let below = alias_below types c.requires.down c.args.id.0 d at c.in-Alias.ty is c.requires.within in
-    search rules
+    (omega (arith, low), (within.0, (within.1, (c.requires.well, (c.requires.down, below)))))
 
 pub lift_id-lift_parts-requires : goal.lift_id-lift_parts-requires
 lift_id-lift_parts-requires g t c κs within =
@@ -55,7 +95,7 @@ lift_id-lift_parts-requires g t c κs within =
     let read = c.as_slice-tys.result.now in
     let same : read ≡ map (λ (f : Field). f.ty) members = c.as_slice-tys.ensures ∙ c.in_ok-tys-in-Record.ensures ∙ ap (map (λ (f : Field). f.ty)) c.as_slice.ensures in
     let below = subst (λ (xs : List WitType). list_all (λ ty. type_below c.args.id.0 ty) xs ≡ true) (sym same) (record_below types c.requires.down c.args.id.0 d at members is) in
-    search rules
+    (omega arith, (within.0, (within.1, (c.requires.well, (c.requires.down, (omega (arith, c.requires.within), below))))))
 
 pub lift_id-send_one-requires-clause-ready : goal.lift_id-send_one-requires-clause-ready
 lift_id-send_one-requires-clause-ready g t c =
@@ -69,6 +109,13 @@ lift_id-send_one-requires-clause-ready g t c =
     let count : length c.in_ok-lifted-in-Record.lifted.parts ≡ length members = c.in_ok-lifted-in-Record.ensures.count ∙ ap length same ∙ length-map members (λ (f : Field). f.ty) in
     record { operands = λ others other. count ∙ ap length (one_record types c.args.id.0 members others here other); suits = (members, here) }
 
+pub lift_id-send_one-requires-clause-makes : goal.lift_id-send_one-requires-clause-makes
+lift_id-send_one-requires-clause-makes g t c = λ k h. h
+
+pub lift_id-send_one-requires-in-Tuple : goal.lift_id-send_one-requires-in-Tuple
+lift_id-send_one-requires-in-Tuple g t c =
+    record { ready = record { operands = c.in_ok-lifted-in-Tuple.ensures.count ∙ sym c.in_ok-part_count-in-Tuple.ensures; suits = tt }; makes = λ k h. h }
+
 pub lift_id-lift_parts-requires-in-Tuple : goal.lift_id-lift_parts-requires-in-Tuple
 lift_id-lift_parts-requires-in-Tuple g t c κs within =
     let types = c.args.resolve.now.types in
@@ -76,18 +123,65 @@ lift_id-lift_parts-requires-in-Tuple g t c κs within =
     let at = entry_at types c.as_slice-types.result.now c.args.id.0 d c.as_slice-types.ensures c.requires.within c.index-types-place.is in
     let is = kind_at c.as_slice-types.result.now c.args.id.0 d (kind.Tuple c.in-Tuple.members) c.index-types-place.is c.in-Tuple.is in
     let below = subst (λ (xs : List WitType). list_all (λ ty. type_below c.args.id.0 ty) xs ≡ true) (sym c.as_slice-tys-in-Tuple.ensures) (tuple_below types c.requires.down c.args.id.0 d at c.in-Tuple.members is) in
-    search rules
+    (omega arith, (within.0, (within.1, (c.requires.well, (c.requires.down, (omega (arith, c.requires.within), below))))))
 
-pub lift_id-returns-in_ok-lifted-in-Alias : goal.lift_id-returns-in_ok-lifted-in-Alias
-lift_id-returns-in_ok-lifted-in-Alias g t c =
+pub lift_id-lift_enum-requires-clause-here : goal.lift_id-lift_enum-requires-clause-here
+lift_id-lift_enum-requires-clause-here g t c =
+    let types = c.args.resolve.now.types in
+    let d = c.index-types-place.result in
+    let at = entry_at types c.as_slice-types.result.now c.args.id.0 d c.as_slice-types.ensures c.requires.within c.index-types-place.is in
+    record { entry = d; stands = at; kind = kind_at c.as_slice-types.result.now c.args.id.0 d (kind.Enum c.in-Enum.members) c.index-types-place.is c.in-Enum.is }
+
+pub lift_id-lift_flags-requires-clause-here : goal.lift_id-lift_flags-requires-clause-here
+lift_id-lift_flags-requires-clause-here g t c =
+    let types = c.args.resolve.now.types in
+    let d = c.index-types-place.result in
+    let at = entry_at types c.as_slice-types.result.now c.args.id.0 d c.as_slice-types.ensures c.requires.within c.index-types-place.is in
+    record { entry = d; stands = at; kind = kind_at c.as_slice-types.result.now c.args.id.0 d (kind.Flags c.in-Flags.members) c.index-types-place.is c.in-Flags.is }
+
+pub lift_id-lift_variant-requires : goal.lift_id-lift_variant-requires
+lift_id-lift_variant-requires g t c κs within =
+    let types = c.args.resolve.now.types in
+    let d = c.index-types-place.result in
+    let at = entry_at types c.as_slice-types.result.now c.args.id.0 d c.as_slice-types.ensures c.requires.within c.index-types-place.is in
+    let k = (get_or c.as_slice-types.result.now c.args.id.0 d).kind in
+    let here : IsKindOf types c.args.id.0 k = record { entry = d; stands = at; kind = ap (λ (x : TypeDef). x.kind) c.index-types-place.is } in
+    let cases : has_cases k ≡ true = ap has_cases c.in-Variant.is in
+    (omega arith, (within.0, (within.1, (c.requires.well, (c.requires.down, (here, cases))))))
+
+pub lift_id-lift_variant-requires-in-Option : goal.lift_id-lift_variant-requires-in-Option
+lift_id-lift_variant-requires-in-Option g t c κs within =
+    let types = c.args.resolve.now.types in
+    let d = c.index-types-place.result in
+    let at = entry_at types c.as_slice-types.result.now c.args.id.0 d c.as_slice-types.ensures c.requires.within c.index-types-place.is in
+    let k = (get_or c.as_slice-types.result.now c.args.id.0 d).kind in
+    let here : IsKindOf types c.args.id.0 k = record { entry = d; stands = at; kind = ap (λ (x : TypeDef). x.kind) c.index-types-place.is } in
+    let cases : has_cases k ≡ true = ap has_cases c.in-Option.is in
+    (omega arith, (within.0, (within.1, (c.requires.well, (c.requires.down, (here, cases))))))
+
+pub lift_id-lift_variant-requires-in-Result : goal.lift_id-lift_variant-requires-in-Result
+lift_id-lift_variant-requires-in-Result g t c κs within =
+    let types = c.args.resolve.now.types in
+    let d = c.index-types-place.result in
+    let at = entry_at types c.as_slice-types.result.now c.args.id.0 d c.as_slice-types.ensures c.requires.within c.index-types-place.is in
+    let k = (get_or c.as_slice-types.result.now c.args.id.0 d).kind in
+    let here : IsKindOf types c.args.id.0 k = record { entry = d; stands = at; kind = ap (λ (x : TypeDef). x.kind) c.index-types-place.is } in
+    let cases : has_cases k ≡ true = ap has_cases c.in-Result.is in
+    (omega arith, (within.0, (within.1, (c.requires.well, (c.requires.down, (here, cases))))))
+
+pub lift_id-returns-in-Alias : goal.lift_id-returns-in-Alias
+lift_id-returns-in-Alias g t c =
     let m = g.B.Bindgen.meaning in
     let types = c.args.resolve.now.types in
     let d = c.index-types-place.result in
     let at = entry_at types c.as_slice-types.result.now c.args.id.0 d c.as_slice-types.ensures c.requires.within c.index-types-place.is in
     let is = kind_at c.as_slice-types.result.now c.args.id.0 d (kind.Alias c.in-Alias.ty) c.index-types-place.is c.in-Alias.is in
+    let words = c.args.words.now in
+    let new = c.lift_type.new.bindgen in
+    let Lifts : Shape → Type 0 = λ s. IfOk c.lift_type.result (λ r. (used : List g.row.B-Operand.Denot) × (drop c.args.at words ≡ used ++ drop r.next words) × LiftsFlat m s used r.operand c.args.bindgen.now new) in
     record {
-      lifts = lifts_as m g.met.B.Bindgen.sound types _ _ _ _ c.args.words.now c.args.at _ _ (alias_shape types c.requires.down c.args.id.0 d at c.in-Alias.ty is) c.in_ok-lifted-in-Alias.ensures.lifts;
-      sends = sends_as m types _ _ _ _ (lift_alias_code types c.requires.down c.args.id d at c.in-Alias.ty is) c.in_ok-lifted-in-Alias.ensures.sends;
+      lifts = subst Lifts (sym (alias_shape types c.requires.down c.args.id.0 d at c.in-Alias.ty is)) c.lift_type.ensures.lifts;
+      sends = subst (λ (code : List Sent). OnOk c.lift_type.result (Sends m types code c.args.bindgen.now new)) (sym (lift_alias_code types c.requires.down c.args.id d at c.in-Alias.ty is)) c.lift_type.ensures.sends;
     }
 
 pub lift_id-returns-in_ok-operand-in-Record : goal.lift_id-returns-in_ok-operand-in-Record
@@ -126,13 +220,18 @@ lift_id-returns-in_ok-operand-in-Tuple g t c =
       sends = sends_as m types _ _ _ _ code (sends_both m types _ _ _ _ _ parts (sends_one m types (TupleLift c.in_ok-part_count-in-Tuple.field-0) _ _ _ _ c.in_ok-operand-in-Tuple.ensures));
     }
 
+pub lift_parts-loop-i-init : goal.lift_parts-loop-i-init
+lift_parts-loop-i-init g t c =
+    let Lifts : List g.row.B-Operand.Denot → List g.row.B-Operand.Denot → g.row.B.Denot → Type 0 = λ qs ps new. LiftsAll g.B.Bindgen.meaning (shapes_of c.args.resolve.now.types c.args.tys.now) qs ps c.args.bindgen.now new in
+    record { count = ap length c.new-parts.ensures; sent = refl; rest = ([], refl, λ new qs later h. subst (λ ps. Lifts qs (ps ++ later) new) (sym c.new-parts.ensures) h) }
+
 pub lift_parts-lift_type-requires : goal.lift_parts-lift_type-requires
 lift_parts-lift_type-requires g t c κs within =
     let types = c.args.resolve.now.types in
     let short : c.loop-i.i < length c.args.tys.now = omega (arith, c.loop-i-test.true) in
     let low : rank (get_or c.args.tys.now c.loop-i.i wit.Bool) ≤ c.args.place = part_ranked c.args.place c.args.tys.now c.requires.below c.loop-i.i wit.Bool short in
     let below = part_below_within c.args.place c.args.tys.now c.requires.below c.loop-i.i wit.Bool short (length types) c.requires.within in
-    search rules
+    (omega (arith, low), (within.0, (within.1, (c.requires.well, (c.requires.down, below)))))
 
 pub lift_parts-loop-i-preserved : goal.lift_parts-loop-i-preserved
 lift_parts-loop-i-preserved g t c =
@@ -165,7 +264,7 @@ lift_cases-lift_case-requires g t c κs within =
     let low : payload_rank (get_or payloads i None) ≤ c.args.id.0 = payload_ranked c.args.id.0 payloads i None c.requires.below short in
     let below : payload_below (length types) (get_or payloads i None) ≡ true = payload_in_table c.args.id.0 (length types) payloads i None c.requires.within c.requires.below short in
     let fits : FitIn (payload_words types (get_or payloads i None)) c.args.slots.now = subst (FitIn (payload_words types (get_or payloads i None))) (sym c.requires.shared) (payload_fits types payloads i None short) in
-    search rules
+    (omega (arith, low), (within.0, (within.1, (c.requires.well, (c.requires.down, (below, (fits, c.requires.enough)))))))
 
 pub lift_cases-loop-i-init : goal.lift_cases-loop-i-init
 lift_cases-loop-i-init g t c = record { grows = grows_none g.B.Bindgen.meaning c.args.bindgen.now; code = refl; sent = refl; rest = λ new h. h }
@@ -231,6 +330,16 @@ lift_payload-cast_words-requires-clause-enough g t c =
     let first : c.from_vec-first.result ≡ take f.count c.args.words.now = c.from_vec-first.ensures ∙ c.in_ok-push_copies.ensures ∙ ap (λ (os : List g.row.B-Operand.Denot). os ++ take f.count c.args.words.now) c.new-first.ensures.items in
     ap length first ∙ length-take-le f.count c.args.words.now (omega (arith, is, most, c.requires.enough)) ∙ sym (length-take-le f.count c.args.slots.now (omega (arith, is, most)))
 
+pub lift_payload-lift_type-requires : goal.lift_payload-lift_type-requires
+lift_payload-lift_type-requires g t c κs within = (omega arith, (within.0, (within.1, (c.requires.well, (c.requires.down, c.requires.below)))))
+
+pub lift_payload-close_payload-requires : goal.lift_payload-close_payload-requires
+lift_payload-close_payload-requires g t c =
+    let m = g.B.Bindgen.meaning in
+    let begins = c.in_ok-push_block.ensures in
+    let opened = c.in_ok-lifted.ensures.lifts.2.adds.grows.opened ∙ c.in_ok-used.ensures.casts.adds.grows.opened ∙ begins.opened in
+    record { slot = begins.slot; suspended = m.code c.args.bindgen.now; outer = m.opened c.args.bindgen.now; opened = opened }
+
 pub lift_payload-returns : goal.lift_payload-returns
 lift_payload-returns g t c =
     let m = g.B.Bindgen.meaning in
@@ -291,7 +400,7 @@ lift_variant-lift_cases-requires g t c κs within =
     let n = c.args.at + f.count - (c.args.at + 1) in
     let room : n ≤ length (drop (c.args.at + 1) words) = omega (arith, is, c.if-at-words.false, c.if-words-count.false, length-drop (c.args.at + 1) words) in
     let enough : length (take n (drop (c.args.at + 1) words)) ≡ length (take (f.count - 1) (drop 1 f.words)) = length-take-le n (drop (c.args.at + 1) words) room ∙ (let e : n ≡ length (shared_slots types (payloads_of kind)) = omega (arith, is) in e) ∙ sym (ap length told) in
-    search rules
+    (omega arith, (within.0, (within.1, (c.requires.well, (c.requires.down, (inside, (below, (shared, enough))))))))
 
 pub lift_variant-returns : goal.lift_variant-returns
 lift_variant-returns g t c =
@@ -327,10 +436,38 @@ lift_variant-returns g t c =
       sends = sends_as m types _ _ _ _ (lift_variant_code types c.requires.down c.args.id here.entry here.stands kind here.kind c.requires.cases) (sends_both m types _ _ _ _ _ sent (sends_one m types (case_lifting kind c.args.id) _ _ _ _ e));
     }
 
-pub lift_case-returns-in_ok-lift_payload-in-Some-clause-sends : goal.lift_case-returns-in_ok-lift_payload-in-Some-clause-sends
-lift_case-returns-in_ok-lift_payload-in-Some-clause-sends g t c = λ n.
+pub lift_case-lift_payload-requires : goal.lift_case-lift_payload-requires
+lift_case-lift_payload-requires g t c κs within =
     let types = c.args.resolve.now.types in
-    subst (λ (p : Option WitType). Sends g.B.Bindgen.meaning types (lift_case types c.args.slots.now n p (option_map (lift_code types) p)) c.args.bindgen.now c.lift_payload.new.bindgen) (sym c.in-Some.is) (c.in_ok-lift_payload-in-Some.ensures.sends n)
+    let deep : payload_rank c.args.payload ≡ rank c.in-Some.ty = ap payload_rank c.in-Some.is in
+    let below = payload_type_low (length types) c.in-Some.ty (subst (λ (p : Option WitType). payload_below (length types) p ≡ true) c.in-Some.is c.requires.below) in
+    let fits = subst (λ (p : Option WitType). FitIn (payload_words types p) c.args.slots.now) c.in-Some.is c.requires.fits in
+    (omega (arith, deep), (within.0, (within.1, (c.requires.well, (c.requires.down, (below, (fits, c.requires.enough)))))))
+
+pub lift_case-returns-in_ok-lift_bare-in-None : goal.lift_case-returns-in_ok-lift_bare-in-None
+lift_case-returns-in_ok-lift_bare-in-None g t c =
+    let m = g.B.Bindgen.meaning in
+    let types = c.args.resolve.now.types in
+    let slots = c.args.slots.now in
+    let words = c.args.words.now in
+    let new = c.lift_bare.new.bindgen in
+    let Lifts : Option WitType → Type 0 = λ p. LiftsCases m (more (payload_in (shapes types) p) none) (result_counts (p ∷ [])) slots words c.args.bindgen.now new in
+    record {
+      lifts = subst Lifts (sym c.in-None.is) (c.in_ok-lift_bare-in-None.ensures.lifts slots words);
+      sends = λ n. subst (λ (p : Option WitType). Sends m types (lift_case types slots n p (option_map (lift_code types) p)) c.args.bindgen.now new) (sym c.in-None.is) (c.in_ok-lift_bare-in-None.ensures.sends types);
+    }
+
+pub lift_case-returns-in_ok-lift_payload-in-Some : goal.lift_case-returns-in_ok-lift_payload-in-Some
+lift_case-returns-in_ok-lift_payload-in-Some g t c =
+    let m = g.B.Bindgen.meaning in
+    let types = c.args.resolve.now.types in
+    let slots = c.args.slots.now in
+    let new = c.lift_payload.new.bindgen in
+    let Lifts : Option WitType → Type 0 = λ p. LiftsCases m (more (payload_in (shapes types) p) none) (result_counts (p ∷ [])) slots c.args.words.now c.args.bindgen.now new in
+    record {
+      lifts = subst Lifts (sym c.in-Some.is) c.in_ok-lift_payload-in-Some.ensures.lifts;
+      sends = λ n. subst (λ (p : Option WitType). Sends m types (lift_case types slots n p (option_map (lift_code types) p)) c.args.bindgen.now new) (sym c.in-Some.is) (c.in_ok-lift_payload-in-Some.ensures.sends n);
+    }
 
 pub lift_variant-overflow_add-shared : goal.lift_variant-overflow_add-shared
 lift_variant-overflow_add-shared g t c =

@@ -12,6 +12,7 @@ use Rattle.abi_bindgen.specs.Instructions.{shapes_of}
 use Rattle.abi_driver.proofs.ArgumentSteps.{within_words}
 use Rattle.abi_driver.proofs.CallCode as Sent
 use Rattle.abi_driver.proofs.LiftedArguments.{rest_first, rest_last, rest_next, told_within, words_left, words_next}
+use Rattle.abi_bindgen.proofs.Records.{part_below_within}
 use Rattle.abi_bindgen.proofs.Runs.{adds_both, adds_same}
 use Rattle.abi_bindgen.proofs.SendSteps.{sends_as}
 use Rattle.abi_driver.proofs.calls.export.lift_arguments.Goals as goal
@@ -49,8 +50,21 @@ read_words-requires-clause-arguments g c =
     let inv = c.loop-i.invariant in
     within_words (m.arguments c.args.bindgen.now) (m.arguments c.loop-i.bindgen) (length (param_words (shapes_of types tys))) c.loop-i.first c.flat_types-flat.result.count (words_left types tys i) inv.adds.grows.arguments c.requires.arguments inv.words told
 
-pub lift_flat-requires-clause-down : goal.lift_flat-requires-clause-down
-lift_flat-requires-clause-down g c = types_go_down c.args.resolve.now c.requires.well.unbroken
+pub flat_types-flat-requires-clause-below : goal.flat_types-flat-requires-clause-below
+flat_types-flat-requires-clause-below g c =
+    let n = length c.args.resolve.now.types in
+    let short : c.loop-i.i < length c.args.tys.now = omega (arith, c.loop-i-test.true) in
+    part_below_within n c.args.tys.now c.requires.below c.loop-i.i wit.Bool short n (omega arith)
+
+pub lift_flat-requires : goal.lift_flat-requires
+lift_flat-requires g c =
+    let n = length c.args.resolve.now.types in
+    let short : c.loop-i.i < length c.args.tys.now = omega (arith, c.loop-i-test.true) in
+    record {
+      well = c.requires.well;
+      down = types_go_down c.args.resolve.now c.requires.well.unbroken;
+      below = part_below_within n c.args.tys.now c.requires.below c.loop-i.i wit.Bool short n (omega arith);
+    }
 
 pub overflow_add-first : goal.overflow_add-first
 overflow_add-first g c =

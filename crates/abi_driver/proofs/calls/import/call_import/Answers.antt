@@ -1,6 +1,7 @@
 use Rattle.std.proofs.Common.{◌≡◌, ◌++◌, [], ◌∷◌, List, length, map, sym, ap, ap₂, ◌∙◌, subst}
 use Rattle.std.specs.List.{list_all}
 use Rattle.std.specs.Prelude.{option_to_list}
+use Rattle.std.proofs.lemmas.List.{length-map}
 use Rattle.std.proofs.lemmas.List.Folds.{list_all-map}
 use Rattle.wit_model.specs.TypeOrder.{type_below}
 use Rattle.wit_model.specs.declared.function.Param.{Param}
@@ -13,6 +14,7 @@ use Rattle.abi_bindgen.specs.declared.instruction.Instruction.TheVariants.{CallW
 use Rattle.abi_bindgen.specs.Code.{pass_code, point_code, read_code}
 use Rattle.abi_driver.specs.Imports.{PassesArguments, ReadsAnswer}
 use Rattle.abi_bindgen.specs.Instructions.{Emits, shapes_of}
+use Rattle.abi_bindgen.specs.Laws.{IsCount}
 use Rattle.abi_bindgen.specs.Sent.{sends}
 use Rattle.abi_driver.proofs.AreaSteps.{points_grows}
 use Rattle.abi_driver.proofs.CallCode.{given_count}
@@ -31,6 +33,13 @@ pass_arguments-requires-clause-below g c =
     let same : c.as_slice-2.result.now ≡ map (λ (p : Param). p.ty) f.params = c.as_slice-2.ensures ∙ c.in_ok-tys.ensures ∙ ap (map (λ (p : Param). p.ty)) c.as_slice.ensures in
     ap (λ (tys : List WitType). list_all (λ ty. type_below n ty) tys) same ∙ list_all-map (λ ty. type_below n ty) (λ (p : Param). p.ty) f.params ∙ params_in_table c.args.resolve.now f c.requires.within
 
+pub pass_arguments-requires-clause-arguments : goal.pass_arguments-requires-clause-arguments
+pass_arguments-requires-clause-arguments g c =
+    let m = g.B.Bindgen.meaning in
+    let f = c.args.func.now in
+    let same : c.as_slice-2.result.now ≡ map (λ (p : Param). p.ty) f.params = c.as_slice-2.ensures ∙ c.in_ok-tys.ensures ∙ ap (map (λ (p : Param). p.ty)) c.as_slice.ensures in
+    subst (IsCount m (m.arguments c.args.bindgen.now)) (sym (ap length same ∙ length-map f.params (λ (p : Param). p.ty))) c.requires.arguments
+
 pub pass_arguments-requires-clause-indirect : goal.pass_arguments-requires-clause-indirect
 pass_arguments-requires-clause-indirect g c =
     let types = c.args.resolve.now.types in
@@ -46,6 +55,15 @@ read_answer-requires-clause-down g c = types_go_down c.args.resolve.now c.requir
 
 pub read_answer-requires-clause-below : goal.read_answer-requires-clause-below
 read_answer-requires-clause-below g c = result_in_table c.args.resolve.now c.args.func.now c.requires.within
+
+pub point_at_result-requires-clause-knows : goal.point_at_result-requires-clause-knows
+point_at_result-requires-clause-knows g c = c.in_ok-words.ensures.passes.grows.knows c.args.resolve.now.types c.requires.knows
+
+pub read_answer-requires-clause-knows : goal.read_answer-requires-clause-knows
+read_answer-requires-clause-knows g c =
+    let types = c.args.resolve.now.types in
+    let points = points_grows g.B.Bindgen.meaning g.met.B.Bindgen.sound (result_shape types c.args.func.now) c.in_ok-pointer.pointer _ _ c.in_ok-pointer.ensures.points in
+    c.in_ok-answer.ensures.adds.knows types (points.0.knows types (c.in_ok-words.ensures.passes.grows.knows types c.requires.knows))
 
 pub read_answer-requires-clause-retptr : goal.read_answer-requires-clause-retptr
 read_answer-requires-clause-retptr g c = pointer_told c.args.resolve.now.types c.args.func.now c.wasm_signature-signature.result c.wasm_signature-signature.ensures
@@ -72,6 +90,9 @@ send-requires g c =
       operands = ap length all ∙ words_count m types f words pointer _ _ _ _ passes c.in_ok-pointer.ensures.points;
       suits = ((points_grows m g.met.B.Bindgen.sound (result_shape types f) pointer _ _ c.in_ok-pointer.ensures.points).0.imports ∙ passes.grows.imports ∙ c.requires.serves, c.requires.well, c.requires.within);
     }
+
+pub send-requires-2 : goal.send-requires-2
+send-requires-2 g c = record { operands = sym (c.in_ok-count.ensures ∙ c.len.ensures); suits = tt }
 
 pub returns : goal.returns
 returns g c =

@@ -10,9 +10,20 @@ use Rattle.abi_bindgen.specs.Frees.{nowhere}
 use Rattle.abi_driver.proofs.LoadSteps.{rest_last, rest_next}
 use Rattle.abi_driver.proofs.PartOffsets.{behind_next, pair_is}
 use Rattle.abi_driver.proofs.RecordPlaces.{record_place}
+use Rattle.abi_bindgen.proofs.Records.{part_below_within}
 use Rattle.abi_bindgen.proofs.Runs.{adds_both}
 use Rattle.abi_bindgen.proofs.SendSteps.{sends_as, sends_last, sends_next}
 use Rattle.abi_driver.proofs.calls.record.load_at.Goals as goal
+
+pub load_type-requires : goal.load_type-requires
+load_type-requires g c =
+    let types = c.args.resolve.now.types in
+    let short : c.loop-i.i < length c.args.tys.now = omega (arith, c.loop-i-test.true) in
+    record {
+      down = c.requires.down;
+      below = part_below_within (length types) c.args.tys.now c.requires.below c.loop-i.i wit.Bool short (length types) (omega arith);
+      knows = c.loop-i.invariant.adds.grows.knows types c.requires.knows;
+    }
 
 pub loop-i-preserved : goal.loop-i-preserved
 loop-i-preserved g c =

@@ -1,4 +1,4 @@
-use Rattle.std.proofs.Common.{rules, ◌≡◌, ℕ, ◌<◌, ◌≤◌, ◌+◌, ◌^◌, true, List, [], ◌∷◌, ◌++◌, length, map, replicate, get_or, option_map, OnOk, Option, None, refl, sym, ap, ◌∙◌, subst, arith}
+use Rattle.std.proofs.Common.{◌≡◌, ℕ, ◌<◌, ◌≤◌, ◌+◌, ◌^◌, true, List, [], ◌∷◌, ◌++◌, length, map, replicate, get_or, option_map, OnOk, Option, None, refl, sym, ap, ◌∙◌, subst, arith}
 use Rattle.std.specs.List.{list_all, slice_index}
 use Rattle.std.proofs.lemmas.Bool.{ltb-true}
 use Rattle.std.proofs.lemmas.List.{drop_more}
@@ -74,7 +74,7 @@ free_id-free_type-requires g t c κs within =
     let is = kind_at c.as_slice-types.result.now c.args.id.0 d (kind.Alias c.in-Alias.ty) c.index-types-at.is c.in-Alias.is in
     let low : rank c.in-Alias.ty ≤ c.args.id.0 = alias_rank types c.requires.down c.args.id.0 d at c.in-Alias.ty is in
     let below = alias_below types c.requires.down c.args.id.0 d at c.in-Alias.ty is c.requires.within in
-    search rules
+    (omega (arith, low), (within.0, (within.1, (c.requires.down, (below, c.requires.knows)))))
 
 pub free_id-free_parts-requires : goal.free_id-free_parts-requires
 free_id-free_parts-requires g t c κs within =
@@ -87,7 +87,7 @@ free_id-free_parts-requires g t c κs within =
     let same : read ≡ map (λ (f : Field). f.ty) members = c.as_slice-tys.ensures ∙ c.in_ok-tys-in-Record.ensures ∙ ap (map (λ (f : Field). f.ty)) c.as_slice.ensures in
     let below = subst (λ (xs : List WitType). list_all (λ ty. type_below c.args.id.0 ty) xs ≡ true) (sym same) (record_below types c.requires.down c.args.id.0 d at members is) in
     let parts : HasParts types c.args.id.0 read = (d, at, subst (λ k. IsOfParts k read) (sym is) same) in
-    search rules
+    (omega arith, (within.0, (within.1, (c.requires.down, (c.requires.within, (below, (parts, c.requires.knows)))))))
 
 pub free_id-free_parts-requires-in-Tuple : goal.free_id-free_parts-requires-in-Tuple
 free_id-free_parts-requires-in-Tuple g t c κs within =
@@ -98,7 +98,7 @@ free_id-free_parts-requires-in-Tuple g t c κs within =
     let read = c.as_slice-tys-in-Tuple.result.now in
     let below = subst (λ (xs : List WitType). list_all (λ ty. type_below c.args.id.0 ty) xs ≡ true) (sym c.as_slice-tys-in-Tuple.ensures) (tuple_below types c.requires.down c.args.id.0 d at c.in-Tuple.members is) in
     let parts : HasParts types c.args.id.0 read = (d, at, subst (λ k. IsOfParts k read) (sym is) c.as_slice-tys-in-Tuple.ensures) in
-    search rules
+    (omega arith, (within.0, (within.1, (c.requires.down, (c.requires.within, (below, (parts, c.requires.knows)))))))
 
 pub free_id-returns-in_ok-free_type-in-Alias : goal.free_id-returns-in_ok-free_type-in-Alias
 free_id-returns-in_ok-free_type-in-Alias g t c =
@@ -183,7 +183,7 @@ free_parts-free_type-requires g t c κs within =
     let low : rank (get_or c.args.tys.now c.loop-i.i wit.Bool) ≤ c.args.id.0 = part_ranked c.args.id.0 c.args.tys.now c.requires.below c.loop-i.i wit.Bool short in
     let below = part_below_table c.args.id.0 c.args.tys.now c.requires.below c.loop-i.i wit.Bool short (length types) c.requires.within in
     let knows = c.loop-i.invariant.adds.grows.knows types c.requires.knows in
-    search rules
+    (omega (arith, low), (within.0, (within.1, (c.requires.down, (below, knows)))))
 
 pub free_parts-loop-i-preserved : goal.free_parts-loop-i-preserved
 free_parts-loop-i-preserved g t c =
@@ -240,7 +240,7 @@ free_variant-free_cases-requires g t c κs within =
     let below = subst (λ (ps : List (Option WitType)). list_all (λ p. payload_below c.args.id.0 p) ps ≡ true) (sym same) (variant_below types c.requires.down c.args.id.0 k (record { entry = d; stands = at; kind = is }) c.in_ok-payloads.ensures.has) in
     let loaded = number_load_adds m g.met.B.Bindgen.sound types (discriminant_grain (length c.as_slice-tys.result.now)) c.args.offset (c.args.address.now ∷ []) (c.in_ok-tag.tag ∷ []) _ _ c.in_ok-tag.ensures.loads in
     let knows = loaded.grows.knows types c.requires.knows in
-    search rules
+    (omega arith, (within.0, (within.1, (c.requires.down, (c.requires.within, (below, knows))))))
 
 pub free_variant-run_case-requires : goal.free_variant-run_case-requires
 free_variant-run_case-requires g t c =
@@ -288,7 +288,7 @@ free_cases-free_case-requires g t c κs within =
     let short : c.loop-i.i < length c.args.payloads.now = omega (arith, c.loop-i-test.true) in
     let below = payload_low c.args.id.0 c.args.payloads.now c.requires.below c.loop-i.i None short in
     let knows = c.loop-i.invariant.resumes.knows c.args.resolve.now.types c.requires.knows in
-    search rules
+    (omega arith, (within.0, (within.1, (c.requires.down, (c.requires.within, (below, knows))))))
 
 pub free_cases-loop-i-preserved : goal.free_cases-loop-i-preserved
 free_cases-loop-i-preserved g t c =
@@ -320,7 +320,7 @@ free_cases-returns g t c =
 pub free_case-free_payload-requires : goal.free_case-free_payload-requires
 free_case-free_payload-requires g t c κs within =
     let below = payload_type_low c.args.id.0 c.in-Some.ty (subst (λ (p : Option WitType). payload_below c.args.id.0 p ≡ true) c.in-Some.is c.requires.below) in
-    search rules
+    (omega arith, (within.0, (within.1, (c.requires.down, (c.requires.within, (below, c.requires.knows))))))
 
 pub free_case-returns-in_ok-empty_block-in-None : goal.free_case-returns-in_ok-empty_block-in-None
 free_case-returns-in_ok-empty_block-in-None g t c =
@@ -341,7 +341,7 @@ free_payload-free_type-requires g t c κs within =
     let low : rank c.args.ty ≤ c.args.id.0 = type_ranked c.args.id.0 c.args.ty c.requires.below in
     let below = type_below_table c.args.id.0 (length types) c.args.ty c.requires.below c.requires.within in
     let knows = c.in_ok-push_block.ensures.lasts.knows types c.requires.knows in
-    search rules
+    (omega (arith, low), (within.0, (within.1, (c.requires.down, (below, knows)))))
 
 pub free_payload-close-requires : goal.free_payload-close-requires
 free_payload-close-requires g t c =

@@ -1,4 +1,4 @@
-use Rattle.std.proofs.Common.{◌<◌, ◌≤◌, List, length, get_or, slice_index, sym, ap, subst, arith}
+use Rattle.std.proofs.Common.{◌<◌, ◌≤◌, List, length, get_or, slice_index, refl, sym, ap, subst, arith}
 use Rattle.std.proofs.lemmas.List.{drop_more}
 use Rattle.wit_model.specs.declared.size.ArchitectureSize.{ArchitectureSize}
 use Rattle.wit_model.specs.declared.types.WitType.TheVariants as wit
@@ -10,9 +10,23 @@ use Rattle.abi_bindgen.specs.Frees.{nowhere}
 use Rattle.abi_driver.proofs.FreeSteps.{rest_last, rest_next}
 use Rattle.abi_driver.proofs.PartOffsets.{behind_next, pair_is}
 use Rattle.abi_driver.proofs.RecordPlaces.{record_place}
-use Rattle.abi_bindgen.proofs.Runs.{adds_both}
+use Rattle.abi_bindgen.proofs.Records.{part_below_within}
+use Rattle.abi_bindgen.proofs.Runs.{adds_both, adds_same}
 use Rattle.abi_bindgen.proofs.SendSteps.{sends_as, sends_last, sends_next}
 use Rattle.abi_driver.proofs.dealloc.memory.free_record.Goals as goal
+
+pub loop-i-init : goal.loop-i-init
+loop-i-init g c = record { adds = adds_same g.B.Bindgen.meaning c.args.bindgen.now; sent = refl; rest = λ new h. h }
+
+pub free_type-requires : goal.free_type-requires
+free_type-requires g c =
+    let types = c.args.resolve.now.types in
+    let short : c.loop-i.i < length c.args.types.now = omega (arith, c.loop-i-test.true) in
+    record {
+      down = c.requires.down;
+      below = part_below_within (length types) c.args.types.now c.requires.below c.loop-i.i wit.Bool short (length types) (omega arith);
+      knows = c.loop-i.invariant.adds.grows.knows types c.requires.knows;
+    }
 
 pub loop-i-preserved : goal.loop-i-preserved
 loop-i-preserved g c =

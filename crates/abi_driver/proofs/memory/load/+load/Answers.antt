@@ -1,4 +1,4 @@
-use Rattle.std.proofs.Common.{rules, ◌≡◌, ℕ, ◌<◌, ◌≤◌, ◌+◌, ◌^◌, true, List, [], ◌∷◌, ◌++◌, length, map, reverse, get_or, option_map, IfOk, OnOk, option_to_list, Option, None, refl, sym, ap, ◌∙◌, subst, arith}
+use Rattle.std.proofs.Common.{◌≡◌, ℕ, ◌<◌, ◌≤◌, ◌+◌, ◌^◌, true, List, [], ◌∷◌, ◌++◌, length, map, reverse, get_or, option_map, IfOk, OnOk, option_to_list, Option, None, refl, sym, ap, ◌∙◌, subst, arith}
 use Rattle.std.specs.List.{list_all, slice_index}
 use Rattle.std.proofs.lemmas.Bool.{ltb-true}
 use Rattle.std.proofs.lemmas.List.{drop_more, length-append, length-map}
@@ -14,7 +14,7 @@ use Rattle.wit_layout.specs.Extent.{discriminant_grain}
 use Rattle.wit_layout.specs.Sizes.{field_offsets}
 use Rattle.wit_layout.specs.Told.{is_alias}
 use Rattle.wit_layout.specs.Tree.{tree_at}
-use Rattle.wrapper_meaning.specs.Shape.{payload_in, shape_of, shapes}
+use Rattle.wrapper_meaning.specs.Shape.{Shape, payload_in, shape_of, shapes}
 use Rattle.abi_bindgen.specs.declared.instruction.Instruction.{Instruction}
 use Rattle.abi_bindgen.specs.declared.instruction.Instruction.TheVariants.{RecordLift, TupleLift}
 use Rattle.abi_bindgen.specs.Cases.{result_counts}
@@ -78,7 +78,7 @@ load_id-load_type-requires g t c κs within =
     let is = kind_at c.as_slice-types.result.now c.args.id.0 d (kind.Alias c.in-Alias.ty) c.index-types-at.is c.in-Alias.is in
     let low : rank c.in-Alias.ty ≤ c.args.id.0 = alias_rank types c.requires.down c.args.id.0 d at c.in-Alias.ty is in
     let below = alias_below types c.requires.down c.args.id.0 d at c.in-Alias.ty is c.requires.within in
-    search rules
+    (omega (arith, low), (within.0, (within.1, (c.requires.down, (below, c.requires.knows)))))
 
 pub load_id-load_parts-requires : goal.load_id-load_parts-requires
 load_id-load_parts-requires g t c κs within =
@@ -91,7 +91,7 @@ load_id-load_parts-requires g t c κs within =
     let same : read ≡ map (λ (f : Field). f.ty) members = c.as_slice-tys.ensures ∙ c.in_ok-tys-in-Record.ensures ∙ ap (map (λ (f : Field). f.ty)) c.as_slice.ensures in
     let below = subst (λ (xs : List WitType). list_all (λ ty. type_below c.args.id.0 ty) xs ≡ true) (sym same) (record_below types c.requires.down c.args.id.0 d at members is) in
     let parts : HasParts types c.args.id.0 read = (d, at, subst (λ k. IsOfParts k read) (sym is) same) in
-    search rules
+    (omega arith, (within.0, (within.1, (c.requires.down, (c.requires.within, (below, (parts, c.requires.knows)))))))
 
 pub load_id-send_one-requires-clause-ready : goal.load_id-send_one-requires-clause-ready
 load_id-send_one-requires-clause-ready g t c =
@@ -114,18 +114,20 @@ load_id-load_parts-requires-in-Tuple g t c κs within =
     let read = c.as_slice-tys-in-Tuple.result.now in
     let below = subst (λ (xs : List WitType). list_all (λ ty. type_below c.args.id.0 ty) xs ≡ true) (sym c.as_slice-tys-in-Tuple.ensures) (tuple_below types c.requires.down c.args.id.0 d at c.in-Tuple.members is) in
     let parts : HasParts types c.args.id.0 read = (d, at, subst (λ k. IsOfParts k read) (sym is) c.as_slice-tys-in-Tuple.ensures) in
-    search rules
+    (omega arith, (within.0, (within.1, (c.requires.down, (c.requires.within, (below, (parts, c.requires.knows)))))))
 
-pub load_id-returns-in_ok-operand-in-Alias : goal.load_id-returns-in_ok-operand-in-Alias
-load_id-returns-in_ok-operand-in-Alias g t c =
+pub load_id-returns-in-Alias : goal.load_id-returns-in-Alias
+load_id-returns-in-Alias g t c =
     let m = g.B.Bindgen.meaning in
     let types = c.args.resolve.now.types in
     let d = c.index-types-at.result in
     let at = entry_at types c.as_slice-types.result.now c.args.id.0 d c.as_slice-types.ensures c.requires.within c.index-types-at.is in
     let is = kind_at c.as_slice-types.result.now c.args.id.0 d (kind.Alias c.in-Alias.ty) c.index-types-at.is c.in-Alias.is in
+    let new = c.load_type.new.bindgen in
+    let Loads : Shape → Type 0 = λ s. IfOk c.load_type.result (λ r. LiftsFromMemory m s c.args.address.now c.args.offset r c.args.bindgen.now new) in
     record {
-      loads = loads_as m g.met.B.Bindgen.sound types _ _ _ _ _ _ c.args.offset (alias_shape types c.requires.down c.args.id.0 d at c.in-Alias.ty is) c.in_ok-operand-in-Alias.ensures.loads;
-      sends = sends_as m types _ _ _ _ (load_alias_code types c.requires.down c.args.id d at c.args.offset c.in-Alias.ty is) c.in_ok-operand-in-Alias.ensures.sends;
+      loads = subst Loads (sym (alias_shape types c.requires.down c.args.id.0 d at c.in-Alias.ty is)) c.load_type.ensures.loads;
+      sends = subst (λ (code : List Sent). OnOk c.load_type.result (Sends m types code c.args.bindgen.now new)) (sym (load_alias_code types c.requires.down c.args.id d at c.args.offset c.in-Alias.ty is)) c.load_type.ensures.sends;
     }
 
 pub load_id-returns-in_ok-operand-in-Record : goal.load_id-returns-in_ok-operand-in-Record
@@ -184,7 +186,7 @@ load_parts-load_type-requires g t c κs within =
     let low : rank (get_or c.args.tys.now c.loop-i.i wit.Bool) ≤ c.args.id.0 = part_ranked c.args.id.0 c.args.tys.now c.requires.below c.loop-i.i wit.Bool short in
     let below = part_below_table c.args.id.0 c.args.tys.now c.requires.below c.loop-i.i wit.Bool short (length types) c.requires.within in
     let knows = c.loop-i.invariant.adds.grows.knows types c.requires.knows in
-    search rules
+    (omega (arith, low), (within.0, (within.1, (c.requires.down, (below, knows)))))
 
 pub load_parts-loop-i-preserved : goal.load_parts-loop-i-preserved
 load_parts-loop-i-preserved g t c =
@@ -234,7 +236,7 @@ load_variant-load_cases-requires g t c κs within =
     let below = subst (λ (ps : List (Option WitType)). list_all (λ p. payload_below c.args.id.0 p) ps ≡ true) (sym same) (variant_below types c.requires.down c.args.id.0 k (record { entry = d; stands = at; kind = is }) c.in_ok-payloads.ensures.has) in
     let loaded = number_load_adds m g.met.B.Bindgen.sound types (discriminant_grain (length c.as_slice-tys.result.now)) c.args.offset (c.args.address.now ∷ []) (c.in_ok-tag.tag ∷ []) _ _ c.in_ok-tag.ensures.loads in
     let knows = loaded.grows.knows types c.requires.knows in
-    search rules
+    (omega arith, (within.0, (within.1, (c.requires.down, (c.requires.within, (below, knows))))))
 
 pub load_variant-send_one-requires-clause-ready : goal.load_variant-send_one-requires-clause-ready
 load_variant-send_one-requires-clause-ready g t c =
@@ -288,7 +290,7 @@ load_cases-load_case-requires g t c κs within =
     let short : c.loop-i.i < length c.args.payloads.now = omega (arith, c.loop-i-test.true) in
     let below = payload_low c.args.id.0 c.args.payloads.now c.requires.below c.loop-i.i None short in
     let knows = c.loop-i.invariant.resumes.knows c.args.resolve.now.types c.requires.knows in
-    search rules
+    (omega arith, (within.0, (within.1, (c.requires.down, (c.requires.within, (below, knows))))))
 
 pub load_cases-loop-i-preserved : goal.load_cases-loop-i-preserved
 load_cases-loop-i-preserved g t c =
@@ -320,7 +322,7 @@ load_cases-returns g t c =
 pub load_case-load_payload-requires : goal.load_case-load_payload-requires
 load_case-load_payload-requires g t c κs within =
     let below = payload_type_low c.args.id.0 c.in-Some.ty (subst (λ (p : Option WitType). payload_below c.args.id.0 p ≡ true) c.in-Some.is c.requires.below) in
-    search rules
+    (omega arith, (within.0, (within.1, (c.requires.down, (c.requires.within, (below, c.requires.knows))))))
 
 pub load_case-returns-in_ok-empty_block-in-None : goal.load_case-returns-in_ok-empty_block-in-None
 load_case-returns-in_ok-empty_block-in-None g t c =
@@ -341,7 +343,7 @@ load_payload-load_type-requires g t c κs within =
     let low : rank c.args.ty ≤ c.args.id.0 = type_ranked c.args.id.0 c.args.ty c.requires.below in
     let below = type_below_table c.args.id.0 (length types) c.args.ty c.requires.below c.requires.within in
     let knows = c.in_ok-push_block.ensures.lasts.knows types c.requires.knows in
-    search rules
+    (omega (arith, low), (within.0, (within.1, (c.requires.down, (below, knows)))))
 
 pub load_payload-returns : goal.load_payload-returns
 load_payload-returns g t c =

@@ -1,4 +1,4 @@
-use Rattle.std.proofs.Common.{rules, ◌≡◌, ℕ, ◌<◌, ◌≤◌, ◌+◌, ◌^◌, true, List, [], ◌∷◌, ◌++◌, length, map, replicate, pos, get_or, option_map, OnOk, Option, None, refl, sym, ap, ◌∙◌, subst, arith}
+use Rattle.std.proofs.Common.{◌≡◌, ℕ, ◌<◌, ◌≤◌, ◌+◌, ◌^◌, true, List, [], ◌∷◌, ◌++◌, length, map, replicate, pos, get_or, option_map, OnOk, Option, None, refl, sym, ap, ◌∙◌, subst, arith}
 use Rattle.std.specs.List.{list_all, slice_index}
 use Rattle.std.proofs.lemmas.Bool.{ltb-true}
 use Rattle.std.proofs.lemmas.List.{drop_more, length-map}
@@ -16,7 +16,7 @@ use Rattle.wit_layout.specs.Told.{is_alias}
 use Rattle.wit_layout.specs.Tree.{tree_at}
 use Rattle.abi_bindgen.specs.declared.instruction.Instruction.{Instruction}
 use Rattle.abi_bindgen.specs.declared.instruction.Instruction.TheVariants.{I32Const, TupleLower, VariantPayloadName}
-use Rattle.wrapper_meaning.specs.Shape.{payload_in, payloads_in, shape_of, shapes}
+use Rattle.wrapper_meaning.specs.Shape.{Shape, payload_in, payloads_in, shape_of, shapes}
 use Rattle.abi_bindgen.specs.Cases.{payloads_of}
 use Rattle.abi_bindgen.specs.Code.{beyond, each, place_in, store_case, store_code}
 use Rattle.abi_bindgen.specs.Instructions.{Emits, HasBlocks, IsSendable, shapes_of}
@@ -42,6 +42,12 @@ use Rattle.abi_bindgen.proofs.Records.{alias_below, alias_rank, alias_shape, cou
 use Rattle.abi_bindgen.proofs.Runs.{adds_both, adds_same, side_later}
 use Rattle.abi_bindgen.proofs.SendSteps.{sends_as, sends_block, sends_last, sends_next, sends_then}
 use Rattle.abi_driver.proofs.memory.store.+store.Goals as goal
+
+pub store_type-store_scalar-requires : goal.store_type-store_scalar-requires
+store_type-store_scalar-requires g t c = sym c.scalar_lowering.ensures ∙ c.in-Some.is
+
+pub store_type-returns-in-Some : goal.store_type-returns-in-Some
+store_type-returns-in-Some g t c = record { stores = c.store_scalar.ensures.stores c.args.realloc; sends = c.store_scalar.ensures.sends c.args.realloc }
 
 pub store_type-store_id-requires : goal.store_type-store_id-requires
 unfolding type_below
@@ -79,7 +85,7 @@ store_id-store_type-requires g t c κs within =
     let is = kind_at c.as_slice-types.result.now c.args.id.0 d (kind.Alias c.in-Alias.ty) c.index-types-at.is c.in-Alias.is in
     let low : rank c.in-Alias.ty ≤ c.args.id.0 = alias_rank types c.requires.down c.args.id.0 d at c.in-Alias.ty is in
     let below = alias_below types c.requires.down c.args.id.0 d at c.in-Alias.ty is c.requires.within in
-    search rules
+    (omega (arith, low), (within.0, (within.1, (c.requires.down, (below, (c.requires.side, c.requires.knows))))))
 
 pub store_id-lower_by-requires : goal.store_id-lower_by-requires
 store_id-lower_by-requires g t c =
@@ -105,7 +111,10 @@ store_id-store_parts-requires g t c κs within =
     let side = side_later m _ _ c.args.realloc c.in_ok-parts-in-Record.ensures.adds.grows c.requires.side in
     let knows = c.in_ok-parts-in-Record.ensures.adds.grows.knows types c.requires.knows in
     let parts : HasParts types c.args.id.0 read = (d, at, subst (λ k. IsOfParts k read) (sym is) same) in
-    search rules
+    (omega arith, (within.0, (within.1, (c.requires.down, (c.requires.within, (below, (parts, (enough, (side, knows)))))))))
+
+pub store_id-lower_by-requires-in-Tuple : goal.store_id-lower_by-requires-in-Tuple
+store_id-lower_by-requires-in-Tuple g t c = record { operands = refl; suits = tt }
 
 pub store_id-store_parts-requires-in-Tuple : goal.store_id-store_parts-requires-in-Tuple
 store_id-store_parts-requires-in-Tuple g t c κs within =
@@ -120,18 +129,20 @@ store_id-store_parts-requires-in-Tuple g t c κs within =
     let side = side_later m _ _ c.args.realloc c.in_ok-parts-in-Tuple.ensures.adds.grows c.requires.side in
     let knows = c.in_ok-parts-in-Tuple.ensures.adds.grows.knows types c.requires.knows in
     let parts : HasParts types c.args.id.0 read = (d, at, subst (λ k. IsOfParts k read) (sym is) c.as_slice-tys-in-Tuple.ensures) in
-    search rules
+    (omega arith, (within.0, (within.1, (c.requires.down, (c.requires.within, (below, (parts, (enough, (side, knows)))))))))
 
-pub store_id-returns-in_ok-store_type-in-Alias : goal.store_id-returns-in_ok-store_type-in-Alias
-store_id-returns-in_ok-store_type-in-Alias g t c =
+pub store_id-returns-in-Alias : goal.store_id-returns-in-Alias
+store_id-returns-in-Alias g t c =
     let m = g.B.Bindgen.meaning in
     let types = c.args.resolve.now.types in
     let d = c.index-types-at.result in
     let at = entry_at types c.as_slice-types.result.now c.args.id.0 d c.as_slice-types.ensures c.requires.within c.index-types-at.is in
     let is = kind_at c.as_slice-types.result.now c.args.id.0 d (kind.Alias c.in-Alias.ty) c.index-types-at.is c.in-Alias.is in
+    let new = c.store_type.new.bindgen in
+    let Stores : Shape → Type 0 = λ s. OnOk c.store_type.result (LowersToMemory m c.args.realloc s c.args.value c.args.address.now c.args.offset c.args.bindgen.now new) in
     record {
-      stores = stores_as m g.met.B.Bindgen.sound types c.args.realloc _ _ _ _ c.args.value _ c.args.offset (alias_shape types c.requires.down c.args.id.0 d at c.in-Alias.ty is) c.in_ok-store_type-in-Alias.ensures.stores;
-      sends = sends_as m types _ _ _ _ (store_alias_code types c.requires.down c.args.id d at c.args.offset c.args.realloc c.in-Alias.ty is) c.in_ok-store_type-in-Alias.ensures.sends;
+      stores = subst Stores (sym (alias_shape types c.requires.down c.args.id.0 d at c.in-Alias.ty is)) c.store_type.ensures.stores;
+      sends = subst (λ (code : List Sent). OnOk c.store_type.result (Sends m types code c.args.bindgen.now new)) (sym (store_alias_code types c.requires.down c.args.id d at c.args.offset c.args.realloc c.in-Alias.ty is)) c.store_type.ensures.sends;
     }
 
 pub store_id-returns-in_ok-store_parts-in-Record : goal.store_id-returns-in_ok-store_parts-in-Record
@@ -186,7 +197,7 @@ store_parts-store_type-requires g t c κs within =
     let below = part_below_table c.args.id.0 c.args.tys.now c.requires.below c.loop-i.i wit.Bool short (length types) c.requires.within in
     let side = side_later m _ _ c.args.realloc c.loop-i.invariant.adds.grows c.requires.side in
     let knows = c.loop-i.invariant.adds.grows.knows types c.requires.knows in
-    search rules
+    (omega (arith, low), (within.0, (within.1, (c.requires.down, (below, (side, knows))))))
 
 pub store_parts-loop-i-preserved : goal.store_parts-loop-i-preserved
 store_parts-loop-i-preserved g t c =
@@ -233,7 +244,7 @@ store_variant-store_cases-requires g t c κs within =
     let is : d.kind ≡ k = ap (λ (x : TypeDef). x.kind) c.index-types-at.is in
     let same = c.as_slice-tys.ensures ∙ c.in_ok-payloads.ensures.payloads in
     let below = subst (λ (ps : List (Option WitType)). list_all (λ p. payload_below c.args.id.0 p) ps ≡ true) (sym same) (variant_below types c.requires.down c.args.id.0 k (record { entry = d; stands = at; kind = is }) c.in_ok-payloads.ensures.has) in
-    search rules
+    (omega arith, (within.0, (within.1, (c.requires.down, (c.requires.within, (below, (c.requires.side, c.requires.knows)))))))
 
 pub store_variant-lower_by-requires : goal.store_variant-lower_by-requires
 store_variant-lower_by-requires g t c =
@@ -281,7 +292,7 @@ store_cases-store_case-requires g t c κs within =
     let most : length c.args.payloads.now ≤ 2 ^ 31 = omega (arith, c.if-count-gt-MOST_CASES.false) in
     let side = side_resumed m _ _ c.args.realloc c.loop-i.invariant.resumes c.requires.side in
     let knows = c.loop-i.invariant.resumes.knows types c.requires.knows in
-    search rules
+    (omega arith, (within.0, (within.1, (c.requires.down, (c.requires.within, (below, (short, (most, (side, knows)))))))))
 
 pub store_cases-loop-i-preserved : goal.store_cases-loop-i-preserved
 store_cases-loop-i-preserved g t c =
@@ -324,7 +335,33 @@ store_case-returns-in_ok-store_bare-in-None g t c =
 pub store_case-store_payload-requires : goal.store_case-store_payload-requires
 store_case-store_payload-requires g t c κs within =
     let below = payload_type_low c.args.id.0 c.in-Some.ty (subst (λ (p : Option WitType). payload_below c.args.id.0 p ≡ true) c.in-Some.is c.requires.below) in
-    search rules
+    (omega arith, (within.0, (within.1, (c.requires.down, (c.requires.within, (below, (c.requires.few, (c.requires.most, (c.requires.side, c.requires.knows)))))))))
+
+pub store_case-returns-in_ok-store_payload-in-Some : goal.store_case-returns-in_ok-store_payload-in-Some
+store_case-returns-in_ok-store_payload-in-Some g t c =
+    let m = g.B.Bindgen.meaning in
+    let types = c.args.resolve.now.types in
+    let code : Option WitType → List Sent = λ p. opens ∷ store_case c.args.count c.args.offset c.args.place c.args.number (option_map (store_code types c.args.realloc) p) ++ closes ∷ [] in
+    let Stored : Option WitType → Type 0 = λ p. StoresCase m c.args.realloc (discriminant_grain c.args.count) c.args.number (payload_in (shapes types) p) c.args.address.now c.args.offset c.args.place c.args.bindgen.now c.store_payload.new.bindgen in
+    record {
+      stores = subst Stored (sym c.in-Some.is) c.in_ok-store_payload-in-Some.ensures.stores;
+      sends = subst (λ (p : Option WitType). Sends m types (code p) c.args.bindgen.now c.store_payload.new.bindgen) (sym c.in-Some.is) c.in_ok-store_payload-in-Some.ensures.sends;
+    }
+
+pub store_payload-payload-requires : goal.store_payload-payload-requires
+store_payload-payload-requires g t c =
+    let m = g.B.Bindgen.meaning in
+    let begins = c.in_ok-push_block.ensures in
+    record { slot = begins.slot; suspended = m.code c.args.bindgen.now; outer = m.opened c.args.bindgen.now; opened = begins.opened }
+
+pub store_payload-close-requires : goal.store_payload-close-requires
+store_payload-close-requires g t c =
+    let m = g.B.Bindgen.meaning in
+    let begins = c.in_ok-push_block.ensures in
+    let tag = c.in_ok-store_tag.ensures in
+    let stored = number_store_adds m g.met.B.Bindgen.sound c.args.resolve.now.types (discriminant_grain c.args.count) c.args.offset (tag.1 ∷ c.args.address.now ∷ []) [] _ _ tag.3 in
+    let opened = c.in_ok-store_type.ensures.stores.adds.grows.opened ∙ stored.grows.opened ∙ tag.2.adds.grows.opened ∙ c.in_ok-value.ensures.adds.grows.opened ∙ begins.opened in
+    record { slot = begins.slot; suspended = m.code c.args.bindgen.now; outer = m.opened c.args.bindgen.now; opened = opened }
 
 pub store_payload-store_type-requires : goal.store_payload-store_type-requires
 store_payload-store_type-requires g t c κs within =
@@ -339,7 +376,7 @@ store_payload-store_type-requires g t c κs within =
     let below = type_below_table c.args.id.0 (length types) c.args.ty c.requires.below c.requires.within in
     let side = side_later m _ _ c.args.realloc stored.grows (side_later m _ _ c.args.realloc tag.2.adds.grows (side_later m _ _ c.args.realloc name.adds.grows (side_opened m _ _ c.args.realloc opens c.requires.side))) in
     let knows = stored.grows.knows types (tag.2.adds.grows.knows types (name.adds.grows.knows types (opens.lasts.knows types c.requires.knows))) in
-    search rules
+    (omega (arith, low), (within.0, (within.1, (c.requires.down, (below, (side, knows))))))
 
 pub store_payload-returns : goal.store_payload-returns
 store_payload-returns g t c =

@@ -1,10 +1,18 @@
-use Rattle.std.proofs.Common.{sym, ◌∙◌}
+use Rattle.std.proofs.Common.{length, sym, ap, ◌∙◌, arith}
 use Rattle.abi_driver.proofs.LeafStores.{one_word, scalar_stores}
 use Rattle.abi_bindgen.proofs.LowerSteps.{scalar_lowers}
 use Rattle.abi_driver.proofs.MemoryCode.{store_scalar_code}
 use Rattle.abi_bindgen.proofs.SendSteps.{sends_as, sends_two}
-use Rattle.abi_driver.proofs.Sendable.{makeable_store}
+use Rattle.abi_driver.proofs.Sendable.{makeable_lower, makeable_store}
 use Rattle.abi_driver.proofs.memory.store.store_scalar.Goals as goal
+
+pub lower_by-requires : goal.lower_by-requires
+lower_by-requires g c = (makeable_lower g.B.Bindgen.meaning c.args.resolve.now c.args.lower c.args.bindgen.now c.args.value c.args.ty c.requires).sendable
+
+pub bounds-as_slice-0 : goal.bounds-as_slice-0
+bounds-as_slice-0 g c =
+    let may = makeable_lower g.B.Bindgen.meaning c.args.resolve.now c.args.lower c.args.bindgen.now c.args.value c.args.ty c.requires in
+    omega (arith, ap length c.as_slice.ensures, may.makes (length c.in_ok-words.words) c.in_ok-words.ensures.results)
 
 pub store_word-requires : goal.store_word-requires
 store_word-requires g c =

@@ -1,0 +1,31 @@
+use Rattle.std.proofs.Common.{true, refl, ◌∙◌}
+use Rattle.wrapper_meaning.specs.Shape.{shape_of}
+use Rattle.abi_bindgen.specs.Code.{ask_for, store_code}
+use Rattle.abi_bindgen.specs.Frees.{nowhere}
+use Rattle.abi_driver.proofs.LeafStores.{one_of}
+use Rattle.abi_bindgen.proofs.SendSteps.{sends_both}
+use Rattle.abi_driver.proofs.calls.export.store_answer.Goals as goal
+
+pub store_type-requires : goal.store_type-requires
+store_type-requires g c =
+    let grows = c.in_ok-address.ensures.points.2.grows in
+    record { down = c.requires.down; below = c.requires.below; side = grows.exports ∙ c.requires.serves; knows = grows.knows c.args.resolve.now.types c.requires.knows }
+
+pub returns : goal.returns
+returns g c =
+    let types = c.args.resolve.now.types in
+    let value = c.in_ok-value.value in
+    let asked = c.in_ok-address.ensures in
+    let stored = c.in_ok-store_type.ensures in
+    record {
+      stores = record {
+        value = value;
+        address = c.in_ok-address.address;
+        middle = c.point_at.new.bindgen;
+        answered = one_of c.args.answer.now c.args.answer.now c.index-answer-0.result value c.requires.due refl c.index-answer-0.is c.in_ok-value.ensures;
+        gives = c.in_ok-given.ensures;
+        points = asked.points;
+        stores = stored.stores;
+      };
+      sends = sends_both g.B.Bindgen.meaning types (ask_for (shape_of types c.args.ty)) (store_code types true c.args.ty nowhere) c.args.bindgen.now c.point_at.new.bindgen c.store_type.new.bindgen asked.sends stored.sends;
+    }
