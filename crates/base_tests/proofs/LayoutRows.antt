@@ -1,12 +1,14 @@
 -- What types take in memory, where their parts stand, and which are too large, by rows.
-use Rattle.std.proofs.Common.{◌≡◌, ℕ, List, [], ◌∷◌, map, Option, None, Some, refl}
+use Rattle.std.proofs.Common.{◌≡◌, ℕ, List, [], ◌∷◌, map, replicate, Option, None, Some, refl}
+use Rattle.wit_model.specs.declared.types.TypeDef.{TypeDef}
+use Rattle.wit_model.specs.declared.types.TypeDefKind.{TypeDefKind}
 use Rattle.wit_model.specs.declared.types.TypeDefKind.TheVariants as kind
 use Rattle.wit_model.specs.declared.types.WitType.{WitType}
 use Rattle.wit_model.specs.declared.types.WitType.TheVariants as wit
 use Rattle.wit_layout.specs.Filled.{first_too_large}
 use Rattle.wit_layout.specs.Sizes.{alignment, elem_size, field_offsets, payload_offset}
 use Rattle.wit_layout.specs.Tree.{Tree, record_of, tree_at, tree_of, trees}
-use Rattle.base_tests.proofs.Sample.{type_def, types}
+use Rattle.base_tests.proofs.Sample.{type_def, types, variant_kind}
 
 -- the bytes of a type, and its alignment, where a pointer has four bytes, and then where it has eight
 abbrev told : Tree → (ℕ × ℕ) × ℕ × ℕ
@@ -54,10 +56,10 @@ numbers = refl
 
 -- 2. Where payloads stand: of variants, results, options and enums
 
-abbrev payload_at : ℕ → ℕ × ℕ
-payload_at at = (payload_offset 2 (tree_at types at), payload_offset 3 (tree_at types at))
+abbrev payload_in : List TypeDef → ℕ → ℕ × ℕ
+payload_in table at = (payload_offset 2 (tree_at table at), payload_offset 3 (tree_at table at))
 
-payloads : map payload_at (8 ∷ 9 ∷ 11 ∷ 14 ∷ 15 ∷ 16 ∷ 17 ∷ 18 ∷ 19 ∷ []) ≡
+payloads : map (payload_in types) (8 ∷ 9 ∷ 11 ∷ 14 ∷ 15 ∷ 16 ∷ 17 ∷ 18 ∷ 19 ∷ []) ≡
     (4, 4) ∷ (1, 1) ∷ (4, 8) ∷ (8, 8) ∷ (4, 8) ∷ (8, 8) ∷ (1, 1) ∷ (1, 1) ∷ (2, 2) ∷ []
 unfolding trees
 payloads = refl
@@ -89,7 +91,27 @@ record_fields : places (record_of [] mixed) ≡ (0 ∷ 4 ∷ 16 ∷ [], 0 ∷ 8 
 unfolding trees
 record_fields = refl
 
--- 4. More than two gigabytes are too large; a text has 16 bytes where a pointer has 8
+-- 4. A case number has one byte up to 256 cases, and two bytes from then on; a byte as a payload stands behind it
+
+-- variants without payloads, and variants of which one case has a byte
+abbrev bare : ℕ → TypeDefKind
+bare cases = variant_kind (replicate cases None)
+
+abbrev with_byte : ℕ → TypeDefKind
+with_byte others = variant_kind (Some wit.U8 ∷ replicate others None)
+
+abbrev many_cases : List TypeDef
+many_cases = map type_def (bare 256 ∷ bare 257 ∷ with_byte 255 ∷ with_byte 256 ∷ [])
+
+many_cases_told : map told (trees many_cases) ≡ ((1, 1), 1, 1) ∷ ((2, 2), 2, 2) ∷ ((2, 1), 2, 1) ∷ ((4, 2), 4, 2) ∷ []
+unfolding trees
+many_cases_told = refl
+
+many_cases_payloads : map (payload_in many_cases) (2 ∷ 3 ∷ []) ≡ (1, 1) ∷ (2, 2) ∷ []
+unfolding trees
+many_cases_payloads = refl
+
+-- 5. More than two gigabytes are too large; a text has 16 bytes where a pointer has 8
 
 -- which type is too large, of a byte and of a list of so many elements
 abbrev too_large : WitType → ℕ → Option ℕ

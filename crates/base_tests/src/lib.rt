@@ -1,7 +1,9 @@
-//! Tests of containers and of tables that are deep. What the definitions of tables, layouts, core words, facts on types, identifiers and
+//! Tests of containers, of tables that are deep, and of calls that no other crate tests. What the definitions of tables, layouts, core words, facts on types, identifiers and
 //! trees of a file hold of worked rows is proved in `proofs`, and what is copied and cloned in `copies`.
 #![tactic(auto)]
 
+#[cfg(test)]
+mod calls;
 #[cfg(test)]
 mod containers;
 mod copies;

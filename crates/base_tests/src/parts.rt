@@ -1,6 +1,10 @@
 //! Names, entries and tables for the tests.
 
+ghost use Rattle.std.specs.Prelude.{IfOk};
+ghost use Rattle.wit_model.specs.WellFormed.{IsWellFormed};
+
 use std::alloc::Global;
+use std::test::Fail;
 use wit_model::{
     Docs, List, Name, OutOfMemory, Resolve, Text, TypeDef, TypeDefKind, TypeId, TypeOwner, WitType,
 };
@@ -41,4 +45,12 @@ pub(crate) fn of_types(alloc: Global, types: List<TypeDef>) -> Resolve {
         interfaces: List::new(alloc),
         types,
     }
+}
+
+/// The tables, where they keep the rules.
+pub(crate) fn checked(alloc: Global, tables: Resolve) -> Result<Resolve, Fail>
+    ensures { IfOk result IsWellFormed }
+{
+    tables.check(alloc)?;
+    Ok(tables)
 }

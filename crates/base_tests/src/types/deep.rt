@@ -1,9 +1,8 @@
 //! Tables that are deep.
 
-ghost use Rattle.std.specs.Prelude.{IfOk};
 ghost use Rattle.wit_model.specs.WellFormed.{IsWellFormed};
 
-use crate::parts::{docs, entry, no_name, of_types, push};
+use crate::parts::{checked, docs, entry, no_name, of_types, push};
 use std::alloc::Global;
 use std::test::Fail;
 use wit_layout::{SizeAlign, flat_types};
@@ -40,14 +39,6 @@ fn results(alloc: Global) -> Result<Resolve, OutOfMemory> {
         push(&mut types, TypeDefKind::Result(both, both))?;
     }
     Ok(of_types(alloc, types))
-}
-
-/// The tables, where they keep the rules.
-fn checked(alloc: Global, tables: Resolve) -> Result<Resolve, Fail>
-    ensures { IfOk result IsWellFormed }
-{
-    tables.check(alloc)?;
-    Ok(tables)
 }
 
 /// How many words of the type with this number are told, and whether there are more.
