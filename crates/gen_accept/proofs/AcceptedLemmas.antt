@@ -35,7 +35,7 @@ use Rattle.type_defs.specs.Used.{IsUsed, UsesTypes, function_types, is_always_en
 use Rattle.type_defs.proofs.FunctionTypeLemmas.{all-more}
 use Rattle.type_defs.proofs.UsedLemmas.{used_is}
 use Rattle.gen_accept.specs.declared.opts.Opts.{Opts}
-use Rattle.gen_accept.specs.Built.{are_built_options, are_built_tables, is_built_item, is_built_kind, is_built_world, is_empty, is_freestanding, is_no_type, is_under_itself}
+use Rattle.gen_accept.specs.Built.{are_built_options, are_built_tables, is_built_item, is_built_kind, is_built_world, is_empty, is_freestanding, is_no_type}
 use Rattle.gen_accept.specs.Cause.{is_accepted, is_built}
 use Rattle.gen_accept.specs.Emitted.{exported_functions, imported_functions}
 use Rattle.gen_accept.specs.TypeOpts.{type_opts}
@@ -89,7 +89,7 @@ world-types : (world : World) → is_built_world world ≡ true → functions_pa
 unfolding is_built_world
 world-types world h =
     let items = and_parts (list_all (λ entry. is_built_item entry.1) world.imports) (list_all (λ entry. is_built_item entry.1) world.exports)
-    (and_parts _ (list_all (λ entry. is_under_itself entry.0 entry.1) world.imports) (and_parts _ (list_all (λ entry. is_no_type entry.1) world.exports) h).0).0 in
+    (and_parts _ (list_all (λ entry. is_no_type entry.1) world.exports) h).0 in
     and_from (entries_pass is_defined_type world.imports) (entries_pass is_defined_type world.exports)
     (all-more (λ e. is_built_item e.1) (λ e. item_passes is_defined_type e.1) (λ e. item-types e.1) world.imports items.0)
     (all-more (λ e. is_built_item e.1) (λ e. item_passes is_defined_type e.1) (λ e. item-types e.1) world.exports items.1)

@@ -16,7 +16,7 @@ use Rattle.type_facts.specs.Roots.{Roots, both, export_side, function_roots, imp
 use Rattle.type_defs.specs.FunctionTypes.{entries_pass, function_passes, functions_pass, item_passes, passes_or_none}
 use Rattle.type_defs.specs.ListedTypes.{Entries}
 use Rattle.type_defs.specs.Used.{function_types}
-use Rattle.gen_accept.specs.Built.{is_built_item, is_built_world, is_no_type, is_under_itself}
+use Rattle.gen_accept.specs.Built.{is_built_item, is_built_world, is_no_type}
 use Rattle.gen_accept.specs.Emitted.{exported_functions, functions_in, imported_functions}
 
 -- 1. What the types of functions pass
@@ -72,7 +72,7 @@ module _ (test : WitType → Bool) where
   unfolding is_built_world
   function-types-pass r world built h =
       let items = and_parts (list_all (λ entry. is_built_item entry.1) world.imports) (list_all (λ entry. is_built_item entry.1) world.exports)
-      (and_parts _ (list_all (λ entry. is_under_itself entry.0 entry.1) world.imports) (and_parts _ (list_all (λ entry. is_no_type entry.1) world.exports) built).0).0 in
+      (and_parts _ (list_all (λ entry. is_no_type entry.1) world.exports) built).0 in
       let sides = and_parts (entries_pass test world.imports) (entries_pass test world.exports) h in
       let imports = listed_roots r import_side world.imports in
       let exports = listed_roots r export_side world.exports in

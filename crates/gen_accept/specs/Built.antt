@@ -1,13 +1,11 @@
 -- Which tables and options hold only what the generator builds so far.
-use Rattle.std.specs.Prelude.{Bool, true, false, not, ◌&&◌, ◌==◌, nat_le, List, [], ◌∷◌, length, is_none}
+use Rattle.std.specs.Prelude.{Bool, true, false, not, ◌&&◌, nat_le, List, [], ◌∷◌, length, is_none}
 use Rattle.std.specs.List.{list_all}
 use Rattle.wit_model.specs.declared.types.TypeDefKind.{TypeDefKind}
 use Rattle.wit_model.specs.declared.types.TypeDefKind.TheVariants as sort
 use Rattle.wit_model.specs.declared.function.Function.{Function}
 use Rattle.wit_model.specs.declared.function.FunctionKind.{FunctionKind}
 use Rattle.wit_model.specs.declared.function.FunctionKind.TheVariants as kind
-use Rattle.wit_model.specs.declared.world.WorldKey.{WorldKey}
-use Rattle.wit_model.specs.declared.world.WorldKey.TheVariants as key
 use Rattle.wit_model.specs.declared.world.WorldItem.{WorldItem}
 use Rattle.wit_model.specs.declared.world.WorldItem.TheVariants as item
 use Rattle.wit_model.specs.declared.world.World.{World}
@@ -30,12 +28,6 @@ is_built_item (item.Function f) = is_built_function f
 is_built_item (item.Named _) = true
 is_built_item (item.Interface _) = false
 
--- a type stands under itself
-abbrev pub is_under_itself : WorldKey → WorldItem → Bool
-is_under_itself (key.Type under) (item.Named id) = under.0 == id.0
-is_under_itself _ (item.Named _) = false
-is_under_itself _ _ = true
-
 abbrev pub is_no_type : WorldItem → Bool
 is_no_type (item.Named _) = false
 is_no_type _ = true
@@ -48,7 +40,7 @@ is_empty (_ ∷ _) = false
 unfoldable pub is_built_world : World → Bool
 is_built_world world =
     list_all (λ entry. is_built_item entry.1) world.imports && list_all (λ entry. is_built_item entry.1) world.exports
-    && list_all (λ entry. is_under_itself entry.0 entry.1) world.imports && list_all (λ entry. is_no_type entry.1) world.exports
+    && list_all (λ entry. is_no_type entry.1) world.exports
 
 -- a type that the table may have: an alias, a record, a tuple, an option, a result, a variant, an enum, or flags of which there are 128
 -- at most

@@ -1,5 +1,5 @@
--- Whether the names and versions of the tables are written as WIT writes them, and functions stand under names: rules that
--- tables without interfaces can break.
+-- Whether the names and versions of the tables are written as WIT writes them, and functions and types stand under names: rules
+-- that tables without interfaces can break.
 use Rattle.std.specs.Prelude.{ℕ, Bool, true, false, not, ◌&&◌, ◌||◌, nat_le, ◌==◌, List, Option, None, Some}
 use Rattle.std.specs.List.{list_all}
 use Rattle.wit_model.specs.declared.function.Function.{Function}
@@ -49,11 +49,10 @@ are_written_members _ = true
 abbrev pub is_written_type : TypeDef → Bool
 is_written_type t = is_written_type_name t.name && are_written_members t.kind
 
--- a function stands under a name
+-- functions and types stand under names
 abbrev pub is_written_key : WorldKey → Bool
 is_written_key (key.Name name) = is_wit_form name.wit
 is_written_key (key.Interface _) = false
-is_written_key (key.Type _) = true
 
 abbrev pub is_written_item : WorldItem → Bool
 is_written_item (item.Interface _) = true

@@ -2,7 +2,7 @@
 
 ghost use Rattle.std.specs.Prelude.{◌≡◌};
 ghost use Rattle.std.specs.List.{list_all};
-ghost use Rattle.gen_accept.specs.Built.{is_built_kind, is_freestanding, is_built_function, is_built_item, is_empty, is_no_type, is_under_itself, is_built_world, are_built_tables, are_flags_off, are_lists_empty, are_values_absent, are_built_options};
+ghost use Rattle.gen_accept.specs.Built.{is_built_kind, is_freestanding, is_built_function, is_built_item, is_empty, is_no_type, is_built_world, are_built_tables, are_flags_off, are_lists_empty, are_values_absent, are_built_options};
 ghost use Rattle.type_defs.specs.Defined.{is_defined_part, is_defined_type};
 ghost use Rattle.type_defs.specs.FunctionTypes.{function_passes};
 ghost use Rattle.type_defs.specs.Modes.{is_owning};
@@ -64,22 +64,6 @@ fn is_built_item(item: &WorldItem) -> bool
     }
 }
 
-fn is_under_itself(entry: &(WorldKey, WorldItem)) -> bool
-    ensures { result ≡ is_under_itself entry.now.0 entry.now.1 }
-{
-    match (&entry.0, &entry.1) {
-        (WorldKey::Type(under), WorldItem::Named(id)) => under.0 == id.0,
-        (_, WorldItem::Named(_)) => false,
-        _ => true,
-    }
-}
-
-fn are_under_themselves(entries: &[(WorldKey, WorldItem)]) -> bool
-    ensures { result ≡ list_all (λ entry. is_under_itself entry.0 entry.1) entries.now }
-{
-    entries.iter().all(|entry| is_under_itself(entry))
-}
-
 fn is_no_type(item: &WorldItem) -> bool
     ensures { result ≡ is_no_type item.now }
 {
@@ -113,7 +97,6 @@ fn is_built_world(world: &World) -> bool
 {
     are_built_items(world.imports.as_slice())
         && are_built_items(world.exports.as_slice())
-        && are_under_themselves(world.imports.as_slice())
         && are_no_types(world.exports.as_slice())
 }
 

@@ -157,7 +157,6 @@ fn is_written_key(key: &WorldKey) -> bool
     match key {
         WorldKey::Name(name) => is_wit_form(&name.wit),
         WorldKey::Interface(_) => false,
-        WorldKey::Type(_) => true,
     }
 }
 
@@ -187,7 +186,8 @@ fn are_written_worlds(worlds: &[World]) -> bool
     worlds.iter().all(|world| is_written_world(world))
 }
 
-/// Whether every name and version of the tables is written as WIT writes it, and every function stands under a name.
+/// Whether every name and version of the tables is written as WIT writes it, and every function and type stands under a
+/// name.
 #[tactic(auto, unfolding(crate::specs::NameText::are_written_tables))]
 pub(crate) fn are_written_tables(resolve: &Resolve) -> bool
     ensures { result ≡ are_written_tables resolve.now }

@@ -1,9 +1,7 @@
--- Which import or export does a JSON value give, and what does it stand under?
+-- Which import or export does a JSON value give?
 use Rattle.std.specs.Prelude.{ℕ, List, [], ◌∷◌, codes, Option, option_map, option_and_then}
 use Rattle.std.specs.Map.{lookup}
 use Rattle.std.specs.Str.{bytes_eq}
-use Rattle.wit_model.specs.declared.world.WorldKey.{WorldKey}
-use Rattle.wit_model.specs.declared.world.WorldKey.TheVariants as key
 use Rattle.wit_model.specs.declared.world.WorldItem.{WorldItem}
 use Rattle.wit_model.specs.declared.world.WorldItem.TheVariants as entry
 use Rattle.serde_json.specs.Data.{Data}
@@ -22,12 +20,3 @@ unfoldable pub item_of : Data → Option WorldItem
 item_of d = do
   only_one ← sole_member d
   item_at only_one.0 only_one.1
-
--- what an item stands under: its own name, or the interface or type that it is
-abbrev pub own_key : WorldItem → WorldKey
-own_key (entry.Interface id) = key.Interface id
-own_key (entry.Function f) = key.Name f.name
-own_key (entry.Named id) = key.Type id
-
-unfoldable pub entry_of : Data → Option (WorldKey × WorldItem)
-entry_of d = option_map (λ item. (own_key item, item)) (item_of d)

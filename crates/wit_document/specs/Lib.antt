@@ -8,5 +8,6 @@ pub mod TypeTable
 pub mod Function
 pub mod Items
 pub mod World
+pub mod Keyed
 pub mod Options
 pub mod Document

@@ -2,13 +2,14 @@ ghost use Rattle.wit_document.specs.Reads.{Reads};
 ghost use Rattle.wit_document.specs.Document.{resolve_of, document, document_in};
 
 use crate::fault::DocumentFault;
+use crate::keyed::keyed_worlds;
 use crate::members::{empty_list, given, only, required, required_two};
 use crate::options::DocumentOptions;
 use crate::reading::Readable;
 use crate::value::parse;
 use json::{Scratch, Value};
 use std::alloc::Global;
-use wit_model::{Resolve, WorldId};
+use wit_model::{List, Resolve, TypeDef, WorldId};
 
 /// The tables of a resolved world, the world that is meant, and the options.
 #[derive(Debug, PartialEq, Drop)]
@@ -61,10 +62,10 @@ impl Readable for Resolve {
 
     fn read(alloc: Global, value: &Value<'_>) -> Result<Resolve, DocumentFault> {
         only(value, &["worlds", "packages", "interfaces", "types"])?;
-        let named = required_two(alloc, value, "worlds", "packages")?;
+        let (listed, packages) = required_two(alloc, value, "worlds", "packages")?;
         let interfaces = empty_list(alloc, value, "interfaces")?;
-        let types = required(alloc, value, "types")?;
-        let (worlds, packages) = named;
+        let types: List<TypeDef> = required(alloc, value, "types")?;
+        let worlds = keyed_worlds(alloc, types.as_slice(), listed)?;
         Ok(Resolve {
             worlds,
             packages,

@@ -1,16 +1,15 @@
-//! The imports and exports of a world.
+//! What the imports and exports of a world are.
 
-ghost use Rattle.std.specs.Prelude.{◌≡◌, IfOk};
 ghost use Rattle.wit_document.specs.View.{view};
 ghost use Rattle.wit_document.specs.Reads.{Reads};
-ghost use Rattle.wit_document.specs.Items.{item_at, item_of, own_key, entry_of};
+ghost use Rattle.wit_document.specs.Items.{item_at, item_of};
 
 use crate::fault::DocumentFault;
 use crate::members::sole_member;
 use crate::reading::Readable;
 use json::Value;
 use std::alloc::Global;
-use wit_model::{Function, OutOfMemory, TypeId, WorldItem, WorldKey};
+use wit_model::{Function, TypeId, WorldItem};
 
 #[tactic(auto, unfolding(crate::specs::Items::item_at))]
 fn read_item_at(alloc: Global, word: &str, value: &Value<'_>) -> Result<WorldItem, DocumentFault>
@@ -32,27 +31,5 @@ impl Readable for WorldItem {
             Some((word, member)) => read_item_at(alloc, word, member),
             None => Err(DocumentFault::BadJson),
         }
-    }
-}
-
-/// What an item stands under.
-fn own_key(alloc: Global, item: &WorldItem) -> Result<WorldKey, OutOfMemory>
-    ensures { IfOk result (λ key. key ≡ own_key item.now) }
-{
-    match item {
-        WorldItem::Interface(id) => Ok(WorldKey::Interface(*id)),
-        WorldItem::Function(f) => Ok(WorldKey::Name(f.name.copy(alloc)?)),
-        WorldItem::Named(id) => Ok(WorldKey::Type(*id)),
-    }
-}
-
-#[tactic(auto, unfolding(crate::specs::Items::entry_of))]
-impl Readable for (WorldKey, WorldItem) {
-    ghost read_of = { entry_of };
-
-    fn read(alloc: Global, value: &Value<'_>) -> Result<(WorldKey, WorldItem), DocumentFault> {
-        let item = WorldItem::read(alloc, value)?;
-        let key = own_key(alloc, &item)?;
-        Ok((key, item))
     }
 }

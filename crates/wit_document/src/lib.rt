@@ -5,6 +5,7 @@ mod document;
 mod fault;
 mod function;
 mod item;
+mod keyed;
 mod kind;
 mod members;
 mod name;

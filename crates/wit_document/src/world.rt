@@ -5,7 +5,16 @@ use crate::members::{only, optional, required, required_two};
 use crate::reading::Readable;
 use json::Value;
 use std::alloc::Global;
-use wit_model::{Package, PackageId, World, WorldId};
+use wit_model::{List, Name, Package, PackageId, WorldId, WorldItem};
+
+/// A world as a document lists it: what its items stand under is not told there.
+#[derive(Drop)]
+pub(crate) struct ListedWorld {
+    pub(crate) name: Name,
+    pub(crate) package: PackageId,
+    pub(crate) imports: List<WorldItem>,
+    pub(crate) exports: List<WorldItem>,
+}
 
 #[tactic(auto, unfolding(crate::specs::World::world_id_of))]
 impl Readable for WorldId {
@@ -45,15 +54,15 @@ impl Readable for Package {
 }
 
 #[tactic(auto, unfolding(crate::specs::World::world_of))]
-impl Readable for World {
+impl Readable for ListedWorld {
     ghost read_of = { world_of };
 
-    fn read(alloc: Global, value: &Value<'_>) -> Result<World, DocumentFault> {
+    fn read(alloc: Global, value: &Value<'_>) -> Result<ListedWorld, DocumentFault> {
         only(value, &["name", "package", "imports", "exports"])?;
         let package = required(alloc, value, "package")?;
         let name = required(alloc, value, "name")?;
         let (imports, exports) = required_two(alloc, value, "imports", "exports")?;
-        Ok(World {
+        Ok(ListedWorld {
             name,
             package,
             imports,

@@ -85,7 +85,6 @@ interface_in_range r entry =
 unfoldable pub key_in_range : Resolve → WorldKey → Bool
 key_in_range r (key.Name _) = true
 key_in_range r (key.Interface id) = interface_id_in_range r id
-key_in_range r (key.Type id) = type_id_in_range r id
 
 unfoldable pub item_in_range : Resolve → WorldItem → Bool
 item_in_range r (item.Interface id) = interface_id_in_range r id

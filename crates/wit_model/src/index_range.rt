@@ -159,7 +159,6 @@ fn key_in_range(resolve: &Resolve, key: &WorldKey) -> bool
     match key {
         WorldKey::Name(_) => true,
         WorldKey::Interface(id) => interface_id_in_range(resolve, *id),
-        WorldKey::Type(id) => type_id_in_range(resolve, *id),
     }
 }
 

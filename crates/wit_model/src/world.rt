@@ -12,13 +12,12 @@ pub struct Package {
     pub module: Text,
 }
 
-/// What an import or an export of a world stands under: the name of a function or of an inline interface, an interface
-/// itself, or a type, whose own name it is.
+/// What an import or an export of a world stands under: the name of a function, of a type or of an inline interface, or an
+/// interface itself.
 #[derive(Debug, PartialEq, Drop)]
 pub enum WorldKey {
     Name(Name),
     Interface(InterfaceId),
-    Type(TypeId),
 }
 
 /// An import or an export of a world.
