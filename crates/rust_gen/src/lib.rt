@@ -21,4 +21,5 @@ pub use gen_accept::{
 };
 pub use gen_files::Files;
 pub use generate::{Build, RustWasm};
+pub use rust_tree::to_rust_ident;
 pub use type_defs::{Ownership, OwnershipFault};

@@ -9,3 +9,7 @@ mod run;
 pub use input::{Input, InputFault2, input_of};
 pub use outcome::Outcome;
 pub use run::run_words;
+pub use wit_ends::{
+    InputFault, MemorySink, MemorySource, Sink, SinkFailed, Source, SourceFailed, StdSink,
+    StdSource, read_input,
+};
