@@ -34,14 +34,20 @@ impl Model for RustWasm {
 
 /// What a generator is made of.
 pub trait Build {
+    ghost use Rattle.gen_accept.specs.declared.opts.Opts.{Opts};
+
+    /// The options that it is or has.
+    ghost options: { Self → Opts };
+
     /// A generator with exactly these options.
-    fn build(self, alloc: Global) -> Result<RustWasm, OutOfMemory>;
+    fn build(self, alloc: Global) -> Result<RustWasm, OutOfMemory>
+        ensures { IfOk result (λ g. g ≡ options self) };
 }
 
 impl Build for Opts {
-    fn build(self, alloc: Global) -> Result<RustWasm, OutOfMemory>
-        ensures { IfOk result (λ g. g ≡ self) }
-    {
+    ghost options = { λ opts. opts };
+
+    fn build(self, alloc: Global) -> Result<RustWasm, OutOfMemory> {
         Ok(RustWasm { alloc, opts: self })
     }
 }
