@@ -70,7 +70,8 @@ ask_local stuck of name = λ s. or_stop stuck (option_map val.Word (option_and_t
 unfoldable pub bind : Bytes → Val → Act (Unit {0})
 bind name v = λ s. Done tt (record s { locals = s.locals ++ record { name = name; value = Some v } ∷ [] })
 
--- a pointer is written into the newest local of a name, which holds a slot for a pointer or 64 bits: its upper half is then zero
+-- a pointer is written into the newest local of a name, which holds a slot for a pointer or 64 bits: its upper half is then zero here,
+-- where real code leaves it as it was; what reads the pointer reads the low bits alone
 abbrev pub slot_with : Val → Val → Option Val
 slot_with (val.Word (word.Pointer address)) (val.Word (word.Slot _)) = Some (val.Word (word.Slot (Some address)))
 slot_with _ _ = None
