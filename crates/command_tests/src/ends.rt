@@ -53,21 +53,12 @@ pub(crate) fn texts(alloc: Global, words: &[&str]) -> Result<List<Text>, OutOfMe
     Ok(list)
 }
 
-/// Runs the words over the ends.
-fn run(alloc: Global, words: &[&str], ends: Ends) -> Result<Left, OutOfMemory> {
+/// Runs the words over the ends, and gives the status.
+fn run(alloc: Global, words: &[&str], ends: &mut Ends) -> Result<u8, OutOfMemory> {
     let words = texts(alloc, words)?;
-    let Ends {
-        mut source,
-        mut out,
-        mut fault,
-    } = ends;
-    let outcome = run_words(alloc, words.as_slice(), &mut source, &mut out, &mut fault);
-    Ok(Left {
-        status: outcome.status,
-        source: source.left().len(),
-        out: out.bytes().len(),
-        fault: fault.bytes().len(),
-    })
+    let Ends { source, out, fault } = ends;
+    let outcome = run_words(alloc, words.as_slice(), source, out, fault);
+    Ok(outcome.status)
 }
 
 /// Runs the words on a document, over ends of which each may fail.
@@ -79,12 +70,33 @@ pub(crate) fn runs(
     printed: End<'_>,
     told: End<'_>,
 ) -> Result<Left, OutOfMemory> {
-    let ends = Ends {
+    let mut ends = Ends {
         source: source(alloc, document, read)?,
         out: sink(alloc, printed)?,
         fault: sink(alloc, told)?,
     };
-    run(alloc, words, ends)
+    let status = run(alloc, words, &mut ends)?;
+    Ok(Left {
+        status,
+        source: ends.source.left().len(),
+        out: ends.out.bytes().len(),
+        fault: ends.fault.bytes().len(),
+    })
+}
+
+/// What the output has taken of the command on a document, where it may fail.
+pub(crate) fn printed(
+    alloc: Global,
+    document: &[u8],
+    printed: End<'_>,
+) -> Result<List<u8>, OutOfMemory> {
+    let mut ends = Ends {
+        source: source(alloc, document, SOUND)?,
+        out: sink(alloc, printed)?,
+        fault: sink(alloc, SOUND)?,
+    };
+    run(alloc, &["generate"], &mut ends)?;
+    List::from_slice(alloc, ends.out.bytes())
 }
 
 /// Runs the command on a document, over ends of which each may fail.

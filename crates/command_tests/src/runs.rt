@@ -1,10 +1,10 @@
 //! What a run answers where an end fails, and where the words are no command.
 
-use crate::ends::{End, Left, SOUND, generate, runs};
+use crate::ends::{End, Left, SOUND, generate, printed, runs};
 use std::test::Fail;
 
 /// The document of a world without items, of 299 bytes; its file has 68.
-const DOCUMENT: &str = concat!(
+pub(crate) const DOCUMENT: &str = concat!(
     r#"{"resolve":{"worlds":[{"name":{"wit":"w","snake":"w","camel":"W","upper":"W"},"package":0,"imports":[],"exports":[]}],"#,
     r#""packages":[{"namespace":{"wit":"t","snake":"t","camel":"T","upper":"T"},"#,
     r#""name":{"wit":"p","snake":"p","camel":"P","upper":"P"},"module":"p"}],"interfaces":[],"types":[]},"world":0}"#,
@@ -54,6 +54,15 @@ fn reads_that_fail(rt: HostRuntime) -> Result<(), Fail> {
 }
 
 #[test]
+fn documents_that_are_cut(rt: HostRuntime) -> Result<(), Fail> {
+    for cut in 0..DOCUMENT.len() {
+        let left = generate(rt.alloc(), &DOCUMENT.as_bytes()[..cut], SOUND, SOUND, SOUND)?;
+        assert!(rt; left == told(5, 24));
+    }
+    Ok(())
+}
+
+#[test]
 fn a_byte_too_many(rt: HostRuntime) -> Result<(), Fail> {
     let spaces = vec![in rt.alloc(); b' '; 67_108_870]?;
     let left = generate(rt.alloc(), spaces.as_slice(), SOUND, SOUND, SOUND)?;
@@ -94,5 +103,16 @@ fn writes_that_fail(rt: HostRuntime) -> Result<(), Fail> {
             }
         );
     }
+    Ok(())
+}
+
+#[test]
+fn what_was_written_before_a_write_failed(rt: HostRuntime) -> Result<(), Fail> {
+    let end = End {
+        fails: &[2],
+        most: 10,
+    };
+    let taken = printed(rt.alloc(), DOCUMENT.as_bytes(), end)?;
+    assert!(rt; taken.as_slice() == b"// Generat".as_slice());
     Ok(())
 }
