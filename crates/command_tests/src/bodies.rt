@@ -1,19 +1,21 @@
 //! The wrappers of a file are the driver's code.
 
 mod code;
+mod memory;
 mod sites;
+mod trees;
 mod worlds;
 
 ghost use Rattle.std.specs.Prelude.{◌<◌, length};
 ghost use Rattle.wit_model.specs.WellFormed.{IsWellFormed};
 
 use code::{export_code, import_code};
-use func_gen::Body;
 use rust_gen::{Build, Files, Opts};
-use rust_tree::{Bindings, Block, WrapperId, text_of};
+use rust_tree::{Bindings, WrapperId};
 use std::alloc::Global;
 use std::test::Fail;
-use wit_model::{OutOfMemory, Resolve, WorldId};
+use trees::{export_tree, import_tree, prints};
+use wit_model::{Resolve, WorldId};
 use worlds::{world_of_a_variant, world_of_flags};
 use wrapper_run::{export_at, import_at};
 
@@ -25,21 +27,21 @@ fn tree_of(alloc: Global, resolve: &Resolve) -> Result<Bindings, Fail> {
     Ok(tree)
 }
 
-/// Whether the first wrapper of a tree is that of an import with this body.
-fn is_import(tree: &Bindings, body: &Block) -> bool {
-    match import_at(tree, WrapperId(0)) {
-        Some((_, wrapper)) => wrapper.body == *body,
-        None => false,
+/// Whether the first wrappers of two trees are imports with the same body.
+fn are_one_import(made: &Bindings, driven: &Bindings) -> bool {
+    let first = WrapperId(0);
+    match (import_at(made, first), import_at(driven, first)) {
+        (Some((_, made)), Some((_, driven))) => made.body == driven.body,
+        _ => false,
     }
 }
 
-/// Whether the first wrapper of a tree is that of an export with this body.
-fn is_export(tree: &Bindings, body: &Body) -> bool {
-    match (export_at(tree, WrapperId(0)), &body.call) {
-        (Some((_, wrapper)), Some(call)) => {
-            wrapper.call == *call
-                && wrapper.rest.stmts == body.stmts
-                && wrapper.rest.tail == body.tail
+/// Whether the first wrappers of two trees are exports with the same body.
+fn are_one_export(made: &Bindings, driven: &Bindings) -> bool {
+    let first = WrapperId(0);
+    match (export_at(made, first), export_at(driven, first)) {
+        (Some((_, made)), Some((_, driven))) => {
+            made.call == driven.call && made.rest == driven.rest
         }
         _ => false,
     }
@@ -51,7 +53,8 @@ fn is_driven_import(alloc: Global, resolve: &Resolve, tree: &Bindings) -> Result
     requires some { 0 < length resolve.now.types }
 {
     let body = import_code(alloc, resolve)?;
-    Ok(is_import(tree, &body))
+    let driven = import_tree(alloc, body)?;
+    Ok(are_one_import(tree, &driven))
 }
 
 /// Whether the first wrapper of a tree is the export that the driver makes.
@@ -60,13 +63,8 @@ fn is_driven_export(alloc: Global, resolve: &Resolve, tree: &Bindings) -> Result
     requires some { 0 < length resolve.now.types }
 {
     let body = export_code(alloc, resolve)?;
-    Ok(is_export(tree, &body))
-}
-
-/// Whether the text of a tree has a passage.
-fn prints(alloc: Global, tree: &Bindings, passage: &str) -> Result<bool, OutOfMemory> {
-    let text = text_of(alloc, tree)?;
-    Ok(text.as_str().contains(passage))
+    let driven = export_tree(alloc, body)?;
+    Ok(are_one_export(tree, &driven))
 }
 
 /// The float's bits, put into the slot that a whole number shares.

@@ -1,5 +1,5 @@
-//! Tests of the command: runs whose ends fail, and files that no document makes; and that the wrappers of a file are the driver's code, for
-//! a payload in a joined slot and for flags of two words.
+//! Tests of the command: runs whose ends fail, and files that no document makes; that the wrappers of a file are the driver's code, for
+//! a payload in a joined slot and for flags of two words; and what the driver stores and frees by itself.
 #![tactic(auto)]
 
 #[cfg(test)]

@@ -1,22 +1,25 @@
 //! The driver's code for the functions of these worlds, made apart from their files.
 
-ghost use Rattle.std.specs.Prelude.{◌≡◌, ◌<◌, length, true, IfOk};
+ghost use Rattle.std.specs.Prelude.{◌≡◌, ◌<◌, ◌∷◌, length, true, IfOk};
+ghost use Rattle.std.specs.List.{AllByRecursion};
+ghost use Rattle.wit_model.specs.Distinct.{is_distinct};
 ghost use Rattle.wit_model.specs.IndexRange.{function_in_range};
 ghost use Rattle.wit_model.specs.WellFormed.{IsWellFormed};
 ghost use Rattle.abi_driver.specs.Exports.{export_params};
-ghost use Rattle.wrapper_closing.specs.Parts.{AreParts};
+ghost use Rattle.func_gen.specs.Sites.{IsSite, site_names};
+ghost use Rattle.func_gen.specs.TypeSites.{CanBeDefined};
+ghost use Rattle.wrapper_closing.specs.Parts.{AreParts, IsMadeFrom};
 
 use crate::bodies::sites::{flags_sites, variant_sites};
 use crate::bodies::worlds::function;
-use func_gen::Body;
-use rust_tree::Block;
+use abi_driver::{AbiVariant, LiftLower, call};
+use func_gen::{Body, FunctionBindgen};
 use std::alloc::Global;
 use std::test::Fail;
 use wit_layout::SizeAlign;
 use wit_model::{Function, List, OutOfMemory, Resolve, Text};
 use wrapper_closing::{
-    BodyParts, are_distinct_names, cleanup_list, core_params, core_sites, export_body,
-    import_block, import_body, param_sites, ret_area,
+    BodyParts, are_distinct_names, cleanup_list, core_params, core_sites, param_sites, ret_area,
 };
 
 /// The names of the function's parameters.
@@ -29,7 +32,7 @@ fn names(alloc: Global) -> Result<List<Text>, OutOfMemory>
 }
 
 /// Of what the body of an import over a variant is made.
-fn import_parts(alloc: Global, resolve: &Resolve) -> Result<BodyParts, Fail>
+pub(crate) fn import_parts(alloc: Global, resolve: &Resolve) -> Result<BodyParts, Fail>
     requires { IsWellFormed resolve.now }
     ensures parts { IfOk result (AreParts resolve.now.types) }
     ensures many { IfOk result (λ parts. length parts.params ≡ 1) }
@@ -54,26 +57,46 @@ fn import_parts(alloc: Global, resolve: &Resolve) -> Result<BodyParts, Fail>
     })
 }
 
-/// The body of the import of a world of a variant.
-fn import_made(alloc: Global, resolve: &Resolve) -> Result<Body, Fail>
+/// A fresh bindgen of these parts.
+pub(crate) fn fresh(
+    alloc: Global,
+    import: bool,
+    parts: BodyParts,
+) -> Result<FunctionBindgen, OutOfMemory>
+    requires sites { AllByRecursion IsSite parts.params }
+    requires defined { CanBeDefined parts.sites }
+    requires distinct { is_distinct (parts.area ∷ site_names parts.params) ≡ true }
+    ensures { IfOk result (IsMadeFrom import parts) }
+{
+    let BodyParts {
+        sizes,
+        home,
+        area,
+        cleanup,
+        params,
+        sites,
+    } = parts;
+    FunctionBindgen::new(alloc, sizes, import, home, area, cleanup, params, sites)
+}
+
+/// The driver's code for the import of a world of a variant.
+pub(crate) fn import_code(alloc: Global, resolve: &Resolve) -> Result<Body, Fail>
     requires well { IsWellFormed resolve.now }
     requires some { 0 < length resolve.now.types }
 {
     let func = function(alloc)?;
     let parts = import_parts(alloc, resolve)?;
-    let (body, _) = import_body(alloc, resolve, &func, parts)?;
+    let mut bindgen = fresh(alloc, true, parts)?;
+    call(
+        alloc,
+        resolve,
+        AbiVariant::GuestImport,
+        LiftLower::LowerArgsLiftResults,
+        &func,
+        &mut bindgen,
+    )?;
+    let (body, _) = bindgen.finish()?;
     Ok(body)
-}
-
-/// The block that this body is.
-pub(crate) fn import_code(alloc: Global, resolve: &Resolve) -> Result<Block, Fail>
-    requires well { IsWellFormed resolve.now }
-    requires some { 0 < length resolve.now.types }
-{
-    let area = ret_area(alloc)?;
-    let body = import_made(alloc, resolve)?;
-    let (block, _) = import_block(alloc, area, body)?;
-    Ok(block)
 }
 
 /// Of what the body of an export over flags is made.
@@ -100,13 +123,22 @@ fn export_parts(alloc: Global, resolve: &Resolve, func: &Function) -> Result<Bod
     })
 }
 
-/// The body of the export of a world of flags.
+/// The driver's code for the export of a world of flags.
 pub(crate) fn export_code(alloc: Global, resolve: &Resolve) -> Result<Body, Fail>
     requires well { IsWellFormed resolve.now }
     requires some { 0 < length resolve.now.types }
 {
     let func = function(alloc)?;
     let parts = export_parts(alloc, resolve, &func)?;
-    let (body, _) = export_body(alloc, resolve, &func, parts)?;
+    let mut bindgen = fresh(alloc, false, parts)?;
+    call(
+        alloc,
+        resolve,
+        AbiVariant::GuestExport,
+        LiftLower::LiftArgsLowerResults,
+        &func,
+        &mut bindgen,
+    )?;
+    let (body, _) = bindgen.finish()?;
     Ok(body)
 }

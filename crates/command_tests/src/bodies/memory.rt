@@ -1,0 +1,77 @@
+//! Code that puts a value into memory and frees one, which `call` makes by inner functions.
+
+ghost use Rattle.wit_model.specs.WellFormed.{IsWellFormed};
+
+use crate::bodies::code::{fresh, import_parts};
+use crate::bodies::trees::{import_tree, prints};
+use crate::bodies::worlds::world_of_a_variant;
+use abi_driver::{deallocate_lists_in_types, lower_to_memory};
+use func_gen::ExprOperand;
+use rust_tree::{Bindings, Expr};
+use std::alloc::Global;
+use std::test::Fail;
+use wit_model::{List, OutOfMemory, Resolve, Text, WitType};
+
+/// A local.
+fn local(alloc: Global, name: &str) -> Result<ExprOperand, OutOfMemory> {
+    let name = Text::from_str(alloc, name)?;
+    Ok(ExprOperand {
+        expr: Expr::Local(name),
+        kept: false,
+    })
+}
+
+/// The address and the length of a text.
+fn words_of_a_text(alloc: Global) -> Result<List<ExprOperand>, OutOfMemory> {
+    let mut words = List::new(alloc);
+    words.push(local(alloc, "p")?)?;
+    words.push(local(alloc, "n")?)?;
+    Ok(words)
+}
+
+/// The tree of the code that stores a number.
+#[tactic(auto, unfolding(wit_model::specs::TypeOrder::type_below))]
+fn stored(alloc: Global, resolve: &Resolve) -> Result<Bindings, Fail>
+    requires { IsWellFormed resolve.now }
+{
+    let parts = import_parts(alloc, resolve)?;
+    let mut bindgen = fresh(alloc, true, parts)?;
+    let address = local(alloc, "a")?;
+    let value = local(alloc, "x")?;
+    let ty = WitType::U32;
+    lower_to_memory(alloc, resolve, &mut bindgen, address, value, &ty, false)?;
+    let (body, _) = bindgen.finish()?;
+    import_tree(alloc, body)
+}
+
+/// The tree of the code that frees a text.
+#[tactic(auto, unfolding(wit_model::specs::TypeOrder::type_below))]
+fn freed(alloc: Global, resolve: &Resolve) -> Result<Bindings, Fail>
+    requires { IsWellFormed resolve.now }
+{
+    let parts = import_parts(alloc, resolve)?;
+    let mut bindgen = fresh(alloc, true, parts)?;
+    let words = words_of_a_text(alloc)?;
+    let types = &[WitType::String];
+    deallocate_lists_in_types(alloc, resolve, types, &words, false, &mut bindgen)?;
+    let (body, _) = bindgen.finish()?;
+    import_tree(alloc, body)
+}
+
+#[test]
+fn a_number_is_stored(rt: HostRuntime) -> Result<(), Fail> {
+    let resolve = world_of_a_variant(rt.alloc())?;
+    let tree = stored(rt.alloc(), &resolve)?;
+    let code = "unsafe {\n*a.add(0).cast::<i32>() = _rt::as_i32(x);\n}\n";
+    assert!(rt; prints(rt.alloc(), &tree, code)?);
+    Ok(())
+}
+
+#[test]
+fn a_text_is_freed(rt: HostRuntime) -> Result<(), Fail> {
+    let resolve = world_of_a_variant(rt.alloc())?;
+    let tree = freed(rt.alloc(), &resolve)?;
+    let code = "unsafe {\n_rt::cabi_dealloc(p, n, 1);\n}\n";
+    assert!(rt; prints(rt.alloc(), &tree, code)?);
+    Ok(())
+}
