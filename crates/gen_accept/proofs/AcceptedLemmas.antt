@@ -29,7 +29,7 @@ use Rattle.type_defs.specs.Defined.{are_defined_kinds, is_defined_kind, is_defin
 use Rattle.type_defs.specs.DefinedNames.{AreDefinable}
 use Rattle.type_defs.specs.FunctionTypes.{entries_pass, function_passes, functions_pass, item_passes}
 use Rattle.type_defs.specs.ListedTypes.{listed_types}
-use Rattle.type_defs.specs.Listing.{is_covered}
+use Rattle.type_defs.specs.Listing.{is_covered_whole}
 use Rattle.type_defs.specs.Modes.{is_always_defined, is_owning, is_wanted}
 use Rattle.type_defs.specs.Used.{IsUsed, UsesTypes, function_types, is_always_entry, is_wanted_at, uses}
 use Rattle.type_defs.proofs.FunctionTypeLemmas.{all-more}
@@ -113,7 +113,7 @@ module _ (opts : Opts) (r : Resolve) (id : WorldId) (world : World) (checked : I
       → is_wanted_at (type_opts opts) r world type.0 ≡ true
   wants type entry info among at facts wanted =
       ap (λ o. is_always_entry o || (uses r world type.0 || opts.generate_unused_types)) at
-      ∙ sym (ap (λ b. is_always_defined entry.kind || (b || opts.generate_unused_types)) (used_is r id world type info (accepted-shallow opts r world accepted) found (listed-is-named opts r id world accepted found type among) facts)) ∙ wanted
+      ∙ sym (ap (λ b. is_always_defined entry.kind || (b || opts.generate_unused_types)) (used_is r id world type info (accepted-shallow opts r world accepted) found (listed-is-named opts r id world checked accepted found type among) facts)) ∙ wanted
 
   pub definable : AreDefinable (type_opts opts) r id world
   definable = record {
@@ -124,14 +124,14 @@ module _ (opts : Opts) (r : Resolve) (id : WorldId) (world : World) (checked : I
     parts = all-more (λ (t : TypeDef). is_built_kind t.kind) (λ t. list_all is_defined_part (parts t.kind)) (λ t. defined-parts t.kind) r.types tables.0;
     owning = owning;
     covered = λ ty among.
-        covers opts r id world accepted found ty
-        (all-contained (is_covered r.types (listed_types world) 100) (function_types r world) ty
-        (function-types-pass (is_covered r.types (listed_types world) 100) r world built-world (functions-covered opts r id world accepted found)) among);
+        covers opts r id world checked accepted found ty
+        (all-contained (is_covered_whole r.types (listed_types world)) (function_types r world) ty
+        (function-types-pass (is_covered_whole r.types (listed_types world)) r world built-world (functions-covered opts r id world checked accepted found)) among);
     apart = distinct_types opts r world (accepted-declares opts r world accepted);
     fields = distinct_fields opts r world (accepted-declares opts r world accepted);
     members = distinct_members opts r world (accepted-declares opts r world accepted);
     within = listed-within r id.0 world checked found;
-    named = λ type entry info among at facts wanted. named-definition opts r id world accepted found type among (wants type entry info among at facts wanted);
+    named = λ type entry info among at facts wanted. named-definition opts r id world checked accepted found type among (wants type entry info among at facts wanted);
   }
 
   -- the types of its functions

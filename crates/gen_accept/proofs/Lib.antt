@@ -4,7 +4,7 @@ mod ClashLemmas
 pub mod DeclaredLemmas
 mod EmittedLemmas
 pub mod FunctionLemmas
+pub mod LargeLemmas
 mod ListedNameLemmas
 pub mod RootLemmas
-pub mod SmallLemmas
 pub mod WithinLemmas

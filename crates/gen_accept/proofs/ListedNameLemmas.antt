@@ -15,6 +15,8 @@ use Rattle.wit_model.specs.declared.types.TypeDefKind.TheVariants as kind
 use Rattle.wit_model.specs.declared.types.WitType.{WitType}
 use Rattle.wit_model.specs.declared.types.WitType.TheVariants.{Id}
 use Rattle.wit_model.specs.Reaches.{Reaches}
+use Rattle.wit_model.specs.TypeOrder.{GoesDown}
+use Rattle.wit_model.specs.WellFormed.{IsWellFormed}
 use Rattle.type_facts.specs.Facts.{IsNamed}
 use Rattle.type_defs.specs.FunctionTypes.{functions_pass}
 use Rattle.type_defs.specs.Used.{Covers, defined_ids, defined_types, function_types, is_always_entry, is_wanted_at, uses}
@@ -26,14 +28,15 @@ use Rattle.type_defs.specs.ListedTypes.{listed_types}
 use Rattle.gen_accept.specs.Cause.{is_accepted}
 use Rattle.gen_accept.specs.DeclaredNames.{declares_well}
 use Rattle.type_defs.specs.Levels.{are_shallow}
-use Rattle.type_defs.specs.Listing.{are_listed, is_covered, keeps_listing, lists, may_list}
+use Rattle.type_defs.specs.Listing.{are_listed, depth, is_covered_whole, keeps_listing, lists, may_list}
 use Rattle.gen_accept.specs.NameText.{are_written_members, are_written_tables, is_written_package, is_written_type, is_written_type_name, is_written_world}
 use Rattle.type_defs.specs.WitForm.{is_wit_form}
 use Rattle.type_defs.specs.PrintedTypes.{entry_at, entry_or_none, field_names, member_names, name_or_none, type_name}
 use Rattle.wit_model.proofs.AllLemmas.{all_at}
+use Rattle.wit_model.proofs.WellFormedLemmas.{types_go_down}
 use Rattle.gen_accept.proofs.DeclaredLemmas.{field_idents, member_idents, type_idents}
-use Rattle.type_defs.proofs.ListingLemmas.{listed-reached, world-listing}
-use Rattle.type_defs.proofs.UsedLemmas.{reached_from, reached_uses, shallow_low, uses_reached}
+use Rattle.type_defs.proofs.ListingLemmas.{listed-reached, whole-low, world-listing}
+use Rattle.type_defs.proofs.UsedLemmas.{reached_from, reached_uses, uses_reached}
 use Rattle.type_defs.proofs.UsedTypeLemmas.{listed-named, reaches-alone}
 use Rattle.gen_accept.proofs.CauseLemmas.{accepted-declares, accepted-listed, accepted-shallow, accepted-written}
 use Rattle.type_defs.specs.DefinedNames.{IsNamedDefinition, are_named_parts}
@@ -96,7 +99,7 @@ lists-filtered test (id ∷ listed) n l t = go (nat_eq id.0 n) refl (test id.0) 
 contained : {A : Type 0} (xs : List A) (x : A) → Contains xs x → (n : ℕ) × (slice_get xs n ≡ Some x)
 contained xs x (k, below, e) = (k, slice_get-get_or xs k x below ∙ ap (λ y. Some y) e)
 
-module _ (opts : Opts) (r : Resolve) (id : WorldId) (world : World) (accepted : is_accepted opts r world ≡ true) (found : slice_get r.worlds id.0 ≡ Some world) where
+module _ (opts : Opts) (r : Resolve) (id : WorldId) (world : World) (checked : IsWellFormed r) (accepted : is_accepted opts r world ≡ true) (found : slice_get r.worlds id.0 ≡ Some world) where
   abbrev listed : List TypeId
   listed = listed_types world
 
@@ -109,6 +112,9 @@ module _ (opts : Opts) (r : Resolve) (id : WorldId) (world : World) (accepted : 
   shallow : are_shallow r.types ≡ true
   shallow = accepted-shallow opts r world accepted
 
+  down : GoesDown r.types
+  down = types_go_down r checked.unbroken
+
   declares : declares_well opts r world ≡ true
   declares = accepted-declares opts r world accepted
 
@@ -117,25 +123,25 @@ module _ (opts : Opts) (r : Resolve) (id : WorldId) (world : World) (accepted : 
   types-written =
       (and_parts (list_all is_written_package r.packages) (list_all is_written_type r.types) (and_parts _ (list_all is_written_world r.worlds) (accepted-written opts r world accepted)).0).1
 
-  listing : (are_listed r.types id.0 listed ≡ true) × (functions_pass (is_covered r.types listed 100) world ≡ true)
+  listing : (are_listed r.types id.0 listed ≡ true) × (functions_pass (is_covered_whole r.types listed) world ≡ true)
   unfolding keeps_listing
-  listing = and_parts (are_listed r.types id.0 listed) (functions_pass (is_covered r.types listed 100) world) (world-listing r id.0 world (accepted-listed opts r world accepted) found)
+  listing = and_parts (are_listed r.types id.0 listed) (functions_pass (is_covered_whole r.types listed) world) (world-listing r id.0 world (accepted-listed opts r world accepted) found)
 
-  pub functions-covered : functions_pass (is_covered r.types listed 100) world ≡ true
+  pub functions-covered : functions_pass (is_covered_whole r.types listed) world ≡ true
   functions-covered = listing.1
 
   -- what a type reaches that is covered is listed
-  pub covers : (ty : WitType) → is_covered r.types listed 100 ty ≡ true → Covers r world ty
-  covers ty covered part entry reaches at named = listed-reached r.types listed 100 part entry (shallow_low r.types ty shallow) covered reaches at (some-named entry.name named)
+  pub covers : (ty : WitType) → is_covered_whole r.types listed ty ≡ true → Covers r world ty
+  covers ty covered part entry reaches at named = listed-reached r.types listed (depth r.types) part entry (whole-low r.types down ty) covered reaches at (some-named entry.name named)
     where
       some-named : (o : Option Name) → is_some o ≡ true → is_none o ≡ false
       some-named None h = cc
       some-named (Some name) h = refl
 
-  listed-covered : (type : TypeId) → Contains listed type → is_covered r.types listed 100 (Id type) ≡ true
+  listed-covered : (type : TypeId) → Contains listed type → is_covered_whole r.types listed (Id type) ≡ true
   listed-covered type among =
-      let keep = all-contained (λ i. may_list id.0 (slice_get r.types i.0) && is_covered r.types listed 100 (Id i)) listed type listing.0 among in
-      (and_parts (may_list id.0 (slice_get r.types type.0)) (is_covered r.types listed 100 (Id type)) keep).1
+      let keep = all-contained (λ i. may_list id.0 (slice_get r.types i.0) && is_covered_whole r.types listed (Id i)) listed type listing.0 among in
+      (and_parts (may_list id.0 (slice_get r.types type.0)) (is_covered_whole r.types listed (Id type)) keep).1
 
   pub listed-is-named : (type : TypeId) → Contains listed type → IsNamed r.types type
   listed-is-named type among = let at = contained listed type among in listed-named r id.0 world (accepted-listed opts r world accepted) found at.0 type at.1
@@ -170,7 +176,7 @@ module _ (opts : Opts) (r : Resolve) (id : WorldId) (world : World) (accepted : 
       let members = member_idents opts r world declares in
       record {
         reached = λ part entry name reaches there named.
-            let l = listed-reached r.types listed 100 part entry (shallow_low r.types (Id type) shallow) (listed-covered type among) reaches there (ap is_none named) in
+            let l = listed-reached r.types listed (depth r.types) part entry (whole-low r.types down (Id type)) (listed-covered type among) reaches there (ap is_none named) in
             ap (λ o. is_type_name (name_or_none o)) (sym named) ∙ defined-passes (λ t. is_type_name (type_name t)) names part entry l (wanted-reached type part want reaches) there;
         parts = λ entry there.
             named-parts entry.kind (defined-passes (λ t. list_all is_ident (field_names t.kind)) fields type entry (contained-lists listed type among) want there)

@@ -35,6 +35,10 @@ imported_functions world = functions_in world.imports
 abbrev pub exported_functions : World → List Function
 exported_functions world = functions_in world.exports
 
+-- in the order of the file
+abbrev pub emitted_functions : World → List Function
+emitted_functions world = imported_functions world ++ exported_functions world
+
 -- the places of the imported functions, and those of the exported ones behind them
 abbrev pub emitted_places : World → List FuncPlace
 emitted_places world = places_from 0 world.imports ++ places_from 0 world.exports

@@ -4,16 +4,17 @@ ghost use Rattle.std.specs.Prelude.{◌≡◌, true, None, Some, IfOk, slice_get
 ghost use Rattle.wit_model.specs.WellFormed.{IsWellFormed, first_fault};
 ghost use Rattle.type_defs.specs.Levels.{are_shallow};
 ghost use Rattle.type_defs.specs.Listing.{are_listed_well};
-ghost use Rattle.gen_accept.specs.DeclaredNames.{declares_well};
-ghost use Rattle.gen_accept.specs.Cause.{IsAnswer, IsUnbuilt, cause, invalid, is_accepted, is_built, is_index_range, is_well_named, built_cause, world_cause};
+ghost use Rattle.gen_accept.specs.Clash.{first_clash};
+ghost use Rattle.gen_accept.specs.DeclaredNames.{declared_names};
+ghost use Rattle.gen_accept.specs.Cause.{IsAnswer, IsUnbuilt, cause, invalid, is_accepted, is_built, is_index_range, keeps_rules, built_cause, world_cause};
 
 use crate::built::{are_built_options, are_built_tables};
 use crate::clash::first_clash;
-use crate::error::{GenError, Lack};
+use crate::error::{Clash, GenError, Lack};
 use crate::name_text::are_written_tables;
 use crate::names::{declared_names, have_distinct_names};
 use crate::opts::Opts;
-use crate::too_large::are_small;
+use crate::too_large::first_large;
 use std::alloc::Global;
 use type_defs::{are_listed_well, are_type_names};
 use wit_model::{OutOfMemory, Resolve, Rule, Table, World, WorldFault, WorldId};
@@ -52,70 +53,39 @@ fn is_built(opts: &Opts, resolve: &Resolve) -> bool
     are_built_tables(resolve) && are_built_options(opts)
 }
 
-#[tactic(auto, unfolding(crate::specs::Cause::is_well_named))]
-fn is_well_named(
-    alloc: Global,
-    opts: &Opts,
-    resolve: &Resolve,
-    id: WorldId,
-    world: &World,
-) -> Result<bool, OutOfMemory>
-    requires well { IsWellFormed resolve.now }
-    requires found { slice_get resolve.now.worlds id.0 ≡ Some world.now }
-    requires shallow { are_shallow resolve.now.types ≡ true }
-    requires listed { are_listed_well resolve.now ≡ true }
-    ensures { IfOk result (λ b. b ≡ is_well_named opts.now resolve.now world.now) }
+#[tactic(auto, unfolding(crate::specs::Cause::keeps_rules))]
+fn keeps_rules(alloc: Global, resolve: &Resolve) -> Result<bool, OutOfMemory>
+    requires { IsWellFormed resolve.now }
+    ensures { IfOk result (λ b. b ≡ keeps_rules resolve.now) }
 {
-    if !are_written_tables(resolve) {
-        return Ok(false);
-    }
-    if !have_distinct_names(alloc, resolve.worlds.as_slice())? {
-        return Ok(false);
-    }
-    declares_well(alloc, opts, resolve, id, world)
-}
-
-#[tactic(auto, unfolding(crate::specs::DeclaredNames::declares_well))]
-fn declares_well(
-    alloc: Global,
-    opts: &Opts,
-    resolve: &Resolve,
-    id: WorldId,
-    world: &World,
-) -> Result<bool, OutOfMemory>
-    requires well { IsWellFormed resolve.now }
-    requires found { slice_get resolve.now.worlds id.0 ≡ Some world.now }
-    requires shallow { are_shallow resolve.now.types ≡ true }
-    requires listed { are_listed_well resolve.now ≡ true }
-    ensures { IfOk result (λ b. b ≡ declares_well opts.now resolve.now world.now) }
-{
-    let names = declared_names(alloc, opts, resolve, id, world)?;
-    let clash = first_clash(alloc, names.as_slice())?;
-    Ok(clash.is_none())
-}
-
-#[tactic(auto, unfolding(crate::specs::Cause::is_accepted))]
-fn is_accepted(
-    alloc: Global,
-    opts: &Opts,
-    resolve: &Resolve,
-    id: WorldId,
-    world: &World,
-) -> Result<bool, OutOfMemory>
-    requires well { IsWellFormed resolve.now }
-    requires found { slice_get resolve.now.worlds id.0 ≡ Some world.now }
-    ensures { IfOk result (λ b. b ≡ is_accepted opts.now resolve.now world.now) }
-{
-    if !are_small(alloc, resolve, world)? {
-        return Ok(false);
-    }
     if !are_type_names(resolve.types.as_slice()) {
         return Ok(false);
     }
     if !are_listed_well(alloc, resolve)? {
         return Ok(false);
     }
-    is_well_named(alloc, opts, resolve, id, world)
+    if !are_written_tables(resolve) {
+        return Ok(false);
+    }
+    have_distinct_names(alloc, resolve.worlds.as_slice())
+}
+
+/// The first declared name of a world's file that clashes.
+fn first_clash_of(
+    alloc: Global,
+    opts: &Opts,
+    resolve: &Resolve,
+    id: WorldId,
+    world: &World,
+) -> Result<Option<Clash>, OutOfMemory>
+    requires well { IsWellFormed resolve.now }
+    requires found { slice_get resolve.now.worlds id.0 ≡ Some world.now }
+    requires shallow { are_shallow resolve.now.types ≡ true }
+    requires listed { are_listed_well resolve.now ≡ true }
+    ensures { IfOk result (λ clash. clash ≡ first_clash (declared_names opts.now resolve.now world.now)) }
+{
+    let names = declared_names(alloc, opts, resolve, id, world)?;
+    first_clash(alloc, names.as_slice())
 }
 
 fn unbuilt(alloc: Global, world: &World) -> GenError
@@ -148,10 +118,15 @@ fn without_fault(
     if let Some(fault) = fault {
         return Err(invalid(fault));
     }
-    match is_accepted(alloc, opts, resolve, id, world) {
-        Ok(true) => Ok(()),
-        Ok(false) => Err(unbuilt(alloc, world)),
-        Err(OutOfMemory) => Err(GenError::OutOfMemory),
+    if !keeps_rules(alloc, resolve)? {
+        return Err(unbuilt(alloc, world));
+    }
+    if let Some(large) = first_large(alloc, resolve, world)? {
+        return Err(GenError::TooLarge(large));
+    }
+    match first_clash_of(alloc, opts, resolve, id, world)? {
+        Some(clash) => Err(GenError::NameClash(clash)),
+        None => Ok(()),
     }
 }
 
@@ -183,8 +158,9 @@ fn accepted<'a>(
 }
 
 /// The world of an id, unless there is a cause for which no file is made. `InvalidWorld` comes where the tables break a rule,
-/// or have no world of that id; `Unsupported` where something is not built, or would be refused for a size, for its types or
-/// for its names. Want of memory may come at any point.
+/// or have no world of that id; `Unsupported` where something is not built, or another rule is broken, which has no answer of its
+/// own yet; `TooLarge` with the first type or function that is too large; and `NameClash` with the first declared name that
+/// clashes. Want of memory may come at any point.
 #[tactic(auto, unfolding(crate::specs::Cause::cause))]
 pub fn accepted_world<'a>(
     alloc: Global,

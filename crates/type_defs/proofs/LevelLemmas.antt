@@ -1,8 +1,9 @@
 -- The most entries on a way down from a type are one more than those of the types that it names.
-use Rattle.std.proofs.Common.{◌≡◌, ℕ, zero, suc, ◌+◌, ◌∙◌, true, false, ◌&&◌, ◌||◌, not, nat_lt, inl, inr, List, [], ◌∷◌, ◌++◌, length, drop, get_or, Option, Some, None, sym, ap, subst, arith}
-use Rattle.std.specs.List.{list_all, slice_get}
-use Rattle.std.proofs.lemmas.Bool.{and_parts, le-ltb, lt-ltb, ltb_from_iff}
+use Rattle.std.proofs.Common.{◌≡◌, ℕ, zero, suc, ◌+◌, ◌∙◌, Bool, true, false, cond, ◌||◌, not, nat_lt, inl, inr, List, [], ◌∷◌, ◌++◌, length, drop, get_or, Option, Some, None, refl, sym, ap, subst, arith}
+use Rattle.std.specs.List.{list_all, position_from, slice_get}
+use Rattle.std.proofs.lemmas.Bool.{and_from, and_parts, le-ltb, lt-ltb, ltb_from_iff}
 use Rattle.std.proofs.lemmas.Grind.{common_steps}
+use Rattle.std.proofs.lemmas.Iterator.Adapters.{position_from-zero}
 use Rattle.std.proofs.lemmas.Option.{slice_get-get_or}
 use Rattle.wit_model.specs.declared.name.TypeId.{TypeId}
 use Rattle.wit_model.specs.declared.types.WitType.{WitType}
@@ -12,7 +13,7 @@ use Rattle.wit_model.specs.Parts.{parts}
 use Rattle.wit_model.specs.TypeOrder.{type_below, payload_below, parts_below, GoesDown}
 use Rattle.wit_model.proofs.BelowLemmas.{id_below}
 use Rattle.wit_model.proofs.ListLemmas.{at_end, drop_at}
-use Rattle.type_defs.specs.Levels.{AreLevels, greater, greatest, greatest_below, is_any_deeper, is_deeper, is_shallow, level_of, parts_of}
+use Rattle.type_defs.specs.Levels.{AreLevels, are_shallow, first_deep, greater, greatest, greatest_below, is_any_deeper, is_deeper, is_shallow, level_of, parts_of}
 
 greater-assoc : (a b c : ℕ) → greater (greater a b) c ≡ greater a (greater b c)
 greater-assoc a b c = grind (arith, common_steps)
@@ -69,9 +70,23 @@ module _ (types : List TypeDef) (down : GoesDown types) (known : List ℕ) (are 
           | inr last ↦ entry_level n of (last.0 ∙ count) ∙ ap (nat_lt n) last.1
         ]
 
-    is_shallow-exact : is_shallow types entry ≡ not (nat_lt 99 (greatest_below known entry.kind))
+    pub is_shallow-exact : is_shallow types entry ≡ not (nat_lt 99 (greatest_below known entry.kind))
     unfolding is_shallow
     is_shallow-exact = ap not (kind_level 99)
 
-    pub rest_of : list_all (is_shallow types) (drop id types) ≡ (not (nat_lt 99 (greatest_below known entry.kind)) && list_all (is_shallow types) (drop (id + 1) types))
-    rest_of = ap (list_all (is_shallow types)) (drop_at types id entry at) ∙ ap (λ b. b && list_all (is_shallow types) (drop (id + 1) types)) is_shallow-exact
+-- where no entry is the first deep one, none is deep
+all-shallow : (types : List TypeDef) (nth : ℕ) (entries : List TypeDef) → position_from (λ entry. not (is_shallow types entry)) nth entries ≡ None → list_all (is_shallow types) entries ≡ true
+all-shallow types nth [] h = refl
+all-shallow types nth (entry ∷ entries) h =
+    go (is_shallow types entry) refl (λ later. all-shallow types (nth + 1) entries later)
+  where
+    later : Option ℕ
+    later = position_from (λ entry. not (is_shallow types entry)) (nth + 1) entries
+
+    go : (b : Bool) → is_shallow types entry ≡ b → (later ≡ None → list_all (is_shallow types) entries ≡ true) → list_all (is_shallow types) (entry ∷ entries) ≡ true
+    go true e rest = and_from (is_shallow types entry) (list_all (is_shallow types) entries) e (rest (sym (ap (λ b. cond (not b) (Some nth) later) e) ∙ h))
+    go false e rest = let wrong : cond (not false) (Some nth) later ≡ None = sym (ap (λ b. cond (not b) (Some nth) later) e) ∙ h in cc
+
+pub not-deep : (types : List TypeDef) → first_deep types ≡ None → are_shallow types ≡ true
+unfolding are_shallow
+not-deep types none = all-shallow types 0 types (sym (position_from-zero (λ entry. not (is_shallow types entry)) types) ∙ none)

@@ -4,7 +4,7 @@ pub mod DefinedLemmas
 pub mod DefinedNameLemmas
 pub mod EnumInstances
 pub mod FunctionTypeLemmas
-mod LevelLemmas
+pub mod LevelLemmas
 pub mod ListingLemmas
 pub mod NamedTextLemmas
 pub mod ParamInstances

@@ -1,7 +1,7 @@
 -- What a type reaches is listed where the parts of each are.
-use Rattle.std.proofs.Common.{◌≡◌, ℕ, zero, suc, ◌+◌, ◌<◌, ◌∙◌, Bool, true, false, cond, ◌&&◌, ◌||◌, nat_eq, inl, inr, List, [], ◌∷◌, ◌++◌, length, take, get_or, Option, Some, None, is_none, refl, sym, ap, subst, add-zero, arith}
+use Rattle.std.proofs.Common.{◌≡◌, ℕ, zero, suc, ◌+◌, ◌<◌, ◌≤◌, ◌∙◌, Bool, true, false, cond, ◌&&◌, ◌||◌, nat_eq, inl, inr, List, [], ◌∷◌, ◌++◌, length, take, get_or, Option, Some, None, is_none, refl, sym, ap, subst, add-zero, arith}
 use Rattle.std.specs.List.{enumerate_from, list_all, list_any, slice_get}
-use Rattle.std.proofs.lemmas.Bool.{and_from, and_parts, not-true}
+use Rattle.std.proofs.lemmas.Bool.{and_from, and_parts, lt-ltb}
 use Rattle.std.proofs.lemmas.List.Folds.{list_any-append}
 use Rattle.std.proofs.lemmas.Option.{slice_get-get_or, slice_get_within}
 use Rattle.wit_model.specs.declared.name.TypeId.{TypeId}
@@ -14,11 +14,11 @@ use Rattle.wit_model.specs.Parts.{parts}
 use Rattle.wit_model.specs.Reaches.{Reaches, reaches_by, reaches_itself}
 use Rattle.wit_model.specs.TypeOrder.{type_below, payload_below, parts_below, GoesDown}
 use Rattle.wit_model.proofs.AllLemmas.{all_at}
-use Rattle.wit_model.proofs.BelowLemmas.{id_below}
+use Rattle.wit_model.proofs.BelowLemmas.{id_below, type_below_more}
 use Rattle.wit_model.proofs.ListLemmas.{at_end}
 use Rattle.type_defs.specs.ListedTypes.{listed_types}
-use Rattle.type_defs.specs.Levels.{are_shallow, is_any_deeper, is_deeper, is_shallow, parts_of, passes}
-use Rattle.type_defs.specs.Listing.{AreCovered, are_listed, are_listed_well, covered_by, covers, is_covered, keeps_listing, lists, may_list}
+use Rattle.type_defs.specs.Levels.{is_any_deeper, is_deeper, parts_of, passes}
+use Rattle.type_defs.specs.Listing.{AreCovered, are_listed, are_listed_well, covered_by, covers, depth, is_covered, is_covered_whole, keeps_listing, lists, may_list}
 use Rattle.type_defs.specs.FunctionTypes.{functions_pass, passes_or_none}
 use Rattle.type_defs.proofs.CutLemmas.{take_at}
 use Rattle.type_defs.proofs.FunctionTypeLemmas.{all-same, functions-more, functions-same}
@@ -53,9 +53,42 @@ or-past (b ∷ known) (t ∷ types) zero count none = absurd (cc)
 or-past (b ∷ known) (t ∷ types) (suc n) count none = or-past known types n (omega (arith, count)) none
 
 -- a type that is covered before the table is gone up is none of its entries
-outside-covered : (types : List TypeDef) (listed : List TypeId) (ty : WitType) → covered_by [] (Some ty) ≡ true → is_covered types listed 100 ty ≡ true
+outside-covered : (types : List TypeDef) (listed : List TypeId) (ty : WitType) → covered_by [] (Some ty) ≡ true → is_covered_whole types listed ty ≡ true
 outside-covered types listed (Id id) h = absurd (cc)
 outside-covered types listed ty h = refl
+
+module _ (types : List TypeDef) (down : GoesDown types) where
+  parts-low : (n bound : ℕ) → ((ty : WitType) → type_below bound ty ≡ true → is_deeper types n ty ≡ false) → (ps : List (Option WitType)) → list_all (λ part. payload_below bound part) ps ≡ true → is_any_deeper types n ps ≡ false
+  unfolding payload_below
+  parts-low n bound low [] h = refl
+  parts-low n bound low (None ∷ ps) h = parts-low n bound low ps h
+  parts-low n bound low (Some ty ∷ ps) h =
+      let both = and_parts (type_below bound ty) (list_all (λ part. payload_below bound part) ps) h in
+      ap (λ b. b || is_any_deeper types n ps) (low ty both.0) ∙ parts-low n bound low ps both.1
+
+  entry-low : (n : ℕ) (id : TypeId) → ((ty : WitType) → type_below id.0 ty ≡ true → is_deeper types n ty ≡ false) → (o : Option TypeDef) → slice_get types id.0 ≡ o → is_deeper types (suc n) (Id id) ≡ false
+  unfolding parts_below
+  entry-low n id low None at = ap (λ o. is_any_deeper types n (parts_of o)) at
+  entry-low n id low (Some t) at = ap (λ o. is_any_deeper types n (parts_of o)) at ∙ parts-low n id.0 low (parts t.kind) (down id.0 t at)
+
+  -- no more entries than a bound lie on a way down from a type below it
+  below-low : (n : ℕ) (ty : WitType) → type_below n ty ≡ true → is_deeper types n ty ≡ false
+  below-low zero (Id id) below = absurd (omega (arith, id_below zero id below))
+  below-low (suc n) (Id id) below =
+      let within : id.0 ≤ n = omega (arith, id_below (suc n) id below) in
+      entry-low n id (λ ty lower. below-low n ty (type_below_more id.0 n ty within lower)) (slice_get types id.0) refl
+  below-low zero ty below = refl
+  below-low (suc n) ty below = refl
+
+  -- nor as many as the table has, and one more
+  known-low : (id : TypeId) (o : Option TypeDef) → slice_get types id.0 ≡ o → is_deeper types (depth types) (Id id) ≡ false
+  unfolding type_below
+  known-low id None at = ap (λ o. is_any_deeper types (length types) (parts_of o)) at
+  known-low id (Some t) at = let within = slice_get_within types id.0 t at in below-low (depth types) (Id id) (lt-ltb id.0 (depth types) (omega (arith, within)))
+
+  pub whole-low : (ty : WitType) → is_deeper types (depth types) ty ≡ false
+  whole-low (Id id) = known-low id (slice_get types id.0) refl
+  whole-low ty = refl
 
 module _ (types : List TypeDef) (down : GoesDown types) (listed : List TypeId) (known : List Bool) (are : AreCovered types listed known) where
   type-covered : (n : ℕ) (ty : WitType) → type_below (length known) ty ≡ true → is_deeper types n ty ≡ false → is_covered types listed n ty ≡ covered_by known (Some ty)
@@ -96,38 +129,34 @@ module _ (types : List TypeDef) (down : GoesDown types) (listed : List TypeId) (
         ]
 
   -- of any type, once the whole table is known
-  module _ (count : length known ≡ length types) (shallow : are_shallow types ≡ true) where
-    id-covered : (id : TypeId) (entry : Option TypeDef) → slice_get types id.0 ≡ entry → covered_by known (Some (Id id)) ≡ is_covered types listed 100 (Id id)
-    unfolding are_shallow is_shallow
+  module _ (count : length known ≡ length types) where
+    id-covered : (id : TypeId) (entry : Option TypeDef) → slice_get types id.0 ≡ entry → covered_by known (Some (Id id)) ≡ is_covered_whole types listed (Id id)
     id-covered id None at =
-        or-past known types id.0 count at ∙ sym (ap (covers (is_covered types listed 99) listed id.0) at)
+        or-past known types id.0 count at ∙ sym (ap (covers (is_covered types listed (length types)) listed id.0) at)
     id-covered id (Some t) at =
         let within : id.0 < length known = subst (λ n. id.0 < n) (sym count) (slice_get_within types id.0 t at) in
-        let entry : is_shallow types t ≡ true = all_at (is_shallow types) types id.0 t shallow at in
-        let low : is_any_deeper types 99 (parts t.kind) ≡ false = not-true _ entry in
-        let lower : is_deeper types 100 (Id id) ≡ false = ap (λ o. is_any_deeper types 99 (parts_of o)) at ∙ low in
-        sym (are id (get_or known id.0 false) (slice_get-get_or known id.0 false within) 100 lower)
+        sym (are id (get_or known id.0 false) (slice_get-get_or known id.0 false within) (depth types) (whole-low types down (Id id)))
 
-    pub covered-whole : (ty : WitType) → covered_by known (Some ty) ≡ is_covered types listed 100 ty
+    pub covered-whole : (ty : WitType) → covered_by known (Some ty) ≡ is_covered_whole types listed ty
     covered-whole (Id id) = id-covered id (slice_get types id.0) refl
     covered-whole ty = refl
 
     pub listed-whole : (nth : ℕ) (world : World)
         → (list_all (λ id. may_list nth (slice_get types id.0) && covered_by known (Some (Id id))) listed && functions_pass (λ ty. covered_by known (Some ty)) world)
-        ≡ (are_listed types nth listed && functions_pass (is_covered types listed 100) world)
+        ≡ (are_listed types nth listed && functions_pass (is_covered_whole types listed) world)
     listed-whole nth world =
         ap (λ b. b && functions_pass (λ ty. covered_by known (Some ty)) world)
-        (all-same (λ id. may_list nth (slice_get types id.0) && covered_by known (Some (Id id))) (λ id. may_list nth (slice_get types id.0) && is_covered types listed 100 (Id id))
+        (all-same (λ id. may_list nth (slice_get types id.0) && covered_by known (Some (Id id))) (λ id. may_list nth (slice_get types id.0) && is_covered_whole types listed (Id id))
         (λ id. ap (λ b. may_list nth (slice_get types id.0) && b) (covered-whole (Id id))) listed)
-        ∙ ap (λ b. are_listed types nth listed && b) (functions-same (λ ty. covered_by known (Some ty)) (is_covered types listed 100) covered-whole world)
+        ∙ ap (λ b. are_listed types nth listed && b) (functions-same (λ ty. covered_by known (Some ty)) (is_covered_whole types listed) covered-whole world)
 
 -- a world that lists nothing, and whose functions name no entry of the table, keeps its listing
 pub nothing-listed : (types : List TypeDef) (nth : ℕ) (world : World) → length (listed_types world) ≡ 0 → functions_pass (λ ty. covered_by [] (Some ty)) world ≡ true → keeps_listing types nth world ≡ true
 unfolding keeps_listing
 nothing-listed types nth world none outside =
     let listed : listed_types world ≡ [] = nil_from_length (listed_types world) none in
-    and_from (are_listed types nth (listed_types world)) (functions_pass (is_covered types (listed_types world) 100) world) (ap (are_listed types nth) listed)
-    (functions-more (λ ty. covered_by [] (Some ty)) (is_covered types (listed_types world) 100) (outside-covered types (listed_types world)) world outside)
+    and_from (are_listed types nth (listed_types world)) (functions_pass (is_covered_whole types (listed_types world)) world) (ap (are_listed types nth) listed)
+    (functions-more (λ ty. covered_by [] (Some ty)) (is_covered_whole types (listed_types world)) (outside-covered types (listed_types world)) world outside)
 
 -- what is known of a world whose listing is kept
 

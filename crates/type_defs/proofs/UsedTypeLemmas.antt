@@ -19,7 +19,7 @@ use Rattle.type_facts.specs.Facts.{IsInfoOf, IsNamed}
 use Rattle.type_defs.specs.declared.type_opts.TypeOpts.{TypeOpts}
 use Rattle.type_defs.specs.FunctionTypes.{functions_pass}
 use Rattle.type_defs.specs.ListedTypes.{listed_types}
-use Rattle.type_defs.specs.Listing.{are_listed, are_listed_well, is_covered, keeps_listing, may_list, owns}
+use Rattle.type_defs.specs.Listing.{are_listed, are_listed_well, is_covered_whole, keeps_listing, may_list, owns}
 use Rattle.type_defs.specs.Levels.{are_shallow}
 use Rattle.type_defs.specs.Modes.{is_always_defined, is_used, is_wanted}
 use Rattle.type_defs.specs.PrintedTypes.{entry_at, entry_or_none}
@@ -67,9 +67,9 @@ pub listed-named : (r : Resolve) (k : ℕ) (world : World) → are_listed_well r
 unfolding keeps_listing
 listed-named r k world well found n id at =
     let listed = listed_types world in
-    let keep = and_parts (are_listed r.types k listed) (functions_pass (is_covered r.types listed 100) world) (world-listing r k world well found) in
-    let own = all_at (λ id. may_list k (slice_get r.types id.0) && is_covered r.types listed 100 (Id id)) listed n id keep.0 at in
-    may-named r k id (slice_get r.types id.0) refl (and_parts (may_list k (slice_get r.types id.0)) (is_covered r.types listed 100 (Id id)) own).0
+    let keep = and_parts (are_listed r.types k listed) (functions_pass (is_covered_whole r.types listed) world) (world-listing r k world well found) in
+    let own = all_at (λ id. may_list k (slice_get r.types id.0) && is_covered_whole r.types listed (Id id)) listed n id keep.0 at in
+    may-named r k id (slice_get r.types id.0) refl (and_parts (may_list k (slice_get r.types id.0)) (is_covered_whole r.types listed (Id id)) own).0
 
 pub named-within : (types : List TypeDef) (id : TypeId) → IsNamed types id → id.0 < length types
 named-within types id named = slice_get_within types id.0 named.entry named.entry_at

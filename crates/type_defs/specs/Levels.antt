@@ -1,5 +1,5 @@
--- How many entries of the table lie on a way down from a type, and whether no type has more than a hundred.
-use Rattle.std.specs.Prelude.{◌≡◌, ℕ, zero, suc, Bool, true, false, not, nat_lt, List, [], ◌∷◌, Option, None, Some, slice_get, if◌then◌else◌}
+-- How many entries of the table lie on a way down from a type, and which type is the first that has more than a hundred.
+use Rattle.std.specs.Prelude.{◌≡◌, ℕ, zero, suc, Bool, true, false, not, nat_lt, List, [], ◌∷◌, Option, None, Some, position, slice_get, if◌then◌else◌}
 use Rattle.std.specs.List.{list_all, list_any, slice_index_or}
 use Rattle.wit_model.specs.declared.name.TypeId.{TypeId}
 use Rattle.wit_model.specs.declared.types.WitType.{WitType}
@@ -32,6 +32,10 @@ is_shallow types entry = not (is_any_deeper types 99 (parts entry.kind))
 
 unfoldable pub are_shallow : List TypeDef → Bool
 are_shallow types = list_all (is_shallow types) types
+
+-- the first entry of the table that has more
+abbrev pub first_deep : List TypeDef → Option ℕ
+first_deep types = position (λ entry. not (is_shallow types entry)) types
 
 -- what is kept for that: the most entries on a way down from each of the types so far
 

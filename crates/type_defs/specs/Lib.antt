@@ -20,7 +20,6 @@ pub mod Paths
 pub mod Printed
 pub mod PrintedTypes
 pub mod TypeNames
-pub mod Unfolded
 pub mod Used
 pub mod VariantDef
 pub mod WitForm

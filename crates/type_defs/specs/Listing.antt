@@ -1,6 +1,6 @@
 -- Whether the types that worlds list are named and their own, and whether each named type that these or the worlds' functions reach is
 -- listed too.
-use Rattle.std.specs.Prelude.{◌≡◌, ℕ, zero, suc, Bool, true, false, ◌&&◌, ◌||◌, ◌==◌, List, Option, None, Some, is_none, is_some, slice_get}
+use Rattle.std.specs.Prelude.{◌≡◌, ℕ, zero, suc, Bool, true, false, ◌&&◌, ◌||◌, ◌==◌, List, length, Option, None, Some, is_none, is_some, slice_get}
 use Rattle.std.specs.List.{enumerate_from, list_all, list_any, slice_index_or}
 use Rattle.wit_model.specs.declared.name.TypeId.{TypeId}
 use Rattle.wit_model.specs.declared.resolve.Resolve.{Resolve}
@@ -38,13 +38,19 @@ is_covered types listed zero ty = true
 is_covered types listed (suc n) (Id id) = covers (is_covered types listed n) listed id.0 (slice_get types id.0)
 is_covered types listed (suc n) ty = true
 
--- no way down has more than a hundred entries, so these are all that a type reaches
+-- no way down has as many entries, so these are all that a type reaches
+abbrev pub depth : List TypeDef → ℕ
+depth types = suc (length types)
+
+abbrev pub is_covered_whole : List TypeDef → List TypeId → WitType → Bool
+is_covered_whole types listed ty = is_covered types listed (depth types) ty
+
 abbrev pub are_listed : List TypeDef → ℕ → List TypeId → Bool
-are_listed types nth listed = list_all (λ id. may_list nth (slice_get types id.0) && is_covered types listed 100 (Id id)) listed
+are_listed types nth listed = list_all (λ id. may_list nth (slice_get types id.0) && is_covered_whole types listed (Id id)) listed
 
 -- of the world at a place: what it lists itself, and what its functions name
 unfoldable pub keeps_listing : List TypeDef → ℕ → World → Bool
-keeps_listing types nth world = are_listed types nth (listed_types world) && functions_pass (is_covered types (listed_types world) 100) world
+keeps_listing types nth world = are_listed types nth (listed_types world) && functions_pass (is_covered_whole types (listed_types world)) world
 
 unfoldable pub are_listed_well : Resolve → Bool
 are_listed_well r = list_all (λ entry. keeps_listing r.types entry.0 entry.1) (enumerate_from 0 r.worlds)

@@ -1,17 +1,14 @@
--- How many nodes the types of a function unfold to, and whether no function of a world has too many. Each type that is named counts
--- as one node, and then what it names, as often as it stands there.
-use Rattle.std.specs.Prelude.{ℕ, suc, ◌+◌, Bool, true, ◌&&◌, nat_le, List, [], ◌∷◌, ◌++◌, map, Option, None, Some, if◌then◌else◌}
-use Rattle.std.specs.List.{list_all, slice_index_or}
+-- How many nodes the types of a function unfold to, and whether they are too many. Each type that is named counts as one node, and then
+-- what it names, as often as it stands there. So does each case of a variant.
+use Rattle.std.specs.Prelude.{ℕ, suc, ◌+◌, Bool, nat_le, List, [], ◌∷◌, ◌++◌, length, map, Option, None, Some, if◌then◌else◌}
+use Rattle.std.specs.List.{slice_index_or}
 use Rattle.wit_model.specs.declared.function.Function.{Function}
 use Rattle.wit_model.specs.declared.types.WitType.{WitType}
 use Rattle.wit_model.specs.declared.types.WitType.TheVariants.{Id}
 use Rattle.wit_model.specs.declared.types.TypeDef.{TypeDef}
 use Rattle.wit_model.specs.declared.types.TypeDefKind.{TypeDefKind}
-use Rattle.wit_model.specs.declared.world.World.{World}
-use Rattle.wit_model.specs.declared.world.WorldItem.{WorldItem}
-use Rattle.wit_model.specs.declared.world.WorldItem.TheVariants as item
+use Rattle.wit_model.specs.declared.types.TypeDefKind.TheVariants as kind
 use Rattle.wit_model.specs.Parts.{parts}
-use Rattle.type_defs.specs.ListedTypes.{Entries}
 
 -- more than 65,536 are too many, however many they are
 abbrev pub capped : ℕ → ℕ
@@ -27,9 +24,14 @@ abbrev pub nodes_in : List ℕ → List (Option WitType) → ℕ
 nodes_in known [] = 0
 nodes_in known (p ∷ ps) = nodes_as known p + nodes_in known ps
 
+-- the cases of a variant, with a payload or without; the payload counts besides
+abbrev pub own_cases : TypeDefKind → ℕ
+own_cases (kind.Variant cases) = length cases
+own_cases _ = 0
+
 -- an entry, with the type itself
 unfoldable pub nodes_by : List ℕ → TypeDefKind → ℕ
-nodes_by known kind = capped (suc (nodes_in known (parts kind)))
+nodes_by known kind = capped (suc (own_cases kind + nodes_in known (parts kind)))
 
 abbrev pub nodes_behind : List ℕ → List TypeDef → List ℕ
 nodes_behind known [] = known
@@ -39,18 +41,6 @@ nodes_behind known (t ∷ types) = nodes_behind (known ++ nodes_by known t.kind 
 unfoldable pub nodes : List TypeDef → List ℕ
 nodes types = nodes_behind [] types
 
--- parameters and result together
+-- parameters and result together have at most 65,536
 abbrev pub has_few_nodes : List ℕ → Function → Bool
 has_few_nodes known f = nat_le (nodes_in known (map (λ p. Some p.ty) f.params) + nodes_as known f.result) 65536
-
-abbrev pub has_item_few_nodes : List ℕ → WorldItem → Bool
-has_item_few_nodes known (item.Interface _) = true
-has_item_few_nodes known (item.Function f) = has_few_nodes known f
-has_item_few_nodes known (item.Named _) = true
-
-abbrev pub have_entries_few_nodes : List ℕ → Entries → Bool
-have_entries_few_nodes known entries = list_all (λ entry. has_item_few_nodes known entry.1) entries
-
--- no function of a world has more than 65,536
-unfoldable pub have_few_nodes : List TypeDef → World → Bool
-have_few_nodes types world = have_entries_few_nodes (nodes types) world.imports && have_entries_few_nodes (nodes types) world.exports

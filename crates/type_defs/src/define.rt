@@ -33,6 +33,7 @@ use crate::define::results::result_item;
 use crate::define::tuple::tuple_item;
 use crate::define::variants::variant_item;
 use crate::listed_types::types_in;
+use crate::printed_count::print_few;
 use crate::type_opts::TypeOpts;
 use rust_tree::TypeItem;
 use std::alloc::Global;
@@ -154,8 +155,8 @@ fn push_type(
     Ok(())
 }
 
-/// The definitions of the types that a world lists itself, in its order. `OutOfMemory` comes where there is no memory for a definition, or
-/// for a mark for each type.
+/// The definitions of the types that a world lists itself, in its order. `OutOfMemory` comes where there is no memory for a definition,
+/// or for a mark for each type, and where they would print more than 2^27 types: that is counted before one of them is made.
 pub fn definitions_of(
     alloc: Global,
     opts: TypeOpts,
@@ -168,6 +169,9 @@ pub fn definitions_of(
 {
     let ids = types_in(alloc, world.imports.as_slice())?;
     let facts = Types::analyze(alloc, resolve, id)?;
+    if !print_few(alloc, opts, resolve, &facts, ids.as_slice())? {
+        return Err(OutOfMemory);
+    }
     let mut items = List::new(alloc);
     for own in ids.as_slice() {
         push_type(alloc, &mut items, opts, resolve, &facts, *own)?;

@@ -2,7 +2,7 @@
 
 ghost use Rattle.std.specs.Prelude.{◌≡◌, IfOk};
 ghost use Rattle.wit_model.specs.TypeOrder.{GoesDown};
-ghost use Rattle.type_defs.specs.Levels.{are_shallow, greater, greatest_below, level_of};
+ghost use Rattle.type_defs.specs.Levels.{first_deep, greater, greatest_below, level_of};
 
 use std::alloc::Global;
 use wit_model::{List, OutOfMemory, TypeDef, TypeDefKind, WitType};
@@ -35,19 +35,19 @@ fn greatest_below(known: &[u8], kind: &TypeDefKind) -> u8
     greatest
 }
 
-/// Whether no more than a hundred entries of the table lie on any way down from one of them. One pass up the table, in
-/// memory for a number for each entry.
-pub fn are_shallow(alloc: Global, types: &[TypeDef]) -> Result<bool, OutOfMemory>
+/// The place of the first type of the table from which more than a hundred entries lie on a way down, with itself. One pass up the
+/// table, in memory for a number for each entry.
+pub fn first_deep(alloc: Global, types: &[TypeDef]) -> Result<Option<usize>, OutOfMemory>
     requires { GoesDown types.now }
-    ensures { IfOk result (λ b. b ≡ are_shallow types.now) }
+    ensures { IfOk result (λ deep. deep ≡ first_deep types.now) }
 {
     let mut known = List::new(alloc);
-    for entry in types {
+    for (i, entry) in types.iter().enumerate() {
         let below = greatest_below(known.as_slice(), &entry.kind);
         if below >= 100 {
-            return Ok(false);
+            return Ok(Some(i));
         }
         known.push(below + 1)?;
     }
-    Ok(true)
+    Ok(None)
 }

@@ -9,8 +9,7 @@ ghost use Rattle.wit_model.specs.WellFormed.{IsWellFormed};
 ghost use Rattle.wit_model.specs.declared.types.WitType.TheVariants.{Id};
 ghost use Rattle.wit_model.specs.Parts.{parts};
 ghost use Rattle.type_defs.specs.FunctionTypes.{entries_pass, function_passes, functions_pass, item_passes, passes_or_none};
-ghost use Rattle.type_defs.specs.Levels.{are_shallow};
-ghost use Rattle.type_defs.specs.Listing.{AreCovered, are_listed, are_listed_well, covered_by, is_covered, keeps_listing, lists, may_list, owns};
+ghost use Rattle.type_defs.specs.Listing.{AreCovered, are_listed, are_listed_well, covered_by, is_covered_whole, keeps_listing, lists, may_list, owns};
 
 use crate::listed_types::types_in;
 use std::alloc::Global;
@@ -174,9 +173,8 @@ fn keeps_listed(
     listed: &[TypeId],
     world: &World,
 ) -> Result<bool, OutOfMemory>
-    requires down { GoesDown types.now }
-    requires shallow { are_shallow types.now ≡ true }
-    ensures { IfOk result (λ b. b ≡ (are_listed types.now nth listed.now && functions_pass (is_covered types.now listed.now 100) world.now)) }
+    requires { GoesDown types.now }
+    ensures { IfOk result (λ b. b ≡ (are_listed types.now nth listed.now && functions_pass (is_covered_whole types.now listed.now) world.now)) }
 {
     let known = covered_types(alloc, types, listed)?;
     Ok(are_all_listed(types, known.as_slice(), nth, listed, world))
@@ -188,8 +186,7 @@ fn keeps_listing(
     nth: usize,
     world: &World,
 ) -> Result<bool, OutOfMemory>
-    requires down { GoesDown types.now }
-    requires shallow { are_shallow types.now ≡ true }
+    requires { GoesDown types.now }
     ensures { IfOk result (λ b. b ≡ keeps_listing types.now nth world.now) }
 {
     let listed = types_in(alloc, world.imports.as_slice())?;
@@ -206,8 +203,7 @@ fn keeps_listing(
 /// each type, or for the types that a world lists.
 #[tactic(auto, unfolding(crate::specs::Listing::are_listed_well))]
 pub fn are_listed_well(alloc: Global, resolve: &Resolve) -> Result<bool, OutOfMemory>
-    requires well { IsWellFormed resolve.now }
-    requires shallow { are_shallow resolve.now.types ≡ true }
+    requires { IsWellFormed resolve.now }
     ensures { IfOk result (λ b. b ≡ are_listed_well resolve.now) }
 {
     for (i, world) in resolve.worlds.as_slice().iter().enumerate() {

@@ -1,12 +1,10 @@
 //! How many nodes the types of a function unfold to.
 
-ghost use Rattle.std.specs.Prelude.{◌≡◌, IfOk, Some, map};
-ghost use Rattle.type_defs.specs.Nodes.{capped, has_few_nodes, has_item_few_nodes, have_entries_few_nodes, have_few_nodes, nodes, nodes_as, nodes_by, nodes_in};
+ghost use Rattle.std.specs.Prelude.{◌≡◌, suc, IfOk, Some, map};
+ghost use Rattle.type_defs.specs.Nodes.{capped, has_few_nodes, nodes, nodes_as, nodes_by, nodes_in, own_cases};
 
 use std::alloc::Global;
-use wit_model::{
-    Function, List, OutOfMemory, Param, TypeDef, TypeDefKind, WitType, World, WorldItem, WorldKey,
-};
+use wit_model::{Function, List, OutOfMemory, Param, TypeDef, TypeDefKind, WitType};
 
 /// The most nodes that a function may have.
 const MOST: u32 = 65_536;
@@ -30,19 +28,42 @@ fn nodes_as(known: &[u32], part: Option<WitType>) -> u32
     }
 }
 
+fn own_cases(kind: &TypeDefKind) -> usize
+    ensures { result ≡ own_cases kind.now }
+{
+    match kind {
+        TypeDefKind::Variant(cases) => cases.as_slice().len(),
+        _ => 0,
+    }
+}
+
+/// An entry and its own cases, without what it names.
+fn own_nodes(kind: &TypeDefKind) -> u32
+    ensures { result ≡ capped (suc (own_cases kind.now)) }
+{
+    let cases = own_cases(kind);
+    if cases < MOST as usize {
+        cases as u32 + 1
+    } else {
+        MOST + 1
+    }
+}
+
 fn nodes_by(known: &[u32], kind: &TypeDefKind) -> u32
     ensures { result ≡ nodes_by known.now kind.now }
 {
-    let mut count = 1u32;
+    let mut count = own_nodes(kind);
     for nth in 0..kind.part_count() {
         count = capped(count.saturating_add(nodes_as(known, kind.part(nth))));
     }
     count
 }
 
-/// The nodes of each entry of the table: one pass up it.
+/// The nodes that each entry of the table unfolds to: each type that is named counts as one, and then what that type names, as
+/// often as it stands there, and so does each case of a variant; all that are more than 65,536 count alike. One pass up the
+/// table, in memory for a number for each entry.
 #[tactic(auto, unfolding(crate::specs::Nodes::nodes))]
-fn nodes(alloc: Global, types: &[TypeDef]) -> Result<List<u32>, OutOfMemory>
+pub fn node_counts(alloc: Global, types: &[TypeDef]) -> Result<List<u32>, OutOfMemory>
     ensures { IfOk result (λ known. known ≡ nodes types.now) }
 {
     let mut known = List::new(alloc);
@@ -63,41 +84,10 @@ fn param_nodes(known: &[u32], params: &[Param]) -> u32
     count
 }
 
-fn has_few_nodes(known: &[u32], f: &Function) -> bool
+/// Whether the parameters and the result of a function unfold to at most 65,536 nodes, by those of each entry of the table.
+pub fn has_few_nodes(known: &[u32], f: &Function) -> bool
     ensures { result ≡ has_few_nodes known.now f.now }
 {
     let params = param_nodes(known, f.params.as_slice());
     params.saturating_add(nodes_as(known, f.result)) <= MOST
-}
-
-fn has_item_few_nodes(known: &[u32], item: &WorldItem) -> bool
-    ensures { result ≡ has_item_few_nodes known.now item.now }
-{
-    match item {
-        WorldItem::Function(f) => has_few_nodes(known, f),
-        WorldItem::Interface(_) => true,
-        WorldItem::Named(_) => true,
-    }
-}
-
-fn have_entries_few_nodes(known: &[u32], entries: &[(WorldKey, WorldItem)]) -> bool
-    ensures { result ≡ have_entries_few_nodes known.now entries.now }
-{
-    entries
-        .iter()
-        .all(|entry| has_item_few_nodes(known, &entry.1))
-}
-
-/// Whether no function of a world unfolds to more than 65,536 nodes: each type that it names counts as one, and then what
-/// that type names, as often as it stands there. One pass up the table, in memory for a number for each entry, and then
-/// each function in the time of its parameters.
-#[tactic(auto, unfolding(crate::specs::Nodes::have_few_nodes))]
-pub fn have_few_nodes(alloc: Global, types: &[TypeDef], world: &World) -> Result<bool, OutOfMemory>
-    ensures { IfOk result (λ b. b ≡ have_few_nodes types.now world.now) }
-{
-    let known = nodes(alloc, types)?;
-    Ok(
-        have_entries_few_nodes(known.as_slice(), world.imports.as_slice())
-            && have_entries_few_nodes(known.as_slice(), world.exports.as_slice()),
-    )
 }

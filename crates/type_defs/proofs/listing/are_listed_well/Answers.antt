@@ -3,5 +3,5 @@ use Rattle.wit_model.specs.TypeOrder.{GoesDown}
 use Rattle.wit_model.proofs.WellFormedLemmas.{types_go_down}
 use Rattle.type_defs.proofs.listing.are_listed_well.Goals as goal
 
-pub keeps_listing-requires-clause-down : goal.keeps_listing-requires-clause-down
-keeps_listing-requires-clause-down c = subst GoesDown (sym c.as_slice.ensures) (types_go_down c.args.resolve.now c.requires.well.unbroken)
+pub keeps_listing-requires : goal.keeps_listing-requires
+keeps_listing-requires c = subst GoesDown (sym c.as_slice.ensures) (types_go_down c.args.resolve.now c.requires.unbroken)

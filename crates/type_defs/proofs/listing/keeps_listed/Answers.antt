@@ -12,4 +12,4 @@ returns c =
     let listed = c.args.listed.now in
     c.are_all_listed.ensures
     ∙ ap (λ (k : List Bool). list_all (λ id. may_list c.args.nth (slice_get types id.0) && covered_by k (Some (Id id))) listed && functions_pass (λ ty. covered_by k (Some ty)) c.args.world.now) c.as_slice.ensures
-    ∙ listed-whole types c.requires.down listed c.in_ok-known.known c.in_ok-known.ensures.covered c.in_ok-known.ensures.count c.requires.shallow c.args.nth c.args.world.now
+    ∙ listed-whole types c.requires listed c.in_ok-known.known c.in_ok-known.ensures.covered c.in_ok-known.ensures.count c.args.nth c.args.world.now

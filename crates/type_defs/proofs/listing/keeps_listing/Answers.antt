@@ -3,7 +3,7 @@ use Rattle.std.proofs.lemmas.Bool.{eqb-true}
 use Rattle.wit_model.specs.declared.name.TypeId.{TypeId}
 use Rattle.type_defs.specs.FunctionTypes.{functions_pass}
 use Rattle.type_defs.specs.ListedTypes.{listed_types, types_in}
-use Rattle.type_defs.specs.Listing.{are_listed, is_covered, keeps_listing}
+use Rattle.type_defs.specs.Listing.{are_listed, is_covered_whole, keeps_listing}
 use Rattle.type_defs.proofs.ListingLemmas.{nothing-listed}
 use Rattle.type_defs.proofs.listing.keeps_listing.Goals as goal
 
@@ -20,4 +20,4 @@ returns c =
     let types = c.args.types.now in
     let world = c.args.world.now in
     let listed : c.as_slice-3.result.now ≡ listed_types world = c.as_slice-3.ensures ∙ c.in_ok-listed.ensures ∙ ap types_in c.as_slice.ensures in
-    subst (λ (ids : List TypeId). IfOk c.keeps_listed.result (λ b. b ≡ (are_listed types c.args.nth ids && functions_pass (is_covered types ids 100) world))) listed c.keeps_listed.ensures
+    subst (λ (ids : List TypeId). IfOk c.keeps_listed.result (λ b. b ≡ (are_listed types c.args.nth ids && functions_pass (is_covered_whole types ids) world))) listed c.keeps_listed.ensures

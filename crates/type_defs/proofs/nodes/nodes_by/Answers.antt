@@ -1,15 +1,20 @@
 use Rattle.std.proofs.Common.{◌≡◌, ◌+◌, ◌≤◌, ◌∙◌, ℕ, suc, drop, sym, ap, subst, arith}
 use Rattle.wit_model.specs.Parts.{parts}
-use Rattle.type_defs.specs.Nodes.{capped, nodes_as, nodes_by, nodes_in}
-use Rattle.type_defs.proofs.CappedLemmas.{capped-few, capped-next}
+use Rattle.type_defs.specs.Nodes.{capped, nodes_as, nodes_by, nodes_in, own_cases}
+use Rattle.type_defs.proofs.CappedLemmas.{capped-few, capped-front, capped-next}
 use Rattle.type_defs.proofs.nodes.nodes_by.Goals as goal
 use Rattle.wit_model.proofs.ListLemmas.{drop_at}
 
 pub loop-nth-init : goal.loop-nth-init
 unfolding nodes_by
 loop-nth-init c =
-    let one : 1 + nodes_in c.args.known.now (parts c.args.kind.now) ≡ suc (nodes_in c.args.known.now (parts c.args.kind.now)) = omega arith in
-    record { few = omega arith; rest = ap capped one }
+    let own : ℕ = own_cases c.args.kind.now in
+    let named : ℕ = nodes_in c.args.known.now (parts c.args.kind.now) in
+    let whole : suc own + named ≡ suc (own + named) = omega arith in
+    record {
+      few = subst (λ n. n ≤ 65537) (sym c.own_nodes-count.ensures) (capped-few (suc own));
+      rest = ap (λ n. capped (n + named)) c.own_nodes-count.ensures ∙ capped-front (suc own) named ∙ ap capped whole;
+    }
 
 pub loop-nth-preserved : goal.loop-nth-preserved
 loop-nth-preserved c =
