@@ -52,3 +52,4 @@ pub mod ArmSteps
 pub mod VariantLoads
 pub mod CaseFrees
 pub mod VariantFrees
+mod WordCounts

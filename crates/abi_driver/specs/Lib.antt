@@ -7,3 +7,4 @@ pub mod Loads
 pub mod StoredCases
 pub mod Stores
 pub mod WholeCalls
+pub mod WordCount

@@ -5,7 +5,7 @@ pub(crate) mod flags;
 pub(crate) mod leaf;
 pub(crate) mod variants;
 
-ghost use Rattle.std.specs.Prelude.{◌≡◌, ◌<◌, ◌≤◌, ◌∷◌, ◌++◌, [], ℕ, IsTrue, List, Some, true, drop, length, IfOk, OnOk};
+ghost use Rattle.std.specs.Prelude.{◌≡◌, ◌<◌, ◌≤◌, ◌+◌, ◌∷◌, ◌++◌, [], ℕ, IsTrue, List, Some, true, drop, length, IfOk, OnOk};
 ghost use Rattle.std.specs.List.{list_all};
 ghost use Rattle.std.specs.Option.{option_map};
 ghost use Rattle.wit_model.specs.TypeOrder.{GoesDown, payload_below, type_below};
@@ -21,6 +21,7 @@ ghost use Rattle.abi_bindgen.specs.Instructions.{has_cases, shapes_of};
 ghost use Rattle.abi_bindgen.specs.Lifts.{LiftsAll, LiftsFlat};
 ghost use Rattle.abi_bindgen.specs.Sends.{Sends};
 ghost use Rattle.abi_bindgen.specs.SlotCasts.{FitIn};
+ghost use Rattle.abi_driver.specs.WordCount.{word_count, word_counts};
 
 use crate::lift::enums::lift_enum;
 use crate::lift::flags::lift_flags;
@@ -48,11 +49,11 @@ struct LiftedParts<O> {
     next: usize,
 }
 
-/// What denotes the value that some core words represent, one operand for each word. What the words own is taken over.
+/// What denotes the value that some core words represent, one operand for each word, of which there are sixteen at most. What the words
+/// own is taken over.
 ///
 /// So far it is a scalar, a text, an enum or flags, or a record, a tuple, a variant, an option or a result of such, also through aliases.
-/// Of a type that holds any other, of a variant of more than sixteen words, and of more or fewer words than the type has, the answer
-/// is `OutOfMemory`, as where memory is wanting.
+/// Of a type that holds any other the answer is `OutOfMemory`, as where memory is wanting.
 pub fn lift_flat<B: Bindgen>(
     alloc: Global,
     resolve: &Resolve,
@@ -63,16 +64,13 @@ pub fn lift_flat<B: Bindgen>(
     requires well { IsWellFormed resolve.now }
     requires down { GoesDown resolve.now.types }
     requires below { IsTrue (type_below (length resolve.now.types) ty.now) }
+    requires few { length words.now ≤ 16 }
+    requires exact { length words.now ≡ word_count resolve.now.types ty.now }
     ensures lifts { IfOk result (λ o. LiftsFlat B.meaning (shape_of resolve.now.types ty.now) words.now o bindgen.old bindgen.new) }
     ensures sends { OnOk result (Sends B.meaning resolve.now.types (lift_code resolve.now.types ty.now) bindgen.old bindgen.new) }
 {
-    let count = words.len();
     let lifted = lift_type(alloc, resolve, bindgen, words.as_slice(), 0, *ty)?;
-    let Lifted { operand, next } = lifted;
-    if next != count {
-        return Err(OutOfMemory);
-    }
-    Ok(operand)
+    Ok(lifted.operand)
 }
 
 /// The same, of the words from a place on, by a type that was read.
@@ -89,6 +87,9 @@ fn lift_type<B: Bindgen>(
     requires well { IsWellFormed resolve.now }
     requires down { GoesDown resolve.now.types }
     requires below { IsTrue (type_below (length resolve.now.types) ty) }
+    requires few { word_count resolve.now.types ty ≤ 16 }
+    requires enough { at + word_count resolve.now.types ty ≤ length words.now }
+    ensures next { IfOk result (λ r. r.next ≡ at + word_count resolve.now.types ty) }
     ensures lifts { IfOk result (λ r. (used : List B.Operand) × (drop at words.now ≡ used ++ drop r.next words.now)
         × LiftsFlat B.meaning (shape_of resolve.now.types ty) used r.operand bindgen.old bindgen.new) }
     ensures sends { OnOk result (Sends B.meaning resolve.now.types (lift_code resolve.now.types ty) bindgen.old bindgen.new) }
@@ -116,6 +117,9 @@ fn lift_id<B: Bindgen>(
     requires well { IsWellFormed resolve.now }
     requires down { GoesDown resolve.now.types }
     requires within { id.0 < length resolve.now.types }
+    requires few { word_count resolve.now.types (Id id) ≤ 16 }
+    requires enough { at + word_count resolve.now.types (Id id) ≤ length words.now }
+    ensures next { IfOk result (λ r. r.next ≡ at + word_count resolve.now.types (Id id)) }
     ensures lifts { IfOk result (λ r. (used : List B.Operand) × (drop at words.now ≡ used ++ drop r.next words.now)
         × LiftsFlat B.meaning (shape_at resolve.now.types id.0) used r.operand bindgen.old bindgen.new) }
     ensures sends { OnOk result (Sends B.meaning resolve.now.types (lift_code resolve.now.types (Id id)) bindgen.old bindgen.new) }
@@ -167,15 +171,15 @@ fn lift_variant<B: Bindgen>(
     requires down { GoesDown resolve.now.types }
     requires here { IsKindOf resolve.now.types id.0 kind.now }
     requires cases { has_cases kind.now ≡ true }
+    requires few { word_count resolve.now.types (Id id) ≤ 16 }
+    requires enough { at + word_count resolve.now.types (Id id) ≤ length words.now }
+    ensures next { IfOk result (λ r. r.next ≡ at + word_count resolve.now.types (Id id)) }
     ensures lifts { IfOk result (λ r. (used : List B.Operand) × (drop at words.now ≡ used ++ drop r.next words.now)
         × LiftsFlat B.meaning (shape_at resolve.now.types id.0) used r.operand bindgen.old bindgen.new) }
     ensures sends { OnOk result (Sends B.meaning resolve.now.types (lift_code resolve.now.types (Id id)) bindgen.old bindgen.new) }
 {
     let flat = flat_types(resolve, &WitType::Id(id));
     let count = flat.count as usize;
-    if flat.more || words.len() < count || at > words.len() - count {
-        return Err(OutOfMemory);
-    }
     let payloads = kind_payloads(alloc, kind)?;
     let payloads = payloads.as_slice();
     let next = at + count;
@@ -204,6 +208,7 @@ fn lift_cases<B: Bindgen>(
     requires within { id.0 < length resolve.now.types }
     requires below { list_all (λ payload. payload_below id.0 payload) payloads.now ≡ true }
     requires shared { slots.now ≡ shared_slots resolve.now.types payloads.now }
+    requires few { length slots.now ≤ 16 }
     requires enough { length words.now ≡ length slots.now }
     ensures lifts { OnOk result (LiftsCases B.meaning (payloads_in (shapes resolve.now.types) payloads.now) (result_counts payloads.now) slots.now words.now bindgen.old bindgen.new) }
     ensures sends { OnOk result (Sends B.meaning resolve.now.types
@@ -230,6 +235,7 @@ fn lift_case<B: Bindgen>(
     requires down { GoesDown resolve.now.types }
     requires below { IsTrue (payload_below (length resolve.now.types) payload) }
     requires fits { FitIn (payload_words resolve.now.types payload) slots.now }
+    requires few { length slots.now ≤ 16 }
     requires enough { length words.now ≡ length slots.now }
     ensures lifts { OnOk result (LiftsCases B.meaning (more (payload_in (shapes resolve.now.types) payload) none) (result_counts (payload ∷ [])) slots.now words.now bindgen.old bindgen.new) }
     ensures sends { OnOk result ((n : ℕ) → Sends B.meaning resolve.now.types (lift_case resolve.now.types slots.now n payload (option_map (lift_code resolve.now.types) payload)) bindgen.old bindgen.new) }
@@ -260,15 +266,13 @@ fn lift_payload<B: Bindgen>(
     requires down { GoesDown resolve.now.types }
     requires below { IsTrue (type_below (length resolve.now.types) ty) }
     requires fits { FitIn (payload_words resolve.now.types (Some ty)) slots.now }
+    requires few { length slots.now ≤ 16 }
     requires enough { length words.now ≡ length slots.now }
     ensures lifts { OnOk result (LiftsCases B.meaning (more (shape_of resolve.now.types ty) none) (1 ∷ []) slots.now words.now bindgen.old bindgen.new) }
     ensures sends { OnOk result ((n : ℕ) → Sends B.meaning resolve.now.types (lift_case resolve.now.types slots.now n (Some ty) (Some (lift_code resolve.now.types ty))) bindgen.old bindgen.new) }
 {
     let flat = flat_types(resolve, &ty);
     let count = flat.count as usize;
-    if flat.more {
-        return Err(OutOfMemory);
-    }
     let types = &flat.words[..count];
     let mut first = Vec::new(alloc);
     push_copies(&mut first, alloc, &words[..count])?;
@@ -295,6 +299,9 @@ fn lift_parts<B: Bindgen>(
     requires down { GoesDown resolve.now.types }
     requires within { place ≤ length resolve.now.types }
     requires below { list_all (λ ty. type_below place ty) tys.now ≡ true }
+    requires few { word_counts resolve.now.types tys.now ≤ 16 }
+    requires enough { at + word_counts resolve.now.types tys.now ≤ length words.now }
+    ensures next { IfOk result (λ r. r.next ≡ at + word_counts resolve.now.types tys.now) }
     ensures count { IfOk result (λ r. length r.parts ≡ length tys.now) }
     ensures lifts { IfOk result (λ r. (used : List B.Operand) × (drop at words.now ≡ used ++ drop r.next words.now)
         × LiftsAll B.meaning (shapes_of resolve.now.types tys.now) used r.parts bindgen.old bindgen.new) }

@@ -1,12 +1,12 @@
 //! The whole code of an import.
 
-ghost use Rattle.std.specs.Prelude.{◌≡◌, ◌++◌, IsTrue, Some, true, false, length, IfOk, OnOk};
+ghost use Rattle.std.specs.Prelude.{◌≡◌, ◌≤◌, ◌++◌, IsTrue, Some, true, false, length, IfOk, OnOk};
 ghost use Rattle.std.specs.List.{list_all};
 ghost use Rattle.std.specs.Option.{option_map};
 ghost use Rattle.wit_model.specs.IndexRange.{function_in_range};
 ghost use Rattle.wit_model.specs.TypeOrder.{GoesDown, payload_below, type_below};
 ghost use Rattle.wit_model.specs.WellFormed.{IsWellFormed};
-ghost use Rattle.wrapper_meaning.specs.Represents.{are_indirect, is_indirect};
+ghost use Rattle.wrapper_meaning.specs.Represents.{are_indirect, is_indirect, result_words};
 ghost use Rattle.wrapper_meaning.specs.Shape.{param_shapes, result_shape, shape_of};
 ghost use Rattle.abi_bindgen.specs.Code as code;
 ghost use Rattle.abi_bindgen.specs.Code.{import_code, lift_code, load_code, pass_code, point_code, read_code};
@@ -23,6 +23,7 @@ ghost use Rattle.abi_bindgen.specs.Laws.{IsCount};
 ghost use Rattle.abi_bindgen.specs.Lifts.{LiftsAnswer};
 ghost use Rattle.abi_bindgen.specs.Lowers.{LowersArguments};
 ghost use Rattle.abi_bindgen.specs.Sends.{Sends};
+ghost use Rattle.abi_driver.specs.WordCount.{word_count};
 
 use crate::calls::area::{point_at, store_arguments};
 use crate::lift::lift_flat;
@@ -174,6 +175,7 @@ fn read_answer<B: Bindgen>(
     requires knows { B.meaning.knows bindgen.old resolve.now.types }
     requires retptr { retptr ≡ is_indirect (option_map (shape_of resolve.now.types) ty) }
     requires pointed { retptr ≡ true → length pointer.now ≡ 1 }
+    requires answered { retptr ≡ false → length words.now ≡ length (result_words (option_map (shape_of resolve.now.types) ty)) }
     ensures reads { IfOk result (λ given. ReadsAnswer B.meaning (option_map (shape_of resolve.now.types) ty) pointer.now words.now given bindgen.old bindgen.new) }
     ensures sends { OnOk result (Sends B.meaning resolve.now.types (read_code resolve.now.types ty) bindgen.old bindgen.new) }
 {
@@ -215,6 +217,8 @@ fn lift_answer<B: Bindgen>(
     requires well { IsWellFormed resolve.now }
     requires down { GoesDown resolve.now.types }
     requires below { IsTrue (type_below (length resolve.now.types) ty) }
+    requires few { length words.now ≤ 16 }
+    requires exact { length words.now ≡ word_count resolve.now.types ty }
     ensures lifts { IfOk result (λ given. LiftsAnswer B.meaning (Some (shape_of resolve.now.types ty)) words.now given bindgen.old bindgen.new) }
     ensures sends { OnOk result (Sends B.meaning resolve.now.types (lift_code resolve.now.types ty) bindgen.old bindgen.new) }
 {

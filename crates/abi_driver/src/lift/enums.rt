@@ -1,6 +1,6 @@
 //! A tag becomes a value of an enum.
 
-ghost use Rattle.std.specs.Prelude.{◌≡◌, ◌++◌, List, drop, IfOk, OnOk};
+ghost use Rattle.std.specs.Prelude.{◌≡◌, ◌<◌, ◌+◌, ◌++◌, length, List, drop, IfOk, OnOk};
 ghost use Rattle.wit_model.specs.TypeOrder.{GoesDown};
 ghost use Rattle.wit_model.specs.declared.types.TypeDefKind.TheVariants as kind;
 ghost use Rattle.wit_model.specs.declared.types.WitType.TheVariants.{Id};
@@ -27,11 +27,13 @@ pub(crate) fn lift_enum<B: Bindgen>(
 ) -> Result<Lifted<B::Operand>, OutOfMemory>
     requires down { GoesDown resolve.now.types }
     requires here { IsKindOf resolve.now.types id.0 (kind.Enum members.now) }
+    requires enough { at < length words.now }
+    ensures next { IfOk result (λ r. r.next ≡ at + 1) }
     ensures lifts { IfOk result (λ r. (used : List B.Operand) × (drop at words.now ≡ used ++ drop r.next words.now)
         × LiftsFlat B.meaning (shape_at resolve.now.types id.0) used r.operand bindgen.old bindgen.new) }
     ensures sends { OnOk result (Sends B.meaning resolve.now.types (lift_code resolve.now.types (Id id)) bindgen.old bindgen.new) }
 {
-    if at >= words.len() || members.len() > MOST_CASES {
+    if members.len() > MOST_CASES {
         return Err(OutOfMemory);
     }
     let tag = words[at].copy(alloc)?;

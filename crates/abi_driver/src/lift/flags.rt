@@ -1,6 +1,6 @@
 //! Words become a value of flags.
 
-ghost use Rattle.std.specs.Prelude.{◌≡◌, ◌++◌, List, drop, IfOk, OnOk};
+ghost use Rattle.std.specs.Prelude.{◌≡◌, ◌≤◌, ◌+◌, ◌++◌, length, List, drop, IfOk, OnOk};
 ghost use Rattle.wit_model.specs.TypeOrder.{GoesDown};
 ghost use Rattle.wit_model.specs.declared.types.TypeDefKind.TheVariants as kind;
 ghost use Rattle.wit_model.specs.declared.types.WitType.TheVariants.{Id};
@@ -36,15 +36,13 @@ pub(crate) fn lift_flags<B: Bindgen>(
 ) -> Result<Lifted<B::Operand>, OutOfMemory>
     requires down { GoesDown resolve.now.types }
     requires here { IsKindOf resolve.now.types id.0 (kind.Flags members.now) }
+    requires enough { at + flag_words (length members.now) ≤ length words.now }
+    ensures next { IfOk result (λ r. r.next ≡ at + flag_words (length members.now)) }
     ensures lifts { IfOk result (λ r. (used : List B.Operand) × (drop at words.now ≡ used ++ drop r.next words.now)
         × LiftsFlat B.meaning (shape_at resolve.now.types id.0) used r.operand bindgen.old bindgen.new) }
     ensures sends { OnOk result (Sends B.meaning resolve.now.types (lift_code resolve.now.types (Id id)) bindgen.old bindgen.new) }
 {
-    let count = flag_words(members.len());
-    if words.len() < count || at > words.len() - count {
-        return Err(OutOfMemory);
-    }
-    let next = at + count;
+    let next = at + flag_words(members.len());
     let mut used = Vec::new(alloc);
     push_copies(&mut used, alloc, &words[at..next])?;
     let used = List::from_vec(used);

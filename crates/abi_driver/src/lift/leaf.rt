@@ -1,6 +1,6 @@
 //! What one instruction lifts.
 
-ghost use Rattle.std.specs.Prelude.{◌≡◌, ◌++◌, List, Some, drop, IfOk, OnOk};
+ghost use Rattle.std.specs.Prelude.{◌≡◌, ◌≤◌, ◌<◌, ◌+◌, ◌++◌, length, List, Some, drop, IfOk, OnOk};
 ghost use Rattle.wit_model.specs.declared.types.WitType.TheVariants.{String};
 ghost use Rattle.wrapper_meaning.specs.Shape.{shape_of};
 ghost use Rattle.wrapper_meaning.specs.Shape.Shape.{text};
@@ -45,14 +45,13 @@ pub(crate) fn lift_scalar<B: Bindgen>(
     ty: WitType,
     inst: Instruction,
 ) -> Result<Lifted<B::Operand>, OutOfMemory>
-    requires { lifting ty ≡ Some inst }
+    requires lifting { lifting ty ≡ Some inst }
+    requires enough { at < length words.now }
+    ensures next { IfOk result (λ r. r.next ≡ at + 1) }
     ensures lifts { IfOk result (λ r. (used : List B.Operand) × (drop at words.now ≡ used ++ drop r.next words.now)
         × LiftsFlat B.meaning (shape_of resolve.now.types ty) used r.operand bindgen.old bindgen.new) }
     ensures sends { OnOk result (Sends B.meaning resolve.now.types (lift_code resolve.now.types ty) bindgen.old bindgen.new) }
 {
-    if at >= words.len() {
-        return Err(OutOfMemory);
-    }
     let word = words[at].copy(alloc)?;
     let operands = only(alloc, word)?;
     let operand = send_one(alloc, resolve, bindgen, inst, operands)?;
@@ -70,13 +69,12 @@ pub(crate) fn lift_text<B: Bindgen>(
     words: &[B::Operand],
     at: usize,
 ) -> Result<Lifted<B::Operand>, OutOfMemory>
+    requires { at + 2 ≤ length words.now }
+    ensures next { IfOk result (λ r. r.next ≡ at + 2) }
     ensures lifts { IfOk result (λ r. (used : List B.Operand) × (drop at words.now ≡ used ++ drop r.next words.now)
         × LiftsFlat B.meaning text used r.operand bindgen.old bindgen.new) }
     ensures sends { OnOk result (Sends B.meaning resolve.now.types (lift_code resolve.now.types String) bindgen.old bindgen.new) }
 {
-    if words.len() < 2 || at > words.len() - 2 {
-        return Err(OutOfMemory);
-    }
     let address = words[at].copy(alloc)?;
     let length = words[at + 1].copy(alloc)?;
     let mut operands = only(alloc, address)?;

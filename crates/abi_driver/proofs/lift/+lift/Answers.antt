@@ -1,7 +1,7 @@
 use Rattle.std.proofs.Common.{rules, ◌-◌, drop, take, Option, None, Some, option_map, refl, ◌≡◌, ◌<◌, ◌≤◌, ◌+◌, true, List, [], ◌∷◌, ◌++◌, length, map, get_or, IfOk, OnOk, sym, ap, ◌∙◌, subst, arith}
 use Rattle.std.specs.List.{list_all}
 use Rattle.std.proofs.lemmas.Bool.{lt-ltb, ltb-true}
-use Rattle.std.proofs.lemmas.List.{drop-drop, drop_more, length-append, length-drop, length-map, length-take-le, take-append-drop}
+use Rattle.std.proofs.lemmas.List.{drop-drop, drop_all, drop_more, length-append, length-drop, length-map, length-take-le, take-append-drop}
 use Rattle.std.proofs.lemmas.Option.{slice_get_within}
 use Rattle.wit_model.specs.TypeOrder.{payload_below, type_below}
 use Rattle.wit_model.specs.declared.types.Field.{Field}
@@ -32,24 +32,41 @@ use Rattle.abi_driver.proofs.LiftedVariants.{all_used, lifting_makes, lifts_done
 use Rattle.abi_bindgen.proofs.Payloads.{count_told, payload_count, payload_in_table, payload_ranked, payload_told, slots_told, variant_below, variant_shape, payload_some}
 use Rattle.abi_bindgen.proofs.WordBits.{fit_length, of_slots, payload_fits}
 use Rattle.abi_bindgen.proofs.FlatCode.{lift_alias_code, lift_record_code, lift_tuple_code, lift_variant_code}
+use Rattle.abi_driver.specs.WordCount.{word_count, word_counts}
+use Rattle.abi_driver.proofs.LiftedArguments.{words_left, words_next}
+use Rattle.abi_driver.proofs.WordCounts.{alias_words, enum_words, few_words, flags_words, no_more, record_words, scalar_words, tuple_words, variant_words}
 use Rattle.abi_driver.proofs.LiftSteps.{lifts_all_as, lifts_as, record_lifts, rest_last, rest_next, tuple_lifts}
 use Rattle.abi_bindgen.proofs.Records.{alias_below, alias_rank, alias_shape, count-shapes, drop-same, entry_at, kind_at, one_record, part_below_within, part_ranked, payload_type_low, record_below, record_shape, tuple_below, tuple_shape}
 use Rattle.abi_bindgen.proofs.SendSteps.{sends_as, sends_both, sends_last, sends_next, sends_one}
 use Rattle.abi_driver.proofs.lift.+lift.Goals as goal
 
 pub lift_type-lift_scalar-requires : goal.lift_type-lift_scalar-requires
-lift_type-lift_scalar-requires g t c = sym c.scalar_lifting.ensures ∙ c.in-Some.is
+lift_type-lift_scalar-requires g t c =
+    let is = sym c.scalar_lifting.ensures ∙ c.in-Some.is in
+    record { lifting = is; enough = omega (arith, c.requires.enough, scalar_words c.args.resolve.now.types c.args.ty c.in-Some.inst is) }
 
 pub lift_type-returns-in-Some : goal.lift_type-returns-in-Some
-lift_type-returns-in-Some g t c = record { lifts = c.lift_scalar.ensures.lifts; sends = c.lift_scalar.ensures.sends }
+lift_type-returns-in-Some g t c =
+    let one = scalar_words c.args.resolve.now.types c.args.ty c.in-Some.inst (sym c.scalar_lifting.ensures ∙ c.in-Some.is) in
+    record {
+      next = subst (λ n. IfOk c.lift_scalar.result (λ r. r.next ≡ c.args.at + n)) (sym one) c.lift_scalar.ensures.next;
+      lifts = c.lift_scalar.ensures.lifts;
+      sends = c.lift_scalar.ensures.sends;
+    }
+
+pub lift_type-lift_text-requires : goal.lift_type-lift_text-requires
+lift_type-lift_text-requires g t c = subst (λ (ty : WitType). c.args.at + word_count c.args.resolve.now.types ty ≤ length c.args.words.now) c.in-String.is c.requires.enough
 
 pub lift_type-lift_id-requires : goal.lift_type-lift_id-requires
 unfolding type_below
 lift_type-lift_id-requires g t c κs within =
     let n = length c.args.resolve.now.types in
     let deep : rank c.args.ty ≡ c.in-Id.id.0 + 1 = ap rank c.in-Id.is ∙ omega arith in
+    let types = c.args.resolve.now.types in
     let inside : c.in-Id.id.0 < n = ltb-true c.in-Id.id.0 n (ap (type_below n) (sym c.in-Id.is) ∙ c.requires.below) in
-    (omega arith, (within.0, (within.1, (c.requires.well, (c.requires.down, inside)))))
+    let few = subst (λ (ty : WitType). word_count types ty ≤ 16) c.in-Id.is c.requires.few in
+    let enough = subst (λ (ty : WitType). c.args.at + word_count types ty ≤ length c.args.words.now) c.in-Id.is c.requires.enough in
+    (omega arith, (within.0, (within.1, (c.requires.well, (c.requires.down, (inside, (few, enough)))))))
 
 pub lift_type-returns-in-String : goal.lift_type-returns-in-String
 lift_type-returns-in-String g t c =
@@ -59,6 +76,7 @@ lift_type-returns-in-String g t c =
     let new = c.lift_text.new.bindgen in
     let Lifts : WitType → Type 0 = λ ty. IfOk c.lift_text.result (λ r. (used : List g.row.B-Operand.Denot) × (drop c.args.at words ≡ used ++ drop r.next words) × LiftsFlat m (shape_of types ty) used r.operand c.args.bindgen.now new) in
     record {
+      next = subst (λ (ty : WitType). IfOk c.lift_text.result (λ r. r.next ≡ c.args.at + word_count types ty)) (sym c.in-String.is) c.lift_text.ensures.next;
       lifts = subst Lifts (sym c.in-String.is) c.lift_text.ensures.lifts;
       sends = subst (λ (ty : WitType). OnOk c.lift_text.result (Sends m types (lift_code types ty) c.args.bindgen.now new)) (sym c.in-String.is) c.lift_text.ensures.sends;
     }
@@ -71,6 +89,7 @@ lift_type-returns-in-Id g t c =
     let new = c.lift_id.new.bindgen in
     let Lifts : WitType → Type 0 = λ ty. IfOk c.lift_id.result (λ r. (used : List g.row.B-Operand.Denot) × (drop c.args.at words ≡ used ++ drop r.next words) × LiftsFlat m (shape_of types ty) used r.operand c.args.bindgen.now new) in
     record {
+      next = subst (λ (ty : WitType). IfOk c.lift_id.result (λ r. r.next ≡ c.args.at + word_count types ty)) (sym c.in-Id.is) c.lift_id.ensures.next;
       lifts = subst Lifts (sym c.in-Id.is) c.lift_id.ensures.lifts;
       sends = subst (λ (ty : WitType). OnOk c.lift_id.result (Sends m types (lift_code types ty) c.args.bindgen.now new)) (sym c.in-Id.is) c.lift_id.ensures.sends;
     }
@@ -83,7 +102,8 @@ lift_id-lift_type-requires g t c κs within =
     let is = kind_at c.as_slice-types.result.now c.args.id.0 d (kind.Alias c.in-Alias.ty) c.index-types-place.is c.in-Alias.is in
     let low : rank c.in-Alias.ty ≤ c.args.id.0 = alias_rank types c.requires.down c.args.id.0 d at c.in-Alias.ty is in
     let below = alias_below types c.requires.down c.args.id.0 d at c.in-Alias.ty is c.requires.within in
-    (omega (arith, low), (within.0, (within.1, (c.requires.well, (c.requires.down, below)))))
+    let same = alias_words types c.requires.down c.args.id d at c.in-Alias.ty is in
+    (omega (arith, low), (within.0, (within.1, (c.requires.well, (c.requires.down, (below, (omega (arith, same, c.requires.few), omega (arith, same, c.requires.enough))))))))
 
 pub lift_id-lift_parts-requires : goal.lift_id-lift_parts-requires
 lift_id-lift_parts-requires g t c κs within =
@@ -95,7 +115,8 @@ lift_id-lift_parts-requires g t c κs within =
     let read = c.as_slice-tys.result.now in
     let same : read ≡ map (λ (f : Field). f.ty) members = c.as_slice-tys.ensures ∙ c.in_ok-tys-in-Record.ensures ∙ ap (map (λ (f : Field). f.ty)) c.as_slice.ensures in
     let below = subst (λ (xs : List WitType). list_all (λ ty. type_below c.args.id.0 ty) xs ≡ true) (sym same) (record_below types c.requires.down c.args.id.0 d at members is) in
-    (omega arith, (within.0, (within.1, (c.requires.well, (c.requires.down, (omega (arith, c.requires.within), below))))))
+    let many = record_words types c.requires.down c.args.id d at members is ∙ ap (word_counts types) (sym same) in
+    (omega arith, (within.0, (within.1, (c.requires.well, (c.requires.down, (omega (arith, c.requires.within), (below, (omega (arith, many, c.requires.few), omega (arith, many, c.requires.enough)))))))))
 
 pub lift_id-send_one-requires-clause-ready : goal.lift_id-send_one-requires-clause-ready
 lift_id-send_one-requires-clause-ready g t c =
@@ -123,7 +144,8 @@ lift_id-lift_parts-requires-in-Tuple g t c κs within =
     let at = entry_at types c.as_slice-types.result.now c.args.id.0 d c.as_slice-types.ensures c.requires.within c.index-types-place.is in
     let is = kind_at c.as_slice-types.result.now c.args.id.0 d (kind.Tuple c.in-Tuple.members) c.index-types-place.is c.in-Tuple.is in
     let below = subst (λ (xs : List WitType). list_all (λ ty. type_below c.args.id.0 ty) xs ≡ true) (sym c.as_slice-tys-in-Tuple.ensures) (tuple_below types c.requires.down c.args.id.0 d at c.in-Tuple.members is) in
-    (omega arith, (within.0, (within.1, (c.requires.well, (c.requires.down, (omega (arith, c.requires.within), below))))))
+    let many = tuple_words types c.requires.down c.args.id d at c.in-Tuple.members is ∙ ap (word_counts types) (sym c.as_slice-tys-in-Tuple.ensures) in
+    (omega arith, (within.0, (within.1, (c.requires.well, (c.requires.down, (omega (arith, c.requires.within), (below, (omega (arith, many, c.requires.few), omega (arith, many, c.requires.enough)))))))))
 
 pub lift_id-lift_enum-requires-clause-here : goal.lift_id-lift_enum-requires-clause-here
 lift_id-lift_enum-requires-clause-here g t c =
@@ -131,6 +153,48 @@ lift_id-lift_enum-requires-clause-here g t c =
     let d = c.index-types-place.result in
     let at = entry_at types c.as_slice-types.result.now c.args.id.0 d c.as_slice-types.ensures c.requires.within c.index-types-place.is in
     record { entry = d; stands = at; kind = kind_at c.as_slice-types.result.now c.args.id.0 d (kind.Enum c.in-Enum.members) c.index-types-place.is c.in-Enum.is }
+
+pub lift_id-lift_enum-requires-clause-enough : goal.lift_id-lift_enum-requires-clause-enough
+lift_id-lift_enum-requires-clause-enough g t c =
+    let types = c.args.resolve.now.types in
+    let d = c.index-types-place.result in
+    let at = entry_at types c.as_slice-types.result.now c.args.id.0 d c.as_slice-types.ensures c.requires.within c.index-types-place.is in
+    let is = kind_at c.as_slice-types.result.now c.args.id.0 d (kind.Enum c.in-Enum.members) c.index-types-place.is c.in-Enum.is in
+    omega (arith, enum_words types c.requires.down c.args.id d at c.in-Enum.members is, c.requires.enough)
+
+pub lift_id-returns-in-Enum : goal.lift_id-returns-in-Enum
+lift_id-returns-in-Enum g t c =
+    let types = c.args.resolve.now.types in
+    let d = c.index-types-place.result in
+    let at = entry_at types c.as_slice-types.result.now c.args.id.0 d c.as_slice-types.ensures c.requires.within c.index-types-place.is in
+    let is = kind_at c.as_slice-types.result.now c.args.id.0 d (kind.Enum c.in-Enum.members) c.index-types-place.is c.in-Enum.is in
+    let one = enum_words types c.requires.down c.args.id d at c.in-Enum.members is in
+    record {
+      next = subst (λ n. IfOk c.lift_enum.result (λ r. r.next ≡ c.args.at + n)) (sym one) c.lift_enum.ensures.next;
+      lifts = c.lift_enum.ensures.lifts;
+      sends = c.lift_enum.ensures.sends;
+    }
+
+pub lift_id-lift_flags-requires-clause-enough : goal.lift_id-lift_flags-requires-clause-enough
+lift_id-lift_flags-requires-clause-enough g t c =
+    let types = c.args.resolve.now.types in
+    let d = c.index-types-place.result in
+    let at = entry_at types c.as_slice-types.result.now c.args.id.0 d c.as_slice-types.ensures c.requires.within c.index-types-place.is in
+    let is = kind_at c.as_slice-types.result.now c.args.id.0 d (kind.Flags c.in-Flags.members) c.index-types-place.is c.in-Flags.is in
+    omega (arith, flags_words types c.requires.down c.args.id d at c.in-Flags.members is, c.requires.enough)
+
+pub lift_id-returns-in-Flags : goal.lift_id-returns-in-Flags
+lift_id-returns-in-Flags g t c =
+    let types = c.args.resolve.now.types in
+    let d = c.index-types-place.result in
+    let at = entry_at types c.as_slice-types.result.now c.args.id.0 d c.as_slice-types.ensures c.requires.within c.index-types-place.is in
+    let is = kind_at c.as_slice-types.result.now c.args.id.0 d (kind.Flags c.in-Flags.members) c.index-types-place.is c.in-Flags.is in
+    let many = flags_words types c.requires.down c.args.id d at c.in-Flags.members is in
+    record {
+      next = subst (λ n. IfOk c.lift_flags.result (λ r. r.next ≡ c.args.at + n)) (sym many) c.lift_flags.ensures.next;
+      lifts = c.lift_flags.ensures.lifts;
+      sends = c.lift_flags.ensures.sends;
+    }
 
 pub lift_id-lift_flags-requires-clause-here : goal.lift_id-lift_flags-requires-clause-here
 lift_id-lift_flags-requires-clause-here g t c =
@@ -147,7 +211,7 @@ lift_id-lift_variant-requires g t c κs within =
     let k = (get_or c.as_slice-types.result.now c.args.id.0 d).kind in
     let here : IsKindOf types c.args.id.0 k = record { entry = d; stands = at; kind = ap (λ (x : TypeDef). x.kind) c.index-types-place.is } in
     let cases : has_cases k ≡ true = ap has_cases c.in-Variant.is in
-    (omega arith, (within.0, (within.1, (c.requires.well, (c.requires.down, (here, cases))))))
+    (omega arith, (within.0, (within.1, (c.requires.well, (c.requires.down, (here, (cases, (c.requires.few, c.requires.enough))))))))
 
 pub lift_id-lift_variant-requires-in-Option : goal.lift_id-lift_variant-requires-in-Option
 lift_id-lift_variant-requires-in-Option g t c κs within =
@@ -157,7 +221,7 @@ lift_id-lift_variant-requires-in-Option g t c κs within =
     let k = (get_or c.as_slice-types.result.now c.args.id.0 d).kind in
     let here : IsKindOf types c.args.id.0 k = record { entry = d; stands = at; kind = ap (λ (x : TypeDef). x.kind) c.index-types-place.is } in
     let cases : has_cases k ≡ true = ap has_cases c.in-Option.is in
-    (omega arith, (within.0, (within.1, (c.requires.well, (c.requires.down, (here, cases))))))
+    (omega arith, (within.0, (within.1, (c.requires.well, (c.requires.down, (here, (cases, (c.requires.few, c.requires.enough))))))))
 
 pub lift_id-lift_variant-requires-in-Result : goal.lift_id-lift_variant-requires-in-Result
 lift_id-lift_variant-requires-in-Result g t c κs within =
@@ -167,7 +231,7 @@ lift_id-lift_variant-requires-in-Result g t c κs within =
     let k = (get_or c.as_slice-types.result.now c.args.id.0 d).kind in
     let here : IsKindOf types c.args.id.0 k = record { entry = d; stands = at; kind = ap (λ (x : TypeDef). x.kind) c.index-types-place.is } in
     let cases : has_cases k ≡ true = ap has_cases c.in-Result.is in
-    (omega arith, (within.0, (within.1, (c.requires.well, (c.requires.down, (here, cases))))))
+    (omega arith, (within.0, (within.1, (c.requires.well, (c.requires.down, (here, (cases, (c.requires.few, c.requires.enough))))))))
 
 pub lift_id-returns-in-Alias : goal.lift_id-returns-in-Alias
 lift_id-returns-in-Alias g t c =
@@ -180,6 +244,7 @@ lift_id-returns-in-Alias g t c =
     let new = c.lift_type.new.bindgen in
     let Lifts : Shape → Type 0 = λ s. IfOk c.lift_type.result (λ r. (used : List g.row.B-Operand.Denot) × (drop c.args.at words ≡ used ++ drop r.next words) × LiftsFlat m s used r.operand c.args.bindgen.now new) in
     record {
+      next = subst (λ n. IfOk c.lift_type.result (λ r. r.next ≡ c.args.at + n)) (sym (alias_words types c.requires.down c.args.id d at c.in-Alias.ty is)) c.lift_type.ensures.next;
       lifts = subst Lifts (sym (alias_shape types c.requires.down c.args.id.0 d at c.in-Alias.ty is)) c.lift_type.ensures.lifts;
       sends = subst (λ (code : List Sent). OnOk c.lift_type.result (Sends m types code c.args.bindgen.now new)) (sym (lift_alias_code types c.requires.down c.args.id d at c.in-Alias.ty is)) c.lift_type.ensures.sends;
     }
@@ -196,7 +261,9 @@ lift_id-returns-in_ok-operand-in-Record g t c =
     let lifted = lifts_all_as m g.met.B.Bindgen.sound types _ _ _ _ c.args.words.now c.args.at c.in_ok-lifted-in-Record.lifted.next c.in_ok-lifted-in-Record.lifted.parts same c.in_ok-lifted-in-Record.ensures.lifts in
     let whole = record_lifts m g.met.B.Bindgen.sound types c.args.id members _ _ _ lifted.0 c.in_ok-lifted-in-Record.lifted.parts c.in_ok-operand-in-Record.operand (record { entry = d; at = at; kind = is }) lifted.2 c.in_ok-operand-in-Record.ensures in
     let parts = sends_as m types _ _ _ _ (ap (each (λ n ty. lift_code types ty) 0) (sym same)) c.in_ok-lifted-in-Record.ensures.sends in
+    let many = record_words types c.requires.down c.args.id d at members is ∙ ap (word_counts types) (sym same) in
     record {
+      next = c.in_ok-lifted-in-Record.ensures.next ∙ ap (λ n. c.args.at + n) (sym many);
       lifts = lifts_as m g.met.B.Bindgen.sound types _ _ _ _ c.args.words.now c.args.at c.in_ok-lifted-in-Record.lifted.next c.in_ok-operand-in-Record.operand (record_shape types c.requires.down c.args.id.0 d at members is) (lifted.0, lifted.1, whole);
       sends = sends_as m types _ _ _ _ (lift_record_code types c.requires.down c.args.id d at members is) (sends_both m types _ _ _ _ _ parts (sends_one m types (RecordLift c.args.id) _ _ _ _ c.in_ok-operand-in-Record.ensures));
     }
@@ -215,7 +282,9 @@ lift_id-returns-in_ok-operand-in-Tuple g t c =
     let many : length tys ≡ c.in_ok-part_count-in-Tuple.field-0 = sym (c.in_ok-part_count-in-Tuple.ensures ∙ ap length c.as_slice-tys-in-Tuple.ensures) in
     let parts = sends_as m types _ _ _ _ (ap (each (λ n ty. lift_code types ty) 0) (sym c.as_slice-tys-in-Tuple.ensures)) c.in_ok-lifted-in-Tuple.ensures.sends in
     let code = lift_tuple_code types c.requires.down c.args.id d at tys is ∙ ap (λ n. each (λ n ty. lift_code types ty) 0 tys ++ sends (TupleLift n) ∷ []) many in
+    let all = tuple_words types c.requires.down c.args.id d at tys is ∙ ap (word_counts types) (sym c.as_slice-tys-in-Tuple.ensures) in
     record {
+      next = c.in_ok-lifted-in-Tuple.ensures.next ∙ ap (λ n. c.args.at + n) (sym all);
       lifts = lifts_as m g.met.B.Bindgen.sound types _ _ _ _ c.args.words.now c.args.at c.in_ok-lifted-in-Tuple.lifted.next c.in_ok-operand-in-Tuple.operand (tuple_shape types c.requires.down c.args.id.0 d at tys is) (lifted.0, lifted.1, whole);
       sends = sends_as m types _ _ _ _ code (sends_both m types _ _ _ _ _ parts (sends_one m types (TupleLift c.in_ok-part_count-in-Tuple.field-0) _ _ _ _ c.in_ok-operand-in-Tuple.ensures));
     }
@@ -223,7 +292,7 @@ lift_id-returns-in_ok-operand-in-Tuple g t c =
 pub lift_parts-loop-i-init : goal.lift_parts-loop-i-init
 lift_parts-loop-i-init g t c =
     let Lifts : List g.row.B-Operand.Denot → List g.row.B-Operand.Denot → g.row.B.Denot → Type 0 = λ qs ps new. LiftsAll g.B.Bindgen.meaning (shapes_of c.args.resolve.now.types c.args.tys.now) qs ps c.args.bindgen.now new in
-    record { count = ap length c.new-parts.ensures; sent = refl; rest = ([], refl, λ new qs later h. subst (λ ps. Lifts qs (ps ++ later) new) (sym c.new-parts.ensures) h) }
+    record { count = ap length c.new-parts.ensures; left = refl; low = omega arith; sent = refl; rest = ([], refl, λ new qs later h. subst (λ ps. Lifts qs (ps ++ later) new) (sym c.new-parts.ensures) h) }
 
 pub lift_parts-lift_type-requires : goal.lift_parts-lift_type-requires
 lift_parts-lift_type-requires g t c κs within =
@@ -231,13 +300,20 @@ lift_parts-lift_type-requires g t c κs within =
     let short : c.loop-i.i < length c.args.tys.now = omega (arith, c.loop-i-test.true) in
     let low : rank (get_or c.args.tys.now c.loop-i.i wit.Bool) ≤ c.args.place = part_ranked c.args.place c.args.tys.now c.requires.below c.loop-i.i wit.Bool short in
     let below = part_below_within c.args.place c.args.tys.now c.requires.below c.loop-i.i wit.Bool short (length types) c.requires.within in
-    (omega (arith, low), (within.0, (within.1, (c.requires.well, (c.requires.down, below)))))
+    let inv = c.loop-i.invariant in
+    let next = words_next types c.args.tys.now c.loop-i.i (get_or c.args.tys.now c.loop-i.i wit.Bool) (drop_more c.args.tys.now c.loop-i.i wit.Bool short) in
+    let few : word_count types (get_or c.args.tys.now c.loop-i.i wit.Bool) ≤ 16 = omega (arith, next, inv.left, inv.low, c.requires.few) in
+    let enough : c.loop-i.next + word_count types (get_or c.args.tys.now c.loop-i.i wit.Bool) ≤ length c.args.words.now = omega (arith, next, inv.left, c.requires.enough) in
+    (omega (arith, low), (within.0, (within.1, (c.requires.well, (c.requires.down, (below, (few, enough)))))))
 
 pub lift_parts-loop-i-preserved : goal.lift_parts-loop-i-preserved
 lift_parts-loop-i-preserved g t c =
     let m = g.B.Bindgen.meaning in
     let short : c.loop-i.i < length c.args.tys.now = omega (arith, c.loop-i-test.true) in
+    let next = words_next c.args.resolve.now.types c.args.tys.now c.loop-i.i (get_or c.args.tys.now c.loop-i.i wit.Bool) (drop_more c.args.tys.now c.loop-i.i wit.Bool short) in
     record {
+      left = omega (arith, next, c.loop-i.invariant.left, c.in_ok-lifted.ensures.next);
+      low = omega (arith, c.loop-i.invariant.low, c.in_ok-lifted.ensures.next);
       count = ap length c.in_ok-push.ensures.ok ∙ length-append c.loop-i.parts (c.in_ok-lifted.lifted.operand ∷ []) ∙ ap (λ n. n + 1) c.loop-i.invariant.count;
       sent = sends_next m c.args.resolve.now.types (λ n ty. lift_code c.args.resolve.now.types ty) c.args.tys.now c.loop-i.i wit.Bool _ _ _ short c.loop-i.invariant.sent c.in_ok-lifted.ensures.sends;
       rest = rest_next m g.met.B.Bindgen.sound c.args.resolve.now.types c.args.tys.now c.loop-i.i c.args.at c.args.words.now c.loop-i.next c.in_ok-lifted.lifted.next c.loop-i.parts c.push.new.self _ _ _
@@ -249,6 +325,13 @@ lift_parts-returns-clause-lifts g t c =
     let m = g.B.Bindgen.meaning in
     let ended : length c.args.tys.now ≤ c.loop-i.i = omega (arith, c.loop-i-test.false) in
     rest_last m g.met.B.Bindgen.sound c.args.resolve.now.types c.args.tys.now c.loop-i.i c.args.at c.args.words.now c.loop-i.next c.loop-i.parts _ _ ended c.loop-i.invariant.rest
+
+pub lift_parts-returns-clause-next : goal.lift_parts-returns-clause-next
+lift_parts-returns-clause-next g t c =
+    let types = c.args.resolve.now.types in
+    let ended : length c.args.tys.now ≤ c.loop-i.i = omega (arith, c.loop-i-test.false) in
+    let none_left : words_left types c.args.tys.now c.loop-i.i ≡ 0 = ap (word_counts types) (drop_all c.loop-i.i c.args.tys.now ended) in
+    omega (arith, c.loop-i.invariant.left, none_left)
 
 pub lift_parts-returns-clause-sends : goal.lift_parts-returns-clause-sends
 lift_parts-returns-clause-sends g t c =
@@ -264,7 +347,7 @@ lift_cases-lift_case-requires g t c κs within =
     let low : payload_rank (get_or payloads i None) ≤ c.args.id.0 = payload_ranked c.args.id.0 payloads i None c.requires.below short in
     let below : payload_below (length types) (get_or payloads i None) ≡ true = payload_in_table c.args.id.0 (length types) payloads i None c.requires.within c.requires.below short in
     let fits : FitIn (payload_words types (get_or payloads i None)) c.args.slots.now = subst (FitIn (payload_words types (get_or payloads i None))) (sym c.requires.shared) (payload_fits types payloads i None short) in
-    (omega (arith, low), (within.0, (within.1, (c.requires.well, (c.requires.down, (below, (fits, c.requires.enough)))))))
+    (omega (arith, low), (within.0, (within.1, (c.requires.well, (c.requires.down, (below, (fits, (c.requires.few, c.requires.enough))))))))
 
 pub lift_cases-loop-i-init : goal.lift_cases-loop-i-init
 lift_cases-loop-i-init g t c = record { grows = grows_none g.B.Bindgen.meaning c.args.bindgen.now; code = refl; sent = refl; rest = λ new h. h }
@@ -302,14 +385,14 @@ lift_cases-returns g t c =
 pub lift_payload-slice_bounds-push_copies-end : goal.lift_payload-slice_bounds-push_copies-end
 lift_payload-slice_bounds-push_copies-end g t c =
     let f = c.flat_types-flat.result in
-    let is = payload_count c.args.resolve.now.types c.args.ty f c.flat_types-flat.ensures c.if-flat.false in
+    let is = payload_count c.args.resolve.now.types c.args.ty f c.flat_types-flat.ensures (no_more c.args.resolve.now.types c.args.ty f c.flat_types-flat.ensures (few_words c.args.resolve.now.types c.args.ty c.args.slots.now c.requires.fits c.requires.few)) in
     let most = fit_length (payload_words c.args.resolve.now.types (Some c.args.ty)) c.args.slots.now c.requires.fits in
     sym (length-take-le f.count c.args.words.now (omega (arith, is, most, c.requires.enough)))
 
 pub lift_payload-slice_bounds-cast_words-end : goal.lift_payload-slice_bounds-cast_words-end
 lift_payload-slice_bounds-cast_words-end g t c =
     let f = c.flat_types-flat.result in
-    let is = payload_count c.args.resolve.now.types c.args.ty f c.flat_types-flat.ensures c.if-flat.false in
+    let is = payload_count c.args.resolve.now.types c.args.ty f c.flat_types-flat.ensures (no_more c.args.resolve.now.types c.args.ty f c.flat_types-flat.ensures (few_words c.args.resolve.now.types c.args.ty c.args.slots.now c.requires.fits c.requires.few)) in
     let most = fit_length (payload_words c.args.resolve.now.types (Some c.args.ty)) c.args.slots.now c.requires.fits in
     sym (length-take-le f.count c.args.slots.now (omega (arith, is, most)))
 
@@ -318,20 +401,29 @@ lift_payload-cast_words-requires-clause-ordered g t c =
     let types = c.args.resolve.now.types in
     let f = c.flat_types-flat.result in
     let words = payload_words types (Some c.args.ty) in
-    let told = payload_told types c.args.ty f c.flat_types-flat.ensures c.if-flat.false in
-    let is = payload_count types c.args.ty f c.flat_types-flat.ensures c.if-flat.false in
+    let told = payload_told types c.args.ty f c.flat_types-flat.ensures (no_more types c.args.ty f c.flat_types-flat.ensures (few_words types c.args.ty c.args.slots.now c.requires.fits c.requires.few)) in
+    let is = payload_count types c.args.ty f c.flat_types-flat.ensures (no_more types c.args.ty f c.flat_types-flat.ensures (few_words types c.args.ty c.args.slots.now c.requires.fits c.requires.few)) in
     subst (λ (xs : List WasmType). AreOrdered (take f.count c.args.slots.now) xs) (sym told) (subst (λ n. AreOrdered (take n c.args.slots.now) words) (sym is) (of_slots words c.args.slots.now c.requires.fits))
 
 pub lift_payload-cast_words-requires-clause-enough : goal.lift_payload-cast_words-requires-clause-enough
 lift_payload-cast_words-requires-clause-enough g t c =
     let f = c.flat_types-flat.result in
-    let is = payload_count c.args.resolve.now.types c.args.ty f c.flat_types-flat.ensures c.if-flat.false in
+    let is = payload_count c.args.resolve.now.types c.args.ty f c.flat_types-flat.ensures (no_more c.args.resolve.now.types c.args.ty f c.flat_types-flat.ensures (few_words c.args.resolve.now.types c.args.ty c.args.slots.now c.requires.fits c.requires.few)) in
     let most = fit_length (payload_words c.args.resolve.now.types (Some c.args.ty)) c.args.slots.now c.requires.fits in
     let first : c.from_vec-first.result ≡ take f.count c.args.words.now = c.from_vec-first.ensures ∙ c.in_ok-push_copies.ensures ∙ ap (λ (os : List g.row.B-Operand.Denot). os ++ take f.count c.args.words.now) c.new-first.ensures.items in
     ap length first ∙ length-take-le f.count c.args.words.now (omega (arith, is, most, c.requires.enough)) ∙ sym (length-take-le f.count c.args.slots.now (omega (arith, is, most)))
 
 pub lift_payload-lift_type-requires : goal.lift_payload-lift_type-requires
-lift_payload-lift_type-requires g t c κs within = (omega arith, (within.0, (within.1, (c.requires.well, (c.requires.down, c.requires.below)))))
+lift_payload-lift_type-requires g t c κs within =
+    let types = c.args.resolve.now.types in
+    let f = c.flat_types-flat.result in
+    let slots = c.args.slots.now in
+    let few = few_words types c.args.ty slots c.requires.fits c.requires.few in
+    let is = payload_count types c.args.ty f c.flat_types-flat.ensures (no_more types c.args.ty f c.flat_types-flat.ensures few) in
+    let most = fit_length (payload_words types (Some c.args.ty)) slots c.requires.fits in
+    let many = length-take-le f.count slots (omega (arith, is, most)) in
+    let enough : 0 + word_count types c.args.ty ≤ length c.as_slice.result.now = omega (arith, ap length c.as_slice.ensures, c.in_ok-used.ensures.casts.fits, many, is) in
+    (omega arith, (within.0, (within.1, (c.requires.well, (c.requires.down, (c.requires.below, (few, enough)))))))
 
 pub lift_payload-close_payload-requires : goal.lift_payload-close_payload-requires
 lift_payload-close_payload-requires g t c =
@@ -350,8 +442,8 @@ lift_payload-returns g t c =
     let shared = c.args.words.now in
     let f = c.flat_types-flat.result in
     let words = payload_words types (Some ty) in
-    let told = payload_told types ty f c.flat_types-flat.ensures c.if-flat.false in
-    let is = payload_count types ty f c.flat_types-flat.ensures c.if-flat.false in
+    let told = payload_told types ty f c.flat_types-flat.ensures (no_more types ty f c.flat_types-flat.ensures (few_words types ty slots c.requires.fits c.requires.few)) in
+    let is = payload_count types ty f c.flat_types-flat.ensures (no_more types ty f c.flat_types-flat.ensures (few_words types ty slots c.requires.fits c.requires.few)) in
     let most = fit_length words slots c.requires.fits in
     let a = c.args.bindgen.now in
     let b = c.push_block.new.self in
@@ -390,17 +482,18 @@ lift_variant-lift_cases-requires g t c κs within =
     let words = c.args.words.now in
     let f = c.flat_types-flat.result in
     let shape = variant_shape types c.requires.down c.args.id.0 kind here c.requires.cases in
-    let told : take (f.count - 1) (drop 1 f.words) ≡ shared_slots types (payloads_of kind) = slots_told types c.args.id (payloads_of kind) shape f c.flat_types-flat.ensures c.if-flat.false in
-    let is : f.count ≡ case_words types (payloads_of kind) = count_told types c.args.id (payloads_of kind) shape f c.flat_types-flat.ensures c.if-flat.false in
+    let told : take (f.count - 1) (drop 1 f.words) ≡ shared_slots types (payloads_of kind) = slots_told types c.args.id (payloads_of kind) shape f c.flat_types-flat.ensures (no_more types (wit.Id c.args.id) f c.flat_types-flat.ensures c.requires.few) in
+    let is : f.count ≡ case_words types (payloads_of kind) = count_told types c.args.id (payloads_of kind) shape f c.flat_types-flat.ensures (no_more types (wit.Id c.args.id) f c.flat_types-flat.ensures c.requires.few) in
     let same : c.as_slice-payloads.result.now ≡ payloads_of kind = c.as_slice-payloads.ensures ∙ c.in_ok-payloads.ensures in
     let inside : c.args.id.0 < length types = slice_get_within types c.args.id.0 here.entry here.stands in
     let below : list_all (λ payload. payload_below c.args.id.0 payload) c.as_slice-payloads.result.now ≡ true =
     subst (λ (ps : List (Option WitType)). list_all (λ payload. payload_below c.args.id.0 payload) ps ≡ true) (sym same) (variant_below types c.requires.down c.args.id.0 kind here c.requires.cases) in
     let shared : take (f.count - 1) (drop 1 f.words) ≡ shared_slots types c.as_slice-payloads.result.now = told ∙ ap (shared_slots types) (sym same) in
     let n = c.args.at + f.count - (c.args.at + 1) in
-    let room : n ≤ length (drop (c.args.at + 1) words) = omega (arith, is, c.if-at-words.false, c.if-words-count.false, length-drop (c.args.at + 1) words) in
+    let room : n ≤ length (drop (c.args.at + 1) words) = omega (arith, is, variant_words types c.requires.down c.args.id kind c.requires.here c.requires.cases, c.requires.enough, length-drop (c.args.at + 1) words) in
     let enough : length (take n (drop (c.args.at + 1) words)) ≡ length (take (f.count - 1) (drop 1 f.words)) = length-take-le n (drop (c.args.at + 1) words) room ∙ (let e : n ≡ length (shared_slots types (payloads_of kind)) = omega (arith, is) in e) ∙ sym (ap length told) in
-    (omega arith, (within.0, (within.1, (c.requires.well, (c.requires.down, (inside, (below, (shared, enough))))))))
+    let few : length (take (f.count - 1) (drop 1 f.words)) ≤ 16 = omega (arith, ap length told, variant_words types c.requires.down c.args.id kind here c.requires.cases, c.requires.few) in
+    (omega arith, (within.0, (within.1, (c.requires.well, (c.requires.down, (inside, (below, (shared, (few, enough)))))))))
 
 pub lift_variant-returns : goal.lift_variant-returns
 lift_variant-returns g t c =
@@ -415,14 +508,14 @@ lift_variant-returns g t c =
     let tag = c.in_ok-tag.tag in
     let x = c.in_ok-operand.operand in
     let shape = variant_shape types c.requires.down c.args.id.0 kind here c.requires.cases in
-    let told : take (f.count - 1) (drop 1 f.words) ≡ shared_slots types (payloads_of kind) = slots_told types c.args.id (payloads_of kind) shape f c.flat_types-flat.ensures c.if-flat.false in
-    let is : f.count ≡ case_words types (payloads_of kind) = count_told types c.args.id (payloads_of kind) shape f c.flat_types-flat.ensures c.if-flat.false in
+    let told : take (f.count - 1) (drop 1 f.words) ≡ shared_slots types (payloads_of kind) = slots_told types c.args.id (payloads_of kind) shape f c.flat_types-flat.ensures (no_more types (wit.Id c.args.id) f c.flat_types-flat.ensures c.requires.few) in
+    let is : f.count ≡ case_words types (payloads_of kind) = count_told types c.args.id (payloads_of kind) shape f c.flat_types-flat.ensures (no_more types (wit.Id c.args.id) f c.flat_types-flat.ensures c.requires.few) in
     let same : c.as_slice-payloads.result.now ≡ payloads_of kind = c.as_slice-payloads.ensures ∙ c.in_ok-payloads.ensures in
     let n = at + f.count - (at + 1) in
     let shared = take n (drop (at + 1) words) in
-    let room : n ≤ length (drop (at + 1) words) = omega (arith, is, c.if-at-words.false, c.if-words-count.false, length-drop (at + 1) words) in
+    let room : n ≤ length (drop (at + 1) words) = omega (arith, is, variant_words types c.requires.down c.args.id kind c.requires.here c.requires.cases, c.requires.enough, length-drop (at + 1) words) in
     let enough : length shared ≡ length (shared_slots types (payloads_of kind)) = length-take-le n (drop (at + 1) words) room ∙ (let e : n ≡ length (shared_slots types (payloads_of kind)) = omega (arith, is) in e) in
-    let short : at < length words = omega (arith, is, c.if-at-words.false, c.if-words-count.false) in
+    let short : at < length words = omega (arith, is, variant_words types c.requires.down c.args.id kind c.requires.here c.requires.cases, c.requires.enough) in
     let split : drop (at + 1) words ≡ shared ++ drop (at + f.count) words =
     sym (take-append-drop n (drop (at + 1) words)) ∙ ap (λ os. shared ++ os) (drop-drop n (at + 1) words ∙ (let e : at + 1 + n ≡ at + f.count = omega (arith, is) in ap (λ k. drop k words) e)) in
     let front : drop at words ≡ tag ∷ drop (at + 1) words = drop-same words words at tag c.index-words-at.result refl short c.index-words-at.is c.in_ok-tag.ensures in
@@ -432,6 +525,7 @@ lift_variant-returns g t c =
     let e = subst (λ (os : List g.row.B-Operand.Denot). Emits m types (case_lifting kind c.args.id) os (x ∷ []) c.lift_cases.new.bindgen c.send_one.new.bindgen) c.in_ok-operands.ensures
     (subst (λ (i : Instruction). Emits m types i c.in_ok-operands.operands (x ∷ []) c.lift_cases.new.bindgen c.send_one.new.bindgen) c.case_lifting.ensures c.in_ok-operand.ensures) in
     record {
+      next = ap (λ n. at + n) (is ∙ sym (variant_words types c.requires.down c.args.id kind here c.requires.cases));
       lifts = (tag ∷ shared, front ∙ ap (λ os. tag ∷ os) split, variant_lifts m g.met.B.Bindgen.sound r c.requires.down c.args.id _ _ shared kind _ tag x here c.requires.cases enough blocks e);
       sends = sends_as m types _ _ _ _ (lift_variant_code types c.requires.down c.args.id here.entry here.stands kind here.kind c.requires.cases) (sends_both m types _ _ _ _ _ sent (sends_one m types (case_lifting kind c.args.id) _ _ _ _ e));
     }
@@ -442,7 +536,7 @@ lift_case-lift_payload-requires g t c κs within =
     let deep : payload_rank c.args.payload ≡ rank c.in-Some.ty = ap payload_rank c.in-Some.is in
     let below = payload_type_low (length types) c.in-Some.ty (subst (λ (p : Option WitType). payload_below (length types) p ≡ true) c.in-Some.is c.requires.below) in
     let fits = subst (λ (p : Option WitType). FitIn (payload_words types p) c.args.slots.now) c.in-Some.is c.requires.fits in
-    (omega (arith, deep), (within.0, (within.1, (c.requires.well, (c.requires.down, (below, (fits, c.requires.enough)))))))
+    (omega (arith, deep), (within.0, (within.1, (c.requires.well, (c.requires.down, (below, (fits, (c.requires.few, c.requires.enough))))))))
 
 pub lift_case-returns-in_ok-lift_bare-in-None : goal.lift_case-returns-in_ok-lift_bare-in-None
 lift_case-returns-in_ok-lift_bare-in-None g t c =
@@ -469,14 +563,34 @@ lift_case-returns-in_ok-lift_payload-in-Some g t c =
       sends = λ n. subst (λ (p : Option WitType). Sends m types (lift_case types slots n p (option_map (lift_code types) p)) c.args.bindgen.now new) (sym c.in-Some.is) (c.in_ok-lift_payload-in-Some.ensures.sends n);
     }
 
+pub lift_variant-overflow_add-next : goal.lift_variant-overflow_add-next
+lift_variant-overflow_add-next g t c =
+    let types = c.args.resolve.now.types in
+    let kind = c.args.kind.now in
+    let f = c.flat_types-flat.result in
+    let shape = variant_shape types c.requires.down c.args.id.0 kind c.requires.here c.requires.cases in
+    let is : f.count ≡ case_words types (payloads_of kind) = count_told types c.args.id (payloads_of kind) shape f c.flat_types-flat.ensures (no_more types (wit.Id c.args.id) f c.flat_types-flat.ensures c.requires.few) in
+    let within : c.args.at + f.count ≤ length c.args.words.now = omega (arith, is, variant_words types c.requires.down c.args.id kind c.requires.here c.requires.cases, c.requires.enough) in
+    search rules
+
+pub lift_variant-slice_bounds-shared-end : goal.lift_variant-slice_bounds-shared-end
+lift_variant-slice_bounds-shared-end g t c =
+    let types = c.args.resolve.now.types in
+    let kind = c.args.kind.now in
+    let f = c.flat_types-flat.result in
+    let shape = variant_shape types c.requires.down c.args.id.0 kind c.requires.here c.requires.cases in
+    let is : f.count ≡ case_words types (payloads_of kind) = count_told types c.args.id (payloads_of kind) shape f c.flat_types-flat.ensures (no_more types (wit.Id c.args.id) f c.flat_types-flat.ensures c.requires.few) in
+    let within : c.args.at + f.count ≤ length c.args.words.now = omega (arith, is, variant_words types c.requires.down c.args.id kind c.requires.here c.requires.cases, c.requires.enough) in
+    search rules
+
 pub lift_variant-overflow_add-shared : goal.lift_variant-overflow_add-shared
 lift_variant-overflow_add-shared g t c =
     let types = c.args.resolve.now.types in
     let kind = c.args.kind.now in
     let f = c.flat_types-flat.result in
     let shape = variant_shape types c.requires.down c.args.id.0 kind c.requires.here c.requires.cases in
-    let is : f.count ≡ case_words types (payloads_of kind) = count_told types c.args.id (payloads_of kind) shape f c.flat_types-flat.ensures c.if-flat.false in
-    let short : c.args.at < length c.args.words.now = omega (arith, is, c.if-at-words.false, c.if-words-count.false) in
+    let is : f.count ≡ case_words types (payloads_of kind) = count_told types c.args.id (payloads_of kind) shape f c.flat_types-flat.ensures (no_more types (wit.Id c.args.id) f c.flat_types-flat.ensures c.requires.few) in
+    let short : c.args.at < length c.args.words.now = omega (arith, is, variant_words types c.requires.down c.args.id kind c.requires.here c.requires.cases, c.requires.enough) in
     search rules
 
 pub lift_variant-offset_bounds-words-at : goal.lift_variant-offset_bounds-words-at
@@ -485,8 +599,8 @@ lift_variant-offset_bounds-words-at g t c =
     let kind = c.args.kind.now in
     let f = c.flat_types-flat.result in
     let shape = variant_shape types c.requires.down c.args.id.0 kind c.requires.here c.requires.cases in
-    let is : f.count ≡ case_words types (payloads_of kind) = count_told types c.args.id (payloads_of kind) shape f c.flat_types-flat.ensures c.if-flat.false in
-    let short : c.args.at < length c.args.words.now = omega (arith, is, c.if-at-words.false, c.if-words-count.false) in
+    let is : f.count ≡ case_words types (payloads_of kind) = count_told types c.args.id (payloads_of kind) shape f c.flat_types-flat.ensures (no_more types (wit.Id c.args.id) f c.flat_types-flat.ensures c.requires.few) in
+    let short : c.args.at < length c.args.words.now = omega (arith, is, variant_words types c.requires.down c.args.id kind c.requires.here c.requires.cases, c.requires.enough) in
     omega (arith, short)
 
 pub lift_variant-slice_bounds-shared-count : goal.lift_variant-slice_bounds-shared-count
@@ -495,7 +609,7 @@ lift_variant-slice_bounds-shared-count g t c =
     let kind = c.args.kind.now in
     let f = c.flat_types-flat.result in
     let shape = variant_shape types c.requires.down c.args.id.0 kind c.requires.here c.requires.cases in
-    let is : f.count ≡ case_words types (payloads_of kind) = count_told types c.args.id (payloads_of kind) shape f c.flat_types-flat.ensures c.if-flat.false in
+    let is : f.count ≡ case_words types (payloads_of kind) = count_told types c.args.id (payloads_of kind) shape f c.flat_types-flat.ensures (no_more types (wit.Id c.args.id) f c.flat_types-flat.ensures c.requires.few) in
     let some : 1 ≤ f.count = omega (arith, is) in
     omega (arith, some)
 
@@ -505,7 +619,7 @@ lift_variant-slice_bounds-shared-start g t c =
     let kind = c.args.kind.now in
     let f = c.flat_types-flat.result in
     let shape = variant_shape types c.requires.down c.args.id.0 kind c.requires.here c.requires.cases in
-    let is : f.count ≡ case_words types (payloads_of kind) = count_told types c.args.id (payloads_of kind) shape f c.flat_types-flat.ensures c.if-flat.false in
+    let is : f.count ≡ case_words types (payloads_of kind) = count_told types c.args.id (payloads_of kind) shape f c.flat_types-flat.ensures (no_more types (wit.Id c.args.id) f c.flat_types-flat.ensures c.requires.few) in
     let some : 1 ≤ f.count = omega (arith, is) in
     let within : c.args.at + 1 ≤ c.args.at + f.count = omega (arith, some) in
     within
@@ -516,7 +630,7 @@ lift_variant-slice_bounds-slots-count g t c =
     let kind = c.args.kind.now in
     let f = c.flat_types-flat.result in
     let shape = variant_shape types c.requires.down c.args.id.0 kind c.requires.here c.requires.cases in
-    let is : f.count ≡ case_words types (payloads_of kind) = count_told types c.args.id (payloads_of kind) shape f c.flat_types-flat.ensures c.if-flat.false in
+    let is : f.count ≡ case_words types (payloads_of kind) = count_told types c.args.id (payloads_of kind) shape f c.flat_types-flat.ensures (no_more types (wit.Id c.args.id) f c.flat_types-flat.ensures c.requires.few) in
     let some : 1 ≤ f.count = omega (arith, is) in
     some
 
@@ -526,7 +640,7 @@ lift_variant-slice_bounds-slots-start g t c =
     let kind = c.args.kind.now in
     let f = c.flat_types-flat.result in
     let shape = variant_shape types c.requires.down c.args.id.0 kind c.requires.here c.requires.cases in
-    let is : f.count ≡ case_words types (payloads_of kind) = count_told types c.args.id (payloads_of kind) shape f c.flat_types-flat.ensures c.if-flat.false in
+    let is : f.count ≡ case_words types (payloads_of kind) = count_told types c.args.id (payloads_of kind) shape f c.flat_types-flat.ensures (no_more types (wit.Id c.args.id) f c.flat_types-flat.ensures c.requires.few) in
     let some : 1 ≤ f.count = omega (arith, is) in
     some
 
@@ -536,8 +650,8 @@ lift_variant-bounds-words-at g t c =
     let kind = c.args.kind.now in
     let f = c.flat_types-flat.result in
     let shape = variant_shape types c.requires.down c.args.id.0 kind c.requires.here c.requires.cases in
-    let is : f.count ≡ case_words types (payloads_of kind) = count_told types c.args.id (payloads_of kind) shape f c.flat_types-flat.ensures c.if-flat.false in
-    let short : c.args.at < length c.args.words.now = omega (arith, is, c.if-at-words.false, c.if-words-count.false) in
+    let is : f.count ≡ case_words types (payloads_of kind) = count_told types c.args.id (payloads_of kind) shape f c.flat_types-flat.ensures (no_more types (wit.Id c.args.id) f c.flat_types-flat.ensures c.requires.few) in
+    let short : c.args.at < length c.args.words.now = omega (arith, is, variant_words types c.requires.down c.args.id kind c.requires.here c.requires.cases, c.requires.enough) in
     short
 
 pub lift_variant-send_one-requires : goal.lift_variant-send_one-requires
@@ -548,7 +662,7 @@ lift_variant-send_one-requires g t c =
     let kind = c.args.kind.now in
     let f = c.flat_types-flat.result in
     let shape = variant_shape types c.requires.down c.args.id.0 kind c.requires.here c.requires.cases in
-    let told = slots_told types c.args.id (payloads_of kind) shape f c.flat_types-flat.ensures c.if-flat.false in
+    let told = slots_told types c.args.id (payloads_of kind) shape f c.flat_types-flat.ensures (no_more types (wit.Id c.args.id) f c.flat_types-flat.ensures c.requires.few) in
     let same : c.as_slice-payloads.result.now ≡ payloads_of kind = c.as_slice-payloads.ensures ∙ c.in_ok-payloads.ensures in
     let shared = take (c.args.at + f.count - (c.args.at + 1)) (drop (c.args.at + 1) c.args.words.now) in
     let blocks = subst (λ (ds : List WasmType). LiftsCases m (payloads_in (shapes types) (payloads_of kind)) (result_counts (payloads_of kind)) ds shared c.args.bindgen.now c.lift_cases.new.bindgen) told

@@ -1,4 +1,4 @@
-use Rattle.std.proofs.Common.{◌≡◌, ◌++◌, ◌+◌, ◌*◌, List, drop, length, option_map, take}
+use Rattle.std.proofs.Common.{◌≡◌, ◌++◌, ◌+◌, ◌*◌, ◌≤◌, List, drop, length, option_map, take}
 use Rattle.wrapper_meaning.specs.Shape.{payloads_in, shapes}
 use Rattle.wit_layout.proofs.FlattenSteps.{payload_rank, rank}
 use Rattle.abi_bindgen.specs.CaseBlocks.{LiftsCases}
@@ -8,6 +8,8 @@ use Rattle.abi_bindgen.specs.Laws.{Grows}
 use Rattle.abi_bindgen.specs.Instructions.{shapes_of}
 use Rattle.abi_bindgen.specs.Lifts.{LiftsAll}
 use Rattle.abi_bindgen.specs.Sends.{Sends}
+use Rattle.abi_driver.specs.WordCount.{word_counts}
+use Rattle.abi_driver.proofs.LiftedArguments.{words_left}
 use Rattle.abi_driver.proofs.lift.+lift.Given as goal
 
 abbrev pub decreases-lift_type : goal.decreases-lift_type
@@ -38,6 +40,8 @@ invariant-lift_parts-loop-i g l =
     let types = l.resolve.types in
     record {
       count : length l.parts ≡ l.i;
+      left : l.next + words_left types l.tys l.i ≡ l.at + word_counts types l.tys;
+      low : l.at ≤ l.next;
       sent : Sends m types (each (λ n ty. lift_code types ty) 0 (take l.i l.tys)) l.initial.bindgen l.bindgen;
       rest : (used : List g.row.B-Operand.Denot) × (drop l.at l.words ≡ used ++ drop l.next l.words)
           × ((new : g.row.B.Denot) (qs later : List g.row.B-Operand.Denot) → LiftsAll m (shapes_of types (drop l.i l.tys)) qs later l.bindgen new → LiftsAll m (shapes_of types l.tys) (used ++ qs) (l.parts ++ later) l.initial.bindgen new);

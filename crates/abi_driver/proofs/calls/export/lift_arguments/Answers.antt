@@ -9,9 +9,12 @@ use Rattle.wrapper_meaning.specs.Represents.{param_words}
 use Rattle.wrapper_meaning.proofs.LayoutIsTree.{layout_is_tree}
 use Rattle.abi_bindgen.specs.Code.{lift_arguments}
 use Rattle.abi_bindgen.specs.Instructions.{shapes_of}
+use Rattle.abi_driver.specs.WordCount.{word_count}
 use Rattle.abi_driver.proofs.ArgumentSteps.{within_words}
 use Rattle.abi_driver.proofs.CallCode as Sent
 use Rattle.abi_driver.proofs.LiftedArguments.{rest_first, rest_last, rest_next, told_within, words_left, words_next}
+use Rattle.abi_driver.proofs.WordCounts.{no_more}
+use Rattle.abi_bindgen.proofs.Payloads.{payload_count}
 use Rattle.abi_bindgen.proofs.Records.{part_below_within}
 use Rattle.abi_bindgen.proofs.Runs.{adds_both, adds_same}
 use Rattle.abi_bindgen.proofs.SendSteps.{sends_as}
@@ -59,11 +62,22 @@ flat_types-flat-requires-clause-below g c =
 pub lift_flat-requires : goal.lift_flat-requires
 lift_flat-requires g c =
     let n = length c.args.resolve.now.types in
+    let types = c.args.resolve.now.types in
+    let tys = c.args.tys.now in
+    let ty = get_or tys c.loop-i.i wit.Bool in
+    let f = c.flat_types-flat.result in
     let short : c.loop-i.i < length c.args.tys.now = omega (arith, c.loop-i-test.true) in
+    let most = ltb-false 16 (length (param_words (shapes_of types tys))) c.requires.direct in
+    let next = words_next types tys c.loop-i.i ty (drop_more tys c.loop-i.i wit.Bool short) in
+    let few : word_count types ty ≤ 16 = omega (arith, most, next, c.loop-i.invariant.words) in
+    let exact : f.count ≡ word_count types ty = payload_count types ty f c.flat_types-flat.ensures (no_more types ty f c.flat_types-flat.ensures few) in
+    let read = c.in_ok-words.ensures.reads.fits in
     record {
       well = c.requires.well;
       down = types_go_down c.args.resolve.now c.requires.well.unbroken;
       below = part_below_within n c.args.tys.now c.requires.below c.loop-i.i wit.Bool short n (omega arith);
+      few = omega (arith, read, exact, few);
+      exact = read ∙ exact;
     }
 
 pub overflow_add-first : goal.overflow_add-first

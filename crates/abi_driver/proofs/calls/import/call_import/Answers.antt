@@ -1,4 +1,4 @@
-use Rattle.std.proofs.Common.{◌≡◌, ◌++◌, [], ◌∷◌, List, length, map, sym, ap, ap₂, ◌∙◌, subst}
+use Rattle.std.proofs.Common.{◌≡◌, ◌++◌, [], ◌∷◌, List, if◌then◌else◌, length, map, sym, ap, ap₂, ◌∙◌, subst}
 use Rattle.std.specs.List.{list_all}
 use Rattle.std.specs.Prelude.{option_to_list}
 use Rattle.std.proofs.lemmas.List.{length-map}
@@ -8,7 +8,7 @@ use Rattle.wit_model.specs.declared.function.Param.{Param}
 use Rattle.wit_model.specs.declared.types.WitType.{WitType}
 use Rattle.wit_model.proofs.WellFormedLemmas.{types_go_down}
 use Rattle.wit_layout.proofs.SignatureSteps.{params_in_table, result_in_table}
-use Rattle.wrapper_meaning.specs.Represents.{are_indirect}
+use Rattle.wrapper_meaning.specs.Represents.{are_indirect, result_words}
 use Rattle.wrapper_meaning.specs.Shape.{result_shape, shape_of}
 use Rattle.abi_bindgen.specs.declared.instruction.Instruction.TheVariants.{CallWasm, Return}
 use Rattle.abi_bindgen.specs.Code.{pass_code, point_code, read_code}
@@ -19,7 +19,7 @@ use Rattle.abi_bindgen.specs.Sent.{sends}
 use Rattle.abi_driver.proofs.AreaSteps.{points_grows}
 use Rattle.abi_driver.proofs.CallCode.{given_count}
 use Rattle.abi_driver.proofs.ExportSteps.{count_mapped}
-use Rattle.abi_driver.proofs.ImportSteps.{calls_import, indirect_told, one_pointer, pointer_told, words_count}
+use Rattle.abi_driver.proofs.ImportSteps.{calls_import, import_words, indirect_told, one_pointer, pointer_told, words_count}
 use Rattle.abi_bindgen.proofs.SendSteps.{sends_as, sends_both, sends_one, sends_then}
 use Rattle.abi_driver.proofs.calls.import.call_import.Goals as goal
 
@@ -75,6 +75,14 @@ read_answer-requires-clause-pointed g c =
     let f = c.args.func.now in
     let signature = c.wasm_signature-signature in
     λ e. ap length c.as_slice-5.ensures ∙ one_pointer m (result_shape types f) c.in_ok-pointer.pointer _ _ signature.result.retptr c.in_ok-pointer.ensures.points (pointer_told types f signature.result signature.ensures) e
+
+pub read_answer-requires-clause-answered : goal.read_answer-requires-clause-answered
+read_answer-requires-clause-answered g c =
+    let types = c.args.resolve.now.types in
+    let f = c.args.func.now in
+    let signature = c.wasm_signature-signature in
+    let r = result_shape types f in
+    λ e. c.in_ok-answer.ensures.results ∙ ap length ((import_words types f).1 ∙ ap (λ q. if q then [] else result_words r) (sym (pointer_told types f signature.result signature.ensures) ∙ e))
 
 pub send-requires : goal.send-requires
 send-requires g c =
