@@ -84,19 +84,23 @@ module _ {A B : Type 0} (p : A → Bool) (q : B → Bool) where
           by_test false g found behind =
               ap (λ b. cond b here (position_from either (i + 1) (zip xs ys))) g ∙ found ∙ sym (ap (λ b. Some (earlier n (cond b here later))) g)
 
-  -- where nothing is found together, nothing is found among the second parts
-  none-either : (i : ℕ) (xs : List A) (ys : List B) → length xs ≡ length ys → position_from either i (zip xs ys) ≡ None → position_from q i ys ≡ None
-  none-either i [] [] same e = refl
+  -- where nothing is found together, nothing is found among either parts
+  none-either : (i : ℕ) (xs : List A) (ys : List B) → length xs ≡ length ys → position_from either i (zip xs ys) ≡ None → (position_from p i xs ≡ None) × (position_from q i ys ≡ None)
+  none-either i [] [] same e = (refl, refl)
   none-either i [] (y ∷ ys) same e = absurd (omega (arith, same))
   none-either i (x ∷ xs) [] same e = absurd (omega (arith, same))
   none-either i (x ∷ xs) (y ∷ ys) same e = go (p x) refl (q y) refl (none-either (i + 1) xs ys (omega (arith, same)))
     where
-      go : (b : Bool) → p x ≡ b → (c : Bool) → q y ≡ c → (position_from either (i + 1) (zip xs ys) ≡ None → position_from q (i + 1) ys ≡ None) → position_from q i (y ∷ ys) ≡ None
+      later : Type 0
+      later = (position_from p (i + 1) xs ≡ None) × (position_from q (i + 1) ys ≡ None)
+
+      go : (b : Bool) → p x ≡ b → (c : Bool) → q y ≡ c → (position_from either (i + 1) (zip xs ys) ≡ None → later) → (position_from p i (x ∷ xs) ≡ None) × (position_from q i (y ∷ ys) ≡ None)
       go true h c g rest = absurd (cc)
       go false h true g rest = absurd (cc)
       go false h false g rest =
           let none : position_from either (i + 1) (zip xs ys) ≡ None = cc in
-          ap (λ b. cond b (Some i) (position_from q (i + 1) ys)) g ∙ rest none
+          let both = rest none in
+          (ap (λ b. cond b (Some i) (position_from p (i + 1) xs)) h ∙ both.0, ap (λ b. cond b (Some i) (position_from q (i + 1) ys)) g ∙ both.1)
 
 module _ (types : List TypeDef) where
   abbrev is_deep : TypeDef → Bool
@@ -117,12 +121,27 @@ module _ (types : List TypeDef) where
       ∙ (one-some is_large is_deep 0 (trees types) types n (trees-length types) (sym (position_from-zero is_large (trees types)) ∙ found)).1
       ∙ ap (λ o. Some (earlier n o)) (sym (position_from-zero is_deep types))
 
-  pub none-shallow : (world : World) → first_large types world ≡ None → are_shallow types ≡ true
-  unfolding first_large
-  none-shallow world none =
-      let by_types = unmapped large_type (first_large_type types) (neither (option_map large_type (first_large_type types)) _ none).0 in
-      let both = none-either is_large is_deep 0 (trees types) types (trees-length types) (sym (position_from-zero (is_large_type types) (zip (trees types) types)) ∙ by_types) in
-      not-deep types (position_from-zero is_deep types ∙ both)
+  -- what is known where nothing is too large: every type is stored, no way down is too long, and no function is found
+
+  module _ (world : World) (none : first_large types world ≡ None) where
+    parts : (first_large_type types ≡ None) × (first_large_function types world ≡ None)
+    unfolding first_large
+    parts =
+        let both = neither (option_map large_type (first_large_type types)) (option_map large_function (first_large_function types world)) none in
+        (unmapped large_type (first_large_type types) both.0, unmapped large_function (first_large_function types world) both.1)
+
+    alone : (position_from is_large 0 (trees types) ≡ None) × (position_from is_deep 0 types ≡ None)
+    alone = none-either is_large is_deep 0 (trees types) types (trees-length types) (sym (position_from-zero (is_large_type types) (zip (trees types) types)) ∙ parts.0)
+
+    pub none-filled : first_too_large types ≡ None
+    unfolding first_too_large
+    none-filled = position_from-zero is_large (trees types) ∙ alone.0
+
+    pub none-shallow : are_shallow types ≡ true
+    none-shallow = not-deep types (position_from-zero is_deep types ∙ alone.1)
+
+    pub none-functions : first_large_function types world ≡ None
+    none-functions = parts.1
 
   -- a type that is too large comes before a function
   pub type-first : (world : World) (n : ℕ) → first_large_type types ≡ Some n → first_large types world ≡ Some (large_type n)
