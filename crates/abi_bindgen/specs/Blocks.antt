@@ -83,8 +83,8 @@ module _ {Self Operand : Type 0} (m : Meaning Self Operand) where
     pub owns : (s : m.State) (with : Bound m.Item) → SameItems (m.owns (m.enter slot with s)) (brought with)
     pub enters : (w : m.World) (later : Self) (facts : Facts m) (before s : m.State) (with : Bound m.Item) → AllByRecursion IsOfWord facts → m.denotes w old facts before → m.denotes w later facts s
         → m.denotes w new (names slot with ++ facts) (m.enter slot with s)
-    -- the step became code of its form
-    pub form : m.forms opens [] [] old new
+    -- the step became code of its form, in whichever table
+    pub form : (types : List TypeDef) → m.forms types opens [] [] old new
 
   -- 3. It is closed
 
@@ -119,8 +119,8 @@ module _ {Self Operand : Type 0} (m : Meaning Self Operand) where
     pub blocks : m.blocks new ≡ block ∷ m.blocks old
     pub results : m.results_of block ≡ length os
     pub runs : Runs block slot os old new
-    -- the step became code of its form
-    pub form : m.forms closes os [] old new
+    -- the step became code of its form, in whichever table
+    pub form : (types : List TypeDef) → m.forms types closes os [] old new
 
   -- 4. Finished blocks that an instruction uses up
 

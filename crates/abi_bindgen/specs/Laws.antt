@@ -155,7 +155,8 @@ module _ {Self Operand : Type 0} (m : Meaning Self Operand) where
     pub returned : m.returned new ≡ m.returned old
     pub asked : m.asked new ≡ m.asked old ++ a ∷ []
     pub blocks : m.blocks new ≡ m.blocks old
-    pub form : m.forms (asks a) [] (o ∷ []) old new
+    -- the step became code of its form, in whichever table
+    pub form : (types : List TypeDef) → m.forms types (asks a) [] (o ∷ []) old new
     pub row : (w : m.World) (f : Peer m.Item) (others : Facts) (s0 s : m.State) (at : Option ℕ) → At w f old new others s0 s → m.area_at s0 ≡ at → (at ≡ None → (m.exports old ≡ true) × (m.asked old ≡ []))
         → Follows m.account (pointing (m.area w) at (m.account s)) (m.does w f (m.code new) s0)
         (λ x t. After w new (of o (word (core.Pointer x.result)) ∷ others) (newly at x.result) [] s x t)

@@ -99,5 +99,5 @@ pub record Meaning (Self Operand : Type 0) : Type 1 where
   pub asked : Self → List Asked
   -- what the code gives, once it was told
   pub returned : Self → Option (List Operand)
-  -- which code a step became, with these operands and results: what is promised of its form, beside what it does
-  pub forms : Sent → (operands results : List Operand) → (old new : Self) → Type 0
+  -- which code a step became in a table, with these operands and results: what is promised of its form, beside what it does
+  pub forms : List TypeDef → Sent → (operands results : List Operand) → (old new : Self) → Type 0

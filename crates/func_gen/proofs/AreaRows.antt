@@ -284,7 +284,7 @@ module _ (a : Asked) (old mid : FunctionBindgen) (n : Bytes) (added : Appends ol
         returned = added.returned;
         asked = ap (λ asked. asked ++ a ∷ []) added.asked;
         blocks = ap reverse added.finished;
-        form = record {
+        form = λ types. record {
           code = record { code = one_local (codes "ptr") (area_pointer old) []; is = refl; writes = record { number = writes.number; takes = writes.takes; call = writes.call; stmts = writes.stmts; runtime = writes.runtime; results = writes.results; opened = writes.opened; finished = writes.finished } };
           still = record { import = added.import; home = added.home; area = added.area; params = added.params; sites = added.sites; sizes = added.sizes };
           given = tt;

@@ -49,7 +49,7 @@ use Rattle.func_gen.specs.declared.operand.ExprOperand.{ExprOperand}
 use Rattle.func_gen.specs.CallForms.{AddsCall, AddsStatement, FreshAll, exprs, import_of, local_path, import_name}
 use Rattle.func_gen.specs.FactLemmas.{is_said, word_read}
 use Rattle.func_gen.specs.Facts.{AreOwned, Hold, IsThere}
-use Rattle.func_gen.specs.Formed.{CallsSome}
+use Rattle.func_gen.specs.Formed.{CallsImported}
 use Rattle.func_gen.specs.Forms.{operand_of}
 use Rattle.func_gen.specs.Meaning.{Denote, File, FuncState, account_of, answer_of, call_of, func_meaning, owns_of, seen, setting_for, target_of}
 use Rattle.func_gen.specs.Read.{Read, env_of}
@@ -295,24 +295,25 @@ module _ (types : List TypeDef) (f : Function) (os : List ExprOperand) (old new 
       (subst (λ ts. Follows func_meaning.account (answered_by ts p.reply (account1 old new file p d s ws others)) (finished old new file p d s ws others (Some ty) (bind ret) p.reply) (Ended old new file p d s ws others (operand_of (expr.Local ret) ∷ []))) (sym one)
       (word_answers old new file p d s ws others ty ret p.reply den)))
 
-statement_becomes : (f : Function) (params : List WasmType) (os : List ExprOperand) (old new : FunctionBindgen) → length os ≡ length params → AddsStatement f params (exprs os) old new → CallsSome f os [] old new
-statement_becomes f params os old new many adds = record {
-  params = params;
+statement_becomes : (types : List TypeDef) (f : Function) (os : List ExprOperand) (old new : FunctionBindgen) → length os ≡ length (import_params types f) → AddsStatement f (import_params types f) (exprs os) old new → import_results types f ≡ [] → CallsImported types f os [] old new
+statement_becomes types f os old new many adds none = record {
   answer = None;
+  answers = sym none;
   many = many;
-  writes = written old new [] (calls_core old f params None (exprs os)) adds.number adds.takes
-      (subst (λ n. Appends old new (stmt.Import (import_of old.home f params None n) ∷ stmt.Expr (expr.Call (local_path n) (exprs os)) ∷ []) []) adds.is adds.stmts) refl;
+  writes = written old new [] (calls_core old f (import_params types f) None (exprs os)) adds.number adds.takes
+      (subst (λ n. Appends old new (stmt.Import (import_of old.home f (import_params types f) None n) ∷ stmt.Expr (expr.Call (local_path n) (exprs os)) ∷ []) []) adds.is adds.stmts) refl;
 }
 
-call_becomes : (f : Function) (params : List WasmType) (ty : WasmType) (os : List ExprOperand) (ret : Bytes) (old new : FunctionBindgen) → length os ≡ length params → AddsCall f params ty (exprs os) ret old new → CallsSome f os (operand_of (expr.Local ret) ∷ []) old new
-call_becomes f params ty os ret old new many adds =
-    let stmts = λ (n m : Bytes). stmt.Import (import_of old.home f params (Some ty) n) ∷ stmt.Let m (expr.Call (local_path n) (exprs os)) ∷ [] in
+call_becomes : (types : List TypeDef) (f : Function) (ty : WasmType) (os : List ExprOperand) (ret : Bytes) (old new : FunctionBindgen) → length os ≡ length (import_params types f) → AddsCall f (import_params types f) ty (exprs os) ret old new → import_results types f ≡ ty ∷ []
+    → CallsImported types f os (operand_of (expr.Local ret) ∷ []) old new
+call_becomes types f ty os ret old new many adds one =
+    let stmts = λ (n m : Bytes). stmt.Import (import_of old.home f (import_params types f) (Some ty) n) ∷ stmt.Let m (expr.Call (local_path n) (exprs os)) ∷ [] in
     let named = subst (λ n. Appends old new (stmts n ret) []) adds.is adds.stmts in
     record {
-      params = params;
       answer = Some ty;
+      answers = sym one;
       many = many;
-      writes = written old new (operand_of (expr.Local ret) ∷ []) (calls_core old f params (Some ty) (exprs os)) adds.number adds.takes
+      writes = written old new (operand_of (expr.Local ret) ∷ []) (calls_core old f (import_params types f) (Some ty) (exprs os)) adds.number adds.takes
           (subst (λ m. Appends old new (stmts (import_name adds.number) m) []) adds.answers named) (ap (λ m. operand_of (expr.Local m) ∷ []) adds.answers);
     }
 
@@ -326,7 +327,7 @@ statement_emits types fn os old new imports len adds none = record {
   form = record {
     still = still_of old new _ [] adds.stmts;
     given = tt;
-    code = statement_becomes fn.now (import_params types fn.now) os old new len adds;
+    code = statement_becomes types fn.now os old new len adds none;
   };
   results = sym (ap length none);
   row = statement_row types fn.now os old new imports len adds none;
@@ -342,7 +343,7 @@ call_emits types fn os old new ty ret imports len adds one = record {
   form = record {
     still = still_of old new _ [] adds.stmts;
     given = tt;
-    code = call_becomes fn.now (import_params types fn.now) ty os ret old new len adds;
+    code = call_becomes types fn.now ty os ret old new len adds one;
   };
   results = sym (ap length one);
   row = word_row types fn.now os old new imports len ty ret adds one;

@@ -14,6 +14,7 @@ use Rattle.abi_bindgen.specs.Laws.{Adds, Grows, Quiet}
 use Rattle.func_gen.specs.declared.case_form.CaseForm.{CaseForm}
 use Rattle.func_gen.specs.declared.function_bindgen.FinishedBlock.{FinishedBlock}
 use Rattle.func_gen.specs.declared.function_bindgen.FunctionBindgen.{FunctionBindgen}
+use Rattle.func_gen.specs.CaseForms.{AreFormsOf, AreOptionForms, AreResultForms, AreVariantForms, CasedType, a_result, a_variant, an_option}
 use Rattle.func_gen.specs.Forms.{operand_of}
 use Rattle.func_gen.specs.Formed.{MatchesCases}
 use Rattle.func_gen.specs.MatchForms.{LowersBy, lowered_arms, match_of, result_names, result_prefix}
@@ -108,15 +109,15 @@ module _ (old new : FunctionBindgen) (forms : List CaseForm) (e : Expr) (n : ℕ
   code_added [] h = record { grows = code_grows; quiet = code_quiet; asked = same_asked; blocks = blocks_gone ∙ ap (λ k. drop k (func_meaning.blocks old)) (sym h) }
   code_added (k ∷ used) h = (code_grows, code_quiet)
 
-  formed : MatchesCases n (operand_of e ∷ []) (locals_of names) old new
-  formed = record { forms = forms; operand = e; only = refl; names = names; lowers = l; results = refl }
+  formed : (types : List TypeDef) (ty : CasedType) → AreFormsOf types old.sites ty forms → MatchesCases types ty n (operand_of e ∷ []) (locals_of names) old new
+  formed types ty are = record { forms = forms; are = are; operand = e; only = refl; names = names; lowers = l; results = refl }
 
   module _ (types : List TypeDef) (id : TypeId) (numbers : (w : File) → Serves w new → AreNumbered w.items 0 forms) (fits : FitForms (case_shapes types id.0) forms) where
     lowers : LowersCase func_meaning (case_shapes types id.0) (operand_of e ∷ []) (locals_of names) old new
     lowers = lowers_case old l.mid new forms e n names l.used l.uses l.fit l.adds l.fresh distinct many numbers (λ w. quiet_match w n names e forms (reverse l.used) ok l.fit) (case_shapes types id.0) fits
 
-    pub variant_row : length (payloads_at types id.0) ≡ length forms → Emits func_meaning types (VariantLower id n) (operand_of e ∷ []) (locals_of names) old new
-    variant_row each =
+    pub variant_row : AreVariantForms types old.sites id.0 forms → length (payloads_at types id.0) ≡ length forms → Emits func_meaning types (VariantLower id n) (operand_of e ∷ []) (locals_of names) old new
+    variant_row are each =
         let used : length (replicate (length (payloads_at types id.0)) n) ≡ length forms = length-replicate (length (payloads_at types id.0)) n ∙ each in
         record {
           adds = code_added (replicate (length (payloads_at types id.0)) n) used;
@@ -124,28 +125,28 @@ module _ (old new : FunctionBindgen) (forms : List CaseForm) (e : Expr) (n : ℕ
           returned = same_returned;
           asked = same_asked;
           results = locals_many names ∙ many;
-          form = record { still = still; given = tt; code = formed };
+          form = record { still = still; given = tt; code = formed types (a_variant id.0) are };
           row = lowers;
         }
 
-    pub option_row : length forms ≡ 2 → Emits func_meaning types (OptionLower id n) (operand_of e ∷ []) (locals_of names) old new
-    option_row two = record {
+    pub option_row : AreOptionForms types id.0 forms → length forms ≡ 2 → Emits func_meaning types (OptionLower id n) (operand_of e ∷ []) (locals_of names) old new
+    option_row are two = record {
       adds = code_added (n ∷ n ∷ []) (sym two);
       blocks = blocks_gone ∙ ap (λ k. drop k (func_meaning.blocks old)) two;
       returned = same_returned;
       asked = same_asked;
       results = locals_many names ∙ many;
-      form = record { still = still; given = tt; code = formed };
+      form = record { still = still; given = tt; code = formed types (an_option id.0) are };
       row = lowers;
     }
 
-    pub result_row : length forms ≡ 2 → Emits func_meaning types (ResultLower id n) (operand_of e ∷ []) (locals_of names) old new
-    result_row two = record {
+    pub result_row : AreResultForms types id.0 forms → length forms ≡ 2 → Emits func_meaning types (ResultLower id n) (operand_of e ∷ []) (locals_of names) old new
+    result_row are two = record {
       adds = code_added (n ∷ n ∷ []) (sym two);
       blocks = blocks_gone ∙ ap (λ k. drop k (func_meaning.blocks old)) two;
       returned = same_returned;
       asked = same_asked;
       results = locals_many names ∙ many;
-      form = record { still = still; given = tt; code = formed };
+      form = record { still = still; given = tt; code = formed types (a_result id.0) are };
       row = lowers;
     }

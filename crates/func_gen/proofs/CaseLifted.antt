@@ -79,12 +79,12 @@ module _ (types : List TypeDef) (id : TypeId) (old new : FunctionBindgen) (forms
   pub option_made : AreOptionForms types id.0 forms → Emits func_meaning types (OptionLift id) (operand_of e ∷ []) (locals_of (v ∷ [])) old new
   option_made o =
       option_lifted types id forms e v old new l ok 1 (ap length o.are) (ap length (ap payloads_or o.kind.stands ∙ ap payloads_of o.kind.kind) ∙ ap length (sym o.are))
-      (λ w p s. subst (AreCases (setting_for w p) 0) (sym o.are) (option_cases (setting_for w p)))
+      (λ w p s. subst (AreCases (setting_for w p) 0) (sym o.are) (option_cases (setting_for w p))) o
 
   pub result_made : AreResultForms types id.0 forms → Emits func_meaning types (ResultLift id) (operand_of e ∷ []) (locals_of (v ∷ [])) old new
   result_made r =
       result_lifted types id forms e v old new l ok 1 (ap length r.are) (ap length (ap payloads_or r.kind.stands ∙ ap payloads_of r.kind.kind) ∙ ap length (sym r.are))
-      (λ w p s. subst (AreCases (setting_for w p) 0) (sym r.are) (result_cases (setting_for w p) r.ok r.err))
+      (λ w p s. subst (AreCases (setting_for w p) 0) (sym r.are) (result_cases (setting_for w p) r.ok r.err)) r
 
 -- 3. Variants
 
@@ -93,6 +93,7 @@ module _ (types : List TypeDef) (id : TypeId) (old new : FunctionBindgen) (all f
   variant_made f split called =
       variant_lifted types id forms c e n v old new l ok many
       (λ w p s. subst (AreCases (setting_for w p) 0) split (are_cases (setting_for w p) 0 all (variant_numbers types old.sites id.0 all f w.items (subst (AreDefined w.items) same s.sites)) calls))
+      (subst (AreVariantForms types old.sites id.0) split f)
     where
       many : length (payloads_at types id.0) ≡ suc (length forms)
       many = let counted = variant_count types old.sites id.0 all f in let parts = ap length split in omega (arith, counted, parts, length-append forms (c ∷ []))

@@ -24,12 +24,12 @@ module _ (types : List TypeDef) (id : TypeId) (n : ℕ) (old new : FunctionBindg
   pub variant_lowered : AreVariantForms types old.sites id.0 forms → Emits func_meaning types (VariantLower id n) (operand_of e ∷ []) (locals_of names) old new
   variant_lowered f =
       variant_row old new forms e n names l ok small types id
-      (λ w s. variant_numbers types old.sites id.0 forms f w.items (subst (AreDefined w.items) (still old new forms e n names l ok small).sites s.sites)) (variant_fits types old.sites id.0 forms f) (variant_count types old.sites id.0 forms f)
+      (λ w s. variant_numbers types old.sites id.0 forms f w.items (subst (AreDefined w.items) (still old new forms e n names l ok small).sites s.sites)) (variant_fits types old.sites id.0 forms f) f (variant_count types old.sites id.0 forms f)
 
   pub option_lowered : AreOptionForms types id.0 forms → Emits func_meaning types (OptionLower id n) (operand_of e ∷ []) (locals_of names) old new
   option_lowered o =
-      option_row old new forms e n names l ok small types id (λ w s. subst (AreNumbered w.items 0) (sym o.are) (option_numbers w.items)) (option_fits types id.0 forms o) (ap length o.are)
+      option_row old new forms e n names l ok small types id (λ w s. subst (AreNumbered w.items 0) (sym o.are) (option_numbers w.items)) (option_fits types id.0 forms o) o (ap length o.are)
 
   pub result_lowered : AreResultForms types id.0 forms → Emits func_meaning types (ResultLower id n) (operand_of e ∷ []) (locals_of names) old new
   result_lowered r =
-      result_row old new forms e n names l ok small types id (λ w s. subst (AreNumbered w.items 0) (sym r.are) (result_numbers w.items r.ok r.err)) (result_fits types id.0 forms r) (ap length r.are)
+      result_row old new forms e n names l ok small types id (λ w s. subst (AreNumbered w.items 0) (sym r.are) (result_numbers w.items r.ok r.err)) (result_fits types id.0 forms r) r (ap length r.are)

@@ -208,5 +208,5 @@ module _ (os : List ExprOperand) (old new : FunctionBindgen) (a : Resumes os old
       calls = λ w p with s h. calls w p with s;
       ends = λ w p with s u ds h done len d same. ends w p with s u ds done len d same;
     };
-    form = record { still = a.still; given = tt; code = a.closing };
+    form = λ types. record { still = a.still; given = tt; code = a.closing };
   }

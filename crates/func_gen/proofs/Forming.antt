@@ -100,35 +100,36 @@ pub written : (old new : FunctionBindgen) (rs : List ExprOperand) (code : ℕ �
     → rs ≡ map operand_of (code t).results → Writes code rs old new
 written old new rs code t takes a same = written_as old new rs code t takes a (ap exprs_of same ∙ exprs_operands (code t).results)
 
-module _ (step : Sent) (plain : IsPlain step) (os : List ExprOperand) (old new : FunctionBindgen) where
-  pub form_of : (rs : List ExprOperand) (code : ℕ → Emission) → emitted old step (exprs_of os) ≡ Some code → StillOf old new → Writes code rs old new → Formed step os rs old new
+-- whatever the table is
+module _ {types : List TypeDef} (step : Sent) (plain : IsPlain step) (os : List ExprOperand) (old new : FunctionBindgen) where
+  pub form_of : (rs : List ExprOperand) (code : ℕ → Emission) → emitted old step (exprs_of os) ≡ Some code → StillOf old new → Writes code rs old new → Formed types step os rs old new
   form_of rs code is still writes = record {
     still = still;
     given = subst (λ o. IfSome o (λ n. length os ≡ n)) (sym plain.gives) tt;
-    code = subst (λ o. Becomes o step os rs old new) (sym plain.calls) (record { code = code; is = is; writes = writes });
+    code = subst (λ o. Becomes types o step os rs old new) (sym plain.calls) (record { code = code; is = is; writes = writes });
   }
 
   -- names are declared
   pub form_as : (rs : List ExprOperand) (code : ℕ → Emission) (t : ℕ) → emitted old step (exprs_of os) ≡ Some code → Takes old.scope (λ k. (code k).names) t new.scope → Appends old new (code t).stmts (code t).items
-      → exprs_of rs ≡ (code t).results → Formed step os rs old new
+      → exprs_of rs ≡ (code t).results → Formed types step os rs old new
   form_as rs code t is takes a same = form_of rs code is (still_of old new (code t).stmts (code t).items a) (written_as old new rs code t takes a same)
 
   pub form_by : (rs : List ExprOperand) (code : ℕ → Emission) (t : ℕ) → emitted old step (exprs_of os) ≡ Some code → Takes old.scope (λ k. (code k).names) t new.scope → Appends old new (code t).stmts (code t).items
-      → rs ≡ map operand_of (code t).results → Formed step os rs old new
+      → rs ≡ map operand_of (code t).results → Formed types step os rs old new
   form_by rs code t is takes a same = form_of rs code is (still_of old new (code t).stmts (code t).items a) (written old new rs code t takes a same)
 
   -- no name is
-  pub form_one : (o : ExprOperand) (items : List RuntimeItem) → emitted old step (exprs_of os) ≡ Some (λ t. record { names = []; stmts = []; results = o.expr ∷ []; items = items }) → new.scope ≡ old.scope → Appends old new [] items → Formed step os (o ∷ []) old new
+  pub form_one : (o : ExprOperand) (items : List RuntimeItem) → emitted old step (exprs_of os) ≡ Some (λ t. record { names = []; stmts = []; results = o.expr ∷ []; items = items }) → new.scope ≡ old.scope → Appends old new [] items → Formed types step os (o ∷ []) old new
   form_one o items is scope a = form_as (o ∷ []) (λ t. record { names = []; stmts = []; results = o.expr ∷ []; items = items }) old.scope.next is (takes_none old.scope new.scope scope) a refl
 
-  pub form_alone : (e : Expr) (items : List RuntimeItem) → emitted old step (exprs_of os) ≡ Some (λ t. record { names = []; stmts = []; results = e ∷ []; items = items }) → new.scope ≡ old.scope → Appends old new [] items → Formed step os (operand_of e ∷ []) old new
+  pub form_alone : (e : Expr) (items : List RuntimeItem) → emitted old step (exprs_of os) ≡ Some (λ t. record { names = []; stmts = []; results = e ∷ []; items = items }) → new.scope ≡ old.scope → Appends old new [] items → Formed types step os (operand_of e ∷ []) old new
   form_alone e items is scope a = form_one (operand_of e) items is scope a
 
-  pub form_effect : (s : Stmt) (items : List RuntimeItem) → emitted old step (exprs_of os) ≡ Some (λ t. effect s items) → new.scope ≡ old.scope → Appends old new (s ∷ []) items → Formed step os [] old new
+  pub form_effect : (s : Stmt) (items : List RuntimeItem) → emitted old step (exprs_of os) ≡ Some (λ t. effect s items) → new.scope ≡ old.scope → Appends old new (s ∷ []) items → Formed types step os [] old new
   form_effect s items is scope a = form_by [] (λ t. effect s items) old.scope.next is (takes_none old.scope new.scope scope) a refl
 
   -- a local is
   pub form_let : (prefix n : Bytes) (e : Expr) (items : List RuntimeItem) → emitted old step (exprs_of os) ≡ Some (one_local prefix e items) → TakesOne old.scope prefix n new.scope → Appends old new (stmt.Let n e ∷ []) items
-      → Formed step os (operand_of (expr.Local n) ∷ []) old new
+      → Formed types step os (operand_of (expr.Local n) ∷ []) old new
   form_let prefix n e items is one a =
       form_by (operand_of (expr.Local n) ∷ []) (one_local prefix e items) one.number is one.takes (subst (λ x. Appends old new (stmt.Let x e ∷ []) items) one.is a) (ap (λ x. operand_of (expr.Local x) ∷ []) one.is)

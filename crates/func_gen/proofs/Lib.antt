@@ -13,6 +13,7 @@ pub mod CallWords
 pub mod CaseArms
 pub mod CaseEmits
 pub mod CaseFits
+pub mod CaseInstances
 pub mod CaseLifted
 pub mod CaseLowered
 pub mod CaseMatch

@@ -28,6 +28,7 @@ use Rattle.func_gen.specs.declared.function_bindgen.FinishedBlock.{FinishedBlock
 use Rattle.func_gen.specs.declared.function_bindgen.FunctionBindgen.{FunctionBindgen}
 use Rattle.func_gen.specs.declared.scope.Scope.{Scope}
 use Rattle.func_gen.specs.Added.{Appends}
+use Rattle.func_gen.specs.CaseForms.{AreOptionForms, AreResultForms, AreVariantForms}
 use Rattle.func_gen.specs.Forms.{operand_of}
 use Rattle.func_gen.specs.LiftedCases.{FreesBy, LiftsBy, LiftsVariantBy, freed_body, invalid_body, last_body, lifted_bodies, number_arms}
 use Rattle.func_gen.specs.MatchForms.{arm_of}
@@ -82,25 +83,25 @@ module _ (types : List TypeDef) (id : TypeId) (forms : List CaseForm) (e : Expr)
   used_many : length (payload_counts (payloads_at types id.0)) ≡ length forms
   used_many = counts_many (payloads_at types id.0) ∙ many
 
-  pub option_lifted : Emits func_meaning types (OptionLift id) (operand_of e ∷ []) (locals_of (v ∷ [])) old new
-  option_lifted = record {
+  pub option_lifted : AreOptionForms types id.0 forms → Emits func_meaning types (OptionLift id) (operand_of e ∷ []) (locals_of (v ∷ [])) old new
+  option_lifted forms_are = record {
     adds = adds_used old l.mid new (length forms) l.used l.uses code (InvalidEnumDiscriminant ∷ []) l.adds names_free quiet (payload_counts (payloads_at types id.0)) used_many m some;
     blocks = blocks_left old l.mid new (length forms) l.used l.uses code (InvalidEnumDiscriminant ∷ []) l.adds names_free quiet ∙ ap (λ k. drop k (func_meaning.blocks old)) (sym used_many);
     returned = returned_still old l.mid new (length forms) l.used l.uses code (InvalidEnumDiscriminant ∷ []) l.adds names_free quiet;
     asked = asked_still old l.mid new (length forms) l.used l.uses code (InvalidEnumDiscriminant ∷ []) l.adds names_free quiet;
     results = refl;
-    form = record { still = still_used old l.mid new (length forms) l.used code (InvalidEnumDiscriminant ∷ []) l.uses l.adds; given = tt; code = record { forms = forms; operand = e; only = refl; name = v; lifts = l; results = refl } };
+    form = record { still = still_used old l.mid new (length forms) l.used code (InvalidEnumDiscriminant ∷ []) l.uses l.adds; given = tt; code = record { forms = forms; are = forms_are; operand = e; only = refl; name = v; lifts = l; results = refl } };
     row = lifts_case forms e v old new l (case_shapes types id.0) (cases_many types id.0 ∙ many) are;
   }
 
-  pub result_lifted : Emits func_meaning types (ResultLift id) (operand_of e ∷ []) (locals_of (v ∷ [])) old new
-  result_lifted = record {
+  pub result_lifted : AreResultForms types id.0 forms → Emits func_meaning types (ResultLift id) (operand_of e ∷ []) (locals_of (v ∷ [])) old new
+  result_lifted forms_are = record {
     adds = adds_used old l.mid new (length forms) l.used l.uses code (InvalidEnumDiscriminant ∷ []) l.adds names_free quiet (payload_counts (payloads_at types id.0)) used_many m some;
     blocks = blocks_left old l.mid new (length forms) l.used l.uses code (InvalidEnumDiscriminant ∷ []) l.adds names_free quiet ∙ ap (λ k. drop k (func_meaning.blocks old)) (sym used_many);
     returned = returned_still old l.mid new (length forms) l.used l.uses code (InvalidEnumDiscriminant ∷ []) l.adds names_free quiet;
     asked = asked_still old l.mid new (length forms) l.used l.uses code (InvalidEnumDiscriminant ∷ []) l.adds names_free quiet;
     results = refl;
-    form = record { still = still_used old l.mid new (length forms) l.used code (InvalidEnumDiscriminant ∷ []) l.uses l.adds; given = tt; code = record { forms = forms; operand = e; only = refl; name = v; lifts = l; results = refl } };
+    form = record { still = still_used old l.mid new (length forms) l.used code (InvalidEnumDiscriminant ∷ []) l.uses l.adds; given = tt; code = record { forms = forms; are = forms_are; operand = e; only = refl; name = v; lifts = l; results = refl } };
     row = lifts_case forms e v old new l (case_shapes types id.0) (cases_many types id.0 ∙ many) are;
   }
 
@@ -120,14 +121,14 @@ module _ (types : List TypeDef) (id : TypeId) (forms : List CaseForm) (c : CaseF
   counted : length (payload_counts (payloads_at types id.0)) ≡ suc (length forms)
   counted = counts_many (payloads_at types id.0) ∙ many
 
-  pub variant_lifted : Emits func_meaning types (VariantLift id) (operand_of e ∷ []) (locals_of (v ∷ [])) old new
-  variant_lifted = record {
+  pub variant_lifted : AreVariantForms types old.sites id.0 (forms ++ c ∷ []) → Emits func_meaning types (VariantLift id) (operand_of e ∷ []) (locals_of (v ∷ [])) old new
+  variant_lifted forms_are = record {
     adds = adds_used old l.mid new (suc (length forms)) l.used l.uses code_last [] l.adds free_then quiet_last (payload_counts (payloads_at types id.0)) counted (length forms) refl;
     blocks = blocks_left old l.mid new (suc (length forms)) l.used l.uses code_last [] l.adds free_then quiet_last ∙ ap (λ k. drop k (func_meaning.blocks old)) (sym counted);
     returned = returned_still old l.mid new (suc (length forms)) l.used l.uses code_last [] l.adds free_then quiet_last;
     asked = asked_still old l.mid new (suc (length forms)) l.used l.uses code_last [] l.adds free_then quiet_last;
     results = refl;
-    form = record { still = still_used old l.mid new (suc (length forms)) l.used code_last [] l.uses l.adds; given = tt; code = record { forms = forms; last = c; operand = e; only = refl; number = n; name = v; lifts = l; results = refl } };
+    form = record { still = still_used old l.mid new (suc (length forms)) l.used code_last [] l.uses l.adds; given = tt; code = record { forms = forms; last = c; are = forms_are; operand = e; only = refl; number = n; name = v; lifts = l; results = refl } };
     row = lifts_variant forms c e n v old new l (case_shapes types id.0) (cases_many types id.0 ∙ many) are;
   }
 

@@ -428,5 +428,5 @@ module _ (old new : FunctionBindgen) (a : Suspends old new) where
       owners = e.owners;
       area = area_inside new.import w.area new.asked new.area (entered (record { number = a.block.number; names = old.scope.used }) with s.machine) refl;
     };
-    form = record { still = a.still; given = tt; code = a.block };
+    form = λ types. record { still = a.still; given = tt; code = a.block };
   }

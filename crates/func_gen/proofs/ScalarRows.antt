@@ -61,7 +61,7 @@ unfolding callee runtime_name runtime_module_name
 calls_runtime i = refl
 
 module _ (types : List TypeDef) (old new : FunctionBindgen) (i : Instruction) (s : Scalar) (o r : ExprOperand) where
-  pub emits_lowered : lowered_scalar i ≡ Some s → Adds func_meaning old new → new.returned ≡ old.returned → Formed (sends i) (o ∷ []) (r ∷ []) old new → LowersScalar func_meaning s (o ∷ []) (r ∷ []) old new → Emits func_meaning types i (o ∷ []) (r ∷ []) old new
+  pub emits_lowered : lowered_scalar i ≡ Some s → Adds func_meaning old new → new.returned ≡ old.returned → Formed types (sends i) (o ∷ []) (r ∷ []) old new → LowersScalar func_meaning s (o ∷ []) (r ∷ []) old new → Emits func_meaning types i (o ∷ []) (r ∷ []) old new
   emits_lowered is adds returned form row = record {
     adds = code_of func_meaning i (lowers_ordinary i s is) types old new adds;
     blocks = still_blocks i (lowers_ordinary i s is) types (func_meaning.blocks old) (func_meaning.blocks new) adds.blocks;
@@ -72,7 +72,7 @@ module _ (types : List TypeDef) (old new : FunctionBindgen) (i : Instruction) (s
     row = subst (λ x. RowBy func_meaning types i x (lifted_scalar i) (o ∷ []) (r ∷ []) old new) (sym is) row;
   }
 
-  pub emits_lifted : lowered_scalar i ≡ None → lifted_scalar i ≡ Some s → Adds func_meaning old new → new.returned ≡ old.returned → Formed (sends i) (o ∷ []) (r ∷ []) old new → LiftsScalar func_meaning s (o ∷ []) (r ∷ []) old new → Emits func_meaning types i (o ∷ []) (r ∷ []) old new
+  pub emits_lifted : lowered_scalar i ≡ None → lifted_scalar i ≡ Some s → Adds func_meaning old new → new.returned ≡ old.returned → Formed types (sends i) (o ∷ []) (r ∷ []) old new → LiftsScalar func_meaning s (o ∷ []) (r ∷ []) old new → Emits func_meaning types i (o ∷ []) (r ∷ []) old new
   emits_lifted none is adds returned form row = record {
     adds = code_of func_meaning i (lifts_ordinary i s is) types old new adds;
     blocks = still_blocks i (lifts_ordinary i s is) types (func_meaning.blocks old) (func_meaning.blocks new) adds.blocks;

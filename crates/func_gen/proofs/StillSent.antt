@@ -25,9 +25,9 @@ still_then a b c h k = record {
 pub still_sent : (types : List TypeDef) (steps : List Sent) (old new : FunctionBindgen) → Sends func_meaning types steps old new → StillOf old new
 still_sent types [] old new h = subst (StillOf old) (sym h) (still_self old)
 still_sent types (sends i ∷ steps) old new (os, rs, next, e, more) = still_then old next new e.form.still (still_sent types steps next new more)
-still_sent types (asks a ∷ steps) old new (o, next, p, more) = still_then old next new p.form.still (still_sent types steps next new more)
-still_sent types (opens ∷ steps) old new (next, p, more) = still_then old next new p.form.still (still_sent types steps next new more)
-still_sent types (closes ∷ steps) old new (os, next, p, more) = still_then old next new p.form.still (still_sent types steps next new more)
+still_sent types (asks a ∷ steps) old new (o, next, p, more) = still_then old next new (p.form types).still (still_sent types steps next new more)
+still_sent types (opens ∷ steps) old new (next, p, more) = still_then old next new (p.form types).still (still_sent types steps next new more)
+still_sent types (closes ∷ steps) old new (os, next, p, more) = still_then old next new (p.form types).still (still_sent types steps next new more)
 still_sent types (sends_casts casts ∷ steps) old new (held, same, os, rs, next, e, more) = still_then old next new e.form.still (still_sent types steps next new more)
 still_sent types (sends_zeros zeros ∷ steps) old new (held, same, os, rs, next, e, more) = still_then old next new e.form.still (still_sent types steps next new more)
 

@@ -59,7 +59,7 @@ use Rattle.func_gen.proofs.Writing.{Keeps, Writes, finish, finishes, one_adds, t
 -- 1. What is emitted
 
 pub emits_touch : (types : List TypeDef) (old new : FunctionBindgen) (i : Instruction) (t : Touch) (os rs : List ExprOperand) → lowered_scalar i ≡ None → lifted_scalar i ≡ None → touch i ≡ Some t → length rs ≡ touch_makes t
-    → Adds func_meaning old new → new.returned ≡ old.returned → Formed (sends i) os rs old new → RowOfTouch func_meaning t os rs old new → Emits func_meaning types i os rs old new
+    → Adds func_meaning old new → new.returned ≡ old.returned → Formed types (sends i) os rs old new → RowOfTouch func_meaning t os rs old new → Emits func_meaning types i os rs old new
 emits_touch types old new i t os rs no_lower no_lift is count adds returned form row = record {
   adds = code_of func_meaning i (touches_ordinary i t is) types old new adds;
   blocks = still_blocks i (touches_ordinary i t is) types (func_meaning.blocks old) (func_meaning.blocks new) adds.blocks;

@@ -82,7 +82,7 @@ calls_core b f params (Some ty) es t = record {
 abbrev pub names_local : FunctionBindgen → Name → Option (ℕ → Emission)
 names_local b name = option_map (λ (k : ℕ). λ t. alone (expr.Local (slot_name name k))) (innermost b.opened)
 
--- 2. Each step, by the expressions of its operands. Of calls there is none here: which core words are passed, a step doesn't tell
+-- 2. Each step, by the expressions of its operands. Of calls there is none here: the core words of one are those of the table's types
 
 abbrev pub emitted : FunctionBindgen → Sent → List Expr → Option (ℕ → Emission)
 emitted b (asks room) [] = Some (one_local (codes "ptr") (area_pointer b) [])

@@ -1,18 +1,21 @@
 -- What is promised of the code of a step: what it is, beside what it does.
 use Rattle.std.specs.Prelude.{◌≡◌, ℕ, suc, List, [], ◌∷◌, ◌++◌, length, Option, None, Some, IfSome, option_to_list}
 use Rattle.wit_model.specs.declared.function.Function.{Function}
+use Rattle.wit_model.specs.declared.types.TypeDef.{TypeDef}
 use Rattle.wit_model.specs.declared.types.WitType.{WitType}
 use Rattle.wit_model.specs.declared.wasm_type.WasmType.{WasmType}
 use Rattle.rust_tree.specs.declared.expr.Expr.{Expr}
 use Rattle.rust_tree.specs.declared.stmt.Stmt.{Stmt}
 use Rattle.wit_model.specs.Bytes.{Bytes}
 use Rattle.abi_bindgen.specs.declared.instruction.Instruction.TheVariants.{CallInterface, CallWasm, GuestDeallocateVariant, OptionLift, OptionLower, ResultLift, ResultLower, Return, VariantLift, VariantLower}
+use Rattle.abi_bindgen.specs.Calls.{import_params, import_results}
 use Rattle.abi_bindgen.specs.Sent.{Sent, closes, opens, sends}
 use Rattle.func_gen.specs.declared.case_form.CaseForm.{CaseForm}
 use Rattle.func_gen.specs.declared.function_bindgen.FinishedBlock.{FinishedBlock}
 use Rattle.func_gen.specs.declared.function_bindgen.FunctionBindgen.{FunctionBindgen}
 use Rattle.func_gen.specs.declared.function_bindgen.OpenBlock.{OpenBlock}
 use Rattle.func_gen.specs.declared.operand.ExprOperand.{ExprOperand}
+use Rattle.func_gen.specs.CaseForms.{AreFormsOf, CasedType, a_result, a_variant, an_option}
 use Rattle.func_gen.specs.CodeOf.{calls_core, emitted}
 use Rattle.func_gen.specs.Emission.{Emission, Writes}
 use Rattle.func_gen.specs.LiftedCases.{FreesBy, LiftsBy, LiftsVariantBy}
@@ -36,24 +39,24 @@ pub data Called : Type 0 where
   -- or that it opens a block, or closes one
   block_begins : Called
   block_ends : Called
-  -- or that it takes the cases of a value apart, for so many results
-  cases_match : ℕ → Called
-  -- or that it makes a case of a number, where every other number ends the run, or is that of the last case
-  case_lifts : Called
-  last_lifts : Called
+  -- or that it takes the cases of a value of a type apart, for so many results
+  cases_match : CasedType → ℕ → Called
+  -- or that it makes a case of a type of a number, where every other number ends the run, or is that of the last case
+  case_lifts : CasedType → Called
+  last_lifts : CasedType → Called
   -- or that it runs the one of so many blocks that free
   cases_free : ℕ → Called
 
 abbrev pub called : Sent → Called
 called (sends (CallWasm f)) = core_call f.now
 called (sends (CallInterface f)) = method_call f.now
-called (sends (VariantLower id n)) = cases_match n
-called (sends (OptionLower id n)) = cases_match n
-called (sends (ResultLower id n)) = cases_match n
+called (sends (VariantLower id n)) = cases_match (a_variant id.0) n
+called (sends (OptionLower id n)) = cases_match (an_option id.0) n
+called (sends (ResultLower id n)) = cases_match (a_result id.0) n
 called opens = block_begins
-called (sends (OptionLift id)) = case_lifts
-called (sends (ResultLift id)) = case_lifts
-called (sends (VariantLift id)) = last_lifts
+called (sends (OptionLift id)) = case_lifts (an_option id.0)
+called (sends (ResultLift id)) = case_lifts (a_result id.0)
+called (sends (VariantLift id)) = last_lifts (a_variant id.0)
 called (sends (GuestDeallocateVariant n)) = cases_free n
 called closes = block_ends
 called _ = no_call
@@ -64,13 +67,12 @@ pub record BecomesTold (step : Sent) (os rs : List ExprOperand) (old new : Funct
   pub is : emitted old step (exprs_of os) ≡ Some code
   pub writes : Writes code rs old new
 
--- a core import is declared and called, of a core word for each operand. Which words these are, and which is answered, the step does not tell:
--- what the code does says so
-pub record CallsSome (f : Function) (os rs : List ExprOperand) (old new : FunctionBindgen) : Type 0 where
-  pub params : List WasmType
+-- the core import of a function of the table is declared, with its core words, and called, with an operand for each word that it is passed
+pub record CallsImported (types : List TypeDef) (f : Function) (os rs : List ExprOperand) (old new : FunctionBindgen) : Type 0 where
   pub answer : Option WasmType
-  pub many : length os ≡ length params
-  pub writes : Writes (calls_core old f params answer (exprs_of os)) rs old new
+  pub answers : option_to_list answer ≡ import_results types f
+  pub many : length os ≡ length (import_params types f)
+  pub writes : Writes (calls_core old f (import_params types f) answer (exprs_of os)) rs old new
 
 -- all code so far becomes the block of a method's call, and the value that is due is a local
 pub record CallsMethod (due : Option WitType) (f : Function) (os rs : List ExprOperand) (old new : FunctionBindgen) : Type 0 where
@@ -107,27 +109,30 @@ pub record ClosesBlock (os : List ExprOperand) (old new : FunctionBindgen) : Typ
   pub scope : new.scope ≡ old.scope
   pub runtime : new.runtime ≡ old.runtime
 
--- the last finished blocks become the arms of a match of the operand, whose results are locals. How the cases are taken, the step does not tell
-pub record MatchesCases (n : ℕ) (os rs : List ExprOperand) (old new : FunctionBindgen) : Type 0 where
+-- the last finished blocks become the arms of a match of the operand, by the cases of its type. The results are locals
+pub record MatchesCases (types : List TypeDef) (ty : CasedType) (n : ℕ) (os rs : List ExprOperand) (old new : FunctionBindgen) : Type 0 where
   pub forms : List CaseForm
+  pub are : AreFormsOf types old.sites ty forms
   pub operand : Expr
   pub only : exprs_of os ≡ operand ∷ []
   pub names : List Bytes
   pub lowers : LowersBy forms operand n names old new
   pub results : rs ≡ locals_of names
 
--- the last finished blocks become the arms of a match of the number, which gives the case
-pub record LiftsCases (os rs : List ExprOperand) (old new : FunctionBindgen) : Type 0 where
+-- the last finished blocks become the arms of a match of the number, which gives the case of the type
+pub record LiftsCases (types : List TypeDef) (ty : CasedType) (os rs : List ExprOperand) (old new : FunctionBindgen) : Type 0 where
   pub forms : List CaseForm
+  pub are : AreFormsOf types old.sites ty forms
   pub operand : Expr
   pub only : exprs_of os ≡ operand ∷ []
   pub name : Bytes
   pub lifts : LiftsBy forms operand name old new
   pub results : rs ≡ locals_of (name ∷ [])
 
-pub record LiftsVariant (os rs : List ExprOperand) (old new : FunctionBindgen) : Type 0 where
+pub record LiftsLast (types : List TypeDef) (ty : CasedType) (os rs : List ExprOperand) (old new : FunctionBindgen) : Type 0 where
   pub forms : List CaseForm
   pub last : CaseForm
+  pub are : AreFormsOf types old.sites ty (forms ++ last ∷ [])
   pub operand : Expr
   pub only : exprs_of os ≡ operand ∷ []
   pub number : Bytes
@@ -144,18 +149,18 @@ pub record FreesCases (n : ℕ) (os rs : List ExprOperand) (old new : FunctionBi
   pub frees : FreesBy first operand old new
   pub results : rs ≡ []
 
-abbrev pub Becomes : Called → Sent → (os rs : List ExprOperand) → (old new : FunctionBindgen) → Type 0
-Becomes no_call step os rs old new = BecomesTold step os rs old new
-Becomes (core_call f) step os rs old new = CallsSome f os rs old new
-Becomes (method_call f) step os rs old new = CallsMethod f.result f os rs old new
-Becomes block_begins step os rs old new = OpensBlock old new
-Becomes block_ends step os rs old new = ClosesBlock os old new
-Becomes (cases_match n) step os rs old new = MatchesCases n os rs old new
-Becomes case_lifts step os rs old new = LiftsCases os rs old new
-Becomes last_lifts step os rs old new = LiftsVariant os rs old new
-Becomes (cases_free n) step os rs old new = FreesCases n os rs old new
+abbrev pub Becomes : List TypeDef → Called → Sent → (os rs : List ExprOperand) → (old new : FunctionBindgen) → Type 0
+Becomes types no_call step os rs old new = BecomesTold step os rs old new
+Becomes types (core_call f) step os rs old new = CallsImported types f os rs old new
+Becomes types (method_call f) step os rs old new = CallsMethod f.result f os rs old new
+Becomes types block_begins step os rs old new = OpensBlock old new
+Becomes types block_ends step os rs old new = ClosesBlock os old new
+Becomes types (cases_match ty n) step os rs old new = MatchesCases types ty n os rs old new
+Becomes types (case_lifts ty) step os rs old new = LiftsCases types ty os rs old new
+Becomes types (last_lifts ty) step os rs old new = LiftsLast types ty os rs old new
+Becomes types (cases_free n) step os rs old new = FreesCases n os rs old new
 
-pub record Formed (step : Sent) (os rs : List ExprOperand) (old new : FunctionBindgen) : Type 0 where
+pub record Formed (types : List TypeDef) (step : Sent) (os rs : List ExprOperand) (old new : FunctionBindgen) : Type 0 where
   pub still : StillOf old new
   pub given : IfSome (given_count step) (λ n. length os ≡ n)
-  pub code : Becomes (called step) step os rs old new
+  pub code : Becomes types (called step) step os rs old new

@@ -245,5 +245,5 @@ func_meaning = record {
   crosses = crossing;
   asked = λ b. b.asked;
   returned = λ b. b.returned;
-  forms = λ step os rs old new. Formed step os rs old new;
+  forms = Formed;
 }
