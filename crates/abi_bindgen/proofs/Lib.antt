@@ -8,6 +8,7 @@ pub mod CodeByKind
 pub mod EnumLowers
 pub mod FlagLowers
 pub mod FlatCode
+pub mod InnerSteps
 pub mod LowerSteps
 pub mod Ordinary
 pub mod Payloads

@@ -11,6 +11,8 @@ use Rattle.rust_tree.specs.Tree.{Tree}
 use Rattle.rust_tree.specs.declared.export.ExportFn.{ExportFn}
 use Rattle.rust_tree.specs.declared.export.PostReturnFn.{PostReturnFn}
 use Rattle.rust_tree.specs.declared.item.FnItem.{FnItem}
+use Rattle.rust_tree.specs.declared.runtime_item.RuntimeItem.{RuntimeItem}
+use Rattle.rust_tree.specs.declared.stmt.Block.{Block}
 use Rattle.gen_accept.specs.Area.{needs_return}
 use Rattle.gen_accept.specs.DeclaredNames.{guest_name}
 use Rattle.gen_accept.specs.declared.opts.Opts.{Opts}
@@ -20,13 +22,25 @@ use Rattle.abi_bindgen.specs.Area.{AreFor}
 use Rattle.abi_bindgen.specs.declared.bindgen.Asked.{Asked}
 use Rattle.func_gen.specs.declared.type_site.TypeSite.{TypeSite}
 use Rattle.type_sites.specs.Sites.{type_sites}
+use Rattle.wrapper_closing.specs.Declares.{DeclaresOne}
+use Rattle.wrapper_closing.specs.ImportBlock.{block_of}
 use Rattle.wrapper_closing.proofs.BodyAreas.{export_body_area_is_for}
-use Rattle.rust_gen.specs.Body.{ArePartsWritten, IsExportWritten, IsReturnWritten, IsWritten, ReturnWritten}
+use Rattle.wrapper_closing.proofs.ImportDeclares.{import_body_declares}
+use Rattle.rust_gen.specs.Body.{ArePartsWritten, IsExportWritten, IsImportMade, IsReturnWritten, IsWritten, ReturnWritten}
 use Rattle.rust_gen.specs.Bound.{Binds, Parts}
-use Rattle.rust_gen.specs.Wrapper.{HasReturn, Wraps, WrapsExport, WrapsParts, WrapsReturn}
+use Rattle.rust_gen.specs.Wrapper.{HasReturn, Wraps, WrapsExport, WrapsParts, WrapsReturn, root_module}
+
+-- its body declares the core import of its function, and no other
+declares : (types : List TypeDef) (sites : List (Option TypeSite)) (f : Function) (item : FnItem) (runtime : List RuntimeItem) → IsImportMade types sites f item runtime → DeclaresOne types root_module f item.body.stmts
+declares types sites f item runtime made =
+    let code = made.code in
+    let one = import_body_declares types made.func code.parts code.body code.makes in
+    subst (λ (b : Block). DeclaresOne types root_module f b.stmts) (sym code.is)
+    (subst (λ g. DeclaresOne types root_module g (block_of code.parts.area code.body).stmts) made.of
+    (subst (λ home. DeclaresOne types home made.func.now (block_of code.parts.area code.body).stmts) code.made_of.home one))
 
 wraps : (types : List TypeDef) (sites : List (Option TypeSite)) (f : Function) (item : FnItem) → IsWritten types sites f item → Wraps types f item
-wraps types sites f item w = record { docs = w.made.outside.docs; name = w.made.outside.name; params = w.made.outside.params; answer = w.made.outside.answer; declares = w.made.declares }
+wraps types sites f item w = record { docs = w.made.outside.docs; name = w.made.outside.name; params = w.made.outside.params; answer = w.made.outside.answer; declares = declares types sites f item w.runtime w.made }
 
 wraps_export : (types : List TypeDef) (sites : List (Option TypeSite)) (f : Function) (e : ExportFn) (a : Option Asked) → IsExportWritten types sites f e a → WrapsExport types f e
 unfolding guest_name

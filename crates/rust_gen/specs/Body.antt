@@ -39,7 +39,7 @@ use Rattle.wrapper_closing.specs.declared.parts.BodyParts.{BodyParts}
 use Rattle.rust_gen.specs.FixedName.{IsFixedName}
 use Rattle.rust_gen.specs.Runtime.{is_same_item}
 use Rattle.type_defs.specs.PartType.{printed_result}
-use Rattle.rust_gen.specs.Wrapper.{DeclaresOne, export_result, printed_param, root_module}
+use Rattle.rust_gen.specs.Wrapper.{export_result, printed_param, root_module}
 use Rattle.rust_gen.specs.declared.export.ExportCode.{ExportCode}
 use Rattle.rust_gen.specs.declared.export.ExportMade.{ExportMade}
 use Rattle.rust_gen.specs.declared.import.ImportHead.{ImportHead}
@@ -114,7 +114,6 @@ pub record IsImportMade (types : List TypeDef) (sites : List (Option TypeSite)) 
   pub of : func.now ≡ f
   pub code : IsImportCode types sites func wrapper.body runtime
   pub outside : IsImportOutside types f wrapper.body wrapper
-  pub declares : DeclaresOne types f wrapper.body.stmts
 
 pub record IsWritten (types : List TypeDef) (sites : List (Option TypeSite)) (f : Function) (wrapper : FnItem) : Type 0 where
   pub runtime : List RuntimeItem

@@ -1,7 +1,6 @@
 -- How wrappers look from outside: that of an imported function has its signature and declares one core import; that of an
 -- exported function has its core signature and calls one method.
 use Rattle.std.specs.Prelude.{◌≡◌, Bool, true, false, List, [], ◌∷◌, Option, None, Some, codes, is_some, map, option_to_list, slice_get}
-use Rattle.std.specs.List.{flat_map}
 use Rattle.wit_model.specs.Bytes.{Bytes}
 use Rattle.wit_model.specs.declared.function.Function.{Function}
 use Rattle.wit_model.specs.declared.function.Param.{Param}
@@ -11,9 +10,6 @@ use Rattle.rust_tree.specs.declared.export.ExportFn.{ExportFn}
 use Rattle.rust_tree.specs.declared.export.PostReturnFn.{PostReturnFn}
 use Rattle.rust_tree.specs.declared.item.FnItem.{FnItem}
 use Rattle.rust_tree.specs.declared.item.FnParam.{FnParam}
-use Rattle.rust_tree.specs.declared.stmt.ImportDecl.{ImportDecl}
-use Rattle.rust_tree.specs.declared.stmt.Stmt.{Stmt}
-use Rattle.rust_tree.specs.declared.stmt.Stmt.TheVariants as stmt
 use Rattle.rust_tree.specs.Ident.{rust_ident}
 use Rattle.gen_accept.specs.Area.{needs_return}
 use Rattle.type_defs.specs.Docs.{doc_lines}
@@ -23,9 +19,7 @@ use Rattle.wrapper_meaning.specs.Areas.{result_record}
 use Rattle.wrapper_meaning.specs.Shape.{result_shape}
 use Rattle.abi_bindgen.specs.Area.{AreFor}
 use Rattle.abi_bindgen.specs.declared.bindgen.Asked.{Asked}
-use Rattle.abi_bindgen.specs.Calls.{import_params, import_results}
-use Rattle.wrapper_closing.specs.declared.declares.Declaration.TheVariants.{Import}
-use Rattle.wrapper_closing.specs.Declares.{arms_declare_none}
+use Rattle.wrapper_closing.specs.Declares.{DeclaresOne}
 use Rattle.wrapper_closing.specs.Params.{export_args, result_types, return_args}
 use Rattle.type_defs.specs.PartType.{printed_result}
 
@@ -37,31 +31,12 @@ printed_param types p = record { name = rust_ident p.name; ty = param_type types
 unfoldable pub root_module : Bytes
 root_module = codes "$root"
 
--- the core import that a statement declares, if it declares one
-abbrev pub declared_by : Stmt → List ImportDecl
-declared_by (stmt.Import decl) = decl ∷ []
-declared_by _ = []
-
-abbrev pub declared : List Stmt → List ImportDecl
-declared stmts = flat_map declared_by stmts
-
--- a declaration of the core import of a function of the world
-pub record Declares (types : List TypeDef) (f : Function) (decl : ImportDecl) : Type 0 where
-  pub of_root : decl.module ≡ root_module
-  pub of_name : decl.link_name ≡ f.name.wit
-  pub params : decl.params ≡ import_params types f
-  pub answer : option_to_list decl.result ≡ import_results types f
-
--- exactly one core import is declared, which is that of the function, and none in the arms of a match
-abbrev pub DeclaresOne : List TypeDef → Function → List Stmt → Type 0
-DeclaresOne types f stmts = (decl : ImportDecl) × (declared stmts ≡ decl ∷ []) × Declares types f decl × (arms_declare_none Import stmts ≡ true)
-
 pub record Wraps (types : List TypeDef) (f : Function) (item : FnItem) : Type 0 where
   pub docs : item.docs ≡ doc_lines f.docs
   pub name : item.name ≡ rust_ident f.name
   pub params : item.params ≡ map (printed_param types) f.params
   pub answer : item.result ≡ printed_result types f.result
-  pub declares : DeclaresOne types f item.body.stmts
+  pub declares : DeclaresOne types root_module f item.body.stmts
 
 -- the core result of an export, if it has one
 abbrev pub export_result : List TypeDef → Function → Option WasmType

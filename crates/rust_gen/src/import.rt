@@ -11,9 +11,8 @@ ghost use Rattle.type_defs.specs.PartType.{printed_result};
 ghost use Rattle.rust_gen.specs.Body.{AreImportParts, IsImportCode, IsImportHead, IsImportMade};
 ghost use Rattle.rust_gen.specs.FixedName.{IsFixedName};
 ghost use Rattle.rust_gen.specs.Known.{AreAtHand, sites_in};
-ghost use Rattle.rust_gen.specs.Wrapper.{DeclaresOne, printed_param, root_module};
+ghost use Rattle.rust_gen.specs.Wrapper.{printed_param, root_module};
 
-use crate::declared::declares;
 use crate::fixed_name::fixed_name;
 use crate::signature::{printed_params, printed_result};
 use crate::sites::import_sites;
@@ -157,31 +156,6 @@ pub(crate) fn outside_items(
     one(alloc, Item::Import(import_fn(head, body)))
 }
 
-/// The block of the wrapper's body, and the items of `_rt` that it asks for, where the block declares the core import of the function and no
-/// other. There is no memory also where it doesn't.
-fn declaring_code(
-    alloc: Global,
-    resolve: &Resolve,
-    tables: &mut Option<TypeTables>,
-    f: &Function,
-) -> Result<(Block, List<RuntimeItem>), OutOfMemory>
-    requires well { IsWellFormed resolve.now }
-    requires within { function_in_range resolve.now f.now ≡ true }
-    requires distinct { is_distinct (param_idents f.now) ≡ true }
-    requires tables { AreAtHand resolve.now.types tables.old }
-    ensures code { IfOk result (λ made. IsImportCode resolve.now.types (sites_in tables.old) f.entry made.0 made.1) }
-    ensures declares { IfOk result (λ made. DeclaresOne resolve.now.types f.now made.0.stmts) }
-    ensures kept { OnOk result (AreAtHand resolve.now.types tables.new) }
-    ensures same { OnOk result (sites_in tables.new ≡ sites_in tables.old) }
-{
-    let made = import_code(alloc, resolve, tables, f)?;
-    if declares(alloc, resolve, f, made.0.stmts.as_slice())? {
-        Ok(made)
-    } else {
-        Err(OutOfMemory)
-    }
-}
-
 /// The wrapper of an imported function, and the items of `_rt` that its body asks for.
 pub(crate) fn import_wrapper(
     alloc: Global,
@@ -200,6 +174,6 @@ pub(crate) fn import_wrapper(
     ensures same { OnOk result (sites_in tables.new ≡ sites_in tables.old) }
 {
     let head = import_head(alloc, resolve, facts, f)?;
-    let (body, runtime) = declaring_code(alloc, resolve, tables, f)?;
+    let (body, runtime) = import_code(alloc, resolve, tables, f)?;
     Ok((import_fn(head, body), runtime))
 }

@@ -1,7 +1,6 @@
 //! The generator: from a checked world and options to the tree of its bindings file and the file's text.
 #![tactic(auto)]
 
-mod declared;
 mod export;
 mod exported;
 mod fixed_name;

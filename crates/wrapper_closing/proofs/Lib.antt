@@ -19,6 +19,7 @@ pub mod Givings
 pub mod HandedBack
 pub mod ImportBodyCloses
 pub mod ImportCalls
+pub mod ImportDeclares
 pub mod ImportEnds
 pub mod ImportLeaves
 pub mod ImportStart
@@ -38,4 +39,5 @@ pub mod Start
 pub mod TwoWords
 pub mod TypedCases
 pub mod Unasking
+pub mod Undeclared
 pub mod Unplaced

@@ -1,9 +1,15 @@
--- Statements that declare no area, or no core import, and none in the arms of a match.
-use Rattle.std.specs.Prelude.{Bool, true, false, not, List}
-use Rattle.std.specs.List.{list_all}
+-- Statements that declare no area, or no core import, and none in the arms of a match; and those that declare one core import alone.
+use Rattle.std.specs.Prelude.{◌≡◌, Bool, true, false, not, List, [], ◌∷◌, option_to_list}
+use Rattle.std.specs.List.{flat_map, list_all}
+use Rattle.wit_model.specs.Bytes.{Bytes}
+use Rattle.wit_model.specs.declared.function.Function.{Function}
+use Rattle.wit_model.specs.declared.types.TypeDef.{TypeDef}
 use Rattle.rust_tree.specs.declared.stmt.Arm.{Arm, Arm-F, fold-Arm}
 use Rattle.rust_tree.specs.declared.stmt.Block.{Block, Block-F, fold-Block}
+use Rattle.rust_tree.specs.declared.stmt.ImportDecl.{ImportDecl}
 use Rattle.rust_tree.specs.declared.stmt.Stmt.{Stmt, Stmt-F, fold-Stmt, out-Stmt}
+use Rattle.rust_tree.specs.declared.stmt.Stmt.TheVariants as stmt
+use Rattle.abi_bindgen.specs.Calls.{import_params, import_results}
 use Rattle.wrapper_closing.specs.declared.declares.Declaration.{Declaration}
 use Rattle.wrapper_closing.specs.declared.declares.Declaration.TheVariants.{Area, Import}
 
@@ -49,3 +55,24 @@ has_arms_without what s = has_arms_without_in what (out-Stmt s)
 
 abbrev pub arms_declare_none : Declaration → List Stmt → Bool
 arms_declare_none what stmts = list_all (has_arms_without what) stmts
+
+-- one core import
+
+-- that which a statement declares, if it declares one
+abbrev pub declared_by : Stmt → List ImportDecl
+declared_by (stmt.Import decl) = decl ∷ []
+declared_by _ = []
+
+abbrev pub declared : List Stmt → List ImportDecl
+declared stmts = flat_map declared_by stmts
+
+-- a declaration of the core import of a function, which is of this module
+pub record IsImportOf (types : List TypeDef) (home : Bytes) (f : Function) (decl : ImportDecl) : Type 0 where
+  pub of_home : decl.«module» ≡ home
+  pub of_name : decl.link_name ≡ f.name.wit
+  pub params : decl.params ≡ import_params types f
+  pub answer : option_to_list decl.result ≡ import_results types f
+
+-- exactly one core import is declared, which is that of the function, and none in the arms of a match
+abbrev pub DeclaresOne : List TypeDef → Bytes → Function → List Stmt → Type 0
+DeclaresOne types home f stmts = (decl : ImportDecl) × (declared stmts ≡ decl ∷ []) × IsImportOf types home f decl × (arms_declare_none Import stmts ≡ true)

@@ -76,17 +76,3 @@ pub fn declare_none(what: Declaration, stmts: &[Stmt]) -> bool
     }
     true
 }
-
-/// Whether no arm of a `match` among the statements declares such a thing.
-pub fn arms_declare_none(what: Declaration, stmts: &[Stmt]) -> bool
-    ensures { result ≡ spec.arms_declare_none what stmts.now }
-{
-    for s in stmts {
-        if let Stmt::Match(_, _, arms) = s {
-            if !are_arms_without(what, arms.as_slice()) {
-                return false;
-            }
-        }
-    }
-    true
-}

@@ -15,7 +15,7 @@ mod printed_law;
 mod sites;
 
 pub use block::import_block;
-pub use declares::{Declaration, arms_declare_none, declare_none};
+pub use declares::{Declaration, declare_none};
 pub use exports::export_body;
 pub use imports::import_body;
 pub use laws::{
