@@ -11,13 +11,14 @@ use Rattle.wit_model.specs.declared.types.Case.{Case}
 use Rattle.wit_model.specs.declared.types.TypeDef.{TypeDef}
 use Rattle.wit_model.specs.declared.types.WitType.{WitType}
 use Rattle.rust_tree.specs.declared.expr.Expr.{Expr}
+use Rattle.wrapper_values.specs.Enums.{is_enum}
 use Rattle.wrapper_values.specs.Setting.{Setting}
 use Rattle.abi_bindgen.specs.declared.instruction.Instruction.TheVariants.{OptionLift, ResultLift, VariantLift}
 use Rattle.abi_bindgen.specs.Cases.{payloads_at, payloads_of, payloads_or}
 use Rattle.abi_bindgen.specs.Instructions.{Emits}
 use Rattle.func_gen.specs.declared.case_form.CaseForm.{CaseForm}
 use Rattle.func_gen.specs.declared.function_bindgen.FunctionBindgen.{FunctionBindgen}
-use Rattle.func_gen.specs.CalledCases.{is_called, is_lift, is_other_module, names_case}
+use Rattle.func_gen.specs.CalledCases.{is_called, is_other_module}
 use Rattle.func_gen.specs.CaseForms.{AreOptionForms, AreResultForms, AreVariantForms, member_form, member_forms, member_path, option_forms, side_form}
 use Rattle.func_gen.specs.Forms.{operand_of}
 use Rattle.func_gen.specs.LiftedCases.{LiftsBy, LiftsVariantBy}
@@ -27,7 +28,7 @@ use Rattle.func_gen.specs.Operand.{is_operand}
 use Rattle.func_gen.specs.PartForms.{locals_of}
 use Rattle.func_gen.specs.TypeSites.{AreDefined}
 use Rattle.func_gen.proofs.CaseFits.{option_numbers, result_numbers}
-use Rattle.func_gen.proofs.CaseNames.{variant_count, variant_numbers}
+use Rattle.func_gen.proofs.CaseNames.{variant_count, variant_no_enum, variant_numbers}
 use Rattle.func_gen.proofs.CasePaths.{AllCall, CallsCase, NamesType, are_cases, case_called, err_called, none_called, ok_called, some_called}
 use Rattle.func_gen.proofs.LiftedCaseRows.{AreCases}
 use Rattle.func_gen.proofs.LiftedEmits.{option_lifted, result_lifted, variant_lifted}
@@ -35,18 +36,18 @@ use Rattle.func_gen.proofs.LiftedEmits.{option_lifted, result_lifted, variant_li
 -- 1. What the paths of the cases call
 
 option_cases : (w : Setting) → AreCases w 0 option_forms
-option_cases w = are_cases w 0 option_forms (option_numbers w.items) (none_called, (some_called, tt))
+option_cases w = are_cases w 0 option_forms (option_numbers w.items) (none_called w, (some_called w, tt))
 
-ok_side : (payload : Option WitType) → CallsCase (case_path (side_form (codes "Ok") payload))
-ok_side None = ok_called
-ok_side (Some ty) = ok_called
+ok_side : (w : Setting) (payload : Option WitType) → CallsCase w (case_path (side_form (codes "Ok") payload))
+ok_side w None = ok_called w
+ok_side w (Some ty) = ok_called w
 
-err_side : (payload : Option WitType) → CallsCase (case_path (side_form (codes "Err") payload))
-err_side None = err_called
-err_side (Some ty) = err_called
+err_side : (w : Setting) (payload : Option WitType) → CallsCase w (case_path (side_form (codes "Err") payload))
+err_side w None = err_called w
+err_side w (Some ty) = err_called w
 
 result_cases : (w : Setting) (ok err : Option WitType) → AreCases w 0 (side_form (codes "Ok") ok ∷ side_form (codes "Err") err ∷ [])
-result_cases w ok err = are_cases w 0 (side_form (codes "Ok") ok ∷ side_form (codes "Err") err ∷ []) (result_numbers w.items ok err) (ok_side ok, (err_side err, tt))
+result_cases w ok err = are_cases w 0 (side_form (codes "Ok") ok ∷ side_form (codes "Err") err ∷ []) (result_numbers w.items ok err) (ok_side w ok, (err_side w err, tt))
 
 names_type : (ty : Bytes) → is_other_module ty ≡ false → NamesType ty
 unfolding is_other_module
@@ -56,22 +57,20 @@ names_type ty h =
     let three = or_parts (bytes_eq ty (codes "f32")) (bytes_eq ty (codes "f64")) two.1 in
     record { runtime = one.0; i64 = two.0; f32 = three.0; f64 = three.1 }
 
-member_calls : (ty name : Bytes) → names_case ty name ≡ true → CallsCase (member_path ty name)
-unfolding is_lift
-member_calls ty name h =
-    let two = and_parts (not (is_other_module ty)) (not (is_lift name)) h in
-    case_called ty name (names_type ty (not-true (is_other_module ty) two.0)) (not-true (is_lift name) two.1)
+module _ (w : Setting) (ty : Bytes) (other : is_enum w.items ty ≡ false) where
+  member_calls : (name : Bytes) → not (is_other_module ty) ≡ true → CallsCase w (member_path ty name)
+  member_calls name h = case_called w ty name (names_type ty (not-true (is_other_module ty) h)) other
 
-form_calls : (ty name : Bytes) (payload : Option WitType) → is_called (member_form ty name payload) ≡ true → CallsCase (case_path (member_form ty name payload))
-form_calls ty name None h = member_calls ty name h
-form_calls ty name (Some p) h = member_calls ty name h
+  form_calls : (name : Bytes) (payload : Option WitType) → is_called (member_form ty name payload) ≡ true → CallsCase w (case_path (member_form ty name payload))
+  form_calls name None h = member_calls name h
+  form_calls name (Some p) h = member_calls name h
 
-members_call : (ty : Bytes) (names : List Bytes) (members : List Case) → list_all is_called (member_forms ty names members) ≡ true → AllCall (member_forms ty names members)
-members_call ty [] members h = tt
-members_call ty (n ∷ names) [] h = tt
-members_call ty (n ∷ names) (c ∷ members) h =
-    let two = and_parts (is_called (member_form ty n c.ty)) (list_all is_called (member_forms ty names members)) h in
-    (form_calls ty n c.ty two.0, members_call ty names members two.1)
+  members_call : (names : List Bytes) (members : List Case) → list_all is_called (member_forms ty names members) ≡ true → AllCall w (member_forms ty names members)
+  members_call [] members h = tt
+  members_call (n ∷ names) [] h = tt
+  members_call (n ∷ names) (c ∷ members) h =
+      let two = and_parts (is_called (member_form ty n c.ty)) (list_all is_called (member_forms ty names members)) h in
+      (form_calls n c.ty two.0, members_call names members two.1)
 
 -- 2. Options and results
 
@@ -92,7 +91,9 @@ module _ (types : List TypeDef) (id : TypeId) (old new : FunctionBindgen) (all f
   pub variant_made : AreVariantForms types old.sites id.0 all → all ≡ forms ++ c ∷ [] → list_all is_called all ≡ true → Emits func_meaning types (VariantLift id) (operand_of e ∷ []) (locals_of (v ∷ [])) old new
   variant_made f split called =
       variant_lifted types id forms c e n v old new l ok many
-      (λ w p s. subst (AreCases (setting_for w p) 0) split (are_cases (setting_for w p) 0 all (variant_numbers types old.sites id.0 all f w.items (subst (AreDefined w.items) same s.sites)) calls))
+      (λ w p s.
+      let sites = subst (AreDefined w.items) same s.sites in
+      subst (AreCases (setting_for w p) 0) split (are_cases (setting_for w p) 0 all (variant_numbers types old.sites id.0 all f w.items sites) (calls (setting_for w p) (variant_no_enum types old.sites id.0 all f w.items sites))))
       (subst (AreVariantForms types old.sites id.0) split f)
     where
       many : length (payloads_at types id.0) ≡ suc (length forms)
@@ -101,5 +102,5 @@ module _ (types : List TypeDef) (id : TypeId) (old new : FunctionBindgen) (all f
       same : new.sites ≡ old.sites
       same = l.adds.sites ∙ ap (λ (b : FunctionBindgen). b.sites) l.uses.rest
 
-      calls : AllCall all
-      calls = subst AllCall (sym f.are) (members_call f.name f.site.cases f.members (ap (list_all is_called) (sym f.are) ∙ called))
+      calls : (w : Setting) → is_enum w.items f.name ≡ false → AllCall w all
+      calls w other = subst (AllCall w) (sym f.are) (members_call w f.name other f.site.cases f.members (ap (list_all is_called) (sym f.are) ∙ called))

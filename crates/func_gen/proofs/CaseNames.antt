@@ -1,5 +1,5 @@
 -- The cases of a variant of the file have the numbers of their places.
-use Rattle.std.proofs.Common.{◌≡◌, ◌+◌, ◌<◌, ◌^◌, ◌++◌, ◌||◌, ℕ, suc, Bool, true, false, cond, not, List, [], ◌∷◌, length, map, Option, None, Some, refl, sym, ap, ◌∙◌, subst, arith, append_assoc}
+use Rattle.std.proofs.Common.{◌≡◌, ◌+◌, ◌<◌, ◌^◌, ◌++◌, ◌||◌, ℕ, suc, Bool, true, false, cond, not, List, [], ◌∷◌, length, map, Option, None, Some, is_some, refl, sym, ap, ◌∙◌, subst, arith, append_assoc}
 use Rattle.std.specs.Prelude.{nat_lt, option_and_then, position}
 use Rattle.std.specs.List.{AllByRecursion, list_any, position_or_len}
 use Rattle.std.specs.Option.{option_map}
@@ -21,6 +21,7 @@ use Rattle.rust_tree.specs.declared.variant_item.VariantItem.{VariantItem}
 use Rattle.wrapper_meaning.specs.Shape.{is_nothing, payload_in, payloads_in, shape_of, shapes}
 use Rattle.wrapper_meaning.proofs.Lists.{some_same}
 use Rattle.abi_bindgen.specs.Cases.{case_shapes, payloads_at, payloads_of, payloads_or}
+use Rattle.wrapper_values.specs.Enums.{enum_in, is_enum}
 use Rattle.wrapper_values.specs.Fields.{type_named}
 use Rattle.wrapper_values.specs.Variants.{case_number, in_32_bits, number_at_root, number_in, number_in_variant}
 use Rattle.wrapper_run.proofs.LocalLemmas.{bytes_eq-same}
@@ -147,12 +148,26 @@ variant_defined items (site.Enum r) s d is = absurd cc
 variant_defined items (site.Flags r) s d is = absurd cc
 variant_defined items (site.Variant r) s d is = subst (DefinesVariant items) (some_same r s is) d
 
+no_enum : (t : Option TypeItem) (cases : List Bytes) → option_map case_names (variant_in t) ≡ Some cases → is_some (enum_in t) ≡ false
+no_enum None cases h = refl
+no_enum (Some (Enum e)) cases h = absurd cc
+no_enum (Some (Struct r)) cases h = refl
+no_enum (Some (Alias a)) cases h = refl
+no_enum (Some (Flags f)) cases h = refl
+no_enum (Some (Variant v)) cases h = refl
+
 module _ (types : List TypeDef) (sites : List (Option TypeSite)) (id : ℕ) (forms : List CaseForm) (f : AreVariantForms types sites id forms) where
+  defined : (items : List Item) → AreDefined items sites → DefinesVariant items f.site
+  defined items all = defined_as items variant_site_in (DefinesVariant items) (variant_defined items) sites id f.site all f.at
+
   pub variant_numbers : (items : List Item) → AreDefined items sites → AreNumbered items 0 forms
   variant_numbers items all =
-      let d = defined_as items variant_site_in (DefinesVariant items) (variant_defined items) sites id f.site all f.at in
+      let d = defined items all in
       let has = subst (HasCaseNames items f.site.cases) f.root d.lowered in
       subst (AreNumbered items 0) (sym f.are) (member_numbers items f.name f.site.cases has d.distinct (omega (arith, f.many, f.low)) f.members f.many)
+
+  pub variant_no_enum : (items : List Item) → AreDefined items sites → is_enum items f.name ≡ false
+  variant_no_enum items all = no_enum (type_named items f.name) f.site.cases (subst (HasCaseNames items f.site.cases) f.root (defined items all).lowered)
 
   pub variant_fits : FitForms (case_shapes types id) forms
   variant_fits = subst (λ ts. FitForms ts forms) (sym (kind_shapes types id (kind.Variant f.members) f.kind)) (subst (FitForms (payloads_in (shapes types) (map (λ (c : Case). c.ty) f.members))) (sym f.are) (members_fit types f.name f.site.cases f.members f.many f.some))

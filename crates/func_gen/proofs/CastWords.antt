@@ -30,7 +30,7 @@ use Rattle.wrapper_values.specs.declared.state.Val.TheVariants as val
 use Rattle.wrapper_values.specs.CoreWords.{applied, called_on, core_word, slot_pointer, u32_value, u64_value}
 use Rattle.wrapper_values.specs.Effect.{cast_integer, cast_to, integer_of, is_of_kind, low, low_i64, num_of}
 use Rattle.wrapper_values.specs.Owning.{owned}
-use Rattle.wrapper_run.specs.Run.{callee, core_function, is_f32_from_bits, is_f64_from_bits, is_i64_from, is_new_slot, lift_name, runtime_module_name}
+use Rattle.wrapper_run.specs.Run.{callee, core_function, is_f32_from_bits, is_f64_from_bits, is_i64_from, is_new_slot, runtime_module_name}
 use Rattle.wrapper_run.proofs.NumberLemmas.{low_i32-s32, low_i64-s64, num_of-number}
 use Rattle.func_gen.specs.CastForms.{cast_expr, core_call, core_path, f32_names, f64_names, from_names, needs_slot, new_slot_names, step_expr}
 use Rattle.func_gen.specs.Read.{Env, Read, bare_or, conversion, on_bare, read}
@@ -209,7 +209,7 @@ unfolding core_word
 slot_made z = ap (option_and_then (applied core_fn.NewSlot)) (num_64 z)
 
 calls_core : (f : CoreFn) → callee (core_path f) ≡ core_function f
-unfolding callee from_names f32_names f64_names new_slot_names is_i64_from is_f32_from_bits is_f64_from_bits is_new_slot runtime_module_name lift_name
+unfolding callee from_names f32_names f64_names new_slot_names is_i64_from is_f32_from_bits is_f64_from_bits is_new_slot runtime_module_name
 calls_core core_fn.I64From = refl
 calls_core core_fn.F32FromBits = refl
 calls_core core_fn.F64FromBits = refl

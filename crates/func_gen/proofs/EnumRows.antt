@@ -1,6 +1,6 @@
 -- The rows of enums: the number of a case, and the case of a word.
 use mathlib.Core.Logic.{inl, inr}
-use Rattle.std.proofs.Common.{rules, ◌≡◌, ◌++◌, ℕ, ℤ, pos, Bool, true, false, cond, nat_lt, if◌then◌else◌, List, [], ◌∷◌, length, reverse, Option, None, Some, refl, sym, ap, ap₂, ◌∙◌, subst, ◌<◌, arith}
+use Rattle.std.proofs.Common.{rules, ◌≡◌, ◌++◌, ℕ, ℤ, pos, Bool, true, false, cond, ◌&&◌, nat_lt, if◌then◌else◌, List, [], ◌∷◌, length, reverse, Option, None, Some, is_some, refl, sym, ap, ap₂, ◌∙◌, subst, ◌<◌, arith}
 use Rattle.std.specs.Prelude.{option_and_then, Ok, Err, codes}
 use Rattle.std.specs.Option.{option_map}
 use Rattle.std.specs.Str.{bytes_eq}
@@ -37,17 +37,18 @@ use Rattle.wrapper_meaning.specs.Value.{Case, case_number}
 use Rattle.wrapper_values.specs.declared.state.State.{State}
 use Rattle.wrapper_values.specs.declared.state.Val.{Val}
 use Rattle.wrapper_values.specs.declared.state.Val.TheVariants as val
-use Rattle.wrapper_values.specs.Act.{all}
+use Rattle.wrapper_values.specs.Act.{Act, all}
 use Rattle.wrapper_values.specs.Effect.{cast_integer, is_of_kind, is_unit_level, low, low_i32, num_of}
-use Rattle.wrapper_values.specs.Enums.{case_of, case_of_level, case_of_number, enum_in, enum_lift_of, held_in, is_without_payload, word_of_case}
+use Rattle.wrapper_values.specs.Enums.{case_of, case_of_level, case_of_number, enum_in, enum_lift_of, held_in, is_enum, is_without_payload, word_of_case}
 use Rattle.wrapper_values.specs.Fields.{root_name, type_named}
 use Rattle.wrapper_values.specs.Flags.{repr_bits}
 use Rattle.wrapper_values.specs.Owning.{owned_by}
-use Rattle.wrapper_values.specs.Setting.{Setting}
-use Rattle.wrapper_run.specs.Run.{call, call_callee, callee, enum_lift, eval, lift_act, lift_case, lift_name, member_callee, of_runtime, runtime_module_name, type_callee}
-use Rattle.wrapper_run.proofs.LocalLemmas.{bytes_eq-same}
+use Rattle.wrapper_values.specs.Setting.{Setting, stuck}
+use Rattle.wrapper_values.specs.Variants.{full_case, number_at_root}
+use Rattle.wrapper_run.specs.Run.{call, call_callee, call_member, callee, eval, lift_act, lift_case, lift_name, make_case, member_of, runtime_module_name}
+use Rattle.wrapper_run.proofs.EnumSteps.{callee-lift, member_lifted}
 use Rattle.wrapper_run.proofs.NumberLemmas.{low_i32-s32, num_of-number}
-use Rattle.wrapper_run.proofs.StepLemmas.{Quiet, call_gives, eval-call, quiet_lift_act, quiet_one, quiet_then}
+use Rattle.wrapper_run.proofs.StepLemmas.{Quiet, call_gives, eval-call, quiet_lift_act, quiet_one, quiet_or_stop, quiet_then}
 use Rattle.abi_bindgen.specs.declared.instruction.Instruction.TheVariants.{EnumLift, EnumLower}
 use Rattle.abi_bindgen.specs.Account.{Peer, failing, stay}
 use Rattle.abi_bindgen.specs.Cases.{LiftsEnum, LowersEnum, reading_tag, tag_of}
@@ -153,20 +154,37 @@ enum_number_row types old new id e n (members, is, many) small a scope = record 
 
 -- 3. A word becomes a case
 
-calls_lift : (name : Bytes) → bytes_eq name runtime_module_name ≡ false → callee (lift_path name) ≡ enum_lift name
-unfolding callee
-calls_lift name h = ap (λ b. cond b (of_runtime lift_name) (type_callee name lift_name)) h ∙ ap (λ b. cond b (enum_lift name) (member_callee name lift_name)) (bytes_eq-same lift_name)
+calls_lift : (name : Bytes) → bytes_eq name runtime_module_name ≡ false → callee (lift_path name) ≡ member_of name lift_name
+unfolding lift_name runtime_module_name
+calls_lift name h = callee-lift name h
+
+-- the function of an enum of the file is called
+calls_enum : (w : Setting) (name : Bytes) (vs : List Val) → is_enum w.items name ≡ true → call_member w name lift_name vs ≡ lift_case w name vs
+unfolding lift_name
+calls_enum w name vs h = member_lifted w name vs h
 
 quiet_case : (w : Setting) (name : Bytes) (vs : List Val) → Quiet (lift_case w name vs)
 quiet_case w name [] = record { quiet = λ s. refl }
 quiet_case w name (v ∷ []) = quiet_lift_act w (enum_lift_of w.items name v)
 quiet_case w name (v ∷ u ∷ vs) = record { quiet = λ s. refl }
 
+quiet_made : (w : Setting) (number : Option ℕ) (vs : List Val) → Quiet (make_case w number vs)
+quiet_made w number [] = record { quiet = λ s. refl }
+quiet_made w number (v ∷ []) = quiet_or_stop (stuck w) (full_case number v)
+quiet_made w number (v ∷ u ∷ vs) = record { quiet = λ s. refl }
+
+quiet_member : (w : Setting) (ty name : Bytes) (vs : List Val) → Quiet (call_member w ty name vs)
+quiet_member w ty name vs = go (is_enum w.items ty && bytes_eq name lift_name)
+  where
+    go : (b : Bool) → Quiet (cond b (lift_case w ty vs) (make_case w (number_at_root w.items ty name) vs))
+    go true = quiet_case w ty vs
+    go false = quiet_made w (number_at_root w.items ty name) vs
+
 quiet_lifted : (w : Setting) (name : Bytes) (to : CastType) (e : Expr) → bytes_eq name runtime_module_name ≡ false → is_operand e ≡ true → Quiet (eval w (case_lifted name to e))
 quiet_lifted w name to e typed ok =
     subst Quiet (sym (eval-call w (lift_path name) (expr.Cast e to ∷ [])))
     (quiet_then (all (eval w (expr.Cast e to) ∷ [])) (λ vs. call w (lift_path name) vs) (quiet_one (eval w (expr.Cast e to)) (quiet_cast_of w e to (quiet_operand w e ok)))
-    (λ vs. subst Quiet (sym (ap (λ k. call_callee w k vs) (calls_lift name typed))) (quiet_case w name vs)))
+    (λ vs. subst Quiet (sym (ap (λ k. call_callee w k vs) (calls_lift name typed))) (quiet_member w name lift_name vs)))
 
 low_u16 : (z : ℤ) → is_of_kind wit.U16 (low 16 z) ≡ true
 low_u16 z = grind (arith, ints)
@@ -197,11 +215,19 @@ enum_lifts items name repr n to z casts has = go (enum_in (type_named items name
         ap₂ (λ (q : Repr) (k : ℕ). option_map (case_of_number k) (option_and_then (held_in q) (num_of (cast_integer to z)))) (ap (λ (x : Repr × ℕ). x.0) same) (ap (λ (x : Repr × ℕ). x.1) same)
         ∙ ap (option_map (case_of_number n)) (held repr to z casts)
 
+enum_there : (items : List Item) (name : Bytes) (held : Repr × ℕ) → HasCases items held (Some name) → is_enum items name ≡ true
+enum_there items name held has = go (enum_in (type_named items name)) has
+  where
+    go : (o : Option EnumItem) → option_map held_cases o ≡ Some held → is_some o ≡ true
+    go None h = absurd cc
+    go (Some e) h = refl
+
 enum_evaluates : (w : Setting) (name : Bytes) (repr : Repr) (n : ℕ) (to : CastType) (e : Expr) (z : ℤ) (s : State) → bytes_eq name runtime_module_name ≡ false → case_cast repr ≡ Some to → HasCases w.items (repr, n) (Some name)
     → (read w.items e).at (env_of s) ≡ Some (val.Word (core.I32 z)) → eval w (case_lifted name to e) s ≡ lift_act w (Some (case_of_number n (low_bits (repr_bits repr) z))) s
 enum_evaluates w name repr n to e z s typed casts has h =
     let v = cast_integer to z in
     call_gives w (lift_path name) (expr.Cast e to ∷ []) (v ∷ []) s (cast_given w e to z s (cast_owns to z) h, tt) ∙ ap (λ c. call_callee w c (v ∷ []) s) (calls_lift name typed)
+    ∙ ap (λ (act : Act Val). act s) (calls_enum w name (v ∷ []) (enum_there w.items name (repr, n) has))
     ∙ ap (λ o. lift_act w o s) (enum_lifts w.items name repr n to z casts has)
 
 case_agrees : (w : File) (p : Peer RustValue) (f : Form) (k : ℕ) (s : State) (b : Bool)

@@ -29,7 +29,7 @@ use Rattle.wrapper_values.specs.Owning.{lent, owned, view}
 use Rattle.wrapper_values.specs.Enums.{word_of_case}
 use Rattle.wrapper_values.specs.Flags.{bits_of_flags, word_at}
 use Rattle.wrapper_values.specs.Setting.{Setting, stuck}
-use Rattle.wrapper_run.specs.Run.{Callee, alone, apply, call, call_callee, call_runtime, callee, converted_or_lifted, core_case, core_forget, core_function, enum_lift, eval, of_runtime, root_case, runtime_item_named, unknown}
+use Rattle.wrapper_run.specs.Run.{Callee, alone, apply, call, call_callee, call_runtime, callee, converted_or_lifted, core_case, core_forget, core_function, eval, member_of, of_runtime, runtime_item_named, unknown}
 use Rattle.wrapper_run.proofs.EnumSteps.{eval-case}
 use Rattle.wrapper_run.proofs.FlagsSteps.{eval-bits}
 use Rattle.wrapper_run.proofs.StepLemmas.{eval-call, eval-cast, eval-cast_mut, eval-local, eval-ref}
@@ -119,8 +119,7 @@ module _ (w : Setting) where
       go None k = absurd cc
       go (Some i) k = converted_is i x v s k
   callee_is (alone name) x v s h = absurd cc
-  callee_is (enum_lift name) x v s h = absurd cc
-  callee_is (root_case ty name) x v s h = absurd cc
+  callee_is (member_of ty name) x v s h = absurd cc
   callee_is (core_case number) x v s h = absurd cc
   callee_is (core_function f) x v s h = ap (λ o. or_stop (stuck w) o s) h
   callee_is core_forget x v s h = absurd cc

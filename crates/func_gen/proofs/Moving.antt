@@ -33,7 +33,7 @@ use Rattle.wrapper_values.specs.Flags.{bits_of_flags, word_at}
 use Rattle.wrapper_values.specs.Locals.{local_named, moved, usable, use_local, used, value_of}
 use Rattle.wrapper_values.specs.Owning.{owned, pointer_of}
 use Rattle.wrapper_values.specs.Setting.{Setting, stuck}
-use Rattle.wrapper_run.specs.Run.{Callee, alone, callee, core_case, core_forget, core_function, enum_lift, eval, of_runtime, root_case, runtime_item_named, unknown}
+use Rattle.wrapper_run.specs.Run.{Callee, alone, callee, core_case, core_forget, core_function, eval, member_of, of_runtime, runtime_item_named, unknown}
 use Rattle.wrapper_run.proofs.LocalLemmas.{bytes_eq-same}
 use Rattle.wrapper_run.proofs.StepLemmas.{eval-local}
 use Rattle.abi_bindgen.specs.Meaning.{Fact, item, of}
@@ -134,8 +134,7 @@ module _ (items : List Item) where
       go : (c : Callee) (x : Val) → conversion items c x ≡ Some v → owned v ≡ []
       go (of_runtime name) x k = item_owns (runtime_item_named items name) x k
       go (alone name) x k = absurd cc
-      go (enum_lift name) x k = absurd cc
-      go (root_case ty name) x k = absurd cc
+      go (member_of ty name) x k = absurd cc
       go (core_case number) x k = absurd cc
       go (core_function f) x k = word_owns (core_word f x) v k
       go core_forget x k = absurd cc

@@ -27,7 +27,7 @@ use Rattle.wrapper_values.specs.Locals.{ask_local, lend_local, local_named, valu
 use Rattle.wrapper_values.specs.Owning.{lent, view}
 use Rattle.wrapper_values.specs.Setting.{Setting, stuck}
 use Rattle.wrapper_values.specs.Variants.{number_in_core}
-use Rattle.wrapper_run.specs.Run.{call, call_callee, call_core, callee, case_callee, core_function, eval, is_f32_from_bits, is_f64_from_bits, is_i64_from, lift_name, of_runtime, path_callee, runtime_module_name, type_callee}
+use Rattle.wrapper_run.specs.Run.{call, call_callee, call_core, callee, case_callee, core_function, eval, is_f32_from_bits, is_f64_from_bits, is_i64_from, member_callee, of_runtime, path_callee, runtime_module_name}
 use Rattle.wrapper_run.proofs.QuietSteps.{quiet_cast_mut}
 use Rattle.wrapper_run.proofs.EnumSteps.{eval-case}
 use Rattle.wrapper_run.proofs.FlagsSteps.{eval-bits}
@@ -45,7 +45,7 @@ quiet_cast_of w e to h = subst Quiet (sym (eval-cast w e to)) (quiet_then (eval 
 -- a conversion is a function of `_rt`
 conversion_of : (lead : Bool) (supers : ℕ) (names : List Bytes) → is_conversion_of lead supers names ≡ true → (name : Bytes) × (path_callee lead supers names ≡ of_runtime name)
 unfolding runtime_module_name
-conversion_of false zero (first ∷ name ∷ []) h = (name, ap (λ b. cond b (of_runtime name) (type_callee first name)) (and_parts (bytes_eq first (codes "_rt")) (is_converting name) h).0)
+conversion_of false zero (first ∷ name ∷ []) h = (name, ap (λ b. cond b (of_runtime name) (member_callee first name)) (and_parts (bytes_eq first (codes "_rt")) (is_converting name) h).0)
 conversion_of false zero [] h = absurd cc
 conversion_of false zero (first ∷ []) h = absurd cc
 conversion_of false zero (first ∷ second ∷ third ∷ names) h = absurd cc
@@ -68,7 +68,7 @@ two_names first name a b f h is =
     (f, ap (λ x. path_callee false 0 (x ∷ name ∷ [])) ((bytes_eq-Decides first a).0 parts.0) ∙ ap (λ x. path_callee false 0 (a ∷ x ∷ [])) ((bytes_eq-Decides name b).0 parts.1) ∙ is)
 
 number_function : (first name : Bytes) → (is_i64_from first name || (is_f32_from_bits first name || is_f64_from_bits first name)) ≡ true → IsCore false (first ∷ name ∷ [])
-unfolding is_i64_from is_f32_from_bits is_f64_from_bits runtime_module_name lift_name
+unfolding is_i64_from is_f32_from_bits is_f64_from_bits runtime_module_name
 number_function first name h = one (is_i64_from first name) (is_f32_from_bits first name) refl refl h
   where
     one : (c d : Bool) → is_i64_from first name ≡ c → is_f32_from_bits first name ≡ d → (c || (d || is_f64_from_bits first name)) ≡ true → IsCore false (first ∷ name ∷ [])

@@ -21,7 +21,7 @@ use Rattle.wrapper_values.specs.Enums.{word_of_case}
 use Rattle.wrapper_values.specs.Flags.{bits_of_flags, word_at}
 use Rattle.wrapper_values.specs.Locals.{local_named, usable, value_of}
 use Rattle.wrapper_values.specs.Owning.{lent, owned, pointer_of}
-use Rattle.wrapper_run.specs.Run.{Callee, alone, callee, core_case, core_forget, core_function, enum_lift, of_runtime, root_case, runtime_item_named, unknown}
+use Rattle.wrapper_run.specs.Run.{Callee, alone, callee, core_case, core_forget, core_function, member_of, of_runtime, runtime_item_named, unknown}
 use Rattle.func_gen.specs.declared.operand.ExprOperand.{ExprOperand}
 
 -- 1. Environments
@@ -145,8 +145,7 @@ converts (Some i) v = option_map val.Word (converted i v)
 abbrev pub conversion : List Item → Callee → Val → Option Val
 conversion items (of_runtime name) v = converts (runtime_item_named items name) v
 conversion items (alone name) v = None
-conversion items (enum_lift name) v = None
-conversion items (root_case ty name) v = None
+conversion items (member_of ty name) v = None
 conversion items (core_case number) v = None
 conversion items (core_function f) v = option_map val.Word (core_word f v)
 conversion items core_forget v = None

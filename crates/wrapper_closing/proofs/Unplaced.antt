@@ -1,8 +1,9 @@
 -- Statements that declare no area make requests only where they place the static area.
-use Rattle.std.proofs.Common.{◌≡◌, ℕ, Bool, true, false, cond, List, [], ◌∷◌, length, map, Option, None, Some, sym, subst, ◌∙◌}
+use Rattle.std.proofs.Common.{◌≡◌, ℕ, Bool, true, false, cond, List, [], ◌∷◌, length, map, Option, None, Some, sym, subst, ◌∙◌, ◌&&◌}
 use Rattle.std.specs.Prelude.{ℤ, Result, Ok, Err, option_and_then}
 use Rattle.std.specs.List.{list_all}
 use Rattle.std.specs.Option.{option_map}
+use Rattle.std.specs.Str.{bytes_eq}
 use Rattle.std.proofs.lemmas.Bool.{and_parts}
 use Rattle.wit_model.specs.Bytes.{Bytes}
 use Rattle.rust_tree.specs.declared.export.CallBlock.{CallBlock}
@@ -35,7 +36,7 @@ use Rattle.wrapper_values.specs.declared.state.Val.TheVariants as val
 use Rattle.wrapper_values.specs.Act.{Act, ◌>>=◌, ◌>>◌, all, keyed, or_stop, pure, stop}
 use Rattle.wrapper_values.specs.CoreWords.{called_on, core_word, empty_slot, zero_word}
 use Rattle.wrapper_values.specs.Effect.{cast_to, converted, lift_of, word_of_bool}
-use Rattle.wrapper_values.specs.Enums.{enum_lift_of, word_of_case}
+use Rattle.wrapper_values.specs.Enums.{enum_lift_of, is_enum, word_of_case}
 use Rattle.wrapper_values.specs.Fields.{arranged}
 use Rattle.wrapper_values.specs.Flags.{flags_from, flags_of_words}
 use Rattle.wrapper_values.specs.Locals.{bind, lend_local, local_named, use_local, value_of, write_slot}
@@ -48,7 +49,7 @@ use Rattle.wrapper_run.specs.Arms.{ArmAct, run_arm_or, run_arms, run_match}
 use Rattle.wrapper_run.specs.Blocks.{boxed, dealloc, dealloc_words, drop_value, in_scope, leave_to, release_all, store_small, store_word}
 use Rattle.wrapper_run.specs.ExportRun.{call_inside, call_method, call_with, keep_result, run_call}
 use Rattle.wrapper_run.specs.LastParts.{results}
-use Rattle.wrapper_run.specs.Run.{alone, apply, apply_item, apply_one, arm_act, arm_step, block_act, block_step, call_callee, call_core, call_runtime, Callee, callee, converted_or_lifted, core_case, core_forget, core_function, each, enum_lift, eval, eval_step, forget_one, lift_act, lift_case, load_small, load_word, make_case, no_case, of_runtime, root_case, run_stmt, run_stmts, runtime_item_named, size_word, stmt_step, take_bytes, unknown}
+use Rattle.wrapper_run.specs.Run.{alone, apply, apply_item, apply_one, arm_act, arm_step, block_act, block_step, call_callee, call_core, call_member, call_runtime, Callee, callee, converted_or_lifted, core_case, core_forget, core_function, each, eval, eval_step, forget_one, lift_act, lift_case, lift_name, load_small, load_word, make_case, member_of, no_case, of_runtime, run_stmt, run_stmts, runtime_item_named, size_word, stmt_step, take_bytes, unknown}
 use Rattle.wrapper_closing.specs.declared.declares.Declaration.TheVariants.{Area}
 use Rattle.wrapper_closing.specs.Declares.{arm_without_step, block_without_step, declare_none, is_arm_without, is_block_without, is_without, without_step}
 use Rattle.wrapper_closing.proofs.Unasking.{Unasking, unasking_ask, unasking_bind, unasking_box, unasking_dealloc, unasking_declare, unasking_drop, unasking_import, unasking_leave, unasking_lend, unasking_lift, unasking_load, unasking_load_small, unasking_method, unasking_or_stop, unasking_pure, unasking_releases, unasking_static, unasking_stop, unasking_store, unasking_store_small, unasking_take, unasking_then, unasking_use, unasking_write}
@@ -103,6 +104,13 @@ module _ (w : Setting) where
   makes_case number (v ∷ []) = unasking_or_stop (stuck w) (full_case number v)
   makes_case number _ = unasking_stop (stuck w)
 
+  calls_member : (ty name : Bytes) (vs : List Val) → Unasking (call_member w ty name vs)
+  calls_member ty name vs = go (is_enum w.items ty && bytes_eq name lift_name)
+    where
+      go : (b : Bool) → Unasking (cond b (lift_case w ty vs) (make_case w (number_at_root w.items ty name) vs))
+      go true = lifts_case ty vs
+      go false = makes_case (number_at_root w.items ty name) vs
+
   calls_core : (f : CoreFn) (vs : List Val) → Unasking (call_core w f vs)
   calls_core f (v ∷ []) = unasking_or_stop (stuck w) (option_map val.Word (core_word f v))
   calls_core f _ = unasking_stop (stuck w)
@@ -110,8 +118,7 @@ module _ (w : Setting) where
   calls_callee : (k : Callee) (vs : List Val) → Unasking (call_callee w k vs)
   calls_callee (alone name) vs = unasking_import w name vs
   calls_callee (of_runtime name) vs = calls_runtime name vs
-  calls_callee (enum_lift name) vs = lifts_case name vs
-  calls_callee (root_case ty name) vs = makes_case (number_at_root w.items ty name) vs
+  calls_callee (member_of ty name) vs = calls_member ty name vs
   calls_callee (core_case number) vs = makes_case (Some number) vs
   calls_callee (core_function f) vs = calls_core f vs
   calls_callee core_forget vs = forgets vs

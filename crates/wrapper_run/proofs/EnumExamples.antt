@@ -1,5 +1,5 @@
 -- The definitions hold of worked rows of enums: the number of a case, what `_lift` gives, and which cases are of the type.
-use Rattle.std.proofs.Common.{◌≡◌, false, List, [], ◌∷◌, None, Some, refl, sym, ap, ◌∙◌, rules}
+use Rattle.std.proofs.Common.{◌≡◌, true, false, List, [], ◌∷◌, None, Some, refl, sym, ap, ◌∙◌, rules}
 use Rattle.std.specs.Prelude.{ℕ, Err, Ok, codes, pos}
 use Rattle.std.specs.Option.{option_map}
 use Rattle.wit_model.specs.Bytes.{Bytes}
@@ -27,7 +27,7 @@ use Rattle.wrapper_values.specs.declared.state.Val.{Val}
 use Rattle.wrapper_values.specs.declared.state.Val.TheVariants as val
 use Rattle.wrapper_values.specs.Act.{Done, Stopped}
 use Rattle.wrapper_values.specs.Effect.{answer_of}
-use Rattle.wrapper_values.specs.Enums.{enum_lift_of}
+use Rattle.wrapper_values.specs.Enums.{enum_lift_of, is_enum}
 use Rattle.wrapper_values.specs.Setting.{Setting, stuck}
 use Rattle.wrapper_values.specs.Typed.{Typed, answer_in, typed, typed_case, typed_enum, typed_level, unaliased}
 use Rattle.wrapper_run.specs.Run.{begin, eval, lift_act}
@@ -78,10 +78,10 @@ lifted = expr.Call lift_path (expr.Local a_name ∷ [])
 abbrev byte : ℕ → RustValue
 byte n = value.Num wit.U8 (pos n)
 
-lifts : (w : Setting) (n : ℕ) → eval w lifted (with_local (byte n)) ≡ lift_act w (enum_lift_of w.items (codes "E") (val.Value (byte n))) (with_local (byte n))
-lifts w n =
+lifts : (w : Setting) (n : ℕ) → is_enum w.items (codes "E") ≡ true → eval w lifted (with_local (byte n)) ≡ lift_act w (enum_lift_of w.items (codes "E") (val.Value (byte n))) (with_local (byte n))
+lifts w n enum =
     let s = with_local (byte n) in
-    lift_steps w lift_path (codes "E") (expr.Local a_name) (val.Value (byte n)) s s (callee-lift (codes "E") refl) (local_gives w a_name (val.Value (byte n)) s refl (owned-number wit.U8 (pos n)))
+    lift_steps w lift_path (codes "E") (expr.Local a_name) (val.Value (byte n)) s s (callee-lift (codes "E") refl) enum (local_gives w a_name (val.Value (byte n)) s refl (owned-number wit.U8 (pos n)))
 
 -- 2 is the last case
 
@@ -90,7 +90,7 @@ unfolding enum_lift_of
 two_is_case w = search (rules, the_lemmas)
 
 two_lifted : (w : Setting) → eval (in_file w) lifted (with_local (byte 2)) ≡ Done (val.Value (value.Case 2 None)) (with_local (byte 2))
-two_lifted w = lifts (in_file w) 2 ∙ ap (λ o. lift_act (in_file w) o (with_local (byte 2))) (two_is_case w)
+two_lifted w = lifts (in_file w) 2 refl ∙ ap (λ o. lift_act (in_file w) o (with_local (byte 2))) (two_is_case w)
 
 -- 3 is none: the debug form tests it, and the release form has no meaning
 
@@ -100,12 +100,12 @@ three_is_none w = search (rules, the_lemmas)
 
 three_trapped : (w : Setting) → w.form ≡ form.Debug → eval (in_file w) lifted (with_local (byte 3)) ≡ Stopped (stop_of.Trap trap.Discriminant) (with_local (byte 3))
 three_trapped w debug =
-    lifts (in_file w) 3 ∙ ap (λ o. lift_act (in_file w) o (with_local (byte 3))) (three_is_none w)
+    lifts (in_file w) 3 refl ∙ ap (λ o. lift_act (in_file w) o (with_local (byte 3))) (three_is_none w)
     ∙ ap (λ f. lift_act (record (in_file w) { form = f }) (Some (Err trap.Discriminant)) (with_local (byte 3))) debug
 
 three_released : (w : Setting) → w.form ≡ form.Release → eval (in_file w) lifted (with_local (byte 3)) ≡ Stopped (stuck w) (with_local (byte 3))
 three_released w release =
-    lifts (in_file w) 3 ∙ ap (λ o. lift_act (in_file w) o (with_local (byte 3))) (three_is_none w)
+    lifts (in_file w) 3 refl ∙ ap (λ o. lift_act (in_file w) o (with_local (byte 3))) (three_is_none w)
     ∙ ap (λ f. lift_act (record (in_file w) { form = f }) (Some (Err trap.Discriminant)) (with_local (byte 3))) release
 
 -- a number of another kind stands for nothing

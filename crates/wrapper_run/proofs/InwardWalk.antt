@@ -3,6 +3,7 @@ use Rattle.std.proofs.Common.{◌≡◌, ℕ, Bool, true, false, cond, List, [],
 use Rattle.std.specs.Prelude.{ℤ, Result, Ok, Err, option_and_then}
 use Rattle.std.specs.List.{list_all}
 use Rattle.std.specs.Option.{option_map}
+use Rattle.std.specs.Str.{bytes_eq}
 use Rattle.std.proofs.lemmas.Bool.{and_from, and_parts}
 use Rattle.std.proofs.lemmas.Slice.Eq.{bytes_eq-Decides}
 use Rattle.wit_model.specs.Bytes.{Bytes}
@@ -44,7 +45,7 @@ use Rattle.wrapper_run.specs.Arms.{ArmAct, run_arm_or, run_arms, run_match}
 use Rattle.wrapper_run.specs.Blocks.{in_scope, box_buffer, boxed, dealloc, dealloc_words, drop_local, drop_locals, drop_value, free, free_all, lift_text, release, release_all, store_small, store_word}
 use Rattle.wrapper_values.specs.CoreWords.{called_on, core_word, empty_slot, zero_word}
 use Rattle.wrapper_values.specs.Effect.{cast_to, converted, lift_of, word_of_bool}
-use Rattle.wrapper_values.specs.Enums.{enum_lift_of, word_of_case}
+use Rattle.wrapper_values.specs.Enums.{enum_lift_of, is_enum, word_of_case}
 use Rattle.wrapper_values.specs.Flags.{flags_from, flags_of_words}
 use Rattle.wrapper_values.specs.Fields.{arranged}
 use Rattle.wrapper_values.specs.Locals.{ask_local, bind, declare, lend_local, local_named, use_local, value_of, write_slot}
@@ -52,7 +53,7 @@ use Rattle.wrapper_values.specs.Matches.{assert_last, bind_results, bind_values,
 use Rattle.wrapper_values.specs.Owning.{buffer_of, owned, owned_in}
 use Rattle.wrapper_run.specs.LastParts.{results, results_in}
 use Rattle.wrapper_run.specs.Results.{run_results}
-use Rattle.wrapper_run.specs.Run.{alone, apply, apply_item, apply_one, arm_act, arm_step, block_act, block_step, call_callee, call_core, call_runtime, Callee, callee, converted_or_lifted, core_case, core_forget, core_function, each, enum_lift, eval, eval_step, forget_one, lift_act, lift_case, load_small, load_word, make_case, no_case, of_runtime, root_case, run_block, run_stmt, run_stmts, run_tail, runtime_item_named, size_word, stmt_step, take_bytes, unknown}
+use Rattle.wrapper_run.specs.Run.{alone, apply, apply_item, apply_one, arm_act, arm_step, block_act, block_step, call_callee, call_core, call_member, call_runtime, Callee, callee, converted_or_lifted, core_case, core_forget, core_function, each, eval, eval_step, forget_one, lift_act, lift_case, lift_name, load_small, load_word, make_case, member_of, no_case, of_runtime, run_block, run_stmt, run_stmts, run_tail, runtime_item_named, size_word, stmt_step, take_bytes, unknown}
 use Rattle.wrapper_values.specs.Setting.{Setting, failed, stuck}
 use Rattle.wrapper_run.specs.UnusedLocals.{are_known}
 use Rattle.wrapper_values.specs.Variants.{bare_case, full_case, number_at_root, payload_of}
@@ -167,6 +168,13 @@ module _ (w : Setting) (P : (A : Type 0) → Act A → Type 0) (h : Within w P) 
   makes_case number (v ∷ []) = or_stops Val (stuck w) (full_case number v)
   makes_case number (v ∷ u ∷ vs) = h.stops Val (stuck w)
 
+  calls_member : (ty name : Bytes) (vs : List Val) → P Val (call_member w ty name vs)
+  calls_member ty name vs = go (is_enum w.items ty && bytes_eq name lift_name)
+    where
+      go : (b : Bool) → P Val (cond b (lift_case w ty vs) (make_case w (number_at_root w.items ty name) vs))
+      go true = lifts_case ty vs
+      go false = makes_case (number_at_root w.items ty name) vs
+
   calls_core : (f : CoreFn) (vs : List Val) → P Val (call_core w f vs)
   calls_core f [] = h.stops Val (stuck w)
   calls_core f (v ∷ []) = or_stops Val (stuck w) (option_map val.Word (core_word f v))
@@ -175,8 +183,7 @@ module _ (w : Setting) (P : (A : Type 0) → Act A → Type 0) (h : Within w P) 
   calls_callee : (k : Callee) (vs : List Val) → is_no_import k ≡ true → P Val (call_callee w k vs)
   calls_callee (alone name) vs k = absurd (cc)
   calls_callee (of_runtime name) vs k = calls_runtime name vs
-  calls_callee (enum_lift name) vs k = lifts_case name vs
-  calls_callee (root_case ty name) vs k = makes_case (number_at_root w.items ty name) vs
+  calls_callee (member_of ty name) vs k = calls_member ty name vs
   calls_callee (core_case number) vs k = makes_case (Some number) vs
   calls_callee (core_function f) vs k = calls_core f vs
   calls_callee core_forget vs k = forgets vs

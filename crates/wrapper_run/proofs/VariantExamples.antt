@@ -34,8 +34,8 @@ use Rattle.wrapper_values.specs.Matches.{assert_last, enter_arm, expect_number, 
 use Rattle.wrapper_values.specs.Locals.{bind, lend_local}
 use Rattle.wrapper_values.specs.Owning.{owned}
 use Rattle.wrapper_values.specs.Setting.{Setting, stuck}
-use Rattle.wrapper_values.specs.Variants.{case_number, is_core_option, is_core_result, number_in_option, number_in_result, number_in_variant}
-use Rattle.wrapper_run.specs.Run.{begin, callee, core_function, eval, is_i64_from, is_new_slot, lift_name, run_stmt, runtime_module_name}
+use Rattle.wrapper_values.specs.Variants.{case_number, full_case, is_core_option, is_core_result, number_in_option, number_in_result, number_in_variant}
+use Rattle.wrapper_run.specs.Run.{begin, call_member, callee, core_function, eval, is_i64_from, is_new_slot, run_stmt, runtime_module_name}
 use Rattle.wrapper_run.proofs.OwningLemmas.{owned-f32}
 use Rattle.wrapper_run.proofs.StepLemmas.{local_gives}
 use Rattle.wrapper_run.proofs.StmtSteps.{run-assert}
@@ -100,7 +100,7 @@ abbrev slot_of_e : Expr
 slot_of_e = expr.Call new_slot (expr.Cast (expr.Call i64_from (expr.Method (expr.Local e_name) method.ToBits ∷ [])) cast.U64 ∷ [])
 
 is_i64_call : callee i64_from ≡ core_function core_fn.I64From
-unfolding callee is_i64_from lift_name runtime_module_name
+unfolding callee is_i64_from runtime_module_name
 is_i64_call = refl
 
 is_slot_call : callee new_slot ≡ core_function core_fn.NewSlot
@@ -205,3 +205,12 @@ text_case_owns = search (rules, the_lemmas)
 
 payload_left : (w : Setting) (path : Path) (s : State) → enter_arm w (arm.LeftOut path) (val.Value text_case) s ≡ Stopped (stuck w) s
 payload_left w path s = ap (λ addresses. left_out w addresses s) text_case_owns
+
+-- `V::_lift(a)` of a variant `V` with a case `_lift(u32)` makes that case: a variant has no function of this name
+
+abbrev lift_item : VariantItem
+lift_item = record { docs = []; derives = []; name = codes "V"; cases = case (codes "_lift") (type.Primitive prim.U32) ∷ []; error = None }
+
+lift_made : (w : Setting) (a : RustValue) (s : State) → call_member (record w { items = item.Type (Variant lift_item) ∷ w.items }) (codes "V") (codes "_lift") (val.Value a ∷ []) s ≡ Done (val.Value (value.Case 0 (Some a))) s
+unfolding full_case number_in_variant
+lift_made w a s = refl

@@ -49,7 +49,7 @@ use Rattle.wrapper_run.specs.Arms.{ArmAct, run_arm_or, run_arms, run_match}
 use Rattle.wrapper_run.specs.Blocks.{in_scope, box_buffer, boxed, dealloc, dealloc_words, drop_local, drop_locals, drop_value, free, free_all, lift_text, release, release_all, store_small, store_word}
 use Rattle.wrapper_values.specs.CoreWords.{called_on, core_word, empty_slot, zero_word}
 use Rattle.wrapper_values.specs.Effect.{cast_to, converted, lift_of, word_of_bool}
-use Rattle.wrapper_values.specs.Enums.{enum_lift_of, word_of_case}
+use Rattle.wrapper_values.specs.Enums.{enum_lift_of, is_enum, word_of_case}
 use Rattle.wrapper_values.specs.Flags.{flags_from, flags_of_words}
 use Rattle.wrapper_values.specs.Fields.{arranged, arranged_by, each_named, field_named, fields_in, in_order, root_name, type_named}
 use Rattle.wrapper_values.specs.Locals.{ask_local, bind, declare, lend_local, local_named, use_local, value_of, write_slot}
@@ -58,7 +58,7 @@ use Rattle.wrapper_values.specs.Owning.{buffer_of, owned, owned_in}
 use Rattle.wrapper_run.specs.Places.{declare_area, place_area, request_of, static_pointer}
 use Rattle.wrapper_run.specs.LastParts.{results, results_in}
 use Rattle.wrapper_run.specs.Results.{run_results}
-use Rattle.wrapper_run.specs.Run.{alone, apply, apply_item, apply_one, arm_act, arm_step, block_act, block_step, call_callee, call_core, call_import, call_runtime, Callee, callee, converted_or_lifted, core_case, core_forget, core_function, each, enum_lift, eval, eval_step, forget_one, lift_act, lift_case, load_small, load_word, make_case, no_case, of_runtime, root_case, run_block, run_stmt, run_stmts, run_tail, runtime_item_named, size_word, stmt_step, take_bytes, unknown}
+use Rattle.wrapper_run.specs.Run.{alone, apply, apply_item, apply_one, arm_act, arm_step, block_act, block_step, call_callee, call_core, call_import, call_member, call_runtime, Callee, callee, converted_or_lifted, core_case, core_forget, core_function, each, eval, eval_step, forget_one, lift_act, lift_case, lift_name, load_small, load_word, make_case, member_of, no_case, of_runtime, run_block, run_stmt, run_stmts, run_tail, runtime_item_named, size_word, stmt_step, take_bytes, unknown}
 use Rattle.wrapper_values.specs.Setting.{Setting, failed, stuck}
 use Rattle.wrapper_run.specs.UnusedLocals.{are_known, arm_names, bound_names, is_block_known, is_callee_known, is_expr_known, is_stmt_known, is_tail_known, known_arm_step, known_block_step, known_step, known_stmt_step, result_names}
 use Rattle.wrapper_values.specs.Variants.{bare_case, full_case, number_at_root, payload_of}
@@ -160,8 +160,7 @@ known_fields {K = K} {X = X} known of k (f ∷ fields) =
 known_callee : (known : Bytes → Bool) → ((name : Bytes) → known name ≡ true) → (c : Callee) → is_callee_known known c ≡ true
 known_callee known h (alone name) = h name
 known_callee known h (of_runtime name) = refl
-known_callee known h (enum_lift name) = refl
-known_callee known h (root_case ty name) = refl
+known_callee known h (member_of ty name) = refl
 known_callee known h (core_case number) = refl
 known_callee known h (core_function f) = refl
 known_callee known h core_forget = refl
@@ -339,6 +338,13 @@ module _ (w : Setting) (known : Bytes → Bool) (P : (A : Type 0) → Act A → 
   makes_case number (v ∷ []) = or_stops Val (stuck w) (full_case number v)
   makes_case number (v ∷ u ∷ vs) = h.stops Val (stuck w)
 
+  calls_member : (ty name : Bytes) (vs : List Val) → P Val (call_member w ty name vs)
+  calls_member ty name vs = go (is_enum w.items ty && bytes_eq name lift_name)
+    where
+      go : (b : Bool) → P Val (cond b (lift_case w ty vs) (make_case w (number_at_root w.items ty name) vs))
+      go true = lifts_case ty vs
+      go false = makes_case (number_at_root w.items ty name) vs
+
   calls_core : (f : CoreFn) (vs : List Val) → P Val (call_core w f vs)
   calls_core f [] = h.stops Val (stuck w)
   calls_core f (v ∷ []) = or_stops Val (stuck w) (option_map val.Word (core_word f v))
@@ -347,8 +353,7 @@ module _ (w : Setting) (known : Bytes → Bool) (P : (A : Type 0) → Act A → 
   calls_callee : (k : Callee) (vs : List Val) → is_callee_known known k ≡ true → P Val (call_callee w k vs)
   calls_callee (alone name) vs k = h.calls name vs k
   calls_callee (of_runtime name) vs k = calls_runtime name vs
-  calls_callee (enum_lift name) vs k = lifts_case name vs
-  calls_callee (root_case ty name) vs k = makes_case (number_at_root w.items ty name) vs
+  calls_callee (member_of ty name) vs k = calls_member ty name vs
   calls_callee (core_case number) vs k = makes_case (Some number) vs
   calls_callee (core_function f) vs k = calls_core f vs
   calls_callee core_forget vs k = forgets vs

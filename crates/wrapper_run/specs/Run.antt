@@ -56,7 +56,7 @@ use Rattle.wrapper_values.specs.Owning.{taken_by}
 use Rattle.wrapper_values.specs.Act.{Act, Outcome, Done, Stopped, ◌>>=◌, ◌>>◌, all, or_stop, pure, stop}
 use Rattle.wrapper_values.specs.Effect.{cast_to, converted, is_word_of, lift_of, word_of, word_of_bool}
 use Rattle.wrapper_values.specs.CoreWords.{called_on, core_word, empty_slot, zero_word}
-use Rattle.wrapper_values.specs.Enums.{enum_lift_of, word_of_case}
+use Rattle.wrapper_values.specs.Enums.{enum_lift_of, is_enum, word_of_case}
 use Rattle.wrapper_values.specs.Flags.{flags_of_words}
 use Rattle.wrapper_values.specs.Typed.{answer_in}
 use Rattle.wrapper_values.specs.Locals.{ask_local, bind, declare, import_named, lend_local, local_named, use_local, value_of, write_slot}
@@ -78,13 +78,12 @@ abbrev pub runtime_item_named : List Item → Bytes → Option RuntimeItem
 runtime_item_named [] name = None
 runtime_item_named (i ∷ items) name = option_or (found_in i name) (runtime_item_named items name)
 
--- what a path of a call names: a name alone, a function of `_rt`, `_lift` of a type of the file, a case of one, a case of `Option` or
--- `Result`, a function of the core library on core values, `::core::mem::forget`, or nothing
+-- what a path of a call names: a name alone, a function of `_rt`, a member of a type of the file, a case of `Option` or `Result`, a
+-- function of the core library on core values, `::core::mem::forget`, or nothing
 pub data Callee : Type 0 where
   alone : Bytes → Callee
   of_runtime : Bytes → Callee
-  enum_lift : Bytes → Callee
-  root_case : (ty name : Bytes) → Callee
+  member_of : (ty name : Bytes) → Callee
   core_case : ℕ → Callee
   core_function : CoreFn → Callee
   core_forget : Callee
@@ -92,9 +91,6 @@ pub data Callee : Type 0 where
 
 unfoldable pub runtime_module_name : Bytes
 runtime_module_name = codes "_rt"
-
-unfoldable pub lift_name : Bytes
-lift_name = codes "_lift"
 
 unfoldable pub is_i64_from : (first name : Bytes) → Bool
 is_i64_from first name = bytes_eq first (codes "i64") && bytes_eq name (codes "from")
@@ -105,21 +101,17 @@ is_f32_from_bits first name = bytes_eq first (codes "f32") && bytes_eq name (cod
 unfoldable pub is_f64_from_bits : (first name : Bytes) → Bool
 is_f64_from_bits first name = bytes_eq first (codes "f64") && bytes_eq name (codes "from_bits")
 
--- a function of a number type, or a case of a type of the file
+-- a function of a number type, or a member of a type of the file
 abbrev pub member_callee : (first name : Bytes) → Callee
 member_callee first name =
     if is_i64_from first name then core_function core_fn.I64From
     else (if is_f32_from_bits first name then core_function core_fn.F32FromBits
-    else (if is_f64_from_bits first name then core_function core_fn.F64FromBits else root_case first name))
-
--- what stands behind the name of a type
-abbrev pub type_callee : (first name : Bytes) → Callee
-type_callee first name = if bytes_eq name lift_name then enum_lift first else member_callee first name
+    else (if is_f64_from_bits first name then core_function core_fn.F64FromBits else member_of first name))
 
 abbrev pub names_callee : List Bytes → Callee
 names_callee [] = unknown
 names_callee (name ∷ []) = alone name
-names_callee (first ∷ name ∷ []) = if bytes_eq first runtime_module_name then of_runtime name else type_callee first name
+names_callee (first ∷ name ∷ []) = if bytes_eq first runtime_module_name then of_runtime name else member_callee first name
 names_callee (_ ∷ _ ∷ _ ∷ _) = unknown
 
 unfoldable pub is_core_forget : (first second third : Bytes) → Bool
@@ -237,6 +229,15 @@ abbrev pub make_case : Setting → Option ℕ → List Val → Act Val
 make_case w number (v ∷ []) = or_stop (stuck w) (full_case number v)
 make_case w number _ = stop (stuck w)
 
+unfoldable pub lift_name : Bytes
+lift_name = codes "_lift"
+
+-- a member of a type of the file: of an enum `_lift` is a function, and all else is a case
+abbrev pub call_member : Setting → (ty name : Bytes) → List Val → Act Val
+call_member w ty name vs =
+    if is_enum w.items ty && bytes_eq name lift_name then lift_case w ty vs
+    else make_case w (number_at_root w.items ty name) vs
+
 -- a function of the core library takes one value
 abbrev pub call_core : Setting → CoreFn → List Val → Act Val
 call_core w f (v ∷ []) = or_stop (stuck w) (option_map val.Word (core_word f v))
@@ -250,8 +251,7 @@ forget_one w _ = stop (stuck w)
 abbrev pub call_callee : Setting → Callee → List Val → Act Val
 call_callee w (alone name) vs = call_import w name vs
 call_callee w (of_runtime name) vs = call_runtime w name vs
-call_callee w (enum_lift name) vs = lift_case w name vs
-call_callee w (root_case ty name) vs = make_case w (number_at_root w.items ty name) vs
+call_callee w (member_of ty name) vs = call_member w ty name vs
 call_callee w (core_case number) vs = make_case w (Some number) vs
 call_callee w (core_function f) vs = call_core w f vs
 call_callee w core_forget vs = forget_one w vs

@@ -18,7 +18,7 @@ use wit_model::{List, OutOfMemory, Text, WasmType};
 use wrapper_data::{Answer, Block, CallPoint, Heap, RustValue, Target, TrapKind, Word};
 use wrapper_values::{
     CoreFn, Halt, State, Val, World, converted, core_word, enum_lift_of, full_case, import_named,
-    is_word_of, lift_of, local_named, number_at_root, word_of,
+    is_enum, is_word_of, lift_of, local_named, number_at_root, word_of,
 };
 
 /// Puts the words of the arguments behind others, and tells whether each is of its parameter's type.
@@ -280,6 +280,25 @@ fn make_case(
     }
 }
 
+/// Calls a member of a type of the file: the function `_lift` of an enum, or a case.
+#[tactic(auto, unfolding(crate::specs::Run::lift_name))]
+fn call_member(
+    alloc: Global,
+    world: &World,
+    state: &State,
+    ty: &Text,
+    name: &Text,
+    vs: &[Val],
+) -> Result<Val, Halt>
+    ensures { Runs (spec.call_member (setting world.now) ty.now name.now vs.now state.now) result state.now }
+{
+    if is_enum(world.items, ty) && name.as_str() == "_lift" {
+        return lift_case(world, state, ty, vs);
+    }
+    let number = number_at_root(world.items, ty, name);
+    make_case(alloc, world, state, number, vs)
+}
+
 /// Calls a function of the core library with one value.
 fn call_core(world: &World, state: &State, f: CoreFn, vs: &[Val]) -> Result<Val, Halt>
     ensures { Runs (spec.call_core (setting world.now) f vs.now state.now) result state.now }
@@ -316,11 +335,7 @@ pub(crate) fn call(
     match callee_of(path) {
         Callee::Alone(name) => call_import(alloc, world, state, name, vs),
         Callee::Runtime(name) => call_runtime(alloc, world, state, name, vs),
-        Callee::EnumLift(name) => lift_case(world, state, name, vs),
-        Callee::RootCase(ty, name) => {
-            let number = number_at_root(world.items, ty, name);
-            make_case(alloc, world, state, number, vs)
-        }
+        Callee::MemberOf(ty, name) => call_member(alloc, world, state, ty, name, vs),
         Callee::CoreCase(number) => make_case(alloc, world, state, Some(number), vs),
         Callee::Core(f) => call_core(world, state, f, vs),
         Callee::Forget => forget_one(alloc, world, state, vs),

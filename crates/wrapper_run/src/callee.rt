@@ -12,10 +12,8 @@ use wrapper_values::{CoreFn, number_in_core};
 pub(crate) enum Callee<'a> {
     Alone(&'a Text),
     Runtime(&'a Text),
-    /// `P::_lift`, by the name `P`.
-    EnumLift(&'a Text),
-    /// A case of a type of the file, by the type's name and its own.
-    RootCase(&'a Text, &'a Text),
+    /// A member of a type of the file, by the type's name and its own.
+    MemberOf(&'a Text, &'a Text),
     /// A case of `Option` or `Result`, by its number.
     CoreCase(u32),
     /// A function of the core library on core values.
@@ -63,7 +61,7 @@ fn is_f64_from_bits(first: &Text, name: &Text) -> bool
     first.as_str() == "f64" && name.as_str() == "from_bits"
 }
 
-/// What stands behind the name of a type: a function of a number type, or a case of a type of the file.
+/// What stands behind the name of a type: a function of a number type, or a member of a type of the file.
 fn member_callee<'a>(first: &'a Text, name: &'a Text) -> Callee<'a>
     ensures { spec.member_callee first.now name.now ≡ seen result }
 {
@@ -74,7 +72,7 @@ fn member_callee<'a>(first: &'a Text, name: &'a Text) -> Callee<'a>
     } else if is_f64_from_bits(first, name) {
         Callee::Core(CoreFn::F64FromBits)
     } else {
-        Callee::RootCase(first, name)
+        Callee::MemberOf(first, name)
     }
 }
 
@@ -104,7 +102,7 @@ fn absolute_callee(names: &[Text]) -> Callee<'_>
     }
 }
 
-#[tactic(auto, unfolding(crate::specs::Run::callee, crate::specs::Run::lift_name, crate::specs::Run::runtime_module_name))]
+#[tactic(auto, unfolding(crate::specs::Run::callee, crate::specs::Run::runtime_module_name))]
 pub(crate) fn callee_of(path: &Path) -> Callee<'_>
     ensures { spec.callee path.now ≡ seen result }
 {
@@ -117,7 +115,6 @@ pub(crate) fn callee_of(path: &Path) -> Callee<'_>
     match path.names.as_slice() {
         [name] => Callee::Alone(name),
         [first, name] if first.as_str() == "_rt" => Callee::Runtime(name),
-        [first, name] if name.as_str() == "_lift" => Callee::EnumLift(first),
         [first, name] => member_callee(first, name),
         _ => Callee::Unknown,
     }

@@ -53,6 +53,13 @@ pub(crate) fn enum_in(t: Option<&TypeItem>) -> Option<&EnumItem>
     }
 }
 
+/// Whether a name of the file's root is that of an enum.
+pub fn is_enum(items: &[Item], name: &Text) -> bool
+    ensures { result ≡ spec.is_enum items.now name.now }
+{
+    enum_in(type_named(items, name.as_str())).is_some()
+}
+
 /// Whether an enum has a case of this number.
 pub(crate) fn has_case(e: &EnumItem, number: u32) -> bool
     ensures { result ≡ nat_lt number (length e.now.cases) }

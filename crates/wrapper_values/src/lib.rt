@@ -22,7 +22,7 @@ mod views;
 pub use casts::cast_to;
 pub use conversion::{converted, lift_of, word_of_bool};
 pub use core_words::{CoreFn, called_on, core_word, zero_word};
-pub use enums::{enum_lift_of, word_of_case};
+pub use enums::{enum_lift_of, is_enum, word_of_case};
 pub use flags::flags_from;
 pub use locals::{
     ask_local, bind, declare, import_named, lend_local, local_named, use_local, value_named,

@@ -35,7 +35,6 @@ fn is_other_module(name: &Text) -> bool
 }
 
 /// Whether a path is called as a case of a type of the file.
-#[tactic(auto, unfolding(crate::specs::CalledCases::is_lift))]
 fn calls_case(path: &Path) -> bool
     ensures { result ≡ calls_case path.now }
 {
@@ -43,7 +42,7 @@ fn calls_case(path: &Path) -> bool
         return false;
     }
     match path.names.as_slice() {
-        [ty, name] => !is_other_module(ty) && name.as_str() != "_lift",
+        [ty, _] => !is_other_module(ty),
         _ => false,
     }
 }
