@@ -1,5 +1,6 @@
 -- Cases without payload: what a value of an enum is as a word, and which blocks it has in memory.
-use Rattle.std.proofs.Common.{◌≡◌, ℕ, suc, ◌^◌, ◌<◌, true, pos, List, [], ◌∷◌, length, refl, ap, arith}
+use Rattle.std.proofs.Common.{◌≡◌, ℕ, suc, ◌%◌, ◌^◌, ◌<◌, true, pos, List, [], ◌∷◌, length, refl, ap, arith}
+use Rattle.std.specs.Int.{w32, cast_signed}
 use Rattle.std.proofs.lemmas.Int.{ints}
 use mathlib.Core.Logic.{inl, inr}
 use Rattle.wit_layout.specs.Flat.{slots}
@@ -69,6 +70,10 @@ pub case_below : {A : Type 0} (members : List A) (c : Case (bare members)) → c
 case_below [] c = elim c [ ]
 case_below (x ∷ members) (inl v) = omega arith
 case_below (x ∷ members) (inr c) = let later = case_below members c in omega (arith, later)
+
+-- below 2^31 it is read as it is
+pub read_number : (n : ℕ) → n < 2 ^ 31 → cast_signed w32 (n % 2 ^ 32) ≡ pos n
+read_number n l = grind (arith, ints)
 
 pub number_ranged : (n : ℕ) → n < 2 ^ 31 → is_signed 31 (pos n) ≡ true
 number_ranged n l = grind (arith, ints)

@@ -1,9 +1,7 @@
 -- The arm that serves the number of a case is run, and what it then gives.
-use Rattle.std.proofs.Common.{◌≡◌, ℕ, suc, ◌<◌, ◌%◌, ◌^◌, nat_lt, Bool, true, pos, List, if◌then◌else◌, Some, refl, ap, ◌∙◌, arith}
-use Rattle.std.specs.Int.{w32, cast_signed}
+use Rattle.std.proofs.Common.{◌≡◌, ℕ, suc, ◌<◌, nat_lt, Bool, true, pos, List, if◌then◌else◌, Some, refl, ap, ◌∙◌}
 use Rattle.std.specs.List.{slice_get}
 use Rattle.std.proofs.lemmas.Bool.{cond-true, lt-ltb}
-use Rattle.std.proofs.lemmas.Int.{ints}
 use mathlib.Core.Logic.{inl, inr}
 use Rattle.wrapper_data.specs.declared.word.Word.TheVariants as core
 use Rattle.wrapper_meaning.specs.Settled.{settled_case}
@@ -23,10 +21,6 @@ pub number_settled : (ts : Shapes) (c : Case ts) → case_number ts (settled_cas
 number_settled none c = elim c [ ]
 number_settled (more t ts) (inl v) = refl
 number_settled (more t ts) (inr c) = ap suc (number_settled ts c)
-
--- a number whose highest bit is none is read as it is
-pub read_number : (n : ℕ) → n < 2 ^ 31 → cast_signed w32 (n % 2 ^ 32) ≡ pos n
-read_number n l = grind (arith, ints)
 
 -- 2. Its arm
 

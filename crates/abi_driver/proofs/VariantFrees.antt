@@ -41,7 +41,8 @@ use Rattle.abi_bindgen.specs.Meaning.{Meaning, of, word}
 use Rattle.abi_bindgen.specs.NumberTouches.{number_load, tag_load}
 use Rattle.abi_bindgen.specs.Parts.{count}
 use Rattle.abi_bindgen.specs.Touches.{reached}
-use Rattle.abi_driver.proofs.ArmSteps.{arm_runs, read_number, went}
+use Rattle.abi_bindgen.proofs.BareCases.{read_number}
+use Rattle.abi_driver.proofs.ArmSteps.{arm_runs, went}
 use Rattle.abi_driver.proofs.Tags.{tag_grain_small}
 use Rattle.abi_bindgen.proofs.CaseLowers.{number_below}
 use Rattle.abi_driver.proofs.CaseRooms.{case_room, count_layouts, payload_room}

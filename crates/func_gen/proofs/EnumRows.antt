@@ -1,7 +1,8 @@
 -- The rows of enums: the number of a case, and the case of a word.
 use mathlib.Core.Logic.{inl, inr}
-use Rattle.std.proofs.Common.{rules, ◌≡◌, ◌++◌, ℕ, ℤ, pos, Bool, true, false, cond, ◌&&◌, nat_lt, if◌then◌else◌, List, [], ◌∷◌, length, reverse, Option, None, Some, is_some, refl, sym, ap, ap₂, ◌∙◌, subst, ◌<◌, arith}
+use Rattle.std.proofs.Common.{rules, ◌≡◌, ◌++◌, ℕ, ℤ, pos, Bool, true, false, cond, ◌&&◌, nat_lt, if◌then◌else◌, List, [], ◌∷◌, length, reverse, ◌%◌, ◌^◌, Option, None, Some, is_some, refl, sym, ap, ap₂, ◌∙◌, subst, arith}
 use Rattle.std.specs.Prelude.{option_and_then, Ok, Err, codes}
+use Rattle.std.specs.Int.{w32, cast_signed}
 use Rattle.std.specs.Option.{option_map}
 use Rattle.std.specs.Str.{bytes_eq}
 use Rattle.std.proofs.lemmas.Int.{ints}
@@ -47,11 +48,11 @@ use Rattle.wrapper_values.specs.Setting.{Setting, stuck}
 use Rattle.wrapper_values.specs.Variants.{full_case, number_at_root}
 use Rattle.wrapper_run.specs.Run.{call, call_callee, call_member, callee, eval, lift_act, lift_case, lift_name, make_case, member_of, runtime_module_name}
 use Rattle.wrapper_run.proofs.EnumSteps.{callee-lift, member_lifted}
-use Rattle.wrapper_run.proofs.NumberLemmas.{low_i32-s32, num_of-number}
+use Rattle.wrapper_run.proofs.NumberLemmas.{num_of-number}
 use Rattle.wrapper_run.proofs.StepLemmas.{Quiet, call_gives, eval-call, quiet_lift_act, quiet_one, quiet_or_stop, quiet_then}
 use Rattle.abi_bindgen.specs.declared.instruction.Instruction.TheVariants.{EnumLift, EnumLower}
 use Rattle.abi_bindgen.specs.Account.{Peer, failing, stay}
-use Rattle.abi_bindgen.specs.Cases.{LiftsEnum, LowersEnum, reading_tag, tag_of}
+use Rattle.abi_bindgen.specs.Cases.{LiftsEnum, LowersEnum, case_word, reading_tag, tag_of}
 use Rattle.abi_bindgen.specs.Instructions.{Emits}
 use Rattle.abi_bindgen.specs.Laws.{Does, Facts}
 use Rattle.abi_bindgen.specs.Meaning.{item, of, word}
@@ -62,7 +63,7 @@ use Rattle.func_gen.specs.declared.type_site.TypeSite.{TypeSite}
 use Rattle.func_gen.specs.declared.type_site.TypeSite.TheVariants as site
 use Rattle.func_gen.specs.Added.{Appends, Fresh}
 use Rattle.func_gen.specs.CodeOf.{emitted}
-use Rattle.func_gen.specs.EnumForms.{HasCaseCount, IsEnumSite, case_cast, case_let, case_lifted, enum_site_in, lift_path, lifts_enum}
+use Rattle.func_gen.specs.EnumForms.{IsEnum, IsEnumSite, case_cast, case_let, case_lifted, enum_site_in, lift_path, lifts_enum}
 use Rattle.func_gen.specs.Emission.{one_local}
 use Rattle.func_gen.specs.Facts.{Hold}
 use Rattle.func_gen.specs.Forms.{operand_of}
@@ -82,7 +83,7 @@ use Rattle.func_gen.proofs.Quiet.{quiet_cast_of, quiet_operand}
 use Rattle.func_gen.proofs.Rows.{Agrees, let_adds, lets_served, none_adds, swaps}
 use Rattle.wrapper_meaning.proofs.Lists.{some_or, some_same}
 use Rattle.wrapper_meaning.proofs.RustValues.{out-case}
-use Rattle.abi_bindgen.proofs.BareCases.{case_below, count_bare}
+use Rattle.abi_bindgen.proofs.BareCases.{count_bare}
 use Rattle.abi_bindgen.proofs.EnumLowers.{enum_cases}
 
 -- 1. The cases of an enum have no payload
@@ -117,39 +118,39 @@ case_normal n = ap (fold-RustValue RustValue (passing_level take)) (sym (rolls-C
 
 -- 2. A case becomes its number
 
-signed_fits : (n : ℕ) → n < 2147483648 → low_i32 (pos n) ≡ pos n
-signed_fits n h = low_i32-s32 (pos n) (grind (arith, ints))
+low_of : (n : ℕ) → low_i32 (pos n) ≡ cast_signed w32 (n % 2 ^ 32)
+low_of n = grind (arith, ints)
 
 -- the number of what reads a case
-number_says : (items : List Item) (n : ℕ) (payload : Option RustValue) (e : Expr) (env : Env) → n < 2147483648 → IsBare payload → (read items e).at env ≡ Some (val.Value (value.Case n payload))
-    → (read items (expr.EnumNumber e)).at env ≡ Some (val.Word (core.I32 (pos n)))
+number_says : (items : List Item) (n : ℕ) (payload : Option RustValue) (e : Expr) (env : Env) → IsBare payload → (read items e).at env ≡ Some (val.Value (value.Case n payload))
+    → (read items (expr.EnumNumber e)).at env ≡ Some (val.Word (case_word n))
 unfolding word_of_case
-number_says items n payload e env small b h =
-    let told : as_case_word (val.Value (value.Case n payload)) ≡ Some (val.Word (core.I32 (pos n))) =
+number_says items n payload e env b h =
+    let told : as_case_word (val.Value (value.Case n payload)) ≡ Some (val.Word (case_word n)) =
     ap (λ l. option_map val.Word (option_map (λ n. core.I32 (low_i32 (pos n))) (case_of_level l))) (out-case n payload)
-    ∙ ap (λ b. option_map val.Word (option_map (λ n. core.I32 (low_i32 (pos n))) (cond b (Some n) None))) b.without ∙ ap (λ z. Some (val.Word (core.I32 z))) (signed_fits n small) in
+    ∙ ap (λ b. option_map val.Word (option_map (λ n. core.I32 (low_i32 (pos n))) (cond b (Some n) None))) b.without ∙ ap (λ z. Some (val.Word (core.I32 z))) (low_of n) in
     ap (λ (r : Read). r.at env) (read-enum_number items e) ∙ ap (option_and_then (on_bare as_case_word)) h
     ∙ ap (λ bs. option_and_then as_case_word (bare_or (val.Value (value.Case n payload)) bs)) (b.owns n) ∙ told
 
-number_lowers : (old new : FunctionBindgen) (e : Expr) (members : List Member) → length members < 2147483648 → Appends old new [] [] → new.scope ≡ old.scope → LowersEnum func_meaning (bare members) (operand_of e ∷ []) (operand_of (expr.EnumNumber e) ∷ []) old new
-number_lowers old new e members small a scope dir c r own ((payload, is, stands), normal) =
+number_lowers : (old new : FunctionBindgen) (e : Expr) (members : List Member) → Appends old new [] [] → new.scope ≡ old.scope → LowersEnum func_meaning (bare members) (operand_of e ∷ []) (operand_of (expr.EnumNumber e) ∷ []) old new
+number_lowers old new e members a scope dir c r own ((payload, is, stands), normal) =
     let k = case_bare dir members c payload own stands in
     let n = case_number (bare members) c in (
       k.0,
-      swaps old new [] a scope (of (operand_of e) (item r)) (of (operand_of (expr.EnumNumber e)) (word (core.I32 (pos n))))
-          (λ w found env h. number_says w.items n payload e env (omega (arith, small, case_below members c)) k.1 (h ∙ ap (λ q. Some (val.Value q)) is)),
+      swaps old new [] a scope (of (operand_of e) (item r)) (of (operand_of (expr.EnumNumber e)) (word (case_word n)))
+          (λ w found env h. number_says w.items n payload e env k.1 (h ∙ ap (λ q. Some (val.Value q)) is)),
     )
 
-pub enum_number_row : (types : List TypeDef) (old new : FunctionBindgen) (id : TypeId) (e : Expr) (n : ℕ) → HasCaseCount types id.0 n → n < 2147483648 → Appends old new [] [] → new.scope ≡ old.scope
+pub enum_number_row : (types : List TypeDef) (old new : FunctionBindgen) (id : TypeId) (e : Expr) → IsEnum types id.0 → Appends old new [] [] → new.scope ≡ old.scope
     → Emits func_meaning types (EnumLower id) (operand_of e ∷ []) (operand_of (expr.EnumNumber e) ∷ []) old new
-enum_number_row types old new id e n (members, is, many) small a scope = record {
+enum_number_row types old new id e (members, is) a scope = record {
   adds = none_adds old new [] a scope;
   blocks = ap reverse a.finished;
   returned = a.returned;
   asked = a.asked;
   form = form_alone (sends (EnumLower id)) (record { gives = refl; calls = refl }) (operand_of e ∷ []) old new (expr.EnumNumber e) [] refl scope a;
   results = refl;
-  row = subst (λ ts. LowersEnum func_meaning ts (operand_of e ∷ []) (operand_of (expr.EnumNumber e) ∷ []) old new) (sym (enum_cases types id.0 members is)) (number_lowers old new e members (omega (arith, many, small)) a scope);
+  row = subst (λ ts. LowersEnum func_meaning ts (operand_of e ∷ []) (operand_of (expr.EnumNumber e) ∷ []) old new) (sym (enum_cases types id.0 members is)) (number_lowers old new e members a scope);
 }
 
 -- 3. A word becomes a case

@@ -5,7 +5,7 @@ ghost use Rattle.wit_layout.specs.Extent.{discriminant_grain};
 ghost use Rattle.wrapper_values.specs.Flags.{repr_bits};
 ghost use Rattle.abi_bindgen.specs.Instructions.{Emits};
 ghost use Rattle.abi_bindgen.specs.declared.instruction.Instruction.TheVariants as instruction;
-ghost use Rattle.func_gen.specs.EnumForms.{HasCaseCount, IsEnumSite, LiftsBy, LiftsEnumAt, case_cast};
+ghost use Rattle.func_gen.specs.EnumForms.{HasCaseCount, IsEnum, IsEnumSite, LiftsBy, LiftsEnumAt, case_cast};
 ghost use Rattle.func_gen.specs.Meaning.{func_meaning};
 
 use crate::added::{only_expr, only_operand};
@@ -20,17 +20,13 @@ use std::alloc::Global;
 use wit_model::{Boxed, List, OutOfMemory, Resolve, Text, TypeDefKind, TypeId};
 
 /// How many cases the enum at a place of the table has.
-fn case_count(resolve: &Resolve, id: TypeId) -> Result<usize, OutOfMemory>
-    ensures { IfOk result (λ n. HasCaseCount resolve.now.types id.0 n) }
+fn case_count(resolve: &Resolve, id: TypeId) -> usize
+    requires { IsEnum resolve.now.types id.0 }
+    ensures { HasCaseCount resolve.now.types id.0 result }
 {
-    let types = resolve.types.as_slice();
-    let at = id.0 as usize;
-    if at >= types.len() {
-        return Err(OutOfMemory);
-    }
-    match &types[at].kind {
-        TypeDefKind::Enum(members) => Ok(members.len()),
-        _ => Err(OutOfMemory),
+    match &resolve.types.as_slice()[id.0 as usize].kind {
+        TypeDefKind::Enum(members) => members.len(),
+        _ => unreachable!(),
     }
 }
 
@@ -103,13 +99,14 @@ fn enum_site<'a>(
     resolve: &Resolve,
     id: TypeId,
 ) -> Result<&'a EnumSite, OutOfMemory>
+    requires { IsEnum resolve.now.types id.0 }
     ensures { IfOk result (λ s. IsEnumSite resolve.now.types sites.now id.0 s.now) }
 {
     let at = id.0 as usize;
     if at >= sites.len() {
         return Err(OutOfMemory);
     }
-    let count = case_count(resolve, id)?;
+    let count = case_count(resolve, id);
     let Some(TypeSite::Enum(site)) = &sites[at] else {
         return Err(OutOfMemory);
     };
@@ -122,6 +119,7 @@ fn enum_site<'a>(
 impl FunctionBindgen {
     /// The call that gives the case of a word's number.
     fn lifted_case(&self, resolve: &Resolve, id: TypeId, e: &Expr) -> Result<Expr, OutOfMemory>
+        requires { IsEnum resolve.now.types id.0 }
         ensures { IfOk result (λ c. LiftsEnumAt resolve.now.types self.now.sites id.0 e.now c) }
     {
         let site = enum_site(self.sites.as_slice(), resolve, id)?;
@@ -138,14 +136,11 @@ impl FunctionBindgen {
         operands: &List<ExprOperand>,
         results: &mut List<ExprOperand>,
     ) -> Result<(), OutOfMemory>
+        requires kind { IsEnum resolve.now.types id.0 }
         requires one { length operands.now ≡ 1 }
         requires empty { results.old ≡ [] }
         ensures { OnOk result (Emits func_meaning resolve.now.types (instruction.EnumLower id) operands.now results.new self.old self.new) }
     {
-        let count = case_count(resolve, id)?;
-        if count >= 0x8000_0000 {
-            return Err(OutOfMemory);
-        }
         let e = only_operand(self.alloc, operands)?;
         let expr = Expr::EnumNumber(Boxed::new(self.alloc, e)?);
         results.push(ExprOperand { expr, kept: false })?;
@@ -159,6 +154,7 @@ impl FunctionBindgen {
         operands: &List<ExprOperand>,
         results: &mut List<ExprOperand>,
     ) -> Result<(), OutOfMemory>
+        requires kind { IsEnum resolve.now.types id.0 }
         requires one { length operands.now ≡ 1 }
         requires empty { results.old ≡ [] }
         ensures { OnOk result (Emits func_meaning resolve.now.types (instruction.EnumLift id) operands.now results.new self.old self.new) }
