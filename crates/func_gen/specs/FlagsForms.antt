@@ -27,6 +27,10 @@ flags_site_in _ = None
 abbrev pub flags_at : List (Option TypeSite) → ℕ → Option FlagsSite
 flags_at sites id = option_and_then flags_site_in (site_at sites id)
 
+-- the type at a place of the table is a flags type
+abbrev pub IsFlags : List TypeDef → ℕ → Type 0
+IsFlags types id = (n : ℕ) × AreFlags types id n
+
 -- the site of a flags type of the table, with as many members, which are held by as many bits as they have
 pub record IsFlagsSite (types : List TypeDef) (sites : List (Option TypeSite)) (id : ℕ) (site : FlagsSite) : Type 0 where
   pub at : flags_at sites id ≡ Some site

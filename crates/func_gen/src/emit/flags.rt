@@ -5,7 +5,7 @@ ghost use Rattle.wrapper_meaning.specs.Numbers.{flags_width};
 ghost use Rattle.abi_bindgen.specs.FlagSets.{AreFlags};
 ghost use Rattle.abi_bindgen.specs.Instructions.{Emits};
 ghost use Rattle.abi_bindgen.specs.declared.instruction.Instruction.TheVariants as instruction;
-ghost use Rattle.func_gen.specs.FlagsForms.{HasWordCount, IsFlagsSite, MakesFlags, operands_of, shifted_from, words_of};
+ghost use Rattle.func_gen.specs.FlagsForms.{HasWordCount, IsFlags, IsFlagsSite, MakesFlags, operands_of, shifted_from, words_of};
 ghost use Rattle.func_gen.specs.Meaning.{func_meaning};
 ghost use Rattle.func_gen.specs.PartForms.{are_operands, exprs_of};
 
@@ -20,17 +20,13 @@ use std::alloc::Global;
 use wit_model::{List, OutOfMemory, Resolve, Text, TypeDefKind, TypeId};
 
 /// How many members the flags type at a place of the table has.
-fn member_count(resolve: &Resolve, id: TypeId) -> Result<usize, OutOfMemory>
-    ensures { IfOk result (λ n. AreFlags resolve.now.types id.0 n) }
+fn member_count(resolve: &Resolve, id: TypeId) -> usize
+    requires { IsFlags resolve.now.types id.0 }
+    ensures { AreFlags resolve.now.types id.0 result }
 {
-    let types = resolve.types.as_slice();
-    let at = id.0 as usize;
-    if at >= types.len() {
-        return Err(OutOfMemory);
-    }
-    match &types[at].kind {
-        TypeDefKind::Flags(members) => Ok(members.len()),
-        _ => Err(OutOfMemory),
+    match &resolve.types.as_slice()[id.0 as usize].kind {
+        TypeDefKind::Flags(members) => members.len(),
+        _ => unreachable!(),
     }
 }
 
@@ -91,13 +87,14 @@ fn flags_site<'a>(
     resolve: &Resolve,
     id: TypeId,
 ) -> Result<&'a FlagsSite, OutOfMemory>
+    requires { IsFlags resolve.now.types id.0 }
     ensures { IfOk result (λ s. IsFlagsSite resolve.now.types sites.now id.0 s.now) }
 {
     let at = id.0 as usize;
     if at >= sites.len() {
         return Err(OutOfMemory);
     }
-    let count = member_count(resolve, id)?;
+    let count = member_count(resolve, id);
     let Some(TypeSite::Flags(site)) = &sites[at] else {
         return Err(OutOfMemory);
     };
@@ -113,6 +110,7 @@ fn flags_site<'a>(
 impl FunctionBindgen {
     /// How many words the flags at a place of the table are.
     fn word_count(&self, resolve: &Resolve, id: TypeId) -> Result<u32, OutOfMemory>
+        requires { IsFlags resolve.now.types id.0 }
         ensures { IfOk result (λ n. HasWordCount resolve.now.types self.now.sites id.0 n) }
     {
         let site = flags_site(self.sites.as_slice(), resolve, id)?;
@@ -126,6 +124,7 @@ impl FunctionBindgen {
         id: TypeId,
         operands: &List<ExprOperand>,
     ) -> Result<Expr, OutOfMemory>
+        requires { IsFlags resolve.now.types id.0 }
         ensures { IfOk result (λ e. MakesFlags resolve.now.types self.now.sites id.0 operands.now e) }
     {
         let site = flags_site(self.sites.as_slice(), resolve, id)?;
@@ -144,6 +143,7 @@ impl FunctionBindgen {
         operands: &List<ExprOperand>,
         results: &mut List<ExprOperand>,
     ) -> Result<(), OutOfMemory>
+        requires kind { IsFlags resolve.now.types id.0 }
         requires one { length operands.now ≡ 1 }
         requires empty { results.old ≡ [] }
         ensures { OnOk result (Emits func_meaning resolve.now.types (instruction.FlagsLower id) operands.now results.new self.old self.new) }
@@ -162,6 +162,7 @@ impl FunctionBindgen {
         operands: &List<ExprOperand>,
         results: &mut List<ExprOperand>,
     ) -> Result<(), OutOfMemory>
+        requires kind { IsFlags resolve.now.types id.0 }
         requires empty { results.old ≡ [] }
         ensures { OnOk result (Emits func_meaning resolve.now.types (instruction.FlagsLift id) operands.now results.new self.old self.new) }
     {

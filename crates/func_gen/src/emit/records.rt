@@ -7,7 +7,7 @@ ghost use Rattle.abi_bindgen.specs.Instructions.{Emits};
 ghost use Rattle.abi_bindgen.specs.declared.instruction.Instruction.TheVariants as instruction;
 ghost use Rattle.func_gen.specs.Meaning.{func_meaning};
 ghost use Rattle.func_gen.specs.PartForms.{are_operands, exprs_of};
-ghost use Rattle.func_gen.specs.RecordForms.{DeclaresFields, HasFieldCount, IsSiteOf, MakesRecord, SplitsRecord, locals_for};
+ghost use Rattle.func_gen.specs.RecordForms.{DeclaresFields, HasFieldCount, IsARecord, IsSiteOf, MakesRecord, SplitsRecord, locals_for};
 ghost use Rattle.func_gen.specs.Scope.{names_at};
 
 use crate::added::only_expr;
@@ -22,17 +22,13 @@ use std::alloc::Global;
 use wit_model::{List, OutOfMemory, Resolve, Text, TypeDefKind, TypeId};
 
 /// How many fields the record at a place of the table has.
-fn field_count(resolve: &Resolve, id: TypeId) -> Result<usize, OutOfMemory>
-    ensures { IfOk result (λ n. HasFieldCount resolve.now.types id.0 n) }
+fn field_count(resolve: &Resolve, id: TypeId) -> usize
+    requires { IsARecord resolve.now.types id.0 }
+    ensures { HasFieldCount resolve.now.types id.0 result }
 {
-    let types = resolve.types.as_slice();
-    let at = id.0 as usize;
-    if at >= types.len() {
-        return Err(OutOfMemory);
-    }
-    match &types[at].kind {
-        TypeDefKind::Record(members) => Ok(members.len()),
-        _ => Err(OutOfMemory),
+    match &resolve.types.as_slice()[id.0 as usize].kind {
+        TypeDefKind::Record(members) => members.len(),
+        _ => unreachable!(),
     }
 }
 
@@ -116,13 +112,14 @@ fn record_site<'a>(
     resolve: &Resolve,
     id: TypeId,
 ) -> Result<&'a RecordSite, OutOfMemory>
+    requires { IsARecord resolve.now.types id.0 }
     ensures { IfOk result (λ s. IsSiteOf resolve.now.types sites.now id.0 s.now) }
 {
     let at = id.0 as usize;
     if at >= sites.len() {
         return Err(OutOfMemory);
     }
-    let count = field_count(resolve, id)?;
+    let count = field_count(resolve, id);
     match &sites[at] {
         Some(TypeSite::Record(site)) if site.fields.len() == count => Ok(site),
         _ => Err(OutOfMemory),
@@ -148,6 +145,7 @@ impl FunctionBindgen {
         id: TypeId,
         operands: &List<ExprOperand>,
     ) -> Result<Expr, OutOfMemory>
+        requires { IsARecord resolve.now.types id.0 }
         ensures { IfOk result (λ e. MakesRecord resolve.now.types self.now.sites id.0 operands.now e) }
     {
         let site = record_site(self.sites.as_slice(), resolve, id)?;
@@ -166,6 +164,7 @@ impl FunctionBindgen {
         operands: &List<ExprOperand>,
         results: &mut List<ExprOperand>,
     ) -> Result<(), OutOfMemory>
+        requires kind { IsARecord resolve.now.types id.0 }
         requires empty { results.old ≡ [] }
         ensures { OnOk result (Emits func_meaning resolve.now.types (instruction.RecordLift id) operands.now results.new self.old self.new) }
     {
@@ -183,6 +182,7 @@ impl FunctionBindgen {
         id: TypeId,
         e: &Expr,
     ) -> Result<List<Text>, OutOfMemory>
+        requires { IsARecord resolve.now.types id.0 }
         ensures { IfOk result (λ names. SplitsRecord resolve.now.types id.0 e.now names self.old self.new) }
     {
         let site = record_site(self.sites.as_slice(), resolve, id)?;
@@ -201,6 +201,7 @@ impl FunctionBindgen {
         operands: &List<ExprOperand>,
         results: &mut List<ExprOperand>,
     ) -> Result<(), OutOfMemory>
+        requires kind { IsARecord resolve.now.types id.0 }
         requires one { length operands.now ≡ 1 }
         requires empty { results.old ≡ [] }
         ensures { OnOk result (Emits func_meaning resolve.now.types (instruction.RecordLower id) operands.now results.new self.old self.new) }
