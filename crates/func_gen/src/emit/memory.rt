@@ -1,6 +1,6 @@
 //! Core words are stored in memory.
 
-ghost use Rattle.std.specs.Prelude.{◌≡◌, [], ◌∷◌, Some, true, IfOk, OnOk};
+ghost use Rattle.std.specs.Prelude.{◌≡◌, [], ◌∷◌, Some, true, length, IfOk, OnOk};
 ghost use Rattle.rust_tree.specs.declared.stmt.Stmt.TheVariants as stmt;
 ghost use Rattle.abi_bindgen.specs.Instructions.{Emits};
 ghost use Rattle.func_gen.specs.Added.{Appends};
@@ -45,12 +45,13 @@ pub(crate) fn small_store(inst: &Instruction) -> Option<(ArchitectureSize, Small
 
 /// The expressions of the two operands. Of one that is no operand there is no memory, nor of a word that is kept as a number.
 pub(crate) fn both_exprs(operands: &List<ExprOperand>) -> Result<(&Expr, &Expr), OutOfMemory>
+    requires { length operands.now ≡ 2 }
     ensures both { IfOk result (λ es. operands.now ≡ operand_of es.0.now ∷ operand_of es.1.now ∷ []) }
     ensures first { IfOk result (λ es. is_operand es.0.now ≡ true) }
     ensures second { IfOk result (λ es. is_operand es.1.now ≡ true) }
 {
     let [a, b] = operands.as_slice() else {
-        return Err(OutOfMemory);
+        unreachable!()
     };
     let first = operand_expr(a)?;
     Ok((first, operand_expr(b)?))
@@ -58,6 +59,7 @@ pub(crate) fn both_exprs(operands: &List<ExprOperand>) -> Result<(&Expr, &Expr),
 
 /// The same, copied.
 fn both_operands(alloc: Global, operands: &List<ExprOperand>) -> Result<(Expr, Expr), OutOfMemory>
+    requires { length operands.now ≡ 2 }
     ensures both { IfOk result (λ es. operands.now ≡ operand_of es.0 ∷ operand_of es.1 ∷ []) }
     ensures first { IfOk result (λ es. is_operand es.0 ≡ true) }
     ensures second { IfOk result (λ es. is_operand es.1 ≡ true) }
@@ -85,6 +87,7 @@ impl FunctionBindgen {
         results: &mut List<ExprOperand>,
     ) -> Result<(), OutOfMemory>
         requires store { whole_store inst.now ≡ Some place }
+        requires two { length operands.now ≡ 2 }
         requires empty { results.old ≡ [] }
         ensures { OnOk result (Emits func_meaning resolve.now.types inst.now operands.now results.new self.old self.new) }
     {
@@ -102,6 +105,7 @@ impl FunctionBindgen {
         results: &mut List<ExprOperand>,
     ) -> Result<(), OutOfMemory>
         requires store { small_store inst.now ≡ Some place }
+        requires two { length operands.now ≡ 2 }
         requires empty { results.old ≡ [] }
         ensures { OnOk result (Emits func_meaning resolve.now.types inst.now operands.now results.new self.old self.new) }
     {
