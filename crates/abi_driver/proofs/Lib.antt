@@ -53,3 +53,4 @@ pub mod VariantLoads
 pub mod CaseFrees
 pub mod VariantFrees
 mod WordCounts
+mod ScalarTouched

@@ -63,6 +63,6 @@ pub fn call<B: Bindgen>(
         (AbiVariant::GuestExport, LiftLower::LiftArgsLowerResults) => {
             call_export(alloc, resolve, func, bindgen)
         }
-        _ => Err(OutOfMemory),
+        _ => unreachable!(),
     }
 }

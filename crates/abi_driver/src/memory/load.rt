@@ -277,7 +277,7 @@ fn load_scalar<B: Bindgen>(
     ensures sends { OnOk result (Sends B.meaning resolve.now.types (load_code resolve.now.types ty offset) bindgen.old bindgen.new) }
 {
     let Some(load) = scalar_load(ty, offset) else {
-        return Err(OutOfMemory);
+        unreachable!()
     };
     let word = load_word(alloc, resolve, bindgen, address, load)?;
     let operands = only(alloc, word)?;

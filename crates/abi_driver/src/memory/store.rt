@@ -343,7 +343,7 @@ fn store_scalar<B: Bindgen>(
     ensures sends { (realloc : Bool) → OnOk result (Sends B.meaning resolve.now.types (store_code resolve.now.types realloc ty offset) bindgen.old bindgen.new) }
 {
     let Some(store) = scalar_store(ty, offset) else {
-        return Err(OutOfMemory);
+        unreachable!()
     };
     let words = lower_by(alloc, resolve, bindgen, value, lower)?;
     let word = words.as_slice()[0].copy(alloc)?;

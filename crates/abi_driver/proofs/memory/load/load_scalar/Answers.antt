@@ -5,7 +5,11 @@ use Rattle.abi_driver.proofs.LiftSteps.{scalar_lifts}
 use Rattle.abi_driver.proofs.MemoryCode.{load_scalar_code}
 use Rattle.abi_driver.proofs.Sendable.{makeable_load}
 use Rattle.abi_bindgen.proofs.SendSteps.{sends_as, sends_two}
+use Rattle.abi_driver.proofs.ScalarTouched.{is_loaded}
 use Rattle.abi_driver.proofs.memory.load.load_scalar.Goals as goal
+
+pub unreachable-requires : goal.unreachable-requires
+unreachable-requires g c = is_loaded c.args.ty c.args.lift c.args.offset c.requires (sym c.scalar_load.ensures ∙ c.in_default.is)
 
 pub load_word-requires : goal.load_word-requires
 load_word-requires g c =

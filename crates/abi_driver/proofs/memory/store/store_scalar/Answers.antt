@@ -4,7 +4,11 @@ use Rattle.abi_bindgen.proofs.LowerSteps.{scalar_lowers}
 use Rattle.abi_driver.proofs.MemoryCode.{store_scalar_code}
 use Rattle.abi_bindgen.proofs.SendSteps.{sends_as, sends_two}
 use Rattle.abi_driver.proofs.Sendable.{makeable_lower, makeable_store}
+use Rattle.abi_driver.proofs.ScalarTouched.{is_stored}
 use Rattle.abi_driver.proofs.memory.store.store_scalar.Goals as goal
+
+pub unreachable-requires : goal.unreachable-requires
+unreachable-requires g c = is_stored c.args.ty c.args.lower c.args.offset c.requires (sym c.scalar_store.ensures ∙ c.in_default.is)
 
 pub lower_by-requires : goal.lower_by-requires
 lower_by-requires g c = (makeable_lower g.B.Bindgen.meaning c.args.resolve.now c.args.lower c.args.bindgen.now c.args.value c.args.ty c.requires).sendable
