@@ -41,7 +41,7 @@ impl Bindgen for FunctionBindgen {
             Instruction::GetArg(n) => self.get_arg(resolve, n, results),
             Instruction::Flush(n) => self.flush(resolve, n, operands, results),
             Instruction::Return(n) => self.give(resolve, n, operands, results),
-            Instruction::I32Const(_) => self.make_constant(resolve, inst, operands, results),
+            Instruction::I32Const(n) => self.make_number(resolve, n, results),
             Instruction::ConstZero(types) => self.make_zeros(resolve, types, results),
             Instruction::Bitcasts(casts) => self.cast_words(resolve, casts, operands, results),
             Instruction::CallWasm(func) => self.call_core(resolve, func, operands, results),

@@ -1,14 +1,13 @@
 //! Constants are core words as they are.
 
 ghost use Rattle.std.specs.Prelude.{◌≡◌, ◌++◌, [], OnOk};
-ghost use Rattle.abi_bindgen.specs.Instructions.{Emits, IsSendable};
+ghost use Rattle.abi_bindgen.specs.Instructions.{Emits};
 ghost use Rattle.abi_bindgen.specs.declared.instruction.Instruction.TheVariants as instruction;
 ghost use Rattle.func_gen.specs.CastForms.{zero_expr, zero_operands};
 ghost use Rattle.func_gen.specs.Meaning.{func_meaning};
 
 use crate::function_bindgen::FunctionBindgen;
 use crate::operand::ExprOperand;
-use abi_bindgen::Instruction;
 use rust_tree::{Expr, ZeroType};
 use wit_model::{List, OutOfMemory, Resolve, WasmType};
 
@@ -38,25 +37,7 @@ fn push_zeros(types: &[WasmType], results: &mut List<ExprOperand>) -> Result<(),
 }
 
 impl FunctionBindgen {
-    /// A constant number is made. To any other instruction the answer is `OutOfMemory`.
-    pub(crate) fn make_constant(
-        &mut self,
-        resolve: &Resolve,
-        inst: &Instruction,
-        operands: &List<ExprOperand>,
-        results: &mut List<ExprOperand>,
-    ) -> Result<(), OutOfMemory>
-        requires sendable { IsSendable func_meaning resolve.now inst.now operands.now self.old }
-        requires empty { results.old ≡ [] }
-        ensures { OnOk result (Emits func_meaning resolve.now.types inst.now operands.now results.new self.old self.new) }
-    {
-        match *inst {
-            Instruction::I32Const(n) => self.make_number(resolve, n, results),
-            _ => Err(OutOfMemory),
-        }
-    }
-
-    fn make_number(
+    pub(crate) fn make_number(
         &mut self,
         resolve: &Resolve,
         number: i32,

@@ -5,7 +5,7 @@ use Rattle.abi_bindgen.specs.declared.instruction.Instruction.TheVariants as ins
 use Rattle.abi_bindgen.specs.Instructions.{Emits, Reads}
 use Rattle.func_gen.specs.declared.operand.ExprOperand.{ExprOperand}
 use Rattle.func_gen.specs.Meaning.{func_meaning}
-use Rattle.func_gen.proofs.function_bindgen.FunctionBindgen.make_constant.Goals as goal
+use Rattle.func_gen.proofs.lawful.FunctionBindgenBindgen.emit.Goals as goal
 
 none_of : {A : Type 0} (xs : List A) → length xs ≡ 0 → xs ≡ []
 none_of [] e = refl
@@ -17,6 +17,6 @@ returns-in-I32Const c =
     let os : List ExprOperand = c.args.operands.now in
     let n = c.in-I32Const.n in
     let none : os ≡ [] = none_of os (subst (λ i. Reads types i (length os)) c.in-I32Const.is c.requires.sendable.operands) in
-    let read = subst (λ (z : ℤ). OnOk c.make_number.result (Emits func_meaning types (instruction.I32Const z) [] c.make_number.new.results c.args.self.now c.make_number.new.self)) (to_z-of_z w32 n (sfits_of c.in-I32Const.n-in-I32Const-1-given)) c.make_number.ensures in
+    let read = subst (λ (z : ℤ). OnOk c.make_number.result (Emits func_meaning types (instruction.I32Const z) [] c.make_number.new.results c.args.self.now c.make_number.new.self)) (to_z-of_z w32 n (sfits_of c.in-I32Const.n-in-I32Const-2-1-given)) c.make_number.ensures in
     subst (λ i. OnOk c.make_number.result (Emits func_meaning types i os c.make_number.new.results c.args.self.now c.make_number.new.self)) (sym c.in-I32Const.is)
     (subst (λ xs. OnOk c.make_number.result (Emits func_meaning types (instruction.I32Const n) xs c.make_number.new.results c.args.self.now c.make_number.new.self)) (sym none) read)
