@@ -2,6 +2,7 @@
 
 ghost use Rattle.std.specs.Prelude.{◌≡◌, ◌++◌, true, length, IfOk, OnOk};
 ghost use Rattle.std.specs.List.{list_all};
+ghost use Rattle.wit_model.specs.WellFormed.{IsWellFormed};
 ghost use Rattle.wit_model.specs.TypeOrder.{GoesDown, type_below};
 ghost use Rattle.wrapper_meaning.specs.Shape.{shape_of};
 ghost use Rattle.wrapper_meaning.specs.Shape.Shape.{fields};
@@ -66,6 +67,7 @@ pub(super) fn store_arguments<B: Bindgen>(
     bindgen: &mut B,
     tys: &[WitType],
 ) -> Result<B::Operand, OutOfMemory>
+    requires well { IsWellFormed resolve.now }
     requires down { GoesDown resolve.now.types }
     requires below { list_all (λ ty. type_below (length resolve.now.types) ty) tys.now ≡ true }
     requires serves { B.meaning.imports bindgen.old ≡ true }
@@ -87,6 +89,7 @@ fn store_at<B: Bindgen>(
     tys: &[WitType],
     address: &B::Operand,
 ) -> Result<(), OutOfMemory>
+    requires well { IsWellFormed resolve.now }
     requires down { GoesDown resolve.now.types }
     requires below { list_all (λ ty. type_below (length resolve.now.types) ty) tys.now ≡ true }
     requires serves { B.meaning.imports bindgen.old ≡ true }

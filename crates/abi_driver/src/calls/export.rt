@@ -220,6 +220,7 @@ fn store_answer<B: Bindgen>(
     answer: &[B::Operand],
     ty: WitType,
 ) -> Result<List<B::Operand>, OutOfMemory>
+    requires well { IsWellFormed resolve.now }
     requires down { GoesDown resolve.now.types }
     requires below { IsTrue (type_below (length resolve.now.types) ty) }
     requires serves { B.meaning.exports bindgen.old ≡ true }

@@ -194,6 +194,7 @@ fn load_answer<B: Bindgen>(
     pointer: &[B::Operand],
     ty: WitType,
 ) -> Result<List<B::Operand>, OutOfMemory>
+    requires well { IsWellFormed resolve.now }
     requires down { GoesDown resolve.now.types }
     requires below { IsTrue (type_below (length resolve.now.types) ty) }
     requires knows { B.meaning.knows bindgen.old resolve.now.types }

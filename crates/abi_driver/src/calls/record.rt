@@ -2,6 +2,7 @@
 
 ghost use Rattle.std.specs.Prelude.{◌≡◌, ◌<◌, true, length, IfOk, OnOk, IfSome};
 ghost use Rattle.std.specs.List.{list_all};
+ghost use Rattle.wit_model.specs.WellFormed.{IsWellFormed};
 ghost use Rattle.wit_model.specs.TypeOrder.{GoesDown, type_below};
 ghost use Rattle.wrapper_meaning.specs.Shape.Shape.{fields};
 ghost use Rattle.abi_bindgen.specs.Code as code;
@@ -26,6 +27,7 @@ pub(super) fn load_arguments<B: Bindgen>(
     bindgen: &mut B,
     tys: &[WitType],
 ) -> Result<List<B::Operand>, OutOfMemory>
+    requires well { IsWellFormed resolve.now }
     requires down { GoesDown resolve.now.types }
     requires below { list_all (λ ty. type_below (length resolve.now.types) ty) tys.now ≡ true }
     requires knows { B.meaning.knows bindgen.old resolve.now.types }
@@ -49,6 +51,7 @@ fn load_at<B: Bindgen>(
     tys: &[WitType],
     address: &B::Operand,
 ) -> Result<List<B::Operand>, OutOfMemory>
+    requires well { IsWellFormed resolve.now }
     requires down { GoesDown resolve.now.types }
     requires below { list_all (λ ty. type_below (length resolve.now.types) ty) tys.now ≡ true }
     requires knows { B.meaning.knows bindgen.old resolve.now.types }

@@ -10,7 +10,8 @@ ghost use Rattle.wrapper_meaning.specs.Shape.Shape.{text};
 ghost use Rattle.abi_bindgen.specs.Code.{at_payload, beyond, each, free_code, in_blocks, place_in};
 ghost use Rattle.abi_driver.specs.FreedCases.{FreesCases, FreesPayload};
 ghost use Rattle.abi_bindgen.specs.Frees.{FreesInMemory, FreesParts, nowhere};
-ghost use Rattle.abi_bindgen.specs.Instructions.{shapes_of};
+ghost use Rattle.abi_bindgen.specs.HasList.{IsKindOf};
+ghost use Rattle.abi_bindgen.specs.Instructions.{has_cases, shapes_of};
 ghost use Rattle.abi_bindgen.specs.Places.{HasParts};
 ghost use Rattle.abi_bindgen.specs.Sends.{Sends};
 ghost use Rattle.abi_bindgen.specs.Sent.{closes, opens};
@@ -93,7 +94,8 @@ fn free_id<B: Bindgen>(
 {
     let types = resolve.types.as_slice();
     let at = id.0 as usize;
-    match &types[at].kind {
+    let kind = &types[at].kind;
+    match kind {
         TypeDefKind::Alias(ty) => {
             free_type(alloc, resolve, bindgen, address, offset, *ty)?;
             Ok(())
@@ -111,9 +113,10 @@ fn free_id<B: Bindgen>(
         }
         TypeDefKind::Enum(_) => Ok(()),
         TypeDefKind::Flags(_) => Ok(()),
-        TypeDefKind::Variant(_) | TypeDefKind::Option(_) | TypeDefKind::Result(_, _) => {
-            free_variant(alloc, resolve, bindgen, address, offset, id)?;
-            Ok(())
+        TypeDefKind::Variant(_) => free_variant(alloc, resolve, bindgen, address, offset, id, kind),
+        TypeDefKind::Option(_) => free_variant(alloc, resolve, bindgen, address, offset, id, kind),
+        TypeDefKind::Result(_, _) => {
+            free_variant(alloc, resolve, bindgen, address, offset, id, kind)
         }
         _ => Err(OutOfMemory),
     }
@@ -129,20 +132,19 @@ fn free_variant<B: Bindgen>(
     address: &B::Operand,
     offset: ArchitectureSize,
     id: TypeId,
+    kind: &TypeDefKind,
 ) -> Result<(), OutOfMemory>
     requires down { GoesDown resolve.now.types }
-    requires within { id.0 < length resolve.now.types }
+    requires here { IsKindOf resolve.now.types id.0 kind.now }
+    requires cases { has_cases kind.now ≡ true }
     requires knows { B.meaning.knows bindgen.old resolve.now.types }
     ensures frees { OnOk result (FreesInMemory B.meaning (shape_at resolve.now.types id.0) address.now offset bindgen.old bindgen.new) }
     ensures sends { OnOk result (Sends B.meaning resolve.now.types (free_code resolve.now.types (Id id) offset) bindgen.old bindgen.new) }
 {
-    let types = resolve.types.as_slice();
-    let at = id.0 as usize;
-    let kind = &types[at].kind;
-    let payloads = case_payloads(alloc, kind)?;
     if !id_has_list(resolve, id) {
         return Ok(());
     }
+    let payloads = case_payloads(alloc, kind)?;
     let place = payload_place(bindgen, id, offset)?;
     let tys = payloads.as_slice();
     let count = numbered(tys.len())?;

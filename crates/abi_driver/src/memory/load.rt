@@ -2,13 +2,15 @@
 
 ghost use Rattle.std.specs.Prelude.{◌≡◌, ◌<◌, ◌∷◌, ◌++◌, [], IsTrue, true, length, map, option_map, option_to_list, Some, IfOk, OnOk};
 ghost use Rattle.std.specs.List.{list_all};
+ghost use Rattle.wit_model.specs.WellFormed.{IsWellFormed};
 ghost use Rattle.wit_model.specs.TypeOrder.{GoesDown, payload_below, type_below};
 ghost use Rattle.wit_model.specs.declared.types.WitType.TheVariants.{Id, String};
 ghost use Rattle.wit_layout.specs.Tree.{tree_at};
 ghost use Rattle.wrapper_meaning.specs.Shape.{payload_in, payloads_in, shape_at, shape_of, shapes};
 ghost use Rattle.wrapper_meaning.specs.Shape.Shape.{text};
 ghost use Rattle.abi_bindgen.specs.Code.{beyond, each, in_blocks, at_payload, load_code, place_in};
-ghost use Rattle.abi_bindgen.specs.Instructions.{lifting, shapes_of};
+ghost use Rattle.abi_bindgen.specs.HasList.{IsKindOf};
+ghost use Rattle.abi_bindgen.specs.Instructions.{has_cases, lifting, shapes_of};
 ghost use Rattle.abi_driver.specs.LoadedCases.{LoadsCase, LoadsCases};
 ghost use Rattle.abi_driver.specs.Loads.{LiftsFromMemory, LoadsParts};
 ghost use Rattle.abi_bindgen.specs.Places.{HasParts};
@@ -20,7 +22,7 @@ use crate::lift::variants::case_lifting;
 use crate::memory::enums::load_enum;
 use crate::memory::flags::load_flags;
 use crate::memory::place::{NOWHERE, behind_pointer, part_place};
-use crate::memory::variants::{case_payloads, empty_block, has_bytes, load_tag, payload_place};
+use crate::memory::variants::{case_payloads, empty_block, load_tag, payload_place};
 use crate::memory::word::{load_word, scalar_load};
 use abi_bindgen::{Bindgen, Instruction, Operand, field_types, only, part_count, send_one};
 use std::alloc::Global;
@@ -38,6 +40,7 @@ pub fn lift_from_memory<B: Bindgen>(
     address: B::Operand,
     ty: &WitType,
 ) -> Result<B::Operand, OutOfMemory>
+    requires well { IsWellFormed resolve.now }
     requires down { GoesDown resolve.now.types }
     requires below { IsTrue (type_below (length resolve.now.types) ty.now) }
     requires knows { B.meaning.knows bindgen.old resolve.now.types }
@@ -58,6 +61,7 @@ pub(crate) fn load_type<B: Bindgen>(
     offset: ArchitectureSize,
     ty: WitType,
 ) -> Result<B::Operand, OutOfMemory>
+    requires well { IsWellFormed resolve.now }
     requires down { GoesDown resolve.now.types }
     requires below { IsTrue (type_below (length resolve.now.types) ty) }
     requires knows { B.meaning.knows bindgen.old resolve.now.types }
@@ -84,6 +88,7 @@ fn load_id<B: Bindgen>(
     offset: ArchitectureSize,
     id: TypeId,
 ) -> Result<B::Operand, OutOfMemory>
+    requires well { IsWellFormed resolve.now }
     requires down { GoesDown resolve.now.types }
     requires within { id.0 < length resolve.now.types }
     requires knows { B.meaning.knows bindgen.old resolve.now.types }
@@ -92,7 +97,8 @@ fn load_id<B: Bindgen>(
 {
     let types = resolve.types.as_slice();
     let at = id.0 as usize;
-    match &types[at].kind {
+    let kind = &types[at].kind;
+    match kind {
         TypeDefKind::Alias(ty) => load_type(alloc, resolve, bindgen, address, offset, *ty),
         TypeDefKind::Record(members) => {
             let tys = field_types(alloc, members.as_slice())?;
@@ -114,8 +120,10 @@ fn load_id<B: Bindgen>(
         TypeDefKind::Flags(members) => {
             load_flags(alloc, resolve, bindgen, address, offset, id, members)
         }
-        TypeDefKind::Variant(_) | TypeDefKind::Option(_) | TypeDefKind::Result(_, _) => {
-            load_variant(alloc, resolve, bindgen, address, offset, id)
+        TypeDefKind::Variant(_) => load_variant(alloc, resolve, bindgen, address, offset, id, kind),
+        TypeDefKind::Option(_) => load_variant(alloc, resolve, bindgen, address, offset, id, kind),
+        TypeDefKind::Result(_, _) => {
+            load_variant(alloc, resolve, bindgen, address, offset, id, kind)
         }
         _ => Err(OutOfMemory),
     }
@@ -130,16 +138,16 @@ fn load_variant<B: Bindgen>(
     address: &B::Operand,
     offset: ArchitectureSize,
     id: TypeId,
+    kind: &TypeDefKind,
 ) -> Result<B::Operand, OutOfMemory>
+    requires well { IsWellFormed resolve.now }
     requires down { GoesDown resolve.now.types }
-    requires within { id.0 < length resolve.now.types }
+    requires here { IsKindOf resolve.now.types id.0 kind.now }
+    requires cases { has_cases kind.now ≡ true }
     requires knows { B.meaning.knows bindgen.old resolve.now.types }
     ensures loads { IfOk result (λ r. LiftsFromMemory B.meaning (shape_at resolve.now.types id.0) address.now offset r bindgen.old bindgen.new) }
     ensures sends { OnOk result (Sends B.meaning resolve.now.types (load_code resolve.now.types (Id id) offset) bindgen.old bindgen.new) }
 {
-    let types = resolve.types.as_slice();
-    let at = id.0 as usize;
-    let kind = &types[at].kind;
     let payloads = case_payloads(alloc, kind)?;
     let lift = case_lifting(kind, id);
     let place = payload_place(bindgen, id, offset)?;
@@ -162,6 +170,7 @@ fn load_cases<B: Bindgen>(
     id: TypeId,
     payloads: &[Option<WitType>],
 ) -> Result<(), OutOfMemory>
+    requires well { IsWellFormed resolve.now }
     requires down { GoesDown resolve.now.types }
     requires within { id.0 < length resolve.now.types }
     requires below { list_all (λ p. payload_below id.0 p) payloads.now ≡ true }
@@ -186,6 +195,7 @@ fn load_case<B: Bindgen>(
     id: TypeId,
     payload: Option<WitType>,
 ) -> Result<(), OutOfMemory>
+    requires well { IsWellFormed resolve.now }
     requires down { GoesDown resolve.now.types }
     requires within { id.0 < length resolve.now.types }
     requires below { payload_below id.0 payload ≡ true }
@@ -216,6 +226,7 @@ fn load_payload<B: Bindgen>(
     id: TypeId,
     ty: WitType,
 ) -> Result<(), OutOfMemory>
+    requires well { IsWellFormed resolve.now }
     requires down { GoesDown resolve.now.types }
     requires within { id.0 < length resolve.now.types }
     requires below { type_below id.0 ty ≡ true }
@@ -223,9 +234,6 @@ fn load_payload<B: Bindgen>(
     ensures loads { OnOk result (LoadsCase B.meaning 1 (shape_of resolve.now.types ty) address.now place bindgen.old bindgen.new) }
     ensures sends { OnOk result (Sends B.meaning resolve.now.types (opens ∷ load_code resolve.now.types ty place ++ closes ∷ []) bindgen.old bindgen.new) }
 {
-    if !has_bytes(bindgen, ty) {
-        return Err(OutOfMemory);
-    }
     bindgen.push_block()?;
     let value = load_type(alloc, resolve, bindgen, address, place, ty)?;
     let mut results = only(alloc, value)?;
@@ -244,6 +252,7 @@ fn load_parts<B: Bindgen>(
     id: TypeId,
     tys: &[WitType],
 ) -> Result<List<B::Operand>, OutOfMemory>
+    requires well { IsWellFormed resolve.now }
     requires down { GoesDown resolve.now.types }
     requires within { id.0 < length resolve.now.types }
     requires below { list_all (λ ty. type_below id.0 ty) tys.now ≡ true }

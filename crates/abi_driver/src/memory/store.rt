@@ -2,6 +2,7 @@
 
 ghost use Rattle.std.specs.Prelude.{◌≡◌, ◌<◌, ◌≤◌, ◌^◌, ◌∷◌, ◌++◌, [], Bool, IsTrue, true, length, option_map, Some, OnOk};
 ghost use Rattle.std.specs.List.{list_all};
+ghost use Rattle.wit_model.specs.WellFormed.{IsWellFormed};
 ghost use Rattle.wit_model.specs.TypeOrder.{GoesDown, payload_below, type_below};
 ghost use Rattle.wit_model.specs.declared.types.WitType.TheVariants.{Id, String};
 ghost use Rattle.wit_layout.specs.Extent.{discriminant_grain};
@@ -9,7 +10,8 @@ ghost use Rattle.wit_layout.specs.Tree.{tree_at};
 ghost use Rattle.wrapper_meaning.specs.Shape.{payload_in, payloads_in, shape_at, shape_of, shapes};
 ghost use Rattle.wrapper_meaning.specs.Shape.Shape.{text};
 ghost use Rattle.abi_bindgen.specs.Code.{beyond, each, in_blocks, place_in, store_case, store_code};
-ghost use Rattle.abi_bindgen.specs.Instructions.{IsSide, lowering, shapes_of};
+ghost use Rattle.abi_bindgen.specs.HasList.{IsKindOf};
+ghost use Rattle.abi_bindgen.specs.Instructions.{IsSide, has_cases, lowering, shapes_of};
 ghost use Rattle.abi_bindgen.specs.ScalarTouches.{scalar_store};
 ghost use Rattle.abi_bindgen.specs.Places.{HasParts};
 ghost use Rattle.abi_bindgen.specs.Sends.{Sends};
@@ -21,7 +23,7 @@ use crate::memory::enums::store_enum;
 use crate::memory::flags::store_flags;
 use crate::memory::place::{NOWHERE, behind_pointer, part_place};
 use crate::memory::variants::{
-    case_payloads, close, has_bytes, payload, payload_place, store_bare, store_tag,
+    case_payloads, close, payload, payload_place, store_bare, store_tag,
 };
 use crate::memory::word::{scalar_store, store_word};
 use abi_bindgen::{
@@ -45,6 +47,7 @@ pub fn lower_to_memory<B: Bindgen>(
     ty: &WitType,
     realloc: bool,
 ) -> Result<(), OutOfMemory>
+    requires well { IsWellFormed resolve.now }
     requires down { GoesDown resolve.now.types }
     requires below { IsTrue (type_below (length resolve.now.types) ty.now) }
     requires side { IsSide B.meaning realloc bindgen.old }
@@ -70,6 +73,7 @@ pub(crate) fn store_type<B: Bindgen>(
     ty: WitType,
     realloc: bool,
 ) -> Result<(), OutOfMemory>
+    requires well { IsWellFormed resolve.now }
     requires down { GoesDown resolve.now.types }
     requires below { IsTrue (type_below (length resolve.now.types) ty) }
     requires side { IsSide B.meaning realloc bindgen.old }
@@ -99,6 +103,7 @@ fn store_id<B: Bindgen>(
     id: TypeId,
     realloc: bool,
 ) -> Result<(), OutOfMemory>
+    requires well { IsWellFormed resolve.now }
     requires down { GoesDown resolve.now.types }
     requires within { id.0 < length resolve.now.types }
     requires side { IsSide B.meaning realloc bindgen.old }
@@ -108,7 +113,8 @@ fn store_id<B: Bindgen>(
 {
     let types = resolve.types.as_slice();
     let at = id.0 as usize;
-    match &types[at].kind {
+    let kind = &types[at].kind;
+    match kind {
         TypeDefKind::Alias(ty) => store_type(
             alloc, resolve, bindgen, address, offset, value, *ty, realloc,
         ),
@@ -136,9 +142,15 @@ fn store_id<B: Bindgen>(
         TypeDefKind::Flags(members) => {
             store_flags(alloc, resolve, bindgen, address, offset, value, id, members)
         }
-        TypeDefKind::Variant(_) | TypeDefKind::Option(_) | TypeDefKind::Result(_, _) => {
-            store_variant(alloc, resolve, bindgen, address, offset, value, id, realloc)
-        }
+        TypeDefKind::Variant(_) => store_variant(
+            alloc, resolve, bindgen, address, offset, value, id, kind, realloc,
+        ),
+        TypeDefKind::Option(_) => store_variant(
+            alloc, resolve, bindgen, address, offset, value, id, kind, realloc,
+        ),
+        TypeDefKind::Result(_, _) => store_variant(
+            alloc, resolve, bindgen, address, offset, value, id, kind, realloc,
+        ),
         _ => Err(OutOfMemory),
     }
 }
@@ -153,18 +165,18 @@ fn store_variant<B: Bindgen>(
     offset: ArchitectureSize,
     value: B::Operand,
     id: TypeId,
+    kind: &TypeDefKind,
     realloc: bool,
 ) -> Result<(), OutOfMemory>
+    requires well { IsWellFormed resolve.now }
     requires down { GoesDown resolve.now.types }
-    requires within { id.0 < length resolve.now.types }
+    requires here { IsKindOf resolve.now.types id.0 kind.now }
+    requires cases { has_cases kind.now ≡ true }
     requires side { IsSide B.meaning realloc bindgen.old }
     requires knows { B.meaning.knows bindgen.old resolve.now.types }
     ensures stores { OnOk result (LowersToMemory B.meaning realloc (shape_at resolve.now.types id.0) value address.now offset bindgen.old bindgen.new) }
     ensures sends { OnOk result (Sends B.meaning resolve.now.types (store_code resolve.now.types realloc (Id id) offset) bindgen.old bindgen.new) }
 {
-    let types = resolve.types.as_slice();
-    let at = id.0 as usize;
-    let kind = &types[at].kind;
     let payloads = case_payloads(alloc, kind)?;
     let lower = case_lowering(kind, id, 0);
     let place = payload_place(bindgen, id, offset)?;
@@ -189,6 +201,7 @@ fn store_cases<B: Bindgen>(
     payloads: &[Option<WitType>],
     realloc: bool,
 ) -> Result<(), OutOfMemory>
+    requires well { IsWellFormed resolve.now }
     requires down { GoesDown resolve.now.types }
     requires within { id.0 < length resolve.now.types }
     requires below { list_all (λ p. payload_below id.0 p) payloads.now ≡ true }
@@ -234,6 +247,7 @@ fn store_case<B: Bindgen>(
     payload: Option<WitType>,
     realloc: bool,
 ) -> Result<(), OutOfMemory>
+    requires well { IsWellFormed resolve.now }
     requires down { GoesDown resolve.now.types }
     requires within { id.0 < length resolve.now.types }
     requires below { payload_below id.0 payload ≡ true }
@@ -273,6 +287,7 @@ fn store_payload<B: Bindgen>(
     ty: WitType,
     realloc: bool,
 ) -> Result<(), OutOfMemory>
+    requires well { IsWellFormed resolve.now }
     requires down { GoesDown resolve.now.types }
     requires within { id.0 < length resolve.now.types }
     requires below { type_below id.0 ty ≡ true }
@@ -283,9 +298,6 @@ fn store_payload<B: Bindgen>(
     ensures stores { OnOk result (StoresCase B.meaning realloc (discriminant_grain count) number (shape_of resolve.now.types ty) address.now offset place bindgen.old bindgen.new) }
     ensures sends { OnOk result (Sends B.meaning resolve.now.types (opens ∷ store_case count offset place number (Some (store_code resolve.now.types realloc ty)) ++ closes ∷ []) bindgen.old bindgen.new) }
 {
-    if !has_bytes(bindgen, ty) {
-        return Err(OutOfMemory);
-    }
     bindgen.push_block()?;
     let value = payload(alloc, resolve, bindgen)?;
     store_tag(alloc, resolve, bindgen, address, offset, count, number)?;
@@ -307,6 +319,7 @@ fn store_parts<B: Bindgen>(
     parts: &List<B::Operand>,
     realloc: bool,
 ) -> Result<(), OutOfMemory>
+    requires well { IsWellFormed resolve.now }
     requires down { GoesDown resolve.now.types }
     requires within { id.0 < length resolve.now.types }
     requires below { list_all (λ ty. type_below id.0 ty) tys.now ≡ true }

@@ -26,20 +26,20 @@ use abi_bindgen::{
 use std::alloc::Global;
 use wit_model::{ArchitectureSize, List, OutOfMemory, Resolve, TypeDefKind, TypeId, WitType};
 
-/// The payloads of the cases of a variant, an option or a result; of any other kind the answer is `OutOfMemory`.
+/// The payloads of the cases of a variant, an option or a result.
 pub(crate) fn case_payloads(
     alloc: Global,
     kind: &TypeDefKind,
 ) -> Result<List<Option<WitType>>, OutOfMemory>
-    ensures has { OnOk result (has_cases kind.now ≡ true) }
-    ensures payloads { IfOk result (λ payloads. payloads ≡ payloads_of kind.now) }
+    requires { has_cases kind.now ≡ true }
+    ensures { IfOk result (λ payloads. payloads ≡ payloads_of kind.now) }
 {
     match kind {
         TypeDefKind::Variant(_) | TypeDefKind::Option(_) | TypeDefKind::Result(_, _) => {
             let payloads = kind_payloads(alloc, kind)?;
             Ok(payloads)
         }
-        _ => Err(OutOfMemory),
+        _ => unreachable!(),
     }
 }
 
@@ -58,18 +58,6 @@ pub(crate) fn payload_place<B: Bindgen>(
     }
     let whole = sum(offset, sizes.payload_offset(id))?;
     Ok(whole)
-}
-
-/// Whether a type takes bytes, as each type of a well-formed table does.
-pub(crate) fn has_bytes<B: Bindgen>(bindgen: &B, ty: WitType) -> bool
-    ensures { IsTrue result → (types : List TypeDef) → B.meaning.knows bindgen.now types → is_nothing (shape_of types ty) ≡ false }
-{
-    let sizes = bindgen.sizes();
-    if !sizes.has_size(&ty) {
-        return false;
-    }
-    let size = sizes.size(&ty);
-    size.bytes != 0 || size.pointers != 0
 }
 
 /// What denotes the payload of the innermost open block.

@@ -36,6 +36,7 @@ store_type-requires g c =
     let adds = c.loop-i.invariant.adds.grows in
     let reads = c.in_ok-value.ensures.adds.grows in
     record {
+      well = c.requires.well;
       down = c.requires.down;
       below = part_below_within (length c.args.resolve.now.types) c.args.tys.now c.requires.below c.loop-i.i wit.Bool short (length c.args.resolve.now.types) (omega arith);
       side = reads.imports ∙ adds.imports ∙ c.requires.serves;

@@ -9,7 +9,7 @@ use Rattle.abi_driver.proofs.calls.export.store_answer.Goals as goal
 pub store_type-requires : goal.store_type-requires
 store_type-requires g c =
     let grows = c.in_ok-address.ensures.points.2.grows in
-    record { down = c.requires.down; below = c.requires.below; side = grows.exports ∙ c.requires.serves; knows = grows.knows c.args.resolve.now.types c.requires.knows }
+    record { well = c.requires.well; down = c.requires.down; below = c.requires.below; side = grows.exports ∙ c.requires.serves; knows = grows.knows c.args.resolve.now.types c.requires.knows }
 
 pub returns : goal.returns
 returns g c =

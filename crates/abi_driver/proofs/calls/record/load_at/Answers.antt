@@ -20,6 +20,7 @@ load_type-requires g c =
     let types = c.args.resolve.now.types in
     let short : c.loop-i.i < length c.args.tys.now = omega (arith, c.loop-i-test.true) in
     record {
+      well = c.requires.well;
       down = c.requires.down;
       below = part_below_within (length types) c.args.tys.now c.requires.below c.loop-i.i wit.Bool short (length types) (omega arith);
       knows = c.loop-i.invariant.adds.grows.knows types c.requires.knows;

@@ -2,6 +2,7 @@ use Rattle.std.proofs.Common.{◌≡◌, ℕ, ◌<◌, ◌≤◌, ◌+◌, ◌^�
 use Rattle.std.specs.List.{list_all, slice_index}
 use Rattle.std.proofs.lemmas.Bool.{ltb-true}
 use Rattle.std.proofs.lemmas.List.{drop_more}
+use Rattle.std.proofs.lemmas.Option.{slice_get_within}
 use Rattle.wit_model.specs.Size.{bytes_at}
 use Rattle.wit_model.specs.TypeOrder.{payload_below, type_below}
 use Rattle.wit_model.specs.declared.types.Field.{Field}
@@ -18,7 +19,8 @@ use Rattle.wrapper_meaning.specs.Shape.{payload_in, payloads_in, shape_of, shape
 use Rattle.abi_bindgen.specs.Code.{at_payload, beyond, each, free_code, place_in}
 use Rattle.abi_driver.specs.FreedCases.{FreesPayload}
 use Rattle.abi_bindgen.specs.Frees.{FreesInMemory}
-use Rattle.abi_bindgen.specs.Instructions.{HasBlocks, field_shapes, shapes_of}
+use Rattle.abi_bindgen.specs.HasList.{IsKindOf}
+use Rattle.abi_bindgen.specs.Instructions.{HasBlocks, field_shapes, shapes_of, has_cases}
 use Rattle.abi_bindgen.specs.Parts.{count}
 use Rattle.abi_bindgen.specs.Places.{HasParts, IsOfParts}
 use Rattle.abi_bindgen.specs.Sent.{Sent, closes, opens}
@@ -228,19 +230,49 @@ free_type-returns-in-Some g t c =
       sends = sends_as m types [] _ _ _ (free_scalar_code types c.args.offset c.args.ty c.in-Some._lift is) refl;
     }
 
-pub free_variant-free_cases-requires : goal.free_variant-free_cases-requires
-free_variant-free_cases-requires g t c κs within =
-    let m = g.B.Bindgen.meaning in
+pub free_id-free_variant-requires : goal.free_id-free_variant-requires
+free_id-free_variant-requires g t c κs within =
     let types = c.args.resolve.now.types in
     let d = c.index-types-at.result in
     let at = entry_at types c.as_slice-types.result.now c.args.id.0 d c.as_slice-types.ensures c.requires.within c.index-types-at.is in
     let k = (get_or c.as_slice-types.result.now c.args.id.0 d).kind in
-    let is : d.kind ≡ k = ap (λ (x : TypeDef). x.kind) c.index-types-at.is in
-    let same = c.as_slice-tys.ensures ∙ c.in_ok-payloads.ensures.payloads in
-    let below = subst (λ (ps : List (Option WitType)). list_all (λ p. payload_below c.args.id.0 p) ps ≡ true) (sym same) (variant_below types c.requires.down c.args.id.0 k (record { entry = d; stands = at; kind = is }) c.in_ok-payloads.ensures.has) in
+    let here : IsKindOf types c.args.id.0 k = record { entry = d; stands = at; kind = ap (λ (x : TypeDef). x.kind) c.index-types-at.is } in
+    let cases : has_cases k ≡ true = ap has_cases c.in-Variant.is in
+    (omega arith, (within.0, (within.1, (c.requires.down, (here, (cases, c.requires.knows))))))
+
+pub free_id-free_variant-requires-in-Option : goal.free_id-free_variant-requires-in-Option
+free_id-free_variant-requires-in-Option g t c κs within =
+    let types = c.args.resolve.now.types in
+    let d = c.index-types-at.result in
+    let at = entry_at types c.as_slice-types.result.now c.args.id.0 d c.as_slice-types.ensures c.requires.within c.index-types-at.is in
+    let k = (get_or c.as_slice-types.result.now c.args.id.0 d).kind in
+    let here : IsKindOf types c.args.id.0 k = record { entry = d; stands = at; kind = ap (λ (x : TypeDef). x.kind) c.index-types-at.is } in
+    let cases : has_cases k ≡ true = ap has_cases c.in-Option.is in
+    (omega arith, (within.0, (within.1, (c.requires.down, (here, (cases, c.requires.knows))))))
+
+pub free_id-free_variant-requires-in-Result : goal.free_id-free_variant-requires-in-Result
+free_id-free_variant-requires-in-Result g t c κs within =
+    let types = c.args.resolve.now.types in
+    let d = c.index-types-at.result in
+    let at = entry_at types c.as_slice-types.result.now c.args.id.0 d c.as_slice-types.ensures c.requires.within c.index-types-at.is in
+    let k = (get_or c.as_slice-types.result.now c.args.id.0 d).kind in
+    let here : IsKindOf types c.args.id.0 k = record { entry = d; stands = at; kind = ap (λ (x : TypeDef). x.kind) c.index-types-at.is } in
+    let cases : has_cases k ≡ true = ap has_cases c.in-Result.is in
+    (omega arith, (within.0, (within.1, (c.requires.down, (here, (cases, c.requires.knows))))))
+
+pub free_variant-free_cases-requires : goal.free_variant-free_cases-requires
+free_variant-free_cases-requires g t c κs within =
+    let m = g.B.Bindgen.meaning in
+    let types = c.args.resolve.now.types in
+    let d = c.requires.here.entry in
+    let at = c.requires.here.stands in
+    let k = c.args.kind.now in
+    let is : d.kind ≡ k = c.requires.here.kind in
+    let same = c.as_slice-tys.ensures ∙ c.in_ok-payloads.ensures in
+    let below = subst (λ (ps : List (Option WitType)). list_all (λ p. payload_below c.args.id.0 p) ps ≡ true) (sym same) (variant_below types c.requires.down c.args.id.0 k (record { entry = d; stands = at; kind = is }) c.requires.cases) in
     let loaded = number_load_adds m g.met.B.Bindgen.sound types (discriminant_grain (length c.as_slice-tys.result.now)) c.args.offset (c.args.address.now ∷ []) (c.in_ok-tag.tag ∷ []) _ _ c.in_ok-tag.ensures.loads in
     let knows = loaded.grows.knows types c.requires.knows in
-    (omega arith, (within.0, (within.1, (c.requires.down, (c.requires.within, (below, knows))))))
+    (omega arith, (within.0, (within.1, (c.requires.down, ((slice_get_within types c.args.id.0 d at), (below, knows))))))
 
 pub free_variant-run_case-requires : goal.free_variant-run_case-requires
 free_variant-run_case-requires g t c =
@@ -256,22 +288,22 @@ pub free_variant-returns-then-not-id_has_list : goal.free_variant-returns-then-n
 free_variant-returns-then-not-id_has_list g t c =
     let m = g.B.Bindgen.meaning in
     let types = c.args.resolve.now.types in
-    let d = c.index-types-at.result in
-    let at = entry_at types c.as_slice-types.result.now c.args.id.0 d c.as_slice-types.ensures c.requires.within c.index-types-at.is in
-    let k = (get_or c.as_slice-types.result.now c.args.id.0 d).kind in
-    let is : d.kind ≡ k = ap (λ (x : TypeDef). x.kind) c.index-types-at.is in
-    freed_none m g.met.B.Bindgen.sound types c.requires.down c.args.id d at k c.in_ok-payloads.ensures.has is (sym c.id_has_list.ensures ∙ c.if-not-id_has_list.true) _ c.args.address.now c.args.offset
+    let d = c.requires.here.entry in
+    let at = c.requires.here.stands in
+    let k = c.args.kind.now in
+    let is : d.kind ≡ k = c.requires.here.kind in
+    freed_none m g.met.B.Bindgen.sound types c.requires.down c.args.id d at k c.requires.cases is (sym c.id_has_list.ensures ∙ c.if-not-id_has_list.true) _ c.args.address.now c.args.offset
 
 pub free_variant-returns : goal.free_variant-returns
 free_variant-returns g t c =
     let m = g.B.Bindgen.meaning in
     let types = c.args.resolve.now.types in
-    let d = c.index-types-at.result in
-    let at = entry_at types c.as_slice-types.result.now c.args.id.0 d c.as_slice-types.ensures c.requires.within c.index-types-at.is in
-    let k = (get_or c.as_slice-types.result.now c.args.id.0 d).kind in
-    let is : d.kind ≡ k = ap (λ (x : TypeDef). x.kind) c.index-types-at.is in
-    let same = c.as_slice-tys.ensures ∙ c.in_ok-payloads.ensures.payloads in
-    let has = c.in_ok-payloads.ensures.has in
+    let d = c.requires.here.entry in
+    let at = c.requires.here.stands in
+    let k = c.args.kind.now in
+    let is : d.kind ≡ k = c.requires.here.kind in
+    let same = c.as_slice-tys.ensures ∙ c.in_ok-payloads.ensures in
+    let has = c.requires.cases in
     let tys = c.as_slice-tys.result.now in
     let found = c.in_ok-place.ensures types d c.requires.knows at (ap is_alias is ∙ cases_no_alias m.width types k has) in
     let some = sym c.id_has_list.ensures ∙ c.if-not-id_has_list.false in

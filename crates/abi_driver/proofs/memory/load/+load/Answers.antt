@@ -2,6 +2,7 @@ use Rattle.std.proofs.Common.{◌≡◌, ℕ, ◌<◌, ◌≤◌, ◌+◌, ◌^�
 use Rattle.std.specs.List.{list_all, slice_index}
 use Rattle.std.proofs.lemmas.Bool.{ltb-true}
 use Rattle.std.proofs.lemmas.List.{drop_more, length-append, length-map}
+use Rattle.std.proofs.lemmas.Option.{slice_get_within}
 use Rattle.wit_model.specs.Size.{bytes_at}
 use Rattle.wit_model.specs.TypeOrder.{payload_below, type_below}
 use Rattle.wit_model.specs.declared.types.Field.{Field}
@@ -19,7 +20,8 @@ use Rattle.abi_bindgen.specs.declared.instruction.Instruction.{Instruction}
 use Rattle.abi_bindgen.specs.declared.instruction.Instruction.TheVariants.{RecordLift, TupleLift}
 use Rattle.abi_bindgen.specs.Cases.{result_counts}
 use Rattle.abi_bindgen.specs.Code.{at_payload, beyond, each, load_code, place_in}
-use Rattle.abi_bindgen.specs.Instructions.{Emits, HasBlocks, IsRecord, IsSendable, Makes, case_lifting, shapes_of}
+use Rattle.abi_bindgen.specs.HasList.{IsKindOf}
+use Rattle.abi_bindgen.specs.Instructions.{Emits, HasBlocks, IsRecord, IsSendable, Makes, case_lifting, shapes_of, has_cases}
 use Rattle.abi_bindgen.specs.Blocks.{Finishes, IsOpen}
 use Rattle.abi_driver.specs.LoadedCases.{LoadsCase}
 use Rattle.abi_bindgen.specs.Sends.{Sends}
@@ -30,7 +32,7 @@ use Rattle.abi_driver.proofs.CaseInstructions.{lifting_sendable}
 use Rattle.abi_driver.proofs.LiftedVariants.{lifting_makes}
 use Rattle.abi_driver.proofs.CaseLoads.{bare_loads, payload_loads, rest_last as last_case, rest_next as next_case}
 use Rattle.abi_driver.proofs.CaseSteps.{are_finished, resumes_both, resumes_same}
-use Rattle.abi_bindgen.proofs.Payloads.{variant_below}
+use Rattle.abi_bindgen.proofs.Payloads.{payload_some, variant_below}
 use Rattle.abi_driver.proofs.NumberWords.{number_load_adds}
 use Rattle.abi_driver.proofs.VariantLoads.{loaded_variant}
 use Rattle.abi_driver.proofs.LoadSteps.{loads_as, loads_parts_as, record_loads, rest_last, rest_next, tuple_loads}
@@ -48,7 +50,7 @@ load_type-load_id-requires g t c κs within =
     let n = length c.args.resolve.now.types in
     let deep : rank c.args.ty ≡ c.in-Id.id.0 + 1 = ap rank c.in-Id.is ∙ omega arith in
     let inside : c.in-Id.id.0 < n = ltb-true c.in-Id.id.0 n (ap (type_below n) (sym c.in-Id.is) ∙ c.requires.below) in
-    (omega arith, (within.0, (within.1, (c.requires.down, (inside, c.requires.knows)))))
+    (omega arith, (within.0, (within.1, (c.requires.well, (c.requires.down, (inside, c.requires.knows))))))
 
 pub load_type-returns-in-String : goal.load_type-returns-in-String
 load_type-returns-in-String g t c =
@@ -78,7 +80,7 @@ load_id-load_type-requires g t c κs within =
     let is = kind_at c.as_slice-types.result.now c.args.id.0 d (kind.Alias c.in-Alias.ty) c.index-types-at.is c.in-Alias.is in
     let low : rank c.in-Alias.ty ≤ c.args.id.0 = alias_rank types c.requires.down c.args.id.0 d at c.in-Alias.ty is in
     let below = alias_below types c.requires.down c.args.id.0 d at c.in-Alias.ty is c.requires.within in
-    (omega (arith, low), (within.0, (within.1, (c.requires.down, (below, c.requires.knows)))))
+    (omega (arith, low), (within.0, (within.1, (c.requires.well, (c.requires.down, (below, c.requires.knows))))))
 
 pub load_id-load_parts-requires : goal.load_id-load_parts-requires
 load_id-load_parts-requires g t c κs within =
@@ -91,7 +93,7 @@ load_id-load_parts-requires g t c κs within =
     let same : read ≡ map (λ (f : Field). f.ty) members = c.as_slice-tys.ensures ∙ c.in_ok-tys-in-Record.ensures ∙ ap (map (λ (f : Field). f.ty)) c.as_slice.ensures in
     let below = subst (λ (xs : List WitType). list_all (λ ty. type_below c.args.id.0 ty) xs ≡ true) (sym same) (record_below types c.requires.down c.args.id.0 d at members is) in
     let parts : HasParts types c.args.id.0 read = (d, at, subst (λ k. IsOfParts k read) (sym is) same) in
-    (omega arith, (within.0, (within.1, (c.requires.down, (c.requires.within, (below, (parts, c.requires.knows)))))))
+    (omega arith, (within.0, (within.1, (c.requires.well, (c.requires.down, (c.requires.within, (below, (parts, c.requires.knows))))))))
 
 pub load_id-send_one-requires-clause-ready : goal.load_id-send_one-requires-clause-ready
 load_id-send_one-requires-clause-ready g t c =
@@ -114,7 +116,7 @@ load_id-load_parts-requires-in-Tuple g t c κs within =
     let read = c.as_slice-tys-in-Tuple.result.now in
     let below = subst (λ (xs : List WitType). list_all (λ ty. type_below c.args.id.0 ty) xs ≡ true) (sym c.as_slice-tys-in-Tuple.ensures) (tuple_below types c.requires.down c.args.id.0 d at c.in-Tuple.members is) in
     let parts : HasParts types c.args.id.0 read = (d, at, subst (λ k. IsOfParts k read) (sym is) c.as_slice-tys-in-Tuple.ensures) in
-    (omega arith, (within.0, (within.1, (c.requires.down, (c.requires.within, (below, (parts, c.requires.knows)))))))
+    (omega arith, (within.0, (within.1, (c.requires.well, (c.requires.down, (c.requires.within, (below, (parts, c.requires.knows))))))))
 
 pub load_id-returns-in-Alias : goal.load_id-returns-in-Alias
 load_id-returns-in-Alias g t c =
@@ -186,7 +188,7 @@ load_parts-load_type-requires g t c κs within =
     let low : rank (get_or c.args.tys.now c.loop-i.i wit.Bool) ≤ c.args.id.0 = part_ranked c.args.id.0 c.args.tys.now c.requires.below c.loop-i.i wit.Bool short in
     let below = part_below_table c.args.id.0 c.args.tys.now c.requires.below c.loop-i.i wit.Bool short (length types) c.requires.within in
     let knows = c.loop-i.invariant.adds.grows.knows types c.requires.knows in
-    (omega (arith, low), (within.0, (within.1, (c.requires.down, (below, knows)))))
+    (omega (arith, low), (within.0, (within.1, (c.requires.well, (c.requires.down, (below, knows))))))
 
 pub load_parts-loop-i-preserved : goal.load_parts-loop-i-preserved
 load_parts-loop-i-preserved g t c =
@@ -224,53 +226,82 @@ load_parts-returns-clause-sends g t c =
     let code : ℕ → WitType → List Sent = λ n ty. load_code types ty (beyond c.args.offset (place_in (tree_at types c.args.id.0) n)) in
     sends_last g.B.Bindgen.meaning types code c.args.tys.now c.loop-i.i _ _ ended c.loop-i.invariant.sent
 
-pub load_variant-load_cases-requires : goal.load_variant-load_cases-requires
-load_variant-load_cases-requires g t c κs within =
-    let m = g.B.Bindgen.meaning in
+pub load_id-load_variant-requires : goal.load_id-load_variant-requires
+load_id-load_variant-requires g t c κs within =
     let types = c.args.resolve.now.types in
     let d = c.index-types-at.result in
     let at = entry_at types c.as_slice-types.result.now c.args.id.0 d c.as_slice-types.ensures c.requires.within c.index-types-at.is in
     let k = (get_or c.as_slice-types.result.now c.args.id.0 d).kind in
-    let is : d.kind ≡ k = ap (λ (x : TypeDef). x.kind) c.index-types-at.is in
-    let same = c.as_slice-tys.ensures ∙ c.in_ok-payloads.ensures.payloads in
-    let below = subst (λ (ps : List (Option WitType)). list_all (λ p. payload_below c.args.id.0 p) ps ≡ true) (sym same) (variant_below types c.requires.down c.args.id.0 k (record { entry = d; stands = at; kind = is }) c.in_ok-payloads.ensures.has) in
+    let here : IsKindOf types c.args.id.0 k = record { entry = d; stands = at; kind = ap (λ (x : TypeDef). x.kind) c.index-types-at.is } in
+    let cases : has_cases k ≡ true = ap has_cases c.in-Variant.is in
+    (omega arith, (within.0, (within.1, (c.requires.well, (c.requires.down, (here, (cases, c.requires.knows)))))))
+
+pub load_id-load_variant-requires-in-Option : goal.load_id-load_variant-requires-in-Option
+load_id-load_variant-requires-in-Option g t c κs within =
+    let types = c.args.resolve.now.types in
+    let d = c.index-types-at.result in
+    let at = entry_at types c.as_slice-types.result.now c.args.id.0 d c.as_slice-types.ensures c.requires.within c.index-types-at.is in
+    let k = (get_or c.as_slice-types.result.now c.args.id.0 d).kind in
+    let here : IsKindOf types c.args.id.0 k = record { entry = d; stands = at; kind = ap (λ (x : TypeDef). x.kind) c.index-types-at.is } in
+    let cases : has_cases k ≡ true = ap has_cases c.in-Option.is in
+    (omega arith, (within.0, (within.1, (c.requires.well, (c.requires.down, (here, (cases, c.requires.knows)))))))
+
+pub load_id-load_variant-requires-in-Result : goal.load_id-load_variant-requires-in-Result
+load_id-load_variant-requires-in-Result g t c κs within =
+    let types = c.args.resolve.now.types in
+    let d = c.index-types-at.result in
+    let at = entry_at types c.as_slice-types.result.now c.args.id.0 d c.as_slice-types.ensures c.requires.within c.index-types-at.is in
+    let k = (get_or c.as_slice-types.result.now c.args.id.0 d).kind in
+    let here : IsKindOf types c.args.id.0 k = record { entry = d; stands = at; kind = ap (λ (x : TypeDef). x.kind) c.index-types-at.is } in
+    let cases : has_cases k ≡ true = ap has_cases c.in-Result.is in
+    (omega arith, (within.0, (within.1, (c.requires.well, (c.requires.down, (here, (cases, c.requires.knows)))))))
+
+pub load_variant-load_cases-requires : goal.load_variant-load_cases-requires
+load_variant-load_cases-requires g t c κs within =
+    let m = g.B.Bindgen.meaning in
+    let types = c.args.resolve.now.types in
+    let d = c.requires.here.entry in
+    let at = c.requires.here.stands in
+    let k = c.args.kind.now in
+    let is : d.kind ≡ k = c.requires.here.kind in
+    let same = c.as_slice-tys.ensures ∙ c.in_ok-payloads.ensures in
+    let below = subst (λ (ps : List (Option WitType)). list_all (λ p. payload_below c.args.id.0 p) ps ≡ true) (sym same) (variant_below types c.requires.down c.args.id.0 k (record { entry = d; stands = at; kind = is }) c.requires.cases) in
     let loaded = number_load_adds m g.met.B.Bindgen.sound types (discriminant_grain (length c.as_slice-tys.result.now)) c.args.offset (c.args.address.now ∷ []) (c.in_ok-tag.tag ∷ []) _ _ c.in_ok-tag.ensures.loads in
     let knows = loaded.grows.knows types c.requires.knows in
-    (omega arith, (within.0, (within.1, (c.requires.down, (c.requires.within, (below, knows))))))
+    (omega arith, (within.0, (within.1, (c.requires.well, (c.requires.down, ((slice_get_within types c.args.id.0 d at), (below, knows)))))))
 
 pub load_variant-send_one-requires-clause-ready : goal.load_variant-send_one-requires-clause-ready
 load_variant-send_one-requires-clause-ready g t c =
     let m = g.B.Bindgen.meaning in
     let types = c.args.resolve.now.types in
-    let d = c.index-types-at.result in
-    let at = entry_at types c.as_slice-types.result.now c.args.id.0 d c.as_slice-types.ensures c.requires.within c.index-types-at.is in
-    let k = (get_or c.as_slice-types.result.now c.args.id.0 d).kind in
-    let is : d.kind ≡ k = ap (λ (x : TypeDef). x.kind) c.index-types-at.is in
-    let same = c.as_slice-tys.ensures ∙ c.in_ok-payloads.ensures.payloads in
+    let d = c.requires.here.entry in
+    let at = c.requires.here.stands in
+    let k = c.args.kind.now in
+    let is : d.kind ≡ k = c.requires.here.kind in
+    let same = c.as_slice-tys.ensures ∙ c.in_ok-payloads.ensures in
     let tys = c.as_slice-tys.result.now in
     let loads = c.in_ok-load_cases.ensures.loads in
     let finished = are_finished m (result_counts tys) loads.bodies _ _ loads.adds in
     let has = subst (λ (ps : List (Option WitType)). HasBlocks m (reverse (result_counts ps)) c.load_cases.new.bindgen) same finished in
     let ready = subst (λ (i : Instruction). IsSendable m c.args.resolve.now i (c.in_ok-tag.tag ∷ []) c.load_cases.new.bindgen) (sym c.case_lifting-lift.ensures)
-    (lifting_sendable m c.args.resolve.now c.requires.down c.args.id c.in_ok-tag.tag _ k (record { entry = d; stands = at; kind = is }) c.in_ok-payloads.ensures.has has) in
+    (lifting_sendable m c.args.resolve.now c.requires.down c.args.id c.in_ok-tag.tag _ k (record { entry = d; stands = at; kind = is }) c.requires.cases has) in
     subst (λ (os : List g.row.B-Operand.Denot). IsSendable m c.args.resolve.now c.case_lifting-lift.result os c.load_cases.new.bindgen) (sym c.in_ok-operands.ensures) ready
 
 pub load_variant-send_one-requires-clause-makes : goal.load_variant-send_one-requires-clause-makes
 load_variant-send_one-requires-clause-makes g t c =
-    let d = c.index-types-at.result in
-    let k = (get_or c.as_slice-types.result.now c.args.id.0 d).kind in
+    let k = c.args.kind.now in
     λ n h. lifting_makes c.args.resolve.now.types k c.args.id n (subst (λ (i : Instruction). Makes c.args.resolve.now.types i n) c.case_lifting-lift.ensures h)
 
 pub load_variant-returns : goal.load_variant-returns
 load_variant-returns g t c =
     let m = g.B.Bindgen.meaning in
     let types = c.args.resolve.now.types in
-    let d = c.index-types-at.result in
-    let at = entry_at types c.as_slice-types.result.now c.args.id.0 d c.as_slice-types.ensures c.requires.within c.index-types-at.is in
-    let k = (get_or c.as_slice-types.result.now c.args.id.0 d).kind in
-    let is : d.kind ≡ k = ap (λ (x : TypeDef). x.kind) c.index-types-at.is in
-    let same = c.as_slice-tys.ensures ∙ c.in_ok-payloads.ensures.payloads in
-    let has = c.in_ok-payloads.ensures.has in
+    let d = c.requires.here.entry in
+    let at = c.requires.here.stands in
+    let k = c.args.kind.now in
+    let is : d.kind ≡ k = c.requires.here.kind in
+    let same = c.as_slice-tys.ensures ∙ c.in_ok-payloads.ensures in
+    let has = c.requires.cases in
     let lift = case_lifting k c.args.id in
     let tys = c.as_slice-tys.result.now in
     let tag = c.in_ok-tag.tag in
@@ -290,7 +321,7 @@ load_cases-load_case-requires g t c κs within =
     let short : c.loop-i.i < length c.args.payloads.now = omega (arith, c.loop-i-test.true) in
     let below = payload_low c.args.id.0 c.args.payloads.now c.requires.below c.loop-i.i None short in
     let knows = c.loop-i.invariant.resumes.knows c.args.resolve.now.types c.requires.knows in
-    (omega arith, (within.0, (within.1, (c.requires.down, (c.requires.within, (below, knows))))))
+    (omega arith, (within.0, (within.1, (c.requires.well, (c.requires.down, (c.requires.within, (below, knows)))))))
 
 pub load_cases-loop-i-preserved : goal.load_cases-loop-i-preserved
 load_cases-loop-i-preserved g t c =
@@ -322,7 +353,7 @@ load_cases-returns g t c =
 pub load_case-load_payload-requires : goal.load_case-load_payload-requires
 load_case-load_payload-requires g t c κs within =
     let below = payload_type_low c.args.id.0 c.in-Some.ty (subst (λ (p : Option WitType). payload_below c.args.id.0 p ≡ true) c.in-Some.is c.requires.below) in
-    (omega arith, (within.0, (within.1, (c.requires.down, (c.requires.within, (below, c.requires.knows))))))
+    (omega arith, (within.0, (within.1, (c.requires.well, (c.requires.down, (c.requires.within, (below, c.requires.knows)))))))
 
 pub load_case-returns-in_ok-empty_block-in-None : goal.load_case-returns-in_ok-empty_block-in-None
 load_case-returns-in_ok-empty_block-in-None g t c =
@@ -343,7 +374,7 @@ load_payload-load_type-requires g t c κs within =
     let low : rank c.args.ty ≤ c.args.id.0 = type_ranked c.args.id.0 c.args.ty c.requires.below in
     let below = type_below_table c.args.id.0 (length types) c.args.ty c.requires.below c.requires.within in
     let knows = c.in_ok-push_block.ensures.lasts.knows types c.requires.knows in
-    (omega (arith, low), (within.0, (within.1, (c.requires.down, (below, knows)))))
+    (omega (arith, low), (within.0, (within.1, (c.requires.well, (c.requires.down, (below, knows))))))
 
 pub load_payload-returns : goal.load_payload-returns
 load_payload-returns g t c =
@@ -351,7 +382,7 @@ load_payload-returns g t c =
     let types = c.args.resolve.now.types in
     let begins = c.in_ok-push_block.ensures in
     let part = c.in_ok-value.ensures in
-    let some = c.if-not-has_bytes.ensures refl types c.requires.knows in
+    let some = payload_some c.args.resolve.now c.requires.well c.args.ty (type_below_table c.args.id.0 (length types) c.args.ty c.requires.below c.requires.within) in
     let still : IsOpen m c.load_type.new.bindgen = record { slot = begins.slot; suspended = m.code c.args.bindgen.now; outer = m.opened c.args.bindgen.now; opened = part.loads.adds.grows.opened ∙ begins.opened } in
     let ends = subst (λ (os : List g.row.B-Operand.Denot). Finishes m os c.load_type.new.bindgen c.finish_block.new.self) c.in_ok-results.ensures (c.in_ok-finish_block.ensures still) in
     record {

@@ -2,6 +2,7 @@ use Rattle.std.proofs.Common.{◌≡◌, ℕ, ◌<◌, ◌≤◌, ◌+◌, ◌^�
 use Rattle.std.specs.List.{list_all, slice_index}
 use Rattle.std.proofs.lemmas.Bool.{ltb-true}
 use Rattle.std.proofs.lemmas.List.{drop_more, length-map}
+use Rattle.std.proofs.lemmas.Option.{slice_get_within}
 use Rattle.wit_model.specs.Size.{bytes_at}
 use Rattle.wit_model.specs.TypeOrder.{payload_below, type_below}
 use Rattle.wit_model.specs.declared.types.Field.{Field}
@@ -19,7 +20,8 @@ use Rattle.abi_bindgen.specs.declared.instruction.Instruction.TheVariants.{I32Co
 use Rattle.wrapper_meaning.specs.Shape.{Shape, payload_in, payloads_in, shape_of, shapes}
 use Rattle.abi_bindgen.specs.Cases.{payloads_of}
 use Rattle.abi_bindgen.specs.Code.{beyond, each, place_in, store_case, store_code}
-use Rattle.abi_bindgen.specs.Instructions.{Emits, HasBlocks, IsSendable, shapes_of}
+use Rattle.abi_bindgen.specs.HasList.{IsKindOf}
+use Rattle.abi_bindgen.specs.Instructions.{Emits, HasBlocks, IsSendable, shapes_of, has_cases}
 use Rattle.abi_bindgen.specs.NumberTouches.{tag_store}
 use Rattle.abi_bindgen.specs.Parts.{count}
 use Rattle.abi_bindgen.specs.Places.{HasParts, IsOfParts}
@@ -29,7 +31,7 @@ use Rattle.abi_driver.specs.StoredCases.{StoresCase}
 use Rattle.abi_driver.specs.Stores.{LowersToMemory}
 use Rattle.abi_driver.proofs.CaseInstructions.{lowering_sendable}
 use Rattle.abi_driver.proofs.Tags.{tag_grain_small, tag_kept}
-use Rattle.abi_bindgen.proofs.Payloads.{count_payloads, variant_below}
+use Rattle.abi_bindgen.proofs.Payloads.{count_payloads, payload_some, variant_below}
 use Rattle.abi_driver.proofs.NumberWords.{number_store_adds}
 use Rattle.abi_driver.proofs.CaseSteps.{are_finished, resumes_both, resumes_same, same_back, side_opened, side_resumed}
 use Rattle.abi_driver.proofs.CaseStores.{payload_case, rest_last as last_case, rest_next as next_case}
@@ -55,7 +57,7 @@ store_type-store_id-requires g t c κs within =
     let n = length c.args.resolve.now.types in
     let deep : rank c.args.ty ≡ c.in-Id.id.0 + 1 = ap rank c.in-Id.is ∙ omega arith in
     let inside : c.in-Id.id.0 < n = ltb-true c.in-Id.id.0 n (ap (type_below n) (sym c.in-Id.is) ∙ c.requires.below) in
-    (omega arith, (within.0, (within.1, (c.requires.down, (inside, (c.requires.side, c.requires.knows))))))
+    (omega arith, (within.0, (within.1, (c.requires.well, (c.requires.down, (inside, (c.requires.side, c.requires.knows)))))))
 
 pub store_type-returns-in-String : goal.store_type-returns-in-String
 store_type-returns-in-String g t c =
@@ -85,7 +87,7 @@ store_id-store_type-requires g t c κs within =
     let is = kind_at c.as_slice-types.result.now c.args.id.0 d (kind.Alias c.in-Alias.ty) c.index-types-at.is c.in-Alias.is in
     let low : rank c.in-Alias.ty ≤ c.args.id.0 = alias_rank types c.requires.down c.args.id.0 d at c.in-Alias.ty is in
     let below = alias_below types c.requires.down c.args.id.0 d at c.in-Alias.ty is c.requires.within in
-    (omega (arith, low), (within.0, (within.1, (c.requires.down, (below, (c.requires.side, c.requires.knows))))))
+    (omega (arith, low), (within.0, (within.1, (c.requires.well, (c.requires.down, (below, (c.requires.side, c.requires.knows)))))))
 
 pub store_id-lower_by-requires : goal.store_id-lower_by-requires
 store_id-lower_by-requires g t c =
@@ -111,7 +113,7 @@ store_id-store_parts-requires g t c κs within =
     let side = side_later m _ _ c.args.realloc c.in_ok-parts-in-Record.ensures.adds.grows c.requires.side in
     let knows = c.in_ok-parts-in-Record.ensures.adds.grows.knows types c.requires.knows in
     let parts : HasParts types c.args.id.0 read = (d, at, subst (λ k. IsOfParts k read) (sym is) same) in
-    (omega arith, (within.0, (within.1, (c.requires.down, (c.requires.within, (below, (parts, (enough, (side, knows)))))))))
+    (omega arith, (within.0, (within.1, (c.requires.well, (c.requires.down, (c.requires.within, (below, (parts, (enough, (side, knows))))))))))
 
 pub store_id-lower_by-requires-in-Tuple : goal.store_id-lower_by-requires-in-Tuple
 store_id-lower_by-requires-in-Tuple g t c = record { operands = refl; suits = tt }
@@ -129,7 +131,7 @@ store_id-store_parts-requires-in-Tuple g t c κs within =
     let side = side_later m _ _ c.args.realloc c.in_ok-parts-in-Tuple.ensures.adds.grows c.requires.side in
     let knows = c.in_ok-parts-in-Tuple.ensures.adds.grows.knows types c.requires.knows in
     let parts : HasParts types c.args.id.0 read = (d, at, subst (λ k. IsOfParts k read) (sym is) c.as_slice-tys-in-Tuple.ensures) in
-    (omega arith, (within.0, (within.1, (c.requires.down, (c.requires.within, (below, (parts, (enough, (side, knows)))))))))
+    (omega arith, (within.0, (within.1, (c.requires.well, (c.requires.down, (c.requires.within, (below, (parts, (enough, (side, knows))))))))))
 
 pub store_id-returns-in-Alias : goal.store_id-returns-in-Alias
 store_id-returns-in-Alias g t c =
@@ -197,7 +199,7 @@ store_parts-store_type-requires g t c κs within =
     let below = part_below_table c.args.id.0 c.args.tys.now c.requires.below c.loop-i.i wit.Bool short (length types) c.requires.within in
     let side = side_later m _ _ c.args.realloc c.loop-i.invariant.adds.grows c.requires.side in
     let knows = c.loop-i.invariant.adds.grows.knows types c.requires.knows in
-    (omega (arith, low), (within.0, (within.1, (c.requires.down, (below, (side, knows))))))
+    (omega (arith, low), (within.0, (within.1, (c.requires.well, (c.requires.down, (below, (side, knows)))))))
 
 pub store_parts-loop-i-preserved : goal.store_parts-loop-i-preserved
 store_parts-loop-i-preserved g t c =
@@ -235,47 +237,77 @@ store_parts-returns g t c =
       sends = sends_last m types code c.args.tys.now c.loop-i.i _ _ ended c.loop-i.invariant.sent;
     }
 
-pub store_variant-store_cases-requires : goal.store_variant-store_cases-requires
-store_variant-store_cases-requires g t c κs within =
+pub store_id-store_variant-requires : goal.store_id-store_variant-requires
+store_id-store_variant-requires g t c κs within =
     let types = c.args.resolve.now.types in
     let d = c.index-types-at.result in
     let at = entry_at types c.as_slice-types.result.now c.args.id.0 d c.as_slice-types.ensures c.requires.within c.index-types-at.is in
     let k = (get_or c.as_slice-types.result.now c.args.id.0 d).kind in
-    let is : d.kind ≡ k = ap (λ (x : TypeDef). x.kind) c.index-types-at.is in
-    let same = c.as_slice-tys.ensures ∙ c.in_ok-payloads.ensures.payloads in
-    let below = subst (λ (ps : List (Option WitType)). list_all (λ p. payload_below c.args.id.0 p) ps ≡ true) (sym same) (variant_below types c.requires.down c.args.id.0 k (record { entry = d; stands = at; kind = is }) c.in_ok-payloads.ensures.has) in
-    (omega arith, (within.0, (within.1, (c.requires.down, (c.requires.within, (below, (c.requires.side, c.requires.knows)))))))
+    let here : IsKindOf types c.args.id.0 k = record { entry = d; stands = at; kind = ap (λ (x : TypeDef). x.kind) c.index-types-at.is } in
+    let cases : has_cases k ≡ true = ap has_cases c.in-Variant.is in
+    (omega arith, (within.0, (within.1, (c.requires.well, (c.requires.down, (here, (cases, (c.requires.side, c.requires.knows))))))))
+
+pub store_id-store_variant-requires-in-Option : goal.store_id-store_variant-requires-in-Option
+store_id-store_variant-requires-in-Option g t c κs within =
+    let types = c.args.resolve.now.types in
+    let d = c.index-types-at.result in
+    let at = entry_at types c.as_slice-types.result.now c.args.id.0 d c.as_slice-types.ensures c.requires.within c.index-types-at.is in
+    let k = (get_or c.as_slice-types.result.now c.args.id.0 d).kind in
+    let here : IsKindOf types c.args.id.0 k = record { entry = d; stands = at; kind = ap (λ (x : TypeDef). x.kind) c.index-types-at.is } in
+    let cases : has_cases k ≡ true = ap has_cases c.in-Option.is in
+    (omega arith, (within.0, (within.1, (c.requires.well, (c.requires.down, (here, (cases, (c.requires.side, c.requires.knows))))))))
+
+pub store_id-store_variant-requires-in-Result : goal.store_id-store_variant-requires-in-Result
+store_id-store_variant-requires-in-Result g t c κs within =
+    let types = c.args.resolve.now.types in
+    let d = c.index-types-at.result in
+    let at = entry_at types c.as_slice-types.result.now c.args.id.0 d c.as_slice-types.ensures c.requires.within c.index-types-at.is in
+    let k = (get_or c.as_slice-types.result.now c.args.id.0 d).kind in
+    let here : IsKindOf types c.args.id.0 k = record { entry = d; stands = at; kind = ap (λ (x : TypeDef). x.kind) c.index-types-at.is } in
+    let cases : has_cases k ≡ true = ap has_cases c.in-Result.is in
+    (omega arith, (within.0, (within.1, (c.requires.well, (c.requires.down, (here, (cases, (c.requires.side, c.requires.knows))))))))
+
+pub store_variant-store_cases-requires : goal.store_variant-store_cases-requires
+store_variant-store_cases-requires g t c κs within =
+    let types = c.args.resolve.now.types in
+    let d = c.requires.here.entry in
+    let at = c.requires.here.stands in
+    let k = c.args.kind.now in
+    let is : d.kind ≡ k = c.requires.here.kind in
+    let same = c.as_slice-tys.ensures ∙ c.in_ok-payloads.ensures in
+    let below = subst (λ (ps : List (Option WitType)). list_all (λ p. payload_below c.args.id.0 p) ps ≡ true) (sym same) (variant_below types c.requires.down c.args.id.0 k (record { entry = d; stands = at; kind = is }) c.requires.cases) in
+    (omega arith, (within.0, (within.1, (c.requires.well, (c.requires.down, ((slice_get_within types c.args.id.0 d at), (below, (c.requires.side, c.requires.knows))))))))
 
 pub store_variant-lower_by-requires : goal.store_variant-lower_by-requires
 store_variant-lower_by-requires g t c =
     let m = g.B.Bindgen.meaning in
     let types = c.args.resolve.now.types in
-    let d = c.index-types-at.result in
-    let at = entry_at types c.as_slice-types.result.now c.args.id.0 d c.as_slice-types.ensures c.requires.within c.index-types-at.is in
-    let k = (get_or c.as_slice-types.result.now c.args.id.0 d).kind in
-    let is : d.kind ≡ k = ap (λ (x : TypeDef). x.kind) c.index-types-at.is in
+    let d = c.requires.here.entry in
+    let at = c.requires.here.stands in
+    let k = c.args.kind.now in
+    let is : d.kind ≡ k = c.requires.here.kind in
     let tys = c.as_slice-tys.result.now in
     let ts = payloads_in (shapes types) tys in
     let stores = c.in_ok-store_cases.ensures.stores in
-    let many : count ts ≡ length (payloads_of k) = count_payloads (shapes types) tys ∙ ap length (c.as_slice-tys.ensures ∙ c.in_ok-payloads.ensures.payloads) in
+    let many : count ts ≡ length (payloads_of k) = count_payloads (shapes types) tys ∙ ap length (c.as_slice-tys.ensures ∙ c.in_ok-payloads.ensures) in
     let finished = are_finished m (replicate (count ts) 0) stores.bodies _ _ stores.adds in
     let has = subst (λ ks. HasBlocks m ks c.store_cases.new.bindgen) (same_back (count ts) 0 ∙ ap (λ n. replicate n 0) many) finished in
     subst (λ (i : Instruction). IsSendable m c.args.resolve.now i (c.args.value ∷ []) c.store_cases.new.bindgen) (sym c.case_lowering-lower.ensures)
-    (lowering_sendable m c.args.resolve.now c.requires.down c.args.id c.args.value _ k 0 (record { entry = d; stands = at; kind = is }) c.in_ok-payloads.ensures.has has)
+    (lowering_sendable m c.args.resolve.now c.requires.down c.args.id c.args.value _ k 0 (record { entry = d; stands = at; kind = is }) c.requires.cases has)
 
 pub store_variant-returns : goal.store_variant-returns
 store_variant-returns g t c =
     let m = g.B.Bindgen.meaning in
     let sound = g.met.B.Bindgen.sound in
     let types = c.args.resolve.now.types in
-    let d = c.index-types-at.result in
-    let at = entry_at types c.as_slice-types.result.now c.args.id.0 d c.as_slice-types.ensures c.requires.within c.index-types-at.is in
-    let k = (get_or c.as_slice-types.result.now c.args.id.0 d).kind in
-    let kind_is : d.kind ≡ k = ap (λ (x : TypeDef). x.kind) c.index-types-at.is in
-    let has = c.in_ok-payloads.ensures.has in
+    let d = c.requires.here.entry in
+    let at = c.requires.here.stands in
+    let k = c.args.kind.now in
+    let kind_is : d.kind ≡ k = c.requires.here.kind in
+    let has = c.requires.cases in
     let e = subst (λ (i : Instruction). Emits m types i (c.args.value ∷ []) c.in_ok-_none._none c.store_cases.new.bindgen c.lower_by.new.bindgen) c.case_lowering-lower.ensures c.in_ok-_none.ensures in
     let found = c.in_ok-place.ensures types d c.requires.knows at (ap is_alias kind_is ∙ cases_no_alias m.width types k has) in
-    stored_variant m sound types c.requires.down c.args.id d at k has kind_is c.args.realloc c.args.value c.args.address.now c.args.offset c.in_ok-place.place found c.as_slice-tys.result.now (c.as_slice-tys.ensures ∙ c.in_ok-payloads.ensures.payloads)
+    stored_variant m sound types c.requires.down c.args.id d at k has kind_is c.args.realloc c.args.value c.args.address.now c.args.offset c.in_ok-place.place found c.as_slice-tys.result.now (c.as_slice-tys.ensures ∙ c.in_ok-payloads.ensures)
     c.in_ok-_none._none _ _ _ c.in_ok-store_cases.ensures.stores c.in_ok-store_cases.ensures.sends e
 
 pub store_cases-loop-i-init : goal.store_cases-loop-i-init
@@ -292,7 +324,7 @@ store_cases-store_case-requires g t c κs within =
     let most : length c.args.payloads.now ≤ 2 ^ 31 = omega (arith, c.if-count-gt-MOST_CASES.false) in
     let side = side_resumed m _ _ c.args.realloc c.loop-i.invariant.resumes c.requires.side in
     let knows = c.loop-i.invariant.resumes.knows types c.requires.knows in
-    (omega arith, (within.0, (within.1, (c.requires.down, (c.requires.within, (below, (short, (most, (side, knows)))))))))
+    (omega arith, (within.0, (within.1, (c.requires.well, (c.requires.down, (c.requires.within, (below, (short, (most, (side, knows))))))))))
 
 pub store_cases-loop-i-preserved : goal.store_cases-loop-i-preserved
 store_cases-loop-i-preserved g t c =
@@ -335,7 +367,7 @@ store_case-returns-in_ok-store_bare-in-None g t c =
 pub store_case-store_payload-requires : goal.store_case-store_payload-requires
 store_case-store_payload-requires g t c κs within =
     let below = payload_type_low c.args.id.0 c.in-Some.ty (subst (λ (p : Option WitType). payload_below c.args.id.0 p ≡ true) c.in-Some.is c.requires.below) in
-    (omega arith, (within.0, (within.1, (c.requires.down, (c.requires.within, (below, (c.requires.few, (c.requires.most, (c.requires.side, c.requires.knows)))))))))
+    (omega arith, (within.0, (within.1, (c.requires.well, (c.requires.down, (c.requires.within, (below, (c.requires.few, (c.requires.most, (c.requires.side, c.requires.knows))))))))))
 
 pub store_case-returns-in_ok-store_payload-in-Some : goal.store_case-returns-in_ok-store_payload-in-Some
 store_case-returns-in_ok-store_payload-in-Some g t c =
@@ -376,7 +408,7 @@ store_payload-store_type-requires g t c κs within =
     let below = type_below_table c.args.id.0 (length types) c.args.ty c.requires.below c.requires.within in
     let side = side_later m _ _ c.args.realloc stored.grows (side_later m _ _ c.args.realloc tag.2.adds.grows (side_later m _ _ c.args.realloc name.adds.grows (side_opened m _ _ c.args.realloc opens c.requires.side))) in
     let knows = stored.grows.knows types (tag.2.adds.grows.knows types (name.adds.grows.knows types (opens.lasts.knows types c.requires.knows))) in
-    (omega (arith, low), (within.0, (within.1, (c.requires.down, (below, (side, knows))))))
+    (omega (arith, low), (within.0, (within.1, (c.requires.well, (c.requires.down, (below, (side, knows)))))))
 
 pub store_payload-returns : goal.store_payload-returns
 store_payload-returns g t c =
@@ -391,7 +423,7 @@ store_payload-returns g t c =
     let part = c.in_ok-store_type.ensures in
     let closes = c.in_ok-close.ensures in
     let low : n < 2 ^ 31 = omega (arith, c.requires.few, c.requires.most) in
-    let some = c.if-not-has_bytes.ensures refl types c.requires.knows in
+    let some = payload_some c.args.resolve.now c.requires.well c.args.ty (type_below_table c.args.id.0 (length types) c.args.ty c.requires.below c.requires.within) in
     let code = store_code types c.args.realloc c.args.ty c.args.place in
     let end = c.store_type.new.bindgen in
     let tagged = sends_then m types (tag_store count c.args.offset) _ _ code _ _ end tag.3 part.sends in
