@@ -30,6 +30,7 @@ use Rattle.rust_tree.specs.Asked.{asked_by_item, asked_in}
 use Rattle.rust_tree.specs.Ident.{rust_ident}
 use Rattle.rust_tree.specs.Runtime.{item_name}
 use Rattle.rust_tree.specs.Tree.{Tree, wrapper_info, wrappers_from, wrappers_of}
+use Rattle.type_defs.specs.ParamType.{param_type}
 use Rattle.type_defs.specs.PartType.{part_type, printed_result}
 use Rattle.type_defs.specs.WitForm.{is_wit_form}
 use Rattle.gen_accept.specs.Area.{needs_return}
@@ -63,7 +64,7 @@ use Rattle.wrapper_closing.specs.FileArea.{HasAreaFor, NeedAreas}
 use Rattle.wrapper_closing.specs.ImportBody.{ClosesImportBody, import_called}
 use Rattle.wrapper_closing.specs.Params.{arg_names, arg_types, export_args, local_sites, param_types, result_types, return_args}
 use Rattle.wrapper_closing.specs.PostReturnBody.{ClosesPostReturnBody}
-use Rattle.wrapper_closing.specs.PrintedAs.{ArePrintedParams, IsPrintedResult}
+use Rattle.wrapper_closing.specs.PrintedAs.{ArePrintedLent, ArePrintedParams, IsPrintedResult}
 use Rattle.wrapper_closing.proofs.Args.{result_alone, types_of_args}
 use Rattle.wrapper_closing.proofs.BodyAreas.{needed_area_is_shared}
 use Rattle.wrapper_closing.proofs.ExportBodyCloses.{export_body_is_faithful}
@@ -77,7 +78,7 @@ use Rattle.type_sites.specs.PrintedLaws.{AreSites}
 use Rattle.type_sites.specs.Sites.{type_sites}
 use Rattle.type_defs.specs.Used.{UsesTypes}
 use Rattle.type_sites.proofs.SitesDefined.{sites-are-defined}
-use Rattle.type_sites.proofs.WorldTypes.{params-are-direct, params-are-printed, results-are-direct, results-are-printed}
+use Rattle.type_sites.proofs.WorldTypes.{lent-params-are-printed, params-are-direct, params-are-printed, results-are-direct, results-are-printed}
 use Rattle.func_gen.specs.declared.type_site.TypeSite.{TypeSite}
 use Rattle.gen_accept.specs.TypeOpts.{type_opts}
 use Rattle.rust_gen.specs.Body.{ArePartsWritten, IsExportWritten, IsReturnWritten, IsWritten, ReturnWritten, import_site}
@@ -305,6 +306,12 @@ module _ (opts : Opts) (resolve : Resolve) (id : WorldId) (world : World) (known
       (params-are-printed (type_opts opts) resolve id world ts others are-sites f uses (map (trait_param types) f.params)
       (map-map (λ p. p.ty) (trait_param types) f.params ∙ sym (map-map (part_type types) (λ p. p.ty) f.params)))
 
+  lent-printed : (f : Function) → UsesTypes resolve world f → ArePrintedLent tree.items (param_shapes types f) (map (printed_param types) f.params)
+  lent-printed f uses =
+      subst (λ is. ArePrintedLent is (param_shapes types f) (map (printed_param types) f.params)) (sym are)
+      (lent-params-are-printed (type_opts opts) resolve id world ts others are-sites f uses (map (printed_param types) f.params)
+      (map-map (λ p. p.ty) (printed_param types) f.params ∙ sym (map-map (param_type types) (λ p. p.ty) f.params)))
+
   params-direct : (f : Function) → UsesTypes resolve world f → are_direct (param_shapes types f) ≡ true
   params-direct f uses = params-are-direct (type_opts opts) resolve id world known.types f uses
 
@@ -381,6 +388,7 @@ module _ (opts : Opts) (resolve : Resolve) (id : WorldId) (world : World) (known
           answers =
               subst (λ ty. AnswersAs tree.items ty (result_shape types w.func.now)) (ap (λ g. printed_result types g.result) w.of ∙ sym w.outside.answer)
               (printed_results_answer tree.items (result_shape types w.func.now) (printed_result types w.func.now.result) (result-printed w.func.now uses));
+          printed = subst (ArePrintedLent tree.items (param_shapes types w.func.now)) (ap (λ (g : Function). map (printed_param types) g.params) w.of ∙ sym w.outside.params) (lent-printed w.func.now uses);
           params = params-direct w.func.now uses;
           result = result-direct w.func.now uses;
         }

@@ -1,9 +1,12 @@
 pub mod Definitions
 pub mod DirectTypes
 pub mod Instances
+pub mod LentTypes
 pub mod PartTypes
 pub mod PrintedForms
 pub mod PrintedTypes
 pub mod SitesDefined
 pub mod SiteLemmas
+pub mod TextShapes
+pub mod UnlentTypes
 pub mod WorldTypes

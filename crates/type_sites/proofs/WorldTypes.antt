@@ -1,5 +1,5 @@
 -- The types that the functions of a world use are printed by its definitions as their shapes, and passed directly.
-use Rattle.std.proofs.Common.{◌≡◌, ℕ, suc, true, ◌||◌, List, [], ◌∷◌, length, map, Option, None, Some, is_some, refl, sym, ap, subst, arith}
+use Rattle.std.proofs.Common.{◌≡◌, ℕ, suc, true, ◌||◌, List, [], ◌∷◌, length, map, Option, None, Some, is_some, refl, sym, ap, ◌∙◌, subst, arith}
 use Rattle.std.specs.Prelude.{slice_get}
 use Rattle.std.specs.List.{Contains}
 use Rattle.std.specs.Option.{option_map, option_to_list}
@@ -14,7 +14,7 @@ use Rattle.wit_model.specs.declared.types.TypeDef.{TypeDef}
 use Rattle.wit_model.specs.declared.types.WitType.{WitType}
 use Rattle.wit_model.specs.declared.types.WitType.TheVariants.{Id}
 use Rattle.wit_model.specs.declared.world.World.{World}
-use Rattle.wit_model.specs.Reaches.{Reaches}
+use Rattle.wit_model.specs.Reaches.{Names, Reaches, reaches_by}
 use Rattle.wit_model.specs.TypeOrder.{type_below}
 use Rattle.wit_model.proofs.WellFormedLemmas.{types_go_down}
 use Rattle.rust_tree.specs.Ident.{type_ident}
@@ -26,18 +26,21 @@ use Rattle.type_facts.specs.Roots.{param_types, result_types}
 use Rattle.type_defs.specs.declared.type_opts.TypeOpts.{TypeOpts}
 use Rattle.type_defs.specs.Defined.{is_defined_type}
 use Rattle.type_defs.specs.DefinedNames.{AreDefinable}
+use Rattle.type_defs.specs.ParamType.{param_type}
 use Rattle.type_defs.specs.PartType.{part_type, printed_result}
 use Rattle.type_defs.specs.Used.{Covers, function_types, is_always_entry, uses}
 use Rattle.type_defs.proofs.UsedLemmas.{contained-at, reached_uses}
 use Rattle.wrapper_meaning.specs.Shape.{param_shapes, result_shape, shape_of}
 use Rattle.abi_bindgen.specs.Instructions.{shapes_of}
 use Rattle.abi_bindgen.proofs.Payloads.{payload_some}
+use Rattle.wrapper_faithful.specs.Arguments.{unlent}
 use Rattle.wrapper_closing.specs.Direct.{are_direct, is_direct, is_direct_result}
-use Rattle.wrapper_closing.specs.PrintedAs.{ArePrintedAs, ArePrintedParams, IsPrintedAs, IsPrintedResult}
-use Rattle.type_sites.specs.PrintedLaws.{AreSites, ArePartParams, ParamsAreDirect, ParamsArePrinted, ResultsAreDirect, ResultsArePrinted, TypesAreDirect, TypesArePrinted, file_of}
+use Rattle.wrapper_closing.specs.PrintedAs.{ArePrintedAs, ArePrintedLent, ArePrintedParams, IsPrintedAs, IsPrintedResult}
+use Rattle.type_sites.specs.PrintedLaws.{AreLentParams, AreSites, ArePartParams, LentParamsArePrinted, ParamsAreDirect, ParamsArePrinted, ResultsAreDirect, ResultsArePrinted, TypesAreDirect, TypesArePrinted, file_of}
 use Rattle.type_defs.specs.Used.{IsUsed, UsesTypes}
 use Rattle.type_sites.proofs.Definitions.{IsDefinedIn, count, count-grows, count-most, definition-of}
 use Rattle.type_sites.proofs.DirectTypes.{all-direct, type-direct}
+use Rattle.type_sites.proofs.LentTypes.{param-lent}
 use Rattle.type_sites.proofs.PrintedForms.{stays, unit-ends}
 use Rattle.type_sites.proofs.PrintedTypes.{type-printed}
 
@@ -75,6 +78,31 @@ module _ (opts : TypeOpts) (r : Resolve) (id : WorldId) (world : World) (defs : 
   params-printed f uses params are =
       subst (ArePrintedAs items (param_shapes r.types f)) (sym are) (all-used-printed (param_types f) (λ ty has. uses ty (Contains-append_left (param_types f) (result_types f) ty has)))
 
+  -- a type that is known is covered, and what it reaches is used
+  abbrev IsCovered : WitType → Type 0
+  IsCovered ty = Covers r world ty × ((part : TypeId) → Reaches r.types ty (Id part) → uses r world part.0 ≡ true)
+
+  covered-part : (whole part : WitType) → Names r.types whole part → IsCovered whole → IsCovered part
+  covered-part whole part names h = (λ id entry reaches at named. h.0 id entry (reaches_by names reaches) at named, λ id reaches. h.1 id (reaches_by names reaches))
+
+  param-printed : (ty : WitType) → IsUsed r world ty → IsPrintedAs items (shape_of r.types ty) (unlent (param_type r.types ty))
+  param-printed ty u =
+      param-lent r.types items (types_go_down r s.definable.checked.unbroken) s.definable.kinds s.definable.parts (payload_some r s.definable.checked) s.names IsCovered covered-part
+      (λ ty below h known. covered-printed ty below h known.0 known.1) ty u.below u.defined (s.definable.covered ty u.used, used-parts ty u.used)
+
+  all-params-printed : (tys : List WitType) → ((ty : WitType) → Contains tys ty → IsUsed r world ty) → ArePrintedAs items (shapes_of r.types tys) (map unlent (map (param_type r.types) tys))
+  all-params-printed [] h = tt
+  all-params-printed (ty ∷ tys) h = (param-printed ty (h ty (0, omega arith, refl)), all-params-printed tys (λ t has. h t (suc has.0, omega arith, has.2)))
+
+  lent-params-printed : (f : Function) → UsesTypes r world f → (params : List FnParam) → AreLentParams r.types f params → ArePrintedLent items (param_shapes r.types f) params
+  lent-params-printed f uses params are =
+      subst (ArePrintedAs items (param_shapes r.types f)) (ap (map unlent) (sym are) ∙ map-then params)
+      (all-params-printed (param_types f) (λ ty has. uses ty (Contains-append_left (param_types f) (result_types f) ty has)))
+    where
+      map-then : (params : List FnParam) → map unlent (map (λ p. p.ty) params) ≡ map (λ p. unlent p.ty) params
+      map-then [] = refl
+      map-then (p ∷ params) = ap (λ tys. unlent p.ty ∷ tys) (map-then params)
+
   result-printed : (f : Function) → UsesTypes r world f → IsPrintedResult items (result_shape r.types f) (printed_result r.types f.result)
   result-printed f uses = go f.result (λ ty has. uses ty (Contains-append_right (param_types f) (result_types f) ty has))
     where
@@ -87,6 +115,9 @@ types-are-printed opts r id world defs rest s = used-printed opts r id world def
 
 pub params-are-printed : ParamsArePrinted
 params-are-printed opts r id world defs rest s = params-printed opts r id world defs rest s
+
+pub lent-params-are-printed : LentParamsArePrinted
+lent-params-are-printed opts r id world defs rest s = lent-params-printed opts r id world defs rest s
 
 pub results-are-printed : ResultsArePrinted
 results-are-printed opts r id world defs rest s = result-printed opts r id world defs rest s

@@ -15,11 +15,12 @@ use Rattle.type_facts.specs.Roots.{param_types}
 use Rattle.type_defs.specs.declared.type_opts.TypeOpts.{TypeOpts}
 use Rattle.type_defs.specs.Defined.{AreDefinitions}
 use Rattle.type_defs.specs.DefinedNames.{AreDefinable}
+use Rattle.type_defs.specs.ParamType.{param_type}
 use Rattle.type_defs.specs.PartType.{part_type, printed_result}
 use Rattle.type_defs.specs.TypeNames.{are_type_names}
 use Rattle.wrapper_meaning.specs.Shape.{param_shapes, result_shape, shape_of}
 use Rattle.wrapper_closing.specs.Direct.{are_direct, is_direct, is_direct_result}
-use Rattle.wrapper_closing.specs.PrintedAs.{ArePrintedParams, IsPrintedAs, IsPrintedResult}
+use Rattle.wrapper_closing.specs.PrintedAs.{ArePrintedLent, ArePrintedParams, IsPrintedAs, IsPrintedResult}
 use Rattle.type_defs.specs.Used.{IsUsed, UsesTypes}
 
 -- the items of a file that begins with the definitions of a world
@@ -36,6 +37,10 @@ pub record AreSites (opts : TypeOpts) (r : Resolve) (id : WorldId) (world : Worl
 abbrev pub ArePartParams : List TypeDef → Function → List FnParam → Type 0
 ArePartParams types f params = map (λ p. p.ty) params ≡ map (part_type types) (param_types f)
 
+-- and as the type of an imported function's parameter is
+abbrev pub AreLentParams : List TypeDef → Function → List FnParam → Type 0
+AreLentParams types f params = map (λ p. p.ty) params ≡ map (param_type types) (param_types f)
+
 abbrev pub TypesArePrinted : Type 0
 TypesArePrinted = (opts : TypeOpts) (r : Resolve) (id : WorldId) (world : World) (defs : List TypeItem) (rest : List Item) → AreSites opts r id world defs → (ty : WitType) → IsUsed r world ty → IsPrintedAs (file_of defs rest) (shape_of r.types ty) (part_type r.types ty)
 
@@ -47,6 +52,10 @@ TypesAreDirect = (opts : TypeOpts) (r : Resolve) (id : WorldId) (world : World) 
 abbrev pub ParamsArePrinted : Type 0
 ParamsArePrinted = (opts : TypeOpts) (r : Resolve) (id : WorldId) (world : World) (defs : List TypeItem) (rest : List Item) → AreSites opts r id world defs → (f : Function) → UsesTypes r world f
     → (params : List FnParam) → ArePartParams r.types f params → ArePrintedParams (file_of defs rest) (param_shapes r.types f) params
+
+abbrev pub LentParamsArePrinted : Type 0
+LentParamsArePrinted = (opts : TypeOpts) (r : Resolve) (id : WorldId) (world : World) (defs : List TypeItem) (rest : List Item) → AreSites opts r id world defs → (f : Function) → UsesTypes r world f
+    → (params : List FnParam) → AreLentParams r.types f params → ArePrintedLent (file_of defs rest) (param_shapes r.types f) params
 
 abbrev pub ResultsArePrinted : Type 0
 ResultsArePrinted = (opts : TypeOpts) (r : Resolve) (id : WorldId) (world : World) (defs : List TypeItem) (rest : List Item) → AreSites opts r id world defs → (f : Function) → UsesTypes r world f

@@ -1,6 +1,7 @@
 //! The definitions of a world print its types as their shapes, and say how each is written.
 
 ghost use Rattle.type_sites.specs.PrintedLaws.{
+  LentParamsArePrinted,
   ParamsAreDirect,
   ParamsArePrinted,
   ResultsAreDirect,
@@ -11,10 +12,11 @@ ghost use Rattle.type_sites.specs.PrintedLaws.{
 ghost use Rattle.type_sites.specs.SiteLaws.{SitesAreDefined, SitesCanBeDefined};
 
 /// A type that a function of a world uses is printed as its shape in each file that begins with the definitions of the world, and so are the
-/// parameters and the result of a function that uses such types.
+/// parameters and the result of a function that uses such types. The types of an imported function's parameters are lent of such.
 pub fn printed_law()
     ensures types { TypesArePrinted }
     ensures params { ParamsArePrinted }
+    ensures lent { LentParamsArePrinted }
     ensures results { ResultsArePrinted }
 {}
 

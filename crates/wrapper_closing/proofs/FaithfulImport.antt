@@ -37,6 +37,7 @@ use Rattle.wrapper_values.specs.Act as machine
 use Rattle.wrapper_values.specs.declared.state.Val.TheVariants as val
 use Rattle.wrapper_run.specs.Run.{begin, bound, ended, import_run, run_fn, run_item, setting_of, start}
 use Rattle.wrapper_run.proofs.StepLemmas.{ended-calls}
+use Rattle.wrapper_faithful.specs.Arguments.{AreArguments}
 use Rattle.wrapper_faithful.specs.Import.{AnswersHonestly, RunOfImport}
 use Rattle.wrapper_faithful.specs.Passed.{Passed, passed}
 use Rattle.wrapper_faithful.specs.Resources.{Resources, calls_of}
@@ -54,6 +55,7 @@ use Rattle.wrapper_closing.proofs.ImportCalls.{call_made, call_values, missed_ru
 use Rattle.wrapper_closing.proofs.ImportEnds.{finished, honest_call}
 use Rattle.wrapper_closing.proofs.ImportStart.{Missed, Ready, begins, due_area, file}
 use Rattle.wrapper_closing.proofs.Placing.{asking}
+use Rattle.wrapper_closing.proofs.PrintedArguments.{printed_arguments}
 use Rattle.wrapper_closing.proofs.Start.{at_first}
 
 -- 1. What is given
@@ -223,6 +225,9 @@ module _ (types : List TypeDef) (resources : Resources) (tree : Tree) (nth : ℕ
 pub closed_import_is_faithful : ClosedImportIsFaithful
 closed_import_is_faithful types resources tree nth f old new c = record {
   there = subst IsSome (sym c.there) refl;
+  takes = λ g w is.
+      subst (λ (w : ℕ × FnItem). AreArguments tree.items w.1.params g.args) (some_same (c.number, c.item) w (sym c.there ∙ is))
+      (printed_arguments tree.items g.heap.blocks (param_shapes types f) g.values g.args g.own c.item.params c.printed c.params g.good.0 g.stand);
   calls = λ x. subst (CallsOnce (CallOf types resources tree nth f old new c x)) (sym (no_resources types resources tree nth f old new c x)) (calls_told types resources tree nth f old new c x);
   ends = λ x u honest.
       subst (λ b. Ends b x.choices.list (calls_of resources (passed types f) x.run) (GivesImport 2 false (result_shape types f) u x.given.args x.given.heap x.given.own) x.run) (sym (bill_is types resources tree nth f old new c x u))

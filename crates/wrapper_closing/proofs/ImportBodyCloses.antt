@@ -73,6 +73,7 @@ closes_import types func parts body tree nth c =
       runtime = subst (Found tree.items) b.runtime c.runtime;
       sites = subst (AreDefined tree.items) (sym k.made.of_sites) c.sites;
       answers = c.answers;
+      printed = c.printed;
       params = c.params;
       result = c.result;
     }

@@ -24,12 +24,14 @@ pub mod ImportEnds
 pub mod ImportLeaves
 pub mod ImportStart
 pub mod Leaving
+pub mod LentValues
 pub mod LocalSites
 pub mod OwningValues
 pub mod Placing
 pub mod PostReturnBodyCloses
 pub mod PostReturnRuns
 pub mod PrintedAnswers
+pub mod PrintedArguments
 pub mod PrintedInstances
 pub mod PrintedValues
 pub mod ReturnedFrees

@@ -40,7 +40,7 @@ use Rattle.wrapper_closing.proofs.TypedCases.{FitsPlace, cases_unanswered, typed
 
 -- 1. Of a plain type
 
-scalar_answered : (s : Scalar) (v : ScalarValue s) → IsScalar s v → answer_of (scalar_type s) (val.Value (rust_scalar s v)) ≡ Some (Some (rust_scalar s v))
+pub scalar_answered : (s : Scalar) (v : ScalarValue s) → IsScalar s v → answer_of (scalar_type s) (val.Value (rust_scalar s v)) ≡ Some (Some (rust_scalar s v))
 scalar_answered Scalar.bool v h = answered-bool v
 scalar_answered Scalar.u8 v h = answered-number prim.U8 wit.U8 v refl h
 scalar_answered Scalar.u16 v h = answered-number prim.U16 wit.U16 v refl h
@@ -67,7 +67,7 @@ text_answered (b ∷ v) r own h =
 
 module _ (items : List Item) where
   -- a value without parts is what it is as one of a plain type
-  abbrev IsLeaf : RustValue → Type 0
+  abbrev pub IsLeaf : RustValue → Type 0
   IsLeaf r = (ty : TypeExpr) → typed items r ty ≡ plain_as (unaliased items ty) (val.Value r)
 
   leaf : (l : RustValue-F RustValue) (r : RustValue) → roll-RustValue l ≡ r → ((ty : TypeExpr) → typed_level items (map-RustValue RustValue Typed (typed items) l) ty ≡ plain_as ty (val.Value r)) → IsLeaf r
@@ -76,7 +76,7 @@ module _ (items : List Item) where
   num_leaf : (k : WitType) (z : ℤ) → IsLeaf (value.Num k z)
   num_leaf k z = leaf (RustValue-F.Num k z) (value.Num k z) (rolls-Num k z) (λ ty. refl)
 
-  scalar_leaf : (s : Scalar) (v : ScalarValue s) → IsLeaf (rust_scalar s v)
+  pub scalar_leaf : (s : Scalar) (v : ScalarValue s) → IsLeaf (rust_scalar s v)
   scalar_leaf Scalar.bool v = leaf (RustValue-F.Bool v) (value.Bool v) (rolls-Bool v) (λ ty. refl)
   scalar_leaf Scalar.f32 v = leaf (RustValue-F.F32 v) (value.F32 v) (rolls-F32 v) (λ ty. refl)
   scalar_leaf Scalar.f64 v = leaf (RustValue-F.F64 v) (value.F64 v) (rolls-F64 v) (λ ty. refl)
@@ -84,10 +84,10 @@ module _ (items : List Item) where
   scalar_leaf Scalar.handle v = elim v [ ]
   scalar_leaf s v = num_leaf _ v
 
-  buffer_leaf : (address n : ℕ) (o : Bool) → IsLeaf (value.Buffer address n o)
+  pub buffer_leaf : (address n : ℕ) (o : Bool) → IsLeaf (value.Buffer address n o)
   buffer_leaf address n o = leaf (RustValue-F.Buffer address n o) (value.Buffer address n o) (rolls-Buffer address n o) (λ ty. refl)
 
-  typed_struct : (rs : List RustValue) (ty : TypeExpr) → typed items (value.Struct rs) ty ≡ option_map value.Struct (typed_parts items (map (typed items) rs) (out-TypeExpr (unaliased items ty)))
+  pub typed_struct : (rs : List RustValue) (ty : TypeExpr) → typed items (value.Struct rs) ty ≡ option_map value.Struct (typed_parts items (map (typed items) rs) (out-TypeExpr (unaliased items ty)))
   typed_struct rs ty = ap (λ r. typed items r ty) (sym (rolls-Struct rs)) ∙ typed_roll items (RustValue-F.Struct rs) ty
 
   -- 3. Values of printed types
@@ -97,7 +97,7 @@ module _ (items : List Item) where
     pub typed : typed items r ty ≡ Some (owning r)
     pub answered : answer_in items ty (val.Value r) ≡ Some (Some (owning r))
 
-  by_plain : (r : RustValue) (ty plain : TypeExpr) → IsLeaf r → unaliased items ty ≡ plain → answer_of plain (val.Value r) ≡ Some (Some (owning r)) → IsTyped r ty
+  pub by_plain : (r : RustValue) (ty plain : TypeExpr) → IsLeaf r → unaliased items ty ≡ plain → answer_of plain (val.Value r) ≡ Some (Some (owning r)) → IsTyped r ty
   by_plain r ty plain l is h =
       let answers : answer_of (unaliased items ty) (val.Value r) ≡ Some (Some (owning r)) = ap (λ t. answer_of t (val.Value r)) is ∙ h in
       record {
@@ -106,16 +106,16 @@ module _ (items : List Item) where
       }
 
   -- the parts of a tuple, and those of a record
-  abbrev IsOfParts : TypeExpr-F TypeExpr → List TypeExpr → Type 0
+  abbrev pub IsOfParts : TypeExpr-F TypeExpr → List TypeExpr → Type 0
   IsOfParts l types = ((parts : List Typed) → typed_parts items parts l ≡ typed_each parts types) × ((v : Val) → answer_as l v ≡ None)
 
-  tuple_parts : (types : List TypeExpr) → IsOfParts (out-TypeExpr (type.Tuple types)) types
+  pub tuple_parts : (types : List TypeExpr) → IsOfParts (out-TypeExpr (type.Tuple types)) types
   tuple_parts types = subst (λ l. IsOfParts l types) (sym opened) (λ parts. refl, λ v. refl)
     where
       opened : out-TypeExpr (type.Tuple types) ≡ TypeExpr-F.Tuple types
       opened = search (rules, type_lemmas)
 
-  record_parts : (l : TypeExpr-F TypeExpr) (s : StructItem) → definition_in items l ≡ Some (Struct s) → IsOfParts l (map (λ f. f.ty) s.fields)
+  pub record_parts : (l : TypeExpr-F TypeExpr) (s : StructItem) → definition_in items l ≡ Some (Struct s) → IsOfParts l (map (λ f. f.ty) s.fields)
   record_parts (TypeExpr-F.Path p) s h = (λ parts. ap (λ d. option_and_then (typed_each parts) (option_map (map (λ f. f.ty)) (fields_in d))) h, λ v. refl)
   record_parts TypeExpr-F.Unit s h = absurd cc
   record_parts (TypeExpr-F.Primitive p) s h = absurd cc
@@ -152,7 +152,7 @@ module _ (items : List Item) where
       go (Some r) h = inr (ap (λ r. Some r) h.0)
 
   -- with one case more before it
-  one_later : (n : ℕ) (payload : Option RustValue) (first : Option TypeExpr) (payloads : List (Option TypeExpr)) → FitsPlace items n payload payloads → FitsPlace items (suc n) payload (first ∷ payloads)
+  pub one_later : (n : ℕ) (payload : Option RustValue) (first : Option TypeExpr) (payloads : List (Option TypeExpr)) → FitsPlace items n payload payloads → FitsPlace items (suc n) payload (first ∷ payloads)
   one_later n payload first payloads (inl fits) = inl fits
   one_later n payload first payloads (inr fits) = inr fits
 
@@ -169,7 +169,7 @@ module _ (items : List Item) where
   flags_level (TypeExpr-F.Array t n) f h = absurd cc
   flags_level (TypeExpr-F.Result ok err) f h = absurd cc
 
-  by_flags : (bits : ℕ) (r : RustValue) (ty : TypeExpr) (f : FlagsItem) → r ≡ value.Bits bits → definition_in items (out-TypeExpr (unaliased items ty)) ≡ Some (Flags f) → bits < 2 ^ repr_bits f.repr → IsTyped r ty
+  pub by_flags : (bits : ℕ) (r : RustValue) (ty : TypeExpr) (f : FlagsItem) → r ≡ value.Bits bits → definition_in items (out-TypeExpr (unaliased items ty)) ≡ Some (Flags f) → bits < 2 ^ repr_bits f.repr → IsTyped r ty
   by_flags bits r ty f is p small =
       by_whole r ty (flags_level (out-TypeExpr (unaliased items ty)) f p)
       (ap (λ r. typed items r ty) (is ∙ sym (rolls-Bits bits)) ∙ typed_roll items (RustValue-F.Bits bits) ty ∙ ap (λ d. typed_flags bits (flags_in d)) p

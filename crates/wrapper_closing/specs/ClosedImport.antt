@@ -33,6 +33,7 @@ use Rattle.func_gen.specs.Opened.{is_closed}
 use Rattle.func_gen.specs.Still.{StillOf}
 use Rattle.wrapper_closing.specs.Begun.{IsBegun}
 use Rattle.wrapper_closing.specs.Direct.{are_direct, is_direct_result}
+use Rattle.wrapper_closing.specs.PrintedAs.{ArePrintedLent}
 use Rattle.wrapper_closing.specs.ImportBlock.{import_block}
 
 -- what stands for a result of the type is one of the printed type, and stands for it then
@@ -62,6 +63,7 @@ pub record ClosesImport (types : List TypeDef) (f : Function) (tree : Tree) (nth
   pub runtime : Found tree.items new.runtime
   pub sites : AreDefined tree.items old.sites
   pub answers : AnswersAs tree.items item.result (result_shape types f)
+  pub printed : ArePrintedLent tree.items (param_shapes types f) item.params
   pub params : are_direct (param_shapes types f) ≡ true
   pub result : is_direct_result (result_shape types f) ≡ true
 

@@ -16,12 +16,14 @@ use Rattle.func_gen.specs.declared.body.Body.{Body}
 use Rattle.wrapper_closing.specs.Bodies.{MakesImport}
 use Rattle.wrapper_closing.specs.ClosedImport.{AnswersAs}
 use Rattle.wrapper_closing.specs.Direct.{are_direct, is_direct_result}
+use Rattle.wrapper_closing.specs.PrintedAs.{ArePrintedLent}
 use Rattle.wrapper_closing.specs.ImportBlock.{block_of}
 use Rattle.wrapper_closing.specs.Parts.{AreParts}
 use Rattle.wrapper_closing.specs.declared.parts.BodyParts.{BodyParts}
 
--- The wrapper of this number is an item whose block is that of the body, with its area first. Its parameters have the names of the parts, the
--- file has the items of `_rt` that the body names and defines the types that have a site, and the result is of the printed type
+-- The wrapper of this number is an item whose block is that of the body, with its area first. Its parameters have the names of the parts, and
+-- types that are lent of those of the function. The file has the items of `_rt` that the body names and defines the types that have a site,
+-- and the result is of the printed type
 pub record ClosesImportBody (types : List TypeDef) (func : Bor Function) (parts : BodyParts) (body : Body) (tree : Tree) (nth : ℕ) : Type 0 where
   pub parted : AreParts types parts
   pub makes : MakesImport types func parts body
@@ -33,6 +35,7 @@ pub record ClosesImportBody (types : List TypeDef) (func : Bor Function) (parts 
   pub runtime : Found tree.items body.runtime
   pub sites : AreDefined tree.items parts.sites
   pub answers : AnswersAs tree.items item.result (result_shape types func.now)
+  pub printed : ArePrintedLent tree.items (param_shapes types func.now) item.params
   pub params : are_direct (param_shapes types func.now) ≡ true
   pub result : is_direct_result (result_shape types func.now) ≡ true
 

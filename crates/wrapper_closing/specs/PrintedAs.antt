@@ -16,6 +16,7 @@ use Rattle.wrapper_meaning.specs.Shape.Shape.{cases, fields, flags, scalar, text
 use Rattle.wrapper_meaning.specs.Shape.Shapes.{more, none}
 use Rattle.wrapper_values.specs.Flags.{repr_bits}
 use Rattle.wrapper_values.specs.Typed.{definition_in, unaliased}
+use Rattle.wrapper_faithful.specs.Arguments.{unlent}
 
 -- a scalar is printed as its primitive; no shape is a scalar that is a handle
 abbrev pub scalar_type : Scalar → TypeExpr
@@ -86,3 +87,7 @@ module _ (items : List Item) where
 
   abbrev pub ArePrintedParams : Shapes → List FnParam → Type 0
   ArePrintedParams ts params = ArePrintedAs ts (map (λ p. p.ty) params)
+
+  -- the type of each parameter is lent of one that is printed so
+  abbrev pub ArePrintedLent : Shapes → List FnParam → Type 0
+  ArePrintedLent ts params = ArePrintedAs ts (map (λ p. unlent p.ty) params)

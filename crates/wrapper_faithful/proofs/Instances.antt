@@ -6,6 +6,7 @@ pub mod MissingWrappers
 pub mod Misdirected
 pub mod WrongEntries
 pub mod WrongSignatures
+pub mod WrongParameters
 pub mod WrongPostReturns
 pub mod SharedAreas
 pub mod PassingAPointer

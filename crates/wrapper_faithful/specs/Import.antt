@@ -2,6 +2,7 @@
 use Rattle.std.specs.Prelude.{◌≡◌, ℕ, Bool, true, List, [], ◌∷◌, ◌++◌, Some, IsSome}
 use Rattle.std.specs.List.{AllByRecursion}
 use Rattle.rust_tree.specs.Tree.{Tree}
+use Rattle.rust_tree.specs.declared.item.FnItem.{FnItem}
 use Rattle.wrapper_data.specs.declared.answer.Answer.{Answer}
 use Rattle.wrapper_data.specs.declared.block.Block.{Block}
 use Rattle.wrapper_data.specs.declared.choice.Choices.{Choices}
@@ -25,6 +26,7 @@ use Rattle.wrapper_meaning.specs.Settled.{AreValues}
 use Rattle.wrapper_meaning.specs.StandsFor.{ArgumentsStand}
 use Rattle.wrapper_meaning.specs.Value.{Parts, Result}
 use Rattle.wrapper_run.specs.Run.{import_at, import_run}
+use Rattle.wrapper_faithful.specs.Arguments.{AreArguments}
 use Rattle.wrapper_faithful.specs.Passed.{Passed, width}
 use Rattle.wrapper_faithful.specs.Resources.{Resources, calls_of}
 
@@ -55,12 +57,13 @@ pub record AnswersHonestly (p : Passed) (u : Result p.result) (a : Answer) (call
   pub good : IsListedResult p.result u
   pub honest : AllByRecursion (HonestPeer width p.result u a) calls
 
--- The wrapper of this number is that of an import. In both forms, for all values, every heap that has them, and all choices: whatever is
--- answered, a run makes at most one call, which goes to the target and carries the values. Where the answer is honest at the call
--- that was made, the run ends as it owes. And where it is done, it drops each handle that it does not hand on, and no other.
--- A chained method gives its `self`
+-- The wrapper of this number is that of an import. Its parameters have types whose values its arguments are. In both forms, for all
+-- values, every heap that has them, and all choices: whatever is answered, a run makes at most one call, which goes to the target and
+-- carries the values. Where the answer is honest at the call that was made, the run ends as it owes. And where it is done, it drops each
+-- handle that it does not hand on, and no other. A chained method gives its `self`
 pub record IsFaithful (resources : Resources) (target : Target) (chained : Bool) (tree : Tree) (nth : ℕ) (p : Passed) : Type 0 where
   pub there : IsSome (import_at tree nth)
+  pub takes : (g : ImportGiven p) (wrapper : ℕ × FnItem) → import_at tree nth ≡ Some wrapper → AreArguments tree.items wrapper.1.params g.args
   pub calls : (x : RunOfImport p tree nth)
       → CallsOnce (CallsImport width target p.params x.given.values p.result x.given.heap x.choices.list) (calls_of resources p x.run)
   pub ends : (x : RunOfImport p tree nth) (u : Result p.result) → AnswersHonestly p u x.answer (calls_of resources p x.run)

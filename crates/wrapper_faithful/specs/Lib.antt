@@ -1,3 +1,4 @@
+pub mod Arguments
 pub mod Export
 pub mod Import
 pub mod KeptHeaps

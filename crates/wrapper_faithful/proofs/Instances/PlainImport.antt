@@ -1,5 +1,5 @@
 -- A wrapper that is faithful: that of an import without parameters and result, which declares it and calls it.
-use Rattle.std.proofs.Common.{◌≡◌, true, false, List, [], ◌∷◌, ◌++◌, length, Option, None, Some, refl, sym, ap, subst, ◌∙◌, append-nil, arith}
+use Rattle.std.proofs.Common.{◌≡◌, ℕ, true, false, List, [], ◌∷◌, ◌++◌, length, Option, None, Some, refl, sym, ap, subst, ◌∙◌, append-nil, arith}
 use Rattle.std.specs.Prelude.{codes, option_to_list}
 use mathlib.Core.Logic.{inr}
 use Rattle.std.specs.List.{AllByRecursion}
@@ -33,6 +33,7 @@ use Rattle.wrapper_meaning.specs.Gives.{GivesImport}
 use Rattle.wrapper_meaning.specs.Honest.{HonestPeer}
 use Rattle.wrapper_meaning.specs.Items.{SameItems, total}
 use Rattle.wrapper_meaning.specs.Shape.Shapes.{none}
+use Rattle.wrapper_meaning.proofs.Lists.{some_same}
 use Rattle.wrapper_values.specs.declared.state.State.{State}
 use Rattle.wrapper_values.specs.declared.state.Val.TheVariants as val
 use Rattle.wrapper_values.specs.Act.{Act, Done, ◌>>=◌, ◌>>◌, and_then}
@@ -46,6 +47,7 @@ use Rattle.wrapper_values.specs.Setting.{Setting}
 use Rattle.wrapper_run.proofs.NumberLemmas.{answered-unit}
 use Rattle.wrapper_run.proofs.OwningLemmas.{ArePlain, owned-unit}
 use Rattle.wrapper_run.proofs.StepLemmas.{Quiet, answers_plain, call_gives, ended-calls, import_gives, no_answer_gives, quiet_answer, quiet_answers, quiet_drop, quiet_pure, quiet_then}
+use Rattle.wrapper_faithful.specs.Arguments.{AreArguments}
 use Rattle.wrapper_faithful.specs.Import.{AnswersHonestly, IsFaithful, RunOfImport}
 use Rattle.wrapper_faithful.specs.Passed.{Passed}
 use Rattle.wrapper_faithful.specs.Resources.{Resources, calls_of}
@@ -183,6 +185,7 @@ honest_answer resources x honest =
 is_faithful : (resources : Resources) → IsFaithful resources aim false tree 0 nothing
 is_faithful resources = record {
   there = refl;
+  takes = λ g w is. subst (λ (w : ℕ × FnItem). AreArguments tree.items w.1.params g.args) (some_same (1, wrapper) w is) (subst (AreArguments tree.items []) (sym g.stand.0) tt);
   calls = λ x. inr (point x.given.heap, made resources x, carries x.given.heap x refl);
   ends = λ x u honest.
       subst (λ r. Ends (import_bill 2 none tt None u) x.choices.list (calls_of resources nothing r) (GivesImport 2 false None u x.given.args x.given.heap x.given.own) r) (sym (honest_answer resources x honest))
